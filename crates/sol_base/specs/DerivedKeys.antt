@@ -1,0 +1,35 @@
+-- Keys that are the SHA-256 (FIPS 180-4) of others and of seeds (Solana).
+use Rattle.std.specs.Prelude.{ℕ, Bool, List, ◌++◌, length, codes, nat_lt, nat_eq, Result, Ok, Err, if◌then◌else◌}
+use Rattle.std.specs.List.{ends_with, flat_map, list_any}
+use Rattle.sha2.specs.Sha256.{sha256}
+use Rattle.sol_base.specs.declared.key.Key.{Key}
+use Rattle.sol_base.specs.declared.derived.SeedFault.{SeedFault}
+use Rattle.sol_base.specs.declared.derived.SeedFault.TheVariants.{TooLong, IllegalOwner}
+use Rattle.sol_base.specs.declared.derived.SeedsFault.{SeedsFault}
+use Rattle.sol_base.specs.declared.derived.SeedsFault.TheVariants.{TooMany, TooLong as SeedTooLong}
+
+-- the text that ends what a program key is the hash of
+abbrev pub marker : List ℕ
+marker = codes "ProgramDerivedAddress"
+
+-- the key of a base, a seed and an owner: the hash of the three
+abbrev pub seed_key_of : Key → List ℕ → Key → Result Key SeedFault
+seed_key_of base seed owner =
+    if nat_lt 32 (length seed) then Err TooLong else
+    if ends_with nat_eq owner.0 marker then Err IllegalOwner else
+    Ok (record { 0 = sha256 (base.0 ++ seed ++ owner.0) })
+
+-- the hash of the seeds, the program and the text
+abbrev pub signing_key_of : List (List ℕ) → Key → Key
+signing_key_of seeds program = record { 0 = sha256 (flat_map (λ seed. seed) seeds ++ program.0 ++ marker) }
+
+-- a seed has more than 32 bytes
+abbrev pub has_long : List (List ℕ) → Bool
+has_long seeds = list_any (λ seed. nat_lt 32 (length seed)) seeds
+
+-- the key that a program signs for by seeds
+abbrev pub program_key_of : List (List ℕ) → Key → Result Key SeedsFault
+program_key_of seeds program =
+    if nat_lt 16 (length seeds) then Err TooMany else
+    if has_long seeds then Err SeedTooLong else
+    Ok (signing_key_of seeds program)

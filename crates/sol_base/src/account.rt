@@ -1,0 +1,43 @@
+ghost use Rattle.std.specs.Prelude.{◌≡◌, IfOk};
+ghost use Rattle.sol_base.specs.Accounts.{empty_account};
+
+use crate::blob::Blob;
+use crate::key::{Key, SYSTEM_PROGRAM};
+use crate::memory::OutOfMemory;
+use std::alloc::Global;
+
+/// An account as Solana has it: a balance in lamports, the program that owns it, whether it is a
+/// program itself, and its data.
+#[derive(Debug, Drop)]
+pub struct Account {
+    pub lamports: u64,
+    pub owner: Key,
+    pub executable: bool,
+    pub bytes: Blob,
+}
+
+impl Account {
+    /// What an absent account stands for: no lamports, the system program as owner, no data.
+    pub fn empty(alloc: Global) -> Account
+        ensures { result ≡ empty_account }
+    {
+        Account {
+            lamports: 0,
+            owner: SYSTEM_PROGRAM,
+            executable: false,
+            bytes: Blob::new(alloc),
+        }
+    }
+
+    /// An equal account with data of its own.
+    pub fn try_copy(&self) -> Result<Account, OutOfMemory>
+        ensures { IfOk result (λ a. a ≡ self.now) }
+    {
+        Ok(Account {
+            lamports: self.lamports,
+            owner: self.owner,
+            executable: self.executable,
+            bytes: self.bytes.try_copy()?,
+        })
+    }
+}

@@ -1,0 +1,24 @@
+//! The values that every crate speaks of: keys and hashes, lists of bytes and of items, accounts,
+//! locks and limits, and the keys that are derived from others.
+#![tactic(auto)]
+
+mod account;
+mod blob;
+mod derived;
+mod items;
+mod key;
+mod limits;
+mod lock;
+mod memory;
+
+pub use account::Account;
+pub use blob::Blob;
+pub use derived::{DERIVED_KEY_MARKER, MAX_SEED_LEN, MAX_SEEDS, SeedFault, SeedsFault, program_key, seed_key};
+pub use items::Items;
+pub use key::{
+    CLOCK_SYSVAR, COMPUTE_BUDGET_PROGRAM, Hash32, Key, LOADER_PROGRAM, RENT_SYSVAR, SYSTEM_PROGRAM, hash,
+    key_text,
+};
+pub use limits::Limits;
+pub use lock::{Lock, LockList, Meta};
+pub use memory::OutOfMemory;

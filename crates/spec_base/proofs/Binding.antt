@@ -1,0 +1,56 @@
+-- Readings in a row, and choices between them.
+use Rattle.std.proofs.Common.{◌≡◌, ◌<◌, ℕ, zero, suc, get_or, lit<, List, [], ◌∷◌, ◌++◌, length, Result, Ok, Err, Bool, true, false, cond, ◌⊎◌, inl, inr, refl, ap, subst, arith}
+use Rattle.std.specs.Prelude.{nat_eq}
+use Rattle.std.proofs.lemmas.Bool.Decides.{nat_tests}
+use Rattle.spec_base.specs.Bytes.{IsBytes}
+use Rattle.spec_base.specs.Reading.{◌>>=◌, place, checked, whole}
+
+-- what gave a value in the end gave one at first
+pub bind_ok : {A B E : Type 0} (r : Result A E) (f : A → Result B E) (y : B) → (r >>= f) ≡ Ok y → (x : A) × (r ≡ Ok x) × (f x ≡ Ok y)
+bind_ok (Ok x) f y h = (x, refl, h)
+bind_ok (Err e) f y h = absurd (cc)
+
+-- which way a choice went
+pub chosen : {X : Type 0} (b : Bool) (x y z : X) → cond b x y ≡ z → ((b ≡ true) × (x ≡ z)) ⊎ ((b ≡ false) × (y ≡ z))
+chosen true x y z h = inl (refl, h)
+chosen false x y z h = inr (refl, h)
+
+-- a test that was passed
+pub checked_ok : {X E : Type 0} (test : Bool) (e : E) (x y : X) → checked test e x ≡ Ok y → (test ≡ true) × (x ≡ y)
+checked_ok true e x y h = (refl, cc)
+checked_ok false e x y h = absurd (cc)
+
+-- one answer has one value
+pub ok_same : {A E : Type 0} (a c : A) → (let l : Result A E = Ok a in l) ≡ Ok c → a ≡ c
+ok_same a c h = cc
+
+-- a value and what follows it
+pub ok_parts : {A E : Type 0} (a c : A) (b d : List ℕ) → (let l : Result (A × List ℕ) E = Ok (a, b) in l) ≡ Ok (c, d) → (a ≡ c) × (b ≡ d)
+ok_parts {A = A} a c b d h =
+    let e : (let p : A × List ℕ = (a, b) in p) ≡ (c, d) = cc in
+    (ap (λ (p : A × List ℕ). p.0) e, ap (λ (p : A × List ℕ). p.1) e)
+
+rest_bytes : (front rest : List ℕ) → IsBytes (front ++ rest) → IsBytes rest
+rest_bytes [] rest h = h
+rest_bytes (b ∷ bs) rest h = rest_bytes bs rest (λ i. h (suc i))
+
+-- what follows in a list of bytes is a list of bytes
+pub after_bytes : (bytes front rest : List ℕ) → IsBytes bytes → bytes ≡ front ++ rest → IsBytes rest
+after_bytes bytes front rest h e = rest_bytes front rest (subst IsBytes e h)
+
+first_or_later : (b : ℕ) (bs : List ℕ) → b < 256 → IsBytes bs → IsBytes (b ∷ bs)
+first_or_later b bs h later zero = h
+first_or_later b bs h later (suc i) = later i
+
+-- and so is what stands before it
+pub before_bytes : (front rest : List ℕ) → IsBytes (front ++ rest) → IsBytes front
+before_bytes [] rest h = λ i. lit< tt
+before_bytes (b ∷ bs) rest h = first_or_later b bs (h 0) (before_bytes bs rest (λ j. h (suc j)))
+
+-- what was read as the whole text has nothing after it
+pub whole_ok : {X E : Type 0} (trailing : ℕ → E) (total : ℕ) (x : X) (rest : List ℕ) (y : X) → whole trailing total (x, rest) ≡ Ok y → (rest ≡ []) × (x ≡ y)
+whole_ok trailing total x rest y h = let t = checked_ok (nat_eq (length rest) 0) (trailing (place total rest)) x y h in (none rest t.0, t.1)
+  where
+    none : (rest : List ℕ) → nat_eq (length rest) 0 ≡ true → rest ≡ []
+    none [] e = refl
+    none (b ∷ bs) e = absurd (grind (arith, nat_tests))
