@@ -1,3 +1,4 @@
+pub mod Keys
 pub mod Accounts
 pub mod DerivedKeys
 pub mod Limits

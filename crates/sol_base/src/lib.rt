@@ -5,6 +5,7 @@
 mod account;
 mod blob;
 mod derived;
+mod fields;
 mod items;
 mod key;
 mod limits;
@@ -14,6 +15,7 @@ mod memory;
 pub use account::Account;
 pub use blob::Blob;
 pub use derived::{DERIVED_KEY_MARKER, MAX_SEED_LEN, MAX_SEEDS, SeedFault, SeedsFault, program_key, seed_key};
+pub use fields::{hash_field, key_field};
 pub use items::Items;
 pub use key::{
     CLOCK_SYSVAR, COMPUTE_BUDGET_PROGRAM, Hash32, Key, LOADER_PROGRAM, RENT_SYSVAR, SYSTEM_PROGRAM, hash,

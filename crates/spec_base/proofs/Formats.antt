@@ -8,7 +8,7 @@ use Rattle.std.proofs.lemmas.Bool.Decides.{nat_tests}
 use Rattle.std.proofs.lemmas.List.{append-nil, take-append-drop, length-take, length-append, take_at, drop_at}
 use Rattle.std.proofs.lemmas.Nat.{from_le_bytes-to_le_bytes_2, from_le_bytes-to_le_bytes_4, from_le_bytes-to_le_bytes_8, le_bytes_2, le_bytes_4, le_bytes_8}
 use Rattle.spec_base.specs.Bytes.{IsBytes}
-use Rattle.spec_base.specs.Reading.{◌>>=◌, place, checked, field_at, byte_at, number_at, tested, many_after, many, AllAfter}
+use Rattle.spec_base.specs.Reading.{◌>>=◌, place, checked, field_at, byte_at, number_at, tested, mapped, many_after, many, AllAfter}
 use Rattle.spec_base.proofs.Binding.{bind_ok, chosen, checked_ok, ok_parts, after_bytes, before_bytes}
 
 -- one reads exactly what spell spells of the values that have a spelling
@@ -167,6 +167,31 @@ tested_reads {X = X} {one = one} {spell = spell} {Fits = Fits} refusal test tota
         let t = tested_takes refusal test one total bytes x rest h in
         let r = reads.takes bytes x rest are t.0 in
         ((r.0, t.1), r.1)
+
+-- values of another shape
+
+mapped_again : {X Y E : Type 0} (shape : X → Y) (one : List ℕ → Result (X × List ℕ) E) (bytes : List ℕ) (x : X) (rest : List ℕ) → one bytes ≡ Ok (x, rest) → mapped shape one bytes ≡ Ok (shape x, rest)
+unfolding mapped
+mapped_again shape one bytes x rest read = rw read refl
+
+mapped_takes : {X Y E : Type 0} (shape : X → Y) (one : List ℕ → Result (X × List ℕ) E) (bytes : List ℕ) (y : Y) (rest : List ℕ) → mapped shape one bytes ≡ Ok (y, rest) → (x : X) × (one bytes ≡ Ok (x, rest)) × (shape x ≡ y)
+unfolding mapped
+mapped_takes {X = X} shape one bytes y rest h =
+    let a = bind_ok (one bytes) _ (y, rest) h in
+    let p = ok_parts _ _ _ _ a.2 in
+    (a.0.0, a.1 ∙ ap (λ (after : List ℕ). Ok (a.0.0, after)) p.1, p.0)
+
+pub mapped_reads : {X Y E : Type 0} {one : List ℕ → Result (X × List ℕ) E} {spell : X → List ℕ} {Fits : X → Type 0} (shape : X → Y) (back : Y → X) → ((x : X) → back (shape x) ≡ x) → ((y : Y) → shape (back y) ≡ y)
+    → Reads one spell Fits → Reads (mapped shape one) (λ y. spell (back y)) (λ y. Fits (back y))
+mapped_reads {X = X} {Y = Y} {one = one} {spell = spell} {Fits = Fits} shape back there here reads = record { again = again; takes = takes }
+  where
+    again : (y : Y) (rest : List ℕ) → Fits (back y) → mapped shape one (spell (back y) ++ rest) ≡ Ok (y, rest)
+    again y rest h = mapped_again shape one (spell (back y) ++ rest) (back y) rest (reads.again (back y) rest h) ∙ ap (λ (v : Y). Ok (v, rest)) (here y)
+
+    takes : (bytes : List ℕ) (y : Y) (rest : List ℕ) → IsBytes bytes → mapped shape one bytes ≡ Ok (y, rest) → Fits (back y) × (bytes ≡ spell (back y) ++ rest)
+    takes bytes y rest are h =
+        let t = mapped_takes shape one bytes y rest h in
+        subst (λ (x : X). Fits x × (bytes ≡ spell x ++ rest)) (sym (there t.0) ∙ ap back t.2) (reads.takes bytes t.0 rest are t.1)
 
 -- lists
 

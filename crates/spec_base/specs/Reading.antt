@@ -45,6 +45,12 @@ tested refusal test one total bytes = do
   read ← one bytes
   checked (test read.0) (refusal (place total bytes)) read
 
+-- what one reads, as a value of another shape
+unfoldable pub mapped : {X Y E : Type 0} → (X → Y) → (List ℕ → Result (X × List ℕ) E) → List ℕ → Result (Y × List ℕ) E
+mapped shape one bytes = do
+  read ← one bytes
+  Ok (shape read.0, read.1)
+
 -- so many items, one after the other, each read with those before it known
 unfoldable pub many_after : {X E : Type 0} → (List X → List ℕ → Result (X × List ℕ) E) → List X → ℕ → List ℕ → Result (List X × List ℕ) E
 many_after one before zero bytes = Ok (before, bytes)

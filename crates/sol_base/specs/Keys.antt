@@ -1,0 +1,39 @@
+-- Keys and hashes: 32 bytes each, in the order of their bytes.
+use Rattle.std.specs.Prelude.{◌≡◌, ℕ, List, length, refl, Result}
+use Rattle.std.specs.Ordering.{nat_cmp}
+use Rattle.std.specs.declared.cmp.Ordering.{Ordering}
+use Rattle.std.specs.Coded.{Coded, code_by, coded_list, coded_ℕ}
+use Rattle.std.specs.Cmp.Lexicographic.{slice_cmp}
+use Rattle.spec_base.specs.Reading.{field_at, mapped}
+use Rattle.sol_base.specs.declared.key.Key.{Key}
+use Rattle.sol_base.specs.declared.key.Hash32.{Hash32}
+
+abbrev pub IsKey : Key → Type 0
+IsKey key = length key.0 ≡ 32
+
+abbrev pub IsHash : Hash32 → Type 0
+IsHash hash = length hash.0 ≡ 32
+
+abbrev pub key_cmp : Key → Key → Ordering
+key_cmp a b = slice_cmp nat_cmp a.0 b.0
+
+abbrev pub hash_cmp : Hash32 → Hash32 → Ordering
+hash_cmp a b = slice_cmp nat_cmp a.0 b.0
+
+-- what their bytes are in a format
+abbrev pub key_bytes : Key → List ℕ
+key_bytes key = key.0
+
+abbrev pub hash_bytes : Hash32 → List ℕ
+hash_bytes hash = hash.0
+
+-- a field that is a key, and one that is a hash
+abbrev pub key_at : {E : Type 0} → (ℕ → E) → ℕ → List ℕ → Result (Key × List ℕ) E
+key_at truncated total bytes = mapped (λ field. record { 0 = field }) (field_at truncated total 32) bytes
+
+abbrev pub hash_at : {E : Type 0} → (ℕ → E) → ℕ → List ℕ → Result (Hash32 × List ℕ) E
+hash_at truncated total bytes = mapped (λ field. record { 0 = field }) (field_at truncated total 32) bytes
+
+-- keys as the keys of a finite map
+abbrev pub coded_key : Coded Key
+coded_key = code_by (List ℕ) (coded_list coded_ℕ) (λ key. key.0) (λ bytes. record { 0 = bytes }) (λ _. refl)
