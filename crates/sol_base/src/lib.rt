@@ -14,12 +14,14 @@ mod memory;
 
 pub use account::Account;
 pub use blob::Blob;
-pub use derived::{DERIVED_KEY_MARKER, MAX_SEED_LEN, MAX_SEEDS, SeedFault, SeedsFault, program_key, seed_key};
+pub use derived::{
+    DERIVED_KEY_MARKER, MAX_SEED_LEN, MAX_SEEDS, SeedFault, SeedsFault, program_key, seed_key,
+};
 pub use fields::{hash_field, key_field};
 pub use items::Items;
 pub use key::{
-    CLOCK_SYSVAR, COMPUTE_BUDGET_PROGRAM, Hash32, Key, LOADER_PROGRAM, RENT_SYSVAR, SYSTEM_PROGRAM, hash,
-    key_text,
+    CLOCK_SYSVAR, COMPUTE_BUDGET_PROGRAM, Hash32, Key, LOADER_PROGRAM, RENT_SYSVAR, SYSTEM_PROGRAM,
+    hash, key_text,
 };
 pub use limits::Limits;
 pub use lock::{Lock, LockList, Meta};

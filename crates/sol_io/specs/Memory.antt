@@ -24,7 +24,7 @@ counted n = min (n + 1) (2 ^ 64 - 1)
 abbrev pub ReadsMemory : SourceState → SourceState → ℕ → Result ℕ Failed → Type 0
 ReadsMemory old new room (Ok n) =
     (¬ (Contains old.failing old.calls)) × (n ≡ min room (length old.rest))
-        × (new ≡ record old { rest = drop n old.rest; calls = counted old.calls })
+    × (new ≡ record old { rest = drop n old.rest; calls = counted old.calls })
 ReadsMemory old new room (Err _) =
     Contains old.failing old.calls × (new ≡ record old { calls = counted old.calls; faults = counted old.faults })
 
@@ -32,7 +32,7 @@ ReadsMemory old new room (Err _) =
 abbrev pub WritesMemory : SinkState → SinkState → List ℕ → Result ℕ SinkFault → Type 0
 WritesMemory old new piece (Ok n) =
     (¬ (Contains old.failing old.calls)) × (n ≡ length piece)
-        × (new ≡ record old { held = old.held ++ piece; calls = counted old.calls })
+    × (new ≡ record old { held = old.held ++ piece; calls = counted old.calls })
 WritesMemory old new piece (Err sink.Failed) =
     Contains old.failing old.calls × (new ≡ record old { calls = counted old.calls; faults = counted old.faults })
 WritesMemory old new piece (Err sink.OutOfMemory) =

@@ -1,6 +1,6 @@
 -- A reading function and a spelling belong together: what is spelled is read again, whatever follows,
 -- and what is read is spelled so. Each format is put together from these laws.
-use Rattle.std.proofs.Common.{◌≡◌, ◌<◌, ◌^◌, ℕ, zero, suc, List, [], ◌∷◌, ◌++◌, length, take, drop, get_or, Result, Ok, Err, Bool, true, false, ◌⊎◌, inl, inr, refl, sym, ap, subst, ◌∙◌, append_assoc, arith}
+use Rattle.std.proofs.Common.{◌≡◌, ◌<◌, ◌^◌, ℕ, zero, suc, List, [], ◌∷◌, ◌++◌, length, take, get_or, Result, Ok, Err, Bool, true, false, inl, inr, refl, sym, ap, subst, ◌∙◌, append_assoc, arith}
 use Rattle.std.specs.Prelude.{nat_lt, slice_index}
 use Rattle.std.specs.Int.{Width, w16, w32, w64, byte_len, from_le_bytes, to_le_bytes}
 use Rattle.std.specs.List.{flat_map, AllByRecursion}
@@ -8,7 +8,7 @@ use Rattle.std.proofs.lemmas.Bool.Decides.{nat_tests}
 use Rattle.std.proofs.lemmas.List.{append-nil, take-append-drop, length-take, length-append, take_at, drop_at}
 use Rattle.std.proofs.lemmas.Nat.{from_le_bytes-to_le_bytes_2, from_le_bytes-to_le_bytes_4, from_le_bytes-to_le_bytes_8, le_bytes_2, le_bytes_4, le_bytes_8}
 use Rattle.spec_base.specs.Bytes.{IsBytes}
-use Rattle.spec_base.specs.Reading.{◌>>=◌, place, checked, field_at, byte_at, number_at, tested, mapped, many_after, many, AllAfter}
+use Rattle.spec_base.specs.Reading.{◌>>=◌, place, field_at, byte_at, number_at, tested, mapped, many_after, many, AllAfter}
 use Rattle.spec_base.proofs.Binding.{bind_ok, chosen, checked_ok, ok_parts, after_bytes, before_bytes}
 
 -- one reads exactly what spell spells of the values that have a spelling
@@ -130,17 +130,26 @@ u64_below field are = omega (arith, are 0, are 1, are 2, are 3, are 4, are 5, ar
 
 pub u16_reads : {E : Type 0} (truncated : ℕ → E) (total : ℕ) → Reads (number_at truncated w16 total) (to_le_bytes w16) (λ n. n < 2 ^ 16)
 u16_reads truncated total = number_reads truncated w16 (2 ^ 16) (record {
-  len = λ n. refl; back = from_le_bytes-to_le_bytes_2; below = u16_below; forth = λ field long are. le_bytes_2 field _ long are refl;
+  len = λ n. refl;
+  back = from_le_bytes-to_le_bytes_2;
+  below = u16_below;
+  forth = λ field long are. le_bytes_2 field _ long are refl;
 }) total
 
 pub u32_reads : {E : Type 0} (truncated : ℕ → E) (total : ℕ) → Reads (number_at truncated w32 total) (to_le_bytes w32) (λ n. n < 2 ^ 32)
 u32_reads truncated total = number_reads truncated w32 (2 ^ 32) (record {
-  len = λ n. refl; back = from_le_bytes-to_le_bytes_4; below = u32_below; forth = λ field long are. le_bytes_4 field _ long are refl;
+  len = λ n. refl;
+  back = from_le_bytes-to_le_bytes_4;
+  below = u32_below;
+  forth = λ field long are. le_bytes_4 field _ long are refl;
 }) total
 
 pub u64_reads : {E : Type 0} (truncated : ℕ → E) (total : ℕ) → Reads (number_at truncated w64 total) (to_le_bytes w64) (λ n. n < 2 ^ 64)
 u64_reads truncated total = number_reads truncated w64 (2 ^ 64) (record {
-  len = λ n. refl; back = from_le_bytes-to_le_bytes_8; below = u64_below; forth = λ field long are. le_bytes_8 field _ long are refl;
+  len = λ n. refl;
+  back = from_le_bytes-to_le_bytes_8;
+  below = u64_below;
+  forth = λ field long are. le_bytes_8 field _ long are refl;
 }) total
 
 -- values that pass a test
@@ -202,7 +211,7 @@ many_after_again {X = X} one spell Fits reads before [] rest h = ap (λ (l : Lis
 many_after_again {X = X} {E = E} one spell Fits reads before (x ∷ xs) rest h =
     let Claim : List ℕ → Type 0 = λ bytes. many_after one before (suc (length xs)) bytes ≡ Ok (before ++ x ∷ xs, rest) in
     let there : many_after one (before ++ x ∷ []) (length xs) (flat_map spell xs ++ rest) ≡ Ok (before ++ x ∷ xs, rest) =
-            many_after_again one spell Fits reads (before ++ x ∷ []) xs rest h.1 ∙ ap (λ (l : List X). let r : Result (List X × List ℕ) E = Ok (l, rest) in r) (append_assoc before (x ∷ []) xs) in
+    many_after_again one spell Fits reads (before ++ x ∷ []) xs rest h.1 ∙ ap (λ (l : List X). let r : Result (List X × List ℕ) E = Ok (l, rest) in r) (append_assoc before (x ∷ []) xs) in
     subst Claim (sym (append_assoc (spell x) (flat_map spell xs) rest)) (rw ((reads before).again x (flat_map spell xs ++ rest) h.0) there)
 
 -- what was read after those before

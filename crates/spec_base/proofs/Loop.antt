@@ -1,7 +1,7 @@
 -- Reading items one after the other, as a loop does.
 use Rattle.std.proofs.Common.{◌≡◌, ℕ, suc, ◌-◌, ◌+◌, ◌≤◌, ◌<◌, List, [], ◌∷◌, ◌++◌, Result, Ok, Err, Bool, true, false, refl, sym, ◌∙◌, arith}
 use Rattle.std.specs.Prelude.{MatchBool}
-use Rattle.spec_base.specs.Reading.{◌>>=◌, many_after}
+use Rattle.spec_base.specs.Reading.{many_after}
 
 -- one item more was read
 pub goes_on : {X E : Type 0} (one : List X → List ℕ → Result (X × List ℕ) E) (before : List X) (count i : ℕ) (bytes : List ℕ) (x : X) (after : List ℕ) (total : Result (List X × List ℕ) E) → i < count → one before bytes ≡ Ok (x, after)
