@@ -9,5 +9,8 @@ pub fn reserved(key: &Key) -> bool
     ensures exact { result ≡ is_reserved key.now }
     ensures listed { IsTrue result ↔ Contains reserved_keys key.now }
 {
-    *key == SYSTEM_PROGRAM || *key == COMPUTE_BUDGET_PROGRAM || *key == CLOCK_SYSVAR || *key == RENT_SYSVAR
+    *key == SYSTEM_PROGRAM
+        || *key == COMPUTE_BUDGET_PROGRAM
+        || *key == CLOCK_SYSVAR
+        || *key == RENT_SYSVAR
 }

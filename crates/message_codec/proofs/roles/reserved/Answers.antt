@@ -1,4 +1,5 @@
-use Rattle.message_codec.proofs.Reserved.{reserved_listed}
+use Rattle.std.proofs.Common.{rules}
+use Rattle.message_codec.proofs.KeyTests.{reserved_listed}
 use Rattle.message_codec.proofs.roles.reserved.Goals as goal
 
 pub returns-then-eq-3-clause-listed : goal.returns-then-eq-3-clause-listed

@@ -1,5 +1,5 @@
 -- The test for a reserved key finds exactly the keys of the table.
-use Rattle.std.proofs.Common.{◌≡◌, List, Bool, true, Contains, IsTrue, ◌↔◌, refl, sym, ap, subst}
+use Rattle.std.proofs.Common.{◌≡◌, ℕ, List, Bool, true, Contains, IsTrue, ◌↔◌, sym, ap, ◌∙◌}
 use Rattle.std.specs.Cmp.{IsEquivalence}
 use Rattle.std.specs.Cmp.Lexicographic.{bytes_decides}
 use Rattle.std.proofs.lemmas.Cmp.{on_equiv, nat_list_eq_equiv}
@@ -14,4 +14,5 @@ pub same_key_equiv : IsEquivalence is_same_key
 same_key_equiv = on_equiv (λ (key : Key). key.0) nat_list_eq_equiv
 
 pub reserved_listed : (key : Key) (found : Bool) → found ≡ is_reserved key → IsTrue found ↔ Contains reserved_keys key
-reserved_listed key found e = ?
+reserved_listed key found e =
+    (λ yes. Contains-from_any same_key key reserved_keys (sym e ∙ yes), λ there. e ∙ list_any-from_Contains same_key_equiv key reserved_keys there)
