@@ -1,0 +1,13 @@
+//! Transactions and messages as Solana has them: their wire format, the roles of their keys, and the
+//! tests that a transaction must pass before anything else is asked of it.
+#![tactic(auto)]
+
+mod fault;
+mod message;
+mod parsed;
+mod roles;
+
+pub use fault::{SanitizeFault, WireFault};
+pub use message::{Header, Instruction, Loaded, Lookup, Message, MessageKind, Signature, Tx};
+pub use parsed::Parsed;
+pub use roles::reserved;
