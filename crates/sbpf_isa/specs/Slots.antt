@@ -8,7 +8,7 @@ abbrev pub byte : List ℕ → ℕ → ℕ → ℕ
 byte text index place = slice_index text (8 * index + place)
 
 -- the slot of an index: the destination is the low nibble of the second byte, the source the high one; numbers have their low byte first
-abbrev pub slot_of : List ℕ → ℕ → Slot
+unfoldable pub slot_of : List ℕ → ℕ → Slot
 slot_of text index = record {
   opcode = byte text index 0;
   dst = byte text index 1 % 16;

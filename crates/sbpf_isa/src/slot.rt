@@ -15,6 +15,8 @@ pub struct Slot {
 }
 
 /// The slot of an index, counted from 0.
+#[inline]
+#[tactic(auto, unfolding(crate::specs::Slots::slot_of))]
 pub fn slot_at(text: &[u8], index: usize) -> Slot
     requires { 8 * index + 8 ≤ length text.now }
     ensures { result ≡ slot_of text.now index }
