@@ -1,0 +1,83 @@
+-- The end of a block: the fees are burned and paid, and the state is hashed (Solana; the rounding is the project's own).
+use Rattle.std.specs.Prelude.{ℕ, ◌+◌, ◌-◌, ◌*◌, ◌/◌, List, [], ◌∷◌, ◌++◌, Bool, nat_le, nat_eq, not, ◌&&◌, length, map, replicate, codes, if◌then◌else◌}
+use Rattle.std.specs.FinMap.Entries.{by_order}
+use Rattle.sol_base.specs.Keys.{hash_cmp}
+use Rattle.sol_base.specs.declared.key.Key.{Key}
+use Rattle.sol_base.specs.declared.key.Hash32.{Hash32}
+use Rattle.sol_base.specs.declared.account.Account.{Account}
+use Rattle.message_codec.specs.Roles.{is_reserved}
+use Rattle.rent_rules.specs.Rent.{minimum_of}
+use Rattle.bank_cli.specs.declared.state.KeyedAccount.{KeyedAccount}
+use Rattle.bank_cli.specs.declared.transfer.Transfer.{Transfer}
+use Rattle.bank_cli.specs.State.{account_at, put}
+use Rattle.bank_cli.specs.Transfer.{wire, name}
+use Rattle.bank_cli.specs.Snapshot.{Snapshot, Mark, state_hash}
+use Rattle.bank_cli.specs.Record.{Entry, Block, block_hash}
+use Rattle.bank_cli.specs.Serial.{base_fee, native_units, more, is_wallet, after_all}
+
+-- what becomes of the fees
+pub record Shares : Type 0 where
+  pub accounts : List KeyedAccount
+  pub burned : ℕ
+  pub collected : ℕ
+
+-- the rest of the fees may be added to the collector's account
+abbrev pub takes : Key → Account → ℕ → Bool
+takes collector account rest =
+    let after = more account rest in
+    not (nat_eq rest 0) && (not (is_reserved collector) && (is_wallet after && nat_le (minimum_of (length after.bytes)) after.lamports))
+
+-- Half of the base fees, rounded down, is burned. The rest is paid to the collector where it may be, and else burned too.
+abbrev pub share_fees : List KeyedAccount → Key → ℕ → Shares
+share_fees es collector fees =
+    let rest = fees - fees / 2 in
+    if takes collector (account_at es collector) rest
+    then record { accounts = put es collector (more (account_at es collector) rest); burned = fees / 2; collected = rest }
+    else record { accounts = es; burned = fees; collected = 0 }
+
+-- the name in its place among names that ascend
+abbrev pub placed : Hash32 → List Hash32 → List Hash32
+placed name [] = name ∷ []
+placed name (n ∷ ns) = by_order (hash_cmp name n) (name ∷ n ∷ ns) (n ∷ ns) (n ∷ placed name ns)
+
+-- the names in ascending order
+abbrev pub ascending : List Hash32 → List Hash32
+ascending [] = []
+ascending (n ∷ ns) = placed n (ascending ns)
+
+-- what a transfer of the system program says
+abbrev pub system_text : List ℕ
+system_text = replicate 64 48
+
+abbrev pub transfer_lines : List (List ℕ)
+transfer_lines = (codes "Program " ++ system_text ++ codes " invoke [1]") ∷ (codes "Program " ++ system_text ++ codes " success") ∷ []
+
+-- the entry of a good transfer
+abbrev pub entry : Transfer → Entry
+entry t = record { wire = wire t; status = replicate 8 0; units = native_units; fee = base_fee; lines = transfer_lines }
+
+-- what stands fixed beside a block: the batch's slot and collector, and the one mark that it begins with
+pub record Setting : Type 0 where
+  pub slot : ℕ
+  pub collector : Key
+  pub previous : Hash32
+
+abbrev pub shares_of : Setting → List KeyedAccount → List Transfer → Shares
+shares_of setting es ts = share_fees (after_all es ts) setting.collector (base_fee * length ts)
+
+abbrev pub block_of : Setting → List KeyedAccount → List Transfer → Block
+block_of setting es ts =
+    let shares = shares_of setting es ts in
+    record {
+      slot = setting.slot; collector = setting.collector; previous = setting.previous; entries = map entry ts;
+      burned = shares.burned; collected = shares.collected; state = state_hash shares.accounts
+    }
+
+-- The final snapshot: a new mark with the block hash and the names of the messages goes before the old one.
+abbrev pub snapshot_after : Setting → List KeyedAccount → List Transfer → Snapshot
+snapshot_after setting es ts =
+    record {
+      slot = setting.slot;
+      marks = record { hash = block_hash (block_of setting es ts); messages = ascending (map name ts) } ∷ record { hash = setting.previous; messages = [] } ∷ [];
+      accounts = (shares_of setting es ts).accounts
+    }

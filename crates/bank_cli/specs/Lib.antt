@@ -1,0 +1,10 @@
+pub mod State
+pub mod Transfer
+pub mod Snapshot
+pub mod Batch
+pub mod Record
+pub mod Serial
+pub mod BlockEnd
+pub mod Plain
+pub mod Answer
+pub mod Ending
