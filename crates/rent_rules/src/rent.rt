@@ -1,0 +1,92 @@
+ghost use Rattle.std.specs.Prelude.{◌≡◌, ◌↔◌, ◌≤◌, IsTrue};
+ghost use Rattle.sol_base.specs.declared.account.Account.{Account};
+ghost use Rattle.rent_rules.specs.Rent.{minimum_of, rent_state_of, state_of, moves, MayMove};
+
+/// The bytes that an account takes beside its data (Solana).
+pub const ACCOUNT_OVERHEAD: u64 = 128;
+
+/// What storing one byte for a year costs, in lamports (Solana).
+pub const LAMPORTS_PER_BYTE_YEAR: u64 = 3_480;
+
+/// The years whose rent exempts an account (Solana).
+pub const EXEMPTION_YEARS: u64 = 2;
+
+/// The most data bytes of an account (Solana).
+pub const MAX_DATA_LEN: u64 = 10_485_760;
+
+/// How an account stands to rent. A paying account is known by its balance in lamports and the
+/// number of its data bytes.
+#[derive(Clone, Copy, Debug, PartialEq, Eq)]
+pub enum RentState {
+    Empty,
+    Exempt,
+    Paying { lamports: u64, len: u64 },
+}
+
+/// The least balance, in lamports, that exempts an account with `len` data bytes (Solana).
+pub fn minimum(len: u64) -> u64
+    requires { len ≤ MAX_DATA_LEN }
+    ensures { result ≡ minimum_of len }
+{
+    (ACCOUNT_OVERHEAD + len) * LAMPORTS_PER_BYTE_YEAR * EXEMPTION_YEARS
+}
+
+/// The rent state of an account with that balance and that many data bytes (Solana).
+pub fn rent_state(lamports: u64, len: u64) -> RentState
+    requires { len ≤ MAX_DATA_LEN }
+    ensures { result ≡ rent_state_of lamports len }
+{
+    if lamports == 0 {
+        RentState::Empty
+    } else if lamports >= minimum(len) {
+        RentState::Exempt
+    } else {
+        RentState::Paying { lamports, len }
+    }
+}
+
+/// Whether an account may go from the one state to the other (Solana).
+pub fn may_move(before: &RentState, after: &RentState) -> bool
+    ensures states { result ≡ moves before.now after.now }
+    ensures accounts { (a b : Account) → state_of a ≡ before.now → state_of b ≡ after.now →
+        (IsTrue result ↔ MayMove a b) }
+{
+    match (before, after) {
+        (_, RentState::Empty | RentState::Exempt) => true,
+        (
+            RentState::Paying { lamports, len },
+            RentState::Paying {
+                lamports: lamports_after,
+                len: len_after,
+            },
+        ) => len == len_after && lamports_after <= lamports,
+        (RentState::Empty | RentState::Exempt, RentState::Paying { .. }) => false,
+    }
+}
+
+#[cfg(test)]
+mod tests {
+    use super::*;
+
+    // Published minimums of Solana: an account without data, a token account, the longest account.
+    #[test]
+    fn minimums(rt: HostRuntime) {
+        for (len, lamports) in [(0, 890_880), (165, 2_039_280), (10_485_760, 72_981_780_480)] {
+            assert_eq!(rt; minimum(len), lamports, "at {len}");
+            assert_eq!(rt; rent_state(lamports, len), RentState::Exempt, "at {len}");
+        }
+    }
+
+    // What may be left of 1,005,001 lamports in an account without data.
+    #[test]
+    fn payers(rt: HostRuntime) {
+        let before = rent_state(1_005_001, 0);
+        for (left, may) in [(0, true), (1, false), (890_879, false), (890_880, true)] {
+            assert_eq!(rt;
+                may_move(&before, &rent_state(left, 0)),
+                may,
+                "with {left} left"
+            );
+        }
+    }
+}
