@@ -1,6 +1,7 @@
 -- What is answered to words and input.
 use Rattle.std.specs.Prelude.{ℕ, List, [], ◌∷◌, ◌++◌, Bool, nat_eq, Option, Some, None, Result, Ok, Err, option_map, codes, if◌then◌else◌}
 use Rattle.std.specs.Cmp.Lexicographic.{pointwise}
+use Rattle.std.specs.Fmt.{decimal}
 use Rattle.bank_cli.specs.declared.plain.PlainInput.{PlainInput}
 use Rattle.bank_cli.specs.declared.plain.PlainFault.{PlainFault}
 use Rattle.bank_cli.specs.Plain.{plain_of}

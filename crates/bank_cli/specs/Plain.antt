@@ -1,7 +1,8 @@
 -- Plain inputs: a snapshot and a batch of transfers between wallets.
-use Rattle.std.specs.Prelude.{◌≡◌, ℕ, ◌+◌, ◌^◌, ◌≤◌, List, [], ◌∷◌, ◌++◌, length, drop, Bool, true, false, nat_lt, nat_le, nat_eq, not, ◌&&◌, Result, Ok, Err, codes, replicate, map, if◌then◌else◌}
+use Rattle.std.specs.Prelude.{◌≡◌, ℕ, ◌+◌, ◌^◌, ◌<◌, ◌≤◌, List, [], ◌∷◌, ◌++◌, length, drop, Bool, true, false, nat_lt, nat_le, nat_eq, not, ◌&&◌, Result, Ok, Err, codes, replicate, map, if◌then◌else◌}
 use Rattle.std.specs.Int.{w16, w32, w64, to_le_bytes}
 use Rattle.std.specs.Ordering.{is_lt}
+use Rattle.std.specs.List.Sorted.{IsStrictlySortedBy}
 use Rattle.std.specs.List.{starts_with, list_any, list_all, AllByRecursion}
 use Rattle.spec_base.specs.Reading.{◌>>=◌, checked, field_at, number_at, tested, many_after, whole, AllAfter}
 use Rattle.sol_base.specs.Keys.{IsKey, IsHash, key_cmp, key_at, hash_at}
@@ -144,3 +145,12 @@ snapshot_of p = record { slot = p.slot; marks = record { hash = p.blockhash; mes
 
 abbrev pub batch_of : PlainInput → Batch
 batch_of p = record { slot = p.block_slot; collector = p.collector; wires = map wire p.transfers }
+
+-- what the run of a plain input rests on
+pub record IsRunnable (p : PlainInput) : Type 0 where
+  pub few_accounts : length p.accounts ≤ 4194304
+  pub ascend : IsStrictlySortedBy key_cmp (map (λ e. e.key) p.accounts)
+  pub supply : total p.accounts < 2 ^ 64
+  pub wallets : AllByRecursion IsPlainAccount p.accounts
+  pub few : length p.transfers ≤ 60
+  pub apart : AllByRecursion (λ t. ¬ (t.payer ≡ t.to)) p.transfers
