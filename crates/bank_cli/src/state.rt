@@ -1,3 +1,8 @@
+ghost use Rattle.std.specs.Prelude.{◌≡◌, IfOk, OnOk, OnErr, length};
+ghost use Rattle.std.specs.List.Sorted.{IsSearchInRange, IsBinarySearchResult};
+ghost use Rattle.sol_base.specs.Keys.{key_cmp};
+ghost use Rattle.bank_cli.specs.State.{IsAscending, account_at, put};
+
 use sol_base::{Account, Key, OutOfMemory};
 use std::alloc::Global;
 
@@ -9,8 +14,11 @@ pub struct KeyedAccount {
 }
 
 /// The place of the key among keys that ascend, or the place where it would stand.
-fn place_of(accounts: &[KeyedAccount], key: &Key) -> Result<usize, usize> {
-    accounts.binary_search_by(|entry| entry.key.cmp(key))
+fn place_of(accounts: &[KeyedAccount], key: &Key) -> Result<usize, usize>
+    ensures bound { IsSearchInRange result (length accounts.now) }
+    ensures position { IsBinarySearchResult (λ e. key_cmp e.key key.now) accounts.now result }
+{
+    accounts.binary_search_by_key(key, |entry| entry.key)
 }
 
 /// A copy of the account of a key, which is the empty one where the key is absent.
@@ -18,7 +26,10 @@ pub(crate) fn account_at(
     alloc: Global,
     accounts: &[KeyedAccount],
     key: &Key,
-) -> Result<Account, OutOfMemory> {
+) -> Result<Account, OutOfMemory>
+    requires { IsAscending accounts.now }
+    ensures { IfOk result (λ a. a ≡ account_at accounts.now key.now) }
+{
     match place_of(accounts, key) {
         Ok(place) => accounts[place].account.try_copy(),
         Err(_) => Ok(Account::empty(alloc)),
@@ -30,7 +41,11 @@ pub(crate) fn put(
     accounts: &mut Vec<KeyedAccount>,
     key: Key,
     account: Account,
-) -> Result<(), OutOfMemory> {
+) -> Result<(), OutOfMemory>
+    requires { IsAscending accounts.old.items }
+    ensures ok { OnOk result (accounts.new.items ≡ put accounts.old.items key account) }
+    ensures err { OnErr result (accounts.new.items ≡ accounts.old.items) }
+{
     match place_of(accounts, &key) {
         Ok(place) => {
             if account.lamports == 0 {
