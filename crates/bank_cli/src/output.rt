@@ -1,6 +1,16 @@
-use crate::block_end::{Shares, message_names, share_fees};
+ghost use Rattle.std.specs.Prelude.{◌≡◌, ◌++◌, ◌+◌, ◌*◌, ◌<◌, ◌≤◌, ◌^◌, length, IfOk};
+ghost use Rattle.std.specs.List.{AllByRecursion};
+ghost use Rattle.bank_cli.specs.State.{IsAscending, total};
+ghost use Rattle.bank_cli.specs.Snapshot.{snapshot_bytes_one};
+ghost use Rattle.bank_cli.specs.Record.{record_bytes};
+ghost use Rattle.bank_cli.specs.Serial.{IsRunning, base_fee};
+ghost use Rattle.bank_cli.specs.BlockEnd.{share_fees, block_with, snapshot_with};
+ghost use Rattle.bank_cli.specs.Plain.{IsRunnable};
+ghost use Rattle.bank_cli.specs.Output.{Produces};
+
+use crate::block_end::{Setting, Shares, message_names, share_fees};
 use crate::plain::PlainInput;
-use crate::record::{ENTRY_LEN, RECORD_LEN, Setting, append_block};
+use crate::record::{ENTRY_LEN, RECORD_LEN, append_block};
 use crate::run::{BASE_FEE, run_transfers};
 use crate::snapshot::{HEAD_LEN, MARK_LEN, NAME_LEN, append_head, state_section};
 use crate::state::KeyedAccount;
@@ -31,7 +41,14 @@ fn write_output(
     setting: &Setting,
     transfers: &[Transfer],
     shares: &Shares,
-) -> Result<Blob, OutOfMemory> {
+) -> Result<Blob, OutOfMemory>
+    requires transfers { length transfers.now ≤ 60 }
+    requires few { length shares.now.accounts < 2 ^ 32 }
+    requires short { AllByRecursion (λ e. length e.account.bytes < 2 ^ 32) shares.now.accounts }
+    ensures { IfOk result (λ output. output
+        ≡ record_bytes (block_with setting.now transfers.now shares.now)
+            ++ snapshot_bytes_one (snapshot_with setting.now transfers.now shares.now)) }
+{
     let state = state_section(alloc, shares.accounts.as_slice())?;
     let names = message_names(alloc, transfers)?;
     let mut out = Blob::with_capacity(alloc, output_len(transfers.len(), state.len()))?;
@@ -55,14 +72,26 @@ fn end_block(
     setting: &Setting,
     accounts: Vec<KeyedAccount>,
     transfers: &[Transfer],
-) -> Result<Blob, OutOfMemory> {
+) -> Result<Blob, OutOfMemory>
+    requires transfers { length transfers.now ≤ 60 }
+    requires running { IsRunning accounts.items }
+    requires fits { total accounts.items + base_fee * length transfers.now < 2 ^ 64 }
+    requires few { length accounts.items + 1 < 2 ^ 32 }
+    ensures { let shares = share_fees accounts.items setting.now.collector (base_fee * length transfers.now) in
+        IfOk result (λ output. output
+            ≡ record_bytes (block_with setting.now transfers.now shares)
+                ++ snapshot_bytes_one (snapshot_with setting.now transfers.now shares)) }
+{
     let fees = BASE_FEE * transfers.len() as u64;
     let shares = share_fees(alloc, accounts, &setting.collector, fees)?;
     write_output(alloc, setting, transfers, &shares)
 }
 
 /// Runs a plain input.
-pub(crate) fn produce(alloc: Global, input: PlainInput) -> Result<Produced, OutOfMemory> {
+pub(crate) fn produce(alloc: Global, input: PlainInput) -> Result<Produced, OutOfMemory>
+    requires { IsRunnable input }
+    ensures { Produces input result }
+{
     let PlainInput {
         slot: _,
         blockhash,
@@ -82,64 +111,4 @@ pub(crate) fn produce(alloc: Global, input: PlainInput) -> Result<Produced, OutO
     };
     let output = end_block(alloc, &setting, accounts, transfers.as_slice())?;
     Ok(Produced::Output(output))
-}
-
-#[cfg(test)]
-mod tests {
-    use super::*;
-    use sol_base::{Account, Hash32, Items, Key, SYSTEM_PROGRAM};
-    use std::test::Fail;
-
-    fn k(byte: u8) -> Key {
-        Key([byte; 32])
-    }
-
-    fn wallet(alloc: Global, byte: u8, lamports: u64) -> KeyedAccount {
-        KeyedAccount {
-            key: k(byte),
-            account: Account {
-                lamports,
-                owner: SYSTEM_PROGRAM,
-                executable: false,
-                bytes: Blob::new(alloc),
-            },
-        }
-    }
-
-    fn send(payer: u8, to: u8, lamports: u64) -> Transfer {
-        Transfer {
-            signature: [0; 64],
-            payer: k(payer),
-            to: k(to),
-            blockhash: Hash32([0xaa; 32]),
-            lamports,
-        }
-    }
-
-    #[test]
-    fn two_transfers(rt: HostRuntime) -> Result<(), Fail> {
-        let alloc = rt.alloc();
-        let mut accounts = Items::with_capacity(alloc, 3)?;
-        accounts.push(wallet(alloc, 1, 2_000_000_000))?;
-        accounts.push(wallet(alloc, 2, 2_000_000_000))?;
-        accounts.push(wallet(alloc, 0xc0, 1_000_000_000))?;
-        let mut transfers = Items::with_capacity(alloc, 2)?;
-        transfers.push(send(1, 0x11, 1_000_000_000))?;
-        transfers.push(send(2, 0x12, 1_000_000_000))?;
-        let input = PlainInput {
-            slot: 7,
-            blockhash: Hash32([0xaa; 32]),
-            accounts,
-            block_slot: 8,
-            collector: k(0xc0),
-            transfers,
-        };
-        let Produced::Output(output) = produce(alloc, input)? else {
-            return Err(Fail::from("not good"));
-        };
-        assert_eq!(rt; output.len(), 1529);
-        let digest = hash(output.as_slice());
-        println!(rt; "{digest:?}")?;
-        Ok(())
-    }
 }

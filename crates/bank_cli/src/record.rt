@@ -1,16 +1,14 @@
-use crate::block_end::Shares;
+ghost use Rattle.std.specs.Prelude.{◌≡◌, ◌++◌, ◌<◌, ◌^◌, map, length, OnOk};
+ghost use Rattle.std.specs.Int.{w16, to_le_bytes};
+ghost use Rattle.std.specs.List.{flat_map};
+ghost use Rattle.bank_cli.specs.Snapshot.{state_hash};
+ghost use Rattle.bank_cli.specs.Record.{line_bytes, entry_bytes, block_bytes};
+ghost use Rattle.bank_cli.specs.BlockEnd.{transfer_lines, entry, block_with};
+
+use crate::block_end::{Setting, Shares};
 use crate::run::{BASE_FEE, NATIVE_UNITS};
 use crate::transfer::{Transfer, WIRE_LEN};
-use sol_base::{Blob, Hash32, Key, OutOfMemory};
-
-/// What stands fixed beside a block: the batch's slot and collector, and the hash of the one mark that
-/// it begins with.
-#[derive(Clone, Copy, Debug)]
-pub(crate) struct Setting {
-    pub slot: u64,
-    pub collector: Key,
-    pub previous: Hash32,
-}
+use sol_base::{Blob, Hash32, OutOfMemory};
 
 /// The bytes of a record without entries.
 pub(crate) const RECORD_LEN: usize = 164;
@@ -26,7 +24,9 @@ const SUCCESS_LEN: u16 = 80;
 const SYSTEM_TEXT: [u8; 64] = [b'0'; 64];
 
 /// Adds the entry of a good transfer at the end.
-fn append_entry(out: &mut Blob, transfer: &Transfer) -> Result<(), OutOfMemory> {
+fn append_entry(out: &mut Blob, transfer: &Transfer) -> Result<(), OutOfMemory>
+    ensures { OnOk result (out.new ≡ out.old ++ entry_bytes (entry transfer.now)) }
+{
     out.append(&WIRE_LEN.to_le_bytes())?;
     transfer.append_to(out)?;
     out.append(&[0; 8])?;
@@ -36,7 +36,10 @@ fn append_entry(out: &mut Blob, transfer: &Transfer) -> Result<(), OutOfMemory> 
 }
 
 /// Adds the lines of a transfer at the end.
-fn append_lines(out: &mut Blob) -> Result<(), OutOfMemory> {
+fn append_lines(out: &mut Blob) -> Result<(), OutOfMemory>
+    ensures { OnOk result
+        (out.new ≡ out.old ++ (to_le_bytes w16 (length transfer_lines) ++ flat_map line_bytes transfer_lines)) }
+{
     out.append(&2u16.to_le_bytes())?;
     out.append(&INVOKE_LEN.to_le_bytes())?;
     out.append(b"Program ")?;
@@ -48,7 +51,9 @@ fn append_lines(out: &mut Blob) -> Result<(), OutOfMemory> {
     out.append(b" success")
 }
 
-fn append_entries(out: &mut Blob, transfers: &[Transfer]) -> Result<(), OutOfMemory> {
+fn append_entries(out: &mut Blob, transfers: &[Transfer]) -> Result<(), OutOfMemory>
+    ensures { OnOk result (out.new ≡ out.old ++ flat_map entry_bytes (map entry transfers.now)) }
+{
     for transfer in transfers {
         append_entry(out, transfer)?;
     }
@@ -62,7 +67,12 @@ pub(crate) fn append_block(
     transfers: &[Transfer],
     shares: &Shares,
     state: &Hash32,
-) -> Result<(), OutOfMemory> {
+) -> Result<(), OutOfMemory>
+    requires few { length transfers.now < 2 ^ 32 }
+    requires state { state.now ≡ state_hash shares.now.accounts }
+    ensures { OnOk result
+        (out.new ≡ out.old ++ block_bytes (block_with setting.now transfers.now shares.now)) }
+{
     out.append(b"SOLBLCK1")?;
     out.append(&setting.slot.to_le_bytes())?;
     out.append(&setting.collector.0)?;

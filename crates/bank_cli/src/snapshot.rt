@@ -1,3 +1,7 @@
+ghost use Rattle.std.specs.Prelude.{◌≡◌, ◌++◌, ◌<◌, ◌^◌, length, OnOk, IfOk};
+ghost use Rattle.std.specs.List.{AllByRecursion};
+ghost use Rattle.bank_cli.specs.Snapshot.{account_bytes, state_bytes, mark_bytes, two_marks, head_bytes};
+
 use crate::state::KeyedAccount;
 use sol_base::{Blob, Hash32, OutOfMemory};
 use std::alloc::Global;
@@ -14,7 +18,10 @@ pub(crate) const MARK_LEN: usize = 36;
 /// The bytes of a name.
 pub(crate) const NAME_LEN: usize = 32;
 
-fn append_account(out: &mut Blob, entry: &KeyedAccount) -> Result<(), OutOfMemory> {
+fn append_account(out: &mut Blob, entry: &KeyedAccount) -> Result<(), OutOfMemory>
+    requires { length entry.now.account.bytes < 2 ^ 32 }
+    ensures { OnOk result (out.new ≡ out.old ++ account_bytes entry.now) }
+{
     let account = &entry.account;
     out.append(&entry.key.0)?;
     out.append(&account.lamports.to_le_bytes())?;
@@ -28,7 +35,11 @@ fn append_account(out: &mut Blob, entry: &KeyedAccount) -> Result<(), OutOfMemor
 pub(crate) fn state_section(
     alloc: Global,
     accounts: &[KeyedAccount],
-) -> Result<Blob, OutOfMemory> {
+) -> Result<Blob, OutOfMemory>
+    requires few { length accounts.now < 2 ^ 32 }
+    requires short { AllByRecursion (λ e. length e.account.bytes < 2 ^ 32) accounts.now }
+    ensures { IfOk result (λ section. section ≡ state_bytes accounts.now) }
+{
     let capacity = accounts.len().saturating_mul(ACCOUNT_LEN).saturating_add(4);
     let mut out = Blob::with_capacity(alloc, capacity)?;
     out.append(&(accounts.len() as u32).to_le_bytes())?;
@@ -38,7 +49,11 @@ pub(crate) fn state_section(
     Ok(out)
 }
 
-fn append_mark(out: &mut Blob, hash: &Hash32, messages: &[Hash32]) -> Result<(), OutOfMemory> {
+fn append_mark(out: &mut Blob, hash: &Hash32, messages: &[Hash32]) -> Result<(), OutOfMemory>
+    requires { length messages.now < 2 ^ 32 }
+    ensures { OnOk result
+        (out.new ≡ out.old ++ mark_bytes (record { hash = hash.now; messages = messages.now })) }
+{
     out.append(&hash.0)?;
     out.append(&(messages.len() as u32).to_le_bytes())?;
     for name in messages {
@@ -54,7 +69,11 @@ pub(crate) fn append_head(
     newest: &Hash32,
     messages: &[Hash32],
     previous: &Hash32,
-) -> Result<(), OutOfMemory> {
+) -> Result<(), OutOfMemory>
+    requires { length messages.now < 2 ^ 32 }
+    ensures { OnOk result
+        (out.new ≡ out.old ++ head_bytes slot (two_marks newest.now messages.now previous.now)) }
+{
     out.append(b"SOLSNAP1")?;
     out.append(&slot.to_le_bytes())?;
     out.append(&2u32.to_le_bytes())?;

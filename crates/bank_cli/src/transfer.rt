@@ -1,3 +1,6 @@
+ghost use Rattle.std.specs.Prelude.{◌≡◌, ◌++◌, OnOk, OnErr};
+ghost use Rattle.bank_cli.specs.Transfer.{wire, name};
+
 use sha2::{Digest, Sha256};
 use sol_base::{Blob, Hash32, Key, OutOfMemory, SYSTEM_PROGRAM};
 
@@ -22,7 +25,9 @@ pub(crate) const WIRE_LEN: u16 = 215;
 
 impl Transfer {
     /// The name of its message: the SHA-256 of the bytes (FIPS 180-4).
-    pub(crate) fn name(&self) -> Hash32 {
+    pub(crate) fn name(&self) -> Hash32
+        ensures { result ≡ name self.now }
+    {
         let mut hasher = Sha256::new();
         hasher.update(&HEADER_BYTES);
         hasher.update(&self.payer.0);
@@ -35,7 +40,9 @@ impl Transfer {
     }
 
     /// Adds its bytes at the end.
-    pub(crate) fn append_to(&self, out: &mut Blob) -> Result<(), OutOfMemory> {
+    pub(crate) fn append_to(&self, out: &mut Blob) -> Result<(), OutOfMemory>
+        ensures { OnOk result (out.new ≡ out.old ++ wire self.now) }
+    {
         out.append(&[1])?;
         out.append(&self.signature)?;
         out.append(&HEADER_BYTES)?;
