@@ -4,15 +4,16 @@ use std::test::Fail;
 #[derive(Clone, Copy, Debug, PartialEq, Eq)]
 enum Fault {
     Truncated { at: usize },
+    OutOfMemory,
 }
 
 impl Refusal for Fault {
-    ghost use Rattle.std.specs.Prelude.{false};
-    ghost use Rattle.spec_base.specs.declared.tests.Fault.TheVariants.{Truncated};
+    ghost use Rattle.std.specs.Prelude.{true, false};
+    ghost use Rattle.spec_base.specs.declared.tests.Fault.TheVariants.{Truncated, OutOfMemory};
 
     ghost cut_at = { Truncated };
 
-    ghost is_memory = { λ _. false };
+    ghost is_memory = { elim [ Truncated _ ↦ false | OutOfMemory ↦ true ] };
 
     fn truncated(at: usize) -> Fault {
         Fault::Truncated { at }
