@@ -8,6 +8,7 @@ ghost use Rattle.sol_io.specs.Bytes.{Keeps};
 
 use crate::output::{Produced, produce};
 use crate::plain::{PlainFault, read_plain};
+use crate::top::{INPUT_REFUSED, READ_FAILED, WORDS_REFUSED};
 use crate::words::Words;
 use sol_base::{Blob, OutOfMemory};
 use sol_io::{ReadFault, Source, read_all};
@@ -35,12 +36,12 @@ pub(crate) fn answer_of<S: Source>(
     ensures untouched { is_produce words.now ≡ false → Keeps (S.left source.old) (S.left source.new) × (S.faults source.new ≡ S.faults source.old) }
 {
     if !words.is_produce() {
-        return refuse(alloc, 2, b"words refused");
+        return refuse(alloc, WORDS_REFUSED, b"words refused");
     }
     match read_all(alloc, source, INPUT_LIMIT) {
         Ok(bytes) => answer_input(alloc, bytes.as_slice()),
-        Err(ReadFault::TooLong) => refuse(alloc, 3, b"input: NotPlain"),
-        Err(ReadFault::Failed) => refuse(alloc, 4, b"read failed"),
+        Err(ReadFault::TooLong) => refuse(alloc, INPUT_REFUSED, b"input: NotPlain"),
+        Err(ReadFault::Failed) => refuse(alloc, READ_FAILED, b"read failed"),
         Err(ReadFault::OutOfMemory) => Err(OutOfMemory),
     }
 }
@@ -51,7 +52,7 @@ fn answer_input(alloc: Global, bytes: &[u8]) -> Result<Answer, OutOfMemory>
 {
     let input = match read_plain(alloc, bytes) {
         Ok(input) => input,
-        Err(PlainFault::NotPlain) => return refuse(alloc, 3, b"input: NotPlain"),
+        Err(PlainFault::NotPlain) => return refuse(alloc, INPUT_REFUSED, b"input: NotPlain"),
         Err(PlainFault::OutOfMemory) => return Err(OutOfMemory),
     };
     match produce(alloc, input)? {
@@ -69,7 +70,7 @@ fn refuse_position(alloc: Global, position: usize) -> Result<Answer, OutOfMemory
     ensures { IfOk result (λ told. told ≡ refused 3 (codes "batch: NotYet at " ++ decimal position)) }
 {
     let text = format!(in alloc; "batch: NotYet at {position}")?;
-    refuse(alloc, 3, text.as_bytes())
+    refuse(alloc, INPUT_REFUSED, text.as_bytes())
 }
 
 /// An answer that is one line of a note.

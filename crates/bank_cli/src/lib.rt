@@ -15,6 +15,6 @@ pub use delivery::Undelivered;
 pub use output::Produced;
 pub use plain::{PlainFault, PlainInput};
 pub use state::KeyedAccount;
-pub use top::{OUT_OF_MEMORY, READ_FAILED, WRITE_FAILED, bank_main};
+pub use top::{INPUT_REFUSED, OUT_OF_MEMORY, READ_FAILED, WORDS_REFUSED, WRITE_FAILED, bank_main};
 pub use transfer::Transfer;
 pub use words::Words;

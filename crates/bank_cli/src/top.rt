@@ -12,6 +12,12 @@ use sol_base::OutOfMemory;
 use sol_io::{Sink, Source};
 use std::alloc::Global;
 
+/// The status where the words are not in form.
+pub const WORDS_REFUSED: u8 = 2;
+
+/// The status where the input is refused.
+pub const INPUT_REFUSED: u8 = 3;
+
 /// The status where the source failed.
 pub const READ_FAILED: u8 = 4;
 
