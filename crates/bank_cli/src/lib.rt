@@ -18,3 +18,6 @@ pub use state::KeyedAccount;
 pub use top::{INPUT_REFUSED, OUT_OF_MEMORY, READ_FAILED, WORDS_REFUSED, WRITE_FAILED, bank_main};
 pub use transfer::Transfer;
 pub use words::Words;
+
+#[cfg(test)]
+mod tests;
