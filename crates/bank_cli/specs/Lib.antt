@@ -8,3 +8,4 @@ pub mod BlockEnd
 pub mod Plain
 pub mod Answer
 pub mod Ending
+pub mod Output
