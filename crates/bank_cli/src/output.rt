@@ -21,7 +21,7 @@ use std::alloc::Global;
 /// What comes of a plain input: the record and the final snapshot, or the first position of a transfer
 /// that is not good.
 #[derive(Debug, Drop)]
-pub(crate) enum Produced {
+pub enum Produced {
     Output(Blob),
     NotGood { position: usize },
 }

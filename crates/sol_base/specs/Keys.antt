@@ -8,15 +8,19 @@ use Rattle.spec_base.specs.Reading.{field_at, mapped}
 use Rattle.sol_base.specs.declared.key.Key.{Key}
 use Rattle.sol_base.specs.declared.key.Hash32.{Hash32}
 
+-- a key has 32 bytes (Solana)
 abbrev pub IsKey : Key → Type 0
 IsKey key = length key.0 ≡ 32
 
+-- a hash has 32 bytes (FIPS 180-4)
 abbrev pub IsHash : Hash32 → Type 0
 IsHash hash = length hash.0 ≡ 32
 
+-- the first byte that differs decides
 abbrev pub key_cmp : Key → Key → Ordering
 key_cmp a b = slice_cmp nat_cmp a.0 b.0
 
+-- the first byte that differs decides
 abbrev pub hash_cmp : Hash32 → Hash32 → Ordering
 hash_cmp a b = slice_cmp nat_cmp a.0 b.0
 

@@ -21,7 +21,7 @@ pub const DERIVED_KEY_MARKER: [u8; 21] = *b"ProgramDerivedAddress";
 pub enum SeedFault {
     #[error("the seed has more than 32 bytes")]
     TooLong,
-    #[error("the owner ends as a program key's text does")]
+    #[error("the owner ends with the text ProgramDerivedAddress")]
     IllegalOwner,
 }
 

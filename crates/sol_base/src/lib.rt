@@ -11,6 +11,8 @@ mod key;
 mod limits;
 mod lock;
 mod memory;
+#[cfg(test)]
+mod tests;
 
 pub use account::Account;
 pub use blob::Blob;

@@ -13,7 +13,8 @@ pub trait Source {
     ghost faults: { Self → ℕ };
 
     /// Moves bytes into the front of the buffer, and answers how many: 0 for a buffer that is not
-    /// empty says that the source is at its end.
+    /// empty says that the source is at its end. What stands behind them, and in the whole buffer
+    /// after a failure, is left open.
     fn read(&mut self, buf: &mut [u8]) -> Result<usize, Failed>
         ensures bound { IfOk result (λ n. n ≤ length buf.old) }
         ensures bytes { MatchResult result (λ n. Consumes (left self.old) (left self.new) (take n buf.new)) (λ _. Keeps (left self.old) (left self.new)) }

@@ -1,6 +1,9 @@
+ghost use Rattle.std.specs.Prelude.{◌≡◌};
+
 use crate::device::{Sink, Source};
 use crate::fault::{Failed, SinkFault};
 use std::io::{Read, Write};
+use std::marker::Model;
 
 /// A source over a reader of std. It tells what the reader tells, and counts each of its errors in
 /// a u64, which stands still at its last value. What a real device gave is trusted, not proved.
@@ -10,14 +13,25 @@ pub struct StdSource<R> {
     faults: u64,
 }
 
+impl<R> Model for StdSource<R> {
+    ghost use Rattle.sol_io.specs.Standard.{Counted};
+
+    ghost Value = { Counted R };
+
+    ghost view = { λ s. record { device = s.reader; faults = s.faults } };
+}
+
 impl<R> StdSource<R> {
-    pub fn new(reader: R) -> StdSource<R> {
+    /// A source over the reader, with no fault so far.
+    pub fn new(reader: R) -> StdSource<R>
+        ensures { result ≡ record { device = reader; faults = 0 } }
+    {
         StdSource { reader, faults: 0 }
     }
 }
 
 impl<R: Read> Source for StdSource<R> {
-    ghost left = { λ s. R.remaining s.reader };
+    ghost left = { λ s. R.remaining s.device };
 
     ghost faults = { λ s. s.faults };
 
@@ -41,14 +55,25 @@ pub struct StdSink<W> {
     faults: u64,
 }
 
+impl<W> Model for StdSink<W> {
+    ghost use Rattle.sol_io.specs.Standard.{Counted};
+
+    ghost Value = { Counted W };
+
+    ghost view = { λ s. record { device = s.writer; faults = s.faults } };
+}
+
 impl<W> StdSink<W> {
-    pub fn new(writer: W) -> StdSink<W> {
+    /// A sink over the writer, with no fault so far.
+    pub fn new(writer: W) -> StdSink<W>
+        ensures { result ≡ record { device = writer; faults = 0 } }
+    {
         StdSink { writer, faults: 0 }
     }
 }
 
 impl<W: Write> Sink for StdSink<W> {
-    ghost held = { λ s. W.contents s.writer };
+    ghost held = { λ s. W.contents s.device };
 
     ghost faults = { λ s. s.faults };
 

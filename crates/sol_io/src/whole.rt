@@ -1,6 +1,6 @@
 ghost use Rattle.std.specs.Prelude.{◌≡◌, ◌≤◌, length, take, OnOk, IfErr};
 ghost use Rattle.sol_io.specs.Counts.{ReadCounts, WriteCounts, written_of};
-ghost use Rattle.sol_io.specs.Bytes.{ReadsAll, Appends, IsAtEnd};
+ghost use Rattle.sol_io.specs.Bytes.{ReadsAll, LosesFront, Appends, IsAtEnd};
 
 use crate::device::{Sink, Source};
 use crate::fault::{ReadFault, SinkFault, WriteFault};
@@ -14,6 +14,7 @@ const PIECE: usize = 16_384;
 /// taken from the source.
 pub fn read_all<S: Source>(alloc: Global, source: &mut S, limit: usize) -> Result<Blob, ReadFault>
     ensures bytes { ReadsAll (S.left source.old) limit result }
+    ensures taken { LosesFront (S.left source.old) (S.left source.new) }
     ensures end { OnOk result (IsAtEnd (S.left source.new)) }
     ensures counts { ReadCounts result (S.faults source.old) (S.faults source.new) }
 {

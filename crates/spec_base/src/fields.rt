@@ -5,7 +5,7 @@ ghost use Rattle.spec_base.specs.Reading.{Gives, field_at, byte_at, number_at};
 
 /// The refusals of one format: each format has its own, and all have a field that is cut short.
 pub trait Refusal {
-    ghost use Rattle.std.specs.Prelude.{ℕ, Bool};
+    ghost use Rattle.std.specs.Prelude.{ℕ, Bool, false};
 
     /// The refusal of a field that does not fit in the bytes left, by its place.
     ghost cut_at: { ℕ → Self };
@@ -15,7 +15,8 @@ pub trait Refusal {
 
     /// The field at this place does not fit in the bytes left.
     fn truncated(at: usize) -> Self
-        ensures { result ≡ cut_at at };
+        ensures value { result ≡ cut_at at }
+        ensures by_input { is_memory result ≡ false };
 }
 
 /// A field of `count` bytes, and the bytes after it. `total` is the length of the whole text.

@@ -3,5 +3,7 @@
 #![tactic(auto)]
 
 mod fields;
+#[cfg(test)]
+mod tests;
 
 pub use fields::{Refusal, array_field, byte_field, bytes_field, u16_field, u32_field, u64_field};
