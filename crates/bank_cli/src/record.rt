@@ -16,12 +16,13 @@ pub(crate) const RECORD_LEN: usize = 164;
 /// The bytes of the entry of a transfer.
 pub(crate) const ENTRY_LEN: usize = 410;
 
-const INVOKE_LEN: u16 = 83;
+/// The line of a frame of the system program that starts.
+const INVOKE_LINE: [u8; 83] =
+    *b"Program 0000000000000000000000000000000000000000000000000000000000000000 invoke [1]";
 
-const SUCCESS_LEN: u16 = 80;
-
-/// The system program as the lines of a log have it.
-const SYSTEM_TEXT: [u8; 64] = [b'0'; 64];
+/// The line of a frame of the system program that ends well.
+const SUCCESS_LINE: [u8; 80] =
+    *b"Program 0000000000000000000000000000000000000000000000000000000000000000 success";
 
 /// Adds the entry of a good transfer at the end.
 fn append_entry(out: &mut Blob, transfer: &Transfer) -> Result<(), OutOfMemory>
@@ -35,20 +36,22 @@ fn append_entry(out: &mut Blob, transfer: &Transfer) -> Result<(), OutOfMemory>
     append_lines(out)
 }
 
+fn append_line(out: &mut Blob, line: &[u8]) -> Result<(), OutOfMemory>
+    requires { length line.now < 2 ^ 16 }
+    ensures { OnOk result (out.new ≡ out.old ++ line_bytes line.now) }
+{
+    out.append(&(line.len() as u16).to_le_bytes())?;
+    out.append(line)
+}
+
 /// Adds the lines of a transfer at the end.
 fn append_lines(out: &mut Blob) -> Result<(), OutOfMemory>
     ensures { OnOk result
         (out.new ≡ out.old ++ (to_le_bytes w16 (length transfer_lines) ++ flat_map line_bytes transfer_lines)) }
 {
     out.append(&2u16.to_le_bytes())?;
-    out.append(&INVOKE_LEN.to_le_bytes())?;
-    out.append(b"Program ")?;
-    out.append(&SYSTEM_TEXT)?;
-    out.append(b" invoke [1]")?;
-    out.append(&SUCCESS_LEN.to_le_bytes())?;
-    out.append(b"Program ")?;
-    out.append(&SYSTEM_TEXT)?;
-    out.append(b" success")
+    append_line(out, &INVOKE_LINE)?;
+    append_line(out, &SUCCESS_LINE)
 }
 
 fn append_entries(out: &mut Blob, transfers: &[Transfer]) -> Result<(), OutOfMemory>
