@@ -1,8 +1,35 @@
 -- Bytes that are written piece by piece.
-use Rattle.std.proofs.Common.{◌≡◌, ℕ, ◌+◌, ◌<◌, ◌≤◌, List, [], ◌∷◌, ◌++◌, length, take, get_or, refl, sym, ap, subst, ◌∙◌, append_assoc, arith}
+use Rattle.std.proofs.Common.{◌≡◌, ℕ, ◌+◌, ◌<◌, ◌≤◌, List, [], ◌∷◌, ◌++◌, length, take, get_or, refl, sym, ap, subst, ◌∙◌, append_assoc, arith, Result, Ok, Err, OnOk}
 use Rattle.std.specs.Prelude.{map}
 use Rattle.std.specs.List.{flat_map}
 use Rattle.std.proofs.lemmas.List.{append-nil, take_more, take_all, flat_map_more}
+
+-- one piece more
+pub one_more : (old sofar piece now next : List ℕ) → now ≡ old ++ sofar → next ≡ now ++ piece → next ≡ old ++ (sofar ++ piece)
+one_more old sofar piece now next h e = e ∙ ap (λ (l : List ℕ). l ++ piece) h ∙ append_assoc old sofar piece
+
+-- a piece that is shown as another list of the same bytes
+pub first_as : (old piece shown next : List ℕ) → next ≡ old ++ shown → shown ≡ piece → next ≡ old ++ piece
+first_as old piece shown next e same = e ∙ ap (λ (l : List ℕ). old ++ l) same
+
+pub one_more_as : (old sofar piece shown now next : List ℕ) → now ≡ old ++ sofar → next ≡ now ++ shown → shown ≡ piece → next ≡ old ++ (sofar ++ piece)
+one_more_as old sofar piece shown now next h e same = one_more old sofar piece now next h (first_as now piece shown next e same)
+
+-- the last piece, by a call whose answer is handed on
+pub last_piece : {X E : Type 0} (r : Result X E) (old sofar piece now next : List ℕ) → now ≡ old ++ sofar → OnOk r (next ≡ now ++ piece) → OnOk r (next ≡ old ++ (sofar ++ piece))
+last_piece (Ok x) old sofar piece now next h e = one_more old sofar piece now next h e
+last_piece (Err x) old sofar piece now next h e = tt
+
+pub last_piece_as : {X E : Type 0} (r : Result X E) (old sofar piece shown now next : List ℕ) → now ≡ old ++ sofar → OnOk r (next ≡ now ++ shown) → shown ≡ piece → OnOk r (next ≡ old ++ (sofar ++ piece))
+last_piece_as (Ok x) old sofar piece shown now next h e same = one_more_as old sofar piece shown now next h e same
+last_piece_as (Err x) old sofar piece shown now next h e same = tt
+
+-- two last pieces that are the pieces of a list
+pub last_two : {X E : Type 0} (r : Result X E) (old sofar piece piece' now between next : List ℕ) → now ≡ old ++ sofar → between ≡ now ++ piece → OnOk r (next ≡ between ++ piece') → OnOk r (next ≡ old ++ (sofar ++ (piece ++ (piece' ++ []))))
+last_two (Ok x) old sofar piece piece' now between next h e last =
+    one_more old (sofar ++ piece) piece' between next (one_more old sofar piece now between h e) last
+        ∙ ap (λ (l : List ℕ). old ++ l) (append_assoc sofar piece piece' ∙ ap (λ (l : List ℕ). sofar ++ (piece ++ l)) (sym (append-nil piece')))
+last_two (Err x) old sofar piece piece' now between next h e last = tt
 
 -- The first so many items of a list were spelled after what was there.
 pub record HasSpelled {X : Type 0} (spell : X → List ℕ) (old now : List ℕ) (xs : List X) (i : ℕ) : Type 0 where

@@ -25,6 +25,9 @@ IsShown es seen k a = (seen ≡ es) × (a ≡ account_at seen k)
 is_there : (es seen : List KeyedAccount) (k : Key) (a : Account) → IsShown es seen k a → a ≡ account_at es k
 is_there es seen k a shown = shown.1 ∙ ap (λ (l : List KeyedAccount). account_at l k) shown.0
 
+pub shown_most : (es seen : List KeyedAccount) (k : Key) (a : Account) → IsShown es seen k a → a.lamports ≤ total es
+shown_most es seen k a shown = let most = one_at_most es k in let same = ap (λ (x : Account). x.lamports) (is_there es seen k a shown) in omega arith
+
 pub no_data_of : (es seen : List KeyedAccount) (k : Key) (a : Account) → IsRunning es → IsShown es seen k a → a.bytes ≡ []
 no_data_of es seen k a is shown = ap (λ (x : Account). x.bytes) (is_there es seen k a shown) ∙ no_data_at es k is
 

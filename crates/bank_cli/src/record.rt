@@ -1,8 +1,7 @@
 ghost use Rattle.std.specs.Prelude.{◌≡◌, ◌++◌, ◌<◌, ◌^◌, map, length, OnOk};
-ghost use Rattle.std.specs.Int.{w16, to_le_bytes};
 ghost use Rattle.std.specs.List.{flat_map};
 ghost use Rattle.bank_cli.specs.Snapshot.{state_hash};
-ghost use Rattle.bank_cli.specs.Record.{line_bytes, entry_bytes, block_bytes};
+ghost use Rattle.bank_cli.specs.Record.{line_bytes, lines_bytes, entry_bytes, block_bytes};
 ghost use Rattle.bank_cli.specs.BlockEnd.{transfer_lines, entry, block_with};
 
 use crate::block_end::{Setting, Shares};
@@ -46,8 +45,7 @@ fn append_line(out: &mut Blob, line: &[u8]) -> Result<(), OutOfMemory>
 
 /// Adds the lines of a transfer at the end.
 fn append_lines(out: &mut Blob) -> Result<(), OutOfMemory>
-    ensures { OnOk result
-        (out.new ≡ out.old ++ (to_le_bytes w16 (length transfer_lines) ++ flat_map line_bytes transfer_lines)) }
+    ensures { OnOk result (out.new ≡ out.old ++ lines_bytes transfer_lines) }
 {
     out.append(&2u16.to_le_bytes())?;
     append_line(out, &INVOKE_LINE)?;

@@ -1,4 +1,4 @@
-ghost use Rattle.std.specs.Prelude.{◌≡◌, ◌++◌, OnOk, OnErr};
+ghost use Rattle.std.specs.Prelude.{◌≡◌, ◌++◌, OnOk, length};
 ghost use Rattle.bank_cli.specs.Transfer.{wire, name};
 
 use sha2::{Digest, Sha256};
@@ -41,7 +41,8 @@ impl Transfer {
 
     /// Adds its bytes at the end.
     pub(crate) fn append_to(&self, out: &mut Blob) -> Result<(), OutOfMemory>
-        ensures { OnOk result (out.new ≡ out.old ++ wire self.now) }
+        ensures bytes { OnOk result (out.new ≡ out.old ++ wire self.now) }
+        ensures len { OnOk result (length (wire self.now) ≡ WIRE_LEN) }
     {
         out.append(&[1])?;
         out.append(&self.signature)?;
