@@ -28,7 +28,7 @@ last_piece_as (Err x) old sofar piece shown now next h e same = tt
 pub last_two : {X E : Type 0} (r : Result X E) (old sofar piece piece' now between next : List ℕ) → now ≡ old ++ sofar → between ≡ now ++ piece → OnOk r (next ≡ between ++ piece') → OnOk r (next ≡ old ++ (sofar ++ (piece ++ (piece' ++ []))))
 last_two (Ok x) old sofar piece piece' now between next h e last =
     one_more old (sofar ++ piece) piece' between next (one_more old sofar piece now between h e) last
-        ∙ ap (λ (l : List ℕ). old ++ l) (append_assoc sofar piece piece' ∙ ap (λ (l : List ℕ). sofar ++ (piece ++ l)) (sym (append-nil piece')))
+    ∙ ap (λ (l : List ℕ). old ++ l) (append_assoc sofar piece piece' ∙ ap (λ (l : List ℕ). sofar ++ (piece ++ l)) (sym (append-nil piece')))
 last_two (Err x) old sofar piece piece' now between next h e last = tt
 
 -- The first so many items of a list were spelled after what was there.

@@ -75,9 +75,9 @@ ascends-placed m [] h = ascends_cons m [] tt ascends_none
 ascends-placed m (n ∷ ns) h =
     let p = ascends_parts n ns h in
     by_cases (hash_cmp m n)
-        (λ o. subst Ascends (sym (placed_first m n ns o)) (ascends_cons m (n ∷ ns) (o, above_more m n ns o p.0) h))
-        (λ o. subst Ascends (sym (placed_here m n ns o)) h)
-        (λ o. subst Ascends (sym (placed_later m n ns o)) (ascends_cons n (placed m ns) (above-placed n m ns (turned_less m n o) p.0) (ascends-placed m ns p.1)))
+    (λ o. subst Ascends (sym (placed_first m n ns o)) (ascends_cons m (n ∷ ns) (o, above_more m n ns o p.0) h))
+    (λ o. subst Ascends (sym (placed_here m n ns o)) h)
+    (λ o. subst Ascends (sym (placed_later m n ns o)) (ascends_cons n (placed m ns) (above-placed n m ns (turned_less m n o) p.0) (ascends-placed m ns p.1)))
 
 pub ascends-ascending : (ns : List Hash32) → Ascends (ascending ns)
 ascends-ascending [] = ascends_none

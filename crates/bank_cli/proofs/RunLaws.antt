@@ -109,11 +109,11 @@ first_of_lengths m n = cond (nat_lt m n) (Some m) None
 position-cons : (p : Bool → Bool) (b : Bool) (bs : List Bool) → position p (b ∷ bs) ≡ cond (p b) (Some 0) (option_map suc (position p bs))
 position-cons p b bs = by_test (p b)
     (λ h. ap (λ t. first_of_lengths (cond (not t) (1 + position_or_len p bs) 0) (suc (length bs))) h ∙ ap (λ t. cond t (Some 0) None) (some_first (length bs))
-        ∙ sym (ap (λ t. cond t (Some 0) (option_map suc (position p bs))) h))
+    ∙ sym (ap (λ t. cond t (Some 0) (option_map suc (position p bs))) h))
     (λ h. ap (λ t. first_of_lengths (cond (not t) (1 + position_or_len p bs) 0) (suc (length bs))) h
-        ∙ ap (λ t. cond t (Some (1 + position_or_len p bs)) None) (less_both (position_or_len p bs) (length bs))
-        ∙ shifted (nat_lt (position_or_len p bs) (length bs)) (position_or_len p bs)
-        ∙ sym (ap (λ t. cond t (Some 0) (option_map suc (position p bs))) h))
+    ∙ ap (λ t. cond t (Some (1 + position_or_len p bs)) None) (less_both (position_or_len p bs) (length bs))
+    ∙ shifted (nat_lt (position_or_len p bs) (length bs)) (position_or_len p bs)
+    ∙ sym (ap (λ t. cond t (Some 0) (option_map suc (position p bs))) h))
 
 not_good-cons : (es : List KeyedAccount) (t : Transfer) (ts : List Transfer) → not_good es (t ∷ ts) ≡ cond (is_good es t) (option_map suc (not_good (after_one es t) ts)) (Some 0)
 not_good-cons es t ts = position-cons (λ good. not good) (is_good es t) (are_good (after_one es t) ts) ∙ turned (is_good es t) _ _
@@ -196,10 +196,10 @@ pub all_paid : (es : List KeyedAccount) (ts : List Transfer) → IsRunning es �
 all_paid es [] is apart none = record { running = is; fees = omega arith; length_most = omega arith }
 all_paid es (t ∷ ts) is apart none = by_test (is_good es t)
     (λ g.
-        let rest = all_paid (after_one es t) ts (running_one es t is apart.0 g) apart.1 (map_none _ (sym (not_good-later es t ts g) ∙ none)) in
-        let fee = total-after_one es t is.ascend apart.0 g in
-        let long = length-after_one es t in
-        let fees = rest.fees in
-        let most = rest.length_most in
-        record { running = rest.running; fees = omega arith; length_most = omega arith })
+    let rest = all_paid (after_one es t) ts (running_one es t is apart.0 g) apart.1 (map_none _ (sym (not_good-later es t ts g) ∙ none)) in
+    let fee = total-after_one es t is.ascend apart.0 g in
+    let long = length-after_one es t in
+    let fees = rest.fees in
+    let most = rest.length_most in
+    record { running = rest.running; fees = omega arith; length_most = omega arith })
     (λ b. absurd (some_none 0 (sym (not_good-first es t ts b) ∙ none)))

@@ -151,10 +151,10 @@ ascending-put [] k a h = ascending-kept k a [] tt h
 ascending-put (e ∷ es) k a h =
     let p = ascending_parts e es h in
     by_cases (key_cmp e.key k)
-        (λ o. subst IsAscending (sym (put_past e es k a o)) (ascending_cons e (put es k a) (above-put e.key k a es o p.0) (ascending-put es k a p.1)))
-        (λ o. subst IsAscending (sym (put_here e es k a o)) (ascending-kept k a es (subst (λ (x : Key). Above x es) (key_cmp_exact e.key k o) p.0) p.1))
-        (λ o. subst IsAscending (sym (put_before e es k a o))
-            (ascending-kept k a (e ∷ es) (less_of_greater e.key k o, above_more k e.key es (less_of_greater e.key k o) p.0) h))
+    (λ o. subst IsAscending (sym (put_past e es k a o)) (ascending_cons e (put es k a) (above-put e.key k a es o p.0) (ascending-put es k a p.1)))
+    (λ o. subst IsAscending (sym (put_here e es k a o)) (ascending-kept k a es (subst (λ (x : Key). Above x es) (key_cmp_exact e.key k o) p.0) p.1))
+    (λ o. subst IsAscending (sym (put_before e es k a o))
+    (ascending-kept k a (e ∷ es) (less_of_greater e.key k o, above_more k e.key es (less_of_greater e.key k o) p.0) h))
 
 length-kept : (k : Key) (a : Account) (es : List KeyedAccount) → length (kept k a es) ≤ length es + 1
 length-kept k a es = by_test (nat_eq a.lamports 0)
@@ -180,11 +180,11 @@ account_at-put [] k a j differ = account_at-kept [] k a j (apart_of k j differ)
 account_at-put (e ∷ es) k a j differ =
     let apart = apart_of k j differ in
     by_cases (key_cmp e.key k)
-        (λ o. ap (λ (l : List KeyedAccount). account_at l j) (put_past e es k a o)
-            ∙ ap (λ (x : Account). cond (is_same_key e.key j) e.account x) (account_at-put es k a j differ))
-        (λ o. ap (λ (l : List KeyedAccount). account_at l j) (put_here e es k a o) ∙ account_at-kept es k a j apart
-            ∙ sym (account_past e es j (subst (λ (x : Key). is_same_key x j ≡ false) (sym (key_cmp_exact e.key k o)) apart)))
-        (λ o. ap (λ (l : List KeyedAccount). account_at l j) (put_before e es k a o) ∙ account_at-kept (e ∷ es) k a j apart)
+    (λ o. ap (λ (l : List KeyedAccount). account_at l j) (put_past e es k a o)
+    ∙ ap (λ (x : Account). cond (is_same_key e.key j) e.account x) (account_at-put es k a j differ))
+    (λ o. ap (λ (l : List KeyedAccount). account_at l j) (put_here e es k a o) ∙ account_at-kept es k a j apart
+    ∙ sym (account_past e es j (subst (λ (x : Key). is_same_key x j ≡ false) (sym (key_cmp_exact e.key k o)) apart)))
+    (λ o. ap (λ (l : List KeyedAccount). account_at l j) (put_before e es k a o) ∙ account_at-kept (e ∷ es) k a j apart)
 
 -- The sum of lamports.
 
@@ -205,33 +205,33 @@ total-put [] k a h = let t = total-kept k a [] in omega arith
 total-put (e ∷ es) k a h =
     let p = ascending_parts e es h in
     by_cases (key_cmp e.key k)
-        (λ o.
-            let rest = total-put es k a p.1 in
-            let before = total-cons e es in
-            let after = ap total (put_past e es k a o) ∙ total-cons e (put es k a) in
-            let there = ap (λ (x : Account). x.lamports) (account_past e es k (apart_of_less e.key k o)) in
-            omega arith)
-        (λ o.
-            let before = total-cons e es in
-            let after = ap total (put_here e es k a o) ∙ total-kept k a es in
-            let there = ap (λ (x : Account). x.lamports) (account_here e es k (same_of_equal e.key k o)) in
-            omega arith)
-        (λ o.
-            let after = ap total (put_before e es k a o) ∙ total-kept k a (e ∷ es) in
-            let above = above_more k e.key es (less_of_greater e.key k o) p.0 in
-            let there = ap (λ (x : Account). x.lamports) (account_past e es k (apart_of_greater e.key k o) ∙ account_above k es above) in
-            omega arith)
+    (λ o.
+    let rest = total-put es k a p.1 in
+    let before = total-cons e es in
+    let after = ap total (put_past e es k a o) ∙ total-cons e (put es k a) in
+    let there = ap (λ (x : Account). x.lamports) (account_past e es k (apart_of_less e.key k o)) in
+    omega arith)
+    (λ o.
+    let before = total-cons e es in
+    let after = ap total (put_here e es k a o) ∙ total-kept k a es in
+    let there = ap (λ (x : Account). x.lamports) (account_here e es k (same_of_equal e.key k o)) in
+    omega arith)
+    (λ o.
+    let after = ap total (put_before e es k a o) ∙ total-kept k a (e ∷ es) in
+    let above = above_more k e.key es (less_of_greater e.key k o) p.0 in
+    let there = ap (λ (x : Account). x.lamports) (account_past e es k (apart_of_greater e.key k o) ∙ account_above k es above) in
+    omega arith)
 
 pub one_at_most : (es : List KeyedAccount) (k : Key) → (account_at es k).lamports ≤ total es
 one_at_most [] k = omega arith
 one_at_most (e ∷ es) k =
     let all = total-cons e es in
     by_test (is_same_key e.key k)
-        (λ t. let there = ap (λ (x : Account). x.lamports) (account_here e es k t) in omega arith)
-        (λ t.
-            let there = ap (λ (x : Account). x.lamports) (account_past e es k t) in
-            let rest = one_at_most es k in
-            omega arith)
+    (λ t. let there = ap (λ (x : Account). x.lamports) (account_here e es k t) in omega arith)
+    (λ t.
+    let there = ap (λ (x : Account). x.lamports) (account_past e es k t) in
+    let rest = one_at_most es k in
+    omega arith)
 
 -- two keys hold no more than all
 pub two_at_most : (es : List KeyedAccount) (j k : Key) → (j ≡ k → ⊥) → (account_at es j).lamports + (account_at es k).lamports ≤ total es
@@ -239,24 +239,24 @@ two_at_most [] j k differ = omega arith
 two_at_most (e ∷ es) j k differ =
     let all = total-cons e es in
     by_test (is_same_key e.key j)
-        (λ t. by_test (is_same_key e.key k)
-            (λ u. absurd (differ (sym (same_key e.key j t) ∙ same_key e.key k u)))
-            (λ u.
-                let first = ap (λ (x : Account). x.lamports) (account_here e es j t) in
-                let second = ap (λ (x : Account). x.lamports) (account_past e es k u) in
-                let rest = one_at_most es k in
-                omega arith))
-        (λ t. by_test (is_same_key e.key k)
-            (λ u.
-                let first = ap (λ (x : Account). x.lamports) (account_past e es j t) in
-                let second = ap (λ (x : Account). x.lamports) (account_here e es k u) in
-                let rest = one_at_most es j in
-                omega arith)
-            (λ u.
-                let first = ap (λ (x : Account). x.lamports) (account_past e es j t) in
-                let second = ap (λ (x : Account). x.lamports) (account_past e es k u) in
-                let rest = two_at_most es j k differ in
-                omega arith))
+    (λ t. by_test (is_same_key e.key k)
+    (λ u. absurd (differ (sym (same_key e.key j t) ∙ same_key e.key k u)))
+    (λ u.
+    let first = ap (λ (x : Account). x.lamports) (account_here e es j t) in
+    let second = ap (λ (x : Account). x.lamports) (account_past e es k u) in
+    let rest = one_at_most es k in
+    omega arith))
+    (λ t. by_test (is_same_key e.key k)
+    (λ u.
+    let first = ap (λ (x : Account). x.lamports) (account_past e es j t) in
+    let second = ap (λ (x : Account). x.lamports) (account_here e es k u) in
+    let rest = one_at_most es j in
+    omega arith)
+    (λ u.
+    let first = ap (λ (x : Account). x.lamports) (account_past e es j t) in
+    let second = ap (λ (x : Account). x.lamports) (account_past e es k u) in
+    let rest = two_at_most es j k differ in
+    omega arith))
 
 -- What a search for a key finds.
 
@@ -369,7 +369,7 @@ put_changed es i k a e is read some =
     let same : e.key ≡ k = ap (λ (x : KeyedAccount). x.key) read ∙ key_cmp_exact (get_or es i e).key k (is.at e) in
     let keyed : KeyedAccount = record { key = k; account = a } in
     ap (λ (x : Key). let f : KeyedAccount = record { key = x; account = a } in set es i f) same ∙ set_split es i keyed is.within
-        ∙ sym (put_found es i k a is.within is.ascend is.at ∙ ap (λ (l : List KeyedAccount). take i es ++ l) (kept_some k a (drop (suc i) es) some))
+    ∙ sym (put_found es i k a is.within is.ascend is.at ∙ ap (λ (l : List KeyedAccount). take i es ++ l) (kept_some k a (drop (suc i) es) some))
 
 pub put_added : (es : List KeyedAccount) (i : ℕ) (k : Key) (a : Account) → IsMissing es k i → a.lamports ≢ 0 → insert es i (record { key = k; account = a }) ≡ put es k a
 put_added es i k a is some = sym (put_absent es i k a is.within is.below is.above ∙ ap (λ (l : List KeyedAccount). take i es ++ l) (kept_some k a (drop i es) some))

@@ -13,8 +13,8 @@ use Rattle.bank_cli.specs.declared.block_end.Shares.{Shares}
 pub use Rattle.bank_cli.specs.declared.block_end.Setting.{Setting}
 use Rattle.bank_cli.specs.State.{account_at, put}
 use Rattle.bank_cli.specs.Transfer.{wire, name}
-use Rattle.bank_cli.specs.Snapshot.{Snapshot, two_marks, state_hash}
-use Rattle.bank_cli.specs.Record.{Entry, Block, block_hash}
+use Rattle.bank_cli.specs.Snapshot.{Snapshot, two_marks, state_hash, snapshot_bytes_one}
+use Rattle.bank_cli.specs.Record.{Entry, Block, block_hash, record_bytes}
 use Rattle.bank_cli.specs.Serial.{base_fee, native_units, more, is_wallet, after_all}
 
 -- the collector's account may be this one, with the rest of the fees in it
@@ -59,8 +59,13 @@ shares_of setting es ts = share_fees (after_all es ts) setting.collector (base_f
 abbrev pub block_with : Setting → List Transfer → Shares → Block
 block_with setting ts shares =
     record {
-      slot = setting.slot; collector = setting.collector; previous = setting.previous; entries = map entry ts;
-      burned = shares.burned; collected = shares.collected; state = state_hash shares.accounts
+      slot = setting.slot;
+      collector = setting.collector;
+      previous = setting.previous;
+      entries = map entry ts;
+      burned = shares.burned;
+      collected = shares.collected;
+      state = state_hash shares.accounts;
     }
 
 -- The final snapshot: a new mark with the block hash and the names of the messages goes before the old one.
@@ -69,8 +74,12 @@ snapshot_with setting ts shares =
     record {
       slot = setting.slot;
       marks = two_marks (block_hash (block_with setting ts shares)) (ascending (map name ts)) setting.previous;
-      accounts = shares.accounts
+      accounts = shares.accounts;
     }
+
+-- the record and the final snapshot
+abbrev pub output_with : Setting → List Transfer → Shares → List ℕ
+output_with setting ts shares = record_bytes (block_with setting ts shares) ++ snapshot_bytes_one (snapshot_with setting ts shares)
 
 abbrev pub block_of : Setting → List KeyedAccount → List Transfer → Block
 block_of setting es ts = block_with setting ts (shares_of setting es ts)

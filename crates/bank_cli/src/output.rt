@@ -1,10 +1,8 @@
-ghost use Rattle.std.specs.Prelude.{◌≡◌, ◌++◌, ◌+◌, ◌*◌, ◌<◌, ◌≤◌, ◌^◌, length, IfOk};
+ghost use Rattle.std.specs.Prelude.{◌≡◌, ◌+◌, ◌*◌, ◌<◌, ◌≤◌, ◌^◌, length, IfOk};
 ghost use Rattle.std.specs.List.{AllByRecursion};
-ghost use Rattle.bank_cli.specs.State.{IsAscending, total};
-ghost use Rattle.bank_cli.specs.Snapshot.{snapshot_bytes_one};
-ghost use Rattle.bank_cli.specs.Record.{record_bytes};
+ghost use Rattle.bank_cli.specs.State.{total};
 ghost use Rattle.bank_cli.specs.Serial.{IsRunning, base_fee};
-ghost use Rattle.bank_cli.specs.BlockEnd.{share_fees, block_with, snapshot_with};
+ghost use Rattle.bank_cli.specs.BlockEnd.{share_fees, output_with};
 ghost use Rattle.bank_cli.specs.Plain.{IsRunnable};
 ghost use Rattle.bank_cli.specs.Output.{Produces};
 
@@ -45,14 +43,18 @@ fn write_output(
     requires transfers { length transfers.now ≤ 60 }
     requires few { length shares.now.accounts < 2 ^ 32 }
     requires short { AllByRecursion (λ e. length e.account.bytes < 2 ^ 32) shares.now.accounts }
-    ensures { IfOk result (λ output. output
-        ≡ record_bytes (block_with setting.now transfers.now shares.now)
-            ++ snapshot_bytes_one (snapshot_with setting.now transfers.now shares.now)) }
+    ensures { IfOk result (λ output. output ≡ output_with setting.now transfers.now shares.now) }
 {
     let state = state_section(alloc, shares.accounts.as_slice())?;
     let names = message_names(alloc, transfers)?;
     let mut out = Blob::with_capacity(alloc, output_len(transfers.len(), state.len()))?;
-    append_block(&mut out, setting, transfers, shares, &hash(state.as_slice()))?;
+    append_block(
+        &mut out,
+        setting,
+        transfers,
+        shares,
+        &hash(state.as_slice()),
+    )?;
     let block_hash = hash(out.as_slice());
     out.append(&block_hash.0)?;
     append_head(
@@ -78,9 +80,7 @@ fn end_block(
     requires fits { total accounts.items + base_fee * length transfers.now < 2 ^ 64 }
     requires few { length accounts.items + 1 < 2 ^ 32 }
     ensures { let shares = share_fees accounts.items setting.now.collector (base_fee * length transfers.now) in
-        IfOk result (λ output. output
-            ≡ record_bytes (block_with setting.now transfers.now shares)
-                ++ snapshot_bytes_one (snapshot_with setting.now transfers.now shares)) }
+        IfOk result (λ output. output ≡ output_with setting.now transfers.now shares) }
 {
     let fees = BASE_FEE * transfers.len() as u64;
     let shares = share_fees(alloc, accounts, &setting.collector, fees)?;

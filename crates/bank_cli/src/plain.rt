@@ -2,10 +2,10 @@ ghost use Rattle.std.specs.Prelude.{IfOk};
 ghost use Rattle.spec_base.specs.Reading.{Gives};
 ghost use Rattle.bank_cli.specs.Plain.{plain_of, is_memory, IsRunnable};
 
-use std::alloc::Global;
 use crate::state::KeyedAccount;
 use crate::transfer::Transfer;
 use sol_base::{Hash32, Items, Key};
+use std::alloc::Global;
 
 /// A snapshot and a batch that are plain: one mark without messages, accounts that are wallets, and
 /// transfers between them.

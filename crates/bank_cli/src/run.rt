@@ -38,9 +38,7 @@ fn pays(payer: &Account) -> bool
     requires { payer.now.bytes ≡ [] }
     ensures { result ≡ pays payer.now }
 {
-    is_wallet(payer)
-        && payer.lamports >= BASE_FEE
-        && may_have(payer, payer.lamports - BASE_FEE)
+    is_wallet(payer) && payer.lamports >= BASE_FEE && may_have(payer, payer.lamports - BASE_FEE)
 }
 
 /// Whether the payer, who has paid the fee, can send the lamports.
@@ -65,7 +63,7 @@ fn execute(
     requires apart { ¬ (transfer.now.payer ≡ transfer.now.to) }
     ensures { let es = accounts.old.items in
         IfOk result (λ good.
-            (good ≡ is_good es transfer.now) × (accounts.new.items ≡ (if good then after_one es transfer.now else es))) }
+        (good ≡ is_good es transfer.now) × (accounts.new.items ≡ (if good then after_one es transfer.now else es))) }
 {
     let mut payer = account_at(alloc, accounts, &transfer.payer)?;
     if !pays(&payer) {

@@ -32,10 +32,7 @@ fn append_account(out: &mut Blob, entry: &KeyedAccount) -> Result<(), OutOfMemor
 }
 
 /// The state section: the number of accounts and the accounts.
-pub(crate) fn state_section(
-    alloc: Global,
-    accounts: &[KeyedAccount],
-) -> Result<Blob, OutOfMemory>
+pub(crate) fn state_section(alloc: Global, accounts: &[KeyedAccount]) -> Result<Blob, OutOfMemory>
     requires few { length accounts.now < 2 ^ 32 }
     requires short { AllByRecursion (λ e. length e.account.bytes < 2 ^ 32) accounts.now }
     ensures { IfOk result (λ section. section ≡ state_bytes accounts.now) }

@@ -67,7 +67,10 @@ fn two_transfers_are_written(rt: HostRuntime) -> Result<(), Fail> {
     let mut source = NeverSource::new(two_transfers(alloc)?);
     let mut out = NeverSink::new(alloc);
     let mut notes = NeverSink::new(alloc);
-    assert_eq!(rt; bank_main(alloc, &words, &mut source, &mut out, &mut notes), 0);
+    assert_eq!(rt;
+        bank_main(alloc, &words, &mut source, &mut out, &mut notes),
+        0
+    );
     assert_eq!(rt; out.held().len(), 1529);
     assert!(rt; notes.held().is_empty());
     Ok(())
@@ -80,7 +83,10 @@ fn a_failing_second_read(rt: HostRuntime) -> Result<(), Fail> {
     let mut source = MemSource::new(two_transfers(alloc)?, failing(alloc, 1)?);
     let mut out = NeverSink::new(alloc);
     let mut notes = NeverSink::new(alloc);
-    assert_eq!(rt; bank_main(alloc, &words, &mut source, &mut out, &mut notes), 4);
+    assert_eq!(rt;
+        bank_main(alloc, &words, &mut source, &mut out, &mut notes),
+        4
+    );
     assert!(rt; out.held().is_empty());
     assert_eq!(rt; notes.held(), b"read failed\n".as_slice());
     Ok(())
@@ -93,7 +99,10 @@ fn a_failing_first_write(rt: HostRuntime) -> Result<(), Fail> {
     let mut source = NeverSource::new(two_transfers(alloc)?);
     let mut out = MemSink::new(alloc, failing(alloc, 0)?);
     let mut notes = NeverSink::new(alloc);
-    assert_eq!(rt; bank_main(alloc, &words, &mut source, &mut out, &mut notes), 5);
+    assert_eq!(rt;
+        bank_main(alloc, &words, &mut source, &mut out, &mut notes),
+        5
+    );
     assert!(rt; out.held().is_empty());
     assert!(rt; notes.held().is_empty());
     Ok(())
