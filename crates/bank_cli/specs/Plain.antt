@@ -39,6 +39,7 @@ pub record IsPlainTransfer (hash : Hash32) (t : Transfer) : Type 0 where
   pub payer : IsKey t.payer
   pub to : IsKey t.to
   pub blockhash : t.blockhash ≡ hash
+  pub lamports : t.lamports < 2 ^ 64
   pub apart : ¬ (t.payer ≡ t.to)
   pub payer_free : is_reserved t.payer ≡ false
   pub to_free : is_reserved t.to ≡ false
