@@ -69,8 +69,13 @@ abbrev pub block_of : Setting → List KeyedAccount → List Transfer → Block
 block_of setting es ts =
     let shares = shares_of setting es ts in
     record {
-      slot = setting.slot; collector = setting.collector; previous = setting.previous; entries = map entry ts;
-      burned = shares.burned; collected = shares.collected; state = state_hash shares.accounts
+      slot = setting.slot;
+      collector = setting.collector;
+      previous = setting.previous;
+      entries = map entry ts;
+      burned = shares.burned;
+      collected = shares.collected;
+      state = state_hash shares.accounts;
     }
 
 -- The final snapshot: a new mark with the block hash and the names of the messages goes before the old one.
@@ -79,5 +84,5 @@ snapshot_after setting es ts =
     record {
       slot = setting.slot;
       marks = record { hash = block_hash (block_of setting es ts); messages = ascending (map name ts) } ∷ record { hash = setting.previous; messages = [] } ∷ [];
-      accounts = (shares_of setting es ts).accounts
+      accounts = (shares_of setting es ts).accounts;
     }

@@ -39,6 +39,7 @@ pub record IsPlainTransfer (hash : Hash32) (t : Transfer) : Type 0 where
   pub payer : IsKey t.payer
   pub to : IsKey t.to
   pub blockhash : t.blockhash ≡ hash
+  pub lamports : t.lamports < 2 ^ 64
   pub apart : ¬ (t.payer ≡ t.to)
   pub payer_free : is_reserved t.payer ≡ false
   pub to_free : is_reserved t.to ≡ false
@@ -90,8 +91,8 @@ account_after before bytes = do
   lamports ← number_at cut w64 0 key.1
   rest ← text_at plain_rest lamports.1
   let account : Account = record { lamports = lamports.0; owner = SYSTEM_PROGRAM; executable = false; bytes = [] } in
-    let entry : KeyedAccount = record { key = key.0; account = account } in
-    checked (may_follow before entry) NotPlain (entry, rest)
+      let entry : KeyedAccount = record { key = key.0; account = account } in
+      checked (may_follow before entry) NotPlain (entry, rest)
 
 -- the same payer, destination and amount: the same message, under one blockhash
 abbrev pub is_same_message : Transfer → Transfer → Bool
@@ -117,7 +118,7 @@ transfer_after hash before bytes = do
   instruction ← text_at instruction_bytes blockhash
   lamports ← number_at cut w64 0 instruction
   let t : Transfer = record { signature = signature.0; payer = payer.0; to = to.0; blockhash = hash; lamports = lamports.0 } in
-    checked (may_be_sent before t) NotPlain (t, lamports.1)
+      checked (may_be_sent before t) NotPlain (t, lamports.1)
 
 -- slot, mark and accounts; then slot, collector and transfers; and nothing after them
 unfoldable pub input_at : List ℕ → Result PlainInput PlainFault
