@@ -7,7 +7,7 @@ use Rattle.std.specs.Cmp.Lexicographic.{bytes_decides}
 use Rattle.std.proofs.lemmas.List.{take-append-drop, length-append, take_at, drop_at, append-nil}
 use Rattle.spec_base.specs.Bytes.{IsBytes}
 use Rattle.spec_base.specs.Reading.{◌>>=◌, field_at, number_at, checked}
-use Rattle.spec_base.proofs.Binding.{bind_ok, chosen, checked_ok, ok_same, ok_parts, after_bytes}
+use Rattle.spec_base.proofs.Binding.{bind_ok, chosen, checked_ok, ok_same, ok_parts, after_bytes, before_bytes}
 use Rattle.spec_base.proofs.Formats.{Reads, taken, field_reads, u64_reads}
 use Rattle.sol_base.specs.Keys.{IsKey, IsHash, key_at}
 use Rattle.sol_base.specs.declared.key.Key.{Key}
@@ -127,6 +127,7 @@ pub record Sent (hash : Hash32) (before : List Transfer) (t : Transfer) : Type 0
   pub blockhash : t.blockhash ≡ hash
   pub lamports : t.lamports < 2 ^ 64
   pub sent : may_be_sent before t ≡ true
+  pub are_bytes : IsBytes (wire t)
 
 -- a transfer in a batch
 abbrev pub transfer_bytes : Transfer → List ℕ
@@ -178,8 +179,9 @@ transfer_takes hash before bytes t rest is are h =
     let len = length-wire hash made is signed pays gets refl in
     let spelled : bytes ≡ transfer_bytes made ++ rest9 =
     onward wire_head _ _ _ e1 (onward signature _ _ _ e2 (onward header_bytes _ _ _ e3 (onward payer.0 _ _ _ e4 (onward to.0 _ _ _ e5 (onward system_bytes _ _ _ e6 (onward hash.0 _ _ _ e7 (onward instruction_bytes _ _ _ e8 e9))))))) ∙ sym (transfer_front made rest9 len) in
+    let wired : IsBytes (wire made) = after_bytes (transfer_bytes made) (to_le_bytes w16 (length (wire made))) (wire made) (before_bytes (transfer_bytes made) rest9 (subst IsBytes spelled are)) refl in
     let Claim : Transfer × List ℕ → Type 0 = λ p. Sent hash before p.0 × (bytes ≡ transfer_bytes p.0 ++ p.1) in
-    subst Claim test.1 (record { signature = signed; payer = pays; to = gets; blockhash = refl; lamports = fits; sent = test.0 }, spelled))))))))))
+    subst Claim test.1 (record { signature = signed; payer = pays; to = gets; blockhash = refl; lamports = fits; sent = test.0; are_bytes = wired }, spelled))))))))))
 
 pub transfer_reads : (hash : Hash32) → IsHash hash → (before : List Transfer) → Reads (transfer_after hash before) transfer_bytes (Sent hash before)
 transfer_reads hash is before = record { again = again; takes = takes }
