@@ -64,7 +64,7 @@ pub last_above : (es : List KeyedAccount) (last : KeyedAccount) (key : Key) → 
 last_above [] last key at ascend = absurd (cc)
 last_above (e ∷ es) last key at ascend = last_at (e ∷ es) (length (e ∷ es) - 1) last key (omega arith) at ascend
 
-all_push : {X : Type 0} (P : X → Type 0) (xs : List X) (x : X) → AllByRecursion P xs → P x → AllByRecursion P (xs ++ x ∷ [])
+pub all_push : {X : Type 0} (P : X → Type 0) (xs : List X) (x : X) → AllByRecursion P xs → P x → AllByRecursion P (xs ++ x ∷ [])
 all_push P [] x all last = (last, tt)
 all_push P (y ∷ xs) x all last = (all.0, all_push P xs x all.1 last)
 

@@ -147,6 +147,10 @@ snapshot_of p = record { slot = p.slot; marks = record { hash = p.blockhash; mes
 abbrev pub batch_of : PlainInput → Batch
 batch_of p = record { slot = p.block_slot; collector = p.collector; wires = map wire p.transfers }
 
+-- the plain input that a snapshot of one mark and a batch of transfers are
+abbrev pub input_of : Snapshot → Batch → Hash32 → List Transfer → PlainInput
+input_of s b hash ts = record { slot = s.slot; blockhash = hash; accounts = s.accounts; block_slot = b.slot; collector = b.collector; transfers = ts }
+
 -- what the run of a plain input rests on
 pub record IsRunnable (p : PlainInput) : Type 0 where
   pub few_accounts : length p.accounts ≤ 4194304

@@ -3,6 +3,7 @@
 
 mod answer;
 mod delivery;
+mod laws;
 mod output;
 mod plain;
 mod state;
@@ -12,6 +13,7 @@ mod words;
 
 pub use answer::{Answer, INPUT_LIMIT};
 pub use delivery::Undelivered;
+pub use laws::plain_inputs_are_read;
 pub use output::Produced;
 pub use plain::{PlainFault, PlainInput};
 pub use state::KeyedAccount;
