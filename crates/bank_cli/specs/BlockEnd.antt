@@ -9,30 +9,26 @@ use Rattle.message_codec.specs.Roles.{is_reserved}
 use Rattle.rent_rules.specs.Rent.{minimum_of}
 use Rattle.bank_cli.specs.declared.state.KeyedAccount.{KeyedAccount}
 use Rattle.bank_cli.specs.declared.transfer.Transfer.{Transfer}
+use Rattle.bank_cli.specs.declared.block_end.Shares.{Shares}
+pub use Rattle.bank_cli.specs.declared.block_end.Setting.{Setting}
 use Rattle.bank_cli.specs.State.{account_at, put}
 use Rattle.bank_cli.specs.Transfer.{wire, name}
-use Rattle.bank_cli.specs.Snapshot.{Snapshot, Mark, state_hash}
+use Rattle.bank_cli.specs.Snapshot.{Snapshot, two_marks, state_hash}
 use Rattle.bank_cli.specs.Record.{Entry, Block, block_hash}
 use Rattle.bank_cli.specs.Serial.{base_fee, native_units, more, is_wallet, after_all}
 
--- what becomes of the fees
-pub record Shares : Type 0 where
-  pub accounts : List KeyedAccount
-  pub burned : ℕ
-  pub collected : ℕ
-
--- the rest of the fees may be added to the collector's account
+-- the collector's account may be this one, with the rest of the fees in it
 abbrev pub takes : Key → Account → ℕ → Bool
-takes collector account rest =
-    let after = more account rest in
+takes collector after rest =
     not (nat_eq rest 0) && (not (is_reserved collector) && (is_wallet after && nat_le (minimum_of (length after.bytes)) after.lamports))
 
 -- Half of the base fees, rounded down, is burned. The rest is paid to the collector where it may be, and else burned too.
 abbrev pub share_fees : List KeyedAccount → Key → ℕ → Shares
 share_fees es collector fees =
     let rest = fees - fees / 2 in
-    if takes collector (account_at es collector) rest
-    then record { accounts = put es collector (more (account_at es collector) rest); burned = fees / 2; collected = rest }
+    let after = more (account_at es collector) rest in
+    if takes collector after rest
+    then record { accounts = put es collector after; burned = fees / 2; collected = rest }
     else record { accounts = es; burned = fees; collected = 0 }
 
 -- the name in its place among names that ascend
@@ -56,33 +52,28 @@ transfer_lines = (codes "Program " ++ system_text ++ codes " invoke [1]") ∷ (c
 abbrev pub entry : Transfer → Entry
 entry t = record { wire = wire t; status = replicate 8 0; units = native_units; fee = base_fee; lines = transfer_lines }
 
--- what stands fixed beside a block: the batch's slot and collector, and the one mark that it begins with
-pub record Setting : Type 0 where
-  pub slot : ℕ
-  pub collector : Key
-  pub previous : Hash32
-
 abbrev pub shares_of : Setting → List KeyedAccount → List Transfer → Shares
 shares_of setting es ts = share_fees (after_all es ts) setting.collector (base_fee * length ts)
 
-abbrev pub block_of : Setting → List KeyedAccount → List Transfer → Block
-block_of setting es ts =
-    let shares = shares_of setting es ts in
+-- a block of these transfers, with the fees shared so
+abbrev pub block_with : Setting → List Transfer → Shares → Block
+block_with setting ts shares =
     record {
-      slot = setting.slot;
-      collector = setting.collector;
-      previous = setting.previous;
-      entries = map entry ts;
-      burned = shares.burned;
-      collected = shares.collected;
-      state = state_hash shares.accounts;
+      slot = setting.slot; collector = setting.collector; previous = setting.previous; entries = map entry ts;
+      burned = shares.burned; collected = shares.collected; state = state_hash shares.accounts
     }
 
 -- The final snapshot: a new mark with the block hash and the names of the messages goes before the old one.
-abbrev pub snapshot_after : Setting → List KeyedAccount → List Transfer → Snapshot
-snapshot_after setting es ts =
+abbrev pub snapshot_with : Setting → List Transfer → Shares → Snapshot
+snapshot_with setting ts shares =
     record {
       slot = setting.slot;
-      marks = record { hash = block_hash (block_of setting es ts); messages = ascending (map name ts) } ∷ record { hash = setting.previous; messages = [] } ∷ [];
-      accounts = (shares_of setting es ts).accounts;
+      marks = two_marks (block_hash (block_with setting ts shares)) (ascending (map name ts)) setting.previous;
+      accounts = shares.accounts
     }
+
+abbrev pub block_of : Setting → List KeyedAccount → List Transfer → Block
+block_of setting es ts = block_with setting ts (shares_of setting es ts)
+
+abbrev pub snapshot_after : Setting → List KeyedAccount → List Transfer → Snapshot
+snapshot_after setting es ts = snapshot_with setting ts (shares_of setting es ts)

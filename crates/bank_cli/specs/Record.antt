@@ -28,10 +28,12 @@ pub record Block : Type 0 where
 abbrev pub line_bytes : List ℕ → List ℕ
 line_bytes line = to_le_bytes w16 (length line) ++ line
 
+-- the number of lines, and each line
+abbrev pub lines_bytes : List (List ℕ) → List ℕ
+lines_bytes lines = to_le_bytes w16 (length lines) ++ flat_map line_bytes lines
+
 abbrev pub entry_bytes : Entry → List ℕ
-entry_bytes e =
-    wire_bytes e.wire ++ e.status ++ to_le_bytes w64 e.units ++ to_le_bytes w64 e.fee
-    ++ to_le_bytes w16 (length e.lines) ++ flat_map line_bytes e.lines
+entry_bytes e = wire_bytes e.wire ++ e.status ++ to_le_bytes w64 e.units ++ to_le_bytes w64 e.fee ++ lines_bytes e.lines
 
 -- all that the block hash is of
 abbrev pub block_bytes : Block → List ℕ

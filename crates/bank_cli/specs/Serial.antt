@@ -1,12 +1,13 @@
 -- Transfers executed one after another (Solana).
-use Rattle.std.specs.Prelude.{ℕ, ◌+◌, ◌-◌, List, [], ◌∷◌, Bool, nat_le, nat_eq, not, ◌&&◌, Option, position, fold, length}
+use Rattle.std.specs.Prelude.{◌≡◌, ℕ, ◌+◌, ◌-◌, ◌<◌, ◌^◌, List, [], ◌∷◌, Bool, nat_le, nat_eq, not, ◌&&◌, Option, position, fold, length}
+use Rattle.std.specs.List.{AllByRecursion}
 use Rattle.sol_base.specs.declared.account.Account.{Account}
 use Rattle.sol_base.specs.declared.key.TheConstants.{SYSTEM_PROGRAM}
 use Rattle.message_codec.specs.Roles.{is_same_key}
 use Rattle.rent_rules.specs.Rent.{state_of, moves}
 use Rattle.bank_cli.specs.declared.state.KeyedAccount.{KeyedAccount}
 use Rattle.bank_cli.specs.declared.transfer.Transfer.{Transfer}
-use Rattle.bank_cli.specs.State.{account_at, put}
+use Rattle.bank_cli.specs.State.{IsAscending, account_at, put, total}
 
 -- the fee of one signature, in lamports
 abbrev pub base_fee : ℕ
@@ -60,3 +61,9 @@ are_good es (t ∷ ts) = is_good es t ∷ are_good (after_one es t) ts
 -- the least position whose status is not Good
 abbrev pub not_good : List KeyedAccount → List Transfer → Option ℕ
 not_good es ts = position (λ good. not good) (are_good es ts)
+
+-- what a run rests on and keeps: the keys ascend, the lamports fit together, and no account has data
+pub record IsRunning (es : List KeyedAccount) : Type 0 where
+  pub ascend : IsAscending es
+  pub supply : total es < 2 ^ 64
+  pub no_data : AllByRecursion (λ e. e.account.bytes ≡ []) es

@@ -22,6 +22,10 @@ pub record Snapshot : Type 0 where
   pub marks : List Mark
   pub accounts : List KeyedAccount
 
+-- the new mark and the old one, which has no messages
+abbrev pub two_marks : Hash32 → List Hash32 → Hash32 → List Mark
+two_marks newest messages previous = record { hash = newest; messages = messages } ∷ record { hash = previous; messages = [] } ∷ []
+
 abbrev pub mark_bytes : Mark → List ℕ
 mark_bytes m = m.hash.0 ++ to_le_bytes w32 (length m.messages) ++ flat_map hash_bytes m.messages
 
@@ -40,8 +44,12 @@ state_bytes es = to_le_bytes w32 (length es) ++ flat_map account_bytes es
 abbrev pub state_hash : List KeyedAccount → Hash32
 state_hash es = record { 0 = sha256 (state_bytes es) }
 
+-- all before the state section
+abbrev pub head_bytes : ℕ → List Mark → List ℕ
+head_bytes slot marks = codes "SOLSNAP1" ++ to_le_bytes w64 slot ++ to_le_bytes w32 (length marks) ++ flat_map mark_bytes marks
+
 abbrev pub snapshot_bytes_one : Snapshot → List ℕ
-snapshot_bytes_one s = codes "SOLSNAP1" ++ to_le_bytes w64 s.slot ++ to_le_bytes w32 (length s.marks) ++ flat_map mark_bytes s.marks ++ state_bytes s.accounts
+snapshot_bytes_one s = head_bytes s.slot s.marks ++ state_bytes s.accounts
 
 -- what has a spelling
 

@@ -1,12 +1,17 @@
 -- A state: accounts by key, in ascending order of keys. What is absent is the empty account.
-use Rattle.std.specs.Prelude.{ℕ, List, [], ◌∷◌, Bool, sum_by, nat_eq, if◌then◌else◌}
+use Rattle.std.specs.Prelude.{ℕ, List, [], ◌∷◌, Bool, map, sum_by, nat_eq, if◌then◌else◌}
 use Rattle.std.specs.FinMap.Entries.{by_order}
+use Rattle.std.specs.List.Sorted.{IsStrictlySortedBy}
 use Rattle.sol_base.specs.Accounts.{empty_account}
 use Rattle.sol_base.specs.Keys.{key_cmp}
 use Rattle.sol_base.specs.declared.key.Key.{Key}
 use Rattle.sol_base.specs.declared.account.Account.{Account}
 use Rattle.message_codec.specs.Roles.{is_same_key}
 use Rattle.bank_cli.specs.declared.state.KeyedAccount.{KeyedAccount}
+
+-- each key is below those after it
+abbrev pub IsAscending : List KeyedAccount → Type 0
+IsAscending es = IsStrictlySortedBy key_cmp (map (λ e. e.key) es)
 
 -- the account of a key
 abbrev pub account_at : List KeyedAccount → Key → Account

@@ -2,10 +2,14 @@
 #![tactic(auto)]
 
 mod answer;
+mod block_end;
 mod delivery;
 mod laws;
 mod output;
 mod plain;
+mod record;
+mod run;
+mod snapshot;
 mod state;
 mod top;
 mod transfer;
