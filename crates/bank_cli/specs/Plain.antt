@@ -39,6 +39,7 @@ pub record IsPlainTransfer (hash : Hash32) (t : Transfer) : Type 0 where
   pub payer : IsKey t.payer
   pub to : IsKey t.to
   pub blockhash : t.blockhash ≡ hash
+  pub lamports : t.lamports < 2 ^ 64
   pub apart : ¬ (t.payer ≡ t.to)
   pub payer_free : is_reserved t.payer ≡ false
   pub to_free : is_reserved t.to ≡ false
@@ -145,6 +146,10 @@ snapshot_of p = record { slot = p.slot; marks = record { hash = p.blockhash; mes
 
 abbrev pub batch_of : PlainInput → Batch
 batch_of p = record { slot = p.block_slot; collector = p.collector; wires = map wire p.transfers }
+
+-- the plain input that a snapshot of one mark and a batch of transfers are
+abbrev pub input_of : Snapshot → Batch → Hash32 → List Transfer → PlainInput
+input_of s b hash ts = record { slot = s.slot; blockhash = hash; accounts = s.accounts; block_slot = b.slot; collector = b.collector; transfers = ts }
 
 -- what the run of a plain input rests on
 pub record IsRunnable (p : PlainInput) : Type 0 where

@@ -4,6 +4,7 @@
 mod answer;
 mod block_end;
 mod delivery;
+mod laws;
 mod output;
 mod plain;
 mod record;
@@ -16,6 +17,7 @@ mod words;
 
 pub use answer::{Answer, INPUT_LIMIT};
 pub use delivery::Undelivered;
+pub use laws::plain_inputs_are_read;
 pub use output::Produced;
 pub use plain::{PlainFault, PlainInput};
 pub use state::KeyedAccount;

@@ -28,7 +28,7 @@ impl Blob {
         }
     }
 
-    /// No bytes, with room for `capacity` of them. The room saves time alone: no clause speaks of it.
+    /// No bytes, with room for `capacity` of them. No clause speaks of the room: it saves time alone.
     pub fn with_capacity(alloc: Global, capacity: usize) -> Result<Blob, OutOfMemory>
         ensures { IfOk result (λ b. b ≡ []) }
     {

@@ -74,7 +74,7 @@ impl<T> Items<T> {
 }
 
 impl<T: Drop> Items<T> {
-    /// No items, with room for `capacity` of them. The room saves time alone: no clause speaks of it.
+    /// No items, with room for `capacity` of them. No clause speaks of the room: it saves time alone.
     pub fn with_capacity(alloc: Global, capacity: usize) -> Result<Items<T>, OutOfMemory>
         ensures { IfOk result (λ items. items ≡ []) }
     {

@@ -17,7 +17,9 @@ pub trait Source {
     /// after a failure, is left open.
     fn read(&mut self, buf: &mut [u8]) -> Result<usize, Failed>
         ensures bound { IfOk result (λ n. n ≤ length buf.old) }
-        ensures bytes { MatchResult result (λ n. Consumes (left self.old) (left self.new) (take n buf.new)) (λ _. Keeps (left self.old) (left self.new)) }
+        ensures bytes { MatchResult result
+            (λ n. Consumes (left self.old) (left self.new) (take n buf.new))
+            (λ _. Keeps (left self.old) (left self.new)) }
         ensures end { IfOk result (λ n. n ≡ 0 → 0 < length buf.old → IsAtEnd (left self.new)) }
         ensures counts { CountsFailures result (faults self.old) (faults self.new) };
 }
@@ -34,6 +36,8 @@ pub trait Sink {
     fn write(&mut self, piece: &[u8]) -> Result<usize, SinkFault>
         ensures bound { IfOk result (λ n. n ≤ length piece.now) }
         ensures some { IfOk result (λ n. 0 < length piece.now → 0 < n) }
-        ensures bytes { MatchResult result (λ n. Appends (held self.old) (held self.new) (take n piece.now)) (λ _. Keeps (held self.old) (held self.new)) }
+        ensures bytes { MatchResult result
+            (λ n. Appends (held self.old) (held self.new) (take n piece.now))
+            (λ _. Keeps (held self.old) (held self.new)) }
         ensures counts { SinkCounts result (faults self.old) (faults self.new) };
 }

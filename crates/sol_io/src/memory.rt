@@ -54,7 +54,9 @@ impl Source for MemSource {
 
     fn read(&mut self, buf: &mut [u8]) -> Result<usize, Failed>
         ensures bound { IfOk result (λ n. n ≤ length buf.old) }
-        ensures bytes { MatchResult result (λ n. Consumes (Some self.old.rest) (Some self.new.rest) (take n buf.new)) (λ _. Keeps (Some self.old.rest) (Some self.new.rest)) }
+        ensures bytes { MatchResult result
+            (λ n. Consumes (Some self.old.rest) (Some self.new.rest) (take n buf.new))
+            (λ _. Keeps (Some self.old.rest) (Some self.new.rest)) }
         ensures end { IfOk result (λ n. n ≡ 0 → 0 < length buf.old → IsAtEnd (Some self.new.rest)) }
         ensures counts { CountsFailures result self.old.faults self.new.faults }
         // It fails exactly at the listed calls, and else moves all that there is room for.
@@ -120,7 +122,9 @@ impl Sink for MemSink {
     fn write(&mut self, piece: &[u8]) -> Result<usize, SinkFault>
         ensures bound { IfOk result (λ n. n ≤ length piece.now) }
         ensures some { IfOk result (λ n. 0 < length piece.now → 0 < n) }
-        ensures bytes { MatchResult result (λ n. Appends (Some self.old.held) (Some self.new.held) (take n piece.now)) (λ _. Keeps (Some self.old.held) (Some self.new.held)) }
+        ensures bytes { MatchResult result
+            (λ n. Appends (Some self.old.held) (Some self.new.held) (take n piece.now))
+            (λ _. Keeps (Some self.old.held) (Some self.new.held)) }
         ensures counts { SinkCounts result self.old.faults self.new.faults }
         // It fails exactly at the listed calls, and else takes the whole piece.
         ensures exact { WritesMemory self.old self.new piece.now result }

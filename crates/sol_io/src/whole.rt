@@ -36,7 +36,8 @@ pub fn read_all<S: Source>(alloc: Global, source: &mut S, limit: usize) -> Resul
 #[tactic(auto, using(crate::proofs::Transfers::append_more))]
 pub fn write_all<O: Sink>(_alloc: Global, out: &mut O, bytes: &[u8]) -> Result<(), WriteFault>
     ensures ok { OnOk result (Appends (O.held out.old) (O.held out.new) bytes.now) }
-    ensures err { IfErr result (λ e. (written_of e ≤ length bytes.now) × Appends (O.held out.old) (O.held out.new) (take (written_of e) bytes.now)) }
+    ensures err { IfErr result (λ e. (written_of e ≤ length bytes.now)
+        × Appends (O.held out.old) (O.held out.new) (take (written_of e) bytes.now)) }
     ensures counts { WriteCounts result (O.faults out.old) (O.faults out.new) }
 {
     let mut written = 0;

@@ -26,7 +26,8 @@ pub fn bytes_field<E: Refusal>(
     count: usize,
     bytes: &[u8],
 ) -> Result<(&[u8], &[u8]), E>
-    ensures gives { Gives E.is_memory (λ x. (x.0.now, x.1.now)) result (field_at E.cut_at total count bytes.now) }
+    ensures gives { Gives E.is_memory (λ x. (x.0.now, x.1.now)) result
+        (field_at E.cut_at total count bytes.now) }
     ensures len { IfOk result (λ x. length x.0.now ≡ count) }
 {
     match bytes.split_at_checked(count) {
