@@ -2,10 +2,12 @@
 #![tactic(auto)]
 
 mod fault;
+mod opcode;
 mod places;
 mod refusal;
 mod table;
 mod verified;
 
 pub use fault::VerifyFault;
+pub use opcode::{Opcode, opcode_of};
 pub use verified::{Unfit, Verified, verify};
