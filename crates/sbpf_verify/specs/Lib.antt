@@ -1,3 +1,4 @@
+pub mod Entries
+pub mod Opcodes
 pub mod Places
 pub mod Verified
-pub mod Opcodes

@@ -1,6 +1,7 @@
 //! The verifier of sBPF texts: which texts a machine may run, and why another is refused.
 #![tactic(auto)]
 
+mod entry;
 mod fault;
 mod opcode;
 mod places;
@@ -8,6 +9,7 @@ mod refusal;
 mod table;
 mod verified;
 
+pub use entry::Entry;
 pub use fault::VerifyFault;
 pub use opcode::{Opcode, opcode_of};
 pub use verified::{Unfit, Verified, verify};

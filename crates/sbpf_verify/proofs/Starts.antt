@@ -1,0 +1,190 @@
+-- What is known of the instructions of a verified text.
+use Rattle.std.proofs.Common.{◌≡◌, ◌≢◌, ◌<◌, ◌≤◌, ◌-◌, ◌+◌, ◌==◌, ◌&&◌, ◌||◌, not, ℕ, zero, suc, Bool, true, false, cond, List, [], ◌∷◌, length, Option, Some, None, refl, ap, ◌∙◌, sym, arith, add-one, ◌⊎◌, inl, inr, ⊎_elim, ◌%◌, ◌/◌}
+use Rattle.std.specs.Prelude.{nat_lt, is_none, ℤ, pos}
+use Rattle.std.proofs.lemmas.Bool.Decides.{nat_tests}
+use Rattle.sbpf_isa.specs.Rows.{kind_at}
+use Rattle.sbpf_isa.specs.Slots.{slot_of}
+use Rattle.sbpf_isa.specs.declared.rows.OpKind.{OpKind}
+use Rattle.sbpf_isa.specs.declared.rows.OpKind.TheVariants.{Jump, Exit, LoadWide, CallRegister}
+use Rattle.sbpf_verify.specs.Places.{slot_count, is_start, is_start_at, instruction_at, leads_to, goes_on, slots_taken, Reached, first, after, jumped, called}
+use Rattle.sbpf_verify.specs.Verified.{rows_of, lacks_row, follows_wide, is_second_half, is_half_wide, is_astray, has_open_end, instruction_rows, slot_rows, NoneApplies, IsVerified}
+
+within_from_test : (n k : ℕ) (x : Option OpKind) (kind : OpKind) → cond (nat_lt n k) x None ≡ Some kind → (n < k) × (x ≡ Some kind)
+within_from_test n k x kind h = split (nat_lt n k) refl h
+  where
+    split : (b : Bool) → nat_lt n k ≡ b → cond b x None ≡ Some kind → (n < k) × (x ≡ Some kind)
+    split true e g = (grind (arith, nat_tests), g)
+    split false e g = absurd (cc)
+
+-- an instruction is there, and its opcode has a row
+pub instruction_there : (text : List ℕ) (place : ℕ) (kind : OpKind) → instruction_at text place ≡ Some kind → (place < slot_count text) × (kind_at (slot_of text place).opcode ≡ Some kind)
+unfolding instruction_at
+instruction_there text place kind h = within_from_test place (slot_count text) (kind_at (slot_of text place).opcode) kind h
+
+there_instruction : (text : List ℕ) (place : ℕ) → place < slot_count text → instruction_at text place ≡ kind_at (slot_of text place).opcode
+unfolding instruction_at
+there_instruction text place l = let t : nat_lt place (slot_count text) ≡ true = grind (arith, nat_tests) in ap (λ (b : Bool). cond b (kind_at (slot_of text place).opcode) None) t
+
+start_facts : (n k o : ℕ) → (nat_lt n k && not (o == 0)) ≡ true → (n < k) × ((o == 0) ≡ false)
+start_facts n k o h = (grind (arith, nat_tests), grind (arith, nat_tests))
+
+start_test : (n k o : ℕ) → n < k → o ≢ 0 → (nat_lt n k && not (o == 0)) ≡ true
+start_test n k o l h = grind (arith, nat_tests)
+
+-- a start is a slot that is there, and its opcode is not 0
+pub start_there : (text : List ℕ) (place : ℕ) → is_start text place ≡ true → (place < slot_count text) × (((slot_of text place).opcode == 0) ≡ false)
+unfolding is_start
+start_there text place h = start_facts place (slot_count text) (slot_of text place).opcode h
+
+make_start : (text : List ℕ) (place : ℕ) → place < slot_count text → (slot_of text place).opcode ≢ 0 → is_start text place ≡ true
+unfolding is_start
+make_start text place l h = start_test place (slot_count text) (slot_of text place).opcode l h
+
+no_zero : (o : ℕ) (kind : OpKind) → kind_at o ≡ Some kind → o ≢ 0
+unfolding kind_at
+no_zero o kind h = λ (z : o ≡ 0). let e : kind_at 0 ≡ Some kind = ap kind_at (sym z) ∙ h in absurd (cc)
+
+-- an instruction starts where it is
+pub instruction_starts : (text : List ℕ) (place : ℕ) (kind : OpKind) → instruction_at text place ≡ Some kind → is_start text place ≡ true
+instruction_starts text place kind h = let there : (place < slot_count text) × (kind_at (slot_of text place).opcode ≡ Some kind) = instruction_there text place kind h in make_start text place there.0 (no_zero (slot_of text place).opcode kind there.1)
+
+rows_at : (text : List ℕ) (place : ℕ) → IsVerified text → place < slot_count text → (lacks_row text place ≡ false) × NoneApplies (rows_of text place (slot_of text place) (kind_at (slot_of text place).opcode))
+unfolding slot_rows
+rows_at text place v l = v.slots place l
+
+-- no row of the table applies to an instruction of a verified text
+pub no_row_applies : (text : List ℕ) (place : ℕ) (kind : OpKind) → IsVerified text → instruction_at text place ≡ Some kind → NoneApplies (instruction_rows text place (slot_of text place) kind)
+no_row_applies text place kind v h =
+    let there : (place < slot_count text) × (kind_at (slot_of text place).opcode ≡ Some kind) = instruction_there text place kind h in
+    rw there.1 at (rows_at text place v there.0).1
+
+some_row : (o : Option OpKind) (z f : Bool) → (is_none o && not (z && f)) ≡ false → z ≡ false → (kind : OpKind) × (o ≡ Some kind)
+some_row None z true h e = absurd (cc)
+some_row None true false h e = absurd (cc)
+some_row None false f h e = absurd (cc)
+some_row (Some kind) z f h e = (kind, refl)
+
+-- each start of a verified text has an instruction
+pub start_instruction : (text : List ℕ) (place : ℕ) → IsVerified text → is_start text place ≡ true → (kind : OpKind) × (instruction_at text place ≡ Some kind)
+start_instruction text place v h =
+    let there : (place < slot_count text) × (((slot_of text place).opcode == 0) ≡ false) = start_there text place h in
+    let found : (kind : OpKind) × (kind_at (slot_of text place).opcode ≡ Some kind) = some_row (kind_at (slot_of text place).opcode) ((slot_of text place).opcode == 0) (follows_wide text place) (rows_at text place v there.0).0 there.1 in
+    (found.0, there_instruction text place there.0 ∙ found.1)
+
+not_false : (b : Bool) → not b ≡ false → b ≡ true
+not_false true h = refl
+not_false false h = absurd (cc)
+
+-- a jump, or a call into the program, leads to a start
+pub target_start : (text : List ℕ) (place : ℕ) (kind : OpKind) (target : ℤ) → IsVerified text → instruction_at text place ≡ Some kind → leads_to kind (slot_of text place) place ≡ Some target → is_start_at text target ≡ true
+target_start text place kind target v h e =
+    not_false (is_start_at text target) (ap (is_astray text) (sym e) ∙ (no_row_applies text place kind v h).1.1.1.1.1.1.0)
+
+zero_has_no_row : kind_at 0 ≡ None
+unfolding kind_at
+zero_has_no_row = refl
+
+refused : (x : Option OpKind) (z w : Bool) → (is_none x && not (z && w)) ≡ false → x ≡ None → z ≡ true → w ≡ false → ⊥
+refused None true true h n e f = absurd (cc)
+refused None true false h n e f = absurd (cc)
+refused None false w h n e f = absurd (cc)
+refused (Some k) z w h n e f = absurd (cc)
+
+zero_test : (o : ℕ) → o ≡ 0 → (o == 0) ≡ true
+zero_test o h = grind (arith, nat_tests)
+
+opcode_not_zero : (o : ℕ) (w : Bool) → (is_none (kind_at o) && not ((o == 0) && w)) ≡ false → w ≡ false → o ≢ 0
+opcode_not_zero o w h e = λ (z : o ≡ 0). refused (kind_at o) (o == 0) w h (ap kind_at z ∙ zero_has_no_row) (zero_test o z) e
+
+-- a slot that is there and does not follow `lddw` is a start
+start_unless_after_wide : (text : List ℕ) (place : ℕ) → IsVerified text → place < slot_count text → follows_wide text place ≡ false → is_start text place ≡ true
+start_unless_after_wide text place v l f = make_start text place l (opcode_not_zero (slot_of text place).opcode (follows_wide text place) (rows_at text place v l).0 f)
+
+open_end_facts : (o : ℕ) → not ((o == 0x95) || (o == 0x05)) ≡ false → (o ≡ 0x95) ⊎ (o ≡ 0x05)
+open_end_facts o h = grind (arith, nat_tests)
+
+-- the last slot's opcode is that of `exit` or of `ja`
+last_ends : (text : List ℕ) (place : ℕ) → IsVerified text → place ≡ slot_count text - 1 → ((slot_of text place).opcode ≡ 0x95) ⊎ ((slot_of text place).opcode ≡ 0x05)
+last_ends text place v e = rw e (open_end_facts (slot_of text (slot_count text - 1)).opcode v.end)
+
+-- a slot whose opcode is neither of the two is not the last
+not_last : (text : List ℕ) (place : ℕ) → IsVerified text → place < slot_count text → (slot_of text place).opcode ≢ 0x95 → (slot_of text place).opcode ≢ 0x05 → place + 1 < slot_count text
+not_last text place v l a b = at_end place (slot_count text) l (λ e. ⊎_elim a b (last_ends text place v e))
+  where
+    at_end : (p n : ℕ) → p < n → (p ≡ n - 1 → ⊥) → p + 1 < n
+    at_end p n l h = omega arith
+
+not_exit : (o : ℕ) (kind : OpKind) → kind_at o ≡ Some kind → goes_on kind ≡ true → (o ≢ 0x95) × (o ≢ 0x05)
+unfolding kind_at
+not_exit o kind h g =
+    (λ (e : o ≡ 0x95). let k : kind_at 0x95 ≡ Some kind = ap kind_at (sym e) ∙ h in let same : Exit ≡ kind = cc in absurd (let z : goes_on Exit ≡ true = ap goes_on same ∙ g in cc),
+     λ (e : o ≡ 0x05). let k : kind_at 0x05 ≡ Some kind = ap kind_at (sym e) ∙ h in let same : Jump ≡ kind = cc in absurd (let z : goes_on Jump ≡ true = ap goes_on same ∙ g in cc))
+
+not_wide : (o : ℕ) (kind : OpKind) → kind_at o ≡ Some kind → kind ≢ LoadWide → (o == 0x18) ≡ false
+unfolding kind_at
+not_wide o kind h n = other_number o (λ (e : o ≡ 0x18). let k : kind_at 0x18 ≡ Some kind = ap kind_at (sym e) ∙ h in n (cc))
+  where
+    other_number : (o : ℕ) → o ≢ 0x18 → (o == 0x18) ≡ false
+    other_number o h = grind (arith, nat_tests)
+
+wide_or_one : (kind : OpKind) → (kind ≡ LoadWide) ⊎ ((slots_taken kind ≡ 1) × (kind ≢ LoadWide))
+wide_or_one LoadWide = inl refl
+wide_or_one _ = inr (refl, λ h. cc)
+
+follows_one : (text : List ℕ) (place : ℕ) → ((slot_of text place).opcode == 0x18) ≡ false → follows_wide text (place + 1) ≡ false
+follows_one text place h = rw add-one h
+
+-- the place after an instruction of one slot that goes on
+after_one : (text : List ℕ) (place : ℕ) (kind : OpKind) → IsVerified text → instruction_at text place ≡ Some kind → goes_on kind ≡ true → kind ≢ LoadWide → is_start text (place + 1) ≡ true
+after_one text place kind v h g n =
+    let there : (place < slot_count text) × (kind_at (slot_of text place).opcode ≡ Some kind) = instruction_there text place kind h in
+    let ends : ((slot_of text place).opcode ≢ 0x95) × ((slot_of text place).opcode ≢ 0x05) = not_exit (slot_of text place).opcode kind there.1 g in
+    start_unless_after_wide text (place + 1) v (not_last text place v there.0 ends.0 ends.1) (follows_one text place (not_wide (slot_of text place).opcode kind there.1 n))
+
+second_half_facts : (n k : ℕ) (o : ℕ) (d s f : Bool) → not (nat_lt n k && (o == 0) && d && s && f) ≡ false → (n < k) × (o ≡ 0)
+second_half_facts n k o d s f h = (grind (arith, nat_tests), grind (arith, nat_tests))
+
+-- the slot after `lddw` is there, and its opcode is 0
+second_half : (text : List ℕ) (place : ℕ) → IsVerified text → instruction_at text place ≡ Some LoadWide → (place + 1 < slot_count text) × ((slot_of text (place + 1)).opcode ≡ 0)
+second_half text place v h = second_half_facts (place + 1) (slot_count text) (slot_of text (place + 1)).opcode _ _ _ (no_row_applies text place LoadWide v h).0
+
+after_two : (text : List ℕ) (place : ℕ) → IsVerified text → instruction_at text place ≡ Some LoadWide → is_start text (place + 2) ≡ true
+after_two text place v h =
+    let half : (place + 1 < slot_count text) × ((slot_of text (place + 1)).opcode ≡ 0) = second_half text place v h in
+    let zero_is_other : (o : ℕ) → o ≡ 0 → (o ≢ 0x95) × ((o ≢ 0x05) × ((o == 0x18) ≡ false)) = λ o e. (omega arith, (omega arith, grind (arith, nat_tests))) in
+    let other : ((slot_of text (place + 1)).opcode ≢ 0x95) × (((slot_of text (place + 1)).opcode ≢ 0x05) × (((slot_of text (place + 1)).opcode == 0x18) ≡ false)) = zero_is_other (slot_of text (place + 1)).opcode half.1 in
+    let same : place + 2 ≡ place + 1 + 1 = omega arith in
+    rw same (start_unless_after_wide text (place + 1 + 1) v (not_last text (place + 1) v half.0 other.0 other.1.0) (follows_one text (place + 1) other.1.1))
+
+-- the place after an instruction that goes on is a start
+pub next_start : (text : List ℕ) (place : ℕ) (kind : OpKind) → IsVerified text → instruction_at text place ≡ Some kind → goes_on kind ≡ true → is_start text (place + slots_taken kind) ≡ true
+next_start text place kind v h g = ⊎_elim
+    (λ (wide : kind ≡ LoadWide). rw wide (after_two text place v (h ∙ ap (λ k. Some k) wide)))
+    (λ (one : (slots_taken kind ≡ 1) × (kind ≢ LoadWide)). rw one.0 (after_one text place kind v h g one.1))
+    (wide_or_one kind)
+
+-- the second half of `lddw` is no start
+pub half_no_start : (text : List ℕ) (place : ℕ) → IsVerified text → instruction_at text place ≡ Some LoadWide → is_start text (place + 1) ≡ false
+unfolding is_start
+half_no_start text place v h = zero_no_start (nat_lt (place + 1) (slot_count text)) (slot_of text (place + 1)).opcode (second_half text place v h).1
+  where
+    zero_no_start : (b : Bool) (o : ℕ) → o ≡ 0 → (b && not (o == 0)) ≡ false
+    zero_no_start b o h = grind (arith, nat_tests)
+
+some_slots : (n : ℕ) → ((n == 0) || not (n % 8 == 0) || nat_lt 65536 (n / 8)) ≡ false → (0 < n / 8) × (n / 8 ≤ 65536)
+some_slots n h = (grind (arith, nat_tests), grind (arith, nat_tests))
+
+-- a verified text has a slot, and at most 65,536
+pub slots_there : (text : List ℕ) → IsVerified text → (0 < slot_count text) × (slot_count text ≤ 65536)
+slots_there text v = some_slots (length text) v.len
+
+-- the first slot is a start
+pub first_start : (text : List ℕ) → IsVerified text → is_start text 0 ≡ true
+first_start text v = start_unless_after_wide text 0 v (slots_there text v).0 refl
+
+-- each place that is reached is a start
+pub reached_start : (text : List ℕ) (place : ℕ) → IsVerified text → Reached text place → is_start text place ≡ true
+reached_start text place v first = first_start text v
+reached_start text place v (after r h g) = next_start text _ _ v h g
+reached_start text place v (jumped r h e) = target_start text _ _ (pos place) v h e
+reached_start text place v (called s) = s
