@@ -1,13 +1,20 @@
 -- What is known of the instructions of a verified text.
 use Rattle.std.proofs.Common.{◌≡◌, ◌≢◌, ◌<◌, ◌≤◌, ◌-◌, ◌+◌, ◌==◌, ◌&&◌, ◌||◌, not, ℕ, zero, suc, Bool, true, false, cond, List, [], ◌∷◌, length, Option, Some, None, refl, ap, ◌∙◌, sym, arith, add-one, ◌⊎◌, inl, inr, ⊎_elim, ◌%◌, ◌/◌}
-use Rattle.std.specs.Prelude.{nat_lt, is_none, ℤ, pos}
+use Rattle.std.specs.Prelude.{nat_lt, is_none, ℤ, pos, negsuc, ◌≤ℤ◌, int_lt, slice_get, unwrap_or}
 use Rattle.std.proofs.lemmas.Bool.Decides.{nat_tests}
+use Rattle.std.specs.Int.{w64, cast_unsigned}
+use Rattle.std.specs.Ordering.{int_eq}
+use Rattle.std.proofs.lemmas.Int.{ints}
 use Rattle.sbpf_isa.specs.Rows.{kind_at}
 use Rattle.sbpf_isa.specs.Slots.{slot_of}
+use Rattle.sbpf_isa.specs.declared.slot.Slot.{Slot}
 use Rattle.sbpf_isa.specs.declared.rows.OpKind.{OpKind}
 use Rattle.sbpf_isa.specs.declared.rows.OpKind.TheVariants.{Jump, Exit, LoadWide, CallRegister}
-use Rattle.sbpf_verify.specs.Places.{slot_count, is_start, is_start_at, instruction_at, leads_to, goes_on, slots_taken, Reached, first, after, jumped, called}
-use Rattle.sbpf_verify.specs.Verified.{rows_of, lacks_row, follows_wide, is_second_half, is_half_wide, is_astray, has_open_end, instruction_rows, slot_rows, NoneApplies, IsVerified}
+use Rattle.sbpf_verify.specs.declared.entry.Entry.{Entry}
+use Rattle.sbpf_verify.specs.Opcodes.{meaning}
+use Rattle.sbpf_verify.specs.Entries.{Decodes, IsDecoded, Fits, immediate_of}
+use Rattle.sbpf_verify.specs.Places.{slot_count, is_start, is_start_at, instruction_at, leads_to, goes_on, slots_taken, Reached, first, after, jumped, called, HasRegisters, HasValues}
+use Rattle.sbpf_verify.specs.Verified.{rows_of, lacks_row, follows_wide, is_second_half, is_half_wide, is_astray, has_open_end, is_outside, calls_bad_register, is_no_width, has_bad_value, has_stray_field, used, calls_no_helper, instruction_rows, slot_rows, NoneApplies, IsVerified}
 
 within_from_test : (n k : ℕ) (x : Option OpKind) (kind : OpKind) → cond (nat_lt n k) x None ≡ Some kind → (n < k) × (x ≡ Some kind)
 within_from_test n k x kind h = split (nat_lt n k) refl h
@@ -21,7 +28,7 @@ pub instruction_there : (text : List ℕ) (place : ℕ) (kind : OpKind) → inst
 unfolding instruction_at
 instruction_there text place kind h = within_from_test place (slot_count text) (kind_at (slot_of text place).opcode) kind h
 
-there_instruction : (text : List ℕ) (place : ℕ) → place < slot_count text → instruction_at text place ≡ kind_at (slot_of text place).opcode
+pub there_instruction : (text : List ℕ) (place : ℕ) → place < slot_count text → instruction_at text place ≡ kind_at (slot_of text place).opcode
 unfolding instruction_at
 there_instruction text place l = let t : nat_lt place (slot_count text) ≡ true = grind (arith, nat_tests) in ap (λ (b : Bool). cond b (kind_at (slot_of text place).opcode) None) t
 
@@ -145,7 +152,7 @@ second_half_facts : (n k : ℕ) (o : ℕ) (d s f : Bool) → not (nat_lt n k && 
 second_half_facts n k o d s f h = (grind (arith, nat_tests), grind (arith, nat_tests))
 
 -- the slot after `lddw` is there, and its opcode is 0
-second_half : (text : List ℕ) (place : ℕ) → IsVerified text → instruction_at text place ≡ Some LoadWide → (place + 1 < slot_count text) × ((slot_of text (place + 1)).opcode ≡ 0)
+pub second_half : (text : List ℕ) (place : ℕ) → IsVerified text → instruction_at text place ≡ Some LoadWide → (place + 1 < slot_count text) × ((slot_of text (place + 1)).opcode ≡ 0)
 second_half text place v h = second_half_facts (place + 1) (slot_count text) (slot_of text (place + 1)).opcode _ _ _ (no_row_applies text place LoadWide v h).0
 
 after_two : (text : List ℕ) (place : ℕ) → IsVerified text → instruction_at text place ≡ Some LoadWide → is_start text (place + 2) ≡ true
@@ -187,4 +194,98 @@ pub reached_start : (text : List ℕ) (place : ℕ) → IsVerified text → Reac
 reached_start text place v first = first_start text v
 reached_start text place v (after r h g) = next_start text _ _ v h g
 reached_start text place v (jumped r h e) = target_start text _ _ (pos place) v h e
-reached_start text place v (called s) = s
+reached_start text place v (called r h s) = s
+
+either_false : (a b : Bool) → (a || b) ≡ false → (a ≡ false) × (b ≡ false)
+either_false true b h = absurd (cc)
+either_false false b h = (refl, h)
+
+at_most_ten : (n : ℕ) → nat_lt 10 n ≡ false → n ≤ 10
+at_most_ten n h = grind (arith, nat_tests)
+
+within : (low high z : ℤ) → is_outside low high z ≡ false → (low ≤ℤ z) × (z ≤ℤ high)
+within low high z h = let both : (int_lt z low ≡ false) × (int_lt high z ≡ false) = either_false _ _ h in (grind (arith, ints), grind (arith, ints))
+
+-- the registers of an instruction of a verified text
+pub has_registers : (text : List ℕ) (place : ℕ) (kind : OpKind) → IsVerified text → instruction_at text place ≡ Some kind → HasRegisters (slot_of text place) kind
+has_registers text place kind v h =
+    let none : (nat_lt 10 (slot_of text place).dst || nat_lt 10 (slot_of text place).src || calls_bad_register (slot_of text place) kind) ≡ false = (no_row_applies text place kind v h).1.0 in
+    let three : ((nat_lt 10 (slot_of text place).dst || nat_lt 10 (slot_of text place).src) ≡ false) × (calls_bad_register (slot_of text place) kind ≡ false) = either_false _ _ none in
+    let two : (nat_lt 10 (slot_of text place).dst ≡ false) × (nat_lt 10 (slot_of text place).src ≡ false) = either_false _ _ three.0 in
+    record {
+      dst = at_most_ten _ two.0;
+      src = at_most_ten _ two.1;
+      called = λ e. within (pos 0) (pos 9) (slot_of text place).imm (ap (calls_bad_register (slot_of text place)) (sym e) ∙ three.1);
+    }
+
+-- the second half of `lddw` is not reached
+pub reached_half : (text : List ℕ) (place : ℕ) → IsVerified text → instruction_at text place ≡ Some LoadWide → Reached text (place + 1) → ⊥
+reached_half text place v h r = let e : true ≡ false = sym (reached_start text (place + 1) v r) ∙ half_no_start text place v h in absurd (cc)
+
+natural : (text : List ℕ) (target : ℤ) → is_start_at text target ≡ true → (n : ℕ) × ((target ≡ pos n) × (is_start text n ≡ true))
+natural text (pos n) h = (n, (refl, h))
+natural text (negsuc n) h = absurd (cc)
+
+-- the place that a jump leads to, as a number
+pub natural_target : (text : List ℕ) (place : ℕ) (kind : OpKind) (target : ℤ) → IsVerified text → instruction_at text place ≡ Some kind → leads_to kind (slot_of text place) place ≡ Some target → (n : ℕ) × ((target ≡ pos n) × (n < 65536))
+natural_target text place kind target v h e =
+    let found : (n : ℕ) × ((target ≡ pos n) × (is_start text n ≡ true)) = natural text target (target_start text place kind target v h e) in
+    (found.0, (found.1.0, omega (arith, (start_there text found.0 found.1.1).0, (slots_there text v).1)))
+
+one_of_three : (a b c : Bool) → not (a || b || c) ≡ false → (a ≡ true) ⊎ ((b ≡ true) ⊎ (c ≡ true))
+one_of_three true b c h = inl refl
+one_of_three false true c h = inr (inl refl)
+one_of_three false false true h = inr (inr refl)
+one_of_three false false false h = absurd (cc)
+
+same_number : (z w : ℤ) → int_eq z w ≡ true → z ≡ w
+same_number z w h = grind (arith, ints)
+
+is_width : (z : ℤ) → is_no_width z ≡ false → (z ≡ pos 16) ⊎ ((z ≡ pos 32) ⊎ (z ≡ pos 64))
+is_width z h = ⊎_elim
+    (λ a. inl (same_number z (pos 16) a))
+    (λ r. ⊎_elim (λ b. inr (inl (same_number z (pos 32) b))) (λ c. inr (inr (same_number z (pos 64) c))) r)
+    (one_of_three (int_eq z (pos 16)) (int_eq z (pos 32)) (int_eq z (pos 64)) h)
+
+at_most_one : (n : ℕ) → nat_lt 1 n ≡ false → n ≤ 1
+at_most_one n h = grind (arith, nat_tests)
+
+helper_there : (slot : Slot) → ((slot.src == 0) && is_outside (pos 1) (pos 17) slot.imm) ≡ false → slot.src ≡ 0 → is_outside (pos 1) (pos 17) slot.imm ≡ false
+helper_there slot h e = both (slot.src == 0) (is_outside (pos 1) (pos 17) slot.imm) h (zero_test slot.src e)
+  where
+    both : (a b : Bool) → (a && b) ≡ false → a ≡ true → b ≡ false
+    both true b h e = h
+    both false b h e = absurd (cc)
+
+-- the values of `le`, `be` and `call` in a verified text
+pub has_values : (text : List ℕ) (place : ℕ) (kind : OpKind) → IsVerified text → instruction_at text place ≡ Some kind → HasValues (slot_of text place) kind
+has_values text place kind v h =
+    let slot : Slot = slot_of text place in
+    let field : has_bad_value slot kind ≡ false = (either_false (has_stray_field slot (used kind)) (has_bad_value slot kind) (no_row_applies text place kind v h).1.1.1.0).1 in
+    let helper : calls_no_helper slot kind ≡ false = (no_row_applies text place kind v h).1.1.1.1.1.1.1.0 in
+    record {
+      little = λ e. is_width slot.imm (ap (has_bad_value slot) (sym e) ∙ field);
+      big = λ e. is_width slot.imm (ap (has_bad_value slot) (sym e) ∙ field);
+      source = λ e. at_most_one slot.src (ap (has_bad_value slot) (sym e) ∙ field);
+      helper = λ e zero. within (pos 1) (pos 17) slot.imm (helper_there slot (ap (calls_no_helper slot) (sym e) ∙ helper) zero);
+    }
+
+small_number : (z : ℤ) → (pos 0 ≤ℤ z) × (z ≤ℤ pos 9) → cast_unsigned w64 z ≤ 9
+small_number z h = omega (arith, ints)
+
+entry_target : (text : List ℕ) (place : ℕ) (kind : OpKind) (n : ℕ) (o : Option ℤ) → IsVerified text → instruction_at text place ≡ Some kind → leads_to kind (slot_of text place) place ≡ o → pos n ≡ unwrap_or o (pos 0) → is_start text n ≡ true
+entry_target text place kind n None v h e t = let zero : n ≡ 0 = cc in rw zero (first_start text v)
+entry_target text place kind n (Some target) v h e t = ap (is_start_at text) t ∙ target_start text place kind target v h e
+
+-- the entry of a start fits the text
+pub entry_fits : (text : List ℕ) (entries : List Entry) (place : ℕ) (entry : Entry) → IsVerified text → IsDecoded text entries → slice_get entries place ≡ Some entry → is_start text place ≡ true → Fits text place entry
+entry_fits text entries place entry v d found start =
+    let is : Decodes text place entry = d.each place entry found start in
+    let registers : HasRegisters (slot_of text place) (meaning entry.opcode) = has_registers text place (meaning entry.opcode) v is.kind in
+    record {
+      dst = rw is.dst registers.dst;
+      src = rw is.src registers.src;
+      called = λ e. rw (is.imm ∙ ap (immediate_of text place) e) (small_number (slot_of text place).imm (registers.called e));
+      target = entry_target text place (meaning entry.opcode) entry.target _ v is.kind refl is.target;
+      next = next_start text place (meaning entry.opcode) v is.kind;
+    }

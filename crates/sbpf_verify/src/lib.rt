@@ -1,8 +1,10 @@
 //! The verifier of sBPF texts: which texts a machine may run, and why another is refused.
 #![tactic(auto)]
 
+mod decoded;
 mod entry;
 mod fault;
+mod laws;
 mod opcode;
 mod places;
 mod refusal;
