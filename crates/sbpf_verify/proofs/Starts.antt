@@ -123,9 +123,10 @@ not_last text place v l a b = at_end place (slot_count text) l (λ e. ⊎_elim a
 
 not_exit : (o : ℕ) (kind : OpKind) → kind_at o ≡ Some kind → goes_on kind ≡ true → (o ≢ 0x95) × (o ≢ 0x05)
 unfolding kind_at
-not_exit o kind h g =
-    (λ (e : o ≡ 0x95). let k : kind_at 0x95 ≡ Some kind = ap kind_at (sym e) ∙ h in let same : Exit ≡ kind = cc in absurd (let z : goes_on Exit ≡ true = ap goes_on same ∙ g in cc),
-     λ (e : o ≡ 0x05). let k : kind_at 0x05 ≡ Some kind = ap kind_at (sym e) ∙ h in let same : Jump ≡ kind = cc in absurd (let z : goes_on Jump ≡ true = ap goes_on same ∙ g in cc))
+not_exit o kind h g = (
+  λ (e : o ≡ 0x95). let k : kind_at 0x95 ≡ Some kind = ap kind_at (sym e) ∙ h in let same : Exit ≡ kind = cc in absurd (let z : goes_on Exit ≡ true = ap goes_on same ∙ g in cc),
+  λ (e : o ≡ 0x05). let k : kind_at 0x05 ≡ Some kind = ap kind_at (sym e) ∙ h in let same : Jump ≡ kind = cc in absurd (let z : goes_on Jump ≡ true = ap goes_on same ∙ g in cc),
+)
 
 not_wide : (o : ℕ) (kind : OpKind) → kind_at o ≡ Some kind → kind ≢ LoadWide → (o == 0x18) ≡ false
 unfolding kind_at

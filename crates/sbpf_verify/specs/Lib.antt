@@ -2,3 +2,5 @@ pub mod Entries
 pub mod Opcodes
 pub mod Places
 pub mod Verified
+pub use Rattle.sbpf_isa.specs.Rows
+pub use Rattle.sbpf_isa.specs.Slots

@@ -7,7 +7,7 @@ use Rattle.sbpf_isa.specs.declared.rows.Size.TheVariants.{Four, Two, One, Eight}
 use Rattle.sbpf_isa.specs.declared.rows.OpKind.{OpKind}
 use Rattle.sbpf_isa.specs.declared.rows.OpKind.TheVariants.{Binary, Negate, LittleEndian, BigEndian, Jump, JumpIf, Call, CallRegister, Exit, Load, Store, LoadWide}
 use Rattle.sbpf_verify.specs.declared.opcode.Opcode.{Opcode}
-use Rattle.sbpf_verify.specs.declared.opcode.Opcode.TheVariants.{Add64Immediate, Add64Register, Add32Immediate, Add32Register, Sub64Immediate, Sub64Register, Sub32Immediate, Sub32Register, Mul64Immediate, Mul64Register, Mul32Immediate, Mul32Register, Div64Immediate, Div64Register, Div32Immediate, Div32Register, Or64Immediate, Or64Register, Or32Immediate, Or32Register, And64Immediate, And64Register, And32Immediate, And32Register, Lsh64Immediate, Lsh64Register, Lsh32Immediate, Lsh32Register, Rsh64Immediate, Rsh64Register, Rsh32Immediate, Rsh32Register, Negate64, Negate32, Mod64Immediate, Mod64Register, Mod32Immediate, Mod32Register, Xor64Immediate, Xor64Register, Xor32Immediate, Xor32Register, Mov64Immediate, Mov64Register, Mov32Immediate, Mov32Register, Arsh64Immediate, Arsh64Register, Arsh32Immediate, Arsh32Register, LowBits, ReversedBytes, JumpAlways, JumpIfEqualImmediate, JumpIfEqualRegister, JumpIfNotEqualImmediate, JumpIfNotEqualRegister, JumpIfGreaterImmediate, JumpIfGreaterRegister, JumpIfGreaterOrEqualImmediate, JumpIfGreaterOrEqualRegister, JumpIfLessImmediate, JumpIfLessRegister, JumpIfLessOrEqualImmediate, JumpIfLessOrEqualRegister, JumpIfSetImmediate, JumpIfSetRegister, JumpIfSignedGreaterImmediate, JumpIfSignedGreaterRegister, JumpIfSignedGreaterOrEqualImmediate, JumpIfSignedGreaterOrEqualRegister, JumpIfSignedLessImmediate, JumpIfSignedLessRegister, JumpIfSignedLessOrEqualImmediate, JumpIfSignedLessOrEqualRegister, CallTarget, CallAddress, ExitFrame, LoadFour, StoreFourImmediate, StoreFourRegister, LoadTwo, StoreTwoImmediate, StoreTwoRegister, LoadOne, StoreOneImmediate, StoreOneRegister, LoadEight, StoreEightImmediate, StoreEightRegister, LoadWideImmediate}
+use Rattle.sbpf_verify.specs.declared.opcode.Opcode.TheVariants.{Add64Immediate, Add64Register, Add32Immediate, Add32Register, Sub64Immediate, Sub64Register, Sub32Immediate, Sub32Register, Mul64Immediate, Mul64Register, Mul32Immediate, Mul32Register, Div64Immediate, Div64Register, Div32Immediate, Div32Register, Or64Immediate, Or64Register, Or32Immediate, Or32Register, And64Immediate, And64Register, And32Immediate, And32Register, Lsh64Immediate, Lsh64Register, Lsh32Immediate, Lsh32Register, Rsh64Immediate, Rsh64Register, Rsh32Immediate, Rsh32Register, Negate64, Negate32, Mod64Immediate, Mod64Register, Mod32Immediate, Mod32Register, Xor64Immediate, Xor64Register, Xor32Immediate, Xor32Register, Mov64Immediate, Mov64Register, Mov32Immediate, Mov32Register, Arsh64Immediate, Arsh64Register, Arsh32Immediate, Arsh32Register, LittleEndian as LittleEndianOpcode, BigEndian as BigEndianOpcode, Jump as JumpOpcode, JumpIfEqualImmediate, JumpIfEqualRegister, JumpIfNotEqualImmediate, JumpIfNotEqualRegister, JumpIfGreaterImmediate, JumpIfGreaterRegister, JumpIfGreaterOrEqualImmediate, JumpIfGreaterOrEqualRegister, JumpIfLessImmediate, JumpIfLessRegister, JumpIfLessOrEqualImmediate, JumpIfLessOrEqualRegister, JumpIfSetImmediate, JumpIfSetRegister, JumpIfSignedGreaterImmediate, JumpIfSignedGreaterRegister, JumpIfSignedGreaterOrEqualImmediate, JumpIfSignedGreaterOrEqualRegister, JumpIfSignedLessImmediate, JumpIfSignedLessRegister, JumpIfSignedLessOrEqualImmediate, JumpIfSignedLessOrEqualRegister, Call as CallOpcode, CallRegister as CallRegisterOpcode, Exit as ExitOpcode, LoadFour, StoreFourImmediate, StoreFourRegister, LoadTwo, StoreTwoImmediate, StoreTwoRegister, LoadOne, StoreOneImmediate, StoreOneRegister, LoadEight, StoreEightImmediate, StoreEightRegister, LoadWide as LoadWideOpcode}
 
 -- what the instruction of an opcode is, which its name says
 abbrev pub meaning : Opcode → OpKind
@@ -61,9 +61,9 @@ meaning Arsh64Immediate = Binary Arsh Bits64 Immediate
 meaning Arsh64Register = Binary Arsh Bits64 Register
 meaning Arsh32Immediate = Binary Arsh Bits32 Immediate
 meaning Arsh32Register = Binary Arsh Bits32 Register
-meaning LowBits = LittleEndian
-meaning ReversedBytes = BigEndian
-meaning JumpAlways = Jump
+meaning LittleEndianOpcode = LittleEndian
+meaning BigEndianOpcode = BigEndian
+meaning JumpOpcode = Jump
 meaning JumpIfEqualImmediate = JumpIf Equal Immediate
 meaning JumpIfEqualRegister = JumpIf Equal Register
 meaning JumpIfNotEqualImmediate = JumpIf NotEqual Immediate
@@ -86,9 +86,9 @@ meaning JumpIfSignedLessImmediate = JumpIf SignedLess Immediate
 meaning JumpIfSignedLessRegister = JumpIf SignedLess Register
 meaning JumpIfSignedLessOrEqualImmediate = JumpIf SignedLessOrEqual Immediate
 meaning JumpIfSignedLessOrEqualRegister = JumpIf SignedLessOrEqual Register
-meaning CallTarget = Call
-meaning CallAddress = CallRegister
-meaning ExitFrame = Exit
+meaning CallOpcode = Call
+meaning CallRegisterOpcode = CallRegister
+meaning ExitOpcode = Exit
 meaning LoadFour = Load Four
 meaning StoreFourImmediate = Store Four Immediate
 meaning StoreFourRegister = Store Four Register
@@ -101,4 +101,4 @@ meaning StoreOneRegister = Store One Register
 meaning LoadEight = Load Eight
 meaning StoreEightImmediate = Store Eight Immediate
 meaning StoreEightRegister = Store Eight Register
-meaning LoadWideImmediate = LoadWide
+meaning LoadWideOpcode = LoadWide

@@ -1,4 +1,5 @@
 ghost use Rattle.std.specs.Prelude.{◌≡◌, ◌<◌, ◌+◌, ◌*◌, ◌^◌, ◌≤◌, true, unwrap_or, IfOk, Some, pos, length};
+ghost use Rattle.std.specs.Arc.{arc_value};
 ghost use Rattle.std.specs.Int.{w32, w64, cast_unsigned};
 ghost use Rattle.sbpf_isa.specs.Slots.{slot_of};
 ghost use Rattle.sbpf_isa.specs.declared.rows.OpKind.TheVariants.{LoadWide};
@@ -9,16 +10,16 @@ ghost use Rattle.sbpf_verify.specs.Verified.{IsVerified};
 use crate::entry::Entry;
 use crate::opcode::{Opcode, opcode_of};
 use crate::places::leads_to;
-
+use crate::verified::Verified;
 use sbpf_isa::{OpKind, Slot, kind_of, slot_at};
 use sol_base::{Items, OutOfMemory};
 use std::alloc::Global;
-
-
+use std::marker::Model;
+use std::sync::Arc;
 
 /// What stands in place of an entry for the second half of `lddw`, which is never reached.
 const SECOND_HALF: Entry = Entry {
-    opcode: Opcode::ExitFrame,
+    opcode: Opcode::Exit,
     dst: 0,
     src: 0,
     target: 0,
@@ -107,4 +108,49 @@ fn entries_of(alloc: Global, text: &[u8]) -> Result<Items<Entry>, OutOfMemory>
         entries.push(entry_of(text, place))?;
     }
     Ok(entries)
+}
+
+/// A verified text with the entries that a machine runs on. Decoding takes memory, which `verify`
+/// does not: it is done once, here.
+#[derive(Drop)]
+pub struct Decoded {
+    program: Arc<Verified>,
+    entries: Items<Entry>,
+}
+
+impl Model for Decoded {
+    ghost use Rattle.std.specs.Prelude.{ℕ, List};
+    ghost use Rattle.std.specs.Arc.{arc_value};
+    ghost use Rattle.sbpf_verify.specs.Entries.{IsDecoded};
+    ghost use Rattle.sbpf_verify.specs.Verified.{IsVerified};
+
+    ghost Value = { List ℕ };
+
+    ghost view = { λ d. arc_value d.program };
+
+    ghost invariant = { λ d. IsVerified (arc_value d.program) × IsDecoded (arc_value d.program) d.entries };
+}
+
+impl Decoded {
+    /// Decodes the text of a program.
+    pub fn of(alloc: Global, program: Arc<Verified>) -> Result<Decoded, OutOfMemory>
+        ensures { IfOk result (λ decoded. decoded ≡ arc_value program) }
+    {
+        let entries = entries_of(alloc, program.text())?;
+        Ok(Decoded { program, entries })
+    }
+
+    pub fn program(&self) -> &Arc<Verified>
+        ensures { arc_value result.now ≡ self.now }
+    {
+        &self.program
+    }
+
+    /// One entry for each slot. Those of second halves of `lddw` mean nothing.
+    pub fn entries(&self) -> &[Entry]
+        ensures decoded { IsDecoded self.now result.now }
+        ensures verified { IsVerified self.now }
+    {
+        self.entries.as_slice()
+    }
 }

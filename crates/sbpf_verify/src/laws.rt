@@ -10,22 +10,19 @@ ghost use Rattle.sbpf_verify.specs.Verified.{IsVerified, unfit};
 /// A law: the verified texts are those without a refusal.
 pub fn verified_is_without_refusal()
     ensures { (text : List ℕ) → IsVerified text ↔ (unfit text ≡ None) }
-{
-}
+{}
 
 /// A law: the first slot of a verified text is a start.
 pub fn first_slot_is_a_start()
     ensures { (text : List ℕ) → IsVerified text → is_start text 0 ≡ true }
-{
-}
+{}
 
 /// A law: each start of a verified text has an instruction, and an instruction stands at no other
 /// place of any text.
 pub fn starts_have_instructions()
     ensures there { (text : List ℕ) (place : ℕ) → IsVerified text → is_start text place ≡ true → (kind : OpKind) × (instruction_at text place ≡ Some kind) }
     ensures alone { (text : List ℕ) (place : ℕ) (kind : OpKind) → instruction_at text place ≡ Some kind → is_start text place ≡ true }
-{
-}
+{}
 
 /// A law: a jump of a verified text, or a call into it, leads to a start.
 pub fn jumps_lead_to_starts()
@@ -33,40 +30,34 @@ pub fn jumps_lead_to_starts()
         → IsVerified text → instruction_at text place ≡ Some kind
         → leads_to kind (slot_of text place) place ≡ Some target
         → is_start_at text target ≡ true }
-{
-}
+{}
 
 /// A law: the place after an instruction of a verified text that goes on is a start.
 pub fn what_follows_is_a_start()
     ensures { (text : List ℕ) (place : ℕ) (kind : OpKind)
         → IsVerified text → instruction_at text place ≡ Some kind → goes_on kind ≡ true
         → is_start text (place + slots_taken kind) ≡ true }
-{
-}
+{}
 
 /// A law: each place of a verified text that is reached is a start.
 pub fn reached_places_are_starts()
     ensures { (text : List ℕ) (place : ℕ) → IsVerified text → Reached text place → is_start text place ≡ true }
-{
-}
+{}
 
 /// A law: the second half of `lddw` is never reached in a verified text.
 pub fn second_halves_are_never_reached()
     ensures { (text : List ℕ) (place : ℕ) → IsVerified text → instruction_at text place ≡ Some LoadWide → Reached text (place + 1) → ⊥ }
-{
-}
+{}
 
 /// A law: no register above 10 is named in a verified text.
 pub fn registers_are_there()
     ensures { (text : List ℕ) (place : ℕ) (kind : OpKind) → IsVerified text → instruction_at text place ≡ Some kind → HasRegisters (slot_of text place) kind }
-{
-}
+{}
 
 /// A law: `le`, `be` and `call` have values in a verified text that mean something.
 pub fn values_are_allowed()
     ensures { (text : List ℕ) (place : ℕ) (kind : OpKind) → IsVerified text → instruction_at text place ≡ Some kind → HasValues (slot_of text place) kind }
-{
-}
+{}
 
 /// A law: the entry of a start names registers that are there, and leads to starts.
 pub fn entries_fit()
@@ -74,5 +65,4 @@ pub fn entries_fit()
         → IsVerified text → IsDecoded text entries
         → slice_get entries place ≡ Some entry → is_start text place ≡ true
         → Fits text place entry }
-{
-}
+{}

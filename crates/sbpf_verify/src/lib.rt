@@ -4,14 +4,17 @@
 mod decoded;
 mod entry;
 mod fault;
-mod laws;
+pub mod laws;
 mod opcode;
 mod places;
 mod refusal;
 mod table;
+#[cfg(test)]
+mod tests;
 mod verified;
 
+pub use decoded::Decoded;
 pub use entry::Entry;
 pub use fault::VerifyFault;
-pub use opcode::{Opcode, opcode_of};
+pub use opcode::Opcode;
 pub use verified::{Unfit, Verified, verify};

@@ -56,9 +56,9 @@ pub enum Opcode {
     Arsh64Register,
     Arsh32Immediate,
     Arsh32Register,
-    LowBits,
-    ReversedBytes,
-    JumpAlways,
+    LittleEndian,
+    BigEndian,
+    Jump,
     JumpIfEqualImmediate,
     JumpIfEqualRegister,
     JumpIfNotEqualImmediate,
@@ -81,9 +81,9 @@ pub enum Opcode {
     JumpIfSignedLessRegister,
     JumpIfSignedLessOrEqualImmediate,
     JumpIfSignedLessOrEqualRegister,
-    CallTarget,
-    CallAddress,
-    ExitFrame,
+    Call,
+    CallRegister,
+    Exit,
     LoadFour,
     StoreFourImmediate,
     StoreFourRegister,
@@ -96,7 +96,7 @@ pub enum Opcode {
     LoadEight,
     StoreEightImmediate,
     StoreEightRegister,
-    LoadWideImmediate,
+    LoadWide,
 }
 
 /// The opcode of what an instruction is.
@@ -150,38 +150,52 @@ pub fn opcode_of(kind: OpKind) -> Opcode
         OpKind::Binary(Operation::Mov, Width::Bits64, Operand::Register) => Opcode::Mov64Register,
         OpKind::Binary(Operation::Mov, Width::Bits32, Operand::Immediate) => Opcode::Mov32Immediate,
         OpKind::Binary(Operation::Mov, Width::Bits32, Operand::Register) => Opcode::Mov32Register,
-        OpKind::Binary(Operation::Arsh, Width::Bits64, Operand::Immediate) => Opcode::Arsh64Immediate,
+        OpKind::Binary(Operation::Arsh, Width::Bits64, Operand::Immediate) =>
+            Opcode::Arsh64Immediate,
         OpKind::Binary(Operation::Arsh, Width::Bits64, Operand::Register) => Opcode::Arsh64Register,
-        OpKind::Binary(Operation::Arsh, Width::Bits32, Operand::Immediate) => Opcode::Arsh32Immediate,
+        OpKind::Binary(Operation::Arsh, Width::Bits32, Operand::Immediate) =>
+            Opcode::Arsh32Immediate,
         OpKind::Binary(Operation::Arsh, Width::Bits32, Operand::Register) => Opcode::Arsh32Register,
-        OpKind::LittleEndian => Opcode::LowBits,
-        OpKind::BigEndian => Opcode::ReversedBytes,
-        OpKind::Jump => Opcode::JumpAlways,
+        OpKind::LittleEndian => Opcode::LittleEndian,
+        OpKind::BigEndian => Opcode::BigEndian,
+        OpKind::Jump => Opcode::Jump,
         OpKind::JumpIf(Condition::Equal, Operand::Immediate) => Opcode::JumpIfEqualImmediate,
         OpKind::JumpIf(Condition::Equal, Operand::Register) => Opcode::JumpIfEqualRegister,
         OpKind::JumpIf(Condition::NotEqual, Operand::Immediate) => Opcode::JumpIfNotEqualImmediate,
         OpKind::JumpIf(Condition::NotEqual, Operand::Register) => Opcode::JumpIfNotEqualRegister,
         OpKind::JumpIf(Condition::Greater, Operand::Immediate) => Opcode::JumpIfGreaterImmediate,
         OpKind::JumpIf(Condition::Greater, Operand::Register) => Opcode::JumpIfGreaterRegister,
-        OpKind::JumpIf(Condition::GreaterOrEqual, Operand::Immediate) => Opcode::JumpIfGreaterOrEqualImmediate,
-        OpKind::JumpIf(Condition::GreaterOrEqual, Operand::Register) => Opcode::JumpIfGreaterOrEqualRegister,
+        OpKind::JumpIf(Condition::GreaterOrEqual, Operand::Immediate) =>
+            Opcode::JumpIfGreaterOrEqualImmediate,
+        OpKind::JumpIf(Condition::GreaterOrEqual, Operand::Register) =>
+            Opcode::JumpIfGreaterOrEqualRegister,
         OpKind::JumpIf(Condition::Less, Operand::Immediate) => Opcode::JumpIfLessImmediate,
         OpKind::JumpIf(Condition::Less, Operand::Register) => Opcode::JumpIfLessRegister,
-        OpKind::JumpIf(Condition::LessOrEqual, Operand::Immediate) => Opcode::JumpIfLessOrEqualImmediate,
-        OpKind::JumpIf(Condition::LessOrEqual, Operand::Register) => Opcode::JumpIfLessOrEqualRegister,
+        OpKind::JumpIf(Condition::LessOrEqual, Operand::Immediate) =>
+            Opcode::JumpIfLessOrEqualImmediate,
+        OpKind::JumpIf(Condition::LessOrEqual, Operand::Register) =>
+            Opcode::JumpIfLessOrEqualRegister,
         OpKind::JumpIf(Condition::Set, Operand::Immediate) => Opcode::JumpIfSetImmediate,
         OpKind::JumpIf(Condition::Set, Operand::Register) => Opcode::JumpIfSetRegister,
-        OpKind::JumpIf(Condition::SignedGreater, Operand::Immediate) => Opcode::JumpIfSignedGreaterImmediate,
-        OpKind::JumpIf(Condition::SignedGreater, Operand::Register) => Opcode::JumpIfSignedGreaterRegister,
-        OpKind::JumpIf(Condition::SignedGreaterOrEqual, Operand::Immediate) => Opcode::JumpIfSignedGreaterOrEqualImmediate,
-        OpKind::JumpIf(Condition::SignedGreaterOrEqual, Operand::Register) => Opcode::JumpIfSignedGreaterOrEqualRegister,
-        OpKind::JumpIf(Condition::SignedLess, Operand::Immediate) => Opcode::JumpIfSignedLessImmediate,
-        OpKind::JumpIf(Condition::SignedLess, Operand::Register) => Opcode::JumpIfSignedLessRegister,
-        OpKind::JumpIf(Condition::SignedLessOrEqual, Operand::Immediate) => Opcode::JumpIfSignedLessOrEqualImmediate,
-        OpKind::JumpIf(Condition::SignedLessOrEqual, Operand::Register) => Opcode::JumpIfSignedLessOrEqualRegister,
-        OpKind::Call => Opcode::CallTarget,
-        OpKind::CallRegister => Opcode::CallAddress,
-        OpKind::Exit => Opcode::ExitFrame,
+        OpKind::JumpIf(Condition::SignedGreater, Operand::Immediate) =>
+            Opcode::JumpIfSignedGreaterImmediate,
+        OpKind::JumpIf(Condition::SignedGreater, Operand::Register) =>
+            Opcode::JumpIfSignedGreaterRegister,
+        OpKind::JumpIf(Condition::SignedGreaterOrEqual, Operand::Immediate) =>
+            Opcode::JumpIfSignedGreaterOrEqualImmediate,
+        OpKind::JumpIf(Condition::SignedGreaterOrEqual, Operand::Register) =>
+            Opcode::JumpIfSignedGreaterOrEqualRegister,
+        OpKind::JumpIf(Condition::SignedLess, Operand::Immediate) =>
+            Opcode::JumpIfSignedLessImmediate,
+        OpKind::JumpIf(Condition::SignedLess, Operand::Register) =>
+            Opcode::JumpIfSignedLessRegister,
+        OpKind::JumpIf(Condition::SignedLessOrEqual, Operand::Immediate) =>
+            Opcode::JumpIfSignedLessOrEqualImmediate,
+        OpKind::JumpIf(Condition::SignedLessOrEqual, Operand::Register) =>
+            Opcode::JumpIfSignedLessOrEqualRegister,
+        OpKind::Call => Opcode::Call,
+        OpKind::CallRegister => Opcode::CallRegister,
+        OpKind::Exit => Opcode::Exit,
         OpKind::Load(Size::Four) => Opcode::LoadFour,
         OpKind::Store(Size::Four, Operand::Immediate) => Opcode::StoreFourImmediate,
         OpKind::Store(Size::Four, Operand::Register) => Opcode::StoreFourRegister,
@@ -194,6 +208,6 @@ pub fn opcode_of(kind: OpKind) -> Opcode
         OpKind::Load(Size::Eight) => Opcode::LoadEight,
         OpKind::Store(Size::Eight, Operand::Immediate) => Opcode::StoreEightImmediate,
         OpKind::Store(Size::Eight, Operand::Register) => Opcode::StoreEightRegister,
-        OpKind::LoadWide => Opcode::LoadWideImmediate,
+        OpKind::LoadWide => Opcode::LoadWide,
     }
 }
