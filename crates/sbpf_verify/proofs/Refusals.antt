@@ -1,5 +1,5 @@
 -- The table of refusals, slot by slot.
-use Rattle.std.proofs.Common.{◌≡◌, ◌<◌, ◌-◌, ◌+◌, ℕ, zero, suc, Bool, true, false, cond, List, [], ◌∷◌, ◌++◌, length, Option, Some, None, refl, ap, ◌∙◌, sym, arith, add-zero, append_assoc}
+use Rattle.std.proofs.Common.{◌≡◌, ◌<◌, ◌-◌, ◌+◌, ℕ, zero, suc, Bool, true, false, cond, List, [], ◌∷◌, ◌++◌, Option, Some, None, refl, ap, ◌∙◌, sym, arith, add-zero, append_assoc}
 use Rattle.std.specs.List.{flat_map, range_with_len}
 use Rattle.sbpf_verify.specs.declared.fault.VerifyFault.{VerifyFault}
 use Rattle.sbpf_verify.specs.declared.fault.VerifyFault.TheVariants.{Length, OpenEnd}

@@ -1,5 +1,5 @@
 -- What is known of the instructions of a verified text.
-use Rattle.std.proofs.Common.{◌≡◌, ◌≢◌, ◌<◌, ◌≤◌, ◌-◌, ◌+◌, ◌==◌, ◌&&◌, ◌||◌, not, ℕ, zero, suc, Bool, true, false, cond, List, [], ◌∷◌, length, Option, Some, None, refl, ap, ◌∙◌, sym, arith, add-one, ◌⊎◌, inl, inr, ⊎_elim, ◌%◌, ◌/◌}
+use Rattle.std.proofs.Common.{◌≡◌, ◌≢◌, ◌<◌, ◌≤◌, ◌-◌, ◌+◌, ◌==◌, ◌&&◌, ◌||◌, not, ℕ, Bool, true, false, cond, List, length, Option, Some, None, refl, ap, ◌∙◌, sym, arith, add-one, ◌⊎◌, inl, inr, ⊎_elim, ◌%◌, ◌/◌}
 use Rattle.std.specs.Prelude.{nat_lt, is_none, ℤ, pos, negsuc, ◌≤ℤ◌, int_lt, slice_get, unwrap_or}
 use Rattle.std.proofs.lemmas.Bool.Decides.{nat_tests}
 use Rattle.std.specs.Int.{w64, cast_unsigned}
@@ -9,12 +9,12 @@ use Rattle.sbpf_isa.specs.Rows.{kind_at}
 use Rattle.sbpf_isa.specs.Slots.{slot_of}
 use Rattle.sbpf_isa.specs.declared.slot.Slot.{Slot}
 use Rattle.sbpf_isa.specs.declared.rows.OpKind.{OpKind}
-use Rattle.sbpf_isa.specs.declared.rows.OpKind.TheVariants.{Jump, Exit, LoadWide, CallRegister}
+use Rattle.sbpf_isa.specs.declared.rows.OpKind.TheVariants.{Jump, Exit, LoadWide}
 use Rattle.sbpf_verify.specs.declared.entry.Entry.{Entry}
 use Rattle.sbpf_verify.specs.Opcodes.{meaning}
 use Rattle.sbpf_verify.specs.Entries.{Decodes, IsDecoded, Fits, immediate_of}
 use Rattle.sbpf_verify.specs.Places.{slot_count, is_start, is_start_at, instruction_at, leads_to, goes_on, slots_taken, Reached, first, after, jumped, called, HasRegisters, HasValues}
-use Rattle.sbpf_verify.specs.Verified.{rows_of, lacks_row, follows_wide, is_second_half, is_half_wide, is_astray, has_open_end, is_outside, calls_bad_register, is_no_width, has_bad_value, has_stray_field, used, calls_no_helper, instruction_rows, slot_rows, NoneApplies, IsVerified}
+use Rattle.sbpf_verify.specs.Verified.{rows_of, lacks_row, follows_wide, is_astray, is_outside, calls_bad_register, is_no_width, has_bad_value, has_stray_field, used, calls_no_helper, instruction_rows, slot_rows, NoneApplies, IsVerified}
 
 within_from_test : (n k : ℕ) (x : Option OpKind) (kind : OpKind) → cond (nat_lt n k) x None ≡ Some kind → (n < k) × (x ≡ Some kind)
 within_from_test n k x kind h = split (nat_lt n k) refl h

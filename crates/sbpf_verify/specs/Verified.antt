@@ -6,7 +6,6 @@ use Rattle.sbpf_isa.specs.Rows.{kind_at}
 use Rattle.sbpf_isa.specs.Slots.{slot_of}
 use Rattle.sbpf_isa.specs.declared.slot.Slot.{Slot}
 use Rattle.sbpf_isa.specs.declared.rows.Operation.TheVariants.{Div, Mod, Lsh, Rsh, Arsh}
-use Rattle.sbpf_isa.specs.declared.rows.Operation.{Operation}
 use Rattle.sbpf_isa.specs.declared.rows.Width.{Width}
 use Rattle.sbpf_isa.specs.declared.rows.Width.TheVariants.{Bits64, Bits32}
 use Rattle.sbpf_isa.specs.declared.rows.Operand.TheVariants.{Immediate, Register as RegisterOperand}

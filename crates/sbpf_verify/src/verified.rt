@@ -7,8 +7,9 @@ use crate::places;
 use crate::refusal::text_refusal;
 use sol_base::Blob;
 use std::marker::Model;
+use thiserror::Error;
 
-/// A text that the verifier lets pass. No row of its table applies to it.
+/// A text that the verifier lets pass: no row of its table of refusals applies to it.
 #[derive(Debug, Drop)]
 pub struct Verified {
     text: Blob,
@@ -26,13 +27,14 @@ impl Model for Verified {
 }
 
 /// A text that is refused, and why.
-#[derive(Debug, Drop)]
+#[derive(Debug, Drop, Error)]
+#[error("{cause}")]
 pub struct Unfit {
     pub cause: VerifyFault,
     pub text: Blob,
 }
 
-/// Verifies a text. No memory is taken; a refused text is handed back.
+/// Verifies a text, in one pass over its slots. A refused text is handed back.
 pub fn verify(text: Blob) -> Result<Verified, Unfit>
     ensures { MatchResult result
         (λ verified. (verified ≡ text) × IsVerified text)

@@ -1,8 +1,7 @@
-use Rattle.std.proofs.Common.{◌≡◌, ◌<◌, ◌^◌, ℕ, Some, ap, sym, ◌∙◌, arith, unwrap_or, pos, ℤ, rules, w32, w64, Fits, T, to_z, of_z, refl}
+use Rattle.std.proofs.Common.{◌≡◌, ◌<◌, ℕ, ap, sym, ◌∙◌, arith, unwrap_or, pos, ℤ, rules, w32, w64, Fits, T, to_z, of_z, refl}
 use Rattle.std.specs.Int.Signed.{non_neg}
 use Rattle.std.proofs.Math.IntN.{nat_abs}
 use Rattle.std.proofs.lemmas.Int.{ints}
-use Rattle.sbpf_isa.specs.Slots.{slot_of}
 use Rattle.sbpf_verify.specs.Places.{leads_to}
 use Rattle.sbpf_verify.proofs.Starts.{natural_target}
 use Rattle.sbpf_verify.proofs.decoded.target_of.Goals as goal

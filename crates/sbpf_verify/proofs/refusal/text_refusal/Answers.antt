@@ -1,7 +1,7 @@
-use Rattle.std.proofs.Common.{◌≡◌, ◌<◌, ◌-◌, ◌+◌, None, arith, sym, ◌∙◌, ap}
+use Rattle.std.proofs.Common.{◌≡◌, ◌<◌, ◌-◌, ◌+◌, arith, sym, ◌∙◌, ap}
 use Rattle.std.proofs.lemmas.Grind.{common_steps}
 use Rattle.sbpf_verify.specs.Places.{slot_count}
-use Rattle.sbpf_verify.specs.Verified.{first_applying, slot_rows, has_bad_length}
+use Rattle.sbpf_verify.specs.Verified.{first_applying}
 use Rattle.sbpf_verify.proofs.Refusals.{rest, rest_on, rest_off, rest_end, unfit_len, unfit_rest}
 use Rattle.sbpf_verify.proofs.refusal.text_refusal.Goals as goal
 
