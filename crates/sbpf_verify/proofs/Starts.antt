@@ -13,7 +13,8 @@ use Rattle.sbpf_isa.specs.declared.rows.OpKind.TheVariants.{Jump, Exit, LoadWide
 use Rattle.sbpf_verify.specs.declared.entry.Entry.{Entry}
 use Rattle.sbpf_verify.specs.Opcodes.{meaning}
 use Rattle.sbpf_verify.specs.Entries.{Decodes, IsDecoded, Fits, immediate_of}
-use Rattle.sbpf_verify.specs.Places.{slot_count, is_start, is_start_at, instruction_at, leads_to, goes_on, slots_taken, Reached, first, after, jumped, called, HasRegisters, HasValues}
+use Rattle.sbpf_verify.specs.Instructions.{HasRegisters, HasValues}
+use Rattle.sbpf_verify.specs.Places.{slot_count, is_start, is_start_at, instruction_at, leads_to, goes_on, slots_taken, Reached, first, after, jumped, called}
 use Rattle.sbpf_verify.specs.Verified.{rows_of, lacks_row, follows_wide, is_astray, is_outside, calls_bad_register, is_no_width, has_bad_value, has_stray_field, used, calls_no_helper, instruction_rows, slot_rows, NoneApplies, IsVerified}
 
 within_from_test : (n k : ℕ) (x : Option OpKind) (kind : OpKind) → cond (nat_lt n k) x None ≡ Some kind → (n < k) × (x ≡ Some kind)
@@ -185,6 +186,10 @@ some_slots n h = (grind (arith, nat_tests), grind (arith, nat_tests))
 -- a verified text has a slot, and at most 65,536
 pub slots_there : (text : List ℕ) → IsVerified text → (0 < slot_count text) × (slot_count text ≤ 65536)
 slots_there text v = some_slots (length text) v.len
+
+-- a start is below the most slots that a text has
+pub start_below : (text : List ℕ) (place : ℕ) → IsVerified text → is_start text place ≡ true → place < 65536
+start_below text place v h = omega (arith, (start_there text place h).0, (slots_there text v).1)
 
 -- the first slot is a start
 pub first_start : (text : List ℕ) → IsVerified text → is_start text 0 ≡ true

@@ -1,4 +1,5 @@
 pub mod Entries
+pub mod Instructions
 pub mod Opcodes
 pub mod Places
 pub mod Verified

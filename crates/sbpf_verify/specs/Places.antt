@@ -1,10 +1,10 @@
 -- The places of a text, counted in slots, and where an instruction leads.
-use Rattle.std.specs.Prelude.{◌≡◌, ℕ, ◌+◌, ◌/◌, ◌==◌, ◌&&◌, not, Bool, true, false, List, length, nat_lt, Option, Some, None, if◌then◌else◌, ℤ, pos, negsuc, ◌+ℤ◌, ◌≤ℤ◌, ◌≤◌, ◌⊎◌}
+use Rattle.std.specs.Prelude.{◌≡◌, ℕ, ◌+◌, ◌/◌, ◌==◌, ◌&&◌, not, Bool, true, false, List, length, nat_lt, Option, Some, None, if◌then◌else◌, ℤ, pos, negsuc, ◌+ℤ◌}
 use Rattle.sbpf_isa.specs.Rows.{kind_at}
 use Rattle.sbpf_isa.specs.Slots.{slot_of}
 use Rattle.sbpf_isa.specs.declared.slot.Slot.{Slot}
 use Rattle.sbpf_isa.specs.declared.rows.OpKind.{OpKind}
-use Rattle.sbpf_isa.specs.declared.rows.OpKind.TheVariants.{LittleEndian, BigEndian, Jump, JumpIf, Call, CallRegister, Exit, LoadWide}
+use Rattle.sbpf_isa.specs.declared.rows.OpKind.TheVariants.{Jump, JumpIf, Call, CallRegister, Exit, LoadWide}
 
 abbrev pub slot_count : List ℕ → ℕ
 slot_count text = length text / 8
@@ -46,16 +46,3 @@ pub data Reached (text : List ℕ) : ℕ → Type 0 where
   after : {place : ℕ} {kind : OpKind} → Reached text place → instruction_at text place ≡ Some kind → goes_on kind ≡ true → Reached text (place + slots_taken kind)
   jumped : {place target : ℕ} {kind : OpKind} → Reached text place → instruction_at text place ≡ Some kind → leads_to kind (slot_of text place) place ≡ Some (pos target) → Reached text target
   called : {place target : ℕ} → Reached text place → instruction_at text place ≡ Some CallRegister → is_start text target ≡ true → Reached text target
-
--- the registers that an instruction names are there, and so is the one whose number `callx` has as its immediate
-pub record HasRegisters (slot : Slot) (kind : OpKind) : Type 0 where
-  pub dst : slot.dst ≤ 10
-  pub src : slot.src ≤ 10
-  pub called : kind ≡ CallRegister → (pos 0 ≤ℤ slot.imm) × (slot.imm ≤ℤ pos 9)
-
--- the values of `le`, `be` and `call` are among those that mean something
-pub record HasValues (slot : Slot) (kind : OpKind) : Type 0 where
-  pub little : kind ≡ LittleEndian → (slot.imm ≡ pos 16) ⊎ ((slot.imm ≡ pos 32) ⊎ (slot.imm ≡ pos 64))
-  pub big : kind ≡ BigEndian → (slot.imm ≡ pos 16) ⊎ ((slot.imm ≡ pos 32) ⊎ (slot.imm ≡ pos 64))
-  pub source : kind ≡ Call → slot.src ≤ 1
-  pub helper : kind ≡ Call → slot.src ≡ 0 → (pos 1 ≤ℤ slot.imm) × (slot.imm ≤ℤ pos 17)

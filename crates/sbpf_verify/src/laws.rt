@@ -4,7 +4,8 @@ ghost use Rattle.sbpf_isa.specs.declared.rows.OpKind.{OpKind};
 ghost use Rattle.sbpf_isa.specs.declared.rows.OpKind.TheVariants.{LoadWide};
 ghost use Rattle.sbpf_verify.specs.declared.entry.Entry.{Entry};
 ghost use Rattle.sbpf_verify.specs.Entries.{IsDecoded, Fits};
-ghost use Rattle.sbpf_verify.specs.Places.{slot_count, is_start, is_start_at, instruction_at, leads_to, goes_on, slots_taken, Reached, HasRegisters, HasValues};
+ghost use Rattle.sbpf_verify.specs.Instructions.{HasRegisters, HasValues};
+ghost use Rattle.sbpf_verify.specs.Places.{slot_count, is_start, is_start_at, instruction_at, leads_to, goes_on, slots_taken, Reached};
 ghost use Rattle.sbpf_verify.specs.Verified.{IsVerified, unfit};
 
 /// A law: the verified texts are those without a refusal.
@@ -12,9 +13,10 @@ pub fn verified_is_without_refusal()
     ensures { (text : List ℕ) → IsVerified text ↔ (unfit text ≡ None) }
 {}
 
-/// A law: the first slot of a verified text is a start.
+/// A law: the first slot of a verified text is a start, and no start is beyond 65,536 slots.
 pub fn first_slot_is_a_start()
-    ensures { (text : List ℕ) → IsVerified text → is_start text 0 ≡ true }
+    ensures first { (text : List ℕ) → IsVerified text → is_start text 0 ≡ true }
+    ensures below { (text : List ℕ) (place : ℕ) → IsVerified text → is_start text place ≡ true → place < 65536 }
 {}
 
 /// A law: each start of a verified text has an instruction, and an instruction stands at no other
