@@ -3,7 +3,7 @@ use Rattle.std.specs.Prelude.{slice_get}
 use Rattle.sbpf_verify.specs.declared.entry.Entry.{Entry}
 use Rattle.sbpf_verify.specs.Entries.{Decodes}
 use Rattle.sbpf_verify.specs.Places.{is_start}
-use Rattle.sbpf_verify.proofs.decoded.entries_of.Given as goal
+use Rattle.sbpf_verify.proofs.entry.entries_of.Given as goal
 
 abbrev pub invariant-loop-place : goal.invariant-loop-place
 invariant-loop-place l = record {

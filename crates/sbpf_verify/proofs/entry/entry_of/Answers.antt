@@ -4,7 +4,7 @@ use Rattle.sbpf_isa.specs.declared.slot.Slot.{Slot}
 use Rattle.sbpf_isa.specs.declared.rows.OpKind.{OpKind}
 use Rattle.sbpf_verify.specs.Places.{instruction_at}
 use Rattle.sbpf_verify.proofs.Starts.{there_instruction, start_instruction}
-use Rattle.sbpf_verify.proofs.decoded.entry_of.Goals as goal
+use Rattle.sbpf_verify.proofs.entry.entry_of.Goals as goal
 
 pub instruction_entry-requires-clause-there : goal.instruction_entry-requires-clause-there
 instruction_entry-requires-clause-there c =

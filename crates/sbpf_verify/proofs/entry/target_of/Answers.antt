@@ -4,7 +4,7 @@ use Rattle.std.proofs.Math.IntN.{nat_abs}
 use Rattle.std.proofs.lemmas.Int.{ints}
 use Rattle.sbpf_verify.specs.Places.{leads_to}
 use Rattle.sbpf_verify.proofs.Starts.{natural_target}
-use Rattle.sbpf_verify.proofs.decoded.target_of.Goals as goal
+use Rattle.sbpf_verify.proofs.entry.target_of.Goals as goal
 
 back : (n : ℕ) → n < 65536 → to_z w64 (of_z w64 (pos n)) ≡ pos n
 back n h = omega (arith, ints)

@@ -4,7 +4,7 @@ use Rattle.sbpf_verify.specs.declared.entry.Entry.{Entry}
 use Rattle.sbpf_verify.specs.Entries.{Decodes}
 use Rattle.sbpf_verify.specs.Places.{slot_count, is_start}
 use Rattle.sbpf_verify.proofs.Starts.{slots_there}
-use Rattle.sbpf_verify.proofs.decoded.entries_of.Goals as goal
+use Rattle.sbpf_verify.proofs.entry.entries_of.Goals as goal
 
 -- an entry of a list with one more is one of the list or the one more
 pushed : (es : List Entry) (e x : Entry) (k : ℕ) → slice_get (es ++ e ∷ []) k ≡ Some x → (slice_get es k ≡ Some x) ⊎ ((k ≡ length es) × (x ≡ e))
