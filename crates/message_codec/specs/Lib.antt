@@ -1,1 +1,4 @@
+pub mod Compact
+pub mod Wire
+pub mod WireReading
 pub mod Roles
