@@ -2,6 +2,7 @@
 //! tests that a transaction must pass before anything else is asked of it.
 #![tactic(auto)]
 
+mod array;
 mod compact;
 mod fault;
 mod message;
