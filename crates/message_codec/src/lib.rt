@@ -7,6 +7,9 @@ mod compact;
 mod fault;
 mod message;
 mod parsed;
+mod parts;
+
+mod reading;
 mod roles;
 
 pub use fault::{SanitizeFault, WireFault};
