@@ -1,1 +1,2 @@
 pub mod KeyTests
+pub mod Lengths
