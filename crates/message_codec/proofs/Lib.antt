@@ -1,2 +1,4 @@
 pub mod KeyTests
 pub mod Lengths
+pub mod PartLaws
+pub mod WireLaws
