@@ -76,3 +76,96 @@ lookups_takes total Zero bytes lookups rest are h = (array_reads lookup_at total
 
 lookups_reads : (total : ℕ) (kind : MessageKind) → Reads (lookups_at kind total) (lookups_bytes kind) (LookupsFit kind)
 lookups_reads total kind = record { again = lookups_again total kind; takes = lookups_takes total kind }
+
+-- messages
+
+pub record MessageFits (message : Message) : Type 0 where
+  pub kind : FitsKind message.kind message
+  pub header : HeaderFits message.header
+  pub keys : IsShort message.keys × AllByRecursion IsKey message.keys
+  pub blockhash : IsHash message.blockhash
+  pub instructions : IsShort message.instructions × AllByRecursion InstructionFits message.instructions
+  pub lookups : LookupsFit message.kind message.lookups
+
+-- a kind, and the header that its first byte is of
+begun : (kind : MessageKind) (message : Message) (rest : List ℕ) → FitsKind kind message → Begins kind (header_bytes message.header ++ rest)
+begun Legacy message rest h = h.0
+begun Zero message rest h = tt
+
+fits_kind : (kind : MessageKind) (message : Message) (bytes rest : List ℕ) → Begins kind bytes → bytes ≡ header_bytes message.header ++ rest → LookupsFit kind message.lookups → FitsKind kind message
+fits_kind Legacy message bytes rest h e none = (subst (Begins Legacy) e h, none)
+fits_kind Zero message bytes rest h e fit = tt
+
+message_again : (total : ℕ) (message : Message) (rest : List ℕ) → MessageFits message → message_at total (message_bytes message ++ rest) ≡ Ok (message, rest)
+unfolding message_at
+message_again total m rest fits =
+    let lookups = lookups_bytes m.kind m.lookups ++ rest in
+    let instructions = array_bytes instruction_bytes m.instructions ++ lookups in
+    let blockhash = hash_bytes m.blockhash ++ instructions in
+    let keys = array_bytes key_bytes m.keys ++ blockhash in
+    let header = header_bytes m.header ++ keys in
+    let front : message_bytes m ++ rest ≡ kind_bytes m.kind ++ header = simp append_assoc in
+    subst (λ (l : List ℕ). message_at total l ≡ Ok (m, rest)) (sym front)
+    (rw (
+      kind_again total m.kind header (begun m.kind m keys fits.kind),
+      (header_reads total).again m.header keys fits.header,
+      (array_reads (key_at Truncated) total (key_reads Truncated total)).again m.keys blockhash fits.keys,
+      (hash_reads Truncated total).again m.blockhash instructions fits.blockhash,
+      (array_reads instruction_at total (instruction_reads total)).again m.instructions lookups fits.instructions,
+      (lookups_reads total m.kind).again m.lookups rest fits.lookups,
+    ) refl)
+
+message_takes : (total : ℕ) (bytes : List ℕ) (message : Message) (rest : List ℕ) → IsBytes bytes → message_at total bytes ≡ Ok (message, rest)
+    → MessageFits message × (bytes ≡ message_bytes message ++ rest)
+unfolding message_at
+message_takes total bytes message rest are h =
+    let k = bind_ok (kind_at total bytes) _ (message, rest) h in
+    let kind = k.0.0 in
+    let first = kind_takes total bytes kind k.0.1 k.1 in
+    let a = taken (header_reads total) _ k.0.1 (message, rest) (after_bytes bytes (kind_bytes kind) k.0.1 are first.1) k.2 in
+    let b = taken (array_reads (key_at Truncated) total (key_reads Truncated total)) _ a.rest (message, rest) a.are_bytes a.goes_on in
+    let c = taken (hash_reads Truncated total) _ b.rest (message, rest) b.are_bytes b.goes_on in
+    let d = taken (array_reads instruction_at total (instruction_reads total)) _ c.rest (message, rest) c.are_bytes c.goes_on in
+    let e = taken (lookups_reads total kind) _ d.rest (message, rest) d.are_bytes d.goes_on in
+    let p = ok_parts _ _ _ _ e.goes_on in
+    let made : Message = record { kind = kind; header = a.value; keys = b.value; blockhash = c.value; instructions = d.value; lookups = e.value } in
+    let fits : MessageFits made = record {
+            kind = fits_kind kind made k.0.1 a.rest first.0 a.spelled e.fits;
+            header = a.fits; keys = b.fits; blockhash = c.fits; instructions = d.fits; lookups = e.fits;
+        } in
+    let to_header = follows (kind_bytes kind) (header_bytes a.value) a.rest first.1 a.spelled in
+    let to_keys = follows (kind_bytes kind ++ header_bytes a.value) (array_bytes key_bytes b.value) b.rest to_header b.spelled in
+    let to_blockhash = follows (kind_bytes kind ++ header_bytes a.value ++ array_bytes key_bytes b.value) (hash_bytes c.value) c.rest to_keys c.spelled in
+    let to_instructions = follows (kind_bytes kind ++ header_bytes a.value ++ array_bytes key_bytes b.value ++ hash_bytes c.value) (array_bytes instruction_bytes d.value) d.rest to_blockhash d.spelled in
+    let to_end = follows (kind_bytes kind ++ header_bytes a.value ++ array_bytes key_bytes b.value ++ hash_bytes c.value ++ array_bytes instruction_bytes d.value) (lookups_bytes kind e.value) rest to_instructions (ends_at (lookups_bytes kind e.value) e.spelled p.1) in
+    subst (λ (v : Message). MessageFits v × (bytes ≡ message_bytes v ++ rest)) p.0 (fits, to_end)
+
+pub message_reads : (total : ℕ) → Reads (message_at total) message_bytes MessageFits
+message_reads total = record { again = message_again total; takes = message_takes total }
+
+-- transactions
+
+pub record TxFits (tx : Tx) : Type 0 where
+  pub signatures : IsShort tx.signatures × AllByRecursion (λ signature. length signature.0 ≡ 64) tx.signatures
+  pub message : MessageFits tx.message
+
+tx_again : (total : ℕ) (tx : Tx) (rest : List ℕ) → TxFits tx → tx_at total (tx_bytes tx ++ rest) ≡ Ok (tx, rest)
+unfolding tx_at
+tx_again total tx rest fits =
+    rw (
+      append_assoc (array_bytes signature_bytes tx.signatures) (message_bytes tx.message) rest,
+      (array_reads signature_at total (signature_reads total)).again tx.signatures (message_bytes tx.message ++ rest) fits.signatures,
+      message_again total tx.message rest fits.message,
+    ) refl
+
+tx_takes : (total : ℕ) (bytes : List ℕ) (tx : Tx) (rest : List ℕ) → IsBytes bytes → tx_at total bytes ≡ Ok (tx, rest) → TxFits tx × (bytes ≡ tx_bytes tx ++ rest)
+unfolding tx_at
+tx_takes total bytes tx rest are h =
+    let a = taken (array_reads signature_at total (signature_reads total)) _ bytes (tx, rest) are h in
+    let b = taken (message_reads total) _ a.rest (tx, rest) a.are_bytes a.goes_on in
+    let p = ok_parts _ _ _ _ b.goes_on in
+    subst (λ (v : Tx). TxFits v × (bytes ≡ tx_bytes v ++ rest)) p.0
+    (record { signatures = a.fits; message = b.fits }, follows (array_bytes signature_bytes a.value) (message_bytes b.value) rest a.spelled (ends_at (message_bytes b.value) b.spelled p.1))
+
+pub tx_reads : (total : ℕ) → Reads (tx_at total) tx_bytes TxFits
+tx_reads total = record { again = tx_again total; takes = tx_takes total }
