@@ -169,3 +169,103 @@ tx_takes total bytes tx rest are h =
 
 pub tx_reads : (total : ℕ) → Reads (tx_at total) tx_bytes TxFits
 tx_reads total = record { again = tx_again total; takes = tx_takes total }
+
+-- what reading asks of a transaction, and what the format and the types say
+
+lookups_fit : (kind : MessageKind) (message : Message) → FitsKind kind message → HasShortLists message → All (λ lookup. IsKey lookup.table) message.lookups → LookupsFit kind message.lookups
+lookups_fit Legacy message fits lists tables = fits.1
+lookups_fit Zero message fits lists tables =
+    (lists.lookups, recursion_from_All LookupFits message.lookups (λ k d lt. record { table = tables k d lt; writable = lists.writable k d lt; readonly = lists.readonly k d lt }))
+
+fits_reading : (tx : Tx) → FitsKind tx.message.kind tx.message → IsShort tx.signatures → HasShortLists tx.message → HasWidths tx → TxFits tx
+fits_reading tx kind short lists widths = record {
+  signatures = (short, recursion_from_All (λ signature. length signature.0 ≡ 64) tx.signatures widths.signatures);
+  message = record {
+    kind = kind;
+    header = record { required = widths.required; readonly_signed = widths.readonly_signed; readonly_unsigned = widths.readonly_unsigned };
+    keys = (lists.keys, recursion_from_All IsKey tx.message.keys widths.keys);
+    blockhash = widths.blockhash;
+    instructions = (lists.instructions, recursion_from_All InstructionFits tx.message.instructions
+        (λ k d lt. record { program = widths.programs k d lt; accounts = lists.accounts k d lt; input = lists.inputs k d lt }));
+    lookups = lookups_fit tx.message.kind tx.message kind lists widths.tables;
+  };
+}
+
+-- what is said of each lookup that is read
+record EachLookup (lookups : List Lookup) : Type 0 where
+  short : IsShort lookups
+  each : All LookupFits lookups
+
+each_lookup : (kind : MessageKind) (lookups : List Lookup) → LookupsFit kind lookups → EachLookup lookups
+each_lookup Legacy lookups none = subst EachLookup (sym none) (record { short = omega arith; each = All-nil LookupFits })
+each_lookup Zero lookups fits = record { short = fits.0; each = All-from_recursion LookupFits lookups fits.1 }
+
+short_lists : (message : Message) → MessageFits message → HasShortLists message
+short_lists message fits =
+    let instructions = All-from_recursion InstructionFits message.instructions fits.instructions.1 in
+    let lookups = each_lookup message.kind message.lookups fits.lookups in
+    record {
+      keys = fits.keys.0;
+      instructions = fits.instructions.0;
+      accounts = λ k d lt. (instructions k d lt).accounts;
+      inputs = λ k d lt. (instructions k d lt).input;
+      lookups = lookups.short;
+      writable = λ k d lt. (lookups.each k d lt).writable;
+      readonly = λ k d lt. (lookups.each k d lt).readonly;
+    }
+
+widths_of : (tx : Tx) → TxFits tx → HasWidths tx
+widths_of tx fits =
+    let instructions = All-from_recursion InstructionFits tx.message.instructions fits.message.instructions.1 in
+    let lookups = each_lookup tx.message.kind tx.message.lookups fits.message.lookups in
+    record {
+      signatures = All-from_recursion (λ signature. length signature.0 ≡ 64) tx.signatures fits.signatures.1;
+      required = fits.message.header.required;
+      readonly_signed = fits.message.header.readonly_signed;
+      readonly_unsigned = fits.message.header.readonly_unsigned;
+      keys = All-from_recursion IsKey tx.message.keys fits.message.keys.1;
+      blockhash = fits.message.blockhash;
+      programs = λ k d lt. (instructions k d lt).program;
+      tables = λ k d lt. (lookups.each k d lt).table;
+    }
+
+-- wires
+
+-- what is spelled so is read
+pub wire_again : (bytes : List ℕ) (tx : Tx) → Wire bytes tx → wire_of bytes ≡ Ok tx
+unfolding wire_of
+wire_again bytes tx wire =
+    let short : nat_lt 1232 (length bytes) ≡ false = let h = wire.short in grind (arith, nat_tests) in
+    let read : tx_at (length bytes) (tx_bytes tx ++ []) ≡ Ok (tx, []) = tx_again (length bytes) tx [] (fits_reading tx wire.kind wire.signatures wire.lists wire.widths) in
+    let here : tx_at (length bytes) bytes ≡ Ok (tx, []) = subst (λ (l : List ℕ). tx_at (length bytes) l ≡ Ok (tx, [])) (append-nil (tx_bytes tx) ∙ sym wire.spelled) read in
+    then short here
+  where
+    then : nat_lt 1232 (length bytes) ≡ false → tx_at (length bytes) bytes ≡ Ok (tx, []) → wire_of bytes ≡ Ok tx
+    then short here = rw (short, here) refl
+
+-- what is read is spelled so
+pub wire_takes : (bytes : List ℕ) (tx : Tx) → IsBytes bytes → wire_of bytes ≡ Ok tx → Wire bytes tx
+unfolding wire_of
+wire_takes bytes tx are h =
+    elim (chosen (nat_lt 1232 (length bytes)) _ _ _ h) [
+      | inl p ↦ absurd (let e : (let l : Result Tx WireFault = Err TooLong in l) ≡ Ok tx = p.1 in cc)
+      | inr q ↦
+          let a = bind_ok (tx_at (length bytes) bytes) _ tx q.1 in
+          let w = whole_ok Trailing (length bytes) a.0.0 a.0.1 tx a.2 in
+          let read : tx_at (length bytes) bytes ≡ Ok (tx, []) = a.1 ∙ same a.0.0 a.0.1 w.0 w.1 in
+          let t = tx_takes (length bytes) bytes tx [] are read in
+          record {
+            short = below q.0;
+            spelled = t.1 ∙ append-nil (tx_bytes tx);
+            kind = t.0.message.kind;
+            signatures = t.0.signatures.0;
+            lists = short_lists tx.message t.0.message;
+            widths = widths_of tx t.0;
+          }
+    ]
+  where
+    same : (x : Tx) (rest : List ℕ) → rest ≡ [] → x ≡ tx → (let l : Read Tx = Ok (x, rest) in l) ≡ Ok (tx, [])
+    same x rest e f = cc
+
+    below : nat_lt 1232 (length bytes) ≡ false → length bytes ≤ 1232
+    below e = grind (arith, nat_tests)
