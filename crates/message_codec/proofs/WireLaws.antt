@@ -1,12 +1,12 @@
 -- Messages and transactions: what is spelled is read again, and what is read is spelled so.
 use Rattle.std.proofs.Common.{◌≡◌, ◌<◌, ◌≤◌, ℕ, zero, suc, List, [], ◌∷◌, ◌++◌, length, Result, Ok, Err, Bool, true, false, ◌⊎◌, inl, inr, refl, sym, ap, subst, ◌∙◌, append_assoc, nat_lt, arith}
-use Rattle.std.specs.Prelude.{nat_eq, slice_index, All}
+use Rattle.std.specs.Prelude.{nat_eq, slice_index, All, IfOk}
 use Rattle.std.specs.List.{AllByRecursion}
 use Rattle.std.proofs.lemmas.Bool.Decides.{nat_tests}
 use Rattle.std.proofs.lemmas.List.{append-nil}
 use Rattle.std.proofs.lemmas.List.Elements.{All-from_recursion, recursion_from_All, All-weaker, All-nil}
 use Rattle.spec_base.specs.Bytes.{IsBytes}
-use Rattle.spec_base.specs.Reading.{◌>>=◌, place, whole}
+use Rattle.spec_base.specs.Reading.{◌>>=◌, Gives, place, whole}
 use Rattle.spec_base.proofs.Binding.{bind_ok, chosen, ok_parts, after_bytes, whole_ok}
 use Rattle.spec_base.proofs.Formats.{Reads, Taken, taken}
 use Rattle.sol_base.specs.declared.key.Key.{Key}
@@ -23,7 +23,7 @@ use Rattle.message_codec.specs.declared.message.MessageKind.TheVariants.{Legacy,
 use Rattle.message_codec.specs.declared.message.Message.{Message}
 use Rattle.message_codec.specs.declared.message.Tx.{Tx}
 use Rattle.message_codec.specs.Wire.{array_bytes, blob_bytes, signature_bytes, header_bytes, instruction_bytes, lookup_bytes, kind_bytes, lookups_bytes, message_bytes, tx_bytes, IsShort, HasShortLists, HasWidths, FitsKind, Wire}
-use Rattle.message_codec.specs.WireReading.{Read, array_at, signature_at, header_at, instruction_at, lookup_at, kind_at, lookups_at, message_at, tx_at, wire_of}
+use Rattle.message_codec.specs.WireReading.{Read, is_memory, array_at, signature_at, header_at, instruction_at, lookup_at, kind_at, lookups_at, message_at, tx_at, wire_of}
 use Rattle.message_codec.proofs.PartLaws.{follows, ends_at, array_reads, signature_reads, InstructionFits, instruction_reads, LookupFits, lookup_reads, HeaderFits, header_reads}
 
 -- kinds
@@ -269,3 +269,22 @@ wire_takes bytes tx are h =
 
     below : nat_lt 1232 (length bytes) ≡ false → length bytes ≤ 1232
     below e = grind (arith, nat_tests)
+
+pub is_found : (bytes : List ℕ) (result : Result Tx WireFault) → IsBytes bytes → Gives is_memory (λ v. v) result (wire_of bytes) → IfOk result (λ tx. Wire bytes tx)
+is_found bytes (Ok tx) are h = wire_takes bytes tx are h
+is_found bytes (Err e) are h = tt
+
+pub is_only : (bytes : List ℕ) (result : Result Tx WireFault) → Gives is_memory (λ v. v) result (wire_of bytes) → (tx : Tx) → Wire bytes tx → Gives is_memory (λ v. v) result (Ok tx)
+is_only bytes result h tx wire = subst (Gives is_memory (λ v. v) result) (wire_again bytes tx wire) h
+
+-- what follows the signatures is the message's bytes
+pub signed_bytes : (total : ℕ) (bytes : List ℕ) (signatures : List Signature) (signed : List ℕ) (message : Message) (rest : List ℕ) → IsBytes bytes
+    → array_at signature_at total bytes ≡ Ok (signatures, signed) → message_at total signed ≡ Ok (message, rest) → nat_eq (length rest) 0 ≡ true → signed ≡ message_bytes message
+signed_bytes total bytes signatures signed message rest are first second none =
+    let a = (array_reads signature_at total (signature_reads total)).takes bytes signatures signed are first in
+    let b = message_takes total signed message rest (after_bytes bytes (array_bytes signature_bytes signatures) signed are a.1) second in
+    b.1 ∙ ap (λ (l : List ℕ). message_bytes message ++ l) (is_empty rest none) ∙ append-nil (message_bytes message)
+  where
+    is_empty : (rest : List ℕ) → nat_eq (length rest) 0 ≡ true → rest ≡ []
+    is_empty [] e = refl
+    is_empty (b ∷ bs) e = absurd (grind (arith, nat_tests))

@@ -15,4 +15,5 @@ mod roles;
 pub use fault::{SanitizeFault, WireFault};
 pub use message::{Header, Instruction, Loaded, Lookup, Message, MessageKind, Signature, Tx};
 pub use parsed::Parsed;
+pub use reading::{MAX_WIRE_LEN, read_wire};
 pub use roles::reserved;

@@ -1,6 +1,7 @@
 ghost use Rattle.std.specs.Prelude.{◌≡◌, List, IfOk, Ok};
 ghost use Rattle.spec_base.specs.Reading.{Gives};
-ghost use Rattle.message_codec.specs.Wire.{message_bytes};
+ghost use Rattle.message_codec.specs.Wire.{Wire, message_bytes};
+ghost use Rattle.message_codec.specs.declared.message.Tx.{Tx};
 ghost use Rattle.message_codec.specs.WireReading.{is_memory, header_at, kind_at, lookups_at, message_at, wire_of};
 
 use crate::array::read_array;
@@ -76,4 +77,49 @@ fn read_message(
         lookups,
     };
     Ok((message, rest))
+}
+
+/// The transaction that the bytes are, and the bytes of its message.
+#[tactic(auto, unfolding(crate::specs::WireReading::wire_of, crate::specs::WireReading::tx_at))]
+pub(crate) fn read_signed(alloc: Global, bytes: &[u8]) -> Result<(Tx, &[u8]), WireFault>
+    ensures gives { Gives is_memory (λ x. x.0) result (wire_of bytes.now) }
+    ensures message { IfOk result (λ x. x.1.now ≡ message_bytes x.0.message) }
+{
+    let total = bytes.len();
+    if total > MAX_WIRE_LEN {
+        return Err(WireFault::TooLong);
+    }
+    let (signatures, signed) = read_array(alloc, total, bytes)?;
+    let (message, rest) = read_message(alloc, total, signed)?;
+    if !rest.is_empty() {
+        return Err(WireFault::Trailing {
+            at: total.saturating_sub(rest.len()),
+        });
+    }
+    let tx = Tx {
+        signatures,
+        message,
+    };
+    Ok((tx, signed))
+}
+
+/// The transaction that the bytes are, all of them (Solana's wire format).
+///
+/// The refusals come in the order of the bytes; `TooLong` is tested first, and `Trailing` last.
+pub fn read_wire(alloc: Global, bytes: &[u8]) -> Result<Tx, WireFault>
+    // What is read is spelled so.
+    ensures found { IfOk result (λ tx. Wire bytes.now tx) }
+    // What is spelled so is read, unless memory runs out.
+    ensures only { (tx : Tx) → Wire bytes.now tx → Gives is_memory (λ v. v) result (Ok tx) }
+    // Which refusal it is.
+    ensures exact { Gives is_memory (λ v. v) result (wire_of bytes.now) }
+{
+    read_whole(alloc, bytes)
+}
+
+fn read_whole(alloc: Global, bytes: &[u8]) -> Result<Tx, WireFault>
+    ensures { Gives is_memory (λ v. v) result (wire_of bytes.now) }
+{
+    let (tx, _message) = read_signed(alloc, bytes)?;
+    Ok(tx)
 }
