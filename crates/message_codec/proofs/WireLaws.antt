@@ -22,7 +22,7 @@ use Rattle.message_codec.specs.declared.message.MessageKind.{MessageKind}
 use Rattle.message_codec.specs.declared.message.MessageKind.TheVariants.{Legacy, Zero}
 use Rattle.message_codec.specs.declared.message.Message.{Message}
 use Rattle.message_codec.specs.declared.message.Tx.{Tx}
-use Rattle.message_codec.specs.Wire.{array_bytes, blob_bytes, signature_bytes, header_bytes, instruction_bytes, lookup_bytes, kind_bytes, lookups_bytes, message_bytes, tx_bytes, IsShort, HasShortLists, HasWidths, FitsKind, Wire}
+use Rattle.message_codec.specs.Wire.{array_bytes, blob_bytes, signature_bytes, header_bytes, instruction_bytes, lookup_bytes, kind_bytes, lookups_bytes, message_bytes, tx_bytes, IsShort, HasShortLists, HasWidths, AllowsLookups, BeginsAsItsKind, Wire}
 use Rattle.message_codec.specs.WireReading.{Read, is_memory, array_at, signature_at, header_at, instruction_at, lookup_at, kind_at, lookups_at, message_at, tx_at, wire_of}
 use Rattle.message_codec.proofs.PartLaws.{follows, ends_at, array_reads, signature_reads, InstructionFits, instruction_reads, LookupFits, lookup_reads, HeaderFits, header_reads}
 
@@ -80,7 +80,7 @@ lookups_reads total kind = record { again = lookups_again total kind; takes = lo
 -- messages
 
 pub record MessageFits (message : Message) : Type 0 where
-  pub kind : FitsKind message.kind message
+  pub begins : BeginsAsItsKind message.kind message.header
   pub header : HeaderFits message.header
   pub keys : IsShort message.keys × AllByRecursion IsKey message.keys
   pub blockhash : IsHash message.blockhash
@@ -88,13 +88,13 @@ pub record MessageFits (message : Message) : Type 0 where
   pub lookups : LookupsFit message.kind message.lookups
 
 -- a kind, and the header that its first byte is of
-begun : (kind : MessageKind) (message : Message) (rest : List ℕ) → FitsKind kind message → Begins kind (header_bytes message.header ++ rest)
-begun Legacy message rest h = h.0
-begun Zero message rest h = tt
+begun : (kind : MessageKind) (header : Header) (rest : List ℕ) → BeginsAsItsKind kind header → Begins kind (header_bytes header ++ rest)
+begun Legacy header rest h = h
+begun Zero header rest h = tt
 
-fits_kind : (kind : MessageKind) (message : Message) (bytes rest : List ℕ) → Begins kind bytes → bytes ≡ header_bytes message.header ++ rest → LookupsFit kind message.lookups → FitsKind kind message
-fits_kind Legacy message bytes rest h e none = (subst (Begins Legacy) e h, none)
-fits_kind Zero message bytes rest h e fit = tt
+begins_so : (kind : MessageKind) (header : Header) (bytes rest : List ℕ) → Begins kind bytes → bytes ≡ header_bytes header ++ rest → BeginsAsItsKind kind header
+begins_so Legacy header bytes rest h e = subst (Begins Legacy) e h
+begins_so Zero header bytes rest h e = tt
 
 message_again : (total : ℕ) (message : Message) (rest : List ℕ) → MessageFits message → message_at total (message_bytes message ++ rest) ≡ Ok (message, rest)
 unfolding message_at
@@ -107,7 +107,7 @@ message_again total m rest fits =
     let front : message_bytes m ++ rest ≡ kind_bytes m.kind ++ header = simp append_assoc in
     subst (λ (l : List ℕ). message_at total l ≡ Ok (m, rest)) (sym front)
     (rw (
-      kind_again total m.kind header (begun m.kind m keys fits.kind),
+      kind_again total m.kind header (begun m.kind m.header keys fits.begins),
       (header_reads total).again m.header keys fits.header,
       (array_reads (key_at Truncated) total (key_reads Truncated total)).again m.keys blockhash fits.keys,
       (hash_reads Truncated total).again m.blockhash instructions fits.blockhash,
@@ -130,7 +130,7 @@ message_takes total bytes message rest are h =
     let p = ok_parts _ _ _ _ e.goes_on in
     let made : Message = record { kind = kind; header = a.value; keys = b.value; blockhash = c.value; instructions = d.value; lookups = e.value } in
     let fits : MessageFits made = record {
-            kind = fits_kind kind made k.0.1 a.rest first.0 a.spelled e.fits;
+            begins = begins_so kind a.value k.0.1 a.rest first.0 a.spelled;
             header = a.fits; keys = b.fits; blockhash = c.fits; instructions = d.fits; lookups = e.fits;
         } in
     let to_header = follows (kind_bytes kind) (header_bytes a.value) a.rest first.1 a.spelled in
@@ -172,24 +172,28 @@ tx_reads total = record { again = tx_again total; takes = tx_takes total }
 
 -- what reading asks of a transaction, and what the format and the types say
 
-lookups_fit : (kind : MessageKind) (message : Message) → FitsKind kind message → HasShortLists message → All (λ lookup. IsKey lookup.table) message.lookups → LookupsFit kind message.lookups
-lookups_fit Legacy message fits lists tables = fits.1
-lookups_fit Zero message fits lists tables =
+lookups_fit : (kind : MessageKind) (message : Message) → AllowsLookups kind message.lookups → HasShortLists message → All (λ lookup. IsKey lookup.table) message.lookups → LookupsFit kind message.lookups
+lookups_fit Legacy message none lists tables = none
+lookups_fit Zero message allows lists tables =
     (lists.lookups, recursion_from_All LookupFits message.lookups (λ k d lt. record { table = tables k d lt; writable = lists.writable k d lt; readonly = lists.readonly k d lt }))
 
-fits_reading : (tx : Tx) → FitsKind tx.message.kind tx.message → IsShort tx.signatures → HasShortLists tx.message → HasWidths tx → TxFits tx
-fits_reading tx kind short lists widths = record {
+fits_reading : (tx : Tx) → BeginsAsItsKind tx.message.kind tx.message.header → AllowsLookups tx.message.kind tx.message.lookups → IsShort tx.signatures → HasShortLists tx.message → HasWidths tx → TxFits tx
+fits_reading tx begins allows short lists widths = record {
   signatures = (short, recursion_from_All (λ signature. length signature.0 ≡ 64) tx.signatures widths.signatures);
   message = record {
-    kind = kind;
+    begins = begins;
     header = record { required = widths.required; readonly_signed = widths.readonly_signed; readonly_unsigned = widths.readonly_unsigned };
     keys = (lists.keys, recursion_from_All IsKey tx.message.keys widths.keys);
     blockhash = widths.blockhash;
     instructions = (lists.instructions, recursion_from_All InstructionFits tx.message.instructions
         (λ k d lt. record { program = widths.programs k d lt; accounts = lists.accounts k d lt; input = lists.inputs k d lt }));
-    lookups = lookups_fit tx.message.kind tx.message kind lists widths.tables;
+    lookups = lookups_fit tx.message.kind tx.message allows lists widths.tables;
   };
 }
+
+allowed : (kind : MessageKind) (lookups : List Lookup) → LookupsFit kind lookups → AllowsLookups kind lookups
+allowed Legacy lookups none = none
+allowed Zero lookups fits = tt
 
 -- what is said of each lookup that is read
 record EachLookup (lookups : List Lookup) : Type 0 where
@@ -236,7 +240,7 @@ pub wire_again : (bytes : List ℕ) (tx : Tx) → Wire bytes tx → wire_of byte
 unfolding wire_of
 wire_again bytes tx wire =
     let short : nat_lt 1232 (length bytes) ≡ false = let h = wire.short in grind (arith, nat_tests) in
-    let read : tx_at (length bytes) (tx_bytes tx ++ []) ≡ Ok (tx, []) = tx_again (length bytes) tx [] (fits_reading tx wire.kind wire.signatures wire.lists wire.widths) in
+    let read : tx_at (length bytes) (tx_bytes tx ++ []) ≡ Ok (tx, []) = tx_again (length bytes) tx [] (fits_reading tx wire.begins wire.allows wire.signatures wire.lists wire.widths) in
     let here : tx_at (length bytes) bytes ≡ Ok (tx, []) = subst (λ (l : List ℕ). tx_at (length bytes) l ≡ Ok (tx, [])) (append-nil (tx_bytes tx) ∙ sym wire.spelled) read in
     then short here
   where
@@ -257,7 +261,8 @@ wire_takes bytes tx are h =
           record {
             short = below q.0;
             spelled = t.1 ∙ append-nil (tx_bytes tx);
-            kind = t.0.message.kind;
+            begins = t.0.message.begins;
+            allows = allowed tx.message.kind tx.message.lookups t.0.message.lookups;
             signatures = t.0.signatures.0;
             lists = short_lists tx.message t.0.message;
             widths = widths_of tx t.0;

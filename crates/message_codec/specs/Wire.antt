@@ -80,16 +80,22 @@ pub record HasWidths (tx : Tx) : Type 0 where
   pub programs : All (λ instruction. instruction.program < 256) tx.message.instructions
   pub tables : All (λ lookup. IsKey lookup.table) tx.message.lookups
 
--- a Legacy message begins with a byte below 128, and has no lookups
-abbrev pub FitsKind : MessageKind → Message → Type 0
-FitsKind Legacy message = (message.header.required < 128) × (message.lookups ≡ [])
-FitsKind Zero message = Unit {0}
+-- a Legacy message has no lookups
+abbrev pub AllowsLookups : MessageKind → List Lookup → Type 0
+AllowsLookups Legacy lookups = lookups ≡ []
+AllowsLookups Zero lookups = Unit {0}
+
+-- and begins with a byte below 128
+abbrev pub BeginsAsItsKind : MessageKind → Header → Type 0
+BeginsAsItsKind Legacy header = header.required < 128
+BeginsAsItsKind Zero header = Unit {0}
 
 -- the bytes are that transaction
 pub record Wire (bytes : List ℕ) (tx : Tx) : Type 0 where
   pub short : length bytes ≤ 1232
   pub spelled : bytes ≡ tx_bytes tx
-  pub kind : FitsKind tx.message.kind tx.message
+  pub begins : BeginsAsItsKind tx.message.kind tx.message.header
+  pub allows : AllowsLookups tx.message.kind tx.message.lookups
   pub signatures : IsShort tx.signatures
   pub lists : HasShortLists tx.message
   pub widths : HasWidths tx

@@ -8,12 +8,13 @@ mod fault;
 mod message;
 mod parsed;
 mod parts;
-
 mod reading;
 mod roles;
+mod writing;
 
 pub use fault::{SanitizeFault, WireFault};
 pub use message::{Header, Instruction, Loaded, Lookup, Message, MessageKind, Signature, Tx};
 pub use parsed::Parsed;
 pub use reading::{MAX_WIRE_LEN, read_wire};
 pub use roles::reserved;
+pub use writing::{message_key, write_wire};
