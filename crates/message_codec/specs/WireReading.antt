@@ -1,5 +1,6 @@
 -- Reading a transaction from left to right, with the first refusal that is met.
-use Rattle.std.specs.Prelude.{ℕ, ◌+◌, ◌-◌, ◌*◌, List, [], ◌∷◌, length, Result, Ok, Err, Bool, true, false, nat_lt, nat_eq, ◌||◌, slice_index, if◌then◌else◌}
+use Rattle.std.specs.Prelude.{◌≡◌, ◌↔◌, ◌≤◌, ◌++◌, ℕ, ◌+◌, ◌-◌, ◌*◌, List, [], ◌∷◌, length, Result, Ok, Err, Bool, true, false, nat_lt, nat_eq, ◌||◌, slice_index, if◌then◌else◌}
+use Rattle.spec_base.specs.Bytes.{IsBytes}
 use Rattle.spec_base.specs.Reading.{◌>>=◌, place, field_at, byte_at, mapped, many, whole}
 use Rattle.sol_base.specs.Keys.{key_at, hash_at}
 use Rattle.message_codec.specs.declared.fault.WireFault.{WireFault}
@@ -12,6 +13,8 @@ use Rattle.message_codec.specs.declared.message.MessageKind.TheVariants.{Legacy,
 use Rattle.message_codec.specs.declared.message.Lookup.{Lookup}
 use Rattle.message_codec.specs.declared.message.Message.{Message}
 use Rattle.message_codec.specs.declared.message.Tx.{Tx}
+use Rattle.message_codec.specs.Compact.{compact, BeginsWithLength, IsCutLength}
+use Rattle.message_codec.specs.Wire.{IsShort, HasShortLists, HasWidths, BeginsAsItsKind, AllowsLookups, tx_bytes}
 
 abbrev pub is_memory : WireFault → Bool
 is_memory TooLong = false
@@ -115,3 +118,20 @@ wire_of bytes =
     if nat_lt 1232 (length bytes) then Err TooLong else do
     tx ← tx_at (length bytes) bytes
     whole Trailing (length bytes) tx
+
+-- Which answer comes of a compact length: the value where the bytes begin with its spelling, cut short where they
+-- are a proper prefix of some spelling, and else a bad length.
+pub record AnswersLength (total : ℕ) (bytes : List ℕ) : Type 0 where
+  pub value : (v : ℕ) (rest : List ℕ) → (compact_at total bytes ≡ Ok (v, rest)) ↔ ((v ≤ 65535) × (bytes ≡ compact v ++ rest))
+  pub cut : (compact_at total bytes ≡ Err (Truncated (place total bytes))) ↔ IsCutLength bytes
+  pub bad : (compact_at total bytes ≡ Err (BadLength (place total bytes))) ↔ ((¬ BeginsWithLength bytes) × (¬ IsCutLength bytes))
+
+abbrev pub LengthLaw : Type 0
+LengthLaw = (total : ℕ) (bytes : List ℕ) → IsBytes bytes → AnswersLength total bytes
+
+-- what is written is read again, where it is short enough and of its kind
+abbrev pub RoundTripLaw : Type 0
+RoundTripLaw = (tx : Tx) → length (tx_bytes tx) ≤ 1232
+    → BeginsAsItsKind tx.message.kind tx.message.header → AllowsLookups tx.message.kind tx.message.lookups
+    → IsShort tx.signatures → HasShortLists tx.message → HasWidths tx
+    → wire_of (tx_bytes tx) ≡ Ok tx
