@@ -268,8 +268,8 @@ neither_is_bad total bytes are h = go (compact_at total bytes) refl (answers tot
     go (Err fault) e (inl cut) = absurd (h.1 (truncated_is_cut total bytes are (e ∙ ap (λ (f : WireFault). Err f) cut)))
     go (Err fault) e (inr bad) = ap (λ (f : WireFault). Err f) bad
 
-pub length_law : LengthLaw
-length_law total bytes are = record {
+pub lengths_answer : LengthLaw
+lengths_answer total bytes are = record {
   value = λ v rest. (takes total bytes v rest are, spelled_is_read total bytes v rest);
   cut = (truncated_is_cut total bytes are, cut_is_truncated total bytes);
   bad = (bad_is_neither total bytes, neither_is_bad total bytes are);

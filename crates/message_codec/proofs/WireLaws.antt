@@ -23,7 +23,7 @@ use Rattle.message_codec.specs.declared.message.MessageKind.TheVariants.{Legacy,
 use Rattle.message_codec.specs.declared.message.Message.{Message}
 use Rattle.message_codec.specs.declared.message.Tx.{Tx}
 use Rattle.message_codec.specs.Wire.{array_bytes, blob_bytes, signature_bytes, header_bytes, instruction_bytes, lookup_bytes, kind_bytes, lookups_bytes, message_bytes, tx_bytes, IsShort, HasShortLists, HasWidths, AllowsLookups, BeginsAsItsKind, Wire}
-use Rattle.message_codec.specs.WireReading.{Read, is_memory, array_at, signature_at, header_at, instruction_at, lookup_at, kind_at, lookups_at, message_at, tx_at, wire_of}
+use Rattle.message_codec.specs.WireReading.{Read, RoundTripLaw, is_memory, array_at, signature_at, header_at, instruction_at, lookup_at, kind_at, lookups_at, message_at, tx_at, wire_of}
 use Rattle.message_codec.proofs.PartLaws.{follows, ends_at, array_reads, signature_reads, InstructionFits, instruction_reads, LookupFits, lookup_reads, HeaderFits, header_reads}
 
 -- kinds
@@ -293,3 +293,8 @@ signed_bytes total bytes signatures signed message rest are first second none =
     is_empty : (rest : List ℕ) → nat_eq (length rest) 0 ≡ true → rest ≡ []
     is_empty [] e = refl
     is_empty (b ∷ bs) e = absurd (grind (arith, nat_tests))
+
+pub round_trips : RoundTripLaw
+round_trips tx short begins allows signatures lists widths = wire_again (tx_bytes tx) tx (record {
+  short = short; spelled = refl; begins = begins; allows = allows; signatures = signatures; lists = lists; widths = widths;
+})

@@ -5,6 +5,7 @@
 mod array;
 mod compact;
 mod fault;
+mod laws;
 mod message;
 mod parsed;
 mod parts;
@@ -13,6 +14,7 @@ mod roles;
 mod writing;
 
 pub use fault::{SanitizeFault, WireFault};
+pub use laws::{length_law, round_trip_law};
 pub use message::{Header, Instruction, Loaded, Lookup, Message, MessageKind, Signature, Tx};
 pub use parsed::Parsed;
 pub use reading::{MAX_WIRE_LEN, read_wire};
