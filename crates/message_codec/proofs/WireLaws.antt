@@ -9,7 +9,9 @@ use Rattle.spec_base.specs.Bytes.{IsBytes}
 use Rattle.spec_base.specs.Reading.{◌>>=◌, Gives, place, whole}
 use Rattle.spec_base.proofs.Binding.{bind_ok, chosen, ok_parts, after_bytes, whole_ok}
 use Rattle.spec_base.proofs.Formats.{Reads, Taken, taken}
+use Rattle.spec_base.specs.Sha256.{sha256}
 use Rattle.sol_base.specs.declared.key.Key.{Key}
+use Rattle.sol_base.specs.declared.key.Hash32.{Hash32}
 use Rattle.sol_base.specs.Keys.{IsKey, IsHash, key_bytes, hash_bytes, key_at, hash_at}
 use Rattle.sol_base.proofs.KeyLaws.{key_reads, hash_reads}
 use Rattle.message_codec.specs.declared.fault.WireFault.{WireFault}
@@ -22,7 +24,7 @@ use Rattle.message_codec.specs.declared.message.MessageKind.{MessageKind}
 use Rattle.message_codec.specs.declared.message.MessageKind.TheVariants.{Legacy, Zero}
 use Rattle.message_codec.specs.declared.message.Message.{Message}
 use Rattle.message_codec.specs.declared.message.Tx.{Tx}
-use Rattle.message_codec.specs.Wire.{array_bytes, blob_bytes, signature_bytes, header_bytes, instruction_bytes, lookup_bytes, kind_bytes, lookups_bytes, message_bytes, tx_bytes, IsShort, HasShortLists, HasWidths, AllowsLookups, BeginsAsItsKind, Wire}
+use Rattle.message_codec.specs.Wire.{array_bytes, blob_bytes, signature_bytes, header_bytes, instruction_bytes, lookup_bytes, kind_bytes, lookups_bytes, message_bytes, message_name, tx_bytes, IsShort, HasShortLists, HasWidths, AllowsLookups, BeginsAsItsKind, Wire}
 use Rattle.message_codec.specs.WireReading.{Read, RoundTripLaw, is_memory, array_at, signature_at, header_at, instruction_at, lookup_at, kind_at, lookups_at, message_at, tx_at, wire_of}
 use Rattle.message_codec.proofs.PartLaws.{follows, ends_at, array_reads, signature_reads, InstructionFits, instruction_reads, LookupFits, lookup_reads, HeaderFits, header_reads}
 
@@ -298,3 +300,6 @@ pub round_trips : RoundTripLaw
 round_trips tx short begins allows signatures lists widths = wire_again (tx_bytes tx) tx (record {
   short = short; spelled = refl; begins = begins; allows = allows; signatures = signatures; lists = lists; widths = widths;
 })
+
+pub named : (name : Hash32) (message : Message) (bytes : List ℕ) → name.0 ≡ sha256 bytes → bytes ≡ message_bytes message → name ≡ message_name message
+named name message bytes digest same = ap (λ (digest : List ℕ). let hash : Hash32 = record { 0 = digest } in hash) (digest ∙ ap sha256 same)

@@ -16,7 +16,7 @@ mod writing;
 pub use fault::{SanitizeFault, WireFault};
 pub use laws::{length_law, round_trip_law};
 pub use message::{Header, Instruction, Loaded, Lookup, Message, MessageKind, Signature, Tx};
-pub use parsed::Parsed;
+pub use parsed::{Parsed, parse};
 pub use reading::{MAX_WIRE_LEN, read_wire};
 pub use roles::reserved;
 pub use writing::{message_key, write_wire};
