@@ -11,6 +11,7 @@ mod parsed;
 mod parts;
 mod reading;
 mod roles;
+mod sanity;
 mod writing;
 
 pub use fault::{SanitizeFault, WireFault};
