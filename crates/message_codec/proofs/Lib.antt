@@ -2,3 +2,4 @@ pub mod KeyTests
 pub mod Lengths
 pub mod PartLaws
 pub mod WireLaws
+pub mod SaneLaws

@@ -20,4 +20,5 @@ pub use message::{Header, Instruction, Loaded, Lookup, Message, MessageKind, Sig
 pub use parsed::{Parsed, parse};
 pub use reading::{MAX_WIRE_LEN, read_wire};
 pub use roles::reserved;
+pub use sanity::sanitize;
 pub use writing::{message_key, write_wire};

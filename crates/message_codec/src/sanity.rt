@@ -1,12 +1,75 @@
 ghost use Rattle.std.specs.Prelude.{◌≡◌, ◌+◌, ◌≤◌, length, nat_le, OnOk};
 ghost use Rattle.std.specs.List.{list_any};
 ghost use Rattle.message_codec.specs.Wire.{HasShortLists};
-ghost use Rattle.message_codec.specs.Roles.{sanitized, IsSane, key_count_of, load_count, has_bad_program, has_bad_account, has_repeated, has_reserved_payer, empty_lookup, loads_none};
+ghost use Rattle.message_codec.specs.Roles.{sanitized, IsSane, key_count_of, load_count, has_bad_program, has_bad_account, has_repeated, has_reserved_payer, empty_lookup, loads_none, lookups_sanitized};
 
 use crate::fault::SanitizeFault;
-use crate::message::{Instruction, Lookup, Message, Tx};
+use crate::message::{Header, Instruction, Lookup, Message, Tx};
 use crate::roles::reserved;
 use sol_base::Key;
+
+/// Whether the transaction is sane: the first refusal that holds, in the order of the variants. At
+/// most `most` keys are allowed, static and loaded ones together.
+///
+/// Repeated keys are found by comparing each pair of static keys, of which a wire has at most 35.
+pub fn sanitize(tx: &Tx, most: u16) -> Result<(), SanitizeFault>
+    requires { HasShortLists tx.now.message }
+    ensures exact { result ≡ sanitized tx.now most }
+    ensures sane { OnOk result (IsSane tx.now most) }
+{
+    first_fault(tx, most)
+}
+
+fn first_fault(tx: &Tx, most: u16) -> Result<(), SanitizeFault>
+    requires { HasShortLists tx.now.message }
+    ensures { result ≡ sanitized tx.now most }
+{
+    let Header {
+        required,
+        readonly_signed,
+        readonly_unsigned,
+    } = tx.message.header;
+    let keys = tx.message.keys.as_slice();
+    let instructions = tx.message.instructions.as_slice();
+    let count = key_count(&tx.message);
+    if tx.signatures.len() != usize::from(required) {
+        return Err(SanitizeFault::SignatureCount);
+    }
+    if usize::from(required) + usize::from(readonly_unsigned) > keys.len() {
+        return Err(SanitizeFault::HeaderRange);
+    }
+    if readonly_signed >= required {
+        return Err(SanitizeFault::NoWritablePayer);
+    }
+    if has_wrong_program(instructions, keys.len()) {
+        return Err(SanitizeFault::ProgramIndex);
+    }
+    if has_wrong_account(instructions, count) {
+        return Err(SanitizeFault::AccountIndex);
+    }
+    if count > usize::from(most) {
+        return Err(SanitizeFault::TooManyKeys);
+    }
+    if has_repeated_key(keys) {
+        return Err(SanitizeFault::RepeatedKey);
+    }
+    if has_reserved_first(keys) {
+        return Err(SanitizeFault::PayerReserved);
+    }
+    check_lookups(tx.message.lookups.as_slice())
+}
+
+fn check_lookups(lookups: &[Lookup]) -> Result<(), SanitizeFault>
+    requires { length lookups.now ≤ 65535 }
+    ensures { result ≡ lookups_sanitized (empty_lookup lookups.now) }
+{
+    match first_empty(lookups) {
+        None => Ok(()),
+        Some(lookup) => Err(SanitizeFault::EmptyLookup {
+            lookup: lookup as u16,
+        }),
+    }
+}
 
 /// How many keys the message has, those that its lookups load among them.
 fn key_count(message: &Message) -> usize
