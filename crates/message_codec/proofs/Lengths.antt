@@ -35,10 +35,10 @@ digits v = go (nat_lt v 128) (nat_lt v 16384) refl refl
 again : (total v : ℕ) (rest : List ℕ) → v ≤ 65535 → compact_at total (compact v ++ rest) ≡ Ok (v, rest)
 unfolding compact_at
 again total v rest h = elim (digits v) [
-    | inl small ↦ rw (one_digit v small) (grind (arith, nat_tests))
-    | inr (inl two) ↦ rw (two_digits v two.0 two.1) (grind (arith, nat_tests))
-    | inr (inr three) ↦ rw (three_digits v three) (grind (arith, nat_tests))
-  ]
+  | inl small ↦ rw (one_digit v small) (grind (arith, nat_tests))
+  | inr (inl two) ↦ rw (two_digits v two.0 two.1) (grind (arith, nat_tests))
+  | inr (inr three) ↦ rw (three_digits v three) (grind (arith, nat_tests))
+]
 
 -- an answer is no refusal
 not_refused : {X : Type 0} {e : WireFault} {x : X} → (let l : Result X WireFault = Err e in l) ≡ Ok x → ⊥
@@ -178,17 +178,17 @@ cut_two total bytes a b over also e =
 
 cut_is_truncated : (total : ℕ) (bytes : List ℕ) → IsCutLength bytes → IsCut total bytes
 cut_is_truncated total bytes (v, rest, fits, more, e) = elim (digits v) [
-    | inl small ↦ cut_none total bytes (prefix_of_one bytes rest v more (e ∙ one_digit v small))
-    | inr (inl two) ↦ elim (prefix_of_two bytes rest (v % 128 + 128) (v / 128) more (e ∙ two_digits v two.0 two.1)) [
-      | inl p ↦ cut_none total bytes p
-      | inr p ↦ cut_one total bytes (v % 128 + 128) (omega arith) p
-    ]
-    | inr (inr three) ↦ elim (prefix_of_three bytes rest (v % 128 + 128) (v / 128 % 128 + 128) (v / 16384) more (e ∙ three_digits v three)) [
-      | inl p ↦ cut_none total bytes p
-      | inr (inl p) ↦ cut_one total bytes (v % 128 + 128) (omega arith) p
-      | inr (inr p) ↦ cut_two total bytes (v % 128 + 128) (v / 128 % 128 + 128) (omega arith) (omega arith) p
-    ]
+  | inl small ↦ cut_none total bytes (prefix_of_one bytes rest v more (e ∙ one_digit v small))
+  | inr (inl two) ↦ elim (prefix_of_two bytes rest (v % 128 + 128) (v / 128) more (e ∙ two_digits v two.0 two.1)) [
+    | inl p ↦ cut_none total bytes p
+    | inr p ↦ cut_one total bytes (v % 128 + 128) (omega arith) p
   ]
+  | inr (inr three) ↦ elim (prefix_of_three bytes rest (v % 128 + 128) (v / 128 % 128 + 128) (v / 16384) more (e ∙ three_digits v three)) [
+    | inl p ↦ cut_none total bytes p
+    | inr (inl p) ↦ cut_one total bytes (v % 128 + 128) (omega arith) p
+    | inr (inr p) ↦ cut_two total bytes (v % 128 + 128) (v / 128 % 128 + 128) (omega arith) (omega arith) p
+  ]
+]
 
 -- the least length that two or three bytes begin, with a last digit of 1
 cut_after_one : (a : ℕ) → 128 ≤ a → a < 256 → IsCutLength (a ∷ [])
@@ -215,20 +215,20 @@ not_both h = cc
 third_cut : (at low : ℕ) (bytes : List ℕ) → third_at at low bytes ≡ Err (Truncated at) → bytes ≡ []
 third_cut at low [] h = refl
 third_cut at low (c ∷ rest) h = elim (chosen (nat_eq c 0 || nat_lt 3 c) (Err (BadLength at)) (Ok (low + 16384 * c, rest)) (Err (Truncated at)) h) [
-    | inl p ↦ absurd (not_both p.1)
-    | inr q ↦ absurd (not_cut q.1)
-  ]
+  | inl p ↦ absurd (not_both p.1)
+  | inr q ↦ absurd (not_cut q.1)
+]
 
 -- nothing, or a digit that another follows
 second_cut : (at low : ℕ) (bytes : List ℕ) → second_at at low bytes ≡ Err (Truncated at) → (bytes ≡ []) ⊎ ((b : ℕ) × (128 ≤ b) × (bytes ≡ b ∷ []))
 second_cut at low [] h = inl refl
 second_cut at low (b ∷ rest) h = elim (chosen (nat_lt b 128) _ _ _ h) [
-    | inl p ↦ elim (chosen (nat_eq b 0) (Err (BadLength at)) (Ok (low + 128 * b, rest)) (Err (Truncated at)) p.1) [
-      | inl z ↦ absurd (not_both z.1)
-      | inr q ↦ absurd (not_cut q.1)
-    ]
-    | inr q ↦ inr (b, big q.0, ap (λ (l : List ℕ). b ∷ l) (third_cut at (low + 128 * (b - 128)) rest q.1))
+  | inl p ↦ elim (chosen (nat_eq b 0) (Err (BadLength at)) (Ok (low + 128 * b, rest)) (Err (Truncated at)) p.1) [
+    | inl z ↦ absurd (not_both z.1)
+    | inr q ↦ absurd (not_cut q.1)
   ]
+  | inr q ↦ inr (b, big q.0, ap (λ (l : List ℕ). b ∷ l) (third_cut at (low + 128 * (b - 128)) rest q.1))
+]
   where
     big : nat_lt b 128 ≡ false → 128 ≤ b
     big e = grind (arith, nat_tests)
@@ -237,16 +237,16 @@ truncated_is_cut : (total : ℕ) (bytes : List ℕ) → IsBytes bytes → IsCut 
 unfolding compact_at
 truncated_is_cut total [] are h = (0, 0 ∷ [], omega arith, λ e. cc, sym (one_digit 0 (omega arith)))
 truncated_is_cut total (a ∷ rest) are h = elim (chosen (nat_lt a 128) _ _ _ h) [
-    | inl p ↦ absurd (not_cut p.1)
-    | inr q ↦
-        let over : 128 ≤ a = big q.0 in
-        elim (second_cut (place total (a ∷ rest)) (a - 128) rest q.1) [
-          | inl none ↦ subst (λ (l : List ℕ). IsCutLength (a ∷ l)) (sym none) (cut_after_one a over (are 0))
-          | inr (b, also, one) ↦
-              let second : b < 256 = subst (λ (l : List ℕ). get_or l 0 0 < 256) one (are 1) in
-              subst (λ (l : List ℕ). IsCutLength (a ∷ l)) (sym one) (cut_after_two a b over (are 0) also second)
-        ]
-  ]
+  | inl p ↦ absurd (not_cut p.1)
+  | inr q ↦
+      let over : 128 ≤ a = big q.0 in
+      elim (second_cut (place total (a ∷ rest)) (a - 128) rest q.1) [
+        | inl none ↦ subst (λ (l : List ℕ). IsCutLength (a ∷ l)) (sym none) (cut_after_one a over (are 0))
+        | inr (b, also, one) ↦
+            let second : b < 256 = subst (λ (l : List ℕ). get_or l 0 0 < 256) one (are 1) in
+            subst (λ (l : List ℕ). IsCutLength (a ∷ l)) (sym one) (cut_after_two a b over (are 0) also second)
+      ]
+]
   where
     big : nat_lt a 128 ≡ false → 128 ≤ a
     big e = grind (arith, nat_tests)

@@ -3,3 +3,4 @@ pub mod Lengths
 pub mod PartLaws
 pub mod WireLaws
 pub mod SaneLaws
+pub mod LockLaws

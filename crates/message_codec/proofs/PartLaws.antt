@@ -158,7 +158,7 @@ header_takes total bytes header rest are h =
     let a = taken (field_reads Truncated total 3) _ bytes (header, rest) are h in
     let p = ok_parts _ _ _ _ a.goes_on in
     let spelled : bytes ≡ header_bytes (record { required = slice_index a.value 0; readonly_signed = slice_index a.value 1; readonly_unsigned = slice_index a.value 2 }) ++ rest =
-            ends_at (slice_index a.value 0 ∷ slice_index a.value 1 ∷ slice_index a.value 2 ∷ []) (a.spelled ∙ ap (λ (l : List ℕ). l ++ a.rest) (three_bytes a.value a.fits)) p.1 in
+    ends_at (slice_index a.value 0 ∷ slice_index a.value 1 ∷ slice_index a.value 2 ∷ []) (a.spelled ∙ ap (λ (l : List ℕ). l ++ a.rest) (three_bytes a.value a.fits)) p.1 in
     let whole : bytes ≡ header_bytes header ++ rest = subst (λ (v : Header). bytes ≡ header_bytes v ++ rest) p.0 spelled in
     (record { required = byte 0 whole; readonly_signed = byte 1 whole; readonly_unsigned = byte 2 whole }, whole)
   where

@@ -132,9 +132,13 @@ message_takes total bytes message rest are h =
     let p = ok_parts _ _ _ _ e.goes_on in
     let made : Message = record { kind = kind; header = a.value; keys = b.value; blockhash = c.value; instructions = d.value; lookups = e.value } in
     let fits : MessageFits made = record {
-            begins = begins_so kind a.value k.0.1 a.rest first.0 a.spelled;
-            header = a.fits; keys = b.fits; blockhash = c.fits; instructions = d.fits; lookups = e.fits;
-        } in
+      begins = begins_so kind a.value k.0.1 a.rest first.0 a.spelled;
+      header = a.fits;
+      keys = b.fits;
+      blockhash = c.fits;
+      instructions = d.fits;
+      lookups = e.fits;
+    } in
     let to_header = follows (kind_bytes kind) (header_bytes a.value) a.rest first.1 a.spelled in
     let to_keys = follows (kind_bytes kind ++ header_bytes a.value) (array_bytes key_bytes b.value) b.rest to_header b.spelled in
     let to_blockhash = follows (kind_bytes kind ++ header_bytes a.value ++ array_bytes key_bytes b.value) (hash_bytes c.value) c.rest to_keys c.spelled in
@@ -187,8 +191,11 @@ fits_reading tx begins allows short lists widths = record {
     header = record { required = widths.required; readonly_signed = widths.readonly_signed; readonly_unsigned = widths.readonly_unsigned };
     keys = (lists.keys, recursion_from_All IsKey tx.message.keys widths.keys);
     blockhash = widths.blockhash;
-    instructions = (lists.instructions, recursion_from_All InstructionFits tx.message.instructions
-        (λ k d lt. record { program = widths.programs k d lt; accounts = lists.accounts k d lt; input = lists.inputs k d lt }));
+    instructions = (
+      lists.instructions,
+      recursion_from_All InstructionFits tx.message.instructions
+          (λ k d lt. record { program = widths.programs k d lt; accounts = lists.accounts k d lt; input = lists.inputs k d lt }),
+    );
     lookups = lookups_fit tx.message.kind tx.message allows lists widths.tables;
   };
 }
@@ -298,7 +305,13 @@ signed_bytes total bytes signatures signed message rest are first second none =
 
 pub round_trips : RoundTripLaw
 round_trips tx short begins allows signatures lists widths = wire_again (tx_bytes tx) tx (record {
-  short = short; spelled = refl; begins = begins; allows = allows; signatures = signatures; lists = lists; widths = widths;
+  short = short;
+  spelled = refl;
+  begins = begins;
+  allows = allows;
+  signatures = signatures;
+  lists = lists;
+  widths = widths;
 })
 
 pub named : (name : Hash32) (message : Message) (bytes : List ℕ) → name.0 ≡ sha256 bytes → bytes ≡ message_bytes message → name ≡ message_name message

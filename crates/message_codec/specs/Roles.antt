@@ -55,9 +55,12 @@ may_write message loaded i key =
 abbrev pub writes : Message → Loaded → ℕ → Bool
 writes message loaded i = option_map_or (may_write message loaded i) (slice_get (all_keys message loaded) i) false
 
+abbrev pub lock_at : Message → Loaded → ℕ × Key → Lock
+lock_at message loaded (i, key) = record { key = key; write = may_write message loaded i key }
+
 -- each key with what it may
 abbrev pub locks_of : Message → Loaded → List Lock
-locks_of message loaded = map (λ place. record { key = place.1; write = may_write message loaded place.0 place.1 }) (enumerate_from 0 (all_keys message loaded))
+locks_of message loaded = map (lock_at message loaded) (enumerate_from 0 (all_keys message loaded))
 
 -- how many keys a lookup loads, and how many the message has
 abbrev pub load_count : Lookup → ℕ

@@ -116,8 +116,8 @@ tx_at total bytes = do
 unfoldable pub wire_of : List ℕ → Result Tx WireFault
 wire_of bytes =
     if nat_lt 1232 (length bytes) then Err TooLong else do
-    tx ← tx_at (length bytes) bytes
-    whole Trailing (length bytes) tx
+      tx ← tx_at (length bytes) bytes
+      whole Trailing (length bytes) tx
 
 -- Which answer comes of a compact length: the value where the bytes begin with its spelling, cut short where they
 -- are a proper prefix of some spelling, and else a bad length.

@@ -39,7 +39,10 @@ fn third_digit(at: usize, low: usize, bytes: &[u8]) -> Result<(usize, &[u8]), Wi
 {
     match bytes {
         [] => Err(WireFault::Truncated { at }),
-        [third, rest @ ..] if 1 <= *third && *third <= 3 => Ok((low + 16384 * usize::from(*third), rest)),
+        [third, rest @ ..] if 1 <= *third && *third <= 3 => Ok((
+            low + 16384 * usize::from(*third),
+            rest,
+        )),
         _ => Err(WireFault::BadLength { at }),
     }
 }

@@ -5,12 +5,10 @@ ghost use Rattle.message_codec.specs.WireReading.{LengthLaw, RoundTripLaw};
 /// some length, and bad exactly where they neither begin with a spelling nor are such a prefix.
 pub fn length_law()
     ensures { LengthLaw }
-{
-}
+{}
 
 /// What is written is read again: `read_wire(write_wire(tx)) = tx` where the bytes are at most 1,232
 /// and, for a Legacy message, the first header byte is below 128 and there are no lookups.
 pub fn round_trip_law()
     ensures { RoundTripLaw }
-{
-}
+{}

@@ -19,6 +19,6 @@ pub use laws::{length_law, round_trip_law};
 pub use message::{Header, Instruction, Loaded, Lookup, Message, MessageKind, Signature, Tx};
 pub use parsed::{Parsed, parse};
 pub use reading::{MAX_WIRE_LEN, read_wire};
-pub use roles::{is_signer, is_writable, keys_of, reserved};
+pub use roles::{is_signer, is_writable, keys_of, locks, reserved};
 pub use sanity::sanitize;
 pub use writing::{message_key, write_wire};

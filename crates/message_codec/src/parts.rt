@@ -21,11 +21,7 @@ impl Item for Signature {
     ghost CanSpell = { λ _. Unit {0} };
 
     #[tactic(auto, unfolding(spec_base::specs::Reading::mapped))]
-    fn read(
-        _alloc: Global,
-        total: usize,
-        bytes: &[u8],
-    ) -> Result<(Signature, &[u8]), WireFault> {
+    fn read(_alloc: Global, total: usize, bytes: &[u8]) -> Result<(Signature, &[u8]), WireFault> {
         let (field, rest) = array_field::<WireFault, 64>(total, bytes)?;
         Ok((Signature(field), rest))
     }
@@ -65,11 +61,7 @@ impl Item for Instruction {
     ghost CanSpell = { λ instruction. IsShort instruction.accounts × IsShort instruction.input };
 
     #[tactic(auto, unfolding(crate::specs::WireReading::instruction_at))]
-    fn read(
-        alloc: Global,
-        total: usize,
-        bytes: &[u8],
-    ) -> Result<(Instruction, &[u8]), WireFault> {
+    fn read(alloc: Global, total: usize, bytes: &[u8]) -> Result<(Instruction, &[u8]), WireFault> {
         let (program, rest) = byte_field::<WireFault>(total, bytes)?;
         let (accounts, rest) = read_blob(alloc, total, rest)?;
         let (input, rest) = read_blob(alloc, total, rest)?;

@@ -55,11 +55,7 @@ fn read_lookups(
 }
 
 #[tactic(auto, unfolding(crate::specs::WireReading::message_at))]
-fn read_message(
-    alloc: Global,
-    total: usize,
-    bytes: &[u8],
-) -> Result<(Message, &[u8]), WireFault>
+fn read_message(alloc: Global, total: usize, bytes: &[u8]) -> Result<(Message, &[u8]), WireFault>
     ensures { Gives is_memory (λ x. (x.0, x.1.now)) result (message_at total bytes.now) }
 {
     let (kind, rest) = read_kind(total, bytes)?;

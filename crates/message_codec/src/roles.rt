@@ -1,10 +1,12 @@
-ghost use Rattle.std.specs.Prelude.{◌≡◌, ◌↔◌, length, IsTrue, Contains, IfOk, slice_get, ◌||◌, ◌<◌};
+ghost use Rattle.std.specs.Prelude.{◌≡◌, ◌↔◌, ◌+◌, ◌^◌, ◌++◌, ℕ, false, length, map, IsTrue, Contains, IfOk, OnOk, slice_get, ◌||◌, ◌<◌};
+ghost use Rattle.std.specs.List.{slice_index_or, enumerate_from};
 ghost use Rattle.std.specs.Option.{option_copied};
-ghost use Rattle.message_codec.specs.Roles.{is_reserved, reserved_keys, all_keys, signs, is_program, is_writable_static, is_writable_loaded, writes};
+ghost use Rattle.message_codec.specs.Roles.{is_reserved, reserved_keys, all_keys, signs, is_program, is_writable_static, is_writable_loaded, writes, lock_at, locks_of};
 
 use crate::message::{Header, Instruction, Loaded, Message};
 use sol_base::{
-    CLOCK_SYSVAR, COMPUTE_BUDGET_PROGRAM, Items, Key, OutOfMemory, RENT_SYSVAR, SYSTEM_PROGRAM,
+    CLOCK_SYSVAR, COMPUTE_BUDGET_PROGRAM, Items, Key, Lock, LockList, OutOfMemory, RENT_SYSVAR,
+    SYSTEM_PROGRAM,
 };
 use std::alloc::Global;
 
@@ -91,11 +93,7 @@ fn names_program(instructions: &[Instruction], index: u8) -> bool
 }
 
 /// All keys of the message: the static keys, the loaded keys to write and the loaded keys to read.
-pub fn keys_of(
-    alloc: Global,
-    message: &Message,
-    loaded: &Loaded,
-) -> Result<Items<Key>, OutOfMemory>
+pub fn keys_of(alloc: Global, message: &Message, loaded: &Loaded) -> Result<Items<Key>, OutOfMemory>
     ensures { IfOk result (λ keys. keys ≡ all_keys message.now loaded.now) }
 {
     let mut keys = Vec::with_capacity(alloc, all_count(message, loaded))?;
@@ -112,4 +110,91 @@ fn all_count(message: &Message, loaded: &Loaded) -> usize {
         .len()
         .saturating_add(loaded.writable.len())
         .saturating_add(loaded.readonly.len())
+}
+
+/// How many places a byte can name.
+const BYTE_PLACES: usize = 256;
+
+/// The locks of the message: each key in order, with write where it is writable. The program keys
+/// are marked once.
+pub fn locks(alloc: Global, message: &Message, loaded: &Loaded) -> Result<LockList, OutOfMemory>
+    ensures { IfOk result (λ locks. locks ≡ locks_of message.now loaded.now) }
+{
+    let programs = program_marks(message.instructions.as_slice());
+    let keys = message.keys.as_slice();
+    let writable = loaded.writable.as_slice();
+    let readonly = loaded.readonly.as_slice();
+    let first_loaded = keys.len();
+    let first_readonly = first_loaded + writable.len();
+    let mut locks = Items::with_capacity(alloc, first_readonly + readonly.len())?;
+    push_locks(&mut locks, message, loaded, &programs, keys, 0)?;
+    push_locks(
+        &mut locks,
+        message,
+        loaded,
+        &programs,
+        writable,
+        first_loaded,
+    )?;
+    push_locks(
+        &mut locks,
+        message,
+        loaded,
+        &programs,
+        readonly,
+        first_readonly,
+    )?;
+    Ok(locks)
+}
+
+/// Adds the locks of keys that stand one after the other, the first at place `first`.
+fn push_locks(
+    locks: &mut LockList,
+    message: &Message,
+    loaded: &Loaded,
+    programs: &[bool; BYTE_PLACES],
+    keys: &[Key],
+    first: usize,
+) -> Result<(), OutOfMemory>
+    requires room { first + length keys.now < 2 ^ 64 }
+    requires marked { (i : ℕ) → slice_index_or programs.now i false ≡ is_program message.now.instructions i }
+    ensures { OnOk result (locks.new ≡ locks.old ++ map (lock_at message.now loaded.now) (enumerate_from first keys.now)) }
+{
+    for (offset, key) in keys.iter().enumerate() {
+        locks.push(lock_of(message, loaded, programs, first + offset, key))?;
+    }
+    Ok(())
+}
+
+fn lock_of(
+    message: &Message,
+    loaded: &Loaded,
+    programs: &[bool; BYTE_PLACES],
+    place: usize,
+    key: &Key,
+) -> Lock
+    requires { (i : ℕ) → slice_index_or programs.now i false ≡ is_program message.now.instructions i }
+    ensures { result ≡ lock_at message.now loaded.now (place, key.now) }
+{
+    let write = has_writable_place(message, loaded, place)
+        && !is_marked(programs, place)
+        && !reserved(key);
+    Lock { key: *key, write }
+}
+
+/// The places that an instruction names as its program.
+fn program_marks(instructions: &[Instruction]) -> [bool; BYTE_PLACES]
+    ensures { (i : ℕ) → slice_index_or result i false ≡ is_program instructions.now i }
+{
+    let mut marks = [false; BYTE_PLACES];
+    for instruction in instructions {
+        marks[usize::from(instruction.program)] = true;
+    }
+    marks
+}
+
+fn is_marked(marks: &[bool; BYTE_PLACES], place: usize) -> bool
+    ensures { result ≡ slice_index_or marks.now place false }
+{
+    place < BYTE_PLACES && marks[place]
 }

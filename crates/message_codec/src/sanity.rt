@@ -86,17 +86,14 @@ fn key_count(message: &Message) -> usize
 fn has_wrong_program(instructions: &[Instruction], keys: usize) -> bool
     ensures { result ≡ has_bad_program instructions.now keys }
 {
-    instructions
-        .iter()
-        .any(|instruction| instruction.program == 0 || usize::from(instruction.program) >= keys)
+    instructions.iter().any(|instruction| instruction.program == 0
+        || usize::from(instruction.program) >= keys)
 }
 
 fn has_wrong_account(instructions: &[Instruction], keys: usize) -> bool
     ensures { result ≡ has_bad_account instructions.now keys }
 {
-    instructions
-        .iter()
-        .any(|instruction| has_index_from(instruction.accounts.as_slice(), keys))
+    instructions.iter().any(|instruction| has_index_from(instruction.accounts.as_slice(), keys))
 }
 
 fn has_index_from(indexes: &[u8], keys: usize) -> bool

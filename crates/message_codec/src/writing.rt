@@ -33,7 +33,11 @@ fn write_opening(out: &mut Blob, message: &Message) -> Result<(), OutOfMemory>
     if message.kind == MessageKind::Zero {
         out.append(&[VERSION_ZERO])?;
     }
-    out.append(&[header.required, header.readonly_signed, header.readonly_unsigned])
+    out.append(&[
+        header.required,
+        header.readonly_signed,
+        header.readonly_unsigned,
+    ])
 }
 
 fn write_message(out: &mut Blob, message: &Message) -> Result<(), OutOfMemory>
