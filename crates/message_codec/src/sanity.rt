@@ -1,4 +1,4 @@
-ghost use Rattle.std.specs.Prelude.{◌≡◌, ◌+◌, ◌≤◌, length, nat_le, OnOk};
+ghost use Rattle.std.specs.Prelude.{◌≡◌, ◌+◌, ◌≤◌, length, nat_le, IsOk, ◌↔◌};
 ghost use Rattle.std.specs.List.{list_any};
 ghost use Rattle.message_codec.specs.Wire.{HasShortLists};
 ghost use Rattle.message_codec.specs.Roles.{sanitized, IsSane, key_count_of, load_count, has_bad_program, has_bad_account, has_repeated, has_reserved_payer, empty_lookup, loads_none, lookups_sanitized};
@@ -15,7 +15,7 @@ use sol_base::Key;
 pub fn sanitize(tx: &Tx, most: u16) -> Result<(), SanitizeFault>
     requires { HasShortLists tx.now.message }
     ensures exact { result ≡ sanitized tx.now most }
-    ensures sane { OnOk result (IsSane tx.now most) }
+    ensures sane { IsOk result ↔ IsSane tx.now most }
 {
     first_fault(tx, most)
 }
