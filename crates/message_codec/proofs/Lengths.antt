@@ -1,6 +1,6 @@
 -- Compact lengths: what is spelled is read again, what is read is spelled so, and which refusal comes where.
 use Rattle.std.proofs.Common.{get_or, ◌≡◌, ◌≢◌, ◌<◌, ◌≤◌, ◌+◌, ◌-◌, ◌*◌, ◌/◌, ◌%◌, ℕ, suc, List, [], ◌∷◌, ◌++◌, Result, Ok, Err, Bool, true, false, ◌||◌, ◌⊎◌, inl, inr, refl, sym, ap, subst, ◌∙◌, nat_lt, cond, arith}
-use Rattle.std.specs.Prelude.{nat_eq}
+use Rattle.std.specs.Prelude.{nat_eq, ◌↔◌}
 use Rattle.std.proofs.lemmas.Bool.Decides.{nat_tests}
 use Rattle.spec_base.specs.Bytes.{IsBytes}
 use Rattle.spec_base.specs.Reading.{place}
@@ -8,7 +8,7 @@ use Rattle.spec_base.proofs.Binding.{chosen, ok_parts}
 use Rattle.spec_base.proofs.Formats.{Reads}
 use Rattle.message_codec.specs.declared.fault.WireFault.{WireFault}
 use Rattle.message_codec.specs.declared.fault.WireFault.TheVariants.{Truncated, BadLength}
-use Rattle.message_codec.specs.Compact.{compact, BeginsWithLength, IsCutLength}
+use Rattle.message_codec.specs.Compact.{compact, digits_value, AreLaterDigits, AreDigits, CompactLaw, BeginsWithLength, IsCutLength}
 use Rattle.message_codec.specs.WireReading.{Read, AnswersLength, LengthLaw, compact_at, second_at, third_at}
 
 pub one_digit : (v : ℕ) → v < 128 → compact v ≡ v ∷ []
@@ -31,6 +31,66 @@ digits v = go (nat_lt v 128) (nat_lt v 16384) refl refl
     go true t e f = inl (grind (arith, nat_tests))
     go false true e f = inr (inl (grind (arith, nat_tests), grind (arith, nat_tests)))
     go false false e f = inr (inr (grind (arith, nat_tests)))
+
+-- the digits of a number
+
+are_digits : (v : ℕ) → v ≤ 65535 → AreDigits (compact v) × (digits_value (compact v) ≡ v)
+are_digits v le = elim (digits v) [
+    | inl small ↦ rw (one_digit v small) (small, omega arith)
+    | inr (inl two) ↦ rw (two_digits v two.0 two.1) ((omega arith, omega arith, (omega arith, omega arith)), of_two v two.0 two.1)
+    | inr (inr three) ↦ rw (three_digits v three) ((omega arith, omega arith, (omega arith, omega arith, (omega arith, omega arith))), of_three v three le)
+  ]
+  where
+    of_two : (v : ℕ) → 128 ≤ v → v < 16384 → digits_value ((v % 128 + 128) ∷ (v / 128) ∷ []) ≡ v
+    of_two v g h =
+        let a : (v % 128 + 128) % 128 ≡ v % 128 = omega arith in
+        let b : v / 128 % 128 ≡ v / 128 = omega arith in
+        omega (arith, a, b)
+
+    of_three : (v : ℕ) → 16384 ≤ v → v ≤ 65535 → digits_value ((v % 128 + 128) ∷ (v / 128 % 128 + 128) ∷ (v / 16384) ∷ []) ≡ v
+    of_three v g h =
+        let a : (v % 128 + 128) % 128 ≡ v % 128 = omega arith in
+        let b : (v / 128 % 128 + 128) % 128 ≡ v / 128 % 128 = omega arith in
+        let c : v / 16384 % 128 ≡ v / 16384 = omega arith in
+        omega (arith, a, b, c)
+
+-- the last of later digits counts
+later_value : (bytes : List ℕ) → AreLaterDigits bytes → 1 ≤ digits_value bytes
+later_value [] h = absurd h
+later_value (a ∷ []) h = let above = h.0 in let below = h.1 in omega arith
+later_value (a ∷ b ∷ bs) h = let later : 1 ≤ digits_value (b ∷ bs) = later_value (b ∷ bs) h.2 in omega arith
+
+from_digits : (v : ℕ) (bytes : List ℕ) → v ≤ 65535 → AreDigits bytes → digits_value bytes ≡ v → bytes ≡ compact v
+from_digits v [] le h e = absurd h
+from_digits v (a ∷ []) le h e =
+    let small : v < 128 = omega arith in
+    let same : a ≡ v = omega arith in
+    rw (one_digit v small, same) refl
+from_digits v (a ∷ b ∷ []) le h e =
+    let first = h.0 in
+    let byte = h.1 in
+    let second = h.2.0 in
+    let below = h.2.1 in
+    let m : v % 128 + 128 ≡ a = omega arith in
+    let d : v / 128 ≡ b = omega arith in
+    sym (two_digits v (omega arith) (omega arith) ∙ rw (m, d) refl)
+from_digits v (a ∷ b ∷ c ∷ []) le h e =
+    let first = h.0 in
+    let byte = h.1 in
+    let second = h.2.0 in
+    let also = h.2.1 in
+    let third = h.2.2.0 in
+    let below = h.2.2.1 in
+    let m : v % 128 + 128 ≡ a = omega arith in
+    let d : v / 128 % 128 + 128 ≡ b = omega arith in
+    let t : v / 16384 ≡ c = omega arith in
+    sym (three_digits v (omega arith) ∙ rw (m, d, t) refl)
+from_digits v (a ∷ b ∷ c ∷ d ∷ ds) le h e =
+    let later : 1 ≤ digits_value (d ∷ ds) = later_value (d ∷ ds) h.2.2.2 in
+    absurd (omega arith)
+
+pub one_spelling : CompactLaw
+one_spelling v bytes le = (λ e. subst (λ (l : List ℕ). AreDigits l × (digits_value l ≡ v)) (sym e) (are_digits v le), λ h. from_digits v bytes le h.0 h.1)
 
 again : (total v : ℕ) (rest : List ℕ) → v ≤ 65535 → compact_at total (compact v ++ rest) ≡ Ok (v, rest)
 unfolding compact_at

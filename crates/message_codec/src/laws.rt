@@ -1,5 +1,13 @@
 //! Laws over the definitions that the contracts of this crate cite. Their calls do nothing.
+ghost use Rattle.message_codec.specs.Compact.{CompactLaw};
 ghost use Rattle.message_codec.specs.WireReading.{LengthLaw, RoundTripLaw};
+
+/// The spelling of a compact length is the one list of its 7-bit digits: low digit first, 128 added to
+/// each but the last, and the last not 0 unless it stands alone.
+pub fn compact_law()
+    ensures { CompactLaw }
+{
+}
 
 /// A compact length is cut short exactly where the bytes left are a proper prefix of the spelling of
 /// some length, and bad exactly where they neither begin with a spelling nor are such a prefix.

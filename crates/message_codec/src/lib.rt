@@ -15,7 +15,7 @@ mod sanity;
 mod writing;
 
 pub use fault::{SanitizeFault, WireFault};
-pub use laws::{length_law, round_trip_law};
+pub use laws::{compact_law, length_law, round_trip_law};
 pub use message::{Header, Instruction, Loaded, Lookup, Message, MessageKind, Signature, Tx};
 pub use parsed::{Parsed, parse};
 pub use reading::{MAX_WIRE_LEN, read_wire};
