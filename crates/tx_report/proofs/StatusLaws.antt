@@ -1,17 +1,19 @@
 -- A status and its bytes belong together.
 use Rattle.std.proofs.Common.{◌≡◌, ◌<◌, ◌+◌, ◌-◌, ◌^◌, ℕ, zero, suc, get_or, Bool, true, false, ◌&&◌, ◌⊎◌, inl, inr, List, [], ◌∷◌, ◌++◌, length, take, drop, Option, Some, None, cond, refl, ap, subst, lit<, ◌∙◌, sym, arith}
-use Rattle.std.specs.Prelude.{nat_eq, slice_index, option_map}
+use Rattle.std.specs.Prelude.{nat_eq, slice_index, option_map, ok_or, Result, Ok}
 use Rattle.std.specs.Int.{w16, w32, to_le_bytes, from_le_bytes}
 use Rattle.std.proofs.lemmas.Bool.{eqb-true}
 use Rattle.std.proofs.lemmas.Nat.{from_le_bytes-to_le_bytes_2, from_le_bytes-to_le_bytes_4, le_bytes_2, le_bytes_4}
 use Rattle.spec_base.specs.Bytes.{IsBytes}
-use Rattle.spec_base.proofs.Binding.{chosen}
+use Rattle.spec_base.specs.Reading.{◌>>=◌, place, field_at}
+use Rattle.spec_base.proofs.Binding.{chosen, bind_ok, ok_parts, before_bytes}
+use Rattle.spec_base.proofs.Formats.{Reads, taken, field_reads}
 use Rattle.tx_report.specs.declared.cause.Cause.{Cause}
 use Rattle.tx_report.specs.declared.cause.DropCause.{DropCause}
 use Rattle.tx_report.specs.declared.status.Status.{Status}
 use Rattle.tx_report.specs.declared.status.Status.TheVariants.{Good, Failed, Dropped}
 use Rattle.tx_report.specs.Causes.{code_of, cause_with, drop_code_of, drop_cause_with}
-use Rattle.tx_report.specs.Statuses.{part_bytes, status_bytes_of, IsStatus, status_with, status_from}
+use Rattle.tx_report.specs.Statuses.{part_bytes, status_bytes_of, IsStatus, status_with, status_from, status_at}
 use Rattle.tx_report.proofs.CauseLaws.{code_of-fits, drop_code_of-fits, cause_with-code_of, drop_cause_with-code_of, both_parts, code_of-cause_with, drop_code_of-drop_cause_with}
 
 -- the parts that stand in the eight bytes
@@ -43,12 +45,12 @@ found_parts kind index code detail status h index_fits detail_fits =
     elim (chosen (nat_eq kind 0 && nat_eq index 0 && nat_eq code 0 && nat_eq detail 0) (Some Good) _ (Some status) h) [
       | inl p ↦ good p.0 p.1
       | inr p ↦ elim (chosen (nat_eq kind 1) (option_map (λ (c : Cause). Failed index c detail) (cause_with code)) _ (Some status) p.1) [
-          | inl q ↦ failed q.0 (mapped_some (λ (c : Cause). Failed index c detail) (cause_with code) status q.1)
-          | inr q ↦ elim (chosen (nat_eq kind 2 && nat_eq index 0 && nat_eq detail 0) (option_map (λ (c : DropCause). Dropped c) (drop_cause_with code)) None (Some status) q.1) [
-              | inl r ↦ dropped r.0 (mapped_some (λ (c : DropCause). Dropped c) (drop_cause_with code) status r.1)
-              | inr r ↦ absurd (let e : (let o : Option Status = None in o) ≡ Some status = r.1 in cc)
-            ]
+        | inl q ↦ failed q.0 (mapped_some (λ (c : Cause). Failed index c detail) (cause_with code) status q.1)
+        | inr q ↦ elim (chosen (nat_eq kind 2 && nat_eq index 0 && nat_eq detail 0) (option_map (λ (c : DropCause). Dropped c) (drop_cause_with code)) None (Some status) q.1) [
+          | inl r ↦ dropped r.0 (mapped_some (λ (c : DropCause). Dropped c) (drop_cause_with code) status r.1)
+          | inr r ↦ absurd (let e : (let o : Option Status = None in o) ≡ Some status = r.1 in cc)
         ]
+      ]
     ]
   where
     Claim : Status → Type 0
@@ -104,3 +106,31 @@ pub status_bytes_of-status_from : (bytes : List ℕ) (status : Status) → lengt
 status_bytes_of-status_from bytes status long are h =
     let p = found_parts (slice_index bytes 0) (slice_index bytes 1) (from_le_bytes w16 (take 2 (drop 2 bytes))) (from_le_bytes w32 (take 4 (drop 4 bytes))) status h (are 1) (detail_below bytes long are) in
     (p.0, sym p.1 ∙ eight bytes long are)
+
+length-status_bytes_of : (status : Status) → length (status_bytes_of status) ≡ 8
+length-status_bytes_of Good = refl
+length-status_bytes_of (Failed index cause detail) = refl
+length-status_bytes_of (Dropped cause) = refl
+
+named : {X E : Type 0} (o : Option X) (e : E) (x : X) → ok_or o e ≡ Ok x → o ≡ Some x
+named (Some y) e x h = cc
+named None e x h = absurd (cc)
+
+status_again : {E : Type 0} (truncated refused : ℕ → E) (total : ℕ) (status : Status) (rest : List ℕ) → IsStatus status → status_at truncated refused total (status_bytes_of status ++ rest) ≡ Ok (status, rest)
+unfolding status_at
+status_again truncated refused total status rest fits =
+    let field = (field_reads truncated total 8).again (status_bytes_of status) rest (length-status_bytes_of status) in
+    rw (field, status_from-status_bytes_of status fits) refl
+
+status_takes : {E : Type 0} (truncated refused : ℕ → E) (total : ℕ) (bytes : List ℕ) (status : Status) (rest : List ℕ) → IsBytes bytes → status_at truncated refused total bytes ≡ Ok (status, rest) → IsStatus status × (bytes ≡ status_bytes_of status ++ rest)
+unfolding status_at
+status_takes truncated refused total bytes status rest are h =
+    let t = taken (field_reads truncated total 8) _ bytes (status, rest) are h in
+    let n = bind_ok (ok_or (status_from t.value) (refused (place total bytes))) _ (status, rest) t.goes_on in
+    let p = ok_parts _ _ _ _ n.2 in
+    let f = status_bytes_of-status_from t.value n.0 t.fits (before_bytes t.value t.rest (subst IsBytes t.spelled are)) (named _ _ n.0 n.1) in
+    (subst IsStatus p.0 f.0, t.spelled ∙ ap (λ (front : List ℕ). front ++ t.rest) (sym f.1 ∙ ap status_bytes_of p.0) ∙ ap (λ (after : List ℕ). status_bytes_of status ++ after) p.1)
+
+-- statuses as a field of a format
+pub status_reads : {E : Type 0} (truncated refused : ℕ → E) (total : ℕ) → Reads (status_at truncated refused total) status_bytes_of IsStatus
+status_reads truncated refused total = record { again = status_again truncated refused total; takes = status_takes truncated refused total }

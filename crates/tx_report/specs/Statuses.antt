@@ -1,5 +1,5 @@
 -- How a transaction ended: as eight bytes of a record, and as a text (the project's own).
-use Rattle.std.specs.Prelude.{ℕ, ◌<◌, ◌^◌, List, [], ◌∷◌, ◌++◌, codes, decimal, take, drop, slice_index, nat_eq, ◌&&◌, if◌then◌else◌, Option, Some, None, option_map, Result, Ok, Err}
+use Rattle.std.specs.Prelude.{ℕ, ◌<◌, ◌^◌, List, [], ◌∷◌, ◌++◌, codes, decimal, take, drop, slice_index, nat_eq, ◌&&◌, if◌then◌else◌, Option, Some, None, option_map, ok_or, Result, Ok}
 use Rattle.std.specs.Int.{w16, w32, to_le_bytes, from_le_bytes}
 use Rattle.spec_base.specs.Reading.{◌>>=◌, place, field_at}
 use Rattle.tx_report.specs.declared.cause.Cause.{Cause}
@@ -34,6 +34,13 @@ status_with kind index code detail =
 -- the status of eight bytes
 abbrev pub status_from : List ℕ → Option Status
 status_from bytes = status_with (slice_index bytes 0) (slice_index bytes 1) (from_le_bytes w16 (take 2 (drop 2 bytes))) (from_le_bytes w32 (take 4 (drop 4 bytes)))
+
+-- a field that is a status, refused at its own place where no status has these bytes
+unfoldable pub status_at : {E : Type 0} → (ℕ → E) → (ℕ → E) → ℕ → List ℕ → Result (Status × List ℕ) E
+status_at truncated refused total bytes = do
+  field ← field_at truncated total 8 bytes
+  status ← ok_or (status_from field.0) (refused (place total bytes))
+  Ok (status, field.1)
 
 -- a cause shows its detail only where it is the program's own error
 abbrev pub cause_text_of : Cause → ℕ → List ℕ

@@ -107,10 +107,56 @@ pub enum DropCause {
 }
 
 /// All causes, in the order of their codes.
-const CAUSES: [Cause; 40] = [Cause::Custom, Cause::InvalidInstruction, Cause::MissingSignature, Cause::NotEnoughAccounts, Cause::InvalidArgument, Cause::UnknownProgram, Cause::BadImage, Cause::Unverified, Cause::UnitsSpent, Cause::DivideByZero, Cause::AccessViolation, Cause::CallDepth, Cause::BadCallTarget, Cause::Abort, Cause::Overlap, Cause::TooManySeeds, Cause::ReturnTooLong, Cause::BadText, Cause::TooManySlices, Cause::InvalidError, Cause::ReadonlyChanged, Cause::ExecutableChanged, Cause::ForeignDebit, Cause::ForeignData, Cause::OwnerChange, Cause::TooLarge, Cause::Unbalanced, Cause::LengthTooLarge, Cause::TooManyAccounts, Cause::DataTooLong, Cause::TooManySigners, Cause::BadSeeds, Cause::BadFlag, Cause::MissingAccount, Cause::PrivilegeEscalation, Cause::Reentrancy, Cause::StackHeight, Cause::TraceTooLong, Cause::RentState, Cause::LoadedDataTooLarge];
+const CAUSES: [Cause; 40] = [
+    Cause::Custom,
+    Cause::InvalidInstruction,
+    Cause::MissingSignature,
+    Cause::NotEnoughAccounts,
+    Cause::InvalidArgument,
+    Cause::UnknownProgram,
+    Cause::BadImage,
+    Cause::Unverified,
+    Cause::UnitsSpent,
+    Cause::DivideByZero,
+    Cause::AccessViolation,
+    Cause::CallDepth,
+    Cause::BadCallTarget,
+    Cause::Abort,
+    Cause::Overlap,
+    Cause::TooManySeeds,
+    Cause::ReturnTooLong,
+    Cause::BadText,
+    Cause::TooManySlices,
+    Cause::InvalidError,
+    Cause::ReadonlyChanged,
+    Cause::ExecutableChanged,
+    Cause::ForeignDebit,
+    Cause::ForeignData,
+    Cause::OwnerChange,
+    Cause::TooLarge,
+    Cause::Unbalanced,
+    Cause::LengthTooLarge,
+    Cause::TooManyAccounts,
+    Cause::DataTooLong,
+    Cause::TooManySigners,
+    Cause::BadSeeds,
+    Cause::BadFlag,
+    Cause::MissingAccount,
+    Cause::PrivilegeEscalation,
+    Cause::Reentrancy,
+    Cause::StackHeight,
+    Cause::TraceTooLong,
+    Cause::RentState,
+    Cause::LoadedDataTooLarge,
+];
 
 /// All causes of dropped transactions, in the order of their codes.
-const DROP_CAUSES: [DropCause; 4] = [DropCause::PayerAbsent, DropCause::PayerNotSystem, DropCause::CannotPayFee, DropCause::PayerRent];
+const DROP_CAUSES: [DropCause; 4] = [
+    DropCause::PayerAbsent,
+    DropCause::PayerNotSystem,
+    DropCause::CannotPayFee,
+    DropCause::PayerRent,
+];
 
 impl Cause {
     /// The number that a status has for the cause.

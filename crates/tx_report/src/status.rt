@@ -20,9 +20,15 @@ pub enum Status {
     Good,
     /// The instruction of this index failed, or for 255 the transaction as a whole. The fee is paid
     /// and nothing else changed.
-    Failed { index: u8, cause: Cause, detail: u32 },
+    Failed {
+        index: u8,
+        cause: Cause,
+        detail: u32,
+    },
     /// No fee is paid and nothing changed.
-    Dropped { cause: DropCause },
+    Dropped {
+        cause: DropCause,
+    },
 }
 
 /// The status as a record has it: kind (1 byte), index (1 byte), code (2 bytes) and detail (4
@@ -32,7 +38,11 @@ pub fn status_bytes(status: &Status) -> [u8; 8]
 {
     match *status {
         Status::Good => [0; 8],
-        Status::Failed { index, cause, detail } => bytes_of_parts(1, index, cause.code(), detail),
+        Status::Failed {
+            index,
+            cause,
+            detail,
+        } => bytes_of_parts(1, index, cause.code(), detail),
         Status::Dropped { cause } => bytes_of_parts(2, 0, cause.code(), 0),
     }
 }
@@ -42,15 +52,19 @@ pub fn status_of(bytes: [u8; 8]) -> Option<Status>
     ensures { result ≡ status_from bytes }
 {
     let [kind, index, c, d, w, x, y, z] = bytes;
-    status_of_parts(kind, index, u16::from_le_bytes([c, d]), u32::from_le_bytes([w, x, y, z]))
+    status_of_parts(
+        kind,
+        index,
+        u16::from_le_bytes([c, d]),
+        u32::from_le_bytes([w, x, y, z]),
+    )
 }
 
 /// A law: each status is read from its bytes again, and what is read has these bytes.
 pub fn statuses_are_their_bytes()
     ensures again { (status : StatusValue) → IsStatus status → status_from (status_bytes_of status) ≡ Some status }
     ensures found { (bytes : List ℕ) (status : StatusValue) → length bytes ≡ 8 → IsBytes bytes → status_from bytes ≡ Some status → IsStatus status × (status_bytes_of status ≡ bytes) }
-{
-}
+{}
 
 fn bytes_of_parts(kind: u8, index: u8, code: u16, detail: u32) -> [u8; 8]
     ensures { result ≡ part_bytes kind index code detail }
@@ -65,8 +79,14 @@ fn status_of_parts(kind: u8, index: u8, code: u16, detail: u32) -> Option<Status
 {
     match kind {
         0 if index == 0 && code == 0 && detail == 0 => Some(Status::Good),
-        1 => Some(Status::Failed { index, cause: Cause::with_code(code)?, detail }),
-        2 if index == 0 && detail == 0 => Some(Status::Dropped { cause: DropCause::with_code(code)? }),
+        1 => Some(Status::Failed {
+            index,
+            cause: Cause::with_code(code)?,
+            detail,
+        }),
+        2 if index == 0 && detail == 0 => Some(Status::Dropped {
+            cause: DropCause::with_code(code)?,
+        }),
         _ => None,
     }
 }
