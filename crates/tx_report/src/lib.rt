@@ -5,6 +5,8 @@ mod cause;
 mod logs;
 mod outcome;
 mod status;
+#[cfg(test)]
+mod tests;
 mod text;
 
 pub use cause::{Cause, DropCause};
