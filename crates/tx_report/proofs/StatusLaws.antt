@@ -1,11 +1,11 @@
 -- A status and its bytes belong together.
-use Rattle.std.proofs.Common.{◌≡◌, ◌<◌, ◌+◌, ◌-◌, ◌^◌, ℕ, zero, suc, get_or, Bool, true, false, ◌&&◌, ◌⊎◌, inl, inr, List, [], ◌∷◌, ◌++◌, length, take, drop, Option, Some, None, cond, refl, ap, subst, lit<, ◌∙◌, sym, arith}
-use Rattle.std.specs.Prelude.{nat_eq, slice_index, option_map, ok_or, Result, Ok}
+use Rattle.std.proofs.Common.{◌≡◌, ◌<◌, ◌^◌, ℕ, zero, suc, true, ◌&&◌, inl, inr, List, [], ◌∷◌, ◌++◌, length, take, drop, Option, Some, None, refl, ap, subst, lit<, ◌∙◌, sym, arith}
+use Rattle.std.specs.Prelude.{nat_eq, slice_index, option_map, ok_or, Ok}
 use Rattle.std.specs.Int.{w16, w32, to_le_bytes, from_le_bytes}
 use Rattle.std.proofs.lemmas.Bool.{eqb-true}
 use Rattle.std.proofs.lemmas.Nat.{from_le_bytes-to_le_bytes_2, from_le_bytes-to_le_bytes_4, le_bytes_2, le_bytes_4}
 use Rattle.spec_base.specs.Bytes.{IsBytes}
-use Rattle.spec_base.specs.Reading.{◌>>=◌, place, field_at}
+use Rattle.spec_base.specs.Reading.{place}
 use Rattle.spec_base.proofs.Binding.{chosen, bind_ok, ok_parts, before_bytes}
 use Rattle.spec_base.proofs.Formats.{Reads, taken, field_reads}
 use Rattle.tx_report.specs.declared.cause.Cause.{Cause}

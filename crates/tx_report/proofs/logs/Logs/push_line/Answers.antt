@@ -1,4 +1,4 @@
-use Rattle.std.proofs.Common.{◌≡◌, ◌+◌, ◌<◌, ◌++◌, ◌∷◌, [], List, ℕ, length, sum_by, true, sym, ap, ◌∙◌, arith}
+use Rattle.std.proofs.Common.{◌+◌, ◌<◌, ◌++◌, ◌∷◌, [], List, ℕ, length, sum_by, true, sym, ap, ◌∙◌, arith}
 use Rattle.tx_report.specs.LogLines.{Log, with_line}
 use Rattle.tx_report.proofs.LogLaws.{with_line-full}
 use Rattle.tx_report.proofs.logs.Logs.push_line.Goals as goal
