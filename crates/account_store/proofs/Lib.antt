@@ -1,0 +1,4 @@
+pub mod EntryLists
+pub mod StateLaws
+pub mod SharedLaws
+pub mod NextLaws
