@@ -5,7 +5,7 @@ use Rattle.sol_base.specs.declared.key.Key.{Key}
 use Rattle.sol_base.specs.declared.account.Account.{Account}
 use Rattle.sol_base.specs.declared.lock.Lock.{Lock}
 use Rattle.sol_base.specs.Accounts.{empty_account}
-use Rattle.bank_law.specs.declared.outcome.Outcome.{Outcome}
+use Rattle.tx_report.specs.declared.outcome.Outcome.{Outcome}
 
 -- what performing a position gives: its outcome, and one account for each write lock, in their order
 pub record JobEffects : Type 0 where

@@ -3,7 +3,7 @@
 use Rattle.std.specs.Prelude.{ℕ, zero, suc, map, if◌then◌else◌}
 use Rattle.sol_base.specs.declared.key.Key.{Key}
 use Rattle.sol_base.specs.declared.account.Account.{Account}
-use Rattle.bank_law.specs.declared.outcome.Outcome.{Outcome}
+use Rattle.tx_report.specs.declared.outcome.Outcome.{Outcome}
 use Rattle.bank_law.specs.Job.{Job, JobEffects, keys, write_keys, writes, beside}
 
 -- what position i gives where the accounts are these

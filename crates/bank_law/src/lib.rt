@@ -4,11 +4,9 @@
 
 mod event;
 mod laws;
-mod outcome;
 
 pub use event::{Event, EventKind};
 pub use laws::{
     all_done_is_the_end, done_stays_done, every_legal_history_is_sound, histories_are_short,
     lanes_hold_their_own, loans_fit, serial_runs_fit, some_position_is_ready, the_end_is_serial,
 };
-pub use outcome::Outcome;
