@@ -1,7 +1,8 @@
 -- The lamports and the data of a lawful work.
 use Rattle.std.proofs.Common.{◌≡◌, ℕ, zero, suc, ◌+◌, ◌^◌, ◌<◌, ◌≤◌, Bool, true, false, ◌||◌, cond, inl, inr, List, [], ◌∷◌, map, filter, length, All, refl, sym, ◌∙◌, ap, ap₂, subst, arith}
 use Rattle.std.specs.Prelude.{sum_by}
-use Rattle.std.proofs.lemmas.Bool.{both_ways, or_cases, false≢true, cond_both, cond-true, cond-false, false_from_ne_true}
+use Rattle.std.specs.List.{IsDistinct, AllByRecursion}
+use Rattle.std.proofs.lemmas.Bool.{both_ways, or_from, or_cases, false≢true, cond_both, cond-true, cond-false, false_from_ne_true}
 use Rattle.std.proofs.lemmas.List.{length-map}
 use Rattle.std.proofs.lemmas.List.Elements.{All-map, All-head, All-tail}
 use Rattle.std.proofs.lemmas.List.Sums.{sum_by-cons}
@@ -13,10 +14,25 @@ use Rattle.bank_law.specs.Job.{Job, same_key, has_key, keys_of, keys, write_keys
 use Rattle.bank_law.specs.Serial.{serial, performed}
 use Rattle.bank_law.specs.Machine.{is_waiting, Run}
 use Rattle.bank_law.specs.Sound.{Agrees, Sound}
-use Rattle.bank_law.specs.Lawful.{AreApart, IsShort, IsSettled, lamports, lamports_under, lent_for_writing, Fits, IsLawful}
+use Rattle.bank_law.specs.Lawful.{IsShort, IsSettled, lamports, lamports_under, lent_for_writing, Fits, IsLawful}
 use Rattle.bank_law.specs.Laws.{IsStart, SerialRunsFit, LoansFit}
 use Rattle.bank_law.proofs.Keys.{same_key-true, same_key-self, has_key-first, has_key-rest, written_declared}
 use Rattle.bank_law.proofs.Events.{run_sound}
+
+-- no key stands twice
+abbrev AreApart : List Key → Type 0
+AreApart [] = Unit {0}
+AreApart (key ∷ ks) = (has_key key ks ≡ false) × AreApart ks
+
+not_among : (key : Key) (ks : List Key) → AllByRecursion (λ k. same_key key k ≡ false) ks → has_key key ks ≡ false
+not_among key [] a = refl
+not_among key (k ∷ ks) a =
+    or_from (same_key k key) (has_key key ks) (false_from_ne_true _ (λ t. both_ways _ a.0 (subst (λ x. same_key key x ≡ true) (sym (same_key-true k key t)) (same_key-self key)))) (not_among key ks a.1)
+
+apart_if : (ks : List Key) → IsDistinct same_key ks → AreApart ks
+unfolding IsDistinct
+apart_if [] a = tt
+apart_if (k ∷ ks) a = (not_among k ks a.0, apart_if ks a.1)
 
 -- f of each, added up from the front
 total : {X : Type 0} → (X → ℕ) → List X → ℕ
@@ -161,7 +177,7 @@ module _ (job : Job) (start : Key → Account) (ks : List Key) (W : IsLawful job
 
     mine : total (balance accounts) (keys job n) ≤ total (balance start) ks
     mine =
-        let some = total-some ks (balance accounts) (keys job n) S.apart (W.apart n l) (λ key m. S.all n key l m) in
+        let some = total-some ks (balance accounts) (keys job n) (apart_if ks S.distinct) (apart_if (keys job n) (W.distinct n l)) (λ key m. S.all n key l m) in
         let part = total-part (λ key. has_key key (keys job n)) (balance accounts) ks in
         let less = K.supply in
         omega (arith, some, part, less)
@@ -205,10 +221,10 @@ module _ (job : Job) (start : Key → Account) (ks : List Key) (W : IsLawful job
     falls : total (balance (serial job start (suc n))) ks ≤ total (balance accounts) ks
     falls =
         let inside : (key : Key) → has_key key (write_keys job n) ≡ true → has_key key ks ≡ true = λ key m. S.all n key l (written_declared (job.locks n) key m) in
-        let apart = written_apart (job.locks n) (W.apart n l) in
+        let apart = written_apart (job.locks n) (apart_if (keys job n) (W.distinct n l)) in
         let s = swapped ks in
-        let old = total-some ks (balance accounts) (write_keys job n) S.apart apart inside in
-        let new = total-some ks (λ key. (beside key (write_keys job n) given).lamports) (write_keys job n) S.apart apart inside in
+        let old = total-some ks (balance accounts) (write_keys job n) (apart_if ks S.distinct) apart inside in
+        let new = total-some ks (λ key. (beside key (write_keys job n) given).lamports) (write_keys job n) (apart_if ks S.distinct) apart inside in
         let each = total-beside (write_keys job n) given apart (W.one_each n (map accounts (keys job n)) l fits) in
         let bound = written in
         omega (arith, s, old, new, each, bound)

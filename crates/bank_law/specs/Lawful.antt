@@ -1,15 +1,11 @@
 -- What a work promises of its effects, on values that fit.
-use Rattle.std.specs.Prelude.{◌≡◌, ℕ, ◌^◌, ◌<◌, ◌≤◌, false, if◌then◌else◌, List, [], ◌∷◌, length, sum_by, All}
+use Rattle.std.specs.Prelude.{◌≡◌, ℕ, ◌^◌, ◌<◌, ◌≤◌, if◌then◌else◌, List, [], ◌∷◌, length, sum_by, All}
+use Rattle.std.specs.List.{IsDistinct}
 use Rattle.sol_base.specs.declared.key.Key.{Key}
 use Rattle.sol_base.specs.declared.account.Account.{Account}
 use Rattle.sol_base.specs.declared.lock.Lock.{Lock}
 use Rattle.sol_base.specs.Accounts.{empty_account}
-use Rattle.bank_law.specs.Job.{Job, has_key, keys, write_keys}
-
--- no key stands twice
-abbrev pub AreApart : List Key → Type 0
-AreApart [] = Unit {0}
-AreApart (key ∷ ks) = (has_key key ks ≡ false) × AreApart ks
+use Rattle.bank_law.specs.Job.{Job, same_key, keys, write_keys}
 
 -- the account has at most 10,485,760 data bytes (Solana)
 abbrev pub IsShort : Account → Type 0
@@ -42,7 +38,7 @@ pub record Fits (locks : List Lock) (vs : List Account) : Type 0 where
 -- the laws of a work
 pub record IsLawful (job : Job) : Type 0 where
   -- the keys of one position's locks are distinct
-  pub apart : (i : ℕ) → i < job.count → AreApart (keys job i)
+  pub distinct : (i : ℕ) → i < job.count → IsDistinct same_key (keys job i)
   -- one account is written for each write lock
   pub one_each : (i : ℕ) (vs : List Account) → i < job.count → Fits (job.locks i) vs →
       length (job.effects i vs).written ≡ length (write_keys job i)

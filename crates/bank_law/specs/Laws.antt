@@ -1,16 +1,17 @@
 -- What holds of every legal list of events.
 use Rattle.std.specs.Prelude.{◌≡◌, ℕ, ◌+◌, ◌*◌, ◌<◌, ◌≤◌, ◌^◌, Bool, true, false, ◌↔◌, List, [], ◌++◌, length, take, count_by, Some}
+use Rattle.std.specs.List.{IsDistinct}
 use Rattle.sol_base.specs.declared.key.Key.{Key}
 use Rattle.sol_base.specs.declared.account.Account.{Account}
 use Rattle.bank_law.specs.declared.event.Event.{Event}
 use Rattle.bank_law.specs.declared.event.EventKind.{EventKind}
 use Rattle.bank_law.specs.declared.event.EventKind.TheVariants.{Grant, Commit, Return}
-use Rattle.bank_law.specs.Job.{Job, has_key, keys}
+use Rattle.bank_law.specs.Job.{Job, same_key, has_key, keys}
 use Rattle.bank_law.specs.Serial.{serial, result}
 use Rattle.bank_law.specs.Machine.{held, done, State, is_held_by, is_done, Ready, Run, IsLegal}
 use Rattle.bank_law.specs.Sound.{Sound}
 use Rattle.bank_law.specs.History.{own, holds}
-use Rattle.bank_law.specs.Lawful.{AreApart, IsShort, IsSettled, lamports, lamports_under, Fits, IsLawful}
+use Rattle.bank_law.specs.Lawful.{IsShort, IsSettled, lamports, lamports_under, Fits, IsLawful}
 
 -- after each event of a legal list the state is sound
 abbrev pub EveryLegalHistoryIsSound : Type 0
@@ -73,9 +74,9 @@ AllDoneIsTheEnd =
     (job : Job) (start : Key → Account) (events more : List Event) → IsLegal job start (events ++ more) →
     AllDone job (Run job start events) → more ≡ []
 
--- the start has these keys apart, among them all that positions declare, with fewer than 2^64 lamports under them, and each account is short and settled
+-- these keys are distinct and among them are all that positions declare, the start has fewer than 2^64 lamports under them, and each of its accounts is short and settled
 pub record IsStart (job : Job) (start : Key → Account) (ks : List Key) : Type 0 where
-  pub apart : AreApart ks
+  pub distinct : IsDistinct same_key ks
   pub all : (i : ℕ) (key : Key) → i < job.count → has_key key (keys job i) ≡ true → has_key key ks ≡ true
   pub supply : lamports_under start ks < 2 ^ 64
   pub short : (key : Key) → IsShort (start key)
