@@ -16,7 +16,7 @@ use Rattle.bank_law.specs.Machine.{is_waiting, Run}
 use Rattle.bank_law.specs.Sound.{Agrees, Sound}
 use Rattle.bank_law.specs.Lawful.{IsShort, IsSettled, lamports, lamports_under, lent_for_writing, Fits, IsLawful}
 use Rattle.bank_law.specs.Laws.{IsStart, SerialRunsFit, LoansFit}
-use Rattle.bank_law.proofs.Keys.{same_key-true, same_key-self, has_key-first, has_key-rest, written_declared}
+use Rattle.bank_law.proofs.Keys.{same_key-true, same_key-self, same_key-sym, has_key-first, has_key-rest, written_declared}
 use Rattle.bank_law.proofs.Events.{run_sound}
 
 -- no key stands twice
@@ -27,7 +27,7 @@ AreApart (key ∷ ks) = (has_key key ks ≡ false) × AreApart ks
 not_among : (key : Key) (ks : List Key) → AllByRecursion (λ k. same_key key k ≡ false) ks → has_key key ks ≡ false
 not_among key [] a = refl
 not_among key (k ∷ ks) a =
-    or_from (same_key k key) (has_key key ks) (false_from_ne_true _ (λ t. both_ways _ a.0 (subst (λ x. same_key key x ≡ true) (sym (same_key-true k key t)) (same_key-self key)))) (not_among key ks a.1)
+    or_from (same_key key k) (has_key key ks) a.0 (not_among key ks a.1)
 
 apart_if : (ks : List Key) → IsDistinct same_key ks → AreApart ks
 unfolding IsDistinct
@@ -62,22 +62,22 @@ total-none (k ∷ ks) test f h =
     omega (arith, here, rest)
 
 -- one key of those that are apart
-total-one : (ks : List Key) (f : Key → ℕ) (key : Key) → AreApart ks → has_key key ks ≡ true → total (λ k. where_true (same_key key k) (f k)) ks ≡ f key
+total-one : (ks : List Key) (f : Key → ℕ) (key : Key) → AreApart ks → has_key key ks ≡ true → total (λ k. where_true (same_key k key) (f k)) ks ≡ f key
 unfolding total
 total-one [] f key a h = absurd (false≢true h)
-total-one (x ∷ xs) f key a h = by_case (same_key x key) refl (total-one xs f key a.1)
+total-one (x ∷ xs) f key a h = by_case (same_key key x) refl (total-one xs f key a.1)
   where
-    by_case : (b : Bool) → same_key x key ≡ b → (has_key key xs ≡ true → total (λ k. where_true (same_key key k) (f k)) xs ≡ f key)
-        → where_true (same_key key x) (f x) + total (λ k. where_true (same_key key k) (f k)) xs ≡ f key
+    by_case : (b : Bool) → same_key key x ≡ b → (has_key key xs ≡ true → total (λ k. where_true (same_key k key) (f k)) xs ≡ f key)
+        → where_true (same_key x key) (f x) + total (λ k. where_true (same_key k key) (f k)) xs ≡ f key
     by_case true e rest =
-        let q : x ≡ key = same_key-true x key e in
-        let here = cond-true (same_key key x) (f x) 0 (subst (λ k. same_key key k ≡ true) (sym q) (same_key-self key)) in
-        let none = total-none xs (same_key key) f (λ k m. false_from_ne_true _ (λ t. both_ways _ a.0 (subst (λ y. has_key y xs ≡ true) (sym (same_key-true key k t) ∙ sym q) m))) in
+        let q : key ≡ x = same_key-true key x e in
+        let here = cond-true (same_key x key) (f x) 0 (same_key-sym x key ∙ e) in
+        let none = total-none xs (λ k. same_key k key) f (λ k m. false_from_ne_true _ (λ t. both_ways _ a.0 (subst (λ y. has_key y xs ≡ true) (same_key-true k key t ∙ q) m))) in
         let value = ap f q in
         omega (arith, here, none, value)
     by_case false e rest =
-        let other = cond-false (same_key key x) (f x) 0 (false_from_ne_true _ (λ t. both_ways _ e (subst (λ y. same_key x y ≡ true) (sym (same_key-true key x t)) (same_key-self x)))) in
-        let more = rest (elim (or_cases (same_key x key) _ h) [ inl t ↦ absurd (both_ways _ e t) | inr r ↦ r ]) in
+        let other = cond-false (same_key x key) (f x) 0 (same_key-sym x key ∙ e) in
+        let more = rest (elim (or_cases (same_key key x) _ h) [ inl t ↦ absurd (both_ways _ e t) | inr r ↦ r ]) in
         omega (arith, other, more)
 
 -- keys that are apart, among others
@@ -91,11 +91,11 @@ total-some ks f (x ∷ xs) a b h =
     let split = halves ks in
     omega (arith, one, rest, split)
   where
-    halves : (ls : List Key) → total (λ key. where_true (same_key x key || has_key key xs) (f key)) ls ≡ total (λ key. where_true (same_key x key) (f key)) ls + total (λ key. where_true (has_key key xs) (f key)) ls
+    halves : (ls : List Key) → total (λ key. where_true (same_key key x || has_key key xs) (f key)) ls ≡ total (λ key. where_true (same_key key x) (f key)) ls + total (λ key. where_true (has_key key xs) (f key)) ls
     halves [] = refl
     halves (k ∷ ls) =
         let rest = halves ls in
-        let one = at_one (same_key x k) (has_key k xs) (λ t. subst (λ y. has_key y xs ≡ false) (same_key-true x k t) b.0) in
+        let one = at_one (same_key k x) (has_key k xs) (λ t. subst (λ y. has_key y xs ≡ false) (sym (same_key-true k x t)) b.0) in
         omega (arith, rest, one)
       where
         at_one : (p q : Bool) → (p ≡ true → q ≡ false) → where_true (p || q) (f k) ≡ where_true p (f k) + where_true q (f k)
@@ -112,12 +112,12 @@ total-beside (x ∷ xs) [] a l = absurd (omega (arith, l))
 total-beside (x ∷ xs) (v ∷ vs) a l =
     let here = ap (λ (u : Account). u.lamports) (cond-true (same_key x x) v (beside x xs vs) (same_key-self x)) in
     let rest = total-beside xs vs a.1 (omega (arith, l)) in
-    let more = others xs (λ key m. false_from_ne_true _ (λ t. both_ways _ a.0 (subst (λ y. has_key y xs ≡ true) (sym (same_key-true x key t)) m))) in
+    let more = others xs (λ key m. false_from_ne_true _ (λ t. both_ways _ a.0 (subst (λ y. has_key y xs ≡ true) (same_key-true key x t) m))) in
     omega (arith, here, rest, more)
   where
-    others : (ls : List Key) → ((key : Key) → has_key key ls ≡ true → same_key x key ≡ false) → total (λ key. (cond (same_key x key) v (beside key xs vs)).lamports) ls ≡ total (λ key. (beside key xs vs).lamports) ls
+    others : (ls : List Key) → ((key : Key) → has_key key ls ≡ true → same_key key x ≡ false) → total (λ key. (cond (same_key key x) v (beside key xs vs)).lamports) ls ≡ total (λ key. (beside key xs vs).lamports) ls
     others [] n = refl
-    others (k ∷ ls) n = ap₂ (λ p q. p + q) (ap (λ (u : Account). u.lamports) (cond-false (same_key x k) v (beside k xs vs) (n k (has_key-first k ls)))) (others ls (λ key m. n key (has_key-rest key k ls m)))
+    others (k ∷ ls) n = ap₂ (λ p q. p + q) (ap (λ (u : Account). u.lamports) (cond-false (same_key k x) v (beside k xs vs) (n k (has_key-first k ls)))) (others ls (λ key m. n key (has_key-rest key k ls m)))
 
 -- a part of what is added up
 total-part : (test : Key → Bool) (f : Key → ℕ) (ks : List Key) → total (λ key. where_true (test key) (f key)) ks ≤ total f ks
@@ -153,7 +153,7 @@ beside-all : (P : Account → Type 0) (key : Key) (ks : List Key) (vs : List Acc
 beside-all P key [] vs none all = none
 beside-all P key (k ∷ ks) [] none all = none
 beside-all P key (k ∷ ks) (v ∷ vs) none all =
-    cond_both (same_key k key) v (beside key ks vs) P (λ t. All-head P v vs all) (λ f. beside-all P key ks vs none (All-tail P v vs all))
+    cond_both (same_key key k) v (beside key ks vs) P (λ t. All-head P v vs all) (λ f. beside-all P key ks vs none (All-tail P v vs all))
 
 abbrev balance : (Key → Account) → Key → ℕ
 balance accounts key = (accounts key).lamports

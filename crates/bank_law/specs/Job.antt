@@ -24,7 +24,7 @@ same_key a b = bytes_eq a.0 b.0
 
 -- the key stands in the list
 abbrev pub has_key : Key → List Key → Bool
-has_key key ks = list_any (λ k. same_key k key) ks
+has_key key ks = list_any (λ k. same_key key k) ks
 
 -- the keys of locks, in their order
 abbrev pub keys_of : List Lock → List Key
@@ -47,4 +47,4 @@ writes job i key = has_key key (write_keys job i)
 abbrev pub beside : Key → List Key → List Account → Account
 beside key [] vs = empty_account
 beside key (k ∷ ks) [] = empty_account
-beside key (k ∷ ks) (v ∷ vs) = if same_key k key then v else beside key ks vs
+beside key (k ∷ ks) (v ∷ vs) = if same_key key k then v else beside key ks vs
