@@ -1,5 +1,5 @@
 -- The first place at which a test passes.
-use Rattle.std.proofs.Common.{◌≡◌, ℕ, zero, suc, ◌+◌, ◌<◌, Bool, true, false, ◌||◌, cond, eqb, List, [], ◌∷◌, ◌++◌, length, get_or, Option, Some, None, refl, sym, ◌∙◌, ap, arith}
+use Rattle.std.proofs.Common.{◌≡◌, ℕ, zero, suc, ◌+◌, ◌<◌, Bool, true, false, cond, eqb, List, [], ◌∷◌, ◌++◌, length, get_or, Some, None, refl, sym, ◌∙◌, ap, arith}
 use Rattle.std.specs.List.{list_any, position, position_or_len}
 use Rattle.std.proofs.lemmas.Bool.{both_ways, cond_both, cond-true, cond-false, eqb-true, or_left, or_right, false_from_ne_true, lt-ltb, ltb-true}
 use Rattle.std.proofs.lemmas.List.Folds.{position_or_len_push}
@@ -9,10 +9,10 @@ use Rattle.std.proofs.lemmas.List.Sums.{passes_at_first}
 pub position_or_len-kept : {X : Type 0} (p : X → Bool) (xs : List X) (y : X) → p y ≡ true → position_or_len p (cond (list_any p xs) xs (xs ++ y ∷ [])) ≡ position_or_len p xs
 position_or_len-kept p xs y h =
     cond_both (list_any p xs) xs (xs ++ y ∷ []) (λ ys. position_or_len p ys ≡ position_or_len p xs) (λ t. refl) (λ f.
-      position_or_len_push p xs y
-      ∙ cond_both (eqb (position_or_len p xs) (length xs)) (length xs + cond (p y) 0 1) (position_or_len p xs) (λ n. n ≡ position_or_len p xs)
-        (λ t. let e = eqb-true (position_or_len p xs) (length xs) t in let o : cond (p y) 0 1 ≡ 0 = cond-true {A = ℕ} (p y) 0 1 h in omega (arith, e, o))
-        (λ n. refl))
+    position_or_len_push p xs y
+    ∙ cond_both (eqb (position_or_len p xs) (length xs)) (length xs + cond (p y) 0 1) (position_or_len p xs) (λ n. n ≡ position_or_len p xs)
+    (λ t. let e = eqb-true (position_or_len p xs) (length xs) t in let o : cond (p y) 0 1 ≡ 0 = cond-true {A = ℕ} (p y) 0 1 h in omega (arith, e, o))
+    (λ n. refl))
 
 list_any_at : {X : Type 0} (p : X → Bool) (xs : List X) (k : ℕ) (d : X) → k < length xs → p (get_or xs k d) ≡ true → list_any p xs ≡ true
 list_any_at p [] k d l h = absurd (omega arith)
@@ -27,3 +27,9 @@ position-none p xs d h =
 -- the first place, where there is one
 pub position-some : {X : Type 0} (p : X → Bool) (xs : List X) → position_or_len p xs < length xs → position p xs ≡ Some (position_or_len p xs)
 position-some p xs l = cond-true _ (Some (position_or_len p xs)) None (lt-ltb (position_or_len p xs) (length xs) l)
+
+-- the number that a key got when it was added where it was absent
+pub position-numbered : {X : Type 0} (p : X → Bool) (xs ys : List X) (y : X) (n : ℕ) → p y ≡ true → ys ≡ cond (list_any p xs) xs (xs ++ y ∷ []) → n ≡ position_or_len p xs → n < length ys → position p ys ≡ Some n
+position-numbered p xs ys y n h e i l =
+    let place : position_or_len p ys ≡ n = ap (position_or_len p) e ∙ (position_or_len-kept p xs y h ∙ sym i) in
+    position-some p ys (omega (arith, place, l)) ∙ ap Some place

@@ -1,6 +1,6 @@
 -- Keys by their numbers, and locks on them.
 use Rattle.std.specs.Prelude.{◌≡◌, ℕ, ◌<◌, ◌==◌, Bool, ◌&&◌, ◌||◌, if◌then◌else◌, List, [], ◌∷◌, ◌++◌, map, length, fold, position, Option, All, slice_index_or}
-use Rattle.std.specs.List.{list_any}
+use Rattle.std.specs.List.{list_any, AllPairs}
 use Rattle.sol_base.specs.declared.key.Key.{Key}
 use Rattle.sol_base.specs.declared.lock.Lock.{Lock}
 use Rattle.bank_law.specs.Job.{same_key, has_key}
@@ -8,7 +8,7 @@ use Rattle.lock_table.specs.declared.locks.NumberedLock.{NumberedLock}
 
 -- the number of a key is its first place among the keys
 abbrev pub number_of : List Key → Key → Option ℕ
-number_of keys key = position (λ k. same_key k key) keys
+number_of keys key = position (λ k. same_key key k) keys
 
 -- the keys once this one has a number, and once each of these has one, in their order
 abbrev pub with_key : List Key → Key → List Key
@@ -33,3 +33,8 @@ meets a b = (a.number == b.number) && (a.write || b.write)
 -- a number is in both, and at least one of the two writes it
 abbrev pub conflicts : List NumberedLock → List NumberedLock → Bool
 conflicts one other = list_any (λ a. list_any (λ b. meets a b) other) one
+
+-- the same locks, in the order of their numbers
+pub record IsRisingCopy (set sorted : List NumberedLock) : Type 0 where
+  pub same : (test : NumberedLock → Bool) → list_any test sorted ≡ list_any test set
+  pub rising : AllPairs (λ a b. a.number < b.number) sorted

@@ -1,8 +1,11 @@
-ghost use Rattle.std.specs.Prelude.{◌≡◌, ◌-◌, ◌^◌, ◌<◌, [], Some, None, length, slice_get, IfOk, OnOk, OnErr};
-ghost use Rattle.lock_table.specs.Numbers.{number_of, with_key};
+ghost use Rattle.std.specs.Prelude.{◌≡◌, ◌+◌, ◌-◌, ◌^◌, ◌<◌, ◌≤◌, [], ◌∷◌, ◌++◌, Some, None, length, slice_get, vec_len, vec_capacity, IfOk, OnOk, OnErr};
+ghost use Rattle.indexmap.specs.IndexSet.{spare};
+ghost use Rattle.bank_law.specs.Job.{keys_of};
+ghost use Rattle.lock_table.specs.Numbers.{number_of, with_key, with_keys, Numbers};
 
+use crate::locks::NumberedLock;
 use indexmap::IndexSet;
-use sol_base::{Key, OutOfMemory};
+use sol_base::{Key, Lock, OutOfMemory};
 use std::alloc::Global;
 use std::marker::Model;
 
@@ -68,4 +71,58 @@ impl KeyTable {
     {
         self.keys.len() as u32
     }
+}
+
+impl KeyTable {
+    /// Numbers the keys of locks. It takes all memory before it changes the table.
+    pub(crate) fn number_locks(
+        &mut self,
+        locks: &[Lock],
+        into: &mut Vec<NumberedLock>,
+    ) -> Result<(), OutOfMemory>
+        requires empty { into.old.items ≡ [] }
+        requires capacity { length locks.now ≤ vec_capacity into.old }
+        requires room { length self.old + length locks.now < 2 ^ 32 }
+        ensures set { OnOk result (Numbers self.new locks.now into.new.items) }
+        ensures keys { OnOk result (self.new ≡ with_keys self.old (keys_of locks.now)) }
+        ensures err { OnErr result (self.new ≡ self.old) }
+    {
+        self.keys.reserve(locks.len())?;
+        for lock in locks {
+            let number = number_with_room(&mut self.keys, lock.key);
+            let write = lock.write;
+            push_with_room(into, NumberedLock { number, write });
+        }
+        Ok(())
+    }
+}
+
+/// The number of the key, in a set that has room for one more.
+fn number_with_room(keys: &mut IndexSet<Key>, key: Key) -> u32
+    requires spare { 0 < spare keys.old }
+    requires room { length keys.old.keys < 2 ^ 32 - 1 }
+    ensures keys { keys.new.keys ≡ with_key keys.old.keys key }
+    ensures number { number_of keys.new.keys key ≡ Some result }
+    ensures spare { spare keys.old ≤ spare keys.new + 1 }
+{
+    let (index, _) = keys.insert_full(key).unwrap();
+    index as u32
+}
+
+/// Appends a lock to a list that has room for it.
+fn push_with_room(list: &mut Vec<NumberedLock>, lock: NumberedLock)
+    requires { vec_len list.old < vec_capacity list.old }
+    ensures items { list.new.items ≡ list.old.items ++ lock ∷ [] }
+    ensures capacity { vec_capacity list.old ≤ vec_capacity list.new }
+{
+    let _ = list.push(lock);
+}
+
+/// Copies locks to an empty list that has room for them.
+pub(crate) fn copy_with_room(list: &mut Vec<NumberedLock>, locks: &[NumberedLock])
+    requires empty { list.old.items ≡ [] }
+    requires capacity { length locks.now ≤ vec_capacity list.old }
+    ensures { list.new.items ≡ locks.now }
+{
+    let _ = list.extend_from_slice(locks);
 }

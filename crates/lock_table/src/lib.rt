@@ -3,9 +3,11 @@
 #![tactic(auto)]
 
 mod keys;
-
+mod laws;
 mod locks;
-
+mod sets;
 
 pub use keys::KeyTable;
+pub use laws::conflict_is_clash;
 pub use locks::NumberedLock;
+pub use sets::{LockSet, conflict, set_of};
