@@ -7,7 +7,7 @@ use Rattle.std.proofs.lemmas.List.{length-map, get_or-map}
 use Rattle.std.proofs.lemmas.List.Sorted.{list_any-IsPermutation, IsPermutation-map}
 use Rattle.std.proofs.lemmas.Map.Keys.{apart_from_distinct, IsDistinct-IsPermutation}
 use Rattle.lock_table.specs.declared.locks.NumberedLock.{NumberedLock}
-use Rattle.lock_table.specs.Numbers.{IsRisingCopy}
+use Rattle.lock_table.specs.Numbers.{IsSet, EachOnce}
 
 abbrev number : NumberedLock → ℕ
 number lock = lock.number
@@ -19,15 +19,21 @@ flips m n = by_case (cases_eq m n)
     by_case (inl e) = eq-eqb m n e ∙ sym (eq-eqb n m (sym e))
     by_case (inr d) = ne_eqb m n d ∙ sym (ne_eqb n m (λ e. d (sym e)))
 
--- sorted locks of distinct numbers rise
-pub rising_copy : (set sorted : List NumberedLock) → IsPermutation set sorted → IsNonDecreasingBy number sorted → IsDistinct (λ a b. a == b) (map number set) → IsRisingCopy set sorted
-rising_copy set sorted moved up distinct = record {
+-- numbers that are distinct are so at each two places
+apart : (set : List NumberedLock) → IsDistinct (λ a b. a == b) (map number set) → EachOnce set
+apart set distinct i j d l m =
+    let e = length-map set number in
+    let differ = apart_from_distinct (λ a b. a == b) (map number set) i j d.number distinct l (omega (arith, e, m)) in
+    eqb-false _ _ (ap₂ (λ a b. a == b) (sym (get_or-map number set i d d.number (omega arith))) (sym (get_or-map number set j d d.number m)) ∙ differ)
+
+-- locks of distinct numbers, and the same sorted
+pub set_is : (set sorted : List NumberedLock) → IsPermutation set sorted → IsNonDecreasingBy number sorted → IsDistinct (λ a b. a == b) (map number set) → IsSet set sorted
+set_is set sorted moved up distinct = record {
+  once = apart set distinct;
   same = λ test. sym (list_any-IsPermutation test set sorted moved);
   rising = λ i j d l m.
-      let apart = apart_from_distinct (λ a b. a == b) (map number sorted) i j d.number (IsDistinct-IsPermutation (λ a b. a == b) flips (map number set) (map number sorted) (IsPermutation-map number set sorted moved) distinct) l (let e = length-map sorted number in omega (arith, e, m)) in
-      let first = get_or-map number sorted i d d.number (omega arith) in
-      let second = get_or-map number sorted j d d.number m in
-      let other : (get_or sorted i d).number ≡ (get_or sorted j d).number → ⊥ = eqb-false _ _ (ap₂ (λ a b. a == b) (sym first) (sym second) ∙ apart) in
+      let still = IsDistinct-IsPermutation (λ a b. a == b) flips (map number set) (map number sorted) (IsPermutation-map number set sorted moved) distinct in
+      let other = apart sorted still i j d l m in
       let below = up i j d (omega arith) m in
       omega (arith, other, below);
 }

@@ -5,7 +5,7 @@ use Rattle.std.proofs.lemmas.Bool.{ne_eqb, eq-eqb, and_left, and_right, or_left,
 use Rattle.std.proofs.lemmas.List.Elements.{All-head, All-tail, All-cons}
 use Rattle.std.proofs.lemmas.List.{get_or-drop, get_or_default, drop_more, drop_all}
 use Rattle.lock_table.specs.declared.locks.NumberedLock.{NumberedLock}
-use Rattle.lock_table.specs.Numbers.{meets, conflicts, IsRisingCopy}
+use Rattle.lock_table.specs.Numbers.{meets, conflicts, IsSet}
 
 abbrev no_lock : NumberedLock
 no_lock = record { number = 0; write = false }
@@ -88,5 +88,5 @@ module _ (xs ys : List NumberedLock) (up : Rises xs) (over : Rises ys) (i j : �
         opened ∙ ap₂ (λ t u. t || u) (or_from _ _ none rest) behind
 
 -- sorted copies conflict as the sets do
-pub conflicts-copies : (one other a b : List NumberedLock) → IsRisingCopy one a → IsRisingCopy other b → conflicts a b ≡ conflicts one other
+pub conflicts-copies : (one other a b : List NumberedLock) → IsSet one a → IsSet other b → conflicts a b ≡ conflicts one other
 conflicts-copies one other a b c d = c.same (λ x. list_any (λ y. meets x y) b) ∙ (λ i. list_any (λ x. d.same (λ y. meets x y) i) one)

@@ -1,5 +1,5 @@
 -- Keys by their numbers, and locks on them.
-use Rattle.std.specs.Prelude.{◌≡◌, ℕ, ◌<◌, ◌==◌, Bool, ◌&&◌, ◌||◌, if◌then◌else◌, List, [], ◌∷◌, ◌++◌, map, length, fold, position, Option, All, slice_index_or}
+use Rattle.std.specs.Prelude.{◌≡◌, ◌≢◌, ℕ, ◌<◌, ◌==◌, Bool, ◌&&◌, ◌||◌, if◌then◌else◌, List, [], ◌∷◌, ◌++◌, map, length, fold, position, Option, All, slice_index_or}
 use Rattle.std.specs.List.{list_any, AllPairs}
 use Rattle.sol_base.specs.declared.key.Key.{Key}
 use Rattle.sol_base.specs.declared.lock.Lock.{Lock}
@@ -34,7 +34,12 @@ meets a b = (a.number == b.number) && (a.write || b.write)
 abbrev pub conflicts : List NumberedLock → List NumberedLock → Bool
 conflicts one other = list_any (λ a. list_any (λ b. meets a b) other) one
 
--- the same locks, in the order of their numbers
-pub record IsRisingCopy (set sorted : List NumberedLock) : Type 0 where
+-- no number stands twice
+abbrev pub EachOnce : List NumberedLock → Type 0
+EachOnce set = AllPairs (λ a b. a.number ≢ b.number) set
+
+-- each number stands once in the set, and the sorted locks are the same in the order of their numbers
+pub record IsSet (set sorted : List NumberedLock) : Type 0 where
+  pub once : EachOnce set
   pub same : (test : NumberedLock → Bool) → list_any test sorted ≡ list_any test set
   pub rising : AllPairs (λ a b. a.number < b.number) sorted

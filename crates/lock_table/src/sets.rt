@@ -1,7 +1,7 @@
 ghost use Rattle.std.specs.Prelude.{◌≡◌, ◌+◌, ◌^◌, ◌<◌, IfOk, OnOk, OnErr, length};
 ghost use Rattle.std.specs.List.{AllPairs, IsDistinct};
 ghost use Rattle.bank_law.specs.Job.{same_key, keys_of};
-ghost use Rattle.lock_table.specs.Numbers.{Numbers, conflicts, with_keys};
+ghost use Rattle.lock_table.specs.Numbers.{Numbers, EachOnce, conflicts, with_keys};
 
 use crate::keys::{KeyTable, copy_with_room};
 use crate::locks::NumberedLock;
@@ -21,19 +21,20 @@ pub struct LockSet {
 impl Model for LockSet {
     ghost use Rattle.std.specs.Prelude.{List};
     ghost use Rattle.lock_table.specs.declared.locks.NumberedLock.{NumberedLock};
-    ghost use Rattle.lock_table.specs.Numbers.{IsRisingCopy};
+    ghost use Rattle.lock_table.specs.Numbers.{IsSet};
 
     ghost Value = { List NumberedLock };
 
     ghost view = { λ s. s.locks.items };
 
-    ghost invariant = { λ s. IsRisingCopy s.locks.items s.sorted.items };
+    ghost invariant = { λ s. IsSet s.locks.items s.sorted.items };
 }
 
 impl LockSet {
     /// The locks, in the order in which they were given.
     pub fn items(&self) -> &[NumberedLock]
-        ensures { result.now ≡ self.now }
+        ensures items { result.now ≡ self.now }
+        ensures once { EachOnce self.now }
     {
         self.locks.as_slice()
     }
