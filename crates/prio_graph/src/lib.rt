@@ -1,13 +1,9 @@
-// A library with one function.
+//! The graph of positions that wait for each other, and the least one that is ready.
 #![tactic(auto)]
 
-ghost use Rattle.std.specs.Prelude.{◌≡◌};
-ghost use Rattle.prio_graph.specs.Echo.{echo_of};
+mod chains;
+mod mark;
+mod rows;
+mod tree;
 
-// The `ensures` clause is the contract: what `echo` returns is `echo_of` of its argument, a definition
-// in `specs/Echo.antt`, which a caller's clause can cite too.
-pub fn echo(x: usize) -> usize
-    ensures { result ≡ echo_of x }
-{
-    x
-}
+pub use mark::Mark;
