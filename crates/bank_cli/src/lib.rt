@@ -15,11 +15,11 @@ mod top;
 mod transfer;
 mod words;
 
-pub use answer::{Answer, INPUT_LIMIT};
+pub use answer::Answer;
 pub use delivery::Undelivered;
 pub use laws::plain_inputs_are_read;
 pub use output::Produced;
-pub use plain::{PlainFault, PlainInput};
+pub use plain::{INPUT_LIMIT, PlainFault, PlainInput};
 pub use state::KeyedAccount;
 pub use top::{INPUT_REFUSED, OUT_OF_MEMORY, READ_FAILED, WORDS_REFUSED, WRITE_FAILED, bank_main};
 pub use transfer::Transfer;
