@@ -114,8 +114,12 @@ fn lengths_and_worked_texts(rt: HostRuntime) -> Result<(), Fail> {
         Ok(_) => assert!(rt; false, "a jump into a wide slot"),
         Err(unfit) => assert_eq!(rt; unfit.cause, VerifyFault::Jump { at: 0 }),
     }
-    let wide = verify(text_of(alloc, &[low, high, EXIT])?);
-    assert!(rt; wide.is_ok());
+    let wide = text_of(alloc, &[low, high, EXIT])?;
+    let copy = wide.try_copy()?;
+    match verify(wide) {
+        Ok(program) => assert_eq!(rt; program.text(), copy.as_slice()),
+        Err(unfit) => assert!(rt; false, "{}", unfit.cause),
+    }
     Ok(())
 }
 
