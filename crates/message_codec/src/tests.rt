@@ -98,3 +98,43 @@ fn every_prefix_is_cut(rt: HostRuntime) -> Result<(), Fail> {
     }
     Ok(())
 }
+
+#[test]
+fn wires_are_refused(rt: HostRuntime) -> Result<(), Fail> {
+    let alloc = rt.alloc();
+    let largest = legacy(alloc, &[0x84, 0x08], 1016)?;
+    assert_eq!(rt; largest.len(), 1232);
+    assert!(rt; read_wire(alloc, largest.as_slice()).is_ok());
+    let longer = legacy(alloc, &[0x85, 0x08], 1017)?;
+    assert_eq!(rt; longer.len(), 1233);
+    let version = zero(alloc, 129, 2, &[1, 0, 0])?;
+    let trailing = zero(alloc, 128, 2, &[1, 0, 0, 0])?;
+    let cases: [(&[u8], WireFault); 6] = [
+        (longer.as_slice(), WireFault::TooLong),
+        (&[0x80, 0x00], WireFault::BadLength { at: 0 }),
+        (&[0x80, 0x80, 0x04], WireFault::BadLength { at: 0 }),
+        (&[0x80, 0x80, 0x03], WireFault::Truncated { at: 3 }),
+        (version.as_slice(), WireFault::Version { byte: 129 }),
+        (trailing.as_slice(), WireFault::Trailing { at: 220 }),
+    ];
+    for (wire, fault) in cases {
+        assert_eq!(rt; read_wire(alloc, wire).err(), Some(fault));
+    }
+    Ok(())
+}
+
+#[test]
+fn a_lookup_is_read_and_written(rt: HostRuntime) -> Result<(), Fail> {
+    let alloc = rt.alloc();
+    let wire = zero(alloc, 128, 2, &[1, 0, 0])?;
+    assert_eq!(rt; wire.len(), 220);
+    let tx = read_wire(alloc, wire.as_slice())?;
+    assert_eq!(rt; write_wire(alloc, &tx)?.as_slice(), wire.as_slice());
+    let name = message_key(alloc, &tx.message)?;
+    assert_eq!(rt; name, hash(&wire.as_slice()[65..]));
+    match parse(alloc, wire.as_slice())? {
+        Parsed::Good { tx: _, name: found } => assert_eq!(rt; found, name),
+        Parsed::Bad(fault) => assert_eq!(rt; fault, WireFault::TooLong),
+    }
+    Ok(())
+}
