@@ -36,10 +36,10 @@ digits v = go (nat_lt v 128) (nat_lt v 16384) refl refl
 
 are_digits : (v : ℕ) → v ≤ 65535 → AreDigits (compact v) × (digits_value (compact v) ≡ v)
 are_digits v le = elim (digits v) [
-    | inl small ↦ rw (one_digit v small) (small, omega arith)
-    | inr (inl two) ↦ rw (two_digits v two.0 two.1) ((omega arith, omega arith, (omega arith, omega arith)), of_two v two.0 two.1)
-    | inr (inr three) ↦ rw (three_digits v three) ((omega arith, omega arith, (omega arith, omega arith, (omega arith, omega arith))), of_three v three le)
-  ]
+  | inl small ↦ rw (one_digit v small) (small, omega arith)
+  | inr (inl two) ↦ rw (two_digits v two.0 two.1) ((omega arith, omega arith, (omega arith, omega arith)), of_two v two.0 two.1)
+  | inr (inr three) ↦ rw (three_digits v three) ((omega arith, omega arith, (omega arith, omega arith, (omega arith, omega arith))), of_three v three le)
+]
   where
     of_two : (v : ℕ) → 128 ≤ v → v < 16384 → digits_value ((v % 128 + 128) ∷ (v / 128) ∷ []) ≡ v
     of_two v g h =

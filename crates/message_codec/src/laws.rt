@@ -6,8 +6,7 @@ ghost use Rattle.message_codec.specs.WireReading.{LengthLaw, RoundTripLaw};
 /// each but the last, and the last not 0 unless it stands alone.
 pub fn compact_law()
     ensures { CompactLaw }
-{
-}
+{}
 
 /// A compact length is cut short exactly where the bytes left are a proper prefix of the spelling of
 /// some length, and bad exactly where they neither begin with a spelling nor are such a prefix.

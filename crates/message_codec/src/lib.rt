@@ -22,3 +22,6 @@ pub use reading::{MAX_WIRE_LEN, read_wire};
 pub use roles::{is_signer, is_writable, keys_of, locks, reserved};
 pub use sanity::sanitize;
 pub use writing::{message_key, write_wire};
+
+#[cfg(test)]
+mod tests;
