@@ -123,7 +123,10 @@ impl Accounts {
         ensures state { IsState self.now }
     {
         match key {
-            Some(key) => self.tree.range((Bound::Excluded(*key), Bound::Unbounded)).next(),
+            Some(key) => self
+                .tree
+                .range((Bound::Excluded(*key), Bound::Unbounded))
+                .next(),
             None => self.tree.first_key_value(),
         }
     }

@@ -87,13 +87,18 @@ fn supply_with(
     if entry.account.lamports == 0 {
         return Err(StoreFault::Empty { at });
     }
-    lamports.checked_add(entry.account.lamports).ok_or(StoreFault::SupplyTooLarge)
+    lamports
+        .checked_add(entry.account.lamports)
+        .ok_or(StoreFault::SupplyTooLarge)
 }
 
 fn is_above_last(before: &[KeyedAccount], key: &Key) -> bool
     ensures { result ≡ is_above (last_key before.now) key.now }
 {
-    before.last().is_none_or(|last| last.key < *key)
+    match before.last() {
+        Some(last) => last.key.cmp(key).is_lt(),
+        None => true,
+    }
 }
 
 /// The entries as an ordered map of shared accounts.
