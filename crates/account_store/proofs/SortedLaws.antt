@@ -5,26 +5,28 @@ use Rattle.std.specs.List.{AllByRecursion}
 use Rattle.std.specs.List.Sorted.{IsStrictlySortedBy}
 use Rattle.std.specs.Arc.{arc_value}
 use Rattle.std.specs.Map.{keys_of}
+use Rattle.std.specs.FinMap as map
 use Rattle.std.specs.BTreeMap.{insert_entry}
 use Rattle.std.specs.Ordering.{is_lt, match_ordering, ordering_reverse}
 use Rattle.std.specs.declared.cmp.Ordering.{Ordering}
 use Rattle.std.specs.declared.cmp.Ordering.TheVariants.{Less, Equal, Greater}
 use Rattle.std.proofs.lemmas.Bool.{cases_Bool}
 use Rattle.std.proofs.lemmas.Bool.Decides.{nat_tests}
-use Rattle.std.proofs.lemmas.List.Sums.{sum_by-cons, sum_by_push}
+use Rattle.std.proofs.lemmas.List.Sums.{sum_by-cons, sum_by_push, sum_by-append}
 use Rattle.std.proofs.lemmas.List.{append-nil}
 use Rattle.spec_base.proofs.Binding.{chosen}
 use Rattle.sol_base.specs.declared.key.Key.{Key}
 use Rattle.sol_base.specs.declared.account.Account.{Account}
 use Rattle.sol_base.specs.Keys.{key_cmp}
-use Rattle.sol_base.proofs.KeyLaws.{key_cmp_total}
+use Rattle.sol_base.proofs.KeyLaws.{key_cmp_exact, key_cmp_total}
 use Rattle.account_store.specs.declared.sorted.KeyedAccount.{KeyedAccount}
 use Rattle.account_store.specs.declared.sorted.StoreFault.{StoreFault}
 use Rattle.account_store.specs.declared.sorted.StoreFault.TheVariants.{OutOfOrder, Empty, SupplyTooLarge}
-use Rattle.account_store.specs.State.{is_above, entries, lamports_of, sum, IsHeld, IsState}
+use Rattle.account_store.specs.State.{State, is_above, entries, lamports_of, sum, IsHeld, IsState}
 use Rattle.account_store.specs.Shared.{Shared, seen, state_seen, IsKept}
+use Rattle.account_store.proofs.EntryLists.{sorted-entries, from_entries-entries}
 use Rattle.account_store.proofs.SharedLaws.{seen-insert_entry, entries-state_seen}
-use Rattle.account_store.specs.Sorted.{entry_of, supply, last_key, entry_fault, first_fault, first_of, Ascends}
+use Rattle.account_store.specs.Sorted.{entry_of, supply, last_key, entry_fault, first_fault, first_of, unless, state_of, keyed, Ascends}
 
 abbrev keys : List KeyedAccount → List Key
 keys es = each (λ e. e.key) es
@@ -195,3 +197,39 @@ IsKept-entries map total es none short has ascends counted =
       counted = counted ∙ sym lamports;
       is_state = record { held = subst (AllByRecursion (λ (d : Key × Account). IsHeld d.1)) (sym all) (held-each es fine.some short); fits = subst (λ n. n ≤ 2 ^ 64 - 1) (sym lamports) fine.fits };
     }
+
+last_above : (before : List KeyedAccount) (k : Key) → AllByRecursion (λ (q : Key). key_cmp q k ≡ Less) (keys before) → is_above (last_key before) k ≡ true
+last_above [] k below = refl
+last_above (e ∷ []) k below = ap is_lt below.0
+last_above (e ∷ f ∷ es) k below = ap (λ (o : Option Key). is_above o k) (last_key-cons e f es) ∙ last_above (f ∷ es) k below.1
+
+none-from_IsAllFine : (before es : List KeyedAccount) → Ascends (before ++ es) → AllByRecursion (λ (e : KeyedAccount). 1 ≤ e.account.lamports) es → supply (before ++ es) ≤ 2 ^ 64 - 1 → first_fault before es ≡ None
+none-from_IsAllFine before [] ascends some fits = refl
+none-from_IsAllFine before (e ∷ es) ascends some fits =
+    let whole : supply (before ++ e ∷ es) ≡ supply before + supply (e ∷ es) = sum_by-append (λ (d : KeyedAccount). d.account.lamports) before (e ∷ es) in
+    let tail : supply (e ∷ es) ≡ e.account.lamports + supply es = sum_by-cons (λ (d : KeyedAccount). d.account.lamports) e es in
+    let room : supply before + e.account.lamports ≤ 2 ^ 64 - 1 = omega arith in
+    let fine : IsFine before e = record { above = last_above before e.key (below_entry before es e ascends); some = some.0; fits = room } in
+    let split : (before ++ e ∷ []) ++ es ≡ before ++ e ∷ es = append_assoc before (e ∷ []) es in
+    ap (λ (o : Option StoreFault). first_of o (first_fault (before ++ e ∷ []) es)) (none-from_IsFine before e fine)
+    ∙ none-from_IsAllFine (before ++ e ∷ []) es (subst Ascends (sym split) ascends) some.1 (subst (λ (l : List KeyedAccount). supply l ≤ 2 ^ 64 - 1) (sym split) fits)
+
+each-keyed : (es : List (Key × Account)) → each entry_of (each keyed es) ≡ es
+each-keyed [] = refl
+each-keyed (e ∷ es) = ap (λ (l : List (Key × Account)). e ∷ l) (each-keyed es)
+
+some-keyed : (es : List (Key × Account)) → AllByRecursion (λ (e : Key × Account). IsHeld e.1) es → AllByRecursion (λ (e : KeyedAccount). 1 ≤ e.account.lamports) (each keyed es)
+some-keyed [] held = tt
+some-keyed (e ∷ es) held = (held.0.0, some-keyed es held.1)
+
+-- a state is read again from its entries
+pub state_of-entries : (s : State) → IsState s → state_of (each keyed (entries s)) ≡ Ok s
+state_of-entries s is =
+    let es = each keyed (entries s) in
+    let same : each entry_of es ≡ entries s = each-keyed (entries s) in
+    let ascends : Ascends es = subst (IsStrictlySortedBy key_cmp) (sym (ap keys_of same) ∙ keys_of-entries es) (sorted-entries key_cmp s) in
+    let all : supply es ≡ sum s = sym (lamports-each es) ∙ ap lamports_of same in
+    let none : first_fault [] es ≡ None = none-from_IsAllFine [] es ascends (some-keyed (entries s) is.held) (subst (λ n. n ≤ 2 ^ 64 - 1) (sym all) is.fits) in
+    ap (λ (o : Option StoreFault). unless o (map.from_entries {R = key_cmp} (each entry_of es))) none
+    ∙ ap (λ (l : List (Key × Account)). let r : Result State StoreFault = Ok (map.from_entries l) in r) same
+    ∙ ap (λ (t : State). let r : Result State StoreFault = Ok t in r) (from_entries-entries key_cmp_total key_cmp_exact s)

@@ -13,6 +13,10 @@ use Rattle.account_store.specs.State.{State, is_above}
 abbrev pub entry_of : KeyedAccount → Key × Account
 entry_of e = (e.key, e.account)
 
+abbrev pub keyed : Key × Account → KeyedAccount
+keyed e = record { key = e.0; account = e.1 }
+
+-- the lamports of all entries together
 abbrev pub supply : List KeyedAccount → ℕ
 supply es = sum_by (λ e. e.account.lamports) es
 
