@@ -94,10 +94,10 @@ sum_by-values {K = K} {X = X} f (e ∷ es) = sum_by-cons (λ (d : K × X). f d.1
 pub all-insert_entry : {K X : Type 0} (R : K → K → Ordering) (P : X → Type 0) (es : List (K × X)) (k : K) (v : X) → AllByRecursion (λ e. P e.1) es → P v → AllByRecursion (λ e. P e.1) (insert_entry R es k v)
 all-insert_entry R P [] k v all here = (here, tt)
 all-insert_entry R P (e ∷ es) k v all here = elim (R k e.0) as (λ o. AllByRecursion (λ d. P d.1) (match_ordering o ((k, v) ∷ e ∷ es) ((e.0, v) ∷ es) (e ∷ insert_entry R es k v))) [
-    | Less ↦ (here, all)
-    | Equal ↦ (here, all.1)
-    | Greater ↦ (all.0, all-insert_entry R P es k v all.1 here)
-  ]
+  | Less ↦ (here, all)
+  | Equal ↦ (here, all.1)
+  | Greater ↦ (all.0, all-insert_entry R P es k v all.1 here)
+]
 
 -- and after one is taken out
 pub all-remove_entry : {K X : Type 0} (P : X → Type 0) (test : K → Bool) (es : List (K × X)) → AllByRecursion (λ e. P e.1) es → AllByRecursion (λ e. P e.1) (remove_entry test es)
@@ -108,9 +108,9 @@ all-remove_entry P test (e ∷ es) all = elim (test e.0) as (λ b. AllByRecursio
 pub all-find : {K X : Type 0} (R : K → K → Ordering) (P : X → Type 0) (q : K) (es : List (K × X)) (v : X) → AllByRecursion (λ e. P e.1) es → find R q es ≡ Some v → P v
 all-find R P q [] v all found = absurd (cc)
 all-find R P q (e ∷ es) v all found = elim (eq_by_cmp R q e.0) as (λ b. cond b (Some e.1) (find R q es) ≡ Some v → P v) [
-    | true ↦ λ f. subst P (same_some e.1 v f) all.0
-    | false ↦ λ f. all-find R P q es v all.1 f
-  ] found
+  | true ↦ λ f. subst P (same_some e.1 v f) all.0
+  | false ↦ λ f. all-find R P q es v all.1 f
+] found
 
 module _ {K X : Type 0} {R : K → K → Ordering} (o : IsTotalOrder R) where
   -- the map of a list of entries whose keys ascend has these entries
@@ -144,7 +144,7 @@ module _ {K X : Type 0} {R : K → K → Ordering} (o : IsTotalOrder R) where
       let left = remove_entry (is_at (R k)) es in
       let sorted = sorted-entries R m in
       let same : remove m k ≡ from_entries left = same_map o exact _ _ (λ q.
-              get-remove o m k q ∙ ap (λ (b : Bool). cond b None (get m q)) ((eq_by_cmp_equiv o).symm q k)
-              ∙ ap (cond (is_at (R k) q) None) (get-entries m q ∙ find-lookup R q es)
-              ∙ sym (get-from_entries o left q ∙ find-lookup R q left ∙ lookup-remove_entry (eq_by_cmp_equiv o) (is_at (R k)) (tied_tests o k) q es (IsDistinct-from_sorted R (keys_of es) sorted))) in
+      get-remove o m k q ∙ ap (λ (b : Bool). cond b None (get m q)) ((eq_by_cmp_equiv o).symm q k)
+      ∙ ap (cond (is_at (R k) q) None) (get-entries m q ∙ find-lookup R q es)
+      ∙ sym (get-from_entries o left q ∙ find-lookup R q left ∙ lookup-remove_entry (eq_by_cmp_equiv o) (is_at (R k)) (tied_tests o k) q es (IsDistinct-from_sorted R (keys_of es) sorted))) in
       ap entries same ∙ entries-from_entries exact left (sorted-remove_entry (is_at (R k)) es sorted)

@@ -41,9 +41,9 @@ first-shown (Some x) (e ∷ es) some first = ap (option_map (λ (d : Key × Shar
 between : (k : Key) (es : List (Key × Shared)) → seen (entries_between key_cmp (Excluded k) Unbounded es) ≡ filter (λ e. is_above (Some k) e.0) (seen es)
 between k [] = refl
 between k (e ∷ es) = elim (is_lt (key_cmp k e.0)) as (λ b. seen (cond (b && true) (e ∷ entries_between key_cmp (Excluded k) Unbounded es) (entries_between key_cmp (Excluded k) Unbounded es)) ≡ cond b ((e.0, arc_value e.1) ∷ filter (λ d. is_above (Some k) d.0) (seen es)) (filter (λ d. is_above (Some k) d.0) (seen es))) [
-    | true ↦ ap (λ (l : List (Key × Account)). (e.0, arc_value e.1) ∷ l) (between k es)
-    | false ↦ between k es
-  ]
+  | true ↦ ap (λ (l : List (Key × Account)). (e.0, arc_value e.1) ∷ l) (between k es)
+  | false ↦ between k es
+]
 
 -- the accounts of a map that stand above a key are those after it
 pub entries_between-seen : (es : List (Key × Shared)) (k : Key) → IsStrictlySortedBy key_cmp (keys_of es) → seen (entries_between key_cmp (Excluded k) Unbounded es) ≡ entries_after (state_seen es) (Some k)
@@ -99,7 +99,7 @@ goes_on given (d ∷ es) e rest ascends h = by_case (is_above given d.0) refl (�
         let tail : filter (λ x. is_above given x.0) es ≡ rest = cc in
         let all : es ≡ rest = sym (all_further given d.0 es is ascends.0) ∙ tail in
         let here : filter (λ x. is_above (Some d.0) x.0) (d ∷ es) ≡ es =
-                ap (λ (b : Bool). cond b (d ∷ filter (λ x. is_above (Some d.0) x.0) es) (filter (λ x. is_above (Some d.0) x.0) es)) (not_itself d.0) ∙ keeps_all d.0 es ascends.0 in
+        ap (λ (b : Bool). cond b (d ∷ filter (λ x. is_above (Some d.0) x.0) es) (filter (λ x. is_above (Some d.0) x.0) es)) (not_itself d.0) ∙ keeps_all d.0 es ascends.0 in
         subst (λ (x : Key × Account). filter (λ y. is_above (Some x.0) y.0) (d ∷ es) ≡ rest) same (here ∙ all)
     by_case false is later g =
         let below = first_kept (λ (q : Key). key_cmp d.0 q ≡ Less) given es e rest ascends.0 g in

@@ -36,20 +36,20 @@ ascend-seen es h = subst (IsStrictlySortedBy key_cmp) (sym (keys-seen es)) h
 pub entries-state_seen : (es : List (Key × Shared)) → Ascend es → entries (state_seen es) ≡ seen es
 entries-state_seen es h = entries-from_entries key_cmp_total key_cmp_exact (seen es) (ascend-seen es h)
 
-seen-insert_entry : (es : List (Key × Shared)) (k : Key) (v : Shared) → seen (insert_entry key_cmp es k v) ≡ insert_entry key_cmp (seen es) k (arc_value v)
+pub seen-insert_entry : (es : List (Key × Shared)) (k : Key) (v : Shared) → seen (insert_entry key_cmp es k v) ≡ insert_entry key_cmp (seen es) k (arc_value v)
 seen-insert_entry [] k v = refl
 seen-insert_entry (e ∷ es) k v = elim (key_cmp k e.0) as (λ o. seen (match_ordering o ((k, v) ∷ e ∷ es) ((e.0, v) ∷ es) (e ∷ insert_entry key_cmp es k v)) ≡ match_ordering o ((k, arc_value v) ∷ seen (e ∷ es)) ((e.0, arc_value v) ∷ seen es) ((e.0, arc_value e.1) ∷ insert_entry key_cmp (seen es) k (arc_value v))) [
-    | Less ↦ refl
-    | Equal ↦ refl
-    | Greater ↦ ap (λ (l : List (Key × Account)). (e.0, arc_value e.1) ∷ l) (seen-insert_entry es k v)
-  ]
+  | Less ↦ refl
+  | Equal ↦ refl
+  | Greater ↦ ap (λ (l : List (Key × Account)). (e.0, arc_value e.1) ∷ l) (seen-insert_entry es k v)
+]
 
 seen-remove_entry : (es : List (Key × Shared)) (test : Key → Bool) → seen (remove_entry test es) ≡ remove_entry test (seen es)
 seen-remove_entry [] test = refl
 seen-remove_entry (e ∷ es) test = elim (test e.0) as (λ b. seen (cond b es (e ∷ remove_entry test es)) ≡ cond b (seen es) ((e.0, arc_value e.1) ∷ remove_entry test (seen es))) [
-    | true ↦ refl
-    | false ↦ ap (λ (l : List (Key × Account)). (e.0, arc_value e.1) ∷ l) (seen-remove_entry es test)
-  ]
+  | true ↦ refl
+  | false ↦ ap (λ (l : List (Key × Account)). (e.0, arc_value e.1) ∷ l) (seen-remove_entry es test)
+]
 
 found : (o : Option Shared) (b : Bool) (v : Shared) → option_map arc_value (cond b (Some v) o) ≡ cond b (Some (arc_value v)) (option_map arc_value o)
 found o true v = refl
@@ -70,18 +70,18 @@ state_seen-insert_entry es k v =
     let same : seen (insert_entry key_cmp es k v) ≡ put key_cmp k account (seen es) = seen-insert_entry es k v ∙ sym (put-insert_entry key_cmp k account (seen es)) in
     ap (λ (l : List (Key × Account)). from_entries {R = key_cmp} l) same
     ∙ same_map key_cmp_total key_cmp_exact _ _ (λ q.
-        get-from_entries key_cmp_total (put key_cmp k account (seen es)) q ∙ find-put key_cmp key_cmp_total q k account (seen es)
-        ∙ ap (cond (eq_by_cmp key_cmp q k) (Some account)) (sym (get-from_entries key_cmp_total (seen es) q))
-        ∙ sym (get-insert key_cmp_total (state_seen es) k account q))
+    get-from_entries key_cmp_total (put key_cmp k account (seen es)) q ∙ find-put key_cmp key_cmp_total q k account (seen es)
+    ∙ ap (cond (eq_by_cmp key_cmp q k) (Some account)) (sym (get-from_entries key_cmp_total (seen es) q))
+    ∙ sym (get-insert key_cmp_total (state_seen es) k account q))
 
 -- one entry less
 pub state_seen-remove_entry : (es : List (Key × Shared)) (k : Key) → Ascend es → state_seen (remove_entry (is_at (key_cmp k)) es) ≡ remove (state_seen es) k
 state_seen-remove_entry es k h =
     let test = is_at (key_cmp k) in
     same_entries_map _ _ (
-      entries-state_seen (remove_entry test es) (sorted-remove_entry key_cmp_total test es h)
-      ∙ seen-remove_entry es test ∙ ap (remove_entry test) (sym (entries-state_seen es h))
-      ∙ sym (entries-remove_entry key_cmp_total key_cmp_exact (state_seen es) k))
+    entries-state_seen (remove_entry test es) (sorted-remove_entry key_cmp_total test es h)
+    ∙ seen-remove_entry es test ∙ ap (remove_entry test) (sym (entries-state_seen es h))
+    ∙ sym (entries-remove_entry key_cmp_total key_cmp_exact (state_seen es) k))
 
 length-seen : (es : List (Key × Shared)) → length (seen es) ≡ length es
 length-seen [] = refl

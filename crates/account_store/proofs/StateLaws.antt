@@ -29,9 +29,9 @@ kept a = cond (nat_eq a.lamports 0) None (Some a)
 
 pub get-put : (s : State) (k : Key) (a : Account) (q : Key) → get (put s k a) q ≡ cond (eq_by_cmp key_cmp q k) (kept a) (get s q)
 get-put s k a q = elim (nat_eq a.lamports 0) as (λ b. get (cond b (map.remove s k) (map.insert s k a)) q ≡ cond (eq_by_cmp key_cmp q k) (cond b None (Some a)) (get s q)) [
-    | true ↦ get-remove key_cmp_total s k q
-    | false ↦ get-insert key_cmp_total s k a q
-  ]
+  | true ↦ get-remove key_cmp_total s k q
+  | false ↦ get-insert key_cmp_total s k a q
+]
 
 lamports_found : (o : Option Account) → unwrap_or (option_map (λ (a : Account). a.lamports) o) 0 ≡ (unwrap_or o empty_account).lamports
 lamports_found None = refl
@@ -63,9 +63,9 @@ sum-remove s k =
 
 zero_or_more : (a : Account) → ((nat_eq a.lamports 0 ≡ true) × (a.lamports ≡ 0)) ⊎ ((nat_eq a.lamports 0 ≡ false) × (1 ≤ a.lamports))
 zero_or_more a = elim (cases_Bool (nat_eq a.lamports 0)) [
-    | inl e ↦ inl (e, grind (arith, nat_tests))
-    | inr e ↦ inr (e, grind (arith, nat_tests))
-  ]
+  | inl e ↦ inl (e, grind (arith, nat_tests))
+  | inr e ↦ inr (e, grind (arith, nat_tests))
+]
 
 pub put-zero : (s : State) (k : Key) (a : Account) → a.lamports ≡ 0 → put s k a ≡ remove s k
 put-zero s k a zero = rw zero refl
@@ -76,9 +76,9 @@ put-more s k a more = let e : nat_eq a.lamports 0 ≡ false = grind (arith, nat_
 -- the sum after an account is written
 pub sum-put : (s : State) (k : Key) (a : Account) → sum (put s k a) + (at s k).lamports ≡ sum s + a.lamports
 sum-put s k a = elim (zero_or_more a) [
-    | inl z ↦ rw (put-zero s k a z.1) (omega (arith, sum-remove s k, z.1))
-    | inr m ↦ ap (λ (t : State). sum t + (at s k).lamports) (put-more s k a m.1) ∙ sum-insert s k a
-  ]
+  | inl z ↦ rw (put-zero s k a z.1) (omega (arith, sum-remove s k, z.1))
+  | inr m ↦ ap (λ (t : State). sum t + (at s k).lamports) (put-more s k a m.1) ∙ sum-insert s k a
+]
 
 -- no account has more lamports than all together
 pub lamports-at-le : (s : State) (k : Key) → (at s k).lamports ≤ sum s
@@ -108,9 +108,9 @@ IsState-remove s k is = record {
 
 pub IsState-put : (s : State) (k : Key) (a : Account) → IsState s → length a.bytes ≤ 10485760 → sum (put s k a) ≤ 2 ^ 64 - 1 → IsState (put s k a)
 IsState-put s k a is short fits = elim (zero_or_more a) [
-    | inl z ↦ subst IsState (sym (put-zero s k a z.1)) (IsState-remove s k is)
-    | inr m ↦ let e = put-more s k a m.1 in subst IsState (sym e) (IsState-insert s k a is (m.1, short) (subst (λ (t : State). sum t ≤ 2 ^ 64 - 1) e fits))
-  ]
+  | inl z ↦ subst IsState (sym (put-zero s k a z.1)) (IsState-remove s k is)
+  | inr m ↦ let e = put-more s k a m.1 in subst IsState (sym e) (IsState-insert s k a is (m.1, short) (subst (λ (t : State). sum t ≤ 2 ^ 64 - 1) e fits))
+]
 
 -- an account that is there
 pub IsHeld-get : (s : State) (k : Key) (a : Account) → IsState s → get s k ≡ Some a → IsHeld a

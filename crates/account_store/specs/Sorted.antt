@@ -1,8 +1,10 @@
 -- A state from a list of entries, whose keys ascend.
 use Rattle.std.specs.Prelude.{ℕ, ◌+◌, ◌-◌, ◌^◌, List, [], ◌∷◌, ◌++◌, length, map as each, sum_by, slice_get, nat_eq, nat_lt, not, if◌then◌else◌, Bool, true, false, Option, Some, None, Result, Ok, Err, option_map}
+use Rattle.std.specs.List.Sorted.{IsStrictlySortedBy}
 use Rattle.std.specs.FinMap as map
 use Rattle.sol_base.specs.declared.key.Key.{Key}
 use Rattle.sol_base.specs.declared.account.Account.{Account}
+use Rattle.sol_base.specs.Keys.{key_cmp}
 use Rattle.account_store.specs.declared.sorted.KeyedAccount.{KeyedAccount}
 use Rattle.account_store.specs.declared.sorted.StoreFault.{StoreFault}
 use Rattle.account_store.specs.declared.sorted.StoreFault.TheVariants.{OutOfOrder, Empty, SupplyTooLarge, OutOfMemory}
@@ -11,8 +13,16 @@ use Rattle.account_store.specs.State.{State, is_above}
 abbrev pub entry_of : KeyedAccount → Key × Account
 entry_of e = (e.key, e.account)
 
+abbrev pub keyed : Key × Account → KeyedAccount
+keyed e = record { key = e.0; account = e.1 }
+
+-- the lamports of all entries together
 abbrev pub supply : List KeyedAccount → ℕ
 supply es = sum_by (λ e. e.account.lamports) es
+
+-- the keys ascend
+abbrev pub Ascends : List KeyedAccount → Type 0
+Ascends es = IsStrictlySortedBy key_cmp (each (λ e. e.key) es)
 
 -- the key of the last entry, if there is one
 abbrev pub last_key : List KeyedAccount → Option Key

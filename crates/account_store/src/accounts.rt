@@ -1,10 +1,14 @@
-ghost use Rattle.std.specs.Prelude.{◌≡◌, ◌≤◌, ◌-◌, ◌^◌, OnOk, OnErr, option_map, option_copied, length};
+ghost use Rattle.std.specs.Prelude.{◌≡◌, ◌≤◌, ◌-◌, ◌^◌, ◌<◌, OnOk, OnErr, option_map, option_copied, length};
 ghost use Rattle.std.specs.Arc.{arc_value};
+ghost use Rattle.std.specs.List.{AllByRecursion};
+ghost use Rattle.spec_base.specs.Reading.{Gives};
 ghost use Rattle.account_store.specs.State as state;
 ghost use Rattle.account_store.specs.State.{IsState};
 ghost use Rattle.account_store.specs.Shared.{shared_lamports};
+ghost use Rattle.account_store.specs.Sorted.{state_of, is_memory};
 
-use sol_base::{Account, Key, OutOfMemory};
+use crate::sorted::{KeyedAccount, StoreFault, checked_supply, shared_map};
+use sol_base::{Account, Items, Key, OutOfMemory};
 use std::alloc::Global;
 use std::collections::BTreeMap;
 use std::marker::Model;
@@ -48,6 +52,17 @@ impl Accounts {
             tree: BTreeMap::new(alloc),
             total: 0,
         }
+    }
+
+    /// The accounts of a list whose keys ascend. The list is dropped where it is refused.
+    pub fn from_sorted(alloc: Global, entries: Items<KeyedAccount>) -> Result<Accounts, StoreFault>
+        requires few { length entries < 2 ^ 32 }
+        requires short { AllByRecursion (λ e. length e.account.bytes ≤ 10485760) entries }
+        ensures { Gives is_memory (λ accounts. accounts) result (state_of entries) }
+    {
+        let total = checked_supply(entries.as_slice())?;
+        let tree = shared_map(alloc, entries)?;
+        Ok(Accounts { tree, total })
     }
 
     /// The account of the key. None where it is absent.
@@ -108,7 +123,10 @@ impl Accounts {
         ensures state { IsState self.now }
     {
         match key {
-            Some(key) => self.tree.range((Bound::Excluded(*key), Bound::Unbounded)).next(),
+            Some(key) => self
+                .tree
+                .range((Bound::Excluded(*key), Bound::Unbounded))
+                .next(),
             None => self.tree.first_key_value(),
         }
     }

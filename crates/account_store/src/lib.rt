@@ -3,7 +3,9 @@
 #![tactic(auto)]
 
 mod accounts;
+mod laws;
 mod sorted;
 
 pub use accounts::{Accounts, MAX_DATA_LEN};
+pub use laws::{next_accounts_are_the_entries, states_are_their_entries, sums_follow_the_accounts};
 pub use sorted::{KeyedAccount, StoreFault};

@@ -22,7 +22,7 @@ overflow_add-self c =
     let was = c.lamports_of.ensures ∙ ap shared_lamports c.in_ok-before.ensures.old in
     let fits = total-put_in c.self.inside.tree.entries c.self.inside.total c.args.key account c.self.invariant (sum-put_in c.self.inside.tree.entries c.args.self.now c.args.key account c.self.view_is more c.requires.fits) in
     let same : c.self.inside.total - c.lamports_of.result + c.deref.result.now.lamports ≡ c.self.inside.total - shared_lamports (lookup (is_at (key_cmp c.args.key)) c.self.inside.tree.entries) + account.lamports =
-            ap (λ n. c.self.inside.total - n + c.deref.result.now.lamports) was ∙ ap (λ (a : Account). c.self.inside.total - shared_lamports (lookup (is_at (key_cmp c.args.key)) c.self.inside.tree.entries) + a.lamports) c.deref.ensures in
+    ap (λ n. c.self.inside.total - n + c.deref.result.now.lamports) was ∙ ap (λ (a : Account). c.self.inside.total - shared_lamports (lookup (is_at (key_cmp c.args.key)) c.self.inside.tree.entries) + a.lamports) c.deref.ensures in
     omega (arith, same, fits)
 
 pub invariant_of-self-2 : goal.invariant_of-self-2
@@ -33,7 +33,7 @@ invariant_of-self-2 c =
     let more = has_lamports _ _ c.deref.ensures c.if-lamports-eq0.false in
     let was = c.lamports_of.ensures ∙ ap shared_lamports c.in_ok-before.ensures.old in
     IsKept-insert es c.insert.new.self.entries total _ c.args.key c.args.account c.self.invariant c.in_ok-before.ensures.entries c.in_ok-before.ensures.ordered (more, c.requires.short) (sum-put_in es c.args.self.now c.args.key account c.self.view_is more c.requires.fits)
-      (ap (λ n. total - n + c.deref.result.now.lamports) was ∙ ap (λ (a : Account). total - shared_lamports (lookup (is_at (key_cmp c.args.key)) es) + a.lamports) c.deref.ensures)
+    (ap (λ n. total - n + c.deref.result.now.lamports) was ∙ ap (λ (a : Account). total - shared_lamports (lookup (is_at (key_cmp c.args.key)) es) + a.lamports) c.deref.ensures)
 
 pub returns-clause-ok : goal.returns-clause-ok
 returns-clause-ok c =
