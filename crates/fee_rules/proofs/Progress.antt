@@ -95,6 +95,7 @@ module _ (keys : List Key) (instructions : List Instruction) (n : ℕ) (asked : 
 
 -- after the last instruction
 pub all_asked : (message : Message) (n : ℕ) (asked : Asked) (others : ℕ) → IsSoFar message.keys message.instructions n asked others → n ≡ length message.instructions → budget_in message ≡ Ok (budget_for asked others)
+unfolding budget_in
 all_asked message n asked others so_far over =
     let whole : take n message.instructions ≡ message.instructions = ap (λ m. take m message.instructions) over ∙ take-length message.instructions in
     let all : take n (enumerate_from 0 message.instructions) ≡ enumerate_from 0 message.instructions = ap (λ m. take m (enumerate_from 0 message.instructions)) (over ∙ sym (length-enumerate_from 0 message.instructions)) ∙ take-length (enumerate_from 0 message.instructions) in

@@ -60,7 +60,7 @@ abbrev pub first_or : {X : Type 0} → List BudgetFault → X → Result X Budge
 first_or [] answer = Ok answer
 first_or (fault ∷ _) answer = Err fault
 
-abbrev pub budget_in : Message → Result Budget BudgetFault
+unfoldable pub budget_in : Message → Result Budget BudgetFault
 budget_in message =
     first_or (faults_in message.keys message.instructions)
     (budget_for (asked_of (requests_in message.keys message.instructions)) (others_in message.keys message.instructions))

@@ -17,11 +17,11 @@ base_fee message = 5000 * message.header.required
 abbrev pub priority_fee : ℕ → Budget → ℕ
 priority_fee base budget = min (ceil_div (budget.price * budget.limit) 1000000) (2 ^ 64 - 1 - base)
 
-abbrev pub fee_of : Message → Budget → Charge
+unfoldable pub fee_of : Message → Budget → Charge
 fee_of message budget = record { base = base_fee message; priority = priority_fee (base_fee message) budget }
 
 -- what is not burned of a fee, in millionths of a lamport, for each unit and one more
-abbrev pub priority_of : Charge → Budget → ℕ
+unfoldable pub priority_of : Charge → Budget → ℕ
 priority_of fee budget = (fee.priority + fee.base - fee.base / 2) * 1000000 / (budget.limit + 1)
 
 -- half of the base fees is burned, and the rest is left

@@ -13,6 +13,7 @@ pub const PRICES_PER_LAMPORT: u128 = 1_000_000;
 
 /// What the message's transaction pays with that budget. A priority fee with which the sum does not
 /// fit in a u64 counts as the greatest with which it does (Solana; the cut is the project's own).
+#[tactic(auto, unfolding(crate::specs::Fees::fee_of))]
 pub fn fee(message: &Message, budget: &Budget) -> Fee
     ensures { result ≡ fee_of message.now budget.now }
 {
@@ -34,6 +35,7 @@ pub fn total(fee: &Fee) -> u64
 
 /// The rank of a transaction: what the collector gets of its fee, in millionths of a lamport, for
 /// each unit of its limit and one more (the project's own). Greater comes first.
+#[tactic(auto, unfolding(crate::specs::Fees::priority_of))]
 pub fn priority(fee: &Fee, budget: &Budget) -> u128
     ensures { result ≡ priority_of fee.now budget.now }
 {
