@@ -62,9 +62,11 @@ module _ (program : Key) (writable : List Bool) (before after : List (Arc Accoun
   goes_on n b a below is_before is_after none here = more (broken_by program) (changes writable (accounts_of before) (accounts_of after)) n (n, (false, (arc_value b, arc_value a))) (rw length-all below) none (broken_at n b a below is_before is_after ∙ here)
 
   pub stops : (n : ℕ) (b a : Arc Account Global) (fault : RuleFault) → n < length writable → b ≡ get_or before n b → a ≡ get_or after n a → NoneBroken program writable (accounts_of before) (accounts_of after) n → broken_rule program (get_or writable n false) (arc_value b) (arc_value a) n ≡ Some fault → rules program writable (accounts_of before) (accounts_of after) ≡ Err fault
+  unfolding rules
   stops n b a fault below is_before is_after none here = rw (found (broken_by program) (changes writable (accounts_of before) (accounts_of after)) n (n, (false, (arc_value b, arc_value a))) fault (rw length-all below) none (broken_at n b a below is_before is_after ∙ here)) refl
 
   ends : (n : ℕ) → n ≡ length writable → NoneBroken program writable (accounts_of before) (accounts_of after) n → rules program writable (accounts_of before) (accounts_of after) ≡ last_of (unbalanced (accounts_of before) (accounts_of after))
+  unfolding rules
   ends n over none =
       let whole : filter_map (broken_by program) (changes writable (accounts_of before) (accounts_of after)) ≡ [] = ap (filter_map (broken_by program)) (sym (take-length (changes writable (accounts_of before) (accounts_of after))) ∙ ap (λ m. take m (changes writable (accounts_of before) (accounts_of after))) (length-all ∙ sym over)) ∙ none in
       ap (λ faults. first_of (faults ++ (if unbalanced (accounts_of before) (accounts_of after) then Unbalanced ∷ [] else []))) whole

@@ -125,6 +125,7 @@ balanced before after none = is_same (lamports_in before) (lamports_in after) (i
     no_item false none = refl
 
 pub all_kept : (program : Key) (writable : List Bool) (before after : List Account) → rules program writable before after ≡ Ok tt → AreKept program writable before after
+unfolding rules
 all_kept program writable before after ok =
     let parts = empty_both (filter_map (broken_by program) (changes writable before after)) (if unbalanced before after then Unbalanced ∷ [] else []) (no_fault (broken_rules program writable before after) ok) in
     record {

@@ -98,7 +98,8 @@ abbrev pub first_of : List RuleFault → Result (Unit {0}) RuleFault
 first_of [] = Ok tt
 first_of (fault ∷ _) = Err fault
 
-abbrev pub rules : Key → List Bool → List Account → List Account → Result (Unit {0}) RuleFault
+-- nothing, or the first broken rule with its place
+unfoldable pub rules : Key → List Bool → List Account → List Account → Result (Unit {0}) RuleFault
 rules program writable before after = first_of (broken_rules program writable before after)
 
 -- what an account keeps that breaks none of rules 1 to 6
