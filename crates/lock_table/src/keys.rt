@@ -10,6 +10,7 @@ use std::alloc::Global;
 use std::marker::Model;
 
 /// Distinct keys, each with a number: its place in the order of first occurrence.
+#[derive(Drop)]
 pub struct KeyTable {
     keys: IndexSet<Key>,
 }

@@ -2,8 +2,11 @@
 #![tactic(auto)]
 
 mod chains;
+mod edges;
+mod graph;
 mod mark;
 mod rows;
 mod tree;
 
+pub use graph::Graph;
 pub use mark::Mark;
