@@ -35,12 +35,7 @@ fn legacy_opening(alloc: Global) -> Result<Vec<u8>, AllocError> {
 }
 
 /// The same transfer as a version 0 message, with the second account and the lookup's indexes as given.
-fn zero(
-    alloc: Global,
-    version: u8,
-    account: u8,
-    indexes: &[u8],
-) -> Result<Vec<u8>, AllocError> {
+fn zero(alloc: Global, version: u8, account: u8, indexes: &[u8]) -> Result<Vec<u8>, AllocError> {
     let mut wire = Vec::new(alloc);
     wire.extend_from_slice(&[1])?;
     add(&mut wire, 0, 64)?;
@@ -136,5 +131,44 @@ fn a_lookup_is_read_and_written(rt: HostRuntime) -> Result<(), Fail> {
         Parsed::Good { tx: _, name: found } => assert_eq!(rt; found, name),
         Parsed::Bad(fault) => assert_eq!(rt; fault, WireFault::TooLong),
     }
+    Ok(())
+}
+
+#[test]
+fn keys_have_their_roles(rt: HostRuntime) -> Result<(), Fail> {
+    let alloc = rt.alloc();
+    let wire = zero(alloc, 128, 2, &[1, 0, 0])?;
+    let tx = read_wire(alloc, wire.as_slice())?;
+    let message = &tx.message;
+    assert_eq!(rt; sanitize(&tx, 64), Ok(()));
+    assert_eq!(rt; sanitize(&tx, 2), Err(SanitizeFault::TooManyKeys));
+    let mut writable = Items::new(alloc);
+    writable.push(Key([0x11; 32]))?;
+    let readonly = Items::new(alloc);
+    let loaded = Loaded { writable, readonly };
+    let locks = locks(alloc, message, &loaded)?;
+    let keys = keys_of(alloc, message, &loaded)?;
+    assert_eq!(rt; locks.len(), 3);
+    assert_eq!(rt; keys.len(), 3);
+    let roles = [(true, true, 0x01), (false, false, 0), (false, true, 0x11)];
+    for (index, (signs, writes, byte)) in roles.into_iter().enumerate() {
+        assert_eq!(rt; is_signer(message, index as u8), signs);
+        assert_eq!(rt; is_writable(message, &loaded, index as u8), writes);
+        assert_eq!(rt; locks.as_slice()[index].write, writes);
+        assert_eq!(rt; keys.as_slice()[index].0[31], byte);
+        assert_eq!(rt; reserved(&keys.as_slice()[index]), byte == 0);
+    }
+    Ok(())
+}
+
+#[test]
+fn an_empty_lookup_is_refused(rt: HostRuntime) -> Result<(), Fail> {
+    let alloc = rt.alloc();
+    let wire = zero(alloc, 128, 1, &[0, 0])?;
+    let tx = read_wire(alloc, wire.as_slice())?;
+    assert_eq!(rt;
+        sanitize(&tx, 64),
+        Err(SanitizeFault::EmptyLookup { lookup: 0 })
+    );
     Ok(())
 }
