@@ -80,6 +80,10 @@ sum-put s k a = elim (zero_or_more a) [
   | inr m ↦ ap (λ (t : State). sum t + (at s k).lamports) (put-more s k a m.1) ∙ sum-insert s k a
 ]
 
+-- so it grows by no more than what is written
+pub sum-put-le : (s : State) (k : Key) (a : Account) → sum (put s k a) ≤ sum s + a.lamports
+sum-put-le s k a = omega (arith, sum-put s k a)
+
 -- no account has more lamports than all together
 pub lamports-at-le : (s : State) (k : Key) → (at s k).lamports ≤ sum s
 lamports-at-le s k = omega (arith, sum-remove s k)
