@@ -1,5 +1,5 @@
 -- A copy of numbered locks in the order of their numbers.
-use Rattle.std.proofs.Common.{◌≡◌, ℕ, ◌==◌, ◌⊎◌, inl, inr, List, map, get_or, sym, ◌∙◌, ap₂, arith, eq-eqb}
+use Rattle.std.proofs.Common.{◌≡◌, ℕ, ◌==◌, ◌⊎◌, inl, inr, List, map, sym, ◌∙◌, ap₂, arith, eq-eqb}
 use Rattle.std.specs.List.{IsDistinct}
 use Rattle.std.specs.List.Sorted.{IsPermutation, IsNonDecreasingBy}
 use Rattle.std.proofs.lemmas.Bool.{eqb-false, ne_eqb, cases_eq}

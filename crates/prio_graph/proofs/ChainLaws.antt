@@ -1,8 +1,8 @@
 -- What the chains say of positions.
-use Rattle.std.proofs.Common.{◌≡◌, ℕ, zero, suc, ◌+◌, ◌<◌, ◌≤◌, ◌==◌, Bool, true, false, not, ◌&&◌, ◌||◌, ◌⊎◌, ◌↔◌, cond, inl, inr, List, [], ◌∷◌, ◌++◌, length, get_or, Option, Some, None, refl, sym, ◌∙◌, ap, ap₂, subst, arith, eqb-true, eq-eqb}
-use Rattle.std.specs.Prelude.{count_by, option_to_list}
-use Rattle.std.specs.List.{list_any, flat_map}
-use Rattle.std.proofs.lemmas.Bool.{false≢true, both_ways, cases_Bool, cases_lt, cases_eq, or_cases, or_left, or_right, and_parts, and_from, cond-true, cond-false, not_from_false, false_from_ne_true}
+use Rattle.std.proofs.Common.{◌≡◌, ℕ, zero, suc, ◌<◌, ◌≤◌, ◌==◌, Bool, true, false, not, ◌&&◌, ◌||◌, ◌⊎◌, cond, inl, inr, List, [], ◌∷◌, ◌++◌, length, get_or, Option, Some, None, refl, sym, ◌∙◌, ap, subst, arith, eqb-true, eq-eqb}
+use Rattle.std.specs.Prelude.{option_to_list}
+use Rattle.std.specs.List.{list_any}
+use Rattle.std.proofs.lemmas.Bool.{false≢true, both_ways, cases_Bool, cases_lt, cases_eq, or_cases, or_left, or_right, and_parts, and_from, not_from_false, false_from_ne_true}
 use Rattle.lock_table.specs.declared.locks.NumberedLock.{NumberedLock}
 use Rattle.lock_table.specs.Numbers.{meets, conflicts}
 use Rattle.prio_graph.specs.declared.mark.Mark.{Mark}
@@ -70,13 +70,13 @@ met_at one other h =
     let b = get_or other second.0 no_lock in
     let both = and_parts (a.number == b.number) (a.write || b.write) second.2 in
     let how : (writes one b.number ≡ true) ⊎ ((reads one b.number ≡ true) × (b.write ≡ true)) =
-        elim (cases_Bool a.write) [
-          | inl t ↦ inl (any_at (λ lock. (lock.number == b.number) && lock.write) one first.0 no_lock first.1 (and_from (a.number == b.number) a.write both.0 t))
-          | inr f ↦ inr (
-              any_at (λ lock. (lock.number == b.number) && not lock.write) one first.0 no_lock first.1 (and_from (a.number == b.number) (not a.write) both.0 (not_from_false a.write f)),
-              elim (or_cases a.write b.write both.1) [ inl t ↦ absurd (both_ways a.write f t) | inr r ↦ r ],
-            )
-        ] in
+    elim (cases_Bool a.write) [
+      | inl t ↦ inl (any_at (λ lock. (lock.number == b.number) && lock.write) one first.0 no_lock first.1 (and_from (a.number == b.number) a.write both.0 t))
+      | inr f ↦ inr (
+        any_at (λ lock. (lock.number == b.number) && not lock.write) one first.0 no_lock first.1 (and_from (a.number == b.number) (not a.write) both.0 (not_from_false a.write f)),
+        elim (or_cases a.write b.write both.1) [ inl t ↦ absurd (both_ways a.write f t) | inr r ↦ r ],
+      )
+    ] in
     (second.0, second.1, how)
 
 -- the last writer is one, and stands before
@@ -169,8 +169,7 @@ module _ (sets : List (List NumberedLock)) (i j : ℕ) where
   pub edge-is : has j (edges_into sets i) ≡ true → (j < i) × (conflicts (set_at sets j) (set_at sets i) ≡ true)
   edge-is h =
       let found = any_place (λ lock. has j (awaited sets i lock)) (set_at sets i) no_lock (sym (any-flat_map (λ x. x == j) (awaited sets i) (set_at sets i)) ∙ h) in
-      let cases = awaited_cases (get_or (set_at sets i) found.0 no_lock) found.2 in
-      (
+      let cases = awaited_cases (get_or (set_at sets i) found.0 no_lock) found.2 in (
         cases.0,
         elim cases.1 [
           | inl w ↦ conflict-written (set_at sets j) (set_at sets i) found.0 found.1 w
@@ -245,9 +244,9 @@ module _ (sets : List (List NumberedLock)) (marks : List Mark) (in_order : Start
                     elim (cases_eq j v) [
                       | inl q ↦ edge_done j (edge-writer sets i j k m (e ∙ ap Some (sym q)))
                       | inr d ↦ unfollowed (λ x a b. false_from_ne_true _ (λ t.
-                        let last = last_writer-from sets i lock.number x b t in
-                        let same : v ≡ last.0 = cc (e, last.1) in
-                        absurd (omega (arith, same, last.2))))
+                          let last = last_writer-from sets i lock.number x b t in
+                          let same : v ≡ last.0 = cc (e, last.1) in
+                          absurd (omega (arith, same, last.2))))
                     ]
               ]
 
@@ -257,8 +256,7 @@ module _ (sets : List (List NumberedLock)) (marks : List Mark) (in_order : Start
         elim met.2 [ inl w ↦ writer_done j met.0 l met.1 w | inr r ↦ reader_done j met.0 l met.1 r.0 r.1 ]
 
 pub counters_tell : CountersTell
-counters_tell sets marks in_order i below =
-    (
-      (λ free. all_done sets marks in_order i below free),
-      (λ done. count-none (λ j. not (is_done (mark_at marks j))) (edges_into sets i) (λ j h. let edge = edge-is sets i j h in ap (λ m. not (is_done m)) (done j edge.0 edge.1))),
-    )
+counters_tell sets marks in_order i below = (
+  (λ free. all_done sets marks in_order i below free),
+  (λ done. count-none (λ j. not (is_done (mark_at marks j))) (edges_into sets i) (λ j h. let edge = edge-is sets i j h in ap (λ m. not (is_done m)) (done j edge.0 edge.1))),
+)

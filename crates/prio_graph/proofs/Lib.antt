@@ -3,3 +3,7 @@ pub mod Passing
 pub mod Finding
 pub mod ChainLaws
 pub mod Moves
+pub mod Releases
+pub mod Chaining
+pub mod Openings
+pub mod MachineLaws

@@ -1,8 +1,8 @@
 -- What each move of a position does to what a graph keeps.
-use Rattle.std.proofs.Common.{◌≡◌, ℕ, ◌+◌, ◌*◌, ◌<◌, ◌≤◌, ◌==◌, Bool, true, false, not, ◌&&◌, ◌⊎◌, cond, inl, inr, List, [], ◌∷◌, length, get_or, set, replicate, refl, sym, ◌∙◌, ap, ap₂, subst, arith, eqb-true, eq-eqb, ne_eqb, get_or-set_same, get_or-set_other, length-set}
+use Rattle.std.proofs.Common.{◌≡◌, ℕ, ◌+◌, ◌*◌, ◌<◌, ◌≤◌, ◌==◌, Bool, true, false, not, ◌&&◌, ◌⊎◌, cond, inl, inr, List, [], length, get_or, set, refl, sym, ◌∙◌, ap, ap₂, subst, arith, eqb-true, eq-eqb, ne_eqb, get_or-set_same, get_or-set_other, length-set}
 use Rattle.std.proofs.lemmas.List.{get_or_past}
 use Rattle.std.specs.Prelude.{nat_lt, slice_index, if◌then◌else◌}
-use Rattle.std.proofs.lemmas.Bool.{both_ways, cases_Bool, cases_lt, cases_eq, cond_both, cond-true, cond-false, and_parts, and_right, lt-ltb, le-ltb}
+use Rattle.std.proofs.lemmas.Bool.{both_ways, cases_Bool, cases_lt, cases_eq, cond-true, cond-false, and_parts, lt-ltb, le-ltb}
 use Rattle.lock_table.specs.declared.locks.NumberedLock.{NumberedLock}
 use Rattle.lock_table.specs.Numbers.{conflicts}
 use Rattle.prio_graph.specs.declared.mark.Mark.{Mark}
@@ -10,8 +10,8 @@ use Rattle.prio_graph.specs.declared.mark.Mark.TheVariants.{Waiting, Started, Do
 use Rattle.prio_graph.specs.Ready.{Positions, set_at, mark_at, EarlierDone, IsReady, IsLeastReady}
 use Rattle.prio_graph.specs.Chains.{edges_into, is_done, counter, StartedInOrder}
 use Rattle.prio_graph.specs.Trees.{IsTree, leaf}
-use Rattle.prio_graph.specs.Keeping.{times, edges, none, is_waiting, shown, Keeps}
-use Rattle.prio_graph.proofs.Finding.{has, any_at, one_if, count-zero, count-split, count-same, times-positive}
+use Rattle.prio_graph.specs.Keeping.{times, none, is_waiting, shown, Keeps}
+use Rattle.prio_graph.proofs.Finding.{any_at, one_if, count-zero, count-split, count-same, times-positive}
 use Rattle.prio_graph.proofs.ChainLaws.{edge-is, counters_tell}
 
 -- a mark that is written
@@ -59,8 +59,7 @@ module _ (sets : List (List NumberedLock)) (marks : List Mark) (waits : List ℕ
   shown_ready i v l e d =
       elim (cases_Bool (is_waiting (mark_at marks i) && (slice_index waits i == 0))) [
         | inl t ↦
-            let parts = and_parts (is_waiting (mark_at marks i)) (slice_index waits i == 0) t in
-            (
+            let parts = and_parts (is_waiting (mark_at marks i)) (slice_index waits i == 0) t in (
               sym (cond-true (is_waiting (mark_at marks i) && (slice_index waits i == 0)) i none t) ∙ (sym (K.leaves i l) ∙ e),
               free_ready i l (waiting-is (mark_at marks i) parts.0) (eqb-true (slice_index waits i) 0 parts.1),
             )
@@ -127,7 +126,7 @@ module _ (sets : List (List NumberedLock)) (marks : List Mark) (waits : List ℕ
             | inl e ↦
                 cond-true (i == p) v (leaf tree (length sets) i) (eq-eqb i p e) ∙ (shows
                 ∙ subst (λ x. shown (is_waiting m && (slice_index waits p == 0)) p ≡ shown (is_waiting (mark_at (set marks p m) x) && (slice_index waits x == 0)) x) (sym e)
-                  (ap (λ y. shown (is_waiting y && (slice_index waits p == 0)) p) (sym (mark-same marks p m (in_marks l)))))
+                (ap (λ y. shown (is_waiting y && (slice_index waits p == 0)) p) (sym (mark-same marks p m (in_marks l)))))
             | inr d ↦
                 cond-false (i == p) v (leaf tree (length sets) i) (ne_eqb i p d) ∙ (K.leaves i u
                 ∙ ap (λ y. shown (is_waiting y && (slice_index waits i == 0)) i) (sym (mark-other marks p m i d)))
@@ -164,8 +163,8 @@ module _ (sets : List (List NumberedLock)) (marks : List Mark) (waits : List ℕ
     counter-finished i =
         count-split (λ j. not (is_done (mark_at marks j))) (λ j. not (is_done (mark_at (set marks p Done) j))) (λ j. j == p) (edges_into sets i)
         (λ j h. mark-cases (λ x y. one_if (not (is_done (mark_at marks x))) ≡ one_if (not (is_done y)) + one_if (x == p)) marks p Done (in_marks p (below p started))
-          (let was = ap (λ y. one_if (not (is_done y))) started in let one = ap one_if (eq-eqb p p refl) in omega (arith, was, one))
-          (λ x d. let zero = ap one_if (ne_eqb x p d) in omega (arith, zero)) j)
+        (let was = ap (λ y. one_if (not (is_done y))) started in let one = ap one_if (eq-eqb p p refl) in omega (arith, was, one))
+        (λ x d. let zero = ap one_if (ne_eqb x p d) in omega (arith, zero)) j)
 
     -- each later end is a position, and has as many edges to lose
     pub row_within : (row : List ℕ) → row ≡ get_or rows p [] → (k d : ℕ) → k < length row → get_or row k d < length waits
@@ -196,8 +195,7 @@ module _ (sets : List (List NumberedLock)) (marks : List Mark) (waits : List ℕ
       later_waits : (i : ℕ) → i < length sets → 0 < times i row → (i ≡ p → ⊥) × (mark_at marks i ≡ Waiting)
       later_waits i u t =
           let e = row_times i u in
-          let edge = edge-is sets i p (times-positive p (edges_into sets i) (omega (arith, e, t))) in
-          (
+          let edge = edge-is sets i p (times-positive p (edges_into sets i) (omega (arith, e, t))) in (
             (λ q. let a = edge.0 in omega (arith, q, a)),
             by_mark (mark_at marks i) refl (λ n. let d = K.in_order i u n p edge.0 edge.1 in cc (d, started)),
           )
@@ -240,7 +238,7 @@ module _ (sets : List (List NumberedLock)) (marks : List Mark) (waits : List ℕ
           K.leaves i u
           ∙ (ap (λ w. shown (is_waiting (mark_at marks i) && (w == 0)) i) same
           ∙ mark-cases (λ x y. shown (is_waiting (mark_at marks x) && (slice_index after_waits i == 0)) i ≡ shown (is_waiting y && (slice_index after_waits i == 0)) i) marks p Done (in_marks p (below p started))
-            (ap (λ m. shown (is_waiting m && (slice_index after_waits i == 0)) i) started) (λ x d. refl) i)
+          (ap (λ m. shown (is_waiting m && (slice_index after_waits i == 0)) i) started) (λ x d. refl) i)
 
       pub finish_keeps : Keeps sets (set marks p Done) after_waits rows after
       finish_keeps = record {

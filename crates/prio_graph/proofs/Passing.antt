@@ -1,5 +1,5 @@
 -- A position passes the chains, one lock after the other.
-use Rattle.std.proofs.Common.{◌≡◌, ◌≢◌, ℕ, zero, suc, ◌+◌, ◌<◌, ◌==◌, Bool, true, false, not, ◌&&◌, ◌||◌, cond, inl, inr, List, [], ◌∷◌, ◌++◌, length, get_or, set, drop, All, Option, Some, None, refl, sym, ◌∙◌, ap, ap₂, subst, arith, eq-eqb, ne_eqb, get_or-set_same, get_or-set_other, length-drop}
+use Rattle.std.proofs.Common.{◌≡◌, ◌≢◌, ℕ, ◌+◌, ◌<◌, ◌==◌, Bool, true, false, not, ◌&&◌, ◌||◌, cond, inl, inr, List, [], ◌∷◌, ◌++◌, length, get_or, set, drop, All, Option, Some, None, refl, sym, ◌∙◌, ap, ap₂, subst, arith, eq-eqb, ne_eqb, get_or-set_same, get_or-set_other, length-drop}
 use Rattle.std.specs.List.{list_any}
 use Rattle.std.proofs.lemmas.Bool.{cases_eq, cond_both, cond-true, cond-false, and_left, and_right, or_from}
 use Rattle.std.proofs.lemmas.List.{drop_more, get_or-drop, get_or_default}
@@ -69,7 +69,7 @@ module _ (x : NumberedLock) (rest : List NumberedLock) (position n : ℕ) where
         | inl e ↦
             let row : List ℕ = get_or readers x.number [] ++ position ∷ [] in
             let put : get_or (set readers x.number row) n [] ≡ get_or readers n [] ++ position ∷ [] =
-                subst (λ k. get_or (set readers x.number row) k [] ≡ get_or readers k [] ++ position ∷ []) e (get_or-set_same readers x.number row [] l) in
+            subst (λ k. get_or (set readers x.number row) k [] ≡ get_or readers k [] ++ position ∷ []) e (get_or-set_same readers x.number row [] l) in
             let no_writer = subst (λ k. writes rest k ≡ false) e (absent (λ y. y.write) x.number rest differ) in
             let no_reader = subst (λ k. reads rest k ≡ false) e (absent (λ y. not y.write) x.number rest differ) in
             let unwritten : writes (x ∷ rest) n ≡ false = or_from _ _ (and_right (x.number == n) x.write w) no_writer in

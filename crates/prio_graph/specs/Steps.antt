@@ -1,7 +1,9 @@
 -- The steps by which the chains are made, one position after the other.
-use Rattle.std.specs.Prelude.{◌≡◌, ℕ, ◌<◌, if◌then◌else◌, List, [], ◌∷◌, ◌++◌, length, slice_index_or, Option, Some, None, option_to_list}
+use Rattle.std.specs.Prelude.{◌≡◌, ℕ, ◌<◌, ◌≤◌, if◌then◌else◌, List, [], ◌∷◌, ◌++◌, length, slice_index, slice_index_or, Option, Some, None, option_to_list, All}
 use Rattle.lock_table.specs.declared.locks.NumberedLock.{NumberedLock}
-use Rattle.prio_graph.specs.Chains.{writes, reads}
+use Rattle.prio_graph.specs.Ready.{set_at}
+use Rattle.prio_graph.specs.Chains.{writes, reads, last_writer, readers_since, edges_into}
+use Rattle.prio_graph.specs.Keeping.{times, edges}
 
 -- whom a lock waits for, where these are the last writers and the readers since
 abbrev pub awaited_by : List (Option ℕ) → List (List ℕ) → NumberedLock → List ℕ
@@ -16,3 +18,15 @@ abbrev pub readers_after : List NumberedLock → ℕ → ℕ → List ℕ → Li
 readers_after locks position n before =
     if writes locks n then [] else
     if reads locks n then before ++ position ∷ [] else before
+
+-- the chains and the edges of the first i positions: the last writer of each number and its readers since, the later ends of the edges from each position, and how many lead to each
+pub record Chained (sets : List (List NumberedLock)) (i : ℕ) (last : List (Option ℕ)) (readers rows : List (List ℕ)) (waits : List ℕ) : Type 0 where
+  pub numbers : (j : ℕ) → All (λ lock. lock.number < length last) (set_at sets j)
+  pub readers_length : length readers ≡ length last
+  pub rows_length : length rows ≡ length sets
+  pub waits_length : length waits ≡ length sets
+  pub writer : (n : ℕ) → n < length last → slice_index_or last n None ≡ last_writer sets i n
+  pub since : (n : ℕ) → n < length last → slice_index_or readers n [] ≡ readers_since sets i n
+  pub later : (j m : ℕ) → m < i → edges rows j m ≡ times j (edges_into sets m)
+  pub never : (j m : ℕ) → i ≤ m → edges rows j m ≡ 0
+  pub counted : (m : ℕ) → m < i → slice_index waits m ≡ length (edges_into sets m)

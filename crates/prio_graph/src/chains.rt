@@ -1,4 +1,4 @@
-ghost use Rattle.std.specs.Prelude.{◌≡◌, ℕ, ◌<◌, All, OnOk, None, [], length, slice_index_or};
+ghost use Rattle.std.specs.Prelude.{◌≡◌, ℕ, ◌<◌, All, IfOk, OnOk, None, [], length, slice_index_or};
 ghost use Rattle.std.specs.List.{flat_map};
 ghost use Rattle.lock_table.specs.Numbers.{EachOnce};
 ghost use Rattle.prio_graph.specs.Steps.{awaited_by, writer_after, readers_after};
@@ -8,28 +8,28 @@ use lock_table::NumberedLock;
 use sol_base::{Items, OutOfMemory};
 use std::alloc::Global;
 
-/// Lists the earlier positions that the locks wait for.
-pub(crate) fn list_awaited(
+/// The earlier positions that the locks wait for.
+pub(crate) fn awaited(
+    alloc: Global,
     last: &[Option<u32>],
     readers: &[Items<u32>],
     locks: &[NumberedLock],
-    into: &mut Vec<u32>,
-) -> Result<(), OutOfMemory>
+) -> Result<Vec<u32>, OutOfMemory>
     requires last { All (λ lock. lock.number < length last.now) locks.now }
     requires readers { All (λ lock. lock.number < length readers.now) locks.now }
-    ensures { OnOk result (into.new.items ≡ flat_map (awaited_by last.now readers.now) locks.now) }
+    ensures { IfOk result (λ earlier. earlier.items ≡ flat_map (awaited_by last.now readers.now) locks.now) }
 {
-    into.clear();
+    let mut earlier = Vec::new(alloc);
     for lock in locks {
         let at = lock.number as usize;
         if let Some(writer) = last[at] {
-            into.push(writer)?;
+            earlier.push(writer)?;
         }
         if lock.write {
-            into.extend_from_slice(readers[at].as_slice())?;
+            earlier.extend_from_slice(readers[at].as_slice())?;
         }
     }
-    Ok(())
+    Ok(earlier)
 }
 
 /// Lets a position pass: it is the last writer of what it writes, and one more reader of what it reads.

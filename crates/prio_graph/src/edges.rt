@@ -1,9 +1,10 @@
-ghost use Rattle.std.specs.Prelude.{◌≡◌, ℕ, ◌+◌, ◌^◌, ◌<◌, ◌≤◌, All, IfOk, length, slice_index};
+ghost use Rattle.std.specs.Prelude.{◌≡◌, ℕ, ◌+◌, ◌^◌, ◌<◌, ◌≤◌, All, IfOk, OnOk, length, slice_index};
 ghost use Rattle.prio_graph.specs.Ready.{set_at};
 ghost use Rattle.prio_graph.specs.Chains.{edges_into};
 ghost use Rattle.prio_graph.specs.Keeping.{edges, times};
+ghost use Rattle.prio_graph.specs.Steps.{Chained};
 
-use crate::chains::{list_awaited, pass_locks};
+use crate::chains::{awaited, pass_locks};
 use crate::rows::{add_edges, empty_rows};
 use lock_table::{LockSet, NumberedLock};
 use sol_base::{Items, OutOfMemory};
@@ -39,6 +40,29 @@ fn above_all(sets: &[LockSet]) -> usize
     above
 }
 
+/// Adds the edges to the next position, and lets it pass the chains.
+fn add_position(
+    alloc: Global,
+    sets: &[LockSet],
+    position: usize,
+    last: &mut [Option<u32>],
+    readers: &mut [Items<u32>],
+    later: &mut [Items<u32>],
+    waits: &mut [usize],
+) -> Result<(), OutOfMemory>
+    requires few { length sets.now < 2 ^ 32 }
+    requires below { position < length sets.now }
+    requires chained { Chained sets.now position last.old readers.old later.old waits.old }
+    ensures { OnOk result (Chained sets.now (position + 1) last.new readers.new later.new waits.new) }
+{
+    let locks = sets[position].items();
+    let earlier = awaited(alloc, last, readers, locks)?;
+    waits[position] = earlier.len();
+    add_edges(later, earlier.as_slice(), position as u32)?;
+    pass_locks(alloc, last, readers, locks, position as u32)?;
+    Ok(())
+}
+
 /// The edges of all positions.
 pub(crate) fn edges_of(alloc: Global, sets: &[LockSet]) -> Result<Edges, OutOfMemory>
     requires { length sets.now < 2 ^ 32 }
@@ -52,14 +76,17 @@ pub(crate) fn edges_of(alloc: Global, sets: &[LockSet]) -> Result<Edges, OutOfMe
     let mut last = vec![in alloc; None; numbers]?;
     let mut readers = empty_rows(alloc, numbers)?;
     let mut later = empty_rows(alloc, sets.len())?;
-    let mut waits = Vec::with_capacity(alloc, sets.len())?;
-    let mut earlier = Vec::new(alloc);
+    let mut waits = vec![in alloc; 0; sets.len()]?;
     for position in 0..sets.len() {
-        let locks = sets[position].items();
-        list_awaited(last.as_slice(), readers.as_slice(), locks, &mut earlier)?;
-        add_edges(&mut later, earlier.as_slice(), position as u32)?;
-        pass_locks(alloc, &mut last, &mut readers, locks, position as u32)?;
-        waits.push(earlier.len())?;
+        add_position(
+            alloc,
+            sets,
+            position,
+            &mut last,
+            &mut readers,
+            &mut later,
+            &mut waits,
+        )?;
     }
     Ok(Edges { waits, later })
 }

@@ -38,7 +38,11 @@ pub(crate) fn clear_at(alloc: Global, rows: &mut [Items<u32>], at: usize)
 }
 
 /// Adds an edge to a position from each of the earlier ones.
-pub(crate) fn add_edges(rows: &mut [Items<u32>], earlier: &[u32], position: u32) -> Result<(), OutOfMemory>
+pub(crate) fn add_edges(
+    rows: &mut [Items<u32>],
+    earlier: &[u32],
+    position: u32,
+) -> Result<(), OutOfMemory>
     requires { All (λ j. j < length rows.old) earlier.now }
     ensures { OnOk result ((j i : ℕ) → edges rows.new j i ≡ edges rows.old j i + (if i == position then times j earlier.now else 0)) }
 {

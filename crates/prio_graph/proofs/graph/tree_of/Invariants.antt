@@ -1,4 +1,4 @@
-use Rattle.std.proofs.Common.{◌≡◌, ℕ, ◌*◌, ◌<◌, ◌==◌, Bool, length, slice_index}
+use Rattle.std.proofs.Common.{◌≡◌, ℕ, ◌*◌, ◌<◌, ◌==◌, length, slice_index}
 use Rattle.std.specs.Prelude.{◌&&◌, nat_lt}
 use Rattle.prio_graph.specs.Trees.{IsTree, leaf}
 use Rattle.prio_graph.specs.Keeping.{shown}

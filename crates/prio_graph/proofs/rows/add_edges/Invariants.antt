@@ -1,4 +1,4 @@
-use Rattle.std.proofs.Common.{◌≡◌, ℕ, ◌+◌, ◌==◌, length, take}
+use Rattle.std.proofs.Common.{◌≡◌, ℕ, ◌+◌, ◌==◌, take}
 use Rattle.std.specs.Prelude.{if◌then◌else◌}
 use Rattle.prio_graph.specs.Keeping.{edges, times}
 use Rattle.prio_graph.proofs.rows.add_edges.Given as goal

@@ -1,4 +1,4 @@
-use Rattle.std.proofs.Common.{◌≡◌, ℕ, ◌+◌, ◌*◌, ◌/◌, ◌<◌, ◌≤◌, ◌==◌, length, slice_index, min}
+use Rattle.std.proofs.Common.{◌≡◌, ℕ, ◌+◌, ◌*◌, ◌/◌, ◌<◌, ◌≤◌, ◌==◌, slice_index, min}
 use Rattle.std.specs.Prelude.{if◌then◌else◌}
 use Rattle.prio_graph.specs.Trees.{leaf}
 use Rattle.prio_graph.proofs.tree.write_leaf.Given as goal

@@ -1,0 +1,5 @@
+use Rattle.prio_graph.proofs.ChainLaws as laws
+use Rattle.prio_graph.proofs.laws.counters_tell.Goals as goal
+
+pub returns : goal.returns
+returns c = laws.counters_tell

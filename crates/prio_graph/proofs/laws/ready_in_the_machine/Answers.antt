@@ -1,0 +1,5 @@
+use Rattle.prio_graph.proofs.MachineLaws.{ready_is}
+use Rattle.prio_graph.proofs.laws.ready_in_the_machine.Goals as goal
+
+pub returns : goal.returns
+returns c = ready_is
