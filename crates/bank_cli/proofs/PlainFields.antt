@@ -1,15 +1,15 @@
 -- The parts of a plain input: what is spelled is read again, and what is read is spelled so.
-use Rattle.std.proofs.Common.{◌≡◌, ℕ, ◌+◌, ◌<◌, ◌^◌, List, [], ◌∷◌, ◌++◌, length, take, drop, Bool, true, false, Result, Ok, Err, inl, inr, refl, sym, ap, subst, ◌∙◌, append_assoc, arith}
-use Rattle.std.specs.Prelude.{nat_eq, replicate}
+use Rattle.std.proofs.Common.{◌≡◌, ℕ, ◌<◌, ◌^◌, List, [], ◌∷◌, ◌++◌, length, take, drop, Bool, true, false, Result, Ok, Err, inl, inr, refl, sym, ap, subst, ◌∙◌, append_assoc, arith}
+use Rattle.std.specs.Prelude.{nat_eq}
 use Rattle.std.specs.Int.{w16, w64, to_le_bytes}
 use Rattle.std.specs.List.{starts_with}
 use Rattle.std.specs.Cmp.Lexicographic.{bytes_decides}
-use Rattle.std.proofs.lemmas.List.{take-append-drop, length-append, take_at, drop_at, append-nil}
+use Rattle.std.proofs.lemmas.List.{take-append-drop, length-append, take_at, drop_at}
 use Rattle.spec_base.specs.Bytes.{IsBytes}
-use Rattle.spec_base.specs.Reading.{◌>>=◌, field_at, number_at, checked}
-use Rattle.spec_base.proofs.Binding.{bind_ok, chosen, checked_ok, ok_same, ok_parts, after_bytes, before_bytes}
+use Rattle.spec_base.specs.Reading.{◌>>=◌}
+use Rattle.spec_base.proofs.Binding.{bind_ok, chosen, checked_ok, ok_same, after_bytes, before_bytes}
 use Rattle.spec_base.proofs.Formats.{Reads, taken, field_reads, u64_reads}
-use Rattle.sol_base.specs.Keys.{IsKey, IsHash, key_at}
+use Rattle.sol_base.specs.Keys.{IsKey, IsHash}
 use Rattle.sol_base.specs.declared.key.Key.{Key}
 use Rattle.sol_base.specs.declared.key.Hash32.{Hash32}
 use Rattle.sol_base.specs.declared.key.TheConstants.{SYSTEM_PROGRAM}

@@ -1,5 +1,5 @@
 -- What is read is plain, and what is plain is read.
-use Rattle.std.proofs.Common.{◌≡◌, ℕ, ◌<◌, ◌≤◌, ◌^◌, List, [], ◌∷◌, ◌++◌, length, map, Bool, true, false, Result, Ok, Err, inl, inr, refl, sym, ap, subst, ◌∙◌, append_assoc, lit<, lit≤, arith}
+use Rattle.std.proofs.Common.{◌≡◌, ℕ, ◌<◌, ◌≤◌, ◌^◌, List, [], ◌∷◌, ◌++◌, length, Bool, true, Result, Ok, Err, inl, inr, refl, sym, ap, subst, ◌∙◌, append_assoc, lit<, lit≤, arith}
 use Rattle.std.specs.Prelude.{nat_le, nat_lt, codes, IfOk, IsErr, ◌↔◌}
 use Rattle.std.specs.Int.{w32, w64, to_le_bytes}
 use Rattle.std.specs.List.{flat_map, AllByRecursion}
@@ -8,26 +8,21 @@ use Rattle.std.proofs.lemmas.Bool.{false≢true, ltb-true, leb-true, lt-ltb, le-
 use Rattle.std.proofs.lemmas.List.{append-nil, length-map}
 use Rattle.std.proofs.lemmas.List.Folds.{flat_map-map}
 use Rattle.spec_base.specs.Bytes.{IsBytes}
-use Rattle.spec_base.specs.Reading.{Gives, number_at, tested, many_after, AllAfter, whole}
+use Rattle.spec_base.specs.Reading.{Gives, number_at, tested, many_after, AllAfter}
 use Rattle.spec_base.proofs.Binding.{chosen, whole_ok}
 use Rattle.spec_base.proofs.Formats.{Reads, tested_reads, many_after_reads, u32_reads, u64_reads}
 use Rattle.sol_base.specs.Keys.{IsKey, IsHash}
-use Rattle.sol_base.specs.declared.key.Key.{Key}
 use Rattle.sol_base.specs.declared.key.Hash32.{Hash32}
 use Rattle.sol_base.proofs.KeyLaws.{key_reads, hash_reads}
-use Rattle.bank_cli.specs.declared.state.KeyedAccount.{KeyedAccount}
 use Rattle.bank_cli.specs.declared.transfer.Transfer.{Transfer}
 use Rattle.bank_cli.specs.declared.plain.PlainInput.{PlainInput}
 use Rattle.bank_cli.specs.declared.plain.PlainFault.{PlainFault}
 use Rattle.bank_cli.specs.declared.plain.PlainFault.TheVariants.{NotPlain}
-use Rattle.bank_cli.specs.State.{total}
-use Rattle.bank_cli.specs.Transfer.{wire}
-use Rattle.bank_cli.specs.Snapshot.{Mark, Snapshot, IsSnapshot, snapshot_bytes_one, account_bytes}
-use Rattle.bank_cli.specs.Batch.{Batch, IsBatch, IsWire, batch_bytes, wire_bytes}
-use Rattle.bank_cli.specs.Plain.{IsPlain, IsPlainAccount, IsPlainTransfer, IsNewMessage, IsRunnable, input_limit, cut, is_memory, text_at, account_after, transfer_after, input_at, plain_of, snapshot_of, batch_of, input_of}
-use Rattle.bank_cli.proofs.PlainOrder.{IsAscending}
-use Rattle.bank_cli.proofs.PlainFields.{FitsAfter, Sent, by_text, by_taking, onward, text_again, account_reads, transfer_reads, transfer_bytes, length-wire}
-use Rattle.bank_cli.proofs.PlainLists.{Stand, stand, are_read, are_plain, are_sent}
+use Rattle.bank_cli.specs.Snapshot.{Mark, Snapshot, snapshot_bytes_one, account_bytes}
+use Rattle.bank_cli.specs.Batch.{Batch, batch_bytes}
+use Rattle.bank_cli.specs.Plain.{IsPlain, IsPlainTransfer, IsRunnable, input_limit, cut, is_memory, account_after, transfer_after, input_at, plain_of, snapshot_of, batch_of, input_of}
+use Rattle.bank_cli.proofs.PlainFields.{FitsAfter, Sent, by_text, by_taking, onward, text_again, account_reads, transfer_reads, transfer_bytes}
+use Rattle.bank_cli.proofs.PlainLists.{stand, are_read, are_plain, are_sent}
 
 accounts_read : (count : ℕ) → Reads (many_after account_after [] count) (flat_map account_bytes) (λ es. (length es ≡ count) × AllAfter FitsAfter [] es)
 accounts_read count = many_after_reads account_reads count

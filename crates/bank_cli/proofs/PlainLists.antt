@@ -1,8 +1,8 @@
 -- What the accounts and the transfers of a plain input are together, and one by one as they are read.
-use Rattle.std.proofs.Common.{◌≡◌, ℕ, ◌+◌, ◌<◌, ◌≤◌, ◌^◌, List, [], ◌∷◌, ◌++◌, length, take, drop, map, Bool, true, false, refl, sym, ap, subst, ◌∙◌, append_assoc, lit<, lit≤, arith}
+use Rattle.std.proofs.Common.{◌≡◌, ℕ, ◌+◌, ◌<◌, ◌^◌, List, [], ◌∷◌, ◌++◌, length, take, drop, map, Bool, true, false, refl, sym, ap, subst, ◌∙◌, append_assoc, lit<, lit≤, arith}
 use Rattle.std.specs.Prelude.{◌&&◌, ◌||◌, not, nat_lt, nat_eq}
 use Rattle.std.specs.Int.{w64, to_le_bytes, from_le_bytes}
-use Rattle.std.specs.List.{list_all, list_any, AllByRecursion}
+use Rattle.std.specs.List.{list_any, AllByRecursion}
 use Rattle.std.specs.List.Sorted.{IsStrictlySortedBy}
 use Rattle.std.specs.Ordering.{is_lt}
 use Rattle.std.specs.Cmp.Lexicographic.{bytes_decides}
@@ -23,7 +23,7 @@ use Rattle.bank_cli.specs.Transfer.{header_bytes, system_bytes, instruction_byte
 use Rattle.bank_cli.specs.Snapshot.{IsEntry}
 use Rattle.bank_cli.specs.Batch.{IsWire}
 use Rattle.bank_cli.specs.Plain.{IsPlainAccount, IsPlainTransfer, IsNewMessage, may_follow, is_same_message, may_be_sent}
-use Rattle.bank_cli.proofs.PlainOrder.{all_push, keys_of, IsAscending, is_above, Follows, follows, ascend_push, total_push}
+use Rattle.bank_cli.proofs.PlainOrder.{all_push, keys_of, IsAscending, is_above, follows, ascend_push, total_push}
 use Rattle.bank_cli.proofs.PlainFields.{FitsAfter, Sent, length-wire}
 
 -- accounts

@@ -5,8 +5,7 @@ use Rattle.std.specs.Ordering.{is_lt}
 use Rattle.std.specs.List.Sorted.{IsStrictlySortedBy}
 use Rattle.std.specs.List.{starts_with, list_any, list_all, AllByRecursion}
 use Rattle.spec_base.specs.Reading.{◌>>=◌, checked, field_at, number_at, tested, many_after, whole, AllAfter}
-use Rattle.sol_base.specs.Keys.{IsKey, IsHash, key_cmp, key_at, hash_at}
-use Rattle.sol_base.specs.declared.key.Key.{Key}
+use Rattle.sol_base.specs.Keys.{IsKey, key_cmp, key_at, hash_at}
 use Rattle.sol_base.specs.declared.key.Hash32.{Hash32}
 use Rattle.sol_base.specs.declared.key.TheConstants.{SYSTEM_PROGRAM}
 use Rattle.sol_base.specs.declared.account.Account.{Account}
@@ -18,7 +17,7 @@ use Rattle.bank_cli.specs.declared.plain.PlainFault.{PlainFault}
 use Rattle.bank_cli.specs.declared.plain.PlainFault.TheVariants.{NotPlain, OutOfMemory}
 use Rattle.bank_cli.specs.State.{total}
 use Rattle.bank_cli.specs.Transfer.{header_bytes, system_bytes, instruction_bytes, message_bytes, wire}
-use Rattle.bank_cli.specs.Snapshot.{Mark, Snapshot, IsSnapshot, snapshot_bytes_one}
+use Rattle.bank_cli.specs.Snapshot.{Snapshot, IsSnapshot, snapshot_bytes_one}
 use Rattle.bank_cli.specs.Batch.{Batch, IsBatch, batch_bytes}
 
 -- the most bytes of an input
