@@ -7,15 +7,12 @@ ghost use Rattle.bank_cli.specs.Ending.{TellsAnswer, TellsFault, Stops};
 ghost use Rattle.sol_io.specs.Bytes.{Keeps};
 
 use crate::output::{Produced, produce};
-use crate::plain::{PlainFault, read_plain};
+use crate::plain::{INPUT_LIMIT, PlainFault, read_plain};
 use crate::top::{INPUT_REFUSED, READ_FAILED, WORDS_REFUSED};
 use crate::words::Words;
 use sol_base::{Blob, OutOfMemory};
 use sol_io::{ReadFault, Source, read_all};
 use std::alloc::Global;
-
-/// The most bytes of an input.
-pub const INPUT_LIMIT: usize = 536_870_912;
 
 /// A status, and what is written for it.
 #[derive(Debug, Drop)]

@@ -15,13 +15,13 @@ mod top;
 mod transfer;
 mod words;
 
-pub use answer::{Answer, INPUT_LIMIT};
+pub use answer::Answer;
 pub use delivery::Undelivered;
 pub use laws::{
     lamports_are_conserved, names_are_put_in_order, plain_inputs_are_read, states_are_maps,
 };
 pub use output::Produced;
-pub use plain::{PlainFault, PlainInput};
+pub use plain::{INPUT_LIMIT, PlainFault, PlainInput};
 pub use state::KeyedAccount;
 pub use top::{INPUT_REFUSED, OUT_OF_MEMORY, READ_FAILED, WORDS_REFUSED, WRITE_FAILED, bank_main};
 pub use transfer::Transfer;

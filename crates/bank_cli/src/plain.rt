@@ -17,7 +17,7 @@ use std::alloc::Global;
 use transfers::read_transfers;
 
 /// The most bytes of an input.
-const INPUT_LIMIT: usize = 536_870_912;
+pub const INPUT_LIMIT: usize = 536_870_912;
 
 /// The most accounts of a snapshot.
 const MAX_ACCOUNTS: u32 = 4_194_304;

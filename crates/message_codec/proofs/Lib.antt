@@ -1,1 +1,6 @@
 pub mod KeyTests
+pub mod Lengths
+pub mod PartLaws
+pub mod WireLaws
+pub mod SaneLaws
+pub mod LockLaws

@@ -1,1 +1,5 @@
+pub mod Compact
+pub mod Wire
+pub mod WireReading
+pub mod Parsing
 pub mod Roles

@@ -1,7 +1,7 @@
 ghost use Rattle.std.specs.Prelude.{◌≡◌};
-ghost use Rattle.message_codec.specs.declared.fault.WireFault.TheVariants.{OutOfMemory as no_memory};
 
 use sol_base::OutOfMemory;
+use spec_base::Refusal;
 use thiserror::Error;
 
 /// Why bytes are no transaction. A place counts from the first byte of the transaction, and is that of
@@ -23,10 +23,25 @@ pub enum WireFault {
 }
 
 impl From<OutOfMemory> for WireFault {
+    ghost use Rattle.message_codec.specs.declared.fault.WireFault.TheVariants.{OutOfMemory as no_memory};
+
     ghost from_gives = { λ _ e. e ≡ no_memory };
 
     fn from(_e: OutOfMemory) -> WireFault {
         WireFault::OutOfMemory
+    }
+}
+
+impl Refusal for WireFault {
+    ghost use Rattle.message_codec.specs.WireReading.{is_memory as is_wire_memory};
+    ghost use Rattle.message_codec.specs.declared.fault.WireFault.TheVariants.{Truncated};
+
+    ghost cut_at = { Truncated };
+
+    ghost is_memory = { is_wire_memory };
+
+    fn truncated(at: usize) -> WireFault {
+        WireFault::Truncated { at }
     }
 }
 

@@ -1,7 +1,14 @@
-ghost use Rattle.std.specs.Prelude.{◌≡◌, ◌↔◌, IsTrue, Contains};
-ghost use Rattle.message_codec.specs.Roles.{is_reserved, reserved_keys};
+ghost use Rattle.std.specs.Prelude.{◌≡◌, ◌↔◌, ◌+◌, ◌^◌, ◌++◌, ℕ, false, length, map, IsTrue, Contains, IfOk, OnOk, slice_get, ◌||◌, ◌<◌};
+ghost use Rattle.std.specs.List.{slice_index_or, enumerate_from};
+ghost use Rattle.std.specs.Option.{option_copied};
+ghost use Rattle.message_codec.specs.Roles.{is_reserved, reserved_keys, all_keys, signs, is_program, is_writable_static, is_writable_loaded, writes, lock_at, locks_of};
 
-use sol_base::{CLOCK_SYSVAR, COMPUTE_BUDGET_PROGRAM, Key, RENT_SYSVAR, SYSTEM_PROGRAM};
+use crate::message::{Header, Instruction, Loaded, Message};
+use sol_base::{
+    CLOCK_SYSVAR, COMPUTE_BUDGET_PROGRAM, Items, Key, Lock, LockList, OutOfMemory, RENT_SYSVAR,
+    SYSTEM_PROGRAM,
+};
+use std::alloc::Global;
 
 /// Whether no transaction may write this key's account: the system program, the compute budget
 /// program and the two sysvars (the project's own table).
@@ -13,4 +20,181 @@ pub fn reserved(key: &Key) -> bool
         || *key == COMPUTE_BUDGET_PROGRAM
         || *key == CLOCK_SYSVAR
         || *key == RENT_SYSVAR
+}
+
+/// Whether the key at this place signs the message (Solana).
+pub fn is_signer(message: &Message, index: u8) -> bool
+    ensures { result ≡ signs message.now index }
+{
+    index < message.header.required
+}
+
+/// Whether the message may write the account of the key at this place, among the static keys and
+/// then the loaded ones (Solana; that programs and reserved keys are never writable in this width is
+/// the project's own).
+pub fn is_writable(message: &Message, loaded: &Loaded, index: u8) -> bool
+    ensures { result ≡ writes message.now loaded.now index }
+{
+    match key_at(message, loaded, usize::from(index)) {
+        None => false,
+        Some(key) => {
+            has_writable_place(message, loaded, usize::from(index))
+                && !names_program(message.instructions.as_slice(), index)
+                && !reserved(key)
+        }
+    }
+}
+
+/// The key at a place among all keys.
+fn key_at<'a>(message: &'a Message, loaded: &'a Loaded, place: usize) -> Option<&'a Key>
+    ensures { option_copied result ≡ slice_get (all_keys message.now loaded.now) place }
+{
+    let keys = message.keys.as_slice();
+    let writable = loaded.writable.as_slice();
+    let readonly = loaded.readonly.as_slice();
+    if place < keys.len() {
+        return keys.get(place);
+    }
+    let place = place - keys.len();
+    if place < writable.len() {
+        return writable.get(place);
+    }
+    readonly.get(place - writable.len())
+}
+
+fn has_writable_place(message: &Message, loaded: &Loaded, place: usize) -> bool
+    ensures { result ≡ (is_writable_static message.now.header (length message.now.keys) place || is_writable_loaded (length message.now.keys) (length loaded.now.writable) place) }
+{
+    let keys = message.keys.len();
+    if place < keys {
+        has_static_place(message.header, keys, place)
+    } else {
+        place - keys < loaded.writable.len()
+    }
+}
+
+fn has_static_place(header: Header, keys: usize, place: usize) -> bool
+    requires { place < keys }
+    ensures { result ≡ is_writable_static header keys place }
+{
+    let required = usize::from(header.required);
+    let readonly_signed = usize::from(header.readonly_signed);
+    let readonly_unsigned = usize::from(header.readonly_unsigned);
+    place < required.saturating_sub(readonly_signed)
+        || required <= place && place < keys.saturating_sub(readonly_unsigned)
+}
+
+fn names_program(instructions: &[Instruction], index: u8) -> bool
+    ensures { result ≡ is_program instructions.now index }
+{
+    instructions
+        .iter()
+        .any(|instruction| instruction.program == index)
+}
+
+/// All keys of the message: the static keys, the loaded keys to write and the loaded keys to read.
+pub fn keys_of(alloc: Global, message: &Message, loaded: &Loaded) -> Result<Items<Key>, OutOfMemory>
+    ensures { IfOk result (λ keys. keys ≡ all_keys message.now loaded.now) }
+{
+    let mut keys = Vec::with_capacity(alloc, all_count(message, loaded))?;
+    keys.extend_from_slice(message.keys.as_slice())?;
+    keys.extend_from_slice(loaded.writable.as_slice())?;
+    keys.extend_from_slice(loaded.readonly.as_slice())?;
+    Ok(Items::from_vec(keys))
+}
+
+/// How much room all keys take.
+fn all_count(message: &Message, loaded: &Loaded) -> usize {
+    message
+        .keys
+        .len()
+        .saturating_add(loaded.writable.len())
+        .saturating_add(loaded.readonly.len())
+}
+
+/// How many places a byte can name.
+const BYTE_PLACES: usize = 256;
+
+/// The locks of the message: each key in order, with write where it is writable. The program keys
+/// are marked once.
+pub fn locks(alloc: Global, message: &Message, loaded: &Loaded) -> Result<LockList, OutOfMemory>
+    ensures { IfOk result (λ locks. locks ≡ locks_of message.now loaded.now) }
+{
+    let programs = program_marks(message.instructions.as_slice());
+    let keys = message.keys.as_slice();
+    let writable = loaded.writable.as_slice();
+    let readonly = loaded.readonly.as_slice();
+    let first_loaded = keys.len();
+    let first_readonly = first_loaded + writable.len();
+    let mut locks = Items::with_capacity(alloc, first_readonly + readonly.len())?;
+    push_locks(&mut locks, message, loaded, &programs, keys, 0)?;
+    push_locks(
+        &mut locks,
+        message,
+        loaded,
+        &programs,
+        writable,
+        first_loaded,
+    )?;
+    push_locks(
+        &mut locks,
+        message,
+        loaded,
+        &programs,
+        readonly,
+        first_readonly,
+    )?;
+    Ok(locks)
+}
+
+/// Adds the locks of keys that stand one after the other, the first at place `first`.
+fn push_locks(
+    locks: &mut LockList,
+    message: &Message,
+    loaded: &Loaded,
+    programs: &[bool; BYTE_PLACES],
+    keys: &[Key],
+    first: usize,
+) -> Result<(), OutOfMemory>
+    requires room { first + length keys.now < 2 ^ 64 }
+    requires marked { (i : ℕ) → slice_index_or programs.now i false ≡ is_program message.now.instructions i }
+    ensures { OnOk result (locks.new ≡ locks.old ++ map (lock_at message.now loaded.now) (enumerate_from first keys.now)) }
+{
+    for (offset, key) in keys.iter().enumerate() {
+        locks.push(lock_of(message, loaded, programs, first + offset, key))?;
+    }
+    Ok(())
+}
+
+fn lock_of(
+    message: &Message,
+    loaded: &Loaded,
+    programs: &[bool; BYTE_PLACES],
+    place: usize,
+    key: &Key,
+) -> Lock
+    requires { (i : ℕ) → slice_index_or programs.now i false ≡ is_program message.now.instructions i }
+    ensures { result ≡ lock_at message.now loaded.now (place, key.now) }
+{
+    let write = has_writable_place(message, loaded, place)
+        && !is_marked(programs, place)
+        && !reserved(key);
+    Lock { key: *key, write }
+}
+
+/// The places that an instruction names as its program.
+fn program_marks(instructions: &[Instruction]) -> [bool; BYTE_PLACES]
+    ensures { (i : ℕ) → slice_index_or result i false ≡ is_program instructions.now i }
+{
+    let mut marks = [false; BYTE_PLACES];
+    for instruction in instructions {
+        marks[usize::from(instruction.program)] = true;
+    }
+    marks
+}
+
+fn is_marked(marks: &[bool; BYTE_PLACES], place: usize) -> bool
+    ensures { result ≡ slice_index_or marks.now place false }
+{
+    place < BYTE_PLACES && marks[place]
 }

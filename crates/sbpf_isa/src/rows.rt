@@ -1,4 +1,3 @@
-//! The table of instructions: which opcodes there are, and what each of them is.
 ghost use Rattle.std.specs.Prelude.{◌≡◌, Some};
 ghost use Rattle.std.specs.List.{AllByRecursion};
 ghost use Rattle.sbpf_isa.specs.Rows.{kind_at, rows};

@@ -1,3 +1,6 @@
+ghost use Rattle.std.specs.Prelude.{◌≡◌};
+ghost use Rattle.tx_report.specs.Causes.{code_of, name_of, cause_with, drop_code_of, drop_name_of, drop_cause_with, numbered};
+
 /// Why an instruction failed, or its whole transaction (the project's own numbers; most names are
 /// Solana's). A status has a number beside its cause, the detail. It says which account is meant
 /// where a line below says so, and it is 0 where no line speaks of it.
@@ -101,4 +104,155 @@ pub enum DropCause {
     CannotPayFee = 3,
     /// The fee would leave the payer below the rent-exempt balance where it may not be.
     PayerRent = 4,
+}
+
+/// All causes, in the order of their codes.
+const CAUSES: [Cause; 40] = [
+    Cause::Custom,
+    Cause::InvalidInstruction,
+    Cause::MissingSignature,
+    Cause::NotEnoughAccounts,
+    Cause::InvalidArgument,
+    Cause::UnknownProgram,
+    Cause::BadImage,
+    Cause::Unverified,
+    Cause::UnitsSpent,
+    Cause::DivideByZero,
+    Cause::AccessViolation,
+    Cause::CallDepth,
+    Cause::BadCallTarget,
+    Cause::Abort,
+    Cause::Overlap,
+    Cause::TooManySeeds,
+    Cause::ReturnTooLong,
+    Cause::BadText,
+    Cause::TooManySlices,
+    Cause::InvalidError,
+    Cause::ReadonlyChanged,
+    Cause::ExecutableChanged,
+    Cause::ForeignDebit,
+    Cause::ForeignData,
+    Cause::OwnerChange,
+    Cause::TooLarge,
+    Cause::Unbalanced,
+    Cause::LengthTooLarge,
+    Cause::TooManyAccounts,
+    Cause::DataTooLong,
+    Cause::TooManySigners,
+    Cause::BadSeeds,
+    Cause::BadFlag,
+    Cause::MissingAccount,
+    Cause::PrivilegeEscalation,
+    Cause::Reentrancy,
+    Cause::StackHeight,
+    Cause::TraceTooLong,
+    Cause::RentState,
+    Cause::LoadedDataTooLarge,
+];
+
+/// All causes of dropped transactions, in the order of their codes.
+const DROP_CAUSES: [DropCause; 4] = [
+    DropCause::PayerAbsent,
+    DropCause::PayerNotSystem,
+    DropCause::CannotPayFee,
+    DropCause::PayerRent,
+];
+
+impl Cause {
+    /// The number that a status has for the cause.
+    pub fn code(self) -> u16
+        ensures { result ≡ code_of self }
+    {
+        self as u16
+    }
+
+    /// The cause that a status has this number for.
+    pub fn with_code(code: u16) -> Option<Cause>
+        ensures { result ≡ cause_with code }
+    {
+        numbered_item(&CAUSES, code)
+    }
+
+    /// The name of the cause, as texts have it.
+    pub fn name(self) -> &'static str
+        ensures { result.now ≡ name_of self }
+    {
+        match self {
+            Cause::Custom => "Custom",
+            Cause::InvalidInstruction => "InvalidInstruction",
+            Cause::MissingSignature => "MissingSignature",
+            Cause::NotEnoughAccounts => "NotEnoughAccounts",
+            Cause::InvalidArgument => "InvalidArgument",
+            Cause::UnknownProgram => "UnknownProgram",
+            Cause::BadImage => "BadImage",
+            Cause::Unverified => "Unverified",
+            Cause::UnitsSpent => "UnitsSpent",
+            Cause::DivideByZero => "DivideByZero",
+            Cause::AccessViolation => "AccessViolation",
+            Cause::CallDepth => "CallDepth",
+            Cause::BadCallTarget => "BadCallTarget",
+            Cause::Abort => "Abort",
+            Cause::Overlap => "Overlap",
+            Cause::TooManySeeds => "TooManySeeds",
+            Cause::ReturnTooLong => "ReturnTooLong",
+            Cause::BadText => "BadText",
+            Cause::TooManySlices => "TooManySlices",
+            Cause::InvalidError => "InvalidError",
+            Cause::ReadonlyChanged => "ReadonlyChanged",
+            Cause::ExecutableChanged => "ExecutableChanged",
+            Cause::ForeignDebit => "ForeignDebit",
+            Cause::ForeignData => "ForeignData",
+            Cause::OwnerChange => "OwnerChange",
+            Cause::TooLarge => "TooLarge",
+            Cause::Unbalanced => "Unbalanced",
+            Cause::LengthTooLarge => "LengthTooLarge",
+            Cause::TooManyAccounts => "TooManyAccounts",
+            Cause::DataTooLong => "DataTooLong",
+            Cause::TooManySigners => "TooManySigners",
+            Cause::BadSeeds => "BadSeeds",
+            Cause::BadFlag => "BadFlag",
+            Cause::MissingAccount => "MissingAccount",
+            Cause::PrivilegeEscalation => "PrivilegeEscalation",
+            Cause::Reentrancy => "Reentrancy",
+            Cause::StackHeight => "StackHeight",
+            Cause::TraceTooLong => "TraceTooLong",
+            Cause::RentState => "RentState",
+            Cause::LoadedDataTooLarge => "LoadedDataTooLarge",
+        }
+    }
+}
+
+impl DropCause {
+    /// The number that a status has for the cause.
+    pub fn code(self) -> u16
+        ensures { result ≡ drop_code_of self }
+    {
+        self as u16
+    }
+
+    /// The cause that a status has this number for.
+    pub fn with_code(code: u16) -> Option<DropCause>
+        ensures { result ≡ drop_cause_with code }
+    {
+        numbered_item(&DROP_CAUSES, code)
+    }
+
+    /// The name of the cause, as texts have it.
+    pub fn name(self) -> &'static str
+        ensures { result.now ≡ drop_name_of self }
+    {
+        match self {
+            DropCause::PayerAbsent => "PayerAbsent",
+            DropCause::PayerNotSystem => "PayerNotSystem",
+            DropCause::CannotPayFee => "CannotPayFee",
+            DropCause::PayerRent => "PayerRent",
+        }
+    }
+}
+
+/// The item of this number, from 1 on.
+fn numbered_item<T: Copy>(items: &[T], number: u16) -> Option<T>
+    ensures { result ≡ numbered items.now number }
+{
+    items.get(usize::from(number).checked_sub(1)?).copied()
 }

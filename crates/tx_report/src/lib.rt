@@ -5,8 +5,12 @@ mod cause;
 mod logs;
 mod outcome;
 mod status;
+#[cfg(test)]
+mod tests;
+mod text;
 
 pub use cause::{Cause, DropCause};
-pub use logs::Logs;
+pub use logs::{Logs, logs_keep_the_longest_run};
 pub use outcome::Outcome;
-pub use status::{InstructionError, Status};
+pub use status::{InstructionError, Status, status_bytes, status_of, statuses_are_their_bytes};
+pub use text::{cause_text, status_text};

@@ -1,5 +1,15 @@
-use sol_base::{Blob, Items};
+ghost use Rattle.std.specs.Prelude.{◌≡◌, ◌∷◌, ◌++◌, [], List, ℕ, OnOk, OnErr};
+ghost use Rattle.tx_report.specs.LogLines.{Log, no_lines, with_line, IsLogOf};
+
+use sol_base::{Blob, Items, OutOfMemory};
+use std::alloc::Global;
 use std::marker::Model;
+
+/// The most bytes of the lines kept, all together.
+const MAX_BYTES: usize = 10_000;
+
+/// What stands in place of the first line that is not kept.
+const TRUNCATED: [u8; 13] = *b"Log truncated";
 
 /// The log lines of one transaction: those kept, and whether one was replaced by `Log truncated`.
 #[derive(Debug, Drop)]
@@ -8,12 +18,70 @@ pub struct Logs {
     /// The sum of the lengths of the lines kept.
     used: usize,
     truncated: bool,
+    alloc: Global,
 }
 
 impl Model for Logs {
+    ghost use Rattle.std.specs.Prelude.{◌≡◌, ◌≤◌, false, sum_by, length};
     ghost use Rattle.tx_report.specs.LogLines.{Log};
 
     ghost Value = { Log };
 
     ghost view = { λ logs. record { lines = logs.lines; truncated = logs.truncated } };
+
+    ghost invariant = { λ logs. (logs.used ≤ 10000) × (logs.truncated ≡ false → logs.used ≡ sum_by length logs.lines) };
 }
+
+impl Logs {
+    /// No lines.
+    pub fn new(alloc: Global) -> Logs
+        ensures { result ≡ no_lines }
+    {
+        Logs {
+            lines: Items::new(alloc),
+            used: 0,
+            truncated: false,
+            alloc,
+        }
+    }
+
+    /// Adds a line, or `Log truncated` in place of the first that there is no room for, or nothing
+    /// after that.
+    pub fn push_line(&mut self, line: &[u8]) -> Result<(), OutOfMemory>
+        ensures ok { OnOk result (self.new ≡ with_line self.old line.now) }
+        ensures err { OnErr result (self.new ≡ self.old) }
+    {
+        if self.truncated {
+            return Ok(());
+        }
+        if line.len() <= MAX_BYTES - self.used {
+            self.lines.push(Blob::from_slice(self.alloc, line)?)?;
+            self.used += line.len();
+        } else {
+            self.lines.push(Blob::from_slice(self.alloc, &TRUNCATED)?)?;
+            self.truncated = true;
+        }
+        Ok(())
+    }
+
+    pub fn lines(&self) -> &[Blob]
+        ensures { result.now ≡ self.now.lines }
+    {
+        self.lines.as_slice()
+    }
+
+    /// The lines alone.
+    pub fn into_lines(self) -> Items<Blob>
+        ensures { result ≡ self.lines }
+    {
+        let Logs { lines, .. } = self;
+        lines
+    }
+}
+
+/// A law: line by line, a log comes to keep the longest run of all lines given, from the first on,
+/// that has at most 10,000 bytes, and then says where a line is left.
+pub fn logs_keep_the_longest_run()
+    ensures none { IsLogOf [] no_lines }
+    ensures more { (given : List (List ℕ)) (log : Log) (line : List ℕ) → IsLogOf given log → IsLogOf (given ++ line ∷ []) (with_line log line) }
+{}

@@ -1,3 +1,8 @@
+ghost use Rattle.std.specs.Prelude.{◌≡◌, ℕ, List, length};
+ghost use Rattle.spec_base.specs.Bytes.{IsBytes};
+ghost use Rattle.tx_report.specs.declared.status.Status.{Status as StatusValue};
+ghost use Rattle.tx_report.specs.Statuses.{status_bytes_of, status_from, IsStatus, part_bytes, status_with};
+
 use crate::cause::{Cause, DropCause};
 
 /// Why an instruction failed, and at which height of the stack of programs that call each other.
@@ -24,4 +29,64 @@ pub enum Status {
     Dropped {
         cause: DropCause,
     },
+}
+
+/// The status as a record has it: kind (1 byte), index (1 byte), code (2 bytes) and detail (4
+/// bytes), the numbers with the low byte first.
+pub fn status_bytes(status: &Status) -> [u8; 8]
+    ensures { result ≡ status_bytes_of status.now }
+{
+    match *status {
+        Status::Good => [0; 8],
+        Status::Failed {
+            index,
+            cause,
+            detail,
+        } => bytes_of_parts(1, index, cause.code(), detail),
+        Status::Dropped { cause } => bytes_of_parts(2, 0, cause.code(), 0),
+    }
+}
+
+/// The status that a record has as these bytes. Where there is none, no status has them.
+pub fn status_of(bytes: [u8; 8]) -> Option<Status>
+    ensures { result ≡ status_from bytes }
+{
+    let [kind, index, c, d, w, x, y, z] = bytes;
+    status_of_parts(
+        kind,
+        index,
+        u16::from_le_bytes([c, d]),
+        u32::from_le_bytes([w, x, y, z]),
+    )
+}
+
+/// A law: each status is read from its bytes again, and what is read has these bytes.
+pub fn statuses_are_their_bytes()
+    ensures again { (status : StatusValue) → IsStatus status → status_from (status_bytes_of status) ≡ Some status }
+    ensures found { (bytes : List ℕ) (status : StatusValue) → length bytes ≡ 8 → IsBytes bytes → status_from bytes ≡ Some status → IsStatus status × (status_bytes_of status ≡ bytes) }
+{}
+
+fn bytes_of_parts(kind: u8, index: u8, code: u16, detail: u32) -> [u8; 8]
+    ensures { result ≡ part_bytes kind index code detail }
+{
+    let [c, d] = code.to_le_bytes();
+    let [w, x, y, z] = detail.to_le_bytes();
+    [kind, index, c, d, w, x, y, z]
+}
+
+fn status_of_parts(kind: u8, index: u8, code: u16, detail: u32) -> Option<Status>
+    ensures { result ≡ status_with kind index code detail }
+{
+    match kind {
+        0 if index == 0 && code == 0 && detail == 0 => Some(Status::Good),
+        1 => Some(Status::Failed {
+            index,
+            cause: Cause::with_code(code)?,
+            detail,
+        }),
+        2 if index == 0 && detail == 0 => Some(Status::Dropped {
+            cause: DropCause::with_code(code)?,
+        }),
+        _ => None,
+    }
 }

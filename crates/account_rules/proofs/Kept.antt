@@ -1,0 +1,134 @@
+-- What accounts keep that break no rule.
+use Rattle.std.proofs.Common.{zero, suc, ◌≡◌, ◌⊎◌, ◌≤◌, ℕ, Bool, true, false, not, ◌&&◌, ◌||◌, List, [], ◌∷◌, ◌++◌, length, get_or, refl, sym, ap, inl, inr, nat_eq, nat_lt, Option, Some, None, Ok, arith, if◌then◌else◌, All}
+use Rattle.std.specs.List.{list_any, filter_map, cons_option}
+use Rattle.std.specs.Cmp.Lexicographic.{bytes_decides}
+use Rattle.std.proofs.lemmas.Bool.Decides.{nat_tests}
+use Rattle.std.proofs.lemmas.List.Folds.{list_any_at}
+use Rattle.sol_base.specs.declared.key.Key.{Key}
+use Rattle.sol_base.specs.declared.account.Account.{Account}
+use Rattle.account_rules.specs.declared.rules.RuleFault.{RuleFault}
+use Rattle.account_rules.specs.declared.rules.RuleFault.TheVariants.{Unbalanced}
+use Rattle.account_rules.specs.AccountRules.{broken_by, broken_rule, broken_rules, AreKept, changes, first_of, has_byte, IsKept, lamports_in, owns, rules, same_account, same_data, same_flag, same_key, unbalanced, readonly_changed, executable_changed, owner_change, foreign_debit, foreign_data, too_large}
+
+-- ---- tests
+passed : {F : Type 0} (test : Bool) (fault : F) (rest : Option F) → (if test then Some fault else rest) ≡ None → (test ≡ false) × (rest ≡ None)
+passed true fault rest none = absurd (cc)
+passed false fault rest none = (refl, none)
+
+both : (s t : Bool) → (s && t) ≡ true → (s ≡ true) × (t ≡ true)
+both true t holds = (refl, holds)
+both false t holds = absurd (cc)
+
+not_both : (s t : Bool) → (s && t) ≡ false → (s ≡ false) ⊎ (t ≡ false)
+not_both true t none = inr none
+not_both false t none = inl refl
+
+not_second : (s t : Bool) → (s && t) ≡ false → s ≡ true → t ≡ false
+not_second true t none holds = none
+not_second false t none holds = absurd (cc)
+
+neither : (s t : Bool) → (s || t) ≡ false → (s ≡ false) × (t ≡ false)
+neither true t none = absurd (cc)
+neither false t none = (refl, none)
+
+is_true : (t : Bool) → not t ≡ false → t ≡ true
+is_true true none = refl
+is_true false none = absurd (cc)
+
+is_false : (t : Bool) → (t ≡ true → ⊥) → t ≡ false
+is_false true never = absurd (never refl)
+is_false false never = refl
+
+is_zero : (x : ℕ) → not (nat_eq x 0) ≡ false → x ≡ 0
+is_zero x none = grind (arith, nat_tests)
+
+is_same : (x y : ℕ) → nat_eq x y ≡ true → x ≡ y
+is_same x y holds = grind (arith, nat_tests)
+
+not_below : (x y : ℕ) → nat_lt x y ≡ false → y ≤ x
+not_below x y none = grind (arith, nat_tests)
+
+-- ---- accounts
+no_byte : (list : List ℕ) → list_any (λ byte. not (nat_eq byte 0)) list ≡ false → All (λ byte. byte ≡ 0) list
+no_byte list none k d below = is_zero (get_or list k d) (is_false (not (nat_eq (get_or list k d) 0)) (λ here. let found = list_any_at (λ byte. not (nat_eq byte 0)) list k d below here in cc))
+
+key_is : (a b : Key) → same_key a b ≡ true → a ≡ b
+key_is a b same = ap (λ (bytes : List ℕ). let key : Key = record { 0 = bytes } in key) ((bytes_decides a.0 b.0).0 same)
+
+flag_is : (s t : Bool) → (if s then t else not t) ≡ true → s ≡ t
+flag_is true t same = sym same
+flag_is false true same = absurd (cc)
+flag_is false false same = refl
+
+account_is : (a b : Account) → same_account a b ≡ true → a ≡ b
+account_is a b same =
+    let last = both (nat_eq a.lamports b.lamports && same_key a.owner b.owner && same_flag a b) (same_data a b) same in
+    let third = both (nat_eq a.lamports b.lamports && same_key a.owner b.owner) (same_flag a b) last.0 in
+    let first = both (nat_eq a.lamports b.lamports) (same_key a.owner b.owner) third.0 in
+    let lamports : a.lamports ≡ b.lamports = is_same a.lamports b.lamports first.0 in
+    let owner : a.owner ≡ b.owner = key_is a.owner b.owner first.1 in
+    let executable : a.executable ≡ b.executable = flag_is a.executable b.executable third.1 in
+    let bytes : a.bytes ≡ b.bytes = (bytes_decides a.bytes b.bytes).0 last.1 in
+    λ i. record { lamports = lamports i; owner = owner i; executable = executable i; bytes = bytes i }
+
+kept : (program : Key) (writable : Bool) (before after : Account) (n : ℕ) → broken_rule program writable before after n ≡ None → IsKept program writable before after
+kept program writable before after n none =
+    let one = passed (readonly_changed writable before after) _ _ none in
+    let two = passed (executable_changed before after) _ _ one.1 in
+    let three = passed (owner_change program before after) _ _ two.1 in
+    let four = passed (foreign_debit program before after) _ _ three.1 in
+    let five = passed (foreign_data program before after) _ _ four.1 in
+    let six = passed (too_large after) _ _ five.1 in
+    let two' = neither (before.executable && not (same_account before after)) (not (same_flag before after)) two.0 in
+    record {
+      readonly = λ locked. account_is before after (is_true (same_account before after) (not_second (not writable) (not (same_account before after)) one.0 (ap not locked)));
+      executable = λ holds. account_is before after (is_true (same_account before after) (not_second before.executable (not (same_account before after)) two'.0 holds));
+      flag = flag_is before.executable after.executable (is_true (same_flag before after) two'.1);
+      owner = elim (not_both (not (same_key before.owner after.owner)) (not (owns program before) || has_byte after) three.0) [
+        | inl same ↦ inl (key_is before.owner after.owner (is_true (same_key before.owner after.owner) same))
+        | inr given ↦ let parts = neither (not (owns program before)) (has_byte after) given in inr (key_is before.owner program (is_true (owns program before) parts.0), no_byte after.bytes parts.1)
+      ];
+      lamports = elim (not_both (nat_lt after.lamports before.lamports) (not (owns program before)) four.0) [
+        | inl more ↦ inl (not_below after.lamports before.lamports more)
+        | inr owned ↦ inr (key_is before.owner program (is_true (owns program before) owned))
+      ];
+      bytes = elim (not_both (not (same_data before after)) (not (owns program before)) five.0) [
+        | inl same ↦ inl ((bytes_decides before.bytes after.bytes).0 (is_true (same_data before after) same))
+        | inr owned ↦ inr (key_is before.owner program (is_true (owns program before) owned))
+      ];
+      size = not_below 10485760 (length after.bytes) six.0;
+    }
+
+-- ---- lists
+empty_option : {Y : Type 0} (o : Option Y) (ys : List Y) → cons_option o ys ≡ [] → (o ≡ None) × (ys ≡ [])
+empty_option None ys none = (refl, none)
+empty_option (Some y) ys none = absurd (cc)
+
+empty_both : {X : Type 0} (xs ys : List X) → xs ++ ys ≡ [] → (xs ≡ []) × (ys ≡ [])
+empty_both [] ys none = (refl, none)
+empty_both (x ∷ xs) ys none = absurd (cc)
+
+none_at : {X Y : Type 0} (f : X → Option Y) (xs : List X) → filter_map f xs ≡ [] → All (λ x. f x ≡ None) xs
+none_at f [] none k d below = absurd (omega arith)
+none_at f (x ∷ xs) none zero d below = (empty_option (f x) (filter_map f xs) none).0
+none_at f (x ∷ xs) none (suc k) d below = none_at f xs (empty_option (f x) (filter_map f xs) none).1 k d (omega arith)
+
+no_fault : (faults : List RuleFault) → first_of faults ≡ Ok tt → faults ≡ []
+no_fault [] ok = refl
+no_fault (fault ∷ faults) ok = absurd (cc)
+
+balanced : (before after : List Account) → (if unbalanced before after then Unbalanced ∷ [] else []) ≡ [] → lamports_in before ≡ lamports_in after
+balanced before after none = is_same (lamports_in before) (lamports_in after) (is_true (nat_eq (lamports_in before) (lamports_in after)) (no_item (unbalanced before after) none))
+  where
+    no_item : (t : Bool) → (if t then Unbalanced ∷ [] else []) ≡ [] → t ≡ false
+    no_item true none = absurd (cc)
+    no_item false none = refl
+
+pub all_kept : (program : Key) (writable : List Bool) (before after : List Account) → rules program writable before after ≡ Ok tt → AreKept program writable before after
+unfolding rules
+all_kept program writable before after ok =
+    let parts = empty_both (filter_map (broken_by program) (changes writable before after)) (if unbalanced before after then Unbalanced ∷ [] else []) (no_fault (broken_rules program writable before after) ok) in
+    record {
+      each = λ k d below. kept program _ _ _ _ (none_at (broken_by program) (changes writable before after) parts.0 k d below);
+      sum = balanced before after parts.1;
+    }

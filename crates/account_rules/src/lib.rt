@@ -1,0 +1,6 @@
+//! The rules that the accounts of a frame keep while its program works.
+#![tactic(auto)]
+
+mod rules;
+
+pub use rules::{MAX_DATA_LEN, RuleFault, check};

@@ -1,0 +1,5 @@
+pub mod EntryLists
+pub mod StateLaws
+pub mod SharedLaws
+pub mod NextLaws
+pub mod SortedLaws

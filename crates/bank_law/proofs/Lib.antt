@@ -1,0 +1,10 @@
+pub mod Keys
+pub mod Pending
+pub mod Stages
+pub mod Events
+pub mod Lanes
+pub mod Journals
+pub mod Ends
+pub mod Counts
+pub mod Supply
+pub mod Props

@@ -1,0 +1,50 @@
+-- A work of many positions, as plain data.
+use Rattle.std.specs.Prelude.{ℕ, Bool, List, [], ◌∷◌, map, filter, bytes_eq, if◌then◌else◌}
+use Rattle.std.specs.List.{list_any}
+use Rattle.sol_base.specs.declared.key.Key.{Key}
+use Rattle.sol_base.specs.declared.account.Account.{Account}
+use Rattle.sol_base.specs.declared.lock.Lock.{Lock}
+use Rattle.sol_base.specs.Accounts.{empty_account}
+use Rattle.tx_report.specs.declared.outcome.Outcome.{Outcome}
+
+-- what performing a position gives: its outcome, and one account for each write lock, in their order
+pub record JobEffects : Type 0 where
+  pub outcome : Outcome
+  pub written : List Account
+
+-- the number of positions, the locks of each, and what performing one on the values of its keys gives
+pub record Job : Type 0 where
+  pub count : ℕ
+  pub locks : ℕ → List Lock
+  pub effects : ℕ → List Account → JobEffects
+
+-- two keys are one
+abbrev pub same_key : Key → Key → Bool
+same_key a b = bytes_eq a.0 b.0
+
+-- the key stands in the list
+abbrev pub has_key : Key → List Key → Bool
+has_key key ks = list_any (λ k. same_key key k) ks
+
+-- the keys of locks, in their order
+abbrev pub keys_of : List Lock → List Key
+keys_of locks = map (λ lock. lock.key) locks
+
+-- the keys that position i declares, and those that it writes
+abbrev pub keys : Job → ℕ → List Key
+keys job i = keys_of (job.locks i)
+
+abbrev pub write_keys : Job → ℕ → List Key
+write_keys job i = keys_of (filter (λ lock. lock.write) (job.locks i))
+
+abbrev pub declares : Job → ℕ → Key → Bool
+declares job i key = has_key key (keys job i)
+
+abbrev pub writes : Job → ℕ → Key → Bool
+writes job i key = has_key key (write_keys job i)
+
+-- the value that stands beside the key, where values stand beside keys
+abbrev pub beside : Key → List Key → List Account → Account
+beside key [] vs = empty_account
+beside key (k ∷ ks) [] = empty_account
+beside key (k ∷ ks) (v ∷ vs) = if same_key key k then v else beside key ks vs

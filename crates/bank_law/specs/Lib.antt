@@ -1,0 +1,7 @@
+pub mod Job
+pub mod Serial
+pub mod Machine
+pub mod Sound
+pub mod History
+pub mod Lawful
+pub mod Laws

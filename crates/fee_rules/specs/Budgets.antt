@@ -1,0 +1,66 @@
+-- The budget of a message (Solana).
+use Rattle.std.specs.Prelude.{ℕ, ◌*◌, Bool, false, not, List, [], ◌∷◌, take, min, count_by, slice_get, Option, Some, None, unwrap_or, Result, Ok, Err, if◌then◌else◌}
+use Rattle.std.specs.Option.{option_map_or}
+use Rattle.std.specs.List.{filter_map, enumerate_from}
+use Rattle.sol_base.specs.declared.key.Key.{Key}
+use Rattle.sol_base.specs.declared.key.TheConstants.{COMPUTE_BUDGET_PROGRAM}
+use Rattle.message_codec.specs.declared.message.Instruction.{Instruction}
+use Rattle.message_codec.specs.declared.message.Message.{Message}
+use Rattle.message_codec.specs.Roles.{is_same_key}
+use Rattle.fee_rules.specs.declared.request.Request.{Request}
+use Rattle.fee_rules.specs.declared.request.Asked.{Asked}
+use Rattle.fee_rules.specs.declared.budget.Budget.{Budget}
+use Rattle.fee_rules.specs.declared.budget.BudgetFault.{BudgetFault}
+use Rattle.fee_rules.specs.declared.budget.BudgetFault.TheVariants.{BadBudget, RepeatedBudget}
+use Rattle.fee_rules.specs.Requests.{asked_of, has_asked, request_of}
+
+-- the instruction calls the compute budget program
+abbrev pub is_budget : List Key → Instruction → Bool
+is_budget keys instruction = option_map_or (λ key. is_same_key key COMPUTE_BUDGET_PROGRAM) (slice_get keys instruction.program) false
+
+-- its request, if it has one
+abbrev pub request_in : List Key → Instruction → Option Request
+request_in keys instruction = if is_budget keys instruction then request_of instruction.input else None
+
+-- all requests, in order
+abbrev pub requests_in : List Key → List Instruction → List Request
+requests_in keys instructions = filter_map (request_in keys) instructions
+
+-- what is wrong with a request: it is none, or one of its kind stands before it
+abbrev pub fault_of : Asked → Option Request → ℕ → Option BudgetFault
+fault_of before None index = Some (BadBudget index)
+fault_of before (Some request) index = if has_asked before request then Some (RepeatedBudget index) else None
+
+-- what is wrong with the instruction at an index
+abbrev pub fault_at : List Key → List Instruction → ℕ × Instruction → Option BudgetFault
+fault_at keys instructions at =
+    if is_budget keys at.1
+    then fault_of (asked_of (requests_in keys (take at.0 instructions))) (request_of at.1.input) at.0
+    else None
+
+-- all that is wrong, in order
+abbrev pub faults_in : List Key → List Instruction → List BudgetFault
+faults_in keys instructions = filter_map (fault_at keys instructions) (enumerate_from 0 instructions)
+
+-- the budget for what is asked, with so many instructions that are no requests
+abbrev pub budget_for : Asked → ℕ → Budget
+budget_for asked others = record {
+  limit = min (unwrap_or asked.limit (200000 * others)) 1400000;
+  price = unwrap_or asked.price 0;
+  heap = unwrap_or asked.heap 32768;
+  loaded = min (unwrap_or asked.loaded 67108864) 67108864;
+}
+
+-- the instructions that are no requests
+abbrev pub others_in : List Key → List Instruction → ℕ
+others_in keys instructions = count_by (λ instruction. not (is_budget keys instruction)) instructions
+
+-- the budget, or the first that is wrong
+abbrev pub first_or : {X : Type 0} → List BudgetFault → X → Result X BudgetFault
+first_or [] answer = Ok answer
+first_or (fault ∷ _) answer = Err fault
+
+unfoldable pub budget_in : Message → Result Budget BudgetFault
+budget_in message =
+    first_or (faults_in message.keys message.instructions)
+    (budget_for (asked_of (requests_in message.keys message.instructions)) (others_in message.keys message.instructions))

@@ -1,0 +1,4 @@
+pub mod Requests
+pub mod Budgets
+pub mod Charge
+pub mod Fees

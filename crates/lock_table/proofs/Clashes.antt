@@ -1,0 +1,43 @@
+-- Conflict by numbers is conflict by keys.
+use Rattle.std.proofs.Common.{◌≡◌, ℕ, ◌<◌, ◌==◌, true, ◌&&◌, ◌||◌, inl, inr, List, [], ◌∷◌, map, length, get_or, All, refl, sym, ◌∙◌, ap₂, subst, ne_eqb, arith}
+use Rattle.std.specs.List.{list_any, IsDistinct}
+use Rattle.std.proofs.lemmas.Bool.{cases_order, eq-eqb}
+use Rattle.std.proofs.lemmas.List.Elements.{All-head, All-tail}
+use Rattle.std.proofs.lemmas.Map.Keys.{apart_from_distinct}
+use Rattle.sol_base.specs.declared.key.Key.{Key}
+use Rattle.bank_law.specs.Job.{same_key}
+use Rattle.bank_law.specs.Machine.{meet, clash}
+use Rattle.bank_law.proofs.Keys.{same_key-self, same_key-sym}
+use Rattle.lock_table.specs.declared.locks.NumberedLock.{NumberedLock}
+use Rattle.lock_table.specs.Numbers.{lock_at, meets, conflicts}
+use Rattle.lock_table.specs.Laws.{ConflictIsClash}
+use Rattle.lock_table.proofs.Numbering.{no_key}
+
+module _ (keys : List Key) (distinct : IsDistinct same_key keys) where
+  -- numbers are equal where their keys are
+  one_number : (m n : ℕ) → m < length keys → n < length keys → (m == n) ≡ same_key (get_or keys m no_key) (get_or keys n no_key)
+  one_number m n l k =
+      elim (cases_order m n) [
+        | inl e ↦ eq-eqb m n e ∙ sym (subst (λ x. same_key (get_or keys m no_key) (get_or keys x no_key) ≡ true) e (same_key-self (get_or keys m no_key)))
+        | inr (inl u) ↦ ne_eqb m n (λ e. omega arith) ∙ sym (apart_from_distinct same_key keys m n no_key distinct u k)
+        | inr (inr u) ↦ ne_eqb m n (λ e. omega arith) ∙ sym (same_key-sym (get_or keys m no_key) (get_or keys n no_key) ∙ apart_from_distinct same_key keys n m no_key distinct u l)
+      ]
+
+  abbrev Within : List NumberedLock → Type 0
+  Within set = All (λ lock. lock.number < length keys) set
+
+  one_meets : (a : NumberedLock) (other : List NumberedLock) → a.number < length keys → Within other → list_any (λ b. meets a b) other ≡ list_any (λ b. meet (lock_at keys a) b) (map (lock_at keys) other)
+  one_meets a [] l w = refl
+  one_meets a (b ∷ bs) l w =
+      ap₂ (λ s t. (s && (a.write || b.write)) || t)
+      (one_number a.number b.number l (All-head (λ lock. lock.number < length keys) b bs w))
+      (one_meets a bs l (All-tail (λ lock. lock.number < length keys) b bs w))
+
+  all_meet : (one other : List NumberedLock) → Within one → Within other → conflicts one other ≡ clash (map (lock_at keys) one) (map (lock_at keys) other)
+  all_meet [] other v w = refl
+  all_meet (a ∷ rest) other v w =
+      ap₂ (λ s t. s || t) (one_meets a other (All-head (λ lock. lock.number < length keys) a rest v) w) (all_meet rest other (All-tail (λ lock. lock.number < length keys) a rest v) w)
+
+pub conflict_clash : ConflictIsClash
+conflict_clash keys distinct one other first second n m =
+    all_meet keys distinct first second n.within m.within ∙ ap₂ clash n.stands_for m.stands_for

@@ -1,0 +1,5 @@
+pub mod Places
+pub mod Numbering
+pub mod Walks
+pub mod Clashes
+pub mod Copies

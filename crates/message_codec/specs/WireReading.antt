@@ -1,0 +1,137 @@
+-- Reading a transaction from left to right, with the first refusal that is met.
+use Rattle.std.specs.Prelude.{◌≡◌, ◌↔◌, ◌≤◌, ◌++◌, ℕ, ◌+◌, ◌-◌, ◌*◌, List, [], ◌∷◌, length, Result, Ok, Err, Bool, true, false, nat_lt, nat_eq, ◌||◌, slice_index, if◌then◌else◌}
+use Rattle.spec_base.specs.Bytes.{IsBytes}
+use Rattle.spec_base.specs.Reading.{◌>>=◌, place, field_at, byte_at, mapped, many, whole}
+use Rattle.sol_base.specs.Keys.{key_at, hash_at}
+use Rattle.message_codec.specs.declared.fault.WireFault.{WireFault}
+use Rattle.message_codec.specs.declared.fault.WireFault.TheVariants.{TooLong, Truncated, BadLength, Version, Trailing, OutOfMemory}
+use Rattle.message_codec.specs.declared.message.Signature.{Signature}
+use Rattle.message_codec.specs.declared.message.Header.{Header}
+use Rattle.message_codec.specs.declared.message.Instruction.{Instruction}
+use Rattle.message_codec.specs.declared.message.MessageKind.{MessageKind}
+use Rattle.message_codec.specs.declared.message.MessageKind.TheVariants.{Legacy, Zero}
+use Rattle.message_codec.specs.declared.message.Lookup.{Lookup}
+use Rattle.message_codec.specs.declared.message.Message.{Message}
+use Rattle.message_codec.specs.declared.message.Tx.{Tx}
+use Rattle.message_codec.specs.Compact.{compact, BeginsWithLength, IsCutLength}
+use Rattle.message_codec.specs.Wire.{IsShort, HasShortLists, HasWidths, BeginsAsItsKind, AllowsLookups, tx_bytes}
+
+abbrev pub is_memory : WireFault → Bool
+is_memory TooLong = false
+is_memory (Truncated _) = false
+is_memory (BadLength _) = false
+is_memory (Version _) = false
+is_memory (Trailing _) = false
+is_memory OutOfMemory = true
+
+-- what the wire holds at the front of the bytes that are left
+abbrev pub Read : Type 0 → Type 0
+Read X = Result (X × List ℕ) WireFault
+
+-- the third byte of a compact length, after the digits that were read
+abbrev pub third_at : ℕ → ℕ → List ℕ → Read ℕ
+third_at at low [] = Err (Truncated at)
+third_at at low (c ∷ rest) = if nat_eq c 0 || nat_lt 3 c then Err (BadLength at) else Ok (low + 16384 * c, rest)
+
+-- the second
+abbrev pub second_at : ℕ → ℕ → List ℕ → Read ℕ
+second_at at low [] = Err (Truncated at)
+second_at at low (b ∷ rest) =
+    if nat_lt b 128 then (if nat_eq b 0 then Err (BadLength at) else Ok (low + 128 * b, rest)) else
+    third_at at (low + 128 * (b - 128)) rest
+
+abbrev pub first_at : ℕ → List ℕ → Read ℕ
+first_at at [] = Err (Truncated at)
+first_at at (a ∷ rest) = if nat_lt a 128 then Ok (a, rest) else second_at at (a - 128) rest
+
+-- a compact length, refused at its first byte
+unfoldable pub compact_at : ℕ → List ℕ → Read ℕ
+compact_at total bytes = first_at (place total bytes) bytes
+
+-- a compact array
+unfoldable pub array_at : {X : Type 0} → (ℕ → List ℕ → Read X) → ℕ → List ℕ → Read (List X)
+array_at one total bytes = do
+  count ← compact_at total bytes
+  many (one total) count.0 count.1
+
+-- a compact array of bytes, which is one field after its length
+unfoldable pub blob_at : ℕ → List ℕ → Read (List ℕ)
+blob_at total bytes = do
+  count ← compact_at total bytes
+  field_at Truncated total count.0 count.1
+
+abbrev pub signature_at : ℕ → List ℕ → Read Signature
+signature_at total bytes = mapped (λ field. record { 0 = field }) (field_at Truncated total 64) bytes
+
+-- the three header bytes, one field
+unfoldable pub header_at : ℕ → List ℕ → Read Header
+header_at total bytes = do
+  field ← field_at Truncated total 3 bytes
+  Ok (record { required = slice_index field.0 0; readonly_signed = slice_index field.0 1; readonly_unsigned = slice_index field.0 2 }, field.1)
+
+unfoldable pub instruction_at : ℕ → List ℕ → Read Instruction
+instruction_at total bytes = do
+  program ← byte_at Truncated total bytes
+  accounts ← blob_at total program.1
+  input ← blob_at total accounts.1
+  Ok (record { program = program.0; accounts = accounts.0; input = input.0 }, input.1)
+
+unfoldable pub lookup_at : ℕ → List ℕ → Read Lookup
+lookup_at total bytes = do
+  table ← key_at Truncated total bytes
+  writable ← blob_at total table.1
+  readonly ← blob_at total writable.1
+  Ok (record { table = table.0; writable = writable.0; readonly = readonly.0 }, readonly.1)
+
+-- the first byte of a message tells its kind; a Legacy message begins with its header
+abbrev pub kind_at : ℕ → List ℕ → Read MessageKind
+kind_at total [] = Err (Truncated (place total []))
+kind_at total (byte ∷ rest) =
+    if nat_lt byte 128 then Ok (Legacy, byte ∷ rest) else
+    if nat_eq byte 128 then Ok (Zero, rest) else
+    Err (Version byte)
+
+-- only a version 0 message has lookups
+abbrev pub lookups_at : MessageKind → ℕ → List ℕ → Read (List Lookup)
+lookups_at Legacy total bytes = Ok ([], bytes)
+lookups_at Zero total bytes = array_at lookup_at total bytes
+
+unfoldable pub message_at : ℕ → List ℕ → Read Message
+message_at total bytes = do
+  kind ← kind_at total bytes
+  header ← header_at total kind.1
+  keys ← array_at (key_at Truncated) total header.1
+  blockhash ← hash_at Truncated total keys.1
+  instructions ← array_at instruction_at total blockhash.1
+  lookups ← lookups_at kind.0 total instructions.1
+  Ok (record { kind = kind.0; header = header.0; keys = keys.0; blockhash = blockhash.0; instructions = instructions.0; lookups = lookups.0 }, lookups.1)
+
+unfoldable pub tx_at : ℕ → List ℕ → Read Tx
+tx_at total bytes = do
+  signatures ← array_at signature_at total bytes
+  message ← message_at total signatures.1
+  Ok (record { signatures = signatures.0; message = message.0 }, message.1)
+
+-- the transaction that the bytes are, or the first refusal
+unfoldable pub wire_of : List ℕ → Result Tx WireFault
+wire_of bytes =
+    if nat_lt 1232 (length bytes) then Err TooLong else do
+      tx ← tx_at (length bytes) bytes
+      whole Trailing (length bytes) tx
+
+-- Which answer comes of a compact length: the value where the bytes begin with its spelling, cut short where they
+-- are a proper prefix of some spelling, and else a bad length.
+pub record AnswersLength (total : ℕ) (bytes : List ℕ) : Type 0 where
+  pub value : (v : ℕ) (rest : List ℕ) → (compact_at total bytes ≡ Ok (v, rest)) ↔ ((v ≤ 65535) × (bytes ≡ compact v ++ rest))
+  pub cut : (compact_at total bytes ≡ Err (Truncated (place total bytes))) ↔ IsCutLength bytes
+  pub bad : (compact_at total bytes ≡ Err (BadLength (place total bytes))) ↔ ((¬ BeginsWithLength bytes) × (¬ IsCutLength bytes))
+
+abbrev pub LengthLaw : Type 0
+LengthLaw = (total : ℕ) (bytes : List ℕ) → IsBytes bytes → AnswersLength total bytes
+
+-- what is written is read again, where it is short enough and of its kind
+abbrev pub RoundTripLaw : Type 0
+RoundTripLaw = (tx : Tx) → length (tx_bytes tx) ≤ 1232
+    → BeginsAsItsKind tx.message.kind tx.message.header → AllowsLookups tx.message.kind tx.message.lookups
+    → IsShort tx.signatures → HasShortLists tx.message → HasWidths tx
+    → wire_of (tx_bytes tx) ≡ Ok tx

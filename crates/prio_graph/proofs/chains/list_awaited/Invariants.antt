@@ -1,0 +1,7 @@
+use Rattle.std.proofs.Common.{◌≡◌, take}
+use Rattle.std.specs.List.{flat_map}
+use Rattle.prio_graph.specs.Steps.{awaited_by}
+use Rattle.prio_graph.proofs.chains.list_awaited.Given as goal
+
+abbrev pub invariant-loop-lock : goal.invariant-loop-lock
+invariant-loop-lock l = l.into.items ≡ flat_map (awaited_by l.last l.readers) (take l.lock-index l.locks)

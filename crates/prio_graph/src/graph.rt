@@ -1,0 +1,141 @@
+ghost use Rattle.std.specs.Prelude.{◌≡◌, ℕ, ◌+◌, ◌*◌, ◌^◌, ◌<◌, ◌≤◌, ◌==◌, ◌&&◌, All, IfOk, IfSome, IfNone, length, replicate, slice_index, slice_set, nat_lt, if◌then◌else◌};
+ghost use Rattle.prio_graph.specs.Trees.{IsTree, leaf};
+ghost use Rattle.prio_graph.specs.Ready.{IsReady, IsLeastReady, mark_at, set_at};
+ghost use Rattle.prio_graph.specs.Keeping.{shown, times};
+ghost use Rattle.prio_graph.specs.declared.mark.Mark.TheVariants.{Waiting, Started, Done};
+
+use crate::edges::edges_of;
+use crate::mark::Mark;
+use crate::tree::{NONE, empty_tree, least_leaf, write_leaf};
+use lock_table::LockSet;
+use sol_base::{Items, OutOfMemory};
+use std::alloc::Global;
+use std::marker::Model;
+
+/// Positions that wait for earlier ones, by the locks of each.
+#[derive(Drop)]
+pub struct Graph {
+    sets: Items<LockSet>,
+    marks: Vec<Mark>,
+    // How many edges lead to a position whose earlier end is not done.
+    waits: Vec<usize>,
+    // The later ends of the edges from a position.
+    later: Vec<Items<u32>>,
+    // The ready positions.
+    ready: Vec<u32>,
+}
+
+impl Model for Graph {
+    ghost use Rattle.prio_graph.specs.Ready.{Positions};
+    ghost use Rattle.prio_graph.specs.Keeping.{Keeps};
+
+    ghost Value = { Positions };
+
+    ghost view = { λ g. record { sets = g.sets; marks = g.marks.items } };
+
+    ghost invariant = { λ g. Keeps g.sets g.marks.items g.waits.items g.later.items g.ready.items };
+}
+
+impl Graph {
+    /// The positions of these locks, all of them waiting. It takes all memory that the graph will need.
+    pub fn new(alloc: Global, sets: Items<LockSet>) -> Result<Graph, OutOfMemory>
+        requires { length sets < 2 ^ 32 }
+        ensures { IfOk result (λ graph. graph ≡ record { sets = sets; marks = replicate (length sets) Waiting }) }
+    {
+        let marks = vec![in alloc; Mark::Waiting; sets.len()]?;
+        let edges = edges_of(alloc, sets.as_slice())?;
+        let ready = tree_of(alloc, edges.waits.as_slice())?;
+        Ok(Graph {
+            sets,
+            marks,
+            waits: edges.waits,
+            later: edges.later,
+            ready,
+        })
+    }
+
+    /// The locks of a position.
+    pub fn set(&self, position: u32) -> &LockSet
+        requires { position < length self.now.sets }
+        ensures { result.now ≡ set_at self.now.sets position }
+    {
+        &self.sets.as_slice()[position as usize]
+    }
+
+    /// The least position that is ready: it is waiting, and every earlier conflicting one is done.
+    pub fn least_ready(&self) -> Option<u32>
+        ensures least { IfSome result (IsLeastReady self.now) }
+        ensures none { IfNone result ((i : ℕ) → IsReady self.now i → ⊥) }
+    {
+        let least = least_leaf(self.ready.as_slice(), self.sets.len());
+        if least == NONE { None } else { Some(least) }
+    }
+
+    /// Starts a position that is ready.
+    pub fn start(&mut self, position: u32)
+        requires { IsReady self.old position }
+        ensures { self.new ≡ record self.old { marks = slice_set self.old.marks position Started } }
+    {
+        let at = position as usize;
+        self.marks[at] = Mark::Started;
+        write_leaf(&mut self.ready, self.sets.len(), at, NONE);
+    }
+
+    /// Ends a position that is started: it is done.
+    pub fn finish(&mut self, position: u32)
+        requires { mark_at self.old.marks position ≡ Started }
+        ensures { self.new ≡ record self.old { marks = slice_set self.old.marks position Done } }
+    {
+        let at = position as usize;
+        self.marks[at] = Mark::Done;
+        release(&mut self.waits, &mut self.ready, self.later[at].as_slice());
+    }
+
+    /// Takes a start back: the position is waiting again.
+    pub fn unstart(&mut self, position: u32)
+        requires { mark_at self.old.marks position ≡ Started }
+        ensures { self.new ≡ record self.old { marks = slice_set self.old.marks position Waiting } }
+    {
+        let at = position as usize;
+        self.marks[at] = Mark::Waiting;
+        write_leaf(&mut self.ready, self.sets.len(), at, position);
+    }
+}
+
+/// A tree that shows the positions that wait for nobody.
+fn tree_of(alloc: Global, waits: &[usize]) -> Result<Vec<u32>, OutOfMemory>
+    requires { length waits.now < 2 ^ 32 }
+    ensures length { IfOk result (λ tree. length tree.items ≡ 2 * length waits.now) }
+    ensures is_tree { IfOk result (λ tree. IsTree tree.items (length waits.now)) }
+    ensures leaves { IfOk result (λ tree. (i : ℕ) → i < length waits.now → leaf tree.items (length waits.now) i ≡ shown (slice_index waits.now i == 0) i) }
+{
+    let count = waits.len();
+    let mut tree = empty_tree(alloc, count)?;
+    for i in 0..count {
+        if waits[i] == 0 {
+            write_leaf(&mut tree, count, i, i as u32);
+        }
+    }
+    Ok(tree)
+}
+
+/// Takes one edge from each position of a row, and shows those that wait for nobody any more.
+fn release(waits: &mut [usize], tree: &mut [u32], row: &[u32])
+    requires few { length waits.old < 2 ^ 32 }
+    requires within { All (λ i. i < length waits.old) row.now }
+    requires enough { (i : ℕ) → times i row.now ≤ slice_index waits.old i }
+    requires length { length tree.old ≡ 2 * length waits.old }
+    requires is_tree { IsTree tree.old (length waits.old) }
+    ensures waits { (i : ℕ) → slice_index waits.new i + times i row.now ≡ slice_index waits.old i }
+    ensures is_tree { IsTree tree.new (length waits.old) }
+    ensures leaves { (i : ℕ) → i < length waits.old → leaf tree.new (length waits.old) i ≡ (if nat_lt 0 (times i row.now) && (slice_index waits.new i == 0) then i else leaf tree.old (length waits.old) i) }
+{
+    let count = waits.len();
+    for i in row {
+        let at = *i as usize;
+        waits[at] -= 1;
+        if waits[at] == 0 {
+            write_leaf(tree, count, at, *i);
+        }
+    }
+}

@@ -1,0 +1,49 @@
+ghost use Rattle.std.specs.Prelude.{◌≡◌, ℕ, ◌+◌, ◌<◌, ◌==◌, ◌++◌, ◌∷◌, [], All, IfOk, OnOk, OnErr, length, replicate, slice_index_or, slice_set, if◌then◌else◌};
+ghost use Rattle.prio_graph.specs.Keeping.{edges, times};
+
+use sol_base::{Items, OutOfMemory};
+use std::alloc::Global;
+use std::mem;
+
+/// So many rows, all of them empty.
+pub(crate) fn empty_rows(alloc: Global, count: usize) -> Result<Vec<Items<u32>>, OutOfMemory>
+    ensures { IfOk result (λ rows. rows.items ≡ replicate count []) }
+{
+    let mut rows = Vec::with_capacity(alloc, count)?;
+    while rows.len() < count {
+        rows.push(Items::new(alloc))?;
+    }
+    Ok(rows)
+}
+
+/// Appends to one row.
+pub(crate) fn push_at(rows: &mut [Items<u32>], at: usize, item: u32) -> Result<(), OutOfMemory>
+    requires { at < length rows.old }
+    ensures ok { OnOk result (rows.new ≡ slice_set rows.old at (slice_index_or rows.old at [] ++ item ∷ [])) }
+    ensures err { OnErr result (rows.new ≡ rows.old) }
+{
+    let row = &mut rows[at];
+    row.push(item)?;
+    Ok(())
+}
+
+/// Empties one row, and keeps its memory.
+pub(crate) fn clear_at(alloc: Global, rows: &mut [Items<u32>], at: usize)
+    requires { at < length rows.old }
+    ensures { rows.new ≡ slice_set rows.old at [] }
+{
+    let mut row = mem::replace(&mut rows[at], Items::new(alloc)).into_vec();
+    row.clear();
+    rows[at] = Items::from_vec(row);
+}
+
+/// Adds an edge to a position from each of the earlier ones.
+pub(crate) fn add_edges(rows: &mut [Items<u32>], earlier: &[u32], position: u32) -> Result<(), OutOfMemory>
+    requires { All (λ j. j < length rows.old) earlier.now }
+    ensures { OnOk result ((j i : ℕ) → edges rows.new j i ≡ edges rows.old j i + (if i == position then times j earlier.now else 0)) }
+{
+    for j in earlier {
+        push_at(rows, *j as usize, position)?;
+    }
+    Ok(())
+}

@@ -1,0 +1,5 @@
+use Rattle.sbpf_verify.proofs.Starts.{has_registers}
+use Rattle.sbpf_verify.proofs.laws.registers_are_there.Goals as goal
+
+pub returns : goal.returns
+returns c = has_registers

@@ -1,0 +1,192 @@
+-- The verified texts: the table of refusals, and the first that applies (sBPF, in this project's profile).
+use Rattle.std.specs.Prelude.{◌≡◌, ℕ, zero, suc, ◌+◌, ◌-◌, ◌%◌, ◌<◌, ◌==◌, ◌&&◌, ◌||◌, not, Bool, true, false, List, [], ◌∷◌, ◌++◌, length, nat_lt, Option, Some, None, is_none, if◌then◌else◌, ℤ, pos, int_lt}
+use Rattle.std.specs.List.{AllByRecursion, flat_map, range_with_len}
+use Rattle.std.specs.Ordering.{int_eq}
+use Rattle.sbpf_isa.specs.Rows.{kind_at}
+use Rattle.sbpf_isa.specs.Slots.{slot_of}
+use Rattle.sbpf_isa.specs.declared.slot.Slot.{Slot}
+use Rattle.sbpf_isa.specs.declared.rows.Operation.TheVariants.{Div, Mod, Lsh, Rsh, Arsh}
+use Rattle.sbpf_isa.specs.declared.rows.Width.{Width}
+use Rattle.sbpf_isa.specs.declared.rows.Width.TheVariants.{Bits64, Bits32}
+use Rattle.sbpf_isa.specs.declared.rows.Operand.TheVariants.{Immediate, Register as RegisterOperand}
+use Rattle.sbpf_isa.specs.declared.rows.OpKind.{OpKind}
+use Rattle.sbpf_isa.specs.declared.rows.OpKind.TheVariants.{Binary, Negate, LittleEndian, BigEndian, Jump as JumpKind, JumpIf, Call, CallRegister, Exit, Load, Store, LoadWide}
+use Rattle.sbpf_verify.specs.Places.{slot_count, is_start_at, leads_to}
+use Rattle.sbpf_verify.specs.declared.fault.VerifyFault.{VerifyFault}
+use Rattle.sbpf_verify.specs.declared.fault.VerifyFault.TheVariants.{Length, Opcode, Register, WritesFrame, ZeroDivisor, Shift, HalfWide, Jump, Helper, OpenEnd, Field}
+
+-- a number outside low to high
+abbrev pub is_outside : ℤ → ℤ → ℤ → Bool
+is_outside low high number = int_lt number low || int_lt high number
+
+-- Length: the length is 0, no multiple of 8, or above 65,536 slots
+abbrev pub has_bad_length : List ℕ → Bool
+has_bad_length text = (length text == 0) || not (length text % 8 == 0) || nat_lt 65536 (slot_count text)
+
+-- the slot before is `lddw`
+abbrev pub follows_wide : List ℕ → ℕ → Bool
+follows_wide text zero = false
+follows_wide text (suc before) = (slot_of text before).opcode == 0x18
+
+-- Opcode: no row in the table of instructions, but for opcode 0 directly after `lddw`
+abbrev pub lacks_row : List ℕ → ℕ → Bool
+lacks_row text place =
+    let opcode = (slot_of text place).opcode in is_none (kind_at opcode) && not ((opcode == 0) && follows_wide text place)
+
+-- a slot is there whose opcode, registers and offset are 0
+abbrev pub is_second_half : List ℕ → ℕ → Bool
+is_second_half text place =
+    let slot = slot_of text place in
+    nat_lt place (slot_count text) && (slot.opcode == 0) && (slot.dst == 0) && (slot.src == 0) && int_eq slot.offset (pos 0)
+
+-- HalfWide: `lddw` without such a slot after it
+abbrev pub is_half_wide : List ℕ → ℕ → OpKind → Bool
+is_half_wide text place LoadWide = not (is_second_half text (place + 1))
+is_half_wide text place _ = false
+
+-- Register: a register above 10; `callx` with an immediate outside 0 to 9
+abbrev pub calls_bad_register : Slot → OpKind → Bool
+calls_bad_register slot CallRegister = is_outside (pos 0) (pos 9) slot.imm
+calls_bad_register slot _ = false
+
+abbrev pub has_bad_register : Slot → OpKind → Bool
+has_bad_register slot kind = nat_lt 10 slot.dst || nat_lt 10 slot.src || calls_bad_register slot kind
+
+-- WritesFrame: classes 0, 1, 4 and 7 with destination 10
+abbrev pub writes_frame : Slot → Bool
+writes_frame slot =
+    let class = slot.opcode % 8 in ((class == 0) || (class == 1) || (class == 4) || (class == 7)) && (slot.dst == 10)
+
+-- the fields that a row uses
+pub record Fields : Type 0 where
+  pub dst : Bool
+  pub src : Bool
+  pub offset : Bool
+  pub imm : Bool
+
+-- by destination, source, offset and immediate
+abbrev pub fields : Bool → Bool → Bool → Bool → Fields
+fields d s o i = record { dst = d; src = s; offset = o; imm = i }
+
+abbrev pub used : OpKind → Fields
+used (Binary operation width Immediate) = fields true false false true
+used (Binary operation width RegisterOperand) = fields true true false false
+used (Negate width) = fields true false false false
+used LittleEndian = fields true false false true
+used BigEndian = fields true false false true
+used JumpKind = fields false false true false
+used (JumpIf when Immediate) = fields true false true true
+used (JumpIf when RegisterOperand) = fields true true true false
+used Call = fields false true false true
+used CallRegister = fields false false false true
+used Exit = fields false false false false
+used (Load size) = fields true true true false
+used (Store size Immediate) = fields true false true true
+used (Store size RegisterOperand) = fields true true true false
+used LoadWide = fields true false false true
+
+-- Field: a field that the row does not use is not 0; `le` and `be` with an immediate other than 16, 32 and 64; `call` with a source above 1
+abbrev pub has_stray_field : Slot → Fields → Bool
+has_stray_field slot row =
+    (not row.dst && not (slot.dst == 0)) || (not row.src && not (slot.src == 0)) ||
+    (not row.offset && not (int_eq slot.offset (pos 0))) || (not row.imm && not (int_eq slot.imm (pos 0)))
+
+abbrev pub is_no_width : ℤ → Bool
+is_no_width number = not (int_eq number (pos 16) || int_eq number (pos 32) || int_eq number (pos 64))
+
+abbrev pub has_bad_value : Slot → OpKind → Bool
+has_bad_value slot LittleEndian = is_no_width slot.imm
+has_bad_value slot BigEndian = is_no_width slot.imm
+has_bad_value slot Call = nat_lt 1 slot.src
+has_bad_value slot _ = false
+
+abbrev pub has_bad_field : Slot → OpKind → Bool
+has_bad_field slot kind = has_stray_field slot (used kind) || has_bad_value slot kind
+
+-- ZeroDivisor: div or mod by the immediate 0
+abbrev pub divides_by_zero : Slot → OpKind → Bool
+divides_by_zero slot (Binary Div width Immediate) = int_eq slot.imm (pos 0)
+divides_by_zero slot (Binary Mod width Immediate) = int_eq slot.imm (pos 0)
+divides_by_zero slot _ = false
+
+-- Shift: an immediate count outside 0 to 63 in class 7, or 0 to 31 in class 4
+abbrev pub most_shift : Width → ℤ
+most_shift Bits64 = pos 63
+most_shift Bits32 = pos 31
+
+abbrev pub shifts_too_far : Slot → OpKind → Bool
+shifts_too_far slot (Binary Lsh width Immediate) = is_outside (pos 0) (most_shift width) slot.imm
+shifts_too_far slot (Binary Rsh width Immediate) = is_outside (pos 0) (most_shift width) slot.imm
+shifts_too_far slot (Binary Arsh width Immediate) = is_outside (pos 0) (most_shift width) slot.imm
+shifts_too_far slot _ = false
+
+-- Jump: a target of a jump, or of a call into the program, that is not a start
+abbrev pub is_astray : List ℕ → Option ℤ → Bool
+is_astray text None = false
+is_astray text (Some target) = not (is_start_at text target)
+
+abbrev pub jumps_astray : List ℕ → ℕ → Slot → OpKind → Bool
+jumps_astray text place slot kind = is_astray text (leads_to kind slot place)
+
+-- Helper: a call of a system call whose number is not 1 to 17
+abbrev pub calls_no_helper : Slot → OpKind → Bool
+calls_no_helper slot Call = (slot.src == 0) && is_outside (pos 1) (pos 17) slot.imm
+calls_no_helper slot _ = false
+
+-- OpenEnd: the last slot's opcode is neither that of `exit` nor that of `ja`
+abbrev pub has_open_end : List ℕ → Bool
+has_open_end text = let opcode = (slot_of text (slot_count text - 1)).opcode in not ((opcode == 0x95) || (opcode == 0x05))
+
+-- a row of the table: whether it applies, and its refusal
+pub record Row : Type 0 where
+  pub applies : Bool
+  pub refusal : VerifyFault
+
+abbrev pub row : Bool → VerifyFault → Row
+row applies refusal = record { applies = applies; refusal = refusal }
+
+-- the rows for the instruction of a slot, in their order
+abbrev pub instruction_rows : List ℕ → ℕ → Slot → OpKind → List Row
+instruction_rows text place slot kind =
+    row (is_half_wide text place kind) (HalfWide place) ∷
+    row (has_bad_register slot kind) (Register place) ∷
+    row (writes_frame slot) (WritesFrame place) ∷
+    row (has_bad_field slot kind) (Field place) ∷
+    row (divides_by_zero slot kind) (ZeroDivisor place) ∷
+    row (shifts_too_far slot kind) (Shift place) ∷
+    row (jumps_astray text place slot kind) (Jump place) ∷
+    row (calls_no_helper slot kind) (Helper place) ∷ []
+
+abbrev pub rows_of : List ℕ → ℕ → Slot → Option OpKind → List Row
+rows_of text place slot None = []
+rows_of text place slot (Some kind) = instruction_rows text place slot kind
+
+-- the rows for a slot; of a slot without an instruction, only whether it may be there is asked
+unfoldable pub slot_rows : List ℕ → ℕ → List Row
+slot_rows text place =
+    let slot = slot_of text place in row (lacks_row text place) (Opcode place) ∷ rows_of text place slot (kind_at slot.opcode)
+
+-- the whole table: the length first, then slot by slot upwards, and the end last
+abbrev pub table : List ℕ → List Row
+table text =
+    (row (has_bad_length text) Length ∷ []) ++ flat_map (slot_rows text) (range_with_len 0 (slot_count text)) ++
+    (row (has_open_end text) OpenEnd ∷ [])
+
+-- the refusal of the first row that applies
+abbrev pub first_applying : List Row → Option VerifyFault
+first_applying [] = None
+first_applying (r ∷ rows) = if r.applies then Some r.refusal else first_applying rows
+
+-- the refusal of a text
+unfoldable pub unfit : List ℕ → Option VerifyFault
+unfit text = first_applying (table text)
+
+-- no row applies
+abbrev pub NoneApplies : List Row → Type 0
+NoneApplies rows = AllByRecursion (λ r. r.applies ≡ false) rows
+
+-- a text is verified where no row of the table applies: not to its length, not to any slot, not to its end
+pub record IsVerified (text : List ℕ) : Type 0 where
+  pub len : has_bad_length text ≡ false
+  pub slots : (place : ℕ) → place < slot_count text → NoneApplies (slot_rows text place)
+  pub end : has_open_end text ≡ false

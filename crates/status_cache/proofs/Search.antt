@@ -1,0 +1,48 @@
+-- What a binary search over ascending hashes answers.
+use Rattle.std.proofs.Common.{◌≡◌, ◌≢◌, ℕ, ◌+◌, ◌<◌, Bool, true, false, List, length, inl, inr, refl, sym, ap, subst, ◌∙◌, Result, Ok, Err, is_ok, get_or, arith}
+use Rattle.std.specs.declared.cmp.Ordering.TheVariants.{Less, Equal, Greater}
+use Rattle.std.specs.Ordering.{nat_cmp, ordering_reverse, ordering_index, is_lt}
+use Rattle.std.specs.List.{HoldsAt}
+use Rattle.std.specs.List.Sorted.{IsBinarySearchResult, IsSearchInRange, IsPartitionPoint, IsNonDecreasingBy}
+use Rattle.std.specs.Cmp.Lexicographic.{slice_cmp, bytes_decides}
+use Rattle.std.proofs.lemmas.Bool.{cases_lt}
+use Rattle.std.proofs.lemmas.Cmp.{tied_itself, nat_list_cmp_total}
+use Rattle.std.proofs.lemmas.List.Folds.{list_any_at, list_any_none}
+use Rattle.std.proofs.lemmas.List.Sorted.{searchable_from_sorted}
+use Rattle.std.proofs.lemmas.Map.Lookups.{exact_bytes}
+use Rattle.sol_base.specs.declared.key.Hash32.{Hash32}
+use Rattle.sol_base.specs.Keys.{hash_cmp}
+use Rattle.sol_base.proofs.KeyLaws.{hash_cmp_total}
+use Rattle.status_cache.specs.Recent.{Ascends, same_hash, has_hash}
+
+same_when_equal : (a b : Hash32) → hash_cmp a b ≡ Equal → same_hash a b ≡ true
+same_when_equal a b equal = (bytes_decides a.0 b.0).1 (exact_bytes a.0 b.0 equal)
+
+equal_when_same : (a b : Hash32) → same_hash a b ≡ true → hash_cmp a b ≡ Equal
+equal_when_same a b same = subst (λ (bytes : List ℕ). slice_cmp nat_cmp a.0 bytes ≡ Equal) ((bytes_decides a.0 b.0).0 same) (tied_itself nat_list_cmp_total a.0)
+
+differ : (a b : Hash32) (answer : Bool) → same_hash a b ≡ answer → hash_cmp a b ≢ Equal → answer ≡ false
+differ a b true same apart = absurd (apart (equal_when_same a b same))
+differ a b false same apart = refl
+
+-- ascending hashes may be searched for any hash
+searchable : (hashes : List Hash32) (hash : Hash32) → Ascends hashes → IsNonDecreasingBy (λ one. ordering_index (hash_cmp one hash)) hashes
+searchable hashes hash ascends = searchable_from_sorted hash_cmp_total (λ (one : Hash32). one) hashes hash (λ k d low high. ap is_lt (hash_cmp_total.antisymm (get_or hashes (k + 1) d) (get_or hashes k d) ∙ ap ordering_reverse (ascends k (k + 1) d (omega arith) high)))
+
+found : (hashes : List Hash32) (hash : Hash32) (i : ℕ) → i < length hashes → HoldsAt (λ one. hash_cmp one hash ≡ Equal) hashes i → has_hash hashes hash ≡ true
+found hashes hash i within here = list_any_at (λ one. same_hash one hash) hashes i hash within (same_when_equal _ hash (here hash))
+
+-- a hash that is below or above another is not the same
+below_differs : (a b : Hash32) → hash_cmp a b ≡ Less → same_hash a b ≡ false
+below_differs a b below = differ a b (same_hash a b) refl (λ equal. cc)
+
+above_differs : (a b : Hash32) → hash_cmp a b ≡ Greater → same_hash a b ≡ false
+above_differs a b above = differ a b (same_hash a b) refl (λ equal. cc)
+
+missed : (hashes : List Hash32) (hash : Hash32) (i : ℕ) → IsPartitionPoint (λ one. hash_cmp one hash ≡ Less) (λ one. hash_cmp one hash ≡ Greater) hashes i → has_hash hashes hash ≡ false
+missed hashes hash i parts = list_any_none (λ one. same_hash one hash) hashes (λ k d within. elim (cases_lt k i) [ inl early ↦ below_differs _ hash (parts.0 k d (omega arith) early) | inr late ↦ above_differs _ hash (parts.1 k d late within) ])
+
+-- the search finds a hash exactly where it is there
+pub search_tells : (hashes : List Hash32) (hash : Hash32) → Ascends hashes → (r : Result ℕ ℕ) → IsSearchInRange r (length hashes) → IsBinarySearchResult (λ one. hash_cmp one hash) hashes r → is_ok r ≡ has_hash hashes hash
+search_tells hashes hash ascends (Ok i) within here = sym (found hashes hash i within here)
+search_tells hashes hash ascends (Err i) within parts = sym (missed hashes hash i (parts (searchable hashes hash ascends)))

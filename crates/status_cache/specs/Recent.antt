@@ -1,0 +1,38 @@
+-- The newest blocks of a chain, newest first (the project's own).
+use Rattle.std.specs.Prelude.{◌≡◌, ◌≤◌, Bool, List, [], ◌∷◌, All, AllPairs, length, nat_eq, replicate}
+use Rattle.std.specs.List.{list_any}
+use Rattle.std.specs.declared.cmp.Ordering.TheVariants.{Less}
+use Rattle.std.specs.Cmp.Lexicographic.{pointwise}
+use Rattle.sol_base.specs.declared.key.Hash32.{Hash32}
+use Rattle.sol_base.specs.Keys.{hash_cmp}
+use Rattle.status_cache.specs.declared.recent.Mark.{Mark}
+
+-- each hash is below those after it
+abbrev pub Ascends : List Hash32 → Type 0
+Ascends hashes = AllPairs (λ a b. hash_cmp a b ≡ Less) hashes
+
+-- no more blocks than a chain remembers, and the messages of each ascending
+pub record IsRecent (marks : List Mark) : Type 0 where
+  pub few : length marks ≤ 150
+  pub ascending : All (λ mark. Ascends mark.messages) marks
+
+-- the bytes are the same
+abbrev pub same_hash : Hash32 → Hash32 → Bool
+same_hash a b = pointwise nat_eq a.0 b.0
+
+-- the hash is one of them
+abbrev pub has_hash : List Hash32 → Hash32 → Bool
+has_hash hashes hash = list_any (λ one. same_hash one hash) hashes
+
+-- the hash is that of a block
+abbrev pub knows : List Mark → Hash32 → Bool
+knows marks hash = list_any (λ mark. same_hash mark.hash hash) marks
+
+-- a block processed the message
+abbrev pub processed : List Mark → Hash32 → Bool
+processed marks message = list_any (λ mark. has_hash mark.messages message) marks
+
+-- the hash of the newest block, and zeros where there is none
+abbrev pub newest_of : List Mark → Hash32
+newest_of [] = record { 0 = replicate 32 0 }
+newest_of (mark ∷ _) = mark.hash
