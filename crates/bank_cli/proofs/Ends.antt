@@ -1,9 +1,9 @@
 -- The ends of the top call.
-use Rattle.std.proofs.Common.{◌≡◌, ◌≢◌, ℕ, ◌<◌, ◌≤◌, List, [], Bool, true, false, cond, Option, Some, None, Result, Ok, Err, ◌⊎◌, inl, inr, refl, sym, ap, subst, ◌∙◌, length, take, nat_le, arith}
-use Rattle.std.specs.Prelude.{IfSome, codes}
+use Rattle.std.proofs.Common.{◌≡◌, ◌≢◌, ℕ, ◌<◌, List, [], Bool, true, false, cond, Option, Some, None, Result, Ok, Err, ◌⊎◌, inl, inr, refl, sym, ap, subst, ◌∙◌, length, nat_le, arith}
+use Rattle.std.specs.Prelude.{codes}
 use Rattle.std.proofs.lemmas.Bool.Decides.{nat_tests}
 use Rattle.std.proofs.KnownBytes.{Appends-nil}
-use Rattle.sol_io.specs.Bytes.{Appends, ReadsAll}
+use Rattle.sol_io.specs.Bytes.{ReadsAll}
 use Rattle.sol_io.specs.Counts.{Rose}
 use Rattle.sol_io.specs.declared.fault.ReadFault.TheVariants.{TooLong}
 use Rattle.bank_cli.specs.declared.answer.Answer.{Answer}

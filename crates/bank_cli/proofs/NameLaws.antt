@@ -1,7 +1,7 @@
 -- Names in ascending order: where a name goes, and what the list is then.
-use Rattle.std.proofs.Common.{◌≡◌, ℕ, zero, suc, ◌+◌, ◌<◌, ◌≤◌, Bool, false, List, [], ◌∷◌, ◌++◌, length, take, drop, get_or, refl, sym, ap, subst, ◌∙◌, arith}
+use Rattle.std.proofs.Common.{◌≡◌, ℕ, zero, suc, ◌+◌, ◌<◌, ◌≤◌, false, ◌⊎◌, ◌↔◌, inl, inr, List, [], ◌∷◌, ◌++◌, length, take, drop, get_or, refl, sym, ap, subst, ◌∙◌, arith}
 use Rattle.std.specs.Prelude.{map}
-use Rattle.std.specs.List.{AllByRecursion, AllWithin, HoldsAt, insert}
+use Rattle.std.specs.List.{AllByRecursion, AllWithin, HoldsAt, Contains, insert}
 use Rattle.std.specs.List.Sorted.{IsStrictlySortedBy, IsSortedBy, IsNonDecreasingBy, IsPartitionPoint}
 use Rattle.std.specs.Ordering.{is_lt, ordering_index, ordering_reverse}
 use Rattle.std.specs.declared.cmp.Ordering.TheVariants.{Less, Equal, Greater}
@@ -158,3 +158,66 @@ pub one_named : (names next : List Hash32) (ts : List Transfer) (at : ℕ) (d : 
 one_named names next ts at d lt has done = record {
   are = done ∙ ap (placed (name (get_or ts at d))) has.are ∙ sym (at_drop_more (λ (l : List Transfer). ascending (map name l)) ts at d lt);
 }
+
+-- The names are the same ones.
+
+contains_first : (n : Hash32) (ns : List Hash32) → Contains (n ∷ ns) n
+contains_first n ns = (0, omega arith, refl)
+
+contains_later : (m n : Hash32) (ns : List Hash32) → Contains ns n → Contains (m ∷ ns) n
+contains_later m n ns c = let lt = c.1 in (suc c.0, omega arith, c.2)
+
+contains_at : (m n : Hash32) (ns : List Hash32) (k : ℕ) → k < length (m ∷ ns) → get_or (m ∷ ns) k n ≡ n → (m ≡ n) ⊎ Contains ns n
+contains_at m n ns zero lt e = inl e
+contains_at m n ns (suc k) lt e = inr (k, omega arith, e)
+
+contains_cases : (m n : Hash32) (ns : List Hash32) → Contains (m ∷ ns) n → (m ≡ n) ⊎ Contains ns n
+contains_cases m n ns c = contains_at m n ns c.0 c.1 c.2
+
+later_cases : (l m n : Hash32) (ns : List Hash32) → (m ≡ n) ⊎ Contains ns n → (m ≡ n) ⊎ Contains (l ∷ ns) n
+later_cases l m n ns (inl e) = inl e
+later_cases l m n ns (inr c) = inr (contains_later l n ns c)
+
+placed_only : (m n : Hash32) (ns : List Hash32) → Contains (placed m ns) n → (m ≡ n) ⊎ Contains ns n
+placed_only m n [] c = contains_cases m n [] c
+placed_only m n (k ∷ ns) c = by_cases (hash_cmp m k)
+    (λ o. contains_cases m n (k ∷ ns) (subst (λ (l : List Hash32). Contains l n) (placed_first m k ns o) c))
+    (λ o. inr (subst (λ (l : List Hash32). Contains l n) (placed_here m k ns o) c))
+    (λ o. elim (contains_cases k n (placed m ns) (subst (λ (l : List Hash32). Contains l n) (placed_later m k ns o) c)) [
+      | inl e ↦ inr (subst (λ (x : Hash32). Contains (k ∷ ns) x) e (contains_first k ns))
+      | inr d ↦ later_cases k m n ns (placed_only m n ns d)
+    ])
+
+placed_has : (m : Hash32) (ns : List Hash32) → Contains (placed m ns) m
+placed_has m [] = contains_first m []
+placed_has m (k ∷ ns) = by_cases (hash_cmp m k)
+    (λ o. subst (λ (l : List Hash32). Contains l m) (sym (placed_first m k ns o)) (contains_first m (k ∷ ns)))
+    (λ o. subst (λ (l : List Hash32). Contains l m) (sym (placed_here m k ns o)) (subst (λ (x : Hash32). Contains (k ∷ ns) x) (sym (hash_cmp_exact m k o)) (contains_first k ns)))
+    (λ o. subst (λ (l : List Hash32). Contains l m) (sym (placed_later m k ns o)) (contains_later k m (placed m ns) (placed_has m ns)))
+
+placed_keeps : (m n : Hash32) (ns : List Hash32) → Contains ns n → Contains (placed m ns) n
+placed_keeps m n [] c = let lt = c.1 in absurd (omega arith)
+placed_keeps m n (k ∷ ns) c = by_cases (hash_cmp m k)
+    (λ o. subst (λ (l : List Hash32). Contains l n) (sym (placed_first m k ns o)) (contains_later m n (k ∷ ns) c))
+    (λ o. subst (λ (l : List Hash32). Contains l n) (sym (placed_here m k ns o)) c)
+    (λ o. subst (λ (l : List Hash32). Contains l n) (sym (placed_later m k ns o)) (elim (contains_cases k n ns c) [
+      | inl e ↦ subst (λ (x : Hash32). Contains (k ∷ placed m ns) x) e (contains_first k (placed m ns))
+      | inr d ↦ contains_later k n (placed m ns) (placed_keeps m n ns d)
+    ]))
+
+ascending_only : (ns : List Hash32) (n : Hash32) → Contains (ascending ns) n → Contains ns n
+ascending_only [] n c = c
+ascending_only (m ∷ ns) n c = elim (placed_only m n (ascending ns) c) [
+  | inl e ↦ subst (λ (x : Hash32). Contains (m ∷ ns) x) e (contains_first m ns)
+  | inr d ↦ contains_later m n ns (ascending_only ns n d)
+]
+
+ascending_all : (ns : List Hash32) (n : Hash32) → Contains ns n → Contains (ascending ns) n
+ascending_all [] n c = c
+ascending_all (m ∷ ns) n c = elim (contains_cases m n ns c) [
+  | inl e ↦ subst (λ (x : Hash32). Contains (placed m (ascending ns)) x) e (placed_has m (ascending ns))
+  | inr d ↦ placed_keeps m n (ascending ns) (ascending_all ns n d)
+]
+
+pub ascending_same : (ns : List Hash32) (n : Hash32) → Contains (ascending ns) n ↔ Contains ns n
+ascending_same ns n = (ascending_only ns n, ascending_all ns n)

@@ -12,17 +12,17 @@ use Rattle.bank_cli.specs.declared.transfer.Transfer.{Transfer}
 use Rattle.bank_cli.specs.declared.plain.PlainInput.{PlainInput}
 use Rattle.bank_cli.specs.declared.block_end.Setting.{Setting}
 use Rattle.bank_cli.specs.declared.block_end.Shares.{Shares}
-use Rattle.bank_cli.specs.State.{account_at, put, total}
+use Rattle.bank_cli.specs.State.{IsAscending, account_at, put, total}
 use Rattle.bank_cli.specs.Transfer.{name}
 use Rattle.bank_cli.specs.Snapshot.{two_marks, head_bytes, state_bytes}
 use Rattle.bank_cli.specs.Record.{block_bytes, block_hash, record_bytes}
 use Rattle.bank_cli.specs.Serial.{IsRunning, base_fee, more, after_all, not_good}
-use Rattle.bank_cli.specs.BlockEnd.{takes, share_fees, ascending, block_with, output_with}
+use Rattle.bank_cli.specs.BlockEnd.{takes, share_fees, shares_of, ascending, block_with, output_with}
 use Rattle.bank_cli.specs.Plain.{IsPlainAccount, IsRunnable}
 use Rattle.bank_cli.specs.Answer.{setting_of, output_of}
-use Rattle.bank_cli.proofs.StateLaws.{by_test, all_at, all-put, length-put}
+use Rattle.bank_cli.proofs.StateLaws.{by_test, all_at, all-put, length-put, total-put}
 use Rattle.bank_cli.proofs.NameLaws.{length-ascending}
-use Rattle.bank_cli.proofs.RunLaws.{HasPaid, all_paid}
+use Rattle.bank_cli.proofs.RunLaws.{all_paid}
 
 -- The parts of an output, one after the other.
 pub record HasParts (setting : Setting) (ts : List Transfer) (shares : Shares) (block record_part head whole state : List ℕ) (newest : Hash32) (names : List Hash32) : Type 0 where
@@ -64,6 +64,46 @@ shared P es collector fees stays paid =
     by_test (takes collector after (fees - fees / 2))
     (λ t. subst (λ b. P (cond b (record { accounts = put es collector after; burned = fees / 2; collected = fees - fees / 2 }) (let s : Shares = record { accounts = es; burned = fees; collected = 0 } in s)).accounts) (sym t) paid)
     (λ t. subst (λ b. P (cond b (record { accounts = put es collector after; burned = fees / 2; collected = fees - fees / 2 }) (let s : Shares = record { accounts = es; burned = fees; collected = 0 } in s)).accounts) (sym t) stays)
+
+-- the fees are burned or paid to the collector
+record IsShared (es : List KeyedAccount) (fees : ℕ) (s : Shares) : Type 0 where
+  sum : s.burned + s.collected ≡ fees
+  kept : total s.accounts ≡ total es + s.collected
+
+is_shared : (es : List KeyedAccount) (collector : Key) (fees : ℕ) → IsAscending es → IsShared es fees (share_fees es collector fees)
+is_shared es collector fees h =
+    let rest = fees - fees / 2 in
+    let after = more (account_at es collector) rest in
+    let paid = total-put es collector after h in
+    let half : fees / 2 ≤ fees = omega arith in
+    let yes : IsShared es fees (record { accounts = put es collector after; burned = fees / 2; collected = rest }) = record { sum = omega arith; kept = omega arith } in
+    let none : IsShared es fees (record { accounts = es; burned = fees; collected = 0 }) = record { sum = omega arith; kept = omega arith } in
+    either (takes collector after rest) (record { accounts = put es collector after; burned = fees / 2; collected = rest }) (record { accounts = es; burned = fees; collected = 0 }) yes none
+  where
+    either : (b : Bool) (s t : Shares) → IsShared es fees s → IsShared es fees t → IsShared es fees (cond b s t)
+    either true s t p q = p
+    either false s t p q = q
+
+abbrev AllApart : List Transfer → Type 0
+AllApart ts = AllByRecursion (λ (t : Transfer). t.payer ≡ t.to → ⊥) ts
+
+-- what is burned is all that a block of good transfers takes away
+pub conserved : (setting : Setting) (es : List KeyedAccount) (ts : List Transfer) → IsRunning es → AllApart ts → not_good es ts ≡ None → total (shares_of setting es ts).accounts + (shares_of setting es ts).burned ≡ total es
+conserved setting es ts is apart none =
+    let done = all_paid es ts is apart none in
+    let fees = done.fees in
+    let shared = is_shared (after_all es ts) setting.collector (base_fee * length ts) done.running.ascend in
+    let sum = shared.sum in
+    let kept = shared.kept in
+    omega arith
+
+pub fees_shared : (setting : Setting) (es : List KeyedAccount) (ts : List Transfer) → IsRunning es → AllApart ts → not_good es ts ≡ None → (shares_of setting es ts).burned + (shares_of setting es ts).collected ≡ base_fee * length ts
+fees_shared setting es ts is apart none =
+    let done = all_paid es ts is apart none in
+    (is_shared (after_all es ts) setting.collector (base_fee * length ts) done.running.ascend).sum
+
+pub fees_leave : (es : List KeyedAccount) (ts : List Transfer) → IsRunning es → AllApart ts → not_good es ts ≡ None → total (after_all es ts) + base_fee * length ts ≡ total es
+fees_leave es ts is apart none = (all_paid es ts is apart none).fees
 
 pub shared_few : (es : List KeyedAccount) (collector : Key) (fees : ℕ) → length es + 1 < 2 ^ 32 → length (share_fees es collector fees).accounts < 2 ^ 32
 shared_few es collector fees few =

@@ -1,16 +1,15 @@
 -- Transfers executed one after another: what one leaves, and what all of them leave.
-use Rattle.std.proofs.Common.{◌≡◌, ℕ, zero, suc, ◌+◌, ◌-◌, ◌*◌, ◌<◌, ◌≤◌, ◌^◌, List, [], ◌∷◌, length, drop, get_or, Bool, true, false, cond, ◌&&◌, Option, Some, None, refl, sym, ap, subst, ◌∙◌, arith, leb-true, add-one}
-use Rattle.std.specs.Prelude.{nat_lt, nat_le, not, option_map, position, fold}
-use Rattle.std.specs.List.{AllByRecursion, prefix_len, position_or_len}
+use Rattle.std.proofs.Common.{◌≡◌, ℕ, zero, suc, ◌+◌, ◌-◌, ◌*◌, ◌<◌, ◌≤◌, ◌^◌, List, [], ◌∷◌, length, drop, get_or, Bool, true, false, cond, ◌&&◌, Option, Some, None, refl, sym, ap, subst, ◌∙◌, arith, leb-true}
+use Rattle.std.specs.Prelude.{nat_lt, nat_le, not, option_map, position}
+use Rattle.std.specs.List.{AllByRecursion, position_or_len}
 use Rattle.std.proofs.lemmas.Bool.Decides.{nat_tests}
 use Rattle.std.proofs.lemmas.List.{at_drop_more, at_drop_all}
-use Rattle.sol_base.specs.Accounts.{empty_account}
 use Rattle.sol_base.specs.declared.key.Key.{Key}
 use Rattle.sol_base.specs.declared.account.Account.{Account}
 use Rattle.bank_cli.specs.declared.state.KeyedAccount.{KeyedAccount}
 use Rattle.bank_cli.specs.declared.transfer.Transfer.{Transfer}
 use Rattle.bank_cli.specs.State.{IsAscending, account_at, put, total}
-use Rattle.bank_cli.specs.Serial.{base_fee, less, more, pays, sends, is_good, are_good, after_one, after_all, not_good, IsRunning}
+use Rattle.bank_cli.specs.Serial.{base_fee, less, more, pays, is_good, are_good, after_one, after_all, not_good, IsRunning}
 use Rattle.bank_cli.proofs.StateLaws.{by_test, all_at, all-put, ascending-put, length-put, account_at-put, total-put, one_at_most, two_at_most}
 
 -- Accounts while a run goes on.

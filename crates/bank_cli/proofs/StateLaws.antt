@@ -1,6 +1,6 @@
 -- Accounts by key, in ascending order of keys: where a key stands, and what a change leaves.
-use Rattle.std.proofs.Common.{◌≡◌, ◌≢◌, ℕ, zero, suc, ◌+◌, ◌<◌, ◌≤◌, List, [], ◌∷◌, ◌++◌, length, take, drop, get_or, set, Bool, true, false, cond, refl, sym, ap, subst, ◌∙◌, arith, eqb-true}
-use Rattle.std.specs.Prelude.{map, nat_eq, sum_by}
+use Rattle.std.proofs.Common.{◌≡◌, ◌≢◌, ℕ, zero, suc, ◌+◌, ◌<◌, ◌≤◌, List, [], ◌∷◌, ◌++◌, length, take, drop, get_or, set, Bool, true, false, cond, refl, sym, ap, subst, ◌∙◌, arith, eqb-true, eq-eqb}
+use Rattle.std.specs.Prelude.{map, nat_eq}
 use Rattle.std.specs.List.{AllByRecursion, AllWithin, HoldsAt, insert, remove}
 use Rattle.std.specs.List.Sorted.{IsStrictlySortedBy, IsSortedBy, IsNonDecreasingBy, IsPartitionPoint}
 use Rattle.std.specs.Ordering.{is_lt, ordering_index, ordering_reverse}
@@ -8,7 +8,6 @@ use Rattle.std.specs.declared.cmp.Ordering.{Ordering}
 use Rattle.std.specs.declared.cmp.Ordering.TheVariants.{Less, Equal, Greater}
 use Rattle.std.specs.FinMap.Entries.{by_order}
 use Rattle.std.specs.Cmp.{tied_itself}
-use Rattle.std.proofs.lemmas.Bool.Decides.{nat_tests}
 use Rattle.std.proofs.lemmas.List.{set_split, take-append-drop}
 use Rattle.std.proofs.lemmas.List.Sums.{sum_by-cons}
 use Rattle.std.proofs.lemmas.List.Sorted.{searchable_from_sorted}
@@ -103,15 +102,15 @@ put_before e es k a h = ap (λ o. by_order o (e ∷ put es k a) (kept k a es) (k
 
 -- The accounts of a change: the one that is put, and those that were there.
 
-pub kept_none : (k : Key) (a : Account) (es : List KeyedAccount) → a.lamports ≡ 0 → kept k a es ≡ es
-kept_none k a es h = let keyed : KeyedAccount = record { key = k; account = a } in ap (λ n. cond (nat_eq n 0) es (keyed ∷ es)) h
+kept_none : (k : Key) (a : Account) (es : List KeyedAccount) → nat_eq a.lamports 0 ≡ true → kept k a es ≡ es
+kept_none k a es h = let keyed : KeyedAccount = record { key = k; account = a } in ap (λ t. cond t es (keyed ∷ es)) h
 
-pub kept_some : (k : Key) (a : Account) (es : List KeyedAccount) → a.lamports ≢ 0 → kept k a es ≡ record { key = k; account = a } ∷ es
-kept_some k a es h = by_test (nat_eq a.lamports 0) (λ e. absurd (h (eqb-true a.lamports 0 e))) (λ e. let keyed : KeyedAccount = record { key = k; account = a } in ap (λ t. cond t es (keyed ∷ es)) e)
+kept_some : (k : Key) (a : Account) (es : List KeyedAccount) → nat_eq a.lamports 0 ≡ false → kept k a es ≡ record { key = k; account = a } ∷ es
+kept_some k a es h = let keyed : KeyedAccount = record { key = k; account = a } in ap (λ t. cond t es (keyed ∷ es)) h
 
 all-kept : (P : KeyedAccount → Type 0) (k : Key) (a : Account) (es : List KeyedAccount) → P (record { key = k; account = a }) → AllByRecursion P es → AllByRecursion P (kept k a es)
 all-kept P k a es h all = by_test (nat_eq a.lamports 0)
-    (λ e. subst (AllByRecursion P) (sym (kept_none k a es (eqb-true a.lamports 0 e))) all)
+    (λ e. subst (AllByRecursion P) (sym (kept_none k a es e)) all)
     (λ e. subst (λ t. AllByRecursion P (cond t es (record { key = k; account = a } ∷ es))) (sym e) (h, all))
 
 pub all-put : (P : KeyedAccount → Type 0) (es : List KeyedAccount) (k : Key) (a : Account) → P (record { key = k; account = a }) → AllByRecursion P es → AllByRecursion P (put es k a)
@@ -131,12 +130,12 @@ all_at P (e ∷ es) k h all = by_test (is_same_key e.key k)
 
 ascending-kept : (k : Key) (a : Account) (es : List KeyedAccount) → Above k es → IsAscending es → IsAscending (kept k a es)
 ascending-kept k a es above h = by_test (nat_eq a.lamports 0)
-    (λ e. subst IsAscending (sym (kept_none k a es (eqb-true a.lamports 0 e))) h)
+    (λ e. subst IsAscending (sym (kept_none k a es e)) h)
     (λ e. subst (λ t. IsAscending (cond t es (record { key = k; account = a } ∷ es))) (sym e) (ascending_cons (record { key = k; account = a }) es above h))
 
 above-kept : (j k : Key) (a : Account) (es : List KeyedAccount) → key_cmp j k ≡ Less → Above j es → Above j (kept k a es)
 above-kept j k a es h above = by_test (nat_eq a.lamports 0)
-    (λ e. subst (Above j) (sym (kept_none k a es (eqb-true a.lamports 0 e))) above)
+    (λ e. subst (Above j) (sym (kept_none k a es e)) above)
     (λ e. subst (λ t. Above j (cond t es (record { key = k; account = a } ∷ es))) (sym e) (h, above))
 
 above-put : (j k : Key) (a : Account) (es : List KeyedAccount) → key_cmp j k ≡ Less → Above j es → Above j (put es k a)
@@ -172,7 +171,7 @@ length-put (e ∷ es) k a = by_cases (key_cmp e.key k)
 
 account_at-kept : (es : List KeyedAccount) (k : Key) (a : Account) (j : Key) → is_same_key k j ≡ false → account_at (kept k a es) j ≡ account_at es j
 account_at-kept es k a j h = by_test (nat_eq a.lamports 0)
-    (λ e. ap (λ (l : List KeyedAccount). account_at l j) (kept_none k a es (eqb-true a.lamports 0 e)))
+    (λ e. ap (λ (l : List KeyedAccount). account_at l j) (kept_none k a es e))
     (λ e. ap (λ t. account_at (cond t es (record { key = k; account = a } ∷ es)) j) e ∙ account_past (record { key = k; account = a }) es j h)
 
 pub account_at-put : (es : List KeyedAccount) (k : Key) (a : Account) (j : Key) → (k ≡ j → ⊥) → account_at (put es k a) j ≡ account_at es j
@@ -186,6 +185,24 @@ account_at-put (e ∷ es) k a j differ =
     ∙ sym (account_past e es j (subst (λ (x : Key). is_same_key x j ≡ false) (sym (key_cmp_exact e.key k o)) apart)))
     (λ o. ap (λ (l : List KeyedAccount). account_at l j) (put_before e es k a o) ∙ account_at-kept (e ∷ es) k a j apart)
 
+-- what a change puts at its key
+account_at-kept_here : (es : List KeyedAccount) (k : Key) (a : Account) → Above k es → account_at (kept k a es) k ≡ cond (nat_eq a.lamports 0) empty_account a
+account_at-kept_here es k a above = by_test (nat_eq a.lamports 0)
+    (λ e. ap (λ (l : List KeyedAccount). account_at l k) (kept_none k a es e) ∙ account_above k es above ∙ sym (ap (λ t. cond t empty_account a) e))
+    (λ e. ap (λ t. account_at (cond t es (record { key = k; account = a } ∷ es)) k) e
+    ∙ account_here (record { key = k; account = a }) es k (same_key_equiv.refl k) ∙ sym (ap (λ t. cond t empty_account a) e))
+
+pub account_at-put_here : (es : List KeyedAccount) (k : Key) (a : Account) → IsAscending es → account_at (put es k a) k ≡ cond (nat_eq a.lamports 0) empty_account a
+account_at-put_here [] k a h = account_at-kept_here [] k a tt
+account_at-put_here (e ∷ es) k a h =
+    let p = ascending_parts e es h in
+    by_cases (key_cmp e.key k)
+    (λ o. ap (λ (l : List KeyedAccount). account_at l k) (put_past e es k a o) ∙ account_past e (put es k a) k (apart_of_less e.key k o) ∙ account_at-put_here es k a p.1)
+    (λ o. ap (λ (l : List KeyedAccount). account_at l k) (put_here e es k a o)
+    ∙ account_at-kept_here es k a (subst (λ (x : Key). Above x es) (key_cmp_exact e.key k o) p.0))
+    (λ o. ap (λ (l : List KeyedAccount). account_at l k) (put_before e es k a o)
+    ∙ account_at-kept_here (e ∷ es) k a (less_of_greater e.key k o, above_more k e.key es (less_of_greater e.key k o) p.0))
+
 -- The sum of lamports.
 
 abbrev lamports_of : KeyedAccount → ℕ
@@ -196,7 +213,7 @@ total-cons e es = sum_by-cons lamports_of e es
 
 total-kept : (k : Key) (a : Account) (es : List KeyedAccount) → total (kept k a es) ≡ a.lamports + total es
 total-kept k a es = by_test (nat_eq a.lamports 0)
-    (λ e. let none = eqb-true a.lamports 0 e in ap total (kept_none k a es none) ∙ omega arith)
+    (λ e. let none = eqb-true a.lamports 0 e in ap total (kept_none k a es e) ∙ omega arith)
     (λ e. ap (λ t. total (cond t es (record { key = k; account = a } ∷ es))) e ∙ total-cons (record { key = k; account = a }) es)
 
 -- what is put and what was there balance
@@ -327,6 +344,9 @@ put_absent (e ∷ es) zero k a le below above = put_before e es k a (above 0 e (
 put_absent (e ∷ es) (suc i) k a le below above =
     put_past e es k a (below 0 e (omega arith) (omega arith)) ∙ ap (λ (l : List KeyedAccount). e ∷ l) (put_absent es i k a (omega arith) (below_later e es i k below) (above_later e es i k above))
 
+not_zero : (n : ℕ) → n ≢ 0 → nat_eq n 0 ≡ false
+not_zero n h = by_test (nat_eq n 0) (λ e. absurd (h (eqb-true n 0 e))) (λ e. e)
+
 -- What is done to the list at the place that a search has answered.
 
 abbrev Searches : List KeyedAccount → Key → ℕ → Type 0
@@ -362,17 +382,17 @@ pub account_missing : (es : List KeyedAccount) (i : ℕ) (k : Key) → IsMissing
 account_missing es i k is = account_absent es i k is.within is.below is.above
 
 pub put_removed : (es : List KeyedAccount) (i : ℕ) (k : Key) (a : Account) → IsFound es k i → a.lamports ≡ 0 → remove es i ≡ put es k a
-put_removed es i k a is none = sym (put_found es i k a is.within is.ascend is.at ∙ ap (λ (l : List KeyedAccount). take i es ++ l) (kept_none k a (drop (suc i) es) none))
+put_removed es i k a is none = sym (put_found es i k a is.within is.ascend is.at ∙ ap (λ (l : List KeyedAccount). take i es ++ l) (kept_none k a (drop (suc i) es) (eq-eqb a.lamports 0 none)))
 
 pub put_changed : (es : List KeyedAccount) (i : ℕ) (k : Key) (a : Account) (e : KeyedAccount) → IsFound es k i → e ≡ get_or es i e → a.lamports ≢ 0 → set es i (record e { account = a }) ≡ put es k a
 put_changed es i k a e is read some =
     let same : e.key ≡ k = ap (λ (x : KeyedAccount). x.key) read ∙ key_cmp_exact (get_or es i e).key k (is.at e) in
     let keyed : KeyedAccount = record { key = k; account = a } in
     ap (λ (x : Key). let f : KeyedAccount = record { key = x; account = a } in set es i f) same ∙ set_split es i keyed is.within
-    ∙ sym (put_found es i k a is.within is.ascend is.at ∙ ap (λ (l : List KeyedAccount). take i es ++ l) (kept_some k a (drop (suc i) es) some))
+    ∙ sym (put_found es i k a is.within is.ascend is.at ∙ ap (λ (l : List KeyedAccount). take i es ++ l) (kept_some k a (drop (suc i) es) (not_zero a.lamports some)))
 
 pub put_added : (es : List KeyedAccount) (i : ℕ) (k : Key) (a : Account) → IsMissing es k i → a.lamports ≢ 0 → insert es i (record { key = k; account = a }) ≡ put es k a
-put_added es i k a is some = sym (put_absent es i k a is.within is.below is.above ∙ ap (λ (l : List KeyedAccount). take i es ++ l) (kept_some k a (drop i es) some))
+put_added es i k a is some = sym (put_absent es i k a is.within is.below is.above ∙ ap (λ (l : List KeyedAccount). take i es ++ l) (kept_some k a (drop i es) (not_zero a.lamports some)))
 
 pub put_left : (es : List KeyedAccount) (i : ℕ) (k : Key) (a : Account) → IsMissing es k i → a.lamports ≡ 0 → es ≡ put es k a
-put_left es i k a is none = sym (put_absent es i k a is.within is.below is.above ∙ ap (λ (l : List KeyedAccount). take i es ++ l) (kept_none k a (drop i es) none) ∙ take-append-drop i es)
+put_left es i k a is none = sym (put_absent es i k a is.within is.below is.above ∙ ap (λ (l : List KeyedAccount). take i es ++ l) (kept_none k a (drop i es) (eq-eqb a.lamports 0 none)) ∙ take-append-drop i es)

@@ -1,5 +1,5 @@
 -- The end of a block: the fees are burned and paid, and the state is hashed (Solana; the rounding is the project's own).
-use Rattle.std.specs.Prelude.{ℕ, ◌+◌, ◌-◌, ◌*◌, ◌/◌, List, [], ◌∷◌, ◌++◌, Bool, nat_le, nat_eq, not, ◌&&◌, length, map, replicate, codes, if◌then◌else◌}
+use Rattle.std.specs.Prelude.{ℕ, ◌-◌, ◌*◌, ◌/◌, List, [], ◌∷◌, ◌++◌, Bool, nat_le, nat_eq, not, ◌&&◌, length, map, replicate, codes, if◌then◌else◌}
 use Rattle.std.specs.FinMap.Entries.{by_order}
 use Rattle.sol_base.specs.Keys.{hash_cmp}
 use Rattle.sol_base.specs.declared.key.Key.{Key}

@@ -1,5 +1,5 @@
 -- A state: accounts by key, in ascending order of keys. What is absent is the empty account.
-use Rattle.std.specs.Prelude.{ℕ, List, [], ◌∷◌, Bool, map, sum_by, nat_eq, if◌then◌else◌}
+use Rattle.std.specs.Prelude.{ℕ, List, [], ◌∷◌, map, sum_by, nat_eq, if◌then◌else◌}
 use Rattle.std.specs.FinMap.Entries.{by_order}
 use Rattle.std.specs.List.Sorted.{IsStrictlySortedBy}
 use Rattle.sol_base.specs.Accounts.{empty_account}

@@ -1,11 +1,22 @@
 //! Laws over definitions.
-ghost use Rattle.std.specs.Prelude.{◌≡◌, ◌↔◌, ℕ, List, Ok, IsErr};
+ghost use Rattle.std.specs.Prelude.{◌≡◌, ◌↔◌, ℕ, ◌+◌, ◌*◌, List, Ok, IsErr, Contains, length, nat_eq, if◌then◌else◌};
+ghost use Rattle.std.specs.List.{AllByRecursion};
+ghost use Rattle.std.specs.List.Sorted.{IsStrictlySortedBy};
 ghost use Rattle.spec_base.specs.Bytes.{IsBytes};
+ghost use Rattle.sol_base.specs.Accounts.{empty_account};
+ghost use Rattle.sol_base.specs.Keys.{hash_cmp};
+ghost use Rattle.sol_base.specs.declared.account.Account.{Account};
 ghost use Rattle.sol_base.specs.declared.key.Hash32.{Hash32};
+ghost use Rattle.sol_base.specs.declared.key.Key.{Key};
+ghost use Rattle.bank_cli.specs.declared.block_end.Setting.{Setting};
+ghost use Rattle.bank_cli.specs.declared.state.KeyedAccount.{KeyedAccount};
 ghost use Rattle.bank_cli.specs.declared.transfer.Transfer.{Transfer};
 ghost use Rattle.bank_cli.specs.declared.plain.PlainInput.{PlainInput};
+ghost use Rattle.bank_cli.specs.State.{IsAscending, account_at, put, total};
 ghost use Rattle.bank_cli.specs.Snapshot.{Snapshot};
 ghost use Rattle.bank_cli.specs.Batch.{Batch};
+ghost use Rattle.bank_cli.specs.Serial.{IsRunning, base_fee, after_all, not_good};
+ghost use Rattle.bank_cli.specs.BlockEnd.{shares_of, ascending};
 ghost use Rattle.bank_cli.specs.Plain.{IsPlain, plain_of, snapshot_of, batch_of, input_of};
 
 /// Reading meets the definition of a plain input, for every list of bytes.
@@ -20,4 +31,37 @@ pub fn plain_inputs_are_read()
     ensures refused { (bytes : List ℕ) → IsBytes bytes → IsErr (plain_of bytes)
         ↔ ((s : Snapshot) (b : Batch) (hash : Hash32) (ts : List Transfer)
         → ¬ IsPlain bytes s b hash ts) }
+{}
+
+/// A state is a finite map: a change puts an account at its key, where one of 0 lamports is the empty
+/// account, and changes no other key.
+pub fn states_are_maps()
+    ensures order { (es : List KeyedAccount) (k : Key) (a : Account) → IsAscending es
+        → IsAscending (put es k a) }
+    ensures here { (es : List KeyedAccount) (k : Key) (a : Account) → IsAscending es
+        → account_at (put es k a) k ≡ (if nat_eq a.lamports 0 then empty_account else a) }
+    ensures elsewhere { (es : List KeyedAccount) (k : Key) (a : Account) (j : Key) → ¬ (k ≡ j)
+        → account_at (put es k a) j ≡ account_at es j }
+{}
+
+/// A block of good transfers conserves lamports, but for what it burns.
+pub fn lamports_are_conserved()
+    // The fees leave the accounts as the transfers run.
+    ensures run { (es : List KeyedAccount) (ts : List Transfer)
+        → IsRunning es → AllByRecursion (λ t. ¬ (t.payer ≡ t.to)) ts → not_good es ts ≡ None
+        → total (after_all es ts) + base_fee * length ts ≡ total es }
+    // They are burned, or the collector has them.
+    ensures fees { (setting : Setting) (es : List KeyedAccount) (ts : List Transfer)
+        → IsRunning es → AllByRecursion (λ t. ¬ (t.payer ≡ t.to)) ts → not_good es ts ≡ None
+        → (shares_of setting es ts).burned + (shares_of setting es ts).collected ≡ base_fee * length ts }
+    ensures block { (setting : Setting) (es : List KeyedAccount) (ts : List Transfer)
+        → IsRunning es → AllByRecursion (λ t. ¬ (t.payer ≡ t.to)) ts → not_good es ts ≡ None
+        → total (shares_of setting es ts).accounts + (shares_of setting es ts).burned ≡ total es }
+{}
+
+/// The names that a new mark has are those of the messages, each once and in ascending order.
+pub fn names_are_put_in_order()
+    ensures ascend { (names : List Hash32) → IsStrictlySortedBy hash_cmp (ascending names) }
+    ensures same { (names : List Hash32) (name : Hash32)
+        → Contains (ascending names) name ↔ Contains names name }
 {}

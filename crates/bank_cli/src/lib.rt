@@ -17,7 +17,9 @@ mod words;
 
 pub use answer::Answer;
 pub use delivery::Undelivered;
-pub use laws::plain_inputs_are_read;
+pub use laws::{
+    lamports_are_conserved, names_are_put_in_order, plain_inputs_are_read, states_are_maps,
+};
 pub use output::Produced;
 pub use plain::{INPUT_LIMIT, PlainFault, PlainInput};
 pub use state::KeyedAccount;

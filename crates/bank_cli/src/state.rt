@@ -46,19 +46,12 @@ pub(crate) fn put(
     ensures ok { OnOk result (accounts.new.items ≡ put accounts.old.items key account) }
     ensures err { OnErr result (accounts.new.items ≡ accounts.old.items) }
 {
+    let is_absent = account.lamports == 0;
     match place_of(accounts, &key) {
-        Ok(place) => {
-            if account.lamports == 0 {
-                let _ = accounts.remove(place);
-            } else {
-                accounts[place].account = account;
-            }
-        }
-        Err(place) => {
-            if account.lamports != 0 {
-                accounts.insert(place, KeyedAccount { key, account })?;
-            }
-        }
+        Ok(place) if is_absent => drop(accounts.remove(place)),
+        Ok(place) => accounts[place].account = account,
+        Err(_) if is_absent => {}
+        Err(place) => accounts.insert(place, KeyedAccount { key, account })?,
     }
     Ok(())
 }

@@ -1,4 +1,4 @@
-use Rattle.std.proofs.Common.{◌-◌, arith, sym, subst}
+use Rattle.std.proofs.Common.{arith, sym, subst}
 use Rattle.bank_cli.specs.State.{IsAscending}
 use Rattle.bank_cli.proofs.StateLaws.{ascending-put}
 use Rattle.bank_cli.proofs.RunLaws.{no_data_of, two_fit, sent_most}
@@ -18,7 +18,7 @@ sends-requires-clause-fits c =
 pub overflow_add-to : goal.overflow_add-to
 overflow_add-to c =
     let fit = two_fit _ _ _ c.args.transfer.now.payer c.args.transfer.now.to c.in_ok-payer.payer c.in_ok-to.to c.requires.running c.requires.apart (c.deref.ensures.value, c.in_ok-payer.ensures) (c.deref-2.ensures.value, c.in_ok-to.ensures) in
-    let most = sent_most c.args.transfer.now.lamports (c.in_ok-payer.payer.lamports - 5000) _ c.if-not-sends.ensures in
+    let most = sent_most c.args.transfer.now.lamports _ _ c.if-not-sends.ensures in
     omega arith
 
 pub put-requires-2 : goal.put-requires-2

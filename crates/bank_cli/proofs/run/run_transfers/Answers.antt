@@ -1,4 +1,4 @@
-use Rattle.bank_cli.proofs.RunLaws.{run_goes_on, run_stops, all_run}
+use Rattle.bank_cli.proofs.RunLaws.{run_goes_on}
 use Rattle.bank_cli.proofs.run.run_transfers.Goals as goal
 
 pub loop-position-preserved : goal.loop-position-preserved

@@ -1,5 +1,4 @@
-use Rattle.std.proofs.Common.{◌++◌, ℕ, List, [], ap, sym, ◌∙◌, append_assoc}
-use Rattle.bank_cli.proofs.ByteLaws.{one_more, one_more_as, last_two}
+use Rattle.bank_cli.proofs.ByteLaws.{one_more_as, last_two}
 use Rattle.bank_cli.proofs.snapshot.append_head.Goals as goal
 
 pub returns : goal.returns
