@@ -1,6 +1,6 @@
 -- Compact lengths: what is spelled is read again, what is read is spelled so, and which refusal comes where.
 use Rattle.std.proofs.Common.{get_or, ◌≡◌, ◌≢◌, ◌<◌, ◌≤◌, ◌+◌, ◌-◌, ◌*◌, ◌/◌, ◌%◌, ℕ, suc, List, [], ◌∷◌, ◌++◌, Result, Ok, Err, Bool, true, false, ◌||◌, ◌⊎◌, inl, inr, refl, sym, ap, subst, ◌∙◌, nat_lt, cond, arith}
-use Rattle.std.specs.Prelude.{nat_eq, ◌↔◌}
+use Rattle.std.specs.Prelude.{nat_eq}
 use Rattle.std.proofs.lemmas.Bool.Decides.{nat_tests}
 use Rattle.spec_base.specs.Bytes.{IsBytes}
 use Rattle.spec_base.specs.Reading.{place}
@@ -9,7 +9,7 @@ use Rattle.spec_base.proofs.Formats.{Reads}
 use Rattle.message_codec.specs.declared.fault.WireFault.{WireFault}
 use Rattle.message_codec.specs.declared.fault.WireFault.TheVariants.{Truncated, BadLength}
 use Rattle.message_codec.specs.Compact.{compact, digits_value, AreLaterDigits, AreDigits, CompactLaw, BeginsWithLength, IsCutLength}
-use Rattle.message_codec.specs.WireReading.{Read, AnswersLength, LengthLaw, compact_at, second_at, third_at}
+use Rattle.message_codec.specs.WireReading.{Read, LengthLaw, compact_at, second_at, third_at}
 
 pub one_digit : (v : ℕ) → v < 128 → compact v ≡ v ∷ []
 unfolding compact

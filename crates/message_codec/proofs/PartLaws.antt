@@ -1,16 +1,12 @@
 -- The parts of a wire: what is spelled is read again, and what is read is spelled so.
-use Rattle.std.proofs.Common.{◌≡◌, ◌<◌, ◌≤◌, ◌≢◌, ℕ, zero, suc, List, [], ◌∷◌, ◌++◌, length, take, drop, Result, Ok, Err, Bool, true, false, ◌⊎◌, inl, inr, refl, sym, ap, subst, ◌∙◌, append_assoc, nat_lt, arith}
-use Rattle.std.specs.Prelude.{nat_eq, slice_index}
+use Rattle.std.proofs.Common.{◌≡◌, ◌<◌, ◌≤◌, ℕ, List, [], ◌∷◌, ◌++◌, length, Ok, refl, sym, ap, subst, ◌∙◌, append_assoc, arith}
+use Rattle.std.specs.Prelude.{slice_index}
 use Rattle.std.specs.List.{flat_map, AllByRecursion}
-use Rattle.std.proofs.lemmas.Bool.Decides.{nat_tests}
 use Rattle.spec_base.specs.Bytes.{IsBytes}
-use Rattle.spec_base.specs.Reading.{◌>>=◌, place, field_at, byte_at, mapped, many}
-use Rattle.spec_base.proofs.Binding.{bind_ok, chosen, ok_parts, after_bytes}
-use Rattle.spec_base.proofs.Formats.{Reads, Taken, taken, field_reads, byte_reads, mapped_reads, many_reads}
-use Rattle.sol_base.specs.declared.key.Key.{Key}
-use Rattle.sol_base.specs.Keys.{IsKey, key_bytes, key_at}
+use Rattle.spec_base.proofs.Binding.{ok_parts}
+use Rattle.spec_base.proofs.Formats.{Reads, taken, field_reads, byte_reads, mapped_reads, many_reads}
+use Rattle.sol_base.specs.Keys.{IsKey, key_bytes}
 use Rattle.sol_base.proofs.KeyLaws.{key_reads}
-use Rattle.message_codec.specs.declared.fault.WireFault.{WireFault}
 use Rattle.message_codec.specs.declared.fault.WireFault.TheVariants.{Truncated}
 use Rattle.message_codec.specs.declared.message.Signature.{Signature}
 use Rattle.message_codec.specs.declared.message.Header.{Header}
@@ -18,7 +14,7 @@ use Rattle.message_codec.specs.declared.message.Instruction.{Instruction}
 use Rattle.message_codec.specs.declared.message.Lookup.{Lookup}
 use Rattle.message_codec.specs.Compact.{compact}
 use Rattle.message_codec.specs.Wire.{array_bytes, blob_bytes, signature_bytes, header_bytes, instruction_bytes, lookup_bytes, IsShort}
-use Rattle.message_codec.specs.WireReading.{Read, compact_at, array_at, blob_at, signature_at, header_at, instruction_at, lookup_at}
+use Rattle.message_codec.specs.WireReading.{Read, array_at, blob_at, signature_at, header_at, instruction_at, lookup_at}
 use Rattle.message_codec.proofs.Lengths.{length_reads}
 
 -- one part after another

@@ -1,19 +1,17 @@
 -- A transaction with none of the nine refusals is sane.
-use Rattle.std.proofs.Common.{◌≡◌, ◌<◌, ◌≤◌, ◌+◌, ℕ, zero, suc, List, [], ◌∷◌, length, Result, Ok, Err, Option, Some, None, Bool, true, false, not, ◌||◌, ◌&&◌, cond, ◌⊎◌, inl, inr, refl, sym, ap, subst, ◌∙◌, nat_lt, All, IsOk, ◌↔◌, arith}
-use Rattle.std.specs.Prelude.{nat_eq, nat_le, position}
+use Rattle.std.proofs.Common.{◌≡◌, ◌<◌, ◌≤◌, ◌+◌, ℕ, zero, suc, List, [], ◌∷◌, length, Result, Ok, Err, Bool, true, false, not, ◌||◌, ◌&&◌, cond, refl, sym, subst, ◌∙◌, nat_lt, All, IsOk, ◌↔◌, arith}
+use Rattle.std.specs.Prelude.{nat_eq, nat_le}
 use Rattle.std.specs.List.{list_any, position_or_len, AllByRecursion, IsDistinct}
 use Rattle.std.proofs.lemmas.Bool.Decides.{nat_tests}
 use Rattle.std.proofs.lemmas.List.Elements.{All-from_recursion, recursion_from_All, All-weaker}
 use Rattle.std.proofs.lemmas.List.Folds.{list_any_none}
-use Rattle.spec_base.proofs.Binding.{chosen}
 use Rattle.sol_base.specs.declared.key.Key.{Key}
 use Rattle.message_codec.specs.declared.fault.SanitizeFault.{SanitizeFault}
 use Rattle.message_codec.specs.declared.fault.SanitizeFault.TheVariants.{EmptyLookup}
 use Rattle.message_codec.specs.declared.message.Instruction.{Instruction}
 use Rattle.message_codec.specs.declared.message.Lookup.{Lookup}
-use Rattle.message_codec.specs.declared.message.Message.{Message}
 use Rattle.message_codec.specs.declared.message.Tx.{Tx}
-use Rattle.message_codec.specs.Roles.{is_same_key, key_count_of, load_count, loads_none, has_bad_program, has_bad_account, has_repeated, has_reserved_payer, empty_lookup, lookups_sanitized, sanitized, IsSane}
+use Rattle.message_codec.specs.Roles.{is_same_key, key_count_of, load_count, loads_none, has_bad_program, has_bad_account, has_repeated, empty_lookup, lookups_sanitized, sanitized, IsSane}
 
 neither : (a b : Bool) → (a || b) ≡ false → (a ≡ false) × (b ≡ false)
 neither true b h = absurd (cc)

@@ -1,31 +1,29 @@
 -- Messages and transactions: what is spelled is read again, and what is read is spelled so.
-use Rattle.std.proofs.Common.{◌≡◌, ◌<◌, ◌≤◌, ℕ, zero, suc, List, [], ◌∷◌, ◌++◌, length, Result, Ok, Err, Bool, true, false, ◌⊎◌, inl, inr, refl, sym, ap, subst, ◌∙◌, append_assoc, nat_lt, arith}
-use Rattle.std.specs.Prelude.{nat_eq, slice_index, All, IfOk}
+use Rattle.std.proofs.Common.{◌≡◌, ◌<◌, ◌≤◌, ℕ, List, [], ◌∷◌, ◌++◌, length, Result, Ok, Err, true, false, inl, inr, refl, sym, ap, subst, ◌∙◌, append_assoc, nat_lt, arith}
+use Rattle.std.specs.Prelude.{nat_eq, All, IfOk}
 use Rattle.std.specs.List.{AllByRecursion}
 use Rattle.std.proofs.lemmas.Bool.Decides.{nat_tests}
 use Rattle.std.proofs.lemmas.List.{append-nil}
-use Rattle.std.proofs.lemmas.List.Elements.{All-from_recursion, recursion_from_All, All-weaker, All-nil}
+use Rattle.std.proofs.lemmas.List.Elements.{All-from_recursion, recursion_from_All, All-nil}
 use Rattle.spec_base.specs.Bytes.{IsBytes}
-use Rattle.spec_base.specs.Reading.{◌>>=◌, Gives, place, whole}
+use Rattle.spec_base.specs.Reading.{Gives}
 use Rattle.spec_base.proofs.Binding.{bind_ok, chosen, ok_parts, after_bytes, whole_ok}
-use Rattle.spec_base.proofs.Formats.{Reads, Taken, taken}
+use Rattle.spec_base.proofs.Formats.{Reads, taken}
 use Rattle.spec_base.specs.Sha256.{sha256}
-use Rattle.sol_base.specs.declared.key.Key.{Key}
 use Rattle.sol_base.specs.declared.key.Hash32.{Hash32}
-use Rattle.sol_base.specs.Keys.{IsKey, IsHash, key_bytes, hash_bytes, key_at, hash_at}
+use Rattle.sol_base.specs.Keys.{IsKey, IsHash, key_bytes, hash_bytes, key_at}
 use Rattle.sol_base.proofs.KeyLaws.{key_reads, hash_reads}
 use Rattle.message_codec.specs.declared.fault.WireFault.{WireFault}
 use Rattle.message_codec.specs.declared.fault.WireFault.TheVariants.{TooLong, Truncated, Version, Trailing}
 use Rattle.message_codec.specs.declared.message.Signature.{Signature}
 use Rattle.message_codec.specs.declared.message.Header.{Header}
-use Rattle.message_codec.specs.declared.message.Instruction.{Instruction}
 use Rattle.message_codec.specs.declared.message.Lookup.{Lookup}
 use Rattle.message_codec.specs.declared.message.MessageKind.{MessageKind}
 use Rattle.message_codec.specs.declared.message.MessageKind.TheVariants.{Legacy, Zero}
 use Rattle.message_codec.specs.declared.message.Message.{Message}
 use Rattle.message_codec.specs.declared.message.Tx.{Tx}
-use Rattle.message_codec.specs.Wire.{array_bytes, blob_bytes, signature_bytes, header_bytes, instruction_bytes, lookup_bytes, kind_bytes, lookups_bytes, message_bytes, message_name, tx_bytes, IsShort, HasShortLists, HasWidths, AllowsLookups, BeginsAsItsKind, Wire}
-use Rattle.message_codec.specs.WireReading.{Read, RoundTripLaw, is_memory, array_at, signature_at, header_at, instruction_at, lookup_at, kind_at, lookups_at, message_at, tx_at, wire_of}
+use Rattle.message_codec.specs.Wire.{array_bytes, signature_bytes, header_bytes, instruction_bytes, kind_bytes, lookups_bytes, message_bytes, message_name, tx_bytes, IsShort, HasShortLists, HasWidths, AllowsLookups, BeginsAsItsKind, Wire}
+use Rattle.message_codec.specs.WireReading.{Read, RoundTripLaw, is_memory, array_at, signature_at, instruction_at, lookup_at, kind_at, lookups_at, message_at, tx_at, wire_of}
 use Rattle.message_codec.proofs.PartLaws.{follows, ends_at, array_reads, signature_reads, InstructionFits, instruction_reads, LookupFits, lookup_reads, HeaderFits, header_reads}
 
 -- kinds

@@ -1,6 +1,5 @@
 -- What the bytes of a wire are.
-use Rattle.std.specs.Prelude.{◌≡◌, ℕ, List, Result, Ok, Err, Bool, false}
-use Rattle.sol_base.specs.declared.key.Hash32.{Hash32}
+use Rattle.std.specs.Prelude.{◌≡◌, ℕ, List, Result, Ok, Err, false}
 use Rattle.message_codec.specs.declared.fault.WireFault.{WireFault}
 use Rattle.message_codec.specs.declared.message.Tx.{Tx}
 use Rattle.message_codec.specs.declared.parsed.Parsed.{Parsed}

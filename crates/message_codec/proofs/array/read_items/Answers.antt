@@ -1,4 +1,3 @@
-use Rattle.std.proofs.Common.{◌≡◌, sym}
 use Rattle.std.proofs.lemmas.Result.{err_from_is_err_and}
 use Rattle.spec_base.specs.Reading.{many}
 use Rattle.spec_base.proofs.Loop.{goes_on, ends, is_done}

@@ -1,4 +1,4 @@
-use Rattle.std.proofs.Common.{◌≡◌, ◌-◌, [], List, ℕ}
+use Rattle.std.proofs.Common.{◌≡◌, ◌-◌}
 use Rattle.spec_base.specs.Reading.{many_after, many}
 use Rattle.message_codec.proofs.array.read_items.Given as goal
 
