@@ -1,14 +1,13 @@
 -- The accounts after a key.
-use Rattle.std.proofs.Common.{◌≡◌, ◌<◌, ◌↔◌, ℕ, List, [], ◌∷◌, ◌++◌, Option, Some, None, Bool, true, false, not, ◌&&◌, cond, refl, sym, ap, subst, ◌∙◌, Bor, arith}
+use Rattle.std.proofs.Common.{◌≡◌, ◌<◌, ◌↔◌, List, [], ◌∷◌, Option, Some, None, Bool, true, false, ◌&&◌, cond, refl, sym, ap, subst, ◌∙◌, Bor, arith}
 use Rattle.std.specs.Prelude.{option_map, filter, length, slice_get, MatchOption, IfSome, IsSome}
 use Rattle.std.specs.List.{AllByRecursion}
 use Rattle.std.specs.List.Sorted.{IsStrictlySortedBy}
 use Rattle.std.specs.Arc.{arc_value}
 use Rattle.std.specs.Map.{keys_of}
 use Rattle.std.specs.Cmp.{tied_itself}
-use Rattle.std.specs.BTreeMap.Range.{range_contains, entries_between}
+use Rattle.std.specs.BTreeMap.Range.{entries_between}
 use Rattle.std.specs.Ordering.{is_lt, ordering_reverse}
-use Rattle.std.specs.declared.ops.Bound.{Bound}
 use Rattle.std.specs.declared.ops.Bound.TheVariants.{Excluded, Unbounded}
 use Rattle.std.specs.declared.cmp.Ordering.{Ordering}
 use Rattle.std.specs.declared.cmp.Ordering.TheVariants.{Less, Equal, Greater}
@@ -17,7 +16,7 @@ use Rattle.sol_base.specs.declared.account.Account.{Account}
 use Rattle.sol_base.specs.Keys.{key_cmp}
 use Rattle.sol_base.proofs.KeyLaws.{key_cmp_total}
 use Rattle.account_store.specs.State.{State, entries, is_above, entries_after, next_after}
-use Rattle.account_store.specs.Shared.{Shared, seen, state_seen, IsKept}
+use Rattle.account_store.specs.Shared.{Shared, seen, state_seen}
 use Rattle.account_store.proofs.EntryLists.{sorted-entries}
 use Rattle.account_store.proofs.SharedLaws.{entries-state_seen}
 

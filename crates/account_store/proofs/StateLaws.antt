@@ -1,13 +1,13 @@
 -- Laws of states.
-use Rattle.std.proofs.Common.{◌≡◌, ℕ, ◌+◌, ◌-◌, ◌^◌, ◌<◌, ◌≤◌, List, [], ◌∷◌, ◌++◌, Option, Some, None, Bool, true, false, cond, ◌⊎◌, inl, inr, lit≤, refl, sym, ap, subst, ◌∙◌, arith}
-use Rattle.std.specs.Prelude.{option_map, unwrap_or, nat_eq, length, sum_by, filter, slice_get}
+use Rattle.std.proofs.Common.{◌≡◌, ◌+◌, ◌-◌, ◌^◌, ◌≤◌, List, [], Option, Some, None, Bool, true, false, cond, ◌⊎◌, inl, inr, lit≤, refl, sym, ap, subst, ◌∙◌, arith}
+use Rattle.std.specs.Prelude.{option_map, unwrap_or, nat_eq, length, sum_by}
 use Rattle.std.specs.List.{AllByRecursion}
 use Rattle.std.specs.List.Sorted.{IsStrictlySortedBy}
 use Rattle.std.specs.Ordering.{eq_by_cmp}
-use Rattle.std.specs.Map.{lookup, keys_of, values_of, remove_entry}
+use Rattle.std.specs.Map.{lookup, values_of, remove_entry}
 use Rattle.std.specs.BTreeMap.{is_at, insert_entry}
 use Rattle.std.specs.FinMap as map
-use Rattle.std.specs.FinMap.{find, get-insert, get-remove, get-empty, get-entries, same_map}
+use Rattle.std.specs.FinMap.{get-insert, get-remove, get-entries, same_map}
 use Rattle.std.proofs.lemmas.Bool.{cases_Bool}
 use Rattle.std.proofs.lemmas.Bool.Decides.{nat_tests}
 use Rattle.std.proofs.lemmas.Map.Entries.{sum_by-insert_entry, sum_by-remove_entry}
@@ -16,8 +16,8 @@ use Rattle.sol_base.specs.declared.account.Account.{Account}
 use Rattle.sol_base.specs.Keys.{key_cmp}
 use Rattle.sol_base.specs.Accounts.{empty_account}
 use Rattle.sol_base.proofs.KeyLaws.{key_cmp_exact, key_cmp_total}
-use Rattle.account_store.specs.State.{State, empty, get, at, remove, put, len, entries, lamports_of, sum, is_above, entries_after, next_after, IsHeld, IsState}
-use Rattle.account_store.proofs.EntryLists.{find-lookup, sorted-entries, entries-from_entries, from_entries-entries, entries-insert_entry, entries-remove_entry, sum_by-values, all-insert_entry, all-remove_entry, all-find}
+use Rattle.account_store.specs.State.{State, empty, get, at, remove, put, entries, lamports_of, sum, IsHeld, IsState}
+use Rattle.account_store.proofs.EntryLists.{find-lookup, sorted-entries, entries-from_entries, entries-insert_entry, entries-remove_entry, sum_by-values, all-insert_entry, all-remove_entry, all-find}
 
 -- states with the same accounts are one
 pub same_state : (s t : State) → ((k : Key) → get s k ≡ get t k) → s ≡ t

@@ -1,5 +1,5 @@
 -- A state: the accounts that are there, by their keys, each with at least 1 lamport (Solana).
-use Rattle.std.specs.Prelude.{◌≡◌, ℕ, ◌-◌, ◌^◌, ◌≤◌, List, length, sum_by, filter, slice_get, nat_eq, Bool, true, if◌then◌else◌, Option, Some, None, unwrap_or}
+use Rattle.std.specs.Prelude.{ℕ, ◌-◌, ◌^◌, ◌≤◌, List, length, sum_by, filter, slice_get, nat_eq, Bool, true, if◌then◌else◌, Option, Some, None, unwrap_or}
 use Rattle.std.specs.List.{AllByRecursion}
 use Rattle.std.specs.Ordering.{is_lt}
 use Rattle.std.specs.FinMap as map

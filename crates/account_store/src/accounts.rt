@@ -1,4 +1,4 @@
-ghost use Rattle.std.specs.Prelude.{◌≡◌, ◌≤◌, ◌-◌, ◌^◌, ◌<◌, OnOk, OnErr, option_map, option_copied, length};
+ghost use Rattle.std.specs.Prelude.{◌≡◌, ◌≤◌, ◌+◌, ◌-◌, ◌^◌, ◌<◌, OnOk, OnErr, option_map, option_copied, length};
 ghost use Rattle.std.specs.Arc.{arc_value};
 ghost use Rattle.std.specs.List.{AllByRecursion};
 ghost use Rattle.spec_base.specs.Reading.{Gives};
@@ -86,7 +86,7 @@ impl Accounts {
             return Ok(());
         }
         let before = self.tree.insert(key, account)?;
-        self.total = self.total - lamports_of(&before) + lamports;
+        self.total = total_after(self.total, &before, lamports);
         Ok(())
     }
 
@@ -96,7 +96,7 @@ impl Accounts {
         ensures removed { self.new ≡ state.remove self.old key.now }
     {
         let removed = self.tree.remove(key);
-        self.total -= lamports_of(&removed);
+        self.total = total_after(self.total, &removed, 0);
         removed
     }
 
@@ -136,4 +136,13 @@ fn lamports_of(account: &Option<Arc<Account>>) -> u64
     ensures { result ≡ shared_lamports account.now }
 {
     account.as_ref().map_or(0, |account| account.lamports)
+}
+
+/// The sum after an account of these lamports took the place of the one before.
+fn total_after(total: u64, before: &Option<Arc<Account>>, lamports: u64) -> u64
+    requires held { shared_lamports before.now ≤ total }
+    requires fits { total - shared_lamports before.now + lamports ≤ 2 ^ 64 - 1 }
+    ensures { result ≡ total - shared_lamports before.now + lamports }
+{
+    total - lamports_of(before) + lamports
 }

@@ -1,4 +1,4 @@
-use Rattle.std.proofs.Common.{◌≡◌, [], None, ap, sym, subst, ◌∙◌}
+use Rattle.std.proofs.Common.{[], ap, sym, ◌∙◌}
 use Rattle.account_store.specs.Sorted.{first_fault, supply}
 use Rattle.account_store.proofs.SortedLaws.{IsAllFine-from_none, IsKept-entries}
 use Rattle.account_store.proofs.accounts.Accounts.from_sorted.Goals as goal

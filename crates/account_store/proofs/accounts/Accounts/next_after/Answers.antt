@@ -3,7 +3,7 @@ use Rattle.std.specs.Prelude.{slice_get, option_copied}
 use Rattle.sol_base.specs.declared.key.Key.{Key}
 use Rattle.sol_base.specs.declared.account.Account.{Account}
 use Rattle.account_store.specs.State.{State, next_after}
-use Rattle.account_store.specs.Shared.{seen, state_seen}
+use Rattle.account_store.specs.Shared.{seen}
 use Rattle.account_store.proofs.NextLaws.{next-shown, first-shown, entries_between-seen, all-seen}
 use Rattle.account_store.proofs.accounts.Accounts.next_after.Goals as goal
 
