@@ -46,11 +46,5 @@ fn main(rt: HostRuntime) -> ExitCode {
     let mut source = StdSource::new(rt.reader());
     let mut out = StdSink::new(rt.stdout());
     let mut notes = StdSink::new(rt.stderr());
-    ExitCode::from(bank_main(
-        rt.alloc(),
-        &words,
-        &mut source,
-        &mut out,
-        &mut notes,
-    ))
+    ExitCode::from(bank_main(rt.alloc(), &words, &mut source, &mut out, &mut notes))
 }
