@@ -84,27 +84,6 @@ is_shared es collector fees h =
     either true s t p q = p
     either false s t p q = q
 
-abbrev AllApart : List Transfer → Type 0
-AllApart ts = AllByRecursion (λ (t : Transfer). t.payer ≡ t.to → ⊥) ts
-
--- what is burned is all that a block of good transfers takes away
-pub conserved : (setting : Setting) (es : List KeyedAccount) (ts : List Transfer) → IsRunning es → AllApart ts → not_good es ts ≡ None → total (shares_of setting es ts).accounts + (shares_of setting es ts).burned ≡ total es
-conserved setting es ts is apart none =
-    let done = all_paid es ts is apart none in
-    let fees = done.fees in
-    let shared = is_shared (after_all es ts) setting.collector (base_fee * length ts) done.running.ascend in
-    let sum = shared.sum in
-    let kept = shared.kept in
-    omega arith
-
-pub fees_shared : (setting : Setting) (es : List KeyedAccount) (ts : List Transfer) → IsRunning es → AllApart ts → not_good es ts ≡ None → (shares_of setting es ts).burned + (shares_of setting es ts).collected ≡ base_fee * length ts
-fees_shared setting es ts is apart none =
-    let done = all_paid es ts is apart none in
-    (is_shared (after_all es ts) setting.collector (base_fee * length ts) done.running.ascend).sum
-
-pub fees_leave : (es : List KeyedAccount) (ts : List Transfer) → IsRunning es → AllApart ts → not_good es ts ≡ None → total (after_all es ts) + base_fee * length ts ≡ total es
-fees_leave es ts is apart none = (all_paid es ts is apart none).fees
-
 pub shared_few : (es : List KeyedAccount) (collector : Key) (fees : ℕ) → length es + 1 < 2 ^ 32 → length (share_fees es collector fees).accounts < 2 ^ 32
 shared_few es collector fees few =
     let after = more (account_at es collector) (fees - fees / 2) in
@@ -149,6 +128,21 @@ can_end p is none =
     let few_accounts = is.few_accounts in
     let few = is.few in
     record { running = done.running; fits = omega arith; few = omega arith }
+
+-- what is burned is all that a block of good transfers takes away
+pub conserved : (p : PlainInput) → IsRunnable p → not_good p.accounts p.transfers ≡ None → total (shares_of (setting_of p) p.accounts p.transfers).accounts + (shares_of (setting_of p) p.accounts p.transfers).burned ≡ total p.accounts
+conserved p is none =
+    let done = all_paid p.accounts p.transfers (runs p is) is.apart none in
+    let fees = done.fees in
+    let parts = is_shared (after_all p.accounts p.transfers) p.collector (base_fee * length p.transfers) done.running.ascend in
+    let sum = parts.sum in
+    let kept = parts.kept in
+    omega arith
+
+pub fees_shared : (p : PlainInput) → IsRunnable p → not_good p.accounts p.transfers ≡ None → (shares_of (setting_of p) p.accounts p.transfers).burned + (shares_of (setting_of p) p.accounts p.transfers).collected ≡ base_fee * length p.transfers
+fees_shared p is none =
+    let done = all_paid p.accounts p.transfers (runs p is) is.apart none in
+    (is_shared (after_all p.accounts p.transfers) p.collector (base_fee * length p.transfers) done.running.ascend).sum
 
 -- What a run has answered and left, by what was shown to it.
 pub record HasAnswered (p : PlainInput) (accounts new : List KeyedAccount) (seen : List Transfer) (first : Option ℕ) : Type 0 where

@@ -73,6 +73,9 @@ total-after_one es t h differ good =
     let other = ap (λ (a : Account). a.lamports) (account_at-put es t.payer (paid es t) t.to differ) in
     omega arith
 
+pub fee_leaves : (es : List KeyedAccount) (t : Transfer) → IsRunning es → (t.payer ≡ t.to → ⊥) → is_good es t ≡ true → total (after_one es t) + base_fee ≡ total es
+fee_leaves es t is = total-after_one es t is.ascend
+
 pub length-after_one : (es : List KeyedAccount) (t : Transfer) → length (after_one es t) ≤ length es + 2
 length-after_one es t =
     let first = length-put es t.payer (paid es t) in

@@ -1,6 +1,5 @@
 //! Laws over definitions.
-ghost use Rattle.std.specs.Prelude.{◌≡◌, ◌↔◌, ℕ, ◌+◌, ◌*◌, List, Ok, IsErr, Contains, length, nat_eq, if◌then◌else◌};
-ghost use Rattle.std.specs.List.{AllByRecursion};
+ghost use Rattle.std.specs.Prelude.{◌≡◌, ◌↔◌, ℕ, ◌+◌, ◌*◌, List, Ok, IsErr, true, Contains, length, nat_eq, if◌then◌else◌};
 ghost use Rattle.std.specs.List.Sorted.{IsStrictlySortedBy};
 ghost use Rattle.spec_base.specs.Bytes.{IsBytes};
 ghost use Rattle.sol_base.specs.Accounts.{empty_account};
@@ -8,16 +7,16 @@ ghost use Rattle.sol_base.specs.Keys.{hash_cmp};
 ghost use Rattle.sol_base.specs.declared.account.Account.{Account};
 ghost use Rattle.sol_base.specs.declared.key.Hash32.{Hash32};
 ghost use Rattle.sol_base.specs.declared.key.Key.{Key};
-ghost use Rattle.bank_cli.specs.declared.block_end.Setting.{Setting};
 ghost use Rattle.bank_cli.specs.declared.state.KeyedAccount.{KeyedAccount};
 ghost use Rattle.bank_cli.specs.declared.transfer.Transfer.{Transfer};
 ghost use Rattle.bank_cli.specs.declared.plain.PlainInput.{PlainInput};
 ghost use Rattle.bank_cli.specs.State.{IsAscending, account_at, put, total};
 ghost use Rattle.bank_cli.specs.Snapshot.{Snapshot};
 ghost use Rattle.bank_cli.specs.Batch.{Batch};
-ghost use Rattle.bank_cli.specs.Serial.{IsRunning, base_fee, after_all, not_good};
+ghost use Rattle.bank_cli.specs.Serial.{IsRunning, base_fee, is_good, after_one, not_good};
 ghost use Rattle.bank_cli.specs.BlockEnd.{shares_of, ascending};
-ghost use Rattle.bank_cli.specs.Plain.{IsPlain, plain_of, snapshot_of, batch_of, input_of};
+ghost use Rattle.bank_cli.specs.Answer.{setting_of};
+ghost use Rattle.bank_cli.specs.Plain.{IsPlain, IsRunnable, plain_of, snapshot_of, batch_of, input_of};
 
 /// Reading meets the definition of a plain input, for every list of bytes.
 pub fn plain_inputs_are_read()
@@ -44,19 +43,18 @@ pub fn states_are_maps()
         → account_at (put es k a) j ≡ account_at es j }
 {}
 
-/// A block of good transfers conserves lamports, but for what it burns.
+/// Lamports are conserved: a good transfer takes its fee out of the accounts and nothing else, and the
+/// final accounts of a plain input hold what was there at the start but for what is burned.
 pub fn lamports_are_conserved()
-    // The fees leave the accounts as the transfers run.
-    ensures run { (es : List KeyedAccount) (ts : List Transfer)
-        → IsRunning es → AllByRecursion (λ t. ¬ (t.payer ≡ t.to)) ts → not_good es ts ≡ None
-        → total (after_all es ts) + base_fee * length ts ≡ total es }
-    // They are burned, or the collector has them.
-    ensures fees { (setting : Setting) (es : List KeyedAccount) (ts : List Transfer)
-        → IsRunning es → AllByRecursion (λ t. ¬ (t.payer ≡ t.to)) ts → not_good es ts ≡ None
-        → (shares_of setting es ts).burned + (shares_of setting es ts).collected ≡ base_fee * length ts }
-    ensures block { (setting : Setting) (es : List KeyedAccount) (ts : List Transfer)
-        → IsRunning es → AllByRecursion (λ t. ¬ (t.payer ≡ t.to)) ts → not_good es ts ≡ None
-        → total (shares_of setting es ts).accounts + (shares_of setting es ts).burned ≡ total es }
+    ensures transfer { (es : List KeyedAccount) (t : Transfer)
+        → IsRunning es → ¬ (t.payer ≡ t.to) → is_good es t ≡ true
+        → total (after_one es t) + base_fee ≡ total es }
+    ensures fees { (p : PlainInput) → IsRunnable p → not_good p.accounts p.transfers ≡ None
+        → let shares = shares_of (setting_of p) p.accounts p.transfers in
+        shares.burned + shares.collected ≡ base_fee * length p.transfers }
+    ensures block { (p : PlainInput) → IsRunnable p → not_good p.accounts p.transfers ≡ None
+        → let shares = shares_of (setting_of p) p.accounts p.transfers in
+        total shares.accounts + shares.burned ≡ total p.accounts }
 {}
 
 /// The names that a new mark has are those of the messages, each once and in ascending order.
