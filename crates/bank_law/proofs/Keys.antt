@@ -2,7 +2,9 @@
 use Rattle.std.proofs.Common.{◌≡◌, ℕ, Bool, true, false, cond, inl, inr, List, [], ◌∷◌, map, filter, refl, sym, ap, ap₂, subst}
 use Rattle.std.proofs.lemmas.Bool.{false≢true, both_ways, cond_both, or_cases, or_left, or_right, and_from}
 use Rattle.std.proofs.lemmas.Slice.Eq.{bytes_eq-Decides}
+use Rattle.std.specs.Cmp.{IsEquivalence}
 use Rattle.std.specs.List.{list_any}
+use Rattle.std.proofs.lemmas.Cmp.{on_equiv, nat_list_eq_equiv}
 use Rattle.sol_base.specs.declared.key.Key.{Key}
 use Rattle.sol_base.specs.declared.account.Account.{Account}
 use Rattle.sol_base.specs.declared.lock.Lock.{Lock}
@@ -23,6 +25,9 @@ same_key-sym a b = by_case (same_key a b) refl (same_key b a) refl
     by_case true e false f = absurd (both_ways _ f (subst (λ k. same_key k a ≡ true) (same_key-true a b e) (same_key-self a)))
     by_case false e true f = absurd (both_ways _ e (subst (λ k. same_key k b ≡ true) (same_key-true b a f) (same_key-self b)))
     by_case false e false f = refl
+
+pub same_key-equiv : IsEquivalence same_key
+same_key-equiv = on_equiv (λ (key : Key). key.0) nat_list_eq_equiv
 
 both_same : (a b key : Key) → same_key key a ≡ true → same_key key b ≡ true → same_key a b ≡ true
 both_same a b key e f = subst (λ k. same_key k b ≡ true) (same_key-true key a e) f

@@ -11,3 +11,6 @@ pub use keys::KeyTable;
 pub use laws::conflict_is_clash;
 pub use locks::NumberedLock;
 pub use sets::{LockSet, conflict, set_of};
+
+#[cfg(test)]
+mod tests;

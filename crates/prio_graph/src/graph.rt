@@ -139,3 +139,6 @@ fn release(waits: &mut [usize], tree: &mut [u32], row: &[u32])
         }
     }
 }
+
+#[cfg(test)]
+mod tests;
