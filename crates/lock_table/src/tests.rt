@@ -1,5 +1,5 @@
-ghost use Rattle.std.specs.Prelude.{IfOk};
-ghost use Rattle.std.specs.List.{IsDistinct};
+ghost use Rattle.std.specs.Prelude.{◌≡◌, IfOk};
+ghost use Rattle.std.specs.List.{IsDistinct, list_any};
 ghost use Rattle.bank_law.specs.Job.{same_key, keys_of};
 
 use crate::{KeyTable, LockSet, NumberedLock, conflict, set_of};
@@ -8,14 +8,26 @@ use std::alloc::Global;
 use std::process::Abort;
 use std::test::Fail;
 
+/// The key of one repeated byte.
+fn key_of(byte: u8) -> Key {
+    Key([byte; 32])
+}
+
+/// Whether one of the locks is on the key.
+fn has_lock(locks: &[Lock], key: &Key) -> bool
+    ensures { result ≡ list_any (λ lock. same_key key.now lock.key) locks.now }
+{
+    locks.iter().any(|lock| *key == lock.key)
+}
+
 /// The locks on keys of one repeated byte, without those on a key that came before.
 fn locks_of(alloc: Global, entries: &[(u8, bool)]) -> Result<LockList, OutOfMemory>
     ensures { IfOk result (λ locks. IsDistinct same_key (keys_of locks)) }
 {
     let mut locks = LockList::new(alloc);
     for (byte, write) in entries {
-        let key = Key([*byte; 32]);
-        if !locks.as_slice().iter().any(|lock| key == lock.key) {
+        let key = key_of(*byte);
+        if !has_lock(locks.as_slice(), &key) {
             locks.push(Lock { key, write: *write })?;
         }
     }
@@ -41,12 +53,12 @@ fn keys_are_numbered_in_order_of_first_occurrence(rt: HostRuntime) -> Result<(),
     let mut table = KeyTable::new(alloc);
     for (byte, number, count) in [(7, 0, 1), (9, 1, 2), (7, 0, 2), (8, 2, 3), (9, 1, 3)] {
         assert!(rt; table.len() < 100);
-        assert_eq!(rt; table.number(Key([byte; 32]))?, number, "of byte {byte}");
+        assert_eq!(rt; table.number(key_of(byte))?, number, "of byte {byte}");
         assert_eq!(rt; table.len(), count, "after byte {byte}");
-        assert_eq!(rt; table.key(number), Key([byte; 32]));
-        assert_eq!(rt; table.find(&Key([byte; 32])), Some(number));
+        assert_eq!(rt; table.key(number), key_of(byte));
+        assert_eq!(rt; table.find(&key_of(byte)), Some(number));
     }
-    assert_eq!(rt; table.find(&Key([1; 32])), None);
+    assert_eq!(rt; table.find(&key_of(1)), None);
     Ok(())
 }
 

@@ -1,5 +1,5 @@
 ghost use Rattle.std.specs.Prelude.{◌≡◌, ℕ, ◌<◌, ◌↔◌, IfOk, IfSome, IfNone, IsTrue, length};
-ghost use Rattle.std.specs.List.{IsDistinct};
+ghost use Rattle.std.specs.List.{IsDistinct, list_any};
 ghost use Rattle.bank_law.specs.Job.{same_key, keys_of};
 ghost use Rattle.prio_graph.specs.Ready.{IsReady, IsLeastReady, mark_at};
 ghost use Rattle.prio_graph.specs.declared.mark.Mark.TheVariants.{Started};
@@ -12,14 +12,26 @@ use std::alloc::Global;
 use std::process::Abort;
 use std::test::Fail;
 
+/// The key of one repeated byte.
+fn key_of(byte: u8) -> Key {
+    Key([byte; 32])
+}
+
+/// Whether one of the locks is on the key.
+fn has_lock(locks: &[Lock], key: &Key) -> bool
+    ensures { result ≡ list_any (λ lock. same_key key.now lock.key) locks.now }
+{
+    locks.iter().any(|lock| *key == lock.key)
+}
+
 /// The locks on keys of one repeated byte, without those on a key that came before.
 fn locks_of(alloc: Global, entries: &[(u8, bool)]) -> Result<LockList, OutOfMemory>
     ensures { IfOk result (λ locks. IsDistinct same_key (keys_of locks)) }
 {
     let mut locks = LockList::new(alloc);
     for (byte, write) in entries {
-        let key = Key([*byte; 32]);
-        if !locks.as_slice().iter().any(|lock| key == lock.key) {
+        let key = key_of(*byte);
+        if !has_lock(locks.as_slice(), &key) {
             locks.push(Lock { key, write: *write })?;
         }
     }
