@@ -1,4 +1,4 @@
-ghost use Rattle.std.specs.Prelude.{◌≡◌, ℕ, ◌<◌, ◌↔◌, IfOk, IfSome, IfNone, IsTrue, length};
+ghost use Rattle.std.specs.Prelude.{◌≡◌, ℕ, ◌^◌, ◌<◌, ◌↔◌, IfOk, IfSome, IfNone, IsTrue, length};
 ghost use Rattle.std.specs.List.{IsDistinct, list_any};
 ghost use Rattle.bank_law.specs.Job.{same_key, keys_of};
 ghost use Rattle.prio_graph.specs.Ready.{IsReady, IsLeastReady, mark_at};
@@ -89,7 +89,8 @@ impl Graph {
     }
 
     fn count(&self) -> usize
-        ensures { result ≡ length self.now.sets }
+        ensures count { result ≡ length self.now.sets }
+        ensures few { result < 2 ^ 32 }
     {
         self.sets.len()
     }
@@ -139,7 +140,11 @@ impl Graph {
 fn run(rt: &impl Abort, graph: &mut Graph, choices: &mut Vec<(usize, usize)>) -> Result<(), Fail> {
     let mut returned = false;
     for step in 0..16 {
-        assert_eq!(rt; graph.least_ready(), graph.least_by_scan(), "after {choices:?}");
+        assert_eq!(rt;
+            graph.least_ready(),
+            graph.least_by_scan(),
+            "after {choices:?}"
+        );
         let moves = graph.moves(!returned);
         if moves == 0 {
             break;
@@ -180,7 +185,11 @@ fn least_ready_is_that_of_the_scan_in_every_order(rt: HostRuntime) -> Result<(),
         &[&[(1, false), (2, true)], &[(1, false), (3, true)]],
         &[&[(1, true)], &[(2, true)], &[(3, true)]],
         &[&[(1, true)], &[(1, true)], &[(1, true)]],
-        &[&[(1, true), (2, true)], &[(1, false)], &[(2, false), (3, true)]],
+        &[
+            &[(1, true), (2, true)],
+            &[(1, false)],
+            &[(2, false), (3, true)],
+        ],
         &[&[(1, false)], &[(1, false)], &[(1, true)], &[(1, false)]],
         &[&[(1, true)], &[(1, false)], &[(1, false)], &[(1, true)]],
         &[&[], &[(1, true), (2, false)], &[(2, true)]],
@@ -237,7 +246,11 @@ fn a_reader_does_not_overtake_a_waiting_writer(rt: HostRuntime) -> Result<(), Fa
 #[test]
 fn readers_share_a_key(rt: HostRuntime) -> Result<(), Fail> {
     let alloc = rt.alloc();
-    let mut graph = graph_of(&rt, alloc, &[&[(1, false), (2, true)], &[(1, false), (3, true)]])?;
+    let mut graph = graph_of(
+        &rt,
+        alloc,
+        &[&[(1, false), (2, true)], &[(1, false), (3, true)]],
+    )?;
     assert_eq!(rt; start_least(&mut graph), Some(0));
     assert_eq!(rt; start_least(&mut graph), Some(1));
     end(&rt, &mut graph, 1, false);
