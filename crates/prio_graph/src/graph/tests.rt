@@ -52,87 +52,85 @@ fn graph_of(rt: &impl Abort, alloc: Global, lists: &[&[(u8, bool)]]) -> Result<G
 }
 
 // The plain program of the definition, which looks at all earlier positions.
-impl Graph {
-    fn is_ready(&self, position: usize) -> bool
-        requires { position < length self.now.sets }
-        ensures { IsTrue result ↔ IsReady self.now position }
-    {
-        let sets = self.sets.as_slice();
-        if self.marks[position] != Mark::Waiting {
+fn is_ready(graph: &Graph, position: usize) -> bool
+    requires { position < length graph.now.sets }
+    ensures { IsTrue result ↔ IsReady graph.now position }
+{
+    let sets = graph.sets.as_slice();
+    if graph.marks[position] != Mark::Waiting {
+        return false;
+    }
+    for earlier in 0..position {
+        if graph.marks[earlier] != Mark::Done && conflict(&sets[earlier], &sets[position]) {
             return false;
         }
-        for earlier in 0..position {
-            if self.marks[earlier] != Mark::Done && conflict(&sets[earlier], &sets[position]) {
+    }
+    true
+}
+
+fn least_by_scan(graph: &Graph) -> Option<u32>
+    ensures least { IfSome result (IsLeastReady graph.now) }
+    ensures none { IfNone result ((i : ℕ) → IsReady graph.now i → ⊥) }
+{
+    for position in 0..graph.sets.len() {
+        if is_ready(graph, position) {
+            return Some(position as u32);
+        }
+    }
+    None
+}
+
+fn is_started(graph: &Graph, position: usize) -> bool
+    requires { position < length graph.now.sets }
+    ensures { IsTrue result → mark_at graph.now.marks position ≡ Started }
+{
+    graph.marks[position] == Mark::Started
+}
+
+fn count(graph: &Graph) -> usize
+    ensures count { result ≡ length graph.now.sets }
+    ensures few { result < 2 ^ 32 }
+{
+    graph.sets.len()
+}
+
+/// How many moves there are: a start of each ready position, an end of each started one, and
+/// where it is allowed a start taken back.
+fn moves(graph: &Graph, unstart: bool) -> usize {
+    let mut moves = 0usize;
+    for position in 0..count(graph) {
+        if is_ready(graph, position) {
+            moves = moves.saturating_add(1);
+        } else if is_started(graph, position) {
+            moves = moves.saturating_add(if unstart { 2 } else { 1 });
+        }
+    }
+    moves
+}
+
+/// Makes one of the moves, and tells whether it took a start back.
+fn make_move(graph: &mut Graph, unstart: bool, choice: usize) -> bool {
+    let mut left = choice;
+    for position in 0..count(graph) {
+        if is_ready(graph, position) {
+            if left == 0 {
+                graph.start(position as u32);
                 return false;
             }
-        }
-        true
-    }
-
-    fn least_by_scan(&self) -> Option<u32>
-        ensures least { IfSome result (IsLeastReady self.now) }
-        ensures none { IfNone result ((i : ℕ) → IsReady self.now i → ⊥) }
-    {
-        for position in 0..self.sets.len() {
-            if self.is_ready(position) {
-                return Some(position as u32);
+            left = left.saturating_sub(1);
+        } else if is_started(graph, position) {
+            if left == 0 {
+                graph.finish(position as u32);
+                return false;
             }
-        }
-        None
-    }
-
-    fn is_started(&self, position: usize) -> bool
-        requires { position < length self.now.sets }
-        ensures { IsTrue result → mark_at self.now.marks position ≡ Started }
-    {
-        self.marks[position] == Mark::Started
-    }
-
-    fn count(&self) -> usize
-        ensures count { result ≡ length self.now.sets }
-        ensures few { result < 2 ^ 32 }
-    {
-        self.sets.len()
-    }
-
-    /// How many moves there are: a start of each ready position, an end of each started one, and
-    /// where it is allowed a start taken back.
-    fn moves(&self, unstart: bool) -> usize {
-        let mut moves = 0usize;
-        for position in 0..self.count() {
-            if self.is_ready(position) {
-                moves = moves.saturating_add(1);
-            } else if self.is_started(position) {
-                moves = moves.saturating_add(if unstart { 2 } else { 1 });
+            if unstart && left == 1 {
+                graph.unstart(position as u32);
+                return true;
             }
+            left = left.saturating_sub(if unstart { 2 } else { 1 });
         }
-        moves
     }
-
-    /// Makes one of the moves, and tells whether it took a start back.
-    fn make_move(&mut self, unstart: bool, choice: usize) -> bool {
-        let mut left = choice;
-        for position in 0..self.count() {
-            if self.is_ready(position) {
-                if left == 0 {
-                    self.start(position as u32);
-                    return false;
-                }
-                left = left.saturating_sub(1);
-            } else if self.is_started(position) {
-                if left == 0 {
-                    self.finish(position as u32);
-                    return false;
-                }
-                if unstart && left == 1 {
-                    self.unstart(position as u32);
-                    return true;
-                }
-                left = left.saturating_sub(if unstart { 2 } else { 1 });
-            }
-        }
-        false
-    }
+    false
 }
 
 /// Runs a graph to its end by the choices, each with how many there were. Where they end the first
@@ -142,21 +140,21 @@ fn run(rt: &impl Abort, graph: &mut Graph, choices: &mut Vec<(usize, usize)>) ->
     for step in 0..16 {
         assert_eq!(rt;
             graph.least_ready(),
-            graph.least_by_scan(),
+            least_by_scan(graph),
             "after {choices:?}"
         );
-        let moves = graph.moves(!returned);
-        if moves == 0 {
+        let open = moves(graph, !returned);
+        if open == 0 {
             break;
         }
         let choice = match choices.get(step) {
             Some((choice, _)) => *choice,
             None => {
-                choices.push((0, moves))?;
+                choices.push((0, open))?;
                 0
             }
         };
-        returned = graph.make_move(!returned, choice) || returned;
+        returned = make_move(graph, !returned, choice) || returned;
     }
     Ok(())
 }
@@ -219,7 +217,7 @@ fn start_least(graph: &mut Graph) -> Option<u32> {
 
 /// Ends a position, or takes its start back.
 fn end(rt: &impl Abort, graph: &mut Graph, position: usize, finish: bool) {
-    assert!(rt; position < 1_000 && position < graph.count() && graph.is_started(position));
+    assert!(rt; position < 1_000 && position < count(graph) && is_started(graph, position));
     if finish {
         graph.finish(position as u32);
     } else {
