@@ -1,5 +1,5 @@
 -- What the accounts of a frame keep under a stretch of its program's work (Solana; rule 2 and the order are the project's own).
-use Rattle.std.specs.Prelude.{true, false, ◌≡◌, ◌⊎◌, ◌≤◌, All, ℕ, Bool, not, ◌&&◌, ◌||◌, List, [], ◌∷◌, ◌++◌, length, map, sum_by, nat_eq, nat_lt, Option, Some, None, Result, Ok, Err, if◌then◌else◌}
+use Rattle.std.specs.Prelude.{true, false, ◌≡◌, ◌⊎◌, ◌≤◌, All, ℕ, Bool, not, ◌&&◌, ◌||◌, List, [], ◌∷◌, ◌++◌, length, map, sum_by, nat_eq, nat_lt, slice_get, Option, Some, None, Result, Ok, Err, if◌then◌else◌}
 use Rattle.std.specs.List.{list_any, filter_map, enumerate_from, zip}
 use Rattle.std.specs.Cmp.Lexicographic.{pointwise}
 use Rattle.std.specs.Arc.{arc_value}
@@ -116,3 +116,7 @@ pub record IsKept (program : Key) (writable : Bool) (before after : Account) : T
 pub record AreKept (program : Key) (writable : List Bool) (before after : List Account) : Type 0 where
   pub each : All (λ (change : Change). IsKept program change.1.0 change.1.1.0 change.1.1.1) (changes writable before after)
   pub sum : lamports_in before ≡ lamports_in after
+
+-- an account whose flag is false has the same value before and after
+abbrev pub SameUnlessTouched : List Bool → List Account → List Account → Type 0
+SameUnlessTouched touched before after = (i : ℕ) → slice_get touched i ≡ Some false → slice_get after i ≡ slice_get before i

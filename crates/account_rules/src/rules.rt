@@ -1,6 +1,6 @@
-ghost use Rattle.std.specs.Prelude.{◌≡◌, ◌≤◌, OnOk, length, true, false, Some, None, if◌then◌else◌};
+ghost use Rattle.std.specs.Prelude.{◌≡◌, ◌≤◌, ◌↔◌, IsTrue, OnOk, length, slice_get, true, false, Some, None, if◌then◌else◌};
 ghost use Rattle.std.specs.Arc.{arc_value};
-ghost use Rattle.account_rules.specs.AccountRules.{AreKept, accounts_of, broken_rule, has_byte, lamports_in, rules, same_account, too_large};
+ghost use Rattle.account_rules.specs.AccountRules.{AreKept, SameUnlessTouched, accounts_of, broken_rule, has_byte, lamports_in, rules, same_account, too_large};
 ghost use Rattle.account_rules.specs.declared.rules.RuleFault.TheVariants.{TooLarge};
 
 use sol_base::{Account, Key};
@@ -45,8 +45,49 @@ pub fn check(
     ensures exact { result ≡ rules program.now writable.now (accounts_of before.now) (accounts_of after.now) }
     ensures kept { OnOk result (AreKept program.now writable.now (accounts_of before.now) (accounts_of after.now)) }
 {
+    check_each(program, writable, &[], before, after)
+}
+
+/// What `check` answers, for a caller that knows which accounts the program wrote. `touched` says
+/// of each account whether it may differ; one that is not touched must have the same value before
+/// and after. No data byte of such an account is read, only their number, so the time goes by what
+/// was written and not by all that the frame holds. Its lamports count in the sums as ever.
+pub fn check_touched(
+    program: &Key,
+    writable: &[bool],
+    touched: &[bool],
+    before: &[Arc<Account>],
+    after: &[Arc<Account>],
+) -> Result<(), RuleFault>
+    requires flags { length writable.now ≡ length before.now }
+    requires marks { length touched.now ≡ length before.now }
+    requires accounts { length after.now ≡ length before.now }
+    requires most { length before.now ≤ 255 }
+    requires untouched { SameUnlessTouched touched.now (accounts_of before.now) (accounts_of after.now) }
+    ensures exact { result ≡ rules program.now writable.now (accounts_of before.now) (accounts_of after.now) }
+    ensures kept { OnOk result (AreKept program.now writable.now (accounts_of before.now) (accounts_of after.now)) }
+{
+    check_each(program, writable, touched, before, after)
+}
+
+// Account by account, and then the sums. An account past the end of `touched` counts as touched.
+fn check_each(
+    program: &Key,
+    writable: &[bool],
+    touched: &[bool],
+    before: &[Arc<Account>],
+    after: &[Arc<Account>],
+) -> Result<(), RuleFault>
+    requires flags { length writable.now ≡ length before.now }
+    requires accounts { length after.now ≡ length before.now }
+    requires most { length before.now ≤ 255 }
+    requires untouched { SameUnlessTouched touched.now (accounts_of before.now) (accounts_of after.now) }
+    ensures exact { result ≡ rules program.now writable.now (accounts_of before.now) (accounts_of after.now) }
+    ensures kept { OnOk result (AreKept program.now writable.now (accounts_of before.now) (accounts_of after.now)) }
+{
     for i in 0..writable.len() {
-        if let Some(fault) = first_broken(program, writable[i], &before[i], &after[i], i as u8) {
+        let same = is_untouched(touched, i);
+        if let Some(fault) = broken_at(program, writable[i], same, &before[i], &after[i], i as u8) {
             return Err(fault);
         }
     }
@@ -54,6 +95,31 @@ pub fn check(
         return Err(RuleFault::Unbalanced);
     }
     Ok(())
+}
+
+fn is_untouched(touched: &[bool], i: usize) -> bool
+    ensures { IsTrue result ↔ (slice_get touched.now i ≡ Some false) }
+{
+    i < touched.len() && !touched[i]
+}
+
+// The first rule that one account breaks. Where it is known to be the same, only its length counts.
+fn broken_at(
+    program: &Key,
+    writable: bool,
+    same: bool,
+    before: &Account,
+    after: &Account,
+    i: u8,
+) -> Option<RuleFault>
+    requires { IsTrue same → after.now ≡ before.now }
+    ensures { result ≡ broken_rule program.now writable before.now after.now i }
+{
+    if same {
+        too_large_at(after, i)
+    } else {
+        first_broken(program, writable, before, after, i)
+    }
 }
 
 // The first rule that one account breaks. Its data are compared only where it matters whether they
@@ -136,26 +202,46 @@ fn sum_of(accounts: &[Arc<Account>]) -> u128
 #[cfg(test)]
 mod tests {
     use super::*;
-    use sol_base::Blob;
+    use sol_base::{Blob, OutOfMemory};
+    use std::alloc::Global;
     use std::test::Fail;
+
+    fn with_byte(alloc: Global, owner: u8, byte: u8) -> Result<Arc<Account>, OutOfMemory> {
+        let account = Account {
+            lamports: 1,
+            owner: Key([owner; 32]),
+            executable: false,
+            bytes: Blob::from_slice(alloc, &[byte])?,
+        };
+        Ok(Arc::new(alloc, account)?)
+    }
 
     // The program writes the byte of an account that it owns, and of one that it does not.
     #[test]
     fn a_byte_changed(rt: HostRuntime) -> Result<(), Fail> {
         let program = Key([0x77; 32]);
         for (owner, want) in [(0x77, Ok(())), (0x55, Err(RuleFault::ForeignData { i: 0 }))] {
-            let before = Account {
-                lamports: 1,
-                owner: Key([owner; 32]),
-                executable: false,
-                bytes: Blob::from_slice(rt.alloc(), &[0])?,
-            };
-            let mut after = before.try_copy()?;
-            after.bytes = Blob::from_slice(rt.alloc(), &[7])?;
-            let before = [Arc::new(rt.alloc(), before)?];
-            let after = [Arc::new(rt.alloc(), after)?];
+            let before = [with_byte(rt.alloc(), owner, 0)?];
+            let after = [with_byte(rt.alloc(), owner, 7)?];
             assert_eq!(rt;
                 check(&program, &[true], &before, &after),
+                want,
+                "owner {owner}"
+            );
+        }
+        Ok(())
+    }
+
+    // The same beside an account of another program that nothing has touched.
+    #[test]
+    fn a_byte_changed_beside_an_untouched_account(rt: HostRuntime) -> Result<(), Fail> {
+        let program = Key([0x77; 32]);
+        for (owner, want) in [(0x77, Ok(())), (0x55, Err(RuleFault::ForeignData { i: 1 }))] {
+            let foreign = with_byte(rt.alloc(), 0x55, 9)?;
+            let before = [Arc::try_clone(&foreign)?, with_byte(rt.alloc(), owner, 0)?];
+            let after = [foreign, with_byte(rt.alloc(), owner, 7)?];
+            assert_eq!(rt;
+                check_touched(&program, &[true, true], &[false, true], &before, &after),
                 want,
                 "owner {owner}"
             );
