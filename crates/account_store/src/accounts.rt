@@ -15,9 +15,6 @@ use std::marker::Model;
 use std::ops::Bound;
 use std::sync::Arc;
 
-/// The most data bytes of an account (Solana).
-pub const MAX_DATA_LEN: usize = 10_485_760;
-
 /// A finite map from keys to accounts, each with at least 1 lamport and all together with at most
 /// 2^64 - 1. The accounts are shared, so that a share is handed out at no cost.
 #[derive(Debug, Drop)]
