@@ -1,34 +1,25 @@
 -- The broken rules of a frame's accounts, account by account.
-use Rattle.std.proofs.Common.{◌≡◌, ◌≢◌, not, nat_eq, ℕ, ◌+◌, ◌<◌, Bool, true, false, List, [], ◌∷◌, ◌++◌, length, take, drop, get_or, refl, sym, ap, ◌∙◌, Option, Some, None, Result, Ok, Err, arith, if◌then◌else◌, drop-cons, add-one, zero-add}
+use Rattle.std.proofs.Common.{◌≡◌, ◌≢◌, not, nat_eq, ℕ, ◌+◌, ◌<◌, Bool, true, false, List, [], ◌∷◌, ◌++◌, length, take, get_or, refl, sym, ap, ◌∙◌, Some, None, Result, Ok, Err, arith, if◌then◌else◌, zero-add}
 use Rattle.std.proofs.Math.Seq.{take-length}
 use Rattle.std.proofs.Math.ListN.{get_or-map}
-use Rattle.std.specs.List.{filter_map, cons_option, zip}
-use Rattle.std.proofs.lemmas.List.{take_more, take-append-drop, length-map}
+use Rattle.std.specs.List.{filter_map, zip}
+use Rattle.std.proofs.lemmas.List.{length-map}
 use Rattle.std.proofs.lemmas.Bool.Decides.{nat_tests}
-use Rattle.std.proofs.lemmas.List.Elements.{filter_map-append}
 use Rattle.std.proofs.lemmas.List.FromFn.{get_or-enumerate_from, length-enumerate_from}
 use Rattle.std.proofs.lemmas.Slice.Zip.{length-zip, get_or-zip}
 use Rattle.std.specs.Arc.{arc_value}
 use Rattle.std.specs.declared.sync.Arc.{Arc}
 use Rattle.std.specs.declared.alloc.Global.{Global}
+use Rattle.spec_base.proofs.Filters.{nothing_more, first_found}
 use Rattle.sol_base.specs.declared.key.Key.{Key}
 use Rattle.sol_base.specs.declared.account.Account.{Account}
 use Rattle.account_rules.specs.declared.rules.RuleFault.{RuleFault}
 use Rattle.account_rules.specs.declared.rules.RuleFault.TheVariants.{Unbalanced}
-use Rattle.account_rules.specs.AccountRules.{accounts_of, broken_rule, broken_by, Change, changes, first_of, lamports_in, rules, unbalanced}
+use Rattle.account_rules.specs.AccountRules.{accounts_of, broken_rule, broken_by, changes, first_of, lamports_in, rules, unbalanced}
 
 -- none of the first n accounts breaks a rule
 abbrev pub NoneBroken : Key → List Bool → List Account → List Account → ℕ → Type 0
 NoneBroken program writable before after n = filter_map (broken_by program) (take n (changes writable before after)) ≡ []
-
--- ---- lists
-more : {X Y : Type 0} (f : X → Option Y) (xs : List X) (n : ℕ) (d : X) → n < length xs → filter_map f (take n xs) ≡ [] → f (get_or xs n d) ≡ None → filter_map f (take (n + 1) xs) ≡ []
-more f xs n d below none here = rw (take_more xs n d below, filter_map-append f (take n xs) (get_or xs n d ∷ []), none, here) refl
-
-found : {Y : Type 0} (f : Change → Option Y) (xs : List Change) (n : ℕ) (d : Change) (y : Y) → n < length xs → filter_map f (take n xs) ≡ [] → f (get_or xs n d) ≡ Some y → filter_map f xs ≡ y ∷ filter_map f (drop (n + 1) xs)
-found f xs n d y below none here =
-    let split : xs ≡ take n xs ++ (get_or xs n d ∷ drop (n + 1) xs) = sym (take-append-drop n xs) ∙ ap (λ ys. take n xs ++ ys) (rw add-one (drop-cons xs n d below)) in
-    ap (filter_map f) split ∙ filter_map-append f (take n xs) (get_or xs n d ∷ drop (n + 1) xs) ∙ ap (λ ys. ys ++ filter_map f (get_or xs n d ∷ drop (n + 1) xs)) none ∙ ap (λ o. cons_option o (filter_map f (drop (n + 1) xs))) here
 
 abbrev last_of : Bool → Result (Unit {0}) RuleFault
 last_of u = first_of (if u then Unbalanced ∷ [] else [])
@@ -59,11 +50,11 @@ module _ (program : Key) (writable : List Bool) (before after : List (Arc Accoun
       ap (broken_by program) (get_or-enumerate_from 0 (zip writable (zip (accounts_of before) (accounts_of after))) n (n, (false, (arc_value b, arc_value a))) (omega arith) ∙ (λ i. (zero-add n i, entry i)))
 
   pub goes_on : (n : ℕ) (b a : Arc Account Global) → n < length writable → b ≡ get_or before n b → a ≡ get_or after n a → NoneBroken program writable (accounts_of before) (accounts_of after) n → broken_rule program (get_or writable n false) (arc_value b) (arc_value a) n ≡ None → NoneBroken program writable (accounts_of before) (accounts_of after) (n + 1)
-  goes_on n b a below is_before is_after none here = more (broken_by program) (changes writable (accounts_of before) (accounts_of after)) n (n, (false, (arc_value b, arc_value a))) (rw length-all below) none (broken_at n b a below is_before is_after ∙ here)
+  goes_on n b a below is_before is_after none here = nothing_more (broken_by program) (changes writable (accounts_of before) (accounts_of after)) n (n, (false, (arc_value b, arc_value a))) (rw length-all below) none (broken_at n b a below is_before is_after ∙ here)
 
   pub stops : (n : ℕ) (b a : Arc Account Global) (fault : RuleFault) → n < length writable → b ≡ get_or before n b → a ≡ get_or after n a → NoneBroken program writable (accounts_of before) (accounts_of after) n → broken_rule program (get_or writable n false) (arc_value b) (arc_value a) n ≡ Some fault → rules program writable (accounts_of before) (accounts_of after) ≡ Err fault
   unfolding rules
-  stops n b a fault below is_before is_after none here = rw (found (broken_by program) (changes writable (accounts_of before) (accounts_of after)) n (n, (false, (arc_value b, arc_value a))) fault (rw length-all below) none (broken_at n b a below is_before is_after ∙ here)) refl
+  stops n b a fault below is_before is_after none here = rw (first_found (broken_by program) (changes writable (accounts_of before) (accounts_of after)) n (n, (false, (arc_value b, arc_value a))) fault (rw length-all below) none (broken_at n b a below is_before is_after ∙ here)) refl
 
   ends : (n : ℕ) → n ≡ length writable → NoneBroken program writable (accounts_of before) (accounts_of after) n → rules program writable (accounts_of before) (accounts_of after) ≡ last_of (unbalanced (accounts_of before) (accounts_of after))
   unfolding rules

@@ -6,9 +6,11 @@ use Rattle.std.proofs.lemmas.Bool.Decides.{nat_tests}
 use Rattle.std.proofs.lemmas.List.Folds.{list_any_at}
 use Rattle.sol_base.specs.declared.key.Key.{Key}
 use Rattle.sol_base.specs.declared.account.Account.{Account}
+use Rattle.sol_base.specs.Keys.{same_key}
+use Rattle.sol_base.proofs.KeyLaws.{same_key-true}
 use Rattle.account_rules.specs.declared.rules.RuleFault.{RuleFault}
 use Rattle.account_rules.specs.declared.rules.RuleFault.TheVariants.{Unbalanced}
-use Rattle.account_rules.specs.AccountRules.{broken_by, broken_rule, broken_rules, AreKept, changes, first_of, has_byte, IsKept, lamports_in, owns, rules, same_account, same_data, same_flag, same_key, unbalanced, readonly_changed, executable_changed, owner_change, foreign_debit, foreign_data, too_large}
+use Rattle.account_rules.specs.AccountRules.{broken_by, broken_rule, broken_rules, AreKept, changes, first_of, has_byte, IsKept, lamports_in, owns, rules, same_account, same_data, same_flag, unbalanced, readonly_changed, executable_changed, owner_change, foreign_debit, foreign_data, too_large}
 
 -- ---- tests
 passed : {F : Type 0} (test : Bool) (fault : F) (rest : Option F) → (if test then Some fault else rest) ≡ None → (test ≡ false) × (rest ≡ None)
@@ -52,9 +54,6 @@ not_below x y none = grind (arith, nat_tests)
 no_byte : (list : List ℕ) → list_any (λ byte. not (nat_eq byte 0)) list ≡ false → All (λ byte. byte ≡ 0) list
 no_byte list none k d below = is_zero (get_or list k d) (is_false (not (nat_eq (get_or list k d) 0)) (λ here. let found = list_any_at (λ byte. not (nat_eq byte 0)) list k d below here in cc))
 
-key_is : (a b : Key) → same_key a b ≡ true → a ≡ b
-key_is a b same = ap (λ (bytes : List ℕ). let key : Key = record { 0 = bytes } in key) ((bytes_decides a.0 b.0).0 same)
-
 flag_is : (s t : Bool) → (if s then t else not t) ≡ true → s ≡ t
 flag_is true t same = sym same
 flag_is false true same = absurd (cc)
@@ -66,7 +65,7 @@ account_is a b same =
     let third = both (nat_eq a.lamports b.lamports && same_key a.owner b.owner) (same_flag a b) last.0 in
     let first = both (nat_eq a.lamports b.lamports) (same_key a.owner b.owner) third.0 in
     let lamports : a.lamports ≡ b.lamports = is_same a.lamports b.lamports first.0 in
-    let owner : a.owner ≡ b.owner = key_is a.owner b.owner first.1 in
+    let owner : a.owner ≡ b.owner = same_key-true a.owner b.owner first.1 in
     let executable : a.executable ≡ b.executable = flag_is a.executable b.executable third.1 in
     let bytes : a.bytes ≡ b.bytes = (bytes_decides a.bytes b.bytes).0 last.1 in
     λ i. record { lamports = lamports i; owner = owner i; executable = executable i; bytes = bytes i }
@@ -85,16 +84,16 @@ kept program writable before after n none =
       executable = λ holds. account_is before after (is_true (same_account before after) (not_second before.executable (not (same_account before after)) two'.0 holds));
       flag = flag_is before.executable after.executable (is_true (same_flag before after) two'.1);
       owner = elim (not_both (not (same_key before.owner after.owner)) (not (owns program before) || has_byte after) three.0) [
-        | inl same ↦ inl (key_is before.owner after.owner (is_true (same_key before.owner after.owner) same))
-        | inr given ↦ let parts = neither (not (owns program before)) (has_byte after) given in inr (key_is before.owner program (is_true (owns program before) parts.0), no_byte after.bytes parts.1)
+        | inl same ↦ inl (same_key-true before.owner after.owner (is_true (same_key before.owner after.owner) same))
+        | inr given ↦ let parts = neither (not (owns program before)) (has_byte after) given in inr (same_key-true before.owner program (is_true (owns program before) parts.0), no_byte after.bytes parts.1)
       ];
       lamports = elim (not_both (nat_lt after.lamports before.lamports) (not (owns program before)) four.0) [
         | inl more ↦ inl (not_below after.lamports before.lamports more)
-        | inr owned ↦ inr (key_is before.owner program (is_true (owns program before) owned))
+        | inr owned ↦ inr (same_key-true before.owner program (is_true (owns program before) owned))
       ];
       bytes = elim (not_both (not (same_data before after)) (not (owns program before)) five.0) [
         | inl same ↦ inl ((bytes_decides before.bytes after.bytes).0 (is_true (same_data before after) same))
-        | inr owned ↦ inr (key_is before.owner program (is_true (owns program before) owned))
+        | inr owned ↦ inr (same_key-true before.owner program (is_true (owns program before) owned))
       ];
       size = not_below 10485760 (length after.bytes) six.0;
     }

@@ -7,15 +7,13 @@ use Rattle.std.specs.declared.sync.Arc.{Arc}
 use Rattle.std.specs.declared.alloc.Global.{Global}
 use Rattle.sol_base.specs.declared.key.Key.{Key}
 use Rattle.sol_base.specs.declared.account.Account.{Account}
+use Rattle.sol_base.specs.Keys.{same_key}
 use Rattle.account_rules.specs.declared.rules.RuleFault.{RuleFault}
 use Rattle.account_rules.specs.declared.rules.RuleFault.TheVariants.{ReadonlyChanged, ExecutableChanged, OwnerChange, ForeignDebit, ForeignData, TooLarge, Unbalanced}
 
 -- the accounts behind shared pointers
 abbrev pub accounts_of : List (Arc Account Global) → List Account
 accounts_of shares = map (λ share. arc_value share) shares
-
-abbrev pub same_key : Key → Key → Bool
-same_key a b = pointwise nat_eq a.0 b.0
 
 -- there are as many data bytes, and none differs
 abbrev pub same_data : Account → Account → Bool

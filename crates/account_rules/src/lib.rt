@@ -3,4 +3,4 @@
 
 mod rules;
 
-pub use rules::{MAX_DATA_LEN, RuleFault, check, check_touched};
+pub use rules::{RuleFault, check, check_touched};

@@ -3,12 +3,9 @@ ghost use Rattle.std.specs.Arc.{arc_value};
 ghost use Rattle.account_rules.specs.AccountRules.{AreKept, SameUnlessTouched, accounts_of, broken_rule, has_byte, lamports_in, rules, same_account, too_large};
 ghost use Rattle.account_rules.specs.declared.rules.RuleFault.TheVariants.{TooLarge};
 
-use sol_base::{Account, Key};
+use sol_base::{Account, Key, MAX_DATA_LEN};
 use std::sync::Arc;
 use thiserror::Error;
-
-/// The most data bytes of an account (Solana).
-pub const MAX_DATA_LEN: usize = 10_485_760;
 
 /// A broken rule. `i` is the place of the account in the lists.
 #[derive(Clone, Copy, Debug, PartialEq, Eq, Error)]

@@ -2,6 +2,7 @@ ghost use Rattle.std.specs.Prelude.{◌≡◌, ◌≤◌, ◌+◌, ◌-◌, ◌^
 ghost use Rattle.std.specs.Arc.{arc_value};
 ghost use Rattle.std.specs.List.{AllByRecursion};
 ghost use Rattle.spec_base.specs.Reading.{Gives};
+ghost use Rattle.sol_base.specs.declared.account.TheConstants.{MAX_DATA_LEN};
 ghost use Rattle.account_store.specs.State as state;
 ghost use Rattle.account_store.specs.State.{IsState};
 ghost use Rattle.account_store.specs.Shared.{shared_lamports};
@@ -14,9 +15,6 @@ use std::collections::BTreeMap;
 use std::marker::Model;
 use std::ops::Bound;
 use std::sync::Arc;
-
-/// The most data bytes of an account (Solana).
-pub const MAX_DATA_LEN: usize = 10_485_760;
 
 /// A finite map from keys to accounts, each with at least 1 lamport and all together with at most
 /// 2^64 - 1. The accounts are shared, so that a share is handed out at no cost.
@@ -57,7 +55,7 @@ impl Accounts {
     /// The accounts of a list whose keys ascend. The list is dropped where it is refused.
     pub fn from_sorted(alloc: Global, entries: Items<KeyedAccount>) -> Result<Accounts, StoreFault>
         requires few { length entries < 2 ^ 32 }
-        requires short { AllByRecursion (λ e. length e.account.bytes ≤ 10485760) entries }
+        requires short { AllByRecursion (λ e. length e.account.bytes ≤ MAX_DATA_LEN) entries }
         ensures { Gives is_memory (λ accounts. accounts) result (state_of entries) }
     {
         let total = checked_supply(entries.as_slice())?;
@@ -76,7 +74,7 @@ impl Accounts {
     /// Sets the account of the key. An account with no lamports removes the key.
     pub fn put(&mut self, key: Key, account: Arc<Account>) -> Result<(), OutOfMemory>
         requires fits { state.sum (state.put self.old key (arc_value account)) ≤ 2 ^ 64 - 1 }
-        requires short { length (arc_value account).bytes ≤ 10485760 }
+        requires short { length (arc_value account).bytes ≤ MAX_DATA_LEN }
         ensures ok { OnOk result (self.new ≡ state.put self.old key (arc_value account)) }
         ensures err { OnErr result (self.new ≡ self.old) }
     {

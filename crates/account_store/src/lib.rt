@@ -8,6 +8,6 @@ mod sorted;
 #[cfg(test)]
 mod tests;
 
-pub use accounts::{Accounts, MAX_DATA_LEN};
+pub use accounts::Accounts;
 pub use laws::{next_accounts_are_the_entries, states_are_their_entries, sums_follow_the_accounts};
 pub use sorted::{KeyedAccount, StoreFault};

@@ -1,6 +1,7 @@
 //! Lists that are no state, by their first fault, and each call once.
 ghost use Rattle.std.specs.Prelude.{◌≡◌, ◌+◌, ◌-◌, ◌^◌, ◌≤◌, length, IfOk};
 ghost use Rattle.std.specs.List.{AllByRecursion};
+ghost use Rattle.sol_base.specs.declared.account.TheConstants.{MAX_DATA_LEN};
 ghost use Rattle.account_store.specs.State as state;
 
 use crate::{Accounts, KeyedAccount, StoreFault};
@@ -26,7 +27,7 @@ fn pair(
     second: (u8, u64),
 ) -> Result<Items<KeyedAccount>, OutOfMemory>
     ensures two { IfOk result (λ entries. length entries ≡ 2) }
-    ensures short { IfOk result (λ entries. AllByRecursion (λ e. length e.account.bytes ≤ 10485760) entries) }
+    ensures short { IfOk result (λ entries. AllByRecursion (λ e. length e.account.bytes ≤ MAX_DATA_LEN) entries) }
 {
     let mut entries = Items::new(alloc);
     entries.push(KeyedAccount {

@@ -1,5 +1,5 @@
 -- The parts of a plain input: what is spelled is read again, and what is read is spelled so.
-use Rattle.std.proofs.Common.{◌≡◌, ℕ, ◌<◌, ◌^◌, List, [], ◌∷◌, ◌++◌, length, take, drop, Bool, true, false, Result, Ok, Err, inl, inr, refl, sym, ap, subst, ◌∙◌, append_assoc, arith}
+use Rattle.std.proofs.Common.{◌≡◌, ℕ, ◌<◌, ◌^◌, List, [], ◌∷◌, ◌++◌, length, take, drop, Bool, true, false, Result, Ok, inl, inr, refl, sym, ap, subst, ◌∙◌, append_assoc, arith}
 use Rattle.std.specs.Prelude.{nat_eq}
 use Rattle.std.specs.Int.{w16, w64, to_le_bytes}
 use Rattle.std.specs.List.{starts_with}
@@ -7,8 +7,8 @@ use Rattle.std.specs.Cmp.Lexicographic.{bytes_decides}
 use Rattle.std.proofs.lemmas.List.{take-append-drop, length-append, take_at, drop_at}
 use Rattle.spec_base.specs.Bytes.{IsBytes}
 use Rattle.spec_base.specs.Reading.{◌>>=◌}
-use Rattle.spec_base.proofs.Binding.{bind_ok, chosen, checked_ok, ok_same, after_bytes, before_bytes}
-use Rattle.spec_base.proofs.Formats.{Reads, taken, field_reads, u64_reads}
+use Rattle.spec_base.proofs.Binding.{bind_ok, chosen, ok_if_true, ok_same, not_refused, onward, after_bytes, before_bytes}
+use Rattle.spec_base.proofs.Formats.{Reads, by_taking, field_reads, u64_reads}
 use Rattle.sol_base.specs.Keys.{IsKey, IsHash}
 use Rattle.sol_base.specs.declared.key.Key.{Key}
 use Rattle.sol_base.specs.declared.key.Hash32.{Hash32}
@@ -41,7 +41,7 @@ text_takes text bytes rest h =
           let front : text ≡ take (length text) bytes = (bytes_decides text (take (length text) bytes)).0 p.0 in
           let back : drop (length text) bytes ≡ rest = ok_same {E = PlainFault} _ _ p.1 in
           sym (take-append-drop (length text) bytes) ∙ ap (λ (l : List ℕ). l ++ drop (length text) bytes) (sym front) ∙ ap (λ (l : List ℕ). text ++ l) back
-      | inr q ↦ absurd (let e : (let l : Result (List ℕ) PlainFault = Err NotPlain in l) ≡ Ok rest = q.1 in cc)
+      | inr q ↦ absurd (not_refused q.1)
     ]
 
 -- a fact that follows from what stands after a text
@@ -51,18 +51,6 @@ by_text text then bytes y are h so =
     let a = bind_ok (text_at text bytes) then y h in
     let e = text_takes text bytes a.0 a.1 in
     so a.0 e (after_bytes bytes text a.0 are e) a.2
-
--- a fact that follows from what a reading took and what stands after it
-pub by_taking : {X Y : Type 0} {one : List ℕ → Result (X × List ℕ) PlainFault} {spell : X → List ℕ} {Fits : X → Type 0} {Goal : Type 0} → Reads one spell Fits
-    → (then : X × List ℕ → Result Y PlainFault) (bytes : List ℕ) (y : Y) → IsBytes bytes → (one bytes >>= then) ≡ Ok y
-    → ((x : X) (rest : List ℕ) → Fits x → bytes ≡ spell x ++ rest → IsBytes rest → then (x, rest) ≡ Ok y → Goal) → Goal
-by_taking reads then bytes y are h so =
-    let t = taken reads then bytes y are h in
-    so t.value t.rest t.fits t.spelled t.are_bytes t.goes_on
-
--- a spelling whose rest is spelled on
-pub onward : (front bytes rest following : List ℕ) → bytes ≡ front ++ rest → rest ≡ following → bytes ≡ front ++ following
-onward front bytes rest following e f = e ∙ ap (λ (l : List ℕ). front ++ l) f
 
 -- plain accounts
 
@@ -100,10 +88,10 @@ account_takes before bytes e rest are h =
     by_taking (u64_reads cut 0) _ rest1 (e, rest) are1 h1 (λ lamports rest2 fits e2 are2 h2.
     by_text plain_rest _ rest2 (e, rest) are2 h2 (λ rest3 e3 _ h3.
     let made = plain_account key lamports in
-    let test = checked_ok (may_follow before made) NotPlain (made, rest3) (e, rest) h3 in
+    let test = ok_if_true (may_follow before made) NotPlain (made, rest3) (e, rest) h3 in
     let Claim : KeyedAccount × List ℕ → Type 0 = λ p. FitsAfter before p.0 × (bytes ≡ account_bytes p.0 ++ p.1) in
     let spelled : bytes ≡ account_bytes made ++ rest3 =
-    onward key.0 _ _ _ e1 (onward (to_le_bytes w64 lamports) _ _ _ e2 e3) ∙ sym (account_front key lamports rest3) in
+    onward key.0 e1 (onward (to_le_bytes w64 lamports) e2 e3) ∙ sym (account_front key lamports rest3) in
     subst Claim test.1 (record { key = is; lamports = fits; plain = record { owner = refl; executable = refl; «data» = refl }; follows = test.0 }, spelled))))
 
 pub account_reads : (before : List KeyedAccount) → Reads (account_after before) account_bytes (FitsAfter before)
@@ -175,10 +163,10 @@ transfer_takes hash before bytes t rest is are h =
     by_text instruction_bytes _ rest7 (t, rest) are7 h7 (λ rest8 e8 are8 h8.
     by_taking (u64_reads cut 0) _ rest8 (t, rest) are8 h8 (λ lamports rest9 fits e9 _ h9.
     let made : Transfer = record { signature = signature; payer = payer; to = to; blockhash = hash; lamports = lamports } in
-    let test = checked_ok (may_be_sent before made) NotPlain (made, rest9) (t, rest) h9 in
+    let test = ok_if_true (may_be_sent before made) NotPlain (made, rest9) (t, rest) h9 in
     let len = length-wire hash made is signed pays gets refl in
     let spelled : bytes ≡ transfer_bytes made ++ rest9 =
-    onward wire_head _ _ _ e1 (onward signature _ _ _ e2 (onward header_bytes _ _ _ e3 (onward payer.0 _ _ _ e4 (onward to.0 _ _ _ e5 (onward system_bytes _ _ _ e6 (onward hash.0 _ _ _ e7 (onward instruction_bytes _ _ _ e8 e9))))))) ∙ sym (transfer_front made rest9 len) in
+    onward wire_head e1 (onward signature e2 (onward header_bytes e3 (onward payer.0 e4 (onward to.0 e5 (onward system_bytes e6 (onward hash.0 e7 (onward instruction_bytes e8 e9))))))) ∙ sym (transfer_front made rest9 len) in
     let wired : IsBytes (wire made) = after_bytes (transfer_bytes made) (to_le_bytes w16 (length (wire made))) (wire made) (before_bytes (transfer_bytes made) rest9 (subst IsBytes spelled are)) refl in
     let Claim : Transfer × List ℕ → Type 0 = λ p. Sent hash before p.0 × (bytes ≡ transfer_bytes p.0 ++ p.1) in
     subst Claim test.1 (record { signature = signed; payer = pays; to = gets; blockhash = refl; lamports = fits; sent = test.0; are_bytes = wired }, spelled))))))))))

@@ -8,9 +8,9 @@ use Rattle.std.proofs.lemmas.Bool.{false≢true, ltb-true, leb-true, lt-ltb, le-
 use Rattle.std.proofs.lemmas.List.{append-nil, length-map}
 use Rattle.std.proofs.lemmas.List.Folds.{flat_map-map}
 use Rattle.spec_base.specs.Bytes.{IsBytes}
-use Rattle.spec_base.specs.Reading.{Gives, number_at, tested, many_after, AllAfter}
-use Rattle.spec_base.proofs.Binding.{chosen, whole_ok}
-use Rattle.spec_base.proofs.Formats.{Reads, tested_reads, many_after_reads, u32_reads, u64_reads}
+use Rattle.spec_base.specs.Reading.{Gives, number_at, read_if, many_after, AllAfter}
+use Rattle.spec_base.proofs.Binding.{chosen, whole_ok, onward}
+use Rattle.spec_base.proofs.Formats.{Reads, by_taking, read_if_reads, many_after_reads, u32_reads, u64_reads}
 use Rattle.sol_base.specs.Keys.{IsKey, IsHash}
 use Rattle.sol_base.specs.declared.key.Hash32.{Hash32}
 use Rattle.sol_base.proofs.KeyLaws.{key_reads, hash_reads}
@@ -21,7 +21,7 @@ use Rattle.bank_cli.specs.declared.plain.PlainFault.TheVariants.{NotPlain}
 use Rattle.bank_cli.specs.Snapshot.{Mark, Snapshot, snapshot_bytes_one, account_bytes}
 use Rattle.bank_cli.specs.Batch.{Batch, batch_bytes}
 use Rattle.bank_cli.specs.Plain.{IsPlain, IsPlainTransfer, IsRunnable, input_limit, cut, is_memory, account_after, transfer_after, input_at, plain_of, snapshot_of, batch_of, input_of}
-use Rattle.bank_cli.proofs.PlainFields.{FitsAfter, Sent, by_text, by_taking, onward, text_again, account_reads, transfer_reads, transfer_bytes}
+use Rattle.bank_cli.proofs.PlainFields.{FitsAfter, Sent, by_text, text_again, account_reads, transfer_reads, transfer_bytes}
 use Rattle.bank_cli.proofs.PlainLists.{stand, are_read, are_plain, are_sent}
 
 accounts_read : (count : ℕ) → Reads (many_after account_after [] count) (flat_map account_bytes) (λ es. (length es ≡ count) × AllAfter FitsAfter [] es)
@@ -31,11 +31,11 @@ transfers_read : (hash : Hash32) → IsHash hash → (count : ℕ) → Reads (ma
 transfers_read hash is count = many_after_reads (transfer_reads hash is) count
 
 -- a number that passes a test
-number_read : (test : ℕ → Bool) → Reads (tested cut test (number_at cut w32 0) 0) (to_le_bytes w32) (λ n. (n < 2 ^ 32) × (test n ≡ true))
-number_read test = tested_reads {E = PlainFault} cut test 0 (u32_reads cut 0)
+number_read : (test : ℕ → Bool) → Reads (read_if cut test (number_at cut w32 0) 0) (to_le_bytes w32) (λ n. (n < 2 ^ 32) × (test n ≡ true))
+number_read test = read_if_reads {E = PlainFault} cut test 0 (u32_reads cut 0)
 
-slot_read : (test : ℕ → Bool) → Reads (tested cut test (number_at cut w64 0) 0) (to_le_bytes w64) (λ n. (n < 2 ^ 64) × (test n ≡ true))
-slot_read test = tested_reads {E = PlainFault} cut test 0 (u64_reads cut 0)
+slot_read : (test : ℕ → Bool) → Reads (read_if cut test (number_at cut w64 0) 0) (to_le_bytes w64) (λ n. (n < 2 ^ 64) × (test n ≡ true))
+slot_read test = read_if_reads {E = PlainFault} cut test 0 (u64_reads cut 0)
 
 -- the fields of a plain input, one after the other
 abbrev fields : PlainInput → List ℕ
@@ -85,8 +85,8 @@ input_takes bytes p are h =
     let counts : rest5 ≡ to_le_bytes w32 (length accounts) ++ rest6 = subst (λ n. rest5 ≡ to_le_bytes w32 n ++ rest6) (sym fit.0) e6 in
     let numbers : rest10 ≡ to_le_bytes w32 (length transfers) ++ rest11 = subst (λ n. rest10 ≡ to_le_bytes w32 n ++ rest11) (sym sent.0) e11 in
     let spelled : bytes ≡ fields made =
-    onward (codes "SOLSNAP1") _ _ _ e1 (onward (to_le_bytes w64 slot) _ _ _ e2 (onward (to_le_bytes w32 1) _ _ _ e3 (onward hash.0 _ _ _ e4 (onward (to_le_bytes w32 0) _ _ _ e5 (onward (to_le_bytes w32 (length accounts)) _ _ _ counts (onward (flat_map account_bytes accounts) _ _ _ e7
-    (onward (codes "SOLBATC1") _ _ _ e8 (onward (to_le_bytes w64 block_slot) _ _ _ e9 (onward collector.0 _ _ _ e10 (onward (to_le_bytes w32 (length transfers)) _ _ _ numbers (onward (flat_map transfer_bytes transfers) _ _ _ e12 last.0))))))))))) in
+    onward (codes "SOLSNAP1") e1 (onward (to_le_bytes w64 slot) e2 (onward (to_le_bytes w32 1) e3 (onward hash.0 e4 (onward (to_le_bytes w32 0) e5 (onward (to_le_bytes w32 (length accounts)) counts (onward (flat_map account_bytes accounts) e7
+    (onward (codes "SOLBATC1") e8 (onward (to_le_bytes w64 block_slot) e9 (onward collector.0 e10 (onward (to_le_bytes w32 (length transfers)) numbers (onward (flat_map transfer_bytes transfers) e12 last.0))))))))))) in
     subst Claim last.1 (
       record {
         slot = is_slot;

@@ -8,14 +8,16 @@ use Rattle.std.specs.Ordering.{is_lt}
 use Rattle.std.specs.Cmp.Lexicographic.{bytes_decides}
 use Rattle.std.specs.declared.cmp.Ordering.TheVariants.{Less}
 use Rattle.std.proofs.lemmas.Bool.{and_parts, and_from, not-true, both_ways, lt-ltb, eqb-true, eq-eqb}
+use Rattle.std.proofs.lemmas.Bool.Decides.{not_from_Decides}
 use Rattle.std.proofs.lemmas.List.{append-nil, take_at, drop_at}
 use Rattle.std.proofs.lemmas.List.Sums.{sum_by-append, sum_by-cons}
 use Rattle.std.proofs.lemmas.Nat.{from_le_bytes-to_le_bytes_8}
 use Rattle.spec_base.specs.Reading.{AllAfter}
-use Rattle.sol_base.specs.Keys.{IsHash, key_cmp}
+use Rattle.sol_base.specs.Keys.{IsHash, key_cmp, same_key}
 use Rattle.sol_base.specs.declared.key.Key.{Key}
 use Rattle.sol_base.specs.declared.key.Hash32.{Hash32}
-use Rattle.message_codec.specs.Roles.{is_same_key, is_reserved}
+use Rattle.sol_base.proofs.KeyLaws.{same_key-Decides, same_key-false}
+use Rattle.message_codec.specs.Roles.{is_reserved}
 use Rattle.bank_cli.specs.declared.state.KeyedAccount.{KeyedAccount}
 use Rattle.bank_cli.specs.declared.transfer.Transfer.{Transfer}
 use Rattle.bank_cli.specs.State.{total}
@@ -121,13 +123,13 @@ same_messages hash t u is_t is_u e =
     let p4 = parted t.blockhash.0 _ u.blockhash.0 _ (ap (λ (h : Hash32). length h.0) hashes) p3.1 in
     let p5 = parted instruction_bytes _ instruction_bytes _ refl p4.1 in
     let amounts : t.lamports ≡ u.lamports = sym (from_le_bytes-to_le_bytes_8 t.lamports is_t.lamports) ∙ ap (from_le_bytes w64) p5.1 ∙ from_le_bytes-to_le_bytes_8 u.lamports is_u.lamports in
-    and_from (is_same_key t.payer u.payer) _ ((bytes_decides t.payer.0 u.payer.0).1 p1.0)
-    (and_from (is_same_key t.to u.to) (nat_eq t.lamports u.lamports) ((bytes_decides t.to.0 u.to.0).1 p2.0) (eq-eqb t.lamports u.lamports amounts))
+    and_from (same_key t.payer u.payer) _ ((bytes_decides t.payer.0 u.payer.0).1 p1.0)
+    (and_from (same_key t.to u.to) (nat_eq t.lamports u.lamports) ((bytes_decides t.to.0 u.to.0).1 p2.0) (eq-eqb t.lamports u.lamports amounts))
 
 pub messages_same : (hash : Hash32) (t u : Transfer) → t.blockhash ≡ hash → u.blockhash ≡ hash → is_same_message t u ≡ true → message_bytes t ≡ message_bytes u
 messages_same hash t u is_t is_u h =
-    let a = and_parts (is_same_key t.payer u.payer) (is_same_key t.to u.to && nat_eq t.lamports u.lamports) h in
-    let b = and_parts (is_same_key t.to u.to) (nat_eq t.lamports u.lamports) a.1 in
+    let a = and_parts (same_key t.payer u.payer) (same_key t.to u.to && nat_eq t.lamports u.lamports) h in
+    let b = and_parts (same_key t.to u.to) (nat_eq t.lamports u.lamports) a.1 in
     let payers : t.payer.0 ≡ u.payer.0 = (bytes_decides t.payer.0 u.payer.0).0 a.0 in
     let destinations : t.to.0 ≡ u.to.0 = (bytes_decides t.to.0 u.to.0).0 b.0 in
     let amounts : t.lamports ≡ u.lamports = eqb-true t.lamports u.lamports b.1 in
@@ -157,7 +159,7 @@ is_new hash (u ∷ before) t all is new = rw (apart (is_same_message u t) (λ h.
 
 -- what may be sent after others, test by test
 record MayBeSent (before : List Transfer) (t : Transfer) : Type 0 where
-  apart : is_same_key t.payer t.to ≡ false
+  apart : same_key t.payer t.to ≡ false
   payer_free : is_reserved t.payer ≡ false
   to_free : is_reserved t.to ≡ false
   new : list_any (λ u. is_same_message u t) before ≡ false
@@ -165,23 +167,13 @@ record MayBeSent (before : List Transfer) (t : Transfer) : Type 0 where
 tests_of : (before : List Transfer) (t : Transfer) → may_be_sent before t ≡ true → MayBeSent before t
 tests_of before t h =
     let sent = list_any (λ u. is_same_message u t) before in
-    let a = and_parts (not (is_same_key t.payer t.to)) (not (is_reserved t.payer) && (not (is_reserved t.to) && not sent)) h in
+    let a = and_parts (not (same_key t.payer t.to)) (not (is_reserved t.payer) && (not (is_reserved t.to) && not sent)) h in
     let b = and_parts (not (is_reserved t.payer)) (not (is_reserved t.to) && not sent) a.1 in
     let c = and_parts (not (is_reserved t.to)) (not sent) b.1 in
     record { apart = not-true _ a.0; payer_free = not-true _ b.0; to_free = not-true _ c.0; new = not-true sent c.1 }
 
 may_be : (before : List Transfer) (t : Transfer) → MayBeSent before t → may_be_sent before t ≡ true
 may_be before t m = rw (m.apart, m.payer_free, m.to_free, m.new) refl
-
-same_keys : (a b : Key) → is_same_key a b ≡ false → ¬ (a ≡ b)
-same_keys a b h e = both_ways _ h ((bytes_decides a.0 b.0).1 (ap (λ (k : Key). k.0) e))
-
-other_keys : (a b : Key) → ¬ (a ≡ b) → is_same_key a b ≡ false
-other_keys a b differ = by_case (is_same_key a b) refl
-  where
-    by_case : (t : Bool) → is_same_key a b ≡ t → t ≡ false
-    by_case true h = absurd (differ (ap (λ (bytes : List ℕ). let key : Key = record { 0 = bytes } in key) ((bytes_decides a.0 b.0).0 h)))
-    by_case false h = refl
 
 -- transfers that were read are plain, their messages are new, and their bytes are those of wires
 pub are_plain : (hash : Hash32) (before ts : List Transfer) → IsHash hash → AllByRecursion (IsPlainTransfer hash) before → AllAfter (Sent hash) before ts → AllByRecursion (IsPlainTransfer hash) ts × AllAfter IsNewMessage before ts × AllByRecursion IsWire (map wire ts)
@@ -195,7 +187,7 @@ are_plain hash before (t ∷ ts) hashed all sent =
       to = s.to;
       blockhash = s.blockhash;
       lamports = s.lamports;
-      apart = same_keys t.payer t.to m.apart;
+      apart = not_from_Decides (same_key t.payer t.to) (same_key-Decides t.payer t.to) m.apart;
       payer_free = m.payer_free;
       to_free = m.to_free;
     } in
@@ -209,7 +201,7 @@ pub are_sent : (hash : Hash32) (before ts : List Transfer) → AllByRecursion (I
 are_sent hash before [] all plain new wires = tt
 are_sent hash before (t ∷ ts) all plain new wires =
     let is = plain.0 in
-    let may = may_be before t (record { apart = other_keys t.payer t.to is.apart; payer_free = is.payer_free; to_free = is.to_free; new = is_new hash before t all is new.0 }) in (
+    let may = may_be before t (record { apart = same_key-false t.payer t.to is.apart; payer_free = is.payer_free; to_free = is.to_free; new = is_new hash before t all is new.0 }) in (
       record { signature = is.signature; payer = is.payer; to = is.to; blockhash = is.blockhash; lamports = is.lamports; sent = may; are_bytes = wires.0.wire_bytes },
       are_sent hash (before ++ t ∷ []) ts (all_push (IsPlainTransfer hash) before t all is) plain.1 new.1 wires.1,
     )

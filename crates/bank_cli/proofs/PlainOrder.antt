@@ -12,7 +12,7 @@ use Rattle.std.proofs.Math.Bool.{and-true}
 use Rattle.std.proofs.lemmas.List.{map-append}
 use Rattle.std.proofs.lemmas.List.Sums.{sum_by_push}
 use Rattle.spec_base.specs.Reading.{number_at}
-use Rattle.spec_base.proofs.Binding.{bind_ok, checked_ok}
+use Rattle.spec_base.proofs.Binding.{bind_ok, ok_if_true}
 use Rattle.sol_base.specs.Keys.{key_cmp, key_at}
 use Rattle.sol_base.specs.declared.key.Key.{Key}
 use Rattle.sol_base.specs.declared.key.TheConstants.{SYSTEM_PROGRAM}
@@ -103,5 +103,5 @@ read_follows before bytes e rest h =
     let key = bind_ok (key_at cut 0 bytes) _ (e, rest) h in
     let lamports = bind_ok (number_at cut w64 0 key.0.1) _ (e, rest) key.2 in
     let zeros = bind_ok (text_at plain_rest lamports.0.1) _ (e, rest) lamports.2 in
-    let test = checked_ok (may_follow before (plain_account key.0.0 lamports.0.0)) NotPlain (plain_account key.0.0 lamports.0.0, zeros.0) (e, rest) zeros.2 in
+    let test = ok_if_true (may_follow before (plain_account key.0.0 lamports.0.0)) NotPlain (plain_account key.0.0 lamports.0.0, zeros.0) (e, rest) zeros.2 in
     follows before e (subst (λ (p : KeyedAccount × List ℕ). may_follow before p.0 ≡ true) test.1 test.0)

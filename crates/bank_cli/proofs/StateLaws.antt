@@ -12,12 +12,10 @@ use Rattle.std.proofs.lemmas.List.{set_split, take-append-drop}
 use Rattle.std.proofs.lemmas.List.Sums.{sum_by-cons}
 use Rattle.std.proofs.lemmas.List.Sorted.{searchable_from_sorted}
 use Rattle.sol_base.specs.Accounts.{empty_account}
-use Rattle.sol_base.specs.Keys.{key_cmp}
+use Rattle.sol_base.specs.Keys.{key_cmp, same_key}
 use Rattle.sol_base.specs.declared.key.Key.{Key}
 use Rattle.sol_base.specs.declared.account.Account.{Account}
-use Rattle.sol_base.proofs.KeyLaws.{key_cmp_exact, key_cmp_total}
-use Rattle.message_codec.specs.Roles.{is_same_key}
-use Rattle.message_codec.proofs.KeyTests.{same_key, same_key_equiv}
+use Rattle.sol_base.proofs.KeyLaws.{key_cmp_exact, key_cmp_total, same_key-true, same_key-self, same_key-false, same_key-equiv}
 use Rattle.bank_cli.specs.declared.state.KeyedAccount.{KeyedAccount}
 use Rattle.bank_cli.specs.State.{IsAscending, account_at, kept, put, total}
 
@@ -41,17 +39,14 @@ less_of_greater a b h = key_cmp_total.antisymm b a ∙ ap ordering_reverse h
 greater_of_less : (a b : Key) → key_cmp a b ≡ Less → key_cmp b a ≡ Greater
 greater_of_less a b h = key_cmp_total.antisymm b a ∙ ap ordering_reverse h
 
-same_of_equal : (a b : Key) → key_cmp a b ≡ Equal → is_same_key a b ≡ true
-same_of_equal a b h = subst (λ (x : Key). is_same_key a x ≡ true) (key_cmp_exact a b h) (same_key_equiv.refl a)
+same_of_equal : (a b : Key) → key_cmp a b ≡ Equal → same_key a b ≡ true
+same_of_equal a b h = subst (λ (x : Key). same_key a x ≡ true) (key_cmp_exact a b h) (same_key-self a)
 
-pub apart_of : (a b : Key) → (a ≡ b → ⊥) → is_same_key a b ≡ false
-apart_of a b differ = by_test (is_same_key a b) (λ e. absurd (differ (same_key a b e))) (λ e. e)
+apart_of_less : (a b : Key) → key_cmp a b ≡ Less → same_key a b ≡ false
+apart_of_less a b h = same_key-false a b (λ same. less_not_equal (key_cmp a b) h (subst (λ (x : Key). key_cmp a x ≡ Equal) same (tied_itself key_cmp_total a)))
 
-apart_of_less : (a b : Key) → key_cmp a b ≡ Less → is_same_key a b ≡ false
-apart_of_less a b h = apart_of a b (λ same. less_not_equal (key_cmp a b) h (subst (λ (x : Key). key_cmp a x ≡ Equal) same (tied_itself key_cmp_total a)))
-
-apart_of_greater : (a b : Key) → key_cmp a b ≡ Greater → is_same_key a b ≡ false
-apart_of_greater a b h = same_key_equiv.symm a b ∙ apart_of_less b a (less_of_greater a b h)
+apart_of_greater : (a b : Key) → key_cmp a b ≡ Greater → same_key a b ≡ false
+apart_of_greater a b h = same_key-equiv.symm a b ∙ apart_of_less b a (less_of_greater a b h)
 
 -- Each key of the list is above this one.
 
@@ -81,10 +76,10 @@ above_at k (e ∷ es) (suc i) d lt h = above_at k es i d (omega arith) h.1
 
 -- The account of a key, and a change, by how the first key compares.
 
-account_past : (e : KeyedAccount) (es : List KeyedAccount) (k : Key) → is_same_key e.key k ≡ false → account_at (e ∷ es) k ≡ account_at es k
+account_past : (e : KeyedAccount) (es : List KeyedAccount) (k : Key) → same_key e.key k ≡ false → account_at (e ∷ es) k ≡ account_at es k
 account_past e es k h = ap (λ t. cond t e.account (account_at es k)) h
 
-account_here : (e : KeyedAccount) (es : List KeyedAccount) (k : Key) → is_same_key e.key k ≡ true → account_at (e ∷ es) k ≡ e.account
+account_here : (e : KeyedAccount) (es : List KeyedAccount) (k : Key) → same_key e.key k ≡ true → account_at (e ∷ es) k ≡ e.account
 account_here e es k h = ap (λ t. cond t e.account (account_at es k)) h
 
 account_above : (k : Key) (es : List KeyedAccount) → Above k es → account_at es k ≡ empty_account
@@ -122,7 +117,7 @@ all-put P (e ∷ es) k a h all = by_cases (key_cmp e.key k)
 
 pub all_at : (P : Account → Type 0) (es : List KeyedAccount) (k : Key) → P empty_account → AllByRecursion (λ e. P e.account) es → P (account_at es k)
 all_at P [] k h all = h
-all_at P (e ∷ es) k h all = by_test (is_same_key e.key k)
+all_at P (e ∷ es) k h all = by_test (same_key e.key k)
     (λ t. subst P (sym (account_here e es k t)) all.0)
     (λ t. subst P (sym (account_past e es k t)) (all_at P es k h all.1))
 
@@ -169,20 +164,20 @@ length-put (e ∷ es) k a = by_cases (key_cmp e.key k)
 
 -- A change at one key changes no other.
 
-account_at-kept : (es : List KeyedAccount) (k : Key) (a : Account) (j : Key) → is_same_key k j ≡ false → account_at (kept k a es) j ≡ account_at es j
+account_at-kept : (es : List KeyedAccount) (k : Key) (a : Account) (j : Key) → same_key k j ≡ false → account_at (kept k a es) j ≡ account_at es j
 account_at-kept es k a j h = by_test (nat_eq a.lamports 0)
     (λ e. ap (λ (l : List KeyedAccount). account_at l j) (kept_none k a es e))
     (λ e. ap (λ t. account_at (cond t es (record { key = k; account = a } ∷ es)) j) e ∙ account_past (record { key = k; account = a }) es j h)
 
 pub account_at-put : (es : List KeyedAccount) (k : Key) (a : Account) (j : Key) → (k ≡ j → ⊥) → account_at (put es k a) j ≡ account_at es j
-account_at-put [] k a j differ = account_at-kept [] k a j (apart_of k j differ)
+account_at-put [] k a j differ = account_at-kept [] k a j (same_key-false k j differ)
 account_at-put (e ∷ es) k a j differ =
-    let apart = apart_of k j differ in
+    let apart = same_key-false k j differ in
     by_cases (key_cmp e.key k)
     (λ o. ap (λ (l : List KeyedAccount). account_at l j) (put_past e es k a o)
-    ∙ ap (λ (x : Account). cond (is_same_key e.key j) e.account x) (account_at-put es k a j differ))
+    ∙ ap (λ (x : Account). cond (same_key e.key j) e.account x) (account_at-put es k a j differ))
     (λ o. ap (λ (l : List KeyedAccount). account_at l j) (put_here e es k a o) ∙ account_at-kept es k a j apart
-    ∙ sym (account_past e es j (subst (λ (x : Key). is_same_key x j ≡ false) (sym (key_cmp_exact e.key k o)) apart)))
+    ∙ sym (account_past e es j (subst (λ (x : Key). same_key x j ≡ false) (sym (key_cmp_exact e.key k o)) apart)))
     (λ o. ap (λ (l : List KeyedAccount). account_at l j) (put_before e es k a o) ∙ account_at-kept (e ∷ es) k a j apart)
 
 -- what a change puts at its key
@@ -190,7 +185,7 @@ account_at-kept_here : (es : List KeyedAccount) (k : Key) (a : Account) → Abov
 account_at-kept_here es k a above = by_test (nat_eq a.lamports 0)
     (λ e. ap (λ (l : List KeyedAccount). account_at l k) (kept_none k a es e) ∙ account_above k es above ∙ sym (ap (λ t. cond t empty_account a) e))
     (λ e. ap (λ t. account_at (cond t es (record { key = k; account = a } ∷ es)) k) e
-    ∙ account_here (record { key = k; account = a }) es k (same_key_equiv.refl k) ∙ sym (ap (λ t. cond t empty_account a) e))
+    ∙ account_here (record { key = k; account = a }) es k (same_key-self k) ∙ sym (ap (λ t. cond t empty_account a) e))
 
 pub account_at-put_here : (es : List KeyedAccount) (k : Key) (a : Account) → IsAscending es → account_at (put es k a) k ≡ cond (nat_eq a.lamports 0) empty_account a
 account_at-put_here [] k a h = account_at-kept_here [] k a tt
@@ -243,7 +238,7 @@ pub one_at_most : (es : List KeyedAccount) (k : Key) → (account_at es k).lampo
 one_at_most [] k = omega arith
 one_at_most (e ∷ es) k =
     let all = total-cons e es in
-    by_test (is_same_key e.key k)
+    by_test (same_key e.key k)
     (λ t. let there = ap (λ (x : Account). x.lamports) (account_here e es k t) in omega arith)
     (λ t.
     let there = ap (λ (x : Account). x.lamports) (account_past e es k t) in
@@ -255,15 +250,15 @@ pub two_at_most : (es : List KeyedAccount) (j k : Key) → (j ≡ k → ⊥) →
 two_at_most [] j k differ = omega arith
 two_at_most (e ∷ es) j k differ =
     let all = total-cons e es in
-    by_test (is_same_key e.key j)
-    (λ t. by_test (is_same_key e.key k)
-    (λ u. absurd (differ (sym (same_key e.key j t) ∙ same_key e.key k u)))
+    by_test (same_key e.key j)
+    (λ t. by_test (same_key e.key k)
+    (λ u. absurd (differ (sym (same_key-true e.key j t) ∙ same_key-true e.key k u)))
     (λ u.
     let first = ap (λ (x : Account). x.lamports) (account_here e es j t) in
     let second = ap (λ (x : Account). x.lamports) (account_past e es k u) in
     let rest = one_at_most es k in
     omega arith))
-    (λ t. by_test (is_same_key e.key k)
+    (λ t. by_test (same_key e.key k)
     (λ u.
     let first = ap (λ (x : Account). x.lamports) (account_past e es j t) in
     let second = ap (λ (x : Account). x.lamports) (account_here e es k u) in

@@ -4,12 +4,12 @@ use Rattle.std.specs.Int.{w16, w32, w64, to_le_bytes}
 use Rattle.std.specs.Ordering.{is_lt}
 use Rattle.std.specs.List.Sorted.{IsStrictlySortedBy}
 use Rattle.std.specs.List.{starts_with, list_any, list_all, AllByRecursion}
-use Rattle.spec_base.specs.Reading.{◌>>=◌, checked, field_at, number_at, tested, many_after, whole, AllAfter}
-use Rattle.sol_base.specs.Keys.{IsKey, key_cmp, key_at, hash_at}
+use Rattle.spec_base.specs.Reading.{◌>>=◌, ok_if, field_at, number_at, read_if, many_after, whole, AllAfter}
+use Rattle.sol_base.specs.Keys.{IsKey, key_cmp, key_at, hash_at, same_key}
 use Rattle.sol_base.specs.declared.key.Hash32.{Hash32}
 use Rattle.sol_base.specs.declared.key.TheConstants.{SYSTEM_PROGRAM}
 use Rattle.sol_base.specs.declared.account.Account.{Account}
-use Rattle.message_codec.specs.Roles.{is_same_key, is_reserved}
+use Rattle.message_codec.specs.Roles.{is_reserved}
 use Rattle.bank_cli.specs.declared.state.KeyedAccount.{KeyedAccount}
 use Rattle.bank_cli.specs.declared.transfer.Transfer.{Transfer}
 use Rattle.bank_cli.specs.declared.plain.PlainInput.{PlainInput}
@@ -91,15 +91,15 @@ account_after before bytes = do
   rest ← text_at plain_rest lamports.1
   let account : Account = record { lamports = lamports.0; owner = SYSTEM_PROGRAM; executable = false; bytes = [] } in
       let entry : KeyedAccount = record { key = key.0; account = account } in
-      checked (may_follow before entry) NotPlain (entry, rest)
+      ok_if (may_follow before entry) NotPlain (entry, rest)
 
 -- the same payer, destination and amount: the same message, under one blockhash
 abbrev pub is_same_message : Transfer → Transfer → Bool
-is_same_message t u = is_same_key t.payer u.payer && (is_same_key t.to u.to && nat_eq t.lamports u.lamports)
+is_same_message t u = same_key t.payer u.payer && (same_key t.to u.to && nat_eq t.lamports u.lamports)
 
 abbrev pub may_be_sent : List Transfer → Transfer → Bool
 may_be_sent before t =
-    not (is_same_key t.payer t.to) && (not (is_reserved t.payer) && (not (is_reserved t.to) && not (list_any (λ u. is_same_message u t) before)))
+    not (same_key t.payer t.to) && (not (is_reserved t.payer) && (not (is_reserved t.to) && not (list_any (λ u. is_same_message u t) before)))
 
 -- the length of a transfer's bytes, and the number of its signatures
 abbrev pub wire_head : List ℕ
@@ -117,7 +117,7 @@ transfer_after hash before bytes = do
   instruction ← text_at instruction_bytes blockhash
   lamports ← number_at cut w64 0 instruction
   let t : Transfer = record { signature = signature.0; payer = payer.0; to = to.0; blockhash = hash; lamports = lamports.0 } in
-      checked (may_be_sent before t) NotPlain (t, lamports.1)
+      ok_if (may_be_sent before t) NotPlain (t, lamports.1)
 
 -- slot, mark and accounts; then slot, collector and transfers; and nothing after them
 unfoldable pub input_at : List ℕ → Result PlainInput PlainFault
@@ -127,12 +127,12 @@ input_at bytes = do
   one ← text_at (to_le_bytes w32 1) slot.1
   hash ← hash_at cut 0 one
   none ← text_at (to_le_bytes w32 0) hash.1
-  count ← tested cut (λ n. nat_le n 4194304) (number_at cut w32 0) 0 none
+  count ← read_if cut (λ n. nat_le n 4194304) (number_at cut w32 0) 0 none
   accounts ← many_after account_after [] count.0 count.1
   batch ← text_at (codes "SOLBATC1") accounts.1
-  later ← tested cut (λ n. nat_lt slot.0 n) (number_at cut w64 0) 0 batch
+  later ← read_if cut (λ n. nat_lt slot.0 n) (number_at cut w64 0) 0 batch
   collector ← key_at cut 0 later.1
-  few ← tested cut (λ n. nat_le n 60) (number_at cut w32 0) 0 collector.1
+  few ← read_if cut (λ n. nat_le n 60) (number_at cut w32 0) 0 collector.1
   transfers ← many_after (transfer_after hash.0) [] few.0 few.1
   whole cut 0 (record { slot = slot.0; blockhash = hash.0; accounts = accounts.0; block_slot = later.0; collector = collector.0; transfers = transfers.0 }, transfers.1)
 

@@ -3,7 +3,7 @@ use Rattle.std.specs.Prelude.{◌≡◌, ℕ, ◌+◌, ◌-◌, ◌<◌, ◌^◌
 use Rattle.std.specs.List.{AllByRecursion}
 use Rattle.sol_base.specs.declared.account.Account.{Account}
 use Rattle.sol_base.specs.declared.key.TheConstants.{SYSTEM_PROGRAM}
-use Rattle.message_codec.specs.Roles.{is_same_key}
+use Rattle.sol_base.specs.Keys.{same_key}
 use Rattle.rent_rules.specs.Rent.{state_of, moves}
 use Rattle.bank_cli.specs.declared.state.KeyedAccount.{KeyedAccount}
 use Rattle.bank_cli.specs.declared.transfer.Transfer.{Transfer}
@@ -25,7 +25,7 @@ more a lamports = record a { lamports = a.lamports + lamports }
 
 -- owned by the system program, no program, and without data
 abbrev pub is_wallet : Account → Bool
-is_wallet a = is_same_key a.owner SYSTEM_PROGRAM && (not a.executable && nat_eq (length a.bytes) 0)
+is_wallet a = same_key a.owner SYSTEM_PROGRAM && (not a.executable && nat_eq (length a.bytes) 0)
 
 abbrev pub allowed : Account → Account → Bool
 allowed before after = moves (state_of before) (state_of after)

@@ -3,10 +3,9 @@ use Rattle.std.specs.Prelude.{ℕ, List, [], ◌∷◌, map, sum_by, nat_eq, if�
 use Rattle.std.specs.FinMap.Entries.{by_order}
 use Rattle.std.specs.List.Sorted.{IsStrictlySortedBy}
 use Rattle.sol_base.specs.Accounts.{empty_account}
-use Rattle.sol_base.specs.Keys.{key_cmp}
+use Rattle.sol_base.specs.Keys.{key_cmp, same_key}
 use Rattle.sol_base.specs.declared.key.Key.{Key}
 use Rattle.sol_base.specs.declared.account.Account.{Account}
-use Rattle.message_codec.specs.Roles.{is_same_key}
 use Rattle.bank_cli.specs.declared.state.KeyedAccount.{KeyedAccount}
 
 -- each key is below those after it
@@ -16,7 +15,7 @@ IsAscending es = IsStrictlySortedBy key_cmp (map (λ e. e.key) es)
 -- the account of a key
 abbrev pub account_at : List KeyedAccount → Key → Account
 account_at [] key = empty_account
-account_at (e ∷ es) key = if is_same_key e.key key then e.account else account_at es key
+account_at (e ∷ es) key = if same_key e.key key then e.account else account_at es key
 
 -- an account with 0 lamports is absent
 abbrev pub kept : Key → Account → List KeyedAccount → List KeyedAccount

@@ -1,33 +1,16 @@
 -- Keys in lists, values beside them, and locks that meet.
-use Rattle.std.proofs.Common.{◌≡◌, ℕ, Bool, true, false, cond, inl, inr, List, [], ◌∷◌, map, filter, refl, sym, ap, ap₂, subst}
+use Rattle.std.proofs.Common.{◌≡◌, Bool, true, false, cond, inl, inr, List, [], ◌∷◌, map, filter, refl, sym, ap, ap₂, subst}
 use Rattle.std.proofs.lemmas.Bool.{false≢true, both_ways, cond_both, or_cases, or_left, or_right, and_from}
-use Rattle.std.proofs.lemmas.Slice.Eq.{bytes_eq-Decides}
-use Rattle.std.specs.Cmp.{IsEquivalence}
 use Rattle.std.specs.List.{list_any}
-use Rattle.std.proofs.lemmas.Cmp.{on_equiv, nat_list_eq_equiv}
 use Rattle.sol_base.specs.declared.key.Key.{Key}
 use Rattle.sol_base.specs.declared.account.Account.{Account}
 use Rattle.sol_base.specs.declared.lock.Lock.{Lock}
+pub use Rattle.sol_base.proofs.KeyLaws.{same_key-true, same_key-self, same_key-equiv}
 use Rattle.bank_law.specs.Job.{same_key, has_key, keys_of, beside}
 use Rattle.bank_law.specs.Machine.{meet, clash}
 
-pub same_key-true : (a b : Key) → same_key a b ≡ true → a ≡ b
-same_key-true a b h = ap (λ (bytes : List ℕ). let key : Key = record { 0 = bytes } in key) ((bytes_eq-Decides a.0 b.0).0 h)
-
-pub same_key-self : (a : Key) → same_key a a ≡ true
-same_key-self a = (bytes_eq-Decides a.0 a.0).1 refl
-
 pub same_key-sym : (a b : Key) → same_key a b ≡ same_key b a
-same_key-sym a b = by_case (same_key a b) refl (same_key b a) refl
-  where
-    by_case : (p : Bool) → same_key a b ≡ p → (q : Bool) → same_key b a ≡ q → p ≡ q
-    by_case true e true f = refl
-    by_case true e false f = absurd (both_ways _ f (subst (λ k. same_key k a ≡ true) (same_key-true a b e) (same_key-self a)))
-    by_case false e true f = absurd (both_ways _ e (subst (λ k. same_key k b ≡ true) (same_key-true b a f) (same_key-self b)))
-    by_case false e false f = refl
-
-pub same_key-equiv : IsEquivalence same_key
-same_key-equiv = on_equiv (λ (key : Key). key.0) nat_list_eq_equiv
+same_key-sym = same_key-equiv.symm
 
 both_same : (a b key : Key) → same_key key a ≡ true → same_key key b ≡ true → same_key a b ≡ true
 both_same a b key e f = subst (λ k. same_key k b ≡ true) (same_key-true key a e) f

@@ -1,10 +1,11 @@
 -- A work of many positions, as plain data.
-use Rattle.std.specs.Prelude.{ℕ, Bool, List, [], ◌∷◌, map, filter, bytes_eq, if◌then◌else◌}
+use Rattle.std.specs.Prelude.{ℕ, Bool, List, [], ◌∷◌, map, filter, if◌then◌else◌}
 use Rattle.std.specs.List.{list_any}
 use Rattle.sol_base.specs.declared.key.Key.{Key}
 use Rattle.sol_base.specs.declared.account.Account.{Account}
 use Rattle.sol_base.specs.declared.lock.Lock.{Lock}
 use Rattle.sol_base.specs.Accounts.{empty_account}
+pub use Rattle.sol_base.specs.Keys.{same_key}
 use Rattle.tx_report.specs.declared.outcome.Outcome.{Outcome}
 
 -- what performing a position gives: its outcome, and one account for each write lock, in their order
@@ -17,10 +18,6 @@ pub record Job : Type 0 where
   pub count : ℕ
   pub locks : ℕ → List Lock
   pub effects : ℕ → List Account → JobEffects
-
--- two keys are one
-abbrev pub same_key : Key → Key → Bool
-same_key a b = bytes_eq a.0 b.0
 
 -- the key stands in the list
 abbrev pub has_key : Key → List Key → Bool

@@ -1,11 +1,12 @@
 -- What is known of a message's budget after its first instructions.
-use Rattle.std.proofs.Common.{◌≡◌, ℕ, ◌+◌, ◌<◌, ◌≤◌, Bool, true, false, not, List, [], ◌∷◌, ◌++◌, length, take, drop, get_or, refl, sym, ap, ◌∙◌, Option, Some, None, is_some, Ok, Err, arith, if◌then◌else◌, slice_get, drop-cons, add-one, zero-add, append-nil}
+use Rattle.std.proofs.Common.{◌≡◌, ℕ, ◌+◌, ◌<◌, ◌≤◌, Bool, true, false, not, List, [], ◌∷◌, ◌++◌, length, take, get_or, refl, sym, ap, ◌∙◌, Option, Some, None, is_some, Ok, Err, arith, if◌then◌else◌, slice_get, zero-add, append-nil}
 use Rattle.std.proofs.lemmas.List.Sums.{count_by_more_yes, count_by_more_no}
 use Rattle.std.specs.List.{filter_map, cons_option, enumerate_from}
 use Rattle.std.proofs.Math.Seq.{take-length}
-use Rattle.std.proofs.lemmas.List.{take_more, take-append-drop}
+use Rattle.std.proofs.lemmas.List.{take_more}
 use Rattle.std.proofs.lemmas.List.Elements.{filter_map-append}
 use Rattle.std.proofs.lemmas.List.FromFn.{get_or-enumerate_from, length-enumerate_from}
+use Rattle.spec_base.proofs.Filters.{nothing_more, first_found}
 use Rattle.sol_base.specs.declared.key.Key.{Key}
 use Rattle.message_codec.specs.declared.message.Instruction.{Instruction}
 use Rattle.message_codec.specs.declared.message.Message.{Message}
@@ -36,15 +37,6 @@ asked_more requests (UnitLimit n) none = λ i. record { heap = sym (other_kind h
 asked_more requests (UnitPrice n) none = λ i. record { heap = sym (other_kind heap_in requests (UnitPrice n) refl) i; limit = sym (other_kind limit_in requests (UnitPrice n) refl) i; price = sym (first_of_kind price_in requests (UnitPrice n) none) i; loaded = sym (other_kind loaded_in requests (UnitPrice n) refl) i }
 asked_more requests (LoadedLimit n) none = λ i. record { heap = sym (other_kind heap_in requests (LoadedLimit n) refl) i; limit = sym (other_kind limit_in requests (LoadedLimit n) refl) i; price = sym (other_kind price_in requests (LoadedLimit n) refl) i; loaded = sym (first_of_kind loaded_in requests (LoadedLimit n) none) i }
 
--- ---- lists
-more : {X Y : Type 0} (f : X → Option Y) (xs : List X) (n : ℕ) (d : X) → n < length xs → filter_map f (take n xs) ≡ [] → f (get_or xs n d) ≡ None → filter_map f (take (n + 1) xs) ≡ []
-more f xs n d below none here = rw (take_more xs n d below, filter_map-append f (take n xs) (get_or xs n d ∷ []), none, here) refl
-
-found : {X Y : Type 0} (f : X → Option Y) (xs : List X) (n : ℕ) (d : X) (y : Y) → n < length xs → filter_map f (take n xs) ≡ [] → f (get_or xs n d) ≡ Some y → filter_map f xs ≡ y ∷ filter_map f (drop (n + 1) xs)
-found f xs n d y below none here =
-    let split : xs ≡ take n xs ++ (get_or xs n d ∷ drop (n + 1) xs) = sym (take-append-drop n xs) ∙ ap (λ ys. take n xs ++ ys) (rw add-one (drop-cons xs n d below)) in
-    ap (filter_map f) split ∙ filter_map-append f (take n xs) (get_or xs n d ∷ drop (n + 1) xs) ∙ ap (λ ys. ys ++ filter_map f (get_or xs n d ∷ drop (n + 1) xs)) none ∙ ap (λ o. cons_option o (filter_map f (drop (n + 1) xs))) here
-
 -- ---- instructions
 -- the first n instructions have no fault, ask for that, and are so many beside their requests
 pub record IsSoFar (keys : List Key) (instructions : List Instruction) (n : ℕ) (asked : Asked) (others : ℕ) : Type 0 where
@@ -73,7 +65,7 @@ module _ (keys : List Key) (instructions : List Instruction) (n : ℕ) (asked : 
 
   pub other : is_budget keys x ≡ false → IsSoFar keys instructions (n + 1) asked (others + 1)
   other is = record {
-    none_wrong = more (fault_at keys instructions) (enumerate_from 0 instructions) n (n, x) within so_far.none_wrong (fault_here false is);
+    none_wrong = nothing_more (fault_at keys instructions) (enumerate_from 0 instructions) n (n, x) within so_far.none_wrong (fault_here false is);
     asks = so_far.asks ∙ ap asked_of (sym (requests_next ∙ ap (λ o. requests_in keys (take n instructions) ++ cons_option o []) (request_here false is) ∙ append-nil (requests_in keys (take n instructions))));
     counted = ap (λ m. m + 1) so_far.counted ∙ sym (count_by_more_yes (λ i. not (is_budget keys i)) instructions n x below (ap (λ i. not (is_budget keys i)) (sym is_x) ∙ ap not is));
     few = let few = so_far.few in omega arith;
@@ -81,17 +73,17 @@ module _ (keys : List Key) (instructions : List Instruction) (n : ℕ) (asked : 
 
   pub request : (r : Request) → is_budget keys x ≡ true → request_of x.input ≡ Some r → has_asked asked r ≡ false → IsSoFar keys instructions (n + 1) (asked_with asked r) others
   request r is spells none = record {
-    none_wrong = more (fault_at keys instructions) (enumerate_from 0 instructions) n (n, x) within so_far.none_wrong (fault_here true is ∙ ap (λ o. fault_of asked o n) spells ∙ ap (λ b. if b then Some (RepeatedBudget n) else None) none);
+    none_wrong = nothing_more (fault_at keys instructions) (enumerate_from 0 instructions) n (n, x) within so_far.none_wrong (fault_here true is ∙ ap (λ o. fault_of asked o n) spells ∙ ap (λ b. if b then Some (RepeatedBudget n) else None) none);
     asks = ap (λ a. asked_with a r) so_far.asks ∙ asked_more (requests_in keys (take n instructions)) r (ap (λ a. has_asked a r) (sym so_far.asks) ∙ none) ∙ ap asked_of (sym (requests_next ∙ ap (λ o. requests_in keys (take n instructions) ++ cons_option o []) (request_here true is ∙ spells)));
     counted = so_far.counted ∙ sym (count_by_more_no (λ i. not (is_budget keys i)) instructions n x below (ap (λ i. not (is_budget keys i)) (sym is_x) ∙ ap not is));
     few = let few = so_far.few in omega arith;
   }
 
   pub bad : is_budget keys x ≡ true → request_of x.input ≡ None → {X : Type 0} (answer : X) → first_or (faults_in keys instructions) answer ≡ Err (BadBudget n)
-  bad is spells answer = ap (λ faults. first_or faults answer) (found (fault_at keys instructions) (enumerate_from 0 instructions) n (n, x) (BadBudget n) within so_far.none_wrong (fault_here true is ∙ ap (λ o. fault_of asked o n) spells))
+  bad is spells answer = ap (λ faults. first_or faults answer) (first_found (fault_at keys instructions) (enumerate_from 0 instructions) n (n, x) (BadBudget n) within so_far.none_wrong (fault_here true is ∙ ap (λ o. fault_of asked o n) spells))
 
   pub repeated : (r : Request) → is_budget keys x ≡ true → request_of x.input ≡ Some r → has_asked asked r ≡ true → {X : Type 0} (answer : X) → first_or (faults_in keys instructions) answer ≡ Err (RepeatedBudget n)
-  repeated r is spells again answer = ap (λ faults. first_or faults answer) (found (fault_at keys instructions) (enumerate_from 0 instructions) n (n, x) (RepeatedBudget n) within so_far.none_wrong (fault_here true is ∙ ap (λ o. fault_of asked o n) spells ∙ ap (λ b. if b then Some (RepeatedBudget n) else None) again))
+  repeated r is spells again answer = ap (λ faults. first_or faults answer) (first_found (fault_at keys instructions) (enumerate_from 0 instructions) n (n, x) (RepeatedBudget n) within so_far.none_wrong (fault_here true is ∙ ap (λ o. fault_of asked o n) spells ∙ ap (λ b. if b then Some (RepeatedBudget n) else None) again))
 
 -- after the last instruction
 pub all_asked : (message : Message) (n : ℕ) (asked : Asked) (others : ℕ) → IsSoFar message.keys message.instructions n asked others → n ≡ length message.instructions → budget_in message ≡ Ok (budget_for asked others)

@@ -4,9 +4,9 @@ use Rattle.std.specs.Option.{option_map_or}
 use Rattle.std.specs.List.{filter_map, enumerate_from}
 use Rattle.sol_base.specs.declared.key.Key.{Key}
 use Rattle.sol_base.specs.declared.key.TheConstants.{COMPUTE_BUDGET_PROGRAM}
+use Rattle.sol_base.specs.Keys.{same_key}
 use Rattle.message_codec.specs.declared.message.Instruction.{Instruction}
 use Rattle.message_codec.specs.declared.message.Message.{Message}
-use Rattle.message_codec.specs.Roles.{is_same_key}
 use Rattle.fee_rules.specs.declared.request.Request.{Request}
 use Rattle.fee_rules.specs.declared.request.Asked.{Asked}
 use Rattle.fee_rules.specs.declared.budget.Budget.{Budget}
@@ -16,7 +16,7 @@ use Rattle.fee_rules.specs.Requests.{asked_of, has_asked, request_of}
 
 -- the instruction calls the compute budget program
 abbrev pub is_budget : List Key → Instruction → Bool
-is_budget keys instruction = option_map_or (λ key. is_same_key key COMPUTE_BUDGET_PROGRAM) (slice_get keys instruction.program) false
+is_budget keys instruction = option_map_or (λ key. same_key key COMPUTE_BUDGET_PROGRAM) (slice_get keys instruction.program) false
 
 -- its request, if it has one
 abbrev pub request_in : List Key → Instruction → Option Request

@@ -1,10 +1,10 @@
 -- Compact lengths: what is spelled is read again, what is read is spelled so, and which refusal comes where.
-use Rattle.std.proofs.Common.{get_or, ◌≡◌, ◌≢◌, ◌<◌, ◌≤◌, ◌+◌, ◌-◌, ◌*◌, ◌/◌, ◌%◌, ℕ, suc, List, [], ◌∷◌, ◌++◌, Result, Ok, Err, Bool, true, false, ◌||◌, ◌⊎◌, inl, inr, refl, sym, ap, subst, ◌∙◌, nat_lt, cond, arith}
+use Rattle.std.proofs.Common.{get_or, ◌≡◌, ◌≢◌, ◌<◌, ◌≤◌, ◌+◌, ◌-◌, ◌*◌, ◌/◌, ◌%◌, ℕ, suc, List, [], ◌∷◌, ◌++◌, Ok, Err, Bool, true, false, ◌||◌, ◌⊎◌, inl, inr, refl, sym, ap, subst, ◌∙◌, nat_lt, cond, arith}
 use Rattle.std.specs.Prelude.{nat_eq}
 use Rattle.std.proofs.lemmas.Bool.Decides.{nat_tests}
 use Rattle.spec_base.specs.Bytes.{IsBytes}
 use Rattle.spec_base.specs.Reading.{place}
-use Rattle.spec_base.proofs.Binding.{chosen, ok_parts}
+use Rattle.spec_base.proofs.Binding.{chosen, not_refused, ok_parts}
 use Rattle.spec_base.proofs.Formats.{Reads}
 use Rattle.message_codec.specs.declared.fault.WireFault.{WireFault}
 use Rattle.message_codec.specs.declared.fault.WireFault.TheVariants.{Truncated, BadLength}
@@ -99,10 +99,6 @@ again total v rest h = elim (digits v) [
   | inr (inl two) ↦ rw (two_digits v two.0 two.1) (grind (arith, nat_tests))
   | inr (inr three) ↦ rw (three_digits v three) (grind (arith, nat_tests))
 ]
-
--- an answer is no refusal
-not_refused : {X : Type 0} {e : WireFault} {x : X} → (let l : Result X WireFault = Err e in l) ≡ Ok x → ⊥
-not_refused h = cc
 
 third_takes : (at low : ℕ) (bytes : List ℕ) (v : ℕ) (rest : List ℕ) → third_at at low bytes ≡ Ok (v, rest)
     → (c : ℕ) × (bytes ≡ c ∷ rest) × (0 < c) × (c ≤ 3) × (v ≡ low + 16384 * c)

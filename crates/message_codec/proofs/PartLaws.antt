@@ -3,8 +3,8 @@ use Rattle.std.proofs.Common.{◌≡◌, ◌<◌, ◌≤◌, ℕ, List, [], ◌�
 use Rattle.std.specs.Prelude.{slice_index}
 use Rattle.std.specs.List.{flat_map, AllByRecursion}
 use Rattle.spec_base.specs.Bytes.{IsBytes}
-use Rattle.spec_base.proofs.Binding.{ok_parts}
-use Rattle.spec_base.proofs.Formats.{Reads, taken, field_reads, byte_reads, mapped_reads, many_reads}
+use Rattle.spec_base.proofs.Binding.{ok_parts, onward, follows}
+use Rattle.spec_base.proofs.Formats.{Reads, taken, field_reads, byte_reads, read_as_reads, many_reads}
 use Rattle.sol_base.specs.Keys.{IsKey, key_bytes}
 use Rattle.sol_base.proofs.KeyLaws.{key_reads}
 use Rattle.message_codec.specs.declared.fault.WireFault.TheVariants.{Truncated}
@@ -16,14 +16,6 @@ use Rattle.message_codec.specs.Compact.{compact}
 use Rattle.message_codec.specs.Wire.{array_bytes, blob_bytes, signature_bytes, header_bytes, instruction_bytes, lookup_bytes, IsShort}
 use Rattle.message_codec.specs.WireReading.{Read, array_at, blob_at, signature_at, header_at, instruction_at, lookup_at}
 use Rattle.message_codec.proofs.Lengths.{length_reads}
-
--- one part after another
-pub follows : (front next rest : List ℕ) {bytes after : List ℕ} → bytes ≡ front ++ after → after ≡ next ++ rest → bytes ≡ front ++ next ++ rest
-follows front next rest e f = e ∙ ap (λ (l : List ℕ). front ++ l) f ∙ sym (append_assoc front next rest)
-
--- what is left at the end
-pub ends_at : (front : List ℕ) {bytes after rest : List ℕ} → bytes ≡ front ++ after → after ≡ rest → bytes ≡ front ++ rest
-ends_at front e f = e ∙ ap (λ (l : List ℕ). front ++ l) f
 
 -- arrays
 
@@ -63,7 +55,7 @@ array_reads one total reads = record { again = array_again one total reads; take
 -- signatures
 
 pub signature_reads : (total : ℕ) → Reads (signature_at total) signature_bytes (λ signature. length signature.0 ≡ 64)
-signature_reads total = mapped_reads (λ (field : List ℕ). let signature : Signature = record { 0 = field } in signature) (λ signature. signature.0) (λ _. refl) (λ _. refl) (field_reads Truncated total 64)
+signature_reads total = read_as_reads (λ (field : List ℕ). let signature : Signature = record { 0 = field } in signature) (λ signature. signature.0) (λ _. refl) (λ _. refl) (field_reads Truncated total 64)
 
 -- instructions
 
@@ -92,7 +84,7 @@ instruction_takes total bytes instruction rest are h =
     let c = taken (blob_reads total) _ b.rest (instruction, rest) b.are_bytes b.goes_on in
     let p = ok_parts _ _ _ _ c.goes_on in
     subst (λ (v : Instruction). InstructionFits v × (bytes ≡ instruction_bytes v ++ rest)) p.0
-    (record { program = a.fits; accounts = b.fits; input = c.fits }, follows (a.value ∷ blob_bytes b.value) (blob_bytes c.value) rest (follows (a.value ∷ []) (blob_bytes b.value) b.rest a.spelled b.spelled) (ends_at (blob_bytes c.value) c.spelled p.1))
+    (record { program = a.fits; accounts = b.fits; input = c.fits }, follows (a.value ∷ blob_bytes b.value) (blob_bytes c.value) rest (follows (a.value ∷ []) (blob_bytes b.value) b.rest a.spelled b.spelled) (onward (blob_bytes c.value) c.spelled p.1))
 
 pub instruction_reads : (total : ℕ) → Reads (instruction_at total) instruction_bytes InstructionFits
 instruction_reads total = record { again = instruction_again total; takes = instruction_takes total }
@@ -124,7 +116,7 @@ lookup_takes total bytes lookup rest are h =
     let c = taken (blob_reads total) _ b.rest (lookup, rest) b.are_bytes b.goes_on in
     let p = ok_parts _ _ _ _ c.goes_on in
     subst (λ (v : Lookup). LookupFits v × (bytes ≡ lookup_bytes v ++ rest)) p.0
-    (record { table = a.fits; writable = b.fits; readonly = c.fits }, follows (key_bytes a.value ++ blob_bytes b.value) (blob_bytes c.value) rest (follows (key_bytes a.value) (blob_bytes b.value) b.rest a.spelled b.spelled) (ends_at (blob_bytes c.value) c.spelled p.1))
+    (record { table = a.fits; writable = b.fits; readonly = c.fits }, follows (key_bytes a.value ++ blob_bytes b.value) (blob_bytes c.value) rest (follows (key_bytes a.value) (blob_bytes b.value) b.rest a.spelled b.spelled) (onward (blob_bytes c.value) c.spelled p.1))
 
 pub lookup_reads : (total : ℕ) → Reads (lookup_at total) lookup_bytes LookupFits
 lookup_reads total = record { again = lookup_again total; takes = lookup_takes total }
@@ -154,7 +146,7 @@ header_takes total bytes header rest are h =
     let a = taken (field_reads Truncated total 3) _ bytes (header, rest) are h in
     let p = ok_parts _ _ _ _ a.goes_on in
     let spelled : bytes ≡ header_bytes (record { required = slice_index a.value 0; readonly_signed = slice_index a.value 1; readonly_unsigned = slice_index a.value 2 }) ++ rest =
-    ends_at (slice_index a.value 0 ∷ slice_index a.value 1 ∷ slice_index a.value 2 ∷ []) (a.spelled ∙ ap (λ (l : List ℕ). l ++ a.rest) (three_bytes a.value a.fits)) p.1 in
+    onward (slice_index a.value 0 ∷ slice_index a.value 1 ∷ slice_index a.value 2 ∷ []) (a.spelled ∙ ap (λ (l : List ℕ). l ++ a.rest) (three_bytes a.value a.fits)) p.1 in
     let whole : bytes ≡ header_bytes header ++ rest = subst (λ (v : Header). bytes ≡ header_bytes v ++ rest) p.0 spelled in
     (record { required = byte 0 whole; readonly_signed = byte 1 whole; readonly_unsigned = byte 2 whole }, whole)
   where

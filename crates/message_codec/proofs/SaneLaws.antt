@@ -6,12 +6,13 @@ use Rattle.std.proofs.lemmas.Bool.Decides.{nat_tests}
 use Rattle.std.proofs.lemmas.List.Elements.{All-from_recursion, recursion_from_All, All-weaker}
 use Rattle.std.proofs.lemmas.List.Folds.{list_any_none}
 use Rattle.sol_base.specs.declared.key.Key.{Key}
+use Rattle.sol_base.specs.Keys.{same_key}
 use Rattle.message_codec.specs.declared.fault.SanitizeFault.{SanitizeFault}
 use Rattle.message_codec.specs.declared.fault.SanitizeFault.TheVariants.{EmptyLookup}
 use Rattle.message_codec.specs.declared.message.Instruction.{Instruction}
 use Rattle.message_codec.specs.declared.message.Lookup.{Lookup}
 use Rattle.message_codec.specs.declared.message.Tx.{Tx}
-use Rattle.message_codec.specs.Roles.{is_same_key, key_count_of, load_count, loads_none, has_bad_program, has_bad_account, has_repeated, empty_lookup, lookups_sanitized, sanitized, IsSane}
+use Rattle.message_codec.specs.Roles.{key_count_of, load_count, loads_none, has_bad_program, has_bad_account, has_repeated, empty_lookup, lookups_sanitized, sanitized, IsSane}
 
 neither : (a b : Bool) → (a || b) ≡ false → (a ≡ false) × (b ≡ false)
 neither true b h = absurd (cc)
@@ -37,12 +38,12 @@ accounts instructions keys h = all_fail _ _ (λ instruction e. all_fail (λ inde
     below : (index : ℕ) → nat_le keys index ≡ false → index < keys
     below index e = grind (arith, nat_tests)
 
-apart : (keys : List Key) → has_repeated keys ≡ false → IsDistinct (λ key other. is_same_key other key) keys
+apart : (keys : List Key) → has_repeated keys ≡ false → IsDistinct (λ key other. same_key other key) keys
 unfolding IsDistinct
 apart [] h = tt
 apart (key ∷ others) h =
-    let n = neither (list_any (λ other. is_same_key other key) others) (has_repeated others) h in
-    (none_passes (λ other. is_same_key other key) others n.0, apart others n.1)
+    let n = neither (list_any (λ other. same_key other key) others) (has_repeated others) h in
+    (none_passes (λ other. same_key other key) others n.0, apart others n.1)
 
 none_before_end : {X : Type 0} (test : X → Bool) (xs : List X) → nat_lt (position_or_len test xs) (length xs) ≡ false → AllByRecursion (λ x. test x ≡ false) xs
 none_before_end test [] h = tt
@@ -132,10 +133,10 @@ all_below : {X : Type 0} (test : X → Bool) (xs : List X) → AllByRecursion (�
 all_below test [] h = refl
 all_below test (x ∷ xs) h = rw (h.0, all_below test xs h.1) refl
 
-no_repeated : (keys : List Key) → IsDistinct (λ key other. is_same_key other key) keys → has_repeated keys ≡ false
+no_repeated : (keys : List Key) → IsDistinct (λ key other. same_key other key) keys → has_repeated keys ≡ false
 unfolding IsDistinct
 no_repeated [] h = refl
-no_repeated (key ∷ others) h = rw (all_below (λ other. is_same_key other key) others h.0, no_repeated others h.1) refl
+no_repeated (key ∷ others) h = rw (all_below (λ other. same_key other key) others h.0, no_repeated others h.1) refl
 
 at_end : {X : Type 0} (test : X → Bool) (xs : List X) → AllByRecursion (λ x. test x ≡ false) xs → position_or_len test xs ≡ length xs
 at_end test [] h = refl

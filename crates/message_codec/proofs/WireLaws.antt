@@ -7,7 +7,7 @@ use Rattle.std.proofs.lemmas.List.{append-nil}
 use Rattle.std.proofs.lemmas.List.Elements.{All-from_recursion, recursion_from_All, All-nil}
 use Rattle.spec_base.specs.Bytes.{IsBytes}
 use Rattle.spec_base.specs.Reading.{Gives}
-use Rattle.spec_base.proofs.Binding.{bind_ok, chosen, ok_parts, after_bytes, whole_ok}
+use Rattle.spec_base.proofs.Binding.{bind_ok, chosen, ok_parts, after_bytes, whole_ok, onward, follows}
 use Rattle.spec_base.proofs.Formats.{Reads, taken}
 use Rattle.spec_base.specs.Sha256.{sha256}
 use Rattle.sol_base.specs.declared.key.Hash32.{Hash32}
@@ -24,7 +24,7 @@ use Rattle.message_codec.specs.declared.message.Message.{Message}
 use Rattle.message_codec.specs.declared.message.Tx.{Tx}
 use Rattle.message_codec.specs.Wire.{array_bytes, signature_bytes, header_bytes, instruction_bytes, kind_bytes, lookups_bytes, message_bytes, message_name, tx_bytes, IsShort, HasShortLists, HasWidths, AllowsLookups, BeginsAsItsKind, Wire}
 use Rattle.message_codec.specs.WireReading.{Read, RoundTripLaw, is_memory, array_at, signature_at, instruction_at, lookup_at, kind_at, lookups_at, message_at, tx_at, wire_of}
-use Rattle.message_codec.proofs.PartLaws.{follows, ends_at, array_reads, signature_reads, InstructionFits, instruction_reads, LookupFits, lookup_reads, HeaderFits, header_reads}
+use Rattle.message_codec.proofs.PartLaws.{array_reads, signature_reads, InstructionFits, instruction_reads, LookupFits, lookup_reads, HeaderFits, header_reads}
 
 -- kinds
 
@@ -141,7 +141,7 @@ message_takes total bytes message rest are h =
     let to_keys = follows (kind_bytes kind ++ header_bytes a.value) (array_bytes key_bytes b.value) b.rest to_header b.spelled in
     let to_blockhash = follows (kind_bytes kind ++ header_bytes a.value ++ array_bytes key_bytes b.value) (hash_bytes c.value) c.rest to_keys c.spelled in
     let to_instructions = follows (kind_bytes kind ++ header_bytes a.value ++ array_bytes key_bytes b.value ++ hash_bytes c.value) (array_bytes instruction_bytes d.value) d.rest to_blockhash d.spelled in
-    let to_end = follows (kind_bytes kind ++ header_bytes a.value ++ array_bytes key_bytes b.value ++ hash_bytes c.value ++ array_bytes instruction_bytes d.value) (lookups_bytes kind e.value) rest to_instructions (ends_at (lookups_bytes kind e.value) e.spelled p.1) in
+    let to_end = follows (kind_bytes kind ++ header_bytes a.value ++ array_bytes key_bytes b.value ++ hash_bytes c.value ++ array_bytes instruction_bytes d.value) (lookups_bytes kind e.value) rest to_instructions (onward (lookups_bytes kind e.value) e.spelled p.1) in
     subst (λ (v : Message). MessageFits v × (bytes ≡ message_bytes v ++ rest)) p.0 (fits, to_end)
 
 pub message_reads : (total : ℕ) → Reads (message_at total) message_bytes MessageFits
@@ -169,7 +169,7 @@ tx_takes total bytes tx rest are h =
     let b = taken (message_reads total) _ a.rest (tx, rest) a.are_bytes a.goes_on in
     let p = ok_parts _ _ _ _ b.goes_on in
     subst (λ (v : Tx). TxFits v × (bytes ≡ tx_bytes v ++ rest)) p.0
-    (record { signatures = a.fits; message = b.fits }, follows (array_bytes signature_bytes a.value) (message_bytes b.value) rest a.spelled (ends_at (message_bytes b.value) b.spelled p.1))
+    (record { signatures = a.fits; message = b.fits }, follows (array_bytes signature_bytes a.value) (message_bytes b.value) rest a.spelled (onward (message_bytes b.value) b.spelled p.1))
 
 pub tx_reads : (total : ℕ) → Reads (tx_at total) tx_bytes TxFits
 tx_reads total = record { again = tx_again total; takes = tx_takes total }

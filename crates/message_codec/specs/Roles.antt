@@ -2,10 +2,10 @@
 use Rattle.std.specs.Prelude.{◌≡◌, ◌<◌, ◌≤◌, ◌+◌, ◌-◌, ℕ, List, [], ◌∷◌, ◌++◌, length, map, Bool, false, not, ◌&&◌, ◌||◌, nat_eq, nat_lt, nat_le, Option, Some, None, Result, Ok, Err, if◌then◌else◌, All, sum_by, position, slice_get}
 use Rattle.std.specs.List.{list_any, enumerate_from, IsDistinct}
 use Rattle.std.specs.Option.{option_map_or}
-use Rattle.std.specs.Cmp.Lexicographic.{pointwise}
 use Rattle.sol_base.specs.declared.key.Key.{Key}
 use Rattle.sol_base.specs.declared.key.TheConstants.{SYSTEM_PROGRAM, COMPUTE_BUDGET_PROGRAM, CLOCK_SYSVAR, RENT_SYSVAR}
 use Rattle.sol_base.specs.declared.lock.Lock.{Lock}
+use Rattle.sol_base.specs.Keys.{same_key}
 use Rattle.message_codec.specs.declared.fault.SanitizeFault.{SanitizeFault}
 use Rattle.message_codec.specs.declared.fault.SanitizeFault.TheVariants.{SignatureCount, HeaderRange, NoWritablePayer, ProgramIndex, AccountIndex, TooManyKeys, RepeatedKey, PayerReserved, EmptyLookup}
 use Rattle.message_codec.specs.declared.message.Header.{Header}
@@ -19,12 +19,8 @@ use Rattle.message_codec.specs.declared.message.Tx.{Tx}
 abbrev pub reserved_keys : List Key
 reserved_keys = SYSTEM_PROGRAM ∷ COMPUTE_BUDGET_PROGRAM ∷ CLOCK_SYSVAR ∷ RENT_SYSVAR ∷ []
 
--- the same 32 bytes
-abbrev pub is_same_key : Key → Key → Bool
-is_same_key a b = pointwise nat_eq a.0 b.0
-
 abbrev pub is_reserved : Key → Bool
-is_reserved key = list_any (is_same_key key) reserved_keys
+is_reserved key = list_any (same_key key) reserved_keys
 
 -- the static keys, the loaded keys to write and the loaded keys to read
 abbrev pub all_keys : Message → Loaded → List Key
@@ -82,7 +78,7 @@ has_bad_account instructions keys = list_any (λ instruction. list_any (λ index
 -- a key is given again
 abbrev pub has_repeated : List Key → Bool
 has_repeated [] = false
-has_repeated (key ∷ others) = list_any (λ other. is_same_key other key) others || has_repeated others
+has_repeated (key ∷ others) = list_any (λ other. same_key other key) others || has_repeated others
 
 -- the fee payer is reserved
 abbrev pub has_reserved_payer : List Key → Bool
@@ -123,6 +119,6 @@ pub record IsSane (tx : Tx) (most : ℕ) : Type 0 where
   pub programs : All (λ instruction. (0 < instruction.program) × (instruction.program < length tx.message.keys)) tx.message.instructions
   pub accounts : All (λ instruction. All (λ index. index < key_count_of tx.message) instruction.accounts) tx.message.instructions
   pub keys : key_count_of tx.message ≤ most
-  pub apart : IsDistinct (λ key other. is_same_key other key) tx.message.keys
+  pub apart : IsDistinct (λ key other. same_key other key) tx.message.keys
   pub payer_free : has_reserved_payer tx.message.keys ≡ false
   pub lookups : All (λ lookup. 0 < load_count lookup) tx.message.lookups

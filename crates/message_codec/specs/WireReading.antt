@@ -1,7 +1,7 @@
 -- Reading a transaction from left to right, with the first refusal that is met.
 use Rattle.std.specs.Prelude.{◌≡◌, ◌↔◌, ◌≤◌, ◌++◌, ℕ, ◌+◌, ◌-◌, ◌*◌, List, [], ◌∷◌, length, Result, Ok, Err, Bool, true, false, nat_lt, nat_eq, ◌||◌, slice_index, if◌then◌else◌}
 use Rattle.spec_base.specs.Bytes.{IsBytes}
-use Rattle.spec_base.specs.Reading.{◌>>=◌, place, field_at, byte_at, mapped, many, whole}
+use Rattle.spec_base.specs.Reading.{◌>>=◌, place, field_at, byte_at, read_as, many, whole}
 use Rattle.sol_base.specs.Keys.{key_at, hash_at}
 use Rattle.message_codec.specs.declared.fault.WireFault.{WireFault}
 use Rattle.message_codec.specs.declared.fault.WireFault.TheVariants.{TooLong, Truncated, BadLength, Version, Trailing, OutOfMemory}
@@ -61,7 +61,7 @@ blob_at total bytes = do
   field_at Truncated total count.0 count.1
 
 abbrev pub signature_at : ℕ → List ℕ → Read Signature
-signature_at total bytes = mapped (λ field. record { 0 = field }) (field_at Truncated total 64) bytes
+signature_at total bytes = read_as (λ field. record { 0 = field }) (field_at Truncated total 64) bytes
 
 -- the three header bytes, one field
 unfoldable pub header_at : ℕ → List ℕ → Read Header

@@ -20,7 +20,7 @@ impl Item for Signature {
 
     ghost CanSpell = { λ _. Unit {0} };
 
-    #[tactic(auto, unfolding(spec_base::specs::Reading::mapped))]
+    #[tactic(auto, unfolding(spec_base::specs::Reading::read_as))]
     fn read(_alloc: Global, total: usize, bytes: &[u8]) -> Result<(Signature, &[u8]), WireFault> {
         let (field, rest) = array_field::<WireFault, 64>(total, bytes)?;
         Ok((Signature(field), rest))

@@ -4,6 +4,6 @@
 mod rent;
 
 pub use rent::{
-    ACCOUNT_OVERHEAD, EXEMPTION_YEARS, LAMPORTS_PER_BYTE_YEAR, MAX_DATA_LEN, RentState, may_move,
-    minimum, rent_state,
+    ACCOUNT_OVERHEAD, EXEMPTION_YEARS, LAMPORTS_PER_BYTE_YEAR, RentState, may_move, minimum,
+    rent_state,
 };

@@ -1,5 +1,6 @@
 ghost use Rattle.std.specs.Prelude.{◌≡◌, ◌↔◌, ◌≤◌, IsTrue};
 ghost use Rattle.sol_base.specs.declared.account.Account.{Account};
+ghost use Rattle.sol_base.specs.declared.account.TheConstants.{MAX_DATA_LEN};
 ghost use Rattle.rent_rules.specs.Rent.{minimum_of, rent_state_of, state_of, moves, MayMove};
 
 /// The bytes that an account takes beside its data (Solana).
@@ -10,9 +11,6 @@ pub const LAMPORTS_PER_BYTE_YEAR: u64 = 3_480;
 
 /// The years whose rent exempts an account (Solana).
 pub const EXEMPTION_YEARS: u64 = 2;
-
-/// The most data bytes of an account (Solana).
-pub const MAX_DATA_LEN: u64 = 10_485_760;
 
 /// How an account stands to rent. A paying account is known by its balance in lamports and the
 /// number of its data bytes.

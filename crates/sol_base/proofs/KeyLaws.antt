@@ -1,12 +1,38 @@
--- The order of keys and hashes, and their fields in a format.
-use Rattle.std.proofs.Common.{ℕ, List, refl, ap}
-use Rattle.std.specs.Cmp.{IsTotalOrder}
+-- Equality and order of keys and hashes, and their fields in a format.
+use Rattle.std.proofs.Common.{◌≡◌, ◌≢◌, ℕ, List, Bool, true, false, refl, ap}
+use Rattle.std.specs.Bool.{Decides}
+use Rattle.std.specs.Cmp.{IsEquivalence, IsTotalOrder}
+use Rattle.std.specs.Cmp.Lexicographic.{bytes_decides}
 use Rattle.std.proofs.lemmas.Map.Lookups.{CmpEqualImpliesEq, exact_bytes}
-use Rattle.std.proofs.lemmas.Cmp.{on_total, nat_list_cmp_total}
-use Rattle.spec_base.proofs.Formats.{Reads, field_reads, mapped_reads}
+use Rattle.std.proofs.lemmas.Cmp.{on_equiv, on_total, nat_list_eq_equiv, nat_list_cmp_total}
+use Rattle.spec_base.proofs.Formats.{Reads, field_reads, read_as_reads}
 use Rattle.sol_base.specs.declared.key.Key.{Key}
 use Rattle.sol_base.specs.declared.key.Hash32.{Hash32}
-use Rattle.sol_base.specs.Keys.{IsKey, IsHash, key_cmp, hash_cmp, key_bytes, hash_bytes, key_at, hash_at}
+use Rattle.sol_base.specs.Keys.{IsKey, IsHash, same_key, same_hash, key_cmp, hash_cmp, key_bytes, hash_bytes, key_at, hash_at}
+
+-- the test of two keys tells exactly whether they are one
+pub same_key-Decides : (a b : Key) → Decides (same_key a b) (a ≡ b)
+same_key-Decides a b = (λ same. ap (λ (bytes : List ℕ). let key : Key = record { 0 = bytes } in key) ((bytes_decides a.0 b.0).0 same), λ e. (bytes_decides a.0 b.0).1 (ap (λ (key : Key). key.0) e))
+
+pub same_key-true : (a b : Key) → same_key a b ≡ true → a ≡ b
+same_key-true a b = (same_key-Decides a b).0
+
+pub same_key-self : (a : Key) → same_key a a ≡ true
+same_key-self a = (same_key-Decides a a).1 refl
+
+pub same_key-false : (a b : Key) → a ≢ b → same_key a b ≡ false
+same_key-false a b differ = by_test (same_key a b) (same_key-true a b)
+  where
+    by_test : (t : Bool) → (t ≡ true → a ≡ b) → t ≡ false
+    by_test true same = absurd (differ (same refl))
+    by_test false same = refl
+
+pub same_key-equiv : IsEquivalence same_key
+same_key-equiv = on_equiv (λ (key : Key). key.0) nat_list_eq_equiv
+
+-- and so does that of two hashes
+pub same_hash-Decides : (a b : Hash32) → Decides (same_hash a b) (a ≡ b)
+same_hash-Decides a b = (λ same. ap (λ (bytes : List ℕ). let hash : Hash32 = record { 0 = bytes } in hash) ((bytes_decides a.0 b.0).0 same), λ e. (bytes_decides a.0 b.0).1 (ap (λ (hash : Hash32). hash.0) e))
 
 -- keys that compare as equal are the same
 pub key_cmp_exact : CmpEqualImpliesEq key_cmp
@@ -22,7 +48,7 @@ pub hash_cmp_total : IsTotalOrder hash_cmp
 hash_cmp_total = on_total (λ (hash : Hash32). hash.0) nat_list_cmp_total
 
 pub key_reads : {E : Type 0} (truncated : ℕ → E) (total : ℕ) → Reads (key_at truncated total) key_bytes IsKey
-key_reads truncated total = mapped_reads (λ (field : List ℕ). let key : Key = record { 0 = field } in key) (λ key. key.0) (λ _. refl) (λ _. refl) (field_reads truncated total 32)
+key_reads truncated total = read_as_reads (λ (field : List ℕ). let key : Key = record { 0 = field } in key) (λ key. key.0) (λ _. refl) (λ _. refl) (field_reads truncated total 32)
 
 pub hash_reads : {E : Type 0} (truncated : ℕ → E) (total : ℕ) → Reads (hash_at truncated total) hash_bytes IsHash
-hash_reads truncated total = mapped_reads (λ (field : List ℕ). let hash : Hash32 = record { 0 = field } in hash) (λ hash. hash.0) (λ _. refl) (λ _. refl) (field_reads truncated total 32)
+hash_reads truncated total = read_as_reads (λ (field : List ℕ). let hash : Hash32 = record { 0 = field } in hash) (λ hash. hash.0) (λ _. refl) (λ _. refl) (field_reads truncated total 32)

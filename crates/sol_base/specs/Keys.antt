@@ -1,10 +1,10 @@
 -- Keys and hashes: 32 bytes each, in the order of their bytes.
-use Rattle.std.specs.Prelude.{◌≡◌, ℕ, List, length, refl, Result}
+use Rattle.std.specs.Prelude.{◌≡◌, ℕ, Bool, List, length, nat_eq, refl, Result}
 use Rattle.std.specs.Ordering.{nat_cmp}
 use Rattle.std.specs.declared.cmp.Ordering.{Ordering}
 use Rattle.std.specs.Coded.{Coded, code_by, coded_list, coded_ℕ}
-use Rattle.std.specs.Cmp.Lexicographic.{slice_cmp}
-use Rattle.spec_base.specs.Reading.{field_at, mapped}
+use Rattle.std.specs.Cmp.Lexicographic.{slice_cmp, pointwise}
+use Rattle.spec_base.specs.Reading.{field_at, read_as}
 use Rattle.sol_base.specs.declared.key.Key.{Key}
 use Rattle.sol_base.specs.declared.key.Hash32.{Hash32}
 
@@ -15,6 +15,13 @@ IsKey key = length key.0 ≡ 32
 -- a hash has 32 bytes (FIPS 180-4)
 abbrev pub IsHash : Hash32 → Type 0
 IsHash hash = length hash.0 ≡ 32
+
+-- all bytes are the same
+abbrev pub same_key : Key → Key → Bool
+same_key a b = pointwise nat_eq a.0 b.0
+
+abbrev pub same_hash : Hash32 → Hash32 → Bool
+same_hash a b = pointwise nat_eq a.0 b.0
 
 -- the first byte that differs decides
 abbrev pub key_cmp : Key → Key → Ordering
@@ -33,10 +40,10 @@ hash_bytes hash = hash.0
 
 -- a field that is a key, and one that is a hash
 abbrev pub key_at : {E : Type 0} → (ℕ → E) → ℕ → List ℕ → Result (Key × List ℕ) E
-key_at truncated total bytes = mapped (λ field. record { 0 = field }) (field_at truncated total 32) bytes
+key_at truncated total bytes = read_as (λ field. record { 0 = field }) (field_at truncated total 32) bytes
 
 abbrev pub hash_at : {E : Type 0} → (ℕ → E) → ℕ → List ℕ → Result (Hash32 × List ℕ) E
-hash_at truncated total bytes = mapped (λ field. record { 0 = field }) (field_at truncated total 32) bytes
+hash_at truncated total bytes = read_as (λ field. record { 0 = field }) (field_at truncated total 32) bytes
 
 -- keys as the keys of a finite map
 abbrev pub coded_key : Coded Key

@@ -6,6 +6,9 @@ use crate::key::{Key, SYSTEM_PROGRAM};
 use crate::memory::OutOfMemory;
 use std::alloc::Global;
 
+/// The most data bytes of an account (Solana).
+pub const MAX_DATA_LEN: usize = 10_485_760;
+
 /// An account as Solana has it: a balance in lamports, the program that owns it, whether it is a
 /// program itself, and its data.
 #[derive(Debug, Drop)]

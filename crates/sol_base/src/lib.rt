@@ -14,7 +14,7 @@ mod memory;
 #[cfg(test)]
 mod tests;
 
-pub use account::Account;
+pub use account::{Account, MAX_DATA_LEN};
 pub use blob::Blob;
 pub use derived::{
     DERIVED_KEY_MARKER, MAX_SEED_LEN, MAX_SEEDS, SeedFault, SeedsFault, program_key, seed_key,

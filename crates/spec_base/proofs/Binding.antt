@@ -1,9 +1,9 @@
 -- Readings in a row, and choices between them.
-use Rattle.std.proofs.Common.{◌≡◌, ◌<◌, ℕ, zero, suc, lit<, List, [], ◌∷◌, ◌++◌, length, Result, Ok, Err, Bool, true, false, cond, ◌⊎◌, inl, inr, refl, ap, subst, arith}
+use Rattle.std.proofs.Common.{◌≡◌, ◌<◌, ℕ, zero, suc, lit<, List, [], ◌∷◌, ◌++◌, length, Result, Ok, Err, Bool, true, false, cond, ◌⊎◌, inl, inr, refl, sym, ap, subst, ◌∙◌, append_assoc, arith}
 use Rattle.std.specs.Prelude.{nat_eq}
 use Rattle.std.proofs.lemmas.Bool.Decides.{nat_tests}
 use Rattle.spec_base.specs.Bytes.{IsBytes}
-use Rattle.spec_base.specs.Reading.{◌>>=◌, place, checked, whole}
+use Rattle.spec_base.specs.Reading.{◌>>=◌, place, ok_if, whole}
 
 -- what gave a value in the end gave one at first
 pub bind_ok : {A B E : Type 0} (r : Result A E) (f : A → Result B E) (y : B) → (r >>= f) ≡ Ok y → (x : A) × (r ≡ Ok x) × (f x ≡ Ok y)
@@ -16,9 +16,13 @@ chosen true x y z h = inl (refl, h)
 chosen false x y z h = inr (refl, h)
 
 -- a test that was passed
-pub checked_ok : {X E : Type 0} (test : Bool) (e : E) (x y : X) → checked test e x ≡ Ok y → (test ≡ true) × (x ≡ y)
-checked_ok true e x y h = (refl, cc)
-checked_ok false e x y h = absurd (cc)
+pub ok_if_true : {X E : Type 0} (test : Bool) (e : E) (x y : X) → ok_if test e x ≡ Ok y → (test ≡ true) × (x ≡ y)
+ok_if_true true e x y h = (refl, cc)
+ok_if_true false e x y h = absurd (cc)
+
+-- an answer is no refusal
+pub not_refused : {A E : Type 0} {e : E} {a : A} → (let l : Result A E = Err e in l) ≡ Ok a → ⊥
+not_refused h = cc
 
 -- one answer has one value
 pub ok_same : {A E : Type 0} (a c : A) → (let l : Result A E = Ok a in l) ≡ Ok c → a ≡ c
@@ -29,6 +33,14 @@ pub ok_parts : {A E : Type 0} (a c : A) (b d : List ℕ) → (let l : Result (A 
 ok_parts {A = A} a c b d h =
     let e : (let p : A × List ℕ = (a, b) in p) ≡ (c, d) = cc in
     (ap (λ (p : A × List ℕ). p.0) e, ap (λ (p : A × List ℕ). p.1) e)
+
+-- a spelling whose rest is spelled on
+pub onward : (front : List ℕ) {bytes after rest : List ℕ} → bytes ≡ front ++ after → after ≡ rest → bytes ≡ front ++ rest
+onward front e f = e ∙ ap (λ (l : List ℕ). front ++ l) f
+
+-- one part after another
+pub follows : (front next rest : List ℕ) {bytes after : List ℕ} → bytes ≡ front ++ after → after ≡ next ++ rest → bytes ≡ front ++ next ++ rest
+follows front next rest e f = onward front e f ∙ sym (append_assoc front next rest)
 
 rest_bytes : (front rest : List ℕ) → IsBytes (front ++ rest) → IsBytes rest
 rest_bytes [] rest h = h
@@ -49,7 +61,7 @@ before_bytes (b ∷ bs) rest h = first_or_later b bs (h 0) (before_bytes bs rest
 
 -- what was read as the whole text has nothing after it
 pub whole_ok : {X E : Type 0} (trailing : ℕ → E) (total : ℕ) (x : X) (rest : List ℕ) (y : X) → whole trailing total (x, rest) ≡ Ok y → (rest ≡ []) × (x ≡ y)
-whole_ok trailing total x rest y h = let t = checked_ok (nat_eq (length rest) 0) (trailing (place total rest)) x y h in (none rest t.0, t.1)
+whole_ok trailing total x rest y h = let t = ok_if_true (nat_eq (length rest) 0) (trailing (place total rest)) x y h in (none rest t.0, t.1)
   where
     none : (rest : List ℕ) → nat_eq (length rest) 0 ≡ true → rest ≡ []
     none [] e = refl

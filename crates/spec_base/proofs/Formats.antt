@@ -1,6 +1,6 @@
 -- A reading function and a spelling belong together: what is spelled is read again, whatever follows,
 -- and what is read is spelled so. Each format is put together from these laws.
-use Rattle.std.proofs.Common.{◌≡◌, ◌<◌, ◌^◌, ℕ, zero, suc, List, [], ◌∷◌, ◌++◌, length, take, get_or, Result, Ok, Err, Bool, true, false, inl, inr, refl, sym, ap, subst, ◌∙◌, append_assoc, arith}
+use Rattle.std.proofs.Common.{◌≡◌, ◌<◌, ◌^◌, ℕ, zero, suc, List, [], ◌∷◌, ◌++◌, length, take, get_or, Result, Ok, Bool, true, false, inl, inr, refl, sym, ap, subst, ◌∙◌, append_assoc, arith}
 use Rattle.std.specs.Prelude.{nat_lt, slice_index}
 use Rattle.std.specs.Int.{Width, w16, w32, w64, byte_len, from_le_bytes, to_le_bytes}
 use Rattle.std.specs.List.{flat_map, AllByRecursion}
@@ -8,8 +8,8 @@ use Rattle.std.proofs.lemmas.Bool.Decides.{nat_tests}
 use Rattle.std.proofs.lemmas.List.{append-nil, take-append-drop, length-take, length-append, take_at, drop_at}
 use Rattle.std.proofs.lemmas.Nat.{from_le_bytes-to_le_bytes_2, from_le_bytes-to_le_bytes_4, from_le_bytes-to_le_bytes_8, le_bytes_2, le_bytes_4, le_bytes_8}
 use Rattle.spec_base.specs.Bytes.{IsBytes}
-use Rattle.spec_base.specs.Reading.{◌>>=◌, place, field_at, byte_at, number_at, tested, mapped, many_after, many, AllAfter}
-use Rattle.spec_base.proofs.Binding.{bind_ok, chosen, checked_ok, ok_parts, after_bytes, before_bytes}
+use Rattle.spec_base.specs.Reading.{◌>>=◌, place, field_at, byte_at, number_at, read_if, read_as, many_after, many, AllAfter}
+use Rattle.spec_base.proofs.Binding.{bind_ok, chosen, ok_if_true, not_refused, ok_parts, after_bytes, before_bytes}
 
 -- one reads exactly what spell spells of the values that have a spelling
 pub record Reads {X E : Type 0} (one : List ℕ → Result (X × List ℕ) E) (spell : X → List ℕ) (Fits : X → Type 0) : Type 0 where
@@ -32,6 +32,14 @@ taken {one = one} reads then bytes y are h =
     let t = reads.takes bytes a.0.0 a.0.1 are a.1 in
     record { value = a.0.0; rest = a.0.1; fits = t.0; spelled = t.1; are_bytes = after_bytes bytes _ _ are t.1; goes_on = a.2 }
 
+-- a fact that follows from what a reading took and what stands after it
+pub by_taking : {X Y E Goal : Type 0} {one : List ℕ → Result (X × List ℕ) E} {spell : X → List ℕ} {Fits : X → Type 0} → Reads one spell Fits
+    → (then : X × List ℕ → Result Y E) (bytes : List ℕ) (y : Y) → IsBytes bytes → (one bytes >>= then) ≡ Ok y
+    → ((x : X) (rest : List ℕ) → Fits x → bytes ≡ spell x ++ rest → IsBytes rest → then (x, rest) ≡ Ok y → Goal) → Goal
+by_taking reads then bytes y are h so =
+    let t = taken reads then bytes y are h in
+    so t.value t.rest t.fits t.spelled t.are_bytes t.goes_on
+
 -- fields
 
 field_again : {E : Type 0} (truncated : ℕ → E) (total count : ℕ) (field rest : List ℕ) → length field ≡ count → field_at truncated total count (field ++ rest) ≡ Ok (field, rest)
@@ -43,9 +51,9 @@ field_again truncated total count field rest h = rw (enough, take_at field rest 
 
 field_takes : {E : Type 0} (truncated : ℕ → E) (total count : ℕ) (bytes field rest : List ℕ) → field_at truncated total count bytes ≡ Ok (field, rest) → (length field ≡ count) × (bytes ≡ field ++ rest)
 unfolding field_at
-field_takes {E = E} truncated total count bytes field rest h =
+field_takes truncated total count bytes field rest h =
     elim (chosen (nat_lt (length bytes) count) _ _ _ h) [
-      | inl p ↦ absurd (let e : (let l : Result (List ℕ × List ℕ) E = Err (truncated (place total bytes)) in l) ≡ Ok (field, rest) = p.1 in cc)
+      | inl p ↦ absurd (not_refused p.1)
       | inr q ↦ let k = ok_parts _ _ _ _ q.1 in
           (rw (← k.0) (long q.0), rw (← k.0, ← k.1) (sym (take-append-drop count bytes)))
     ]
@@ -154,52 +162,52 @@ u64_reads truncated total = number_reads truncated w64 (2 ^ 64) (record {
 
 -- values that pass a test
 
-tested_again : {X E : Type 0} (refusal : ℕ → E) (test : X → Bool) (one : List ℕ → Result (X × List ℕ) E) (total : ℕ) (bytes : List ℕ) (x : X) (rest : List ℕ) → one bytes ≡ Ok (x, rest) → test x ≡ true → tested refusal test one total bytes ≡ Ok (x, rest)
-unfolding tested
-tested_again refusal test one total bytes x rest read passed = rw (read, passed) refl
+read_if_again : {X E : Type 0} (refusal : ℕ → E) (test : X → Bool) (one : List ℕ → Result (X × List ℕ) E) (total : ℕ) (bytes : List ℕ) (x : X) (rest : List ℕ) → one bytes ≡ Ok (x, rest) → test x ≡ true → read_if refusal test one total bytes ≡ Ok (x, rest)
+unfolding read_if
+read_if_again refusal test one total bytes x rest read passed = rw (read, passed) refl
 
-tested_takes : {X E : Type 0} (refusal : ℕ → E) (test : X → Bool) (one : List ℕ → Result (X × List ℕ) E) (total : ℕ) (bytes : List ℕ) (x : X) (rest : List ℕ) → tested refusal test one total bytes ≡ Ok (x, rest) → (one bytes ≡ Ok (x, rest)) × (test x ≡ true)
-unfolding tested
-tested_takes {X = X} refusal test one total bytes x rest h =
+read_if_takes : {X E : Type 0} (refusal : ℕ → E) (test : X → Bool) (one : List ℕ → Result (X × List ℕ) E) (total : ℕ) (bytes : List ℕ) (x : X) (rest : List ℕ) → read_if refusal test one total bytes ≡ Ok (x, rest) → (one bytes ≡ Ok (x, rest)) × (test x ≡ true)
+unfolding read_if
+read_if_takes {X = X} refusal test one total bytes x rest h =
     let a = bind_ok (one bytes) _ (x, rest) h in
-    let c = checked_ok (test a.0.0) (refusal (place total bytes)) a.0 (x, rest) a.2 in
+    let c = ok_if_true (test a.0.0) (refusal (place total bytes)) a.0 (x, rest) a.2 in
     (a.1 ∙ ap (λ (p : X × List ℕ). Ok p) c.1, subst (λ (p : X × List ℕ). test p.0 ≡ true) c.1 c.0)
 
-pub tested_reads : {X E : Type 0} {one : List ℕ → Result (X × List ℕ) E} {spell : X → List ℕ} {Fits : X → Type 0} (refusal : ℕ → E) (test : X → Bool) (total : ℕ) → Reads one spell Fits → Reads (tested refusal test one total) spell (λ x. Fits x × (test x ≡ true))
-tested_reads {X = X} {one = one} {spell = spell} {Fits = Fits} refusal test total reads = record { again = again; takes = takes }
+pub read_if_reads : {X E : Type 0} {one : List ℕ → Result (X × List ℕ) E} {spell : X → List ℕ} {Fits : X → Type 0} (refusal : ℕ → E) (test : X → Bool) (total : ℕ) → Reads one spell Fits → Reads (read_if refusal test one total) spell (λ x. Fits x × (test x ≡ true))
+read_if_reads {X = X} {one = one} {spell = spell} {Fits = Fits} refusal test total reads = record { again = again; takes = takes }
   where
-    again : (x : X) (rest : List ℕ) → Fits x × (test x ≡ true) → tested refusal test one total (spell x ++ rest) ≡ Ok (x, rest)
-    again x rest h = tested_again refusal test one total (spell x ++ rest) x rest (reads.again x rest h.0) h.1
+    again : (x : X) (rest : List ℕ) → Fits x × (test x ≡ true) → read_if refusal test one total (spell x ++ rest) ≡ Ok (x, rest)
+    again x rest h = read_if_again refusal test one total (spell x ++ rest) x rest (reads.again x rest h.0) h.1
 
-    takes : (bytes : List ℕ) (x : X) (rest : List ℕ) → IsBytes bytes → tested refusal test one total bytes ≡ Ok (x, rest) → (Fits x × (test x ≡ true)) × (bytes ≡ spell x ++ rest)
+    takes : (bytes : List ℕ) (x : X) (rest : List ℕ) → IsBytes bytes → read_if refusal test one total bytes ≡ Ok (x, rest) → (Fits x × (test x ≡ true)) × (bytes ≡ spell x ++ rest)
     takes bytes x rest are h =
-        let t = tested_takes refusal test one total bytes x rest h in
+        let t = read_if_takes refusal test one total bytes x rest h in
         let r = reads.takes bytes x rest are t.0 in
         ((r.0, t.1), r.1)
 
 -- values of another shape
 
-mapped_again : {X Y E : Type 0} (shape : X → Y) (one : List ℕ → Result (X × List ℕ) E) (bytes : List ℕ) (x : X) (rest : List ℕ) → one bytes ≡ Ok (x, rest) → mapped shape one bytes ≡ Ok (shape x, rest)
-unfolding mapped
-mapped_again shape one bytes x rest read = rw read refl
+read_as_again : {X Y E : Type 0} (shape : X → Y) (one : List ℕ → Result (X × List ℕ) E) (bytes : List ℕ) (x : X) (rest : List ℕ) → one bytes ≡ Ok (x, rest) → read_as shape one bytes ≡ Ok (shape x, rest)
+unfolding read_as
+read_as_again shape one bytes x rest read = rw read refl
 
-mapped_takes : {X Y E : Type 0} (shape : X → Y) (one : List ℕ → Result (X × List ℕ) E) (bytes : List ℕ) (y : Y) (rest : List ℕ) → mapped shape one bytes ≡ Ok (y, rest) → (x : X) × (one bytes ≡ Ok (x, rest)) × (shape x ≡ y)
-unfolding mapped
-mapped_takes {X = X} shape one bytes y rest h =
+read_as_takes : {X Y E : Type 0} (shape : X → Y) (one : List ℕ → Result (X × List ℕ) E) (bytes : List ℕ) (y : Y) (rest : List ℕ) → read_as shape one bytes ≡ Ok (y, rest) → (x : X) × (one bytes ≡ Ok (x, rest)) × (shape x ≡ y)
+unfolding read_as
+read_as_takes {X = X} shape one bytes y rest h =
     let a = bind_ok (one bytes) _ (y, rest) h in
     let p = ok_parts _ _ _ _ a.2 in
     (a.0.0, a.1 ∙ ap (λ (after : List ℕ). Ok (a.0.0, after)) p.1, p.0)
 
-pub mapped_reads : {X Y E : Type 0} {one : List ℕ → Result (X × List ℕ) E} {spell : X → List ℕ} {Fits : X → Type 0} (shape : X → Y) (back : Y → X) → ((x : X) → back (shape x) ≡ x) → ((y : Y) → shape (back y) ≡ y)
-    → Reads one spell Fits → Reads (mapped shape one) (λ y. spell (back y)) (λ y. Fits (back y))
-mapped_reads {X = X} {Y = Y} {one = one} {spell = spell} {Fits = Fits} shape back there here reads = record { again = again; takes = takes }
+pub read_as_reads : {X Y E : Type 0} {one : List ℕ → Result (X × List ℕ) E} {spell : X → List ℕ} {Fits : X → Type 0} (shape : X → Y) (back : Y → X) → ((x : X) → back (shape x) ≡ x) → ((y : Y) → shape (back y) ≡ y)
+    → Reads one spell Fits → Reads (read_as shape one) (λ y. spell (back y)) (λ y. Fits (back y))
+read_as_reads {X = X} {Y = Y} {one = one} {spell = spell} {Fits = Fits} shape back there here reads = record { again = again; takes = takes }
   where
-    again : (y : Y) (rest : List ℕ) → Fits (back y) → mapped shape one (spell (back y) ++ rest) ≡ Ok (y, rest)
-    again y rest h = mapped_again shape one (spell (back y) ++ rest) (back y) rest (reads.again (back y) rest h) ∙ ap (λ (v : Y). Ok (v, rest)) (here y)
+    again : (y : Y) (rest : List ℕ) → Fits (back y) → read_as shape one (spell (back y) ++ rest) ≡ Ok (y, rest)
+    again y rest h = read_as_again shape one (spell (back y) ++ rest) (back y) rest (reads.again (back y) rest h) ∙ ap (λ (v : Y). Ok (v, rest)) (here y)
 
-    takes : (bytes : List ℕ) (y : Y) (rest : List ℕ) → IsBytes bytes → mapped shape one bytes ≡ Ok (y, rest) → Fits (back y) × (bytes ≡ spell (back y) ++ rest)
+    takes : (bytes : List ℕ) (y : Y) (rest : List ℕ) → IsBytes bytes → read_as shape one bytes ≡ Ok (y, rest) → Fits (back y) × (bytes ≡ spell (back y) ++ rest)
     takes bytes y rest are h =
-        let t = mapped_takes shape one bytes y rest h in
+        let t = read_as_takes shape one bytes y rest h in
         subst (λ (x : X). Fits x × (bytes ≡ spell x ++ rest)) (sym (there t.0) ∙ ap back t.2) (reads.takes bytes t.0 rest are t.1)
 
 -- lists

@@ -1,3 +1,4 @@
 pub mod Binding
 pub mod Loop
 pub mod Formats
+pub mod Filters

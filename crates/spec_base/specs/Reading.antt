@@ -19,8 +19,8 @@ abbrev pub place : ℕ → List ℕ → ℕ
 place total bytes = total - length bytes
 
 -- the value where the test passes, else the refusal
-abbrev pub checked : {X E : Type 0} → Bool → E → X → Result X E
-checked test refusal x = if test then Ok x else Err refusal
+abbrev pub ok_if : {X E : Type 0} → Bool → E → X → Result X E
+ok_if test refusal x = if test then Ok x else Err refusal
 
 -- a field of so many bytes, refused at its own place where it does not fit in the bytes left
 unfoldable pub field_at : {E : Type 0} → (ℕ → E) → ℕ → ℕ → List ℕ → Result (List ℕ × List ℕ) E
@@ -40,14 +40,14 @@ number_at truncated width total bytes = do
   Ok (from_le_bytes width field.0, field.1)
 
 -- what one reads, refused at its own place where its value fails the test
-unfoldable pub tested : {X E : Type 0} → (ℕ → E) → (X → Bool) → (List ℕ → Result (X × List ℕ) E) → ℕ → List ℕ → Result (X × List ℕ) E
-tested refusal test one total bytes = do
+unfoldable pub read_if : {X E : Type 0} → (ℕ → E) → (X → Bool) → (List ℕ → Result (X × List ℕ) E) → ℕ → List ℕ → Result (X × List ℕ) E
+read_if refusal test one total bytes = do
   read ← one bytes
-  checked (test read.0) (refusal (place total bytes)) read
+  ok_if (test read.0) (refusal (place total bytes)) read
 
 -- what one reads, as a value of another shape
-unfoldable pub mapped : {X Y E : Type 0} → (X → Y) → (List ℕ → Result (X × List ℕ) E) → List ℕ → Result (Y × List ℕ) E
-mapped shape one bytes = do
+unfoldable pub read_as : {X Y E : Type 0} → (X → Y) → (List ℕ → Result (X × List ℕ) E) → List ℕ → Result (Y × List ℕ) E
+read_as shape one bytes = do
   read ← one bytes
   Ok (shape read.0, read.1)
 
@@ -69,4 +69,4 @@ AllAfter P before (x ∷ xs) = P before x × AllAfter P (before ++ x ∷ []) xs
 
 -- the value, where no byte is left after it
 abbrev pub whole : {X E : Type 0} → (ℕ → E) → ℕ → X × List ℕ → Result X E
-whole trailing total read = checked (nat_eq (length read.1) 0) (trailing (place total read.1)) read.0
+whole trailing total read = ok_if (nat_eq (length read.1) 0) (trailing (place total read.1)) read.0

@@ -1,25 +1,23 @@
 -- What a binary search over ascending hashes answers.
 use Rattle.std.proofs.Common.{◌≡◌, ◌≢◌, ℕ, ◌+◌, ◌<◌, Bool, true, false, List, length, inl, inr, refl, sym, ap, subst, ◌∙◌, Result, Ok, Err, is_ok, get_or, arith}
 use Rattle.std.specs.declared.cmp.Ordering.TheVariants.{Less, Equal, Greater}
-use Rattle.std.specs.Ordering.{nat_cmp, ordering_reverse, ordering_index, is_lt}
+use Rattle.std.specs.Ordering.{ordering_reverse, ordering_index, is_lt}
 use Rattle.std.specs.List.{HoldsAt}
 use Rattle.std.specs.List.Sorted.{IsBinarySearchResult, IsSearchInRange, IsPartitionPoint, IsNonDecreasingBy}
-use Rattle.std.specs.Cmp.Lexicographic.{slice_cmp, bytes_decides}
 use Rattle.std.proofs.lemmas.Bool.{cases_lt}
-use Rattle.std.proofs.lemmas.Cmp.{tied_itself, nat_list_cmp_total}
+use Rattle.std.proofs.lemmas.Cmp.{tied_itself}
 use Rattle.std.proofs.lemmas.List.Folds.{list_any_at, list_any_none}
 use Rattle.std.proofs.lemmas.List.Sorted.{searchable_from_sorted}
-use Rattle.std.proofs.lemmas.Map.Lookups.{exact_bytes}
 use Rattle.sol_base.specs.declared.key.Hash32.{Hash32}
-use Rattle.sol_base.specs.Keys.{hash_cmp}
-use Rattle.sol_base.proofs.KeyLaws.{hash_cmp_total}
-use Rattle.status_cache.specs.Recent.{Ascends, same_hash, has_hash}
+use Rattle.sol_base.specs.Keys.{hash_cmp, same_hash}
+use Rattle.sol_base.proofs.KeyLaws.{same_hash-Decides, hash_cmp_exact, hash_cmp_total}
+use Rattle.status_cache.specs.Recent.{Ascends, has_hash}
 
 same_when_equal : (a b : Hash32) → hash_cmp a b ≡ Equal → same_hash a b ≡ true
-same_when_equal a b equal = (bytes_decides a.0 b.0).1 (exact_bytes a.0 b.0 equal)
+same_when_equal a b equal = (same_hash-Decides a b).1 (hash_cmp_exact a b equal)
 
 equal_when_same : (a b : Hash32) → same_hash a b ≡ true → hash_cmp a b ≡ Equal
-equal_when_same a b same = subst (λ (bytes : List ℕ). slice_cmp nat_cmp a.0 bytes ≡ Equal) ((bytes_decides a.0 b.0).0 same) (tied_itself nat_list_cmp_total a.0)
+equal_when_same a b same = subst (λ (hash : Hash32). hash_cmp a hash ≡ Equal) ((same_hash-Decides a b).0 same) (tied_itself hash_cmp_total a)
 
 differ : (a b : Hash32) (answer : Bool) → same_hash a b ≡ answer → hash_cmp a b ≢ Equal → answer ≡ false
 differ a b true same apart = absurd (apart (equal_when_same a b same))

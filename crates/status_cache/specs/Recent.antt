@@ -1,10 +1,9 @@
 -- The newest blocks of a chain, newest first (the project's own).
-use Rattle.std.specs.Prelude.{◌≡◌, ◌≤◌, Bool, List, [], ◌∷◌, All, AllPairs, length, nat_eq, replicate}
+use Rattle.std.specs.Prelude.{◌≡◌, ◌≤◌, Bool, List, [], ◌∷◌, All, AllPairs, length, replicate}
 use Rattle.std.specs.List.{list_any}
 use Rattle.std.specs.declared.cmp.Ordering.TheVariants.{Less}
-use Rattle.std.specs.Cmp.Lexicographic.{pointwise}
 use Rattle.sol_base.specs.declared.key.Hash32.{Hash32}
-use Rattle.sol_base.specs.Keys.{hash_cmp}
+use Rattle.sol_base.specs.Keys.{hash_cmp, same_hash}
 use Rattle.status_cache.specs.declared.recent.Mark.{Mark}
 
 -- each hash is below those after it
@@ -15,10 +14,6 @@ Ascends hashes = AllPairs (λ a b. hash_cmp a b ≡ Less) hashes
 pub record IsRecent (marks : List Mark) : Type 0 where
   pub few : length marks ≤ 150
   pub ascending : All (λ mark. Ascends mark.messages) marks
-
--- the bytes are the same
-abbrev pub same_hash : Hash32 → Hash32 → Bool
-same_hash a b = pointwise nat_eq a.0 b.0
 
 -- the hash is one of them
 abbrev pub has_hash : List Hash32 → Hash32 → Bool

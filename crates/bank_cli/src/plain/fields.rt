@@ -2,7 +2,7 @@
 //! no place is counted.
 ghost use Rattle.std.specs.Prelude.{nat_le, nat_lt};
 ghost use Rattle.std.specs.Int.{w32, w64};
-ghost use Rattle.spec_base.specs.Reading.{Gives, number_at, tested};
+ghost use Rattle.spec_base.specs.Reading.{Gives, number_at, read_if};
 ghost use Rattle.bank_cli.specs.Plain.{cut, is_memory, text_at};
 
 use super::PlainFault;
@@ -21,10 +21,10 @@ pub fn after_text<'a>(text: &[u8], bytes: &'a [u8]) -> Result<&'a [u8], PlainFau
 }
 
 /// A number of items, at most `most`.
-#[tactic(auto, unfolding(spec_base::specs::Reading::tested))]
+#[tactic(auto, unfolding(spec_base::specs::Reading::read_if))]
 pub fn count_field(most: u32, bytes: &[u8]) -> Result<(u32, &[u8]), PlainFault>
     ensures { Gives is_memory (λ x. (x.0, x.1.now)) result
-        (tested cut (λ n. nat_le n most) (number_at cut w32 0) 0 bytes.now) }
+        (read_if cut (λ n. nat_le n most) (number_at cut w32 0) 0 bytes.now) }
 {
     let (count, rest) = u32_field::<PlainFault>(0, bytes)?;
     if count > most {
@@ -34,10 +34,10 @@ pub fn count_field(most: u32, bytes: &[u8]) -> Result<(u32, &[u8]), PlainFault>
 }
 
 /// A slot that is above `before`.
-#[tactic(auto, unfolding(spec_base::specs::Reading::tested))]
+#[tactic(auto, unfolding(spec_base::specs::Reading::read_if))]
 pub fn later_field(before: u64, bytes: &[u8]) -> Result<(u64, &[u8]), PlainFault>
     ensures { Gives is_memory (λ x. (x.0, x.1.now)) result
-        (tested cut (λ n. nat_lt before n) (number_at cut w64 0) 0 bytes.now) }
+        (read_if cut (λ n. nat_lt before n) (number_at cut w64 0) 0 bytes.now) }
 {
     let (slot, rest) = u64_field::<PlainFault>(0, bytes)?;
     if slot <= before {
