@@ -46,6 +46,14 @@ impl Blob {
         })
     }
 
+    /// The bytes as a vector.
+    pub fn into_vec(self) -> Vec<u8>
+        ensures { result.items ≡ self }
+    {
+        let Blob { inner } = self;
+        inner
+    }
+
     pub fn as_slice(&self) -> &[u8]
         ensures { result.now ≡ self.now }
     {

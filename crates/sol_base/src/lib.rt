@@ -11,6 +11,7 @@ mod key;
 mod limits;
 mod lock;
 mod memory;
+mod parts;
 #[cfg(test)]
 mod tests;
 
@@ -28,3 +29,4 @@ pub use key::{
 pub use limits::Limits;
 pub use lock::{Lock, LockList, Meta};
 pub use memory::OutOfMemory;
+pub use parts::{Part, Parts};

@@ -1,0 +1,15 @@
+use Rattle.std.proofs.Common.{length, ◌≡◌, ◌++◌, false, replicate}
+use Rattle.std.specs.Vec.Iter.{into_iter_items}
+use Rattle.sol_base.specs.Parts.{bytes_in, bytes_of, tests_in, is_prepared, AreInOrder}
+use Rattle.sol_base.proofs.parts.Parts.from_items.Given as goal
+
+-- the pieces have the bytes of the parts that came so far
+abbrev pub invariant-loop-part : goal.invariant-loop-part
+invariant-loop-part l =
+    record {
+      all : l.yielded ++ into_iter_items l.part-iterator ≡ l.fn.parts;
+      order : AreInOrder l.pieces.items;
+      bytes : bytes_in l.pieces.items ≡ bytes_of l.yielded;
+      plain : tests_in is_prepared l.pieces.items ≡ replicate (length (bytes_in l.pieces.items)) false;
+      size : l.len ≡ length (bytes_in l.pieces.items);
+    }

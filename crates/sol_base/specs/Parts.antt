@@ -1,0 +1,93 @@
+-- Lists of bytes in parts, some of which are the data of shared accounts.
+use Rattle.std.specs.Prelude.{◌≡◌, ℕ, ◌+◌, ◌<◌, true, false, Bool, List, [], ◌∷◌, ◌++◌, length, map, take, drop, replicate, slice_get, Some}
+use Rattle.std.specs.List.{flat_map}
+use Rattle.std.specs.Arc.{arc_value}
+use Rattle.sol_base.specs.declared.account.Account.{Account}
+use Rattle.sol_base.specs.declared.parts.Part.{Part}
+use Rattle.sol_base.specs.declared.parts.Part.TheVariants.{Bytes, Lent, Zeros}
+use Rattle.sol_base.specs.declared.parts.piece.Backing.{Backing}
+use Rattle.sol_base.specs.declared.parts.piece.Backing.TheVariants.{Own, Shared, Blank}
+use Rattle.sol_base.specs.declared.parts.piece.Piece.{Piece}
+
+-- the bytes of a part: its own, an account's data, or zeros
+abbrev pub part_bytes : Part → List ℕ
+part_bytes (Bytes bytes) = bytes
+part_bytes (Lent shared) = let account : Account = arc_value shared in account.bytes
+part_bytes (Zeros count) = replicate count 0
+
+-- the bytes of all parts, one after another
+unfoldable pub bytes_of : List Part → List ℕ
+bytes_of parts = flat_map part_bytes parts
+
+-- what a list of parts stands for: its bytes, and for each place whether it is prepared
+pub record Content : Type 0 where
+  pub bytes : List ℕ
+  pub prepared : List Bool
+
+-- bytes of which no place is prepared
+abbrev pub unprepared : List ℕ → Content
+unprepared list = record { bytes = list; prepared = replicate (length list) false }
+
+-- a list with other bytes from a place on
+abbrev pub with_bytes : List ℕ → ℕ → List ℕ → List ℕ
+with_bytes list at bytes = take at list ++ bytes ++ drop (at + length bytes) list
+
+-- each place of a range is prepared
+abbrev pub ArePrepared : List Bool → ℕ → ℕ → Type 0
+ArePrepared prepared at len = (place : ℕ) → place < len → slice_get prepared (at + place) ≡ Some true
+
+-- each place that was prepared still is
+abbrev pub StayPrepared : List Bool → List Bool → Type 0
+StayPrepared before after = (place : ℕ) → slice_get before place ≡ Some true → slice_get after place ≡ Some true
+
+-- the bytes that stand behind a piece
+abbrev pub backing_bytes : Backing → List ℕ
+backing_bytes (Own bytes prepared) = bytes.items
+backing_bytes (Shared shared) = let account : Account = arc_value shared in account.bytes
+backing_bytes (Blank count) = replicate count 0
+
+-- the bytes are the list's own
+abbrev pub is_own : Backing → Bool
+is_own (Own bytes prepared) = true
+is_own (Shared shared) = false
+is_own (Blank count) = false
+
+-- the bytes are the list's own and prepared
+abbrev pub is_prepared : Backing → Bool
+is_prepared (Own bytes prepared) = prepared
+is_prepared (Shared shared) = false
+is_prepared (Blank count) = false
+
+-- the test that is to hold where pieces are made ready to be written
+abbrev pub test_of : Bool → Backing → Bool
+test_of true = is_prepared
+test_of false = is_own
+
+-- the bytes of a piece
+abbrev pub piece_bytes : Piece → List ℕ
+piece_bytes piece = backing_bytes piece.backing
+
+-- for each byte of a piece, what a test says of the piece
+abbrev pub for_each_byte : (Backing → Bool) → Piece → List Bool
+for_each_byte test piece = replicate (length (piece_bytes piece)) (test piece.backing)
+
+-- the bytes of all pieces
+unfoldable pub bytes_in : List Piece → List ℕ
+bytes_in pieces = flat_map piece_bytes pieces
+
+-- for each byte of all pieces, what a test says of its piece
+unfoldable pub tests_in : (Backing → Bool) → List Piece → List Bool
+tests_in test pieces = flat_map (for_each_byte test) pieces
+
+-- how many bytes stand before a piece
+abbrev pub before : List Piece → ℕ → ℕ
+before pieces index = length (bytes_in (take index pieces))
+
+-- where pieces start that follow one another from a place on
+abbrev pub starts_from : ℕ → List Piece → List ℕ
+starts_from place [] = []
+starts_from place (piece ∷ pieces) = place ∷ starts_from (place + length (piece_bytes piece)) pieces
+
+-- each piece starts where those before it end
+unfoldable pub AreInOrder : List Piece → Type 0
+AreInOrder pieces = map (λ (piece : Piece). piece.start) pieces ≡ starts_from 0 pieces

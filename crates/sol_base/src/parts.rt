@@ -1,0 +1,144 @@
+//! A list of bytes that stands in parts, some of which are the data of shared accounts.
+ghost use Rattle.std.specs.Prelude.{◌≡◌, ◌<◌, ◌≤◌, ◌+◌, ◌^◌, length, take, drop, slice_index, IfOk, IsOk, OnOk, OnErr};
+ghost use Rattle.sol_base.specs.Parts.{bytes_of, unprepared, with_bytes, ArePrepared, StayPrepared};
+
+mod piece;
+mod range;
+#[cfg(test)]
+mod tests;
+
+use crate::account::Account;
+use crate::blob::Blob;
+use crate::items::Items;
+use crate::memory::OutOfMemory;
+use piece::{Backing, Piece};
+use std::alloc::Global;
+use std::marker::Model;
+use std::sync::Arc;
+
+/// A part of a list of bytes.
+#[derive(Drop)]
+pub enum Part {
+    /// Bytes of the list's own.
+    Bytes(Blob),
+    /// The data of an account that others share.
+    Lent(Arc<Account>),
+    /// This many zero bytes, which stand nowhere yet.
+    Zeros(u32),
+}
+
+/// The bytes of parts, one after another. A part that is not the list's own becomes so at the
+/// first write into it; no account that was lent changes. A place that is prepared is written
+/// without taking memory.
+#[derive(Drop)]
+pub struct Parts {
+    pieces: Vec<Piece>,
+    len: usize,
+}
+
+impl Model for Parts {
+    ghost use Rattle.std.specs.Prelude.{◌≡◌, ◌<◌, ◌^◌, length};
+    ghost use Rattle.sol_base.specs.Parts.{Content, bytes_in, tests_in, is_prepared, AreInOrder};
+
+    ghost Value = { Content };
+
+    ghost view = { λ p. record { bytes = bytes_in p.pieces.items; prepared = tests_in is_prepared p.pieces.items } };
+
+    ghost invariant = { λ p. (AreInOrder p.pieces.items) × (p.len ≡ length (bytes_in p.pieces.items)) × (p.len < 2 ^ 32) };
+}
+
+impl Parts {
+    /// The list that the parts make.
+    pub fn from_items(alloc: Global, parts: Items<Part>) -> Result<Parts, OutOfMemory>
+        requires { length (bytes_of parts) < 2 ^ 32 }
+        ensures { IfOk result (λ list. list ≡ unprepared (bytes_of parts)) }
+    {
+        let mut pieces = Vec::with_capacity(alloc, parts.len())?;
+        let mut len = 0;
+        for part in parts.into_vec() {
+            let backing = Backing::of_part(part);
+            let start = len;
+            len += backing.len();
+            pieces.push(Piece { start, backing })?;
+        }
+        Ok(Parts { pieces, len })
+    }
+
+    /// How many bytes there are.
+    pub fn len(&self) -> usize
+        ensures count { result ≡ length self.now.bytes }
+        ensures prepared { length self.now.prepared ≡ length self.now.bytes }
+        ensures most { length self.now.bytes < 2 ^ 32 }
+    {
+        self.len
+    }
+
+    /// The byte at a place.
+    pub fn get(&self, at: usize) -> u8
+        requires { at < length self.now.bytes }
+        ensures { result ≡ slice_index self.now.bytes at }
+    {
+        let pieces = self.pieces.as_slice();
+        let piece = &pieces[range::find(pieces, at)];
+        piece.backing.get(at - piece.start)
+    }
+
+    /// Reads the bytes from a place on, as many as `into` has.
+    #[inline]
+    pub fn read(&self, at: usize, into: &mut [u8])
+        requires { at + length into.old ≤ length self.now.bytes }
+        ensures { into.new ≡ take (length into.old) (drop at self.now.bytes) }
+    {
+        if into.is_empty() {
+            return;
+        }
+        let pieces = self.pieces.as_slice();
+        let first = range::find(pieces, at);
+        let piece = &pieces[first];
+        let from = at - piece.start;
+        if from + into.len() <= piece.backing.len() {
+            piece.backing.read(from, into);
+        } else {
+            range::read_on(pieces, first, at, into);
+        }
+    }
+
+    /// Writes the bytes from a place on, whole or not at all.
+    #[inline]
+    pub fn write(&mut self, at: usize, bytes: &[u8]) -> Result<(), OutOfMemory>
+        requires { at + length bytes.now ≤ length self.old.bytes }
+        ensures ok { OnOk result (self.new.bytes ≡ with_bytes self.old.bytes at bytes.now) }
+        ensures err { OnErr result (self.new.bytes ≡ self.old.bytes) }
+        ensures prepared { self.new.prepared ≡ self.old.prepared }
+        ensures ready { ArePrepared self.old.prepared at (length bytes.now) → IsOk result }
+    {
+        if bytes.is_empty() {
+            return Ok(());
+        }
+        let alloc = *self.pieces.allocator();
+        let pieces = self.pieces.as_mut_slice();
+        let first = range::find(pieces, at);
+        if range::write_within(pieces, first, at, bytes) {
+            return Ok(());
+        }
+        range::own_on(alloc, pieces, first, at, bytes.len(), false)?;
+        range::write_on(pieces, first, at, bytes);
+        Ok(())
+    }
+
+    /// Makes ready for writes that take no memory: `len` places from a place on.
+    pub fn prepare(&mut self, at: usize, len: usize) -> Result<(), OutOfMemory>
+        requires { at + len ≤ length self.old.bytes }
+        ensures bytes { self.new.bytes ≡ self.old.bytes }
+        ensures ok { OnOk result (ArePrepared self.new.prepared at len) }
+        ensures stay { StayPrepared self.old.prepared self.new.prepared }
+    {
+        if len == 0 {
+            return Ok(());
+        }
+        let alloc = *self.pieces.allocator();
+        let pieces = self.pieces.as_mut_slice();
+        let first = range::find(pieces, at);
+        range::own_on(alloc, pieces, first, at, len, true)
+    }
+}

@@ -1,0 +1,161 @@
+//! A piece of a list of bytes: where it starts, and what its bytes stand in.
+ghost use Rattle.std.specs.Prelude.{◌≡◌, ◌<◌, ◌≤◌, ◌+◌, ◌-◌, ◌^◌, true, false, min, length, take, drop, slice_index, OnOk, IsOk};
+ghost use Rattle.sol_base.specs.Parts.{part_bytes, backing_bytes, piece_bytes, is_own, is_prepared, test_of, with_bytes};
+
+use crate::account::Account;
+use crate::memory::OutOfMemory;
+use crate::parts::Part;
+use std::alloc::Global;
+use std::sync::Arc;
+
+/// What the bytes of a piece stand in.
+#[derive(Drop)]
+pub enum Backing {
+    /// Memory of the list's own, which may be prepared.
+    Own { bytes: Vec<u8>, prepared: bool },
+    /// An account that others share.
+    Shared(Arc<Account>),
+    /// Nothing: this many zeros.
+    Blank(u32),
+}
+
+/// A piece of a list of bytes.
+#[derive(Drop)]
+pub struct Piece {
+    pub start: usize,
+    pub backing: Backing,
+}
+
+/// Where a piece and a range of places meet.
+#[derive(Clone, Copy)]
+pub struct Meeting {
+    /// The first place of the piece, from its start.
+    pub from: usize,
+    /// The first place of the range, from its start.
+    pub done: usize,
+    /// How many places.
+    pub count: usize,
+}
+
+impl Backing {
+    /// What a part's bytes stand in.
+    pub fn of_part(part: Part) -> Backing
+        ensures bytes { backing_bytes result ≡ part_bytes part }
+        ensures prepared { is_prepared result ≡ false }
+    {
+        match part {
+            Part::Bytes(bytes) => Backing::Own {
+                bytes: bytes.into_vec(),
+                prepared: false,
+            },
+            Part::Lent(account) => Backing::Shared(account),
+            Part::Zeros(count) => Backing::Blank(count),
+        }
+    }
+
+    #[inline]
+    pub fn len(&self) -> usize
+        ensures { result ≡ length (backing_bytes self.now) }
+    {
+        match self {
+            Backing::Own { bytes, .. } => bytes.len(),
+            Backing::Shared(account) => account.bytes.len(),
+            Backing::Blank(count) => *count as usize,
+        }
+    }
+
+    #[inline]
+    pub fn is_own(&self) -> bool
+        ensures { result ≡ is_own self.now }
+    {
+        matches!(self, Backing::Own { .. })
+    }
+
+    #[inline]
+    pub fn get(&self, at: usize) -> u8
+        requires { at < length (backing_bytes self.now) }
+        ensures { result ≡ slice_index (backing_bytes self.now) at }
+    {
+        match self {
+            Backing::Own { bytes, .. } => bytes[at],
+            Backing::Shared(account) => account.bytes.as_slice()[at],
+            Backing::Blank(_) => 0,
+        }
+    }
+
+    /// Reads the bytes from a place on, as many as `into` has.
+    #[inline]
+    pub fn read(&self, at: usize, into: &mut [u8])
+        requires { at + length into.old ≤ length (backing_bytes self.now) }
+        ensures { into.new ≡ take (length into.old) (drop at (backing_bytes self.now)) }
+    {
+        let len = into.len();
+        match self {
+            Backing::Own { bytes, .. } => into.copy_from_slice(&bytes[at..at + len]),
+            Backing::Shared(account) => {
+                into.copy_from_slice(&account.bytes.as_slice()[at..at + len]);
+            }
+            Backing::Blank(_) => into.fill(0),
+        }
+    }
+
+    /// Writes into bytes of the list's own.
+    #[inline]
+    pub fn write(&mut self, at: usize, bytes: &[u8])
+        requires own { 0 < length bytes.now → is_own self.old ≡ true }
+        requires within { at + length bytes.now ≤ length (backing_bytes self.old) }
+        ensures bytes { backing_bytes self.new ≡ with_bytes (backing_bytes self.old) at bytes.now }
+        ensures own { is_own self.new ≡ is_own self.old }
+        ensures prepared { is_prepared self.new ≡ is_prepared self.old }
+    {
+        if let Backing::Own { bytes: own, .. } = self {
+            let end = at + bytes.len();
+            own[at..end].copy_from_slice(bytes);
+        }
+    }
+
+    /// Makes the bytes the list's own, and prepares them where that is wanted.
+    pub fn make_own(&mut self, alloc: Global, prepare: bool) -> Result<(), OutOfMemory>
+        ensures bytes { backing_bytes self.new ≡ backing_bytes self.old }
+        ensures ok { OnOk result (test_of prepare self.new ≡ true) }
+        ensures own { is_own self.old ≡ true → is_own self.new ≡ true }
+        ensures plain { prepare ≡ false → is_prepared self.new ≡ is_prepared self.old }
+        ensures stay { is_prepared self.old ≡ true → is_prepared self.new ≡ true }
+        ensures ready { is_own self.old ≡ true → IsOk result }
+    {
+        let bytes = match self {
+            Backing::Own { prepared, .. } => {
+                *prepared = *prepared || prepare;
+                return Ok(());
+            }
+            Backing::Shared(account) => account.bytes.try_copy()?.into_vec(),
+            Backing::Blank(count) => Vec::from_elem(alloc, 0, *count as usize)?,
+        };
+        *self = Backing::Own {
+            bytes,
+            prepared: prepare,
+        };
+        Ok(())
+    }
+}
+
+impl Piece {
+    /// Where the piece and the range of `len` places from `at` on meet.
+    pub fn meet(&self, at: usize, len: usize) -> Meeting
+        requires { at + len < 2 ^ 64 }
+        ensures piece { result.from + result.count ≤ length (piece_bytes self.now) }
+        ensures range { result.done + result.count ≤ len }
+        ensures same { 0 < result.count → self.now.start + result.from ≡ at + result.done }
+        ensures first { result.done ≡ min len (self.now.start - at) }
+        ensures last { result.done + result.count ≡ min len (self.now.start + length (piece_bytes self.now) - at) }
+    {
+        let size = self.backing.len();
+        let from = at.saturating_sub(self.start).min(size);
+        let done = self.start.saturating_sub(at).min(len);
+        Meeting {
+            from,
+            done,
+            count: (size - from).min(len - done),
+        }
+    }
+}

@@ -1,0 +1,99 @@
+ghost use Rattle.std.specs.Prelude.{◌≡◌, ◌<◌, ◌^◌, ◌+◌, length, OnOk};
+ghost use Rattle.std.specs.Arc.{arc_value};
+ghost use Rattle.sol_base.specs.Parts.{bytes_of, part_bytes};
+ghost use Rattle.sol_base.specs.declared.account.Account.{Account};
+
+use super::{Part, Parts};
+use crate::{Account, Blob, Items, SYSTEM_PROGRAM};
+use std::alloc::Global;
+use std::sync::Arc;
+use std::test::Fail;
+
+/// An account with these data.
+fn account_with(alloc: Global, bytes: &[u8]) -> Result<Arc<Account>, Fail> {
+    let account = Account {
+        lamports: 1,
+        owner: SYSTEM_PROGRAM,
+        executable: false,
+        bytes: Blob::from_slice(alloc, bytes)?,
+    };
+    Ok(Arc::new(alloc, account)?)
+}
+
+/// Adds a part.
+fn add(parts: &mut Items<Part>, part: Part) -> Result<(), Fail>
+    ensures { OnOk result (length (bytes_of parts.new) ≡ length (bytes_of parts.old) + length (part_bytes part)) }
+{
+    parts.push(part)?;
+    Ok(())
+}
+
+/// The list of example "parts of a region".
+fn region(alloc: Global, lent: &Arc<Account>) -> Result<Parts, Fail>
+    requires { let account : Account = arc_value lent.now in length account.bytes < 2 ^ 16 }
+{
+    let mut parts = Items::new(alloc);
+    add(&mut parts, Part::Bytes(Blob::from_slice(alloc, &[1, 2])?))?;
+    add(&mut parts, Part::Lent(Arc::try_clone(lent)?))?;
+    add(&mut parts, Part::Zeros(1))?;
+    Ok(Parts::from_items(alloc, parts)?)
+}
+
+/// The same list with empty parts between the others.
+fn region_with_gaps(alloc: Global, lent: &Arc<Account>) -> Result<Parts, Fail>
+    requires { let account : Account = arc_value lent.now in length account.bytes < 2 ^ 16 }
+{
+    let mut parts = Items::new(alloc);
+    add(&mut parts, Part::Zeros(0))?;
+    add(&mut parts, Part::Bytes(Blob::from_slice(alloc, &[1, 2])?))?;
+    add(&mut parts, Part::Bytes(Blob::new(alloc)))?;
+    add(&mut parts, Part::Lent(Arc::try_clone(lent)?))?;
+    add(&mut parts, Part::Zeros(0))?;
+    add(&mut parts, Part::Zeros(1))?;
+    Ok(Parts::from_items(alloc, parts)?)
+}
+
+#[test]
+fn writes_a_region(rt: HostRuntime) -> Result<(), Fail> {
+    let alloc = rt.alloc();
+    let lent = account_with(alloc, &[3, 4])?;
+    assert_eq!(rt; lent.bytes.as_slice(), [3, 4].as_slice());
+    let mut list = region(alloc, &lent)?;
+    assert_eq!(rt; list.len(), 5);
+    list.write(1, &[0xaa, 0xbb])?;
+    let mut all = [0xff; 5];
+    assert_eq!(rt; list.len(), 5);
+    list.read(0, &mut all);
+    assert_eq!(rt; all, [1, 0xaa, 0xbb, 4, 0]);
+    list.prepare(0, 5)?;
+    assert_eq!(rt; list.len(), 5);
+    list.read(0, &mut all);
+    assert_eq!(rt; all, [1, 0xaa, 0xbb, 4, 0]);
+    list.write(0, &[9, 8, 7, 6, 5])?;
+    assert_eq!(rt; list.len(), 5);
+    list.read(0, &mut all);
+    assert_eq!(rt; all, [9, 8, 7, 6, 5]);
+    assert_eq!(rt; list.get(3), 6);
+    assert_eq!(rt; lent.bytes.as_slice(), [3, 4].as_slice());
+    Ok(())
+}
+
+#[test]
+fn goes_over_empty_parts(rt: HostRuntime) -> Result<(), Fail> {
+    let alloc = rt.alloc();
+    let lent = account_with(alloc, &[3, 4])?;
+    assert_eq!(rt; lent.bytes.len(), 2);
+    let mut list = region_with_gaps(alloc, &lent)?;
+    let mut all = [0xff; 5];
+    assert_eq!(rt; list.len(), 5);
+    list.read(0, &mut all);
+    assert_eq!(rt; all, [1, 2, 3, 4, 0]);
+    assert_eq!(rt; list.get(4), 0);
+    list.write(1, &[7, 8, 9, 10])?;
+    assert_eq!(rt; list.len(), 5);
+    list.read(0, &mut all);
+    assert_eq!(rt; all, [1, 7, 8, 9, 10]);
+    list.write(5, &[])?;
+    list.prepare(5, 0)?;
+    Ok(())
+}
