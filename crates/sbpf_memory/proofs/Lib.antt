@@ -1,0 +1,9 @@
+pub mod Places
+pub mod Prepared
+pub mod Fresh
+pub mod Reading
+pub mod Writing
+pub mod Copying
+pub mod Addresses
+pub mod InRanges
+pub mod ByAddress

@@ -1,0 +1,13 @@
+//! The memory of a machine: bytes by address, in four ranges.
+#![tactic(auto)]
+
+mod fault;
+mod laws;
+mod memory;
+mod place;
+#[cfg(test)]
+mod tests;
+
+pub use fault::{AccessViolation, MemFault};
+pub use laws::{memory_is_a_map, reads_lie_in_one_range, writes_lie_in_a_writable_range};
+pub use memory::Memory;

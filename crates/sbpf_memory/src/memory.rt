@@ -1,0 +1,476 @@
+ghost use Rattle.std.specs.Prelude.{◌≡◌, ◌<◌, ◌≤◌, ◌+◌, ◌^◌, length, IfOk, MatchResult, IfSome, None, Some, Err, true, false, ◌&&◌, nat_lt, replicate, take, drop, IsOk, OnOk, OnErr};
+ghost use Rattle.std.specs.Arc.{arc_value};
+ghost use Rattle.std.specs.Borrow.{sem};
+ghost use Rattle.sol_base.specs.Parts.{with_bytes, ArePrepared};
+ghost use Rattle.sbpf_memory.specs.Lending.{LendsInput, with_input};
+ghost use Rattle.sbpf_memory.specs.Memory.{IsMemory, IsWidth, IsPrepared, HasMemory, Answers, Prepares, KeepsBytes, fresh, load_from, read_from, store_to, write_to, copy_to, or_refusal, place_of, range_bytes, with_bytes_in, PreparedIn, refused_in, violation_of, refusal_of, write_refusal, meet as ranges_meet, PreparesIn};
+
+use crate::fault::{AccessViolation, MemFault};
+use crate::place::{
+    HEAP_START, INPUT_START, PROGRAM_START, Place, Region, STACK_SIZE, STACK_START, within,
+    within_frame,
+};
+use sol_base::{Blob, OutOfMemory, Parts};
+use std::alloc::Global;
+use std::marker::Model;
+use std::sync::Arc;
+
+/// The most bytes of a copy that takes no memory.
+const SHORT_COPY: u64 = 512;
+
+/// The memory of one frame of a program.
+#[derive(Drop)]
+pub struct Memory {
+    program: Arc<Blob>,
+    stack: Vec<u8>,
+    heap: Vec<u8>,
+    input: Parts,
+}
+
+impl Model for Memory {
+    ghost use Rattle.std.specs.Prelude.{◌≡◌, ◌*◌, ◌<◌, ◌≤◌, ◌^◌, length};
+    ghost use Rattle.std.specs.Arc.{arc_value};
+    ghost use Rattle.sbpf_memory.specs.Memory.{Ranges, frame_count, frame_size};
+
+    ghost Value = { Ranges };
+
+    ghost view = { λ m. record { program = arc_value m.program; stack = m.stack.items; heap = m.heap.items; input = m.input } };
+
+    ghost invariant = { λ m. (length (arc_value m.program) ≤ 2 ^ 32) × (length m.stack.items ≡ frame_count * frame_size) × (length m.heap.items < 2 ^ 32) };
+}
+
+impl Memory {
+    /// A memory of a program image, `heap` zero bytes of heap, and an input. The stack is zero too.
+    pub fn new(
+        alloc: Global,
+        image: Arc<Blob>,
+        heap: u32,
+        input: Parts,
+    ) -> Result<Memory, OutOfMemory>
+        requires { length (arc_value image) ≤ 2 ^ 32 }
+        ensures { IfOk result (λ memory. memory ≡ fresh (arc_value image) heap input) }
+    {
+        Ok(Memory {
+            program: image,
+            stack: zeros(alloc, STACK_SIZE)?,
+            heap: zeros(alloc, heap as usize)?,
+            input,
+        })
+    }
+
+    /// The number of 1, 2, 4 or 8 bytes at an address, its low byte first.
+    #[inline(always)]
+    #[tactic(auto, unfolding(crate::specs::Memory::load_from))]
+    pub fn load(&self, addr: u64, width: u8) -> Result<u64, AccessViolation>
+        requires { IsWidth width }
+        ensures { result ≡ load_from self.now addr width }
+    {
+        match width {
+            1 => Ok(u64::from(u8::from_le_bytes(self.array::<1>(addr)?))),
+            2 => Ok(u64::from(u16::from_le_bytes(self.array::<2>(addr)?))),
+            4 => Ok(u64::from(u32::from_le_bytes(self.array::<4>(addr)?))),
+            _ => Ok(u64::from_le_bytes(self.array::<8>(addr)?)),
+        }
+    }
+
+    /// Reads the bytes at an address, as many as `into` has. A refused read leaves `into`.
+    #[tactic(auto, unfolding(crate::specs::Memory::read_from))]
+    pub fn read(&self, addr: u64, into: &mut [u8]) -> Result<(), AccessViolation>
+        ensures { MatchResult result
+            (λ _. read_from self.now addr (length into.old) ≡ Ok into.new)
+            (λ violation. (read_from self.now addr (length into.old) ≡ Err violation) × (into.new ≡ into.old)) }
+    {
+        if into.is_empty() {
+            return Ok(());
+        }
+        let len = into.len() as u64;
+        match self.place(addr, len) {
+            None => Err(violation(addr, len, false)),
+            Some(place) => {
+                self.read_at(place, into);
+                Ok(())
+            }
+        }
+    }
+
+    /// Stores the low 1, 2, 4 or 8 bytes of a number at an address, whole or not at all.
+    #[inline(always)]
+    #[tactic(auto, unfolding(crate::specs::Memory::store_to))]
+    pub fn store(&mut self, addr: u64, width: u8, value: u64) -> Result<(), MemFault>
+        requires { IsWidth width }
+        ensures answer { Answers (or_refusal (store_to self.old addr width value)) self.old self.new result }
+        ensures ready { IsPrepared self.old addr width → HasMemory result }
+    {
+        let [a, b, c, d, e, f, g, h] = value.to_le_bytes();
+        match width {
+            1 => self.put(addr, [a]),
+            2 => self.put(addr, [a, b]),
+            4 => self.put(addr, [a, b, c, d]),
+            _ => self.put(addr, [a, b, c, d, e, f, g, h]),
+        }
+    }
+
+    /// Writes the bytes at an address, whole or not at all.
+    #[tactic(auto, unfolding(crate::specs::Memory::write_to, crate::specs::Memory::IsPrepared))]
+    pub fn write(&mut self, addr: u64, bytes: &[u8]) -> Result<(), MemFault>
+        ensures answer { Answers (or_refusal (write_to self.old addr bytes.now)) self.old self.new result }
+        ensures ready { IsPrepared self.old addr (length bytes.now) → HasMemory result }
+    {
+        if bytes.is_empty() {
+            return Ok(());
+        }
+        let len = bytes.len() as u64;
+        match self.place(addr, len) {
+            None => Err(MemFault::from(violation(addr, len, true))),
+            Some(place) => self.write_at(addr, place, bytes),
+        }
+    }
+
+    /// Copies `len` bytes. Where `apart` holds, the two ranges may not meet; else the bytes that
+    /// stood there before are copied.
+    #[tactic(auto, using(crate::proofs::Copying::copies))]
+    pub fn copy(&mut self, to: u64, from: u64, len: u64, apart: bool) -> Result<(), MemFault>
+        ensures { Answers (copy_to self.old to from len apart) self.old self.new result }
+    {
+        self.may_read(from, len)?;
+        self.may_write(to, len)?;
+        if apart && meet(to, from, len) {
+            return Err(MemFault::Overlap);
+        }
+        self.copy_bytes(to, from, len)
+    }
+
+    /// Makes ready for writes that take no memory. It is refused where a write is.
+    #[tactic(auto, unfolding(crate::specs::Memory::write_refusal, crate::specs::Memory::IsPrepared))]
+    pub fn prepare(&mut self, addr: u64, len: u64) -> Result<(), MemFault>
+        ensures answer { Prepares self.old addr len self.new result }
+        ensures bytes { KeepsBytes self.old self.new }
+    {
+        if len == 0 {
+            return Ok(());
+        }
+        match self.place(addr, len) {
+            None => Err(MemFault::from(violation(addr, len, true))),
+            Some(place) => self.prepare_at(addr, place, len),
+        }
+    }
+
+    /// The input.
+    pub fn input(&self) -> &Parts
+        ensures value { result.now ≡ self.now.input }
+    {
+        &self.input
+    }
+
+    /// The input, to be changed. The memory then has the input as it is left.
+    pub fn input_mut(&mut self) -> &mut Parts
+        ensures* writes_back { sem 𝓛 (LendsInput self.entry result) }
+        ensures value { result.now ≡ self.old.input }
+    {
+        &mut self.input
+    }
+}
+
+impl Memory {
+    /// How many bytes the program has.
+    #[inline(always)]
+    fn program_size(&self) -> u64
+        ensures value { result ≡ length self.now.program }
+        ensures most { result ≤ 2 ^ 32 }
+    {
+        self.program.len() as u64
+    }
+
+    /// How many bytes the heap has.
+    #[inline(always)]
+    fn heap_size(&self) -> u64
+        ensures value { result ≡ length self.now.heap }
+        ensures most { result < 2 ^ 32 }
+    {
+        self.heap.len() as u64
+    }
+
+    /// How many bytes the input has.
+    #[inline(always)]
+    fn input_size(&self) -> u64
+        ensures value { result ≡ length self.now.input.bytes }
+        ensures most { result < 2 ^ 32 }
+    {
+        self.input.len() as u64
+    }
+
+    /// Where an access of at least one byte lies, or None where it lies in no range.
+    #[inline(always)]
+    #[tactic(auto, using(std::proofs::lemmas::Bool::Decides::nat_tests, crate::proofs::Places::places), unfolding(crate::specs::Memory::place_of))]
+    fn place(&self, addr: u64, len: u64) -> Option<Place>
+        requires { 1 ≤ len }
+        ensures value { result ≡ place_of self.now addr len }
+        ensures within { IfSome result (λ place. place.at + len ≤ length (range_bytes self.now place.region)) }
+    {
+        let _ = &self.program;
+        if addr < PROGRAM_START {
+            None
+        } else if addr < STACK_START {
+            within(
+                Region::Program,
+                addr - PROGRAM_START,
+                len,
+                self.program_size(),
+            )
+        } else if addr < HEAP_START {
+            within_frame(addr - STACK_START, len)
+        } else if addr < INPUT_START {
+            within(Region::Heap, addr - HEAP_START, len, self.heap_size())
+        } else {
+            within(Region::Input, addr - INPUT_START, len, self.input_size())
+        }
+    }
+
+    /// Whether a read of `len` bytes is refused.
+    #[tactic(auto, using(crate::proofs::Reading::reads), unfolding(crate::specs::Memory::read_from))]
+    fn may_read(&self, addr: u64, len: u64) -> Result<(), AccessViolation>
+        ensures answer { MatchResult result
+            (λ _. IsOk (read_from self.now addr len))
+            (λ violation. read_from self.now addr len ≡ Err violation) }
+        ensures count { IfOk (read_from self.now addr len) (λ bytes. length bytes ≡ len) }
+    {
+        let _ = &self.stack;
+        if len == 0 || self.place(addr, len).is_some() {
+            Ok(())
+        } else {
+            Err(violation(addr, len, false))
+        }
+    }
+
+    /// Whether a write of `len` bytes is refused.
+    #[tactic(auto, unfolding(crate::specs::Memory::write_refusal))]
+    fn may_write(&self, addr: u64, len: u64) -> Result<(), AccessViolation>
+        ensures { MatchResult result
+            (λ _. write_refusal self.now addr len ≡ None)
+            (λ violation. write_refusal self.now addr len ≡ Some violation) }
+    {
+        if len == 0 {
+            return Ok(());
+        }
+        match self.place(addr, len) {
+            Some(
+                Place {
+                    region: Region::Stack | Region::Heap | Region::Input,
+                    ..
+                },
+            ) => Ok(()),
+            _ => Err(violation(addr, len, true)),
+        }
+    }
+
+    /// Copies `len` bytes through a buffer: one on the stack, or a list where they are many.
+    fn copy_bytes(&mut self, to: u64, from: u64, len: u64) -> Result<(), MemFault>
+        requires { IsOk (copy_to self.old to from len false) }
+        ensures { Answers (copy_to self.old to from len false) self.old self.new result }
+    {
+        if len <= SHORT_COPY {
+            let mut buffer = [0; SHORT_COPY as usize];
+            self.copy_through(to, from, &mut buffer[..len as usize])
+        } else {
+            let mut buffer = zeros(*self.stack.allocator(), len as usize)?;
+            self.copy_through(to, from, buffer.as_mut_slice())
+        }
+    }
+
+    /// Copies as many bytes as a buffer has, through the buffer.
+    #[tactic(auto, unfolding(crate::specs::Memory::copy_to))]
+    fn copy_through(&mut self, to: u64, from: u64, buffer: &mut [u8]) -> Result<(), MemFault>
+        ensures { Answers (copy_to self.old to from (length buffer.old) false) self.old self.new result }
+    {
+        self.read(from, buffer)?;
+        self.write(to, buffer)
+    }
+
+    /// Reads the bytes at a place.
+    #[inline(always)]
+    fn read_at(&self, place: Place, into: &mut [u8])
+        requires { place.at + length into.old ≤ length (range_bytes self.now place.region) }
+        ensures { into.new ≡ take (length into.old) (drop place.at (range_bytes self.now place.region)) }
+    {
+        let at = place.at as usize;
+        match place.region {
+            Region::Program => copy_from(self.program.as_slice(), at, into),
+            Region::Stack => copy_from(self.stack.as_slice(), at, into),
+            Region::Heap => copy_from(self.heap.as_slice(), at, into),
+            Region::Input => self.input.read(at, into),
+        }
+    }
+
+    /// The `N` bytes at an address.
+    #[inline(always)]
+    #[tactic(auto, unfolding(crate::specs::Memory::read_from))]
+    fn array<const N: usize>(&self, addr: u64) -> Result<[u8; N], AccessViolation>
+        requires { 1 ≤ N }
+        ensures { result ≡ read_from self.now addr N }
+    {
+        match self.place(addr, N as u64) {
+            None => Err(violation(addr, N as u64, false)),
+            Some(place) => Ok(self.array_at::<N>(place)),
+        }
+    }
+
+    /// The `N` bytes at a place.
+    #[inline(always)]
+    fn array_at<const N: usize>(&self, place: Place) -> [u8; N]
+        requires { place.at + N ≤ length (range_bytes self.now place.region) }
+        ensures { result ≡ take N (drop place.at (range_bytes self.now place.region)) }
+    {
+        let at = place.at as usize;
+        match place.region {
+            Region::Program => array_from(self.program.as_slice(), at),
+            Region::Stack => array_from(self.stack.as_slice(), at),
+            Region::Heap => array_from(self.heap.as_slice(), at),
+            Region::Input => self.input_array(at),
+        }
+    }
+
+    /// The `N` bytes of the input from a place on.
+    #[inline(always)]
+    fn input_array<const N: usize>(&self, at: usize) -> [u8; N]
+        requires { at + N ≤ length self.now.input.bytes }
+        ensures { result ≡ take N (drop at self.now.input.bytes) }
+    {
+        let mut bytes = [0; N];
+        self.input.read(at, &mut bytes);
+        bytes
+    }
+
+    /// Writes bytes at a place, if its range is written.
+    #[inline(always)]
+    fn write_at(&mut self, addr: u64, place: Place, bytes: &[u8]) -> Result<(), MemFault>
+        requires { place.at + length bytes.now ≤ length (range_bytes self.old place.region) }
+        ensures answer { Answers (or_refusal (with_bytes_in self.old addr bytes.now place.at place.region)) self.old self.new result }
+        ensures ready { PreparedIn self.old (length bytes.now) place.at place.region → HasMemory result }
+    {
+        let len = bytes.len() as u64;
+        let at = place.at as usize;
+        match place.region {
+            Region::Program => return Err(MemFault::from(violation(addr, len, true))),
+            Region::Stack => write_into(self.stack.as_mut_slice(), at, bytes),
+            Region::Heap => write_into(self.heap.as_mut_slice(), at, bytes),
+            Region::Input => self.input.write(at, bytes)?,
+        }
+        Ok(())
+    }
+
+    /// Writes `N` bytes at an address.
+    #[inline(always)]
+    #[tactic(auto, unfolding(crate::specs::Memory::write_to, crate::specs::Memory::IsPrepared))]
+    fn put<const N: usize>(&mut self, addr: u64, bytes: [u8; N]) -> Result<(), MemFault>
+        requires { 1 ≤ N }
+        ensures answer { Answers (or_refusal (write_to self.old addr bytes.entry)) self.old self.new result }
+        ensures ready { IsPrepared self.old addr N → HasMemory result }
+    {
+        match self.place(addr, N as u64) {
+            None => Err(MemFault::from(violation(addr, N as u64, true))),
+            Some(place) => self.put_at(addr, place, bytes),
+        }
+    }
+
+    /// Writes `N` bytes at a place, if its range is written.
+    #[inline(always)]
+    fn put_at<const N: usize>(
+        &mut self,
+        addr: u64,
+        place: Place,
+        bytes: [u8; N],
+    ) -> Result<(), MemFault>
+        requires { place.at + N ≤ length (range_bytes self.old place.region) }
+        ensures answer { Answers (or_refusal (with_bytes_in self.old addr bytes.entry place.at place.region)) self.old self.new result }
+        ensures ready { PreparedIn self.old N place.at place.region → HasMemory result }
+    {
+        let at = place.at as usize;
+        match place.region {
+            Region::Program => return Err(MemFault::from(violation(addr, N as u64, true))),
+            Region::Stack => write_into(self.stack.as_mut_slice(), at, &bytes),
+            Region::Heap => write_into(self.heap.as_mut_slice(), at, &bytes),
+            Region::Input => self.put_input(at, bytes)?,
+        }
+        Ok(())
+    }
+
+    /// Writes `N` bytes of the input from a place on.
+    #[inline(always)]
+    fn put_input<const N: usize>(&mut self, at: usize, bytes: [u8; N]) -> Result<(), OutOfMemory>
+        requires { at + N ≤ length self.old.input.bytes }
+        ensures ok { OnOk result (self.new ≡ with_input self.old (record { bytes = with_bytes self.old.input.bytes at bytes.entry; prepared = self.old.input.prepared })) }
+        ensures err { OnErr result (self.new ≡ self.old) }
+        ensures ready { ArePrepared self.old.input.prepared at N → IsOk result }
+    {
+        self.input.write(at, &bytes)
+    }
+
+    /// Makes ready for a write at a place, if its range is written.
+    fn prepare_at(&mut self, addr: u64, place: Place, len: u64) -> Result<(), MemFault>
+        requires { place.at + len ≤ length (range_bytes self.old place.region) }
+        ensures answer { PreparesIn (refused_in addr len place.region) (PreparedIn self.new len place.at place.region) result }
+        ensures bytes { KeepsBytes self.old self.new }
+    {
+        match place.region {
+            Region::Program => Err(MemFault::from(violation(addr, len, true))),
+            Region::Stack | Region::Heap => Ok(()),
+            Region::Input => {
+                self.input.prepare(place.at as usize, len as usize)?;
+                Ok(())
+            }
+        }
+    }
+}
+
+/// Whether two ranges of `len` addresses meet.
+#[tactic(auto, using(std::proofs::lemmas::Bool::Decides::nat_tests))]
+fn meet(one: u64, other: u64, len: u64) -> bool
+    ensures { result ≡ (nat_lt 0 len && ranges_meet one other len) }
+{
+    one.abs_diff(other) < len
+}
+
+/// A list of zeros.
+fn zeros(alloc: Global, count: usize) -> Result<Vec<u8>, OutOfMemory>
+    ensures { IfOk result (λ list. list.items ≡ replicate count 0) }
+{
+    Ok(vec![in alloc; 0; count]?)
+}
+
+/// An access that is refused.
+fn violation(addr: u64, len: u64, write: bool) -> AccessViolation
+    ensures { result ≡ violation_of addr len write }
+{
+    AccessViolation { addr, len, write }
+}
+
+/// Copies bytes to a place of a list.
+#[inline(always)]
+fn write_into(list: &mut [u8], at: usize, bytes: &[u8])
+    requires { at + length bytes.now ≤ length list.old }
+    ensures { list.new ≡ with_bytes list.old at bytes.now }
+{
+    let end = at + bytes.len();
+    list[at..end].copy_from_slice(bytes);
+}
+
+/// Copies bytes from a place of a list on.
+#[inline(always)]
+fn copy_from(list: &[u8], at: usize, into: &mut [u8])
+    requires { at + length into.old ≤ length list.now }
+    ensures { into.new ≡ take (length into.old) (drop at list.now) }
+{
+    let end = at + into.len();
+    into.copy_from_slice(&list[at..end]);
+}
+
+/// The `N` bytes of a list from a place on.
+#[inline(always)]
+fn array_from<const N: usize>(list: &[u8], at: usize) -> [u8; N]
+    requires { at + N ≤ length list.now }
+    ensures { result ≡ take N (drop at list.now) }
+{
+    let mut bytes = [0; N];
+    bytes.copy_from_slice(&list[at..at + N]);
+    bytes
+}

@@ -1,0 +1,68 @@
+ghost use Rattle.std.specs.Prelude.{◌≡◌, ◌≤◌, ◌<◌, ◌+◌, ◌*◌, ◌/◌, ◌%◌, ◌^◌, ◌&&◌, length, nat_le, nat_lt, IfSome, None, if◌then◌else◌};
+ghost use Rattle.sbpf_memory.specs.Memory.{place_of, range_bytes, at_place};
+ghost use Rattle.sbpf_memory.specs.declared.place.Region.TheVariants.{Stack};
+
+/// A range of addresses.
+#[derive(Clone, Copy, Debug, PartialEq, Eq)]
+pub enum Region {
+    Program,
+    Stack,
+    Heap,
+    Input,
+}
+
+/// A place in the bytes of a range.
+#[derive(Clone, Copy, Debug, PartialEq, Eq)]
+pub struct Place {
+    pub region: Region,
+    pub at: u64,
+}
+
+/// The first addresses of the ranges.
+pub(crate) const PROGRAM_START: u64 = 0x1_0000_0000;
+
+pub(crate) const STACK_START: u64 = 0x2_0000_0000;
+
+pub(crate) const HEAP_START: u64 = 0x3_0000_0000;
+
+pub(crate) const INPUT_START: u64 = 0x4_0000_0000;
+
+/// The bytes of a frame of the stack, how far apart frames begin, and how many there are.
+const FRAME_SIZE: u64 = 4096;
+
+const FRAME_STEP: u64 = 8192;
+
+const FRAME_COUNT: u64 = 64;
+
+/// The bytes of all frames of the stack.
+pub(crate) const STACK_SIZE: usize = 262_144;
+
+/// A place of a range, where the range has `len` bytes from it on.
+#[inline(always)]
+pub(crate) fn within(region: Region, at: u64, len: u64, size: u64) -> Option<Place>
+    requires { size ≤ 2 ^ 32 }
+    ensures { result ≡ (if nat_le (at + len) size then at_place region at else None) }
+{
+    if at.saturating_add(len) <= size {
+        Some(Place { region, at })
+    } else {
+        None
+    }
+}
+
+/// A place of the stack, where its frame has `len` bytes from it on.
+#[inline(always)]
+pub(crate) fn within_frame(at: u64, len: u64) -> Option<Place>
+    ensures { result ≡ (if nat_lt (at / 8192) 64 && nat_le (at % 8192 + len) 4096 then at_place Stack (4096 * (at / 8192) + at % 8192) else None) }
+{
+    let frame = at / FRAME_STEP;
+    let inside = at % FRAME_STEP;
+    if frame < FRAME_COUNT && inside.saturating_add(len) <= FRAME_SIZE {
+        Some(Place {
+            region: Region::Stack,
+            at: FRAME_SIZE * frame + inside,
+        })
+    } else {
+        None
+    }
+}
