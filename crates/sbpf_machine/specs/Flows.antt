@@ -1,0 +1,72 @@
+-- What the answer of one instruction says of the row that it follows.
+use Rattle.std.specs.Prelude.{◌≡◌, ℕ, ◌+◌, true, List, slice_get, Some}
+use Rattle.sbpf_isa.specs.declared.rows.OpKind.{OpKind}
+use Rattle.sbpf_verify.specs.Places.{is_start}
+use Rattle.sbpf_verify.specs.declared.entry.Entry.{Entry}
+use Rattle.sbpf_machine.specs.Steps.{Next as Row, Go, Halt, Operands, IsStore}
+use Rattle.sbpf_machine.specs.declared.frames.Kept.{Kept}
+use Rattle.sbpf_machine.specs.declared.context.Context.{Context}
+use Rattle.sbpf_machine.specs.declared.stop.Stop.TheVariants.{Exit, Helper, Fault}
+use Rattle.sbpf_machine.specs.declared.instruction.Flow.{Flow}
+use Rattle.sbpf_machine.specs.declared.instruction.Flow.TheVariants.{Next, Jump, To, Off, NoMemory}
+
+-- the operands that an entry holds
+abbrev pub operands_of : Entry → Operands
+operands_of e = record { dst = e.dst; src = e.src; target = e.target; offset = e.offset; imm = e.imm }
+
+-- where an answer leads: to the next place, to the target, to another, or to a stop; without memory, where the row will lead when it is tried again
+abbrev pub after : Row → ℕ → ℕ → Context → Flow → Row
+after row target place new Next = Go (place + 1) new
+after row target place new Jump = Go target new
+after row target place new (To other) = Go other new
+after row target place new (Off stop) = Halt stop new
+after row target place new NoMemory = row
+
+-- the row leads where the answer says
+abbrev pub Follows : Row → ℕ → ℕ → Context → Flow → Type 0
+Follows row target place new flow = after row target place new flow ≡ row
+
+-- where it goes on, an instruction starts there, and after a system call at the place behind it
+abbrev pub LandsOn : List ℕ → ℕ → ℕ → Flow → Type 0
+LandsOn text target place Next = is_start text (place + 1) ≡ true
+LandsOn text target place Jump = is_start text target ≡ true
+LandsOn text target place (To other) = is_start text other ≡ true
+LandsOn text target place (Off (Helper number)) = is_start text (place + 1) ≡ true
+LandsOn text target place (Off (Exit r0)) = Unit {0}
+LandsOn text target place (Off (Fault fault)) = Unit {0}
+LandsOn text target place NoMemory = Unit {0}
+
+-- memory is wanted by stores alone, which then have changed nothing
+abbrev pub WantsOnlyAt : OpKind → Context → Context → Flow → Type 0
+WantsOnlyAt kind old new NoMemory = IsStore kind × (new ≡ old)
+WantsOnlyAt kind old new _ = Unit {0}
+
+-- it goes to the next place, if anywhere, and wants no memory
+abbrev pub IsNext : Flow → Type 0
+IsNext Next = Unit {0}
+IsNext (Off (Fault fault)) = Unit {0}
+IsNext _ = ⊥
+
+-- the same, or it wants memory and has changed nothing
+abbrev pub IsNextOrWant : Context → Context → Flow → Type 0
+IsNextOrWant old new Next = Unit {0}
+IsNextOrWant old new (Off (Fault fault)) = Unit {0}
+IsNextOrWant old new NoMemory = new ≡ old
+IsNextOrWant old new _ = ⊥
+
+-- it goes to this place, if anywhere, and wants no memory
+abbrev pub IsTo : ℕ → Flow → Type 0
+IsTo place (To other) = other ≡ place
+IsTo place (Off (Fault fault)) = Unit {0}
+IsTo place _ = ⊥
+
+-- it goes to a place where an instruction starts, if anywhere, and wants no memory
+abbrev pub IsToStart : List ℕ → Flow → Type 0
+IsToStart text (To other) = is_start text other ≡ true
+IsToStart text (Off (Fault fault)) = Unit {0}
+IsToStart text (Off (Exit r0)) = Unit {0}
+IsToStart text _ = ⊥
+
+-- each frame that waits goes back to where an instruction starts
+abbrev pub GoBack : List ℕ → List Kept → Type 0
+GoBack text frames = (k : ℕ) (frame : Kept) → slice_get frames k ≡ Some frame → is_start text frame.back ≡ true

@@ -1,0 +1,5 @@
+pub mod Flows
+pub mod Lending
+pub mod Runs
+pub mod Steps
+pub mod Values

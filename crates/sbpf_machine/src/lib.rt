@@ -1,0 +1,15 @@
+//! The machine that runs verified sBPF texts up to their stops.
+#![tactic(auto)]
+
+mod context;
+mod frames;
+mod instruction;
+mod machine;
+mod run;
+mod stop;
+#[cfg(test)]
+mod tests;
+mod values;
+
+pub use machine::Machine;
+pub use stop::{Fault, Stop};

@@ -1,0 +1,165 @@
+//! The machine.
+ghost use Rattle.std.specs.Prelude.{◌≡◌, ◌≤◌, true, Some, None, IfOk, IfErr};
+ghost use Rattle.std.specs.Arc.{arc_value};
+ghost use Rattle.std.specs.Borrow.{sem};
+ghost use Rattle.sbpf_machine.specs.Lending.{LendsMemory};
+ghost use Rattle.sbpf_machine.specs.Runs.{ComesTo};
+ghost use Rattle.sbpf_machine.specs.Steps.{IsHelper, StandsBeforeStore, arguments_in, first_state, resumed, steps, with_units};
+ghost use Rattle.sbpf_verify.specs.Places.{is_start};
+
+use crate::context::Context;
+use crate::frames::Frames;
+use crate::run::run_from;
+use crate::stop::Stop;
+use sbpf_memory::Memory;
+use sbpf_verify::{Decoded, Verified};
+use sol_base::OutOfMemory;
+use std::alloc::Global;
+use std::marker::Model;
+use std::sync::Arc;
+
+/// What r1 holds at the start: the first address of the input.
+const INPUT_START: u64 = 0x4_0000_0000;
+
+/// What r10 holds at the start: the end of the first frame of the stack.
+const FRAME_END: u64 = 0x2_0000_1000;
+
+/// A machine over a verified text. It stops at the end of the program, at a system call, and at a
+/// fault; only after a system call does it go on.
+#[derive(Drop)]
+pub struct Machine {
+    code: Arc<Decoded>,
+    place: u32,
+    units: u64,
+    context: Context,
+    stop: Option<Stop>,
+}
+
+impl Model for Machine {
+    ghost use Rattle.std.specs.Arc.{arc_value};
+    ghost use Rattle.sbpf_machine.specs.Runs.{StandsAtStart};
+    ghost use Rattle.sbpf_machine.specs.Steps.{State};
+
+    ghost Value = { State };
+
+    ghost view = { λ m. record { text = arc_value m.code; place = m.place; context = m.context; units = m.units; stop = m.stop } };
+
+    ghost invariant = { λ m. StandsAtStart (arc_value m.code) m.place m.context m.stop };
+}
+
+impl Machine {
+    /// A machine at the start of a program, which is decoded for it.
+    pub fn new(
+        alloc: Global,
+        program: Arc<Verified>,
+        memory: Memory,
+        units: u64,
+    ) -> Result<Machine, OutOfMemory>
+        ensures { IfOk result (λ machine. machine ≡ first_state (arc_value program) memory units) }
+    {
+        let code = Decoded::of(alloc, program)?;
+        Ok(Machine::of(Arc::new(alloc, code)?, memory, units))
+    }
+
+    /// A machine at the start of a program that is decoded already.
+    pub fn of(code: Arc<Decoded>, memory: Memory, units: u64) -> Machine
+        ensures { result ≡ first_state (arc_value code) memory units }
+    {
+        let entries = code.entries();
+        prove!(!entries.is_empty());
+        let mut registers = [0; 11];
+        registers[1] = INPUT_START;
+        registers[10] = FRAME_END;
+        Machine {
+            code,
+            place: 0,
+            units,
+            context: Context {
+                registers,
+                frames: Frames::new(),
+                memory,
+            },
+            stop: None,
+        }
+    }
+
+    /// Runs to the first stop, and answers a stop that it stands at again. Want of memory leaves
+    /// the machine before the store that met it.
+    pub fn run(&mut self) -> Result<Stop, OutOfMemory>
+        ensures stops { IfOk result (λ stop. (steps self.old ≡ Some self.new) × (self.new.stop ≡ Some stop)) }
+        ensures short { IfErr result (λ _. StandsBeforeStore self.old self.new) }
+        ensures start { is_start self.new.text self.new.place ≡ true }
+    {
+        self.go_on();
+        match self.stop {
+            Some(stop) => Ok(stop),
+            None => Err(OutOfMemory),
+        }
+    }
+
+    fn go_on(&mut self)
+        ensures comes { ComesTo self.old self.new }
+        ensures start { is_start self.new.text self.new.place ≡ true }
+    {
+        if self.stop.is_some() {
+            return;
+        }
+        let ended = run_from(
+            self.code.program(),
+            self.code.entries(),
+            self.place,
+            self.units,
+            &mut self.context,
+        );
+        self.place = ended.place;
+        self.units = ended.units;
+        self.stop = ended.stop;
+    }
+
+    /// Goes on after a system call, with its answer in r0, at the next `run`.
+    pub fn resume(&mut self, r0: u64)
+        requires { IsHelper self.old.stop }
+        ensures { self.new ≡ resumed self.old r0 }
+    {
+        self.context.registers[0] = r0;
+        self.place += 1;
+        self.stop = None;
+    }
+
+    /// r1 to r5: the arguments of a system call.
+    pub fn arguments(&self) -> [u64; 5]
+        ensures { result ≡ arguments_in self.now.context.registers }
+    {
+        let r = &self.context.registers;
+        [r[1], r[2], r[3], r[4], r[5]]
+    }
+
+    pub fn memory(&self) -> &Memory
+        ensures { result.now ≡ self.now.context.memory }
+    {
+        &self.context.memory
+    }
+
+    /// The memory, to be changed. The machine then has the memory as it is left.
+    pub fn memory_mut(&mut self) -> &mut Memory
+        ensures* writes_back { sem 𝓛 (LendsMemory self.entry result) }
+        ensures value { result.now ≡ self.old.context.memory }
+    {
+        &mut self.context.memory
+    }
+
+    /// The units that are left.
+    pub fn units(&self) -> u64
+        ensures { result ≡ self.now.units }
+    {
+        self.units
+    }
+
+    /// Takes units away, as a system call does that costs some.
+    pub fn set_units(&mut self, units: u64)
+        requires { units ≤ self.old.units }
+        ensures { self.new ≡ with_units self.old units }
+    {
+        self.units = units;
+    }
+}

@@ -1,0 +1,27 @@
+use thiserror::Error;
+
+/// Why an instruction cannot act.
+#[derive(Clone, Copy, Debug, PartialEq, Eq, Error)]
+pub enum Fault {
+    #[error("no units are left")]
+    UnitsSpent,
+    #[error("division by zero")]
+    DivideByZero,
+    #[error("access of {len} bytes at {addr:#x}")]
+    AccessViolation { addr: u64, len: u64, write: bool },
+    #[error("64 frames are active")]
+    CallDepth,
+    #[error("no instruction starts at {value:#x}")]
+    BadCallTarget { value: u64 },
+}
+
+/// What a machine stops for.
+#[derive(Clone, Copy, Debug, PartialEq, Eq)]
+pub enum Stop {
+    /// The program ended with this value in r0.
+    Exit { r0: u64 },
+    /// The program calls the system call of this number.
+    Helper { number: u32 },
+    /// An instruction could not act.
+    Fault(Fault),
+}
