@@ -1,6 +1,4 @@
 //! Texts that run to their stops, with values from the rows of the table of instructions.
-ghost use Rattle.std.specs.Prelude.{◌<◌, ◌^◌, length};
-
 use super::*;
 use sbpf_memory::Memory;
 use sbpf_verify::{Verified, verify};
@@ -40,6 +38,7 @@ fn program_of(alloc: Global, slots: &[Slot]) -> Result<Arc<Verified>, Fail> {
 }
 
 /// A memory with sixteen bytes of ones as its input.
+#[tactic(auto, unfolding(sol_base::specs::Parts::bytes_of))]
 fn memory_of(alloc: Global) -> Result<Memory, OutOfMemory> {
     let mut parts = Items::new(alloc);
     parts.push(Part::Bytes(Blob::from_slice(alloc, &[0xff; 16])?))?;
