@@ -1,3 +1,6 @@
+ghost use Rattle.std.specs.Prelude.{◌≡◌};
+ghost use Rattle.sbpf_memory.specs.Memory.{violation_of};
+
 use sol_base::OutOfMemory;
 use thiserror::Error;
 
@@ -9,6 +12,13 @@ pub struct AccessViolation {
     pub addr: u64,
     pub len: u64,
     pub write: bool,
+}
+
+/// An access that is refused.
+pub(crate) fn violation(addr: u64, len: u64, write: bool) -> AccessViolation
+    ensures { result ≡ violation_of addr len write }
+{
+    AccessViolation { addr, len, write }
 }
 
 /// Why a memory is not changed.

@@ -1,13 +1,14 @@
-ghost use Rattle.std.specs.Prelude.{◌≡◌, ◌<◌, ◌≤◌, ◌+◌, ◌^◌, length, IfOk, MatchResult, IfSome, None, Some, Err, true, false, ◌&&◌, nat_lt, replicate, take, drop, IsOk, OnOk, OnErr};
+ghost use Rattle.std.specs.Prelude.{◌≡◌, ◌<◌, ◌≤◌, ◌+◌, ◌^◌, length, IfOk, MatchResult, IfSome, false, take, drop, IsOk, OnOk, OnErr};
 ghost use Rattle.std.specs.Arc.{arc_value};
 ghost use Rattle.std.specs.Borrow.{sem};
 ghost use Rattle.sol_base.specs.Parts.{with_bytes, ArePrepared};
 ghost use Rattle.sbpf_memory.specs.Lending.{LendsInput, with_input};
-ghost use Rattle.sbpf_memory.specs.Memory.{IsMemory, IsWidth, IsPrepared, HasMemory, Answers, Prepares, KeepsBytes, fresh, load_from, read_from, store_to, write_to, copy_to, or_refusal, place_of, range_bytes, with_bytes_in, PreparedIn, refused_in, violation_of, refusal_of, write_refusal, meet as ranges_meet, PreparesIn};
+ghost use Rattle.sbpf_memory.specs.Memory.{IsMemory, IsWidth, IsPrepared, HasMemory, Answers, Prepares, KeepsBytes, fresh, load_from, read_from, store_to, write_to, copy_to, or_refusal, place_of, range_bytes, with_bytes_in, PreparedIn, refused_in, write_refusal, PreparesIn};
 
-use crate::fault::{AccessViolation, MemFault};
+use crate::bytes::{array_from, put_into, read_into, write_into, zeros};
+use crate::fault::{AccessViolation, MemFault, violation};
 use crate::place::{
-    HEAP_START, INPUT_START, PROGRAM_START, Place, Region, STACK_SIZE, STACK_START, within,
+    HEAP_START, INPUT_START, PROGRAM_START, Place, Region, STACK_SIZE, STACK_START, meet, within,
     within_frame,
 };
 use sol_base::{Blob, OutOfMemory, Parts};
@@ -155,6 +156,14 @@ impl Memory {
         }
     }
 
+    /// A law: what holds of each memory, of which the laws over memories speak.
+    pub fn is_memory(&self)
+        ensures { IsMemory self.now }
+    {
+        let _ = &self.stack;
+        let _sizes = (self.program_size(), self.heap_size(), self.input_size());
+    }
+
     /// The input.
     pub fn input(&self) -> &Parts
         ensures value { result.now ≡ self.now.input }
@@ -294,9 +303,9 @@ impl Memory {
     {
         let at = place.at as usize;
         match place.region {
-            Region::Program => copy_from(self.program.as_slice(), at, into),
-            Region::Stack => copy_from(self.stack.as_slice(), at, into),
-            Region::Heap => copy_from(self.heap.as_slice(), at, into),
+            Region::Program => read_into(self.program.as_slice(), at, into),
+            Region::Stack => read_into(self.stack.as_slice(), at, into),
+            Region::Heap => read_into(self.heap.as_slice(), at, into),
             Region::Input => self.input.read(at, into),
         }
     }
@@ -387,8 +396,8 @@ impl Memory {
         let at = place.at as usize;
         match place.region {
             Region::Program => return Err(MemFault::from(violation(addr, N as u64, true))),
-            Region::Stack => write_into(self.stack.as_mut_slice(), at, &bytes),
-            Region::Heap => write_into(self.heap.as_mut_slice(), at, &bytes),
+            Region::Stack => put_into(self.stack.as_mut_slice(), at, bytes),
+            Region::Heap => put_into(self.heap.as_mut_slice(), at, bytes),
             Region::Input => self.put_input(at, bytes)?,
         }
         Ok(())
@@ -420,57 +429,4 @@ impl Memory {
             }
         }
     }
-}
-
-/// Whether two ranges of `len` addresses meet.
-#[tactic(auto, using(std::proofs::lemmas::Bool::Decides::nat_tests))]
-fn meet(one: u64, other: u64, len: u64) -> bool
-    ensures { result ≡ (nat_lt 0 len && ranges_meet one other len) }
-{
-    one.abs_diff(other) < len
-}
-
-/// A list of zeros.
-fn zeros(alloc: Global, count: usize) -> Result<Vec<u8>, OutOfMemory>
-    ensures { IfOk result (λ list. list.items ≡ replicate count 0) }
-{
-    Ok(vec![in alloc; 0; count]?)
-}
-
-/// An access that is refused.
-fn violation(addr: u64, len: u64, write: bool) -> AccessViolation
-    ensures { result ≡ violation_of addr len write }
-{
-    AccessViolation { addr, len, write }
-}
-
-/// Copies bytes to a place of a list.
-#[inline(always)]
-fn write_into(list: &mut [u8], at: usize, bytes: &[u8])
-    requires { at + length bytes.now ≤ length list.old }
-    ensures { list.new ≡ with_bytes list.old at bytes.now }
-{
-    let end = at + bytes.len();
-    list[at..end].copy_from_slice(bytes);
-}
-
-/// Copies bytes from a place of a list on.
-#[inline(always)]
-fn copy_from(list: &[u8], at: usize, into: &mut [u8])
-    requires { at + length into.old ≤ length list.now }
-    ensures { into.new ≡ take (length into.old) (drop at list.now) }
-{
-    let end = at + into.len();
-    into.copy_from_slice(&list[at..end]);
-}
-
-/// The `N` bytes of a list from a place on.
-#[inline(always)]
-fn array_from<const N: usize>(list: &[u8], at: usize) -> [u8; N]
-    requires { at + N ≤ length list.now }
-    ensures { result ≡ take N (drop at list.now) }
-{
-    let mut bytes = [0; N];
-    bytes.copy_from_slice(&list[at..at + N]);
-    bytes
 }

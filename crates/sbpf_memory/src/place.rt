@@ -1,5 +1,5 @@
-ghost use Rattle.std.specs.Prelude.{◌≡◌, ◌≤◌, ◌<◌, ◌+◌, ◌*◌, ◌/◌, ◌%◌, ◌^◌, ◌&&◌, length, nat_le, nat_lt, IfSome, None, if◌then◌else◌};
-ghost use Rattle.sbpf_memory.specs.Memory.{place_of, range_bytes, at_place};
+ghost use Rattle.std.specs.Prelude.{◌≡◌, ◌≤◌, ◌+◌, ◌*◌, ◌/◌, ◌%◌, ◌^◌, ◌&&◌, nat_le, nat_lt, None, if◌then◌else◌};
+ghost use Rattle.sbpf_memory.specs.Memory.{at_place, meet as ranges_meet};
 ghost use Rattle.sbpf_memory.specs.declared.place.Region.TheVariants.{Stack};
 
 /// A range of addresses.
@@ -35,7 +35,7 @@ const FRAME_STEP: u64 = 8192;
 const FRAME_COUNT: u64 = 64;
 
 /// The bytes of all frames of the stack.
-pub(crate) const STACK_SIZE: usize = 262_144;
+pub(crate) const STACK_SIZE: usize = (FRAME_SIZE * FRAME_COUNT) as usize;
 
 /// A place of a range, where the range has `len` bytes from it on.
 #[inline(always)]
@@ -65,4 +65,12 @@ pub(crate) fn within_frame(at: u64, len: u64) -> Option<Place>
     } else {
         None
     }
+}
+
+/// Whether two ranges of `len` addresses meet.
+#[tactic(auto, using(std::proofs::lemmas::Bool::Decides::nat_tests))]
+pub(crate) fn meet(one: u64, other: u64, len: u64) -> bool
+    ensures { result ≡ (nat_lt 0 len && ranges_meet one other len) }
+{
+    one.abs_diff(other) < len
 }
