@@ -1,5 +1,5 @@
 -- Ways from one machine to another, instruction by instruction.
-use Rattle.std.proofs.Common.{◌≡◌, ◌<◌, ◌-◌, ℕ, zero, suc, true, false, List, [], ◌∷◌, length, Option, Some, None, refl, ap, sym, ◌∙◌, arith, get_or}
+use Rattle.std.proofs.Common.{Bool, if◌then◌else◌, ◌≡◌, ◌<◌, ◌-◌, ℕ, zero, suc, true, false, List, [], ◌∷◌, length, Option, Some, None, refl, ap, sym, ◌∙◌, arith, get_or}
 use Rattle.std.specs.Prelude.{slice_get, is_some}
 use Rattle.sbpf_verify.specs.Entries.{Decodes}
 use Rattle.sbpf_verify.specs.Opcodes.{meaning}
@@ -11,6 +11,11 @@ use Rattle.sbpf_machine.specs.declared.stop.Stop.TheVariants.{Fault as faulted}
 use Rattle.sbpf_machine.specs.Flows.{operands_of}
 use Rattle.sbpf_machine.specs.Runs.{EndsBy, ComesToBy}
 use Rattle.sbpf_machine.specs.Steps.{Go, Halt, Operands, State, Reaches, here, on, going, halted, follow, first_stop, steps, steps_by, step, act, row_of, natural}
+
+-- what holds of both holds of the one that is chosen
+pub either : {A : Type 0} (P : A → Type 0) (b : Bool) (one other : A) → P one → P other → P (if b then one else other)
+either P true one other h k = h
+either P false one other h k = k
 
 -- the place of an entry, where the list has one there
 pub fetched : (entries : List Entry) (place : ℕ) (other : Entry) → place < length entries → slice_get entries place ≡ Some (get_or entries place other)

@@ -1,4 +1,5 @@
 pub mod Flows
+pub mod Keeping
 pub mod Lending
 pub mod Runs
 pub mod Steps

@@ -79,10 +79,11 @@ binary32 op r s p c =
 abbrev pub frame_kept : ℕ → Context → Kept
 frame_kept p c = record { back = p + 1; r6 = register c 6; r7 = register c 7; r8 = register c 8; r9 = register c 9; r10 = register c 10 }
 
+abbrev pub new_frame : ℕ → Context → Context
+new_frame p c = record c { registers = slice_set c.registers 10 ((register c 10 + 8192) % 2 ^ 64); frames = c.frames ++ frame_kept p c ∷ [] }
+
 abbrev pub enter : ℕ → ℕ → Context → Next
-enter to p c =
-    if nat_le 64 (length c.frames + 1) then fault CallDepth c else
-    Go to (record c { registers = slice_set c.registers 10 ((register c 10 + 8192) % 2 ^ 64); frames = c.frames ++ frame_kept p c ∷ [] })
+enter to p c = if nat_le 64 (length c.frames + 1) then fault CallDepth c else Go to (new_frame p c)
 
 -- the way back to the frame that was kept last, or out of the first
 abbrev pub leave : Option Kept → Context → Next

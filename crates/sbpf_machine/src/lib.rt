@@ -4,6 +4,7 @@
 mod context;
 mod frames;
 mod instruction;
+pub mod laws;
 mod machine;
 mod run;
 mod stop;
