@@ -73,7 +73,7 @@ pub comes_to : (text : List ℕ) (place units : ℕ) (old new : Context) (to lef
     ComesToBy (going text place old units) (record { text = text; place = to; context = new; units = left; stop = stop }) stop
 unfolding steps
 comes_to text place units old new to left (Some stop) ends = ends
-comes_to text place units old new to left None ends = record { reached = ends.0; next = ends.1 }
+comes_to text place units old new to left None ends = record { reached = ends.0; next = ends.1; going = refl; units = ends.2 }
 
 -- a machine that stands at a stop stays
 pub stays : (x : State) (stop : Option Stop) → x.stop ≡ stop → is_some stop ≡ true → ComesToBy x x stop

@@ -1,5 +1,5 @@
 -- A run of the machine's loop, and what holds of each machine.
-use Rattle.std.specs.Prelude.{◌≡◌, ℕ, ◌+◌, true, List, Option, Some, None}
+use Rattle.std.specs.Prelude.{◌≡◌, ◌<◌, ℕ, ◌+◌, true, List, Option, Some, None}
 use Rattle.sbpf_verify.specs.Places.{is_start, instruction_at}
 use Rattle.sbpf_verify.specs.Verified.{IsVerified}
 use Rattle.sbpf_machine.specs.Flows.{GoBack}
@@ -20,7 +20,7 @@ abbrev pub EndsBy : List ℕ → ℕ → ℕ → Context → Ended → Context �
 EndsBy text place units old ended new (Some stop) =
     first_stop text units place old ≡ Some (halted text ended.place new ended.units stop)
 EndsBy text place units old ended new None =
-    Reaches (going text place old units) (going text ended.place new ended.units) × AtStore (instruction_at text ended.place)
+    Reaches (going text place old units) (going text ended.place new ended.units) × AtStore (instruction_at text ended.place) × (0 < ended.units)
 
 abbrev pub Ends : List ℕ → ℕ → ℕ → Context → Ended → Context → Type 0
 Ends text place units old ended new = EndsBy text place units old ended new ended.stop

@@ -1,5 +1,5 @@
 -- The steps of a machine: one row for each family of instructions (RFC 9669 and sBPF, in this project's profile).
-use Rattle.std.specs.Prelude.{◌≡◌, ℕ, zero, suc, ◌+◌, ◌-◌, ◌*◌, ◌/◌, ◌%◌, ◌^◌, ◌==◌, ◌&&◌, List, [], ◌∷◌, ◌++◌, length, take, drop, slice_index, slice_get, slice_set, nat_le, Option, Some, None, unwrap_or, Result, Ok, Err, ℤ, pos, negsuc, if◌then◌else◌}
+use Rattle.std.specs.Prelude.{◌≡◌, ◌<◌, ℕ, zero, suc, ◌+◌, ◌-◌, ◌*◌, ◌/◌, ◌%◌, ◌^◌, ◌==◌, ◌&&◌, List, [], ◌∷◌, ◌++◌, length, take, drop, slice_index, slice_get, slice_set, nat_le, Option, Some, None, unwrap_or, Result, Ok, Err, ℤ, pos, negsuc, if◌then◌else◌}
 use Rattle.std.specs.Int.{w32, w64, cast_unsigned}
 use Rattle.sbpf_isa.specs.Slots.{slot_of}
 use Rattle.sbpf_isa.specs.declared.rows.Operation.{Operation}
@@ -205,10 +205,12 @@ abbrev pub AtStore : Option OpKind → Type 0
 AtStore None = ⊥
 AtStore (Some kind) = IsStore kind
 
--- what want of memory leaves: the machine as it was before the store that met it
+-- what want of memory leaves: the machine as it was before the store that met it, at no stop and with a unit for it
 pub record StandsBeforeStore (old new : State) : Type 0 where
   pub reached : Reaches old new
   pub next : AtStore (instruction_at new.text new.place)
+  pub going : new.stop ≡ None
+  pub units : 0 < new.units
 
 -- registers, frames and memory of a machine at its start
 abbrev pub first_registers : List ℕ

@@ -57,6 +57,7 @@ returns-in-NoMemory-clause-ends c = (
   subst (λ (d : Context). Reaches (going c.args.program.now c.args.start c.args.context.now c.args.given) (going c.args.program.now c.loop-units.place d c.loop-units.units))
       (sym c.in-NoMemory.ensures.want.1) c.loop-units.invariant.reached,
   subst AtStore (sym (decodes c.args.program.now c.args.entries.now c.loop-units.place _ c.requires.decoded c.loop-units.invariant.start).kind) c.in-NoMemory.ensures.want.0,
+  c.loop-units-test.true,
 )
 
 -- an instruction that goes on keeps the invariant, wherever it goes
