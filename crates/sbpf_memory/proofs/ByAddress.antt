@@ -227,6 +227,30 @@ pub write-memory : (m after : Ranges) (addr : ℕ) (bytes : List ℕ) → IsMemo
 write-memory m after addr [] is_memory write = subst (λ x. IsMemory x) (nothing-kept m after addr write) is_memory
 write-memory m after addr (b ∷ bs) is_memory write = sizes-memory m after (written m after addr (b ∷ bs) is_memory (omega arith) write).sizes is_memory
 
+-- what a write keeps of each memory: the program, the note of what is prepared, and how long the input is
+pub record Kept (m after : Ranges) : Type 0 where
+  pub program : after.program ≡ m.program
+  pub prepared : after.input.prepared ≡ m.input.prepared
+  pub input : length after.input.bytes ≡ length m.input.bytes
+
+kept_in : (m : Ranges) (addr : ℕ) (bytes : List ℕ) (at : ℕ) (region : Region) → RoomIn m (length bytes) at region → IfOk (with_bytes_in m addr bytes at region) (λ after. Kept m after)
+kept_in m addr bytes at Program room = tt
+kept_in m addr bytes at Stack room = record { program = refl; prepared = refl; input = refl }
+kept_in m addr bytes at Heap room = record { program = refl; prepared = refl; input = refl }
+kept_in m addr bytes at Input room = record { program = refl; prepared = refl; input = with_bytes-length m.input.bytes at bytes room }
+
+written_kept : (m : Ranges) (addr : ℕ) (bytes : List ℕ) (place : Option Place) → 1 ≤ length bytes → place_of m addr (length bytes) ≡ place → IfOk (with_bytes_at m addr bytes place) (λ after. Kept m after)
+written_kept m addr bytes None some found = tt
+written_kept m addr bytes (Some place) some found = kept_in m addr bytes place.at place.region (stands-from_place m addr (length bytes) place some found).room
+
+pub write-kept : (m after : Ranges) (addr : ℕ) (bytes : List ℕ) → write_to m addr bytes ≡ Ok after → Kept m after
+write-kept m after addr [] write = subst (λ x. Kept m x) (nothing-kept m after addr write) (record { program = refl; prepared = refl; input = refl })
+write-kept m after addr (b ∷ bs) write =
+    let bytes = b ∷ bs in
+    let place = place_of m addr (length bytes) in
+    let done : with_bytes_at m addr bytes place ≡ Ok after = sym (write-some m addr bytes place (omega arith) refl) ∙ write in
+    subst (λ r. IfOk r (λ x. Kept m x)) done (written_kept m addr bytes place (omega arith) refl)
+
 -- ranges of the same sizes have the same bounds
 part_size : (xs ys : List ℕ) (from to : ℕ) → length xs ≡ length ys → length (slice_range xs from to) ≡ length (slice_range ys from to)
 part_size xs ys from to same = simp (length-take, length-drop) (omega arith)

@@ -7,3 +7,4 @@ pub mod Copying
 pub mod Addresses
 pub mod InRanges
 pub mod ByAddress
+pub mod Plain

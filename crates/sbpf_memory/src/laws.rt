@@ -1,6 +1,7 @@
-ghost use Rattle.std.specs.Prelude.{◌≡◌, ◌↔◌, ℕ, ◌+◌, ◌<◌, ◌≤◌, true, false, List, [], length, map, Some, None, Ok, Err, IsOk, ◌⊎◌, slice_get};
+ghost use Rattle.std.specs.Prelude.{◌≡◌, ◌↔◌, ℕ, ◌+◌, ◌<◌, ◌≤◌, true, false, Bool, List, [], length, map, Some, None, Ok, Err, IsOk, ◌⊎◌, slice_get};
 ghost use Rattle.sbpf_memory.specs.declared.fault.AccessViolation.{AccessViolation};
-ghost use Rattle.sbpf_memory.specs.Memory.{Ranges, IsMemory, ReadsIn, WritesIn, Holds, Range, ranges, bounds_of, byte_at, frame_start, read_from, violation_of, write_refusal, write_to};
+ghost use Rattle.sbpf_memory.specs.Memory.{Ranges, IsMemory, ReadsIn, WritesIn, Holds, Range, ranges, bounds_of, byte_at, frame_start, copy_to, load_from, read_from, store_to, violation_of, write_refusal, write_to};
+ghost use Rattle.sbpf_memory.specs.Plain.{plain_copied, plain_memory, plain_written};
 
 /// A law: a read of at least one byte is answered exactly where it lies in a range, of which there is
 /// one, with the bytes that stand there.
@@ -30,4 +31,18 @@ pub fn memory_is_a_map()
     ensures bounds { (m after : Ranges) (addr : ℕ) (bytes : List ℕ) → IsMemory m → write_to m addr bytes ≡ Ok after → map bounds_of (ranges after) ≡ map bounds_of (ranges m) }
     ensures memory { (m after : Ranges) (addr : ℕ) (bytes : List ℕ) → IsMemory m → write_to m addr bytes ≡ Ok after → IsMemory after }
     ensures gaps { (m : Ranges) (frame at : ℕ) → IsMemory m → frame < 64 → 4096 ≤ at → at < 8192 → byte_at m (frame_start frame + at) ≡ None }
+{}
+
+/// A law: no access looks at what is prepared, and none changes it.
+pub fn preparation_is_not_seen()
+    ensures read { (m : Ranges) (addr len : ℕ) → read_from (plain_memory m) addr len ≡ read_from m addr len }
+    ensures loaded { (m : Ranges) (addr width : ℕ) → load_from (plain_memory m) addr width ≡ load_from m addr width }
+    ensures written { (m : Ranges) (addr : ℕ) (bytes : List ℕ)
+        → write_to (plain_memory m) addr bytes ≡ plain_written (write_to m addr bytes) }
+    ensures stored { (m : Ranges) (addr width value : ℕ)
+        → store_to (plain_memory m) addr width value ≡ plain_written (store_to m addr width value) }
+    ensures copied { (m : Ranges) (to from len : ℕ) (apart : Bool)
+        → copy_to (plain_memory m) to from len apart ≡ plain_copied (copy_to m to from len apart) }
+    ensures kept { (m after : Ranges) (addr : ℕ) (bytes : List ℕ)
+        → write_to m addr bytes ≡ Ok after → after.input.prepared ≡ m.input.prepared }
 {}

@@ -10,5 +10,8 @@ mod place;
 mod tests;
 
 pub use fault::{AccessViolation, MemFault};
-pub use laws::{memory_is_a_map, reads_lie_in_one_range, writes_lie_in_a_writable_range};
+pub use laws::{
+    memory_is_a_map, preparation_is_not_seen, reads_lie_in_one_range,
+    writes_lie_in_a_writable_range,
+};
 pub use memory::Memory;

@@ -12,7 +12,7 @@ use Rattle.sbpf_isa.specs.declared.rows.OpKind.{OpKind}
 use Rattle.sbpf_isa.specs.declared.rows.OpKind.TheVariants.{Jump, Exit, LoadWide}
 use Rattle.sbpf_verify.specs.declared.entry.Entry.{Entry}
 use Rattle.sbpf_verify.specs.Opcodes.{meaning}
-use Rattle.sbpf_verify.specs.Entries.{Decodes, IsDecoded, Fits, immediate_of}
+use Rattle.sbpf_verify.specs.Entries.{Decodes, IsDecoded, Fits, IsHelperNumber, immediate_of}
 use Rattle.sbpf_verify.specs.Instructions.{HasRegisters, HasValues}
 use Rattle.sbpf_verify.specs.Places.{slot_count, is_start, is_start_at, instruction_at, leads_to, goes_on, slots_taken, Reached, first, after, jumped, called}
 use Rattle.sbpf_verify.specs.Verified.{rows_of, lacks_row, follows_wide, is_astray, is_outside, calls_bad_register, is_no_width, has_bad_value, has_stray_field, used, calls_no_helper, instruction_rows, slot_rows, NoneApplies, IsVerified}
@@ -279,6 +279,12 @@ has_values text place kind v h =
 small_number : (z : ℤ) → (pos 0 ≤ℤ z) × (z ≤ℤ pos 9) → cast_unsigned w64 z ≤ 9
 small_number z h = omega (arith, ints)
 
+helper_number : (z : ℤ) → (pos 1 ≤ℤ z) × (z ≤ℤ pos 17) → IsHelperNumber (cast_unsigned w64 z)
+helper_number z h = (omega (arith, ints), omega (arith, ints))
+
+no_source : (n : ℕ) → n ≤ 1 → n ≢ 1 → n ≡ 0
+no_source n h other = omega arith
+
 entry_target : (text : List ℕ) (place : ℕ) (kind : OpKind) (n : ℕ) (o : Option ℤ) → IsVerified text → instruction_at text place ≡ Some kind → leads_to kind (slot_of text place) place ≡ o → pos n ≡ unwrap_or o (pos 0) → is_start text n ≡ true
 entry_target text place kind n None v h e t = let zero : n ≡ 0 = cc in rw zero (first_start text v)
 entry_target text place kind n (Some target) v h e t = ap (is_start_at text) t ∙ target_start text place kind target v h e
@@ -288,10 +294,14 @@ pub entry_fits : (text : List ℕ) (entries : List Entry) (place : ℕ) (entry :
 entry_fits text entries place entry v d found start =
     let is : Decodes text place entry = d.each place entry found start in
     let registers : HasRegisters (slot_of text place) (meaning entry.opcode) = has_registers text place (meaning entry.opcode) v is.kind in
+    let values : HasValues (slot_of text place) (meaning entry.opcode) = has_values text place (meaning entry.opcode) v is.kind in
     record {
       dst = rw is.dst registers.dst;
       src = rw is.src registers.src;
       called = λ e. rw (is.imm ∙ ap (immediate_of text place) e) (small_number (slot_of text place).imm (registers.called e));
+      helper = λ e other.
+          let source : (slot_of text place).src ≢ 1 = λ one. other (is.src ∙ one) in
+          rw (is.imm ∙ ap (immediate_of text place) e) (helper_number (slot_of text place).imm (values.helper e (no_source (slot_of text place).src (values.source e) source)));
       target = entry_target text place (meaning entry.opcode) entry.target _ v is.kind refl is.target;
       next = next_start text place (meaning entry.opcode) v is.kind;
     }
