@@ -1,5 +1,5 @@
 -- What accounts keep that break no rule.
-use Rattle.std.proofs.Common.{zero, suc, ◌≡◌, ◌⊎◌, ◌≤◌, ℕ, Bool, true, false, not, ◌&&◌, ◌||◌, List, [], ◌∷◌, ◌++◌, length, get_or, refl, sym, ap, inl, inr, nat_eq, nat_lt, Option, Some, None, Ok, arith, if◌then◌else◌, All}
+use Rattle.std.proofs.Common.{zero, suc, ◌≡◌, ◌⊎◌, ◌≤◌, ℕ, Bool, true, false, not, ◌&&◌, ◌||◌, List, [], ◌∷◌, ◌++◌, length, get_or, refl, sym, ap, inl, inr, nat_eq, nat_lt, Option, Some, None, Ok, arith, if◌then◌else◌, All, ◌∙◌}
 use Rattle.std.specs.List.{list_any, filter_map, cons_option}
 use Rattle.std.specs.Cmp.Lexicographic.{bytes_decides}
 use Rattle.std.proofs.lemmas.Bool.Decides.{nat_tests}
@@ -7,10 +7,13 @@ use Rattle.std.proofs.lemmas.List.Folds.{list_any_at}
 use Rattle.sol_base.specs.declared.key.Key.{Key}
 use Rattle.sol_base.specs.declared.account.Account.{Account}
 use Rattle.sol_base.specs.Keys.{same_key}
+use Rattle.sol_base.specs.Accounts.{lamports_in, max_data_len}
 use Rattle.sol_base.proofs.KeyLaws.{same_key-true}
 use Rattle.account_rules.specs.declared.rules.RuleFault.{RuleFault}
 use Rattle.account_rules.specs.declared.rules.RuleFault.TheVariants.{Unbalanced}
-use Rattle.account_rules.specs.AccountRules.{broken_by, broken_rule, broken_rules, AreKept, changes, first_of, has_byte, IsKept, lamports_in, owns, rules, same_account, same_data, same_flag, unbalanced, readonly_changed, executable_changed, owner_change, foreign_debit, foreign_data, too_large}
+use Rattle.account_rules.specs.AccountRules.{Change, afters, befores, broken_by, broken_rule, broken_rules, changes, first_of, has_byte, owns, rules, same_account, same_data, same_flag, unbalanced, readonly_changed, executable_changed, owner_change, foreign_debit, foreign_data, too_large}
+use Rattle.account_rules.specs.KeptAccounts.{AreKept, IsKept}
+use Rattle.account_rules.proofs.Changes.{sides-changes}
 
 -- ---- tests
 passed : {F : Type 0} (test : Bool) (fault : F) (rest : Option F) → (if test then Some fault else rest) ≡ None → (test ≡ false) × (rest ≡ None)
@@ -70,7 +73,7 @@ account_is a b same =
     let bytes : a.bytes ≡ b.bytes = (bytes_decides a.bytes b.bytes).0 last.1 in
     λ i. record { lamports = lamports i; owner = owner i; executable = executable i; bytes = bytes i }
 
-kept : (program : Key) (writable : Bool) (before after : Account) (n : ℕ) → broken_rule program writable before after n ≡ None → IsKept program writable before after
+pub kept : (program : Key) (writable : Bool) (before after : Account) (n : ℕ) → broken_rule program writable before after n ≡ None → IsKept program writable before after
 kept program writable before after n none =
     let one = passed (readonly_changed writable before after) _ _ none in
     let two = passed (executable_changed before after) _ _ one.1 in
@@ -95,7 +98,7 @@ kept program writable before after n none =
         | inl same ↦ inl ((bytes_decides before.bytes after.bytes).0 (is_true (same_data before after) same))
         | inr owned ↦ inr (same_key-true before.owner program (is_true (owns program before) owned))
       ];
-      size = not_below 10485760 (length after.bytes) six.0;
+      size = not_below max_data_len (length after.bytes) six.0;
     }
 
 -- ---- lists
@@ -107,7 +110,7 @@ empty_both : {X : Type 0} (xs ys : List X) → xs ++ ys ≡ [] → (xs ≡ []) �
 empty_both [] ys none = (refl, none)
 empty_both (x ∷ xs) ys none = absurd (cc)
 
-none_at : {X Y : Type 0} (f : X → Option Y) (xs : List X) → filter_map f xs ≡ [] → All (λ x. f x ≡ None) xs
+pub none_at : {X Y : Type 0} (f : X → Option Y) (xs : List X) → filter_map f xs ≡ [] → All (λ x. f x ≡ None) xs
 none_at f [] none k d below = absurd (omega arith)
 none_at f (x ∷ xs) none zero d below = (empty_option (f x) (filter_map f xs) none).0
 none_at f (x ∷ xs) none (suc k) d below = none_at f xs (empty_option (f x) (filter_map f xs) none).1 k d (omega arith)
@@ -123,11 +126,18 @@ balanced before after none = is_same (lamports_in before) (lamports_in after) (i
     no_item true none = absurd (cc)
     no_item false none = refl
 
-pub all_kept : (program : Key) (writable : List Bool) (before after : List Account) → rules program writable before after ≡ Ok tt → AreKept program writable before after
+-- what broken rules there are not
+pub none_broken : (program : Key) (changes : List Change) → first_of (broken_rules program changes) ≡ Ok tt → (filter_map (broken_by program) changes ≡ []) × (lamports_in (befores changes) ≡ lamports_in (afters changes))
+none_broken program changes ok =
+    let parts = empty_both (filter_map (broken_by program) changes) (if unbalanced (befores changes) (afters changes) then Unbalanced ∷ [] else []) (no_fault (broken_rules program changes) ok) in
+    (parts.0, balanced (befores changes) (afters changes) parts.1)
+
+pub all_kept : (program : Key) (writable : List Bool) (before after : List Account) → length writable ≡ length before → length after ≡ length before → rules program writable before after ≡ Ok tt → AreKept program writable before after
 unfolding rules
-all_kept program writable before after ok =
-    let parts = empty_both (filter_map (broken_by program) (changes writable before after)) (if unbalanced before after then Unbalanced ∷ [] else []) (no_fault (broken_rules program writable before after) ok) in
+all_kept program writable before after flags count ok =
+    let parts = none_broken program (changes writable before after) ok in
+    let sides = sides-changes 0 writable before after flags count in
     record {
       each = λ k d below. kept program _ _ _ _ (none_at (broken_by program) (changes writable before after) parts.0 k d below);
-      sum = balanced before after parts.1;
+      sum = ap lamports_in (sym sides.0) ∙ parts.1 ∙ ap lamports_in sides.1;
     }

@@ -1,2 +1,6 @@
 pub mod Changes
+pub mod Flags
 pub mod Kept
+pub mod KeptLaws
+pub mod Listings
+pub mod Sums

@@ -1,1 +1,2 @@
 pub mod AccountRules
+pub mod KeptAccounts

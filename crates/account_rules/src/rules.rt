@@ -1,13 +1,16 @@
-ghost use Rattle.std.specs.Prelude.{◌≡◌, ◌≤◌, ◌↔◌, IsTrue, OnOk, length, slice_get, true, false, Some, None, if◌then◌else◌};
-ghost use Rattle.std.specs.Arc.{arc_value};
-ghost use Rattle.account_rules.specs.AccountRules.{AreKept, SameUnlessTouched, accounts_of, broken_rule, has_byte, lamports_in, rules, same_account, too_large};
-ghost use Rattle.account_rules.specs.declared.rules.RuleFault.TheVariants.{TooLarge};
+ghost use Rattle.std.specs.Prelude.{◌≡◌, ◌≤◌, ◌↔◌, IsTrue, IsSomeAnd, OnOk, length, slice_get, false, Some};
+ghost use Rattle.std.specs.Option.{ForSome};
+ghost use Rattle.sol_base.specs.Accounts.{accounts_of, lamports_in};
+ghost use Rattle.account_rules.specs.AccountRules.{AreParallel, SameUnlessTouched, rules};
+ghost use Rattle.account_rules.specs.KeptAccounts.{AreKept};
 
-use sol_base::{Account, Key, MAX_DATA_LEN};
+use crate::account::broken_at;
+use sol_base::{Account, Key};
 use std::sync::Arc;
 use thiserror::Error;
 
-/// A broken rule. `i` is the place of the account in the lists.
+/// A broken rule. `i` is the place of the account: in the lists of `check` and `check_touched`, and
+/// for `check_listed` the place of its first meta.
 #[derive(Clone, Copy, Debug, PartialEq, Eq, Error)]
 pub enum RuleFault {
     #[error("account {i} is read-only and was changed")]
@@ -36,13 +39,12 @@ pub fn check(
     before: &[Arc<Account>],
     after: &[Arc<Account>],
 ) -> Result<(), RuleFault>
-    requires flags { length writable.now ≡ length before.now }
-    requires accounts { length after.now ≡ length before.now }
-    requires most { length before.now ≤ 255 }
+    requires lists { AreParallel writable.now (accounts_of before.now) (accounts_of after.now) }
+    requires most { length writable.now ≤ 255 }
     ensures exact { result ≡ rules program.now writable.now (accounts_of before.now) (accounts_of after.now) }
     ensures kept { OnOk result (AreKept program.now writable.now (accounts_of before.now) (accounts_of after.now)) }
 {
-    check_each(program, writable, &[], before, after)
+    check_each(program, writable, None, before, after)
 }
 
 /// What `check` answers, for a caller that knows which accounts the program wrote. `touched` says
@@ -56,29 +58,27 @@ pub fn check_touched(
     before: &[Arc<Account>],
     after: &[Arc<Account>],
 ) -> Result<(), RuleFault>
-    requires flags { length writable.now ≡ length before.now }
-    requires marks { length touched.now ≡ length before.now }
-    requires accounts { length after.now ≡ length before.now }
-    requires most { length before.now ≤ 255 }
+    requires lists { AreParallel writable.now (accounts_of before.now) (accounts_of after.now) }
+    requires marks { AreParallel touched.now (accounts_of before.now) (accounts_of after.now) }
+    requires most { length writable.now ≤ 255 }
     requires untouched { SameUnlessTouched touched.now (accounts_of before.now) (accounts_of after.now) }
     ensures exact { result ≡ rules program.now writable.now (accounts_of before.now) (accounts_of after.now) }
     ensures kept { OnOk result (AreKept program.now writable.now (accounts_of before.now) (accounts_of after.now)) }
 {
-    check_each(program, writable, touched, before, after)
+    check_each(program, writable, Some(touched), before, after)
 }
 
-// Account by account, and then the sums. An account past the end of `touched` counts as touched.
+// Account by account, and then the sums. Where no flags are given, each account counts as touched.
 fn check_each(
     program: &Key,
     writable: &[bool],
-    touched: &[bool],
+    touched: Option<&[bool]>,
     before: &[Arc<Account>],
     after: &[Arc<Account>],
 ) -> Result<(), RuleFault>
-    requires flags { length writable.now ≡ length before.now }
-    requires accounts { length after.now ≡ length before.now }
-    requires most { length before.now ≤ 255 }
-    requires untouched { SameUnlessTouched touched.now (accounts_of before.now) (accounts_of after.now) }
+    requires lists { AreParallel writable.now (accounts_of before.now) (accounts_of after.now) }
+    requires most { length writable.now ≤ 255 }
+    requires untouched { ForSome touched (λ flags. SameUnlessTouched flags.now (accounts_of before.now) (accounts_of after.now)) }
     ensures exact { result ≡ rules program.now writable.now (accounts_of before.now) (accounts_of after.now) }
     ensures kept { OnOk result (AreKept program.now writable.now (accounts_of before.now) (accounts_of after.now)) }
 {
@@ -94,100 +94,14 @@ fn check_each(
     Ok(())
 }
 
-fn is_untouched(touched: &[bool], i: usize) -> bool
-    ensures { IsTrue result ↔ (slice_get touched.now i ≡ Some false) }
+fn is_untouched(touched: Option<&[bool]>, i: usize) -> bool
+    ensures { IsTrue result ↔ IsSomeAnd touched.entry (λ flags. slice_get flags.now i ≡ Some false) }
 {
-    i < touched.len() && !touched[i]
+    touched.is_some_and(|flags| i < flags.len() && !flags[i])
 }
 
-// The first rule that one account breaks. Where it is known to be the same, only its length counts.
-fn broken_at(
-    program: &Key,
-    writable: bool,
-    same: bool,
-    before: &Account,
-    after: &Account,
-    i: u8,
-) -> Option<RuleFault>
-    requires { IsTrue same → after.now ≡ before.now }
-    ensures { result ≡ broken_rule program.now writable before.now after.now i }
-{
-    if same {
-        too_large_at(after, i)
-    } else {
-        first_broken(program, writable, before, after, i)
-    }
-}
-
-// The first rule that one account breaks. Its data are compared only where it matters whether they
-// differ, and once.
-fn first_broken(
-    program: &Key,
-    writable: bool,
-    before: &Account,
-    after: &Account,
-    i: u8,
-) -> Option<RuleFault>
-    ensures { result ≡ broken_rule program.now writable before.now after.now i }
-{
-    if writable && !before.executable {
-        broken_in_writable(program, before, after, i)
-    } else if is_same(before, after) {
-        too_large_at(after, i)
-    } else if writable {
-        Some(RuleFault::ExecutableChanged { i })
-    } else {
-        Some(RuleFault::ReadonlyChanged { i })
-    }
-}
-
-fn broken_in_writable(program: &Key, before: &Account, after: &Account, i: u8) -> Option<RuleFault>
-    requires { before.now.executable ≡ false }
-    ensures { result ≡ broken_rule program.now true before.now after.now i }
-{
-    let owned = before.owner == *program;
-    if after.executable {
-        Some(RuleFault::ExecutableChanged { i })
-    } else if before.owner != after.owner && (!owned || has_byte_set(after)) {
-        Some(RuleFault::OwnerChange { i })
-    } else if owned {
-        too_large_at(after, i)
-    } else if after.lamports < before.lamports {
-        Some(RuleFault::ForeignDebit { i })
-    } else if before.bytes.as_slice() != after.bytes.as_slice() {
-        Some(RuleFault::ForeignData { i })
-    } else {
-        too_large_at(after, i)
-    }
-}
-
-fn too_large_at(account: &Account, i: u8) -> Option<RuleFault>
-    ensures { result ≡ (if too_large account.now then Some (TooLarge i) else None) }
-{
-    if account.bytes.len() > MAX_DATA_LEN {
-        Some(RuleFault::TooLarge { i })
-    } else {
-        None
-    }
-}
-
-fn is_same(before: &Account, after: &Account) -> bool
-    ensures { result ≡ same_account before.now after.now }
-{
-    before.lamports == after.lamports
-        && before.owner == after.owner
-        && before.executable == after.executable
-        && before.bytes.as_slice() == after.bytes.as_slice()
-}
-
-fn has_byte_set(account: &Account) -> bool
-    ensures { result ≡ has_byte account.now }
-{
-    account.bytes.as_slice().iter().any(|byte| *byte != 0)
-}
-
-fn sum_of(accounts: &[Arc<Account>]) -> u128
-    requires { length accounts.now ≤ 255 }
+/// The lamports of the accounts together.
+pub(crate) fn sum_of(accounts: &[Arc<Account>]) -> u128
     ensures { result ≡ lamports_in (accounts_of accounts.now) }
 {
     accounts

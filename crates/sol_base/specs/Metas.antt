@@ -1,6 +1,7 @@
 -- The accounts that a frame lists, by their places among the transaction's keys (Solana). An account that is listed several times has the rights of all its metas together.
-use Rattle.std.specs.Prelude.{ℕ, ◌<◌, ◌==◌, ◌&&◌, Bool, not, All, List, filter, take}
+use Rattle.std.specs.Prelude.{◌≡◌, ℕ, ◌<◌, ◌==◌, ◌&&◌, Bool, false, not, All, List, filter, take, slice_get}
 use Rattle.std.specs.List.{list_any, enumerate_from}
+use Rattle.sol_base.specs.declared.account.Account.{Account}
 use Rattle.sol_base.specs.declared.lock.Meta.{Meta}
 
 abbrev pub is_listed : List Meta → ℕ → Bool
@@ -23,3 +24,7 @@ is_first_listing metas (at, meta) = not (is_listed (take at metas) meta.index)
 -- the accounts of a frame, each once, in the order of their first listings: each with the place of that meta in the list
 abbrev pub first_listings : List Meta → List (ℕ × Meta)
 first_listings metas = filter (is_first_listing metas) (enumerate_from 0 metas)
+
+-- what is not listed has the same value before and after
+abbrev pub SameUnlessListed : List Meta → List Account → List Account → Type 0
+SameUnlessListed metas before after = (place : ℕ) → is_listed metas place ≡ false → slice_get after place ≡ slice_get before place

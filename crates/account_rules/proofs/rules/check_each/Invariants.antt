@@ -1,4 +1,4 @@
-use Rattle.account_rules.specs.AccountRules.{accounts_of}
+use Rattle.sol_base.specs.Accounts.{accounts_of}
 use Rattle.account_rules.proofs.Changes.{NoneBroken}
 use Rattle.account_rules.proofs.rules.check_each.Given as goal
 
