@@ -82,7 +82,7 @@ state_seen-remove_entry es k h =
     ∙ seen-remove_entry es test ∙ ap (remove_entry test) (sym (entries-state_seen es h))
     ∙ sym (entries-remove_entry key_cmp_total key_cmp_exact (state_seen es) k))
 
-length-seen : (es : List (Key × Shared)) → length (seen es) ≡ length es
+pub length-seen : (es : List (Key × Shared)) → length (seen es) ≡ length es
 length-seen [] = refl
 length-seen (e ∷ es) = ap suc (length-seen es)
 

@@ -1,6 +1,7 @@
 -- Accounts that are shared.
 use Rattle.std.specs.Prelude.{◌≡◌, ℕ, List, map as each, Option, Some, None}
 use Rattle.std.specs.Arc.{arc_value}
+use Rattle.std.specs.Borrow.{Bor}
 use Rattle.std.specs.FinMap as map
 use Rattle.std.specs.Map.{keys_of}
 use Rattle.std.specs.List.Sorted.{IsStrictlySortedBy}
@@ -17,6 +18,10 @@ Shared = Arc Account Global
 -- the accounts behind the shares
 abbrev pub seen : List (Key × Shared) → List (Key × Account)
 seen es = each (λ e. (e.0, arc_value e.1)) es
+
+-- and those behind what an iterator gives
+abbrev pub seen_entry : Bor Key × Bor Shared → Key × Account
+seen_entry e = (e.0.now, arc_value e.1.now)
 
 abbrev pub state_seen : List (Key × Shared) → State
 state_seen es = map.from_entries (seen es)

@@ -1,50 +1,71 @@
 -- A state from a list of entries, whose keys ascend.
-use Rattle.std.specs.Prelude.{ℕ, ◌+◌, ◌-◌, ◌^◌, List, [], ◌∷◌, ◌++◌, length, map as each, sum_by, slice_get, nat_eq, nat_lt, not, if◌then◌else◌, Bool, true, false, Option, Some, None, Result, Ok, Err, option_map}
+use Rattle.std.specs.Prelude.{◌≡◌, ℕ, ◌+◌, ◌-◌, ◌^◌, ◌≤◌, ◌==◌, List, [], ◌∷◌, ◌++◌, length, take, map, slice_get, nat_lt, not, if◌then◌else◌, Bool, true, false, Option, Some, None, Result, Ok, Err, option_map, All, MatchBool}
+use Rattle.std.specs.List.{enumerate_from, filter_map}
 use Rattle.std.specs.List.Sorted.{IsStrictlySortedBy}
-use Rattle.std.specs.FinMap as map
+use Rattle.std.specs.Map.{keys_of}
+use Rattle.std.specs.FinMap.{from_entries}
 use Rattle.sol_base.specs.declared.key.Key.{Key}
 use Rattle.sol_base.specs.declared.account.Account.{Account}
 use Rattle.sol_base.specs.Keys.{key_cmp}
 use Rattle.account_store.specs.declared.sorted.KeyedAccount.{KeyedAccount}
 use Rattle.account_store.specs.declared.sorted.StoreFault.{StoreFault}
 use Rattle.account_store.specs.declared.sorted.StoreFault.TheVariants.{OutOfOrder, Empty, SupplyTooLarge, OutOfMemory}
-use Rattle.account_store.specs.State.{State, is_above}
+use Rattle.account_store.specs.State.{State, is_above, lamports_of}
 
+-- keyed accounts as the entries of a state, and back
 abbrev pub entry_of : KeyedAccount → Key × Account
 entry_of e = (e.key, e.account)
+
+abbrev pub entries_of : List KeyedAccount → List (Key × Account)
+entries_of list = map entry_of list
 
 abbrev pub keyed : Key × Account → KeyedAccount
 keyed e = record { key = e.0; account = e.1 }
 
--- the lamports of all entries together
-abbrev pub supply : List KeyedAccount → ℕ
-supply es = sum_by (λ e. e.account.lamports) es
-
 -- the keys ascend
-abbrev pub Ascends : List KeyedAccount → Type 0
-Ascends es = IsStrictlySortedBy key_cmp (each (λ e. e.key) es)
+abbrev pub Ascend : List (Key × Account) → Type 0
+Ascend es = IsStrictlySortedBy key_cmp (keys_of es)
+
+-- the entries are those of a state
+pub record AreOfState (es : List (Key × Account)) : Type 0 where
+  pub ascend : Ascend es
+  pub some : All (λ e. 1 ≤ e.1.lamports) es
+  pub fits : lamports_of es ≤ 2 ^ 64 - 1
+
+-- what is wrong with the entry that follows the entries of a state
+abbrev pub IsWrongAfter : List (Key × Account) → Key × Account → StoreFault → Type 0
+IsWrongAfter before e (OutOfOrder at) = (at ≡ length before) × (¬ Ascend (before ++ e ∷ []))
+IsWrongAfter before e (Empty at) = (at ≡ length before) × Ascend (before ++ e ∷ []) × (e.1.lamports ≡ 0)
+IsWrongAfter before e SupplyTooLarge = Ascend (before ++ e ∷ []) × (1 ≤ e.1.lamports) × (2 ^ 64 ≤ lamports_of (before ++ e ∷ []))
+IsWrongAfter before e OutOfMemory = ⊥
+
+-- the entries up to some place are those of a state, and the fault is that of the entry there
+pub record IsRefused (es : List (Key × Account)) (fault : StoreFault) : Type 0 where
+  pub before : List (Key × Account)
+  pub entry : Key × Account
+  pub after : List (Key × Account)
+  pub split : es ≡ before ++ entry ∷ after
+  pub fine : AreOfState before
+  pub wrong : IsWrongAfter before entry fault
 
 -- the key of the last entry, if there is one
-abbrev pub last_key : List KeyedAccount → Option Key
-last_key es = option_map (λ e. e.key) (slice_get es (length es - 1))
+abbrev pub last_key : List (Key × Account) → Option Key
+last_key es = option_map (λ e. e.0) (slice_get es (length es - 1))
 
--- what is wrong with an entry after those before it
-abbrev pub entry_fault : List KeyedAccount → KeyedAccount → Option StoreFault
+-- what is wrong with an entry, told the entries before it
+abbrev pub entry_fault : List (Key × Account) → Key × Account → Option StoreFault
 entry_fault before e =
-    if not (is_above (last_key before) e.key) then Some (OutOfOrder (length before)) else
-    if nat_eq e.account.lamports 0 then Some (Empty (length before)) else
-    if nat_lt (2 ^ 64 - 1) (supply before + e.account.lamports) then Some SupplyTooLarge else
+    if not (is_above (last_key before) e.0) then Some (OutOfOrder (length before)) else
+    if e.1.lamports == 0 then Some (Empty (length before)) else
+    if nat_lt (2 ^ 64 - 1) (lamports_of before + e.1.lamports) then Some SupplyTooLarge else
     None
 
--- the first, or the second where there is no first
-abbrev pub first_of : Option StoreFault → Option StoreFault → Option StoreFault
-first_of None later = later
-first_of (Some fault) later = Some fault
+-- the faults of all entries, and the first of them
+abbrev pub entry_faults : List (Key × Account) → List StoreFault
+entry_faults es = filter_map (λ (at, e). entry_fault (take at es) e) (enumerate_from 0 es)
 
--- what is wrong first, entry by entry, after those before them
-abbrev pub first_fault : List KeyedAccount → List KeyedAccount → Option StoreFault
-first_fault before [] = None
-first_fault before (e ∷ es) = first_of (entry_fault before e) (first_fault (before ++ e ∷ []) es)
+abbrev pub first_fault : List (Key × Account) → Option StoreFault
+first_fault es = slice_get (entry_faults es) 0
 
 -- the refusal, or the value where there is none
 abbrev pub unless : {A : Type 0} → Option StoreFault → A → Result A StoreFault
@@ -53,9 +74,13 @@ unless (Some fault) x = Err fault
 
 -- the state of the entries, or what is wrong first
 abbrev pub state_of : List KeyedAccount → Result State StoreFault
-state_of es = unless (first_fault [] es) (map.from_entries (each entry_of es))
+state_of list = unless (first_fault (entries_of list)) (from_entries (entries_of list))
 
 -- want of memory, which no input shows
 abbrev pub is_memory : StoreFault → Bool
 is_memory OutOfMemory = true
 is_memory _ = false
+
+-- it is the fault that was found, or want of memory
+abbrev pub IsFaultOr : Option StoreFault → StoreFault → Type 0
+IsFaultOr found fault = MatchBool (is_memory fault) (Unit {0}) (found ≡ Some fault)

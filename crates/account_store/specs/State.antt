@@ -1,12 +1,12 @@
 -- A state: the accounts that are there, by their keys, each with at least 1 lamport (Solana).
-use Rattle.std.specs.Prelude.{ℕ, ◌-◌, ◌^◌, ◌≤◌, List, length, sum_by, filter, slice_get, nat_eq, Bool, true, if◌then◌else◌, Option, Some, None, unwrap_or}
-use Rattle.std.specs.List.{AllByRecursion}
+use Rattle.std.specs.Prelude.{◌≡◌, ℕ, ◌-◌, ◌^◌, ◌≤◌, ◌==◌, List, sum_by, filter, slice_get, Bool, true, false, if◌then◌else◌, Option, Some, None, unwrap_or}
+use Rattle.std.specs.List.{AllByRecursion, list_any}
 use Rattle.std.specs.Ordering.{is_lt}
 use Rattle.std.specs.FinMap as map
 use Rattle.sol_base.specs.declared.key.Key.{Key}
 use Rattle.sol_base.specs.declared.account.Account.{Account}
-use Rattle.sol_base.specs.Keys.{key_cmp}
-use Rattle.sol_base.specs.Accounts.{empty_account}
+use Rattle.sol_base.specs.Keys.{key_cmp, same_key}
+use Rattle.sol_base.specs.Accounts.{empty_account, IsShort}
 
 abbrev pub State : Type 0
 State = map.FinMap key_cmp Account
@@ -27,7 +27,15 @@ remove s key = map.remove s key
 
 -- Writing an account with 0 lamports takes the key away.
 abbrev pub put : State → Key → Account → State
-put s key account = if nat_eq account.lamports 0 then map.remove s key else map.insert s key account
+put s key account = if account.lamports == 0 then map.remove s key else map.insert s key account
+
+-- what an account is kept as: with 0 lamports it is absent
+abbrev pub kept : Account → Option Account
+kept account = if account.lamports == 0 then None else Some account
+
+-- the account that then stands for it
+abbrev pub settled : Account → Account
+settled account = if account.lamports == 0 then empty_account else account
 
 -- the number of keys
 abbrev pub len : State → ℕ
@@ -44,6 +52,18 @@ lamports_of es = sum_by (λ e. e.1.lamports) es
 abbrev pub sum : State → ℕ
 sum s = lamports_of (entries s)
 
+-- the lamports under keys
+abbrev pub lamports_under : (Key → Account) → List Key → ℕ
+lamports_under accounts keys = sum_by (λ key. (accounts key).lamports) keys
+
+-- the key stands in the list
+abbrev pub is_among : Key → List Key → Bool
+is_among key keys = list_any (λ k. same_key key k) keys
+
+-- two states show the same under all keys but these
+abbrev pub AgreeElsewhere : State → State → List Key → Type 0
+AgreeElsewhere s t keys = (key : Key) → is_among key keys ≡ false → at s key ≡ at t key
+
 -- whether a key is above the given one; where none is given, each is
 abbrev pub is_above : Option Key → Key → Bool
 is_above None key = true
@@ -59,7 +79,7 @@ next_after s given = slice_get (entries_after s given) 0
 
 -- an account that is there has a lamport, and data of a length that is allowed
 abbrev pub IsHeld : Account → Type 0
-IsHeld account = (1 ≤ account.lamports) × (length account.bytes ≤ 10485760)
+IsHeld account = (1 ≤ account.lamports) × IsShort account
 
 -- what holds of every state that a store keeps
 pub record IsState (s : State) : Type 0 where

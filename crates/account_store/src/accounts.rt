@@ -1,14 +1,13 @@
-ghost use Rattle.std.specs.Prelude.{◌≡◌, ◌≤◌, ◌+◌, ◌-◌, ◌^◌, ◌<◌, OnOk, OnErr, option_map, option_copied, length};
+ghost use Rattle.std.specs.Prelude.{◌≡◌, ◌≤◌, ◌+◌, ◌-◌, ◌^◌, ◌<◌, ◌∷◌, ◌++◌, [], None, Some, All, OnOk, OnErr, IfOk, IfErr, option_map, option_copied, length};
 ghost use Rattle.std.specs.Arc.{arc_value};
-ghost use Rattle.std.specs.List.{AllByRecursion};
 ghost use Rattle.spec_base.specs.Reading.{Gives};
-ghost use Rattle.sol_base.specs.declared.account.TheConstants.{MAX_DATA_LEN};
+ghost use Rattle.sol_base.specs.Accounts.{IsShort};
 ghost use Rattle.account_store.specs.State as state;
-ghost use Rattle.account_store.specs.State.{IsState};
-ghost use Rattle.account_store.specs.Shared.{shared_lamports};
-ghost use Rattle.account_store.specs.Sorted.{state_of, is_memory};
+ghost use Rattle.account_store.specs.State.{IsState, is_above};
+ghost use Rattle.account_store.specs.Shared.{shared_lamports, seen_entry};
+ghost use Rattle.account_store.specs.Sorted.{state_of, is_memory, entry_of, entry_fault, last_key, IsFaultOr};
 
-use crate::sorted::{KeyedAccount, StoreFault, checked_supply, shared_map};
+use crate::sorted::{KeyedAccount, StoreFault};
 use sol_base::{Account, Items, Key, OutOfMemory};
 use std::alloc::Global;
 use std::collections::BTreeMap;
@@ -55,12 +54,59 @@ impl Accounts {
     /// The accounts of a list whose keys ascend. The list is dropped where it is refused.
     pub fn from_sorted(alloc: Global, entries: Items<KeyedAccount>) -> Result<Accounts, StoreFault>
         requires few { length entries < 2 ^ 32 }
-        requires short { AllByRecursion (λ e. length e.account.bytes ≤ MAX_DATA_LEN) entries }
+        requires short { All (λ e. IsShort e.account) entries }
         ensures { Gives is_memory (λ accounts. accounts) result (state_of entries) }
     {
-        let total = checked_supply(entries.as_slice())?;
-        let tree = shared_map(alloc, entries)?;
-        Ok(Accounts { tree, total })
+        let mut accounts = Accounts::new(alloc);
+        for entry in entries.into_vec() {
+            accounts.push_entry(alloc, entry)?;
+        }
+        Ok(accounts)
+    }
+
+    /// Adds the entry that follows all that are there.
+    fn push_entry(&mut self, alloc: Global, entry: KeyedAccount) -> Result<(), StoreFault>
+        requires few { state.len self.old < 2 ^ 32 }
+        requires short { IsShort entry.account }
+        ensures fine { OnOk result (entry_fault (state.entries self.old) (entry_of entry) ≡ None) }
+        ensures pushed { OnOk result (state.entries self.new ≡ state.entries self.old ++ entry_of entry ∷ []) }
+        ensures err { IfErr result (IsFaultOr (entry_fault (state.entries self.old) (entry_of entry))) }
+    {
+        let total = self.total_with(&entry)?;
+        let KeyedAccount { key, account } = entry;
+        self.tree.insert(key, Arc::new(alloc, account)?)?;
+        self.total = total;
+        Ok(())
+    }
+
+    /// The sum of the lamports with an entry that follows all that are there, or what is wrong with
+    /// that entry.
+    fn total_with(&self, entry: &KeyedAccount) -> Result<u64, StoreFault>
+        requires { state.len self.now < 2 ^ 32 }
+        ensures ok { IfOk result (λ total. total ≡ state.sum self.now + entry.now.account.lamports) }
+        ensures fine { OnOk result (entry_fault (state.entries self.now) (entry_of entry.now) ≡ None) }
+        ensures err { IfErr result (λ fault. entry_fault (state.entries self.now) (entry_of entry.now) ≡ Some fault) }
+    {
+        let at = self.len() as u32;
+        if !self.ends_below(&entry.key) {
+            return Err(StoreFault::OutOfOrder { at });
+        }
+        if entry.account.lamports == 0 {
+            return Err(StoreFault::Empty { at });
+        }
+        self.total
+            .checked_add(entry.account.lamports)
+            .ok_or(StoreFault::SupplyTooLarge)
+    }
+
+    /// Whether the key is above all that are there.
+    fn ends_below(&self, key: &Key) -> bool
+        ensures { result ≡ is_above (last_key (state.entries self.now)) key.now }
+    {
+        match self.tree.last_key_value() {
+            Some((last, _account)) => last.cmp(key).is_lt(),
+            None => true,
+        }
     }
 
     /// The account of the key. None where it is absent.
@@ -74,9 +120,10 @@ impl Accounts {
     /// Sets the account of the key. An account with no lamports removes the key.
     pub fn put(&mut self, key: Key, account: Arc<Account>) -> Result<(), OutOfMemory>
         requires fits { state.sum (state.put self.old key (arc_value account)) ≤ 2 ^ 64 - 1 }
-        requires short { length (arc_value account).bytes ≤ MAX_DATA_LEN }
+        requires short { IsShort (arc_value account) }
         ensures ok { OnOk result (self.new ≡ state.put self.old key (arc_value account)) }
         ensures err { OnErr result (self.new ≡ self.old) }
+        ensures state { IsState self.new }
     {
         let lamports = account.lamports;
         if lamports == 0 {
@@ -92,6 +139,7 @@ impl Accounts {
     pub fn remove(&mut self, key: &Key) -> Option<Arc<Account>>
         ensures value { option_map arc_value result ≡ state.get self.old key.now }
         ensures removed { self.new ≡ state.remove self.old key.now }
+        ensures state { IsState self.new }
     {
         let removed = self.tree.remove(key);
         self.total = total_after(self.total, &removed, 0);
@@ -117,7 +165,7 @@ impl Accounts {
     /// The least key above the given one, or the least key of all where none is given, with its
     /// account. None where there is no such key.
     pub fn next_after(&self, key: Option<&Key>) -> Option<(&Key, &Arc<Account>)>
-        ensures next { option_map (λ e. (e.0.now, arc_value e.1.now)) result ≡ state.next_after self.now (option_copied key.entry) }
+        ensures next { option_map seen_entry result ≡ state.next_after self.now (option_copied key.entry) }
         ensures state { IsState self.now }
     {
         match key {

@@ -9,5 +9,8 @@ mod sorted;
 mod tests;
 
 pub use accounts::Accounts;
-pub use laws::{next_accounts_are_the_entries, states_are_their_entries, sums_follow_the_accounts};
+pub use laws::{
+    lists_give_the_state_of_their_entries, next_accounts_are_the_entries, states_are_their_entries,
+    sums_differ_by_the_accounts_that_differ, sums_follow_the_accounts, writes_change_their_own_key,
+};
 pub use sorted::{KeyedAccount, StoreFault};

@@ -1,42 +1,44 @@
 //! Lists that are no state, by their first fault, and each call once.
-ghost use Rattle.std.specs.Prelude.{◌≡◌, ◌+◌, ◌-◌, ◌^◌, ◌≤◌, length, IfOk};
-ghost use Rattle.std.specs.List.{AllByRecursion};
-ghost use Rattle.sol_base.specs.declared.account.TheConstants.{MAX_DATA_LEN};
+ghost use Rattle.std.specs.Prelude.{◌≡◌, ◌+◌, ◌-◌, ◌^◌, ◌≤◌, All, length, IfOk};
+ghost use Rattle.sol_base.specs.Accounts.{IsShort};
 ghost use Rattle.account_store.specs.State as state;
 
 use crate::{Accounts, KeyedAccount, StoreFault};
-use sol_base::{Account, Items, Key, OutOfMemory};
+use sol_base::{Account, Blob, Items, Key, OutOfMemory};
 use std::alloc::Global;
 use std::sync::Arc;
 use std::test::Fail;
 
-/// An account without data.
-fn account(alloc: Global, lamports: u64) -> Account
-    ensures lamports { result.lamports ≡ lamports }
-    ensures short { length result.bytes ≡ 0 }
+/// The data of every account here.
+const DATA: [u8; 3] = [7, 8, 9];
+
+fn account(alloc: Global, lamports: u64) -> Result<Account, OutOfMemory>
+    ensures lamports { IfOk result (λ account. account.lamports ≡ lamports) }
+    ensures short { IfOk result (λ account. IsShort account) }
 {
     let mut account = Account::empty(alloc);
     account.lamports = lamports;
-    account
+    account.bytes = Blob::from_slice(alloc, &DATA)?;
+    Ok(account)
 }
 
-/// Two accounts without data, each under the key of 32 times its byte.
+/// Two accounts, each under the key of 32 times its byte.
 fn pair(
     alloc: Global,
     first: (u8, u64),
     second: (u8, u64),
 ) -> Result<Items<KeyedAccount>, OutOfMemory>
     ensures two { IfOk result (λ entries. length entries ≡ 2) }
-    ensures short { IfOk result (λ entries. AllByRecursion (λ e. length e.account.bytes ≤ MAX_DATA_LEN) entries) }
+    ensures short { IfOk result (λ entries. All (λ e. IsShort e.account) entries) }
 {
     let mut entries = Items::new(alloc);
     entries.push(KeyedAccount {
         key: Key([first.0; 32]),
-        account: account(alloc, first.1),
+        account: account(alloc, first.1)?,
     })?;
     entries.push(KeyedAccount {
         key: Key([second.0; 32]),
-        account: account(alloc, second.1),
+        account: account(alloc, second.1)?,
     })?;
     Ok(entries)
 }
@@ -63,11 +65,11 @@ fn the_first_fault_is_the_answer(rt: HostRuntime) -> Result<(), Fail> {
     Ok(())
 }
 
-/// Writes an account without data.
+/// Writes an account with data.
 fn write(alloc: Global, accounts: &mut Accounts, key: Key, lamports: u64) -> Result<(), OutOfMemory>
     requires { state.sum accounts.old + lamports ≤ 2 ^ 64 - 1 }
 {
-    accounts.put(key, Arc::new(alloc, account(alloc, lamports))?)
+    accounts.put(key, Arc::new(alloc, account(alloc, lamports)?)?)
 }
 
 #[test]
@@ -84,6 +86,10 @@ fn a_store_keeps_what_is_written(rt: HostRuntime) -> Result<(), Fail> {
         );
     }
     assert_eq!(rt; accounts.len(), 1);
+    assert_eq!(rt;
+        accounts.get(&high).map(|account| account.bytes.as_slice()),
+        Some(DATA.as_slice())
+    );
     assert_eq!(rt; accounts.next_after(None).map(|entry| *entry.0), Some(high));
     assert_eq!(rt;
         accounts.next_after(Some(&low)).map(|entry| *entry.0),

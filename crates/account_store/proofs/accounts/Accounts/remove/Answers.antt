@@ -17,6 +17,12 @@ invariant_of-self c =
     let same = c.total_after-self-inside.ensures ∙ add-zero (total - shared_lamports c.remove-removed.result) ∙ ap (λ n. total - n) (ap shared_lamports c.remove-removed.ensures.value) in
     IsKept-remove c.self.inside.tree.entries _ total _ c.args.key.now c.self.invariant c.remove-removed.ensures.entries c.remove-removed.ensures.ordered same
 
+pub returns-clause-state : goal.returns-clause-state
+returns-clause-state c =
+    let total = c.self.inside.total in
+    let same = c.total_after-self-inside.ensures ∙ add-zero (total - shared_lamports c.remove-removed.result) ∙ ap (λ n. total - n) (ap shared_lamports c.remove-removed.ensures.value) in
+    (IsKept-remove c.self.inside.tree.entries _ total _ c.args.key.now c.self.invariant c.remove-removed.ensures.entries c.remove-removed.ensures.ordered same).is_state
+
 pub returns-clause-value : goal.returns-clause-value
 returns-clause-value c =
     ap (option_map arc_value) c.remove-removed.ensures.value
