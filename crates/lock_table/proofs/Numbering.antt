@@ -8,7 +8,7 @@ use Rattle.std.proofs.lemmas.List.Sums.{fold_push}
 use Rattle.std.proofs.lemmas.List.Quantifiers.{position-Some}
 use Rattle.sol_base.specs.declared.key.Key.{Key}
 use Rattle.sol_base.specs.declared.lock.Lock.{Lock}
-use Rattle.bank_law.specs.Job.{same_key, has_key, keys_of}
+use Rattle.bank_law.specs.Job.{same_key, has_key, lock_keys}
 use Rattle.bank_law.proofs.Keys.{same_key-true, same_key-self}
 use Rattle.lock_table.specs.declared.locks.NumberedLock.{NumberedLock}
 use Rattle.lock_table.specs.Numbers.{number_of, with_key, with_keys, lock_at, Numbers}
@@ -83,22 +83,22 @@ Numbers-push keys more locks set lock n e h numbers =
     }
 
 -- one key more
-pub with_keys-more : (keys : List Key) (locks : List Lock) (i : ℕ) (d : Lock) → i < length locks → with_keys keys (keys_of (take (i + 1) locks)) ≡ with_key (with_keys keys (keys_of (take i locks))) (get_or locks i d).key
+pub with_keys-more : (keys : List Key) (locks : List Lock) (i : ℕ) (d : Lock) → i < length locks → with_keys keys (lock_keys (take (i + 1) locks)) ≡ with_key (with_keys keys (lock_keys (take i locks))) (get_or locks i d).key
 with_keys-more keys locks i d l =
-    ap (with_keys keys) (map_more (λ (lock : Lock). lock.key) locks i d l) ∙ fold_push with_key keys (keys_of (take i locks)) (get_or locks i d).key
+    ap (with_keys keys) (map_more (λ (lock : Lock). lock.key) locks i d l) ∙ fold_push with_key keys (lock_keys (take i locks)) (get_or locks i d).key
 
-not_among : (keys : List Key) (x : NumberedLock) (set : List NumberedLock) → AllByRecursion (λ key. same_key (lock_at keys x).key key ≡ false) (keys_of (map (lock_at keys) set)) → AllByRecursion (λ n. (x.number == n) ≡ false) (map (λ lock. lock.number) set)
+not_among : (keys : List Key) (x : NumberedLock) (set : List NumberedLock) → AllByRecursion (λ key. same_key (lock_at keys x).key key ≡ false) (lock_keys (map (lock_at keys) set)) → AllByRecursion (λ n. (x.number == n) ≡ false) (map (λ lock. lock.number) set)
 not_among keys x [] a = tt
 not_among keys x (y ∷ ys) a = (
   false_from_ne_true _ (λ t. both_ways _ a.0 (subst (λ n. same_key (lock_at keys x).key (get_or keys n no_key) ≡ true) (eqb-true x.number y.number t) (same_key-self (lock_at keys x).key))),
   not_among keys x ys a.1,
 )
 
-distinct_set : (keys : List Key) (set : List NumberedLock) → IsDistinct same_key (keys_of (map (lock_at keys) set)) → IsDistinct (λ a b. a == b) (map (λ lock. lock.number) set)
+distinct_set : (keys : List Key) (set : List NumberedLock) → IsDistinct same_key (lock_keys (map (lock_at keys) set)) → IsDistinct (λ a b. a == b) (map (λ lock. lock.number) set)
 unfolding IsDistinct
 distinct_set keys [] a = tt
 distinct_set keys (x ∷ xs) a = (not_among keys x xs a.0, distinct_set keys xs a.1)
 
 -- distinct keys have distinct numbers
-pub Numbers-distinct : (keys : List Key) (locks : List Lock) (set : List NumberedLock) → Numbers keys locks set → IsDistinct same_key (keys_of locks) → IsDistinct (λ a b. a == b) (map (λ lock. lock.number) set)
-Numbers-distinct keys locks set n a = distinct_set keys set (subst (λ ls. IsDistinct same_key (keys_of ls)) (sym n.stands_for) a)
+pub Numbers-distinct : (keys : List Key) (locks : List Lock) (set : List NumberedLock) → Numbers keys locks set → IsDistinct same_key (lock_keys locks) → IsDistinct (λ a b. a == b) (map (λ lock. lock.number) set)
+Numbers-distinct keys locks set n a = distinct_set keys set (subst (λ ls. IsDistinct same_key (lock_keys ls)) (sym n.stands_for) a)

@@ -1,6 +1,6 @@
 ghost use Rattle.std.specs.Prelude.{◌≡◌, ◌+◌, ◌-◌, ◌^◌, ◌<◌, ◌≤◌, [], ◌∷◌, ◌++◌, Some, None, length, slice_get, vec_len, vec_capacity, IfOk, OnOk, OnErr};
 ghost use Rattle.indexmap.specs.IndexSet.{spare};
-ghost use Rattle.bank_law.specs.Job.{keys_of};
+ghost use Rattle.bank_law.specs.Job.{lock_keys};
 ghost use Rattle.lock_table.specs.Numbers.{number_of, with_key, with_keys, Numbers};
 
 use crate::locks::NumberedLock;
@@ -85,7 +85,7 @@ impl KeyTable {
         requires capacity { length locks.now ≤ vec_capacity into.old }
         requires room { length self.old + length locks.now < 2 ^ 32 }
         ensures set { OnOk result (Numbers self.new locks.now into.new.items) }
-        ensures keys { OnOk result (self.new ≡ with_keys self.old (keys_of locks.now)) }
+        ensures keys { OnOk result (self.new ≡ with_keys self.old (lock_keys locks.now)) }
         ensures err { OnErr result (self.new ≡ self.old) }
     {
         self.keys.reserve(locks.len())?;

@@ -1,6 +1,6 @@
 ghost use Rattle.std.specs.Prelude.{◌≡◌, ◌+◌, ◌^◌, ◌<◌, IfOk, OnOk, OnErr, length};
 ghost use Rattle.std.specs.List.{AllPairs, IsDistinct};
-ghost use Rattle.bank_law.specs.Job.{same_key, keys_of};
+ghost use Rattle.bank_law.specs.Job.{same_key, lock_keys};
 ghost use Rattle.lock_table.specs.Numbers.{Numbers, EachOnce, conflicts, with_keys};
 
 use crate::keys::{KeyTable, copy_with_room};
@@ -42,10 +42,10 @@ impl LockSet {
 
 /// Numbers the keys of locks, those that have no number yet by the next ones.
 pub fn set_of(alloc: Global, table: &mut KeyTable, locks: &LockList) -> Result<LockSet, OutOfMemory>
-    requires distinct { IsDistinct same_key (keys_of locks.now) }
+    requires distinct { IsDistinct same_key (lock_keys locks.now) }
     requires room { length table.old + length locks.now < 2 ^ 32 }
     ensures set { IfOk result (λ set. Numbers table.new locks.now set) }
-    ensures keys { OnOk result (table.new ≡ with_keys table.old (keys_of locks.now)) }
+    ensures keys { OnOk result (table.new ≡ with_keys table.old (lock_keys locks.now)) }
     ensures err { OnErr result (table.new ≡ table.old) }
 {
     let locks = locks.as_slice();

@@ -1,6 +1,6 @@
 ghost use Rattle.std.specs.Prelude.{◌≡◌, IfOk};
 ghost use Rattle.std.specs.List.{IsDistinct, list_any};
-ghost use Rattle.bank_law.specs.Job.{same_key, keys_of};
+ghost use Rattle.bank_law.specs.Job.{same_key, lock_keys};
 
 use crate::{KeyTable, LockSet, NumberedLock, conflict, set_of};
 use sol_base::{Key, Lock, LockList, OutOfMemory};
@@ -22,7 +22,7 @@ fn has_lock(locks: &[Lock], key: &Key) -> bool
 
 /// The locks on keys of one repeated byte, without those on a key that came before.
 fn locks_of(alloc: Global, entries: &[(u8, bool)]) -> Result<LockList, OutOfMemory>
-    ensures { IfOk result (λ locks. IsDistinct same_key (keys_of locks)) }
+    ensures { IfOk result (λ locks. IsDistinct same_key (lock_keys locks)) }
 {
     let mut locks = LockList::new(alloc);
     for (byte, write) in entries {
