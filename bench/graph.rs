@@ -3,7 +3,7 @@
 
 ghost use Rattle.std.specs.Prelude.{◌≡◌, ◌+◌, ◌≤◌, IfOk, length};
 ghost use Rattle.std.specs.List.{IsDistinct};
-ghost use Rattle.bank_law.specs.Job.{same_key, keys_of};
+ghost use Rattle.bank_law.specs.Job.{same_key, lock_keys};
 
 use anyhow::{Result, ensure};
 use lock_table::{KeyTable, LockSet, set_of};
@@ -45,7 +45,7 @@ fn lock_of(kind: Kind, position: u32, random: u32) -> Lock {
 
 // The locks of one position.
 fn locks_of(alloc: Global, lock: Lock) -> std::result::Result<LockList, OutOfMemory>
-    ensures distinct { IfOk result (λ locks. IsDistinct same_key (keys_of locks)) }
+    ensures distinct { IfOk result (λ locks. IsDistinct same_key (lock_keys locks)) }
     ensures one { IfOk result (λ locks. length locks ≡ 1) }
 {
     let mut locks = LockList::new(alloc);

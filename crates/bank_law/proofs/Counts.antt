@@ -10,41 +10,27 @@ use Rattle.bank_law.specs.declared.event.Event.{Event}
 use Rattle.bank_law.specs.declared.event.EventKind.{EventKind}
 use Rattle.bank_law.specs.declared.event.EventKind.TheVariants.{Grant, Commit, Return}
 use Rattle.bank_law.specs.Job.{Job, keys}
-use Rattle.bank_law.specs.Machine.{Stage, waiting, held, done, State, is_waiting, is_held_by, is_done, loan, opening, MayCome, at_stage, step, step_of, after, IsLegalFrom, Run}
+use Rattle.bank_law.specs.Machine.{Stage, waiting, held, done, State, is_waiting, is_held_by, is_held, is_done, loan, count_below, held_count, opening, MayCome, at_stage, after_event, changed_by, after, IsLegalFrom, Run}
 use Rattle.bank_law.specs.Sound.{Sound}
-use Rattle.bank_law.specs.Laws.{is_return, returns, HistoriesAreShort}
+use Rattle.bank_law.specs.History.{is_return, returns}
+use Rattle.bank_law.specs.Laws.{HistoriesAreShort}
 use Rattle.bank_law.proofs.Stages.{at_stage-same, at_stage-other, held_started}
 use Rattle.bank_law.proofs.Events.{opening_sound, step_sound}
 
-abbrev one_if : Bool → ℕ
+abbrev pub one_if : Bool → ℕ
 one_if b = cond b 1 0
 
-abbrev is_held : Stage → Bool
-is_held waiting = false
-is_held (held lane vs) = true
-is_held (done o) = false
-
--- how many of the numbers below n pass
-count_below : (ℕ → Bool) → ℕ → ℕ
-count_below test zero = 0
-count_below test (suc n) = one_if (test n) + count_below test n
-
--- how many positions are done, and how many are held
+-- how many positions are done
 abbrev done_count : Job → State → ℕ
 done_count job s = count_below (λ i. is_done (s.stage i)) job.count
 
-abbrev held_count : Job → State → ℕ
-held_count job s = count_below (λ i. is_held (s.stage i)) job.count
-
 -- counts that agree below n
 count-same : (p q : ℕ → Bool) (n : ℕ) → ((j : ℕ) → j < n → p j ≡ q j) → count_below p n ≡ count_below q n
-unfolding count_below
 count-same p q zero h = refl
 count-same p q (suc n) h = ap₂ (λ b m. one_if b + m) (h n (omega arith)) (count-same p q n (λ j l. h j (omega arith)))
 
 -- counts that differ at i alone
 count-change : (p q : ℕ → Bool) (i n : ℕ) → i < n → ((j : ℕ) → (j ≡ i → ⊥) → p j ≡ q j) → count_below q n + one_if (p i) ≡ count_below p n + one_if (q i)
-unfolding count_below
 count-change p q i zero l h = absurd (omega arith)
 count-change p q i (suc n) l h =
     elim (cases_eq n i) [
@@ -58,24 +44,24 @@ count-change p q i (suc n) l h =
     ]
 
 -- the counts after a position has changed
-changed : (job : Job) (f : Stage → Bool) (s : ℕ → Stage) (i : ℕ) (x : Stage) → i < job.count
+pub changed : (job : Job) (f : Stage → Bool) (s : ℕ → Stage) (i : ℕ) (x : Stage) → i < job.count
     → count_below (λ j. f (at_stage s i x j)) job.count + one_if (f (s i)) ≡ count_below (λ j. f (s j)) job.count + one_if (f x)
 changed job f s i x l =
     count-change (λ j. f (s j)) (λ j. f (at_stage s i x j)) i job.count l (λ j n. sym (ap f (at_stage-other s i x j n))) ∙ ap (λ y. count_below (λ j. f (s j)) job.count + one_if (f y)) (at_stage-same s i x)
 
-held_counts : (x : Stage) (lane : ℕ) → is_held_by lane x ≡ true → (one_if (is_held x) ≡ 1) × (one_if (is_done x) ≡ 0)
+pub held_counts : (x : Stage) (lane : ℕ) → is_held_by lane x ≡ true → (one_if (is_held x) ≡ 1) × (one_if (is_done x) ≡ 0)
 held_counts waiting lane h = absurd (cc)
 held_counts (held other vs) lane h = (refl, refl)
 held_counts (done o) lane h = absurd (cc)
 
-waiting_counts : (x : Stage) → is_waiting x ≡ true → (one_if (is_held x) ≡ 0) × (one_if (is_done x) ≡ 0)
+pub waiting_counts : (x : Stage) → is_waiting x ≡ true → (one_if (is_held x) ≡ 0) × (one_if (is_done x) ≡ 0)
 waiting_counts waiting h = (refl, refl)
 waiting_counts (held other vs) h = absurd (cc)
 waiting_counts (done o) h = absurd (cc)
 
 -- two events for each done position, one for each held one, two for each return
 one_step : (job : Job) (start : Key → Account) (s : State) (kind : EventKind) (lane i : ℕ) → Sound job start s → MayCome job s kind lane i
-    → 1 + (2 * done_count job s + held_count job s) ≡ 2 * done_count job (step_of job s kind lane i) + held_count job (step_of job s kind lane i) + 2 * one_if (is_return kind)
+    → 1 + (2 * done_count job s + held_count job s) ≡ 2 * done_count job (changed_by job s kind lane i) + held_count job (changed_by job s kind lane i) + 2 * one_if (is_return kind)
 one_step job start s Grant lane i S m =
     let now : Stage = held lane (map (λ key. unwrap_or (s.store key) empty_account) (keys job i)) in
     let a = changed job is_done s.stage i now m.0.below in
@@ -101,17 +87,15 @@ many_steps : (job : Job) (start : Key → Account) (s : State) (events : List Ev
 many_steps job start s [] S l = omega arith
 many_steps job start s (e ∷ es) S l =
     let one = one_step job start s e.kind e.lane e.position S l.0 in
-    let rest = many_steps job start (step job s e) es (step_sound job start s e.kind e.lane e.position S l.0) l.1 in
+    let rest = many_steps job start (after_event job s e) es (step_sound job start s e.kind e.lane e.position S l.0) l.1 in
     let more = sum_by-cons (λ (event : Event). one_if (is_return event.kind)) e es in
     omega (arith, one, rest, more)
 
 none_below : (n : ℕ) → count_below (λ i. false) n ≡ 0
-unfolding count_below
 none_below zero = refl
 none_below (suc n) = let rest = none_below n in omega (arith, rest)
 
 done_or_held : (f : ℕ → Stage) (n : ℕ) → count_below (λ i. is_done (f i)) n + count_below (λ i. is_held (f i)) n ≤ n
-unfolding count_below
 done_or_held f zero = omega arith
 done_or_held f (suc n) = by_case (f n) (done_or_held f n)
   where

@@ -8,9 +8,9 @@ use Rattle.bank_law.specs.declared.event.EventKind.{EventKind}
 use Rattle.bank_law.specs.declared.event.EventKind.TheVariants.{Grant, Commit, Return}
 use Rattle.bank_law.specs.Job.{Job}
 use Rattle.bank_law.specs.Serial.{serial, result}
-use Rattle.bank_law.specs.Machine.{Stage, waiting, held, done, State, is_waiting, is_held_by, is_done, opening, MayCome, step, step_of, after, IsLegalFrom, Run}
+use Rattle.bank_law.specs.Machine.{Stage, waiting, held, done, State, is_waiting, is_held_by, is_done, opening, MayCome, after_event, changed_by, after, IsLegalFrom, Run}
 use Rattle.bank_law.specs.Sound.{least, will_write, first, due, IsLent, Agrees, Sound}
-use Rattle.bank_law.specs.Laws.{SomePositionIsReady, TheEndIsSerial, DoneStaysDone, AllDoneIsTheEnd}
+use Rattle.bank_law.specs.Laws.{SomePositionIsReady, AccountsEndSerial, OutcomesEndSerial, DoneStaysDone, AllDoneIsTheEnd}
 use Rattle.bank_law.proofs.Pending.{least-before, least-at, least-le, first-ge}
 use Rattle.bank_law.proofs.Stages.{at_stage-other, waiting_undone, held_started, held_undone}
 use Rattle.bank_law.proofs.Events.{run_sound}
@@ -48,9 +48,8 @@ some_ready job s none j l undone = (
           | inr v ↦ absurd (both_ways _ undone (before j (omega arith)))
         ]
 
-pub the_end : TheEndIsSerial
-the_end job start events l all =
-    ((λ key. stored key (s.store key) (S.values key)), (λ i b. ended (s.stage i) i (all i b) (S.agrees i)))
+pub accounts_end : AccountsEndSerial
+accounts_end job start events l all key = stored key (s.store key) (S.values key)
   where
     s : State
     s = Run job start events
@@ -69,13 +68,20 @@ the_end job start events l all =
     stored key None m =
         absurd (held_undone (s.stage m.position) m.lane m.holds (all m.position (S.within m.position (held_started (s.stage m.position) m.lane m.holds))))
 
+pub outcomes_end : OutcomesEndSerial
+outcomes_end job start events l all i b =
+    ended (s.stage i) i (all i b) ((run_sound job start events l).agrees i)
+  where
+    s : State
+    s = Run job start events
+
     ended : (x : Stage) (i : ℕ) → is_done x ≡ true → Agrees job start i x → x ≡ done (result job start i)
     ended waiting i d a = absurd (cc)
     ended (held lane vs) i d a = absurd (cc)
     ended (done o) i d a = ap done a
 
 -- an event changes no done position
-one_stays : (job : Job) (s : State) (kind : EventKind) (lane i : ℕ) → MayCome job s kind lane i → (j : ℕ) → is_done (s.stage j) ≡ true → (step_of job s kind lane i).stage j ≡ s.stage j
+one_stays : (job : Job) (s : State) (kind : EventKind) (lane i : ℕ) → MayCome job s kind lane i → (j : ℕ) → is_done (s.stage j) ≡ true → (changed_by job s kind lane i).stage j ≡ s.stage j
 one_stays job s Grant lane i m j d = at_stage-other s.stage i (held lane _) j (λ e. waiting_undone (s.stage i) m.0.waits (subst (λ n. is_done (s.stage n) ≡ true) e d))
 one_stays job s Commit lane i m j d = at_stage-other s.stage i (done _) j (λ e. held_undone (s.stage i) lane m (subst (λ n. is_done (s.stage n) ≡ true) e d))
 one_stays job s Return lane i m j d = at_stage-other s.stage i waiting j (λ e. held_undone (s.stage i) lane m (subst (λ n. is_done (s.stage n) ≡ true) e d))
@@ -84,7 +90,7 @@ stays : (job : Job) (s : State) (events : List Event) → IsLegalFrom job s even
 stays job s [] l j d = refl
 stays job s (e ∷ es) l j d =
     let one = one_stays job s e.kind e.lane e.position l.0 j d in
-    stays job (step job s e) es l.1 j (ap is_done one ∙ d) ∙ one
+    stays job (after_event job s e) es l.1 j (ap is_done one ∙ d) ∙ one
 
 pub done_stays : DoneStaysDone
 done_stays job start events more l i d =

@@ -11,7 +11,7 @@ use Rattle.bank_law.specs.declared.event.EventKind.{EventKind}
 use Rattle.bank_law.specs.declared.event.EventKind.TheVariants.{Grant, Commit, Return}
 use Rattle.bank_law.specs.Job.{Job, JobEffects, keys, write_keys, declares, writes, beside}
 use Rattle.bank_law.specs.Serial.{serial}
-use Rattle.bank_law.specs.Machine.{Stage, waiting, held, done, State, is_waiting, is_held_by, is_done, loan, opening, conflict, Ready, MayCome, at_stage, grant, commit, return, step, step_of, after, IsLegalFrom, IsLegal, Run}
+use Rattle.bank_law.specs.Machine.{Stage, waiting, held, done, State, is_waiting, is_held_by, is_done, loan, opening, conflict, Ready, MayCome, at_stage, grant, commit, return, after_event, changed_by, after, IsLegalFrom, IsLegal, Run}
 use Rattle.bank_law.specs.Sound.{will_write, due, IsLent, Agrees, Sound}
 use Rattle.bank_law.specs.Laws.{EveryLegalHistoryIsSound}
 use Rattle.bank_law.proofs.Keys.{beside-map, map-same, written_declared, clash-first, clash-second}
@@ -207,7 +207,7 @@ opening_sound job start = record {
   agrees = λ i. tt;
 }
 
-pub step_sound : (job : Job) (start : Key → Account) (s : State) (kind : EventKind) (lane i : ℕ) → Sound job start s → MayCome job s kind lane i → Sound job start (step_of job s kind lane i)
+pub step_sound : (job : Job) (start : Key → Account) (s : State) (kind : EventKind) (lane i : ℕ) → Sound job start s → MayCome job s kind lane i → Sound job start (changed_by job s kind lane i)
 step_sound job start s Grant lane i S m = grant_sound job start s lane i S m.0
 step_sound job start s Commit lane i S m = commit_sound job start s lane i S m
 step_sound job start s Return lane i S m = return_sound job start s lane i S m
@@ -215,7 +215,7 @@ step_sound job start s Return lane i S m = return_sound job start s lane i S m
 pub after_sound : (job : Job) (start : Key → Account) (s : State) (events : List Event) → Sound job start s → IsLegalFrom job s events → (n : ℕ) → Sound job start (after job s (take n events))
 after_sound job start s events S l zero = S
 after_sound job start s [] S l (suc n) = S
-after_sound job start s (e ∷ es) S l (suc n) = after_sound job start (step job s e) es (step_sound job start s e.kind e.lane e.position S l.0) l.1 n
+after_sound job start s (e ∷ es) S l (suc n) = after_sound job start (after_event job s e) es (step_sound job start s e.kind e.lane e.position S l.0) l.1 n
 
 pub every_sound : EveryLegalHistoryIsSound
 every_sound job start events l n = after_sound job start (opening start) events (opening_sound job start) l n

@@ -5,6 +5,11 @@ pub mod Events
 pub mod Lanes
 pub mod Journals
 pub mod Ends
+pub mod Ready
 pub mod Counts
+pub mod Histories
+pub mod Held
+pub mod Complete
 pub mod Supply
+pub mod States
 pub mod Props

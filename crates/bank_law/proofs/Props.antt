@@ -8,7 +8,7 @@ use Rattle.bank_law.specs.declared.event.Event.{Event}
 use Rattle.bank_law.specs.declared.event.EventKind.{EventKind}
 use Rattle.bank_law.specs.declared.event.EventKind.TheVariants.{Grant, Commit, Return}
 use Rattle.bank_law.specs.Job.{Job}
-use Rattle.bank_law.specs.Machine.{State, MayCome, step, IsLegalFrom}
+use Rattle.bank_law.specs.Machine.{State, MayCome, after_event, IsLegalFrom}
 use Rattle.bank_law.specs.Lawful.{Fits}
 
 MayCome-prop : (job : Job) (s : State) (kind : EventKind) (lane i : ℕ) → IsProp (MayCome job s kind lane i)
@@ -18,7 +18,7 @@ MayCome-prop job s Return lane i = hlevel props
 
 pub IsLegalFrom-prop : (job : Job) (s : State) (events : List Event) → IsProp (IsLegalFrom job s events)
 IsLegalFrom-prop job s [] = Unit-prop
-IsLegalFrom-prop job s (e ∷ es) = ×_prop (MayCome-prop job s e.kind e.lane e.position) (IsLegalFrom-prop job (step job s e) es)
+IsLegalFrom-prop job s (e ∷ es) = ×_prop (MayCome-prop job s e.kind e.lane e.position) (IsLegalFrom-prop job (after_event job s e) es)
 
 pub Fits-prop : (locks : List Lock) (vs : List Account) → IsProp (Fits locks vs)
 Fits-prop locks vs = hlevel props

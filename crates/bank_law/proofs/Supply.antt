@@ -10,17 +10,17 @@ use Rattle.sol_base.specs.declared.key.Key.{Key}
 use Rattle.sol_base.specs.declared.account.Account.{Account}
 use Rattle.sol_base.specs.declared.lock.Lock.{Lock}
 use Rattle.sol_base.specs.Accounts.{empty_account}
-use Rattle.bank_law.specs.Job.{Job, same_key, has_key, keys_of, keys, write_keys, writes, beside}
+use Rattle.bank_law.specs.Job.{Job, same_key, has_key, lock_keys, keys, write_keys, writes, beside}
 use Rattle.bank_law.specs.Serial.{serial, performed}
 use Rattle.bank_law.specs.Machine.{is_waiting, Run}
 use Rattle.bank_law.specs.Sound.{Agrees, Sound}
-use Rattle.bank_law.specs.Lawful.{IsShort, IsSettled, lamports, lamports_under, lent_for_writing, Fits, IsLawful}
-use Rattle.bank_law.specs.Laws.{IsStart, SerialRunsFit, LoansFit}
+use Rattle.bank_law.specs.Lawful.{IsShort, IsSettled, AreSettled, lamports_in, lamports_under, lent_for_writing, Fits, IsLawful, IsStart}
+use Rattle.bank_law.specs.Laws.{SerialRunsFit, SerialRunsHaveNoMore, LoansFit, LoansHaveNoMore, LamportsMove, UnwrittenStays}
 use Rattle.bank_law.proofs.Keys.{same_key-true, same_key-self, same_key-sym, has_key-first, has_key-rest, written_declared}
 use Rattle.bank_law.proofs.Events.{run_sound}
 
 -- no key stands twice
-abbrev AreApart : List Key → Type 0
+abbrev pub AreApart : List Key → Type 0
 AreApart [] = Unit {0}
 AreApart (key ∷ ks) = (has_key key ks ≡ false) × AreApart ks
 
@@ -29,7 +29,7 @@ not_among key [] a = refl
 not_among key (k ∷ ks) a =
     or_from (same_key key k) (has_key key ks) a.0 (not_among key ks a.1)
 
-apart_if : (ks : List Key) → IsDistinct same_key ks → AreApart ks
+pub apart_if : (ks : List Key) → IsDistinct same_key ks → AreApart ks
 unfolding IsDistinct
 apart_if [] a = tt
 apart_if (k ∷ ks) a = (not_among k ks a.0, apart_if ks a.1)
@@ -130,21 +130,21 @@ total-part test f (k ∷ ks) = let rest = total-part test f ks in let one = at_o
     at_one false = omega arith
 
 -- the write locks of keys that are apart
-written_apart : (locks : List Lock) → AreApart (keys_of locks) → AreApart (keys_of (filter (λ lock. lock.write) locks))
+pub written_apart : (locks : List Lock) → AreApart (lock_keys locks) → AreApart (lock_keys (filter (λ lock. lock.write) locks))
 written_apart [] a = tt
 written_apart (x ∷ xs) a = by_case x.write (written_apart xs a.1)
   where
-    by_case : (b : Bool) → AreApart (keys_of (filter (λ lock. lock.write) xs)) → AreApart (keys_of (cond b (x ∷ filter (λ lock. lock.write) xs) (filter (λ lock. lock.write) xs)))
+    by_case : (b : Bool) → AreApart (lock_keys (filter (λ lock. lock.write) xs)) → AreApart (lock_keys (cond b (x ∷ filter (λ lock. lock.write) xs) (filter (λ lock. lock.write) xs)))
     by_case true rest = (false_from_ne_true _ (λ t. both_ways _ a.0 (written_declared xs x.key t)), rest)
     by_case false rest = rest
 
-lent_for_writing-map : (accounts : Key → Account) (locks : List Lock) → lent_for_writing locks (map accounts (keys_of locks)) ≡ map accounts (keys_of (filter (λ lock. lock.write) locks))
+pub lent_for_writing-map : (accounts : Key → Account) (locks : List Lock) → lent_for_writing locks (map accounts (lock_keys locks)) ≡ map accounts (lock_keys (filter (λ lock. lock.write) locks))
 lent_for_writing-map accounts [] = refl
 lent_for_writing-map accounts (x ∷ xs) = by_case x.write (lent_for_writing-map accounts xs)
   where
-    by_case : (b : Bool) → lent_for_writing xs (map accounts (keys_of xs)) ≡ map accounts (keys_of (filter (λ lock. lock.write) xs))
-        → cond b (accounts x.key ∷ lent_for_writing xs (map accounts (keys_of xs))) (lent_for_writing xs (map accounts (keys_of xs)))
-        ≡ map accounts (keys_of (cond b (x ∷ filter (λ lock. lock.write) xs) (filter (λ lock. lock.write) xs)))
+    by_case : (b : Bool) → lent_for_writing xs (map accounts (lock_keys xs)) ≡ map accounts (lock_keys (filter (λ lock. lock.write) xs))
+        → cond b (accounts x.key ∷ lent_for_writing xs (map accounts (lock_keys xs))) (lent_for_writing xs (map accounts (lock_keys xs)))
+        ≡ map accounts (lock_keys (cond b (x ∷ filter (λ lock. lock.write) xs) (filter (λ lock. lock.write) xs)))
     by_case true rest = ap (λ vs. accounts x.key ∷ vs) rest
     by_case false rest = rest
 
@@ -182,7 +182,7 @@ module _ (job : Job) (start : Key → Account) (ks : List Key) (W : IsLawful job
         let less = K.supply in
         omega (arith, some, part, less)
 
-    lent : lamports (map accounts (keys job n)) ≤ total (balance start) ks
+    lent : lamports_in (map accounts (keys job n)) ≤ total (balance start) ks
     lent =
         let e = sum_by-total (λ (v : Account). v.lamports) (map accounts (keys job n)) in
         let m = total-map (λ (v : Account). v.lamports) accounts (keys job n) in
@@ -195,6 +195,9 @@ module _ (job : Job) (start : Key → Account) (ks : List Key) (W : IsLawful job
       short = All-map IsShort accounts (keys job n) (λ k d h. K.short _);
       supply = let a = lent in let b = below_supply in omega (arith, a, b);
     }
+
+    given_settled : AreSettled (map accounts (keys job n))
+    given_settled = All-map IsSettled accounts (keys job n) (λ k d h. K.settled _)
 
     -- what is written has no more lamports than what was there
     written : total (λ (v : Account). v.lamports) given ≤ total (balance accounts) (write_keys job n)
@@ -218,16 +221,21 @@ module _ (job : Job) (start : Key → Account) (ks : List Key) (W : IsLawful job
         at_one true = omega arith
         at_one false = omega arith
 
-    falls : total (balance (serial job start (suc n))) ks ≤ total (balance accounts) ks
-    falls =
-        let inside : (key : Key) → has_key key (write_keys job n) ≡ true → has_key key ks ≡ true = λ key m. S.all n key l (written_declared (job.locks n) key m) in
+    inside : (key : Key) → has_key key (write_keys job n) ≡ true → has_key key ks ≡ true
+    inside key m = S.all n key l (written_declared (job.locks n) key m)
+
+    moved : total (balance (serial job start (suc n))) ks + total (balance accounts) (write_keys job n)
+        ≡ total (balance accounts) ks + total (λ (v : Account). v.lamports) given
+    moved =
         let apart = written_apart (job.locks n) (apart_if (keys job n) (W.distinct n l)) in
         let s = swapped ks in
         let old = total-some ks (balance accounts) (write_keys job n) (apart_if ks S.distinct) apart inside in
         let new = total-some ks (λ key. (beside key (write_keys job n) given).lamports) (write_keys job n) (apart_if ks S.distinct) apart inside in
         let each = total-beside (write_keys job n) given apart (W.one_each n (map accounts (keys job n)) l fits) in
-        let bound = written in
-        omega (arith, s, old, new, each, bound)
+        omega (arith, s, old, new, each)
+
+    falls : total (balance (serial job start (suc n))) ks ≤ total (balance accounts) ks
+    falls = let bound = written in let m = moved in omega (arith, bound, m)
 
     kept_next : Kept (suc n)
     kept_next = record {
@@ -235,7 +243,7 @@ module _ (job : Job) (start : Key → Account) (ks : List Key) (W : IsLawful job
       short = λ key. cond_both (writes job n key) (beside key (write_keys job n) given) (accounts key) IsShort
           (λ t. beside-all IsShort key (write_keys job n) given (omega arith) (W.short n (map accounts (keys job n)) l fits)) (λ f. K.short key);
       settled = λ key. cond_both (writes job n key) (beside key (write_keys job n) given) (accounts key) IsSettled
-          (λ t. beside-all IsSettled key (write_keys job n) given (λ none. refl) (W.settled n (map accounts (keys job n)) l fits)) (λ f. K.settled key);
+          (λ t. beside-all IsSettled key (write_keys job n) given (λ none. refl) (W.settled n (map accounts (keys job n)) l fits given_settled)) (λ f. K.settled key);
     }
 
   kept : (n : ℕ) → n ≤ job.count → Kept n
@@ -244,25 +252,56 @@ module _ (job : Job) (start : Key → Account) (ks : List Key) (W : IsLawful job
 
 -- the values on which a position is performed fit
 pub turn_fits : (job : Job) (start : Key → Account) (ks : List Key) → IsLawful job → IsStart job start ks → (i : ℕ) → i < job.count
-    → Fits (job.locks i) (map (serial job start i) (keys job i)) × (lamports (map (serial job start i) (keys job i)) ≤ lamports_under start ks)
+    → Fits (job.locks i) (map (serial job start i) (keys job i)) × (lamports_in (map (serial job start i) (keys job i)) ≤ lamports_under start ks)
 turn_fits job start ks W S i l =
     let K = kept job start ks W S i (omega arith) in
     let e = sum_by-total (balance start) ks in
     let most = lent job start ks W S i l K in
     (fits job start ks W S i l K, omega (arith, e, most))
 
-pub serial_fits : SerialRunsFit
-serial_fits job start ks W S n l =
-    let K = kept job start ks W S n l in
+pub serial_less : SerialRunsHaveNoMore
+serial_less job start ks W S n l =
     let old = sum_by-total (balance start) ks in
     let new = sum_by-total (balance (serial job start n)) ks in
-    let less = K.supply in
-    (omega (arith, old, new, less), λ key. (K.short key, K.settled key))
+    let less = (kept job start ks W S n l).supply in
+    omega (arith, old, new, less)
+
+pub serial_fits : SerialRunsFit
+serial_fits job start ks W S n l key = let K = kept job start ks W S n l in (K.short key, K.settled key)
 
 pub loans_fit : LoansFit
 loans_fit job start ks W S events l lane i vs e =
     let R : Sound job start (Run job start events) = run_sound job start events l in
     let below = R.within i (ap is_waiting e) in
     let agrees = subst (λ x. Agrees job start i x) e (R.agrees i) in
-    let P : List Account → Type 0 = λ us. Fits (job.locks i) us × (lamports us ≤ lamports_under start ks) in
-    subst P (sym agrees) (turn_fits job start ks W S i below)
+    subst (Fits (job.locks i)) (sym agrees) (turn_fits job start ks W S i below).0
+
+pub loans_less : LoansHaveNoMore
+loans_less job start ks W S events l lane i vs e =
+    let R : Sound job start (Run job start events) = run_sound job start events l in
+    let below = R.within i (ap is_waiting e) in
+    let agrees = subst (λ x. Agrees job start i x) e (R.agrees i) in
+    let P : List Account → Type 0 = λ us. lamports_in us ≤ lamports_under start ks in
+    subst P (sym agrees) (turn_fits job start ks W S i below).1
+
+-- what is written stands in for what was lent for writing
+pub lamports_move : LamportsMove
+lamports_move job start ks W S n l =
+    let K = kept job start ks W S n (omega (arith, l)) in
+    let f : Account → ℕ = λ (v : Account). v.lamports in
+    let accounts : Key → Account = serial job start n in
+    let m = moved job start ks W S n l K in
+    let old = sum_by-total (balance accounts) ks in
+    let new = sum_by-total (balance (serial job start (suc n))) ks in
+    let w = sum_by-total f (performed job accounts n).written in
+    let a = sum_by-total f (lent_for_writing (job.locks n) (map accounts (keys job n))) in
+    let c = ap (total f) (lent_for_writing-map accounts (job.locks n)) in
+    let d = total-map f accounts (write_keys job n) in
+    omega (arith, m, old, new, w, a, c, d)
+
+-- a key that no position writes keeps its account
+pub unwritten : UnwrittenStays
+unwritten job start key zero none = refl
+unwritten job start key (suc n) none =
+    cond-false (writes job n key) _ (serial job start n key) (none n (omega arith))
+    ∙ unwritten job start key n (λ i l. none i (omega arith))

@@ -24,15 +24,15 @@ abbrev pub has_key : Key → List Key → Bool
 has_key key ks = list_any (λ k. same_key key k) ks
 
 -- the keys of locks, in their order
-abbrev pub keys_of : List Lock → List Key
-keys_of locks = map (λ lock. lock.key) locks
+abbrev pub lock_keys : List Lock → List Key
+lock_keys locks = map (λ lock. lock.key) locks
 
 -- the keys that position i declares, and those that it writes
 abbrev pub keys : Job → ℕ → List Key
-keys job i = keys_of (job.locks i)
+keys job i = lock_keys (job.locks i)
 
 abbrev pub write_keys : Job → ℕ → List Key
-write_keys job i = keys_of (filter (λ lock. lock.write) (job.locks i))
+write_keys job i = lock_keys (filter (λ lock. lock.write) (job.locks i))
 
 abbrev pub declares : Job → ℕ → Key → Bool
 declares job i key = has_key key (keys job i)

@@ -1,5 +1,6 @@
 pub mod Job
 pub mod Serial
+pub mod SerialState
 pub mod Machine
 pub mod Sound
 pub mod History

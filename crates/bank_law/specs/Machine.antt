@@ -1,5 +1,5 @@
 -- The core machine, which grants positions to lanes and takes their effects (the project's own).
-use Rattle.std.specs.Prelude.{◌≡◌, ℕ, ◌<◌, ◌==◌, Bool, true, false, ◌&&◌, ◌||◌, if◌then◌else◌, List, [], ◌∷◌, map, Option, Some, None, unwrap_or}
+use Rattle.std.specs.Prelude.{◌≡◌, ℕ, zero, suc, ◌+◌, ◌<◌, ◌==◌, Bool, true, false, ◌&&◌, ◌||◌, if◌then◌else◌, List, [], ◌∷◌, ◌++◌, map, Option, Some, None, unwrap_or}
 use Rattle.std.specs.List.{list_any}
 use Rattle.sol_base.specs.declared.key.Key.{Key}
 use Rattle.sol_base.specs.declared.account.Account.{Account}
@@ -37,6 +37,11 @@ is_done waiting = false
 is_done (held lane vs) = false
 is_done (done outcome) = true
 
+abbrev pub is_held : Stage → Bool
+is_held waiting = false
+is_held (held lane vs) = true
+is_held (done outcome) = false
+
 -- the values lent to a held position
 abbrev pub loan : Stage → List Account
 loan waiting = []
@@ -65,11 +70,34 @@ pub record Ready (job : Job) (s : State) (i : ℕ) : Type 0 where
   pub waits : is_waiting (s.stage i) ≡ true
   pub earlier : (j : ℕ) → j < i → conflict job j i ≡ true → is_done (s.stage j) ≡ true
 
+-- it is ready, and none before it is
+pub record IsLeastReady (job : Job) (s : State) (i : ℕ) : Type 0 where
+  pub ready : Ready job s i
+  pub least : (j : ℕ) → j < i → Ready job s j → ⊥
+
 -- the lane holds no position
 abbrev pub HoldsNone : State → ℕ → Type 0
 HoldsNone s lane = (i : ℕ) → is_held_by lane (s.stage i) ≡ false
 
--- when an event may come: a grant of a ready position to a lane that holds none, a commit and a return by the lane that holds the position
+-- no position is held
+abbrev pub NothingHeld : State → Type 0
+NothingHeld s = (lane i : ℕ) → is_held_by lane (s.stage i) ≡ false
+
+-- all positions are done
+abbrev pub AllDone : Job → State → Type 0
+AllDone job s = (i : ℕ) → i < job.count → is_done (s.stage i) ≡ true
+
+-- how many of the numbers below n pass
+abbrev pub count_below : (ℕ → Bool) → ℕ → ℕ
+count_below test zero = 0
+count_below test (suc n) = (if test n then 1 else 0) + count_below test n
+
+-- how many positions are held
+abbrev pub held_count : Job → State → ℕ
+held_count job s = count_below (λ i. is_held (s.stage i)) job.count
+
+-- When an event may come: a grant of a ready position to a lane that holds none, a commit and a
+-- return by the lane that holds the position.
 abbrev pub MayCome : Job → State → EventKind → ℕ → ℕ → Type 0
 MayCome job s Grant lane i = Ready job s i × HoldsNone s lane
 MayCome job s Commit lane i = is_held_by lane (s.stage i) ≡ true
@@ -110,24 +138,29 @@ return job s i = record {
   store = put_in (write_keys job i) (keys job i) (loan (s.stage i)) s.store;
 }
 
-abbrev pub step_of : Job → State → EventKind → ℕ → ℕ → State
-step_of job s Grant lane i = grant job s lane i
-step_of job s Commit lane i = commit job s i
-step_of job s Return lane i = return job s i
+abbrev pub changed_by : Job → State → EventKind → ℕ → ℕ → State
+changed_by job s Grant lane i = grant job s lane i
+changed_by job s Commit lane i = commit job s i
+changed_by job s Return lane i = return job s i
 
-abbrev pub step : Job → State → Event → State
-step job s event = step_of job s event.kind event.lane event.position
+abbrev pub after_event : Job → State → Event → State
+after_event job s event = changed_by job s event.kind event.lane event.position
 
 -- the state after a list of events
 abbrev pub after : Job → State → List Event → State
 after job s [] = s
-after job s (event ∷ events) = after job (step job s event) events
+after job s (event ∷ events) = after job (after_event job s event) events
 
 -- each event may come when it comes
 abbrev pub IsLegalFrom : Job → State → List Event → Type 0
 IsLegalFrom job s [] = Unit {0}
 IsLegalFrom job s (event ∷ events) =
-    MayCome job s event.kind event.lane event.position × IsLegalFrom job (step job s event) events
+    MayCome job s event.kind event.lane event.position × IsLegalFrom job (after_event job s event) events
+
+-- a list of events, and one more
+abbrev pub with_event : List Event → EventKind → ℕ → ℕ → List Event
+with_event events kind lane position =
+    events ++ record { kind = kind; lane = lane; position = position } ∷ []
 
 -- the state after a list of events from the opening state on, and that the list is legal
 abbrev pub Run : Job → (Key → Account) → List Event → State

@@ -31,7 +31,8 @@ pub record IsLent (job : Job) (s : State) (key : Key) (account : Account) : Type
   pub written : writes job position key ≡ true
   pub value : beside key (keys job position) (loan (s.stage position)) ≡ account
 
--- the loan of a held position has the account of each declared key when the serial run comes to it, and the outcome of a done one is that of the serial run
+-- The loan of a held position has the account of each declared key when the serial run comes to it,
+-- and the outcome of a done one is that of the serial run.
 abbrev pub Agrees : Job → (Key → Account) → ℕ → Stage → Type 0
 Agrees job start i waiting = Unit {0}
 Agrees job start i (held lane vs) = vs ≡ map (serial job start i) (keys job i)

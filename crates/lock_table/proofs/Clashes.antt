@@ -9,31 +9,22 @@ use Rattle.bank_law.specs.Job.{same_key}
 use Rattle.bank_law.specs.Machine.{meet, clash}
 use Rattle.bank_law.proofs.Keys.{same_key-self, same_key-sym}
 use Rattle.lock_table.specs.declared.locks.NumberedLock.{NumberedLock}
-use Rattle.lock_table.specs.Numbers.{lock_at, meets, conflicts}
+use Rattle.lock_table.specs.Numbers.{keyed_lock, meets, conflicts}
 use Rattle.lock_table.specs.Laws.{ConflictIsClash}
-use Rattle.lock_table.proofs.Numbering.{no_key}
+use Rattle.lock_table.proofs.Tables.{equal_numbers}
 
 module _ (keys : List Key) (distinct : IsDistinct same_key keys) where
-  -- numbers are equal where their keys are
-  one_number : (m n : ℕ) → m < length keys → n < length keys → (m == n) ≡ same_key (get_or keys m no_key) (get_or keys n no_key)
-  one_number m n l k =
-      elim (cases_order m n) [
-        | inl e ↦ eq-eqb m n e ∙ sym (subst (λ x. same_key (get_or keys m no_key) (get_or keys x no_key) ≡ true) e (same_key-self (get_or keys m no_key)))
-        | inr (inl u) ↦ ne_eqb m n (λ e. omega arith) ∙ sym (apart_from_distinct same_key keys m n no_key distinct u k)
-        | inr (inr u) ↦ ne_eqb m n (λ e. omega arith) ∙ sym (same_key-sym (get_or keys m no_key) (get_or keys n no_key) ∙ apart_from_distinct same_key keys n m no_key distinct u l)
-      ]
-
   abbrev Within : List NumberedLock → Type 0
   Within set = All (λ lock. lock.number < length keys) set
 
-  one_meets : (a : NumberedLock) (other : List NumberedLock) → a.number < length keys → Within other → list_any (λ b. meets a b) other ≡ list_any (λ b. meet (lock_at keys a) b) (map (lock_at keys) other)
+  one_meets : (a : NumberedLock) (other : List NumberedLock) → a.number < length keys → Within other → list_any (λ b. meets a b) other ≡ list_any (λ b. meet (keyed_lock keys a) b) (map (keyed_lock keys) other)
   one_meets a [] l w = refl
   one_meets a (b ∷ bs) l w =
       ap₂ (λ s t. (s && (a.write || b.write)) || t)
-      (one_number a.number b.number l (All-head (λ lock. lock.number < length keys) b bs w))
+      (sym (equal_numbers keys distinct a.number b.number l (All-head (λ lock. lock.number < length keys) b bs w)))
       (one_meets a bs l (All-tail (λ lock. lock.number < length keys) b bs w))
 
-  all_meet : (one other : List NumberedLock) → Within one → Within other → conflicts one other ≡ clash (map (lock_at keys) one) (map (lock_at keys) other)
+  all_meet : (one other : List NumberedLock) → Within one → Within other → conflicts one other ≡ clash (map (keyed_lock keys) one) (map (keyed_lock keys) other)
   all_meet [] other v w = refl
   all_meet (a ∷ rest) other v w =
       ap₂ (λ s t. s || t) (one_meets a other (All-head (λ lock. lock.number < length keys) a rest v) w) (all_meet rest other (All-tail (λ lock. lock.number < length keys) a rest v) w)

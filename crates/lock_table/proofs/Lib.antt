@@ -1,5 +1,4 @@
 pub mod Places
 pub mod Numbering
-pub mod Walks
+pub mod Tables
 pub mod Clashes
-pub mod Copies

@@ -1,17 +1,18 @@
 -- A table of keys that grows, and what is numbered by it.
 use Rattle.std.proofs.Common.{◌≡◌, ℕ, ◌+◌, ◌<◌, ◌≤◌, ◌==◌, true, false, List, [], ◌∷◌, ◌++◌, map, length, get_or, take, All, Some, refl, sym, ◌∙◌, ap, ap₂, subst, arith, eqb-true, length-append}
 use Rattle.std.specs.List.{IsDistinct, AllByRecursion}
-use Rattle.std.proofs.lemmas.Bool.{both_ways, cond_both, false_from_ne_true}
-use Rattle.std.proofs.lemmas.List.{map_more, map-append, get_or_append_left}
+use Rattle.std.proofs.lemmas.Bool.{eqb-false, both_ways, cond_both, false_from_ne_true}
+use Rattle.std.proofs.lemmas.List.{map_more, map-append, length-map, get_or-map, get_or_append_left}
 use Rattle.std.proofs.lemmas.List.Elements.{All-head, All-tail, All-push, All-nil}
 use Rattle.std.proofs.lemmas.List.Sums.{fold_push}
 use Rattle.std.proofs.lemmas.List.Quantifiers.{position-Some}
+use Rattle.std.proofs.lemmas.Map.Keys.{apart_from_distinct}
 use Rattle.sol_base.specs.declared.key.Key.{Key}
 use Rattle.sol_base.specs.declared.lock.Lock.{Lock}
-use Rattle.bank_law.specs.Job.{same_key, has_key, keys_of}
+use Rattle.bank_law.specs.Job.{same_key, has_key, lock_keys}
 use Rattle.bank_law.proofs.Keys.{same_key-true, same_key-self}
 use Rattle.lock_table.specs.declared.locks.NumberedLock.{NumberedLock}
-use Rattle.lock_table.specs.Numbers.{number_of, with_key, with_keys, lock_at, Numbers}
+use Rattle.lock_table.specs.Numbers.{number_of, with_key, with_keys, keyed_lock, Numbers, EachOnce}
 
 abbrev pub no_key : Key
 no_key = record { 0 = [] }
@@ -45,18 +46,18 @@ with_keys-extends keys (key ∷ more) =
       same = λ n l. rest.same n (let a = one.longer in omega (arith, a)) ∙ one.same n l;
     }
 
-lock_at-same : (keys more : List Key) (set : List NumberedLock) → Extends keys more → All (λ lock. lock.number < length keys) set → map (lock_at more) set ≡ map (lock_at keys) set
-lock_at-same keys more [] e within = refl
-lock_at-same keys more (x ∷ xs) e within =
+keyed_lock-same : (keys more : List Key) (set : List NumberedLock) → Extends keys more → All (λ lock. lock.number < length keys) set → map (keyed_lock more) set ≡ map (keyed_lock keys) set
+keyed_lock-same keys more [] e within = refl
+keyed_lock-same keys more (x ∷ xs) e within =
     ap₂ (λ (key : Key) (locks : List Lock). let lock : Lock = record { key = key; write = x.write } in lock ∷ locks)
     (e.same x.number (All-head (λ lock. lock.number < length keys) x xs within))
-    (lock_at-same keys more xs e (All-tail (λ lock. lock.number < length keys) x xs within))
+    (keyed_lock-same keys more xs e (All-tail (λ lock. lock.number < length keys) x xs within))
 
 -- what is numbered stays so when the table grows
 pub Numbers-extends : (keys more : List Key) (locks : List Lock) (set : List NumberedLock) → Extends keys more → Numbers keys locks set → Numbers more locks set
 Numbers-extends keys more locks set e n = record {
   within = λ k d l. let a = n.within k d l in let b = e.longer in omega (arith, a, b);
-  stands_for = lock_at-same keys more set e n.within ∙ n.stands_for;
+  stands_for = keyed_lock-same keys more set e n.within ∙ n.stands_for;
 }
 
 -- the key of a number
@@ -78,27 +79,34 @@ Numbers-push keys more locks set lock n e h numbers =
     record {
       within = All-push (λ (l : NumberedLock). l.number < length more) set added before.within found.0;
       stands_for =
-          map-append (lock_at more) set (added ∷ [])
+          map-append (keyed_lock more) set (added ∷ [])
           ∙ ap₂ (λ (ls : List Lock) (key : Key). let last : Lock = record { key = key; write = lock.write } in ls ++ last ∷ []) before.stands_for found.1;
     }
 
 -- one key more
-pub with_keys-more : (keys : List Key) (locks : List Lock) (i : ℕ) (d : Lock) → i < length locks → with_keys keys (keys_of (take (i + 1) locks)) ≡ with_key (with_keys keys (keys_of (take i locks))) (get_or locks i d).key
+pub with_keys-more : (keys : List Key) (locks : List Lock) (i : ℕ) (d : Lock) → i < length locks → with_keys keys (lock_keys (take (i + 1) locks)) ≡ with_key (with_keys keys (lock_keys (take i locks))) (get_or locks i d).key
 with_keys-more keys locks i d l =
-    ap (with_keys keys) (map_more (λ (lock : Lock). lock.key) locks i d l) ∙ fold_push with_key keys (keys_of (take i locks)) (get_or locks i d).key
+    ap (with_keys keys) (map_more (λ (lock : Lock). lock.key) locks i d l) ∙ fold_push with_key keys (lock_keys (take i locks)) (get_or locks i d).key
 
-not_among : (keys : List Key) (x : NumberedLock) (set : List NumberedLock) → AllByRecursion (λ key. same_key (lock_at keys x).key key ≡ false) (keys_of (map (lock_at keys) set)) → AllByRecursion (λ n. (x.number == n) ≡ false) (map (λ lock. lock.number) set)
+not_among : (keys : List Key) (x : NumberedLock) (set : List NumberedLock) → AllByRecursion (λ key. same_key (keyed_lock keys x).key key ≡ false) (lock_keys (map (keyed_lock keys) set)) → AllByRecursion (λ n. (x.number == n) ≡ false) (map (λ lock. lock.number) set)
 not_among keys x [] a = tt
 not_among keys x (y ∷ ys) a = (
-  false_from_ne_true _ (λ t. both_ways _ a.0 (subst (λ n. same_key (lock_at keys x).key (get_or keys n no_key) ≡ true) (eqb-true x.number y.number t) (same_key-self (lock_at keys x).key))),
+  false_from_ne_true _ (λ t. both_ways _ a.0 (subst (λ n. same_key (keyed_lock keys x).key (get_or keys n no_key) ≡ true) (eqb-true x.number y.number t) (same_key-self (keyed_lock keys x).key))),
   not_among keys x ys a.1,
 )
 
-distinct_set : (keys : List Key) (set : List NumberedLock) → IsDistinct same_key (keys_of (map (lock_at keys) set)) → IsDistinct (λ a b. a == b) (map (λ lock. lock.number) set)
+distinct_set : (keys : List Key) (set : List NumberedLock) → IsDistinct same_key (lock_keys (map (keyed_lock keys) set)) → IsDistinct (λ a b. a == b) (map (λ lock. lock.number) set)
 unfolding IsDistinct
 distinct_set keys [] a = tt
 distinct_set keys (x ∷ xs) a = (not_among keys x xs a.0, distinct_set keys xs a.1)
 
 -- distinct keys have distinct numbers
-pub Numbers-distinct : (keys : List Key) (locks : List Lock) (set : List NumberedLock) → Numbers keys locks set → IsDistinct same_key (keys_of locks) → IsDistinct (λ a b. a == b) (map (λ lock. lock.number) set)
-Numbers-distinct keys locks set n a = distinct_set keys set (subst (λ ls. IsDistinct same_key (keys_of ls)) (sym n.stands_for) a)
+pub Numbers-distinct : (keys : List Key) (locks : List Lock) (set : List NumberedLock) → Numbers keys locks set → IsDistinct same_key (lock_keys locks) → IsDistinct (λ a b. a == b) (map (λ lock. lock.number) set)
+Numbers-distinct keys locks set n a = distinct_set keys set (subst (λ ls. IsDistinct same_key (lock_keys ls)) (sym n.stands_for) a)
+
+-- locks of distinct numbers have each number once
+pub distinct_once : (set : List NumberedLock) → IsDistinct (λ a b. a == b) (map (λ lock. lock.number) set) → EachOnce set
+distinct_once set distinct i j d l m =
+    let e = length-map set (λ (lock : NumberedLock). lock.number) in
+    let differ = apart_from_distinct (λ a b. a == b) (map (λ (lock : NumberedLock). lock.number) set) i j d.number distinct l (omega (arith, e, m)) in
+    eqb-false _ _ (ap₂ (λ a b. a == b) (sym (get_or-map (λ (lock : NumberedLock). lock.number) set i d d.number (omega arith))) (sym (get_or-map (λ (lock : NumberedLock). lock.number) set j d d.number m)) ∙ differ)

@@ -17,14 +17,18 @@ with_key keys key = if has_key key keys then keys else keys ++ key ∷ []
 abbrev pub with_keys : List Key → List Key → List Key
 with_keys keys more = fold with_key keys more
 
+-- the key of a number
+abbrev pub numbered_key : List Key → ℕ → Key
+numbered_key keys n = slice_index_or keys n (record { 0 = [] })
+
 -- the lock on a key that a numbered one stands for
-abbrev pub lock_at : List Key → NumberedLock → Lock
-lock_at keys lock = record { key = slice_index_or keys lock.number (record { 0 = [] }); write = lock.write }
+abbrev pub keyed_lock : List Key → NumberedLock → Lock
+keyed_lock keys lock = record { key = numbered_key keys lock.number; write = lock.write }
 
 -- numbered locks stand for these locks, one by one
 pub record Numbers (keys : List Key) (locks : List Lock) (set : List NumberedLock) : Type 0 where
   pub within : All (λ lock. lock.number < length keys) set
-  pub stands_for : map (lock_at keys) set ≡ locks
+  pub stands_for : map (keyed_lock keys) set ≡ locks
 
 -- two numbered locks have one number, and one of the two writes
 abbrev pub meets : NumberedLock → NumberedLock → Bool
@@ -37,9 +41,3 @@ conflicts one other = list_any (λ a. list_any (λ b. meets a b) other) one
 -- no number stands twice
 abbrev pub EachOnce : List NumberedLock → Type 0
 EachOnce set = AllPairs (λ a b. a.number ≢ b.number) set
-
--- each number stands once in the set, and the sorted locks are the same in the order of their numbers
-pub record IsSet (set sorted : List NumberedLock) : Type 0 where
-  pub once : EachOnce set
-  pub same : (test : NumberedLock → Bool) → list_any test sorted ≡ list_any test set
-  pub rising : AllPairs (λ a b. a.number < b.number) sorted

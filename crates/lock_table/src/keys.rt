@@ -1,29 +1,31 @@
-ghost use Rattle.std.specs.Prelude.{◌≡◌, ◌+◌, ◌-◌, ◌^◌, ◌<◌, ◌≤◌, [], ◌∷◌, ◌++◌, Some, None, length, slice_get, vec_len, vec_capacity, IfOk, OnOk, OnErr};
-ghost use Rattle.indexmap.specs.IndexSet.{spare};
-ghost use Rattle.bank_law.specs.Job.{keys_of};
-ghost use Rattle.lock_table.specs.Numbers.{number_of, with_key, with_keys, Numbers};
+ghost use Rattle.std.specs.Prelude.{◌≡◌, ◌+◌, ◌-◌, ◌^◌, ◌<◌, ◌≤◌, [], ◌∷◌, ◌++◌, Some, None, length, slice_get, take, vec_len, vec_capacity, IfOk, OnOk, OnErr};
+ghost use Rattle.std.specs.List.{IsDistinct};
+ghost use Rattle.bank_law.specs.Job.{same_key};
+ghost use Rattle.lock_table.specs.Numbers.{number_of, with_key};
 
-use crate::locks::NumberedLock;
-use indexmap::IndexSet;
-use sol_base::{Key, Lock, OutOfMemory};
+use sol_base::{Key, OutOfMemory};
 use std::alloc::Global;
+use std::collections::BTreeMap;
 use std::marker::Model;
 
-/// Distinct keys, each with a number: its place in the order of first occurrence.
+/// Distinct keys, each with a number: its place in the order of first occurrence. The numbers are
+/// found by the order of the keys, so no choice of keys makes a look-up slow.
 #[derive(Drop)]
 pub struct KeyTable {
-    keys: IndexSet<Key>,
+    keys: Vec<Key>,
+    numbers: BTreeMap<Key, u32>,
 }
 
 impl Model for KeyTable {
-    ghost use Rattle.std.specs.Prelude.{List, ◌^◌, ◌<◌, length};
+    ghost use Rattle.std.specs.Prelude.{List};
     ghost use Rattle.sol_base.specs.declared.key.Key.{Key};
+    ghost use Rattle.lock_table.specs.Tables.{IsTable};
 
     ghost Value = { List Key };
 
-    ghost view = { λ t. t.keys.keys };
+    ghost view = { λ t. t.keys.items };
 
-    ghost invariant = { λ t. length t.keys.keys < 2 ^ 32 };
+    ghost invariant = { λ t. IsTable t.keys.items t.numbers };
 }
 
 impl KeyTable {
@@ -32,7 +34,8 @@ impl KeyTable {
         ensures { result ≡ [] }
     {
         KeyTable {
-            keys: IndexSet::new(alloc),
+            keys: Vec::new(alloc),
+            numbers: BTreeMap::new(alloc),
         }
     }
 
@@ -44,18 +47,21 @@ impl KeyTable {
         ensures err { OnErr result (self.new ≡ self.old) }
         ensures absent { OnErr result (number_of self.old key ≡ None) }
     {
-        let (index, _) = self.keys.insert_full(key)?;
-        Ok(index as u32)
+        if let Some(number) = self.find(&key) {
+            return Ok(number);
+        }
+        let number = self.len();
+        self.keys.reserve(1)?;
+        self.numbers.insert(key, number)?;
+        push_with_room(&mut self.keys, key);
+        Ok(number)
     }
 
     /// The number of the key, where it has one.
     pub fn find(&self, key: &Key) -> Option<u32>
         ensures { result ≡ number_of self.now key.now }
     {
-        match self.keys.get_index_of(key) {
-            Some(index) => Some(index as u32),
-            None => None,
-        }
+        self.numbers.get(key).copied()
     }
 
     /// The key of a number.
@@ -63,67 +69,43 @@ impl KeyTable {
         requires { number < length self.now }
         ensures { slice_get self.now number ≡ Some result }
     {
-        self.keys.as_slice()[number as usize]
+        self.keys[number as usize]
     }
 
     /// How many keys there are.
     pub fn len(&self) -> u32
-        ensures { result ≡ length self.now }
+        ensures len { result ≡ length self.now }
+        ensures distinct { IsDistinct same_key self.now }
     {
         self.keys.len() as u32
     }
-}
 
-impl KeyTable {
-    /// Numbers the keys of locks. It takes all memory before it changes the table.
-    pub(crate) fn number_locks(
-        &mut self,
-        locks: &[Lock],
-        into: &mut Vec<NumberedLock>,
-    ) -> Result<(), OutOfMemory>
-        requires empty { into.old.items ≡ [] }
-        requires capacity { length locks.now ≤ vec_capacity into.old }
-        requires room { length self.old + length locks.now < 2 ^ 32 }
-        ensures set { OnOk result (Numbers self.new locks.now into.new.items) }
-        ensures keys { OnOk result (self.new ≡ with_keys self.old (keys_of locks.now)) }
-        ensures err { OnErr result (self.new ≡ self.old) }
+    /// Takes the keys from a number on out again.
+    pub(crate) fn truncate(&mut self, len: u32)
+        requires { len ≤ length self.old }
+        ensures { self.new ≡ take len self.old }
     {
-        self.keys.reserve(locks.len())?;
-        for lock in locks {
-            let number = number_with_room(&mut self.keys, lock.key);
-            let write = lock.write;
-            push_with_room(into, NumberedLock { number, write });
+        while self.len() > len {
+            self.pop();
         }
-        Ok(())
+    }
+
+    // Takes the last key out.
+    fn pop(&mut self)
+        requires { 0 < length self.old }
+        ensures { self.new ≡ take (length self.old - 1) self.old }
+    {
+        if let Some(key) = self.keys.pop() {
+            let _number = self.numbers.remove(&key);
+        }
     }
 }
 
-/// The number of the key, in a set that has room for one more.
-fn number_with_room(keys: &mut IndexSet<Key>, key: Key) -> u32
-    requires spare { 0 < spare keys.old }
-    requires room { length keys.old.keys < 2 ^ 32 - 1 }
-    ensures keys { keys.new.keys ≡ with_key keys.old.keys key }
-    ensures number { number_of keys.new.keys key ≡ Some result }
-    ensures spare { spare keys.old ≤ spare keys.new + 1 }
-{
-    let (index, _) = keys.insert_full(key).unwrap();
-    index as u32
-}
-
-/// Appends a lock to a list that has room for it.
-fn push_with_room(list: &mut Vec<NumberedLock>, lock: NumberedLock)
+/// Appends an item to a list that has room for it.
+pub(crate) fn push_with_room<T: Drop>(list: &mut Vec<T>, item: T)
     requires { vec_len list.old < vec_capacity list.old }
-    ensures items { list.new.items ≡ list.old.items ++ lock ∷ [] }
+    ensures items { list.new.items ≡ list.old.items ++ item ∷ [] }
     ensures capacity { vec_capacity list.old ≤ vec_capacity list.new }
 {
-    let _ = list.push(lock);
-}
-
-/// Copies locks to an empty list that has room for them.
-pub(crate) fn copy_with_room(list: &mut Vec<NumberedLock>, locks: &[NumberedLock])
-    requires empty { list.old.items ≡ [] }
-    requires capacity { length locks.now ≤ vec_capacity list.old }
-    ensures { list.new.items ≡ locks.now }
-{
-    let _ = list.extend_from_slice(locks);
+    let _ = list.push(item);
 }

@@ -1,33 +1,30 @@
 ghost use Rattle.std.specs.Prelude.{◌≡◌, ◌+◌, ◌^◌, ◌<◌, IfOk, OnOk, OnErr, length};
-ghost use Rattle.std.specs.List.{AllPairs, IsDistinct};
-ghost use Rattle.bank_law.specs.Job.{same_key, keys_of};
-ghost use Rattle.lock_table.specs.Numbers.{Numbers, EachOnce, conflicts, with_keys};
+ghost use Rattle.std.specs.List.{IsDistinct, list_any};
+ghost use Rattle.bank_law.specs.Job.{same_key, lock_keys};
+ghost use Rattle.lock_table.specs.Numbers.{Numbers, EachOnce, meets, conflicts, with_keys};
 
-use crate::keys::{KeyTable, copy_with_room};
+use crate::keys::{KeyTable, push_with_room};
 use crate::locks::NumberedLock;
 use sol_base::{LockList, OutOfMemory};
 use std::alloc::Global;
-use std::cmp::Ordering;
 use std::marker::Model;
 
 /// The locks of one position over numbers, each number once.
 #[derive(Drop)]
 pub struct LockSet {
     locks: Vec<NumberedLock>,
-    // The same locks in the order of their numbers.
-    sorted: Vec<NumberedLock>,
 }
 
 impl Model for LockSet {
     ghost use Rattle.std.specs.Prelude.{List};
     ghost use Rattle.lock_table.specs.declared.locks.NumberedLock.{NumberedLock};
-    ghost use Rattle.lock_table.specs.Numbers.{IsSet};
+    ghost use Rattle.lock_table.specs.Numbers.{EachOnce};
 
     ghost Value = { List NumberedLock };
 
     ghost view = { λ s. s.locks.items };
 
-    ghost invariant = { λ s. IsSet s.locks.items s.sorted.items };
+    ghost invariant = { λ s. EachOnce s.locks.items };
 }
 
 impl LockSet {
@@ -42,52 +39,41 @@ impl LockSet {
 
 /// Numbers the keys of locks, those that have no number yet by the next ones.
 pub fn set_of(alloc: Global, table: &mut KeyTable, locks: &LockList) -> Result<LockSet, OutOfMemory>
-    requires distinct { IsDistinct same_key (keys_of locks.now) }
+    requires distinct { IsDistinct same_key (lock_keys locks.now) }
     requires room { length table.old + length locks.now < 2 ^ 32 }
     ensures set { IfOk result (λ set. Numbers table.new locks.now set) }
-    ensures keys { OnOk result (table.new ≡ with_keys table.old (keys_of locks.now)) }
+    ensures keys { OnOk result (table.new ≡ with_keys table.old (lock_keys locks.now)) }
     ensures err { OnErr result (table.new ≡ table.old) }
 {
     let locks = locks.as_slice();
     let mut numbered = Vec::with_capacity(alloc, locks.len())?;
-    let mut sorted = Vec::with_capacity(alloc, locks.len())?;
-    table.number_locks(locks, &mut numbered)?;
-    copy_with_room(&mut sorted, numbered.as_slice());
-    sorted.sort_unstable_by_key(|lock| lock.number);
-    Ok(LockSet {
-        locks: numbered,
-        sorted,
-    })
-}
-
-/// Whether a number is in both sets, and at least one of the two writes it.
-pub fn conflict(one: &LockSet, other: &LockSet) -> bool
-    ensures { result ≡ conflicts one.now other.now }
-{
-    rising_conflict(one.sorted.as_slice(), other.sorted.as_slice())
-}
-
-/// The same over locks whose numbers rise: one walk over both.
-fn rising_conflict(one: &[NumberedLock], other: &[NumberedLock]) -> bool
-    requires one { AllPairs (λ a b. a.number < b.number) one.now }
-    requires other { AllPairs (λ a b. a.number < b.number) other.now }
-    ensures { result ≡ conflicts one.now other.now }
-{
-    let mut i = 0;
-    let mut j = 0;
-    while i < one.len() && j < other.len() {
-        let (a, b) = (one[i], other[j]);
-        match a.number.cmp(&b.number) {
-            Ordering::Less => i += 1,
-            Ordering::Greater => j += 1,
-            Ordering::Equal => {
-                if a.write || b.write {
-                    return true;
-                }
-                i += 1;
-                j += 1;
+    let before = table.len();
+    for lock in locks {
+        match table.number(lock.key) {
+            Ok(number) => {
+                let write = lock.write;
+                push_with_room(&mut numbered, NumberedLock { number, write });
+            }
+            Err(e) => {
+                table.truncate(before);
+                return Err(e);
             }
         }
     }
-    false
+    Ok(LockSet { locks: numbered })
+}
+
+/// Whether a number is in both sets, and at least one of the two writes it. It compares each lock of
+/// the one with each of the other.
+pub fn conflict(one: &LockSet, other: &LockSet) -> bool
+    ensures { result ≡ conflicts one.now other.now }
+{
+    one.items().iter().any(|a| meets_any(*a, other.items()))
+}
+
+/// Whether the lock has the number of one of these, and one of the two writes it.
+fn meets_any(lock: NumberedLock, others: &[NumberedLock]) -> bool
+    ensures { result ≡ list_any (λ other. meets lock other) others.now }
+{
+    others.iter().any(|other| lock.number == other.number && (lock.write || other.write))
 }

@@ -1,9 +1,5 @@
-ghost use Rattle.std.specs.Prelude.{◌≡◌, IfOk};
-ghost use Rattle.std.specs.List.{IsDistinct, list_any};
-ghost use Rattle.bank_law.specs.Job.{same_key, keys_of};
-
-use crate::{KeyTable, LockSet, NumberedLock, conflict, set_of};
-use sol_base::{Key, Lock, LockList, OutOfMemory};
+use crate::{KeyTable, LockSet, NumberedLock, conflict, has_distinct_keys, set_of};
+use sol_base::{Key, Lock, LockList};
 use std::alloc::Global;
 use std::process::Abort;
 use std::test::Fail;
@@ -13,38 +9,28 @@ fn key_of(byte: u8) -> Key {
     Key([byte; 32])
 }
 
-/// Whether one of the locks is on the key.
-fn has_lock(locks: &[Lock], key: &Key) -> bool
-    ensures { result ≡ list_any (λ lock. same_key key.now lock.key) locks.now }
-{
-    locks.iter().any(|lock| *key == lock.key)
-}
-
-/// The locks on keys of one repeated byte, without those on a key that came before.
-fn locks_of(alloc: Global, entries: &[(u8, bool)]) -> Result<LockList, OutOfMemory>
-    ensures { IfOk result (λ locks. IsDistinct same_key (keys_of locks)) }
-{
+/// The locks on keys of one repeated byte.
+fn locks_of(alloc: Global, entries: &[(u8, bool)]) -> Result<LockList, Fail> {
     let mut locks = LockList::new(alloc);
     for (byte, write) in entries {
         let key = key_of(*byte);
-        if !has_lock(locks.as_slice(), &key) {
-            locks.push(Lock { key, write: *write })?;
-        }
+        locks.push(Lock { key, write: *write })?;
     }
     Ok(locks)
 }
 
-/// The set of the locks, where the table has room for them.
+/// The set of the locks, where they are on distinct keys and the table has room for them.
 fn set_in(
     rt: &impl Abort,
     alloc: Global,
     table: &mut KeyTable,
     entries: &[(u8, bool)],
-) -> Result<LockSet, OutOfMemory> {
+) -> Result<LockSet, Fail> {
     let locks = locks_of(alloc, entries)?;
+    assert!(rt; has_distinct_keys(&locks), "of {entries:?}");
     let keys = table.len() as usize + locks.len();
     assert!(rt; keys < 1_000);
-    set_of(alloc, table, &locks)
+    Ok(set_of(alloc, table, &locks)?)
 }
 
 #[test]
@@ -72,6 +58,22 @@ fn sets_keep_the_order_of_their_locks(rt: HostRuntime) -> Result<(), Fail> {
     assert_eq!(rt; set.items().len(), 3);
     for (lock, (number, write)) in set.items().iter().zip(want) {
         assert_eq!(rt; *lock, NumberedLock { number, write });
+    }
+    Ok(())
+}
+
+#[test]
+fn locks_on_one_key_are_found(rt: HostRuntime) -> Result<(), Fail> {
+    let alloc = rt.alloc();
+    let cases: [(&[(u8, bool)], bool); 4] = [
+        (&[], true),
+        (&[(1, false), (2, false), (3, true)], true),
+        (&[(1, false), (2, false), (1, true)], false),
+        (&[(3, true), (3, true)], false),
+    ];
+    for (entries, want) in cases {
+        let locks = locks_of(alloc, entries)?;
+        assert_eq!(rt; has_distinct_keys(&locks), want, "of {entries:?}");
     }
     Ok(())
 }

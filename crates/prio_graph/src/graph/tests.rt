@@ -1,6 +1,6 @@
 ghost use Rattle.std.specs.Prelude.{◌≡◌, ℕ, ◌^◌, ◌<◌, ◌↔◌, IfOk, IfSome, IfNone, IsTrue, length};
 ghost use Rattle.std.specs.List.{IsDistinct, list_any};
-ghost use Rattle.bank_law.specs.Job.{same_key, keys_of};
+ghost use Rattle.bank_law.specs.Job.{same_key, lock_keys};
 ghost use Rattle.prio_graph.specs.Ready.{IsReady, IsLeastReady, mark_at};
 ghost use Rattle.prio_graph.specs.declared.mark.Mark.TheVariants.{Started};
 
@@ -26,7 +26,7 @@ fn has_lock(locks: &[Lock], key: &Key) -> bool
 
 /// The locks on keys of one repeated byte, without those on a key that came before.
 fn locks_of(alloc: Global, entries: &[(u8, bool)]) -> Result<LockList, OutOfMemory>
-    ensures { IfOk result (λ locks. IsDistinct same_key (keys_of locks)) }
+    ensures { IfOk result (λ locks. IsDistinct same_key (lock_keys locks)) }
 {
     let mut locks = LockList::new(alloc);
     for (byte, write) in entries {
