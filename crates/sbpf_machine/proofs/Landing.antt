@@ -49,7 +49,7 @@ back_with text frames frame backs start = λ k x h. ⊎_elim
     (λ (same : x ≡ frame). ap (λ (f : Kept). is_start text f.back) same ∙ start)
     (one_more frames frame x k h)
 
-of_front : (n : ℕ) (frames : List Kept) (x : Kept) (k : ℕ) → slice_get (take n frames) k ≡ Some x → slice_get frames k ≡ Some x
+pub of_front : (n : ℕ) (frames : List Kept) (x : Kept) (k : ℕ) → slice_get (take n frames) k ≡ Some x → slice_get frames k ≡ Some x
 of_front zero frames x k h = absurd (cc)
 of_front (suc n) [] x k h = h
 of_front (suc n) (y ∷ frames) x zero h = h
@@ -130,7 +130,7 @@ ways_stand x y stands here = stands
 ways_stand x y stands (on {place} {next} {units} {context} {context'} way s) =
     let before : StandsAtStart x.text place context None = ways_stand x (going x.text place context (suc units)) stands way in
     let lands : RowLands x.text (Go next context') = subst (RowLands x.text) s (step_lands x.text place context before.verified before.start before.backs) in
-    record { verified = before.verified; start = lands.0; backs = lands.1; next = λ h. absurd h }
+    record { verified = before.verified; start = lands.0; backs = lands.1; next = λ h. absurd h; number = tt }
 
 -- a row is there
 pub never_stuck : (x : State) → StandsAtStart x.text x.place x.context x.stop → step x.text x.place x.context ≡ Stuck → ⊥

@@ -1,3 +1,6 @@
-mod Keeping
-mod Landing
+pub mod FramePointer
+pub mod Keeping
+pub mod Landing
 mod Paths
+pub mod Plain
+pub mod Taking

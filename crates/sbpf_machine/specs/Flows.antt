@@ -1,6 +1,7 @@
 -- What the answer of one instruction says of the row that it follows.
 use Rattle.std.specs.Prelude.{◌≡◌, ℕ, ◌+◌, true, List, slice_get, Some}
 use Rattle.sbpf_isa.specs.declared.rows.OpKind.{OpKind}
+use Rattle.sbpf_verify.specs.Entries.{IsHelperNumber}
 use Rattle.sbpf_verify.specs.Places.{is_start}
 use Rattle.sbpf_verify.specs.declared.entry.Entry.{Entry}
 use Rattle.sbpf_machine.specs.Steps.{Next as Row, Go, Halt, Operands, IsStore}
@@ -26,12 +27,12 @@ after row target place new NoMemory = row
 abbrev pub Follows : Row → ℕ → ℕ → Context → Flow → Type 0
 Follows row target place new flow = after row target place new flow ≡ row
 
--- where it goes on, an instruction starts there, and after a system call at the place behind it
+-- where it goes on, an instruction starts there, and after a system call, which has its number, at the place behind it
 abbrev pub LandsOn : List ℕ → ℕ → ℕ → Flow → Type 0
 LandsOn text target place Next = is_start text (place + 1) ≡ true
 LandsOn text target place Jump = is_start text target ≡ true
 LandsOn text target place (To other) = is_start text other ≡ true
-LandsOn text target place (Off (Helper number)) = is_start text (place + 1) ≡ true
+LandsOn text target place (Off (Helper number)) = (is_start text (place + 1) ≡ true) × IsHelperNumber number
 LandsOn text target place (Off (Exit r0)) = Unit {0}
 LandsOn text target place (Off (Fault fault)) = Unit {0}
 LandsOn text target place NoMemory = Unit {0}

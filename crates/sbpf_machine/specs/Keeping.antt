@@ -1,17 +1,22 @@
 -- What a run keeps.
-use Rattle.std.specs.Prelude.{◌≡◌, ◌≤◌, map}
+use Rattle.std.specs.Prelude.{◌≡◌, ◌<◌, ◌≤◌, length, map, None}
 use Rattle.sbpf_memory.specs.Memory.{Ranges, IsMemory, bounds_of, ranges}
-use Rattle.sbpf_machine.specs.Steps.{State}
+use Rattle.sbpf_machine.specs.Steps.{State, IsHelper}
 
--- the ranges of a memory: where each begins, how long it is and whether it is written, the bytes of the program, and the prepared places
+-- the bytes of the program, the prepared places, and how long the input is; and of what is a memory, that it is one, and its ranges: where each begins, how long it is and whether it is written
 pub record KeepsRanges (old new : Ranges) : Type 0 where
-  pub memory : IsMemory new
-  pub bounds : map bounds_of (ranges new) ≡ map bounds_of (ranges old)
   pub program : new.program ≡ old.program
   pub prepared : new.input.prepared ≡ old.input.prepared
+  pub input : length new.input.bytes ≡ length old.input.bytes
+  pub memory : IsMemory old → IsMemory new
+  pub bounds : IsMemory old → map bounds_of (ranges new) ≡ map bounds_of (ranges old)
 
--- the text and the ranges; and no unit is gained
+-- no unit is gained, and one is taken where a run has come to a system call
+pub record TakesUnits (old new : State) : Type 0 where
+  pub most : new.units ≤ old.units
+  pub fewer : old.stop ≡ None → IsHelper new.stop → new.units < old.units
+
+-- the text and the ranges
 pub record Keeps (old new : State) : Type 0 where
   pub text : new.text ≡ old.text
-  pub units : new.units ≤ old.units
   pub ranges : KeepsRanges old.context.memory new.context.memory

@@ -1,12 +1,20 @@
 -- A run of the machine's loop, and what holds of each machine.
-use Rattle.std.specs.Prelude.{◌≡◌, ◌<◌, ℕ, ◌+◌, true, List, Option, Some, None}
+use Rattle.std.specs.Prelude.{◌≡◌, ◌<◌, ℕ, ◌+◌, true, List, Option, Some, None, IfSome}
+use Rattle.sbpf_verify.specs.Entries.{IsHelperNumber}
 use Rattle.sbpf_verify.specs.Places.{is_start, instruction_at}
 use Rattle.sbpf_verify.specs.Verified.{IsVerified}
 use Rattle.sbpf_machine.specs.Flows.{GoBack}
 use Rattle.sbpf_machine.specs.Steps.{State, AtStore, IsHelper, Reaches, StandsBeforeStore, going, halted, first_stop, steps}
 use Rattle.sbpf_machine.specs.declared.context.Context.{Context}
 use Rattle.sbpf_machine.specs.declared.stop.Stop.{Stop}
+use Rattle.sbpf_machine.specs.declared.stop.Stop.TheVariants.{Exit, Helper, Fault}
 use Rattle.sbpf_machine.specs.declared.run.Ended.{Ended}
+
+-- a stop at a system call has its number, 1 to 17
+abbrev pub IsNumbered : Stop → Type 0
+IsNumbered (Helper number) = IsHelperNumber number
+IsNumbered (Exit r0) = Unit {0}
+IsNumbered (Fault fault) = Unit {0}
 
 -- in a verified text, where an instruction starts, to which each frame that waits goes back too, and after a system call the place behind it
 pub record StandsAtStart (text : List ℕ) (place : ℕ) (context : Context) (stop : Option Stop) : Type 0 where
@@ -14,6 +22,7 @@ pub record StandsAtStart (text : List ℕ) (place : ℕ) (context : Context) (st
   pub start : is_start text place ≡ true
   pub backs : GoBack text context.frames
   pub next : IsHelper stop → is_start text (place + 1) ≡ true
+  pub number : IfSome stop IsNumbered
 
 -- the loop has come to the first stop, or to a store that found no memory
 abbrev pub EndsBy : List ℕ → ℕ → ℕ → Context → Ended → Context → Option Stop → Type 0

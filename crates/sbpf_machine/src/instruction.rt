@@ -6,7 +6,7 @@ ghost use Rattle.sbpf_machine.specs.Flows.{Follows, LandsOn, WantsOnlyAt, IsNext
 ghost use Rattle.sbpf_machine.specs.Steps as Steps;
 ghost use Rattle.sbpf_machine.specs.Values.{divides, holds};
 ghost use Rattle.sbpf_machine.specs.declared.instruction.Flow.TheVariants.{Next as next_one, Jump as jumps};
-ghost use Rattle.sbpf_verify.specs.Entries.{Fits};
+ghost use Rattle.sbpf_verify.specs.Entries.{Fits, IsHelperNumber};
 ghost use Rattle.sbpf_verify.specs.Opcodes.{meaning};
 ghost use Rattle.sbpf_verify.specs.Places.{is_start};
 ghost use Rattle.sbpf_verify.specs.Verified.{IsVerified};
@@ -258,6 +258,7 @@ fn call(program: &Verified, entry: Entry, place: u32, context: &mut Context) -> 
     requires room { place < 65536 }
     requires next { is_start program.now (place + 1) ≡ true }
     requires to { is_start program.now entry.target ≡ true }
+    requires helper { entry.src ≢ 1 → IsHelperNumber entry.imm }
     requires backs { GoBack program.now context.old.frames }
     ensures lands { (target : ℕ) → LandsOn program.now target place result }
     ensures backs { GoBack program.now context.new.frames }

@@ -1,9 +1,10 @@
 //! The machine.
-ghost use Rattle.std.specs.Prelude.{◌≡◌, ◌≤◌, true, Some, None, IfOk, IfErr};
+ghost use Rattle.std.specs.Prelude.{◌≡◌, ◌≤◌, true, Some, None, IfSome, IfOk, IfErr};
 ghost use Rattle.std.specs.Arc.{arc_value};
 ghost use Rattle.std.specs.Borrow.{sem};
+ghost use Rattle.sbpf_machine.specs.Keeping.{TakesUnits};
 ghost use Rattle.sbpf_machine.specs.Lending.{LendsMemory};
-ghost use Rattle.sbpf_machine.specs.Runs.{ComesTo};
+ghost use Rattle.sbpf_machine.specs.Runs.{ComesTo, IsNumbered};
 ghost use Rattle.sbpf_machine.specs.Steps.{IsHelper, StandsBeforeStore, arguments_in, first_state, resumed, steps, with_units};
 ghost use Rattle.sbpf_verify.specs.Places.{is_start};
 
@@ -88,6 +89,8 @@ impl Machine {
     pub fn run(&mut self) -> Result<Stop, OutOfMemory>
         ensures stops { IfOk result (λ stop. (steps self.old ≡ Some self.new) × (self.new.stop ≡ Some stop)) }
         ensures short { IfErr result (λ _. StandsBeforeStore self.old self.new) }
+        ensures number { IfOk result IsNumbered }
+        ensures units { TakesUnits self.old self.new }
         ensures start { is_start self.new.text self.new.place ≡ true }
     {
         self.go_on();
@@ -99,6 +102,8 @@ impl Machine {
 
     fn go_on(&mut self)
         ensures comes { ComesTo self.old self.new }
+        ensures number { IfSome self.new.stop IsNumbered }
+        ensures units { TakesUnits self.old self.new }
         ensures start { is_start self.new.text self.new.place ≡ true }
     {
         if self.stop.is_some() {

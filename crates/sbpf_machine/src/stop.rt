@@ -1,3 +1,6 @@
+ghost use Rattle.std.specs.Prelude.{◌≡◌};
+ghost use Rattle.sbpf_machine.specs.Faults.{fault_number};
+
 use thiserror::Error;
 
 /// Why an instruction cannot act.
@@ -13,6 +16,21 @@ pub enum Fault {
     CallDepth,
     #[error("no instruction starts at {value:#x}")]
     BadCallTarget { value: u64 },
+}
+
+impl Fault {
+    /// The number of the fault, from 1.
+    pub fn number(&self) -> u8
+        ensures { result ≡ fault_number self.now }
+    {
+        match self {
+            Fault::UnitsSpent => 1,
+            Fault::DivideByZero => 2,
+            Fault::AccessViolation { .. } => 3,
+            Fault::CallDepth => 4,
+            Fault::BadCallTarget { .. } => 5,
+        }
+    }
 }
 
 /// What a machine stops for.

@@ -1,4 +1,5 @@
 pub mod Entries
+pub mod Faults
 pub mod Instructions
 pub mod Opcodes
 pub mod Places

@@ -1,3 +1,6 @@
+ghost use Rattle.std.specs.Prelude.{◌≡◌};
+ghost use Rattle.sbpf_verify.specs.Faults.{fault_number};
+
 use thiserror::Error;
 
 /// Why a text is refused, with the slot that is refused. The rules stand in the order of their
@@ -26,4 +29,25 @@ pub enum VerifyFault {
     OpenEnd,
     #[error("a field of slot {at} has a value that its instruction does not allow")]
     Field { at: u32 },
+}
+
+impl VerifyFault {
+    /// The number of the rule, from 1.
+    pub fn number(&self) -> u8
+        ensures { result ≡ fault_number self.now }
+    {
+        match self {
+            VerifyFault::Length => 1,
+            VerifyFault::Opcode { .. } => 2,
+            VerifyFault::Register { .. } => 3,
+            VerifyFault::WritesFrame { .. } => 4,
+            VerifyFault::ZeroDivisor { .. } => 5,
+            VerifyFault::Shift { .. } => 6,
+            VerifyFault::HalfWide { .. } => 7,
+            VerifyFault::Jump { .. } => 8,
+            VerifyFault::Helper { .. } => 9,
+            VerifyFault::OpenEnd => 10,
+            VerifyFault::Field { .. } => 11,
+        }
+    }
 }

@@ -6,6 +6,7 @@ use Rattle.sbpf_machine.specs.declared.stop.Stop.{Stop}
 use Rattle.sbpf_machine.specs.Runs.{ComesTo, Ends}
 use Rattle.sbpf_machine.specs.Steps.{State}
 use Rattle.sbpf_machine.proofs.Paths.{comes_to, not_there, stays}
+use Rattle.sbpf_machine.proofs.Taking.{come_takes}
 use Rattle.sbpf_machine.proofs.machine.Machine.go_on.Goals as goal
 
 abbrev at_stop : List ℕ → ℕ → Context → ℕ → Option Stop → State
@@ -26,3 +27,6 @@ returns-clause-comes c =
     subst (λ (x : State). ComesTo x new) c.self.view_is
     (subst (λ (stop : Option Stop). ComesTo (at_stop text c.self.inside.place c.self.inside.context c.self.inside.units stop) new) (sym none)
     (comes_to text c.self.inside.place c.self.inside.units c.self.inside.context c.run_from-ended.new.context ended.place ended.units ended.stop ends))
+
+pub returns-clause-units : goal.returns-clause-units
+returns-clause-units c = come_takes _ _ (returns-clause-comes c)

@@ -12,4 +12,4 @@ no_frame frames k frame none h = let there : slice_get [] k ≡ Some frame = ap 
 pub invariant_of-result : goal.invariant_of-result
 invariant_of-result c =
     let verified : IsVerified (arc_value c.args.code) = subst IsVerified c.deref.ensures c.entries-entries.ensures.verified in
-    record { verified = verified; start = first_start _ verified; backs = λ k frame h. no_frame _ k frame c.new.ensures h; next = λ h. absurd h }
+    record { verified = verified; start = first_start _ verified; backs = λ k frame h. no_frame _ k frame c.new.ensures h; next = λ h. absurd h; number = tt }
