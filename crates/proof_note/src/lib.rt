@@ -3,7 +3,9 @@
 //! copy or a borrow.
 //!
 //! A note says what its maker chose to note. It can be taken again at will, so it shows nothing of
-//! ownership, and no answer of a program can depend on it.
+//! ownership, and no answer of a program can depend on it. Nor does it show that such a value ever
+//! was: of a note of a `T` no range, no length and no invariant of `T` is known. A struct that needs
+//! them keeps them beside the note, in a ghost field of its own.
 #![tactic(auto)]
 
 ghost use Rattle.std.specs.Prelude.{◌≡◌};
@@ -11,7 +13,7 @@ ghost use Rattle.std.specs.Borrow.{ftrue};
 
 use std::marker::{Model, PhantomData};
 
-/// A value of `T` that stands in proofs alone.
+/// A value of `T` that stands in proofs alone. It crosses threads whatever `T` is.
 pub struct Note<T> {
     marker: PhantomData<*const T>,
     pub ghost value: { T },

@@ -2,6 +2,7 @@ ghost use Rattle.std.specs.Prelude.{◌≡◌};
 
 use crate::Note;
 use std::mem::size_of;
+use std::thread::{Threads, join};
 
 // What a struct was made from, beside nothing else.
 fn noted(from: &u64) -> Note<u64>
@@ -10,9 +11,23 @@ fn noted(from: &u64) -> Note<u64>
     Note::told_by(from)
 }
 
+// A note that another thread looks at, and what it hands back.
+fn crossed(rt: &impl Threads, note: &Note<u64>) -> (Note<u64>, Note<u64>)
+    ensures theirs { result.0.value ≡ note.now.value }
+    ensures ours { result.1.value ≡ note.now.value }
+{
+    join(rt, || note.again(), || note.again())
+}
+
 #[test]
 fn a_note_takes_no_bytes() {
     let note = noted(&7);
     let _same = note.again();
     prove!(size_of::<Note<u64>>() == 0);
+}
+
+#[test]
+fn a_note_crosses_threads(rt: HostRuntime) {
+    let note = noted(&7);
+    let _both = crossed(&rt, &note);
 }

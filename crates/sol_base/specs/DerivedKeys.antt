@@ -12,10 +12,17 @@ use Rattle.sol_base.specs.declared.derived.SeedsFault.TheVariants.{TooMany, TooL
 abbrev pub marker : List ℕ
 marker = codes "ProgramDerivedAddress"
 
+-- the most bytes of a seed, and the most seeds of a program key (Solana)
+abbrev pub max_seed_len : ℕ
+max_seed_len = 32
+
+abbrev pub max_seeds : ℕ
+max_seeds = 16
+
 -- the key of a base, a seed and an owner: the hash of the three
 abbrev pub seed_key_of : Key → List ℕ → Key → Result Key SeedFault
 seed_key_of base seed owner =
-    if nat_lt 32 (length seed) then Err TooLong else
+    if nat_lt max_seed_len (length seed) then Err TooLong else
     if ends_with nat_eq owner.0 marker then Err IllegalOwner else
     Ok (record { 0 = sha256 (base.0 ++ seed ++ owner.0) })
 
@@ -23,13 +30,13 @@ seed_key_of base seed owner =
 abbrev pub signing_key_of : List (List ℕ) → Key → Key
 signing_key_of seeds program = record { 0 = sha256 (flat_map (λ seed. seed) seeds ++ program.0 ++ marker) }
 
--- a seed has more than 32 bytes
+-- a seed is too long
 abbrev pub has_long : List (List ℕ) → Bool
-has_long seeds = list_any (λ seed. nat_lt 32 (length seed)) seeds
+has_long seeds = list_any (λ seed. nat_lt max_seed_len (length seed)) seeds
 
 -- the key that a program signs for by seeds
 abbrev pub program_key_of : List (List ℕ) → Key → Result Key SeedsFault
 program_key_of seeds program =
-    if nat_lt 16 (length seeds) then Err TooMany else
+    if nat_lt max_seeds (length seeds) then Err TooMany else
     if has_long seeds then Err SeedTooLong else
     Ok (signing_key_of seeds program)

@@ -7,10 +7,10 @@ use crate::key::Key;
 use sha2::{Digest, Sha256};
 use thiserror::Error;
 
-/// The most bytes of a seed.
+/// The most bytes of a seed (Solana).
 pub const MAX_SEED_LEN: usize = 32;
 
-/// The most seeds of a program key.
+/// The most seeds of a program key (Solana).
 pub const MAX_SEEDS: usize = 16;
 
 /// The text that ends what a program key is the hash of (Solana).

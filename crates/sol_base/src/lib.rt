@@ -8,6 +8,7 @@ mod derived;
 mod fields;
 mod items;
 mod key;
+mod laws;
 mod limits;
 mod lock;
 mod memory;
@@ -26,6 +27,7 @@ pub use key::{
     CLOCK_SYSVAR, COMPUTE_BUDGET_PROGRAM, Hash32, Key, LOADER_PROGRAM, RENT_SYSVAR, SYSTEM_PROGRAM,
     hash, key_text,
 };
+pub use laws::{bounds_are_as_published, native_keys_repeat_one_byte};
 pub use limits::Limits;
 pub use lock::{Lock, LockList, Meta};
 pub use memory::OutOfMemory;
