@@ -347,22 +347,6 @@ insert_entry-last {X = X} (e ∷ es) k v below =
     ap (λ (o : Ordering). match_ordering o ((k, v) ∷ e ∷ es) ((e.0, v) ∷ es) (e ∷ insert_entry key_cmp es k v)) after
     ∙ ap (λ (l : List (Key × X)). e ∷ l) (insert_entry-last es k v below.1)
 
--- each refusal of one entry, and none
-pub fault-out_of_order : (s : State) (e : Entry) (n : ℕ) → n ≡ len s → is_above (last_key (entries s)) e.0 ≡ false → entry_fault (entries s) e ≡ Some (OutOfOrder n)
-fault-out_of_order s e n at low = rw (low, at, len-entries s) refl
-
-pub fault-empty : (s : State) (e : Entry) (n : ℕ) → n ≡ len s → is_above (last_key (entries s)) e.0 ≡ true → e.1.lamports ≡ 0 → entry_fault (entries s) e ≡ Some (Empty n)
-fault-empty s e n at above none = rw (above, none, at, len-entries s) refl
-
-pub fault-supply : (s : State) (e : Entry) → is_above (last_key (entries s)) e.0 ≡ true → (e.1.lamports ≡ 0 → ⊥) → 2 ^ 64 ≤ sum s + e.1.lamports → entry_fault (entries s) e ≡ Some SupplyTooLarge
-fault-supply s e above some large =
-    let more : nat_eq e.1.lamports 0 ≡ false = grind (arith, nat_tests) in
-    let high : nat_lt (2 ^ 64 - 1) (sum s + e.1.lamports) ≡ true = grind (arith, nat_tests) in
-    rw (above, more, high) refl
-
-pub fault-none : (s : State) (e : Entry) → is_above (last_key (entries s)) e.0 ≡ true → (e.1.lamports ≡ 0 → ⊥) → sum s + e.1.lamports < 2 ^ 64 → entry_fault (entries s) e ≡ None
-fault-none s e above some fits = none-from_IsFine (entries s) e (record { above = above; some = omega arith; fits = omega arith })
-
 -- an entry of a list at which a loop stands: there are fewer before it than in all
 pub few-before : (s : State) (so_far left all : List KeyedAccount) → entries s ≡ entries_of so_far → so_far ++ left ≡ all → length all < 2 ^ 32 → len s < 2 ^ 32
 few-before s so_far left all has split few =

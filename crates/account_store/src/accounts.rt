@@ -72,23 +72,22 @@ impl Accounts {
         ensures pushed { OnOk result (state.entries self.new ≡ state.entries self.old ++ entry_of entry ∷ []) }
         ensures err { IfErr result (IsFaultOr (entry_fault (state.entries self.old) (entry_of entry))) }
     {
-        let total = self.total_with(&entry)?;
+        let total = self.total_with(self.len() as u32, &entry)?;
         let KeyedAccount { key, account } = entry;
         self.tree.insert(key, Arc::new(alloc, account)?)?;
         self.total = total;
         Ok(())
     }
 
-    /// The sum of the lamports with an entry that follows all that are there, or what is wrong with
-    /// that entry.
-    fn total_with(&self, entry: &KeyedAccount) -> Result<u64, StoreFault>
-        requires { state.len self.now < 2 ^ 32 }
+    /// The sum of the lamports with an entry that follows the `at` accounts that are there, or what
+    /// is wrong with that entry.
+    fn total_with(&self, at: u32, entry: &KeyedAccount) -> Result<u64, StoreFault>
+        requires { at ≡ length (state.entries self.now) }
         ensures ok { IfOk result (λ total. total ≡ state.sum self.now + entry.now.account.lamports) }
         ensures fine { OnOk result (entry_fault (state.entries self.now) (entry_of entry.now) ≡ None) }
         ensures err { IfErr result (λ fault. entry_fault (state.entries self.now) (entry_of entry.now) ≡ Some fault) }
     {
-        let at = self.len() as u32;
-        if !self.ends_below(&entry.key) {
+        if !is_above(self.last_key(), &entry.key) {
             return Err(StoreFault::OutOfOrder { at });
         }
         if entry.account.lamports == 0 {
@@ -99,13 +98,13 @@ impl Accounts {
             .ok_or(StoreFault::SupplyTooLarge)
     }
 
-    /// Whether the key is above all that are there.
-    fn ends_below(&self, key: &Key) -> bool
-        ensures { result ≡ is_above (last_key (state.entries self.now)) key.now }
+    /// The key of the last account, if there is one.
+    fn last_key(&self) -> Option<Key>
+        ensures { result ≡ last_key (state.entries self.now) }
     {
         match self.tree.last_key_value() {
-            Some((last, _account)) => last.cmp(key).is_lt(),
-            None => true,
+            Some((key, _account)) => Some(*key),
+            None => None,
         }
     }
 
@@ -175,6 +174,16 @@ impl Accounts {
                 .next(),
             None => self.tree.first_key_value(),
         }
+    }
+}
+
+/// Whether a key is above the given one; where none is given, each is.
+fn is_above(given: Option<Key>, key: &Key) -> bool
+    ensures { result ≡ is_above given key.now }
+{
+    match given {
+        None => true,
+        Some(given) => given.cmp(key).is_lt(),
     }
 }
 
