@@ -8,7 +8,7 @@ use Rattle.lock_table.specs.Numbers.{meets, conflicts}
 use Rattle.prio_graph.specs.declared.mark.Mark.{Mark}
 use Rattle.prio_graph.specs.declared.mark.Mark.TheVariants.{Waiting, Started, Done}
 use Rattle.prio_graph.specs.Ready.{set_at, mark_at, EarlierDone}
-use Rattle.prio_graph.specs.Chains.{writes, reads, last_writer, readers_since, awaited, edges_into, is_done, counter, StartedInOrder}
+use Rattle.prio_graph.specs.Chains.{writes_number, reads_number, last_writer, readers_since, awaited, edges_into, is_done_mark, counter, StartedInOrder}
 use Rattle.prio_graph.specs.Laws.{CountersTell}
 use Rattle.prio_graph.proofs.Finding.{any_at, any_place, any-append, any-flat_map, has, count-zero, count-none}
 use Rattle.prio_graph.proofs.Passing.{no_lock}
@@ -22,32 +22,32 @@ conflict_at one other i k l m e w =
     any_at (λ x. list_any (λ y. meets x y) other) one i no_lock l (any_at (λ y. meets a y) other k no_lock m (and_from (a.number == b.number) (a.write || b.write) e w))
 
 -- a set that writes a number, or reads it, has such a lock
-write_place : (set : List NumberedLock) (n : ℕ) → writes set n ≡ true → (k : ℕ) × (k < length set) × (((get_or set k no_lock).number == n) ≡ true) × ((get_or set k no_lock).write ≡ true)
+write_place : (set : List NumberedLock) (n : ℕ) → writes_number set n ≡ true → (k : ℕ) × (k < length set) × (((get_or set k no_lock).number == n) ≡ true) × ((get_or set k no_lock).write ≡ true)
 write_place set n h =
     let found = any_place (λ lock. (lock.number == n) && lock.write) set no_lock h in
     let parts = and_parts ((get_or set found.0 no_lock).number == n) (get_or set found.0 no_lock).write found.2 in
     (found.0, found.1, parts.0, parts.1)
 
-read_place : (set : List NumberedLock) (n : ℕ) → reads set n ≡ true → (k : ℕ) × (k < length set) × (((get_or set k no_lock).number == n) ≡ true)
+read_place : (set : List NumberedLock) (n : ℕ) → reads_number set n ≡ true → (k : ℕ) × (k < length set) × (((get_or set k no_lock).number == n) ≡ true)
 read_place set n h =
     let found = any_place (λ lock. (lock.number == n) && not lock.write) set no_lock h in
     let parts = and_parts ((get_or set found.0 no_lock).number == n) (not (get_or set found.0 no_lock).write) found.2 in
     (found.0, found.1, parts.0)
 
 -- sets conflict where the first writes the number of a lock of the second
-conflict-written : (one other : List NumberedLock) (k : ℕ) → k < length other → writes one (get_or other k no_lock).number ≡ true → conflicts one other ≡ true
+conflict-written : (one other : List NumberedLock) (k : ℕ) → k < length other → writes_number one (get_or other k no_lock).number ≡ true → conflicts one other ≡ true
 conflict-written one other k l h =
     let first = write_place one (get_or other k no_lock).number h in
     conflict_at one other first.0 k first.1 l first.2 (or_left (get_or one first.0 no_lock).write (get_or other k no_lock).write first.3)
 
 -- and where the first reads it and the lock writes
-conflict-read : (one other : List NumberedLock) (k : ℕ) → k < length other → reads one (get_or other k no_lock).number ≡ true → (get_or other k no_lock).write ≡ true → conflicts one other ≡ true
+conflict-read : (one other : List NumberedLock) (k : ℕ) → k < length other → reads_number one (get_or other k no_lock).number ≡ true → (get_or other k no_lock).write ≡ true → conflicts one other ≡ true
 conflict-read one other k l h w =
     let first = read_place one (get_or other k no_lock).number h in
     conflict_at one other first.0 k first.1 l first.2 (or_right (get_or one first.0 no_lock).write (get_or other k no_lock).write w)
 
 -- sets conflict at a number that the second writes and the first has
-conflict-both : (one other : List NumberedLock) (n : ℕ) → (writes one n ≡ true) ⊎ (reads one n ≡ true) → writes other n ≡ true → conflicts one other ≡ true
+conflict-both : (one other : List NumberedLock) (n : ℕ) → (writes_number one n ≡ true) ⊎ (reads_number one n ≡ true) → writes_number other n ≡ true → conflicts one other ≡ true
 conflict-both one other n h w = by_case h
   where
     second : (k : ℕ) × (k < length other) × (((get_or other k no_lock).number == n) ≡ true) × ((get_or other k no_lock).write ≡ true)
@@ -56,20 +56,20 @@ conflict-both one other n h w = by_case h
     is : (get_or other second.0 no_lock).number ≡ n
     is = eqb-true (get_or other second.0 no_lock).number n second.2
 
-    by_case : (writes one n ≡ true) ⊎ (reads one n ≡ true) → conflicts one other ≡ true
-    by_case (inl t) = conflict-written one other second.0 second.1 (ap (writes one) is ∙ t)
-    by_case (inr t) = conflict-read one other second.0 second.1 (ap (reads one) is ∙ t) second.3
+    by_case : (writes_number one n ≡ true) ⊎ (reads_number one n ≡ true) → conflicts one other ≡ true
+    by_case (inl t) = conflict-written one other second.0 second.1 (ap (writes_number one) is ∙ t)
+    by_case (inr t) = conflict-read one other second.0 second.1 (ap (reads_number one) is ∙ t) second.3
 
 -- where two sets conflict, there is a lock in the second whose number the first writes, or reads where the lock writes
 met_at : (one other : List NumberedLock) → conflicts one other ≡ true
-    → (k : ℕ) × (k < length other) × ((writes one (get_or other k no_lock).number ≡ true) ⊎ ((reads one (get_or other k no_lock).number ≡ true) × ((get_or other k no_lock).write ≡ true)))
+    → (k : ℕ) × (k < length other) × ((writes_number one (get_or other k no_lock).number ≡ true) ⊎ ((reads_number one (get_or other k no_lock).number ≡ true) × ((get_or other k no_lock).write ≡ true)))
 met_at one other h =
     let first = any_place (λ a. list_any (λ b. meets a b) other) one no_lock h in
     let a = get_or one first.0 no_lock in
     let second = any_place (λ b. meets a b) other no_lock first.2 in
     let b = get_or other second.0 no_lock in
     let both = and_parts (a.number == b.number) (a.write || b.write) second.2 in
-    let how : (writes one b.number ≡ true) ⊎ ((reads one b.number ≡ true) × (b.write ≡ true)) =
+    let how : (writes_number one b.number ≡ true) ⊎ ((reads_number one b.number ≡ true) × (b.write ≡ true)) =
     elim (cases_Bool a.write) [
       | inl t ↦ inl (any_at (λ lock. (lock.number == b.number) && lock.write) one first.0 no_lock first.1 (and_from (a.number == b.number) a.write both.0 t))
       | inr f ↦ inr (
@@ -80,58 +80,58 @@ met_at one other h =
     (second.0, second.1, how)
 
 -- the last writer is one, and stands before
-last_writer-is : (sets : List (List NumberedLock)) (i n w : ℕ) → last_writer sets i n ≡ Some w → (w < i) × (writes (set_at sets w) n ≡ true)
+last_writer-is : (sets : List (List NumberedLock)) (i n w : ℕ) → last_writer sets i n ≡ Some w → (w < i) × (writes_number (set_at sets w) n ≡ true)
 last_writer-is sets zero n w e = absurd (cc)
-last_writer-is sets (suc i) n w e = by_case (writes (set_at sets i) n) refl e (last_writer-is sets i n w)
+last_writer-is sets (suc i) n w e = by_case (writes_number (set_at sets i) n) refl e (last_writer-is sets i n w)
   where
-    by_case : (b : Bool) → writes (set_at sets i) n ≡ b → cond b (Some i) (last_writer sets i n) ≡ Some w → (last_writer sets i n ≡ Some w → (w < i) × (writes (set_at sets w) n ≡ true)) → (w < suc i) × (writes (set_at sets w) n ≡ true)
-    by_case true t q rest = let same : i ≡ w = cc in (omega (arith, same), subst (λ x. writes (set_at sets x) n ≡ true) same t)
+    by_case : (b : Bool) → writes_number (set_at sets i) n ≡ b → cond b (Some i) (last_writer sets i n) ≡ Some w → (last_writer sets i n ≡ Some w → (w < i) × (writes_number (set_at sets w) n ≡ true)) → (w < suc i) × (writes_number (set_at sets w) n ≡ true)
+    by_case true t q rest = let same : i ≡ w = cc in (omega (arith, same), subst (λ x. writes_number (set_at sets x) n ≡ true) same t)
     by_case false f q rest = let there = rest q in (omega (arith, there.0), there.1)
 
 -- a writer before i stands at the last one or before it
-last_writer-from : (sets : List (List NumberedLock)) (i n j : ℕ) → j < i → writes (set_at sets j) n ≡ true → (w : ℕ) × (last_writer sets i n ≡ Some w) × (j ≤ w)
+last_writer-from : (sets : List (List NumberedLock)) (i n j : ℕ) → j < i → writes_number (set_at sets j) n ≡ true → (w : ℕ) × (last_writer sets i n ≡ Some w) × (j ≤ w)
 last_writer-from sets zero n j l h = absurd (omega arith)
-last_writer-from sets (suc i) n j l h = by_case (writes (set_at sets i) n) refl (last_writer-from sets i n j)
+last_writer-from sets (suc i) n j l h = by_case (writes_number (set_at sets i) n) refl (last_writer-from sets i n j)
   where
-    by_case : (b : Bool) → writes (set_at sets i) n ≡ b → (j < i → writes (set_at sets j) n ≡ true → (w : ℕ) × (last_writer sets i n ≡ Some w) × (j ≤ w)) → (w : ℕ) × (cond b (Some i) (last_writer sets i n) ≡ Some w) × (j ≤ w)
+    by_case : (b : Bool) → writes_number (set_at sets i) n ≡ b → (j < i → writes_number (set_at sets j) n ≡ true → (w : ℕ) × (last_writer sets i n ≡ Some w) × (j ≤ w)) → (w : ℕ) × (cond b (Some i) (last_writer sets i n) ≡ Some w) × (j ≤ w)
     by_case true t rest = (i, refl, omega arith)
     by_case false f rest =
         elim (cases_eq j i) [
-          | inl e ↦ absurd (both_ways _ f (subst (λ x. writes (set_at sets x) n ≡ true) e h))
+          | inl e ↦ absurd (both_ways _ f (subst (λ x. writes_number (set_at sets x) n ≡ true) e h))
           | inr d ↦ rest (omega arith) h
         ]
 
 -- a reader since is a reader, and stands before
-readers_since-is : (sets : List (List NumberedLock)) (i n j : ℕ) → has j (readers_since sets i n) ≡ true → (j < i) × (reads (set_at sets j) n ≡ true)
+readers_since-is : (sets : List (List NumberedLock)) (i n j : ℕ) → has j (readers_since sets i n) ≡ true → (j < i) × (reads_number (set_at sets j) n ≡ true)
 readers_since-is sets zero n j h = absurd (false≢true h)
-readers_since-is sets (suc i) n j h = by_case (writes (set_at sets i) n) (reads (set_at sets i) n) refl h (readers_since-is sets i n j)
+readers_since-is sets (suc i) n j h = by_case (writes_number (set_at sets i) n) (reads_number (set_at sets i) n) refl h (readers_since-is sets i n j)
   where
-    by_case : (b r : Bool) → reads (set_at sets i) n ≡ r → has j (cond b [] (cond r (readers_since sets i n ++ i ∷ []) (readers_since sets i n))) ≡ true
-        → (has j (readers_since sets i n) ≡ true → (j < i) × (reads (set_at sets j) n ≡ true)) → (j < suc i) × (reads (set_at sets j) n ≡ true)
+    by_case : (b r : Bool) → reads_number (set_at sets i) n ≡ r → has j (cond b [] (cond r (readers_since sets i n ++ i ∷ []) (readers_since sets i n))) ≡ true
+        → (has j (readers_since sets i n) ≡ true → (j < i) × (reads_number (set_at sets j) n ≡ true)) → (j < suc i) × (reads_number (set_at sets j) n ≡ true)
     by_case true r t g rest = absurd (false≢true g)
     by_case false true t g rest =
         elim (or_cases (has j (readers_since sets i n)) (has j (i ∷ [])) (sym (any-append (λ x. x == j) (readers_since sets i n) (i ∷ [])) ∙ g)) [
           | inl u ↦ let there = rest u in (omega (arith, there.0), there.1)
           | inr u ↦
               elim (or_cases (i == j) false u) [
-                | inl q ↦ let same = eqb-true i j q in (omega (arith, same), subst (λ x. reads (set_at sets x) n ≡ true) same t)
+                | inl q ↦ let same = eqb-true i j q in (omega (arith, same), subst (λ x. reads_number (set_at sets x) n ≡ true) same t)
                 | inr q ↦ absurd (false≢true q)
               ]
         ]
     by_case false false t g rest = let there = rest g in (omega (arith, there.0), there.1)
 
 -- a reader that no writer follows is one of the readers since
-readers_since-has : (sets : List (List NumberedLock)) (i n j : ℕ) → j < i → reads (set_at sets j) n ≡ true → ((m : ℕ) → j ≤ m → m < i → writes (set_at sets m) n ≡ false) → has j (readers_since sets i n) ≡ true
+readers_since-has : (sets : List (List NumberedLock)) (i n j : ℕ) → j < i → reads_number (set_at sets j) n ≡ true → ((m : ℕ) → j ≤ m → m < i → writes_number (set_at sets m) n ≡ false) → has j (readers_since sets i n) ≡ true
 readers_since-has sets zero n j l h none = absurd (omega arith)
 readers_since-has sets (suc i) n j l h none =
-    by_case (reads (set_at sets i) n) refl (λ u. readers_since-has sets i n j u h (λ m a b. none m a (omega arith)))
+    by_case (reads_number (set_at sets i) n) refl (λ u. readers_since-has sets i n j u h (λ m a b. none m a (omega arith)))
   where
-    by_case : (r : Bool) → reads (set_at sets i) n ≡ r → (j < i → has j (readers_since sets i n) ≡ true) → has j (readers_since sets (suc i) n) ≡ true
+    by_case : (r : Bool) → reads_number (set_at sets i) n ≡ r → (j < i → has j (readers_since sets i n) ≡ true) → has j (readers_since sets (suc i) n) ≡ true
     by_case r t rest =
-        ap (λ b. has j (cond b [] (cond (reads (set_at sets i) n) (readers_since sets i n ++ i ∷ []) (readers_since sets i n)))) (none i (omega arith) (omega arith))
+        ap (λ b. has j (cond b [] (cond (reads_number (set_at sets i) n) (readers_since sets i n ++ i ∷ []) (readers_since sets i n)))) (none i (omega arith) (omega arith))
         ∙ (ap (λ b. has j (cond b (readers_since sets i n ++ i ∷ []) (readers_since sets i n))) t ∙ inner r t rest)
       where
-        inner : (r : Bool) → reads (set_at sets i) n ≡ r → (j < i → has j (readers_since sets i n) ≡ true) → has j (cond r (readers_since sets i n ++ i ∷ []) (readers_since sets i n)) ≡ true
+        inner : (r : Bool) → reads_number (set_at sets i) n ≡ r → (j < i → has j (readers_since sets i n) ≡ true) → has j (cond r (readers_since sets i n ++ i ∷ []) (readers_since sets i n)) ≡ true
         inner true u rest =
             any-append (λ x. x == j) (readers_since sets i n) (i ∷ [])
             ∙ elim (cases_eq i j) [
@@ -140,20 +140,20 @@ readers_since-has sets (suc i) n j l h none =
             ]
         inner false u rest =
             elim (cases_eq i j) [
-              | inl e ↦ absurd (both_ways _ u (subst (λ x. reads (set_at sets x) n ≡ true) (sym e) h))
+              | inl e ↦ absurd (both_ways _ u (subst (λ x. reads_number (set_at sets x) n ≡ true) (sym e) h))
               | inr d ↦ rest (omega arith)
             ]
 
 module _ (sets : List (List NumberedLock)) (i j : ℕ) where
   -- whoever a lock waits for stands before, and writes its number, or reads it where the lock writes
-  awaited_cases : (lock : NumberedLock) → has j (awaited sets i lock) ≡ true → (j < i) × ((writes (set_at sets j) lock.number ≡ true) ⊎ ((reads (set_at sets j) lock.number ≡ true) × (lock.write ≡ true)))
+  awaited_cases : (lock : NumberedLock) → has j (awaited sets i lock) ≡ true → (j < i) × ((writes_number (set_at sets j) lock.number ≡ true) ⊎ ((reads_number (set_at sets j) lock.number ≡ true) × (lock.write ≡ true)))
   awaited_cases lock h =
       elim (or_cases (has j (option_to_list (last_writer sets i lock.number))) (has j (cond lock.write (readers_since sets i lock.number) [])) (sym (any-append (λ x. x == j) (option_to_list (last_writer sets i lock.number)) (cond lock.write (readers_since sets i lock.number) [])) ∙ h)) [
         | inl t ↦ last (last_writer sets i lock.number) refl t
         | inr t ↦ since lock.write refl t
       ]
     where
-      last : (o : Option ℕ) → last_writer sets i lock.number ≡ o → has j (option_to_list o) ≡ true → (j < i) × ((writes (set_at sets j) lock.number ≡ true) ⊎ ((reads (set_at sets j) lock.number ≡ true) × (lock.write ≡ true)))
+      last : (o : Option ℕ) → last_writer sets i lock.number ≡ o → has j (option_to_list o) ≡ true → (j < i) × ((writes_number (set_at sets j) lock.number ≡ true) ⊎ ((reads_number (set_at sets j) lock.number ≡ true) × (lock.write ≡ true)))
       last None e t = absurd (false≢true t)
       last (Some w) e t =
           elim (or_cases (w == j) false t) [
@@ -161,7 +161,7 @@ module _ (sets : List (List NumberedLock)) (i j : ℕ) where
             | inr q ↦ absurd (false≢true q)
           ]
 
-      since : (b : Bool) → lock.write ≡ b → has j (cond b (readers_since sets i lock.number) []) ≡ true → (j < i) × ((writes (set_at sets j) lock.number ≡ true) ⊎ ((reads (set_at sets j) lock.number ≡ true) × (lock.write ≡ true)))
+      since : (b : Bool) → lock.write ≡ b → has j (cond b (readers_since sets i lock.number) []) ≡ true → (j < i) × ((writes_number (set_at sets j) lock.number ≡ true) ⊎ ((reads_number (set_at sets j) lock.number ≡ true) × (lock.write ≡ true)))
       since true e t = let is = readers_since-is sets i lock.number j t in (is.0, inr (is.1, e))
       since false e t = absurd (false≢true t)
 
@@ -199,7 +199,7 @@ module _ (sets : List (List NumberedLock)) (i j : ℕ) where
 not_waiting : (m : Mark) → m ≡ Done → m ≡ Waiting → ⊥
 not_waiting m e f = cc
 
-done-is : (m : Mark) → not (is_done m) ≡ false → m ≡ Done
+done-is : (m : Mark) → not (is_done_mark m) ≡ false → m ≡ Done
 done-is Waiting h = absurd (cc)
 done-is Started h = absurd (cc)
 done-is Done h = refl
@@ -207,10 +207,10 @@ done-is Done h = refl
 module _ (sets : List (List NumberedLock)) (marks : List Mark) (in_order : StartedInOrder sets marks) (i : ℕ) (below : i < length sets) where
   module _ (free : counter sets marks i ≡ 0) where
     edge_done : (j : ℕ) → has j (edges_into sets i) ≡ true → mark_at marks j ≡ Done
-    edge_done j h = done-is (mark_at marks j) (count-zero (λ x. not (is_done (mark_at marks x))) (edges_into sets i) free j h)
+    edge_done j h = done-is (mark_at marks j) (count-zero (λ x. not (is_done_mark (mark_at marks x))) (edges_into sets i) free j h)
 
     -- whoever conflicts with a done writer before i is done
-    before_writer : (j w n : ℕ) → j < w → w < i → mark_at marks w ≡ Done → (writes (set_at sets j) n ≡ true) ⊎ (reads (set_at sets j) n ≡ true) → writes (set_at sets w) n ≡ true → mark_at marks j ≡ Done
+    before_writer : (j w n : ℕ) → j < w → w < i → mark_at marks w ≡ Done → (writes_number (set_at sets j) n ≡ true) ⊎ (reads_number (set_at sets j) n ≡ true) → writes_number (set_at sets w) n ≡ true → mark_at marks j ≡ Done
     before_writer j w n l m d h t =
         in_order w (omega (arith, below)) (not_waiting (mark_at marks w) d) j l (conflict-both (set_at sets j) (set_at sets w) n h t)
 
@@ -218,7 +218,7 @@ module _ (sets : List (List NumberedLock)) (marks : List Mark) (in_order : Start
       abbrev lock : NumberedLock
       lock = get_or (set_at sets i) k no_lock
 
-      writer_done : writes (set_at sets j) lock.number ≡ true → mark_at marks j ≡ Done
+      writer_done : writes_number (set_at sets j) lock.number ≡ true → mark_at marks j ≡ Done
       writer_done h =
           let last = last_writer-from sets i lock.number j l h in
           let is = last_writer-is sets i lock.number last.0 last.1 in
@@ -228,10 +228,10 @@ module _ (sets : List (List NumberedLock)) (marks : List Mark) (in_order : Start
             | inr d ↦ before_writer j last.0 lock.number (omega (arith, last.2)) is.0 done (inl h) is.1
           ]
 
-      reader_done : reads (set_at sets j) lock.number ≡ true → lock.write ≡ true → mark_at marks j ≡ Done
+      reader_done : reads_number (set_at sets j) lock.number ≡ true → lock.write ≡ true → mark_at marks j ≡ Done
       reader_done h w = by_last (last_writer sets i lock.number) refl
         where
-          unfollowed : ((x : ℕ) → j ≤ x → x < i → writes (set_at sets x) lock.number ≡ false) → mark_at marks j ≡ Done
+          unfollowed : ((x : ℕ) → j ≤ x → x < i → writes_number (set_at sets x) lock.number ≡ false) → mark_at marks j ≡ Done
           unfollowed none = edge_done j (edge-reader sets i j k m w (readers_since-has sets i lock.number j l h none))
 
           by_last : (o : Option ℕ) → last_writer sets i lock.number ≡ o → mark_at marks j ≡ Done
@@ -258,5 +258,5 @@ module _ (sets : List (List NumberedLock)) (marks : List Mark) (in_order : Start
 pub counters_tell : CountersTell
 counters_tell sets marks in_order i below = (
   (λ free. all_done sets marks in_order i below free),
-  (λ done. count-none (λ j. not (is_done (mark_at marks j))) (edges_into sets i) (λ j h. let edge = edge-is sets i j h in ap (λ m. not (is_done m)) (done j edge.0 edge.1))),
+  (λ done. count-none (λ j. not (is_done_mark (mark_at marks j))) (edges_into sets i) (λ j h. let edge = edge-is sets i j h in ap (λ m. not (is_done_mark m)) (done j edge.0 edge.1))),
 )

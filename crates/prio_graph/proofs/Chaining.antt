@@ -8,8 +8,8 @@ use Rattle.std.proofs.lemmas.List.{length-replicate, get_or-replicate, get_or_pa
 use Rattle.lock_table.specs.declared.locks.NumberedLock.{NumberedLock}
 use Rattle.prio_graph.specs.Ready.{set_at}
 use Rattle.prio_graph.specs.Chains.{awaited, edges_into}
-use Rattle.prio_graph.specs.Keeping.{times, edges}
-use Rattle.prio_graph.specs.Steps.{awaited_by, writer_after, readers_after, Chained}
+use Rattle.prio_graph.specs.Kept.{times, edges}
+use Rattle.prio_graph.specs.Chained.{awaited_by, writer_after, readers_after, Chained}
 use Rattle.prio_graph.proofs.Finding.{has, any_at}
 use Rattle.prio_graph.proofs.ChainLaws.{edge-is}
 

@@ -8,9 +8,9 @@ use Rattle.lock_table.specs.Numbers.{conflicts}
 use Rattle.prio_graph.specs.declared.mark.Mark.{Mark}
 use Rattle.prio_graph.specs.declared.mark.Mark.TheVariants.{Waiting, Started, Done}
 use Rattle.prio_graph.specs.Ready.{Positions, set_at, mark_at, EarlierDone, IsReady, IsLeastReady}
-use Rattle.prio_graph.specs.Chains.{edges_into, is_done, counter, StartedInOrder}
+use Rattle.prio_graph.specs.Chains.{edges_into, is_done_mark, counter, StartedInOrder}
 use Rattle.prio_graph.specs.Trees.{IsTree, leaf}
-use Rattle.prio_graph.specs.Keeping.{times, none, is_waiting, shown, Keeps}
+use Rattle.prio_graph.specs.Kept.{times, none, is_waiting_mark, shown, IsGraph}
 use Rattle.prio_graph.proofs.Finding.{any_at, one_if, count-zero, count-split, count-same, times-positive}
 use Rattle.prio_graph.proofs.ChainLaws.{edge-is, counters_tell}
 
@@ -33,12 +33,12 @@ mark-cases P marks p m l here there i =
 inside : (marks : List Mark) (i : ℕ) → (mark_at marks i ≡ Done → ⊥) → i < length marks
 inside marks i d = elim (cases_lt i (length marks)) [ inl u ↦ u | inr v ↦ absurd (d (get_or_past marks i Done v)) ]
 
-waiting-is : (m : Mark) → is_waiting m ≡ true → m ≡ Waiting
+waiting-is : (m : Mark) → is_waiting_mark m ≡ true → m ≡ Waiting
 waiting-is Waiting h = refl
 waiting-is Started h = absurd (cc)
 waiting-is Done h = absurd (cc)
 
-module _ (sets : List (List NumberedLock)) (marks : List Mark) (waits : List ℕ) (rows : List (List ℕ)) (tree : List ℕ) (K : Keeps sets marks waits rows tree) where
+module _ (sets : List (List NumberedLock)) (marks : List Mark) (waits : List ℕ) (rows : List (List ℕ)) (tree : List ℕ) (K : IsGraph sets marks waits rows tree) where
   abbrev now : Positions
   now = record { sets = sets; marks = marks }
 
@@ -52,18 +52,18 @@ module _ (sets : List (List NumberedLock)) (marks : List Mark) (waits : List ℕ
 
   -- the leaf of a ready position shows it
   ready_shown : (i : ℕ) → IsReady now i → leaf tree (length sets) i ≡ i
-  ready_shown i r = K.leaves i r.below ∙ cond-true (is_waiting (mark_at marks i) && (slice_index waits i == 0)) i none (ap₂ (λ m b. is_waiting m && b) r.waits (eq-eqb (slice_index waits i) 0 (ready_free i r)))
+  ready_shown i r = K.leaves i r.below ∙ cond-true (is_waiting_mark (mark_at marks i) && (slice_index waits i == 0)) i none (ap₂ (λ m b. is_waiting_mark m && b) r.waits (eq-eqb (slice_index waits i) 0 (ready_free i r)))
 
   -- and a leaf that shows something shows a ready position
   shown_ready : (i v : ℕ) → i < length sets → leaf tree (length sets) i ≡ v → (v ≡ none → ⊥) → (i ≡ v) × IsReady now i
   shown_ready i v l e d =
-      elim (cases_Bool (is_waiting (mark_at marks i) && (slice_index waits i == 0))) [
+      elim (cases_Bool (is_waiting_mark (mark_at marks i) && (slice_index waits i == 0))) [
         | inl t ↦
-            let parts = and_parts (is_waiting (mark_at marks i)) (slice_index waits i == 0) t in (
-              sym (cond-true (is_waiting (mark_at marks i) && (slice_index waits i == 0)) i none t) ∙ (sym (K.leaves i l) ∙ e),
+            let parts = and_parts (is_waiting_mark (mark_at marks i)) (slice_index waits i == 0) t in (
+              sym (cond-true (is_waiting_mark (mark_at marks i) && (slice_index waits i == 0)) i none t) ∙ (sym (K.leaves i l) ∙ e),
               free_ready i l (waiting-is (mark_at marks i) parts.0) (eqb-true (slice_index waits i) 0 parts.1),
             )
-        | inr f ↦ absurd (d (sym e ∙ (K.leaves i l ∙ cond-false (is_waiting (mark_at marks i) && (slice_index waits i == 0)) i none f)))
+        | inr f ↦ absurd (d (sym e ∙ (K.leaves i l ∙ cond-false (is_waiting_mark (mark_at marks i) && (slice_index waits i == 0)) i none f)))
       ]
 
   -- what the least leaf says
@@ -109,30 +109,30 @@ module _ (sets : List (List NumberedLock)) (marks : List Mark) (waits : List ℕ
         ])
 
     -- counters stay where p is not done before or afterwards
-    counter-changed : (m : Mark) → p < length sets → is_done (mark_at marks p) ≡ false → is_done m ≡ false → (i : ℕ) → counter sets (set marks p m) i ≡ counter sets marks i
+    counter-changed : (m : Mark) → p < length sets → is_done_mark (mark_at marks p) ≡ false → is_done_mark m ≡ false → (i : ℕ) → counter sets (set marks p m) i ≡ counter sets marks i
     counter-changed m l a b i =
-        count-same (λ j. not (is_done (mark_at (set marks p m) j))) (λ j. not (is_done (mark_at marks j))) (edges_into sets i)
-        (λ j h. mark-cases (λ x y. not (is_done y) ≡ not (is_done (mark_at marks x))) marks p m (in_marks l) (ap not (b ∙ sym a)) (λ x d. refl) j)
+        count-same (λ j. not (is_done_mark (mark_at (set marks p m) j))) (λ j. not (is_done_mark (mark_at marks j))) (edges_into sets i)
+        (λ j h. mark-cases (λ x y. not (is_done_mark y) ≡ not (is_done_mark (mark_at marks x))) marks p m (in_marks l) (ap not (b ∙ sym a)) (λ x d. refl) j)
 
     -- p becomes m, and its leaf shows v
-    module _ (m : Mark) (v : ℕ) (l : p < length sets) (a : is_done (mark_at marks p) ≡ false) (b : is_done m ≡ false) (not_done : mark_at marks p ≡ Done → ⊥) (earlier : (m ≡ Waiting → ⊥) → EarlierDone sets marks p)
-        (shows : v ≡ shown (is_waiting m && (slice_index waits p == 0)) p)
+    module _ (m : Mark) (v : ℕ) (l : p < length sets) (a : is_done_mark (mark_at marks p) ≡ false) (b : is_done_mark m ≡ false) (not_done : mark_at marks p ≡ Done → ⊥) (earlier : (m ≡ Waiting → ⊥) → EarlierDone sets marks p)
+        (shows : v ≡ shown (is_waiting_mark m && (slice_index waits p == 0)) p)
         (after : List ℕ) (after_length : length after ≡ 2 * length sets) (after_tree : IsTree after (length sets))
         (after_leaves : (i : ℕ) → i < length sets → leaf after (length sets) i ≡ (if i == p then v else leaf tree (length sets) i)) where
-      changed_leaves : (i : ℕ) → i < length sets → leaf after (length sets) i ≡ shown (is_waiting (mark_at (set marks p m) i) && (slice_index waits i == 0)) i
+      changed_leaves : (i : ℕ) → i < length sets → leaf after (length sets) i ≡ shown (is_waiting_mark (mark_at (set marks p m) i) && (slice_index waits i == 0)) i
       changed_leaves i u =
           after_leaves i u
           ∙ elim (cases_eq i p) [
             | inl e ↦
                 cond-true (i == p) v (leaf tree (length sets) i) (eq-eqb i p e) ∙ (shows
-                ∙ subst (λ x. shown (is_waiting m && (slice_index waits p == 0)) p ≡ shown (is_waiting (mark_at (set marks p m) x) && (slice_index waits x == 0)) x) (sym e)
-                (ap (λ y. shown (is_waiting y && (slice_index waits p == 0)) p) (sym (mark-same marks p m (in_marks l)))))
+                ∙ subst (λ x. shown (is_waiting_mark m && (slice_index waits p == 0)) p ≡ shown (is_waiting_mark (mark_at (set marks p m) x) && (slice_index waits x == 0)) x) (sym e)
+                (ap (λ y. shown (is_waiting_mark y && (slice_index waits p == 0)) p) (sym (mark-same marks p m (in_marks l)))))
             | inr d ↦
                 cond-false (i == p) v (leaf tree (length sets) i) (ne_eqb i p d) ∙ (K.leaves i u
-                ∙ ap (λ y. shown (is_waiting y && (slice_index waits i == 0)) i) (sym (mark-other marks p m i d)))
+                ∙ ap (λ y. shown (is_waiting_mark y && (slice_index waits i == 0)) i) (sym (mark-other marks p m i d)))
           ]
 
-      changed_keeps : Keeps sets (set marks p m) waits rows after
+      changed_keeps : IsGraph sets (set marks p m) waits rows after
       changed_keeps = record {
         few = K.few;
         marks_length = length-set marks p m ∙ K.marks_length;
@@ -148,22 +148,22 @@ module _ (sets : List (List NumberedLock)) (marks : List Mark) (waits : List ℕ
       }
 
   pub start_keeps : (p : ℕ) → IsReady now p → (after : List ℕ) → length after ≡ 2 * length sets → IsTree after (length sets)
-      → ((i : ℕ) → i < length sets → leaf after (length sets) i ≡ (if i == p then none else leaf tree (length sets) i)) → Keeps sets (set marks p Started) waits rows after
-  start_keeps p r after e t leaves = changed_keeps p Started none r.below (ap is_done r.waits) refl (λ d. let w = r.waits in cc) (λ n. r.earlier) refl after e t leaves
+      → ((i : ℕ) → i < length sets → leaf after (length sets) i ≡ (if i == p then none else leaf tree (length sets) i)) → IsGraph sets (set marks p Started) waits rows after
+  start_keeps p r after e t leaves = changed_keeps p Started none r.below (ap is_done_mark r.waits) refl (λ d. let w = r.waits in cc) (λ n. r.earlier) refl after e t leaves
 
   pub unstart_keeps : (p : ℕ) → mark_at marks p ≡ Started → (after : List ℕ) → length after ≡ 2 * length sets → IsTree after (length sets)
-      → ((i : ℕ) → i < length sets → leaf after (length sets) i ≡ (if i == p then p else leaf tree (length sets) i)) → Keeps sets (set marks p Waiting) waits rows after
+      → ((i : ℕ) → i < length sets → leaf after (length sets) i ≡ (if i == p then p else leaf tree (length sets) i)) → IsGraph sets (set marks p Waiting) waits rows after
   unstart_keeps p s after e t leaves =
-      changed_keeps p Waiting p (below p s) (ap is_done s) refl (λ d. cc) (λ n. absurd (n refl))
+      changed_keeps p Waiting p (below p s) (ap is_done_mark s) refl (λ d. cc) (λ n. absurd (n refl))
       (sym (cond-true (slice_index waits p == 0) p none (eq-eqb (slice_index waits p) 0 (free p s)))) after e t leaves
 
   module _ (p : ℕ) (started : mark_at marks p ≡ Started) where
     -- one edge less for each that leads from p
     counter-finished : (i : ℕ) → counter sets marks i ≡ counter sets (set marks p Done) i + times p (edges_into sets i)
     counter-finished i =
-        count-split (λ j. not (is_done (mark_at marks j))) (λ j. not (is_done (mark_at (set marks p Done) j))) (λ j. j == p) (edges_into sets i)
-        (λ j h. mark-cases (λ x y. one_if (not (is_done (mark_at marks x))) ≡ one_if (not (is_done y)) + one_if (x == p)) marks p Done (in_marks p (below p started))
-        (let was = ap (λ y. one_if (not (is_done y))) started in let one = ap one_if (eq-eqb p p refl) in omega (arith, was, one))
+        count-split (λ j. not (is_done_mark (mark_at marks j))) (λ j. not (is_done_mark (mark_at (set marks p Done) j))) (λ j. j == p) (edges_into sets i)
+        (λ j h. mark-cases (λ x y. one_if (not (is_done_mark (mark_at marks x))) ≡ one_if (not (is_done_mark y)) + one_if (x == p)) marks p Done (in_marks p (below p started))
+        (let was = ap (λ y. one_if (not (is_done_mark y))) started in let one = ap one_if (eq-eqb p p refl) in omega (arith, was, one))
         (λ x d. let zero = ap one_if (ne_eqb x p d) in omega (arith, zero)) j)
 
     -- each later end is a position, and has as many edges to lose
@@ -206,7 +206,7 @@ module _ (sets : List (List NumberedLock)) (marks : List Mark) (waits : List ℕ
           by_mark Done e n = absurd (n (λ w. cc))
 
       abbrev shown_now : ℕ → ℕ
-      shown_now i = shown (is_waiting (mark_at (set marks p Done) i) && (slice_index after_waits i == 0)) i
+      shown_now i = shown (is_waiting_mark (mark_at (set marks p Done) i) && (slice_index after_waits i == 0)) i
 
       abbrev gone : ℕ → Bool
       gone i = slice_index after_waits i == 0
@@ -217,14 +217,14 @@ module _ (sets : List (List NumberedLock)) (marks : List Mark) (waits : List ℕ
           let w = later_waits i u t in
           let still : mark_at (set marks p Done) i ≡ Waiting = mark-other marks p Done i w.0 ∙ w.1 in
           elim (cases_Bool (gone i)) [
-            | inl z ↦ cond-true (gone i) i (leaf tree (length sets) i) z ∙ sym (ap₂ (λ m b. shown (is_waiting m && b) i) still z)
+            | inl z ↦ cond-true (gone i) i (leaf tree (length sets) i) z ∙ sym (ap₂ (λ m b. shown (is_waiting_mark m && b) i) still z)
             | inr z ↦
                 let before = lost i in
                 let more = eqb-ne (slice_index waits i) (omega (arith, before, t)) in
                 cond-false (gone i) i (leaf tree (length sets) i) z
                 ∙ (K.leaves i u
-                ∙ (ap₂ (λ m b. shown (is_waiting m && b) i) w.1 more
-                ∙ sym (ap₂ (λ m b. shown (is_waiting m && b) i) still z)))
+                ∙ (ap₂ (λ m b. shown (is_waiting_mark m && b) i) w.1 more
+                ∙ sym (ap₂ (λ m b. shown (is_waiting_mark m && b) i) still z)))
           ]
         where
           eqb-ne : (n : ℕ) → 0 < n → (n == 0) ≡ false
@@ -236,11 +236,11 @@ module _ (sets : List (List NumberedLock)) (marks : List Mark) (waits : List ℕ
           let before = lost i in
           let same : slice_index waits i ≡ slice_index after_waits i = omega (arith, before, z) in
           K.leaves i u
-          ∙ (ap (λ w. shown (is_waiting (mark_at marks i) && (w == 0)) i) same
-          ∙ mark-cases (λ x y. shown (is_waiting (mark_at marks x) && (slice_index after_waits i == 0)) i ≡ shown (is_waiting y && (slice_index after_waits i == 0)) i) marks p Done (in_marks p (below p started))
-          (ap (λ m. shown (is_waiting m && (slice_index after_waits i == 0)) i) started) (λ x d. refl) i)
+          ∙ (ap (λ w. shown (is_waiting_mark (mark_at marks i) && (w == 0)) i) same
+          ∙ mark-cases (λ x y. shown (is_waiting_mark (mark_at marks x) && (slice_index after_waits i == 0)) i ≡ shown (is_waiting_mark y && (slice_index after_waits i == 0)) i) marks p Done (in_marks p (below p started))
+          (ap (λ m. shown (is_waiting_mark m && (slice_index after_waits i == 0)) i) started) (λ x d. refl) i)
 
-      pub finish_keeps : Keeps sets (set marks p Done) after_waits rows after
+      pub finish_keeps : IsGraph sets (set marks p Done) after_waits rows after
       finish_keeps = record {
         few = K.few;
         marks_length = length-set marks p Done ∙ K.marks_length;

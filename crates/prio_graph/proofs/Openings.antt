@@ -6,9 +6,9 @@ use Rattle.lock_table.specs.declared.locks.NumberedLock.{NumberedLock}
 use Rattle.prio_graph.specs.declared.mark.Mark.{Mark}
 use Rattle.prio_graph.specs.declared.mark.Mark.TheVariants.{Waiting, Done}
 use Rattle.prio_graph.specs.Ready.{mark_at}
-use Rattle.prio_graph.specs.Chains.{edges_into, is_done, counter}
+use Rattle.prio_graph.specs.Chains.{edges_into, is_done_mark, counter}
 use Rattle.prio_graph.specs.Trees.{IsTree, leaf}
-use Rattle.prio_graph.specs.Keeping.{times, edges, is_waiting, shown, Keeps}
+use Rattle.prio_graph.specs.Kept.{times, edges, is_waiting_mark, shown, IsGraph}
 use Rattle.prio_graph.proofs.Finding.{count-all}
 use Rattle.prio_graph.proofs.ChainLaws.{edge-is}
 
@@ -33,10 +33,10 @@ module _ (sets : List (List NumberedLock)) (marks : List Mark) (waits : List ℕ
 
   counter-all : (i : ℕ) → i < length sets → counter sets marks i ≡ length (edges_into sets i)
   counter-all i l =
-      count-all (λ j. not (is_done (mark_at marks j))) (edges_into sets i)
-      (λ j h. let edge = edge-is sets i j h in let before = edge.0 in ap (λ m. not (is_done m)) (mark j (omega (arith, before, l))))
+      count-all (λ j. not (is_done_mark (mark_at marks j))) (edges_into sets i)
+      (λ j h. let edge = edge-is sets i j h in let before = edge.0 in ap (λ m. not (is_done_mark m)) (mark j (omega (arith, before, l))))
 
-  pub opening_keeps : Keeps sets marks waits rows tree
+  pub opening_keeps : IsGraph sets marks waits rows tree
   opening_keeps =
       let same = E.waits_length in
       record {
@@ -52,5 +52,5 @@ module _ (sets : List (List NumberedLock)) (marks : List Mark) (waits : List ℕ
         is_tree = subst (IsTree tree) same S.is_tree;
         leaves = λ i l.
             subst (λ n. leaf tree n i ≡ shown (slice_index waits i == 0) i) same (S.leaves i (omega (arith, l, same)))
-            ∙ ap (λ m. shown (is_waiting m && (slice_index waits i == 0)) i) (sym (mark i l));
+            ∙ ap (λ m. shown (is_waiting_mark m && (slice_index waits i == 0)) i) (sym (mark i l));
       }

@@ -6,8 +6,8 @@ use Rattle.std.proofs.lemmas.List.{drop_more, get_or-drop, get_or_default}
 use Rattle.std.proofs.lemmas.List.Elements.{All-head, All-tail}
 use Rattle.lock_table.specs.declared.locks.NumberedLock.{NumberedLock}
 use Rattle.lock_table.specs.Numbers.{EachOnce}
-use Rattle.prio_graph.specs.Chains.{writes, reads}
-use Rattle.prio_graph.specs.Steps.{writer_after, readers_after}
+use Rattle.prio_graph.specs.Chains.{writes_number, reads_number}
+use Rattle.prio_graph.specs.Chained.{writer_after, readers_after}
 
 abbrev pub no_lock : NumberedLock
 no_lock = record { number = 0; write = false }
@@ -25,8 +25,8 @@ absent test n (y ∷ ys) a =
     or_from _ _ (and_left (y.number == n) (test y) (ne_eqb y.number n (λ e. All-head (λ y. n ≢ y.number) y ys a (sym e)))) (absent test n ys (All-tail (λ y. n ≢ y.number) y ys a))
 
 module _ (x : NumberedLock) (rest : List NumberedLock) (position n : ℕ) where
-  no_match : (x.number ≡ n → ⊥) → (writes (x ∷ rest) n ≡ writes rest n) × (reads (x ∷ rest) n ≡ reads rest n)
-  no_match d = (ap (λ b. (b && x.write) || writes rest n) (ne_eqb x.number n d), ap (λ b. (b && not x.write) || reads rest n) (ne_eqb x.number n d))
+  no_match : (x.number ≡ n → ⊥) → (writes_number (x ∷ rest) n ≡ writes_number rest n) × (reads_number (x ∷ rest) n ≡ reads_number rest n)
+  no_match d = (ap (λ b. (b && x.write) || writes_number rest n) (ne_eqb x.number n d), ap (λ b. (b && not x.write) || reads_number rest n) (ne_eqb x.number n d))
 
   -- a lock that writes
   writer_written : (last : List (Option ℕ)) → x.number < length last → x.write ≡ true
@@ -35,16 +35,16 @@ module _ (x : NumberedLock) (rest : List NumberedLock) (position n : ℕ) where
       elim (cases_eq x.number n) [
         | inl e ↦
             let put : get_or (set last x.number (Some position)) n None ≡ Some position = subst (λ k. get_or (set last x.number (Some position)) k None ≡ Some position) e (get_or-set_same last x.number (Some position) None l) in
-            let here : writes (x ∷ rest) n ≡ true = ap₂ (λ a b. (a && b) || writes rest n) (eq-eqb x.number n e) w in
+            let here : writes_number (x ∷ rest) n ≡ true = ap₂ (λ a b. (a && b) || writes_number rest n) (eq-eqb x.number n e) w in
             ap (writer_after rest position n) put
-            ∙ (cond_both (writes rest n) (Some position) (Some position) (λ v. v ≡ Some position) (λ t. refl) (λ f. refl)
-            ∙ sym (cond-true (writes (x ∷ rest) n) (Some position) (get_or last n None) here))
+            ∙ (cond_both (writes_number rest n) (Some position) (Some position) (λ v. v ≡ Some position) (λ t. refl) (λ f. refl)
+            ∙ sym (cond-true (writes_number (x ∷ rest) n) (Some position) (get_or last n None) here))
         | inr d ↦
             ap₂ (λ b v. cond b (Some position) v) (sym (no_match d).0) (get_or-set_other last x.number n (Some position) None (λ e. d (sym e)))
       ]
 
   writer_read : (v : Option ℕ) → x.write ≡ false → writer_after rest position n v ≡ writer_after (x ∷ rest) position n v
-  writer_read v w = ap (λ b. cond (b || writes rest n) (Some position) v) (sym (and_right (x.number == n) x.write w))
+  writer_read v w = ap (λ b. cond (b || writes_number rest n) (Some position) v) (sym (and_right (x.number == n) x.write w))
 
   readers_written : (readers : List (List ℕ)) → x.number < length readers → x.write ≡ true → All (λ y. x.number ≢ y.number) rest
       → readers_after rest position n (get_or (set readers x.number []) n []) ≡ readers_after (x ∷ rest) position n (get_or readers n [])
@@ -52,11 +52,11 @@ module _ (x : NumberedLock) (rest : List NumberedLock) (position n : ℕ) where
       elim (cases_eq x.number n) [
         | inl e ↦
             let put : get_or (set readers x.number []) n [] ≡ [] = subst (λ k. get_or (set readers x.number []) k [] ≡ []) e (get_or-set_same readers x.number [] [] l) in
-            let here : writes (x ∷ rest) n ≡ true = ap₂ (λ a b. (a && b) || writes rest n) (eq-eqb x.number n e) w in
-            let none = subst (λ k. reads rest k ≡ false) e (absent (λ y. not y.write) x.number rest differ) in
+            let here : writes_number (x ∷ rest) n ≡ true = ap₂ (λ a b. (a && b) || writes_number rest n) (eq-eqb x.number n e) w in
+            let none = subst (λ k. reads_number rest k ≡ false) e (absent (λ y. not y.write) x.number rest differ) in
             ap (readers_after rest position n) put
-            ∙ (cond_both (writes rest n) [] (cond (reads rest n) ([] ++ position ∷ []) []) (λ v. v ≡ []) (λ t. refl) (λ f. cond-false (reads rest n) ([] ++ position ∷ []) [] none)
-            ∙ sym (cond-true (writes (x ∷ rest) n) [] _ here))
+            ∙ (cond_both (writes_number rest n) [] (cond (reads_number rest n) ([] ++ position ∷ []) []) (λ v. v ≡ []) (λ t. refl) (λ f. cond-false (reads_number rest n) ([] ++ position ∷ []) [] none)
+            ∙ sym (cond-true (writes_number (x ∷ rest) n) [] _ here))
         | inr d ↦
             ap (readers_after rest position n) (get_or-set_other readers x.number n [] [] (λ e. d (sym e)))
             ∙ ap₂ (λ b c. cond b [] (cond c (get_or readers n [] ++ position ∷ []) (get_or readers n []))) (sym (no_match d).0) (sym (no_match d).1)
@@ -70,15 +70,15 @@ module _ (x : NumberedLock) (rest : List NumberedLock) (position n : ℕ) where
             let row : List ℕ = get_or readers x.number [] ++ position ∷ [] in
             let put : get_or (set readers x.number row) n [] ≡ get_or readers n [] ++ position ∷ [] =
             subst (λ k. get_or (set readers x.number row) k [] ≡ get_or readers k [] ++ position ∷ []) e (get_or-set_same readers x.number row [] l) in
-            let no_writer = subst (λ k. writes rest k ≡ false) e (absent (λ y. y.write) x.number rest differ) in
-            let no_reader = subst (λ k. reads rest k ≡ false) e (absent (λ y. not y.write) x.number rest differ) in
-            let unwritten : writes (x ∷ rest) n ≡ false = or_from _ _ (and_right (x.number == n) x.write w) no_writer in
-            let read : reads (x ∷ rest) n ≡ true = ap₂ (λ a b. (a && not b) || reads rest n) (eq-eqb x.number n e) w in
+            let no_writer = subst (λ k. writes_number rest k ≡ false) e (absent (λ y. y.write) x.number rest differ) in
+            let no_reader = subst (λ k. reads_number rest k ≡ false) e (absent (λ y. not y.write) x.number rest differ) in
+            let unwritten : writes_number (x ∷ rest) n ≡ false = or_from _ _ (and_right (x.number == n) x.write w) no_writer in
+            let read : reads_number (x ∷ rest) n ≡ true = ap₂ (λ a b. (a && not b) || reads_number rest n) (eq-eqb x.number n e) w in
             ap (readers_after rest position n) put
-            ∙ (cond-false (writes rest n) [] _ no_writer
-            ∙ (cond-false (reads rest n) _ _ no_reader
-            ∙ (sym (cond-true (reads (x ∷ rest) n) (get_or readers n [] ++ position ∷ []) (get_or readers n []) read)
-            ∙ sym (cond-false (writes (x ∷ rest) n) [] _ unwritten))))
+            ∙ (cond-false (writes_number rest n) [] _ no_writer
+            ∙ (cond-false (reads_number rest n) _ _ no_reader
+            ∙ (sym (cond-true (reads_number (x ∷ rest) n) (get_or readers n [] ++ position ∷ []) (get_or readers n []) read)
+            ∙ sym (cond-false (writes_number (x ∷ rest) n) [] _ unwritten))))
         | inr d ↦
             ap (readers_after rest position n) (get_or-set_other readers x.number n _ [] (λ e. d (sym e)))
             ∙ ap₂ (λ b c. cond b [] (cond c (get_or readers n [] ++ position ∷ []) (get_or readers n []))) (sym (no_match d).0) (sym (no_match d).1)

@@ -4,7 +4,7 @@ use Rattle.std.specs.Prelude.{nat_lt, slice_index}
 use Rattle.std.proofs.lemmas.Bool.{cases_eq, cond-true, cond-false, and_right, lt-ltb}
 use Rattle.std.proofs.lemmas.List.Sums.{sum_by_more, sum_by_more_le}
 use Rattle.prio_graph.specs.Trees.{leaf}
-use Rattle.prio_graph.specs.Keeping.{times}
+use Rattle.prio_graph.specs.Kept.{times}
 use Rattle.prio_graph.proofs.Finding.{one_if}
 
 module _ (row : List ℕ) (i : ℕ) (l : i < length row) where

@@ -7,23 +7,23 @@ use Rattle.prio_graph.specs.declared.mark.Mark.TheVariants.{Waiting, Started, Do
 use Rattle.prio_graph.specs.Ready.{set_at, mark_at, EarlierDone}
 
 -- the number is written, or read, by these locks
-abbrev pub writes : List NumberedLock → ℕ → Bool
-writes set n = list_any (λ lock. (lock.number == n) && lock.write) set
+abbrev pub writes_number : List NumberedLock → ℕ → Bool
+writes_number set n = list_any (λ lock. (lock.number == n) && lock.write) set
 
-abbrev pub reads : List NumberedLock → ℕ → Bool
-reads set n = list_any (λ lock. (lock.number == n) && not lock.write) set
+abbrev pub reads_number : List NumberedLock → ℕ → Bool
+reads_number set n = list_any (λ lock. (lock.number == n) && not lock.write) set
 
 -- the last writer of the number before position i
 abbrev pub last_writer : List (List NumberedLock) → ℕ → ℕ → Option ℕ
 last_writer sets zero n = None
-last_writer sets (suc i) n = if writes (set_at sets i) n then Some i else last_writer sets i n
+last_writer sets (suc i) n = if writes_number (set_at sets i) n then Some i else last_writer sets i n
 
 -- the readers of the number since, before position i
 abbrev pub readers_since : List (List NumberedLock) → ℕ → ℕ → List ℕ
 readers_since sets zero n = []
 readers_since sets (suc i) n =
-    if writes (set_at sets i) n then [] else
-    if reads (set_at sets i) n then readers_since sets i n ++ i ∷ [] else readers_since sets i n
+    if writes_number (set_at sets i) n then [] else
+    if reads_number (set_at sets i) n then readers_since sets i n ++ i ∷ [] else readers_since sets i n
 
 -- a reader waits for the last writer, and a writer for it and the readers since
 abbrev pub awaited : List (List NumberedLock) → ℕ → NumberedLock → List ℕ
@@ -34,14 +34,14 @@ awaited sets i lock =
 abbrev pub edges_into : List (List NumberedLock) → ℕ → List ℕ
 edges_into sets i = flat_map (awaited sets i) (set_at sets i)
 
-abbrev pub is_done : Mark → Bool
-is_done Waiting = false
-is_done Started = false
-is_done Done = true
+abbrev pub is_done_mark : Mark → Bool
+is_done_mark Waiting = false
+is_done_mark Started = false
+is_done_mark Done = true
 
 -- the counter of position i: the number of its edges whose earlier end is not done
 abbrev pub counter : List (List NumberedLock) → List Mark → ℕ → ℕ
-counter sets marks i = count_by (λ j. not (is_done (mark_at marks j))) (edges_into sets i)
+counter sets marks i = count_by (λ j. not (is_done_mark (mark_at marks j))) (edges_into sets i)
 
 -- each started or done position has all its earlier conflicting positions done
 abbrev pub StartedInOrder : List (List NumberedLock) → List Mark → Type 0

@@ -1,6 +1,6 @@
 pub mod Ready
 pub mod Chains
 pub mod Trees
-pub mod Keeping
-pub mod Steps
+pub mod Kept
+pub mod Chained
 pub mod Laws

@@ -1,5 +1,5 @@
 -- Positions, and which of them are ready.
-use Rattle.std.specs.Prelude.{◌≡◌, ℕ, ◌<◌, true, List, [], length, slice_index_or}
+use Rattle.std.specs.Prelude.{◌≡◌, ℕ, ◌<◌, true, List, [], length, replicate, slice_index_or}
 use Rattle.lock_table.specs.declared.locks.NumberedLock.{NumberedLock}
 use Rattle.lock_table.specs.Numbers.{conflicts}
 use Rattle.prio_graph.specs.declared.mark.Mark.{Mark}
@@ -9,6 +9,10 @@ use Rattle.prio_graph.specs.declared.mark.Mark.TheVariants.{Waiting, Done}
 pub record Positions : Type 0 where
   pub sets : List (List NumberedLock)
   pub marks : List Mark
+
+-- all positions of these locks are waiting
+abbrev pub all_waiting : List (List NumberedLock) → Positions
+all_waiting sets = record { sets = sets; marks = replicate (length sets) Waiting }
 
 abbrev pub set_at : List (List NumberedLock) → ℕ → List NumberedLock
 set_at sets i = slice_index_or sets i []

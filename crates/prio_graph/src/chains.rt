@@ -1,7 +1,7 @@
-ghost use Rattle.std.specs.Prelude.{◌≡◌, ℕ, ◌<◌, All, IfOk, OnOk, None, [], length, slice_index_or};
+ghost use Rattle.std.specs.Prelude.{◌≡◌, ◌<◌, All, IfOk, OnOk, length};
 ghost use Rattle.std.specs.List.{flat_map};
 ghost use Rattle.lock_table.specs.Numbers.{EachOnce};
-ghost use Rattle.prio_graph.specs.Steps.{awaited_by, writer_after, readers_after};
+ghost use Rattle.prio_graph.specs.Chained.{awaited_by, PassesWriters, PassesReaders};
 
 use crate::rows::{clear_at, push_at};
 use lock_table::NumberedLock;
@@ -17,7 +17,7 @@ pub(crate) fn awaited(
 ) -> Result<Vec<u32>, OutOfMemory>
     requires last { All (λ lock. lock.number < length last.now) locks.now }
     requires readers { All (λ lock. lock.number < length readers.now) locks.now }
-    ensures { IfOk result (λ earlier. earlier.items ≡ flat_map (awaited_by last.now readers.now) locks.now) }
+    ensures { IfOk result (λ all. all.items ≡ flat_map (awaited_by last.now readers.now) locks.now) }
 {
     let mut earlier = Vec::new(alloc);
     for lock in locks {
@@ -43,8 +43,8 @@ pub(crate) fn pass_locks(
     requires last { All (λ lock. lock.number < length last.old) locks.now }
     requires readers { All (λ lock. lock.number < length readers.old) locks.now }
     requires once { EachOnce locks.now }
-    ensures writers { OnOk result ((n : ℕ) → n < length last.old → slice_index_or last.new n None ≡ writer_after locks.now position n (slice_index_or last.old n None)) }
-    ensures readers { OnOk result ((n : ℕ) → n < length readers.old → slice_index_or readers.new n [] ≡ readers_after locks.now position n (slice_index_or readers.old n [])) }
+    ensures writers { OnOk result (PassesWriters locks.now position last.old last.new) }
+    ensures readers { OnOk result (PassesReaders locks.now position readers.old readers.new) }
 {
     for lock in locks {
         let at = lock.number as usize;

@@ -1,8 +1,7 @@
-ghost use Rattle.std.specs.Prelude.{◌≡◌, ℕ, ◌+◌, ◌^◌, ◌<◌, ◌≤◌, All, IfOk, OnOk, length, slice_index};
+ghost use Rattle.std.specs.Prelude.{◌≡◌, ℕ, ◌+◌, ◌^◌, ◌<◌, ◌≤◌, All, IfOk, OnOk, length};
 ghost use Rattle.prio_graph.specs.Ready.{set_at};
-ghost use Rattle.prio_graph.specs.Chains.{edges_into};
-ghost use Rattle.prio_graph.specs.Keeping.{edges, times};
-ghost use Rattle.prio_graph.specs.Steps.{Chained};
+ghost use Rattle.prio_graph.specs.Kept.{CountsEdges, HasEdges, HasNoOthers};
+ghost use Rattle.prio_graph.specs.Chained.{Chained};
 
 use crate::chains::{awaited, pass_locks};
 use crate::rows::{add_edges, empty_rows};
@@ -68,9 +67,9 @@ pub(crate) fn edges_of(alloc: Global, sets: &[LockSet]) -> Result<Edges, OutOfMe
     requires { length sets.now < 2 ^ 32 }
     ensures waits_length { IfOk result (λ e. length e.waits.items ≡ length sets.now) }
     ensures later_length { IfOk result (λ e. length e.later.items ≡ length sets.now) }
-    ensures waits { IfOk result (λ e. (i : ℕ) → i < length sets.now → slice_index e.waits.items i ≡ length (edges_into sets.now i)) }
-    ensures later { IfOk result (λ e. (j i : ℕ) → i < length sets.now → edges e.later.items j i ≡ times j (edges_into sets.now i)) }
-    ensures never { IfOk result (λ e. (j i : ℕ) → length sets.now ≤ i → edges e.later.items j i ≡ 0) }
+    ensures waits { IfOk result (λ e. CountsEdges sets.now e.waits.items) }
+    ensures later { IfOk result (λ e. HasEdges sets.now e.later.items) }
+    ensures never { IfOk result (λ e. HasNoOthers sets.now e.later.items) }
 {
     let numbers = above_all(sets);
     let mut last = vec![in alloc; None; numbers]?;

@@ -1,7 +1,7 @@
-ghost use Rattle.std.specs.Prelude.{◌≡◌, ℕ, ◌+◌, ◌*◌, ◌^◌, ◌<◌, ◌≤◌, ◌==◌, ◌&&◌, All, IfOk, IfSome, IfNone, length, replicate, slice_index, slice_set, nat_lt, if◌then◌else◌};
-ghost use Rattle.prio_graph.specs.Trees.{IsTree, leaf};
-ghost use Rattle.prio_graph.specs.Ready.{IsReady, IsLeastReady, mark_at, set_at};
-ghost use Rattle.prio_graph.specs.Keeping.{shown, times};
+ghost use Rattle.std.specs.Prelude.{◌≡◌, ℕ, ◌+◌, ◌*◌, ◌^◌, ◌<◌, ◌≤◌, All, IfOk, IfSome, IfNone, length, slice_index, slice_set};
+ghost use Rattle.prio_graph.specs.Trees.{IsTree};
+ghost use Rattle.prio_graph.specs.Ready.{all_waiting, IsReady, IsLeastReady, mark_at, set_at};
+ghost use Rattle.prio_graph.specs.Kept.{times, ShowsFree, ShowsReleased};
 ghost use Rattle.prio_graph.specs.declared.mark.Mark.TheVariants.{Waiting, Started, Done};
 
 use crate::edges::edges_of;
@@ -27,20 +27,20 @@ pub struct Graph {
 
 impl Model for Graph {
     ghost use Rattle.prio_graph.specs.Ready.{Positions};
-    ghost use Rattle.prio_graph.specs.Keeping.{Keeps};
+    ghost use Rattle.prio_graph.specs.Kept.{IsGraph};
 
     ghost Value = { Positions };
 
     ghost view = { λ g. record { sets = g.sets; marks = g.marks.items } };
 
-    ghost invariant = { λ g. Keeps g.sets g.marks.items g.waits.items g.later.items g.ready.items };
+    ghost invariant = { λ g. IsGraph g.sets g.marks.items g.waits.items g.later.items g.ready.items };
 }
 
 impl Graph {
     /// The positions of these locks, all of them waiting. It takes all memory that the graph will need.
     pub fn new(alloc: Global, sets: Items<LockSet>) -> Result<Graph, OutOfMemory>
         requires { length sets < 2 ^ 32 }
-        ensures { IfOk result (λ graph. graph ≡ record { sets = sets; marks = replicate (length sets) Waiting }) }
+        ensures { IfOk result (λ graph. graph ≡ all_waiting sets) }
     {
         let marks = vec![in alloc; Mark::Waiting; sets.len()]?;
         let edges = edges_of(alloc, sets.as_slice())?;
@@ -57,7 +57,8 @@ impl Graph {
     /// The locks of a position.
     pub fn set(&self, position: u32) -> &LockSet
         requires { position < length self.now.sets }
-        ensures { result.now ≡ set_at self.now.sets position }
+        ensures set { result.now ≡ set_at self.now.sets position }
+        ensures marks { length self.now.marks ≡ length self.now.sets }
     {
         &self.sets.as_slice()[position as usize]
     }
@@ -107,7 +108,7 @@ fn tree_of(alloc: Global, waits: &[usize]) -> Result<Vec<u32>, OutOfMemory>
     requires { length waits.now < 2 ^ 32 }
     ensures length { IfOk result (λ tree. length tree.items ≡ 2 * length waits.now) }
     ensures is_tree { IfOk result (λ tree. IsTree tree.items (length waits.now)) }
-    ensures leaves { IfOk result (λ tree. (i : ℕ) → i < length waits.now → leaf tree.items (length waits.now) i ≡ shown (slice_index waits.now i == 0) i) }
+    ensures leaves { IfOk result (λ tree. ShowsFree waits.now tree.items) }
 {
     let count = waits.len();
     let mut tree = empty_tree(alloc, count)?;
@@ -128,7 +129,7 @@ fn release(waits: &mut [usize], tree: &mut [u32], row: &[u32])
     requires is_tree { IsTree tree.old (length waits.old) }
     ensures waits { (i : ℕ) → slice_index waits.new i + times i row.now ≡ slice_index waits.old i }
     ensures is_tree { IsTree tree.new (length waits.old) }
-    ensures leaves { (i : ℕ) → i < length waits.old → leaf tree.new (length waits.old) i ≡ (if nat_lt 0 (times i row.now) && (slice_index waits.new i == 0) then i else leaf tree.old (length waits.old) i) }
+    ensures leaves { ShowsReleased row.now waits.old waits.new tree.old tree.new }
 {
     let count = waits.len();
     for i in row {

@@ -3,10 +3,10 @@ ghost use Rattle.prio_graph.specs.Laws.{CountersTell, ReadyInTheMachine};
 /// The law of the chained graph: a position's counter is 0 exactly where every earlier conflicting
 /// position is done.
 pub fn counters_tell()
-    ensures { CountersTell }
+    ensures counters { CountersTell }
 {}
 
-/// A position is ready in the graph exactly where it is ready in the core machine.
+/// A law: a position is ready in the graph exactly where it is ready in the core machine.
 pub fn ready_in_the_machine()
-    ensures { ReadyInTheMachine }
+    ensures ready { ReadyInTheMachine }
 {}

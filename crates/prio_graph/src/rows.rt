@@ -1,5 +1,5 @@
-ghost use Rattle.std.specs.Prelude.{◌≡◌, ℕ, ◌+◌, ◌<◌, ◌==◌, ◌++◌, ◌∷◌, [], All, IfOk, OnOk, OnErr, length, replicate, slice_index_or, slice_set, if◌then◌else◌};
-ghost use Rattle.prio_graph.specs.Keeping.{edges, times};
+ghost use Rattle.std.specs.Prelude.{◌≡◌, ◌<◌, [], All, IfOk, OnOk, OnErr, length, replicate, slice_set};
+ghost use Rattle.prio_graph.specs.Kept.{AddsEdges, pushed_at};
 
 use sol_base::{Items, OutOfMemory};
 use std::alloc::Global;
@@ -19,7 +19,7 @@ pub(crate) fn empty_rows(alloc: Global, count: usize) -> Result<Vec<Items<u32>>,
 /// Appends to one row.
 pub(crate) fn push_at(rows: &mut [Items<u32>], at: usize, item: u32) -> Result<(), OutOfMemory>
     requires { at < length rows.old }
-    ensures ok { OnOk result (rows.new ≡ slice_set rows.old at (slice_index_or rows.old at [] ++ item ∷ [])) }
+    ensures ok { OnOk result (rows.new ≡ pushed_at rows.old at item) }
     ensures err { OnErr result (rows.new ≡ rows.old) }
 {
     let row = &mut rows[at];
@@ -44,7 +44,7 @@ pub(crate) fn add_edges(
     position: u32,
 ) -> Result<(), OutOfMemory>
     requires { All (λ j. j < length rows.old) earlier.now }
-    ensures { OnOk result ((j i : ℕ) → edges rows.new j i ≡ edges rows.old j i + (if i == position then times j earlier.now else 0)) }
+    ensures { OnOk result (AddsEdges earlier.now position rows.old rows.new) }
 {
     for j in earlier {
         push_at(rows, *j as usize, position)?;

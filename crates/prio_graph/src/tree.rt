@@ -1,5 +1,5 @@
-ghost use Rattle.std.specs.Prelude.{◌≡◌, ℕ, ◌+◌, ◌*◌, ◌^◌, ◌<◌, ◌≤◌, ◌==◌, ◌⊎◌, length, replicate, slice_index, if◌then◌else◌, IfOk};
-ghost use Rattle.prio_graph.specs.Trees.{IsTree, leaf};
+ghost use Rattle.std.specs.Prelude.{◌≡◌, ℕ, ◌+◌, ◌*◌, ◌^◌, ◌<◌, ◌≤◌, ◌⊎◌, length, replicate, IfOk};
+ghost use Rattle.prio_graph.specs.Trees.{IsTree, leaf, LeafIsSet, IsALeaf};
 
 use sol_base::OutOfMemory;
 use std::alloc::Global;
@@ -22,7 +22,7 @@ pub(crate) fn write_leaf(tree: &mut [u32], count: usize, position: usize, value:
     requires below { position < count }
     requires is_tree { IsTree tree.old count }
     ensures is_tree { IsTree tree.new count }
-    ensures leaves { (i : ℕ) → i < count → leaf tree.new count i ≡ (if i == position then value else leaf tree.old count i) }
+    ensures leaves { LeafIsSet count position value tree.old tree.new }
 {
     let mut at = count + position;
     tree[at] = value;
@@ -41,7 +41,7 @@ pub(crate) fn least_leaf(tree: &[u32], count: usize) -> u32
     requires length { length tree.now ≡ 2 * count }
     requires is_tree { IsTree tree.now count }
     ensures least { (i : ℕ) → i < count → result ≤ leaf tree.now count i }
-    ensures shown { (result ≡ NONE) ⊎ ((i : ℕ) × (i < count) × (leaf tree.now count i ≡ result)) }
+    ensures shown { (result ≡ NONE) ⊎ IsALeaf tree.now count result }
 {
     if tree.len() > 1 { tree[1] } else { NONE }
 }

@@ -1,12 +1,10 @@
 ghost use Rattle.std.specs.Prelude.{◌≡◌, ℕ, ◌^◌, ◌<◌, ◌↔◌, IfOk, IfSome, IfNone, IsTrue, length};
-ghost use Rattle.std.specs.List.{IsDistinct, list_any};
-ghost use Rattle.bank_law.specs.Job.{same_key, lock_keys};
 ghost use Rattle.prio_graph.specs.Ready.{IsReady, IsLeastReady, mark_at};
 ghost use Rattle.prio_graph.specs.declared.mark.Mark.TheVariants.{Started};
 
 use crate::graph::Graph;
 use crate::mark::Mark;
-use lock_table::{KeyTable, conflict, set_of};
+use lock_table::{KeyTable, conflict, has_distinct_keys, set_of};
 use sol_base::{Items, Key, Lock, LockList, OutOfMemory};
 use std::alloc::Global;
 use std::process::Abort;
@@ -17,23 +15,12 @@ fn key_of(byte: u8) -> Key {
     Key([byte; 32])
 }
 
-/// Whether one of the locks is on the key.
-fn has_lock(locks: &[Lock], key: &Key) -> bool
-    ensures { result ≡ list_any (λ lock. same_key key.now lock.key) locks.now }
-{
-    locks.iter().any(|lock| *key == lock.key)
-}
-
-/// The locks on keys of one repeated byte, without those on a key that came before.
-fn locks_of(alloc: Global, entries: &[(u8, bool)]) -> Result<LockList, OutOfMemory>
-    ensures { IfOk result (λ locks. IsDistinct same_key (lock_keys locks)) }
-{
+/// The locks on keys of one repeated byte.
+fn locks_of(alloc: Global, entries: &[(u8, bool)]) -> Result<LockList, OutOfMemory> {
     let mut locks = LockList::new(alloc);
     for (byte, write) in entries {
         let key = key_of(*byte);
-        if !has_lock(locks.as_slice(), &key) {
-            locks.push(Lock { key, write: *write })?;
-        }
+        locks.push(Lock { key, write: *write })?;
     }
     Ok(locks)
 }
@@ -44,6 +31,7 @@ fn graph_of(rt: &impl Abort, alloc: Global, lists: &[&[(u8, bool)]]) -> Result<G
     let mut sets = Items::new(alloc);
     for entries in lists {
         let locks = locks_of(alloc, entries)?;
+        assert!(rt; has_distinct_keys(&locks));
         assert!(rt; table.len() < 1_000 && locks.len() < 1_000);
         sets.push(set_of(alloc, &mut table, &locks)?)?;
     }

@@ -1,6 +1,6 @@
 use Rattle.std.proofs.Common.{◌≡◌, take}
 use Rattle.std.specs.List.{flat_map}
-use Rattle.prio_graph.specs.Steps.{awaited_by}
+use Rattle.prio_graph.specs.Chained.{awaited_by}
 use Rattle.prio_graph.proofs.chains.awaited.Given as goal
 
 abbrev pub invariant-loop-lock : goal.invariant-loop-lock

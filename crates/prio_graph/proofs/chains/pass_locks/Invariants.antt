@@ -1,5 +1,5 @@
 use Rattle.std.proofs.Common.{◌≡◌, ℕ, ◌<◌, [], None, length, drop, slice_index_or}
-use Rattle.prio_graph.specs.Steps.{writer_after, readers_after}
+use Rattle.prio_graph.specs.Chained.{writer_after, readers_after}
 use Rattle.prio_graph.proofs.chains.pass_locks.Given as goal
 
 abbrev pub invariant-loop-lock : goal.invariant-loop-lock

@@ -1,4 +1,4 @@
-use Rattle.prio_graph.specs.Steps.{Chained}
+use Rattle.prio_graph.specs.Chained.{Chained}
 use Rattle.prio_graph.proofs.edges.edges_of.Given as goal
 
 abbrev pub invariant-loop-position : goal.invariant-loop-position

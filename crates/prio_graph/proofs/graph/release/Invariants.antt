@@ -1,7 +1,7 @@
 use Rattle.std.proofs.Common.{◌≡◌, ℕ, ◌+◌, ◌<◌, ◌==◌, length, slice_index, take}
 use Rattle.std.specs.Prelude.{◌&&◌, nat_lt, if◌then◌else◌}
 use Rattle.prio_graph.specs.Trees.{IsTree, leaf}
-use Rattle.prio_graph.specs.Keeping.{times}
+use Rattle.prio_graph.specs.Kept.{times}
 use Rattle.prio_graph.proofs.graph.release.Given as goal
 
 abbrev pub invariant-loop-i : goal.invariant-loop-i

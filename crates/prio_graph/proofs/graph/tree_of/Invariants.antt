@@ -1,7 +1,7 @@
 use Rattle.std.proofs.Common.{◌≡◌, ℕ, ◌*◌, ◌<◌, ◌==◌, length, slice_index}
 use Rattle.std.specs.Prelude.{◌&&◌, nat_lt}
 use Rattle.prio_graph.specs.Trees.{IsTree, leaf}
-use Rattle.prio_graph.specs.Keeping.{shown}
+use Rattle.prio_graph.specs.Kept.{shown}
 use Rattle.prio_graph.proofs.graph.tree_of.Given as goal
 
 abbrev pub invariant-loop-i : goal.invariant-loop-i

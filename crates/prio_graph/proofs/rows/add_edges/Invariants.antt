@@ -1,6 +1,6 @@
 use Rattle.std.proofs.Common.{◌≡◌, ℕ, ◌+◌, ◌==◌, take}
 use Rattle.std.specs.Prelude.{if◌then◌else◌}
-use Rattle.prio_graph.specs.Keeping.{edges, times}
+use Rattle.prio_graph.specs.Kept.{edges, times}
 use Rattle.prio_graph.proofs.rows.add_edges.Given as goal
 
 abbrev pub invariant-loop-j : goal.invariant-loop-j

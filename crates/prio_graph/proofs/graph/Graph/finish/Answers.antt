@@ -4,7 +4,7 @@ use Rattle.std.proofs.lemmas.List.{get_or_default, with_items_is}
 use Rattle.prio_graph.specs.declared.mark.Mark.TheVariants.{Started, Done}
 use Rattle.prio_graph.specs.Ready.{Positions, mark_at}
 use Rattle.prio_graph.specs.Trees.{IsTree, leaf}
-use Rattle.prio_graph.specs.Keeping.{times, Keeps}
+use Rattle.prio_graph.specs.Kept.{times, IsGraph}
 use Rattle.prio_graph.proofs.Moves.{below, row_within, row_enough, finish_keeps}
 use Rattle.prio_graph.proofs.graph.Graph.finish.Goals as goal
 
@@ -40,5 +40,5 @@ invariant_of-self c =
     let lost = subst (λ waits. (i : ℕ) → slice_index c.release.new.waits i + times i c.as_slice.result.now ≡ slice_index waits i) c.deref_mut.ensures.value c.release.ensures.waits in
     let is_tree = subst (IsTree c.release.new.tree) count c.release.ensures.is_tree in
     let leaves = subst₂ (λ tree n. (i : ℕ) → i < n → leaf c.release.new.tree n i ≡ (if nat_lt 0 (times i c.as_slice.result.now) && (slice_index c.release.new.waits i == 0) then i else leaf tree n i)) c.deref_mut-2.ensures.value count c.release.ensures.leaves in
-    subst₂ (λ waits tree. Keeps c.self.inside.sets (set c.self.inside.marks.items c.args.position Done) waits c.self.inside.later.items tree) (sym waits_written) (sym tree_written)
+    subst₂ (λ waits tree. IsGraph c.self.inside.sets (set c.self.inside.marks.items c.args.position Done) waits c.self.inside.later.items tree) (sym waits_written) (sym tree_written)
     (finish_keeps c.self.inside.sets c.self.inside.marks.items c.self.inside.waits.items c.self.inside.later.items c.self.inside.ready.items K c.args.position started c.release.new.waits waits_long c.as_slice.result.now row lost c.release.new.tree tree_long is_tree leaves)

@@ -4,7 +4,7 @@ use Rattle.std.proofs.lemmas.List.{with_items_is}
 use Rattle.prio_graph.specs.Ready.{Positions, mark_at}
 use Rattle.prio_graph.specs.declared.mark.Mark.TheVariants.{Started}
 use Rattle.prio_graph.specs.Trees.{IsTree, leaf}
-use Rattle.prio_graph.specs.Keeping.{Keeps}
+use Rattle.prio_graph.specs.Kept.{IsGraph}
 use Rattle.prio_graph.proofs.Moves.{unstart_keeps}
 use Rattle.prio_graph.proofs.graph.Graph.unstart.Goals as goal
 
@@ -16,5 +16,5 @@ invariant_of-self c =
     let is_tree = subst (IsTree c.write_leaf.new.tree) c.len.ensures c.write_leaf.ensures.is_tree in
     let leaves = subst₂ (λ tree count. (i : ℕ) → i < count → leaf c.write_leaf.new.tree count i ≡ (if i == c.args.position then c.args.position else leaf tree count i)) c.deref_mut.ensures.value c.len.ensures c.write_leaf.ensures.leaves in
     let ready = subst (λ (p : Positions). mark_at p.marks c.args.position ≡ Started) (sym c.self.view_is) c.requires in
-    subst (Keeps c.self.inside.sets _ c.self.inside.waits.items c.self.inside.later.items) (sym written)
+    subst (IsGraph c.self.inside.sets _ c.self.inside.waits.items c.self.inside.later.items) (sym written)
     (unstart_keeps c.self.inside.sets c.self.inside.marks.items c.self.inside.waits.items c.self.inside.later.items c.self.inside.ready.items K c.args.position ready c.write_leaf.new.tree long is_tree leaves)

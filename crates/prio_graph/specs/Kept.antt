@@ -1,0 +1,80 @@
+-- What a graph keeps beside its positions: a counter and the later ends of its edges for each, and the ready ones as leaves of a tree.
+use Rattle.std.specs.Prelude.{◌≡◌, ℕ, ◌+◌, ◌*◌, ◌^◌, ◌<◌, ◌≤◌, ◌==◌, Bool, true, false, ◌&&◌, if◌then◌else◌, List, [], ◌∷◌, ◌++◌, length, slice_set, nat_lt, count_by, slice_index, slice_index_or}
+use Rattle.lock_table.specs.declared.locks.NumberedLock.{NumberedLock}
+use Rattle.prio_graph.specs.declared.mark.Mark.{Mark}
+use Rattle.prio_graph.specs.declared.mark.Mark.TheVariants.{Waiting, Started, Done}
+use Rattle.prio_graph.specs.Ready.{mark_at}
+use Rattle.prio_graph.specs.Chains.{edges_into, counter, StartedInOrder}
+use Rattle.prio_graph.specs.Trees.{IsTree, leaf}
+
+-- how often a position stands in a list
+abbrev pub times : ℕ → List ℕ → ℕ
+times i row = count_by (λ x. x == i) row
+
+-- how many edges lead from position j to position i, where a row has the later ends of one position
+abbrev pub edges : List (List ℕ) → ℕ → ℕ → ℕ
+edges rows j i = times i (slice_index_or rows j [])
+
+-- what a leaf has for a position that is not ready
+abbrev pub none : ℕ
+none = 4294967295
+
+abbrev pub is_waiting_mark : Mark → Bool
+is_waiting_mark Waiting = true
+is_waiting_mark Started = false
+is_waiting_mark Done = false
+
+-- the leaf of a position has its number where it is ready
+abbrev pub shown : Bool → ℕ → ℕ
+shown ready i = if ready then i else none
+
+-- each position that waits for nobody is shown, and no other
+abbrev pub ShowsFree : List ℕ → List ℕ → Type 0
+ShowsFree waits tree =
+    (i : ℕ) → i < length waits →
+    leaf tree (length waits) i ≡ shown (slice_index waits i == 0) i
+
+-- each position of the row that waits for nobody now is shown too
+abbrev pub ShowsReleased : List ℕ → List ℕ → List ℕ → List ℕ → List ℕ → Type 0
+ShowsReleased row waits next tree shows =
+    (i : ℕ) → i < length waits →
+    leaf shows (length waits) i ≡
+    (if nat_lt 0 (times i row) && (slice_index next i == 0) then i else leaf tree (length waits) i)
+
+-- each position has a counter of the edges that lead to it
+abbrev pub CountsEdges : List (List NumberedLock) → List ℕ → Type 0
+CountsEdges sets waits =
+    (i : ℕ) → i < length sets → slice_index waits i ≡ length (edges_into sets i)
+
+-- the rows have the edges that lead to positions
+abbrev pub HasEdges : List (List NumberedLock) → List (List ℕ) → Type 0
+HasEdges sets rows =
+    (j i : ℕ) → i < length sets → edges rows j i ≡ times j (edges_into sets i)
+
+-- and no others
+abbrev pub HasNoOthers : List (List NumberedLock) → List (List ℕ) → Type 0
+HasNoOthers sets rows = (j i : ℕ) → length sets ≤ i → edges rows j i ≡ 0
+
+-- one row has one item more
+abbrev pub pushed_at : List (List ℕ) → ℕ → ℕ → List (List ℕ)
+pushed_at rows at item = slice_set rows at (slice_index_or rows at [] ++ item ∷ [])
+
+-- the rows get an edge to the position from each of the earlier ones
+abbrev pub AddsEdges : List ℕ → ℕ → List (List ℕ) → List (List ℕ) → Type 0
+AddsEdges earlier position rows next =
+    (j i : ℕ) → edges next j i ≡ edges rows j i + (if i == position then times j earlier else 0)
+
+-- what a graph keeps
+pub record IsGraph (sets : List (List NumberedLock)) (marks : List Mark) (waits : List ℕ) (rows : List (List ℕ)) (tree : List ℕ) : Type 0 where
+  pub few : length sets < 2 ^ 32
+  pub marks_length : length marks ≡ length sets
+  pub waits_length : length waits ≡ length sets
+  pub rows_length : length rows ≡ length sets
+  pub tree_length : length tree ≡ 2 * length sets
+  pub in_order : StartedInOrder sets marks
+  pub counted : (i : ℕ) → i < length sets → slice_index waits i ≡ counter sets marks i
+  pub later : (j i : ℕ) → i < length sets → edges rows j i ≡ times j (edges_into sets i)
+  pub never : (j i : ℕ) → length sets ≤ i → edges rows j i ≡ 0
+  pub is_tree : IsTree tree (length sets)
+  pub leaves : (i : ℕ) → i < length sets →
+      leaf tree (length sets) i ≡ shown (is_waiting_mark (mark_at marks i) && (slice_index waits i == 0)) i
