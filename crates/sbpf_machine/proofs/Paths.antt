@@ -1,7 +1,8 @@
 -- Ways from one machine to another, instruction by instruction.
-use Rattle.std.proofs.Common.{Bool, if◌then◌else◌, ◌≡◌, ◌<◌, ◌-◌, ℕ, zero, suc, true, false, List, [], ◌∷◌, length, Option, Some, None, refl, ap, sym, ◌∙◌, arith, get_or}
+use Rattle.std.proofs.Common.{Bool, if◌then◌else◌, ◌≡◌, ◌<◌, ◌-◌, ℕ, zero, suc, true, false, List, [], ◌∷◌, length, Option, Some, None, refl, ap, sym, subst, ◌∙◌, arith, get_or}
 use Rattle.std.specs.Prelude.{slice_get, is_some}
 use Rattle.sbpf_verify.specs.Entries.{Decodes}
+use Rattle.sbpf_verify.specs.Places.{instruction_at}
 use Rattle.sbpf_verify.specs.Opcodes.{meaning}
 use Rattle.sbpf_verify.specs.declared.entry.Entry.{Entry}
 use Rattle.sbpf_machine.specs.declared.context.Context.{Context}
@@ -10,7 +11,7 @@ use Rattle.sbpf_machine.specs.declared.stop.Stop.{Stop}
 use Rattle.sbpf_machine.specs.declared.stop.Stop.TheVariants.{Fault as faulted}
 use Rattle.sbpf_machine.specs.Flows.{operands_of}
 use Rattle.sbpf_machine.specs.Runs.{EndsBy, ComesToBy}
-use Rattle.sbpf_machine.specs.Steps.{Go, Halt, Operands, State, Reaches, here, on, going, halted, follow, first_stop, steps, steps_by, step, act, row_of, natural}
+use Rattle.sbpf_machine.specs.Steps.{Go, Halt, Operands, State, Reaches, here, on, going, halted, follow, first_stop, steps, steps_by, step, act, row_of, natural, operands_at, MayWant, MayWantAt}
 
 -- what holds of both holds of the one that is chosen
 pub either : {A : Type 0} (P : A → Type 0) (b : Bool) (one other : A) → P one → P other → P (if b then one else other)
@@ -29,13 +30,22 @@ made dst src target offset imm = record { dst = dst; src = src; target = target;
 made_same : (d d' s s' t t' o o' i i' : ℕ) → d ≡ d' → s ≡ s' → t ≡ t' → o ≡ o' → i ≡ i' → made d s t o i ≡ made d' s' t' o' i'
 made_same d d' s s' t t' o o' i i' a b e f g = rw (a, b, e, f, g) refl
 
+-- its operands are those that its entry holds
+operands_are : (text : List ℕ) (place : ℕ) (entry : Entry) → Decodes text place entry → operands_at text place (meaning entry.opcode) ≡ operands_of entry
+operands_are text place entry d = made_same _ _ _ _ _ _ _ _ _ _ (sym d.dst) (sym d.src) (ap natural (sym d.target)) (sym d.offset) (sym d.imm)
+
+-- an instruction may want memory as its entry says
+pub wants_at : (text : List ℕ) (place : ℕ) (entry : Entry) (c : Context) → Decodes text place entry → MayWant (meaning entry.opcode) (operands_of entry) c → MayWantAt text place c (instruction_at text place)
+wants_at text place entry c d wants =
+    subst (MayWantAt text place c) (sym d.kind)
+    (subst (λ (o : Operands). MayWant (meaning entry.opcode) o c) (sym (operands_are text place entry d)) wants)
+
 -- an instruction is the row of its entry
 pub row_is : (text : List ℕ) (place : ℕ) (entry : Entry) (c : Context) → Decodes text place entry → step text place c ≡ act (meaning entry.opcode) text (operands_of entry) place c
 unfolding step
 row_is text place entry c d =
     ap (row_of text place c) d.kind ∙
-    ap (λ (o : Operands). act (meaning entry.opcode) text o place c)
-    (made_same _ _ _ _ _ _ _ _ _ _ (sym d.dst) (sym d.src) (ap natural (sym d.target)) (sym d.offset) (sym d.imm))
+    ap (λ (o : Operands). act (meaning entry.opcode) text o place c) (operands_are text place entry d)
 
 -- an instruction that goes on is a way of one more
 pub on_by : (x : State) (place next units : ℕ) (c d : Context) → Reaches x (going x.text place c units) → 0 < units → step x.text place c ≡ Go next d → Reaches x (going x.text next d (units - 1))
@@ -73,7 +83,7 @@ pub comes_to : (text : List ℕ) (place units : ℕ) (old new : Context) (to lef
     ComesToBy (going text place old units) (record { text = text; place = to; context = new; units = left; stop = stop }) stop
 unfolding steps
 comes_to text place units old new to left (Some stop) ends = ends
-comes_to text place units old new to left None ends = record { reached = ends.0; next = ends.1; going = refl; units = ends.2 }
+comes_to text place units old new to left None ends = ends
 
 -- a machine that stands at a stop stays
 pub stays : (x : State) (stop : Option Stop) → x.stop ≡ stop → is_some stop ≡ true → ComesToBy x x stop

@@ -4,7 +4,8 @@ use Rattle.sbpf_isa.specs.declared.rows.OpKind.{OpKind}
 use Rattle.sbpf_verify.specs.Entries.{IsHelperNumber}
 use Rattle.sbpf_verify.specs.Places.{is_start}
 use Rattle.sbpf_verify.specs.declared.entry.Entry.{Entry}
-use Rattle.sbpf_machine.specs.Steps.{Next as Row, Go, Halt, Operands, IsStore}
+use Rattle.sbpf_memory.specs.Memory.{IsPrepared}
+use Rattle.sbpf_machine.specs.Steps.{Next as Row, Go, Halt, Operands, GoesOn, MayWant}
 use Rattle.sbpf_machine.specs.declared.frames.Kept.{Kept}
 use Rattle.sbpf_machine.specs.declared.context.Context.{Context}
 use Rattle.sbpf_machine.specs.declared.stop.Stop.TheVariants.{Exit, Helper, Fault}
@@ -37,10 +38,10 @@ LandsOn text target place (Off (Exit r0)) = Unit {0}
 LandsOn text target place (Off (Fault fault)) = Unit {0}
 LandsOn text target place NoMemory = Unit {0}
 
--- memory is wanted by stores alone, which then have changed nothing
-abbrev pub WantsOnlyAt : OpKind → Context → Context → Flow → Type 0
-WantsOnlyAt kind old new NoMemory = IsStore kind × (new ≡ old)
-WantsOnlyAt kind old new _ = Unit {0}
+-- memory is wanted only by an instruction that may want it and would go on, and then nothing has changed
+abbrev pub WantsOnlyAt : OpKind → Operands → Row → Context → Context → Flow → Type 0
+WantsOnlyAt kind o row old new NoMemory = MayWant kind o old × GoesOn row × (new ≡ old)
+WantsOnlyAt kind o row old new _ = Unit {0}
 
 -- it goes to the next place, if anywhere, and wants no memory
 abbrev pub IsNext : Flow → Type 0
@@ -48,12 +49,12 @@ IsNext Next = Unit {0}
 IsNext (Off (Fault fault)) = Unit {0}
 IsNext _ = ⊥
 
--- the same, or it wants memory and has changed nothing
-abbrev pub IsNextOrWant : Context → Context → Flow → Type 0
-IsNextOrWant old new Next = Unit {0}
-IsNextOrWant old new (Off (Fault fault)) = Unit {0}
-IsNextOrWant old new NoMemory = new ≡ old
-IsNextOrWant old new _ = ⊥
+-- the same, or it wants memory at an address that is not prepared, would go on, and has changed nothing
+abbrev pub IsNextOrWant : ℕ → ℕ → Row → Context → Context → Flow → Type 0
+IsNextOrWant addr width row old new Next = Unit {0}
+IsNextOrWant addr width row old new (Off (Fault fault)) = Unit {0}
+IsNextOrWant addr width row old new NoMemory = (¬ IsPrepared old.memory addr width) × GoesOn row × (new ≡ old)
+IsNextOrWant addr width row old new _ = ⊥
 
 -- it goes to this place, if anywhere, and wants no memory
 abbrev pub IsTo : ℕ → Flow → Type 0
@@ -67,6 +68,12 @@ IsToStart text (To other) = is_start text other ≡ true
 IsToStart text (Off (Fault fault)) = Unit {0}
 IsToStart text (Off (Exit r0)) = Unit {0}
 IsToStart text _ = ⊥
+
+-- it goes into the program, or stops, and wants no memory
+abbrev pub IsCalling : Flow → Type 0
+IsCalling (To other) = Unit {0}
+IsCalling (Off stop) = Unit {0}
+IsCalling _ = ⊥
 
 -- each frame that waits goes back to where an instruction starts
 abbrev pub GoBack : List ℕ → List Kept → Type 0

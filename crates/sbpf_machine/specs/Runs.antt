@@ -1,10 +1,10 @@
 -- A run of the machine's loop, and what holds of each machine.
-use Rattle.std.specs.Prelude.{◌≡◌, ◌<◌, ℕ, ◌+◌, true, List, Option, Some, None, IfSome}
+use Rattle.std.specs.Prelude.{◌≡◌, ℕ, ◌+◌, true, List, Option, Some, None, IfSome}
 use Rattle.sbpf_verify.specs.Entries.{IsHelperNumber}
-use Rattle.sbpf_verify.specs.Places.{is_start, instruction_at}
+use Rattle.sbpf_verify.specs.Places.{is_start}
 use Rattle.sbpf_verify.specs.Verified.{IsVerified}
 use Rattle.sbpf_machine.specs.Flows.{GoBack}
-use Rattle.sbpf_machine.specs.Steps.{State, AtStore, IsHelper, Reaches, StandsBeforeStore, going, halted, first_stop, steps}
+use Rattle.sbpf_machine.specs.Steps.{State, IsHelper, StandsBeforeStore, going, halted, first_stop, steps}
 use Rattle.sbpf_machine.specs.declared.context.Context.{Context}
 use Rattle.sbpf_machine.specs.declared.stop.Stop.{Stop}
 use Rattle.sbpf_machine.specs.declared.stop.Stop.TheVariants.{Exit, Helper, Fault}
@@ -29,7 +29,7 @@ abbrev pub EndsBy : List ℕ → ℕ → ℕ → Context → Ended → Context �
 EndsBy text place units old ended new (Some stop) =
     first_stop text units place old ≡ Some (halted text ended.place new ended.units stop)
 EndsBy text place units old ended new None =
-    Reaches (going text place old units) (going text ended.place new ended.units) × AtStore (instruction_at text ended.place) × (0 < ended.units)
+    StandsBeforeStore (going text place old units) (going text ended.place new ended.units)
 
 abbrev pub Ends : List ℕ → ℕ → ℕ → Context → Ended → Context → Type 0
 Ends text place units old ended new = EndsBy text place units old ended new ended.stop

@@ -12,7 +12,7 @@ use Rattle.sbpf_isa.specs.declared.rows.OpKind.{OpKind}
 use Rattle.sbpf_isa.specs.declared.rows.OpKind.TheVariants.{Binary, Negate, LittleEndian, BigEndian, Jump, JumpIf, Call, CallRegister, Exit, Load, Store, LoadWide}
 use Rattle.sbpf_verify.specs.Entries.{immediate_of}
 use Rattle.sbpf_verify.specs.Places.{is_start, instruction_at, leads_to}
-use Rattle.sbpf_memory.specs.Memory.{Ranges, load_from, store_to, program_start}
+use Rattle.sbpf_memory.specs.Memory.{Ranges, IsPrepared, load_from, store_to, program_start}
 use Rattle.sbpf_memory.specs.declared.fault.AccessViolation.{AccessViolation}
 use Rattle.sbpf_machine.specs.Values.{value_of, divides, holds, negative, low_bits, swapped_bits}
 use Rattle.sbpf_machine.specs.declared.frames.Kept.{Kept}
@@ -196,19 +196,26 @@ pub data Reaches (x : State) : State → Type 0 where
   here : Reaches x x
   on : {place next units : ℕ} {context context' : Context} → Reaches x (going x.text place context (suc units)) → step x.text place context ≡ Go next context' → Reaches x (going x.text next context' units)
 
--- an instruction that may take memory stands at the place
-abbrev pub IsStore : OpKind → Type 0
-IsStore (Store size form) = Unit {0}
-IsStore _ = ⊥
+-- an instruction that may take memory: a store into the input at places that are not all prepared
+abbrev pub MayWant : OpKind → Operands → Context → Type 0
+MayWant (Store size form) o c = ¬ IsPrepared c.memory (address o.dst o c) (bytes_in size)
+MayWant _ o c = ⊥
 
-abbrev pub AtStore : Option OpKind → Type 0
-AtStore None = ⊥
-AtStore (Some kind) = IsStore kind
+abbrev pub MayWantAt : List ℕ → ℕ → Context → Option OpKind → Type 0
+MayWantAt text place c None = ⊥
+MayWantAt text place c (Some kind) = MayWant kind (operands_at text place kind) c
 
--- what want of memory leaves: the machine as it was before the store that met it, at no stop and with a unit for it
+-- it does not stop there
+abbrev pub GoesOn : Next → Type 0
+GoesOn (Go place c) = Unit {0}
+GoesOn (Halt stop c) = ⊥
+GoesOn Stuck = ⊥
+
+-- what want of memory leaves: the machine as it was before the store that met it and that would go on, at no stop and with a unit for it
 pub record StandsBeforeStore (old new : State) : Type 0 where
   pub reached : Reaches old new
-  pub next : AtStore (instruction_at new.text new.place)
+  pub next : MayWantAt new.text new.place new.context (instruction_at new.text new.place)
+  pub goes : GoesOn (step new.text new.place new.context)
   pub going : new.stop ≡ None
   pub units : 0 < new.units
 

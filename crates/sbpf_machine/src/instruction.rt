@@ -2,7 +2,7 @@
 ghost use Rattle.std.specs.Prelude.{◌≡◌, ◌≢◌, ◌<◌, ◌≤◌, ◌+◌, ◌%◌, ◌^◌, ℕ, false, true, if◌then◌else◌, IfSome};
 ghost use Rattle.std.specs.Arc.{arc_value};
 ghost use Rattle.sbpf_memory.specs.Memory.{IsWidth, load_from, store_to};
-ghost use Rattle.sbpf_machine.specs.Flows.{Follows, LandsOn, WantsOnlyAt, IsNext, IsNextOrWant, IsTo, IsToStart, GoBack, operands_of};
+ghost use Rattle.sbpf_machine.specs.Flows.{Follows, LandsOn, WantsOnlyAt, IsNext, IsNextOrWant, IsTo, IsToStart, IsCalling, GoBack, operands_of};
 ghost use Rattle.sbpf_machine.specs.Steps as Steps;
 ghost use Rattle.sbpf_machine.specs.Values.{divides, holds};
 ghost use Rattle.sbpf_machine.specs.declared.instruction.Flow.TheVariants.{Next as next_one, Jump as jumps};
@@ -142,7 +142,7 @@ fn load(width: u8, place: u32, dst: usize, addr: u64, context: &mut Context) -> 
 #[inline(always)]
 fn store(width: u8, place: u32, addr: u64, value: u64, context: &mut Context) -> Flow
     requires width { IsWidth width }
-    ensures way { IsNextOrWant context.old context.new result }
+    ensures way { let row = Steps.store place context.old (store_to context.old.memory addr width value) in IsNextOrWant addr width row context.old context.new result }
     ensures frames { context.new.frames ≡ context.old.frames }
     ensures does { (target : ℕ) → Follows (Steps.store place context.old (store_to context.old.memory addr width value)) target place context.new result }
 {
@@ -262,7 +262,7 @@ fn call(program: &Verified, entry: Entry, place: u32, context: &mut Context) -> 
     requires backs { GoBack program.now context.old.frames }
     ensures lands { (target : ℕ) → LandsOn program.now target place result }
     ensures backs { GoBack program.now context.new.frames }
-    ensures want { WantsOnlyAt (meaning entry.opcode) context.old context.new result }
+    ensures want { IsCalling result }
     ensures does { (target : ℕ) → Follows (Steps.call (operands_of entry) place context.old) target place context.new result }
 {
     if entry.src == 1 {
@@ -283,7 +283,7 @@ pub fn step(program: &Verified, entry: Entry, place: u32, context: &mut Context)
     requires backs { GoBack program.now context.old.frames }
     ensures lands { LandsOn program.now entry.target place result }
     ensures backs { GoBack program.now context.new.frames }
-    ensures want { WantsOnlyAt (meaning entry.opcode) context.old context.new result }
+    ensures want { let row = Steps.act (meaning entry.opcode) program.now (operands_of entry) place context.old in WantsOnlyAt (meaning entry.opcode) (operands_of entry) row context.old context.new result }
     ensures does { Follows (Steps.act (meaning entry.opcode) program.now (operands_of entry) place context.old) entry.target place context.new result }
 {
     let dst = entry.dst as usize;

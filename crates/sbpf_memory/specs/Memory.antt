@@ -194,6 +194,13 @@ PreparesIn refusal ready (Err (violation a n w)) = refusal ≡ Some (record { ad
 abbrev pub Prepares : Ranges → ℕ → ℕ → Ranges → Result (Unit {0}) MemFault → Type 0
 Prepares old addr len new result = PreparesIn (write_refusal old addr len) (IsPrepared new addr len) result
 
+-- a refusal leaves the memory as it was
+abbrev pub StaysIfRefused : Ranges → Ranges → Result (Unit {0}) MemFault → Type 0
+StaysIfRefused old new (Err (violation a n w)) = new ≡ old
+StaysIfRefused old new (Err Overlap) = new ≡ old
+StaysIfRefused old new (Err no_memory) = Unit {0}
+StaysIfRefused old new (Ok _) = Unit {0}
+
 pub record KeepsBytes (old new : Ranges) : Type 0 where
   pub program : new.program ≡ old.program
   pub stack : new.stack ≡ old.stack

@@ -3,7 +3,7 @@ ghost use Rattle.std.specs.Arc.{arc_value};
 ghost use Rattle.std.specs.Borrow.{sem};
 ghost use Rattle.sol_base.specs.Parts.{with_bytes, ArePrepared};
 ghost use Rattle.sbpf_memory.specs.Lending.{LendsInput, with_input};
-ghost use Rattle.sbpf_memory.specs.Memory.{IsMemory, IsWidth, IsPrepared, HasMemory, Answers, Prepares, KeepsBytes, fresh, load_from, read_from, store_to, write_to, copy_to, or_refusal, place_of, range_bytes, with_bytes_in, PreparedIn, refused_in, write_refusal, PreparesIn};
+ghost use Rattle.sbpf_memory.specs.Memory.{IsMemory, IsWidth, IsPrepared, HasMemory, Answers, Prepares, KeepsBytes, fresh, load_from, read_from, store_to, write_to, copy_to, or_refusal, place_of, range_bytes, with_bytes_in, PreparedIn, refused_in, write_refusal, PreparesIn, StaysIfRefused};
 
 use crate::bytes::{array_from, put_into, read_into, write_into, zeros};
 use crate::fault::{AccessViolation, MemFault, violation};
@@ -145,6 +145,8 @@ impl Memory {
     #[tactic(auto, unfolding(crate::specs::Memory::write_refusal, crate::specs::Memory::IsPrepared))]
     pub fn prepare(&mut self, addr: u64, len: u64) -> Result<(), MemFault>
         ensures answer { Prepares self.old addr len self.new result }
+        ensures ready { IsPrepared self.old addr len → HasMemory result }
+        ensures refused { StaysIfRefused self.old self.new result }
         ensures bytes { KeepsBytes self.old self.new }
     {
         if len == 0 {
@@ -418,6 +420,8 @@ impl Memory {
     fn prepare_at(&mut self, addr: u64, place: Place, len: u64) -> Result<(), MemFault>
         requires { place.at + len ≤ length (range_bytes self.old place.region) }
         ensures answer { PreparesIn (refused_in addr len place.region) (PreparedIn self.new len place.at place.region) result }
+        ensures ready { PreparedIn self.old len place.at place.region → HasMemory result }
+        ensures refused { StaysIfRefused self.old self.new result }
         ensures bytes { KeepsBytes self.old self.new }
     {
         match place.region {

@@ -1,4 +1,4 @@
-use Rattle.std.proofs.Common.{◌≡◌, ◌<◌, ◌+◌, ◌-◌, ℕ, true, List, length, sym, ◌∙◌, arith, rules, get_or, subst}
+use Rattle.std.proofs.Common.{◌≡◌, ◌<◌, ◌+◌, ◌-◌, ℕ, true, List, length, sym, ◌∙◌, arith, rules, refl, get_or, subst}
 use Rattle.sbpf_verify.specs.Entries.{Decodes, IsDecoded}
 use Rattle.sbpf_verify.specs.Opcodes.{meaning}
 use Rattle.sbpf_verify.specs.Places.{is_start, slot_count}
@@ -7,8 +7,8 @@ use Rattle.sbpf_verify.specs.declared.opcode.Opcode.TheVariants.{Add64Immediate}
 use Rattle.sbpf_verify.proofs.Starts.{start_there, start_below, entry_fits}
 use Rattle.sbpf_machine.specs.declared.context.Context.{Context}
 use Rattle.sbpf_machine.specs.Flows.{operands_of}
-use Rattle.sbpf_machine.specs.Steps.{AtStore, Go, Reaches, act, going}
-use Rattle.sbpf_machine.proofs.Paths.{fetched, row_is, on_by, spent, stop_along, stop_at}
+use Rattle.sbpf_machine.specs.Steps.{Go, GoesOn, Reaches, StandsBeforeStore, State, act, going}
+use Rattle.sbpf_machine.proofs.Paths.{fetched, row_is, on_by, spent, stop_along, stop_at, wants_at}
 use Rattle.sbpf_machine.proofs.run.run_from.Goals as goal
 use Rattle.sbpf_machine.proofs.run.run_from.Goals.{in-Next, in-Jump, in-To}
 
@@ -53,12 +53,20 @@ returns-in-Off-clause-ends c =
     (row_is c.args.program.now c.loop-units.place _ c.loop-units.context (decodes c.args.program.now c.args.entries.now c.loop-units.place _ c.requires.decoded c.loop-units.invariant.start) ∙ sym c.in-Off.ensures.does)
 
 pub returns-in-NoMemory-clause-ends : goal.returns-in-NoMemory-clause-ends
-returns-in-NoMemory-clause-ends c = (
-  subst (λ (d : Context). Reaches (going c.args.program.now c.args.start c.args.context.now c.args.given) (going c.args.program.now c.loop-units.place d c.loop-units.units))
-      (sym c.in-NoMemory.ensures.want.1) c.loop-units.invariant.reached,
-  subst AtStore (sym (decodes c.args.program.now c.args.entries.now c.loop-units.place _ c.requires.decoded c.loop-units.invariant.start).kind) c.in-NoMemory.ensures.want.0,
-  c.loop-units-test.true,
-)
+returns-in-NoMemory-clause-ends c =
+    let text : List ℕ = c.args.program.now in
+    let place : ℕ = c.loop-units.place in
+    let begin : State = going text c.args.start c.args.context.now c.args.given in
+    let is = decodes text c.args.entries.now place _ c.requires.decoded c.loop-units.invariant.start in
+    let wants = c.in-NoMemory.ensures.want in
+    subst (λ (d : Context). StandsBeforeStore begin (going text place d c.loop-units.units)) (sym wants.2)
+    (record {
+      reached = c.loop-units.invariant.reached;
+      next = wants_at text place _ c.loop-units.context is wants.0;
+      goes = subst GoesOn (sym (row_is text place _ c.loop-units.context is)) wants.1;
+      going = refl;
+      units = c.loop-units-test.true;
+    })
 
 -- an instruction that goes on keeps the invariant, wherever it goes
 onward : (c : goal.Joined-step) (to : ℕ) → c.match-step.place ≡ to → Go to c.step.new.context ≡ act (meaning (entry c).opcode) c.args.program.now (operands_of (entry c)) c.loop-units.place c.loop-units.context → is_start c.args.program.now to ≡ true →
