@@ -4,6 +4,8 @@
 mod account;
 mod listed;
 mod rules;
+#[cfg(test)]
+mod tests;
 
 pub use listed::check_listed;
 pub use rules::{RuleFault, check, check_touched};
