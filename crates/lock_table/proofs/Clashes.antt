@@ -1,13 +1,10 @@
 -- Conflict by numbers is conflict by keys.
-use Rattle.std.proofs.Common.{◌≡◌, ℕ, ◌<◌, ◌==◌, true, ◌&&◌, ◌||◌, inl, inr, List, [], ◌∷◌, map, length, get_or, All, refl, sym, ◌∙◌, ap₂, subst, ne_eqb, arith}
+use Rattle.std.proofs.Common.{◌≡◌, ◌<◌, ◌&&◌, ◌||◌, List, [], ◌∷◌, map, length, All, refl, sym, ◌∙◌, ap₂}
 use Rattle.std.specs.List.{list_any, IsDistinct}
-use Rattle.std.proofs.lemmas.Bool.{cases_order, eq-eqb}
 use Rattle.std.proofs.lemmas.List.Elements.{All-head, All-tail}
-use Rattle.std.proofs.lemmas.Map.Keys.{apart_from_distinct}
 use Rattle.sol_base.specs.declared.key.Key.{Key}
 use Rattle.bank_law.specs.Job.{same_key}
 use Rattle.bank_law.specs.Machine.{meet, clash}
-use Rattle.bank_law.proofs.Keys.{same_key-self, same_key-sym}
 use Rattle.lock_table.specs.declared.locks.NumberedLock.{NumberedLock}
 use Rattle.lock_table.specs.Numbers.{keyed_lock, meets, conflicts}
 use Rattle.lock_table.specs.Laws.{ConflictIsClash}

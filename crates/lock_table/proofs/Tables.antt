@@ -1,9 +1,9 @@
 -- A table that gets one key more, or one fewer.
-use Rattle.std.proofs.Common.{◌≡◌, ℕ, suc, ◌+◌, ◌-◌, ◌^◌, ◌<◌, ◌≤◌, ◌==◌, Bool, true, false, ◌||◌, cond, ◌⊎◌, inl, inr, List, [], ◌∷◌, ◌++◌, map, length, get_or, take, drop, Option, Some, None, refl, sym, ◌∙◌, ap, ap₂, subst, arith, eqb-true, ne_eqb, eq-eqb, length-append}
+use Rattle.std.proofs.Common.{◌≡◌, ℕ, ◌+◌, ◌-◌, ◌^◌, ◌<◌, ◌≤◌, Bool, true, false, ◌||◌, cond, ◌⊎◌, inl, inr, List, [], ◌∷◌, ◌++◌, length, get_or, take, drop, Some, None, refl, sym, ◌∙◌, ap, ap₂, subst, arith, ne_eqb, eq-eqb, length-append}
 use Rattle.std.specs.List.{IsDistinct, AllByRecursion, list_any, position_or_len}
 use Rattle.std.specs.BTreeMap.{BTreeMap, get, is_at}
 use Rattle.std.specs.Map.{lookup}
-use Rattle.std.proofs.lemmas.Bool.{both_ways, cond_both, cond-true, cond-false, cases_order, cases_lt, false_from_ne_true, or_from}
+use Rattle.std.proofs.lemmas.Bool.{both_ways, cond_both, cond-false, cases_order, cases_lt, false_from_ne_true, or_from}
 use Rattle.std.proofs.lemmas.List.{take-take, take_all, take_at, map_more, map-append, take-append-drop}
 use Rattle.std.proofs.lemmas.List.Folds.{list_any_at, list_any_none}
 use Rattle.std.proofs.lemmas.List.Sums.{fails_before_first}
@@ -18,7 +18,7 @@ use Rattle.bank_law.proofs.States.{same_cmp}
 use Rattle.lock_table.specs.Numbers.{number_of, numbered_key, with_key, with_keys}
 use Rattle.lock_table.specs.Tables.{IsTable}
 use Rattle.lock_table.specs.Laws.{EqualKeysEqualNumbers, KeysStay, KeysStayDistinct, TablesGrowLittle}
-use Rattle.lock_table.proofs.Places.{position-none, position-some, position_push-here, position_push-found, position_push-other}
+use Rattle.lock_table.proofs.Places.{position-none, position-some, position_push-here, position_push-other}
 use Rattle.lock_table.proofs.Numbering.{no_key, length-with_key-le}
 
 all_front : {X : Type 0} (P : X → Type 0) (xs ys : List X) → AllByRecursion P (xs ++ ys) → AllByRecursion P xs

@@ -1,8 +1,7 @@
-use Rattle.std.proofs.Common.{◌≡◌, ◌≤◌, [], length, get_or, take, false, sym, ◌∙◌, ap, subst, arith, length-append, List}
-use Rattle.std.specs.List.{IsDistinct}
+use Rattle.std.proofs.Common.{[], length, get_or, take, false, sym, ◌∙◌, ap, subst, arith, length-append, List}
 use Rattle.std.proofs.lemmas.List.{take_more, take_all}
 use Rattle.sol_base.specs.declared.lock.Lock.{Lock}
-use Rattle.bank_law.specs.Job.{same_key, lock_keys}
+use Rattle.bank_law.specs.Job.{lock_keys}
 use Rattle.lock_table.specs.declared.locks.NumberedLock.{NumberedLock}
 use Rattle.lock_table.specs.Numbers.{Numbers, with_key}
 use Rattle.lock_table.proofs.Numbering.{with_keys-extends, Numbers-push, Numbers-distinct, with_keys-more, length-with_key-le, distinct_once}

@@ -1,9 +1,9 @@
-use Rattle.std.proofs.Common.{◌≡◌, ◌+◌, ◌-◌, ◌^◌, ◌<◌, ◌∷◌, [], ◌++◌, Some, None, false, List, length, sym, ◌∙◌, ap, subst, arith}
+use Rattle.std.proofs.Common.{◌≡◌, ◌∷◌, [], ◌++◌, Some, None, List, length, sym, ◌∙◌, ap, arith}
 use Rattle.std.proofs.lemmas.Bool.{cond-true, cond-false}
 use Rattle.sol_base.specs.declared.key.Key.{Key}
-use Rattle.bank_law.specs.Job.{same_key, has_key}
+use Rattle.bank_law.specs.Job.{same_key}
 use Rattle.bank_law.proofs.Keys.{same_key-self}
-use Rattle.lock_table.specs.Numbers.{number_of, with_key}
+use Rattle.lock_table.specs.Numbers.{number_of}
 use Rattle.lock_table.proofs.Places.{position_push-here}
 use Rattle.lock_table.proofs.Tables.{present, absent, IsTable-push}
 use Rattle.lock_table.proofs.keys.KeyTable.number.Goals as goal

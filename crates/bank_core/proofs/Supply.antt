@@ -1,0 +1,99 @@
+-- The lamports of states, and what fits of loans.
+use Rattle.std.proofs.Common.{◌≡◌, ℕ, zero, suc, ◌+◌, ◌-◌, ◌^◌, ◌<◌, ◌≤◌, Bool, true, false, cond, inl, inr, List, [], ◌∷◌, map, All, length, Option, Some, None, refl, sym, ◌∙◌, ap, ap₂, subst, arith}
+use Rattle.std.specs.Prelude.{sum_by, unwrap_or}
+use Rattle.std.specs.List.{IsDistinct, AllByRecursion}
+use Rattle.std.specs.Ordering.{eq_by_cmp, is_eq}
+use Rattle.std.specs.declared.cmp.Ordering.{Ordering}
+use Rattle.std.specs.declared.cmp.Ordering.TheVariants.{Less, Equal, Greater}
+use Rattle.std.proofs.lemmas.Cmp.{eq_by_cmp_equiv}
+use Rattle.std.proofs.lemmas.Bool.{both_ways, false_from_ne_true, cond-true, cond-false, or_cases, or_from, cond_both}
+use Rattle.std.proofs.lemmas.List.Sums.{sum_by-cons}
+use Rattle.std.proofs.lemmas.Map.Keys.{IsDistinct-head, IsDistinct-tail}
+use Rattle.sol_base.specs.declared.key.Key.{Key}
+use Rattle.sol_base.specs.declared.account.Account.{Account}
+use Rattle.sol_base.specs.Keys.{key_cmp}
+use Rattle.sol_base.specs.Accounts.{empty_account}
+use Rattle.sol_base.proofs.KeyLaws.{key_cmp_exact, key_cmp_total, same_key-true, same_key-self, same_key-false}
+use Rattle.account_store.specs.State.{State, get, at, remove, sum, IsHeld, IsState}
+use Rattle.account_store.proofs.StateLaws.{same_at, at-remove, sum-remove, IsState-remove, IsHeld-get}
+use Rattle.std.proofs.lemmas.List.Elements.{All-head, All-tail}
+use Rattle.tx_report.specs.declared.outcome.Outcome.{Outcome}
+use Rattle.bank_law.specs.declared.event.Event.{Event}
+use Rattle.prio_graph.specs.Ready.{Positions, set_at}
+use Rattle.bank_law.specs.Job.{Job, same_key, has_key, keys}
+use Rattle.bank_law.proofs.Keys.{has_key-first, has_key-rest}
+use Rattle.bank_law.specs.Lawful.{lamports_under, IsLawful, IsShort, IsSettled, IsStart}
+use Rattle.bank_law.proofs.States.{at_remove-same, at_fits, under-cons, under-same}
+use Rattle.bank_core.specs.Slots.{Shared, numbers}
+use Rattle.bank_core.specs.Keeping.{Keeps, IsApart}
+use Rattle.lock_table.specs.Numbers.{numbered_key}
+use Rattle.bank_core.proofs.Numbers.{keys_is, numbers_within}
+
+unfound : (key : Key) (ks : List Key) → AllByRecursion (λ k. same_key key k ≡ false) ks → has_key key ks ≡ false
+unfound key [] a = refl
+unfound key (k ∷ ks) a = or_from (same_key key k) (has_key key ks) a.0 (unfound key ks a.1)
+
+-- states that differ under these keys alone differ by what they have there
+pub sums_differ : (s t : State) (ks : List Key) → IsState s → IsState t → IsDistinct same_key ks → ((key : Key) → has_key key ks ≡ false → at s key ≡ at t key)
+    → sum s + lamports_under (at t) ks ≡ sum t + lamports_under (at s) ks
+sums_differ s t [] is it d agree = let e = ap sum (same_at s t is it (λ k. agree k refl)) in omega (arith, e)
+sums_differ s t (k ∷ ks) is it d agree =
+    let rest = sums_differ (remove s k) (remove t k) ks (IsState-remove s k is) (IsState-remove t k it) (IsDistinct-tail same_key k ks d) others in
+    let a = sum-remove s k in
+    let b = sum-remove t k in
+    let f = under-cons (at s) k ks in
+    let g = under-cons (at t) k ks in
+    let u = kept s in
+    let v = kept t in
+    omega (arith, rest, a, b, f, g, u, v)
+  where
+    apart : has_key k ks ≡ false
+    apart = unfound k ks (IsDistinct-head same_key k ks d)
+
+    others : (key : Key) → has_key key ks ≡ false → at (remove s k) key ≡ at (remove t k) key
+    others key out = at_remove-same s k key ∙ (by_case (same_key key k) refl ∙ sym (at_remove-same t k key))
+      where
+        by_case : (b : Bool) → same_key key k ≡ b → cond b empty_account (at s key) ≡ cond b empty_account (at t key)
+        by_case true e = refl
+        by_case false e = agree key (or_from (same_key key k) (has_key key ks) e out)
+
+    kept : (r : State) → lamports_under (at (remove r k)) ks ≡ lamports_under (at r) ks
+    kept r = under-same (at (remove r k)) (at r) ks (λ key m. at_remove-same r k key ∙ cond-false (same_key key k) empty_account (at r key) (false_from_ne_true _ (λ e. both_ways _ apart (subst (λ x. has_key x ks ≡ true) (same_key-true key k e) m))))
+
+under-none : (f : Key → Account) (ks : List Key) → ((key : Key) → has_key key ks ≡ true → (f key).lamports ≡ 0) → lamports_under f ks ≡ 0
+under-none f [] none = refl
+under-none f (k ∷ ks) none =
+    let here = none k (has_key-first k ks) in
+    let rest = under-none f ks (λ key m. none key (has_key-rest key k ks m)) in
+    let a = under-cons f k ks in
+    omega (arith, here, rest, a)
+
+-- the accounts that stand apart, and those in slots
+pub apart_sum : (start rest : State) (ks : List Key) → IsDistinct same_key ks → IsApart start rest ks → sum start ≡ sum rest + lamports_under (at start) ks
+apart_sum start rest ks d A =
+    let all = sums_differ start rest ks A.is_start A.is_rest d (λ key out. sym (A.at_rest key ∙ cond-false (has_key key ks) empty_account (at start key) out)) in
+    let none = under-none (at rest) ks (λ key m. ap (λ (a : Account). a.lamports) (A.at_rest key ∙ cond-true (has_key key ks) empty_account (at start key) m)) in
+    omega (arith, all, none)
+
+pub among_at : (ks : List Key) (n : ℕ) → n < length ks → has_key (numbered_key ks n) ks ≡ true
+among_at [] n l = absurd (omega arith)
+among_at (k ∷ ks) zero l = has_key-first k ks
+among_at (k ∷ ks) (suc n) l = has_key-rest (numbered_key ks n) k ks (among_at ks n (omega arith))
+
+among : (ks : List Key) (ns : List ℕ) (key : Key) → All (λ n. n < length ks) ns → has_key key (map (numbered_key ks) ns) ≡ true → has_key key ks ≡ true
+among ks [] key w h = absurd (cc)
+among ks (n ∷ ns) key w h = elim (or_cases (same_key key (numbered_key ks n)) (has_key key (map (numbered_key ks) ns)) h) [
+  | inl t ↦ subst (λ k. has_key k ks ≡ true) (sym (same_key-true key (numbered_key ks n) t)) (among_at ks n (All-head (λ x. x < length ks) n ns w))
+  | inr r ↦ among ks ns key (All-tail (λ x. x < length ks) n ns w) r
+]
+
+-- what a core begins with, by the keys of its table
+pub is_start : (job : Job) (start rest : State) (ks : List Key) (p : Positions) (slots : List (Option Shared)) (outcomes : List (Option Outcome)) (journal : List Event)
+    → Keeps job (at start) ks p slots outcomes journal → IsApart start rest ks → IsStart job (at start) ks
+is_start job start rest ks p slots outcomes journal K A = record {
+  distinct = K.distinct;
+  all = λ i key l h. among ks (numbers (set_at p.sets i)) key (numbers_within ks job i (set_at p.sets i) (K.of.numbered i l)) (sym (ap (has_key key) (keys_is ks job i (set_at p.sets i) (K.of.numbered i l))) ∙ h);
+  supply = let a = apart_sum start rest ks K.distinct A in let b = A.is_start.fits in omega (arith, a, b);
+  short = λ key. (at_fits start A.is_start key).0;
+  settled = λ key. (at_fits start A.is_start key).1;
+}

@@ -1,0 +1,9 @@
+pub mod Origins
+pub mod Slots
+pub mod Effects
+pub mod Counts
+pub mod Keeping
+pub mod Facts
+pub mod Takes
+pub mod Ends
+pub mod Desks

@@ -1,0 +1,242 @@
+ghost use Rattle.std.specs.Prelude.{⊤, ◌≡◌, ◌<◌, ◌≤◌, Some, None, OnOk, OnErr, IfOk, vec_len, vec_capacity};
+ghost use Rattle.account_store.specs.State.{at};
+ghost use Rattle.bank_law.specs.Machine.{Run, held_count, with_event};
+ghost use Rattle.bank_law.specs.Lawful.{IsLawful};
+ghost use Rattle.bank_law.specs.History.{own, holds, returns};
+ghost use Rattle.bank_law.specs.declared.event.EventKind.TheVariants.{Grant, Commit, Return};
+ghost use Rattle.bank_core.specs.Ends.{HasSerialAccounts, state_at_end, outcomes_at_end};
+ghost use Rattle.sol_base.specs.Accounts.{accounts_of};
+ghost use Rattle.bank_core.specs.Effects.{effects_seen};
+ghost use Rattle.bank_core.specs.Keeping.{Keeps, IsApart, HasRoom, HasBuffers};
+ghost use Rattle.bank_core.specs.Origins.{IsLegalFor, AllDoneAfter, IsLeastReadyAfter};
+ghost use Rattle.bank_core.specs.Takes.{IsNotNowAfter, ReadsLeastAfter, SomeLaneHolds, MatchTake};
+ghost use Rattle.bank_core.specs.Facts.{Keeps-prop, IsApart-prop, HasRoom-prop, HasBuffers-prop};
+ghost use Rattle.bank_law.proofs.Props.{IsLawful-prop};
+
+use crate::finish::{Sealed, all_outcomes, put_all};
+use crate::loan::{Loan, Take};
+use crate::origin::Origin;
+use crate::room::{push_with_room, take_at, write_at};
+use crate::slots::{lend, put_back, put_written};
+use crate::work::{Effects, Work};
+use account_store::Accounts;
+use bank_law::{Event, EventKind};
+use lock_table::KeyTable;
+use prio_graph::Graph;
+use proof_note::Note;
+use sol_base::{Account, OutOfMemory};
+use std::alloc::Global;
+use std::sync::Arc;
+use tx_report::Outcome;
+
+/// Lends the values of positions, and takes the effects back.
+pub struct Core<W: Work> {
+    pub(crate) origin: Note<Origin<W::Told>>,
+    pub(crate) lanes: u32,
+    pub(crate) table: KeyTable,
+    pub(crate) graph: Graph,
+    pub(crate) slots: Vec<Option<Arc<Account>>>,
+    pub(crate) rest: Accounts,
+    pub(crate) outcomes: Vec<Option<Outcome>>,
+    pub(crate) buffers: Vec<Vec<Arc<Account>>>,
+    pub(crate) held: u32,
+    pub(crate) journal: Vec<Event>,
+    pub(crate) alloc: Global,
+    ghost lawful: { IsLawful (W.job origin.value.told) } by { IsLawful-prop (W.job origin.value.told) },
+    ghost runs: { Keeps (W.job origin.value.told) (at origin.value.start) table graph slots.items outcomes.items journal.items } by { Keeps-prop (W.job origin.value.told) (at origin.value.start) table graph slots.items outcomes.items journal.items },
+    ghost apart: { IsApart origin.value.start rest table } by { IsApart-prop origin.value.start rest table },
+    ghost room: { HasRoom (W.job origin.value.told).count lanes (vec_capacity journal) journal.items } by { HasRoom-prop (W.job origin.value.told).count lanes (vec_capacity journal) journal.items },
+    ghost buffered: { HasBuffers (W.job origin.value.told) lanes journal.items buffers.items } by { HasBuffers-prop (W.job origin.value.told) lanes journal.items buffers.items },
+    ghost counted: { held ≡ held_count (W.job origin.value.told) (Run (W.job origin.value.told) (at origin.value.start) journal.items) },
+}
+
+impl<W: Work> Drop for Core<W> {
+    fn drop(self) {
+        let Core {
+            origin: _,
+            lanes: _,
+            table: _,
+            graph: _,
+            slots: _,
+            rest: _,
+            outcomes: _,
+            buffers: _,
+            held: _,
+            journal: _,
+            alloc: _,
+        } = self;
+    }
+}
+
+impl<W: Work> Core<W> {
+    /// The number of lanes.
+    pub fn lanes(&self) -> u32
+        ensures { result ≡ self.now.lanes }
+    {
+        self.lanes
+    }
+
+    /// Takes the effects of a loan.
+    pub fn commit(&mut self, loan: Loan<W>, effects: Effects)
+        requires origin { loan.origin.value ≡ self.old.origin.value }
+        requires held { holds (own self.old.journal.items loan.lane) ≡ Some loan.position }
+        requires right { effects_seen effects ≡ (W.job self.old.origin.value.told).effects loan.position (accounts_of loan.values.items) }
+        ensures origin { self.new.origin.value ≡ self.old.origin.value }
+        ensures lanes { self.new.lanes ≡ self.old.lanes }
+        ensures journal { self.new.journal.items ≡ with_event self.old.journal.items Commit loan.lane loan.position }
+    {
+        let Loan {
+            position,
+            lane,
+            mut values,
+            origin: _,
+        } = loan;
+        put_written(
+            &mut self.slots,
+            self.graph.set(position).items(),
+            effects.written,
+        );
+        write_at(&mut self.outcomes, position as usize, Some(effects.outcome));
+        values.clear();
+        write_at(&mut self.buffers, lane as usize, values);
+        self.graph.finish(position);
+        self.held -= 1;
+        push_with_room(
+            &mut self.journal,
+            Event {
+                kind: EventKind::Commit,
+                lane,
+                position,
+            },
+        );
+    }
+
+    /// Puts the values of a loan back, so that its position waits again.
+    pub fn give_back(&mut self, loan: Loan<W>)
+        requires origin { loan.origin.value ≡ self.old.origin.value }
+        requires held { holds (own self.old.journal.items loan.lane) ≡ Some loan.position }
+        requires once { returns (own self.old.journal.items loan.lane) ≡ 0 }
+        ensures origin { self.new.origin.value ≡ self.old.origin.value }
+        ensures lanes { self.new.lanes ≡ self.old.lanes }
+        ensures journal { self.new.journal.items ≡ with_event self.old.journal.items Return loan.lane loan.position }
+    {
+        let Loan {
+            position,
+            lane,
+            mut values,
+            origin: _,
+        } = loan;
+        put_back(
+            &mut self.slots,
+            self.graph.set(position).items(),
+            &mut values,
+        );
+        write_at(&mut self.buffers, lane as usize, values);
+        self.graph.unstart(position);
+        self.held -= 1;
+        push_with_room(
+            &mut self.journal,
+            Event {
+                kind: EventKind::Return,
+                lane,
+                position,
+            },
+        );
+    }
+
+    /// Lends the least ready position to a lane that holds nothing.
+    pub fn take(&mut self, lane: u32) -> Take<W>
+        requires lane { lane < self.old.lanes }
+        requires free { holds (own self.old.journal.items lane) ≡ None }
+        ensures origin { self.new.origin.value ≡ self.old.origin.value }
+        ensures lanes { self.new.lanes ≡ self.old.lanes }
+        ensures legal { IsLegalFor W.job self.old.origin.value self.new.journal.items }
+        ensures journal { MatchTake result
+            (λ loan. self.new.journal.items ≡ with_event self.old.journal.items Grant lane loan.position)
+            (λ held. self.new.journal.items ≡ self.old.journal.items)
+            (self.new.journal.items ≡ self.old.journal.items)
+            (self.new.journal.items ≡ self.old.journal.items) }
+        ensures take { MatchTake result
+            (λ loan. (loan.lane ≡ lane) × (loan.origin.value ≡ self.old.origin.value) × IsLeastReadyAfter W.job self.old.origin.value self.old.journal.items loan.position)
+            (λ held. IsNotNowAfter W.job self.old.origin.value self.old.journal.items held)
+            (AllDoneAfter W.job self.old.origin.value self.old.journal.items)
+            (ReadsLeastAfter W.job self.old.origin.value self.old.journal.items) }
+        ensures others { MatchTake result (λ loan. ⊤) (λ held. SomeLaneHolds self.old.lanes self.old.journal.items) ⊤ ⊤ }
+    {
+        match self.graph.least_ready() {
+            Some(position) => match self.grant(lane, position) {
+                Ok(loan) => Take::Loan(loan),
+                Err(OutOfMemory) => Take::OutOfMemory,
+            },
+            None if self.held == 0 => Take::Finished,
+            None => Take::NotNow { held: self.held },
+        }
+    }
+
+    /// Lends the values of the least ready position to a lane that holds nothing.
+    pub(crate) fn grant(&mut self, lane: u32, position: u32) -> Result<Loan<W>, OutOfMemory>
+        requires lane { lane < self.old.lanes }
+        requires free { holds (own self.old.journal.items lane) ≡ None }
+        requires least { IsLeastReadyAfter W.job self.old.origin.value self.old.journal.items position }
+        ensures origin { self.new.origin.value ≡ self.old.origin.value }
+        ensures lanes { self.new.lanes ≡ self.old.lanes }
+        ensures journal { OnOk result (self.new.journal.items ≡ with_event self.old.journal.items Grant lane position) }
+        ensures loan { IfOk result (λ l. (l.lane ≡ lane) × (l.position ≡ position) × (l.origin.value ≡ self.old.origin.value)) }
+        ensures same { OnErr result (self.new.journal.items ≡ self.old.journal.items) }
+        ensures reads { OnErr result (ReadsLeastAfter W.job self.old.origin.value self.old.journal.items) }
+    {
+        let mut values = take_at(&mut self.buffers, lane as usize, Vec::new(self.alloc));
+        if let Err(e) = lend(
+            &mut self.slots,
+            self.graph.set(position).items(),
+            &mut values,
+        ) {
+            write_at(&mut self.buffers, lane as usize, values);
+            return Err(e);
+        }
+        self.graph.start(position);
+        self.held += 1;
+        push_with_room(
+            &mut self.journal,
+            Event {
+                kind: EventKind::Grant,
+                lane,
+                position,
+            },
+        );
+        Ok(Loan {
+            position,
+            lane,
+            values,
+            origin: self.origin.again(),
+        })
+    }
+
+    /// Ends a core whose positions are all done.
+    pub fn finish(self) -> Result<Sealed, OutOfMemory>
+        requires { AllDoneAfter W.job self.origin.value self.journal.items }
+        ensures accounts { IfOk result (λ end. HasSerialAccounts W.job self.origin.value end.accounts) }
+        ensures state { IfOk result (λ end. end.accounts ≡ state_at_end W.job self.origin.value) }
+        ensures outcomes { IfOk result (λ end. end.outcomes ≡ outcomes_at_end W.job self.origin.value) }
+    {
+        let Core {
+            origin: _,
+            lanes: _,
+            table,
+            graph: _,
+            mut slots,
+            mut rest,
+            outcomes,
+            buffers: _,
+            held: _,
+            journal: _,
+            alloc,
+        } = self;
+        put_all(&mut rest, &table, &mut slots)?;
+        let outcomes = all_outcomes(alloc, outcomes)?;
+        Ok(Sealed {
+            accounts: rest,
+            outcomes,
+        })
+    }
+}

@@ -1,0 +1,157 @@
+ghost use Rattle.std.specs.Prelude.{◌≡◌, ℕ, ◌+◌, ◌*◌, ◌^◌, ◌<◌, ◌≤◌, [], ⊤, Some, None, IfOk, OnOk, length, replicate, vec_len, vec_capacity, slice_index_or, if◌then◌else◌};
+ghost use Rattle.std.specs.List.{IsDistinct};
+ghost use Rattle.std.specs.declared.vec.Vec.{Vec as VecValue};
+ghost use Rattle.std.specs.declared.alloc.Global.{Global as GlobalValue};
+ghost use Rattle.sol_base.specs.declared.key.Key.{Key as KeyValue};
+ghost use Rattle.sol_base.specs.Accounts.{empty_account};
+ghost use Rattle.account_store.specs.State.{at, IsState};
+ghost use Rattle.bank_law.specs.Job.{same_key, has_key};
+ghost use Rattle.lock_table.specs.Numbers.{Numbers, numbered_key};
+ghost use Rattle.prio_graph.specs.Ready.{set_at};
+ghost use Rattle.bank_core.specs.Slots.{Shared, account_at};
+ghost use Rattle.bank_core.specs.Keeping.{IsApart};
+ghost use Rattle.bank_core.specs.Counts.{locks_before};
+
+use crate::kept::Core;
+use crate::origin::Origin;
+use crate::work::Work;
+use account_store::Accounts;
+use bank_law::Event;
+use lock_table::{KeyTable, LockSet, set_of};
+use prio_graph::Graph;
+use proof_note::Note;
+use sol_base::{Account, Items, OutOfMemory};
+use std::alloc::Global;
+use std::sync::Arc;
+use tx_report::Outcome;
+
+/// What a core begins with.
+fn origin_of<W: Work>(work: &W, accounts: &Accounts) -> Note<Origin<W::Told>>
+    ensures { result.value ≡ record { start = accounts.now; told = W.told work.now } }
+{
+    Note::told_by(&(work, accounts))
+}
+
+/// The locks of each position, over the numbers of their keys.
+fn sets_of<W: Work>(
+    alloc: Global,
+    work: &W,
+    table: &mut KeyTable,
+) -> Result<Items<LockSet>, OutOfMemory>
+    requires empty { table.old ≡ [] }
+    requires room { locks_before (W.job (W.told work.now)) (W.job (W.told work.now)).count < 2 ^ 32 }
+    ensures long { IfOk result (λ sets. length sets ≡ (W.job (W.told work.now)).count) }
+    ensures numbered { IfOk result (λ sets. (i : ℕ) → i < (W.job (W.told work.now)).count → Numbers table.new ((W.job (W.told work.now)).locks i) (set_at sets i)) }
+    ensures distinct { OnOk result (IsDistinct same_key table.new) }
+{
+    let mut sets = Items::new(alloc);
+    for position in 0..work.count() {
+        sets.push(set_of(alloc, table, work.locks(position))?)?;
+    }
+    Ok(sets)
+}
+
+/// How many locks a position has at most.
+fn most_locks(sets: &[LockSet]) -> usize
+    ensures { (i : ℕ) → i < length sets.now → length (set_at sets.now i) ≤ result }
+{
+    let mut most = 0;
+    for set in sets {
+        most = most.max(set.items().len());
+    }
+    most
+}
+
+/// The accounts of the table's keys, which leave the others. An absent one is the empty account.
+fn slots_of(
+    alloc: Global,
+    accounts: &mut Accounts,
+    table: &KeyTable,
+) -> Result<Vec<Option<Arc<Account>>>, OutOfMemory>
+    requires { IsDistinct same_key table.now }
+    ensures long { IfOk result (λ slots. length slots.items ≡ length table.now) }
+    ensures stored { IfOk result (λ slots. (n : ℕ) → n < length table.now → account_at slots.items n ≡ Some (at accounts.old (numbered_key table.now n))) }
+    ensures apart { OnOk result (IsApart accounts.old accounts.new table.now) }
+{
+    let _total = accounts.total();
+    let empty = Arc::new(alloc, Account::empty(alloc))?;
+    let mut slots = Vec::with_capacity(alloc, table.len() as usize)?;
+    for n in 0..table.len() {
+        let account = match accounts.remove(&table.key(n)) {
+            Some(account) => account,
+            None => Arc::try_clone(&empty)?,
+        };
+        slots.push(Some(account))?;
+    }
+    Ok(slots)
+}
+
+/// An outcome for each position, none of them there yet.
+fn no_outcomes(alloc: Global, count: usize) -> Result<Vec<Option<Outcome>>, OutOfMemory>
+    ensures { IfOk result (λ outcomes. outcomes.items ≡ replicate count None) }
+{
+    let mut outcomes = Vec::with_capacity(alloc, count)?;
+    while outcomes.len() < count {
+        outcomes.push(None)?;
+    }
+    Ok(outcomes)
+}
+
+/// An empty buffer for each lane, with room for so many values.
+fn buffers_of(
+    alloc: Global,
+    lanes: usize,
+    room: usize,
+) -> Result<Vec<Vec<Arc<Account>>>, OutOfMemory>
+    ensures long { IfOk result (λ buffers. length buffers.items ≡ lanes) }
+    ensures free { IfOk result (λ buffers. (lane : ℕ) (d : VecValue Shared GlobalValue) → lane < lanes → (vec_len (slice_index_or buffers.items lane d) ≡ 0) × (room ≤ vec_capacity (slice_index_or buffers.items lane d))) }
+{
+    let mut buffers = Vec::with_capacity(alloc, lanes)?;
+    while buffers.len() < lanes {
+        buffers.push(Vec::with_capacity(alloc, room)?)?;
+    }
+    Ok(buffers)
+}
+
+impl<W: Work> Core<W> {
+    /// A core over these accounts, with no event yet. It takes all memory that its lanes will need,
+    /// but for the shares of read accounts.
+    pub fn new(
+        alloc: Global,
+        accounts: Accounts,
+        work: &W,
+        lanes: u32,
+    ) -> Result<Core<W>, OutOfMemory>
+        requires some { 1 ≤ lanes }
+        requires most { lanes ≤ 64 }
+        requires room { locks_before (W.job (W.told work.now)) (W.job (W.told work.now)).count < 2 ^ 32 }
+        ensures origin { IfOk result (λ core. core.origin.value ≡ record { start = accounts; told = W.told work.now }) }
+        ensures lanes { IfOk result (λ core. core.lanes ≡ lanes) }
+        ensures journal { IfOk result (λ core. core.journal.items ≡ []) }
+    {
+        let count = work.count() as usize;
+        let origin = origin_of(work, &accounts);
+        let mut rest = accounts;
+        let mut table = KeyTable::new(alloc);
+        let sets = sets_of(alloc, work, &mut table)?;
+        let room = most_locks(sets.as_slice());
+        let graph = Graph::new(alloc, sets)?;
+        let slots = slots_of(alloc, &mut rest, &table)?;
+        let outcomes = no_outcomes(alloc, count)?;
+        let buffers = buffers_of(alloc, lanes as usize, room)?;
+        let journal = Vec::with_capacity(alloc, 4 * count + 256)?;
+        Ok(Core {
+            origin,
+            lanes,
+            table,
+            graph,
+            slots,
+            rest,
+            outcomes,
+            buffers,
+            held: 0,
+            journal,
+            alloc,
+        })
+    }
+}
