@@ -41,6 +41,46 @@ with_within xs ys zs bytes from h = same_lists _ _ (search (rules, places)) (λ 
 with_more : (list bytes more : List ℕ) (at : ℕ) → at + length bytes + length more ≤ length list → with_bytes (with_bytes list at bytes) (at + length bytes) more ≡ with_bytes list at (bytes ++ more)
 with_more list bytes more at h = same_lists _ _ (search (rules, places)) (λ k d below. grind (arith, places))
 
+-- the same, where the second is written in front of the first
+with_less : (list bytes more : List ℕ) (at : ℕ) → at + length more + length bytes ≤ length list → with_bytes (with_bytes list (at + length more) bytes) at more ≡ with_bytes list at (more ++ bytes)
+with_less list bytes more at h = same_lists _ _ (search (rules, places)) (λ k d below. grind (arith, places))
+
+-- what stands behind a write
+drop_with : (list bytes : List ℕ) (at k : ℕ) → at + length bytes ≤ k → at + length bytes ≤ length list → drop k (with_bytes list at bytes) ≡ drop k list
+drop_with list bytes at k past h = same_lists _ _ (search (rules, places)) (λ i d below. grind (arith, places))
+
+-- what stands before it
+take_with : (list bytes : List ℕ) (at k n : ℕ) → k + n ≤ at → at + length bytes ≤ length list → take n (drop k (with_bytes list at bytes)) ≡ take n (drop k list)
+take_with list bytes at k n before_it h = same_lists _ _ (search (rules, places)) (λ i d below. grind (arith, places))
+
+-- two ranges side by side are one
+range_more : (list : List ℕ) (from done count : ℕ) → take done (drop from list) ++ take count (drop (from + done) list) ≡ take (done + count) (drop from list)
+range_more list from done count =
+    ap (λ l. take done (drop from list) ++ take count l) (sym (drop-drop done from list)) ∙ sym (take-add done count (drop from list))
+
+pub range_length : (list : List ℕ) (from n : ℕ) → from + n ≤ length list → length (take n (drop from list)) ≡ n
+range_length list from n h = length-take-le n (drop from list) (omega (arith, length-drop {A = ℕ}))
+
+-- a range is moved to lower places one chunk on
+pub move_more : (list now : List ℕ) (to from done count : ℕ) → to ≤ from → from + done + count ≤ length list → now ≡ with_bytes list to (take done (drop from list)) → with_bytes now (to + done) (take count (drop (from + done) now)) ≡ with_bytes list to (take (done + count) (drop from list))
+move_more list now to from done count lower within is =
+    let moved : List ℕ = take done (drop from list) in
+    let size : length moved ≡ done = range_length list from done (omega arith) in
+    let more : drop (from + done) now ≡ drop (from + done) list = ap (λ l. drop (from + done) l) is ∙ drop_with list moved to (from + done) (omega (arith, size)) (omega (arith, size)) in
+    let chunk : List ℕ = take count (drop (from + done) list) in
+    let chunk_size : length chunk ≡ count = range_length list (from + done) count within in
+    ap (λ l. with_bytes now (to + done) (take count l)) more ∙ ap (λ l. with_bytes l (to + done) chunk) is ∙ ap (λ n. with_bytes (with_bytes list to moved) (to + n) chunk) (sym size) ∙ with_more list moved chunk to (omega (arith, size, chunk_size)) ∙ ap (λ l. with_bytes list to l) (range_more list from done count)
+
+-- a range is moved to higher places one chunk on
+pub move_less : (list now : List ℕ) (to from rest count done : ℕ) → from ≤ to → to + rest + count + done ≤ length list → now ≡ with_bytes list (to + rest + count) (take done (drop (from + rest + count) list)) → with_bytes now (to + rest) (take count (drop (from + rest) now)) ≡ with_bytes list (to + rest) (take (count + done) (drop (from + rest) list))
+move_less list now to from rest count done higher within is =
+    let moved : List ℕ = take done (drop (from + rest + count) list) in
+    let size : length moved ≡ done = range_length list (from + rest + count) done (omega arith) in
+    let chunk : List ℕ = take count (drop (from + rest) list) in
+    let chunk_size : length chunk ≡ count = range_length list (from + rest) count (omega arith) in
+    let same : take count (drop (from + rest) now) ≡ chunk = ap (λ l. take count (drop (from + rest) l)) is ∙ take_with list moved (to + rest + count) (from + rest) count (omega arith) (omega (arith, size)) in
+    ap (λ l. with_bytes now (to + rest) l) same ∙ ap (λ l. with_bytes l (to + rest) chunk) is ∙ ap (λ n. with_bytes (with_bytes list (to + rest + n) moved) (to + rest) chunk) (sym chunk_size) ∙ with_less list moved chunk (to + rest) (omega (arith, size, chunk_size)) ∙ ap (λ l. with_bytes list (to + rest) l) (range_more list (from + rest) count done)
+
 -- a write of nothing changes nothing
 pub with_none : (list : List ℕ) (at : ℕ) → with_bytes list at [] ≡ list
 with_none list at = simp (append-nil, add-zero, take-append-drop)
@@ -239,6 +279,11 @@ passes_at test pieces i at x h is first last passes =
     ap (λ (p : Piece). test p.backing) is ∙ passes_there test pieces i at 1 (at - before pieces i) 0 x h
     (λ place below. let same : at ≡ at + place = omega arith in subst (λ (n : ℕ). slice_get (tests_in test pieces) n ≡ Some true) same passes) (omega arith) (omega arith) (omega arith)
 
+-- what is so of a range is so of a part of it
+pub within_range : (answers : List Bool) (at len from count : ℕ) → from + count ≤ len → ArePrepared answers at len → ArePrepared answers (at + from) count
+within_range answers at len from count inside all = λ place below. let same : at + (from + place) ≡ at + from + place = omega arith in
+    subst (λ (n : ℕ). slice_get answers n ≡ Some true) same (all (from + place) (omega arith))
+
 -- what passes a test stays so, where a piece gets another backing that passes it as well
 pub stay_set : (test : Backing → Bool) (pieces : List Piece) (i : ℕ) (d y : Piece) → i < length pieces → length (piece_bytes y) ≡ length (piece_bytes (get_or pieces i d)) → (test (get_or pieces i d).backing ≡ true → test y.backing ≡ true) → StayPrepared (tests_in test pieces) (tests_in test (set pieces i y))
 stay_set test pieces i d y h size gains =
@@ -410,6 +455,9 @@ own_in (piece ∷ pieces) =
 pub prepared_is_own : (pieces : List Piece) → StayPrepared (tests_in is_prepared pieces) (tests_in is_own pieces)
 unfolding tests_in
 prepared_is_own pieces = own_in pieces
+
+pub prepared_are_own : (pieces : List Piece) (prepared : List Bool) (at len : ℕ) → tests_in is_prepared pieces ≡ prepared → ArePrepared prepared at len → ArePrepared (tests_in is_own pieces) at len
+prepared_are_own pieces prepared at len same are = λ place below. prepared_is_own pieces (at + place) (ap (λ (l : List Bool). slice_get l (at + place)) same ∙ are place below)
 
 -- one item more at the end
 flat_map_push : {X A : Type 0} (f : X → List A) (xs : List X) (x : X) → flat_map f (xs ++ x ∷ []) ≡ flat_map f xs ++ f x

@@ -3,6 +3,7 @@ ghost use Rattle.std.specs.Prelude.{◌≡◌, ◌<◌, ◌≤◌, ◌+◌, ◌^
 ghost use Rattle.std.specs.Arc.{arc_value};
 ghost use Rattle.sol_base.specs.Parts.{bytes_of, unprepared, with_bytes, ArePrepared, StayPrepared, DataStandAt};
 
+mod moves;
 mod piece;
 mod range;
 #[cfg(test)]
@@ -145,11 +146,33 @@ impl Parts {
         Ok(())
     }
 
+    /// Copies `len` bytes from one place to another, whole or not at all. Where the two ranges
+    /// meet, the bytes that stood there before are copied.
+    pub fn copy_within(&mut self, to: usize, from: usize, len: usize) -> Result<(), OutOfMemory>
+        requires to { to + len ≤ length self.old.bytes }
+        requires from { from + len ≤ length self.old.bytes }
+        ensures ok { OnOk result (self.new.bytes ≡ with_bytes self.old.bytes to (take len (drop from self.old.bytes))) }
+        ensures err { OnErr result (self.new.bytes ≡ self.old.bytes) }
+        ensures prepared { self.new.prepared ≡ self.old.prepared }
+        ensures ready { ArePrepared self.old.prepared to len → IsOk result }
+    {
+        if len == 0 {
+            return Ok(());
+        }
+        let alloc = *self.pieces.allocator();
+        let pieces = self.pieces.as_mut_slice();
+        let first = range::find(pieces, to);
+        range::own_on(alloc, pieces, first, to, len, false)?;
+        moves::move_range(pieces, to, from, len);
+        Ok(())
+    }
+
     /// Makes ready for writes that take no memory: `len` places from a place on.
     pub fn prepare(&mut self, at: usize, len: usize) -> Result<(), OutOfMemory>
         requires { at + len ≤ length self.old.bytes }
         ensures bytes { self.new.bytes ≡ self.old.bytes }
         ensures ok { OnOk result (ArePrepared self.new.prepared at len) }
+        ensures ready { ArePrepared self.old.prepared at len → IsOk result }
         ensures stay { StayPrepared self.old.prepared self.new.prepared }
     {
         if len == 0 {

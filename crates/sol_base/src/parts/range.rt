@@ -47,6 +47,7 @@ pub fn write_on(pieces: &mut [Piece], first: usize, at: usize, bytes: &[u8])
     requires own { ArePrepared (tests_in is_own pieces.old) at (length bytes.now) }
     ensures order { AreInOrder pieces.new }
     ensures bytes { bytes_in pieces.new ≡ with_bytes (bytes_in pieces.old) at bytes.now }
+    ensures own { tests_in is_own pieces.new ≡ tests_in is_own pieces.old }
     ensures prepared { tests_in is_prepared pieces.new ≡ tests_in is_prepared pieces.old }
 {
     let end = at + bytes.len();

@@ -1,0 +1,86 @@
+//! Moves of bytes from one range of places to another, through a small buffer.
+ghost use Rattle.std.specs.Prelude.{◌≡◌, ◌<◌, ◌≤◌, ◌+◌, ◌^◌, length, take, drop};
+ghost use Rattle.sol_base.specs.Parts.{bytes_in, tests_in, is_own, is_prepared, with_bytes, AreInOrder, ArePrepared};
+
+use crate::parts::piece::Piece;
+use crate::parts::range::{find, read_on, write_on};
+
+/// The most bytes that are moved at once.
+const CHUNK: usize = 512;
+
+/// Moves a range to places that the pieces own. Where the two meet, the bytes that stood there
+/// before are moved.
+pub fn move_range(pieces: &mut [Piece], to: usize, from: usize, len: usize)
+    requires order { AreInOrder pieces.old }
+    requires to { to + len ≤ length (bytes_in pieces.old) }
+    requires from { from + len ≤ length (bytes_in pieces.old) }
+    requires most { length (bytes_in pieces.old) < 2 ^ 32 }
+    requires own { ArePrepared (tests_in is_own pieces.old) to len }
+    ensures order { AreInOrder pieces.new }
+    ensures bytes { bytes_in pieces.new ≡ with_bytes (bytes_in pieces.old) to (take len (drop from (bytes_in pieces.old))) }
+    ensures prepared { tests_in is_prepared pieces.new ≡ tests_in is_prepared pieces.old }
+{
+    if to <= from {
+        move_forward(pieces, to, from, len);
+    } else {
+        move_backward(pieces, to, from, len);
+    }
+}
+
+/// Moves a range to lower places, its first bytes first.
+fn move_forward(pieces: &mut [Piece], to: usize, from: usize, len: usize)
+    requires order { AreInOrder pieces.old }
+    requires lower { to ≤ from }
+    requires from { from + len ≤ length (bytes_in pieces.old) }
+    requires most { length (bytes_in pieces.old) < 2 ^ 32 }
+    requires own { ArePrepared (tests_in is_own pieces.old) to len }
+    ensures order { AreInOrder pieces.new }
+    ensures bytes { bytes_in pieces.new ≡ with_bytes (bytes_in pieces.old) to (take len (drop from (bytes_in pieces.old))) }
+    ensures prepared { tests_in is_prepared pieces.new ≡ tests_in is_prepared pieces.old }
+{
+    let mut done = 0;
+    while done < len {
+        let count = CHUNK.min(len - done);
+        move_chunk(pieces, to + done, from + done, count);
+        done += count;
+    }
+}
+
+/// Moves a range to higher places, its last bytes first.
+fn move_backward(pieces: &mut [Piece], to: usize, from: usize, len: usize)
+    requires order { AreInOrder pieces.old }
+    requires higher { from ≤ to }
+    requires to { to + len ≤ length (bytes_in pieces.old) }
+    requires most { length (bytes_in pieces.old) < 2 ^ 32 }
+    requires own { ArePrepared (tests_in is_own pieces.old) to len }
+    ensures order { AreInOrder pieces.new }
+    ensures bytes { bytes_in pieces.new ≡ with_bytes (bytes_in pieces.old) to (take len (drop from (bytes_in pieces.old))) }
+    ensures prepared { tests_in is_prepared pieces.new ≡ tests_in is_prepared pieces.old }
+{
+    let mut rest = len;
+    while rest > 0 {
+        let count = CHUNK.min(rest);
+        rest -= count;
+        move_chunk(pieces, to + rest, from + rest, count);
+    }
+}
+
+/// Moves a range that the buffer has room for.
+fn move_chunk(pieces: &mut [Piece], to: usize, from: usize, len: usize)
+    requires some { (0 < len) × (len ≤ 512) }
+    requires order { AreInOrder pieces.old }
+    requires to { to + len ≤ length (bytes_in pieces.old) }
+    requires from { from + len ≤ length (bytes_in pieces.old) }
+    requires most { length (bytes_in pieces.old) < 2 ^ 32 }
+    requires own { ArePrepared (tests_in is_own pieces.old) to len }
+    ensures order { AreInOrder pieces.new }
+    ensures bytes { bytes_in pieces.new ≡ with_bytes (bytes_in pieces.old) to (take len (drop from (bytes_in pieces.old))) }
+    ensures own { tests_in is_own pieces.new ≡ tests_in is_own pieces.old }
+    ensures prepared { tests_in is_prepared pieces.new ≡ tests_in is_prepared pieces.old }
+{
+    let mut buffer = [0; CHUNK];
+    let chunk = &mut buffer[..len];
+    read_on(pieces, find(pieces, from), from, chunk);
+    let first = find(pieces, to);
+    write_on(pieces, first, to, chunk);
+}
