@@ -2,6 +2,7 @@
 use Rattle.std.proofs.Common.{zero, suc, ◌≡◌, ◌⊎◌, ◌≤◌, ℕ, Bool, true, false, not, ◌&&◌, ◌||◌, List, [], ◌∷◌, ◌++◌, length, get_or, refl, sym, ap, inl, inr, nat_eq, nat_lt, Option, Some, None, Ok, arith, if◌then◌else◌, All, ◌∙◌}
 use Rattle.std.specs.List.{list_any, filter_map, cons_option}
 use Rattle.std.specs.Cmp.Lexicographic.{bytes_decides}
+use Rattle.std.proofs.lemmas.Bool.{and_cases, and_parts, or_parts}
 use Rattle.std.proofs.lemmas.Bool.Decides.{nat_tests}
 use Rattle.std.proofs.lemmas.List.Folds.{list_any_at}
 use Rattle.sol_base.specs.declared.key.Key.{Key}
@@ -20,21 +21,9 @@ passed : {F : Type 0} (test : Bool) (fault : F) (rest : Option F) → (if test t
 passed true fault rest none = absurd (cc)
 passed false fault rest none = (refl, none)
 
-both : (s t : Bool) → (s && t) ≡ true → (s ≡ true) × (t ≡ true)
-both true t holds = (refl, holds)
-both false t holds = absurd (cc)
-
-not_both : (s t : Bool) → (s && t) ≡ false → (s ≡ false) ⊎ (t ≡ false)
-not_both true t none = inr none
-not_both false t none = inl refl
-
 not_second : (s t : Bool) → (s && t) ≡ false → s ≡ true → t ≡ false
 not_second true t none holds = none
 not_second false t none holds = absurd (cc)
-
-neither : (s t : Bool) → (s || t) ≡ false → (s ≡ false) × (t ≡ false)
-neither true t none = absurd (cc)
-neither false t none = (refl, none)
 
 is_true : (t : Bool) → not t ≡ false → t ≡ true
 is_true true none = refl
@@ -64,9 +53,9 @@ flag_is false false same = refl
 
 account_is : (a b : Account) → same_account a b ≡ true → a ≡ b
 account_is a b same =
-    let last = both (nat_eq a.lamports b.lamports && same_key a.owner b.owner && same_flag a b) (same_data a b) same in
-    let third = both (nat_eq a.lamports b.lamports && same_key a.owner b.owner) (same_flag a b) last.0 in
-    let first = both (nat_eq a.lamports b.lamports) (same_key a.owner b.owner) third.0 in
+    let last = and_parts (nat_eq a.lamports b.lamports && same_key a.owner b.owner && same_flag a b) (same_data a b) same in
+    let third = and_parts (nat_eq a.lamports b.lamports && same_key a.owner b.owner) (same_flag a b) last.0 in
+    let first = and_parts (nat_eq a.lamports b.lamports) (same_key a.owner b.owner) third.0 in
     let lamports : a.lamports ≡ b.lamports = is_same a.lamports b.lamports first.0 in
     let owner : a.owner ≡ b.owner = same_key-true a.owner b.owner first.1 in
     let executable : a.executable ≡ b.executable = flag_is a.executable b.executable third.1 in
@@ -81,20 +70,20 @@ kept program writable before after n none =
     let four = passed (foreign_debit program before after) _ _ three.1 in
     let five = passed (foreign_data program before after) _ _ four.1 in
     let six = passed (too_large after) _ _ five.1 in
-    let two' = neither (before.executable && not (same_account before after)) (not (same_flag before after)) two.0 in
+    let two' = or_parts (before.executable && not (same_account before after)) (not (same_flag before after)) two.0 in
     record {
       readonly = λ locked. account_is before after (is_true (same_account before after) (not_second (not writable) (not (same_account before after)) one.0 (ap not locked)));
       executable = λ holds. account_is before after (is_true (same_account before after) (not_second before.executable (not (same_account before after)) two'.0 holds));
       flag = flag_is before.executable after.executable (is_true (same_flag before after) two'.1);
-      owner = elim (not_both (not (same_key before.owner after.owner)) (not (owns program before) || has_byte after) three.0) [
+      owner = elim (and_cases (not (same_key before.owner after.owner)) (not (owns program before) || has_byte after) three.0) [
         | inl same ↦ inl (same_key-true before.owner after.owner (is_true (same_key before.owner after.owner) same))
-        | inr given ↦ let parts = neither (not (owns program before)) (has_byte after) given in inr (same_key-true before.owner program (is_true (owns program before) parts.0), no_byte after.bytes parts.1)
+        | inr given ↦ let parts = or_parts (not (owns program before)) (has_byte after) given in inr (same_key-true before.owner program (is_true (owns program before) parts.0), no_byte after.bytes parts.1)
       ];
-      lamports = elim (not_both (nat_lt after.lamports before.lamports) (not (owns program before)) four.0) [
+      lamports = elim (and_cases (nat_lt after.lamports before.lamports) (not (owns program before)) four.0) [
         | inl more ↦ inl (not_below after.lamports before.lamports more)
         | inr owned ↦ inr (same_key-true before.owner program (is_true (owns program before) owned))
       ];
-      bytes = elim (not_both (not (same_data before after)) (not (owns program before)) five.0) [
+      bytes = elim (and_cases (not (same_data before after)) (not (owns program before)) five.0) [
         | inl same ↦ inl ((bytes_decides before.bytes after.bytes).0 (is_true (same_data before after) same))
         | inr owned ↦ inr (same_key-true before.owner program (is_true (owns program before) owned))
       ];
