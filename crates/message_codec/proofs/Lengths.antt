@@ -1,6 +1,6 @@
 -- Compact lengths: what is spelled is read again, what is read is spelled so, and which refusal comes where.
 use Rattle.std.proofs.Common.{get_or, ◌≡◌, ◌≢◌, ◌<◌, ◌≤◌, ◌+◌, ◌-◌, ◌*◌, ◌/◌, ◌%◌, ℕ, suc, List, [], ◌∷◌, ◌++◌, Ok, Err, Bool, true, false, ◌||◌, ◌⊎◌, inl, inr, refl, sym, ap, subst, ◌∙◌, nat_lt, cond, arith}
-use Rattle.std.specs.Prelude.{nat_eq}
+use Rattle.std.specs.Prelude.{nat_eq, ◌↔◌}
 use Rattle.std.proofs.lemmas.Bool.Decides.{nat_tests}
 use Rattle.spec_base.specs.Bytes.{IsBytes}
 use Rattle.spec_base.specs.Reading.{place}
@@ -8,8 +8,8 @@ use Rattle.spec_base.proofs.Binding.{chosen, not_refused, ok_parts}
 use Rattle.spec_base.proofs.Formats.{Reads}
 use Rattle.message_codec.specs.declared.fault.WireFault.{WireFault}
 use Rattle.message_codec.specs.declared.fault.WireFault.TheVariants.{Truncated, BadLength}
-use Rattle.message_codec.specs.Compact.{compact, digits_value, AreLaterDigits, AreDigits, CompactLaw, BeginsWithLength, IsCutLength}
-use Rattle.message_codec.specs.WireReading.{Read, LengthLaw, compact_at, second_at, third_at}
+use Rattle.message_codec.specs.Compact.{compact, digits_value, AreLaterDigits, AreDigits, BeginsWithLength, IsCutLength}
+use Rattle.message_codec.specs.WireReading.{Read, compact_at, second_at, third_at}
 
 pub one_digit : (v : ℕ) → v < 128 → compact v ≡ v ∷ []
 unfolding compact
@@ -89,7 +89,7 @@ from_digits v (a ∷ b ∷ c ∷ d ∷ ds) le h e =
     let later : 1 ≤ digits_value (d ∷ ds) = later_value (d ∷ ds) h.2.2.2 in
     absurd (omega arith)
 
-pub one_spelling : CompactLaw
+pub one_spelling : (v : ℕ) (bytes : List ℕ) → v ≤ 65535 → (bytes ≡ compact v) ↔ (AreDigits bytes × (digits_value bytes ≡ v))
 one_spelling v bytes le = (λ e. subst (λ (l : List ℕ). AreDigits l × (digits_value l ≡ v)) (sym e) (are_digits v le), λ h. from_digits v bytes le h.0 h.1)
 
 again : (total v : ℕ) (rest : List ℕ) → v ≤ 65535 → compact_at total (compact v ++ rest) ≡ Ok (v, rest)
@@ -324,9 +324,12 @@ neither_is_bad total bytes are h = go (compact_at total bytes) refl (answers tot
     go (Err fault) e (inl cut) = absurd (h.1 (truncated_is_cut total bytes are (e ∙ ap (λ (f : WireFault). Err f) cut)))
     go (Err fault) e (inr bad) = ap (λ (f : WireFault). Err f) bad
 
-pub lengths_answer : LengthLaw
-lengths_answer total bytes are = record {
-  value = λ v rest. (takes total bytes v rest are, spelled_is_read total bytes v rest);
-  cut = (truncated_is_cut total bytes are, cut_is_truncated total bytes);
-  bad = (bad_is_neither total bytes, neither_is_bad total bytes are);
-}
+-- which answer comes of a compact length
+pub length_value : (total : ℕ) (bytes : List ℕ) → IsBytes bytes → (v : ℕ) (rest : List ℕ) → (compact_at total bytes ≡ Ok (v, rest)) ↔ ((v ≤ 65535) × (bytes ≡ compact v ++ rest))
+length_value total bytes are v rest = (takes total bytes v rest are, spelled_is_read total bytes v rest)
+
+pub length_cut : (total : ℕ) (bytes : List ℕ) → IsBytes bytes → (compact_at total bytes ≡ Err (Truncated (place total bytes))) ↔ IsCutLength bytes
+length_cut total bytes are = (truncated_is_cut total bytes are, cut_is_truncated total bytes)
+
+pub length_bad : (total : ℕ) (bytes : List ℕ) → IsBytes bytes → (compact_at total bytes ≡ Err (BadLength (place total bytes))) ↔ ((¬ BeginsWithLength bytes) × (¬ IsCutLength bytes))
+length_bad total bytes are = (bad_is_neither total bytes, neither_is_bad total bytes are)

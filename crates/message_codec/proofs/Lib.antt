@@ -4,3 +4,4 @@ pub mod PartLaws
 pub mod WireLaws
 pub mod SaneLaws
 pub mod LockLaws
+pub mod RoleLaws

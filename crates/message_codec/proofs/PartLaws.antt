@@ -13,35 +13,35 @@ use Rattle.message_codec.specs.declared.message.Header.{Header}
 use Rattle.message_codec.specs.declared.message.Instruction.{Instruction}
 use Rattle.message_codec.specs.declared.message.Lookup.{Lookup}
 use Rattle.message_codec.specs.Compact.{compact}
-use Rattle.message_codec.specs.Wire.{array_bytes, blob_bytes, signature_bytes, header_bytes, instruction_bytes, lookup_bytes, IsShort}
+use Rattle.message_codec.specs.Wire.{array_bytes, blob_bytes, signature_bytes, header_bytes, instruction_bytes, lookup_bytes, IsCountable}
 use Rattle.message_codec.specs.WireReading.{Read, array_at, blob_at, signature_at, header_at, instruction_at, lookup_at}
 use Rattle.message_codec.proofs.Lengths.{length_reads}
 
 -- arrays
 
-blob_again : (total : ℕ) (blob rest : List ℕ) → IsShort blob → blob_at total (blob_bytes blob ++ rest) ≡ Ok (blob, rest)
+blob_again : (total : ℕ) (blob rest : List ℕ) → IsCountable blob → blob_at total (blob_bytes blob ++ rest) ≡ Ok (blob, rest)
 unfolding blob_at
 blob_again total blob rest short =
     rw (append_assoc (compact (length blob)) blob rest, (length_reads total).again (length blob) (blob ++ rest) short) ((field_reads Truncated total (length blob)).again blob rest refl)
 
-blob_takes : (total : ℕ) (bytes blob rest : List ℕ) → IsBytes bytes → blob_at total bytes ≡ Ok (blob, rest) → IsShort blob × (bytes ≡ blob_bytes blob ++ rest)
+blob_takes : (total : ℕ) (bytes blob rest : List ℕ) → IsBytes bytes → blob_at total bytes ≡ Ok (blob, rest) → IsCountable blob × (bytes ≡ blob_bytes blob ++ rest)
 unfolding blob_at
 blob_takes total bytes blob rest are h =
     let t = taken (length_reads total) _ bytes (blob, rest) are h in
     let f = (field_reads Truncated total t.value).takes t.rest blob rest t.are_bytes t.goes_on in
     (subst (λ n. n ≤ 65535) (sym f.0) t.fits, t.spelled ∙ rw (f.1, ← f.0) (sym (append_assoc (compact (length blob)) blob rest)))
 
-pub blob_reads : (total : ℕ) → Reads (blob_at total) blob_bytes IsShort
+pub blob_reads : (total : ℕ) → Reads (blob_at total) blob_bytes IsCountable
 blob_reads total = record { again = blob_again total; takes = blob_takes total }
 
 array_again : {X : Type 0} (one : ℕ → List ℕ → Read X) {spell : X → List ℕ} {Fits : X → Type 0} (total : ℕ) → Reads (one total) spell Fits
-    → (xs : List X) (rest : List ℕ) → IsShort xs × AllByRecursion Fits xs → array_at one total (array_bytes spell xs ++ rest) ≡ Ok (xs, rest)
+    → (xs : List X) (rest : List ℕ) → IsCountable xs × AllByRecursion Fits xs → array_at one total (array_bytes spell xs ++ rest) ≡ Ok (xs, rest)
 unfolding array_at
 array_again one {spell = spell} total reads xs rest h =
     rw (append_assoc (compact (length xs)) (flat_map spell xs) rest, (length_reads total).again (length xs) (flat_map spell xs ++ rest) h.0) ((many_reads reads (length xs)).again xs rest (refl, h.1))
 
 array_takes : {X : Type 0} (one : ℕ → List ℕ → Read X) {spell : X → List ℕ} {Fits : X → Type 0} (total : ℕ) → Reads (one total) spell Fits
-    → (bytes : List ℕ) (xs : List X) (rest : List ℕ) → IsBytes bytes → array_at one total bytes ≡ Ok (xs, rest) → (IsShort xs × AllByRecursion Fits xs) × (bytes ≡ array_bytes spell xs ++ rest)
+    → (bytes : List ℕ) (xs : List X) (rest : List ℕ) → IsBytes bytes → array_at one total bytes ≡ Ok (xs, rest) → (IsCountable xs × AllByRecursion Fits xs) × (bytes ≡ array_bytes spell xs ++ rest)
 unfolding array_at
 array_takes one {spell = spell} total reads bytes xs rest are h =
     let t = taken (length_reads total) _ bytes (xs, rest) are h in
@@ -49,7 +49,7 @@ array_takes one {spell = spell} total reads bytes xs rest are h =
     ((subst (λ n. n ≤ 65535) (sym f.0.0) t.fits, f.0.1), t.spelled ∙ rw (f.1, ← f.0.0) (sym (append_assoc (compact (length xs)) (flat_map spell xs) rest)))
 
 pub array_reads : {X : Type 0} (one : ℕ → List ℕ → Read X) {spell : X → List ℕ} {Fits : X → Type 0} (total : ℕ) → Reads (one total) spell Fits
-    → Reads (array_at one total) (array_bytes spell) (λ xs. IsShort xs × AllByRecursion Fits xs)
+    → Reads (array_at one total) (array_bytes spell) (λ xs. IsCountable xs × AllByRecursion Fits xs)
 array_reads one total reads = record { again = array_again one total reads; takes = array_takes one total reads }
 
 -- signatures
@@ -61,8 +61,8 @@ signature_reads total = read_as_reads (λ (field : List ℕ). let signature : Si
 
 pub record InstructionFits (instruction : Instruction) : Type 0 where
   pub program : instruction.program < 256
-  pub accounts : IsShort instruction.accounts
-  pub input : IsShort instruction.input
+  pub accounts : IsCountable instruction.accounts
+  pub input : IsCountable instruction.input
 
 instruction_again : (total : ℕ) (instruction : Instruction) (rest : List ℕ) → InstructionFits instruction → instruction_at total (instruction_bytes instruction ++ rest) ≡ Ok (instruction, rest)
 unfolding instruction_at
@@ -93,8 +93,8 @@ instruction_reads total = record { again = instruction_again total; takes = inst
 
 pub record LookupFits (lookup : Lookup) : Type 0 where
   pub table : IsKey lookup.table
-  pub writable : IsShort lookup.writable
-  pub readonly : IsShort lookup.readonly
+  pub writable : IsCountable lookup.writable
+  pub readonly : IsCountable lookup.readonly
 
 lookup_again : (total : ℕ) (lookup : Lookup) (rest : List ℕ) → LookupFits lookup → lookup_at total (lookup_bytes lookup ++ rest) ≡ Ok (lookup, rest)
 unfolding lookup_at

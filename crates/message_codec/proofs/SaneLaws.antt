@@ -2,25 +2,23 @@
 use Rattle.std.proofs.Common.{◌≡◌, ◌<◌, ◌≤◌, ◌+◌, ℕ, zero, suc, List, [], ◌∷◌, length, Result, Ok, Err, Bool, true, false, not, ◌||◌, ◌&&◌, cond, refl, sym, subst, ◌∙◌, nat_lt, All, IsOk, ◌↔◌, arith}
 use Rattle.std.specs.Prelude.{nat_eq, nat_le}
 use Rattle.std.specs.List.{list_any, position_or_len, AllByRecursion, IsDistinct}
+use Rattle.std.proofs.lemmas.Bool.{or_parts}
 use Rattle.std.proofs.lemmas.Bool.Decides.{nat_tests}
 use Rattle.std.proofs.lemmas.List.Elements.{All-from_recursion, recursion_from_All, All-weaker}
 use Rattle.std.proofs.lemmas.List.Folds.{list_any_none}
 use Rattle.sol_base.specs.declared.key.Key.{Key}
 use Rattle.sol_base.specs.Keys.{same_key}
+use Rattle.sol_base.proofs.KeyLaws.{same_key-equiv}
 use Rattle.message_codec.specs.declared.fault.SanitizeFault.{SanitizeFault}
 use Rattle.message_codec.specs.declared.fault.SanitizeFault.TheVariants.{EmptyLookup}
 use Rattle.message_codec.specs.declared.message.Instruction.{Instruction}
 use Rattle.message_codec.specs.declared.message.Lookup.{Lookup}
 use Rattle.message_codec.specs.declared.message.Tx.{Tx}
-use Rattle.message_codec.specs.Roles.{key_count_of, load_count, loads_none, has_bad_program, has_bad_account, has_repeated, empty_lookup, lookups_sanitized, sanitized, IsSane}
-
-neither : (a b : Bool) → (a || b) ≡ false → (a ≡ false) × (b ≡ false)
-neither true b h = absurd (cc)
-neither false b h = (refl, h)
+use Rattle.message_codec.specs.Roles.{key_count, load_count, loads_none, has_bad_program, has_bad_account, has_repeated_key, empty_lookup, lookups_sanitized, sanitized, IsSane}
 
 none_passes : {X : Type 0} (test : X → Bool) (xs : List X) → list_any test xs ≡ false → AllByRecursion (λ x. test x ≡ false) xs
 none_passes test [] h = tt
-none_passes test (x ∷ xs) h = let n = neither (test x) (list_any test xs) h in (n.0, none_passes test xs n.1)
+none_passes test (x ∷ xs) h = let n = or_parts (test x) (list_any test xs) h in (n.0, none_passes test xs n.1)
 
 -- what is said of each where none passes
 all_fail : {X : Type 0} (test : X → Bool) (P : X → Type 0) → ((x : X) → test x ≡ false → P x) → (xs : List X) → list_any test xs ≡ false → All P xs
@@ -30,7 +28,7 @@ programs : (instructions : List Instruction) (keys : ℕ) → has_bad_program in
 programs instructions keys h = all_fail _ _ (λ instruction e. in_range instruction.program e) instructions h
   where
     in_range : (program : ℕ) → (nat_eq program 0 || nat_le keys program) ≡ false → (0 < program) × (program < keys)
-    in_range program e = let n = neither (nat_eq program 0) (nat_le keys program) e in (grind (arith, nat_tests), grind (arith, nat_tests))
+    in_range program e = let n = or_parts (nat_eq program 0) (nat_le keys program) e in (grind (arith, nat_tests), grind (arith, nat_tests))
 
 accounts : (instructions : List Instruction) (keys : ℕ) → has_bad_account instructions keys ≡ false → All (λ instruction. All (λ index. index < keys) instruction.accounts) instructions
 accounts instructions keys h = all_fail _ _ (λ instruction e. all_fail (λ index. nat_le keys index) (λ index. index < keys) below instruction.accounts e) instructions h
@@ -38,12 +36,20 @@ accounts instructions keys h = all_fail _ _ (λ instruction e. all_fail (λ inde
     below : (index : ℕ) → nat_le keys index ≡ false → index < keys
     below index e = grind (arith, nat_tests)
 
-apart : (keys : List Key) → has_repeated keys ≡ false → IsDistinct (λ key other. same_key other key) keys
+turned : (key : Key) (others : List Key) → AllByRecursion (λ other. same_key other key ≡ false) others → AllByRecursion (λ other. same_key key other ≡ false) others
+turned key [] h = tt
+turned key (other ∷ others) h = (same_key-equiv.symm key other ∙ h.0, turned key others h.1)
+
+turned_back : (key : Key) (others : List Key) → AllByRecursion (λ other. same_key key other ≡ false) others → AllByRecursion (λ other. same_key other key ≡ false) others
+turned_back key [] h = tt
+turned_back key (other ∷ others) h = (same_key-equiv.symm other key ∙ h.0, turned_back key others h.1)
+
+apart : (keys : List Key) → has_repeated_key keys ≡ false → IsDistinct same_key keys
 unfolding IsDistinct
 apart [] h = tt
 apart (key ∷ others) h =
-    let n = neither (list_any (λ other. same_key other key) others) (has_repeated others) h in
-    (none_passes (λ other. same_key other key) others n.0, apart others n.1)
+    let n = or_parts (list_any (λ other. same_key other key) others) (has_repeated_key others) h in
+    (turned key others (none_passes (λ other. same_key other key) others n.0), apart others n.1)
 
 none_before_end : {X : Type 0} (test : X → Bool) (xs : List X) → nat_lt (position_or_len test xs) (length xs) ≡ false → AllByRecursion (λ x. test x ≡ false) xs
 none_before_end test [] h = tt
@@ -91,7 +97,7 @@ none_of_nine tx most h =
       groups = within _ _ b.0;
       payer = under _ _ c.0;
       programs = programs tx.message.instructions (length tx.message.keys) d.0;
-      accounts = accounts tx.message.instructions (key_count_of tx.message) e.0;
+      accounts = accounts tx.message.instructions (key_count tx.message) e.0;
       keys = within _ _ f.0;
       apart = apart tx.message.keys g.0;
       payer_free = i.0;
@@ -133,10 +139,10 @@ all_below : {X : Type 0} (test : X → Bool) (xs : List X) → AllByRecursion (�
 all_below test [] h = refl
 all_below test (x ∷ xs) h = rw (h.0, all_below test xs h.1) refl
 
-no_repeated : (keys : List Key) → IsDistinct (λ key other. same_key other key) keys → has_repeated keys ≡ false
+no_repeated : (keys : List Key) → IsDistinct same_key keys → has_repeated_key keys ≡ false
 unfolding IsDistinct
 no_repeated [] h = refl
-no_repeated (key ∷ others) h = rw (all_below (λ other. same_key other key) others h.0, no_repeated others h.1) refl
+no_repeated (key ∷ others) h = rw (all_below (λ other. same_key other key) others (turned_back key others h.0), no_repeated others h.1) refl
 
 at_end : {X : Type 0} (test : X → Bool) (xs : List X) → AllByRecursion (λ x. test x ≡ false) xs → position_or_len test xs ≡ length xs
 at_end test [] h = refl
@@ -163,8 +169,8 @@ sane_passes tx most is =
     (passes _ _ _ (within (length tx.message.keys) (tx.message.header.required + tx.message.header.readonly_unsigned) is.groups)
     (passes _ _ _ (under tx.message.header.required tx.message.header.readonly_signed is.payer)
     (passes _ _ _ (no_bad_program tx.message.instructions (length tx.message.keys) is.programs)
-    (passes _ _ _ (no_bad_account tx.message.instructions (key_count_of tx.message) is.accounts)
-    (passes _ _ _ (within most (key_count_of tx.message) is.keys)
+    (passes _ _ _ (no_bad_account tx.message.instructions (key_count tx.message) is.accounts)
+    (passes _ _ _ (within most (key_count tx.message) is.keys)
     (passes _ _ _ (no_repeated tx.message.keys is.apart)
     (passes _ _ _ is.payer_free
     (no_empty tx.message.lookups is.lookups))))))))

@@ -22,8 +22,8 @@ use Rattle.message_codec.specs.declared.message.MessageKind.{MessageKind}
 use Rattle.message_codec.specs.declared.message.MessageKind.TheVariants.{Legacy, Zero}
 use Rattle.message_codec.specs.declared.message.Message.{Message}
 use Rattle.message_codec.specs.declared.message.Tx.{Tx}
-use Rattle.message_codec.specs.Wire.{array_bytes, signature_bytes, header_bytes, instruction_bytes, kind_bytes, lookups_bytes, message_bytes, message_name, tx_bytes, IsShort, HasShortLists, HasWidths, AllowsLookups, BeginsAsItsKind, Wire}
-use Rattle.message_codec.specs.WireReading.{Read, RoundTripLaw, is_memory, array_at, signature_at, instruction_at, lookup_at, kind_at, lookups_at, message_at, tx_at, wire_of}
+use Rattle.message_codec.specs.Wire.{array_bytes, signature_bytes, header_bytes, instruction_bytes, kind_bytes, lookups_bytes, message_bytes, message_name, tx_bytes, IsOneWire, IsCountable, HasShortLists, HasWidths, AllowsLookups, BeginsAsItsKind, Wire}
+use Rattle.message_codec.specs.WireReading.{Read, is_wire_memory, array_at, signature_at, instruction_at, lookup_at, kind_at, lookups_at, message_at, tx_at, wire_of}
 use Rattle.message_codec.proofs.PartLaws.{array_reads, signature_reads, InstructionFits, instruction_reads, LookupFits, lookup_reads, HeaderFits, header_reads}
 
 -- kinds
@@ -63,7 +63,7 @@ kind_takes total (byte ∷ bs) kind rest h =
 
 abbrev LookupsFit : MessageKind → List Lookup → Type 0
 LookupsFit Legacy lookups = lookups ≡ []
-LookupsFit Zero lookups = IsShort lookups × AllByRecursion LookupFits lookups
+LookupsFit Zero lookups = IsCountable lookups × AllByRecursion LookupFits lookups
 
 lookups_again : (total : ℕ) (kind : MessageKind) (lookups : List Lookup) (rest : List ℕ) → LookupsFit kind lookups → lookups_at kind total (lookups_bytes kind lookups ++ rest) ≡ Ok (lookups, rest)
 lookups_again total Legacy lookups rest h = ap (λ (l : List Lookup). Ok (l, rest)) (sym h)
@@ -82,9 +82,9 @@ lookups_reads total kind = record { again = lookups_again total kind; takes = lo
 pub record MessageFits (message : Message) : Type 0 where
   pub begins : BeginsAsItsKind message.kind message.header
   pub header : HeaderFits message.header
-  pub keys : IsShort message.keys × AllByRecursion IsKey message.keys
+  pub keys : IsCountable message.keys × AllByRecursion IsKey message.keys
   pub blockhash : IsHash message.blockhash
-  pub instructions : IsShort message.instructions × AllByRecursion InstructionFits message.instructions
+  pub instructions : IsCountable message.instructions × AllByRecursion InstructionFits message.instructions
   pub lookups : LookupsFit message.kind message.lookups
 
 -- a kind, and the header that its first byte is of
@@ -150,7 +150,7 @@ message_reads total = record { again = message_again total; takes = message_take
 -- transactions
 
 pub record TxFits (tx : Tx) : Type 0 where
-  pub signatures : IsShort tx.signatures × AllByRecursion (λ signature. length signature.0 ≡ 64) tx.signatures
+  pub signatures : IsCountable tx.signatures × AllByRecursion (λ signature. length signature.0 ≡ 64) tx.signatures
   pub message : MessageFits tx.message
 
 tx_again : (total : ℕ) (tx : Tx) (rest : List ℕ) → TxFits tx → tx_at total (tx_bytes tx ++ rest) ≡ Ok (tx, rest)
@@ -181,7 +181,7 @@ lookups_fit Legacy message none lists tables = none
 lookups_fit Zero message allows lists tables =
     (lists.lookups, recursion_from_All LookupFits message.lookups (λ k d lt. record { table = tables k d lt; writable = lists.writable k d lt; readonly = lists.readonly k d lt }))
 
-fits_reading : (tx : Tx) → BeginsAsItsKind tx.message.kind tx.message.header → AllowsLookups tx.message.kind tx.message.lookups → IsShort tx.signatures → HasShortLists tx.message → HasWidths tx → TxFits tx
+fits_reading : (tx : Tx) → BeginsAsItsKind tx.message.kind tx.message.header → AllowsLookups tx.message.kind tx.message.lookups → IsCountable tx.signatures → HasShortLists tx.message → HasWidths tx → TxFits tx
 fits_reading tx begins allows short lists widths = record {
   signatures = (short, recursion_from_All (λ signature. length signature.0 ≡ 64) tx.signatures widths.signatures);
   message = record {
@@ -204,7 +204,7 @@ allowed Zero lookups fits = tt
 
 -- what is said of each lookup that is read
 record EachLookup (lookups : List Lookup) : Type 0 where
-  short : IsShort lookups
+  short : IsCountable lookups
   each : All LookupFits lookups
 
 each_lookup : (kind : MessageKind) (lookups : List Lookup) → LookupsFit kind lookups → EachLookup lookups
@@ -282,12 +282,12 @@ wire_takes bytes tx are h =
     below : nat_lt 1232 (length bytes) ≡ false → length bytes ≤ 1232
     below e = grind (arith, nat_tests)
 
-pub is_found : (bytes : List ℕ) (result : Result Tx WireFault) → IsBytes bytes → Gives is_memory (λ v. v) result (wire_of bytes) → IfOk result (λ tx. Wire bytes tx)
+pub is_found : (bytes : List ℕ) (result : Result Tx WireFault) → IsBytes bytes → Gives is_wire_memory (λ v. v) result (wire_of bytes) → IfOk result (λ tx. Wire bytes tx)
 is_found bytes (Ok tx) are h = wire_takes bytes tx are h
 is_found bytes (Err e) are h = tt
 
-pub is_only : (bytes : List ℕ) (result : Result Tx WireFault) → Gives is_memory (λ v. v) result (wire_of bytes) → (tx : Tx) → Wire bytes tx → Gives is_memory (λ v. v) result (Ok tx)
-is_only bytes result h tx wire = subst (Gives is_memory (λ v. v) result) (wire_again bytes tx wire) h
+pub is_only : (bytes : List ℕ) (result : Result Tx WireFault) → Gives is_wire_memory (λ v. v) result (wire_of bytes) → (tx : Tx) → Wire bytes tx → Gives is_wire_memory (λ v. v) result (Ok tx)
+is_only bytes result h tx wire = subst (Gives is_wire_memory (λ v. v) result) (wire_again bytes tx wire) h
 
 -- what follows the signatures is the message's bytes
 pub signed_bytes : (total : ℕ) (bytes : List ℕ) (signatures : List Signature) (signed : List ℕ) (message : Message) (rest : List ℕ) → IsBytes bytes
@@ -301,15 +301,15 @@ signed_bytes total bytes signatures signed message rest are first second none =
     is_empty [] e = refl
     is_empty (b ∷ bs) e = absurd (grind (arith, nat_tests))
 
-pub round_trips : RoundTripLaw
-round_trips tx short begins allows signatures lists widths = wire_again (tx_bytes tx) tx (record {
-  short = short;
+pub round_trips : (tx : Tx) → IsOneWire tx → wire_of (tx_bytes tx) ≡ Ok tx
+round_trips tx is = wire_again (tx_bytes tx) tx (record {
+  short = is.short;
   spelled = refl;
-  begins = begins;
-  allows = allows;
-  signatures = signatures;
-  lists = lists;
-  widths = widths;
+  begins = is.begins;
+  allows = is.allows;
+  signatures = is.signatures;
+  lists = is.lists;
+  widths = is.widths;
 })
 
 pub named : (name : Hash32) (message : Message) (bytes : List ℕ) → name.0 ≡ sha256 bytes → bytes ≡ message_bytes message → name ≡ message_name message

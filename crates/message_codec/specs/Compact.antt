@@ -24,10 +24,6 @@ AreDigits [] = ⊥
 AreDigits (digit ∷ []) = digit < 128
 AreDigits (digit ∷ next ∷ digits) = (128 ≤ digit) × (digit < 256) × AreLaterDigits (next ∷ digits)
 
--- the digits of a number are one list, and it is this one
-abbrev pub CompactLaw : Type 0
-CompactLaw = (v : ℕ) (bytes : List ℕ) → v ≤ 65535 → (bytes ≡ compact v) ↔ (AreDigits bytes × (digits_value bytes ≡ v))
-
 -- begins with the spelling of a length
 abbrev pub BeginsWithLength : List ℕ → Type 0
 BeginsWithLength bytes = (v : ℕ) × (rest : List ℕ) × (v ≤ 65535) × (bytes ≡ compact v ++ rest)

@@ -5,7 +5,7 @@ use Rattle.message_codec.specs.declared.message.Tx.{Tx}
 use Rattle.message_codec.specs.declared.parsed.Parsed.{Parsed}
 use Rattle.message_codec.specs.declared.parsed.Parsed.TheVariants.{Good, Bad}
 use Rattle.message_codec.specs.Wire.{Wire, message_name}
-use Rattle.message_codec.specs.WireReading.{is_memory, wire_of}
+use Rattle.message_codec.specs.WireReading.{is_wire_memory, wire_of}
 
 -- the transaction with the name of its message, or the first refusal
 abbrev pub parsed_by : Result Tx WireFault → Parsed
@@ -18,4 +18,4 @@ parsed_of bytes = parsed_by (wire_of bytes)
 -- it is so, and a refusal is of the bytes
 abbrev pub IsParsed : List ℕ → Parsed → Type 0
 IsParsed bytes (Good tx name) = Wire bytes tx × (name ≡ message_name tx.message)
-IsParsed bytes (Bad fault) = (wire_of bytes ≡ Err fault) × (is_memory fault ≡ false)
+IsParsed bytes (Bad fault) = (wire_of bytes ≡ Err fault) × (is_wire_memory fault ≡ false)

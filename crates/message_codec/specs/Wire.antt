@@ -55,19 +55,19 @@ tx_bytes tx = array_bytes signature_bytes tx.signatures ++ message_bytes tx.mess
 abbrev pub message_name : Message → Hash32
 message_name message = record { 0 = sha256 (message_bytes message) }
 
--- what a compact length can count
-abbrev pub IsShort : {X : Type 0} → List X → Type 0
-IsShort items = length items ≤ 65535
+-- no more than a compact length can count
+abbrev pub IsCountable : {X : Type 0} → List X → Type 0
+IsCountable items = length items ≤ 65535
 
 -- each list of the message is such
 pub record HasShortLists (message : Message) : Type 0 where
-  pub keys : IsShort message.keys
-  pub instructions : IsShort message.instructions
-  pub accounts : All (λ instruction. IsShort instruction.accounts) message.instructions
-  pub inputs : All (λ instruction. IsShort instruction.input) message.instructions
-  pub lookups : IsShort message.lookups
-  pub writable : All (λ lookup. IsShort lookup.writable) message.lookups
-  pub readonly : All (λ lookup. IsShort lookup.readonly) message.lookups
+  pub keys : IsCountable message.keys
+  pub instructions : IsCountable message.instructions
+  pub accounts : All (λ instruction. IsCountable instruction.accounts) message.instructions
+  pub inputs : All (λ instruction. IsCountable instruction.input) message.instructions
+  pub lookups : IsCountable message.lookups
+  pub writable : All (λ lookup. IsCountable lookup.writable) message.lookups
+  pub readonly : All (λ lookup. IsCountable lookup.readonly) message.lookups
 
 -- what the types of the fields say of every value
 pub record HasWidths (tx : Tx) : Type 0 where
@@ -96,6 +96,15 @@ pub record Wire (bytes : List ℕ) (tx : Tx) : Type 0 where
   pub spelled : bytes ≡ tx_bytes tx
   pub begins : BeginsAsItsKind tx.message.kind tx.message.header
   pub allows : AllowsLookups tx.message.kind tx.message.lookups
-  pub signatures : IsShort tx.signatures
+  pub signatures : IsCountable tx.signatures
+  pub lists : HasShortLists tx.message
+  pub widths : HasWidths tx
+
+-- a transaction whose bytes are a wire
+pub record IsOneWire (tx : Tx) : Type 0 where
+  pub short : length (tx_bytes tx) ≤ 1232
+  pub begins : BeginsAsItsKind tx.message.kind tx.message.header
+  pub allows : AllowsLookups tx.message.kind tx.message.lookups
+  pub signatures : IsCountable tx.signatures
   pub lists : HasShortLists tx.message
   pub widths : HasWidths tx

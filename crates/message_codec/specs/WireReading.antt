@@ -1,6 +1,5 @@
 -- Reading a transaction from left to right, with the first refusal that is met.
-use Rattle.std.specs.Prelude.{◌≡◌, ◌↔◌, ◌≤◌, ◌++◌, ℕ, ◌+◌, ◌-◌, ◌*◌, List, [], ◌∷◌, length, Result, Ok, Err, Bool, true, false, nat_lt, nat_eq, ◌||◌, slice_index, if◌then◌else◌}
-use Rattle.spec_base.specs.Bytes.{IsBytes}
+use Rattle.std.specs.Prelude.{ℕ, ◌+◌, ◌-◌, ◌*◌, ◌==◌, List, [], ◌∷◌, length, Result, Ok, Err, Bool, true, false, nat_lt, ◌||◌, slice_index, if◌then◌else◌}
 use Rattle.spec_base.specs.Reading.{◌>>=◌, place, field_at, byte_at, read_as, many, whole}
 use Rattle.sol_base.specs.Keys.{key_at, hash_at}
 use Rattle.message_codec.specs.declared.fault.WireFault.{WireFault}
@@ -13,16 +12,14 @@ use Rattle.message_codec.specs.declared.message.MessageKind.TheVariants.{Legacy,
 use Rattle.message_codec.specs.declared.message.Lookup.{Lookup}
 use Rattle.message_codec.specs.declared.message.Message.{Message}
 use Rattle.message_codec.specs.declared.message.Tx.{Tx}
-use Rattle.message_codec.specs.Compact.{compact, BeginsWithLength, IsCutLength}
-use Rattle.message_codec.specs.Wire.{IsShort, HasShortLists, HasWidths, BeginsAsItsKind, AllowsLookups, tx_bytes}
 
-abbrev pub is_memory : WireFault → Bool
-is_memory TooLong = false
-is_memory (Truncated _) = false
-is_memory (BadLength _) = false
-is_memory (Version _) = false
-is_memory (Trailing _) = false
-is_memory OutOfMemory = true
+abbrev pub is_wire_memory : WireFault → Bool
+is_wire_memory TooLong = false
+is_wire_memory (Truncated _) = false
+is_wire_memory (BadLength _) = false
+is_wire_memory (Version _) = false
+is_wire_memory (Trailing _) = false
+is_wire_memory OutOfMemory = true
 
 -- what the wire holds at the front of the bytes that are left
 abbrev pub Read : Type 0 → Type 0
@@ -31,13 +28,13 @@ Read X = Result (X × List ℕ) WireFault
 -- the third byte of a compact length, after the digits that were read
 abbrev pub third_at : ℕ → ℕ → List ℕ → Read ℕ
 third_at at low [] = Err (Truncated at)
-third_at at low (c ∷ rest) = if nat_eq c 0 || nat_lt 3 c then Err (BadLength at) else Ok (low + 16384 * c, rest)
+third_at at low (c ∷ rest) = if c == 0 || nat_lt 3 c then Err (BadLength at) else Ok (low + 16384 * c, rest)
 
 -- the second
 abbrev pub second_at : ℕ → ℕ → List ℕ → Read ℕ
 second_at at low [] = Err (Truncated at)
 second_at at low (b ∷ rest) =
-    if nat_lt b 128 then (if nat_eq b 0 then Err (BadLength at) else Ok (low + 128 * b, rest)) else
+    if nat_lt b 128 then (if b == 0 then Err (BadLength at) else Ok (low + 128 * b, rest)) else
     third_at at (low + 128 * (b - 128)) rest
 
 abbrev pub first_at : ℕ → List ℕ → Read ℕ
@@ -88,7 +85,7 @@ abbrev pub kind_at : ℕ → List ℕ → Read MessageKind
 kind_at total [] = Err (Truncated (place total []))
 kind_at total (byte ∷ rest) =
     if nat_lt byte 128 then Ok (Legacy, byte ∷ rest) else
-    if nat_eq byte 128 then Ok (Zero, rest) else
+    if byte == 128 then Ok (Zero, rest) else
     Err (Version byte)
 
 -- only a version 0 message has lookups
@@ -118,20 +115,3 @@ wire_of bytes =
     if nat_lt 1232 (length bytes) then Err TooLong else do
       tx ← tx_at (length bytes) bytes
       whole Trailing (length bytes) tx
-
--- Which answer comes of a compact length: the value where the bytes begin with its spelling, cut short where they
--- are a proper prefix of some spelling, and else a bad length.
-pub record AnswersLength (total : ℕ) (bytes : List ℕ) : Type 0 where
-  pub value : (v : ℕ) (rest : List ℕ) → (compact_at total bytes ≡ Ok (v, rest)) ↔ ((v ≤ 65535) × (bytes ≡ compact v ++ rest))
-  pub cut : (compact_at total bytes ≡ Err (Truncated (place total bytes))) ↔ IsCutLength bytes
-  pub bad : (compact_at total bytes ≡ Err (BadLength (place total bytes))) ↔ ((¬ BeginsWithLength bytes) × (¬ IsCutLength bytes))
-
-abbrev pub LengthLaw : Type 0
-LengthLaw = (total : ℕ) (bytes : List ℕ) → IsBytes bytes → AnswersLength total bytes
-
--- what is written is read again, where it is short enough and of its kind
-abbrev pub RoundTripLaw : Type 0
-RoundTripLaw = (tx : Tx) → length (tx_bytes tx) ≤ 1232
-    → BeginsAsItsKind tx.message.kind tx.message.header → AllowsLookups tx.message.kind tx.message.lookups
-    → IsShort tx.signatures → HasShortLists tx.message → HasWidths tx
-    → wire_of (tx_bytes tx) ≡ Ok tx

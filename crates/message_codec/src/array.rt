@@ -1,8 +1,8 @@
 //! Compact arrays (Solana): a compact length, and then so many items.
 ghost use Rattle.std.specs.Prelude.{◌≡◌, ◌≤◌, ◌++◌, length, All, OnOk};
 ghost use Rattle.spec_base.specs.Reading.{Gives, many};
-ghost use Rattle.message_codec.specs.Wire.{IsShort, array_bytes, blob_bytes};
-ghost use Rattle.message_codec.specs.WireReading.{is_memory, array_at, blob_at};
+ghost use Rattle.message_codec.specs.Wire.{IsCountable, array_bytes, blob_bytes};
+ghost use Rattle.message_codec.specs.WireReading.{is_wire_memory, array_at, blob_at};
 
 use crate::compact::{read_length, write_length};
 use crate::fault::WireFault;
@@ -25,7 +25,7 @@ pub(crate) trait Item: Sized + Drop {
     ghost CanSpell: { Self → Type 0 };
 
     fn read(alloc: Global, total: usize, bytes: &[u8]) -> Result<(Self, &[u8]), WireFault>
-        ensures { Gives is_memory (λ x. (x.0, x.1.now)) result (item_at total bytes.now) };
+        ensures { Gives is_wire_memory (λ x. (x.0, x.1.now)) result (item_at total bytes.now) };
 
     fn write(&self, out: &mut Blob) -> Result<(), OutOfMemory>
         requires { CanSpell self.now }
@@ -39,7 +39,7 @@ pub(crate) fn read_array<T: Item>(
     total: usize,
     bytes: &[u8],
 ) -> Result<(Items<T>, &[u8]), WireFault>
-    ensures { Gives is_memory (λ x. (x.0, x.1.now)) result (array_at T.item_at total bytes.now) }
+    ensures { Gives is_wire_memory (λ x. (x.0, x.1.now)) result (array_at T.item_at total bytes.now) }
 {
     let (count, rest) = read_length(total, bytes)?;
     read_items(alloc, total, count, rest)
@@ -51,7 +51,7 @@ fn read_items<T: Item>(
     count: usize,
     bytes: &[u8],
 ) -> Result<(Items<T>, &[u8]), WireFault>
-    ensures { Gives is_memory (λ x. (x.0, x.1.now)) result (many (T.item_at total) count bytes.now) }
+    ensures { Gives is_wire_memory (λ x. (x.0, x.1.now)) result (many (T.item_at total) count bytes.now) }
 {
     let mut items = Items::with_capacity(alloc, count.min(bytes.len()))?;
     let mut rest = bytes;
@@ -70,7 +70,7 @@ pub(crate) fn read_blob(
     total: usize,
     bytes: &[u8],
 ) -> Result<(Blob, &[u8]), WireFault>
-    ensures { Gives is_memory (λ x. (x.0, x.1.now)) result (blob_at total bytes.now) }
+    ensures { Gives is_wire_memory (λ x. (x.0, x.1.now)) result (blob_at total bytes.now) }
 {
     let (count, rest) = read_length(total, bytes)?;
     let (field, rest) = bytes_field::<WireFault>(total, count, rest)?;
@@ -79,7 +79,7 @@ pub(crate) fn read_blob(
 
 /// Adds the array to the bytes.
 pub(crate) fn write_array<T: Item>(out: &mut Blob, items: &Items<T>) -> Result<(), OutOfMemory>
-    requires short { IsShort items.now }
+    requires short { IsCountable items.now }
     requires spelled { All T.CanSpell items.now }
     ensures { OnOk result (out.new ≡ out.old ++ array_bytes T.item_bytes items.now) }
 {
@@ -93,7 +93,7 @@ pub(crate) fn write_array<T: Item>(out: &mut Blob, items: &Items<T>) -> Result<(
 
 /// Adds the compact array of bytes to the bytes.
 pub(crate) fn write_blob(out: &mut Blob, bytes: &Blob) -> Result<(), OutOfMemory>
-    requires { IsShort bytes.now }
+    requires { IsCountable bytes.now }
     ensures { OnOk result (out.new ≡ out.old ++ blob_bytes bytes.now) }
 {
     let bytes = bytes.as_slice();

@@ -2,7 +2,7 @@
 ghost use Rattle.std.specs.Prelude.{◌≡◌, ◌+◌, ◌<◌, ◌≤◌, ◌++◌, OnOk, IfOk};
 ghost use Rattle.spec_base.specs.Reading.{Gives};
 ghost use Rattle.message_codec.specs.Compact.{compact};
-ghost use Rattle.message_codec.specs.WireReading.{is_memory, compact_at, second_at, third_at};
+ghost use Rattle.message_codec.specs.WireReading.{is_wire_memory, compact_at, second_at, third_at};
 
 use crate::fault::WireFault;
 use sol_base::{Blob, OutOfMemory};
@@ -11,7 +11,7 @@ use sol_base::{Blob, OutOfMemory};
 /// text.
 #[tactic(auto, unfolding(crate::specs::WireReading::compact_at))]
 pub(crate) fn read_length(total: usize, bytes: &[u8]) -> Result<(usize, &[u8]), WireFault>
-    ensures { Gives is_memory (λ x. (x.0, x.1.now)) result (compact_at total bytes.now) }
+    ensures { Gives is_wire_memory (λ x. (x.0, x.1.now)) result (compact_at total bytes.now) }
 {
     let at = total.saturating_sub(bytes.len());
     match bytes {
@@ -23,7 +23,7 @@ pub(crate) fn read_length(total: usize, bytes: &[u8]) -> Result<(usize, &[u8]), 
 
 fn second_digit(at: usize, low: usize, bytes: &[u8]) -> Result<(usize, &[u8]), WireFault>
     requires { low < 128 }
-    ensures { Gives is_memory (λ x. (x.0, x.1.now)) result (second_at at low bytes.now) }
+    ensures { Gives is_wire_memory (λ x. (x.0, x.1.now)) result (second_at at low bytes.now) }
 {
     match bytes {
         [] => Err(WireFault::Truncated { at }),
@@ -35,7 +35,7 @@ fn second_digit(at: usize, low: usize, bytes: &[u8]) -> Result<(usize, &[u8]), W
 
 fn third_digit(at: usize, low: usize, bytes: &[u8]) -> Result<(usize, &[u8]), WireFault>
     requires { low < 16384 }
-    ensures { Gives is_memory (λ x. (x.0, x.1.now)) result (third_at at low bytes.now) }
+    ensures { Gives is_wire_memory (λ x. (x.0, x.1.now)) result (third_at at low bytes.now) }
 {
     match bytes {
         [] => Err(WireFault::Truncated { at }),

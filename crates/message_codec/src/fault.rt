@@ -33,7 +33,7 @@ impl From<OutOfMemory> for WireFault {
 }
 
 impl Refusal for WireFault {
-    ghost use Rattle.message_codec.specs.WireReading.{is_memory as is_wire_memory};
+    ghost use Rattle.message_codec.specs.WireReading.{is_wire_memory};
     ghost use Rattle.message_codec.specs.declared.fault.WireFault.TheVariants.{Truncated};
 
     ghost cut_at = { Truncated };

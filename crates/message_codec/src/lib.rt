@@ -15,7 +15,11 @@ mod sanity;
 mod writing;
 
 pub use fault::{SanitizeFault, WireFault};
-pub use laws::{compact_law, length_law, round_trip_law};
+pub use laws::{
+    lengths_are_read_or_cut_or_bad, lengths_have_one_spelling, locks_stand_beside_the_keys,
+    sane_payers_sign_and_are_writable, sane_transactions_name_their_keys,
+    wires_are_read_as_they_are_spelled, written_wires_are_read_again,
+};
 pub use message::{Header, Instruction, Loaded, Lookup, Message, MessageKind, Signature, Tx};
 pub use parsed::{Parsed, parse};
 pub use reading::{MAX_WIRE_LEN, read_wire};

@@ -1,7 +1,7 @@
 //! What the arrays of a wire hold: signatures, keys, instructions and lookups (Solana).
 ghost use Rattle.std.specs.Prelude.{◌≡◌, ◌++◌, OnOk};
 ghost use Rattle.spec_base.specs.Reading.{Gives};
-ghost use Rattle.message_codec.specs.WireReading.{is_memory};
+ghost use Rattle.message_codec.specs.WireReading.{is_wire_memory};
 
 use crate::array::{Item, read_blob, write_blob};
 use crate::fault::WireFault;
@@ -51,14 +51,14 @@ impl Item for Key {
 }
 
 impl Item for Instruction {
-    ghost use Rattle.message_codec.specs.Wire.{instruction_bytes, IsShort};
+    ghost use Rattle.message_codec.specs.Wire.{instruction_bytes, IsCountable};
     ghost use Rattle.message_codec.specs.WireReading.{instruction_at};
 
     ghost item_at = { instruction_at };
 
     ghost item_bytes = { instruction_bytes };
 
-    ghost CanSpell = { λ instruction. IsShort instruction.accounts × IsShort instruction.input };
+    ghost CanSpell = { λ instruction. IsCountable instruction.accounts × IsCountable instruction.input };
 
     #[tactic(auto, unfolding(crate::specs::WireReading::instruction_at))]
     fn read(alloc: Global, total: usize, bytes: &[u8]) -> Result<(Instruction, &[u8]), WireFault> {
@@ -81,14 +81,14 @@ impl Item for Instruction {
 }
 
 impl Item for Lookup {
-    ghost use Rattle.message_codec.specs.Wire.{lookup_bytes, IsShort};
+    ghost use Rattle.message_codec.specs.Wire.{lookup_bytes, IsCountable};
     ghost use Rattle.message_codec.specs.WireReading.{lookup_at};
 
     ghost item_at = { lookup_at };
 
     ghost item_bytes = { lookup_bytes };
 
-    ghost CanSpell = { λ lookup. IsShort lookup.writable × IsShort lookup.readonly };
+    ghost CanSpell = { λ lookup. IsCountable lookup.writable × IsCountable lookup.readonly };
 
     #[tactic(auto, unfolding(crate::specs::WireReading::lookup_at))]
     fn read(alloc: Global, total: usize, bytes: &[u8]) -> Result<(Lookup, &[u8]), WireFault> {

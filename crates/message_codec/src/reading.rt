@@ -2,7 +2,7 @@ ghost use Rattle.std.specs.Prelude.{◌≡◌, List, IfOk, Ok};
 ghost use Rattle.spec_base.specs.Reading.{Gives};
 ghost use Rattle.message_codec.specs.Wire.{Wire, message_bytes};
 ghost use Rattle.message_codec.specs.declared.message.Tx.{Tx};
-ghost use Rattle.message_codec.specs.WireReading.{is_memory, header_at, kind_at, lookups_at, message_at, wire_of};
+ghost use Rattle.message_codec.specs.WireReading.{is_wire_memory, header_at, kind_at, lookups_at, message_at, wire_of};
 
 use crate::array::read_array;
 use crate::fault::WireFault;
@@ -16,7 +16,7 @@ pub const MAX_WIRE_LEN: usize = 1232;
 
 /// A message's kind, by its first byte, and the bytes from its header on.
 fn read_kind(total: usize, bytes: &[u8]) -> Result<(MessageKind, &[u8]), WireFault>
-    ensures { Gives is_memory (λ x. (x.0, x.1.now)) result (kind_at total bytes.now) }
+    ensures { Gives is_wire_memory (λ x. (x.0, x.1.now)) result (kind_at total bytes.now) }
 {
     match bytes {
         [] => Err(WireFault::Truncated { at: total }),
@@ -29,7 +29,7 @@ fn read_kind(total: usize, bytes: &[u8]) -> Result<(MessageKind, &[u8]), WireFau
 /// The three header bytes, one field.
 #[tactic(auto, unfolding(crate::specs::WireReading::header_at))]
 fn read_header(total: usize, bytes: &[u8]) -> Result<(Header, &[u8]), WireFault>
-    ensures { Gives is_memory (λ x. (x.0, x.1.now)) result (header_at total bytes.now) }
+    ensures { Gives is_wire_memory (λ x. (x.0, x.1.now)) result (header_at total bytes.now) }
 {
     let (field, rest) = array_field::<WireFault, 3>(total, bytes)?;
     let header = Header {
@@ -46,7 +46,7 @@ fn read_lookups(
     total: usize,
     bytes: &[u8],
 ) -> Result<(Items<Lookup>, &[u8]), WireFault>
-    ensures { Gives is_memory (λ x. (x.0, x.1.now)) result (lookups_at kind total bytes.now) }
+    ensures { Gives is_wire_memory (λ x. (x.0, x.1.now)) result (lookups_at kind total bytes.now) }
 {
     match kind {
         MessageKind::Legacy => Ok((Items::new(alloc), bytes)),
@@ -56,7 +56,7 @@ fn read_lookups(
 
 #[tactic(auto, unfolding(crate::specs::WireReading::message_at))]
 fn read_message(alloc: Global, total: usize, bytes: &[u8]) -> Result<(Message, &[u8]), WireFault>
-    ensures { Gives is_memory (λ x. (x.0, x.1.now)) result (message_at total bytes.now) }
+    ensures { Gives is_wire_memory (λ x. (x.0, x.1.now)) result (message_at total bytes.now) }
 {
     let (kind, rest) = read_kind(total, bytes)?;
     let (header, rest) = read_header(total, rest)?;
@@ -78,7 +78,7 @@ fn read_message(alloc: Global, total: usize, bytes: &[u8]) -> Result<(Message, &
 /// The transaction that the bytes are, and the bytes of its message.
 #[tactic(auto, unfolding(crate::specs::WireReading::wire_of, crate::specs::WireReading::tx_at))]
 pub(crate) fn read_signed(alloc: Global, bytes: &[u8]) -> Result<(Tx, &[u8]), WireFault>
-    ensures gives { Gives is_memory (λ x. x.0) result (wire_of bytes.now) }
+    ensures gives { Gives is_wire_memory (λ x. x.0) result (wire_of bytes.now) }
     ensures message { IfOk result (λ x. x.1.now ≡ message_bytes x.0.message) }
 {
     let total = bytes.len();
@@ -106,15 +106,15 @@ pub fn read_wire(alloc: Global, bytes: &[u8]) -> Result<Tx, WireFault>
     // What is read is spelled so.
     ensures found { IfOk result (λ tx. Wire bytes.now tx) }
     // What is spelled so is read, unless memory runs out.
-    ensures only { (tx : Tx) → Wire bytes.now tx → Gives is_memory (λ v. v) result (Ok tx) }
+    ensures only { (tx : Tx) → Wire bytes.now tx → Gives is_wire_memory (λ v. v) result (Ok tx) }
     // Which refusal it is.
-    ensures exact { Gives is_memory (λ v. v) result (wire_of bytes.now) }
+    ensures exact { Gives is_wire_memory (λ v. v) result (wire_of bytes.now) }
 {
     read_whole(alloc, bytes)
 }
 
 fn read_whole(alloc: Global, bytes: &[u8]) -> Result<Tx, WireFault>
-    ensures { Gives is_memory (λ v. v) result (wire_of bytes.now) }
+    ensures { Gives is_wire_memory (λ v. v) result (wire_of bytes.now) }
 {
     let (tx, _message) = read_signed(alloc, bytes)?;
     Ok(tx)

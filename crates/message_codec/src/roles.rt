@@ -1,7 +1,7 @@
 ghost use Rattle.std.specs.Prelude.{◌≡◌, ◌↔◌, ◌+◌, ◌^◌, ◌++◌, ℕ, false, length, map, IsTrue, Contains, IfOk, OnOk, slice_get, ◌||◌, ◌<◌};
 ghost use Rattle.std.specs.List.{slice_index_or, enumerate_from};
 ghost use Rattle.std.specs.Option.{option_copied};
-ghost use Rattle.message_codec.specs.Roles.{is_reserved, reserved_keys, all_keys, signs, is_program, is_writable_static, is_writable_loaded, writes, lock_at, locks_of};
+ghost use Rattle.message_codec.specs.Roles.{is_reserved, reserved_keys, all_keys, is_signer_at, is_program, is_writable_static, has_writable_place, may_write, is_writable_at, lock_of, locks_of};
 
 use crate::message::{Header, Instruction, Loaded, Message};
 use sol_base::{
@@ -24,7 +24,7 @@ pub fn reserved(key: &Key) -> bool
 
 /// Whether the key at this place signs the message (Solana).
 pub fn is_signer(message: &Message, index: u8) -> bool
-    ensures { result ≡ signs message.now index }
+    ensures { result ≡ is_signer_at message.now index }
 {
     index < message.header.required
 }
@@ -33,16 +33,25 @@ pub fn is_signer(message: &Message, index: u8) -> bool
 /// then the loaded ones (Solana; that programs and reserved keys are never writable in this width is
 /// the project's own).
 pub fn is_writable(message: &Message, loaded: &Loaded, index: u8) -> bool
-    ensures { result ≡ writes message.now loaded.now index }
+    ensures { result ≡ is_writable_at message.now loaded.now index }
 {
-    match key_at(message, loaded, usize::from(index)) {
+    let place = usize::from(index);
+    match key_at(message, loaded, place) {
         None => false,
         Some(key) => {
-            has_writable_place(message, loaded, usize::from(index))
-                && !names_program(message.instructions.as_slice(), index)
-                && !reserved(key)
+            let program = is_program(message.instructions.as_slice(), index);
+            may_write(message, loaded, place, key, program)
         }
     }
+}
+
+/// The rule of writability: whether the place of a key allows it, and the key is neither a program
+/// nor reserved.
+fn may_write(message: &Message, loaded: &Loaded, place: usize, key: &Key, program: bool) -> bool
+    requires { program ≡ is_program message.now.instructions place }
+    ensures { result ≡ may_write message.now loaded.now place key.now }
+{
+    has_writable_place(message, loaded, place) && !program && !reserved(key)
 }
 
 /// The key at a place among all keys.
@@ -63,28 +72,28 @@ fn key_at<'a>(message: &'a Message, loaded: &'a Loaded, place: usize) -> Option<
 }
 
 fn has_writable_place(message: &Message, loaded: &Loaded, place: usize) -> bool
-    ensures { result ≡ (is_writable_static message.now.header (length message.now.keys) place || is_writable_loaded (length message.now.keys) (length loaded.now.writable) place) }
+    ensures { result ≡ has_writable_place message.now loaded.now place }
 {
-    let keys = message.keys.len();
-    if place < keys {
-        has_static_place(message.header, keys, place)
+    let key_count = message.keys.len();
+    if place < key_count {
+        is_writable_static(message.header, key_count, place)
     } else {
-        place - keys < loaded.writable.len()
+        place - key_count < loaded.writable.len()
     }
 }
 
-fn has_static_place(header: Header, keys: usize, place: usize) -> bool
-    requires { place < keys }
-    ensures { result ≡ is_writable_static header keys place }
+fn is_writable_static(header: Header, key_count: usize, place: usize) -> bool
+    requires { place < key_count }
+    ensures { result ≡ is_writable_static header key_count place }
 {
     let required = usize::from(header.required);
     let readonly_signed = usize::from(header.readonly_signed);
     let readonly_unsigned = usize::from(header.readonly_unsigned);
     place < required.saturating_sub(readonly_signed)
-        || required <= place && place < keys.saturating_sub(readonly_unsigned)
+        || required <= place && place < key_count.saturating_sub(readonly_unsigned)
 }
 
-fn names_program(instructions: &[Instruction], index: u8) -> bool
+fn is_program(instructions: &[Instruction], index: u8) -> bool
     ensures { result ≡ is_program instructions.now index }
 {
     instructions
@@ -158,7 +167,7 @@ fn push_locks(
 ) -> Result<(), OutOfMemory>
     requires room { first + length keys.now < 2 ^ 64 }
     requires marked { (i : ℕ) → slice_index_or programs.now i false ≡ is_program message.now.instructions i }
-    ensures { OnOk result (locks.new ≡ locks.old ++ map (lock_at message.now loaded.now) (enumerate_from first keys.now)) }
+    ensures { OnOk result (locks.new ≡ locks.old ++ map (lock_of message.now loaded.now) (enumerate_from first keys.now)) }
 {
     for (offset, key) in keys.iter().enumerate() {
         locks.push(lock_of(message, loaded, programs, first + offset, key))?;
@@ -174,12 +183,12 @@ fn lock_of(
     key: &Key,
 ) -> Lock
     requires { (i : ℕ) → slice_index_or programs.now i false ≡ is_program message.now.instructions i }
-    ensures { result ≡ lock_at message.now loaded.now (place, key.now) }
+    ensures { result ≡ lock_of message.now loaded.now (place, key.now) }
 {
-    let write = has_writable_place(message, loaded, place)
-        && !is_marked(programs, place)
-        && !reserved(key);
-    Lock { key: *key, write }
+    Lock {
+        key: *key,
+        write: may_write(message, loaded, place, key, is_marked(programs, place)),
+    }
 }
 
 /// The places that an instruction names as its program.

@@ -1,7 +1,7 @@
 ghost use Rattle.std.specs.Prelude.{◌≡◌, ◌+◌, ◌≤◌, length, nat_le, IsOk, ◌↔◌};
 ghost use Rattle.std.specs.List.{list_any};
 ghost use Rattle.message_codec.specs.Wire.{HasShortLists};
-ghost use Rattle.message_codec.specs.Roles.{sanitized, IsSane, key_count_of, load_count, has_bad_program, has_bad_account, has_repeated, has_reserved_payer, empty_lookup, loads_none, lookups_sanitized};
+ghost use Rattle.message_codec.specs.Roles.{sanitized, IsSane, key_count, load_count, has_bad_program, has_bad_account, has_repeated_key, has_reserved_payer, empty_lookup, loads_none, lookups_sanitized};
 
 use crate::fault::SanitizeFault;
 use crate::message::{Header, Instruction, Lookup, Message, Tx};
@@ -41,10 +41,10 @@ fn first_fault(tx: &Tx, most: u16) -> Result<(), SanitizeFault>
     if readonly_signed >= required {
         return Err(SanitizeFault::NoWritablePayer);
     }
-    if has_wrong_program(instructions, keys.len()) {
+    if has_bad_program(instructions, keys.len()) {
         return Err(SanitizeFault::ProgramIndex);
     }
-    if has_wrong_account(instructions, count) {
+    if has_bad_account(instructions, count) {
         return Err(SanitizeFault::AccountIndex);
     }
     if count > usize::from(most) {
@@ -53,7 +53,7 @@ fn first_fault(tx: &Tx, most: u16) -> Result<(), SanitizeFault>
     if has_repeated_key(keys) {
         return Err(SanitizeFault::RepeatedKey);
     }
-    if has_reserved_first(keys) {
+    if has_reserved_payer(keys) {
         return Err(SanitizeFault::PayerReserved);
     }
     check_lookups(tx.message.lookups.as_slice())
@@ -63,7 +63,7 @@ fn check_lookups(lookups: &[Lookup]) -> Result<(), SanitizeFault>
     requires { length lookups.now ≤ 65535 }
     ensures { result ≡ lookups_sanitized (empty_lookup lookups.now) }
 {
-    match first_empty(lookups) {
+    match empty_lookup(lookups) {
         None => Ok(()),
         Some(lookup) => Err(SanitizeFault::EmptyLookup {
             lookup: lookup as u16,
@@ -74,7 +74,7 @@ fn check_lookups(lookups: &[Lookup]) -> Result<(), SanitizeFault>
 /// How many keys the message has, those that its lookups load among them.
 fn key_count(message: &Message) -> usize
     requires { HasShortLists message.now }
-    ensures { result ≡ key_count_of message.now }
+    ensures { result ≡ key_count message.now }
 {
     let mut count = message.keys.len();
     for lookup in message.lookups.as_slice() {
@@ -83,27 +83,27 @@ fn key_count(message: &Message) -> usize
     count
 }
 
-fn has_wrong_program(instructions: &[Instruction], keys: usize) -> bool
-    ensures { result ≡ has_bad_program instructions.now keys }
+fn has_bad_program(instructions: &[Instruction], key_count: usize) -> bool
+    ensures { result ≡ has_bad_program instructions.now key_count }
 {
     instructions.iter().any(|instruction| instruction.program == 0
-        || usize::from(instruction.program) >= keys)
+        || usize::from(instruction.program) >= key_count)
 }
 
-fn has_wrong_account(instructions: &[Instruction], keys: usize) -> bool
-    ensures { result ≡ has_bad_account instructions.now keys }
+fn has_bad_account(instructions: &[Instruction], key_count: usize) -> bool
+    ensures { result ≡ has_bad_account instructions.now key_count }
 {
-    instructions.iter().any(|instruction| has_index_from(instruction.accounts.as_slice(), keys))
+    instructions.iter().any(|instruction| has_index_from(instruction.accounts.as_slice(), key_count))
 }
 
-fn has_index_from(indexes: &[u8], keys: usize) -> bool
-    ensures { result ≡ list_any (λ index. nat_le keys index) indexes.now }
+fn has_index_from(indexes: &[u8], key_count: usize) -> bool
+    ensures { result ≡ list_any (λ index. nat_le key_count index) indexes.now }
 {
-    indexes.iter().any(|index| usize::from(*index) >= keys)
+    indexes.iter().any(|index| usize::from(*index) >= key_count)
 }
 
 fn has_repeated_key(keys: &[Key]) -> bool
-    ensures { result ≡ has_repeated keys.now }
+    ensures { result ≡ has_repeated_key keys.now }
 {
     let mut others = keys;
     while let [key, after @ ..] = others {
@@ -115,7 +115,7 @@ fn has_repeated_key(keys: &[Key]) -> bool
     false
 }
 
-fn has_reserved_first(keys: &[Key]) -> bool
+fn has_reserved_payer(keys: &[Key]) -> bool
     ensures { result ≡ has_reserved_payer keys.now }
 {
     match keys {
@@ -124,13 +124,13 @@ fn has_reserved_first(keys: &[Key]) -> bool
     }
 }
 
-fn first_empty(lookups: &[Lookup]) -> Option<usize>
+fn empty_lookup(lookups: &[Lookup]) -> Option<usize>
     ensures { result ≡ empty_lookup lookups.now }
 {
-    lookups.iter().position(loads_no_key)
+    lookups.iter().position(loads_none)
 }
 
-fn loads_no_key(lookup: &Lookup) -> bool
+fn loads_none(lookup: &Lookup) -> bool
     ensures { result ≡ loads_none lookup.now }
 {
     lookup.writable.is_empty() && lookup.readonly.is_empty()

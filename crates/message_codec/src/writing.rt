@@ -1,5 +1,5 @@
 ghost use Rattle.std.specs.Prelude.{◌≡◌, ◌++◌, All, OnOk, IfOk};
-ghost use Rattle.message_codec.specs.Wire.{IsShort, HasShortLists, AllowsLookups, kind_bytes, header_bytes, lookups_bytes, message_bytes, message_name, tx_bytes};
+ghost use Rattle.message_codec.specs.Wire.{IsCountable, HasShortLists, AllowsLookups, kind_bytes, header_bytes, lookups_bytes, message_bytes, message_name, tx_bytes};
 
 use crate::array::write_array;
 use crate::message::{Lookup, Message, MessageKind, Tx};
@@ -15,9 +15,9 @@ fn write_lookups(
     kind: MessageKind,
     lookups: &Items<Lookup>,
 ) -> Result<(), OutOfMemory>
-    requires short { IsShort lookups.now }
-    requires writable { All (λ lookup. IsShort lookup.writable) lookups.now }
-    requires readonly { All (λ lookup. IsShort lookup.readonly) lookups.now }
+    requires short { IsCountable lookups.now }
+    requires writable { All (λ lookup. IsCountable lookup.writable) lookups.now }
+    requires readonly { All (λ lookup. IsCountable lookup.readonly) lookups.now }
     ensures { OnOk result (out.new ≡ out.old ++ lookups_bytes kind lookups.now) }
 {
     match kind {
@@ -53,7 +53,7 @@ fn write_message(out: &mut Blob, message: &Message) -> Result<(), OutOfMemory>
 
 /// The bytes of the transaction (Solana's wire format). They may be more than a wire may have.
 pub fn write_wire(alloc: Global, tx: &Tx) -> Result<Blob, OutOfMemory>
-    requires signatures { IsShort tx.now.signatures }
+    requires signatures { IsCountable tx.now.signatures }
     requires lists { HasShortLists tx.now.message }
     requires allows { AllowsLookups tx.now.message.kind tx.now.message.lookups }
     ensures { IfOk result (λ bytes. bytes ≡ tx_bytes tx.now) }

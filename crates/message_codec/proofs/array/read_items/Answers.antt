@@ -1,13 +1,13 @@
 use Rattle.std.proofs.lemmas.Result.{err_from_is_err_and}
 use Rattle.spec_base.specs.Reading.{many}
 use Rattle.spec_base.proofs.Loop.{goes_on, ends, is_done}
-use Rattle.message_codec.specs.WireReading.{is_memory}
+use Rattle.message_codec.specs.WireReading.{is_wire_memory}
 use Rattle.message_codec.proofs.array.read_items.Goals as goal
 
 pub returns-in_err-item : goal.returns-in_err-item
 returns-in_err-item g c =
     let p = err_from_is_err_and c.from_residual-in_err-item.result c.from_residual-in_err-item.ensures.1 in
-    rw (p.1, p.2) (ends (λ _ rest. g.T.Item.item_at c.args.total rest) is_memory c.in_err-item.field-0.0 c.loop.items c.args.count c.loop.counter c.loop.rest.now (many (g.T.Item.item_at c.args.total) c.args.count c.args.bytes.now) c.loop-test.true c.in_err-item.ensures c.loop.invariant)
+    rw (p.1, p.2) (ends (λ _ rest. g.T.Item.item_at c.args.total rest) is_wire_memory c.in_err-item.field-0.0 c.loop.items c.args.count c.loop.counter c.loop.rest.now (many (g.T.Item.item_at c.args.total) c.args.count c.args.bytes.now) c.loop-test.true c.in_err-item.ensures c.loop.invariant)
 
 pub loop-preserved : goal.loop-preserved
 loop-preserved g c =

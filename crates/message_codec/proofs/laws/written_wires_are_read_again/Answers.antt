@@ -1,5 +1,5 @@
 use Rattle.message_codec.proofs.WireLaws.{round_trips}
-use Rattle.message_codec.proofs.laws.round_trip_law.Goals as goal
+use Rattle.message_codec.proofs.laws.written_wires_are_read_again.Goals as goal
 
 pub returns : goal.returns
 returns c = round_trips

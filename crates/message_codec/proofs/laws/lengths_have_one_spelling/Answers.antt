@@ -1,5 +1,5 @@
 use Rattle.message_codec.proofs.Lengths.{one_spelling}
-use Rattle.message_codec.proofs.laws.compact_law.Goals as goal
+use Rattle.message_codec.proofs.laws.lengths_have_one_spelling.Goals as goal
 
 pub returns : goal.returns
 returns c = one_spelling
