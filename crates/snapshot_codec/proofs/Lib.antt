@@ -1,0 +1,9 @@
+pub mod Adding
+pub mod Sized
+pub mod Ordered
+pub mod HeadLaws
+pub mod MarkLaws
+pub mod AccountLaws
+pub mod SnapshotLaws
+pub mod BatchLaws
+pub mod Walk

@@ -1,0 +1,6 @@
+pub mod Snapshot
+pub mod SnapshotReading
+pub mod Batch
+pub mod BatchReading
+pub mod Output
+pub mod Laws

@@ -1,0 +1,18 @@
+//! Laws over the definitions that the contracts of this crate cite. Their calls do nothing.
+ghost use Rattle.snapshot_codec.specs.Laws.{SnapshotRoundTrip, FirstVersionRead, BatchRoundTrip};
+
+/// What `snapshot_bytes` writes is read again, whatever follows it, where the snapshot is within the
+/// limits of its format.
+pub fn written_snapshots_are_read()
+    ensures { SnapshotRoundTrip }
+{}
+
+/// A snapshot in version 1 is read too, where it has the first limits.
+pub fn first_version_is_read()
+    ensures { FirstVersionRead }
+{}
+
+/// What `batch_bytes` writes is read again, for a block after an earlier slot.
+pub fn written_batches_are_read()
+    ensures { BatchRoundTrip }
+{}

@@ -1,0 +1,20 @@
+//! Snapshots of a chain and batches of transactions as bytes, both ways, and the hash of a state.
+#![tactic(auto)]
+
+mod accounts;
+mod batch;
+mod fault;
+mod head;
+mod laws;
+mod marks;
+mod output;
+mod reading;
+mod snapshot;
+mod writing;
+
+pub use batch::{Batch, batch_bytes, read_batch};
+pub use fault::{BatchFault, SnapshotFault};
+pub use laws::{first_version_is_read, written_batches_are_read, written_snapshots_are_read};
+pub use reading::read_snapshot;
+pub use snapshot::{Prefix, Snapshot};
+pub use writing::{snapshot_bytes, state_hash};
