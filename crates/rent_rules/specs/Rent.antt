@@ -1,5 +1,5 @@
 -- The rent of accounts, and the changes that it allows (Solana).
-use Rattle.std.specs.Prelude.{◌≡◌, ℕ, Bool, true, false, ◌+◌, ◌*◌, ◌<◌, ◌≤◌, ◌&&◌, length, nat_eq, nat_le, if◌then◌else◌}
+use Rattle.std.specs.Prelude.{◌≡◌, ℕ, Bool, true, false, ◌+◌, ◌*◌, ◌<◌, ◌≤◌, ◌&&◌, length, ◌==◌, nat_le, if◌then◌else◌}
 use Rattle.sol_base.specs.declared.account.Account.{Account}
 use Rattle.rent_rules.specs.declared.rent.RentState.{RentState}
 use Rattle.rent_rules.specs.declared.rent.RentState.TheVariants.{Empty, Exempt, Paying}
@@ -20,7 +20,7 @@ MayMove before after =
 -- the rent state of a balance and a number of data bytes
 abbrev pub rent_state_of : ℕ → ℕ → RentState
 rent_state_of lamports len =
-    if nat_eq lamports 0 then Empty else
+    if lamports == 0 then Empty else
     if nat_le (minimum_of len) lamports then Exempt else
     Paying lamports len
 
@@ -34,4 +34,4 @@ moves _ Empty = true
 moves _ Exempt = true
 moves Empty (Paying _ _) = false
 moves Exempt (Paying _ _) = false
-moves (Paying before len) (Paying after len_after) = nat_eq len len_after && nat_le after before
+moves (Paying before len) (Paying after len_after) = (len == len_after) && nat_le after before

@@ -1,6 +1,6 @@
 ghost use Rattle.std.specs.Prelude.{◌≡◌, ◌↔◌, ◌≤◌, IsTrue};
 ghost use Rattle.sol_base.specs.declared.account.Account.{Account};
-ghost use Rattle.sol_base.specs.declared.account.TheConstants.{MAX_DATA_LEN};
+ghost use Rattle.sol_base.specs.Accounts.{max_data_len};
 ghost use Rattle.rent_rules.specs.Rent.{minimum_of, rent_state_of, state_of, moves, MayMove};
 
 /// The bytes that an account takes beside its data (Solana).
@@ -23,7 +23,7 @@ pub enum RentState {
 
 /// The least balance, in lamports, that exempts an account with `len` data bytes (Solana).
 pub fn minimum(len: u64) -> u64
-    requires { len ≤ MAX_DATA_LEN }
+    requires { len ≤ max_data_len }
     ensures { result ≡ minimum_of len }
 {
     (ACCOUNT_OVERHEAD + len) * LAMPORTS_PER_BYTE_YEAR * EXEMPTION_YEARS
@@ -31,7 +31,7 @@ pub fn minimum(len: u64) -> u64
 
 /// The rent state of an account with that balance and that many data bytes (Solana).
 pub fn rent_state(lamports: u64, len: u64) -> RentState
-    requires { len ≤ MAX_DATA_LEN }
+    requires { len ≤ max_data_len }
     ensures { result ≡ rent_state_of lamports len }
 {
     if lamports == 0 {

@@ -1,5 +1,5 @@
 -- The newest blocks of a chain, newest first (the project's own).
-use Rattle.std.specs.Prelude.{◌≡◌, ◌≤◌, Bool, List, [], ◌∷◌, All, AllPairs, length, replicate}
+use Rattle.std.specs.Prelude.{◌≡◌, ℕ, ◌≤◌, Bool, List, [], ◌∷◌, All, AllPairs, length, replicate}
 use Rattle.std.specs.List.{list_any}
 use Rattle.std.specs.declared.cmp.Ordering.TheVariants.{Less}
 use Rattle.sol_base.specs.declared.key.Hash32.{Hash32}
@@ -10,9 +10,13 @@ use Rattle.status_cache.specs.declared.recent.Mark.{Mark}
 abbrev pub Ascends : List Hash32 → Type 0
 Ascends hashes = AllPairs (λ a b. hash_cmp a b ≡ Less) hashes
 
+-- the most blocks that a chain remembers
+abbrev pub max_marks : ℕ
+max_marks = 150
+
 -- no more blocks than a chain remembers, and the messages of each ascending
 pub record IsRecent (marks : List Mark) : Type 0 where
-  pub few : length marks ≤ 150
+  pub few : length marks ≤ max_marks
   pub ascending : All (λ mark. Ascends mark.messages) marks
 
 -- the hash is one of them

@@ -1,5 +1,5 @@
 ghost use Rattle.std.specs.Prelude.{◌≡◌, ◌∷◌, [], OnOk, OnErr, take};
-ghost use Rattle.status_cache.specs.Recent.{Ascends, IsRecent, has_hash, knows, processed, newest_of};
+ghost use Rattle.status_cache.specs.Recent.{Ascends, IsRecent, has_hash, knows, max_marks, newest_of, processed};
 
 use sol_base::{Hash32, Items, OutOfMemory};
 use std::alloc::Global;
@@ -85,7 +85,7 @@ impl Recent {
     /// dropped.
     pub fn advance(&mut self, mark: Mark) -> Result<(), OutOfMemory>
         requires { Ascends mark.messages }
-        ensures ok { OnOk result (self.new ≡ take MAX_MARKS (mark ∷ self.old)) }
+        ensures ok { OnOk result (self.new ≡ take max_marks (mark ∷ self.old)) }
         ensures err { OnErr result (self.new ≡ self.old) }
     {
         self.marks.insert(0, mark)?;
@@ -94,6 +94,7 @@ impl Recent {
     }
 }
 
+// The messages ascend, so that the time goes by the logarithm of their number.
 fn has_message(messages: &Items<Hash32>, message: &Hash32) -> bool
     requires { Ascends messages.now }
     ensures { result ≡ has_hash messages.now message.now }

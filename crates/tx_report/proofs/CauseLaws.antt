@@ -1,7 +1,7 @@
 -- A cause and its code belong together.
 use Rattle.std.proofs.Common.{◌≡◌, ◌<◌, ◌+◌, ◌^◌, ℕ, zero, suc, Bool, true, false, ◌&&◌, List, [], ◌∷◌, Some, refl, ap, lit<, ◌∙◌, sym, arith}
 use Rattle.std.specs.Prelude.{nat_eq, slice_get}
-use Rattle.std.proofs.lemmas.Bool.{eqb-true}
+use Rattle.std.proofs.lemmas.Bool.{and_parts, eqb-true}
 use Rattle.tx_report.specs.declared.cause.Cause.{Cause}
 use Rattle.tx_report.specs.declared.cause.Cause.TheVariants.{Custom}
 use Rattle.tx_report.specs.declared.cause.DropCause.{DropCause}
@@ -26,10 +26,6 @@ pub drop_cause_with-code_of : (cause : DropCause) → drop_cause_with (drop_code
 drop_cause_with-code_of PayerAbsent = refl
 drop_cause_with-code_of _ = refl
 
-pub both_parts : (a b : Bool) → (a && b) ≡ true → (a ≡ true) × (b ≡ true)
-both_parts true b h = (refl, h)
-both_parts false b h = absurd (cc)
-
 -- the codes of a list go up by one, from a first one on
 abbrev counts_up : {X : Type 0} → (X → ℕ) → ℕ → List X → Bool
 counts_up code first [] = true
@@ -38,12 +34,12 @@ counts_up code first (x ∷ xs) = nat_eq (code x) first && counts_up code (suc f
 counted : {X : Type 0} (code : X → ℕ) (xs : List X) (first k : ℕ) (x : X) → counts_up code first xs ≡ true → slice_get xs k ≡ Some x → code x ≡ first + k
 counted code [] first k x up found = absurd (cc)
 counted code (y ∷ xs) first zero x up found =
-    let parts = both_parts (nat_eq (code y) first) (counts_up code (suc first) xs) up in
+    let parts = and_parts (nat_eq (code y) first) (counts_up code (suc first) xs) up in
     let here : code y ≡ first = eqb-true _ _ parts.0 in
     let same : y ≡ x = cc in
     ap code (sym same) ∙ here ∙ omega arith
 counted code (y ∷ xs) first (suc k) x up found =
-    let parts = both_parts (nat_eq (code y) first) (counts_up code (suc first) xs) up in
+    let parts = and_parts (nat_eq (code y) first) (counts_up code (suc first) xs) up in
     let later : code x ≡ suc first + k = counted code xs (suc first) k x parts.1 found in
     omega arith
 

@@ -2,7 +2,7 @@
 use Rattle.std.proofs.Common.{◌≡◌, ◌<◌, ◌^◌, ℕ, zero, suc, true, ◌&&◌, inl, inr, List, [], ◌∷◌, ◌++◌, length, take, drop, Option, Some, None, refl, ap, subst, lit<, ◌∙◌, sym, arith}
 use Rattle.std.specs.Prelude.{nat_eq, slice_index, option_map, ok_or, Ok}
 use Rattle.std.specs.Int.{w16, w32, to_le_bytes, from_le_bytes}
-use Rattle.std.proofs.lemmas.Bool.{eqb-true}
+use Rattle.std.proofs.lemmas.Bool.{and_parts, eqb-true}
 use Rattle.std.proofs.lemmas.Nat.{from_le_bytes-to_le_bytes_2, from_le_bytes-to_le_bytes_4, le_bytes_2, le_bytes_4}
 use Rattle.spec_base.specs.Bytes.{IsBytes}
 use Rattle.spec_base.specs.Reading.{place}
@@ -14,7 +14,7 @@ use Rattle.tx_report.specs.declared.status.Status.{Status}
 use Rattle.tx_report.specs.declared.status.Status.TheVariants.{Good, Failed, Dropped}
 use Rattle.tx_report.specs.Causes.{code_of, cause_with, drop_code_of, drop_cause_with}
 use Rattle.tx_report.specs.Statuses.{part_bytes, status_bytes_of, IsStatus, status_with, status_from, status_at}
-use Rattle.tx_report.proofs.CauseLaws.{code_of-fits, drop_code_of-fits, cause_with-code_of, drop_cause_with-code_of, both_parts, code_of-cause_with, drop_code_of-drop_cause_with}
+use Rattle.tx_report.proofs.CauseLaws.{code_of-fits, drop_code_of-fits, cause_with-code_of, drop_cause_with-code_of, code_of-cause_with, drop_code_of-drop_cause_with}
 
 -- the parts that stand in the eight bytes
 status_from-part_bytes : (kind index code detail : ℕ) → code < 2 ^ 16 → detail < 2 ^ 32 → status_from (part_bytes kind index code detail) ≡ status_with kind index code detail
@@ -58,9 +58,9 @@ found_parts kind index code detail status h index_fits detail_fits =
 
     good : (nat_eq kind 0 && nat_eq index 0 && nat_eq code 0 && nat_eq detail 0) ≡ true → (let o : Option Status = Some Good in o) ≡ Some status → Claim status
     good t e =
-        let a = both_parts (nat_eq kind 0 && nat_eq index 0 && nat_eq code 0) (nat_eq detail 0) t in
-        let b = both_parts (nat_eq kind 0 && nat_eq index 0) (nat_eq code 0) a.0 in
-        let c = both_parts (nat_eq kind 0) (nat_eq index 0) b.0 in
+        let a = and_parts (nat_eq kind 0 && nat_eq index 0 && nat_eq code 0) (nat_eq detail 0) t in
+        let b = and_parts (nat_eq kind 0 && nat_eq index 0) (nat_eq code 0) a.0 in
+        let c = and_parts (nat_eq kind 0) (nat_eq index 0) b.0 in
         let same : Good ≡ status = cc in
         subst Claim same (tt, same_parts kind 0 index 0 code 0 detail 0 (eqb-true _ _ c.0) (eqb-true _ _ c.1) (eqb-true _ _ b.1) (eqb-true _ _ a.1))
 
@@ -69,8 +69,8 @@ found_parts kind index code detail status h index_fits detail_fits =
 
     dropped : (nat_eq kind 2 && nat_eq index 0 && nat_eq detail 0) ≡ true → (c : DropCause) × (drop_cause_with code ≡ Some c) × (Dropped c ≡ status) → Claim status
     dropped t f =
-        let a = both_parts (nat_eq kind 2 && nat_eq index 0) (nat_eq detail 0) t in
-        let b = both_parts (nat_eq kind 2) (nat_eq index 0) a.0 in
+        let a = and_parts (nat_eq kind 2 && nat_eq index 0) (nat_eq detail 0) t in
+        let b = and_parts (nat_eq kind 2) (nat_eq index 0) a.0 in
         subst Claim f.2 (tt, same_parts kind 2 index 0 code (drop_code_of f.0) detail 0 (eqb-true _ _ b.0) (eqb-true _ _ b.1) (sym (drop_code_of-drop_cause_with code f.0 f.1)) (eqb-true _ _ a.1))
 
 -- a list of eight bytes is the spelling of the parts that stand in it

@@ -49,7 +49,7 @@ pub enum Cause {
     /// A read-only account changed. For this and the next five causes the detail is the first place
     /// of the account in the frame's list.
     ReadonlyChanged = 21,
-    /// An account became executable or ceased to be.
+    /// An executable account changed, or an account became executable.
     ExecutableChanged = 22,
     /// A program took lamports from an account that it does not own.
     ForeignDebit = 23,

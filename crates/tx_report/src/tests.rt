@@ -1,6 +1,10 @@
 //! Values that no clause computes: the table of causes, and lines at the limit.
-use crate::{Cause, DropCause, Logs, Status, cause_text, status_bytes, status_of, status_text};
+use crate::{
+    Cause, DropCause, Logs, Outcome, Status, cause_text, status_bytes, status_of, status_text,
+};
+use sol_base::{Blob, Items};
 use std::test::Fail;
+use std::thread::join;
 
 /// Each cause with a detail, its code, and its text with that detail.
 const CAUSES: [(Cause, u32, u8, &str); 40] = [
@@ -175,5 +179,22 @@ fn lines_are_kept_up_to_ten_thousand_bytes(rt: HostRuntime) -> Result<(), Fail> 
             .is_some_and(|line| line.as_slice() == b"Log truncated".as_slice());
         assert_eq!(rt; cut, kept.contains(&13));
     }
+    Ok(())
+}
+
+#[test]
+fn an_outcome_crosses_threads(rt: HostRuntime) -> Result<(), Fail> {
+    let mut lines = Items::new(rt.alloc());
+    lines.push(Blob::from_slice(rt.alloc(), b"line")?)?;
+    let made = Outcome {
+        status: Status::Good,
+        units: 150,
+        base_paid: 5_000,
+        priority_paid: 0,
+        lines,
+    };
+    let (moved, _) = join(&rt, move || made, || ());
+    let (units, count) = join(&rt, || moved.units, || moved.lines.len());
+    assert_eq!(rt; (units, count), (150, 1));
     Ok(())
 }

@@ -16,6 +16,51 @@ fn block(alloc: Global, number: u8) -> Result<Mark, OutOfMemory>
     })
 }
 
+// A block that processed none.
+fn empty_block(alloc: Global) -> Mark
+    ensures { Ascends result.messages }
+{
+    Mark {
+        hash: Hash32([1; 32]),
+        messages: Items::new(alloc),
+    }
+}
+
+// A block that processed two.
+fn block_of_two(alloc: Global) -> Result<Mark, OutOfMemory>
+    ensures { IfOk result (λ mark. Ascends mark.messages) }
+{
+    let mut messages = Items::new(alloc);
+    messages.push(Hash32([3; 32]))?;
+    messages.push(Hash32([4; 32]))?;
+    Ok(Mark {
+        hash: Hash32([2; 32]),
+        messages,
+    })
+}
+
+#[test]
+fn remembers_blocks_with_no_message_and_with_two(rt: HostRuntime) -> Result<(), Fail> {
+    let mut recent = Recent::new(rt.alloc());
+    recent.advance(empty_block(rt.alloc()))?;
+    recent.advance(block_of_two(rt.alloc())?)?;
+    for (number, known, processed) in [
+        (1, true, false),
+        (2, true, false),
+        (3, false, true),
+        (4, false, true),
+        (5, false, false),
+    ] {
+        let hash = Hash32([number; 32]);
+        assert_eq!(rt;
+            (recent.knows_hash(&hash), recent.was_processed(&hash)),
+            (known, processed),
+            "hash {number}"
+        );
+    }
+    Ok(())
+}
+
 #[test]
 fn remembers_150_blocks(rt: HostRuntime) -> Result<(), Fail> {
     let mut recent = Recent::new(rt.alloc());
