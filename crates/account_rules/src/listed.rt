@@ -25,10 +25,14 @@ pub fn check_listed(
     requires lists { AreParallel touched.now (accounts_of before.now) (accounts_of after.now) }
     requires range { AreInRange (length (accounts_of before.now)) metas.now }
     requires most { length metas.now ≤ 255 }
-    requires unlisted { SameUnlessListed metas.now (accounts_of before.now) (accounts_of after.now) }
-    requires untouched { SameUnlessTouched touched.now (accounts_of before.now) (accounts_of after.now) }
-    ensures exact { result ≡ listed_rules program.now metas.now (accounts_of before.now) (accounts_of after.now) }
-    ensures kept { OnOk result (AreKeptBy (is_listed_writable metas.now) (accounts_of before.now) (accounts_of after.now)) }
+    requires unlisted { SameUnlessListed metas.now
+        (accounts_of before.now) (accounts_of after.now) }
+    requires untouched { SameUnlessTouched touched.now
+        (accounts_of before.now) (accounts_of after.now) }
+    ensures exact { result ≡ listed_rules program.now metas.now
+        (accounts_of before.now) (accounts_of after.now) }
+    ensures kept { OnOk result (AreKeptBy (is_listed_writable metas.now)
+        (accounts_of before.now) (accounts_of after.now)) }
 {
     if let Some(fault) = first_fault(program, metas, touched, before, after) {
         return Err(fault);
@@ -50,8 +54,10 @@ fn first_fault(
     requires lists { AreParallel touched.now (accounts_of before.now) (accounts_of after.now) }
     requires range { AreInRange (length (accounts_of before.now)) metas.now }
     requires most { length metas.now ≤ 255 }
-    requires untouched { SameUnlessTouched touched.now (accounts_of before.now) (accounts_of after.now) }
-    ensures { result ≡ slice_get (listed_faults program.now metas.now (accounts_of before.now) (accounts_of after.now)) 0 }
+    requires untouched { SameUnlessTouched touched.now
+        (accounts_of before.now) (accounts_of after.now) }
+    ensures { result ≡ slice_get (listed_faults program.now metas.now
+        (accounts_of before.now) (accounts_of after.now)) 0 }
 {
     let writable = writable_flags(metas);
     let mut seen = [false; 256];

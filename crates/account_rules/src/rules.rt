@@ -41,8 +41,10 @@ pub fn check(
 ) -> Result<(), RuleFault>
     requires lists { AreParallel writable.now (accounts_of before.now) (accounts_of after.now) }
     requires most { length writable.now ≤ 255 }
-    ensures exact { result ≡ rules program.now writable.now (accounts_of before.now) (accounts_of after.now) }
-    ensures kept { OnOk result (AreKept program.now writable.now (accounts_of before.now) (accounts_of after.now)) }
+    ensures exact { result ≡ rules program.now writable.now
+        (accounts_of before.now) (accounts_of after.now) }
+    ensures kept { OnOk result (AreKept program.now writable.now
+        (accounts_of before.now) (accounts_of after.now)) }
 {
     check_each(program, writable, None, before, after)
 }
@@ -61,9 +63,12 @@ pub fn check_touched(
     requires lists { AreParallel writable.now (accounts_of before.now) (accounts_of after.now) }
     requires marks { AreParallel touched.now (accounts_of before.now) (accounts_of after.now) }
     requires most { length writable.now ≤ 255 }
-    requires untouched { SameUnlessTouched touched.now (accounts_of before.now) (accounts_of after.now) }
-    ensures exact { result ≡ rules program.now writable.now (accounts_of before.now) (accounts_of after.now) }
-    ensures kept { OnOk result (AreKept program.now writable.now (accounts_of before.now) (accounts_of after.now)) }
+    requires untouched { SameUnlessTouched touched.now
+        (accounts_of before.now) (accounts_of after.now) }
+    ensures exact { result ≡ rules program.now writable.now
+        (accounts_of before.now) (accounts_of after.now) }
+    ensures kept { OnOk result (AreKept program.now writable.now
+        (accounts_of before.now) (accounts_of after.now)) }
 {
     check_each(program, writable, Some(touched), before, after)
 }
@@ -78,9 +83,12 @@ fn check_each(
 ) -> Result<(), RuleFault>
     requires lists { AreParallel writable.now (accounts_of before.now) (accounts_of after.now) }
     requires most { length writable.now ≤ 255 }
-    requires untouched { ForSome touched (λ flags. SameUnlessTouched flags.now (accounts_of before.now) (accounts_of after.now)) }
-    ensures exact { result ≡ rules program.now writable.now (accounts_of before.now) (accounts_of after.now) }
-    ensures kept { OnOk result (AreKept program.now writable.now (accounts_of before.now) (accounts_of after.now)) }
+    requires untouched { ForSome touched (λ flags. SameUnlessTouched flags.now
+        (accounts_of before.now) (accounts_of after.now)) }
+    ensures exact { result ≡ rules program.now writable.now
+        (accounts_of before.now) (accounts_of after.now) }
+    ensures kept { OnOk result (AreKept program.now writable.now
+        (accounts_of before.now) (accounts_of after.now)) }
 {
     for i in 0..writable.len() {
         let same = is_untouched(touched, i);
