@@ -6,5 +6,6 @@ pub mod Writing
 pub mod Copying
 pub mod Addresses
 pub mod InRanges
+pub mod Buffers
 pub mod ByAddress
 pub mod Plain

@@ -1,3 +1,5 @@
+pub mod Buffers
+pub mod Copies
 pub mod Lending
 pub mod Memory
 pub mod Plain

@@ -1,16 +1,6 @@
 //! Bytes of lists, read and written at a place.
-ghost use Rattle.std.specs.Prelude.{◌≡◌, ◌≤◌, ◌+◌, length, replicate, take, drop, IfOk};
+ghost use Rattle.std.specs.Prelude.{◌≡◌, ◌≤◌, ◌+◌, length, take, drop};
 ghost use Rattle.sol_base.specs.Parts.{with_bytes};
-
-use sol_base::OutOfMemory;
-use std::alloc::Global;
-
-/// A list of zeros.
-pub(crate) fn zeros(alloc: Global, count: usize) -> Result<Vec<u8>, OutOfMemory>
-    ensures { IfOk result (λ list. list.items ≡ replicate count 0) }
-{
-    Ok(vec![in alloc; 0; count]?)
-}
 
 /// Copies bytes from a place of a list on.
 #[inline(always)]

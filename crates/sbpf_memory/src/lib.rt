@@ -1,6 +1,7 @@
 //! The memory of a machine: bytes by address, in four ranges.
 #![tactic(auto)]
 
+mod buffer;
 mod bytes;
 mod fault;
 mod laws;

@@ -1,30 +1,30 @@
-ghost use Rattle.std.specs.Prelude.{◌≡◌, ◌<◌, ◌≤◌, ◌+◌, ◌^◌, length, IfOk, MatchResult, IfSome, false, take, drop, IsOk, OnOk, OnErr};
+ghost use Rattle.std.specs.Prelude.{◌≡◌, ◌<◌, ◌≤◌, ◌+◌, ◌^◌, ◌≢◌, length, IfOk, MatchOption, MatchResult, IfSome, Some, Ok, true, take, drop, IsOk, OnOk, OnErr};
 ghost use Rattle.std.specs.Arc.{arc_value};
 ghost use Rattle.std.specs.Borrow.{sem};
 ghost use Rattle.sol_base.specs.Parts.{with_bytes, ArePrepared};
 ghost use Rattle.sbpf_memory.specs.Lending.{LendsInput, with_input};
-ghost use Rattle.sbpf_memory.specs.Memory.{IsMemory, IsWidth, IsPrepared, HasMemory, Answers, Prepares, KeepsBytes, fresh, load_from, read_from, store_to, write_to, copy_to, or_refusal, place_of, range_bytes, with_bytes_in, PreparedIn, refused_in, write_refusal, PreparesIn, StaysIfRefused};
+ghost use Rattle.sbpf_memory.specs.Memory.{IsMemory, IsWidth, IsPrepared, HasMemory, Answers, Prepares, KeepsBytes, fresh, load_from, read_from, store_to, write_to, copy_to, or_refusal, place_of, range_bytes, with_bytes_in, PreparedIn, refused_in, violation_of, write_refusal, PreparesIn, StaysIfRefused};
+ghost use Rattle.sbpf_memory.specs.Copies.{bytes_of_place, copied_in, with_heap, with_stack, IsTarget};
+ghost use Rattle.sbpf_memory.specs.declared.place.Region.TheVariants.{Program};
 
-use crate::bytes::{array_from, put_into, read_into, write_into, zeros};
+use crate::buffer::Buffer;
+use crate::bytes::{array_from, read_into};
 use crate::fault::{AccessViolation, MemFault, violation};
 use crate::place::{
-    HEAP_START, INPUT_START, PROGRAM_START, Place, Region, STACK_SIZE, STACK_START, meet, within,
-    within_frame,
+    HEAP_START, INPUT_START, PROGRAM_START, Place, Region, STACK_SIZE, STACK_START, overlaps,
+    within, within_frame,
 };
 use sol_base::{Blob, OutOfMemory, Parts};
 use std::alloc::Global;
 use std::marker::Model;
 use std::sync::Arc;
 
-/// The most bytes of a copy that takes no memory.
-const SHORT_COPY: u64 = 512;
-
 /// The memory of one frame of a program.
 #[derive(Drop)]
 pub struct Memory {
     program: Arc<Blob>,
-    stack: Vec<u8>,
-    heap: Vec<u8>,
+    stack: Buffer,
+    heap: Buffer,
     input: Parts,
 }
 
@@ -35,9 +35,9 @@ impl Model for Memory {
 
     ghost Value = { Ranges };
 
-    ghost view = { λ m. record { program = arc_value m.program; stack = m.stack.items; heap = m.heap.items; input = m.input } };
+    ghost view = { λ m. record { program = arc_value m.program; stack = m.stack; heap = m.heap; input = m.input } };
 
-    ghost invariant = { λ m. (length (arc_value m.program) ≤ 2 ^ 32) × (length m.stack.items ≡ frame_count * frame_size) × (length m.heap.items < 2 ^ 32) };
+    ghost invariant = { λ m. (length (arc_value m.program) ≤ 2 ^ 32) × (length m.stack ≡ frame_count * frame_size) × (length m.heap < 2 ^ 32) };
 }
 
 impl Memory {
@@ -53,8 +53,8 @@ impl Memory {
     {
         Ok(Memory {
             program: image,
-            stack: zeros(alloc, STACK_SIZE)?,
-            heap: zeros(alloc, heap as usize)?,
+            stack: Buffer::zeros(alloc, STACK_SIZE)?,
+            heap: Buffer::zeros(alloc, heap as usize)?,
             input,
         })
     }
@@ -129,16 +129,23 @@ impl Memory {
 
     /// Copies `len` bytes. Where `apart` holds, the two ranges may not meet; else the bytes that
     /// stood there before are copied.
-    #[tactic(auto, using(crate::proofs::Copying::copies))]
     pub fn copy(&mut self, to: u64, from: u64, len: u64, apart: bool) -> Result<(), MemFault>
-        ensures { Answers (copy_to self.old to from len apart) self.old self.new result }
+        ensures answer { Answers (copy_to self.old to from len apart) self.old self.new result }
+        ensures ready { IsPrepared self.old to len → HasMemory result }
     {
-        self.may_read(from, len)?;
-        self.may_write(to, len)?;
-        if apart && meet(to, from, len) {
+        if len == 0 {
+            return Ok(());
+        }
+        let Some(source) = self.place(from, len) else {
+            return Err(MemFault::from(violation(from, len, false)));
+        };
+        let Some(target) = self.writable(to, len) else {
+            return Err(MemFault::from(violation(to, len, true)));
+        };
+        if overlaps(apart, to, from, len) {
             return Err(MemFault::Overlap);
         }
-        self.copy_bytes(to, from, len)
+        self.copy_at(target, source, len as usize)
     }
 
     /// Makes ready for writes that take no memory. It is refused where a write is.
@@ -237,64 +244,82 @@ impl Memory {
         }
     }
 
-    /// Whether a read of `len` bytes is refused.
-    #[tactic(auto, using(crate::proofs::Reading::reads), unfolding(crate::specs::Memory::read_from))]
-    fn may_read(&self, addr: u64, len: u64) -> Result<(), AccessViolation>
-        ensures answer { MatchResult result
-            (λ _. IsOk (read_from self.now addr len))
-            (λ violation. read_from self.now addr len ≡ Err violation) }
-        ensures count { IfOk (read_from self.now addr len) (λ bytes. length bytes ≡ len) }
-    {
-        let _ = &self.stack;
-        if len == 0 || self.place(addr, len).is_some() {
-            Ok(())
-        } else {
-            Err(violation(addr, len, false))
-        }
-    }
-
-    /// Whether a write of `len` bytes is refused.
+    /// Where a write of at least one byte lies, or None where it is refused.
     #[tactic(auto, unfolding(crate::specs::Memory::write_refusal))]
-    fn may_write(&self, addr: u64, len: u64) -> Result<(), AccessViolation>
-        ensures { MatchResult result
-            (λ _. write_refusal self.now addr len ≡ None)
-            (λ violation. write_refusal self.now addr len ≡ Some violation) }
+    fn writable(&self, addr: u64, len: u64) -> Option<Place>
+        requires { 1 ≤ len }
+        ensures { MatchOption result (write_refusal self.now addr len ≡ Some (violation_of addr len true)) (λ place. IsTarget self.now addr len place) }
     {
-        if len == 0 {
-            return Ok(());
-        }
-        match self.place(addr, len) {
-            Some(
-                Place {
-                    region: Region::Stack | Region::Heap | Region::Input,
-                    ..
-                },
-            ) => Ok(()),
-            _ => Err(violation(addr, len, true)),
+        let place = self.place(addr, len)?;
+        match place.region {
+            Region::Program => None,
+            Region::Stack | Region::Heap | Region::Input => Some(place),
         }
     }
 
-    /// Copies `len` bytes through a buffer: one on the stack, or a list where they are many.
-    fn copy_bytes(&mut self, to: u64, from: u64, len: u64) -> Result<(), MemFault>
-        requires { IsOk (copy_to self.old to from len false) }
-        ensures { Answers (copy_to self.old to from len false) self.old self.new result }
+    /// Copies `len` bytes from one place to another, if its range is written.
+    fn copy_at(&mut self, to: Place, from: Place, len: usize) -> Result<(), MemFault>
+        requires to { to.at + len ≤ length (range_bytes self.old to.region) }
+        requires from { from.at + len ≤ length (range_bytes self.old from.region) }
+        requires writable { to.region ≢ Program }
+        ensures answer { Answers (Ok (copied_in self.old to from len)) self.old self.new result }
+        ensures ready { PreparedIn self.old len to.at to.region → HasMemory result }
     {
-        if len <= SHORT_COPY {
-            let mut buffer = [0; SHORT_COPY as usize];
-            self.copy_through(to, from, &mut buffer[..len as usize])
-        } else {
-            let mut buffer = zeros(*self.stack.allocator(), len as usize)?;
-            self.copy_through(to, from, buffer.as_mut_slice())
+        let at = to.at as usize;
+        match to.region {
+            Region::Program => unreachable!(),
+            Region::Stack => self.copy_to_stack(at, from, len),
+            Region::Heap => self.copy_to_heap(at, from, len),
+            Region::Input => self.copy_to_input(at, from, len)?,
+        }
+        Ok(())
+    }
+
+    /// Copies `len` bytes to a place of the stack.
+    fn copy_to_stack(&mut self, to: usize, from: Place, len: usize)
+        requires to { to + len ≤ length self.old.stack }
+        requires from { from.at + len ≤ length (range_bytes self.old from.region) }
+        ensures { self.new ≡ with_stack self.old (with_bytes self.old.stack to (bytes_of_place self.old from len)) }
+    {
+        let at = from.at as usize;
+        match from.region {
+            Region::Program => self.stack.write(to, &self.program.as_slice()[at..at + len]),
+            Region::Stack => self.stack.copy_within(to, at, len),
+            Region::Heap => self.stack.copy_from(to, &self.heap, at, len),
+            Region::Input => self.stack.copy_parts(to, &self.input, at, len),
         }
     }
 
-    /// Copies as many bytes as a buffer has, through the buffer.
-    #[tactic(auto, unfolding(crate::specs::Memory::copy_to))]
-    fn copy_through(&mut self, to: u64, from: u64, buffer: &mut [u8]) -> Result<(), MemFault>
-        ensures { Answers (copy_to self.old to from (length buffer.old) false) self.old self.new result }
+    /// Copies `len` bytes to a place of the heap.
+    fn copy_to_heap(&mut self, to: usize, from: Place, len: usize)
+        requires to { to + len ≤ length self.old.heap }
+        requires from { from.at + len ≤ length (range_bytes self.old from.region) }
+        ensures { self.new ≡ with_heap self.old (with_bytes self.old.heap to (bytes_of_place self.old from len)) }
     {
-        self.read(from, buffer)?;
-        self.write(to, buffer)
+        let at = from.at as usize;
+        match from.region {
+            Region::Program => self.heap.write(to, &self.program.as_slice()[at..at + len]),
+            Region::Stack => self.heap.copy_from(to, &self.stack, at, len),
+            Region::Heap => self.heap.copy_within(to, at, len),
+            Region::Input => self.heap.copy_parts(to, &self.input, at, len),
+        }
+    }
+
+    /// Copies `len` bytes to a place of the input.
+    fn copy_to_input(&mut self, to: usize, from: Place, len: usize) -> Result<(), OutOfMemory>
+        requires to { to + len ≤ length self.old.input.bytes }
+        requires from { from.at + len ≤ length (range_bytes self.old from.region) }
+        ensures ok { OnOk result (self.new ≡ with_input self.old (record { bytes = with_bytes self.old.input.bytes to (bytes_of_place self.old from len); prepared = self.old.input.prepared })) }
+        ensures err { OnErr result (self.new ≡ self.old) }
+        ensures ready { ArePrepared self.old.input.prepared to len → IsOk result }
+    {
+        let at = from.at as usize;
+        match from.region {
+            Region::Program => self.input.write(to, &self.program.as_slice()[at..at + len]),
+            Region::Stack => self.stack.copy_to_parts(&mut self.input, to, at, len),
+            Region::Heap => self.heap.copy_to_parts(&mut self.input, to, at, len),
+            Region::Input => self.input.copy_within(to, at, len),
+        }
     }
 
     /// Reads the bytes at a place.
@@ -306,8 +331,8 @@ impl Memory {
         let at = place.at as usize;
         match place.region {
             Region::Program => read_into(self.program.as_slice(), at, into),
-            Region::Stack => read_into(self.stack.as_slice(), at, into),
-            Region::Heap => read_into(self.heap.as_slice(), at, into),
+            Region::Stack => self.stack.read(at, into),
+            Region::Heap => self.heap.read(at, into),
             Region::Input => self.input.read(at, into),
         }
     }
@@ -334,8 +359,8 @@ impl Memory {
         let at = place.at as usize;
         match place.region {
             Region::Program => array_from(self.program.as_slice(), at),
-            Region::Stack => array_from(self.stack.as_slice(), at),
-            Region::Heap => array_from(self.heap.as_slice(), at),
+            Region::Stack => self.stack.array(at),
+            Region::Heap => self.heap.array(at),
             Region::Input => self.input_array(at),
         }
     }
@@ -362,8 +387,8 @@ impl Memory {
         let at = place.at as usize;
         match place.region {
             Region::Program => return Err(MemFault::from(violation(addr, len, true))),
-            Region::Stack => write_into(self.stack.as_mut_slice(), at, bytes),
-            Region::Heap => write_into(self.heap.as_mut_slice(), at, bytes),
+            Region::Stack => self.stack.write(at, bytes),
+            Region::Heap => self.heap.write(at, bytes),
             Region::Input => self.input.write(at, bytes)?,
         }
         Ok(())
@@ -398,8 +423,8 @@ impl Memory {
         let at = place.at as usize;
         match place.region {
             Region::Program => return Err(MemFault::from(violation(addr, N as u64, true))),
-            Region::Stack => put_into(self.stack.as_mut_slice(), at, bytes),
-            Region::Heap => put_into(self.heap.as_mut_slice(), at, bytes),
+            Region::Stack => self.stack.put(at, bytes),
+            Region::Heap => self.heap.put(at, bytes),
             Region::Input => self.put_input(at, bytes)?,
         }
         Ok(())

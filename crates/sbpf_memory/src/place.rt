@@ -67,9 +67,16 @@ pub(crate) fn within_frame(at: u64, len: u64) -> Option<Place>
     }
 }
 
+/// Whether two ranges of `len` addresses that must stand apart meet.
+pub(crate) fn overlaps(apart: bool, one: u64, other: u64, len: u64) -> bool
+    ensures { result ≡ (apart && nat_lt 0 len && ranges_meet one other len) }
+{
+    apart && meet(one, other, len)
+}
+
 /// Whether two ranges of `len` addresses meet.
 #[tactic(auto, using(std::proofs::lemmas::Bool::Decides::nat_tests))]
-pub(crate) fn meet(one: u64, other: u64, len: u64) -> bool
+fn meet(one: u64, other: u64, len: u64) -> bool
     ensures { result ≡ (nat_lt 0 len && ranges_meet one other len) }
 {
     one.abs_diff(other) < len

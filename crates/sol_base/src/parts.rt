@@ -175,12 +175,12 @@ impl Parts {
         ensures ready { ArePrepared self.old.prepared at len → IsOk result }
         ensures stay { StayPrepared self.old.prepared self.new.prepared }
     {
-        if len == 0 {
-            return Ok(());
+        if len > 0 {
+            let alloc = *self.pieces.allocator();
+            let pieces = self.pieces.as_mut_slice();
+            let first = range::find(pieces, at);
+            range::own_on(alloc, pieces, first, at, len, true)?;
         }
-        let alloc = *self.pieces.allocator();
-        let pieces = self.pieces.as_mut_slice();
-        let first = range::find(pieces, at);
-        range::own_on(alloc, pieces, first, at, len, true)
+        Ok(())
     }
 }

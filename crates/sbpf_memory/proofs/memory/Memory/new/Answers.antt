@@ -6,5 +6,5 @@ use Rattle.sbpf_memory.proofs.memory.Memory.new.Goals as goal
 
 pub returns : goal.returns
 returns c =
-    fresh-zeros (arc_value c.args.image) c.in_ok-zeros.field-0.items c.in_ok-zeros-2.field-0.items c.args.input (frame_count * frame_size) c.args.heap
+    fresh-zeros (arc_value c.args.image) c.in_ok-zeros.field-0 c.in_ok-zeros-2.field-0 c.args.input (frame_count * frame_size) c.args.heap
     c.in_ok-zeros.ensures c.in_ok-zeros-2.ensures
