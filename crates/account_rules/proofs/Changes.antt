@@ -1,12 +1,11 @@
 -- The broken rules of accounts, one after the other.
-use Rattle.std.proofs.Common.{◌≡◌, ◌≢◌, not, nat_eq, ℕ, ◌+◌, ◌<◌, Bool, true, false, List, [], ◌∷◌, ◌++◌, length, map, take, get_or, refl, sym, ap, ◌∙◌, Some, None, Result, Ok, Err, arith, if◌then◌else◌, zero-add}
+use Rattle.std.proofs.Common.{◌≡◌, ◌≢◌, not, nat_eq, ℕ, ◌+◌, ◌<◌, Bool, true, false, List, [], ◌∷◌, ◌++◌, length, take, get_or, refl, sym, ap, ◌∙◌, Some, None, Result, Ok, Err, arith, if◌then◌else◌, zero-add}
 use Rattle.std.proofs.Math.Seq.{take-length}
 use Rattle.std.proofs.Math.ListN.{get_or-map}
 use Rattle.std.specs.List.{enumerate_from, filter_map, zip}
-use Rattle.std.proofs.lemmas.List.{length-map}
 use Rattle.std.proofs.lemmas.Bool.Decides.{nat_tests}
 use Rattle.std.proofs.lemmas.List.FromFn.{get_or-enumerate_from, length-enumerate_from}
-use Rattle.std.proofs.lemmas.Slice.Zip.{length-zip, get_or-zip, firsts-zip, seconds-zip}
+use Rattle.std.proofs.lemmas.Slice.Zip.{length-zip, get_or-zip}
 use Rattle.std.specs.Arc.{arc_value}
 use Rattle.std.specs.declared.sync.Arc.{Arc}
 use Rattle.std.specs.declared.alloc.Global.{Global}
@@ -16,7 +15,7 @@ use Rattle.sol_base.specs.declared.account.Account.{Account}
 use Rattle.sol_base.specs.Accounts.{accounts_of, lamports_in}
 use Rattle.account_rules.specs.declared.rules.RuleFault.{RuleFault}
 use Rattle.account_rules.specs.declared.rules.RuleFault.TheVariants.{Unbalanced}
-use Rattle.account_rules.specs.AccountRules.{Change, afters, befores, broken_rule, broken_rules, broken_by, changes, first_of, rules, unbalanced}
+use Rattle.account_rules.specs.AccountRules.{afters, befores, broken_rule, broken_by, changes, first_of, rules, unbalanced}
 
 -- none of the first n accounts breaks a rule
 abbrev pub NoneBroken : Key → List Bool → List Account → List Account → ℕ → Type 0

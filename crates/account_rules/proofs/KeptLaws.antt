@@ -1,16 +1,16 @@
 -- What accounts keep of which only some may be written: it holds where nothing is written, it goes on, and more rights leave it so.
-use Rattle.std.proofs.Common.{◌≡◌, ◌⊎◌, ℕ, zero, suc, ◌+◌, ◌<◌, ◌≤◌, Bool, true, false, not, ◌||◌, List, [], length, take, get_or, nat_eq, refl, sym, ap, ◌∙◌, subst, inl, inr, Some, None, Ok, arith, All, add-one, slice_get}
+use Rattle.std.proofs.Common.{◌≡◌, ℕ, zero, suc, ◌+◌, ◌<◌, ◌≤◌, Bool, true, false, ◌||◌, List, [], length, take, get_or, nat_eq, refl, sym, ap, ◌∙◌, subst, inl, inr, Some, None, Ok, arith, add-one, slice_get}
 use Rattle.std.specs.List.{filter_map}
 use Rattle.std.proofs.lemmas.Bool.{cases_lt}
 use Rattle.std.proofs.lemmas.Bool.Decides.{nat_tests}
 use Rattle.std.proofs.lemmas.List.{take_all}
-use Rattle.std.proofs.lemmas.Option.{get_or_from_slice_get, same_Some, slice_get-get_or, slice_get_past, slice_get_within}
+use Rattle.std.proofs.lemmas.Option.{get_or_from_slice_get, same_Some, slice_get-get_or, slice_get_past}
 use Rattle.sol_base.specs.declared.key.Key.{Key}
 use Rattle.sol_base.specs.declared.account.Account.{Account}
 use Rattle.sol_base.specs.declared.lock.Meta.{Meta}
 use Rattle.sol_base.specs.Accounts.{AreShort, IsShort, empty_account, lamports_in}
 use Rattle.sol_base.specs.Metas.{AreInRange, SameUnlessListed, is_listed, is_listed_writable}
-use Rattle.account_rules.specs.AccountRules.{afters, befores, broken_by, broken_rule, listed_change, listed_changes, listed_rules}
+use Rattle.account_rules.specs.AccountRules.{afters, befores, broken_by, listed_changes, listed_rules}
 use Rattle.account_rules.specs.KeptAccounts.{AreKeptBy, IsKept}
 use Rattle.account_rules.proofs.Flags.{listed_more}
 use Rattle.account_rules.proofs.Kept.{kept, none_at, none_broken}

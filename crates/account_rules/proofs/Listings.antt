@@ -1,12 +1,8 @@
 -- The broken rules of the accounts that a frame lists, meta by meta.
-use Rattle.std.proofs.Common.{◌≡◌, ◌≢◌, ℕ, zero, suc, ◌+◌, ◌<◌, ◌≤◌, Bool, true, false, not, ◌||◌, List, [], ◌∷◌, ◌++◌, length, map, take, get_or, nat_eq, refl, sym, ap, ◌∙◌, subst, Option, Some, None, Result, Ok, Err, arith, if◌then◌else◌, All, add-one, zero-add, slice_get}
-use Rattle.std.specs.List.{enumerate_from, filter, filter_map, cons_option, sum_by}
+use Rattle.std.proofs.Common.{◌≡◌, ℕ, ◌+◌, ◌<◌, Bool, true, false, not, List, [], ◌∷◌, length, map, take, get_or, refl, sym, ap, ◌∙◌, Option, Some, None, arith, if◌then◌else◌, zero-add, slice_get}
+use Rattle.std.specs.List.{enumerate_from, filter, filter_map, cons_option}
 use Rattle.std.proofs.Math.Seq.{take-length}
-use Rattle.std.proofs.lemmas.Bool.Decides.{nat_tests}
-use Rattle.std.proofs.lemmas.List.{take_more}
 use Rattle.std.proofs.lemmas.List.FromFn.{get_or-enumerate_from, length-enumerate_from}
-use Rattle.std.proofs.lemmas.List.Elements.{filter_map-append, filter_more}
-use Rattle.std.proofs.lemmas.List.Sums.{sum_by-append}
 use Rattle.std.proofs.lemmas.Option.{get_or_from_slice_get, same_Some, slice_get-get_or, slice_get_read}
 use Rattle.std.proofs.Math.ListN.{get_or-map}
 use Rattle.std.specs.Bool.{IsTrue}
@@ -17,13 +13,10 @@ use Rattle.spec_base.proofs.Filters.{nothing_more, first_found}
 use Rattle.sol_base.specs.declared.key.Key.{Key}
 use Rattle.sol_base.specs.declared.account.Account.{Account}
 use Rattle.sol_base.specs.declared.lock.Meta.{Meta}
-use Rattle.sol_base.specs.Accounts.{accounts_of, empty_account, lamports_in}
-use Rattle.sol_base.specs.Metas.{AreInRange, SameUnlessListed, first_listings, is_first_listing, is_listed, is_listed_writable}
+use Rattle.sol_base.specs.Accounts.{accounts_of, empty_account}
+use Rattle.sol_base.specs.Metas.{is_first_listing, is_listed, is_listed_writable}
 use Rattle.account_rules.specs.declared.rules.RuleFault.{RuleFault}
-use Rattle.account_rules.specs.AccountRules.{Change, SameUnlessTouched, afters, befores, broken_by, broken_rule, first_of, listed_change, listed_changes, listed_faults}
-use Rattle.account_rules.specs.KeptAccounts.{IsKept}
-use Rattle.account_rules.proofs.Flags.{listed_more}
-use Rattle.account_rules.proofs.Kept.{kept, none_at}
+use Rattle.account_rules.specs.AccountRules.{SameUnlessTouched, broken_by, broken_rule, listed_change, listed_faults}
 
 -- a function over what passes a test, in one walk
 filter_map-filter : {X Y Z : Type 0} (p : X → Bool) (h : X → Z) (f : Z → Option Y) (xs : List X) → filter_map f (map h (filter p xs)) ≡ filter_map (λ x. if p x then f (h x) else None) xs

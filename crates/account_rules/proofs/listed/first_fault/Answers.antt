@@ -1,4 +1,4 @@
-use Rattle.std.proofs.Common.{◌≡◌, ◌+◌, ◌<◌, ◌∙◌, ap, subst, sym, refl, take, get_or, length, true, false, List, Bool, arith}
+use Rattle.std.proofs.Common.{◌≡◌, ◌+◌, ◌<◌, ◌∙◌, sym, refl, take, get_or, length, true, false, arith}
 use Rattle.sol_base.specs.Accounts.{accounts_of}
 use Rattle.sol_base.specs.Metas.{is_listed, is_listed_writable}
 use Rattle.account_rules.proofs.Flags.{flag_at, no_flag, one_flag, again_flag, listed_more}

@@ -1,4 +1,4 @@
-use Rattle.std.proofs.Common.{◌+◌, ◌<◌, subst, sym, refl, take, get_or, List, Bool, arith}
+use Rattle.std.proofs.Common.{◌+◌, subst, sym, refl, take, get_or, List, Bool, arith}
 use Rattle.sol_base.specs.Metas.{is_listed_writable}
 use Rattle.account_rules.specs.AccountRules.{AreFlagsOf}
 use Rattle.account_rules.proofs.Flags.{no_flag, one_flag, kept_flags, writable_yes, writable_no}
