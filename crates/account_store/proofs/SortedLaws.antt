@@ -102,15 +102,15 @@ last_above [] k below = refl
 last_above (e ∷ []) k below = ap is_lt below.0
 last_above (e ∷ f ∷ es) k below = ap (λ (o : Option Key). is_above o k) (last_key-cons e f es) ∙ last_above (f ∷ es) k below.1
 
-all_push : (P : Key → Type 0) (es : List Entry) (e : Entry) → AllByRecursion P (keys_of es) → P e.0 → AllByRecursion P (keys_of (es ++ e ∷ []))
-all_push P [] e all one = (one, tt)
-all_push P (d ∷ es) e all one = (all.0, all_push P es e all.1 one)
+keys_pushed : (P : Key → Type 0) (es : List Entry) (e : Entry) → AllByRecursion P (keys_of es) → P e.0 → AllByRecursion P (keys_of (es ++ e ∷ []))
+keys_pushed P [] e all one = (one, tt)
+keys_pushed P (d ∷ es) e all one = (all.0, keys_pushed P es e all.1 one)
 
 -- keys that ascend and one more above them
 Ascend-push : (es : List Entry) (e : Entry) → Ascend es → AllByRecursion (λ (q : Key). key_cmp q e.0 ≡ Less) (keys_of es) → Ascend (es ++ e ∷ [])
 unfolding IsStrictlySortedBy
 Ascend-push [] e ascend below = (tt, tt)
-Ascend-push (d ∷ es) e ascend below = (all_push (λ (q : Key). key_cmp d.0 q ≡ Less) es e ascend.0 below.0, Ascend-push es e ascend.1 below.1)
+Ascend-push (d ∷ es) e ascend below = (keys_pushed (λ (q : Key). key_cmp d.0 q ≡ Less) es e ascend.0 below.0, Ascend-push es e ascend.1 below.1)
 
 Ascend-above : (es : List Entry) (e : Entry) → Ascend es → is_above (last_key es) e.0 ≡ true → Ascend (es ++ e ∷ [])
 Ascend-above es e ascend above = Ascend-push es e ascend (below_last es e.0 ascend above)

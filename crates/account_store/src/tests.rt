@@ -69,7 +69,8 @@ fn the_first_fault_is_the_answer(rt: HostRuntime) -> Result<(), Fail> {
 fn write(alloc: Global, accounts: &mut Accounts, key: Key, lamports: u64) -> Result<(), OutOfMemory>
     requires { state.sum accounts.old + lamports ≤ 2 ^ 64 - 1 }
 {
-    accounts.put(key, Arc::new(alloc, account(alloc, lamports)?)?)
+    let written = account(alloc, lamports)?;
+    accounts.put(key, Arc::new(alloc, written)?)
 }
 
 #[test]

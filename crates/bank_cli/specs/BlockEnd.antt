@@ -1,5 +1,5 @@
 -- The end of a block: the fees are burned and paid, and the state is hashed (Solana; the rounding is the project's own).
-use Rattle.std.specs.Prelude.{ℕ, ◌-◌, ◌*◌, ◌/◌, List, [], ◌∷◌, ◌++◌, Bool, nat_le, nat_eq, not, ◌&&◌, length, map, replicate, codes, if◌then◌else◌}
+use Rattle.std.specs.Prelude.{ℕ, ◌-◌, ◌*◌, ◌/◌, List, [], ◌∷◌, ◌++◌, Bool, nat_le, ◌==◌, not, ◌&&◌, length, map, replicate, codes, if◌then◌else◌}
 use Rattle.std.specs.FinMap.Entries.{by_order}
 use Rattle.sol_base.specs.Keys.{hash_cmp}
 use Rattle.sol_base.specs.declared.key.Key.{Key}
@@ -20,7 +20,7 @@ use Rattle.bank_cli.specs.Serial.{base_fee, native_units, more, is_wallet, after
 -- the collector's account may be this one, with the rest of the fees in it
 abbrev pub takes : Key → Account → ℕ → Bool
 takes collector after rest =
-    not (nat_eq rest 0) && (not (is_reserved collector) && (is_wallet after && nat_le (minimum_of (length after.bytes)) after.lamports))
+    not (rest == 0) && (not (is_reserved collector) && (is_wallet after && nat_le (minimum_of (length after.bytes)) after.lamports))
 
 -- Half of the base fees, rounded down, is burned. The rest is paid to the collector where it may be, and else burned too.
 abbrev pub share_fees : List KeyedAccount → Key → ℕ → Shares

@@ -1,5 +1,5 @@
 -- Plain inputs: a snapshot and a batch of transfers between wallets.
-use Rattle.std.specs.Prelude.{◌≡◌, ℕ, ◌+◌, ◌^◌, ◌<◌, ◌≤◌, List, [], ◌∷◌, ◌++◌, length, drop, Bool, true, false, nat_lt, nat_le, nat_eq, not, ◌&&◌, Result, Ok, Err, codes, replicate, map, if◌then◌else◌}
+use Rattle.std.specs.Prelude.{◌≡◌, ℕ, ◌+◌, ◌^◌, ◌<◌, ◌≤◌, List, [], ◌∷◌, ◌++◌, length, drop, Bool, true, false, nat_lt, nat_le, nat_eq, ◌==◌, not, ◌&&◌, Result, Ok, Err, codes, replicate, map, if◌then◌else◌}
 use Rattle.std.specs.Int.{w16, w32, w64, to_le_bytes}
 use Rattle.std.specs.Ordering.{is_lt}
 use Rattle.std.specs.List.Sorted.{IsStrictlySortedBy}
@@ -95,7 +95,7 @@ account_after before bytes = do
 
 -- the same payer, destination and amount: the same message, under one blockhash
 abbrev pub is_same_message : Transfer → Transfer → Bool
-is_same_message t u = same_key t.payer u.payer && (same_key t.to u.to && nat_eq t.lamports u.lamports)
+is_same_message t u = same_key t.payer u.payer && (same_key t.to u.to && t.lamports == u.lamports)
 
 abbrev pub may_be_sent : List Transfer → Transfer → Bool
 may_be_sent before t =

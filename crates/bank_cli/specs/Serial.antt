@@ -1,5 +1,5 @@
 -- Transfers executed one after another (Solana).
-use Rattle.std.specs.Prelude.{◌≡◌, ℕ, ◌+◌, ◌-◌, ◌<◌, ◌^◌, List, [], ◌∷◌, Bool, nat_le, nat_eq, not, ◌&&◌, Option, position, fold, length}
+use Rattle.std.specs.Prelude.{◌≡◌, ℕ, ◌+◌, ◌-◌, ◌<◌, ◌^◌, List, [], ◌∷◌, Bool, nat_le, ◌==◌, not, ◌&&◌, Option, position, fold, length}
 use Rattle.std.specs.List.{AllByRecursion}
 use Rattle.sol_base.specs.declared.account.Account.{Account}
 use Rattle.sol_base.specs.declared.key.TheConstants.{SYSTEM_PROGRAM}
@@ -25,7 +25,7 @@ more a lamports = record a { lamports = a.lamports + lamports }
 
 -- owned by the system program, no program, and without data
 abbrev pub is_wallet : Account → Bool
-is_wallet a = same_key a.owner SYSTEM_PROGRAM && (not a.executable && nat_eq (length a.bytes) 0)
+is_wallet a = same_key a.owner SYSTEM_PROGRAM && (not a.executable && length a.bytes == 0)
 
 abbrev pub allowed : Account → Account → Bool
 allowed before after = moves (state_of before) (state_of after)

@@ -1,5 +1,5 @@
 -- A state: accounts by key, in ascending order of keys. What is absent is the empty account.
-use Rattle.std.specs.Prelude.{ℕ, List, [], ◌∷◌, map, sum_by, nat_eq, if◌then◌else◌}
+use Rattle.std.specs.Prelude.{ℕ, List, [], ◌∷◌, map, sum_by, ◌==◌, if◌then◌else◌}
 use Rattle.std.specs.FinMap.Entries.{by_order}
 use Rattle.std.specs.List.Sorted.{IsStrictlySortedBy}
 use Rattle.sol_base.specs.Accounts.{empty_account}
@@ -19,7 +19,7 @@ account_at (e ∷ es) key = if same_key e.key key then e.account else account_at
 
 -- an account with 0 lamports is absent
 abbrev pub kept : Key → Account → List KeyedAccount → List KeyedAccount
-kept key account es = if nat_eq account.lamports 0 then es else record { key = key; account = account } ∷ es
+kept key account es = if account.lamports == 0 then es else record { key = key; account = account } ∷ es
 
 -- the state with this account at the key
 abbrev pub put : List KeyedAccount → Key → Account → List KeyedAccount

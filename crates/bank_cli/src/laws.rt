@@ -1,5 +1,5 @@
 //! Laws over definitions.
-ghost use Rattle.std.specs.Prelude.{◌≡◌, ◌↔◌, ℕ, ◌+◌, ◌*◌, List, Ok, IsErr, true, Contains, length, nat_eq, if◌then◌else◌};
+ghost use Rattle.std.specs.Prelude.{◌≡◌, ◌↔◌, ℕ, ◌+◌, ◌*◌, List, Ok, IsErr, true, Contains, length, ◌==◌, if◌then◌else◌};
 ghost use Rattle.std.specs.List.Sorted.{IsStrictlySortedBy};
 ghost use Rattle.spec_base.specs.Bytes.{IsBytes};
 ghost use Rattle.sol_base.specs.Accounts.{empty_account};
@@ -38,7 +38,7 @@ pub fn states_are_maps()
     ensures order { (es : List KeyedAccount) (k : Key) (a : Account) → IsAscending es
         → IsAscending (put es k a) }
     ensures here { (es : List KeyedAccount) (k : Key) (a : Account) → IsAscending es
-        → account_at (put es k a) k ≡ (if nat_eq a.lamports 0 then empty_account else a) }
+        → account_at (put es k a) k ≡ (if a.lamports == 0 then empty_account else a) }
     ensures elsewhere { (es : List KeyedAccount) (k : Key) (a : Account) (j : Key) → ¬ (k ≡ j)
         → account_at (put es k a) j ≡ account_at es j }
 {}

@@ -16,11 +16,13 @@ use Rattle.fee_rules.specs.Requests.{asked_of, has_asked, request_of}
 
 -- the instruction calls the compute budget program
 abbrev pub is_budget : List Key → Instruction → Bool
-is_budget keys instruction = option_map_or (λ key. same_key key COMPUTE_BUDGET_PROGRAM) (slice_get keys instruction.program) false
+is_budget keys instruction =
+    option_map_or (λ key. same_key key COMPUTE_BUDGET_PROGRAM) (slice_get keys instruction.program) false
 
 -- its request, if it has one
 abbrev pub request_in : List Key → Instruction → Option Request
-request_in keys instruction = if is_budget keys instruction then request_of instruction.input else None
+request_in keys instruction =
+    if is_budget keys instruction then request_of instruction.input else None
 
 -- all requests, in order
 abbrev pub requests_in : List Key → List Instruction → List Request
@@ -29,18 +31,24 @@ requests_in keys instructions = filter_map (request_in keys) instructions
 -- what is wrong with a request: it is none, or one of its kind stands before it
 abbrev pub fault_of : Asked → Option Request → ℕ → Option BudgetFault
 fault_of before None index = Some (BadBudget index)
-fault_of before (Some request) index = if has_asked before request then Some (RepeatedBudget index) else None
+fault_of before (Some request) index =
+    if has_asked before request then Some (RepeatedBudget index) else None
+
+-- what the instructions before an index ask for
+abbrev pub asked_before : List Key → List Instruction → ℕ → Asked
+asked_before keys instructions index = asked_of (requests_in keys (take index instructions))
 
 -- what is wrong with the instruction at an index
 abbrev pub fault_at : List Key → List Instruction → ℕ × Instruction → Option BudgetFault
 fault_at keys instructions at =
     if is_budget keys at.1
-    then fault_of (asked_of (requests_in keys (take at.0 instructions))) (request_of at.1.input) at.0
+    then fault_of (asked_before keys instructions at.0) (request_of at.1.input) at.0
     else None
 
 -- all that is wrong, in order
 abbrev pub faults_in : List Key → List Instruction → List BudgetFault
-faults_in keys instructions = filter_map (fault_at keys instructions) (enumerate_from 0 instructions)
+faults_in keys instructions =
+    filter_map (fault_at keys instructions) (enumerate_from 0 instructions)
 
 -- the budget for what is asked, with so many instructions that are no requests
 abbrev pub budget_for : Asked → ℕ → Budget
@@ -53,14 +61,20 @@ budget_for asked others = record {
 
 -- the instructions that are no requests
 abbrev pub others_in : List Key → List Instruction → ℕ
-others_in keys instructions = count_by (λ instruction. not (is_budget keys instruction)) instructions
+others_in keys instructions =
+    count_by (λ instruction. not (is_budget keys instruction)) instructions
 
 -- the budget, or the first that is wrong
 abbrev pub first_or : {X : Type 0} → List BudgetFault → X → Result X BudgetFault
 first_or [] answer = Ok answer
 first_or (fault ∷ _) answer = Err fault
 
+-- the budget, where nothing is wrong
+abbrev pub asked_budget : List Key → List Instruction → Budget
+asked_budget keys instructions =
+    budget_for (asked_of (requests_in keys instructions)) (others_in keys instructions)
+
 unfoldable pub budget_in : Message → Result Budget BudgetFault
 budget_in message =
     first_or (faults_in message.keys message.instructions)
-    (budget_for (asked_of (requests_in message.keys message.instructions)) (others_in message.keys message.instructions))
+    (asked_budget message.keys message.instructions)

@@ -1,4 +1,5 @@
--- Fees and priorities (Solana; the cut of the priority fee, the priority and its rounding are the project's own).
+-- Fees and priorities (Solana; the cut of the priority fee, the priority and its rounding are the
+-- project's own).
 use Rattle.std.specs.Prelude.{ℕ, ◌+◌, ◌-◌, ◌*◌, ◌/◌, ◌^◌, min}
 use Rattle.message_codec.specs.declared.message.Message.{Message}
 use Rattle.fee_rules.specs.declared.budget.Budget.{Budget}
@@ -18,9 +19,12 @@ abbrev pub priority_fee : ℕ → Budget → ℕ
 priority_fee base budget = min (ceil_div (budget.price * budget.limit) 1000000) (2 ^ 64 - 1 - base)
 
 unfoldable pub fee_of : Message → Budget → Charge
-fee_of message budget = record { base = base_fee message; priority = priority_fee (base_fee message) budget }
+fee_of message budget = record {
+  base = base_fee message;
+  priority = priority_fee (base_fee message) budget;
+}
 
--- what is not burned of a fee, in millionths of a lamport, for each unit and one more
+-- what is not burned of a fee, in micro-lamports, for each unit and one more
 unfoldable pub priority_of : Charge → Budget → ℕ
 priority_of fee budget = (fee.priority + fee.base - fee.base / 2) * 1000000 / (budget.limit + 1)
 

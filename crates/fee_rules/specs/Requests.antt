@@ -1,5 +1,5 @@
 -- What compute budget instructions ask for (Solana).
-use Rattle.std.specs.Prelude.{ℕ, ◌%◌, Bool, ◌&&◌, List, [], ◌∷◌, length, take, nat_eq, nat_le, slice_get, Option, Some, None, is_some, option_and_then, if◌then◌else◌}
+use Rattle.std.specs.Prelude.{ℕ, ◌%◌, Bool, ◌&&◌, List, [], ◌∷◌, length, take, ◌==◌, nat_le, slice_get, Option, Some, None, is_some, option_and_then, if◌then◌else◌}
 use Rattle.std.specs.List.{filter_map}
 use Rattle.std.specs.Option.{option_map}
 use Rattle.std.specs.Int.{Width, w32, w64, byte_len, from_le_bytes}
@@ -10,25 +10,29 @@ use Rattle.fee_rules.specs.declared.request.Asked.{Asked}
 -- the little-endian number of that width in front; bytes after it are ignored
 abbrev pub number_of : Width → List ℕ → Option ℕ
 number_of width bytes =
-    if nat_le (byte_len width) (length bytes) then Some (from_le_bytes width (take (byte_len width) bytes)) else None
+    if nat_le (byte_len width) (length bytes)
+    then Some (from_le_bytes width (take (byte_len width) bytes))
+    else None
 
 -- a heap frame is a multiple of 1,024 from 32,768 to 262,144
+abbrev pub is_heap_frame : ℕ → Bool
+is_heap_frame bytes = bytes % 1024 == 0 && nat_le 32768 bytes && nat_le bytes 262144
+
 abbrev pub heap_frame_of : ℕ → Option Request
-heap_frame_of bytes =
-    if nat_eq (bytes % 1024) 0 && nat_le 32768 bytes && nat_le bytes 262144 then Some (HeapFrame bytes) else None
+heap_frame_of bytes = if is_heap_frame bytes then Some (HeapFrame bytes) else None
 
 -- a limit of loaded data is not 0
 abbrev pub loaded_limit_of : ℕ → Option Request
-loaded_limit_of bytes = if nat_eq bytes 0 then None else Some (LoadedLimit bytes)
+loaded_limit_of bytes = if bytes == 0 then None else Some (LoadedLimit bytes)
 
 -- the request that the data of an instruction spell: a tag byte and a number
 abbrev pub request_of : List ℕ → Option Request
 request_of [] = None
 request_of (tag ∷ rest) =
-    if nat_eq tag 1 then option_and_then heap_frame_of (number_of w32 rest) else
-    if nat_eq tag 2 then option_map UnitLimit (number_of w32 rest) else
-    if nat_eq tag 3 then option_map UnitPrice (number_of w64 rest) else
-    if nat_eq tag 4 then option_and_then loaded_limit_of (number_of w32 rest) else
+    if tag == 1 then option_and_then heap_frame_of (number_of w32 rest) else
+    if tag == 2 then option_map UnitLimit (number_of w32 rest) else
+    if tag == 3 then option_map UnitPrice (number_of w64 rest) else
+    if tag == 4 then option_and_then loaded_limit_of (number_of w32 rest) else
     None
 
 abbrev pub no_request : Asked

@@ -20,7 +20,7 @@ pub const MAX_LOADED_DATA: u32 = 67_108_864;
 pub struct Budget {
     /// The most compute units.
     pub limit: u32,
-    /// The price of a compute unit, in millionths of a lamport.
+    /// The price of a compute unit, in micro-lamports.
     pub price: u64,
     /// The bytes of each program's heap.
     pub heap: u32,

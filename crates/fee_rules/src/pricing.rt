@@ -8,8 +8,8 @@ use message_codec::Message;
 /// What each required signature costs, in lamports (Solana).
 pub const LAMPORTS_PER_SIGNATURE: u64 = 5_000;
 
-/// The unit of a price is this part of a lamport (Solana).
-pub const PRICES_PER_LAMPORT: u128 = 1_000_000;
+/// How many micro-lamports, in which prices are given, make a lamport (Solana).
+pub const MICRO_LAMPORTS_PER_LAMPORT: u128 = 1_000_000;
 
 /// What the message's transaction pays with that budget. A priority fee with which the sum does not
 /// fit in a u64 counts as the greatest with which it does (Solana; the cut is the project's own).
@@ -18,7 +18,8 @@ pub fn fee(message: &Message, budget: &Budget) -> Fee
     ensures { result ≡ fee_of message.now budget.now }
 {
     let base = LAMPORTS_PER_SIGNATURE * message.header.required as u64;
-    let priority = (budget.price as u128 * budget.limit as u128).div_ceil(PRICES_PER_LAMPORT);
+    let micro_lamports = budget.price as u128 * budget.limit as u128;
+    let priority = micro_lamports.div_ceil(MICRO_LAMPORTS_PER_LAMPORT);
     let most = u64::MAX - base;
     Fee {
         base,
@@ -33,12 +34,12 @@ pub fn total(fee: &Fee) -> u64
     fee.base + fee.priority
 }
 
-/// The rank of a transaction: what the collector gets of its fee, in millionths of a lamport, for
+/// The rank of a transaction: what the collector gets of its fee, in micro-lamports, for
 /// each unit of its limit and one more (the project's own). Greater comes first.
 #[tactic(auto, unfolding(crate::specs::Fees::priority_of))]
 pub fn priority(fee: &Fee, budget: &Budget) -> u128
     ensures { result ≡ priority_of fee.now budget.now }
 {
     let rewarded = fee.priority as u128 + (fee.base - fee.base / 2) as u128;
-    rewarded * PRICES_PER_LAMPORT / (budget.limit as u128 + 1)
+    rewarded * MICRO_LAMPORTS_PER_LAMPORT / (budget.limit as u128 + 1)
 }

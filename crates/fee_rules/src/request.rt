@@ -2,7 +2,8 @@ ghost use Rattle.std.specs.Prelude.{◌≡◌};
 ghost use Rattle.std.specs.Int.{w32, w64};
 ghost use Rattle.fee_rules.specs.Requests.{asked_with, has_asked, heap_frame_of, loaded_limit_of, no_request, number_of, request_of};
 
-/// The fewest bytes of a heap, which are also its bytes where no instruction asks for others (Solana).
+/// The fewest bytes of a heap, which are also its bytes where no instruction asks for others
+/// (Solana).
 pub const MIN_HEAP_FRAME: u32 = 32_768;
 
 /// The most bytes of a heap (Solana).
@@ -18,7 +19,7 @@ pub(crate) enum Request {
     HeapFrame(u32),
     /// The most compute units.
     UnitLimit(u32),
-    /// The price of a compute unit, in millionths of a lamport.
+    /// The price of a compute unit, in micro-lamports.
     UnitPrice(u64),
     /// The most bytes of data of all accounts together.
     LoadedLimit(u32),

@@ -5,3 +5,4 @@ pub mod WireLaws
 pub mod SaneLaws
 pub mod LockLaws
 pub mod RoleLaws
+pub mod Refusals

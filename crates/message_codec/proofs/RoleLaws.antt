@@ -69,12 +69,15 @@ are_named tx most loaded is has = All-from_recursion (AreNamed tx.message loaded
     both : (instructions : List Instruction) → AllByRecursion (λ (x : Instruction). (0 < x.program) × (x.program < length tx.message.keys)) instructions
         → AllByRecursion (λ (x : Instruction). All (λ index. index < key_count tx.message) x.accounts) instructions → AllByRecursion (AreNamed tx.message loaded) instructions
     both [] p a = tt
-    both (x ∷ xs) p a = (record {
-      static = p.0.1;
-      no_payer = p.0.0;
-      program = ap (λ (l : List Key). slice_get l x.program) (append_assoc tx.message.keys loaded.writable loaded.readonly) ∙ front tx.message.keys (loaded.writable ++ loaded.readonly) x.program p.0.1;
-      accounts = subst (λ n. All (λ index. index < n) x.accounts) (sym (all_count tx.message loaded has)) a.0;
-    }, both xs p.1 a.1)
+    both (x ∷ xs) p a = (
+      record {
+        static = p.0.1;
+        no_payer = p.0.0;
+        program = ap (λ (l : List Key). slice_get l x.program) (append_assoc tx.message.keys loaded.writable loaded.readonly) ∙ front tx.message.keys (loaded.writable ++ loaded.readonly) x.program p.0.1;
+        accounts = subst (λ n. All (λ index. index < n) x.accounts) (sym (all_count tx.message loaded has)) a.0;
+      },
+      both xs p.1 a.1,
+    )
 
 keys_numbered : (message : Message) (loaded : Loaded) (n : ℕ) (keys : List Key) → map (λ (lock : Lock). lock.key) (map (lock_of message loaded) (enumerate_from n keys)) ≡ keys
 keys_numbered message loaded n [] = refl

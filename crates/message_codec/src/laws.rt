@@ -10,7 +10,7 @@ ghost use Rattle.message_codec.specs.declared.message.Loaded.{Loaded};
 ghost use Rattle.message_codec.specs.declared.message.Tx.{Tx};
 ghost use Rattle.message_codec.specs.Compact.{compact, AreDigits, digits_value, BeginsWithLength, IsCutLength};
 ghost use Rattle.message_codec.specs.Wire.{Wire, IsOneWire, tx_bytes};
-ghost use Rattle.message_codec.specs.WireReading.{compact_at, wire_of};
+ghost use Rattle.message_codec.specs.WireReading.{compact_at, wire_of, is_wire_memory};
 ghost use Rattle.message_codec.specs.Roles.{IsSane, HasAllLoaded, AreNamed, is_signer_at, is_writable_at, all_keys, key_count, lock_of, locks_of};
 
 /// A law: the spelling of a compact length is the one list of its 7-bit digits, low digit first, 128
@@ -28,9 +28,11 @@ pub fn lengths_are_read_or_cut_or_bad()
     ensures bad { (total : ℕ) (bytes : List ℕ) → IsBytes bytes → (compact_at total bytes ≡ Err (BadLength (place total bytes))) ↔ ((¬ BeginsWithLength bytes) × (¬ IsCutLength bytes)) }
 {}
 
-/// A law: bytes are read as a transaction exactly where they are spelled as that one.
+/// A law: bytes are read as a transaction exactly where they are spelled as that one, and no bytes are
+/// refused for want of memory.
 pub fn wires_are_read_as_they_are_spelled()
-    ensures { (bytes : List ℕ) (tx : Tx) → IsBytes bytes → (wire_of bytes ≡ Ok tx) ↔ Wire bytes tx }
+    ensures read { (bytes : List ℕ) (tx : Tx) → IsBytes bytes → (wire_of bytes ≡ Ok tx) ↔ Wire bytes tx }
+    ensures refused { (bytes : List ℕ) (fault : WireFault) → wire_of bytes ≡ Err fault → is_wire_memory fault ≡ false }
 {}
 
 /// A law: what is written is read again, where it may be a wire: `read_wire(write_wire(tx)) = tx`.

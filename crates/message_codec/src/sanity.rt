@@ -93,7 +93,10 @@ fn has_bad_program(instructions: &[Instruction], key_count: usize) -> bool
 fn has_bad_account(instructions: &[Instruction], key_count: usize) -> bool
     ensures { result ≡ has_bad_account instructions.now key_count }
 {
-    instructions.iter().any(|instruction| has_index_from(instruction.accounts.as_slice(), key_count))
+    instructions.iter().any(|instruction| has_index_from(
+        instruction.accounts.as_slice(),
+        key_count,
+    ))
 }
 
 fn has_index_from(indexes: &[u8], key_count: usize) -> bool

@@ -1,5 +1,5 @@
 use super::*;
-use sol_base::{Items, Key, OutOfMemory, hash};
+use sol_base::{Items, Key, LockList, OutOfMemory, hash};
 use std::alloc::{AllocError, Global};
 use std::test::Fail;
 
@@ -114,22 +114,37 @@ fn wires_are_refused(rt: HostRuntime) -> Result<(), Fail> {
     ];
     for (wire, fault) in cases {
         assert_eq!(rt; read_wire(alloc, wire).err(), Some(fault));
+        assert_eq!(rt; refusal_of(parse(alloc, wire)?), Some(fault));
     }
     Ok(())
 }
 
+fn refusal_of(parsed: Parsed) -> Option<WireFault> {
+    match parsed {
+        Parsed::Good { tx: _, name: _ } => None,
+        Parsed::Bad(fault) => Some(fault),
+    }
+}
+
+/// Where the message begins after one signature.
+const MESSAGE: usize = 65;
+
 #[test]
-fn a_lookup_is_read_and_written(rt: HostRuntime) -> Result<(), Fail> {
+fn both_kinds_are_read_and_written(rt: HostRuntime) -> Result<(), Fail> {
     let alloc = rt.alloc();
-    let wire = zero(alloc, 128, 2, &[1, 0, 0])?;
-    assert_eq!(rt; wire.len(), 220);
-    let tx = read_wire(alloc, wire.as_slice())?;
-    assert_eq!(rt; write_wire(alloc, &tx)?.as_slice(), wire.as_slice());
-    let name = message_key(alloc, &tx.message)?;
-    assert_eq!(rt; name, hash(&wire.as_slice()[65..]));
-    match parse(alloc, wire.as_slice())? {
-        Parsed::Good { tx: _, name: found } => assert_eq!(rt; found, name),
-        Parsed::Bad(fault) => assert_eq!(rt; fault, WireFault::TooLong),
+    let legacy = legacy(alloc, &[12], 0)?;
+    let zero = zero(alloc, 128, 2, &[1, 0, 0])?;
+    for wire in [legacy.as_slice(), zero.as_slice()] {
+        let tx = read_wire(alloc, wire)?;
+        assert_eq!(rt; write_wire(alloc, &tx)?.as_slice(), wire);
+        assert!(rt; wire.len() > MESSAGE);
+        let expected = hash(&wire[MESSAGE..]);
+        assert_eq!(rt; message_key(alloc, &tx.message)?, expected);
+        let found = match parse(alloc, wire)? {
+            Parsed::Good { tx: _, name } => Some(name),
+            Parsed::Bad(_) => None,
+        };
+        assert_eq!(rt; found, Some(expected));
     }
     Ok(())
 }
@@ -137,20 +152,26 @@ fn a_lookup_is_read_and_written(rt: HostRuntime) -> Result<(), Fail> {
 #[test]
 fn keys_have_their_roles(rt: HostRuntime) -> Result<(), Fail> {
     let alloc = rt.alloc();
-    let wire = zero(alloc, 128, 2, &[1, 0, 0])?;
+    let wire = zero(alloc, 128, 2, &[1, 0, 1, 1])?;
     let tx = read_wire(alloc, wire.as_slice())?;
     let message = &tx.message;
     assert_eq!(rt; sanitize(&tx, 64), Ok(()));
     assert_eq!(rt; sanitize(&tx, 2), Err(SanitizeFault::TooManyKeys));
     let mut writable = Items::new(alloc);
     writable.push(Key([0x11; 32]))?;
-    let readonly = Items::new(alloc);
+    let mut readonly = Items::new(alloc);
+    readonly.push(Key([0x22; 32]))?;
     let loaded = Loaded { writable, readonly };
     let locks = locks(alloc, message, &loaded)?;
     let keys = keys_of(alloc, message, &loaded)?;
-    assert_eq!(rt; locks.len(), 3);
-    assert_eq!(rt; keys.len(), 3);
-    let roles = [(true, true, 0x01), (false, false, 0), (false, true, 0x11)];
+    assert_eq!(rt; locks.len(), 4);
+    assert_eq!(rt; keys.len(), 4);
+    let roles = [
+        (true, true, 0x01),
+        (false, false, 0),
+        (false, true, 0x11),
+        (false, false, 0x22),
+    ];
     for (index, (signs, writes, byte)) in roles.into_iter().enumerate() {
         assert_eq!(rt; is_signer(message, index as u8), signs);
         assert_eq!(rt; is_writable(message, &loaded, index as u8), writes);
@@ -170,5 +191,19 @@ fn an_empty_lookup_is_refused(rt: HostRuntime) -> Result<(), Fail> {
         sanitize(&tx, 64),
         Err(SanitizeFault::EmptyLookup { lookup: 0 })
     );
+    Ok(())
+}
+
+fn crosses_threads<T: Send + Sync>(_value: &T) {}
+
+#[test]
+fn transactions_may_cross_threads(rt: HostRuntime) -> Result<(), Fail> {
+    let alloc = rt.alloc();
+    crosses_threads(&parse(alloc, &[])?);
+    crosses_threads(&Loaded {
+        writable: Items::new(alloc),
+        readonly: Items::new(alloc),
+    });
+    crosses_threads::<LockList>(&Items::new(alloc));
     Ok(())
 }
