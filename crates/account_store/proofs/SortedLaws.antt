@@ -26,7 +26,7 @@ use Rattle.account_store.specs.declared.sorted.KeyedAccount.{KeyedAccount}
 use Rattle.account_store.specs.declared.sorted.StoreFault.{StoreFault}
 use Rattle.account_store.specs.declared.sorted.StoreFault.TheVariants.{OutOfOrder, Empty, SupplyTooLarge, OutOfMemory}
 use Rattle.account_store.specs.State.{State, is_above, entries, len, lamports_of, sum, IsHeld, IsState}
-use Rattle.account_store.specs.Sorted.{is_memory, IsFaultOr, entry_of, entries_of, keyed, Ascend, AreOfState, IsWrongAfter, IsRefused, last_key, entry_fault, entry_faults, first_fault, unless, state_of}
+use Rattle.account_store.specs.Sorted.{is_store_memory, IsFaultOr, entry_of, entries_of, keyed, Ascend, AreOfState, IsWrongAfter, IsRefused, last_key, entry_fault, entry_faults, first_fault, unless, state_of}
 use Rattle.account_store.proofs.EntryLists.{sorted-entries, entries-from_entries, from_entries-entries}
 
 abbrev pub Entry : Type 0
@@ -359,8 +359,8 @@ few-before s so_far left all has split few =
 
 -- what is wrong with that entry is what is wrong first
 pub refused-at : (list so_far left : List KeyedAccount) (e : KeyedAccount) (s : State) (fault : StoreFault) → entries s ≡ entries_of so_far → fault_after [] (entries_of list) ≡ fault_after (entries_of so_far) (entries_of (e ∷ left))
-    → IsFaultOr (entry_fault (entries s) (entry_of e)) fault → MatchBool (is_memory fault) (Unit {0}) (state_of list ≡ Err fault)
-refused-at list so_far left e s fault has all h = by_case (is_memory fault) h
+    → IsFaultOr (entry_fault (entries s) (entry_of e)) fault → MatchBool (is_store_memory fault) (Unit {0}) (state_of list ≡ Err fault)
+refused-at list so_far left e s fault has all h = by_case (is_store_memory fault) h
   where
     by_case : (b : Bool) → MatchBool b (Unit {0}) (entry_fault (entries s) (entry_of e) ≡ Some fault) → MatchBool b (Unit {0}) (state_of list ≡ Err fault)
     by_case true g = tt

@@ -3,22 +3,19 @@ use Rattle.std.proofs.Common.{◌≡◌, ◌+◌, ◌-◌, ◌^◌, ◌≤◌, L
 use Rattle.std.specs.Prelude.{option_map, unwrap_or, nat_eq, length, sum_by}
 use Rattle.std.specs.List.{AllByRecursion}
 use Rattle.std.specs.List.Sorted.{IsStrictlySortedBy}
-use Rattle.std.specs.Ordering.{eq_by_cmp, is_eq}
-use Rattle.std.specs.declared.cmp.Ordering.{Ordering}
-use Rattle.std.specs.declared.cmp.Ordering.TheVariants.{Less, Equal, Greater}
+use Rattle.std.specs.Ordering.{eq_by_cmp}
 use Rattle.std.specs.Map.{lookup, values_of, remove_entry}
 use Rattle.std.specs.BTreeMap.{is_at, insert_entry}
 use Rattle.std.specs.FinMap as map
 use Rattle.std.specs.FinMap.{get-insert, get-remove, get-entries, same_map}
-use Rattle.std.proofs.lemmas.Bool.{cases_Bool, both_ways, false_from_ne_true}
-use Rattle.std.proofs.lemmas.Cmp.{eq_by_cmp_equiv}
+use Rattle.std.proofs.lemmas.Bool.{cases_Bool}
 use Rattle.std.proofs.lemmas.Bool.Decides.{nat_tests}
 use Rattle.std.proofs.lemmas.Map.Entries.{sum_by-insert_entry, sum_by-remove_entry}
 use Rattle.sol_base.specs.declared.key.Key.{Key}
 use Rattle.sol_base.specs.declared.account.Account.{Account}
 use Rattle.sol_base.specs.Keys.{key_cmp, same_key}
 use Rattle.sol_base.specs.Accounts.{empty_account}
-use Rattle.sol_base.proofs.KeyLaws.{key_cmp_exact, key_cmp_total, same_key-true, same_key-self}
+use Rattle.sol_base.proofs.KeyLaws.{key_cmp_exact, key_cmp_total, same_cmp}
 use Rattle.account_store.specs.State.{State, empty, get, at, remove, put, kept, settled, entries, lamports_of, sum, IsHeld, IsState}
 use Rattle.account_store.proofs.EntryLists.{find-lookup, sorted-entries, entries-from_entries, entries-insert_entry, entries-remove_entry, sum_by-values, all-insert_entry, all-remove_entry, all-find}
 
@@ -130,19 +127,6 @@ get-at s k is = by_case (get s k) refl
 -- states that show the same account at each key are one
 pub same_at : (s t : State) → IsState s → IsState t → ((k : Key) → at s k ≡ at t k) → s ≡ t
 same_at s t is it same = same_state s t (λ k. get-at s k is ∙ ap kept (same k) ∙ sym (get-at t k it))
-
--- keys that compare as equal are the same key
-pub same_cmp : (q k : Key) → eq_by_cmp key_cmp q k ≡ same_key q k
-same_cmp q k = by_case (same_key q k) refl
-  where
-    equal : (o : Ordering) → is_eq o ≡ true → o ≡ Equal
-    equal Less e = absurd (cc)
-    equal Equal e = refl
-    equal Greater e = absurd (cc)
-
-    by_case : (b : Bool) → same_key q k ≡ b → eq_by_cmp key_cmp q k ≡ b
-    by_case true e = subst (λ x. eq_by_cmp key_cmp q x ≡ true) (same_key-true q k e) ((eq_by_cmp_equiv key_cmp_total).refl q)
-    by_case false e = false_from_ne_true _ (λ t. let same : q ≡ k = key_cmp_exact q k (equal (key_cmp q k) t) in both_ways _ e (subst (λ x. same_key q x ≡ true) same (same_key-self q)))
 
 -- what is found at each key after an account is written, and after one is taken out
 pub get-put_key : (s : State) (k : Key) (a : Account) (q : Key) → get (put s k a) q ≡ cond (same_key q k) (kept a) (get s q)

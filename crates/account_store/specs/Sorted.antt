@@ -77,10 +77,10 @@ abbrev pub state_of : List KeyedAccount → Result State StoreFault
 state_of list = unless (first_fault (entries_of list)) (from_entries (entries_of list))
 
 -- want of memory, which no input shows
-abbrev pub is_memory : StoreFault → Bool
-is_memory OutOfMemory = true
-is_memory _ = false
+abbrev pub is_store_memory : StoreFault → Bool
+is_store_memory OutOfMemory = true
+is_store_memory _ = false
 
 -- it is the fault that was found, or want of memory
 abbrev pub IsFaultOr : Option StoreFault → StoreFault → Type 0
-IsFaultOr found fault = MatchBool (is_memory fault) (Unit {0}) (found ≡ Some fault)
+IsFaultOr found fault = MatchBool (is_store_memory fault) (Unit {0}) (found ≡ Some fault)

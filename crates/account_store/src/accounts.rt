@@ -5,7 +5,7 @@ ghost use Rattle.sol_base.specs.Accounts.{IsShort};
 ghost use Rattle.account_store.specs.State as state;
 ghost use Rattle.account_store.specs.State.{IsState, is_above};
 ghost use Rattle.account_store.specs.Shared.{shared_lamports, seen_entry};
-ghost use Rattle.account_store.specs.Sorted.{state_of, is_memory, entry_of, entry_fault, last_key, IsFaultOr};
+ghost use Rattle.account_store.specs.Sorted.{state_of, is_store_memory, entry_of, entry_fault, last_key, IsFaultOr};
 
 use crate::sorted::{KeyedAccount, StoreFault};
 use sol_base::{Account, Items, Key, OutOfMemory};
@@ -55,7 +55,7 @@ impl Accounts {
     pub fn from_sorted(alloc: Global, entries: Items<KeyedAccount>) -> Result<Accounts, StoreFault>
         requires few { length entries < 2 ^ 32 }
         requires short { All (λ e. IsShort e.account) entries }
-        ensures { Gives is_memory (λ accounts. accounts) result (state_of entries) }
+        ensures { Gives is_store_memory (λ accounts. accounts) result (state_of entries) }
     {
         let mut accounts = Accounts::new(alloc);
         for entry in entries.into_vec() {
