@@ -27,7 +27,7 @@ use Rattle.account_store.proofs.SortedLaws.{state_of-is}
 use Rattle.snapshot_codec.specs.declared.fault.SnapshotFault.TheVariants.{Truncated, BadField, OutOfOrder, Empty, SupplyTooLarge, TooManyAccounts, DataTooLong}
 use Rattle.snapshot_codec.specs.Snapshot.{flag, account_bytes, accounts_bytes, state_bytes}
 use Rattle.snapshot_codec.specs.SnapshotReading.{Read, count_at, key_after, lamports_after, flag_at, data_at, account_after, entries_at, state_at}
-use Rattle.snapshot_codec.proofs.Sized.{sized_reads, IsCount, count_fits, count_le}
+use Rattle.snapshot_codec.proofs.Sized.{sized_reads, sized_field_reads, IsCount, count_fits, count_le}
 use Rattle.snapshot_codec.proofs.Ordered.{IsNext, AllAfter-weaker, AllAfter-both, sorted-from_next, next-from_sorted}
 use Rattle.snapshot_codec.proofs.MarkLaws.{count_reads}
 
@@ -91,18 +91,12 @@ flag_takes total bytes is_set rest are h =
 flag_reads : (total : ℕ) → Reads (flag_at total) (λ is_set. flag is_set ∷ []) (λ _. Unit {0})
 flag_reads total = record { again = flag_again total; takes = flag_takes total }
 
-sized_field_reads : (total n : ℕ) → Reads (field_at Truncated total n) (λ field. field) (λ field. (length field ≡ n) × Unit {0})
-sized_field_reads total n = record {
-  again = λ field rest h. (field_reads Truncated total n).again field rest h.0;
-  takes = λ bytes field rest are h. let t = (field_reads Truncated total n).takes bytes field rest are h in ((t.0, tt), t.1);
-}
-
 abbrev data_bytes : List ℕ → List ℕ
 data_bytes data_of = to_le_bytes w32 (length data_of) ++ data_of
 
 data_reads : (total : ℕ) → Reads (data_at total) data_bytes (λ field. IsCount max_data_len (length field) × Unit {0})
 unfolding data_at
-data_reads total = sized_reads length (count_reads DataTooLong max_data_len total) (λ n. sized_field_reads total n)
+data_reads total = sized_reads length (count_reads DataTooLong max_data_len total) (sized_field_reads Truncated total)
 
 -- accounts after those before them
 

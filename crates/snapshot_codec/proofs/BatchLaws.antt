@@ -19,7 +19,7 @@ use Rattle.snapshot_codec.specs.declared.batch.Batch.{Batch}
 use Rattle.snapshot_codec.specs.Batch.{wire_bytes, batch_bytes, IsShort, IsBatch}
 use Rattle.snapshot_codec.specs.BatchReading.{Read, is_memory, magic_at, slot_at, count_at, wire_at, batch_at, batch_of}
 use Rattle.snapshot_codec.specs.Laws.{BatchRoundTrip}
-use Rattle.snapshot_codec.proofs.Sized.{sized_reads, IsCount, count_fits, count_le}
+use Rattle.snapshot_codec.proofs.Sized.{sized_reads, sized_field_reads, IsCount, count_fits, count_le}
 
 magic_reads : (total : ℕ) → Reads (magic_at total) (λ magic. magic) (λ magic. (length magic ≡ 8) × (bytes_eq magic (codes "SOLBATC1") ≡ true))
 unfolding magic_at
@@ -33,15 +33,9 @@ count_reads : (total : ℕ) → Reads (count_at total) (to_le_bytes w32) (IsCoun
 unfolding count_at
 count_reads total = read_if_reads (λ _. TooMany) (λ n. nat_le n 16384) total (u32_reads Truncated total)
 
-sized_field_reads : (total n : ℕ) → Reads (field_at Truncated total n) (λ field. field) (λ field. (length field ≡ n) × Unit {0})
-sized_field_reads total n = record {
-  again = λ field rest h. (field_reads Truncated total n).again field rest h.0;
-  takes = λ bytes field rest are h. let t = (field_reads Truncated total n).takes bytes field rest are h in ((t.0, tt), t.1);
-}
-
 wire_reads : (total : ℕ) → Reads (wire_at total) wire_bytes (λ wire. (length wire < 2 ^ 16) × Unit {0})
 unfolding wire_at
-wire_reads total = sized_reads length (u16_reads Truncated total) (λ n. sized_field_reads total n)
+wire_reads total = sized_reads length (u16_reads Truncated total) (sized_field_reads Truncated total)
 
 record BatchFits (before : ℕ) (b : Batch) : Type 0 where
   slot : (b.slot < 2 ^ 64) × (nat_lt before b.slot ≡ true)

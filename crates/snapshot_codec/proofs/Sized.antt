@@ -1,10 +1,10 @@
 -- A number that tells a size, and then what has that size.
-use Rattle.std.proofs.Common.{◌≡◌, ◌<◌, ◌≤◌, ◌^◌, ℕ, List, ◌++◌, Result, Ok, true, refl, sym, ap, subst, ◌∙◌, append_assoc, arith}
+use Rattle.std.proofs.Common.{◌≡◌, ◌<◌, ◌≤◌, ◌^◌, ℕ, List, ◌++◌, length, Result, Ok, true, refl, sym, ap, subst, ◌∙◌, append_assoc, arith}
 use Rattle.std.specs.Prelude.{nat_le}
 use Rattle.std.proofs.lemmas.Bool.Decides.{nat_tests}
 use Rattle.spec_base.specs.Bytes.{IsBytes}
-use Rattle.spec_base.specs.Reading.{◌>>=◌}
-use Rattle.spec_base.proofs.Formats.{Reads, taken}
+use Rattle.spec_base.specs.Reading.{◌>>=◌, field_at}
+use Rattle.spec_base.proofs.Formats.{Reads, taken, field_reads}
 
 module _ {X E : Type 0} {count : List ℕ → Result (ℕ × List ℕ) E} {number : ℕ → List ℕ} {Few : ℕ → Type 0} {items : ℕ → List ℕ → Result (X × List ℕ) E} {spell : X → List ℕ} {Fits : X → Type 0} (size : X → ℕ) where
   again : Reads count number Few → ((n : ℕ) → Reads (items n) spell (λ x. (size x ≡ n) × Fits x))
@@ -32,3 +32,10 @@ count_fits most n small le = (omega arith, grind (arith, nat_tests))
 
 pub count_le : (most n : ℕ) → IsCount most n → n ≤ most
 count_le most n h = let t = h.1 in grind (arith, nat_tests)
+
+-- a field of as many bytes as the number tells
+pub sized_field_reads : {E : Type 0} (truncated : ℕ → E) (total n : ℕ) → Reads (field_at truncated total n) (λ field. field) (λ field. (length field ≡ n) × Unit {0})
+sized_field_reads truncated total n = record {
+  again = λ field rest h. (field_reads truncated total n).again field rest h.0;
+  takes = λ bytes field rest are h. let t = (field_reads truncated total n).takes bytes field rest are h in ((t.0, tt), t.1);
+}

@@ -1,8 +1,9 @@
 -- Snapshots: what is spelled is read again, and what is read is spelled so.
-use Rattle.std.proofs.Common.{◌≡◌, ◌<◌, ◌≤◌, ◌-◌, ◌^◌, ◌⊎◌, inl, inr, ℕ, List, [], ◌∷◌, ◌++◌, length, take, drop, Result, Ok, Err, refl, sym, ap, subst, ◌∙◌, append_assoc, All, arith, length-drop}
+use Rattle.std.proofs.Common.{◌≡◌, ◌<◌, ◌≤◌, ◌-◌, ◌^◌, ◌⊎◌, inl, inr, ℕ, List, [], ◌∷◌, ◌++◌, length, take, drop, Result, Ok, Err, refl, sym, ap, subst, ◌∙◌, append_assoc, All, lit≤, arith, length-drop}
 use Rattle.std.specs.Prelude.{IfOk, codes}
 use Rattle.std.specs.Int.{w64, to_le_bytes}
 use Rattle.std.specs.List.{AllByRecursion}
+use Rattle.std.specs.FinMap.{len-entries}
 use Rattle.std.proofs.Math.Seq.{take-append_seam}
 use Rattle.std.proofs.lemmas.List.{length-append, take-append-drop}
 use Rattle.std.proofs.lemmas.List.Elements.{All-from_recursion, recursion_from_All}
@@ -20,12 +21,13 @@ use Rattle.snapshot_codec.specs.declared.snapshot.Snapshot.{Snapshot}
 use Rattle.snapshot_codec.specs.declared.snapshot.Prefix.{Prefix}
 use Rattle.snapshot_codec.specs.Snapshot.{limits_bytes, marks_bytes, state_bytes, snapshot_bytes, snapshot_bytes_one, AreAllowed, IsReadable, HasWidths, Spells, BeginsWith}
 use Rattle.snapshot_codec.specs.SnapshotReading.{Read, is_memory, head_at, snapshot_at, prefix_of}
-use Rattle.snapshot_codec.specs.Laws.{SnapshotRoundTrip, FirstVersionRead}
+use Rattle.snapshot_codec.specs.Laws.{SnapshotRoundTrip, FirstVersionRead, ReadableWritten}
 use Rattle.snapshot_codec.proofs.HeadLaws.{IsHead, head_takes, head_one_again, head_two_again}
 use Rattle.snapshot_codec.proofs.MarkLaws.{MarkFits, MarksFit, marks_reads, recent-from_fits, fits-from_recent}
 use Rattle.snapshot_codec.proofs.AccountLaws.{StateFits, state_reads}
 
 pub record SnapshotFits (s : Snapshot) : Type 0 where
+  pub limits : AreAllowed s.limits
   pub slot : s.slot < 2 ^ 64
   pub marks : MarksFit s.recent
   pub state : StateFits s.accounts
@@ -54,13 +56,13 @@ two_again total slot limits marks state rest fits allowed marks_fit state_fit =
 snapshot_again : (total : ℕ) (s : Snapshot) (text rest : List ℕ) → SnapshotFits s → Spells text s → snapshot_at total (text ++ rest) ≡ Ok (s, rest)
 snapshot_again total s text rest fits spells =
     elim spells [
-      | inl one ↦
+      | inl two ↦
+          let read = two_again total s.slot s.limits s.recent s.accounts rest fits.slot fits.limits fits.marks fits.state in
+          subst (λ (b : List ℕ). snapshot_at total (b ++ rest) ≡ Ok (s, rest)) (sym two) read
+      | inr one ↦
           let read = one_again total s.slot s.recent s.accounts rest fits.slot fits.marks fits.state in
           let here = subst (λ (b : List ℕ). snapshot_at total (b ++ rest) ≡ Ok (record { slot = s.slot; limits = first_limits; recent = s.recent; accounts = s.accounts }, rest)) (sym one.0) read in
           here ∙ ap (λ (l : Limits). let r : Read Snapshot = Ok (record { slot = s.slot; limits = l; recent = s.recent; accounts = s.accounts }, rest) in r) (sym one.1)
-      | inr two ↦
-          let read = two_again total s.slot s.limits s.recent s.accounts rest fits.slot two.1 fits.marks fits.state in
-          subst (λ (b : List ℕ). snapshot_at total (b ++ rest) ≡ Ok (s, rest)) (sym two.0) read
     ]
 
 -- the bytes are a spelling of the snapshot, and then the rest
@@ -86,25 +88,27 @@ snapshot_takes total bytes s rest are h =
       | inr two ↦ after_bytes bytes (codes "SOLSNAP2" ++ to_le_bytes w64 head.0 ++ limits_bytes head.1) r are two.0
     ]
 
+    first_allowed : AreAllowed first_limits
+    first_allowed = record { keys = (lit≤ tt, lit≤ tt); height = (lit≤ tt, lit≤ tt); key_units = (lit≤ tt, lit≤ tt); block_units = (lit≤ tt, lit≤ tt) }
+
     whole : (head : ℕ × Limits) (r : List ℕ) → IsHead bytes head r → (marks : List Mark) (r2 : List ℕ) → MarksFit marks → r ≡ marks_bytes marks ++ r2 → (state : State) → StateFits state → r2 ≡ state_bytes state ++ rest
         → IsRead bytes (record { slot = head.0; limits = head.1; recent = marks; accounts = state }) rest
     whole head r is marks r2 marks_fit e2 state state_fit e3 =
-        let fits : SnapshotFits (record { slot = head.0; limits = head.1; recent = marks; accounts = state }) = record { slot = is.slot; marks = marks_fit; state = state_fit } in
         elim is.spelled [
           | inl one ↦
               let front = codes "SOLSNAP1" ++ to_le_bytes w64 head.0 in
               record {
                 text = front ++ marks_bytes marks ++ state_bytes state;
-                fits = fits;
-                spells = inl (refl, one.1);
+                fits = record { limits = subst AreAllowed (sym one.1) first_allowed; slot = is.slot; marks = marks_fit; state = state_fit };
+                spells = inr (refl, one.1);
                 split = follows (front ++ marks_bytes marks) (state_bytes state) rest (follows front (marks_bytes marks) r2 one.0 e2) e3;
               }
           | inr two ↦
               let front = codes "SOLSNAP2" ++ to_le_bytes w64 head.0 ++ limits_bytes head.1 in
               record {
                 text = front ++ marks_bytes marks ++ state_bytes state;
-                fits = fits;
-                spells = inr (refl, two.1);
+                fits = record { limits = two.1; slot = is.slot; marks = marks_fit; state = state_fit };
+                spells = inl refl;
                 split = follows (front ++ marks_bytes marks) (state_bytes state) rest (follows front (marks_bytes marks) r2 two.0 e2) e3;
               }
         ]
@@ -114,7 +118,7 @@ snapshot_takes total bytes s rest are h =
 readable : (s : Snapshot) → SnapshotFits s → IsReadable s
 readable s fits =
     let each = All-from_recursion MarkFits s.recent fits.marks.each in
-    record { recent = recent-from_fits s.recent fits.marks; messages = λ k d lt. (each k d lt).few; state = fits.state.is_state; accounts = fits.state.few }
+    record { limits = fits.limits; recent = recent-from_fits s.recent fits.marks; messages = λ k d lt. (each k d lt).few; state = fits.state.is_state; accounts = subst (λ n. n ≤ 4194304) (sym (len-entries s.accounts)) fits.state.few }
 
 widths : (s : Snapshot) → SnapshotFits s → HasWidths s
 widths s fits =
@@ -129,10 +133,11 @@ widths s fits =
 
 fits_reading : (s : Snapshot) → IsReadable s → HasWidths s → SnapshotFits s
 fits_reading s is has = record {
+  limits = is.limits;
   slot = has.slot;
   marks = fits-from_recent s.recent is.recent is.messages has.hashes has.names;
   state = record {
-    few = is.accounts;
+    few = subst (λ n. n ≤ 4194304) (len-entries s.accounts) is.accounts;
     is_state = is.state;
     keys = recursion_from_All (λ e. IsKey e.0) (entries s.accounts) has.keys;
     owners = recursion_from_All (λ e. IsKey e.1.owner) (entries s.accounts) has.owners;
@@ -193,10 +198,17 @@ spelled_again s text rest spells is has =
     })
 
 pub round_trips : SnapshotRoundTrip
-round_trips s rest allowed is has = spelled_again s (snapshot_bytes s) rest (inr (refl, allowed)) is has
+round_trips s rest is has = spelled_again s (snapshot_bytes s) rest (inl refl) is has
 
 pub first_version_read : FirstVersionRead
-first_version_read s rest first is has = spelled_again s (snapshot_bytes_one s) rest (inl (refl, first)) is has
+first_version_read s rest first is has = spelled_again s (snapshot_bytes_one s) rest (inr (refl, first)) is has
+
+pub readable_written : ReadableWritten
+readable_written s is = record {
+  limits = is.limits;
+  messages = λ k d lt. let few = is.messages k d lt in omega arith;
+  accounts = let few = is.accounts in omega arith;
+}
 
 -- the parts of a snapshot, each written after those before it
 pub written : (s : Snapshot) (marks : List Mark) (none magic slot limits recent all : List ℕ) → none ≡ [] → magic ≡ none ++ codes "SOLSNAP2" → slot ≡ magic ++ to_le_bytes w64 s.slot → limits ≡ slot ++ limits_bytes s.limits

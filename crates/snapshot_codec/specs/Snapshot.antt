@@ -11,7 +11,7 @@ use Rattle.sol_base.specs.Keys.{IsKey, IsHash, key_bytes, hash_bytes}
 use Rattle.sol_base.specs.Limits.{first_limits}
 use Rattle.status_cache.specs.declared.recent.Mark.{Mark}
 use Rattle.status_cache.specs.Recent.{IsRecent}
-use Rattle.account_store.specs.State.{State, IsState, entries}
+use Rattle.account_store.specs.State.{State, IsState, entries, len}
 use Rattle.snapshot_codec.specs.declared.snapshot.Snapshot.{Snapshot}
 use Rattle.snapshot_codec.specs.declared.snapshot.Prefix.{Prefix}
 
@@ -69,12 +69,19 @@ pub record AreAllowed (limits : Limits) : Type 0 where
   pub key_units : IsUpTo 1000000000000 limits.key_units
   pub block_units : IsUpTo 1000000000000 limits.block_units
 
--- a snapshot of a size that is read
+-- a snapshot that is read: within the limits of the format
 pub record IsReadable (snapshot : Snapshot) : Type 0 where
+  pub limits : AreAllowed snapshot.limits
   pub recent : IsRecent snapshot.recent
   pub messages : All (λ mark. length mark.messages ≤ 16384) snapshot.recent
   pub state : IsState snapshot.accounts
-  pub accounts : length (entries snapshot.accounts) ≤ 4194304
+  pub accounts : len snapshot.accounts ≤ 4194304
+
+-- a snapshot that is written: its numbers fit their fields
+pub record IsWritable (snapshot : Snapshot) : Type 0 where
+  pub limits : AreAllowed snapshot.limits
+  pub messages : All (λ mark. length mark.messages < 2 ^ 32) snapshot.recent
+  pub accounts : len snapshot.accounts < 2 ^ 32
 
 -- what the types of the fields say of every value
 pub record HasWidths (snapshot : Snapshot) : Type 0 where
@@ -86,8 +93,7 @@ pub record HasWidths (snapshot : Snapshot) : Type 0 where
 
 -- the bytes spell the snapshot in one of the two versions
 abbrev pub Spells : List ℕ → Snapshot → Type 0
-Spells bytes snapshot =
-    ((bytes ≡ snapshot_bytes_one snapshot) × (snapshot.limits ≡ first_limits)) ⊎ ((bytes ≡ snapshot_bytes snapshot) × AreAllowed snapshot.limits)
+Spells bytes snapshot = (bytes ≡ snapshot_bytes snapshot) ⊎ ((bytes ≡ snapshot_bytes_one snapshot) × (snapshot.limits ≡ first_limits))
 
 -- the bytes begin with the snapshot
 pub record BeginsWith (bytes : List ℕ) (prefix : Prefix) : Type 0 where

@@ -1,5 +1,5 @@
 //! Laws over the definitions that the contracts of this crate cite. Their calls do nothing.
-ghost use Rattle.snapshot_codec.specs.Laws.{SnapshotRoundTrip, FirstVersionRead, BatchRoundTrip};
+ghost use Rattle.snapshot_codec.specs.Laws.{SnapshotRoundTrip, FirstVersionRead, ReadableWritten, BatchRoundTrip};
 
 /// What `snapshot_bytes` writes is read again, whatever follows it, where the snapshot is within the
 /// limits of its format.
@@ -10,6 +10,11 @@ pub fn written_snapshots_are_read()
 /// A snapshot in version 1 is read too, where it has the first limits.
 pub fn first_version_is_read()
     ensures { FirstVersionRead }
+{}
+
+/// A snapshot that is within the limits of its format may be written.
+pub fn readable_snapshots_are_writable()
+    ensures { ReadableWritten }
 {}
 
 /// What `batch_bytes` writes is read again, for a block after an earlier slot.

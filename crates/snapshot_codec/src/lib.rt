@@ -14,7 +14,14 @@ mod writing;
 
 pub use batch::{Batch, batch_bytes, read_batch};
 pub use fault::{BatchFault, SnapshotFault};
-pub use laws::{first_version_is_read, written_batches_are_read, written_snapshots_are_read};
+pub use laws::{
+    first_version_is_read, readable_snapshots_are_writable, written_batches_are_read,
+    written_snapshots_are_read,
+};
+pub use output::Output;
 pub use reading::read_snapshot;
 pub use snapshot::{Prefix, Snapshot};
 pub use writing::{snapshot_bytes, state_hash};
+
+#[cfg(test)]
+mod tests;

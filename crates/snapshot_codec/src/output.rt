@@ -3,7 +3,7 @@ use sha2::{Digest, Sha256};
 use sol_base::{Blob, OutOfMemory};
 
 /// What takes the bytes of a format, piece by piece.
-pub(crate) trait Output {
+pub trait Output {
     ghost use Rattle.std.specs.Prelude.{List, ℕ, OnOk};
     ghost use Rattle.snapshot_codec.specs.Output.{Adds};
 

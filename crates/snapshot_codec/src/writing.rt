@@ -3,7 +3,7 @@ ghost use Rattle.std.specs.List.{flat_map};
 ghost use Rattle.account_store.specs.State.{len, entries};
 ghost use Rattle.sol_base.specs.Keys.{hash_bytes};
 ghost use Rattle.snapshot_codec.specs.Output.{Adds};
-ghost use Rattle.snapshot_codec.specs.Snapshot.{AreAllowed, limits_bytes, mark_bytes, marks_bytes, account_bytes, state_bytes, hash_of_state, snapshot_bytes as bytes_of};
+ghost use Rattle.snapshot_codec.specs.Snapshot.{IsWritable, limits_bytes, mark_bytes, marks_bytes, account_bytes, state_bytes, hash_of_state, snapshot_bytes as bytes_of};
 
 use crate::accounts::ACCOUNT_LEN;
 use crate::output::Output;
@@ -134,9 +134,7 @@ fn snapshot_len(snapshot: &Snapshot) -> usize {
 
 /// The bytes of the snapshot in version 2 (the project's own format).
 pub fn snapshot_bytes(alloc: Global, snapshot: &Snapshot) -> Result<Blob, OutOfMemory>
-    requires limits { AreAllowed snapshot.now.limits }
-    requires messages { All (λ mark. length mark.messages < 2 ^ 32) snapshot.now.recent }
-    requires accounts { len snapshot.now.accounts < 2 ^ 32 }
+    requires { IsWritable snapshot.now }
     ensures { IfOk result (λ bytes. bytes ≡ bytes_of snapshot.now) }
 {
     let mut out = Blob::with_capacity(alloc, snapshot_len(snapshot))?;

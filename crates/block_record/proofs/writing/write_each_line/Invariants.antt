@@ -1,0 +1,9 @@
+use Rattle.std.proofs.Common.{take}
+use Rattle.std.specs.List.{flat_map}
+use Rattle.snapshot_codec.specs.Output.{Adds}
+use Rattle.block_record.specs.Record.{sized_bytes}
+use Rattle.block_record.proofs.writing.write_each_line.Given as goal
+
+-- the lines so far
+abbrev pub invariant-loop-line : goal.invariant-loop-line
+invariant-loop-line g l = Adds g.O.Output.holds l.fn.out l.out (flat_map sized_bytes (take l.line-index l.lines))

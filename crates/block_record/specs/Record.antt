@@ -1,0 +1,79 @@
+-- The record of a block as bytes (the project's own format).
+use Rattle.std.specs.Prelude.{◌≡◌, ℕ, ◌≤◌, ◌<◌, ◌^◌, List, ◌++◌, length, All, codes, IsUtf8}
+use Rattle.std.specs.Int.{w16, w32, w64, to_le_bytes}
+use Rattle.std.specs.List.{flat_map}
+use Rattle.sha2.specs.Sha256.{sha256}
+use Rattle.sol_base.specs.Keys.{IsKey, IsHash, key_bytes, hash_bytes}
+use Rattle.sol_base.specs.declared.key.Hash32.{Hash32}
+use Rattle.tx_report.specs.Statuses.{IsStatus, status_bytes_of}
+use Rattle.block_record.specs.declared.block.Entry.{Entry}
+use Rattle.block_record.specs.declared.block.Block.{Block}
+
+-- a transaction or a line: its length, and its bytes
+abbrev pub sized_bytes : List ℕ → List ℕ
+sized_bytes bytes = to_le_bytes w16 (length bytes) ++ bytes
+
+-- the number of lines, and the lines
+abbrev pub bytes_of_lines : List (List ℕ) → List ℕ
+bytes_of_lines lines = to_le_bytes w16 (length lines) ++ flat_map sized_bytes lines
+
+-- a transaction, how it ended, and what it used, paid and said
+abbrev pub entry_bytes : Entry → List ℕ
+entry_bytes entry =
+    sized_bytes entry.wire ++ status_bytes_of entry.status ++ to_le_bytes w64 entry.units ++ to_le_bytes w64 entry.fee
+    ++ bytes_of_lines entry.lines
+
+abbrev pub entries_bytes : List Entry → List ℕ
+entries_bytes entries = to_le_bytes w32 (length entries) ++ flat_map entry_bytes entries
+
+-- all that the block hash is of
+abbrev pub block_bytes : Block → List ℕ
+block_bytes block =
+    codes "SOLBLCK1" ++ to_le_bytes w64 block.slot ++ key_bytes block.collector ++ hash_bytes block.previous
+    ++ entries_bytes block.entries ++ to_le_bytes w64 block.burned ++ to_le_bytes w64 block.collected ++ hash_bytes block.state
+
+abbrev pub hash_of_block : Block → Hash32
+hash_of_block block = record { 0 = sha256 (block_bytes block) }
+
+-- and then the hash that the block carries
+abbrev pub bytes_of_record : Block → List ℕ
+bytes_of_record block = block_bytes block ++ hash_bytes block.hash
+
+-- what a number of two bytes can count
+abbrev pub IsShort : {X : Type 0} → List X → Type 0
+IsShort items = length items ≤ 65535
+
+-- lines that have a spelling
+pub record AreShort (lines : List (List ℕ)) : Type 0 where
+  pub few : IsShort lines
+  pub each : All IsShort lines
+
+-- a block whose counts fit the format
+pub record IsCounted (block : Block) : Type 0 where
+  pub entries : length block.entries ≤ 16384
+  pub wires : All (λ entry. length entry.wire ≤ 1232) block.entries
+  pub lines : All (λ entry. AreShort entry.lines) block.entries
+
+-- its lines are texts
+abbrev pub HasTexts : Block → Type 0
+HasTexts block = All (λ entry. All IsUtf8 entry.lines) block.entries
+
+-- what the types of the fields say of every value
+pub record HasWidths (block : Block) : Type 0 where
+  pub slot : block.slot < 2 ^ 64
+  pub collector : IsKey block.collector
+  pub previous : IsHash block.previous
+  pub statuses : All (λ entry. IsStatus entry.status) block.entries
+  pub units : All (λ entry. entry.units < 2 ^ 64) block.entries
+  pub fees : All (λ entry. entry.fee < 2 ^ 64) block.entries
+  pub burned : block.burned < 2 ^ 64
+  pub collected : block.collected < 2 ^ 64
+  pub state : IsHash block.state
+  pub hash : IsHash block.hash
+
+-- the bytes are the record of that block
+pub record IsRecord (bytes : List ℕ) (block : Block) : Type 0 where
+  pub spelled : bytes ≡ bytes_of_record block
+  pub counted : IsCounted block
+  pub texts : HasTexts block
+  pub widths : HasWidths block

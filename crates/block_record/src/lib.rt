@@ -1,0 +1,16 @@
+//! Records of blocks as bytes, both ways, and the hash of a block.
+#![tactic(auto)]
+
+mod block;
+mod entries;
+mod fault;
+mod laws;
+mod lines;
+mod reading;
+mod writing;
+
+pub use block::{Block, Entry, Listed};
+pub use fault::RecordFault;
+pub use laws::written_records_are_read;
+pub use reading::read_record;
+pub use writing::{block_hash, lines_bytes, record_bytes};

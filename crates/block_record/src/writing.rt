@@ -1,0 +1,146 @@
+ghost use Rattle.std.specs.Prelude.{◌≡◌, ◌≤◌, length, All, OnOk, IfOk};
+ghost use Rattle.std.specs.List.{flat_map};
+ghost use Rattle.snapshot_codec.specs.Output.{Adds};
+ghost use Rattle.block_record.specs.Record.{IsShort, AreShort, IsCounted, sized_bytes, bytes_of_lines, entry_bytes, entries_bytes, block_bytes, hash_of_block, bytes_of_record};
+
+use crate::block::{Block, Entry};
+use crate::entries::ENTRY_LEN;
+use crate::lines::LENGTH_LEN;
+use sha2::{Digest, Sha256};
+use snapshot_codec::Output;
+use sol_base::{Blob, Hash32, Items, OutOfMemory};
+use std::alloc::Global;
+use tx_report::status_bytes;
+
+/// What a record begins with.
+pub(crate) const MAGIC: [u8; 8] = *b"SOLBLCK1";
+
+/// The bytes of a record without entries.
+const FIXED_LEN: usize = 164;
+
+/// A transaction or a line: its length, and its bytes.
+fn write_sized<O: Output>(out: &mut O, bytes: &Blob) -> Result<(), OutOfMemory>
+    requires { IsShort bytes.now }
+    ensures { OnOk result (Adds O.holds out.old out.new (sized_bytes bytes.now)) }
+{
+    out.append(&(bytes.len() as u16).to_le_bytes())?;
+    out.append(bytes.as_slice())
+}
+
+fn write_each_line<O: Output>(out: &mut O, lines: &[Blob]) -> Result<(), OutOfMemory>
+    requires { All IsShort lines.now }
+    ensures { OnOk result (Adds O.holds out.old out.new (flat_map sized_bytes lines.now)) }
+{
+    for line in lines {
+        write_sized(out, line)?;
+    }
+    Ok(())
+}
+
+fn write_lines<O: Output>(out: &mut O, lines: &Items<Blob>) -> Result<(), OutOfMemory>
+    requires { AreShort lines.now }
+    ensures { OnOk result (Adds O.holds out.old out.new (bytes_of_lines lines.now)) }
+{
+    let lines = lines.as_slice();
+    out.append(&(lines.len() as u16).to_le_bytes())?;
+    write_each_line(out, lines)
+}
+
+fn write_entry<O: Output>(out: &mut O, entry: &Entry) -> Result<(), OutOfMemory>
+    requires wire { length entry.now.wire ≤ 1232 }
+    requires lines { AreShort entry.now.lines }
+    ensures { OnOk result (Adds O.holds out.old out.new (entry_bytes entry.now)) }
+{
+    write_sized(out, &entry.wire)?;
+    out.append(&status_bytes(&entry.status))?;
+    out.append(&entry.units.to_le_bytes())?;
+    out.append(&entry.fee.to_le_bytes())?;
+    write_lines(out, &entry.lines)
+}
+
+fn write_each_entry<O: Output>(out: &mut O, entries: &[Entry]) -> Result<(), OutOfMemory>
+    requires wires { All (λ entry. length entry.wire ≤ 1232) entries.now }
+    requires lines { All (λ entry. AreShort entry.lines) entries.now }
+    ensures { OnOk result (Adds O.holds out.old out.new (flat_map entry_bytes entries.now)) }
+{
+    for entry in entries {
+        write_entry(out, entry)?;
+    }
+    Ok(())
+}
+
+fn write_entries<O: Output>(out: &mut O, entries: &[Entry]) -> Result<(), OutOfMemory>
+    requires few { length entries.now ≤ 16384 }
+    requires wires { All (λ entry. length entry.wire ≤ 1232) entries.now }
+    requires lines { All (λ entry. AreShort entry.lines) entries.now }
+    ensures { OnOk result (Adds O.holds out.old out.new (entries_bytes entries.now)) }
+{
+    out.append(&(entries.len() as u32).to_le_bytes())?;
+    write_each_entry(out, entries)
+}
+
+/// Writes all of a record but the block hash.
+fn write_block<O: Output>(out: &mut O, block: &Block) -> Result<(), OutOfMemory>
+    requires { IsCounted block.now }
+    ensures { OnOk result (Adds O.holds out.old out.new (block_bytes block.now)) }
+{
+    out.append(&MAGIC)?;
+    out.append(&block.slot.to_le_bytes())?;
+    out.append(&block.collector.0)?;
+    out.append(&block.previous.0)?;
+    write_entries(out, block.entries.as_slice())?;
+    out.append(&block.burned.to_le_bytes())?;
+    out.append(&block.collected.to_le_bytes())?;
+    out.append(&block.state.0)
+}
+
+/// The bytes of lines, so that one buffer is reserved for them.
+fn lines_len(lines: &[Blob]) -> usize {
+    let mut sum = LENGTH_LEN;
+    for line in lines {
+        sum = sum.saturating_add(line.len()).saturating_add(LENGTH_LEN);
+    }
+    sum
+}
+
+/// The bytes of a record, so that one buffer is reserved for them.
+fn record_len(entries: &[Entry]) -> usize {
+    let mut sum = FIXED_LEN;
+    for entry in entries {
+        let lines = lines_len(entry.lines.as_slice());
+        let wire = entry.wire.len().saturating_add(ENTRY_LEN - LENGTH_LEN);
+        sum = sum.saturating_add(wire).saturating_add(lines);
+    }
+    sum
+}
+
+/// The record of the block (the project's own format). The hash that stands in it is the block's own.
+pub fn record_bytes(alloc: Global, block: &Block) -> Result<Blob, OutOfMemory>
+    requires { IsCounted block.now }
+    ensures { IfOk result (λ bytes. bytes ≡ bytes_of_record block.now) }
+{
+    let mut out = Blob::with_capacity(alloc, record_len(block.entries.as_slice()))?;
+    write_block(&mut out, block)?;
+    out.append(&block.hash.0)?;
+    Ok(out)
+}
+
+/// The SHA-256 of all that stands before the block hash in the block's record. No copy of it is made.
+pub fn block_hash(_alloc: Global, block: &Block) -> Result<Hash32, OutOfMemory>
+    requires { IsCounted block.now }
+    ensures { IfOk result (λ hash. hash ≡ hash_of_block block.now) }
+{
+    let mut hasher = Sha256::new();
+    write_block(&mut hasher, block)?;
+    Ok(Hash32(hasher.finalize()))
+}
+
+/// The number of lines and the lines, as they stand in an entry.
+pub fn lines_bytes(alloc: Global, lines: &Items<Blob>) -> Result<Blob, OutOfMemory>
+    requires { AreShort lines.now }
+    ensures { IfOk result (λ bytes. bytes ≡ bytes_of_lines lines.now) }
+{
+    let mut out = Blob::with_capacity(alloc, lines_len(lines.as_slice()))?;
+    write_lines(&mut out, lines)?;
+    Ok(out)
+}
