@@ -14,3 +14,6 @@ pub use fault::RecordFault;
 pub use laws::written_records_are_read;
 pub use reading::read_record;
 pub use writing::{block_hash, lines_bytes, record_bytes};
+
+#[cfg(test)]
+mod tests;
