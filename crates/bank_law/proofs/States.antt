@@ -3,10 +3,6 @@ use Rattle.std.proofs.Common.{◌≡◌, ℕ, zero, suc, ◌+◌, ◌<◌, ◌�
 use Rattle.std.specs.Prelude.{unwrap_or, nat_eq, ◌||◌}
 use Rattle.std.specs.List.{AllByRecursion}
 use Rattle.std.specs.BTreeMap.{is_at}
-use Rattle.std.specs.Ordering.{eq_by_cmp, is_eq}
-use Rattle.std.specs.declared.cmp.Ordering.{Ordering}
-use Rattle.std.specs.declared.cmp.Ordering.TheVariants.{Less, Equal, Greater}
-use Rattle.std.proofs.lemmas.Cmp.{eq_by_cmp_equiv}
 use Rattle.std.proofs.lemmas.Bool.{both_ways, cases_eq, cond-false, false_from_ne_true}
 use Rattle.std.proofs.lemmas.Bool.Decides.{nat_tests}
 use Rattle.std.proofs.lemmas.List.{length-map}
@@ -17,7 +13,7 @@ use Rattle.sol_base.specs.declared.account.Account.{Account}
 use Rattle.sol_base.specs.declared.lock.Lock.{Lock}
 use Rattle.sol_base.specs.Keys.{key_cmp}
 use Rattle.sol_base.specs.Accounts.{empty_account}
-use Rattle.sol_base.proofs.KeyLaws.{key_cmp_exact, key_cmp_total, same_key-true, same_key-self}
+use Rattle.sol_base.proofs.KeyLaws.{key_cmp_exact, key_cmp_total, same_key-true}
 use Rattle.account_store.specs.State.{State, get, at, put, remove, entries, sum, IsHeld, IsState}
 use Rattle.account_store.proofs.EntryLists.{entries-insert_entry, entries-remove_entry, all-insert_entry, all-remove_entry}
 use Rattle.account_store.proofs.StateLaws.{IsHeld-get, at-put, at-remove, sum-put, sum-remove, put-zero, put-more}
@@ -29,30 +25,16 @@ use Rattle.bank_law.specs.Laws.{StatesRunSerially, SerialStatesAreStates, SumsMo
 use Rattle.bank_law.proofs.Keys.{map-same, has_key-first, has_key-rest}
 use Rattle.bank_law.proofs.Supply.{AreApart, apart_if, written_apart, lent_for_writing-map}
 
--- keys that compare as equal are the same key
-pub same_cmp : (q k : Key) → eq_by_cmp key_cmp q k ≡ same_key q k
-same_cmp q k = by_case (same_key q k) refl
-  where
-    by_case : (b : Bool) → same_key q k ≡ b → eq_by_cmp key_cmp q k ≡ b
-    by_case true e = subst (λ x. eq_by_cmp key_cmp q x ≡ true) (same_key-true q k e) ((eq_by_cmp_equiv key_cmp_total).refl q)
-    by_case false e = false_from_ne_true _ (λ t. let same : q ≡ k = key_cmp_exact q k (equal (key_cmp q k) t) in both_ways _ e (subst (λ x. same_key q x ≡ true) same (same_key-self q)))
-      where
-        equal : (o : Ordering) → is_eq o ≡ true → o ≡ Equal
-        equal Less e = absurd (cc)
-        equal Equal e = refl
-        equal Greater e = absurd (cc)
-
 -- what is at each key after one is put, and after one is taken out
 pub at_put-same : (s : State) (k : Key) (a : Account) (q : Key) → IsSettled a → at (put s k a) q ≡ cond (same_key q k) a (at s q)
-at_put-same s k a q settled =
-    at-put s k a q ∙ ap₂ (λ b x. cond b x (at s q)) (same_cmp q k) (by_case (nat_eq a.lamports 0) refl)
+at_put-same s k a q settled = at-put s k a q ∙ ap (λ x. cond (same_key q k) x (at s q)) (by_case (nat_eq a.lamports 0) refl)
   where
-    by_case : (b : Bool) → nat_eq a.lamports 0 ≡ b → unwrap_or (cond b None (Some a)) empty_account ≡ a
+    by_case : (b : Bool) → nat_eq a.lamports 0 ≡ b → cond b empty_account a ≡ a
     by_case true e = sym (settled (grind (arith, nat_tests)))
     by_case false e = refl
 
 pub at_remove-same : (s : State) (k q : Key) → at (remove s k) q ≡ cond (same_key q k) empty_account (at s q)
-at_remove-same s k q = at-remove s k q ∙ ap (λ b. cond b empty_account (at s q)) (same_cmp q k)
+at_remove-same s k q = at-remove s k q
 
 held_or_empty : (s : State) (key : Key) → IsState s → (o : Option Account) → get s key ≡ o → IsShort (unwrap_or o empty_account) × IsSettled (unwrap_or o empty_account)
 held_or_empty s key is None e = (omega arith, λ z. refl)
