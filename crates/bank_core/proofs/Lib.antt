@@ -6,3 +6,5 @@ pub mod Supply
 pub mod Merges
 pub mod Ends
 pub mod Openings
+pub mod Trials
+pub mod Seats

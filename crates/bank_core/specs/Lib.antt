@@ -7,3 +7,5 @@ pub mod Facts
 pub mod Takes
 pub mod Ends
 pub mod Desks
+pub mod Trial
+pub mod TrialLaws

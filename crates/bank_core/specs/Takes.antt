@@ -1,6 +1,6 @@
 -- What a take may answer.
 use Rattle.sol_base.specs.declared.lock.Lock.{Lock}
-use Rattle.std.specs.Prelude.{◌≡◌, ℕ, ◌<◌, ◌≤◌, List, true, not, Some}
+use Rattle.std.specs.Prelude.{◌≡◌, ℕ, ◌<◌, ◌≤◌, List, true, not, Option, Some, None}
 use Rattle.std.specs.List.{list_any}
 use Rattle.bank_law.specs.declared.event.Event.{Event}
 use Rattle.bank_law.specs.Job.{Job}
@@ -46,3 +46,14 @@ module _ {W T : Type 0} {G : _} where
   MatchTake (take.NotNow held) f g h short = g held
   MatchTake take.Finished f g h short = h
   MatchTake take.OutOfMemory f g h short = short
+
+-- the loan that a lane has, if any, is of this core, and its position is the one that the lane holds
+module _ {W T : Type 0} {G : _} where
+  abbrev pub HasLoanOf : Option (Loan W T G) → Origin T → List Event → ℕ → Type 0
+  HasLoanOf None origin journal lane = holds (own journal lane) ≡ None
+  HasLoanOf (Some loan) origin journal lane =
+      (loan.lane ≡ lane) × (loan.origin.value ≡ origin) × (holds (own journal lane) ≡ Some loan.position)
+
+-- the events of the other lanes stay
+abbrev pub KeepsOthers : List Event → List Event → ℕ → Type 0
+KeepsOthers old new lane = (other : ℕ) → (lane ≡ other → ⊥) → own new other ≡ own old other

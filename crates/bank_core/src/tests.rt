@@ -1,0 +1,3 @@
+mod drives;
+mod examples;
+mod trial;
