@@ -22,8 +22,8 @@ use Rattle.block_record.specs.declared.fault.RecordFault.{RecordFault}
 use Rattle.block_record.specs.declared.fault.RecordFault.TheVariants.{Truncated, BadField, Trailing}
 use Rattle.block_record.specs.declared.block.Entry.{Entry}
 use Rattle.block_record.specs.declared.block.Block.{Block}
-use Rattle.block_record.specs.Record.{sized_bytes, bytes_of_lines, entry_bytes, entries_bytes, block_bytes, bytes_of_record, IsShort, AreShort, IsCounted, HasTexts, HasWidths, IsRecord}
-use Rattle.block_record.specs.RecordReading.{Read, is_memory, magic_at, wire_len_at, wire_at, text_at, line_at, lines_at, entry_at, entry_count_at, entries_at, block_at, record_of}
+use Rattle.block_record.specs.Record.{sized_bytes, bytes_of_lines, entry_bytes, entries_bytes, block_bytes, bytes_of_record, AreCountable, IsCounted, HasTexts, HasWidths, IsRecord}
+use Rattle.block_record.specs.RecordReading.{Read, is_record_memory, magic_at, wire_len_at, wire_at, text_at, line_at, lines_at, entry_at, entry_count_at, entries_at, block_at, record_of}
 use Rattle.block_record.specs.Laws.{RoundTrip}
 
 -- transactions and lines
@@ -198,7 +198,7 @@ block_takes total bytes b rest are h =
 
 -- what reading asks of a block, and what the format and the types say
 
-lines_fit : (lines : List (List ℕ)) → AreShort lines → All IsUtf8 lines → LinesFit lines
+lines_fit : (lines : List (List ℕ)) → AreCountable lines → All IsUtf8 lines → LinesFit lines
 lines_fit lines short texts =
     (let few = short.few in omega arith, recursion_from_All LineFits lines (λ k d lt. (let s = short.each k d lt in omega arith, is_utf8-from_IsUtf8 _ (texts k d lt))))
 
@@ -226,7 +226,7 @@ fits_reading b counted texts has = record {
     wire_fits : (n : ℕ) → n ≤ 1232 → WireLenFits n
     wire_fits n le = (omega arith, grind (arith, nat_tests))
 
-short_lines : (lines : List (List ℕ)) → LinesFit lines → AreShort lines
+short_lines : (lines : List (List ℕ)) → LinesFit lines → AreCountable lines
 short_lines lines fits =
     let each = All-from_recursion LineFits lines fits.1 in
     record { few = let f = fits.0 in omega arith; each = λ k d lt. let s = (each k d lt).0 in omega arith }
@@ -279,12 +279,12 @@ takes bytes b are h =
     same : (x : Block) (rest : List ℕ) → rest ≡ [] → x ≡ b → (let l : Read Block = Ok (x, rest) in l) ≡ Ok (b, [])
     same x rest e f = cc
 
-pub is_found : (bytes : List ℕ) (result : Result Block RecordFault) → IsBytes bytes → Gives is_memory (λ v. v) result (record_of bytes) → IfOk result (λ b. IsRecord bytes b)
+pub is_found : (bytes : List ℕ) (result : Result Block RecordFault) → IsBytes bytes → Gives is_record_memory (λ v. v) result (record_of bytes) → IfOk result (λ b. IsRecord bytes b)
 is_found bytes (Ok b) are h = takes bytes b are h
 is_found bytes (Err e) are h = tt
 
-pub is_only : (bytes : List ℕ) (result : Result Block RecordFault) → Gives is_memory (λ v. v) result (record_of bytes) → (b : Block) → IsRecord bytes b → Gives is_memory (λ v. v) result (Ok b)
-is_only bytes result h b is = subst (Gives is_memory (λ v. v) result) (again bytes b is) h
+pub is_only : (bytes : List ℕ) (result : Result Block RecordFault) → Gives is_record_memory (λ v. v) result (record_of bytes) → (b : Block) → IsRecord bytes b → Gives is_record_memory (λ v. v) result (Ok b)
+is_only bytes result h b is = subst (Gives is_record_memory (λ v. v) result) (again bytes b is) h
 
 pub round_trips : RoundTrip
 round_trips b fits are has = again (bytes_of_record b) b (record { spelled = refl; counted = fits; texts = are; widths = has })

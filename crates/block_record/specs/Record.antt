@@ -5,6 +5,7 @@ use Rattle.std.specs.List.{flat_map}
 use Rattle.sha2.specs.Sha256.{sha256}
 use Rattle.sol_base.specs.Keys.{IsKey, IsHash, key_bytes, hash_bytes}
 use Rattle.sol_base.specs.declared.key.Hash32.{Hash32}
+use Rattle.message_codec.specs.Wire.{IsCountable}
 use Rattle.tx_report.specs.Statuses.{IsStatus, status_bytes_of}
 use Rattle.block_record.specs.declared.block.Entry.{Entry}
 use Rattle.block_record.specs.declared.block.Block.{Block}
@@ -39,20 +40,16 @@ hash_of_block block = record { 0 = sha256 (block_bytes block) }
 abbrev pub bytes_of_record : Block → List ℕ
 bytes_of_record block = block_bytes block ++ hash_bytes block.hash
 
--- what a number of two bytes can count
-abbrev pub IsShort : {X : Type 0} → List X → Type 0
-IsShort items = length items ≤ 65535
-
 -- lines that have a spelling
-pub record AreShort (lines : List (List ℕ)) : Type 0 where
-  pub few : IsShort lines
-  pub each : All IsShort lines
+pub record AreCountable (lines : List (List ℕ)) : Type 0 where
+  pub few : IsCountable lines
+  pub each : All IsCountable lines
 
 -- a block whose counts fit the format
 pub record IsCounted (block : Block) : Type 0 where
   pub entries : length block.entries ≤ 16384
   pub wires : All (λ entry. length entry.wire ≤ 1232) block.entries
-  pub lines : All (λ entry. AreShort entry.lines) block.entries
+  pub lines : All (λ entry. AreCountable entry.lines) block.entries
 
 -- its lines are texts
 abbrev pub HasTexts : Block → Type 0

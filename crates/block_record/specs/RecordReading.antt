@@ -10,11 +10,11 @@ use Rattle.block_record.specs.declared.fault.RecordFault.TheVariants.{Truncated,
 use Rattle.block_record.specs.declared.block.Entry.{Entry}
 use Rattle.block_record.specs.declared.block.Block.{Block}
 
-abbrev pub is_memory : RecordFault → Bool
-is_memory (Truncated _) = false
-is_memory (BadField _) = false
-is_memory (Trailing _) = false
-is_memory OutOfMemory = true
+abbrev pub is_record_memory : RecordFault → Bool
+is_record_memory (Truncated _) = false
+is_record_memory (BadField _) = false
+is_record_memory (Trailing _) = false
+is_record_memory OutOfMemory = true
 
 -- what a record holds at the front of the bytes that are left
 abbrev pub Read : Type 0 → Type 0

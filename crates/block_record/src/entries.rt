@@ -2,7 +2,7 @@
 ghost use Rattle.spec_base.specs.Reading.{Gives, many};
 ghost use Rattle.tx_report.specs.Statuses.{status_at};
 ghost use Rattle.block_record.specs.declared.fault.RecordFault.TheVariants.{Truncated as cut, BadField as bad_field};
-ghost use Rattle.block_record.specs.RecordReading.{is_memory, wire_len_at, wire_at, entry_at, entry_count_at, entries_at};
+ghost use Rattle.block_record.specs.RecordReading.{is_record_memory, wire_len_at, wire_at, entry_at, entry_count_at, entries_at};
 
 use crate::block::Entry;
 use crate::fault::RecordFault;
@@ -21,7 +21,7 @@ pub(crate) const ENTRY_LEN: usize = 28;
 
 #[tactic(auto, unfolding(crate::specs::RecordReading::wire_len_at, spec_base::specs::Reading::read_if))]
 fn read_wire_len(total: usize, bytes: &[u8]) -> Result<(u16, &[u8]), RecordFault>
-    ensures { Gives is_memory (λ x. (x.0, x.1.now)) result (wire_len_at total bytes.now) }
+    ensures { Gives is_record_memory (λ x. (x.0, x.1.now)) result (wire_len_at total bytes.now) }
 {
     let (len, rest) = u16_field::<RecordFault>(total, bytes)?;
     if usize::from(len) > MAX_WIRE_LEN {
@@ -35,7 +35,7 @@ fn read_wire_len(total: usize, bytes: &[u8]) -> Result<(u16, &[u8]), RecordFault
 /// A transaction, one field after its length.
 #[tactic(auto, unfolding(crate::specs::RecordReading::wire_at))]
 fn read_wire(alloc: Global, total: usize, bytes: &[u8]) -> Result<(Blob, &[u8]), RecordFault>
-    ensures { Gives is_memory (λ x. (x.0, x.1.now)) result (wire_at total bytes.now) }
+    ensures { Gives is_record_memory (λ x. (x.0, x.1.now)) result (wire_at total bytes.now) }
 {
     let (len, rest) = read_wire_len(total, bytes)?;
     let (field, rest) = bytes_field::<RecordFault>(total, usize::from(len), rest)?;
@@ -44,7 +44,8 @@ fn read_wire(alloc: Global, total: usize, bytes: &[u8]) -> Result<(Blob, &[u8]),
 
 #[tactic(auto, unfolding(tx_report::specs::Statuses::status_at))]
 fn read_status(total: usize, bytes: &[u8]) -> Result<(Status, &[u8]), RecordFault>
-    ensures { Gives is_memory (λ x. (x.0, x.1.now)) result (status_at cut bad_field total bytes.now) }
+    ensures { Gives is_record_memory (λ x. (x.0, x.1.now)) result
+        (status_at cut bad_field total bytes.now) }
 {
     let (field, rest) = array_field::<RecordFault, 8>(total, bytes)?;
     match status_of(field) {
@@ -57,7 +58,7 @@ fn read_status(total: usize, bytes: &[u8]) -> Result<(Status, &[u8]), RecordFaul
 
 #[tactic(auto, unfolding(crate::specs::RecordReading::entry_at))]
 fn read_entry(alloc: Global, total: usize, bytes: &[u8]) -> Result<(Entry, &[u8]), RecordFault>
-    ensures { Gives is_memory (λ x. (x.0, x.1.now)) result (entry_at total bytes.now) }
+    ensures { Gives is_record_memory (λ x. (x.0, x.1.now)) result (entry_at total bytes.now) }
 {
     let (wire, rest) = read_wire(alloc, total, bytes)?;
     let (status, rest) = read_status(total, rest)?;
@@ -76,7 +77,7 @@ fn read_entry(alloc: Global, total: usize, bytes: &[u8]) -> Result<(Entry, &[u8]
 
 #[tactic(auto, unfolding(crate::specs::RecordReading::entry_count_at, spec_base::specs::Reading::read_if))]
 fn read_entry_count(total: usize, bytes: &[u8]) -> Result<(u32, &[u8]), RecordFault>
-    ensures { Gives is_memory (λ x. (x.0, x.1.now)) result (entry_count_at total bytes.now) }
+    ensures { Gives is_record_memory (λ x. (x.0, x.1.now)) result (entry_count_at total bytes.now) }
 {
     let (count, rest) = u32_field::<RecordFault>(total, bytes)?;
     if count > MOST_ENTRIES {
@@ -94,7 +95,8 @@ fn read_each_entry(
     count: u32,
     bytes: &[u8],
 ) -> Result<(Items<Entry>, &[u8]), RecordFault>
-    ensures { Gives is_memory (λ x. (x.0, x.1.now)) result (many (entry_at total) count bytes.now) }
+    ensures { Gives is_record_memory (λ x. (x.0, x.1.now)) result
+        (many (entry_at total) count bytes.now) }
 {
     let mut entries = Items::with_capacity(alloc, (count as usize).min(bytes.len() / ENTRY_LEN))?;
     let mut rest = bytes;
@@ -113,7 +115,7 @@ pub(crate) fn read_entries(
     total: usize,
     bytes: &[u8],
 ) -> Result<(Items<Entry>, &[u8]), RecordFault>
-    ensures { Gives is_memory (λ x. (x.0, x.1.now)) result (entries_at total bytes.now) }
+    ensures { Gives is_record_memory (λ x. (x.0, x.1.now)) result (entries_at total bytes.now) }
 {
     let (count, rest) = read_entry_count(total, bytes)?;
     read_each_entry(alloc, total, count, rest)

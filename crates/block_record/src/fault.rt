@@ -29,7 +29,7 @@ impl From<OutOfMemory> for RecordFault {
 }
 
 impl Refusal for RecordFault {
-    ghost use Rattle.block_record.specs.RecordReading.{is_memory as is_record_memory};
+    ghost use Rattle.block_record.specs.RecordReading.{is_record_memory};
     ghost use Rattle.block_record.specs.declared.fault.RecordFault.TheVariants.{Truncated};
 
     ghost cut_at = { Truncated };

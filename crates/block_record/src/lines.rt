@@ -2,7 +2,7 @@
 ghost use Rattle.std.specs.Prelude.{◌≡◌};
 ghost use Rattle.std.specs.Str.{is_utf8};
 ghost use Rattle.spec_base.specs.Reading.{Gives, many, place as place_of};
-ghost use Rattle.block_record.specs.RecordReading.{is_memory, text_at, line_at, lines_at};
+ghost use Rattle.block_record.specs.RecordReading.{is_record_memory, text_at, line_at, lines_at};
 
 use crate::fault::RecordFault;
 use sol_base::{Blob, Items};
@@ -36,7 +36,7 @@ fn read_text(
     count: usize,
     bytes: &[u8],
 ) -> Result<(Blob, &[u8]), RecordFault>
-    ensures { Gives is_memory (λ x. (x.0, x.1.now)) result (text_at total count bytes.now) }
+    ensures { Gives is_record_memory (λ x. (x.0, x.1.now)) result (text_at total count bytes.now) }
 {
     let (field, rest) = bytes_field::<RecordFault>(total, count, bytes)?;
     if !is_text(field) {
@@ -49,7 +49,7 @@ fn read_text(
 
 #[tactic(auto, unfolding(crate::specs::RecordReading::line_at))]
 fn read_line(alloc: Global, total: usize, bytes: &[u8]) -> Result<(Blob, &[u8]), RecordFault>
-    ensures { Gives is_memory (λ x. (x.0, x.1.now)) result (line_at total bytes.now) }
+    ensures { Gives is_record_memory (λ x. (x.0, x.1.now)) result (line_at total bytes.now) }
 {
     let (count, rest) = u16_field::<RecordFault>(total, bytes)?;
     read_text(alloc, total, usize::from(count), rest)
@@ -62,7 +62,8 @@ fn read_each_line(
     count: u16,
     bytes: &[u8],
 ) -> Result<(Items<Blob>, &[u8]), RecordFault>
-    ensures { Gives is_memory (λ x. (x.0, x.1.now)) result (many (line_at total) count bytes.now) }
+    ensures { Gives is_record_memory (λ x. (x.0, x.1.now)) result
+        (many (line_at total) count bytes.now) }
 {
     let mut lines = Items::with_capacity(alloc, usize::from(count).min(bytes.len() / LENGTH_LEN))?;
     let mut rest = bytes;
@@ -81,7 +82,7 @@ pub(crate) fn read_lines(
     total: usize,
     bytes: &[u8],
 ) -> Result<(Items<Blob>, &[u8]), RecordFault>
-    ensures { Gives is_memory (λ x. (x.0, x.1.now)) result (lines_at total bytes.now) }
+    ensures { Gives is_record_memory (λ x. (x.0, x.1.now)) result (lines_at total bytes.now) }
 {
     let (count, rest) = u16_field::<RecordFault>(total, bytes)?;
     read_each_line(alloc, total, count, rest)

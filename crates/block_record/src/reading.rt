@@ -2,7 +2,7 @@ ghost use Rattle.std.specs.Prelude.{Ok, IfOk};
 ghost use Rattle.spec_base.specs.Reading.{Gives};
 ghost use Rattle.block_record.specs.declared.block.Block.{Block as BlockValue};
 ghost use Rattle.block_record.specs.Record.{IsRecord};
-ghost use Rattle.block_record.specs.RecordReading.{is_memory, magic_at, block_at, record_of};
+ghost use Rattle.block_record.specs.RecordReading.{is_record_memory, magic_at, block_at, record_of};
 
 use crate::block::Block;
 use crate::entries::read_entries;
@@ -15,7 +15,7 @@ use std::alloc::Global;
 
 #[tactic(auto, unfolding(crate::specs::RecordReading::magic_at, spec_base::specs::Reading::read_if))]
 fn read_magic(total: usize, bytes: &[u8]) -> Result<([u8; 8], &[u8]), RecordFault>
-    ensures { Gives is_memory (λ x. (x.0, x.1.now)) result (magic_at total bytes.now) }
+    ensures { Gives is_record_memory (λ x. (x.0, x.1.now)) result (magic_at total bytes.now) }
 {
     let (magic, rest) = array_field::<RecordFault, 8>(total, bytes)?;
     if magic != MAGIC {
@@ -28,7 +28,7 @@ fn read_magic(total: usize, bytes: &[u8]) -> Result<([u8; 8], &[u8]), RecordFaul
 
 #[tactic(auto, unfolding(crate::specs::RecordReading::block_at))]
 fn read_fields(alloc: Global, total: usize, bytes: &[u8]) -> Result<(Block, &[u8]), RecordFault>
-    ensures { Gives is_memory (λ x. (x.0, x.1.now)) result (block_at total bytes.now) }
+    ensures { Gives is_record_memory (λ x. (x.0, x.1.now)) result (block_at total bytes.now) }
 {
     let (_magic, rest) = read_magic(total, bytes)?;
     let (slot, rest) = u64_field::<RecordFault>(total, rest)?;
@@ -54,7 +54,7 @@ fn read_fields(alloc: Global, total: usize, bytes: &[u8]) -> Result<(Block, &[u8
 
 #[tactic(auto, unfolding(crate::specs::RecordReading::record_of))]
 fn read_whole(alloc: Global, bytes: &[u8]) -> Result<Block, RecordFault>
-    ensures { Gives is_memory (λ block. block) result (record_of bytes.now) }
+    ensures { Gives is_record_memory (λ block. block) result (record_of bytes.now) }
 {
     let total = bytes.len();
     let (block, rest) = read_fields(alloc, total, bytes)?;
@@ -74,9 +74,9 @@ pub fn read_record(alloc: Global, bytes: &[u8]) -> Result<Block, RecordFault>
     ensures found { IfOk result (λ block. IsRecord bytes.now block) }
     // What is spelled so is read, unless memory runs out.
     ensures only { (block : BlockValue) → IsRecord bytes.now block →
-        Gives is_memory (λ v. v) result (Ok block) }
+        Gives is_record_memory (λ v. v) result (Ok block) }
     // Which refusal it is.
-    ensures exact { Gives is_memory (λ v. v) result (record_of bytes.now) }
+    ensures exact { Gives is_record_memory (λ v. v) result (record_of bytes.now) }
 {
     read_whole(alloc, bytes)
 }

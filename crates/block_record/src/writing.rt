@@ -1,7 +1,8 @@
 ghost use Rattle.std.specs.Prelude.{◌≡◌, ◌≤◌, length, All, OnOk, IfOk};
 ghost use Rattle.std.specs.List.{flat_map};
+ghost use Rattle.message_codec.specs.Wire.{IsCountable};
 ghost use Rattle.snapshot_codec.specs.Output.{Adds};
-ghost use Rattle.block_record.specs.Record.{IsShort, AreShort, IsCounted, sized_bytes, bytes_of_lines, entry_bytes, entries_bytes, block_bytes, hash_of_block, bytes_of_record};
+ghost use Rattle.block_record.specs.Record.{AreCountable, IsCounted, sized_bytes, bytes_of_lines, entry_bytes, entries_bytes, block_bytes, hash_of_block, bytes_of_record};
 
 use crate::block::{Block, Entry};
 use crate::entries::ENTRY_LEN;
@@ -20,7 +21,7 @@ const FIXED_LEN: usize = 164;
 
 /// A transaction or a line: its length, and its bytes.
 fn write_sized<O: Output>(out: &mut O, bytes: &Blob) -> Result<(), OutOfMemory>
-    requires { IsShort bytes.now }
+    requires { IsCountable bytes.now }
     ensures { OnOk result (Adds O.holds out.old out.new (sized_bytes bytes.now)) }
 {
     out.append(&(bytes.len() as u16).to_le_bytes())?;
@@ -28,7 +29,7 @@ fn write_sized<O: Output>(out: &mut O, bytes: &Blob) -> Result<(), OutOfMemory>
 }
 
 fn write_each_line<O: Output>(out: &mut O, lines: &[Blob]) -> Result<(), OutOfMemory>
-    requires { All IsShort lines.now }
+    requires { All IsCountable lines.now }
     ensures { OnOk result (Adds O.holds out.old out.new (flat_map sized_bytes lines.now)) }
 {
     for line in lines {
@@ -38,7 +39,7 @@ fn write_each_line<O: Output>(out: &mut O, lines: &[Blob]) -> Result<(), OutOfMe
 }
 
 fn write_lines<O: Output>(out: &mut O, lines: &Items<Blob>) -> Result<(), OutOfMemory>
-    requires { AreShort lines.now }
+    requires { AreCountable lines.now }
     ensures { OnOk result (Adds O.holds out.old out.new (bytes_of_lines lines.now)) }
 {
     let lines = lines.as_slice();
@@ -48,7 +49,7 @@ fn write_lines<O: Output>(out: &mut O, lines: &Items<Blob>) -> Result<(), OutOfM
 
 fn write_entry<O: Output>(out: &mut O, entry: &Entry) -> Result<(), OutOfMemory>
     requires wire { length entry.now.wire ≤ 1232 }
-    requires lines { AreShort entry.now.lines }
+    requires lines { AreCountable entry.now.lines }
     ensures { OnOk result (Adds O.holds out.old out.new (entry_bytes entry.now)) }
 {
     write_sized(out, &entry.wire)?;
@@ -60,7 +61,7 @@ fn write_entry<O: Output>(out: &mut O, entry: &Entry) -> Result<(), OutOfMemory>
 
 fn write_each_entry<O: Output>(out: &mut O, entries: &[Entry]) -> Result<(), OutOfMemory>
     requires wires { All (λ entry. length entry.wire ≤ 1232) entries.now }
-    requires lines { All (λ entry. AreShort entry.lines) entries.now }
+    requires lines { All (λ entry. AreCountable entry.lines) entries.now }
     ensures { OnOk result (Adds O.holds out.old out.new (flat_map entry_bytes entries.now)) }
 {
     for entry in entries {
@@ -72,7 +73,7 @@ fn write_each_entry<O: Output>(out: &mut O, entries: &[Entry]) -> Result<(), Out
 fn write_entries<O: Output>(out: &mut O, entries: &[Entry]) -> Result<(), OutOfMemory>
     requires few { length entries.now ≤ 16384 }
     requires wires { All (λ entry. length entry.wire ≤ 1232) entries.now }
-    requires lines { All (λ entry. AreShort entry.lines) entries.now }
+    requires lines { All (λ entry. AreCountable entry.lines) entries.now }
     ensures { OnOk result (Adds O.holds out.old out.new (entries_bytes entries.now)) }
 {
     out.append(&(entries.len() as u32).to_le_bytes())?;
@@ -137,7 +138,7 @@ pub fn block_hash(_alloc: Global, block: &Block) -> Result<Hash32, OutOfMemory>
 
 /// The number of lines and the lines, as they stand in an entry.
 pub fn lines_bytes(alloc: Global, lines: &Items<Blob>) -> Result<Blob, OutOfMemory>
-    requires { AreShort lines.now }
+    requires { AreCountable lines.now }
     ensures { IfOk result (λ bytes. bytes ≡ bytes_of_lines lines.now) }
 {
     let mut out = Blob::with_capacity(alloc, lines_len(lines.as_slice()))?;

@@ -1,6 +1,6 @@
 -- Accounts and states: what is spelled is read again, and what is read is spelled so.
 use Rattle.std.proofs.Common.{◌≡◌, ◌<◌, ◌≤◌, ◌+◌, ◌-◌, ◌^◌, ℕ, zero, suc, List, [], ◌∷◌, ◌++◌, length, map, Result, Ok, Bool, true, false, refl, sym, ap, subst, ◌∙◌, append_assoc, All, lit<, lit≤, arith}
-use Rattle.std.specs.Prelude.{nat_eq, nat_le}
+use Rattle.std.specs.Prelude.{◌==◌, nat_le}
 use Rattle.std.specs.Int.{w32, w64, to_le_bytes}
 use Rattle.std.specs.List.{flat_map, AllByRecursion}
 use Rattle.std.specs.List.Sorted.{IsStrictlySortedBy}
@@ -80,12 +80,12 @@ flag_takes total bytes is_set rest are h =
     let p = ok_parts _ _ _ _ g1 in
     (tt, subst (λ (b : Bool). bytes ≡ flag b ∷ [] ++ rest) p.0 (spelled n (by_range n f1.1) r1 e1 p.1)))
   where
-    by_range : (n : ℕ) → nat_le n 1 ≡ true → flag (nat_eq n 1) ≡ n
+    by_range : (n : ℕ) → nat_le n 1 ≡ true → flag (n == 1) ≡ n
     by_range zero h = refl
     by_range (suc zero) h = refl
     by_range (suc (suc n)) h = absurd (grind (arith, nat_tests))
 
-    spelled : (n : ℕ) → flag (nat_eq n 1) ≡ n → (r : List ℕ) → bytes ≡ n ∷ [] ++ r → r ≡ rest → bytes ≡ flag (nat_eq n 1) ∷ [] ++ rest
+    spelled : (n : ℕ) → flag (n == 1) ≡ n → (r : List ℕ) → bytes ≡ n ∷ [] ++ r → r ≡ rest → bytes ≡ flag (n == 1) ∷ [] ++ rest
     spelled n same r e f = e ∙ ap (λ (l : List ℕ). n ∷ l) f ∙ ap (λ m. m ∷ rest) (sym same)
 
 flag_reads : (total : ℕ) → Reads (flag_at total) (λ is_set. flag is_set ∷ []) (λ _. Unit {0})

@@ -16,8 +16,8 @@ use Rattle.sol_base.proofs.KeyLaws.{key_reads}
 use Rattle.snapshot_codec.specs.declared.fault.BatchFault.{BatchFault}
 use Rattle.snapshot_codec.specs.declared.fault.BatchFault.TheVariants.{Magic, Truncated, TooMany, Trailing, SlotNotLater}
 use Rattle.snapshot_codec.specs.declared.batch.Batch.{Batch}
-use Rattle.snapshot_codec.specs.Batch.{wire_bytes, batch_bytes, IsShort, IsBatch}
-use Rattle.snapshot_codec.specs.BatchReading.{Read, is_memory, magic_at, slot_at, count_at, wire_at, batch_at, batch_of}
+use Rattle.snapshot_codec.specs.Batch.{wire_bytes, batch_bytes, IsShortWire, IsBatch}
+use Rattle.snapshot_codec.specs.BatchReading.{Read, is_batch_memory, magic_at, slot_at, count_at, wire_at, batch_at, batch_of}
 use Rattle.snapshot_codec.specs.Laws.{BatchRoundTrip}
 use Rattle.snapshot_codec.proofs.Sized.{sized_reads, sized_field_reads, IsCount, count_fits, count_le}
 
@@ -120,12 +120,12 @@ takes before bytes b are h =
     later : (slot : ℕ) → nat_lt before slot ≡ true → before < slot
     later slot e = grind (arith, nat_tests)
 
-pub is_found : (before : ℕ) (bytes : List ℕ) (result : Result Batch BatchFault) → IsBytes bytes → Gives is_memory (λ v. v) result (batch_of before bytes) → IfOk result (λ b. IsBatch before bytes b)
+pub is_found : (before : ℕ) (bytes : List ℕ) (result : Result Batch BatchFault) → IsBytes bytes → Gives is_batch_memory (λ v. v) result (batch_of before bytes) → IfOk result (λ b. IsBatch before bytes b)
 is_found before bytes (Ok b) are h = takes before bytes b are h
 is_found before bytes (Err e) are h = tt
 
-pub is_only : (before : ℕ) (bytes : List ℕ) (result : Result Batch BatchFault) → Gives is_memory (λ v. v) result (batch_of before bytes) → (b : Batch) → IsBatch before bytes b → Gives is_memory (λ v. v) result (Ok b)
-is_only before bytes result h b is = subst (Gives is_memory (λ v. v) result) (again before bytes b is) h
+pub is_only : (before : ℕ) (bytes : List ℕ) (result : Result Batch BatchFault) → Gives is_batch_memory (λ v. v) result (batch_of before bytes) → (b : Batch) → IsBatch before bytes b → Gives is_batch_memory (λ v. v) result (Ok b)
+is_only before bytes result h b is = subst (Gives is_batch_memory (λ v. v) result) (again before bytes b is) h
 
 pub round_trips : BatchRoundTrip
 round_trips before b is = again before (batch_bytes b) b is

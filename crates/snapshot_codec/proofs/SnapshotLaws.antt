@@ -20,7 +20,7 @@ use Rattle.snapshot_codec.specs.declared.fault.SnapshotFault.{SnapshotFault}
 use Rattle.snapshot_codec.specs.declared.snapshot.Snapshot.{Snapshot}
 use Rattle.snapshot_codec.specs.declared.snapshot.Prefix.{Prefix}
 use Rattle.snapshot_codec.specs.Snapshot.{limits_bytes, marks_bytes, state_bytes, snapshot_bytes, snapshot_bytes_one, AreAllowed, IsReadable, HasWidths, Spells, BeginsWith}
-use Rattle.snapshot_codec.specs.SnapshotReading.{Read, is_memory, head_at, snapshot_at, prefix_of}
+use Rattle.snapshot_codec.specs.SnapshotReading.{Read, is_snapshot_memory, head_at, snapshot_at, prefix_of}
 use Rattle.snapshot_codec.specs.Laws.{SnapshotRoundTrip, FirstVersionRead, ReadableWritten}
 use Rattle.snapshot_codec.proofs.HeadLaws.{IsHead, head_takes, head_one_again, head_two_again}
 use Rattle.snapshot_codec.proofs.MarkLaws.{MarkFits, MarksFit, marks_reads, recent-from_fits, fits-from_recent}
@@ -179,12 +179,12 @@ prefix_again bytes prefix begins =
     let long : length bytes - length rest ≡ prefix.length = let t = begins.within in omega (arith, length-drop prefix.length bytes) in
     rw read (ap (λ n. let r : Result Prefix SnapshotFault = Ok (record { snapshot = prefix.snapshot; length = n }) in r) long)
 
-pub is_found : (bytes : List ℕ) (result : Result Prefix SnapshotFault) → IsBytes bytes → Gives is_memory (λ v. v) result (prefix_of bytes) → IfOk result (λ prefix. BeginsWith bytes prefix)
+pub is_found : (bytes : List ℕ) (result : Result Prefix SnapshotFault) → IsBytes bytes → Gives is_snapshot_memory (λ v. v) result (prefix_of bytes) → IfOk result (λ prefix. BeginsWith bytes prefix)
 is_found bytes (Ok prefix) are h = prefix_takes bytes prefix are h
 is_found bytes (Err e) are h = tt
 
-pub is_only : (bytes : List ℕ) (result : Result Prefix SnapshotFault) → Gives is_memory (λ v. v) result (prefix_of bytes) → (prefix : Prefix) → BeginsWith bytes prefix → Gives is_memory (λ v. v) result (Ok prefix)
-is_only bytes result h prefix begins = subst (Gives is_memory (λ v. v) result) (prefix_again bytes prefix begins) h
+pub is_only : (bytes : List ℕ) (result : Result Prefix SnapshotFault) → Gives is_snapshot_memory (λ v. v) result (prefix_of bytes) → (prefix : Prefix) → BeginsWith bytes prefix → Gives is_snapshot_memory (λ v. v) result (Ok prefix)
+is_only bytes result h prefix begins = subst (Gives is_snapshot_memory (λ v. v) result) (prefix_again bytes prefix begins) h
 
 -- what is written is read again
 

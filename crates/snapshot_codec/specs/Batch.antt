@@ -15,14 +15,14 @@ batch_bytes batch =
     ++ flat_map wire_bytes batch.wires
 
 -- what a length of a transaction can count
-abbrev pub IsShort : List ℕ → Type 0
-IsShort wire = length wire ≤ 65535
+abbrev pub IsShortWire : List ℕ → Type 0
+IsShortWire wire = length wire ≤ 65535
 
 -- the bytes are that batch, for a slot after the given one
 pub record IsBatch (before : ℕ) (bytes : List ℕ) (batch : Batch) : Type 0 where
   pub spelled : bytes ≡ batch_bytes batch
   pub later : before < batch.slot
   pub few : length batch.wires ≤ 16384
-  pub short : All IsShort batch.wires
+  pub short : All IsShortWire batch.wires
   pub slot : batch.slot < 2 ^ 64
   pub collector : IsKey batch.collector

@@ -7,13 +7,13 @@ use Rattle.snapshot_codec.specs.declared.fault.BatchFault.{BatchFault}
 use Rattle.snapshot_codec.specs.declared.fault.BatchFault.TheVariants.{Magic, Truncated, TooMany, Trailing, SlotNotLater, OutOfMemory}
 use Rattle.snapshot_codec.specs.declared.batch.Batch.{Batch}
 
-abbrev pub is_memory : BatchFault → Bool
-is_memory Magic = false
-is_memory (Truncated _) = false
-is_memory TooMany = false
-is_memory (Trailing _) = false
-is_memory SlotNotLater = false
-is_memory OutOfMemory = true
+abbrev pub is_batch_memory : BatchFault → Bool
+is_batch_memory Magic = false
+is_batch_memory (Truncated _) = false
+is_batch_memory TooMany = false
+is_batch_memory (Trailing _) = false
+is_batch_memory SlotNotLater = false
+is_batch_memory OutOfMemory = true
 
 -- what a batch holds at the front of the bytes that are left
 abbrev pub Read : Type 0 → Type 0

@@ -1,5 +1,5 @@
 -- Reading a snapshot from left to right, with the first refusal that is met.
-use Rattle.std.specs.Prelude.{ℕ, ◌+◌, ◌-◌, ◌^◌, List, [], ◌∷◌, length, codes, bytes_eq, Bool, true, false, nat_eq, nat_le, ◌&&◌, if◌then◌else◌, Option, option_map, unwrap_or, slice_get, Result, Ok, Err}
+use Rattle.std.specs.Prelude.{ℕ, ◌+◌, ◌-◌, ◌^◌, List, [], ◌∷◌, length, codes, bytes_eq, Bool, true, false, ◌==◌, nat_le, ◌&&◌, if◌then◌else◌, Option, option_map, unwrap_or, slice_get, Result, Ok, Err}
 use Rattle.std.specs.Int.{Width, w16, w32, w64}
 use Rattle.std.specs.Ordering.{is_lt}
 use Rattle.std.specs.FinMap as map
@@ -19,16 +19,16 @@ use Rattle.snapshot_codec.specs.declared.fault.SnapshotFault.TheVariants.{Magic,
 use Rattle.snapshot_codec.specs.declared.snapshot.Snapshot.{Snapshot}
 use Rattle.snapshot_codec.specs.declared.snapshot.Prefix.{Prefix}
 
-abbrev pub is_memory : SnapshotFault → Bool
-is_memory Magic = false
-is_memory (Truncated _) = false
-is_memory (BadField _) = false
-is_memory (OutOfOrder _) = false
-is_memory (Empty _) = false
-is_memory SupplyTooLarge = false
-is_memory TooManyAccounts = false
-is_memory (DataTooLong _) = false
-is_memory OutOfMemory = true
+abbrev pub is_snapshot_memory : SnapshotFault → Bool
+is_snapshot_memory Magic = false
+is_snapshot_memory (Truncated _) = false
+is_snapshot_memory (BadField _) = false
+is_snapshot_memory (OutOfOrder _) = false
+is_snapshot_memory (Empty _) = false
+is_snapshot_memory SupplyTooLarge = false
+is_snapshot_memory TooManyAccounts = false
+is_snapshot_memory (DataTooLong _) = false
+is_snapshot_memory OutOfMemory = true
 
 -- what a snapshot holds at the front of the bytes that are left
 abbrev pub Read : Type 0 → Type 0
@@ -114,7 +114,7 @@ lamports_after total before bytes =
     (λ rest. read_if Empty (λ n. nat_le 1 n) (number_at Truncated w64 total) total rest) total bytes
 
 unfoldable pub flag_at : ℕ → List ℕ → Read Bool
-flag_at total bytes = read_as (λ n. nat_eq n 1) (λ rest. read_if BadField (λ n. nat_le n 1) (byte_at Truncated total) total rest) bytes
+flag_at total bytes = read_as (λ n. n == 1) (λ rest. read_if BadField (λ n. nat_le n 1) (byte_at Truncated total) total rest) bytes
 
 -- the data of an account, one field after its length
 unfoldable pub data_at : ℕ → List ℕ → Read (List ℕ)

@@ -3,7 +3,7 @@ ghost use Rattle.std.specs.Prelude.{◌≡◌, ◌+◌, ◌^◌, ◌<◌, [], If
 ghost use Rattle.spec_base.specs.Reading.{Gives, many_after};
 ghost use Rattle.account_store.specs.State.{lamports_of};
 ghost use Rattle.account_store.specs.Sorted.{entries_of};
-ghost use Rattle.snapshot_codec.specs.SnapshotReading.{is_memory, key_after, lamports_after, flag_at, data_at, account_after, entries_at, state_at};
+ghost use Rattle.snapshot_codec.specs.SnapshotReading.{is_snapshot_memory, key_after, lamports_after, flag_at, data_at, account_after, entries_at, state_at};
 
 use crate::fault::SnapshotFault;
 use crate::head::place;
@@ -25,7 +25,8 @@ fn read_key<'a>(
     before: &[KeyedAccount],
     bytes: &'a [u8],
 ) -> Result<(Key, &'a [u8]), SnapshotFault>
-    ensures { Gives is_memory (λ x. (x.0, x.1.now)) result (key_after total before.now bytes.now) }
+    ensures { Gives is_snapshot_memory (λ x. (x.0, x.1.now)) result
+        (key_after total before.now bytes.now) }
 {
     let (key, rest) = key_field::<SnapshotFault>(total, bytes)?;
     if let Some(last) = before.last()
@@ -47,7 +48,8 @@ fn read_lamports<'a>(
     bytes: &'a [u8],
 ) -> Result<(u64, &'a [u8]), SnapshotFault>
     requires { supply ≡ lamports_of (entries_of before.now) }
-    ensures gives { Gives is_memory (λ x. (x.0, x.1.now)) result (lamports_after total before.now bytes.now) }
+    ensures gives { Gives is_snapshot_memory (λ x. (x.0, x.1.now)) result
+        (lamports_after total before.now bytes.now) }
     ensures fits { IfOk result (λ x. supply + x.0 < 2 ^ 64) }
 {
     let (lamports, rest) = u64_field::<SnapshotFault>(total, bytes)?;
@@ -64,7 +66,7 @@ fn read_lamports<'a>(
 
 #[tactic(auto, unfolding(crate::specs::SnapshotReading::flag_at, spec_base::specs::Reading::read_as, spec_base::specs::Reading::read_if))]
 fn read_flag(total: usize, bytes: &[u8]) -> Result<(bool, &[u8]), SnapshotFault>
-    ensures { Gives is_memory (λ x. (x.0, x.1.now)) result (flag_at total bytes.now) }
+    ensures { Gives is_snapshot_memory (λ x. (x.0, x.1.now)) result (flag_at total bytes.now) }
 {
     let (flag, rest) = byte_field::<SnapshotFault>(total, bytes)?;
     if flag > 1 {
@@ -78,7 +80,7 @@ fn read_flag(total: usize, bytes: &[u8]) -> Result<(bool, &[u8]), SnapshotFault>
 /// The data of an account, one field after its length.
 #[tactic(auto, unfolding(crate::specs::SnapshotReading::data_at, spec_base::specs::Reading::read_if))]
 fn read_data(alloc: Global, total: usize, bytes: &[u8]) -> Result<(Blob, &[u8]), SnapshotFault>
-    ensures { Gives is_memory (λ x. (x.0, x.1.now)) result (data_at total bytes.now) }
+    ensures { Gives is_snapshot_memory (λ x. (x.0, x.1.now)) result (data_at total bytes.now) }
 {
     let (len, rest) = u32_field::<SnapshotFault>(total, bytes)?;
     let len = len as usize;
@@ -101,7 +103,8 @@ fn read_account<'a>(
     bytes: &'a [u8],
 ) -> Result<(KeyedAccount, &'a [u8]), SnapshotFault>
     requires { supply ≡ lamports_of (entries_of before.now) }
-    ensures gives { Gives is_memory (λ x. (x.0, x.1.now)) result (account_after total before.now bytes.now) }
+    ensures gives { Gives is_snapshot_memory (λ x. (x.0, x.1.now)) result
+        (account_after total before.now bytes.now) }
     ensures fits { IfOk result (λ x. supply + x.0.account.lamports < 2 ^ 64) }
 {
     let (key, rest) = read_key(total, before, bytes)?;
@@ -125,7 +128,7 @@ fn read_accounts(
     count: u32,
     bytes: &[u8],
 ) -> Result<(Items<KeyedAccount>, &[u8]), SnapshotFault>
-    ensures { Gives is_memory (λ x. (x.0, x.1.now)) result
+    ensures { Gives is_snapshot_memory (λ x. (x.0, x.1.now)) result
         (many_after (account_after total) [] count bytes.now) }
 {
     let room = (count as usize).min(bytes.len() / ACCOUNT_LEN);
@@ -148,7 +151,7 @@ fn read_entries(
     total: usize,
     bytes: &[u8],
 ) -> Result<(Items<KeyedAccount>, &[u8]), SnapshotFault>
-    ensures { Gives is_memory (λ x. (x.0, x.1.now)) result (entries_at total bytes.now) }
+    ensures { Gives is_snapshot_memory (λ x. (x.0, x.1.now)) result (entries_at total bytes.now) }
 {
     let (count, rest) = u32_field::<SnapshotFault>(total, bytes)?;
     if count > MOST_ACCOUNTS {
@@ -164,7 +167,7 @@ pub(crate) fn read_state(
     total: usize,
     bytes: &[u8],
 ) -> Result<(Accounts, &[u8]), SnapshotFault>
-    ensures { Gives is_memory (λ x. (x.0, x.1.now)) result (state_at total bytes.now) }
+    ensures { Gives is_snapshot_memory (λ x. (x.0, x.1.now)) result (state_at total bytes.now) }
 {
     let (entries, rest) = read_entries(alloc, total, bytes)?;
     match Accounts::from_sorted(alloc, entries) {

@@ -2,8 +2,8 @@ ghost use Rattle.std.specs.Prelude.{◌≡◌, ◌++◌, ◌≤◌, Ok, length, 
 ghost use Rattle.std.specs.List.{flat_map};
 ghost use Rattle.spec_base.specs.Reading.{Gives, many};
 ghost use Rattle.snapshot_codec.specs.declared.batch.Batch.{Batch as BatchValue};
-ghost use Rattle.snapshot_codec.specs.Batch.{IsBatch, IsShort, wire_bytes, batch_bytes as bytes_of};
-ghost use Rattle.snapshot_codec.specs.BatchReading.{is_memory, magic_at, slot_at, count_at, wire_at, batch_at, batch_of};
+ghost use Rattle.snapshot_codec.specs.Batch.{IsBatch, IsShortWire, wire_bytes, batch_bytes as bytes_of};
+ghost use Rattle.snapshot_codec.specs.BatchReading.{is_batch_memory, magic_at, slot_at, count_at, wire_at, batch_at, batch_of};
 
 use crate::fault::BatchFault;
 use crate::head::place;
@@ -34,7 +34,7 @@ pub struct Batch {
 /// The bytes after the magic.
 #[tactic(auto, unfolding(crate::specs::BatchReading::magic_at, spec_base::specs::Reading::read_if))]
 fn read_magic(total: usize, bytes: &[u8]) -> Result<([u8; 8], &[u8]), BatchFault>
-    ensures { Gives is_memory (λ x. (x.0, x.1.now)) result (magic_at total bytes.now) }
+    ensures { Gives is_batch_memory (λ x. (x.0, x.1.now)) result (magic_at total bytes.now) }
 {
     let (magic, rest) = array_field::<BatchFault, 8>(total, bytes)?;
     if magic != MAGIC {
@@ -45,7 +45,7 @@ fn read_magic(total: usize, bytes: &[u8]) -> Result<([u8; 8], &[u8]), BatchFault
 
 #[tactic(auto, unfolding(crate::specs::BatchReading::slot_at, spec_base::specs::Reading::read_if))]
 fn read_slot(before: u64, total: usize, bytes: &[u8]) -> Result<(u64, &[u8]), BatchFault>
-    ensures { Gives is_memory (λ x. (x.0, x.1.now)) result (slot_at before total bytes.now) }
+    ensures { Gives is_batch_memory (λ x. (x.0, x.1.now)) result (slot_at before total bytes.now) }
 {
     let (slot, rest) = u64_field::<BatchFault>(total, bytes)?;
     if slot <= before {
@@ -56,7 +56,7 @@ fn read_slot(before: u64, total: usize, bytes: &[u8]) -> Result<(u64, &[u8]), Ba
 
 #[tactic(auto, unfolding(crate::specs::BatchReading::count_at, spec_base::specs::Reading::read_if))]
 fn read_count(total: usize, bytes: &[u8]) -> Result<(u32, &[u8]), BatchFault>
-    ensures { Gives is_memory (λ x. (x.0, x.1.now)) result (count_at total bytes.now) }
+    ensures { Gives is_batch_memory (λ x. (x.0, x.1.now)) result (count_at total bytes.now) }
 {
     let (count, rest) = u32_field::<BatchFault>(total, bytes)?;
     if count > MOST_WIRES {
@@ -67,7 +67,7 @@ fn read_count(total: usize, bytes: &[u8]) -> Result<(u32, &[u8]), BatchFault>
 
 #[tactic(auto, unfolding(crate::specs::BatchReading::wire_at))]
 fn read_wire(alloc: Global, total: usize, bytes: &[u8]) -> Result<(Blob, &[u8]), BatchFault>
-    ensures { Gives is_memory (λ x. (x.0, x.1.now)) result (wire_at total bytes.now) }
+    ensures { Gives is_batch_memory (λ x. (x.0, x.1.now)) result (wire_at total bytes.now) }
 {
     let (len, rest) = u16_field::<BatchFault>(total, bytes)?;
     let (field, rest) = bytes_field::<BatchFault>(total, usize::from(len), rest)?;
@@ -81,7 +81,8 @@ fn read_wires(
     count: u32,
     bytes: &[u8],
 ) -> Result<(Items<Blob>, &[u8]), BatchFault>
-    ensures { Gives is_memory (λ x. (x.0, x.1.now)) result (many (wire_at total) count bytes.now) }
+    ensures { Gives is_batch_memory (λ x. (x.0, x.1.now)) result
+        (many (wire_at total) count bytes.now) }
 {
     let mut wires = Items::with_capacity(alloc, (count as usize).min(bytes.len() / LENGTH_LEN))?;
     let mut rest = bytes;
@@ -100,7 +101,7 @@ fn read_fields(
     total: usize,
     bytes: &[u8],
 ) -> Result<(Batch, &[u8]), BatchFault>
-    ensures { Gives is_memory (λ x. (x.0, x.1.now)) result (batch_at before total bytes.now) }
+    ensures { Gives is_batch_memory (λ x. (x.0, x.1.now)) result (batch_at before total bytes.now) }
 {
     let (_magic, rest) = read_magic(total, bytes)?;
     let (slot, rest) = read_slot(before, total, rest)?;
@@ -117,7 +118,7 @@ fn read_fields(
 
 #[tactic(auto, unfolding(crate::specs::BatchReading::batch_of))]
 fn read_whole(alloc: Global, bytes: &[u8], before: u64) -> Result<Batch, BatchFault>
-    ensures { Gives is_memory (λ batch. batch) result (batch_of before bytes.now) }
+    ensures { Gives is_batch_memory (λ batch. batch) result (batch_of before bytes.now) }
 {
     let total = bytes.len();
     let (batch, rest) = read_fields(alloc, before, total, bytes)?;
@@ -138,15 +139,15 @@ pub fn read_batch(alloc: Global, bytes: &[u8], before: u64) -> Result<Batch, Bat
     ensures found { IfOk result (λ batch. IsBatch before bytes.now batch) }
     // What is spelled so is read, unless memory runs out.
     ensures only { (batch : BatchValue) → IsBatch before bytes.now batch →
-        Gives is_memory (λ v. v) result (Ok batch) }
+        Gives is_batch_memory (λ v. v) result (Ok batch) }
     // Which refusal it is.
-    ensures exact { Gives is_memory (λ v. v) result (batch_of before bytes.now) }
+    ensures exact { Gives is_batch_memory (λ v. v) result (batch_of before bytes.now) }
 {
     read_whole(alloc, bytes, before)
 }
 
 fn write_wire(out: &mut Blob, wire: &Blob) -> Result<(), OutOfMemory>
-    requires { IsShort wire.now }
+    requires { IsShortWire wire.now }
     ensures { OnOk result (out.new ≡ out.old ++ wire_bytes wire.now) }
 {
     out.append(&(wire.len() as u16).to_le_bytes())?;
@@ -154,7 +155,7 @@ fn write_wire(out: &mut Blob, wire: &Blob) -> Result<(), OutOfMemory>
 }
 
 fn write_wires(out: &mut Blob, wires: &[Blob]) -> Result<(), OutOfMemory>
-    requires { All IsShort wires.now }
+    requires { All IsShortWire wires.now }
     ensures { OnOk result (out.new ≡ out.old ++ flat_map wire_bytes wires.now) }
 {
     for wire in wires {
@@ -175,7 +176,7 @@ fn batch_len(wires: &[Blob]) -> usize {
 /// The bytes of the batch (the project's own format).
 pub fn batch_bytes(alloc: Global, batch: &Batch) -> Result<Blob, OutOfMemory>
     requires few { length batch.now.wires ≤ 16384 }
-    requires short { All IsShort batch.now.wires }
+    requires short { All IsShortWire batch.now.wires }
     ensures { IfOk result (λ bytes. bytes ≡ bytes_of batch.now) }
 {
     let wires = batch.wires.as_slice();

@@ -39,7 +39,7 @@ impl From<OutOfMemory> for SnapshotFault {
 }
 
 impl Refusal for SnapshotFault {
-    ghost use Rattle.snapshot_codec.specs.SnapshotReading.{is_memory as is_snapshot_memory};
+    ghost use Rattle.snapshot_codec.specs.SnapshotReading.{is_snapshot_memory};
     ghost use Rattle.snapshot_codec.specs.declared.fault.SnapshotFault.TheVariants.{Truncated};
 
     ghost cut_at = { Truncated };
@@ -80,7 +80,7 @@ impl From<OutOfMemory> for BatchFault {
 }
 
 impl Refusal for BatchFault {
-    ghost use Rattle.snapshot_codec.specs.BatchReading.{is_memory as is_batch_memory};
+    ghost use Rattle.snapshot_codec.specs.BatchReading.{is_batch_memory};
     ghost use Rattle.snapshot_codec.specs.declared.fault.BatchFault.TheVariants.{Truncated};
 
     ghost cut_at = { Truncated };

@@ -2,7 +2,7 @@
 ghost use Rattle.std.specs.Prelude.{◌≡◌};
 ghost use Rattle.std.specs.Int.{w16, w64};
 ghost use Rattle.spec_base.specs.Reading.{Gives, place as place_of};
-ghost use Rattle.snapshot_codec.specs.SnapshotReading.{is_memory, count_at, limit_at, height_at, limits_at, head_one_at, head_two_at, names_one, names_two, head_at};
+ghost use Rattle.snapshot_codec.specs.SnapshotReading.{is_snapshot_memory, count_at, limit_at, height_at, limits_at, head_one_at, head_two_at, names_one, names_two, head_at};
 ghost use Rattle.snapshot_codec.specs.declared.fault.SnapshotFault.TheVariants.{BadField as bad_field};
 
 use crate::fault::SnapshotFault;
@@ -32,7 +32,8 @@ pub(crate) fn count_field(
     total: usize,
     bytes: &[u8],
 ) -> Result<(u32, &[u8]), SnapshotFault>
-    ensures { Gives is_memory (λ x. (x.0, x.1.now)) result (count_at bad_field most total bytes.now) }
+    ensures { Gives is_snapshot_memory (λ x. (x.0, x.1.now)) result
+        (count_at bad_field most total bytes.now) }
 {
     let (count, rest) = u32_field::<SnapshotFault>(total, bytes)?;
     if count > most {
@@ -45,7 +46,8 @@ pub(crate) fn count_field(
 
 #[tactic(auto, unfolding(spec_base::specs::Reading::read_if))]
 fn keys_field(total: usize, bytes: &[u8]) -> Result<(u16, &[u8]), SnapshotFault>
-    ensures { Gives is_memory (λ x. (x.0, x.1.now)) result (limit_at 128 w16 total bytes.now) }
+    ensures { Gives is_snapshot_memory (λ x. (x.0, x.1.now)) result
+        (limit_at 128 w16 total bytes.now) }
 {
     let (keys, rest) = u16_field::<SnapshotFault>(total, bytes)?;
     if keys < 1 || keys > MOST_KEYS {
@@ -58,7 +60,7 @@ fn keys_field(total: usize, bytes: &[u8]) -> Result<(u16, &[u8]), SnapshotFault>
 
 #[tactic(auto, unfolding(spec_base::specs::Reading::read_if))]
 fn height_field(total: usize, bytes: &[u8]) -> Result<(u8, &[u8]), SnapshotFault>
-    ensures { Gives is_memory (λ x. (x.0, x.1.now)) result (height_at total bytes.now) }
+    ensures { Gives is_snapshot_memory (λ x. (x.0, x.1.now)) result (height_at total bytes.now) }
 {
     let (height, rest) = byte_field::<SnapshotFault>(total, bytes)?;
     if height < 1 || height > MOST_HEIGHT {
@@ -71,7 +73,8 @@ fn height_field(total: usize, bytes: &[u8]) -> Result<(u8, &[u8]), SnapshotFault
 
 #[tactic(auto, unfolding(spec_base::specs::Reading::read_if))]
 fn units_field(total: usize, bytes: &[u8]) -> Result<(u64, &[u8]), SnapshotFault>
-    ensures { Gives is_memory (λ x. (x.0, x.1.now)) result (limit_at 1000000000000 w64 total bytes.now) }
+    ensures { Gives is_snapshot_memory (λ x. (x.0, x.1.now)) result
+        (limit_at 1000000000000 w64 total bytes.now) }
 {
     let (units, rest) = u64_field::<SnapshotFault>(total, bytes)?;
     if units < 1 || units > MOST_UNITS {
@@ -84,7 +87,7 @@ fn units_field(total: usize, bytes: &[u8]) -> Result<(u64, &[u8]), SnapshotFault
 
 #[tactic(auto, unfolding(crate::specs::SnapshotReading::limits_at))]
 fn read_limits(total: usize, bytes: &[u8]) -> Result<(Limits, &[u8]), SnapshotFault>
-    ensures { Gives is_memory (λ x. (x.0, x.1.now)) result (limits_at total bytes.now) }
+    ensures { Gives is_snapshot_memory (λ x. (x.0, x.1.now)) result (limits_at total bytes.now) }
 {
     let (keys, rest) = keys_field(total, bytes)?;
     let (height, rest) = height_field(total, rest)?;
@@ -102,7 +105,7 @@ fn read_limits(total: usize, bytes: &[u8]) -> Result<(Limits, &[u8]), SnapshotFa
 /// Slot and limits after the magic of version 1.
 #[tactic(auto, unfolding(crate::specs::SnapshotReading::head_one_at, spec_base::specs::Reading::read_as))]
 fn read_head_one(total: usize, bytes: &[u8]) -> Result<((u64, Limits), &[u8]), SnapshotFault>
-    ensures { Gives is_memory (λ x. (x.0, x.1.now)) result (head_one_at total bytes.now) }
+    ensures { Gives is_snapshot_memory (λ x. (x.0, x.1.now)) result (head_one_at total bytes.now) }
 {
     let (slot, rest) = u64_field::<SnapshotFault>(total, bytes)?;
     Ok(((slot, Limits::first()), rest))
@@ -111,7 +114,7 @@ fn read_head_one(total: usize, bytes: &[u8]) -> Result<((u64, Limits), &[u8]), S
 /// Slot and limits after the magic of version 2.
 #[tactic(auto, unfolding(crate::specs::SnapshotReading::head_two_at))]
 fn read_head_two(total: usize, bytes: &[u8]) -> Result<((u64, Limits), &[u8]), SnapshotFault>
-    ensures { Gives is_memory (λ x. (x.0, x.1.now)) result (head_two_at total bytes.now) }
+    ensures { Gives is_snapshot_memory (λ x. (x.0, x.1.now)) result (head_two_at total bytes.now) }
 {
     let (slot, rest) = u64_field::<SnapshotFault>(total, bytes)?;
     let (limits, rest) = read_limits(total, rest)?;
@@ -135,7 +138,7 @@ fn is_version_two(magic: &[u8; 8]) -> bool
 /// Slot and limits, as the version has them that the first eight bytes name.
 #[tactic(auto, unfolding(crate::specs::SnapshotReading::head_at))]
 pub(crate) fn read_head(total: usize, bytes: &[u8]) -> Result<((u64, Limits), &[u8]), SnapshotFault>
-    ensures { Gives is_memory (λ x. (x.0, x.1.now)) result (head_at total bytes.now) }
+    ensures { Gives is_snapshot_memory (λ x. (x.0, x.1.now)) result (head_at total bytes.now) }
 {
     let (magic, rest) = array_field::<SnapshotFault, 8>(total, bytes)?;
     if is_version_one(&magic) {

@@ -2,7 +2,7 @@
 ghost use Rattle.std.specs.Prelude.{◌≡◌, [], IfOk};
 ghost use Rattle.spec_base.specs.Reading.{Gives, many, many_after};
 ghost use Rattle.status_cache.specs.Recent.{IsRecent};
-ghost use Rattle.snapshot_codec.specs.SnapshotReading.{is_memory, name_after, mark_at, marks_at};
+ghost use Rattle.snapshot_codec.specs.SnapshotReading.{is_snapshot_memory, name_after, mark_at, marks_at};
 
 use crate::fault::SnapshotFault;
 use crate::head::{count_field, place};
@@ -29,7 +29,8 @@ fn read_name<'a>(
     before: &[Hash32],
     bytes: &'a [u8],
 ) -> Result<(Hash32, &'a [u8]), SnapshotFault>
-    ensures { Gives is_memory (λ x. (x.0, x.1.now)) result (name_after total before.now bytes.now) }
+    ensures { Gives is_snapshot_memory (λ x. (x.0, x.1.now)) result
+        (name_after total before.now bytes.now) }
 {
     let (name, rest) = hash_field::<SnapshotFault>(total, bytes)?;
     if let Some(last) = before.last()
@@ -49,7 +50,8 @@ fn read_names(
     count: u32,
     bytes: &[u8],
 ) -> Result<(Items<Hash32>, &[u8]), SnapshotFault>
-    ensures { Gives is_memory (λ x. (x.0, x.1.now)) result (many_after (name_after total) [] count bytes.now) }
+    ensures { Gives is_snapshot_memory (λ x. (x.0, x.1.now)) result
+        (many_after (name_after total) [] count bytes.now) }
 {
     let mut names = Items::with_capacity(alloc, (count as usize).min(bytes.len() / NAME_LEN))?;
     let mut rest = bytes;
@@ -63,7 +65,7 @@ fn read_names(
 
 #[tactic(auto, unfolding(crate::specs::SnapshotReading::mark_at))]
 fn read_mark(alloc: Global, total: usize, bytes: &[u8]) -> Result<(Mark, &[u8]), SnapshotFault>
-    ensures { Gives is_memory (λ x. (x.0, x.1.now)) result (mark_at total bytes.now) }
+    ensures { Gives is_snapshot_memory (λ x. (x.0, x.1.now)) result (mark_at total bytes.now) }
 {
     let (hash, rest) = hash_field::<SnapshotFault>(total, bytes)?;
     let (count, rest) = count_field(MOST_MESSAGES, total, rest)?;
@@ -78,7 +80,8 @@ fn read_list(
     count: u32,
     bytes: &[u8],
 ) -> Result<(Items<Mark>, &[u8]), SnapshotFault>
-    ensures { Gives is_memory (λ x. (x.0, x.1.now)) result (many (mark_at total) count bytes.now) }
+    ensures { Gives is_snapshot_memory (λ x. (x.0, x.1.now)) result
+        (many (mark_at total) count bytes.now) }
 {
     let mut marks = Items::with_capacity(alloc, (count as usize).min(bytes.len() / MARK_LEN))?;
     let mut rest = bytes;
@@ -97,7 +100,7 @@ fn read_marks(
     total: usize,
     bytes: &[u8],
 ) -> Result<(Items<Mark>, &[u8]), SnapshotFault>
-    ensures { Gives is_memory (λ x. (x.0, x.1.now)) result (marks_at total bytes.now) }
+    ensures { Gives is_snapshot_memory (λ x. (x.0, x.1.now)) result (marks_at total bytes.now) }
 {
     let (count, rest) = count_field(MOST_MARKS, total, bytes)?;
     read_list(alloc, total, count, rest)
@@ -121,7 +124,7 @@ pub(crate) fn read_recent(
     total: usize,
     bytes: &[u8],
 ) -> Result<(Recent, &[u8]), SnapshotFault>
-    ensures { Gives is_memory (λ x. (x.0, x.1.now)) result (marks_at total bytes.now) }
+    ensures { Gives is_snapshot_memory (λ x. (x.0, x.1.now)) result (marks_at total bytes.now) }
 {
     let (marks, rest) = read_marks(alloc, total, bytes)?;
     Ok((recent_of(alloc, marks)?, rest))

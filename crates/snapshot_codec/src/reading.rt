@@ -2,7 +2,7 @@ ghost use Rattle.std.specs.Prelude.{Ok, IfOk};
 ghost use Rattle.spec_base.specs.Reading.{Gives};
 ghost use Rattle.snapshot_codec.specs.declared.snapshot.Prefix.{Prefix as PrefixValue};
 ghost use Rattle.snapshot_codec.specs.Snapshot.{BeginsWith};
-ghost use Rattle.snapshot_codec.specs.SnapshotReading.{is_memory, snapshot_at, prefix_of};
+ghost use Rattle.snapshot_codec.specs.SnapshotReading.{is_snapshot_memory, snapshot_at, prefix_of};
 
 use crate::accounts::read_state;
 use crate::fault::SnapshotFault;
@@ -17,7 +17,7 @@ fn read_fields(
     total: usize,
     bytes: &[u8],
 ) -> Result<(Snapshot, &[u8]), SnapshotFault>
-    ensures { Gives is_memory (λ x. (x.0, x.1.now)) result (snapshot_at total bytes.now) }
+    ensures { Gives is_snapshot_memory (λ x. (x.0, x.1.now)) result (snapshot_at total bytes.now) }
 {
     let ((slot, limits), rest) = read_head(total, bytes)?;
     let (recent, rest) = read_recent(alloc, total, rest)?;
@@ -33,7 +33,7 @@ fn read_fields(
 
 #[tactic(auto, unfolding(crate::specs::SnapshotReading::prefix_of))]
 fn read_prefix(alloc: Global, bytes: &[u8]) -> Result<Prefix, SnapshotFault>
-    ensures { Gives is_memory (λ prefix. prefix) result (prefix_of bytes.now) }
+    ensures { Gives is_snapshot_memory (λ prefix. prefix) result (prefix_of bytes.now) }
 {
     let total = bytes.len();
     let (snapshot, rest) = read_fields(alloc, total, bytes)?;
@@ -51,9 +51,9 @@ pub fn read_snapshot(alloc: Global, bytes: &[u8]) -> Result<Prefix, SnapshotFaul
     ensures found { IfOk result (λ prefix. BeginsWith bytes.now prefix) }
     // What is spelled so is read, unless memory runs out.
     ensures only { (prefix : PrefixValue) → BeginsWith bytes.now prefix →
-        Gives is_memory (λ v. v) result (Ok prefix) }
+        Gives is_snapshot_memory (λ v. v) result (Ok prefix) }
     // Which refusal it is.
-    ensures exact { Gives is_memory (λ v. v) result (prefix_of bytes.now) }
+    ensures exact { Gives is_snapshot_memory (λ v. v) result (prefix_of bytes.now) }
 {
     read_prefix(alloc, bytes)
 }

@@ -5,7 +5,7 @@ use Rattle.spec_base.specs.Reading.{many_after}
 use Rattle.spec_base.proofs.Loop.{goes_on, ends, is_done}
 use Rattle.account_store.specs.State.{lamports_of}
 use Rattle.account_store.specs.Sorted.{entries_of}
-use Rattle.snapshot_codec.specs.SnapshotReading.{is_memory, account_after}
+use Rattle.snapshot_codec.specs.SnapshotReading.{is_snapshot_memory, account_after}
 use Rattle.snapshot_codec.proofs.AccountLaws.{supply-more}
 use Rattle.snapshot_codec.proofs.accounts.read_accounts.Goals as goal
 
@@ -18,7 +18,7 @@ read_account-requires c = rw c.as_slice.ensures c.loop.invariant.counted
 pub returns-in_err-entry : goal.returns-in_err-entry
 returns-in_err-entry c =
     let p = err_from_is_err_and c.from_residual-in_err-entry.result c.from_residual-in_err-entry.ensures.1 in
-    rw (p.1, p.2) (ends (account_after c.args.total) is_memory c.in_err-entry.field-0.0 c.loop.accounts c.args.count c.loop.counter c.loop.rest.now (many_after (account_after c.args.total) [] c.args.count c.args.bytes.now) c.loop-test.true (rw c.as_slice.ensures at c.in_err-entry.ensures.gives) c.loop.invariant.so_far)
+    rw (p.1, p.2) (ends (account_after c.args.total) is_snapshot_memory c.in_err-entry.field-0.0 c.loop.accounts c.args.count c.loop.counter c.loop.rest.now (many_after (account_after c.args.total) [] c.args.count c.args.bytes.now) c.loop-test.true (rw c.as_slice.ensures at c.in_err-entry.ensures.gives) c.loop.invariant.so_far)
 
 pub loop-preserved : goal.loop-preserved
 loop-preserved c =
