@@ -6,14 +6,14 @@ use Rattle.sbpf_memory.specs.declared.fault.AccessViolation.{AccessViolation}
 use Rattle.sbpf_memory.specs.declared.fault.MemFault.{MemFault}
 use Rattle.sbpf_memory.specs.declared.fault.MemFault.TheVariants.{AccessViolation as violation, Overlap, OutOfMemory as no_memory}
 use Rattle.sbpf_memory.specs.Memory.{Ranges, IsMemory, KeepsBytes, write_to, write_refusal, or_refusal, Answers, HasMemory, IsPrepared}
-use Rattle.sbpf_memory.specs.Plain.{plain_memory, plain_content}
+use Rattle.sbpf_memory.specs.Plain.{plain_memory, plain_written}
 use Rattle.sbpf_memory.proofs.Prepared.{place-kept}
 use Rattle.sbpf_memory.proofs.Writing.{write_to-refused, write_to-ok}
 use Rattle.sys_calls.specs.declared.fault.SysFault.{SysFault}
 use Rattle.sys_calls.specs.declared.fault.SysFault.TheVariants.{AccessViolation as violated}
 use Rattle.sys_calls.specs.Access.{bytes_written, write_checked, or_tt, or_violation}
 use Rattle.sys_calls.specs.SysCalls.{both_written}
-use Rattle.sys_calls.proofs.Plain.{write-plain, plainly}
+use Rattle.sys_calls.proofs.Plain.{write-plain}
 use Rattle.sys_calls.proofs.Sizes.{write-sizes, refusal-sizes, prepared-sizes}
 
 refused : (m : Ranges) (addr : ℕ) (bytes : List ℕ) (e : SysFault) (o : Option AccessViolation) → write_refusal m addr (length bytes) ≡ o → or_tt o ≡ Err e → bytes_written (plain_memory m) addr bytes ≡ Err e
@@ -65,7 +65,7 @@ both-done m0 m1 m2 m3 m4 to first other second result is one two free prepared w
     rw (← same, write-plain m2 to first, w1, write-plain m3 other second, w2) refl
 
 then-refused : (m m1 : Ranges) (to : ℕ) (first : List ℕ) (other : ℕ) (second : List ℕ) (e : SysFault) (r : Result Ranges AccessViolation) → IsMemory m → KeepsBytes m m1 → write_to m to first ≡ r → IsOk r → write_checked m1 other (length second) ≡ Err e
-    → (or_violation (plainly r) >>= (λ after. bytes_written after other second)) ≡ Err e
+    → (or_violation (plain_written r) >>= (λ after. bytes_written after other second)) ≡ Err e
 then-refused m m1 to first other second e (Ok after) is kept wrote ok h =
     let sizes = write-sizes m after to first is wrote in
     let same : write_refusal after other (length second) ≡ write_refusal m1 other (length second) = refusal-sizes m after other (length second) sizes ∙ sym (refusal-kept m m1 other (length second) kept) in

@@ -9,5 +9,5 @@ returns-then-len-eq0-clause-answer c = rw (c.if-len-eq0.true, read-nothing (plai
 
 pub returns : goal.returns
 returns c =
-    let t = told c.args.memory.now c.copy.new.self c.args.addr c.args.len c.copy.result (omega arith) c.copy.ensures in
+    let t = told c.args.memory.now c.copy.new.self c.args.addr c.args.len c.copy.result (omega arith) c.copy.ensures.answer in
     record { answer = rw c.read_refusal.ensures t.answer; memory = t.memory }
