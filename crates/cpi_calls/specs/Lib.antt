@@ -1,0 +1,3 @@
+pub mod Reads
+pub mod Rights
+pub mod Calls

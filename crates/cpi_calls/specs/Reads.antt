@@ -1,0 +1,95 @@
+-- What is read of a cross-program call (the structures of the C interface).
+use Rattle.std.specs.Prelude.{ℕ, zero, suc, ◌+◌, ◌*◌, ◌%◌, ◌^◌, ◌==◌, ◌||◌, Bool, true, false, nat_lt, List, [], ◌∷◌, take, drop, slice_index, Result, Ok, Err, if◌then◌else◌}
+use Rattle.std.specs.Int.{w64, from_le_bytes}
+use Rattle.spec_base.specs.Reading.{◌>>=◌, ok_if}
+use Rattle.sol_base.specs.declared.key.Key.{Key}
+use Rattle.sol_base.specs.declared.derived.SeedsFault.{SeedsFault}
+use Rattle.sol_base.specs.DerivedKeys.{program_key_of}
+use Rattle.sbpf_memory.specs.Memory.{Ranges, read_from}
+use Rattle.sbpf_memory.specs.declared.fault.AccessViolation.{AccessViolation as Violation}
+use Rattle.cpi_calls.specs.declared.request.KeyMeta.{KeyMeta}
+use Rattle.cpi_calls.specs.declared.request.Call.{Call}
+use Rattle.cpi_calls.specs.declared.fault.CallFault.{CallFault}
+use Rattle.cpi_calls.specs.declared.fault.CallFault.TheVariants.{AccessViolation, BadFlag, BadSeeds, TooManySigners, OutOfMemory as no_memory}
+
+-- want of memory, which no input shows
+abbrev pub is_memory : CallFault → Bool
+is_memory no_memory = true
+is_memory _ = false
+
+abbrev pub or_violation : Result (List ℕ) Violation → Result (List ℕ) CallFault
+or_violation (Ok bytes) = Ok bytes
+or_violation (Err v) = Err AccessViolation
+
+-- the bytes of a range of addresses
+abbrev pub bytes_read : Ranges → ℕ → ℕ → Result (List ℕ) CallFault
+bytes_read m addr len = or_violation (read_from m addr len)
+
+-- the number of 8 bytes from a place on
+abbrev pub number_from : List ℕ → ℕ → ℕ
+number_from bytes at = from_le_bytes w64 (take 8 (drop at bytes))
+
+-- The address of an item of a list, 16 bytes each. Addresses wrap, as those of a program do.
+abbrev pub item_at : ℕ → ℕ → ℕ
+item_at list index = (list + 16 * index) % 2 ^ 64
+
+-- so many items from an index on, each read in order, or the first refusal
+unfoldable pub items_from : {Y : Type 0} → (ℕ → Result Y CallFault) → ℕ → ℕ → Result (List Y) CallFault
+items_from one index zero = Ok []
+items_from one index (suc count) = do
+  item ← one index
+  items ← items_from one (index + 1) count
+  Ok (item ∷ items)
+
+-- the items of a list, read by their addresses
+abbrev pub items_read : {Y : Type 0} → (ℕ → Result Y CallFault) → ℕ → ℕ → Result (List Y) CallFault
+items_read one list count = items_from (λ index. one (item_at list index)) 0 count
+
+-- the five numbers of a call: the program key's address, and the addresses and counts of metas and data
+abbrev pub call_in : List ℕ → Call
+call_in bytes = record {
+  program = number_from bytes 0;
+  metas = number_from bytes 8;
+  meta_count = number_from bytes 16;
+  data_at = number_from bytes 24;
+  data_len = number_from bytes 32;
+}
+
+-- a flag is 0 or 1
+abbrev pub flag : ℕ → Result Bool CallFault
+flag byte = if byte == 0 then Ok false else if byte == 1 then Ok true else Err BadFlag
+
+-- a meta: its flags are tested before its key is read
+unfoldable pub meta_read : Ranges → ℕ → Result KeyMeta CallFault
+meta_read m addr = do
+  bytes ← bytes_read m addr 16
+  writable ← flag (slice_index bytes 8)
+  signer ← flag (slice_index bytes 9)
+  key ← bytes_read m (number_from bytes 0) 32
+  Ok (record { key = record { 0 = key }; signer = signer; writable = writable })
+
+abbrev pub metas_read : Ranges → ℕ → ℕ → Result (List KeyMeta) CallFault
+metas_read m list count = items_read (meta_read m) list count
+
+-- a seed: its length is tested before its bytes are read
+unfoldable pub seed_read : Ranges → ℕ → Result (List ℕ) CallFault
+seed_read m addr = do
+  bytes ← bytes_read m addr 16
+  if nat_lt 32 (number_from bytes 8) then Err BadSeeds else bytes_read m (number_from bytes 0) (number_from bytes 8)
+
+abbrev pub or_bad_seeds : Result Key SeedsFault → Result Key CallFault
+or_bad_seeds (Ok key) = Ok key
+or_bad_seeds (Err fault) = Err BadSeeds
+
+abbrev pub seeds_read : Ranges → ℕ → ℕ → Result (List (List ℕ)) CallFault
+seeds_read m list count = if nat_lt 16 count then Err BadSeeds else items_read (seed_read m) list count
+
+-- a signer: the program key of its seeds and the caller
+unfoldable pub signer_read : Ranges → Key → ℕ → Result Key CallFault
+signer_read m caller addr = do
+  bytes ← bytes_read m addr 16
+  seeds ← seeds_read m (number_from bytes 0) (number_from bytes 8)
+  or_bad_seeds (program_key_of seeds caller)
+
+abbrev pub signers_read : Ranges → Key → ℕ → ℕ → Result (List Key) CallFault
+signers_read m caller list count = if nat_lt 16 count then Err TooManySigners else items_read (signer_read m caller) list count

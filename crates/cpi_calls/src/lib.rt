@@ -1,0 +1,12 @@
+//! Cross-program calls: what a program asks for, and what its callee is allowed.
+#![tactic(auto)]
+
+mod fault;
+mod grant;
+mod reads;
+mod request;
+mod signers;
+
+pub use fault::{CallFault, RightsFault};
+pub use grant::{Granted, grant_rights};
+pub use request::{CallRequest, KeyMeta, read_call};

@@ -1,0 +1,10 @@
+pub mod Plain
+pub mod SelfCopies
+pub mod Pieces
+pub mod Sizes
+pub mod Loops
+pub mod Answering
+pub mod Rows
+pub mod Differences
+pub mod Prepares
+pub mod Hashes

@@ -1,0 +1,5 @@
+pub mod Access
+pub mod Slices
+pub mod Lines
+pub mod Costs
+pub mod SysCalls

@@ -1,0 +1,71 @@
+-- Lists of slices: an address and a length each, 8 bytes both (the C interface).
+use Rattle.std.specs.Prelude.{ℕ, ◌+◌, ◌*◌, ◌-◌, ◌/◌, max, Bool, List, [], ◌∷◌, ◌++◌, map, take, drop, nat_lt, Result, Ok, Err, if◌then◌else◌}
+use Rattle.std.specs.List.{range_with_len, list_any}
+use Rattle.std.specs.Int.{w64, from_le_bytes}
+use Rattle.sha2.specs.Sha256.{sha256}
+use Rattle.spec_base.specs.Reading.{◌>>=◌}
+use Rattle.sbpf_memory.specs.Memory.{Ranges}
+use Rattle.sys_calls.specs.declared.slices.Slice.{Slice}
+use Rattle.sys_calls.specs.declared.fault.SysFault.{SysFault}
+use Rattle.sys_calls.specs.declared.fault.SysFault.TheVariants.{UnitsSpent}
+use Rattle.sys_calls.specs.Access.{bytes_read}
+
+-- the number of 8 bytes from a place on
+abbrev pub number_from : List ℕ → ℕ → ℕ
+number_from bytes at = from_le_bytes w64 (take 8 (drop at bytes))
+
+-- the slice that stands at an index, 16 bytes each
+abbrev pub slice_at : List ℕ → ℕ → Slice
+slice_at bytes index = record { addr = number_from bytes (16 * index); len = number_from bytes (16 * index + 8) }
+
+-- the slices of a list of count, which is read whole
+unfoldable pub slices_read : Ranges → ℕ → ℕ → Result (List Slice) SysFault
+slices_read m at count = do
+  bytes ← bytes_read m at (16 * count)
+  Ok (map (slice_at bytes) (range_with_len 0 count))
+
+-- a slice has more than 32 bytes
+abbrev pub has_long_slice : List Slice → Bool
+has_long_slice slices = list_any (λ slice. nat_lt 32 slice.len) slices
+
+-- what is done with each item in order, or the first refusal
+unfoldable pub each : {X Y : Type 0} → (X → Result Y SysFault) → List X → Result (List Y) SysFault
+each one [] = Ok []
+each one (x ∷ xs) = do
+  y ← one x
+  ys ← each one xs
+  Ok (y ∷ ys)
+
+-- the bytes of each slice, read in order
+abbrev pub all_read : Ranges → List Slice → Result (List (List ℕ)) SysFault
+all_read m slices = each (λ slice. bytes_read m slice.addr slice.len) slices
+
+-- the units then left, and the bytes of all slices one after another, or the first refusal
+pub record Gathered : Type 0 where
+  pub units : ℕ
+  pub bytes : Result (List ℕ) SysFault
+
+-- what a slice costs
+abbrev pub slice_cost : ℕ → ℕ
+slice_cost len = max (len / 2) 10
+
+abbrev pub before : List ℕ → Gathered → Gathered
+before bytes rest = record rest { bytes = rest.bytes >>= (λ more. Ok (bytes ++ more)) }
+
+abbrev pub after_read : ℕ → Result (List ℕ) SysFault → Gathered → Gathered
+after_read units (Ok bytes) rest = before bytes rest
+after_read units (Err fault) rest = record { units = units; bytes = Err fault }
+
+-- each slice is charged and read in order
+unfoldable pub gathered : Ranges → ℕ → List Slice → Gathered
+gathered m units [] = record { units = units; bytes = Ok [] }
+gathered m units (slice ∷ slices) =
+    let left = units - slice_cost slice.len in
+    if nat_lt units (slice_cost slice.len) then record { units = 0; bytes = Err UnitsSpent } else
+    after_read left (bytes_read m slice.addr slice.len) (gathered m left slices)
+
+-- the hash of what was gathered (FIPS 180-4)
+abbrev pub hash_of : Result (List ℕ) SysFault → Result (List ℕ) SysFault
+hash_of gathered = do
+  bytes ← gathered
+  Ok (sha256 bytes)

@@ -1,0 +1,125 @@
+//! Reads and writes of calls.
+ghost use Rattle.std.specs.Prelude.{◌≡◌, ◌-◌, ◌<◌, min, length, take, drop, None, OnOk, OnErr, IfOk, MatchResult};
+ghost use Rattle.spec_base.specs.Reading.{Gives};
+ghost use Rattle.sbpf_memory.specs.Memory.{KeepsBytes, IsPrepared, write_refusal};
+ghost use Rattle.sbpf_memory.specs.Plain.{plain_memory};
+ghost use Rattle.sys_calls.specs.Access.{is_memory, bytes_read, bytes_written, IsReadable, held, refused_read, write_checked};
+
+use crate::fault::SysFault;
+use sbpf_memory::{MemFault, Memory};
+use sol_base::Blob;
+use std::alloc::Global;
+
+/// The bytes of a piece, in which long ranges are read and written.
+pub(crate) const PIECE: usize = 1024;
+
+/// The `N` bytes at an address.
+#[tactic(auto, using(crate::proofs::Plain::plain))]
+pub(crate) fn read_array<const N: usize>(memory: &Memory, addr: u64) -> Result<[u8; N], SysFault>
+    ensures { result ≡ bytes_read (plain_memory memory.now) addr N }
+{
+    let mut bytes = [0; N];
+    memory.read(addr, &mut bytes)?;
+    Ok(bytes)
+}
+
+/// The bytes of a range of addresses.
+#[tactic(auto, using(crate::proofs::Plain::plain, crate::proofs::Plain::filled))]
+pub(crate) fn read_bytes(
+    alloc: Global,
+    memory: &Memory,
+    addr: u64,
+    len: u64,
+) -> Result<Vec<u8>, SysFault>
+    ensures bytes { Gives is_memory (λ bytes. bytes.items) result (bytes_read (plain_memory memory.now) addr len) }
+    ensures count { IfOk result (λ bytes. length bytes.items ≡ len) }
+{
+    let mut bytes = vec![in alloc; 0; len as usize]?;
+    memory.read(addr, bytes.as_mut_slice())?;
+    Ok(bytes)
+}
+
+/// The bytes of a range of addresses, as a list of its own.
+pub(crate) fn read_blob(
+    alloc: Global,
+    memory: &Memory,
+    addr: u64,
+    len: u64,
+) -> Result<Blob, SysFault>
+    ensures { Gives is_memory (λ bytes. bytes) result (bytes_read (plain_memory memory.now) addr len) }
+{
+    let bytes = read_bytes(alloc, memory, addr, len)?;
+    Ok(Blob::from_slice(alloc, bytes.as_slice())?)
+}
+
+/// Writes the bytes at an address.
+#[tactic(auto, using(crate::proofs::Plain::plain))]
+pub(crate) fn write(memory: &mut Memory, addr: u64, bytes: &[u8]) -> Result<(), SysFault>
+    ensures answer { Gives is_memory (λ _. plain_memory memory.new) result (bytes_written (plain_memory memory.old) addr bytes.now) }
+    ensures refused { OnErr result (plain_memory memory.new ≡ plain_memory memory.old) }
+{
+    memory.write(addr, bytes)?;
+    Ok(())
+}
+
+/// Makes ready for writes that take no memory. It is refused where a write is.
+pub(crate) fn prepare(memory: &mut Memory, addr: u64, len: u64) -> Result<(), SysFault>
+    ensures free { OnOk result ((write_refusal memory.old addr len ≡ None) × IsPrepared memory.new addr len) }
+    ensures refused { Gives is_memory (λ _. tt) result (write_checked memory.old addr len) }
+    ensures bytes { KeepsBytes memory.old memory.new }
+{
+    memory.prepare(addr, len)?;
+    Ok(())
+}
+
+/// Whether a read is refused. A copy of a range onto itself that is to stand apart is refused in
+/// any case, and its refusal tells whether the read is.
+#[tactic(auto, using(crate::proofs::Plain::plain))]
+pub(crate) fn check_read(memory: &mut Memory, addr: u64, len: u64) -> Result<(), SysFault>
+    ensures answer { MatchResult result
+        (λ _. IsReadable (plain_memory memory.old) addr len)
+        (λ fault. (fault ≡ SysFault.AccessViolation) × (bytes_read (plain_memory memory.old) addr len ≡ Err fault)) }
+    ensures memory { memory.new ≡ memory.old }
+{
+    if len == 0 {
+        return Ok(());
+    }
+    read_refusal(memory.copy(addr, addr, len, true))
+}
+
+/// The refusal of the read of a copy.
+fn read_refusal(copied: Result<(), MemFault>) -> Result<(), SysFault>
+    ensures { result ≡ refused_read copied }
+{
+    match copied {
+        Err(MemFault::AccessViolation { write, .. }) => {
+            if write {
+                Ok(())
+            } else {
+                Err(SysFault::AccessViolation)
+            }
+        }
+        _ => Ok(()),
+    }
+}
+
+/// The piece from a place on of a range that may be read.
+#[tactic(auto, using(crate::proofs::Plain::plain))]
+pub(crate) fn read_piece<'a>(
+    memory: &Memory,
+    addr: u64,
+    len: u64,
+    at: u64,
+    buffer: &'a mut [u8; PIECE],
+) -> &'a [u8]
+    requires place { at < len }
+    requires readable { IsReadable (plain_memory memory.now) addr len }
+    ensures bytes { result.now ≡ take (min 1024 (len - at)) (drop at (held (plain_memory memory.now) addr len)) }
+    ensures count { length result.now ≡ min 1024 (len - at) }
+{
+    memory.is_memory();
+    let count = (len - at).min(PIECE as u64) as usize;
+    let piece = &mut buffer[..count];
+    let _ = memory.read(addr + at, piece);
+    piece
+}

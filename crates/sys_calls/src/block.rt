@@ -1,0 +1,40 @@
+//! The calls that tell of the block.
+ghost use Rattle.std.specs.Prelude.{◌≡◌, ◌++◌, OnErr};
+ghost use Rattle.std.specs.Int.{w64, to_le_bytes};
+ghost use Rattle.spec_base.specs.Reading.{Gives};
+ghost use Rattle.sbpf_memory.specs.Plain.{plain_memory};
+ghost use Rattle.sys_calls.specs.Access.{is_memory, bytes_written};
+
+use crate::access::write;
+use crate::fault::SysFault;
+use sbpf_memory::Memory;
+
+/// The lamports that a byte costs each year (Solana).
+const LAMPORTS_PER_BYTE_YEAR: u64 = 3_480;
+
+/// The years that an account pays for at once to be exempt (Solana).
+const EXEMPT_YEARS: u64 = 2;
+
+/// Writes the block's slot.
+pub(crate) fn get_slot(result_at: u64, slot: u64, memory: &mut Memory) -> Result<(), SysFault>
+    ensures answer { Gives is_memory (λ _. plain_memory memory.new) result (bytes_written (plain_memory memory.old) result_at (to_le_bytes w64 slot)) }
+    ensures refused { OnErr result (plain_memory memory.new ≡ plain_memory memory.old) }
+{
+    write(memory, result_at, &slot.to_le_bytes())
+}
+
+/// Writes the numbers of the rent.
+pub(crate) fn get_rent(result_at: u64, memory: &mut Memory) -> Result<(), SysFault>
+    ensures answer { Gives is_memory (λ _. plain_memory memory.new) result (bytes_written (plain_memory memory.old) result_at (to_le_bytes w64 3480 ++ to_le_bytes w64 2)) }
+    ensures refused { OnErr result (plain_memory memory.new ≡ plain_memory memory.old) }
+{
+    write(memory, result_at, &rent_bytes())
+}
+
+fn rent_bytes() -> [u8; 16]
+    ensures { result ≡ to_le_bytes w64 3480 ++ to_le_bytes w64 2 }
+{
+    let [a, b, c, d, e, f, g, h] = LAMPORTS_PER_BYTE_YEAR.to_le_bytes();
+    let [i, j, k, l, m, n, o, p] = EXEMPT_YEARS.to_le_bytes();
+    [a, b, c, d, e, f, g, h, i, j, k, l, m, n, o, p]
+}

@@ -1,0 +1,75 @@
+use sbpf_memory::{AccessViolation, MemFault};
+use sol_base::OutOfMemory;
+use std::alloc::AllocError;
+use thiserror::Error;
+
+/// Why a system call is refused.
+#[derive(Clone, Copy, Debug, PartialEq, Eq, Error)]
+pub enum SysFault {
+    #[error("the program aborted")]
+    Abort,
+    #[error("an access is refused")]
+    AccessViolation,
+    #[error("the ranges of a copy meet")]
+    Overlap,
+    #[error("the compute units are spent")]
+    UnitsSpent,
+    #[error("there are more than 16 seeds")]
+    TooManySeeds,
+    #[error("the returned bytes are more than 1,024")]
+    ReturnTooLong,
+    #[error("the text is not UTF-8")]
+    BadText,
+    #[error("there are more than 20,000 slices")]
+    TooManySlices,
+    #[error("out of memory")]
+    OutOfMemory,
+}
+
+impl From<OutOfMemory> for SysFault {
+    ghost use Rattle.std.specs.Prelude.{◌≡◌};
+    ghost use Rattle.sys_calls.specs.declared.fault.SysFault.TheVariants.{OutOfMemory as no_memory};
+
+    ghost from_gives = { λ _ e. e ≡ no_memory };
+
+    fn from(_e: OutOfMemory) -> SysFault {
+        SysFault::OutOfMemory
+    }
+}
+
+impl From<AllocError> for SysFault {
+    ghost use Rattle.std.specs.Prelude.{◌≡◌};
+    ghost use Rattle.sys_calls.specs.declared.fault.SysFault.TheVariants.{OutOfMemory as no_memory};
+
+    ghost from_gives = { λ _ e. e ≡ no_memory };
+
+    fn from(_e: AllocError) -> SysFault {
+        SysFault::OutOfMemory
+    }
+}
+
+impl From<AccessViolation> for SysFault {
+    ghost use Rattle.std.specs.Prelude.{◌≡◌};
+    ghost use Rattle.sys_calls.specs.declared.fault.SysFault.TheVariants.{AccessViolation as violation};
+
+    ghost from_gives = { λ _ e. e ≡ violation };
+
+    fn from(_e: AccessViolation) -> SysFault {
+        SysFault::AccessViolation
+    }
+}
+
+impl From<MemFault> for SysFault {
+    ghost use Rattle.std.specs.Prelude.{◌≡◌};
+    ghost use Rattle.sys_calls.specs.Access.{fault_of};
+
+    ghost from_gives = { λ fault e. e ≡ fault_of fault };
+
+    fn from(fault: MemFault) -> SysFault {
+        match fault {
+            MemFault::AccessViolation { .. } => SysFault::AccessViolation,
+            MemFault::Overlap => SysFault::Overlap,
+            MemFault::OutOfMemory => SysFault::OutOfMemory,
+        }
+    }
+}

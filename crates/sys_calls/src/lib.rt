@@ -1,0 +1,21 @@
+//! The system calls of programs, other than the cross-program call.
+#![tactic(auto)]
+
+mod access;
+mod block;
+mod env;
+mod fault;
+mod laws;
+mod log;
+mod memory;
+mod program_key;
+mod returned;
+mod serving;
+mod sha256;
+mod slices;
+mod table;
+
+pub use env::Env;
+pub use fault::SysFault;
+pub use laws::{calls_gain_no_units, calls_keep_sizes};
+pub use serving::serve;

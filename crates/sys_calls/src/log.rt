@@ -1,0 +1,88 @@
+//! The lines of the calls that write one.
+ghost use Rattle.std.specs.Prelude.{◌≡◌, ◌++◌, codes, OnOk};
+ghost use Rattle.std.specs.List.{flat_map};
+ghost use Rattle.std.specs.Str.{is_utf8};
+ghost use Rattle.sbpf_memory.specs.Plain.{plain_memory};
+ghost use Rattle.spec_base.specs.Reading.{Gives};
+ghost use Rattle.sys_calls.specs.Access.{is_memory};
+ghost use Rattle.sys_calls.specs.Lines.{number_text, log_line, log_64_line, log_key_line, log_units_line};
+
+use crate::access::{read_array, read_bytes};
+use crate::fault::SysFault;
+use sbpf_memory::Memory;
+use sol_base::{Key, OutOfMemory, key_text};
+use std::alloc::Global;
+
+/// What stands before what a program logs.
+const PROGRAM_LOG: [u8; 13] = *b"Program log: ";
+
+/// The line of a text.
+#[tactic(auto, unfolding(crate::specs::Lines::log_line))]
+pub(crate) fn log(alloc: Global, text: u64, len: u64, memory: &Memory) -> Result<Vec<u8>, SysFault>
+    ensures { Gives is_memory (λ line. line.items) result (log_line (plain_memory memory.now) text len) }
+{
+    let bytes = read_bytes(alloc, memory, text, len)?;
+    if !is_text(bytes.as_slice()) {
+        return Err(SysFault::BadText);
+    }
+    let mut line = Vec::from_slice(alloc, &PROGRAM_LOG)?;
+    line.extend_from_slice(bytes.as_slice())?;
+    Ok(line)
+}
+
+/// Whether bytes are UTF-8.
+fn is_text(bytes: &[u8]) -> bool
+    ensures { result ≡ is_utf8 bytes.now }
+{
+    match str::from_utf8(bytes) {
+        Ok(_) => true,
+        Err(_) => false,
+    }
+}
+
+/// The line of five numbers.
+pub(crate) fn log_64(alloc: Global, first: u64, others: [u64; 4]) -> Result<Vec<u8>, SysFault>
+    ensures { Gives is_memory (λ line. line.items) result (Ok (log_64_line first others)) }
+{
+    let mut line = Vec::from_slice(alloc, &PROGRAM_LOG)?;
+    append_number(alloc, &mut line, first)?;
+    append_others(alloc, &mut line, &others)?;
+    Ok(line)
+}
+
+fn append_others(alloc: Global, line: &mut Vec<u8>, others: &[u64]) -> Result<(), OutOfMemory>
+    ensures { OnOk result (line.new.items ≡ line.old.items ++ flat_map (λ number. codes ", " ++ number_text number) others.now) }
+{
+    for number in others {
+        line.extend_from_slice(b", ")?;
+        append_number(alloc, line, *number)?;
+    }
+    Ok(())
+}
+
+fn append_number(alloc: Global, line: &mut Vec<u8>, number: u64) -> Result<(), OutOfMemory>
+    ensures { OnOk result (line.new.items ≡ line.old.items ++ number_text number) }
+{
+    let text = format!(in alloc; "0x{number:x}")?;
+    line.extend_from_slice(text.as_bytes())?;
+    Ok(())
+}
+
+/// The line of a key.
+#[tactic(auto, unfolding(crate::specs::Lines::log_key_line))]
+pub(crate) fn log_key(alloc: Global, key: u64, memory: &Memory) -> Result<Vec<u8>, SysFault>
+    ensures { Gives is_memory (λ line. line.items) result (log_key_line (plain_memory memory.now) key) }
+{
+    let key = Key(read_array::<32>(memory, key)?);
+    let mut line = Vec::from_slice(alloc, &PROGRAM_LOG)?;
+    line.extend_from_slice(&key_text(&key))?;
+    Ok(line)
+}
+
+/// The line of the units that are left.
+pub(crate) fn log_units(alloc: Global, units: u64) -> Result<Vec<u8>, SysFault>
+    ensures { Gives is_memory (λ line. line.items) result (Ok (log_units_line units)) }
+{
+    let line = format!(in alloc; "Program consumption: {units} units remaining")?;
+    Ok(line.into_bytes())
+}
