@@ -7,11 +7,12 @@ use Rattle.std.proofs.Math.Seq.{take-add}
 use Rattle.std.proofs.lemmas.List.Concat.{flat_map-append}
 use Rattle.std.proofs.lemmas.Option.{slice_get-get_or}
 use Rattle.std.proofs.lemmas.Bool.{cases_lt}
+use Rattle.sol_base.specs.declared.account.Account.{Account}
 use Rattle.sol_base.specs.declared.parts.Part.{Part}
 use Rattle.sol_base.specs.declared.parts.piece.Piece.{Piece}
 use Rattle.sol_base.specs.declared.parts.piece.Backing.{Backing}
 use Rattle.sol_base.specs.declared.parts.piece.Backing.TheVariants.{Own, Shared, Blank}
-use Rattle.sol_base.specs.Parts.{part_bytes, bytes_of, piece_bytes, bytes_in, tests_in, for_each_byte, before, starts_from, is_own, is_prepared, with_bytes, AreInOrder, ArePrepared, StayPrepared}
+use Rattle.sol_base.specs.Parts.{part_bytes, bytes_of, piece_bytes, bytes_in, tests_in, for_each_byte, before, starts_from, is_own, is_prepared, with_bytes, AreInOrder, ArePrepared, StayPrepared, DataStandAt}
 
 -- a list in pieces, parted at one of them
 flat_map_at : {X A : Type 0} (f : X → List A) (xs : List X) (i : ℕ) (d : X) → i < length xs → flat_map f xs ≡ flat_map f (take i xs) ++ (f (get_or xs i d) ++ flat_map f (drop (i + 1) xs))
@@ -231,6 +232,13 @@ passes_there test pieces i at len from done d h ready below inside same =
     let there : slice_get (first ++ (for_each_byte test (get_or pieces i d) ++ last)) (length first + from) ≡ Some true = ap (λ (p : ℕ). slice_get (first ++ (for_each_byte test (get_or pieces i d) ++ last)) p) (ap (λ n. n + from) size ∙ same) ∙ ap (λ (l : List Bool). slice_get l (at + done)) (sym (tests_at test pieces i d h)) ∙ ready done below in
     cc
 
+-- a piece passes the test that a place of it passes
+pub passes_at : (test : Backing → Bool) (pieces : List Piece) (i at : ℕ) (x : Piece) → i < length pieces → x ≡ get_or pieces i x → before pieces i ≤ at → at < before pieces (i + 1) → slice_get (tests_in test pieces) at ≡ Some true → test x.backing ≡ true
+passes_at test pieces i at x h is first last passes =
+    let end : before pieces (i + 1) ≡ before pieces i + length (piece_bytes (get_or pieces i x)) = before_more pieces i x h in
+    ap (λ (p : Piece). test p.backing) is ∙ passes_there test pieces i at 1 (at - before pieces i) 0 x h
+    (λ place below. let same : at ≡ at + place = omega arith in subst (λ (n : ℕ). slice_get (tests_in test pieces) n ≡ Some true) same passes) (omega arith) (omega arith) (omega arith)
+
 -- what passes a test stays so, where a piece gets another backing that passes it as well
 pub stay_set : (test : Backing → Bool) (pieces : List Piece) (i : ℕ) (d y : Piece) → i < length pieces → length (piece_bytes y) ≡ length (piece_bytes (get_or pieces i d)) → (test (get_or pieces i d).backing ≡ true → test y.backing ≡ true) → StayPrepared (tests_in test pieces) (tests_in test (set pieces i y))
 stay_set test pieces i d y h size gains =
@@ -361,6 +369,18 @@ read_there pieces i at len x order h is first inside =
     let from : ℕ = at - x.start in
     let place : length front + from ≡ at = omega arith in
     sym (take_within front (piece_bytes x) rest from len inside) ∙ ap (λ (l : List ℕ). take len (drop (length front + from) l)) (sym (item_bytes pieces i x h is)) ∙ ap (λ (n : ℕ). take len (drop n (bytes_in pieces))) place
+
+-- the data of an account that a piece lends stand where the piece starts
+pub data_there : (pieces : List Piece) (i at : ℕ) (x : Piece) (account : Account) → AreInOrder pieces → i < length pieces → x ≡ get_or pieces i x → x.start ≡ at → account.bytes ≡ piece_bytes x → DataStandAt account (bytes_in pieces) at
+data_there pieces i at x account order h is start same =
+    let front : List ℕ = bytes_in (take i pieces) in
+    let rest : List ℕ = bytes_in (drop (i + 1) pieces) in
+    let first : x.start ≡ before pieces i = item_start pieces i x order h is in
+    let size : length account.bytes ≡ length (piece_bytes x) = ap length same in
+    let whole : length (bytes_in pieces) ≡ length front + (length (piece_bytes x) + length rest) = ap length (item_bytes pieces i x h is) ∙ length-append front (piece_bytes x ++ rest) ∙ ap (λ n. length front + n) (length-append (piece_bytes x) rest) in
+    let there : take (length (piece_bytes x)) (drop (at - x.start) (piece_bytes x)) ≡ take (length (piece_bytes x)) (drop at (bytes_in pieces)) = read_there pieces i at (length (piece_bytes x)) x order h is (omega arith) (omega arith) in
+    let all : take (length (piece_bytes x)) (drop (at - x.start) (piece_bytes x)) ≡ piece_bytes x = ap (λ n. take (length (piece_bytes x)) (drop n (piece_bytes x))) (let none : at - x.start ≡ 0 = omega arith in none) ∙ take_all (length (piece_bytes x)) (piece_bytes x) (omega arith) in
+    (omega arith, ap (λ n. take n (drop at (bytes_in pieces))) size ∙ sym there ∙ all ∙ sym same)
 
 -- a write within a piece is one within the list
 pub write_there : (pieces : List Piece) (i at : ℕ) (d y : Piece) (bytes : List ℕ) → AreInOrder pieces → i < length pieces → before pieces i ≤ at → at - (get_or pieces i d).start + length bytes ≤ length (piece_bytes (get_or pieces i d)) → piece_bytes y ≡ with_bytes (piece_bytes (get_or pieces i d)) (at - (get_or pieces i d).start) bytes → bytes_in (set pieces i y) ≡ with_bytes (bytes_in pieces) at bytes

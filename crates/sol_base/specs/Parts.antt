@@ -1,5 +1,5 @@
 -- Lists of bytes in parts, some of which are the data of shared accounts.
-use Rattle.std.specs.Prelude.{◌≡◌, ℕ, ◌+◌, ◌<◌, true, false, Bool, List, [], ◌∷◌, ◌++◌, length, map, take, drop, replicate, slice_get, Some}
+use Rattle.std.specs.Prelude.{◌≡◌, ℕ, ◌+◌, ◌<◌, ◌≤◌, true, false, Bool, List, [], ◌∷◌, ◌++◌, length, map, take, drop, replicate, slice_get, Some}
 use Rattle.std.specs.List.{flat_map}
 use Rattle.std.specs.Arc.{arc_value}
 use Rattle.sol_base.specs.declared.account.Account.{Account}
@@ -31,6 +31,11 @@ unprepared list = record { bytes = list; prepared = replicate (length list) fals
 -- a list with other bytes from a place on
 abbrev pub with_bytes : List ℕ → ℕ → List ℕ → List ℕ
 with_bytes list at bytes = take at list ++ bytes ++ drop (at + length bytes) list
+
+-- the data of an account stand in a list from a place on
+abbrev pub DataStandAt : Account → List ℕ → ℕ → Type 0
+DataStandAt account list at =
+    (at + length account.bytes ≤ length list) × (take (length account.bytes) (drop at list) ≡ account.bytes)
 
 -- each place of a range is prepared
 abbrev pub ArePrepared : List Bool → ℕ → ℕ → Type 0

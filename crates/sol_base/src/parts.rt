@@ -1,6 +1,7 @@
 //! A list of bytes that stands in parts, some of which are the data of shared accounts.
-ghost use Rattle.std.specs.Prelude.{◌≡◌, ◌<◌, ◌≤◌, ◌+◌, ◌^◌, length, take, drop, slice_index, IfOk, IsOk, OnOk, OnErr};
-ghost use Rattle.sol_base.specs.Parts.{bytes_of, unprepared, with_bytes, ArePrepared, StayPrepared};
+ghost use Rattle.std.specs.Prelude.{◌≡◌, ◌<◌, ◌≤◌, ◌+◌, ◌^◌, true, None, length, take, drop, slice_get, slice_index, IfOk, IfSome, IsOk, OnOk, OnErr};
+ghost use Rattle.std.specs.Arc.{arc_value};
+ghost use Rattle.sol_base.specs.Parts.{bytes_of, unprepared, with_bytes, ArePrepared, StayPrepared, DataStandAt};
 
 mod piece;
 mod range;
@@ -81,6 +82,24 @@ impl Parts {
         let pieces = self.pieces.as_slice();
         let piece = &pieces[range::find(pieces, at)];
         piece.backing.get(at - piece.start)
+    }
+
+    /// The account that the part which begins at a place lends, as long as none of its bytes was
+    /// written or prepared. Where empty parts begin there too, the part is the one with bytes.
+    pub fn lent_at(&self, at: usize) -> Option<&Arc<Account>>
+        ensures bytes { IfSome result (λ lent. DataStandAt (arc_value lent.now) self.now.bytes at) }
+        ensures own { slice_get self.now.prepared at ≡ Some true → result ≡ None }
+    {
+        if at >= self.len {
+            return None;
+        }
+        let pieces = self.pieces.as_slice();
+        let piece = &pieces[range::find(pieces, at)];
+        if piece.start == at {
+            piece.backing.lent()
+        } else {
+            None
+        }
     }
 
     /// Reads the bytes from a place on, as many as `into` has.

@@ -1,5 +1,7 @@
 //! A piece of a list of bytes: where it starts, and what its bytes stand in.
-ghost use Rattle.std.specs.Prelude.{◌≡◌, ◌<◌, ◌≤◌, ◌+◌, ◌-◌, ◌^◌, true, false, min, length, take, drop, slice_index, OnOk, IsOk};
+ghost use Rattle.std.specs.Prelude.{◌≡◌, ◌<◌, ◌≤◌, ◌+◌, ◌-◌, ◌^◌, true, false, min, length, take, drop, slice_index, None, IfSome, OnOk, IsOk};
+ghost use Rattle.std.specs.Arc.{arc_value};
+ghost use Rattle.sol_base.specs.declared.account.Account.{Account};
 ghost use Rattle.sol_base.specs.Parts.{part_bytes, backing_bytes, piece_bytes, is_own, is_prepared, test_of, with_bytes};
 
 use crate::account::Account;
@@ -69,6 +71,17 @@ impl Backing {
         ensures { result ≡ is_own self.now }
     {
         matches!(self, Backing::Own { .. })
+    }
+
+    /// The account that others share, if the bytes stand in one.
+    pub fn lent(&self) -> Option<&Arc<Account>>
+        ensures bytes { IfSome result (λ lent. let a : Account = arc_value lent.now in a.bytes ≡ backing_bytes self.now) }
+        ensures own { is_prepared self.now ≡ true → result ≡ None }
+    {
+        match self {
+            Backing::Shared(account) => Some(account),
+            Backing::Own { .. } | Backing::Blank(_) => None,
+        }
     }
 
     #[inline]

@@ -78,6 +78,24 @@ fn writes_a_region(rt: HostRuntime) -> Result<(), Fail> {
     Ok(())
 }
 
+/// What `lent_at` answers at the places of the region, before its lent part is written.
+const LENT: [(usize, bool); 5] = [(0, false), (1, false), (2, true), (3, false), (5, false)];
+
+#[test]
+fn lends_until_written(rt: HostRuntime) -> Result<(), Fail> {
+    let alloc = rt.alloc();
+    let lent = account_with(alloc, &[3, 4])?;
+    assert_eq!(rt; lent.bytes.len(), 2);
+    let mut list = region_with_gaps(alloc, &lent)?;
+    for (at, lends) in LENT {
+        assert_eq!(rt; list.lent_at(at).is_some(), lends, "at {at}");
+    }
+    assert_eq!(rt; list.len(), 5);
+    list.write(3, &[5])?;
+    assert!(rt; list.lent_at(2).is_none());
+    Ok(())
+}
+
 #[test]
 fn goes_over_empty_parts(rt: HostRuntime) -> Result<(), Fail> {
     let alloc = rt.alloc();
