@@ -1,0 +1,6 @@
+pub mod Listed
+pub mod Entries
+pub mod Drafts
+pub mod Finding
+pub mod PatchLaws
+pub mod TakeLaws

@@ -1,0 +1,11 @@
+use Rattle.std.proofs.Common.{arith, length, take}
+use Rattle.std.proofs.lemmas.List.{length-take}
+use Rattle.abi_input.proofs.Drafts.{copied_more}
+use Rattle.abi_input.proofs.patching.copy.Goals as goal
+
+pub loop-done-preserved : goal.loop-done-preserved
+loop-done-preserved c = record {
+  within = omega arith;
+  bytes = copied_more c.args.region.now.bytes c.args.draft.now c.loop-done.draft c.append.new.self c.read.new.into c.args.at c.loop-done.done c.min-count.result _
+      c.loop-done.invariant.bytes c.read.ensures c.in_ok-append.ensures (simp length-take (omega arith));
+}

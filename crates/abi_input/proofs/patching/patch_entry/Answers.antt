@@ -1,0 +1,44 @@
+use Rattle.std.proofs.Common.{◌≡◌, ◌≤◌, ◌++◌, ◌+◌, ℕ, List, true, false, length, sym, ap, ◌∙◌, refl, arith}
+use Rattle.std.specs.Arc.{arc_value}
+use Rattle.sol_base.specs.Accounts.{accounts_of}
+use Rattle.sol_base.specs.Metas.{is_first_listing, AreInRange}
+use Rattle.abi_input.specs.Region.{entry_size, entry_start, is_outgrown}
+use Rattle.abi_input.proofs.Entries.{account_of_meta, first_fits, not_outgrown, patched_first, size_again, size_first, start_within}
+use Rattle.abi_input.proofs.Finding.{none_passes}
+use Rattle.abi_input.proofs.patching.patch_entry.Goals as goal
+
+pub patch_first-requires-clause-within : goal.patch_first-requires-clause-within
+patch_first-requires-clause-within c =
+    let same = account_of_meta c.args.start.now c.args.metas.now c.args.place c.args.meta.now c.from-index.result c.index-start-index.result c.deref.result.now c.requires.range c.requires.there c.from-index.ensures c.index-start-index.is c.deref.ensures in
+    let first : is_first_listing c.args.metas.now (c.args.place, c.args.meta.now) ≡ true = sym c.is_first.ensures ∙ c.if-is_first.true in
+    let whole : entry_start (accounts_of c.args.start.now) c.args.metas.now (length c.args.metas.now) ≤ length c.args.region.now.bytes = c.requires.region in
+    omega (arith, first_fits (accounts_of c.args.start.now) c.args.metas.now c.args.place c.args.meta.now c.deref.result.now c.requires.there first same, c.requires.entry)
+
+pub patch_first-requires-clause-room : goal.patch_first-requires-clause-room
+patch_first-requires-clause-room c =
+    let same = account_of_meta c.args.start.now c.args.metas.now c.args.place c.args.meta.now c.from-index.result c.index-start-index.result c.deref.result.now c.requires.range c.requires.there c.from-index.ensures c.index-start-index.is c.deref.ensures in
+    let range : AreInRange (length (accounts_of c.args.now.now)) c.args.metas.now = rw c.requires.count c.requires.range in
+    let same_now = account_of_meta c.args.now.now c.args.metas.now c.args.place c.args.meta.now c.from-index.result c.index-now-index.result (arc_value c.index-now-index.result) range c.requires.there c.from-index.ensures c.index-now-index.is refl in
+    let first : is_first_listing c.args.metas.now (c.args.place, c.args.meta.now) ≡ true = sym c.is_first.ensures ∙ c.if-is_first.true in
+    not_outgrown (accounts_of c.args.start.now) (accounts_of c.args.now.now) c.args.metas.now c.args.place c.args.meta.now c.deref.result.now (arc_value c.index-now-index.result)
+    (none_passes (is_outgrown (accounts_of c.args.start.now) (accounts_of c.args.now.now)) c.args.metas.now c.args.place c.args.meta.now c.requires.there c.requires.rooms first) same same_now
+
+pub copy-requires-clause-within : goal.copy-requires-clause-within
+copy-requires-clause-within c =
+    let again : is_first_listing c.args.metas.now (c.args.place, c.args.meta.now) ≡ false = sym c.is_first.ensures ∙ c.if-is_first.false in
+    let whole : entry_start (accounts_of c.args.start.now) c.args.metas.now (length c.args.metas.now) ≤ length c.args.region.now.bytes = c.requires.region in
+    omega (arith, start_within (accounts_of c.args.start.now) c.args.metas.now c.args.place c.args.meta.now c.requires.there, size_again (accounts_of c.args.start.now) c.args.metas.now c.args.place c.args.meta.now again, c.requires.entry)
+
+pub returns-in_ok-patch_first-clause-bytes : goal.returns-in_ok-patch_first-clause-bytes
+returns-in_ok-patch_first-clause-bytes c =
+    let same = account_of_meta c.args.start.now c.args.metas.now c.args.place c.args.meta.now c.from-index.result c.index-start-index.result c.deref.result.now c.requires.range c.requires.there c.from-index.ensures c.index-start-index.is c.deref.ensures in
+    let range : AreInRange (length (accounts_of c.args.now.now)) c.args.metas.now = rw c.requires.count c.requires.range in
+    let same_now = account_of_meta c.args.now.now c.args.metas.now c.args.place c.args.meta.now c.from-index.result c.index-now-index.result (arc_value c.index-now-index.result) range c.requires.there c.from-index.ensures c.index-now-index.is refl in
+    let first : is_first_listing c.args.metas.now (c.args.place, c.args.meta.now) ≡ true = sym c.is_first.ensures ∙ c.if-is_first.true in
+    c.in_ok-patch_first.ensures.bytes ∙ ap (λ (l : List ℕ). c.args.draft.now ++ l) (patched_first c.args.region.now.bytes (accounts_of c.args.start.now) (accounts_of c.args.now.now) c.args.metas.now c.args.place c.args.meta.now c.deref.result.now (arc_value c.index-now-index.result) c.args.entry first same same_now c.requires.entry)
+
+pub returns-in_ok-patch_first-clause-size : goal.returns-in_ok-patch_first-clause-size
+returns-in_ok-patch_first-clause-size c =
+    let same = account_of_meta c.args.start.now c.args.metas.now c.args.place c.args.meta.now c.from-index.result c.index-start-index.result c.deref.result.now c.requires.range c.requires.there c.from-index.ensures c.index-start-index.is c.deref.ensures in
+    let first : is_first_listing c.args.metas.now (c.args.place, c.args.meta.now) ≡ true = sym c.is_first.ensures ∙ c.if-is_first.true in
+    c.in_ok-patch_first.ensures.size ∙ ap (λ n. length c.args.draft.now + n) (sym (size_first (accounts_of c.args.start.now) c.args.metas.now c.args.place c.args.meta.now c.deref.result.now first same))

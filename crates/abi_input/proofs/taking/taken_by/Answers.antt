@@ -1,0 +1,36 @@
+use Rattle.std.proofs.Common.{◌≡◌, ◌∷◌, ◌++◌, ◌+◌, [], List, Bool, Some, length, sym, ap, ◌∙◌, subst}
+use Rattle.std.specs.Arc.{arc_value}
+use Rattle.std.proofs.lemmas.List.{length-append, length-map}
+use Rattle.sol_base.specs.declared.account.Account.{Account}
+use Rattle.sol_base.specs.Accounts.{accounts_of}
+use Rattle.abi_input.specs.Region.{account_back}
+use Rattle.abi_input.specs.Answers.{SameUnlessTouched}
+use Rattle.abi_input.proofs.TakeLaws.{account_by_is, all_taken, entry_holds, pushed, shared_at, taken_more, untouched_more}
+use Rattle.abi_input.proofs.taking.taken_by.Goals as goal
+
+pub take_one-requires-clause-entry : goal.take_one-requires-clause-entry
+take_one-requires-clause-entry c =
+    λ entry has. entry_holds c.args.region.now.bytes (accounts_of c.args.start.now) c.args.metas.now c.loop-index.index c.entry_at.result entry c.requires.region c.requires.lengths (c.entry_at.ensures ∙ c.requires.entries c.loop-index.index) has
+
+pub loop-index-preserved : goal.loop-index-preserved
+loop-index-preserved c =
+    let before = accounts_of c.args.now.now in
+    let x = c.index-now-index.result in
+    let t = c.in_ok-taken.taken.account in
+    let flag = c.in_ok-taken.taken.touched in
+    let value = c.in_ok-taken.ensures.value ∙ account_by_is c.args.region.now.bytes (accounts_of c.args.start.now) c.args.metas.now c.loop-index.index c.entry_at.result (arc_value x) (c.entry_at.ensures ∙ c.requires.entries c.loop-index.index) in
+    let more = pushed c.loop-index.accounts c.push-in-loop-index.new.self t c.in_ok-push-2.ensures.ok in
+    let there = shared_at c.args.now.now c.loop-index.index x c.loop-index-test.true c.index-now-index.is in
+    let long = length-map c.loop-index.accounts (λ share. arc_value share) ∙ c.loop-index.invariant.count in
+    record {
+      accounts = ap (λ (l : List _). accounts_of l) c.in_ok-push-2.ensures.ok ∙ taken_more (account_back c.args.region.now.bytes (accounts_of c.args.start.now) c.args.metas.now) c.args.now.now c.loop-index.accounts c.loop-index.index x t c.loop-index-test.true c.index-now-index.is value c.loop-index.invariant.accounts;
+      count = ap length c.in_ok-push-2.ensures.ok ∙ length-append c.loop-index.accounts (t ∷ []) ∙ ap (λ n. n + 1) c.loop-index.invariant.count;
+      flags = ap length c.in_ok-push.ensures.ok ∙ length-append c.loop-index.touched (flag ∷ []) ∙ ap (λ n. n + 1) c.loop-index.invariant.flags;
+      untouched = subst (λ (l : List Bool). SameUnlessTouched l before (accounts_of c.push-in-loop-index.new.self)) (sym c.in_ok-push.ensures.ok)
+          (subst (λ (l : List Account). SameUnlessTouched (c.loop-index.touched ++ flag ∷ []) before l) (sym more)
+          (untouched_more c.loop-index.touched flag before (accounts_of c.loop-index.accounts) c.loop-index.index (arc_value t) c.loop-index.invariant.flags long
+          (λ unset. there ∙ ap Some (sym (c.in_ok-taken.ensures.same unset))) c.loop-index.invariant.untouched));
+    }
+
+pub returns-clause-accounts : goal.returns-clause-accounts
+returns-clause-accounts c = c.loop-index.invariant.accounts ∙ all_taken (account_back c.args.region.now.bytes (accounts_of c.args.start.now) c.args.metas.now) c.args.now.now c.loop-index.index c.loop-index-test.false

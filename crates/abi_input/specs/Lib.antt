@@ -1,0 +1,4 @@
+pub mod Listing
+pub mod Region
+pub mod Entries
+pub mod Answers

@@ -1,0 +1,161 @@
+ghost use Rattle.std.specs.Prelude.{◌≡◌, ◌+◌, ◌<◌, ◌≤◌, ◌++◌, ◌^◌, length, slice_get, take, drop, OnOk, Some};
+ghost use Rattle.std.specs.Arc.{arc_value};
+ghost use Rattle.sol_base.specs.declared.account.Account.{Account as AccountValue};
+ghost use Rattle.sol_base.specs.Accounts.{accounts_of, IsShort};
+ghost use Rattle.sol_base.specs.Metas.{AreInRange};
+ghost use Rattle.abi_input.specs.Listing.{IsTableOf};
+ghost use Rattle.abi_input.specs.Region.{entry_size, entry_start, first_entry, first_size, number_at, padding, repeated_entry, room_of, state_bytes};
+
+use crate::draft::Draft;
+use crate::listing::{Listing, PLACES, is_first};
+use sol_base::{Account, Key, Meta, OutOfMemory, Parts};
+use std::alloc::Global;
+use std::sync::Arc;
+
+/// By how many bytes a program may make an account longer in one frame (Solana).
+const GROWTH: usize = 10_240;
+
+/// The byte before the entry of an account that was not listed before (Solana).
+const NOT_LISTED_BEFORE: u8 = 255;
+
+/// Where things stand in an entry: the owner, the lamports, the length of the data and the data.
+pub const OWNER_AT: usize = 40;
+
+pub const LAMPORTS_AT: usize = 72;
+
+pub const DATA_LEN_AT: usize = 80;
+
+pub const DATA_AT: usize = 88;
+
+/// Where the first entry starts, behind the number of accounts.
+pub const FIRST_ENTRY: usize = 8;
+
+/// How many bytes the entry of an account has that was listed before.
+pub const REPEATED_LEN: usize = 8;
+
+/// How many bytes stand at the end of an entry, behind the padding: the epoch of the next rent.
+pub const LAST_LEN: usize = 8;
+
+/// How many data bytes an account may come to have in a frame that it starts with this one.
+pub fn room_for(account: &Account) -> usize
+    requires { length account.now.bytes < 2 ^ 32 }
+    ensures { result ≡ room_of account.now }
+{
+    account.bytes.len() + GROWTH
+}
+
+/// How many zero bytes stand before the next multiple of 8.
+pub fn padding_for(account: &Account) -> usize
+    ensures { result ≡ padding (length account.now.bytes) }
+{
+    (8 - account.bytes.len() % 8) % 8
+}
+
+/// How many bytes the first entry of an account has.
+pub fn first_len(account: &Account) -> usize
+    requires { length account.now.bytes < 2 ^ 32 }
+    ensures { result ≡ first_size account.now }
+{
+    DATA_AT + room_for(account) + padding_for(account) + LAST_LEN
+}
+
+/// Adds what a program may change of an account, its data lent, and zeros up to the end of the
+/// room.
+pub fn add_state(
+    alloc: Global,
+    draft: &mut Draft,
+    room: usize,
+    account: &Arc<Account>,
+) -> Result<(), OutOfMemory>
+    requires room { room < 2 ^ 32 }
+    requires fits { let value : AccountValue = arc_value account.now in length value.bytes ≤ room }
+    ensures bytes { OnOk result (draft.new ≡ draft.old ++ state_bytes room (arc_value account.now)) }
+    ensures size { OnOk result (length draft.new ≡ length draft.old + 48 + room) }
+{
+    let value: &Account = account;
+    let len = value.bytes.len();
+    draft.append(&value.owner.0)?;
+    draft.append(&value.lamports.to_le_bytes())?;
+    draft.append(&(len as u64).to_le_bytes())?;
+    draft.lend(alloc, account)?;
+    draft.zeros(alloc, (room - len) as u32)?;
+    Ok(())
+}
+
+/// Adds the entry of an account where it is listed first.
+pub fn add_first(
+    alloc: Global,
+    draft: &mut Draft,
+    signer: bool,
+    writable: bool,
+    key: &Key,
+    account: &Arc<Account>,
+) -> Result<(), OutOfMemory>
+    requires { IsShort (arc_value account.now) }
+    ensures bytes { OnOk result (draft.new ≡ draft.old ++ first_entry signer writable key.now (arc_value account.now)) }
+    ensures size { OnOk result (length draft.new ≡ length draft.old + first_size (arc_value account.now)) }
+{
+    let value: &Account = account;
+    let flags = [
+        NOT_LISTED_BEFORE,
+        u8::from(signer),
+        u8::from(writable),
+        u8::from(value.executable),
+    ];
+    draft.append(&flags)?;
+    draft.append(&[0; 4])?;
+    draft.append(&key.0)?;
+    add_state(alloc, draft, room_for(value), account)?;
+    draft.append(&[0; 8][..padding_for(value)])?;
+    draft.append(&u64::MAX.to_le_bytes())?;
+    Ok(())
+}
+
+/// How many bytes the region has of a meta.
+pub fn entry_len(
+    start: &[Arc<Account>],
+    metas: &[Meta],
+    table: &[Listing; PLACES],
+    place: usize,
+    meta: &Meta,
+) -> usize
+    requires range { AreInRange (length (accounts_of start.now)) metas.now }
+    requires table { IsTableOf metas.now table.now }
+    requires there { slice_get metas.now place ≡ Some meta.now }
+    requires most { entry_start (accounts_of start.now) metas.now (length metas.now) < 2 ^ 32 }
+    ensures { result ≡ entry_size (accounts_of start.now) metas.now (place, meta.now) }
+{
+    if is_first(metas, table, place, meta) {
+        first_len(&start[usize::from(meta.index)])
+    } else {
+        REPEATED_LEN
+    }
+}
+
+/// Adds the entry of an account that was listed before, first at this place.
+pub fn add_repeated(draft: &mut Draft, place: u8) -> Result<(), OutOfMemory>
+    ensures bytes { OnOk result (draft.new ≡ draft.old ++ repeated_entry place) }
+    ensures size { OnOk result (length draft.new ≡ length draft.old + 8) }
+{
+    draft.append(&[place, 0, 0, 0, 0, 0, 0, 0])
+}
+
+/// The number at a place of a region.
+pub fn number_in(region: &Parts, place: usize) -> u64
+    requires { place + 8 ≤ length region.now.bytes }
+    ensures { result ≡ number_at region.now.bytes place }
+{
+    let mut number = [0; 8];
+    region.read(place, &mut number);
+    u64::from_le_bytes(number)
+}
+
+/// The key at a place of a region.
+pub fn key_in_region(region: &Parts, place: usize) -> Key
+    requires { place + 32 ≤ length region.now.bytes }
+    ensures { result.0 ≡ take 32 (drop place region.now.bytes) }
+{
+    let mut key = [0; 32];
+    region.read(place, &mut key);
+    Key(key)
+}

@@ -1,0 +1,98 @@
+ghost use Rattle.std.specs.Prelude.{◌≡◌, ◌+◌, ◌≤◌, ◌++◌, length, slice_get, IfOk, OnOk, Some};
+ghost use Rattle.std.specs.List.{enumerate_from, flat_map};
+ghost use Rattle.sol_base.specs.Accounts.{accounts_of, AreShort};
+ghost use Rattle.sol_base.specs.Metas.{AreInRange};
+ghost use Rattle.sol_base.specs.Parts.{unprepared};
+ghost use Rattle.abi_input.specs.Listing.{IsTableOf};
+ghost use Rattle.abi_input.specs.Region.{entry_of, entry_size, entry_start, input_of, IsRegionOf};
+
+use crate::draft::Draft;
+use crate::entry::{add_first, add_repeated};
+use crate::listing::{Listing, PLACES, is_first, listing_of, listings};
+use sol_base::{Account, Key, Meta, OutOfMemory, Parts};
+use std::alloc::Global;
+use std::sync::Arc;
+
+/// The input region of a frame (Solana's aligned layout). The data of the accounts are lent, and
+/// not copied.
+pub fn lay_out(
+    alloc: Global,
+    keys: &[Key],
+    accounts: &[Arc<Account>],
+    metas: &[Meta],
+    input: &[u8],
+    program: &Key,
+) -> Result<Parts, OutOfMemory>
+    requires count { length (accounts_of accounts.now) ≡ length keys.now }
+    requires most { length metas.now ≤ 255 }
+    requires range { AreInRange (length (accounts_of accounts.now)) metas.now }
+    requires short { AreShort (accounts_of accounts.now) }
+    requires input { length input.now ≤ 65535 }
+    ensures value { IfOk result (λ region. region ≡ unprepared (input_of keys.now (accounts_of accounts.now) metas.now input.now program.now)) }
+    ensures size { IfOk result (λ region. IsRegionOf (accounts_of accounts.now) metas.now region.bytes) }
+{
+    let mut draft = Draft::new(alloc, parts_for(metas))?;
+    draft.append(&(metas.len() as u64).to_le_bytes())?;
+    add_entries(alloc, &mut draft, keys, accounts, metas)?;
+    draft.append(&(input.len() as u64).to_le_bytes())?;
+    draft.append(input)?;
+    draft.append(&program.0)?;
+    draft.finish(alloc)
+}
+
+/// How many parts a region has at most: three for each account, and one behind them.
+pub fn parts_for(metas: &[Meta]) -> usize {
+    metas.len().saturating_mul(3).saturating_add(1)
+}
+
+/// Adds what the region has of each meta.
+fn add_entries(
+    alloc: Global,
+    draft: &mut Draft,
+    keys: &[Key],
+    accounts: &[Arc<Account>],
+    metas: &[Meta],
+) -> Result<(), OutOfMemory>
+    requires count { length (accounts_of accounts.now) ≡ length keys.now }
+    requires most { length metas.now ≤ 255 }
+    requires range { AreInRange (length (accounts_of accounts.now)) metas.now }
+    requires short { AreShort (accounts_of accounts.now) }
+    ensures bytes { OnOk result (draft.new ≡ draft.old ++ flat_map (entry_of keys.now (accounts_of accounts.now) metas.now) (enumerate_from 0 metas.now)) }
+    ensures size { OnOk result (length draft.new + 8 ≡ length draft.old + entry_start (accounts_of accounts.now) metas.now (length metas.now)) }
+{
+    let table = listings(metas);
+    for (place, meta) in metas.iter().enumerate() {
+        add_entry(alloc, draft, keys, accounts, metas, &table, place, meta)?;
+    }
+    Ok(())
+}
+
+/// Adds what the region has of one meta.
+fn add_entry(
+    alloc: Global,
+    draft: &mut Draft,
+    keys: &[Key],
+    accounts: &[Arc<Account>],
+    metas: &[Meta],
+    table: &[Listing; PLACES],
+    place: usize,
+    meta: &Meta,
+) -> Result<(), OutOfMemory>
+    requires count { length (accounts_of accounts.now) ≡ length keys.now }
+    requires range { AreInRange (length (accounts_of accounts.now)) metas.now }
+    requires short { AreShort (accounts_of accounts.now) }
+    requires table { IsTableOf metas.now table.now }
+    requires there { slice_get metas.now place ≡ Some meta.now }
+    ensures bytes { OnOk result (draft.new ≡ draft.old ++ entry_of keys.now (accounts_of accounts.now) metas.now (place, meta.now)) }
+    ensures size { OnOk result (length draft.new ≡ length draft.old + entry_size (accounts_of accounts.now) metas.now (place, meta.now)) }
+{
+    let index = usize::from(meta.index);
+    let listing = listing_of(metas, table, meta);
+    if is_first(metas, table, place, meta) {
+        let key = &keys[index];
+        let account = &accounts[index];
+        add_first(alloc, draft, listing.signer, listing.writable, key, account)
+    } else {
+        add_repeated(draft, listing.first.unwrap_or(0))
+    }
+}

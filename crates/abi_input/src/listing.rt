@@ -1,0 +1,67 @@
+ghost use Rattle.std.specs.Prelude.{◌≡◌, ◌<◌, ◌≤◌, length, slice_get, Some};
+ghost use Rattle.sol_base.specs.Metas.{is_first_listing};
+ghost use Rattle.abi_input.specs.Listing.{IsTableOf, listed_again, listing_in};
+
+use sol_base::Meta;
+
+/// How many accounts a meta can name.
+pub const PLACES: usize = 256;
+
+/// How a list of metas lists one account.
+#[derive(Clone, Copy)]
+pub struct Listing {
+    /// The place in the list of the first meta that lists it.
+    pub first: Option<u8>,
+    pub signer: bool,
+    pub writable: bool,
+}
+
+impl Listing {
+    /// The listing, after one meta more that lists the account.
+    fn with(self, place: u8, meta: &Meta) -> Listing
+        ensures { result ≡ listed_again self place meta.now }
+    {
+        Listing {
+            first: self.first.or(Some(place)),
+            signer: self.signer || meta.signer,
+            writable: self.writable || meta.writable,
+        }
+    }
+}
+
+/// How the list lists each account, by its place among the transaction's keys.
+pub fn listings(metas: &[Meta]) -> [Listing; PLACES]
+    requires { length metas.now ≤ 255 }
+    ensures { IsTableOf metas.now result }
+{
+    let mut table = [Listing {
+        first: None,
+        signer: false,
+        writable: false,
+    }; PLACES];
+    for (place, meta) in metas.iter().enumerate() {
+        let index = usize::from(meta.index);
+        table[index] = table[index].with(place as u8, meta);
+    }
+    table
+}
+
+/// How the list lists the account of a meta.
+pub fn listing_of(metas: &[Meta], table: &[Listing; PLACES], meta: &Meta) -> Listing
+    requires { IsTableOf metas.now table.now }
+    ensures { result ≡ listing_in metas.now meta.now.index }
+{
+    table[usize::from(meta.index)]
+}
+
+/// No meta before this one lists its account. `place` is that of the meta in the list.
+pub fn is_first(metas: &[Meta], table: &[Listing; PLACES], place: usize, meta: &Meta) -> bool
+    requires table { IsTableOf metas.now table.now }
+    requires there { slice_get metas.now place ≡ Some meta.now }
+    ensures { result ≡ is_first_listing metas.now (place, meta.now) }
+{
+    match listing_of(metas, table, meta).first {
+        Some(first) => usize::from(first) >= place,
+        None => true,
+    }
+}

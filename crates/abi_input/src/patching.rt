@@ -1,0 +1,234 @@
+ghost use Rattle.std.specs.Prelude.{◌≡◌, ◌+◌, ◌<◌, ◌≤◌, ◌++◌, ◌&&◌, ◌^◌, length, slice_get, take, drop, IfErr, IfOk, OnOk, Ok, Some, None};
+ghost use Rattle.std.specs.Arc.{arc_value};
+ghost use Rattle.std.specs.List.{enumerate_from, flat_map};
+ghost use Rattle.sol_base.specs.declared.account.Account.{Account as AccountValue};
+ghost use Rattle.sol_base.specs.Accounts.{accounts_of};
+ghost use Rattle.sol_base.specs.Metas.{AreInRange, is_first_listing};
+ghost use Rattle.abi_input.specs.Listing.{IsTableOf};
+ghost use Rattle.abi_input.specs.Region.{entry_size, entry_start, first_size, is_outgrown, over_entry, patched, patched_entry, room_of, IsRegionOf};
+ghost use Rattle.abi_input.specs.Entries.{found_among};
+ghost use Rattle.abi_input.specs.Answers.{Patches, RefusesPatch};
+
+use crate::draft::Draft;
+use crate::entry::{
+    DATA_AT, FIRST_ENTRY, LAST_LEN, OWNER_AT, REPEATED_LEN, add_state, entry_len, padding_for,
+    room_for,
+};
+use crate::fault::PatchFault;
+use crate::laying::parts_for;
+use crate::listing::{Listing, PLACES, is_first, listings};
+use sol_base::{Account, Meta, OutOfMemory, Parts};
+use std::alloc::Global;
+use std::sync::Arc;
+
+/// How many bytes are copied at once.
+const PIECE_LEN: usize = 512;
+
+/// Writes the accounts `now` over the region that was laid out from `start`. Their data are lent,
+/// and not copied.
+pub fn patch(
+    alloc: Global,
+    region: &mut Parts,
+    start: &[Arc<Account>],
+    now: &[Arc<Account>],
+    metas: &[Meta],
+) -> Result<(), PatchFault>
+    requires count { length (accounts_of now.now) ≡ length (accounts_of start.now) }
+    requires most { length metas.now ≤ 255 }
+    requires range { AreInRange (length (accounts_of start.now)) metas.now }
+    requires region { IsRegionOf (accounts_of start.now) metas.now region.old.bytes }
+    ensures answer { Patches (patched region.old.bytes (accounts_of start.now) (accounts_of now.now) metas.now) region.old.bytes region.new.bytes result }
+    ensures size { length region.new.bytes ≡ length region.old.bytes }
+{
+    let _len = region.len();
+    let table = listings(metas);
+    check_rooms(start, now, metas, &table)?;
+    let next = patched_region(alloc, region, start, now, metas, &table)?;
+    *region = next;
+    Ok(())
+}
+
+/// No account has outgrown its place in the region.
+fn check_rooms(
+    start: &[Arc<Account>],
+    now: &[Arc<Account>],
+    metas: &[Meta],
+    table: &[Listing; PLACES],
+) -> Result<(), PatchFault>
+    requires count { length (accounts_of now.now) ≡ length (accounts_of start.now) }
+    requires most { length metas.now ≤ 255 }
+    requires range { AreInRange (length (accounts_of start.now)) metas.now }
+    requires table { IsTableOf metas.now table.now }
+    requires sizes { entry_start (accounts_of start.now) metas.now (length metas.now) < 2 ^ 32 }
+    ensures ok { OnOk result (found_among (is_outgrown (accounts_of start.now) (accounts_of now.now)) metas.now (length metas.now) ≡ None) }
+    ensures err { IfErr result (RefusesPatch (found_among (is_outgrown (accounts_of start.now) (accounts_of now.now)) metas.now (length metas.now))) }
+{
+    for (place, meta) in metas.iter().enumerate() {
+        if outgrows(start, now, metas, table, place, meta) {
+            return Err(PatchFault::LengthTooLarge { i: place as u8 });
+        }
+    }
+    Ok(())
+}
+
+/// The meta is the first listing of an account that has outgrown its place.
+fn outgrows(
+    start: &[Arc<Account>],
+    now: &[Arc<Account>],
+    metas: &[Meta],
+    table: &[Listing; PLACES],
+    place: usize,
+    meta: &Meta,
+) -> bool
+    requires count { length (accounts_of now.now) ≡ length (accounts_of start.now) }
+    requires range { AreInRange (length (accounts_of start.now)) metas.now }
+    requires table { IsTableOf metas.now table.now }
+    requires there { slice_get metas.now place ≡ Some meta.now }
+    requires most { entry_start (accounts_of start.now) metas.now (length metas.now) < 2 ^ 32 }
+    ensures { result ≡ (is_first_listing metas.now (place, meta.now) && is_outgrown (accounts_of start.now) (accounts_of now.now) (place, meta.now)) }
+{
+    if !is_first(metas, table, place, meta) {
+        return false;
+    }
+    let index = usize::from(meta.index);
+    let start: &Account = &start[index];
+    let now: &Account = &now[index];
+    now.bytes.len() > room_for(start)
+}
+
+/// The region with the states of the accounts written over it.
+fn patched_region(
+    alloc: Global,
+    region: &Parts,
+    start: &[Arc<Account>],
+    now: &[Arc<Account>],
+    metas: &[Meta],
+    table: &[Listing; PLACES],
+) -> Result<Parts, OutOfMemory>
+    requires count { length (accounts_of now.now) ≡ length (accounts_of start.now) }
+    requires most { length metas.now ≤ 255 }
+    requires range { AreInRange (length (accounts_of start.now)) metas.now }
+    requires region { IsRegionOf (accounts_of start.now) metas.now region.now.bytes }
+    requires most_bytes { length region.now.bytes < 2 ^ 32 }
+    requires table { IsTableOf metas.now table.now }
+    requires rooms { found_among (is_outgrown (accounts_of start.now) (accounts_of now.now)) metas.now (length metas.now) ≡ None }
+    ensures bytes { IfOk result (λ next. patched region.now.bytes (accounts_of start.now) (accounts_of now.now) metas.now ≡ Ok next.bytes) }
+    ensures size { IfOk result (λ next. length next.bytes ≡ length region.now.bytes) }
+{
+    let mut draft = Draft::new(alloc, parts_for(metas))?;
+    copy(&mut draft, region, 0, FIRST_ENTRY)?;
+    let end = patch_entries(alloc, &mut draft, region, start, now, metas, table)?;
+    copy(&mut draft, region, end, region.len() - end)?;
+    draft.finish(alloc)
+}
+
+/// Adds all entries, the states of the accounts written over them. Answers where they end.
+fn patch_entries(
+    alloc: Global,
+    draft: &mut Draft,
+    region: &Parts,
+    start: &[Arc<Account>],
+    now: &[Arc<Account>],
+    metas: &[Meta],
+    table: &[Listing; PLACES],
+) -> Result<usize, OutOfMemory>
+    requires count { length (accounts_of now.now) ≡ length (accounts_of start.now) }
+    requires most { length metas.now ≤ 255 }
+    requires range { AreInRange (length (accounts_of start.now)) metas.now }
+    requires region { IsRegionOf (accounts_of start.now) metas.now region.now.bytes }
+    requires most_bytes { length region.now.bytes < 2 ^ 32 }
+    requires table { IsTableOf metas.now table.now }
+    requires rooms { found_among (is_outgrown (accounts_of start.now) (accounts_of now.now)) metas.now (length metas.now) ≡ None }
+    ensures bytes { OnOk result (draft.new ≡ draft.old ++ flat_map (patched_entry region.now.bytes (accounts_of start.now) (accounts_of now.now) metas.now) (enumerate_from 0 metas.now)) }
+    ensures size { OnOk result (length draft.new + 8 ≡ length draft.old + entry_start (accounts_of start.now) metas.now (length metas.now)) }
+    ensures end { IfOk result (λ end. end ≡ entry_start (accounts_of start.now) metas.now (length metas.now)) }
+{
+    let mut entry = FIRST_ENTRY;
+    for (place, meta) in metas.iter().enumerate() {
+        patch_entry(
+            alloc, draft, region, start, now, metas, table, place, meta, entry,
+        )?;
+        entry += entry_len(start, metas, table, place, meta);
+    }
+    Ok(entry)
+}
+
+/// Adds what the region has of a meta, whose entry starts at `entry`, the state of the account
+/// written over it.
+fn patch_entry(
+    alloc: Global,
+    draft: &mut Draft,
+    region: &Parts,
+    start: &[Arc<Account>],
+    now: &[Arc<Account>],
+    metas: &[Meta],
+    table: &[Listing; PLACES],
+    place: usize,
+    meta: &Meta,
+    entry: usize,
+) -> Result<(), OutOfMemory>
+    requires count { length (accounts_of now.now) ≡ length (accounts_of start.now) }
+    requires range { AreInRange (length (accounts_of start.now)) metas.now }
+    requires region { IsRegionOf (accounts_of start.now) metas.now region.now.bytes }
+    requires most_bytes { length region.now.bytes < 2 ^ 32 }
+    requires table { IsTableOf metas.now table.now }
+    requires there { slice_get metas.now place ≡ Some meta.now }
+    requires rooms { found_among (is_outgrown (accounts_of start.now) (accounts_of now.now)) metas.now (length metas.now) ≡ None }
+    requires entry { entry ≡ entry_start (accounts_of start.now) metas.now place }
+    ensures bytes { OnOk result (draft.new ≡ draft.old ++ patched_entry region.now.bytes (accounts_of start.now) (accounts_of now.now) metas.now (place, meta.now)) }
+    ensures size { OnOk result (length draft.new ≡ length draft.old + entry_size (accounts_of start.now) metas.now (place, meta.now)) }
+{
+    if is_first(metas, table, place, meta) {
+        let index = usize::from(meta.index);
+        patch_first(alloc, draft, region, entry, &start[index], &now[index])?;
+        Ok(())
+    } else {
+        copy(draft, region, entry, REPEATED_LEN)?;
+        Ok(())
+    }
+}
+
+/// Adds an entry, the state of the account written over it.
+fn patch_first(
+    alloc: Global,
+    draft: &mut Draft,
+    region: &Parts,
+    entry: usize,
+    start: &Account,
+    now: &Arc<Account>,
+) -> Result<(), OutOfMemory>
+    requires within { entry + first_size start.now ≤ length region.now.bytes }
+    requires most { length region.now.bytes < 2 ^ 32 }
+    requires room { let value : AccountValue = arc_value now.now in length value.bytes ≤ room_of start.now }
+    ensures bytes { OnOk result (draft.new ≡ draft.old ++ over_entry start.now (arc_value now.now) (take (first_size start.now) (drop entry region.now.bytes))) }
+    ensures size { OnOk result (length draft.new ≡ length draft.old + first_size start.now) }
+{
+    let room = room_for(start);
+    copy(draft, region, entry, OWNER_AT)?;
+    add_state(alloc, draft, room, now)?;
+    copy(
+        draft,
+        region,
+        entry + DATA_AT + room,
+        padding_for(start) + LAST_LEN,
+    )
+}
+
+/// Adds a copy of bytes of the region.
+fn copy(draft: &mut Draft, region: &Parts, at: usize, len: usize) -> Result<(), OutOfMemory>
+    requires within { at + len ≤ length region.now.bytes }
+    requires most { length region.now.bytes < 2 ^ 32 }
+    ensures bytes { OnOk result (draft.new ≡ draft.old ++ take len (drop at region.now.bytes)) }
+    ensures size { OnOk result (length draft.new ≡ length draft.old + len) }
+{
+    let mut piece = [0; PIECE_LEN];
+    let mut done = 0;
+    while done < len {
+        let count = PIECE_LEN.min(len - done);
+        let part = &mut piece[..count];
+        region.read(at + done, part);
+        draft.append(part)?;
+        done += count;
+    }
+    Ok(())
+}

@@ -1,0 +1,282 @@
+ghost use Rattle.std.specs.Prelude.{◌≡◌, ◌↔◌, ◌+◌, ◌<◌, ◌≤◌, ◌||◌, ◌&&◌, ◌^◌, length, slice_get, take, drop, map, nat_lt, false, true, IfErr, IfOk, IsTrue, Some, None};
+ghost use Rattle.std.specs.Option.{ForSome};
+ghost use Rattle.std.specs.Arc.{arc_value};
+ghost use Rattle.std.specs.List.{enumerate_from, slice_index_or};
+ghost use Rattle.sol_base.specs.declared.account.Account.{Account as AccountValue};
+ghost use Rattle.sol_base.specs.Accounts.{accounts_of, max_data_len};
+ghost use Rattle.sol_base.specs.Metas.{AreInRange, is_first_listing};
+ghost use Rattle.abi_input.specs.Listing.{IsTableOf};
+ghost use Rattle.abi_input.specs.Region.{account_at, account_back, back, data_len_at, entry_start, has_outgrown, is_too_long, room_of, IsRegionOf};
+ghost use Rattle.abi_input.specs.Entries.{account_by, found_among, AreEntries, IsEntryOf};
+ghost use Rattle.abi_input.specs.Answers.{RefusesBack, SameUnlessTouched, TakesBack};
+
+use crate::entry::{
+    DATA_AT, DATA_LEN_AT, FIRST_ENTRY, LAMPORTS_AT, OWNER_AT, entry_len, key_in_region, number_in,
+    room_for,
+};
+use crate::fault::BackFault;
+use crate::listing::{Listing, PLACES, is_first, listings};
+use sol_base::{Account, Blob, Items, Key, MAX_DATA_LEN, Meta, OutOfMemory, Parts};
+use std::alloc::Global;
+use std::sync::Arc;
+
+/// How many bytes are copied at once.
+const PIECE_LEN: usize = 4096;
+
+/// The accounts after a frame worked on them.
+#[derive(Drop)]
+pub struct TakenBack {
+    pub accounts: Items<Arc<Account>>,
+    /// Of each account, whether it may differ from what it was before.
+    pub touched: Items<bool>,
+}
+
+/// An account after a frame worked on it.
+#[derive(Drop)]
+struct Taken {
+    account: Arc<Account>,
+    touched: bool,
+}
+
+/// The accounts `now`, with owner, lamports and data of the listed ones as they stand in the region
+/// that was laid out from `start`. An account whose data are still lent is not copied.
+pub fn take_back(
+    alloc: Global,
+    region: &Parts,
+    start: &[Arc<Account>],
+    now: &[Arc<Account>],
+    metas: &[Meta],
+) -> Result<TakenBack, BackFault>
+    requires count { length (accounts_of now.now) ≡ length (accounts_of start.now) }
+    requires most { length metas.now ≤ 255 }
+    requires range { AreInRange (length (accounts_of start.now)) metas.now }
+    requires region { IsRegionOf (accounts_of start.now) metas.now region.now.bytes }
+    ensures answer { TakesBack (back region.now.bytes (accounts_of start.now) (accounts_of now.now) metas.now) result }
+    ensures flags { IfOk result (λ taken. length taken.touched ≡ length (accounts_of now.now)) }
+    ensures untouched { IfOk result (λ taken. SameUnlessTouched taken.touched (accounts_of now.now) (accounts_of taken.accounts)) }
+{
+    let _len = region.len();
+    let entries = checked_entries(region, start, metas)?;
+    Ok(taken_by(alloc, region, start, now, metas, &entries)?)
+}
+
+/// Where the entry of each listed account starts. Refused at the first that has a length that it
+/// may not have.
+fn checked_entries(
+    region: &Parts,
+    start: &[Arc<Account>],
+    metas: &[Meta],
+) -> Result<[Option<usize>; PLACES], BackFault>
+    requires most { length metas.now ≤ 255 }
+    requires range { AreInRange (length (accounts_of start.now)) metas.now }
+    requires region { IsRegionOf (accounts_of start.now) metas.now region.now.bytes }
+    requires bytes { length region.now.bytes < 2 ^ 32 }
+    ensures ok { IfOk result (λ entries. AreEntries (accounts_of start.now) metas.now (length metas.now) entries) }
+    ensures none { IfOk result (λ entries. found_among (is_too_long region.now.bytes (accounts_of start.now) metas.now) metas.now (length metas.now) ≡ None) }
+    ensures err { IfErr result (RefusesBack (found_among (is_too_long region.now.bytes (accounts_of start.now) metas.now) metas.now (length metas.now))) }
+{
+    let table = listings(metas);
+    let mut entries = [None; PLACES];
+    let mut entry = FIRST_ENTRY;
+    for (place, meta) in metas.iter().enumerate() {
+        if is_refused(region, start, metas, &table, place, meta, entry) {
+            return Err(BackFault::LengthTooLarge { i: place as u8 });
+        }
+        let index = usize::from(meta.index);
+        entries[index] = entries[index].or(Some(entry));
+        entry += entry_len(start, metas, &table, place, meta);
+    }
+    Ok(entries)
+}
+
+/// The meta, whose entry starts at `entry`, is the first listing of an account that has a length
+/// there that it may not have.
+fn is_refused(
+    region: &Parts,
+    start: &[Arc<Account>],
+    metas: &[Meta],
+    table: &[Listing; PLACES],
+    place: usize,
+    meta: &Meta,
+    entry: usize,
+) -> bool
+    requires range { AreInRange (length (accounts_of start.now)) metas.now }
+    requires region { IsRegionOf (accounts_of start.now) metas.now region.now.bytes }
+    requires most { length region.now.bytes < 2 ^ 32 }
+    requires table { IsTableOf metas.now table.now }
+    requires there { slice_get metas.now place ≡ Some meta.now }
+    requires entry { entry ≡ entry_start (accounts_of start.now) metas.now place }
+    ensures { result ≡ (is_first_listing metas.now (place, meta.now) && is_too_long region.now.bytes (accounts_of start.now) metas.now (place, meta.now)) }
+{
+    if !is_first(metas, table, place, meta) {
+        return false;
+    }
+    has_long_data(region, entry, &start[usize::from(meta.index)])
+}
+
+/// The length that stands in the entry is one that the account may not have.
+fn has_long_data(region: &Parts, entry: usize, start: &Account) -> bool
+    requires within { entry + 88 ≤ length region.now.bytes }
+    requires most { length region.now.bytes < 2 ^ 32 }
+    requires start { length start.now.bytes < 2 ^ 32 }
+    ensures { result ≡ (has_outgrown start.now (data_len_at region.now.bytes entry) || nat_lt max_data_len (data_len_at region.now.bytes entry)) }
+{
+    let len = number_in(region, entry + DATA_LEN_AT);
+    len > room_for(start) as u64 || len > MAX_DATA_LEN as u64
+}
+
+/// The accounts as they stand in their entries.
+fn taken_by(
+    alloc: Global,
+    region: &Parts,
+    start: &[Arc<Account>],
+    now: &[Arc<Account>],
+    metas: &[Meta],
+    entries: &[Option<usize>; PLACES],
+) -> Result<TakenBack, OutOfMemory>
+    requires count { length (accounts_of now.now) ≡ length (accounts_of start.now) }
+    requires range { AreInRange (length (accounts_of start.now)) metas.now }
+    requires region { IsRegionOf (accounts_of start.now) metas.now region.now.bytes }
+    requires most { length region.now.bytes < 2 ^ 32 }
+    requires entries { AreEntries (accounts_of start.now) metas.now (length metas.now) entries.now }
+    requires lengths { found_among (is_too_long region.now.bytes (accounts_of start.now) metas.now) metas.now (length metas.now) ≡ None }
+    ensures accounts { IfOk result (λ taken. accounts_of taken.accounts ≡ map (account_back region.now.bytes (accounts_of start.now) metas.now) (enumerate_from 0 (accounts_of now.now))) }
+    ensures flags { IfOk result (λ taken. length taken.touched ≡ length (accounts_of now.now)) }
+    ensures untouched { IfOk result (λ taken. SameUnlessTouched taken.touched (accounts_of now.now) (accounts_of taken.accounts)) }
+{
+    let mut accounts = Items::with_capacity(alloc, now.len())?;
+    let mut touched = Items::with_capacity(alloc, now.len())?;
+    for (index, account) in now.iter().enumerate() {
+        let taken = take_one(alloc, region, entry_at(entries, index), account)?;
+        touched.push(taken.touched)?;
+        accounts.push(taken.account)?;
+    }
+    Ok(TakenBack { accounts, touched })
+}
+
+/// Where the entry of an account starts, if it is listed.
+fn entry_at(entries: &[Option<usize>; PLACES], index: usize) -> Option<usize>
+    ensures { result ≡ slice_index_or entries.now index None }
+{
+    if index < PLACES { entries[index] } else { None }
+}
+
+/// An account as it stands in its entry, if it has one.
+fn take_one(
+    alloc: Global,
+    region: &Parts,
+    entry: Option<usize>,
+    account: &Arc<Account>,
+) -> Result<Taken, OutOfMemory>
+    requires entry { ForSome entry (IsEntryOf region.now.bytes) }
+    requires most { length region.now.bytes < 2 ^ 32 }
+    ensures value { IfOk result (λ taken. arc_value taken.account ≡ account_by region.now.bytes entry (arc_value account.now)) }
+    ensures same { IfOk result (λ taken. taken.touched ≡ false → arc_value taken.account ≡ arc_value account.now) }
+{
+    let Some(entry) = entry else {
+        return untouched(account);
+    };
+    if is_unchanged(region, entry, account) {
+        return untouched(account);
+    }
+    let taken = account_in_region(alloc, region, entry, account)?;
+    Ok(Taken {
+        account: Arc::new(alloc, taken)?,
+        touched: true,
+    })
+}
+
+/// The account as it is.
+fn untouched(account: &Arc<Account>) -> Result<Taken, OutOfMemory>
+    ensures value { IfOk result (λ taken. arc_value taken.account ≡ arc_value account.now) }
+    ensures flag { IfOk result (λ taken. taken.touched ≡ false) }
+{
+    Ok(Taken {
+        account: Arc::try_clone(account)?,
+        touched: false,
+    })
+}
+
+/// The account stands in its entry as it was before, and its data are still lent.
+fn is_unchanged(region: &Parts, entry: usize, account: &Account) -> bool
+    requires entry { IsEntryOf region.now.bytes entry }
+    requires most { length region.now.bytes < 2 ^ 32 }
+    ensures { result ≡ true → account_at region.now.bytes entry account.now ≡ account.now }
+{
+    let lamports = number_in(region, entry + LAMPORTS_AT);
+    if lamports != account.lamports {
+        return false;
+    }
+    let owner = key_in_region(region, entry + OWNER_AT);
+    if !is_same_key(&owner, &account.owner) {
+        return false;
+    }
+    let len = number_in(region, entry + DATA_LEN_AT);
+    if len != account.bytes.len() as u64 {
+        return false;
+    }
+    has_data(region, entry + DATA_AT, account)
+}
+
+fn is_same_key(key: &Key, other: &Key) -> bool
+    ensures { IsTrue result ↔ (key.now ≡ other.now) }
+{
+    key == other
+}
+
+/// The data of the account stand at a place, and are lent or empty.
+fn has_data(region: &Parts, at: usize, account: &Account) -> bool
+    ensures { result ≡ true → take (length account.now.bytes) (drop at region.now.bytes) ≡ account.now.bytes }
+{
+    if account.bytes.is_empty() {
+        return true;
+    }
+    match region.lent_at(at) {
+        Some(lent) => lent.bytes.as_slice() == account.bytes.as_slice(),
+        None => false,
+    }
+}
+
+/// The account as it stands in its entry, in memory of its own.
+fn account_in_region(
+    alloc: Global,
+    region: &Parts,
+    entry: usize,
+    account: &Account,
+) -> Result<Account, OutOfMemory>
+    requires entry { IsEntryOf region.now.bytes entry }
+    requires most { length region.now.bytes < 2 ^ 32 }
+    ensures { IfOk result (λ taken. taken ≡ account_at region.now.bytes entry account.now) }
+{
+    let len = number_in(region, entry + DATA_LEN_AT) as usize;
+    Ok(Account {
+        lamports: number_in(region, entry + LAMPORTS_AT),
+        owner: key_in_region(region, entry + OWNER_AT),
+        executable: account.executable,
+        bytes: bytes_in_region(alloc, region, entry + DATA_AT, len)?,
+    })
+}
+
+/// A copy of bytes of the region.
+fn bytes_in_region(
+    alloc: Global,
+    region: &Parts,
+    at: usize,
+    len: usize,
+) -> Result<Blob, OutOfMemory>
+    requires within { at + len ≤ length region.now.bytes }
+    requires most { length region.now.bytes < 2 ^ 32 }
+    ensures { IfOk result (λ bytes. bytes ≡ take len (drop at region.now.bytes)) }
+{
+    let mut bytes = Blob::with_capacity(alloc, len)?;
+    let mut piece = [0; PIECE_LEN];
+    let mut done = 0;
+    while done < len {
+        let count = PIECE_LEN.min(len - done);
+        let part = &mut piece[..count];
+        region.read(at + done, part);
+        bytes.append(part)?;
+        done += count;
+    }
+    Ok(bytes)
+}
