@@ -30,7 +30,6 @@ use Rattle.bank_core.specs.Slots.{Shared, value_of, account_at}
 use Rattle.bank_core.specs.Counts.{locks_before}
 use Rattle.bank_core.specs.Keeping.{Keeps, IsApart, HasRoom, HasBuffers}
 use Rattle.bank_core.proofs.Merges.{not_before}
-use Rattle.bank_law.proofs.States.{same_cmp}
 use Rattle.lock_table.proofs.Tables.{tables_grow, stay_distinct}
 use Rattle.bank_core.proofs.Numbers.{as_many_locks}
 
@@ -100,8 +99,8 @@ taken_next keys slots more n old now next share distinct below T value removed p
   is_old = T.is_old;
   is_now = subst IsState (sym removed) (IsState-remove now (numbered_key keys n) T.is_now);
   stored = λ k l. by_place k l (cases_eq k n);
-  rest = λ q. ap (λ s. at s q) removed ∙ (at-remove now (numbered_key keys n) q ∙ (ap (λ b. cond b empty_account (at now q)) (same_cmp q (numbered_key keys n))
-      ∙ (ap (λ a. cond (same_key q (numbered_key keys n)) empty_account a) (T.rest q) ∙ (both (at old q) (same_key q (numbered_key keys n)) (has_key q (take n keys)) ∙ ap (λ b. cond b empty_account (at old q)) (sym (longer q))))));
+  rest = λ q. ap (λ s. at s q) removed ∙ (at-remove now (numbered_key keys n) q
+      ∙ (ap (λ a. cond (same_key q (numbered_key keys n)) empty_account a) (T.rest q) ∙ (both (at old q) (same_key q (numbered_key keys n)) (has_key q (take n keys)) ∙ ap (λ b. cond b empty_account (at old q)) (sym (longer q)))));
 }
   where
     both : (a : Account) (b c : Bool) → cond b empty_account (cond c empty_account a) ≡ cond (c || (b || false)) empty_account a

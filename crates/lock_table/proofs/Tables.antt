@@ -14,7 +14,7 @@ use Rattle.sol_base.specs.declared.lock.Lock.{Lock}
 use Rattle.sol_base.specs.Keys.{key_cmp}
 use Rattle.bank_law.specs.Job.{same_key, has_key, lock_keys}
 use Rattle.bank_law.proofs.Keys.{same_key-true, same_key-self, same_key-sym, same_key-equiv}
-use Rattle.bank_law.proofs.States.{same_cmp}
+use Rattle.sol_base.proofs.KeyLaws.{same_cmp}
 use Rattle.lock_table.specs.Numbers.{number_of, numbered_key, with_key, with_keys}
 use Rattle.lock_table.specs.Tables.{IsTable}
 use Rattle.lock_table.specs.Laws.{EqualKeysEqualNumbers, KeysStay, KeysStayDistinct, TablesGrowLittle}
