@@ -23,7 +23,7 @@ use Rattle.bank_core.specs.Slots.{Shared, value_of, account_at, in_slot, slot_la
 use Rattle.lock_table.specs.Numbers.{numbered_key}
 use Rattle.lock_table.proofs.Tables.{equal_numbers}
 use Rattle.bank_core.proofs.Supply.{among_at}
-use Rattle.bank_law.proofs.States.{at_put-same}
+use Rattle.bank_law.proofs.States.{at_put-settled}
 
 all_at : (P : Key → Type 0) (ks : List Key) (n : ℕ) → AllByRecursion P ks → n < length ks → P (numbered_key ks n)
 all_at P [] n a l = absurd (omega arith)
@@ -98,9 +98,9 @@ module _ (keys : List Key) (all slots : List (Option Shared)) (n : ℕ) (old now
   merge_some share next here short settled supply grown = record {
     is_state = subst IsState (sym grown) (IsState-put now (numbered_key keys n) (value_of share) M.is_state (subst IsShort slot_is short) (merge_fits share here supply));
     same = same_next;
-    within = λ k l. ap (λ s. at s (numbered_key keys k)) grown ∙ (at_put-same now (numbered_key keys n) (value_of share) (numbered_key keys k) settles ∙ at_place k l (cases_eq k n));
+    within = λ k l. ap (λ s. at s (numbered_key keys k)) grown ∙ (at_put-settled now (numbered_key keys n) (value_of share) (numbered_key keys k) settles ∙ at_place k l (cases_eq k n));
     others = λ q out. let o = out_of_first q out in
-        ap (λ s. at s q) grown ∙ (at_put-same now (numbered_key keys n) (value_of share) q settles
+        ap (λ s. at s q) grown ∙ (at_put-settled now (numbered_key keys n) (value_of share) q settles
         ∙ (cond-false _ _ (at now q) o.1 ∙ M.others q o.0));
     total =
         let sums = ap sum grown in

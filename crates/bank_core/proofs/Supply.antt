@@ -23,42 +23,12 @@ use Rattle.prio_graph.specs.Ready.{Positions, set_at}
 use Rattle.bank_law.specs.Job.{Job, same_key, has_key, keys}
 use Rattle.bank_law.proofs.Keys.{has_key-first, has_key-rest}
 use Rattle.bank_law.specs.Lawful.{lamports_under, IsLawful, IsShort, IsSettled, IsStart}
-use Rattle.bank_law.proofs.States.{at_remove-same, at_fits, under-cons, under-same}
+use Rattle.account_store.proofs.SumLaws.{sums_differ}
+use Rattle.bank_law.proofs.States.{at_fits, under-cons}
 use Rattle.bank_core.specs.Slots.{Shared, numbers}
 use Rattle.bank_core.specs.Keeping.{Keeps, IsApart}
 use Rattle.lock_table.specs.Numbers.{numbered_key}
 use Rattle.bank_core.proofs.Numbers.{keys_is, numbers_within}
-
-unfound : (key : Key) (ks : List Key) → AllByRecursion (λ k. same_key key k ≡ false) ks → has_key key ks ≡ false
-unfound key [] a = refl
-unfound key (k ∷ ks) a = or_from (same_key key k) (has_key key ks) a.0 (unfound key ks a.1)
-
--- states that differ under these keys alone differ by what they have there
-pub sums_differ : (s t : State) (ks : List Key) → IsState s → IsState t → IsDistinct same_key ks → ((key : Key) → has_key key ks ≡ false → at s key ≡ at t key)
-    → sum s + lamports_under (at t) ks ≡ sum t + lamports_under (at s) ks
-sums_differ s t [] is it d agree = let e = ap sum (same_at s t is it (λ k. agree k refl)) in omega (arith, e)
-sums_differ s t (k ∷ ks) is it d agree =
-    let rest = sums_differ (remove s k) (remove t k) ks (IsState-remove s k is) (IsState-remove t k it) (IsDistinct-tail same_key k ks d) others in
-    let a = sum-remove s k in
-    let b = sum-remove t k in
-    let f = under-cons (at s) k ks in
-    let g = under-cons (at t) k ks in
-    let u = kept s in
-    let v = kept t in
-    omega (arith, rest, a, b, f, g, u, v)
-  where
-    apart : has_key k ks ≡ false
-    apart = unfound k ks (IsDistinct-head same_key k ks d)
-
-    others : (key : Key) → has_key key ks ≡ false → at (remove s k) key ≡ at (remove t k) key
-    others key out = at_remove-same s k key ∙ (by_case (same_key key k) refl ∙ sym (at_remove-same t k key))
-      where
-        by_case : (b : Bool) → same_key key k ≡ b → cond b empty_account (at s key) ≡ cond b empty_account (at t key)
-        by_case true e = refl
-        by_case false e = agree key (or_from (same_key key k) (has_key key ks) e out)
-
-    kept : (r : State) → lamports_under (at (remove r k)) ks ≡ lamports_under (at r) ks
-    kept r = under-same (at (remove r k)) (at r) ks (λ key m. at_remove-same r k key ∙ cond-false (same_key key k) empty_account (at r key) (false_from_ne_true _ (λ e. both_ways _ apart (subst (λ x. has_key x ks ≡ true) (same_key-true key k e) m))))
 
 under-none : (f : Key → Account) (ks : List Key) → ((key : Key) → has_key key ks ≡ true → (f key).lamports ≡ 0) → lamports_under f ks ≡ 0
 under-none f [] none = refl

@@ -1,9 +1,13 @@
 -- The serial run as a state.
-use Rattle.std.proofs.Common.{◌≡◌, ℕ, zero, suc, ◌+◌, ◌<◌, ◌≤◌, Bool, true, false, cond, inl, inr, List, [], ◌∷◌, map, length, Option, Some, None, refl, sym, ◌∙◌, ap, ap₂, subst, arith}
+use Rattle.std.proofs.Common.{◌≡◌, ◌==◌, ℕ, zero, suc, ◌+◌, ◌<◌, ◌≤◌, Bool, true, false, cond, inl, inr, List, [], ◌∷◌, map, length, Option, Some, None, refl, sym, ◌∙◌, ap, ap₂, subst, arith}
 use Rattle.std.specs.Prelude.{unwrap_or, nat_eq, ◌||◌}
 use Rattle.std.specs.List.{AllByRecursion}
 use Rattle.std.specs.BTreeMap.{is_at}
-use Rattle.std.proofs.lemmas.Bool.{both_ways, cases_eq, cond-false, false_from_ne_true}
+use Rattle.std.specs.Ordering.{eq_by_cmp, is_eq}
+use Rattle.std.specs.declared.cmp.Ordering.{Ordering}
+use Rattle.std.specs.declared.cmp.Ordering.TheVariants.{Less, Equal, Greater}
+use Rattle.std.proofs.lemmas.Cmp.{eq_by_cmp_equiv}
+use Rattle.std.proofs.lemmas.Bool.{eqb-true, both_ways, cases_eq, cond-false, false_from_ne_true}
 use Rattle.std.proofs.lemmas.Bool.Decides.{nat_tests}
 use Rattle.std.proofs.lemmas.List.{length-map}
 use Rattle.std.proofs.lemmas.List.Elements.{All-head, All-tail, All-map}
@@ -13,10 +17,11 @@ use Rattle.sol_base.specs.declared.account.Account.{Account}
 use Rattle.sol_base.specs.declared.lock.Lock.{Lock}
 use Rattle.sol_base.specs.Keys.{key_cmp}
 use Rattle.sol_base.specs.Accounts.{empty_account}
-use Rattle.sol_base.proofs.KeyLaws.{key_cmp_exact, key_cmp_total, same_key-true}
+use Rattle.sol_base.proofs.KeyLaws.{key_cmp_exact, key_cmp_total, same_key-true, same_key-self}
 use Rattle.account_store.specs.State.{State, get, at, put, remove, entries, sum, IsHeld, IsState}
 use Rattle.account_store.proofs.EntryLists.{entries-insert_entry, entries-remove_entry, all-insert_entry, all-remove_entry}
-use Rattle.account_store.proofs.StateLaws.{IsHeld-get, at-put, at-remove, sum-put, sum-remove, put-zero, put-more}
+use Rattle.account_store.proofs.StateLaws.{IsHeld-get, at-put, sum-put, put-zero, put-more}
+use Rattle.account_store.proofs.SumLaws.{under-same, under-le}
 use Rattle.bank_law.specs.Job.{Job, same_key, has_key, keys, write_keys, writes, beside}
 use Rattle.bank_law.specs.Serial.{serial, performed}
 use Rattle.bank_law.specs.SerialState.{put_each, next_state, serial_state}
@@ -25,16 +30,13 @@ use Rattle.bank_law.specs.Laws.{StatesRunSerially, SerialStatesAreStates, SumsMo
 use Rattle.bank_law.proofs.Keys.{map-same, has_key-first, has_key-rest}
 use Rattle.bank_law.proofs.Supply.{AreApart, apart_if, written_apart, lent_for_writing-map}
 
--- what is at each key after one is put, and after one is taken out
-pub at_put-same : (s : State) (k : Key) (a : Account) (q : Key) → IsSettled a → at (put s k a) q ≡ cond (same_key q k) a (at s q)
-at_put-same s k a q settled = at-put s k a q ∙ ap (λ x. cond (same_key q k) x (at s q)) (by_case (nat_eq a.lamports 0) refl)
+-- what is at each key after an account that is settled is put
+pub at_put-settled : (s : State) (k : Key) (a : Account) (q : Key) → IsSettled a → at (put s k a) q ≡ cond (same_key q k) a (at s q)
+at_put-settled s k a q fine = at-put s k a q ∙ ap (λ x. cond (same_key q k) x (at s q)) (by_case (a.lamports == 0) refl)
   where
-    by_case : (b : Bool) → nat_eq a.lamports 0 ≡ b → cond b empty_account a ≡ a
-    by_case true e = sym (settled (grind (arith, nat_tests)))
+    by_case : (b : Bool) → (a.lamports == 0) ≡ b → cond b empty_account a ≡ a
+    by_case true e = sym (fine (eqb-true a.lamports 0 e))
     by_case false e = refl
-
-pub at_remove-same : (s : State) (k q : Key) → at (remove s k) q ≡ cond (same_key q k) empty_account (at s q)
-at_remove-same s k q = at-remove s k q
 
 held_or_empty : (s : State) (key : Key) → IsState s → (o : Option Account) → get s key ≡ o → IsShort (unwrap_or o empty_account) × IsSettled (unwrap_or o empty_account)
 held_or_empty s key is None e = (omega arith, λ z. refl)
@@ -58,28 +60,9 @@ lamports_in-map f (k ∷ ks) =
     let rest = lamports_in-map f ks in
     omega (arith, a, b, rest)
 
-pub under-same : (f g : Key → Account) (ks : List Key) → ((key : Key) → has_key key ks ≡ true → f key ≡ g key) → lamports_under f ks ≡ lamports_under g ks
-under-same f g [] same = refl
-under-same f g (k ∷ ks) same =
-    let here = ap (λ (a : Account). a.lamports) (same k (has_key-first k ks)) in
-    let rest = under-same f g ks (λ key m. same key (has_key-rest key k ks m)) in
-    let a = under-cons f k ks in
-    let b = under-cons g k ks in
-    omega (arith, here, rest, a, b)
-
 -- a key among others that are apart from this one is another key
 other_key : (k : Key) (ks : List Key) (key : Key) → has_key k ks ≡ false → has_key key ks ≡ true → same_key key k ≡ false
 other_key k ks key apart m = false_from_ne_true _ (λ e. both_ways _ apart (subst (λ x. has_key x ks ≡ true) (same_key-true key k e) m))
-
--- the lamports under keys that are apart are at most the sum
-pub under-le : (s : State) (ks : List Key) → AreApart ks → lamports_under (at s) ks ≤ sum s
-under-le s [] a = omega arith
-under-le s (k ∷ ks) a =
-    let rest = under-le (remove s k) ks a.1 in
-    let took = sum-remove s k in
-    let both = under-cons (at s) k ks in
-    let same = under-same (at (remove s k)) (at s) ks (λ key m. at_remove-same s k key ∙ cond-false (same_key key k) empty_account (at s key) (other_key k ks key a.0 m)) in
-    omega (arith, rest, took, both, same)
 
 -- each account that is there has a lamport and is short
 abbrev AreHeld : State → Type 0
@@ -105,7 +88,7 @@ at-put_each s [] vs a l settled key = refl
 at-put_each s (k ∷ ks) [] a l settled key = absurd (omega (arith, l))
 at-put_each s (k ∷ ks) (v ∷ vs) a l settled key =
     at-put_each (put s k v) ks vs a.1 (omega (arith, l)) (All-tail IsSettled v vs settled) key
-    ∙ ap (cond (has_key key ks) (beside key ks vs)) (at_put-same s k v key (All-head IsSettled v vs settled))
+    ∙ ap (cond (has_key key ks) (beside key ks vs)) (at_put-settled s k v key (All-head IsSettled v vs settled))
     ∙ by_case (same_key key k) refl
   where
     by_case : (b : Bool) → same_key key k ≡ b
@@ -121,7 +104,7 @@ sum-put_each s (k ∷ ks) [] a l settled = absurd (omega (arith, l))
 sum-put_each s (k ∷ ks) (v ∷ vs) a l settled =
     let one = sum-put s k v in
     let rest = sum-put_each (put s k v) ks vs a.1 (omega (arith, l)) (All-tail IsSettled v vs settled) in
-    let same = under-same (at (put s k v)) (at s) ks (λ key m. at_put-same s k v key (All-head IsSettled v vs settled) ∙ cond-false (same_key key k) v (at s key) (other_key k ks key a.0 m)) in
+    let same = under-same (at (put s k v)) (at s) ks (λ key m. at_put-settled s k v key (All-head IsSettled v vs settled) ∙ cond-false (same_key key k) v (at s key) (other_key k ks key a.0 m)) in
     let b = under-cons (at s) k ks in
     let c = lamports_in-cons v vs in
     omega (arith, one, rest, same, b, c)
@@ -140,7 +123,7 @@ module _ (job : Job) (s : State) (W : IsLawful job) (is : IsState s) (i : ℕ) (
     short = All-map IsShort (at s) (keys job i) (λ k d h. (at_fits s is _).0);
     supply =
         let a = lamports_in-map (at s) (keys job i) in
-        let b = under-le s (keys job i) (apart_if (keys job i) (W.distinct i l)) in
+        let b = under-le s (keys job i) (W.distinct i l) in
         let c = is.fits in
         omega (arith, a, b, c);
   }

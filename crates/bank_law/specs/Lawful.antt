@@ -1,11 +1,12 @@
 -- What a work promises of its effects, on values that fit (the project's own).
-use Rattle.std.specs.Prelude.{◌≡◌, ℕ, ◌^◌, ◌<◌, ◌≤◌, true, if◌then◌else◌, List, [], ◌∷◌, length, sum_by, All}
+use Rattle.std.specs.Prelude.{◌≡◌, ℕ, ◌^◌, ◌<◌, ◌≤◌, true, if◌then◌else◌, List, [], ◌∷◌, length, All}
 use Rattle.std.specs.List.{IsDistinct}
 use Rattle.sol_base.specs.declared.key.Key.{Key}
 use Rattle.sol_base.specs.declared.account.Account.{Account}
 use Rattle.sol_base.specs.declared.lock.Lock.{Lock}
 use Rattle.sol_base.specs.Accounts.{empty_account}
 pub use Rattle.sol_base.specs.Accounts.{IsShort, AreShort, lamports_in}
+pub use Rattle.account_store.specs.State.{lamports_under}
 use Rattle.bank_law.specs.Job.{Job, same_key, has_key, keys, write_keys, declares}
 
 -- an account without lamports is the empty one
@@ -14,10 +15,6 @@ IsSettled account = account.lamports ≡ 0 → account ≡ empty_account
 
 abbrev pub AreSettled : List Account → Type 0
 AreSettled accounts = All IsSettled accounts
-
--- the lamports under keys
-abbrev pub lamports_under : (Key → Account) → List Key → ℕ
-lamports_under accounts ks = sum_by (λ key. (accounts key).lamports) ks
 
 -- the values that stand beside write locks
 abbrev pub lent_for_writing : List Lock → List Account → List Account
