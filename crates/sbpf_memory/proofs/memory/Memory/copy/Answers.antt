@@ -28,8 +28,7 @@ returns-in_default-writable-clause-answer c =
 
 pub returns-then-overlaps-clause-answer : goal.returns-then-overlaps-clause-answer
 returns-then-overlaps-clause-answer c =
-    let m : Ranges = c.args.self.now in
-    (
+    let m : Ranges = c.args.self.now in (
       copy-meets m c.args.to c.args.from c.args.len c.args.apart c.in-Some.source c.in-Some-writable.target (omega (arith, c.if-len-eq0.false)) (sym c.in-Some.ensures.value) c.in-Some.ensures.within c.in-Some-writable.ensures (sym c.overlaps.ensures ∙ c.if-overlaps.true),
       refl,
     )
