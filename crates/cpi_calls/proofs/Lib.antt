@@ -1,3 +1,5 @@
 pub mod Plain
 pub mod Loops
 pub mod Grants
+pub mod Requests
+pub mod Within

@@ -1,5 +1,5 @@
 -- The request of a cross-program call, with limits and costs of the project's own.
-use Rattle.std.specs.Prelude.{◌≡◌, ℕ, ◌-◌, ◌/◌, nat_lt, List, slice_index, Result, Ok, Err, if◌then◌else◌}
+use Rattle.std.specs.Prelude.{◌≡◌, ℕ, ◌-◌, ◌/◌, ◌≤◌, nat_lt, List, length, slice_index, Result, Ok, Err, if◌then◌else◌}
 use Rattle.spec_base.specs.Reading.{◌>>=◌}
 use Rattle.sol_base.specs.declared.key.Key.{Key}
 use Rattle.sbpf_memory.specs.Memory.{Ranges}
@@ -58,3 +58,8 @@ abbrev pub Reads : Requested → ℕ → Result CallRequest CallFault → Type 0
 Reads wanted units (Ok request) = (wanted.answer ≡ Ok request) × (wanted.units ≡ units)
 Reads wanted units (Err no_memory) = Unit {0}
 Reads wanted units (Err fault) = (wanted.answer ≡ Err fault) × (wanted.units ≡ units)
+
+-- what holds of each request
+pub record IsSmallRequest (request : CallRequest) : Type 0 where
+  pub metas : length request.metas ≤ 255
+  pub input : length request.input ≤ 10240

@@ -1,11 +1,11 @@
 -- What a callee is given (Solana). A key that the caller lists several times has the rights of all its metas together.
-use Rattle.std.specs.Prelude.{◌≡◌, ℕ, ◌&&◌, ◌||◌, not, Bool, true, false, List, length, map, position, is_none, unwrap_or, Option, Some, None, Result, Ok, Err, if◌then◌else◌}
+use Rattle.std.specs.Prelude.{◌≡◌, ℕ, ◌<◌, ◌⊎◌, ◌==◌, ◌&&◌, ◌||◌, not, Bool, true, false, List, length, map, position, is_none, unwrap_or, Option, Some, None, Result, Ok, Err, if◌then◌else◌}
 use Rattle.std.specs.List.{list_any, position_from}
 use Rattle.spec_base.specs.Reading.{◌>>=◌}
 use Rattle.sol_base.specs.declared.key.Key.{Key}
 use Rattle.sol_base.specs.declared.lock.Meta.{Meta}
 use Rattle.sol_base.specs.Keys.{same_key}
-use Rattle.sol_base.specs.Metas.{is_listed, is_listed_signer, is_listed_writable}
+use Rattle.sol_base.specs.Metas.{is_listed, is_listed_signer, is_listed_writable, AreInRange}
 use Rattle.cpi_calls.specs.declared.request.KeyMeta.{KeyMeta}
 use Rattle.cpi_calls.specs.declared.request.CallRequest.{CallRequest}
 use Rattle.cpi_calls.specs.declared.grant.Granted.{Granted}
@@ -79,3 +79,16 @@ abbrev pub Grants : Result Granted RightsFault → Result Granted RightsFault �
 Grants wanted (Ok granted) = wanted ≡ Ok granted
 Grants wanted (Err no_room) = Unit {0}
 Grants wanted (Err fault) = wanted ≡ Err fault
+
+-- a signer is given for an account at a place, by a key that is asked for
+abbrev pub IsGiven : List Key → List Meta → List Key → List KeyMeta → ℕ → Type 0
+IsGiven keys caller signers asked place =
+    list_any (λ (x : KeyMeta). ((meta_of keys caller x).index == place) && list_any (λ signer. same_key signer x.key) signers) asked ≡ true
+
+-- What is granted names keys that are there, is as long as what is asked for, and gives no right that neither the caller's list nor, to sign, a signer has.
+pub record IsWithin (request : CallRequest) (keys : List Key) (caller : List Meta) (granted : Granted) : Type 0 where
+  pub program : granted.program < length keys
+  pub range : AreInRange (length keys) granted.metas
+  pub count : length granted.metas ≡ length request.metas
+  pub writes : (place : ℕ) → is_listed_writable granted.metas place ≡ true → is_listed_writable caller place ≡ true
+  pub signs : (place : ℕ) → is_listed_signer granted.metas place ≡ true → IsGiven keys caller request.signers request.metas place ⊎ (is_listed_signer caller place ≡ true)

@@ -128,7 +128,8 @@ fn check_rights(
 ) -> Result<(), RightsFault>
     requires metas { length metas.now ≡ length asked.now }
     requires most { length asked.now ≤ 255 }
-    ensures { result ≡ or_escalation (position_from (exceeds_with signers.now caller.now) 0 (zip asked.now metas.now)) }
+    ensures { result ≡ or_escalation
+        (position_from (exceeds_with signers.now caller.now) 0 (zip asked.now metas.now)) }
 {
     for i in 0..asked.len() {
         let too_much = exceeds(&asked[i], metas[i].index, signers, caller);

@@ -3,10 +3,14 @@
 
 mod fault;
 mod grant;
+mod laws;
 mod reads;
 mod request;
 mod signers;
+#[cfg(test)]
+mod tests;
 
 pub use fault::{CallFault, RightsFault};
 pub use grant::{Granted, grant_rights};
+pub use laws::{grants_are_within_the_caller, requests_are_small};
 pub use request::{CallRequest, KeyMeta, read_call};

@@ -30,7 +30,8 @@ pub(crate) fn read_blob(
     addr: u64,
     len: u64,
 ) -> Result<Blob, CallFault>
-    ensures { Gives is_memory (λ bytes. bytes) result (bytes_read (plain_memory memory.now) addr len) }
+    ensures { Gives is_memory (λ bytes. bytes) result
+        (bytes_read (plain_memory memory.now) addr len) }
 {
     let bytes = read_bytes(alloc, memory, addr, len)?;
     Ok(Blob::from_slice(alloc, bytes.as_slice())?)
@@ -38,7 +39,8 @@ pub(crate) fn read_blob(
 
 #[tactic(auto, using(crate::proofs::Plain::plain, crate::proofs::Plain::filled))]
 fn read_bytes(alloc: Global, memory: &Memory, addr: u64, len: u64) -> Result<Vec<u8>, CallFault>
-    ensures { Gives is_memory (λ bytes. bytes.items) result (bytes_read (plain_memory memory.now) addr len) }
+    ensures { Gives is_memory (λ bytes. bytes.items) result
+        (bytes_read (plain_memory memory.now) addr len) }
 {
     let mut bytes = vec![in alloc; 0; len as usize]?;
     memory.read(addr, bytes.as_mut_slice())?;

@@ -59,7 +59,8 @@ pub fn read_call(
     caller: &Key,
     units: &mut u64,
 ) -> Result<CallRequest, CallFault>
-    ensures request { Reads (request_of arguments (plain_memory memory.now) caller.now units.old) units.new result }
+    ensures request { Reads
+        (request_of arguments (plain_memory memory.now) caller.now units.old) units.new result }
     ensures units { units.new ≤ units.old }
 {
     charge(units, CALL_COST)?;
@@ -123,7 +124,8 @@ fn read_lists(
     call: Call,
 ) -> Result<CallRequest, CallFault>
     requires { call.meta_count ≤ 255 }
-    ensures { Gives is_memory (λ request. request) result (lists_read (plain_memory memory.now) caller.now arguments program call) }
+    ensures { Gives is_memory (λ request. request) result
+        (lists_read (plain_memory memory.now) caller.now arguments program call) }
 {
     let metas = read_metas(alloc, memory, call.metas, call.meta_count as u8)?;
     let input = read_blob(alloc, memory, call.data_at, call.data_len)?;
@@ -142,7 +144,8 @@ fn read_metas(
     list: u64,
     count: u8,
 ) -> Result<Items<KeyMeta>, CallFault>
-    ensures { Gives is_memory (λ metas. metas) result (metas_read (plain_memory memory.now) list count) }
+    ensures { Gives is_memory (λ metas. metas) result
+        (metas_read (plain_memory memory.now) list count) }
 {
     let mut metas = Items::with_capacity(alloc, count as usize)?;
     for index in 0..count {

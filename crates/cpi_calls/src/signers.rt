@@ -20,7 +20,8 @@ pub(crate) fn read_signers(
     count: u64,
     caller: &Key,
 ) -> Result<Items<Key>, CallFault>
-    ensures { Gives is_memory (λ signers. signers) result (signers_read (plain_memory memory.now) caller.now list count) }
+    ensures { Gives is_memory (λ signers. signers) result
+        (signers_read (plain_memory memory.now) caller.now list count) }
 {
     if count > MAX_SIGNERS {
         return Err(CallFault::TooManySigners);
@@ -35,7 +36,8 @@ fn read_each_signer(
     count: u8,
     caller: &Key,
 ) -> Result<Items<Key>, CallFault>
-    ensures { Gives is_memory (λ signers. signers) result (items_read (signer_read (plain_memory memory.now) caller.now) list count) }
+    ensures { Gives is_memory (λ signers. signers) result
+        (items_read (signer_read (plain_memory memory.now) caller.now) list count) }
 {
     let mut signers = Items::with_capacity(alloc, count as usize)?;
     for index in 0..count {
@@ -49,7 +51,8 @@ fn read_each_signer(
 /// The program key of a signer's seeds and the caller.
 #[tactic(auto, unfolding(crate::specs::Reads::signer_read))]
 fn read_signer(alloc: Global, memory: &Memory, addr: u64, caller: &Key) -> Result<Key, CallFault>
-    ensures { Gives is_memory (λ key. key) result (signer_read (plain_memory memory.now) caller.now addr) }
+    ensures { Gives is_memory (λ key. key) result
+        (signer_read (plain_memory memory.now) caller.now addr) }
 {
     let bytes = read_array::<16>(memory, addr)?;
     let seeds = read_seeds(alloc, memory, number_in(&bytes, 0), number_in(&bytes, 8))?;
@@ -65,7 +68,8 @@ fn read_seeds(
     list: u64,
     count: u64,
 ) -> Result<Items<Blob>, CallFault>
-    ensures { Gives is_memory (λ seeds. seeds) result (seeds_read (plain_memory memory.now) list count) }
+    ensures { Gives is_memory (λ seeds. seeds) result
+        (seeds_read (plain_memory memory.now) list count) }
 {
     if count > MAX_SEEDS as u64 {
         return Err(CallFault::BadSeeds);
@@ -79,7 +83,8 @@ fn read_each_seed(
     list: u64,
     count: u8,
 ) -> Result<Items<Blob>, CallFault>
-    ensures { Gives is_memory (λ seeds. seeds) result (items_read (seed_read (plain_memory memory.now)) list count) }
+    ensures { Gives is_memory (λ seeds. seeds) result
+        (items_read (seed_read (plain_memory memory.now)) list count) }
 {
     let mut seeds = Items::with_capacity(alloc, count as usize)?;
     for index in 0..count {

@@ -8,3 +8,4 @@ pub mod Rows
 pub mod Differences
 pub mod Prepares
 pub mod Hashes
+pub mod Fills

@@ -40,6 +40,14 @@ place-part m addr len more count place is found some fits =
     place-from_stands m (addr + more) count (record { region = place.region; at = place.at + more }) is some
     (record { address = ap (λ n. n + more) stands.address ∙ address-part m place.at len more place.region stands.room below; room = room-part m place.at len more count place.region stands.room some fits })
 
+-- a place has a small address
+pub place-low : (m : Ranges) (addr len : ℕ) (place : Place) → IsMemory m → 1 ≤ len → place_of m addr len ≡ Some place → addr + len < 2 ^ 35
+place-low m addr len place is some found =
+    let stands = stands-from_place m addr len place some found in
+    let u = low m place.at len place.region is stands.room in
+    let v = stands.address in
+    omega (arith, u, v)
+
 list-part : (xs : List ℕ) (at len more count : ℕ) → more + count ≤ len → take count (drop (at + more) xs) ≡ take count (drop more (take len (drop at xs)))
 list-part xs at len more count fits =
     let size : len ≡ more + (len - more) = omega arith in

@@ -37,12 +37,12 @@ ok-of m (Err v) h = absurd (cc)
 kept-memory : (old new : Ranges) → KeepsBytes old new → IsMemory old → IsMemory new
 kept-memory old new kept is = record { program = rw kept.program is.program; stack = rw kept.stack is.stack; heap = rw kept.heap is.heap; input = rw kept.input is.input }
 
-refusal-kept : (old new : Ranges) (addr len : ℕ) → KeepsBytes old new → write_refusal new addr len ≡ write_refusal old addr len
+pub refusal-kept : (old new : Ranges) (addr len : ℕ) → KeepsBytes old new → write_refusal new addr len ≡ write_refusal old addr len
 unfolding write_refusal
 refusal-kept old new addr len kept = rw (place-kept old new addr len kept) refl
 
 -- a write that is not refused, and takes no memory, is done
-done : (m after : Ranges) (w : Result Ranges AccessViolation) (result : Result (Unit {0}) MemFault) → IsOk w → HasMemory result → Answers (or_refusal w) m after result → w ≡ Ok after
+pub done : (m after : Ranges) (w : Result Ranges AccessViolation) (result : Result (Unit {0}) MemFault) → IsOk w → HasMemory result → Answers (or_refusal w) m after result → w ≡ Ok after
 done m after w (Ok x) ok has answer = ok-of after w answer
 done m after w (Err no_memory) ok has answer = absurd has
 done m after (Ok n) (Err Overlap) ok has answer = let h : or_refusal (Ok n) ≡ Err Overlap = answer.0 in absurd (cc)

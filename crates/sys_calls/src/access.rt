@@ -31,7 +31,8 @@ pub(crate) fn read_bytes(
     addr: u64,
     len: u64,
 ) -> Result<Vec<u8>, SysFault>
-    ensures bytes { Gives is_memory (λ bytes. bytes.items) result (bytes_read (plain_memory memory.now) addr len) }
+    ensures bytes { Gives is_memory (λ bytes. bytes.items) result
+        (bytes_read (plain_memory memory.now) addr len) }
     ensures count { IfOk result (λ bytes. length bytes.items ≡ len) }
 {
     let mut bytes = vec![in alloc; 0; len as usize]?;
@@ -46,7 +47,8 @@ pub(crate) fn read_blob(
     addr: u64,
     len: u64,
 ) -> Result<Blob, SysFault>
-    ensures { Gives is_memory (λ bytes. bytes) result (bytes_read (plain_memory memory.now) addr len) }
+    ensures { Gives is_memory (λ bytes. bytes) result
+        (bytes_read (plain_memory memory.now) addr len) }
 {
     let bytes = read_bytes(alloc, memory, addr, len)?;
     Ok(Blob::from_slice(alloc, bytes.as_slice())?)
@@ -55,7 +57,8 @@ pub(crate) fn read_blob(
 /// Writes the bytes at an address.
 #[tactic(auto, using(crate::proofs::Plain::plain))]
 pub(crate) fn write(memory: &mut Memory, addr: u64, bytes: &[u8]) -> Result<(), SysFault>
-    ensures answer { Gives is_memory (λ _. plain_memory memory.new) result (bytes_written (plain_memory memory.old) addr bytes.now) }
+    ensures answer { Gives is_memory (λ _. plain_memory memory.new) result
+        (bytes_written (plain_memory memory.old) addr bytes.now) }
     ensures refused { OnErr result (plain_memory memory.new ≡ plain_memory memory.old) }
 {
     memory.write(addr, bytes)?;
@@ -64,7 +67,8 @@ pub(crate) fn write(memory: &mut Memory, addr: u64, bytes: &[u8]) -> Result<(), 
 
 /// Makes ready for writes that take no memory. It is refused where a write is.
 pub(crate) fn prepare(memory: &mut Memory, addr: u64, len: u64) -> Result<(), SysFault>
-    ensures free { OnOk result ((write_refusal memory.old addr len ≡ None) × IsPrepared memory.new addr len) }
+    ensures free { OnOk result
+        ((write_refusal memory.old addr len ≡ None) × IsPrepared memory.new addr len) }
     ensures refused { Gives is_memory (λ _. tt) result (write_checked memory.old addr len) }
     ensures bytes { KeepsBytes memory.old memory.new }
 {
@@ -78,7 +82,8 @@ pub(crate) fn prepare(memory: &mut Memory, addr: u64, len: u64) -> Result<(), Sy
 pub(crate) fn check_read(memory: &mut Memory, addr: u64, len: u64) -> Result<(), SysFault>
     ensures answer { MatchResult result
         (λ _. IsReadable (plain_memory memory.old) addr len)
-        (λ fault. (fault ≡ SysFault.AccessViolation) × (bytes_read (plain_memory memory.old) addr len ≡ Err fault)) }
+        (λ fault. (fault ≡ SysFault.AccessViolation)
+        × (bytes_read (plain_memory memory.old) addr len ≡ Err fault)) }
     ensures memory { memory.new ≡ memory.old }
 {
     if len == 0 {
@@ -114,7 +119,8 @@ pub(crate) fn read_piece<'a>(
 ) -> &'a [u8]
     requires place { at < len }
     requires readable { IsReadable (plain_memory memory.now) addr len }
-    ensures bytes { result.now ≡ take (min 1024 (len - at)) (drop at (held (plain_memory memory.now) addr len)) }
+    ensures bytes { result.now ≡ take (min 1024 (len - at))
+        (drop at (held (plain_memory memory.now) addr len)) }
     ensures count { length result.now ≡ min 1024 (len - at) }
 {
     memory.is_memory();

@@ -17,7 +17,8 @@ const EXEMPT_YEARS: u64 = 2;
 
 /// Writes the block's slot.
 pub(crate) fn get_slot(result_at: u64, slot: u64, memory: &mut Memory) -> Result<(), SysFault>
-    ensures answer { Gives is_memory (λ _. plain_memory memory.new) result (bytes_written (plain_memory memory.old) result_at (to_le_bytes w64 slot)) }
+    ensures answer { Gives is_memory (λ _. plain_memory memory.new) result
+        (bytes_written (plain_memory memory.old) result_at (to_le_bytes w64 slot)) }
     ensures refused { OnErr result (plain_memory memory.new ≡ plain_memory memory.old) }
 {
     write(memory, result_at, &slot.to_le_bytes())
@@ -25,7 +26,9 @@ pub(crate) fn get_slot(result_at: u64, slot: u64, memory: &mut Memory) -> Result
 
 /// Writes the numbers of the rent.
 pub(crate) fn get_rent(result_at: u64, memory: &mut Memory) -> Result<(), SysFault>
-    ensures answer { Gives is_memory (λ _. plain_memory memory.new) result (bytes_written (plain_memory memory.old) result_at (to_le_bytes w64 3480 ++ to_le_bytes w64 2)) }
+    ensures answer { Gives is_memory (λ _. plain_memory memory.new) result
+        (bytes_written (plain_memory memory.old) result_at
+        (to_le_bytes w64 3480 ++ to_le_bytes w64 2)) }
     ensures refused { OnErr result (plain_memory memory.new ≡ plain_memory memory.old) }
 {
     write(memory, result_at, &rent_bytes())

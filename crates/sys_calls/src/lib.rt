@@ -14,6 +14,8 @@ mod serving;
 mod sha256;
 mod slices;
 mod table;
+#[cfg(test)]
+mod tests;
 
 pub use env::Env;
 pub use fault::SysFault;

@@ -19,7 +19,8 @@ const PROGRAM_LOG: [u8; 13] = *b"Program log: ";
 /// The line of a text.
 #[tactic(auto, unfolding(crate::specs::Lines::log_line))]
 pub(crate) fn log(alloc: Global, text: u64, len: u64, memory: &Memory) -> Result<Vec<u8>, SysFault>
-    ensures { Gives is_memory (λ line. line.items) result (log_line (plain_memory memory.now) text len) }
+    ensures { Gives is_memory (λ line. line.items) result
+        (log_line (plain_memory memory.now) text len) }
 {
     let bytes = read_bytes(alloc, memory, text, len)?;
     if !is_text(bytes.as_slice()) {
@@ -51,7 +52,9 @@ pub(crate) fn log_64(alloc: Global, first: u64, others: [u64; 4]) -> Result<Vec<
 }
 
 fn append_others(alloc: Global, line: &mut Vec<u8>, others: &[u64]) -> Result<(), OutOfMemory>
-    ensures { OnOk result (line.new.items ≡ line.old.items ++ flat_map (λ number. codes ", " ++ number_text number) others.now) }
+    ensures { OnOk result
+        (line.new.items ≡ line.old.items ++ flat_map
+        (λ number. codes ", " ++ number_text number) others.now) }
 {
     for number in others {
         line.extend_from_slice(b", ")?;
@@ -71,7 +74,8 @@ fn append_number(alloc: Global, line: &mut Vec<u8>, number: u64) -> Result<(), O
 /// The line of a key.
 #[tactic(auto, unfolding(crate::specs::Lines::log_key_line))]
 pub(crate) fn log_key(alloc: Global, key: u64, memory: &Memory) -> Result<Vec<u8>, SysFault>
-    ensures { Gives is_memory (λ line. line.items) result (log_key_line (plain_memory memory.now) key) }
+    ensures { Gives is_memory (λ line. line.items) result
+        (log_key_line (plain_memory memory.now) key) }
 {
     let key = Key(read_array::<32>(memory, key)?);
     let mut line = Vec::from_slice(alloc, &PROGRAM_LOG)?;

@@ -1,7 +1,8 @@
 //! The calls that copy, compare and fill bytes.
-ghost use Rattle.std.specs.Prelude.{◌≡◌, ◌==◌, not, true, false, OnErr, IsSome, length};
+ghost use Rattle.std.specs.Prelude.{◌≡◌, ◌==◌, not, true, false, OnErr, IsSome, length, replicate, None, Ok};
 ghost use Rattle.std.specs.Option.{option_map};
 ghost use Rattle.spec_base.specs.Reading.{Gives};
+ghost use Rattle.sbpf_memory.specs.Memory.{IsPrepared, write_refusal, write_to};
 ghost use Rattle.sbpf_memory.specs.Plain.{plain_memory};
 ghost use Rattle.sys_calls.specs.Access.{is_memory, bytes_copied, IsReadable, held};
 ghost use Rattle.sys_calls.specs.SysCalls.{compared, filled, first_difference as difference_in, differing, difference};
@@ -9,12 +10,12 @@ ghost use Rattle.sys_calls.specs.SysCalls.{compared, filled, first_difference as
 use crate::access::{PIECE, check_read, prepare, read_piece, write};
 use crate::fault::SysFault;
 use sbpf_memory::Memory;
-use std::alloc::Global;
 
 /// Copies bytes between ranges that do not meet.
 #[tactic(auto, using(crate::proofs::Plain::plain))]
 pub(crate) fn memcpy(to: u64, from: u64, count: u64, memory: &mut Memory) -> Result<(), SysFault>
-    ensures answer { Gives is_memory (λ _. plain_memory memory.new) result (bytes_copied (plain_memory memory.old) to from count true) }
+    ensures answer { Gives is_memory (λ _. plain_memory memory.new) result
+        (bytes_copied (plain_memory memory.old) to from count true) }
     ensures refused { OnErr result (plain_memory memory.new ≡ plain_memory memory.old) }
 {
     memory.copy(to, from, count, true)?;
@@ -24,7 +25,8 @@ pub(crate) fn memcpy(to: u64, from: u64, count: u64, memory: &mut Memory) -> Res
 /// Copies bytes.
 #[tactic(auto, using(crate::proofs::Plain::plain))]
 pub(crate) fn memmove(to: u64, from: u64, count: u64, memory: &mut Memory) -> Result<(), SysFault>
-    ensures answer { Gives is_memory (λ _. plain_memory memory.new) result (bytes_copied (plain_memory memory.old) to from count false) }
+    ensures answer { Gives is_memory (λ _. plain_memory memory.new) result
+        (bytes_copied (plain_memory memory.old) to from count false) }
     ensures refused { OnErr result (plain_memory memory.new ≡ plain_memory memory.old) }
 {
     memory.copy(to, from, count, false)?;
@@ -40,7 +42,8 @@ pub(crate) fn memcmp(
     result_at: u64,
     memory: &mut Memory,
 ) -> Result<(), SysFault>
-    ensures answer { Gives is_memory (λ _. plain_memory memory.new) result (compared (plain_memory memory.old) one other count result_at) }
+    ensures answer { Gives is_memory (λ _. plain_memory memory.new) result
+        (compared (plain_memory memory.old) one other count result_at) }
     ensures refused { OnErr result (plain_memory memory.new ≡ plain_memory memory.old) }
 {
     check_read(memory, one, count)?;
@@ -53,7 +56,8 @@ pub(crate) fn memcmp(
 fn difference_between(one: u64, other: u64, count: u64, memory: &Memory) -> u32
     requires one { IsReadable (plain_memory memory.now) one count }
     requires other { IsReadable (plain_memory memory.now) other count }
-    ensures { result ≡ difference_in (held (plain_memory memory.now) one count) (held (plain_memory memory.now) other count) }
+    ensures { result ≡ difference_in (held (plain_memory memory.now) one count)
+        (held (plain_memory memory.now) other count) }
 {
     memory.is_memory();
     let mut first = [0; PIECE];
@@ -88,17 +92,29 @@ fn first_difference(one: &[u8], other: &[u8]) -> Option<u32>
 
 /// Fills a range with the low byte of a number.
 #[tactic(auto, using(crate::proofs::Prepares::refusals))]
-pub(crate) fn memset(
-    alloc: Global,
-    to: u64,
-    byte: u64,
-    count: u64,
-    memory: &mut Memory,
-) -> Result<(), SysFault>
-    ensures answer { Gives is_memory (λ _. plain_memory memory.new) result (filled (plain_memory memory.old) to byte count) }
+pub(crate) fn memset(to: u64, byte: u64, count: u64, memory: &mut Memory) -> Result<(), SysFault>
+    ensures answer { Gives is_memory (λ _. plain_memory memory.new) result
+        (filled (plain_memory memory.old) to byte count) }
     ensures refused { OnErr result (plain_memory memory.new ≡ plain_memory memory.old) }
 {
     prepare(memory, to, count)?;
-    let bytes = vec![in alloc; (byte & 0xff) as u8; count as usize]?;
-    write(memory, to, bytes.as_slice())
+    fill(memory, to, count, (byte % 256) as u8);
+    Ok(())
+}
+
+/// Fills a range that was made ready for, piece by piece.
+fn fill(memory: &mut Memory, to: u64, count: u64, byte: u8)
+    requires free { write_refusal memory.old to count ≡ None }
+    requires ready { IsPrepared memory.old to count }
+    ensures { write_to memory.old to (replicate count byte) ≡ Ok memory.new }
+{
+    memory.is_memory();
+    let piece = [byte; PIECE];
+    let mut at = 0;
+    while at < count {
+        let len = (count - at).min(PIECE as u64);
+        // it was made ready for, so that it is done
+        let _ = memory.write(to + at, &piece[..len as usize]);
+        at += len;
+    }
 }

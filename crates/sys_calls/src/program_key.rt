@@ -13,8 +13,8 @@ use sbpf_memory::Memory;
 use sol_base::{Blob, Items, Key, MAX_SEED_LEN, MAX_SEEDS};
 use std::alloc::Global;
 
-/// Writes the key that a program signs for by the seeds (Solana), and answers 0. Where a seed is too
-/// long it answers 1 and writes nothing.
+/// Writes the key that a program signs for by the seeds (Solana), and answers 0. Where a seed is
+/// too long it answers 1 and writes nothing.
 #[tactic(auto, unfolding(crate::specs::SysCalls::key_derived))]
 pub(crate) fn program_key(
     alloc: Global,
@@ -24,7 +24,8 @@ pub(crate) fn program_key(
     result_at: u64,
     memory: &mut Memory,
 ) -> Result<u64, SysFault>
-    ensures answer { Gives is_memory (λ r0. (r0, plain_memory memory.new)) result (key_derived (plain_memory memory.old) seeds count program result_at) }
+    ensures answer { Gives is_memory (λ r0. (r0, plain_memory memory.new)) result
+        (key_derived (plain_memory memory.old) seeds count program result_at) }
     ensures refused { OnErr result (plain_memory memory.new ≡ plain_memory memory.old) }
 {
     if count > MAX_SEEDS as u64 {
@@ -43,7 +44,8 @@ fn write_key(
     result_at: u64,
     memory: &mut Memory,
 ) -> Result<u64, SysFault>
-    ensures answer { Gives is_memory (λ r0. (r0, plain_memory memory.new)) result (key_written (plain_memory memory.old) program result_at slices.now) }
+    ensures answer { Gives is_memory (λ r0. (r0, plain_memory memory.new)) result
+        (key_written (plain_memory memory.old) program result_at slices.now) }
     ensures refused { OnErr result (plain_memory memory.new ≡ plain_memory memory.old) }
 {
     if has_long_slice(slices) {
@@ -68,7 +70,8 @@ fn has_long_slice(slices: &[Slice]) -> bool
 
 /// The bytes of the slices, read in order.
 fn read_seeds(alloc: Global, slices: &[Slice], memory: &Memory) -> Result<Items<Blob>, SysFault>
-    ensures { Gives is_memory (λ seeds. seeds) result (all_read (plain_memory memory.now) slices.now) }
+    ensures { Gives is_memory (λ seeds. seeds) result
+        (all_read (plain_memory memory.now) slices.now) }
 {
     let mut seeds = Items::with_capacity(alloc, slices.len())?;
     for slice in slices {

@@ -24,7 +24,8 @@ pub(crate) fn set_return(
     memory: &Memory,
     env: &mut Env,
 ) -> Result<u64, SysFault>
-    ensures { Does (at_cost env.old (return_set (plain_memory memory.now) env.old addr len)) memory.now memory.now env.old env.new result }
+    ensures { Does (at_cost env.old (return_set (plain_memory memory.now) env.old addr len))
+        memory.now memory.now env.old env.new result }
 {
     if len > MAX_RETURNED {
         return Err(SysFault::ReturnTooLong);
@@ -45,7 +46,8 @@ pub(crate) fn get_return(
     keeper: &Key,
     memory: &mut Memory,
 ) -> Result<u64, SysFault>
-    ensures answer { Gives is_memory (λ r0. (r0, plain_memory memory.new)) result (return_got (plain_memory memory.old) returned.now keeper.now to len program) }
+    ensures answer { Gives is_memory (λ r0. (r0, plain_memory memory.new)) result
+        (return_got (plain_memory memory.old) returned.now keeper.now to len program) }
     ensures refused { OnErr result (plain_memory memory.new ≡ plain_memory memory.old) }
 {
     if returned.is_empty() {
@@ -65,7 +67,8 @@ fn write_both(
     other: u64,
     second: &[u8],
 ) -> Result<(), SysFault>
-    ensures answer { Gives is_memory (λ _. plain_memory memory.new) result (both_written (plain_memory memory.old) to first.now other second.now) }
+    ensures answer { Gives is_memory (λ _. plain_memory memory.new) result
+        (both_written (plain_memory memory.old) to first.now other second.now) }
     ensures refused { OnErr result (plain_memory memory.new ≡ plain_memory memory.old) }
 {
     memory.is_memory();

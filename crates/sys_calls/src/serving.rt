@@ -26,7 +26,8 @@ pub fn serve(
     env: &mut Env,
 ) -> Result<u64, SysFault>
     requires { IsServed number }
-    ensures answer { Serves (sys_row number arguments (plain_memory memory.old) env.old) memory.old memory.new env.old env.new result }
+    ensures answer { Serves (sys_row number arguments (plain_memory memory.old) env.old)
+        memory.old memory.new env.old env.new result }
     ensures block { KeepsBlock env.old env.new }
     ensures sizes { KeepsSizes memory.old memory.new }
     ensures units { env.new.units ≤ env.old.units }
@@ -47,7 +48,8 @@ fn take_effect(
     memory: &mut Memory,
     env: &mut Env,
 ) -> Result<u64, SysFault>
-    ensures { Does (effect_of call arguments (plain_memory memory.old) env.old) memory.old memory.new env.old env.new result }
+    ensures { Does (effect_of call arguments (plain_memory memory.old) env.old)
+        memory.old memory.new env.old env.new result }
 {
     let [a, b, c, d, e] = arguments;
     match call {
@@ -70,7 +72,7 @@ fn take_effect(
             Ok(0)
         },
         SystemCall::Memset => {
-            memset(alloc, a, b, c, memory)?;
+            memset(a, b, c, memory)?;
             Ok(0)
         },
         SystemCall::ProgramKey => Ok(program_key(alloc, a, b, c, d, memory)?),

@@ -27,7 +27,8 @@ pub(crate) fn sha256(
     memory: &mut Memory,
     env: &mut Env,
 ) -> Result<u64, SysFault>
-    ensures { Does (hashed (plain_memory memory.old) env.old slices count result_at) memory.old memory.new env.old env.new result }
+    ensures { Does (hashed (plain_memory memory.old) env.old slices count result_at)
+        memory.old memory.new env.old env.new result }
 {
     if count > MAX_SLICES {
         return Err(SysFault::TooManySlices);
@@ -40,7 +41,8 @@ pub(crate) fn sha256(
 
 /// The hash of the slices. Each is charged and read in order.
 fn hash_slices(slices: &[Slice], memory: &mut Memory, units: &mut u64) -> Result<[u8; 32], SysFault>
-    ensures answer { result ≡ hash_of (gathered (plain_memory memory.old) units.old slices.now).bytes }
+    ensures answer { result ≡ hash_of
+        (gathered (plain_memory memory.old) units.old slices.now).bytes }
     ensures units { units.new ≡ (gathered (plain_memory memory.old) units.old slices.now).units }
     ensures memory { memory.new ≡ memory.old }
 {
@@ -56,9 +58,12 @@ fn hash_slices(slices: &[Slice], memory: &mut Memory, units: &mut u64) -> Result
 #[tactic(auto, using(crate::proofs::Pieces::readable))]
 fn hash_slice(slice: Slice, memory: &mut Memory, hasher: &mut Sha256) -> Result<(), SysFault>
     ensures answer { MatchResult result
-        (λ _. bytes_read (plain_memory memory.old) slice.addr slice.len ≡ Ok (held (plain_memory memory.old) slice.addr slice.len))
+        (λ _. bytes_read (plain_memory memory.old) slice.addr slice.len
+        ≡ Ok (held (plain_memory memory.old) slice.addr slice.len))
         (λ fault. bytes_read (plain_memory memory.old) slice.addr slice.len ≡ Err fault) }
-    ensures hasher { OnOk result ((hashed : List ℕ) → Holds256 hasher.old hashed → Holds256 hasher.new (hashed ++ held (plain_memory memory.old) slice.addr slice.len)) }
+    ensures hasher { OnOk result
+        ((hashed : List ℕ) → Holds256 hasher.old hashed → Holds256 hasher.new
+        (hashed ++ held (plain_memory memory.old) slice.addr slice.len)) }
     ensures memory { memory.new ≡ memory.old }
 {
     check_read(memory, slice.addr, slice.len)?;
@@ -69,7 +74,8 @@ fn hash_slice(slice: Slice, memory: &mut Memory, hasher: &mut Sha256) -> Result<
 /// Adds the bytes of a slice that may be read to what is hashed, piece by piece.
 fn hash_pieces(slice: Slice, memory: &Memory, hasher: &mut Sha256)
     requires { IsReadable (plain_memory memory.now) slice.addr slice.len }
-    ensures { (hashed : List ℕ) → Holds256 hasher.old hashed → Holds256 hasher.new (hashed ++ held (plain_memory memory.now) slice.addr slice.len) }
+    ensures { (hashed : List ℕ) → Holds256 hasher.old hashed → Holds256 hasher.new
+        (hashed ++ held (plain_memory memory.now) slice.addr slice.len) }
 {
     memory.is_memory();
     let mut buffer = [0; PIECE];

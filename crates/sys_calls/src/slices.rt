@@ -31,7 +31,8 @@ pub(crate) fn read_slices(
     count: u64,
 ) -> Result<Items<Slice>, SysFault>
     requires { count ≤ 20000 }
-    ensures { Gives is_memory (λ slices. slices) result (slices_read (plain_memory memory.now) at count) }
+    ensures { Gives is_memory (λ slices. slices) result
+        (slices_read (plain_memory memory.now) at count) }
 {
     let bytes = read_bytes(alloc, memory, at, count * SLICE_LEN as u64)?;
     Ok(slices_in(alloc, bytes.as_slice(), count as usize)?)

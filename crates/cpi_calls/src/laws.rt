@@ -1,0 +1,24 @@
+ghost use Rattle.std.specs.Prelude.{◌≡◌, ℕ, ◌≤◌, List};
+ghost use Rattle.sol_base.specs.declared.key.Key.{Key};
+ghost use Rattle.sol_base.specs.declared.lock.Meta.{Meta};
+ghost use Rattle.sbpf_memory.specs.Memory.{Ranges};
+ghost use Rattle.cpi_calls.specs.declared.request.CallRequest.{CallRequest};
+ghost use Rattle.cpi_calls.specs.declared.grant.Granted.{Granted};
+ghost use Rattle.cpi_calls.specs.Calls.{IsSmallRequest, request_of};
+ghost use Rattle.cpi_calls.specs.Rights.{IsWithin, rights_of};
+
+/// A law: no request leaves more units than there were, and each is small.
+pub fn requests_are_small()
+    ensures units { (arguments : List ℕ) (m : Ranges) (caller : Key) (units : ℕ) →
+        (request_of arguments m caller units).units ≤ units }
+    ensures size { (arguments : List ℕ) (m : Ranges) (caller : Key) (units : ℕ)
+        (request : CallRequest) → (request_of arguments m caller units).answer ≡ Ok request →
+        IsSmallRequest request }
+{}
+
+/// A law: what is granted names keys that are there, is as long as what is asked for, and gives no
+/// write that the caller's list has not, and no signature that neither that list nor a signer has.
+pub fn grants_are_within_the_caller()
+    ensures { (request : CallRequest) (keys : List Key) (caller : List Meta) (granted : Granted) →
+        rights_of request keys caller ≡ Ok granted → IsWithin request keys caller granted }
+{}
