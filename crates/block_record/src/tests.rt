@@ -21,22 +21,26 @@ fn add_lines(out: &mut Blob) -> Result<(), OutOfMemory> {
     out.append(&SUCCESS_LINE)
 }
 
-/// A record of a block of slot 8 with two transactions of 215 bytes, which have these statuses.
-fn record(alloc: Global, statuses: [[u8; 8]; 2]) -> Result<Blob, OutOfMemory> {
+/// Adds an entry: a transaction of 215 bytes with this status.
+fn add_entry(out: &mut Blob, status: [u8; 8]) -> Result<(), OutOfMemory> {
+    out.append(&[215, 0])?;
+    out.append(&[1; 215])?;
+    out.append(&status)?;
+    out.append(&150u64.to_le_bytes())?;
+    out.append(&5000u64.to_le_bytes())?;
+    add_lines(out)
+}
+
+/// A record of a block of slot 8 with two entries, which have these statuses.
+fn record(alloc: Global, first: [u8; 8], second: [u8; 8]) -> Result<Blob, OutOfMemory> {
     let mut out = Blob::new(alloc);
     out.append(b"SOLBLCK1")?;
     out.append(&8u64.to_le_bytes())?;
     out.append(&[0xc0; 32])?;
     out.append(&[0xaa; 32])?;
     out.append(&[2, 0, 0, 0])?;
-    for status in statuses {
-        out.append(&[215, 0])?;
-        out.append(&[1; 215])?;
-        out.append(&status)?;
-        out.append(&150u64.to_le_bytes())?;
-        out.append(&5000u64.to_le_bytes())?;
-        add_lines(&mut out)?;
-    }
+    add_entry(&mut out, first)?;
+    add_entry(&mut out, second)?;
     out.append(&5000u64.to_le_bytes())?;
     out.append(&5001u64.to_le_bytes())?;
     out.append(&[0x11; 32])?;
@@ -76,7 +80,7 @@ const FIELDS: [usize; 29] = [
 
 #[test]
 fn every_prefix_is_cut(rt: HostRuntime) -> Result<(), Fail> {
-    let whole = record(rt.alloc(), [[0; 8]; 2])?;
+    let whole = record(rt.alloc(), [0; 8], [0; 8])?;
     let bytes = whole.as_slice();
     assert_eq!(rt; bytes.len(), 984);
     for len in 0..bytes.len() {
@@ -105,7 +109,7 @@ const REFUSALS: [(usize, &[u8], RecordFault); 8] = [
 
 #[test]
 fn refuses_records(rt: HostRuntime) -> Result<(), Fail> {
-    let whole = record(rt.alloc(), [[0; 8]; 2])?;
+    let whole = record(rt.alloc(), [0; 8], [0; 8])?;
     for (at, new, refusal) in REFUSALS {
         let bytes = patched(rt.alloc(), whole.as_slice(), at, new)?;
         let fault = read_record(rt.alloc(), bytes.as_slice()).err();
@@ -116,7 +120,7 @@ fn refuses_records(rt: HostRuntime) -> Result<(), Fail> {
 
 #[test]
 fn reads_and_writes_a_record(rt: HostRuntime) -> Result<(), Fail> {
-    let whole = record(rt.alloc(), [[0; 8], [1, 7, 1, 0, 9, 0, 0, 0]])?;
+    let whole = record(rt.alloc(), [0; 8], [1, 7, 1, 0, 9, 0, 0, 0])?;
     let block = read_record(rt.alloc(), whole.as_slice())?;
     assert_eq!(rt;
         (block.slot, block.collector, block.previous),
