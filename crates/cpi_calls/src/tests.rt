@@ -150,6 +150,7 @@ fn a_vault_signs_by_its_seeds(rt: HostRuntime) -> Result<(), Fail> {
         },
     ];
     let mut request = transfer_from(rt.alloc(), vault)?;
+    assert!(rt; request.metas.len() == 1);
     match grant_rights(rt.alloc(), &request, &keys, &caller) {
         Ok(_) => assert!(rt; false, "a signature is given that no one has"),
         Err(refusal) => assert_eq!(rt; refusal, RightsFault::PrivilegeEscalation { i: 0 }),
