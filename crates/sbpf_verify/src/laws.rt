@@ -4,6 +4,7 @@ ghost use Rattle.sbpf_isa.specs.declared.rows.OpKind.{OpKind};
 ghost use Rattle.sbpf_isa.specs.declared.rows.OpKind.TheVariants.{LoadWide};
 ghost use Rattle.sbpf_verify.specs.declared.entry.Entry.{Entry};
 ghost use Rattle.sbpf_verify.specs.Entries.{IsDecoded, Fits};
+ghost use Rattle.sbpf_verify.specs.Images.{ImageParts, IsWritable, image_bytes, image_in};
 ghost use Rattle.sbpf_verify.specs.Instructions.{HasRegisters, HasValues};
 ghost use Rattle.sbpf_verify.specs.Places.{slot_count, is_start, is_start_at, instruction_at, leads_to, goes_on, slots_taken, Reached};
 ghost use Rattle.sbpf_verify.specs.Verified.{IsVerified, unfit};
@@ -67,4 +68,14 @@ pub fn entries_fit()
         → IsVerified text → IsDecoded text entries
         → slice_get entries place ≡ Some entry → is_start text place ≡ true
         → Fits text place entry }
+{}
+
+/// A law: an image that is written is read again.
+pub fn images_are_read_again()
+    ensures { (image : ImageParts) → IsWritable image → image_in (image_bytes image) ≡ Some image }
+{}
+
+/// A law: what is read as an image is written so, and no other bytes are read as that image.
+pub fn images_are_written_as_they_are_read()
+    ensures { (bytes : List ℕ) (image : ImageParts) → image_in bytes ≡ Some image → bytes ≡ image_bytes image }
 {}

@@ -4,6 +4,7 @@
 mod decoded;
 mod entry;
 mod fault;
+mod image;
 pub mod laws;
 mod opcode;
 mod places;
@@ -16,5 +17,6 @@ mod verified;
 pub use decoded::Decoded;
 pub use entry::Entry;
 pub use fault::VerifyFault;
+pub use image::{ImageSlices, read_image};
 pub use opcode::Opcode;
-pub use verified::{Unfit, Verified, verify};
+pub use verified::{Unfit, Verified, first_refusal, verify};

@@ -34,6 +34,13 @@ pub struct Unfit {
     pub text: Blob,
 }
 
+/// Why a text is refused. None exactly where `verify` lets it pass; no memory is taken.
+pub fn first_refusal(text: &[u8]) -> Option<VerifyFault>
+    ensures { result ≡ unfit text.now }
+{
+    text_refusal(text)
+}
+
 /// Verifies a text, in one pass over its slots. A refused text is handed back.
 pub fn verify(text: Blob) -> Result<Verified, Unfit>
     ensures { MatchResult result
