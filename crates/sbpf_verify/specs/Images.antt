@@ -1,4 +1,4 @@
--- Program images: a text with its constants, as the data of an account (this project's own; the specification's formats, "Program image").
+-- Program images: a text with its constants, as the data of an account (the project's own format).
 use Rattle.std.specs.Prelude.{◌≡◌, ◌<◌, ◌^◌, ◌%◌, ℕ, ◌+◌, ◌*◌, ◌/◌, List, ◌++◌, length, take, drop, codes, bytes_eq, Option, Some, None, if◌then◌else◌}
 use Rattle.std.specs.Int.{w32, from_le_bytes, to_le_bytes}
 
