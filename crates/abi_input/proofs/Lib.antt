@@ -4,3 +4,4 @@ pub mod Drafts
 pub mod Finding
 pub mod PatchLaws
 pub mod TakeLaws
+pub mod RoundTrips

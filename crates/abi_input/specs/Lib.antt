@@ -2,3 +2,4 @@ pub mod Listing
 pub mod Region
 pub mod Entries
 pub mod Answers
+pub mod Widths

@@ -5,12 +5,16 @@
 mod draft;
 mod entry;
 mod fault;
+mod laws;
 mod laying;
 mod listing;
 mod patching;
 mod taking;
+#[cfg(test)]
+mod tests;
 
 pub use fault::{BackFault, PatchFault};
+pub use laws::what_is_laid_out_is_taken_back;
 pub use laying::lay_out;
 pub use patching::patch;
 pub use taking::{TakenBack, take_back};
