@@ -1,0 +1,9 @@
+-- How the system program refuses.
+use Rattle.std.specs.Prelude.{Bool, true, false}
+use Rattle.system_prog.specs.declared.fault.SystemFault.{SystemFault}
+use Rattle.system_prog.specs.declared.fault.SystemFault.TheVariants.{OutOfMemory as no_memory}
+
+-- want of memory, which no input shows
+abbrev pub is_memory : SystemFault → Bool
+is_memory no_memory = true
+is_memory _ = false
