@@ -1,0 +1,5 @@
+use Rattle.loader_prog.proofs.Keeping.{loader_keeps}
+use Rattle.loader_prog.proofs.laws.calls_keep_accounts.Goals as goal
+
+pub returns : goal.returns
+returns c = loader_keeps

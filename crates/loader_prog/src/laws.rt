@@ -1,0 +1,35 @@
+ghost use Rattle.std.specs.Prelude.{◌≡◌, ℕ, List, Ok, Some, length};
+ghost use Rattle.sol_base.specs.declared.key.Key.{Key};
+ghost use Rattle.sol_base.specs.declared.account.Account.{Account};
+ghost use Rattle.sol_base.specs.declared.lock.Meta.{Meta};
+ghost use Rattle.sol_base.specs.Metas.{AreInRange, is_listed_writable};
+ghost use Rattle.account_rules.specs.KeptAccounts.{AreKeptBy};
+ghost use Rattle.loader_prog.specs.Loader.{activated, active, loader_row};
+ghost use Rattle.loader_prog.specs.Laws.{IsActivated, OnlyTheAuthorityWrites};
+
+/// A law: an instruction that ends well keeps the number and the lamports of the accounts, the
+/// executable ones and those that its list may not write.
+pub fn calls_keep_accounts()
+    ensures { (keys : List Key) (accounts : List Account) (metas : List Meta) (input : List ℕ)
+        (after : List Account) → AreInRange (length accounts) metas →
+        loader_row keys accounts metas input ≡ Ok after →
+        AreKeptBy (is_listed_writable metas) accounts after }
+{}
+
+/// A law: where an instruction that ends well leaves an account with other data, either nothing
+/// stood where the magic of a buffer goes and the account signs, or it was a buffer whose authority
+/// signs.
+pub fn only_the_authority_changes_a_buffer()
+    ensures { (keys : List Key) (accounts : List Account) (metas : List Meta) (input : List ℕ)
+        (after : List Account) → length accounts ≡ length keys →
+        AreInRange (length accounts) metas → loader_row keys accounts metas input ≡ Ok after →
+        OnlyTheAuthorityWrites keys accounts metas after }
+{}
+
+/// A law: an account that is activated is executable and holds an image with a verified text, and
+/// all else of it stays.
+pub fn activated_programs_are_verified()
+    ensures activated { (account after : Account) → activated account ≡ Some after →
+        IsActivated account after }
+    ensures lamports { (account : Account) → (active account).lamports ≡ account.lamports }
+{}
