@@ -3,3 +3,4 @@ pub mod Instructions
 pub mod Drafts
 pub mod SystemProgram
 pub mod Written
+pub mod Listings

@@ -4,6 +4,7 @@ ghost use Rattle.sol_base.specs.declared.key.Key.{Key};
 ghost use Rattle.sol_base.specs.declared.lock.Meta.{Meta};
 ghost use Rattle.sol_base.specs.Metas.{AreInRange, is_listed_writable};
 ghost use Rattle.account_rules.specs.KeptAccounts.{AreKeptBy};
+ghost use Rattle.system_prog.specs.Listings.{SameListing};
 ghost use Rattle.system_prog.specs.SystemProgram.{system_row};
 
 /// A law: a call that ends well leaves as many accounts as before, with the same sum of lamports,
@@ -14,4 +15,13 @@ pub fn good_calls_keep_the_accounts()
         (after : List Account) → AreInRange (length accounts) metas →
         system_row keys accounts metas input ≡ Ok after →
         AreKeptBy (is_listed_writable metas) accounts after }
+{}
+
+/// A law: accounts that are listed several times act as one, with the rights of all their metas
+/// together. So lists that have the same accounts in the same order, and give each the same rights,
+/// have the same answer.
+pub fn accounts_listed_twice_act_as_one()
+    ensures { (keys : List Key) (accounts : List Account) (metas others : List Meta)
+        (input : List ℕ) → SameListing metas others →
+        system_row keys accounts metas input ≡ system_row keys accounts others input }
 {}

@@ -15,5 +15,5 @@ mod tests;
 mod zeros;
 
 pub use fault::SystemFault;
-pub use laws::good_calls_keep_the_accounts;
+pub use laws::{accounts_listed_twice_act_as_one, good_calls_keep_the_accounts};
 pub use run::run_system;
