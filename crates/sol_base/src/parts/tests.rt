@@ -22,7 +22,8 @@ fn account_with(alloc: Global, bytes: &[u8]) -> Result<Arc<Account>, Fail> {
 
 /// Adds a part.
 fn add(parts: &mut Items<Part>, part: Part) -> Result<(), Fail>
-    ensures { OnOk result (length (bytes_of parts.new) ≡ length (bytes_of parts.old) + length (part_bytes part)) }
+    ensures { OnOk result
+        (length (bytes_of parts.new) ≡ length (bytes_of parts.old) + length (part_bytes part)) }
 {
     parts.push(part)?;
     Ok(())
