@@ -53,7 +53,9 @@ pub(crate) fn within(region: Region, at: u64, len: u64, size: u64) -> Option<Pla
 /// A place of the stack, where its frame has `len` bytes from it on.
 #[inline(always)]
 pub(crate) fn within_frame(at: u64, len: u64) -> Option<Place>
-    ensures { result ≡ (if nat_lt (at / 8192) 64 && nat_le (at % 8192 + len) 4096 then at_place Stack (4096 * (at / 8192) + at % 8192) else None) }
+    ensures { result
+        ≡ (if nat_lt (at / 8192) 64 && nat_le (at % 8192 + len) 4096 then at_place Stack
+        (4096 * (at / 8192) + at % 8192) else None) }
 {
     let frame = at / FRAME_STEP;
     let inside = at % FRAME_STEP;
