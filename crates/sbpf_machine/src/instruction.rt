@@ -57,7 +57,9 @@ fn binary64(operation: Operation, place: u32, dst: usize, s: u64, context: &mut 
     requires plain { divides operation ≡ false }
     ensures way { result ≡ next_one }
     ensures frames { context.new.frames ≡ context.old.frames }
-    ensures does { (target : ℕ) → Follows (Steps.binary64 operation dst s place context.old) target place context.new result }
+    ensures does { (target : ℕ)
+        → Follows (Steps.binary64 operation dst s place context.old) target place context.new
+        result }
 {
     context.registers[dst] = value64(operation, context.registers[dst], s);
     Flow::Next
@@ -70,7 +72,9 @@ fn binary32(operation: Operation, place: u32, dst: usize, s: u64, context: &mut 
     requires plain { divides operation ≡ false }
     ensures way { result ≡ next_one }
     ensures frames { context.new.frames ≡ context.old.frames }
-    ensures does { (target : ℕ) → Follows (Steps.binary32 operation dst s place context.old) target place context.new result }
+    ensures does { (target : ℕ)
+        → Follows (Steps.binary32 operation dst s place context.old) target place context.new
+        result }
 {
     context.registers[dst] = u64::from(value32(operation, low(context.registers[dst]), low(s)));
     Flow::Next
@@ -83,7 +87,9 @@ fn divide64(operation: Operation, place: u32, dst: usize, s: u64, context: &mut 
     requires divides { divides operation ≡ true }
     ensures way { IsNext result }
     ensures frames { context.new.frames ≡ context.old.frames }
-    ensures does { (target : ℕ) → Follows (Steps.binary64 operation dst s place context.old) target place context.new result }
+    ensures does { (target : ℕ)
+        → Follows (Steps.binary64 operation dst s place context.old) target place context.new
+        result }
 {
     if s == 0 {
         return Flow::Off(Stop::Fault(Fault::DivideByZero));
@@ -99,7 +105,9 @@ fn divide32(operation: Operation, place: u32, dst: usize, s: u64, context: &mut 
     requires divides { divides operation ≡ true }
     ensures way { IsNext result }
     ensures frames { context.new.frames ≡ context.old.frames }
-    ensures does { (target : ℕ) → Follows (Steps.binary32 operation dst s place context.old) target place context.new result }
+    ensures does { (target : ℕ)
+        → Follows (Steps.binary32 operation dst s place context.old) target place context.new
+        result }
 {
     let divisor = low(s);
     if divisor == 0 {
@@ -124,7 +132,9 @@ fn load(width: u8, place: u32, dst: usize, addr: u64, context: &mut Context) -> 
     requires width { IsWidth width }
     ensures way { IsNext result }
     ensures frames { context.new.frames ≡ context.old.frames }
-    ensures does { (target : ℕ) → Follows (Steps.load dst place context.old (load_from context.old.memory addr width)) target place context.new result }
+    ensures does { (target : ℕ)
+        → Follows (Steps.load dst place context.old (load_from context.old.memory addr width))
+        target place context.new result }
 {
     match context.memory.load(addr, width) {
         Ok(value) => {
@@ -142,9 +152,13 @@ fn load(width: u8, place: u32, dst: usize, addr: u64, context: &mut Context) -> 
 #[inline(always)]
 fn store(width: u8, place: u32, addr: u64, value: u64, context: &mut Context) -> Flow
     requires width { IsWidth width }
-    ensures way { let row = Steps.store place context.old (store_to context.old.memory addr width value) in IsNextOrWant addr width row context.old context.new result }
+    ensures way { let row = Steps.store place context.old
+        (store_to context.old.memory addr width value) in
+        IsNextOrWant addr width row context.old context.new result }
     ensures frames { context.new.frames ≡ context.old.frames }
-    ensures does { (target : ℕ) → Follows (Steps.store place context.old (store_to context.old.memory addr width value)) target place context.new result }
+    ensures does { (target : ℕ)
+        → Follows (Steps.store place context.old (store_to context.old.memory addr width value))
+        target place context.new result }
 {
     match context.memory.store(addr, width, value) {
         Ok(()) => Flow::Next,
@@ -174,7 +188,8 @@ fn enter(program: &Verified, to: u32, place: u32, context: &mut Context) -> Flow
     requires backs { GoBack program.now context.old.frames }
     ensures way { IsTo to result }
     ensures backs { GoBack program.now context.new.frames }
-    ensures does { (target : ℕ) → Follows (Steps.enter to place context.old) target place context.new result }
+    ensures does { (target : ℕ)
+        → Follows (Steps.enter to place context.old) target place context.new result }
 {
     if context.frames.len() >= MAX_FRAMES - 1 {
         return Flow::Off(Stop::Fault(Fault::CallDepth));
@@ -197,7 +212,9 @@ fn leave(program: &Verified, context: &mut Context) -> Flow
     requires { GoBack program.now context.old.frames }
     ensures way { IsToStart program.now result }
     ensures backs { GoBack program.now context.new.frames }
-    ensures does { (target place : ℕ) → Follows (Steps.leave (Steps.last_kept context.old) context.old) target place context.new result }
+    ensures does { (target place : ℕ)
+        → Follows (Steps.leave (Steps.last_kept context.old) context.old) target place context.new
+        result }
 {
     match context.frames.pop() {
         None => Flow::Off(Stop::Exit {
@@ -244,7 +261,10 @@ fn call_register(program: &Verified, value: u64, place: u32, context: &mut Conte
     requires backs { GoBack program.now context.old.frames }
     ensures way { IsToStart program.now result }
     ensures backs { GoBack program.now context.new.frames }
-    ensures does { (target : ℕ) → Follows (Steps.enter_at value place context.old (Steps.start_at_address program.now value)) target place context.new result }
+    ensures does { (target : ℕ)
+        → Follows
+        (Steps.enter_at value place context.old (Steps.start_at_address program.now value))
+        target place context.new result }
 {
     match start_at_address(program, value) {
         Some(to) => enter(program, to, place, context),
@@ -263,7 +283,9 @@ fn call(program: &Verified, entry: Entry, place: u32, context: &mut Context) -> 
     ensures lands { (target : ℕ) → LandsOn program.now target place result }
     ensures backs { GoBack program.now context.new.frames }
     ensures want { IsCalling result }
-    ensures does { (target : ℕ) → Follows (Steps.call (operands_of entry) place context.old) target place context.new result }
+    ensures does { (target : ℕ)
+        → Follows (Steps.call (operands_of entry) place context.old) target place context.new
+        result }
 {
     if entry.src == 1 {
         enter(program, entry.target, place, context)
@@ -283,8 +305,12 @@ pub fn step(program: &Verified, entry: Entry, place: u32, context: &mut Context)
     requires backs { GoBack program.now context.old.frames }
     ensures lands { LandsOn program.now entry.target place result }
     ensures backs { GoBack program.now context.new.frames }
-    ensures want { let row = Steps.act (meaning entry.opcode) program.now (operands_of entry) place context.old in WantsOnlyAt (meaning entry.opcode) (operands_of entry) row context.old context.new result }
-    ensures does { Follows (Steps.act (meaning entry.opcode) program.now (operands_of entry) place context.old) entry.target place context.new result }
+    ensures want { let row = Steps.act (meaning entry.opcode) program.now (operands_of entry) place
+        context.old in
+        WantsOnlyAt (meaning entry.opcode) (operands_of entry) row context.old context.new result }
+    ensures does { Follows
+        (Steps.act (meaning entry.opcode) program.now (operands_of entry) place context.old)
+        entry.target place context.new result }
 {
     let dst = entry.dst as usize;
     let src = entry.src as usize;

@@ -43,7 +43,8 @@ impl Model for Machine {
 
     ghost Value = { State };
 
-    ghost view = { λ m. record { text = arc_value m.code; place = m.place; context = m.context; units = m.units; stop = m.stop } };
+    ghost view = { λ m. record
+        { text = arc_value m.code; place = m.place; context = m.context; units = m.units; stop = m.stop } };
 
     ghost invariant = { λ m. StandsAtStart (arc_value m.code) m.place m.context m.stop };
 }
@@ -87,7 +88,8 @@ impl Machine {
     /// Runs to the first stop, and answers a stop that it stands at again. Want of memory leaves
     /// the machine before the store that met it.
     pub fn run(&mut self) -> Result<Stop, OutOfMemory>
-        ensures stops { IfOk result (λ stop. (steps self.old ≡ Some self.new) × (self.new.stop ≡ Some stop)) }
+        ensures stops { IfOk result
+            (λ stop. (steps self.old ≡ Some self.new) × (self.new.stop ≡ Some stop)) }
         ensures short { IfErr result (λ _. StandsBeforeStore self.old self.new) }
         ensures number { IfOk result IsNumbered }
         ensures units { TakesUnits self.old self.new }
