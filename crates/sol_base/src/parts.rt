@@ -143,6 +143,8 @@ impl Parts {
     }
 
     /// The `N` bytes from a place on, which may lie over several parts.
+    #[cold]
+    #[inline(never)]
     fn array_over<const N: usize>(&self, at: usize) -> [u8; N]
         requires { at + N ≤ length self.now.bytes }
         ensures { result ≡ take N (drop at self.now.bytes) }
@@ -192,12 +194,26 @@ impl Parts {
         if self.put_near(at, bytes) {
             return Ok(());
         }
+        self.write_over(at, bytes)
+    }
+
+    /// Writes `N` bytes from a place on, which may lie over several parts.
+    #[cold]
+    #[inline(never)]
+    fn write_over<const N: usize>(&mut self, at: usize, bytes: [u8; N]) -> Result<(), OutOfMemory>
+        requires { at + N ≤ length self.old.bytes }
+        ensures ok { OnOk result (self.new.bytes ≡ with_bytes self.old.bytes at bytes.entry) }
+        ensures err { OnErr result (self.new.bytes ≡ self.old.bytes) }
+        ensures prepared { self.new.prepared ≡ self.old.prepared }
+        ensures ready { ArePrepared self.old.prepared at N → IsOk result }
+    {
         self.write(at, &bytes)
     }
 
     /// Puts `N` bytes at a place, if the part that the hint names has them as the list's own.
     #[inline(always)]
     fn put_near<const N: usize>(&mut self, at: usize, bytes: [u8; N]) -> bool
+        requires { at + N ≤ length self.old.bytes }
         ensures all { result ≡ true → self.new.bytes ≡ with_bytes self.old.bytes at bytes.entry }
         ensures none { result ≡ false → self.new ≡ self.old }
         ensures prepared { self.new.prepared ≡ self.old.prepared }

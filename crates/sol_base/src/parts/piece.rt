@@ -116,6 +116,7 @@ impl Backing {
     /// The `N` bytes from a place on, if they stand in memory.
     #[inline(always)]
     pub fn array<const N: usize>(&self, from: usize) -> Option<[u8; N]>
+        requires { from + N < 2 ^ 64 }
         ensures { IfSome result (λ found. ArrayStandsIn (backing_bytes self.now) from N found) }
     {
         match self {
@@ -128,6 +129,7 @@ impl Backing {
     /// Puts `N` bytes at a place, if there are as many of the list's own.
     #[inline(always)]
     pub fn put<const N: usize>(&mut self, from: usize, put: [u8; N]) -> bool
+        requires { from + N < 2 ^ 64 }
         ensures within { result ≡ true → from + length put.entry ≤ length (backing_bytes self.old) }
         ensures all { result ≡ true → HasPut self.old self.new from put.entry }
         ensures none { result ≡ false → backing_bytes self.new ≡ backing_bytes self.old }
@@ -205,9 +207,10 @@ impl Piece {
 /// The `N` bytes of a list from a place on, if there are as many.
 #[inline(always)]
 fn array_in<const N: usize>(list: &[u8], from: usize) -> Option<[u8; N]>
+    requires { from + N < 2 ^ 64 }
     ensures { IfSome result (λ found. ArrayStandsIn list.now from N found) }
 {
-    if from > list.len() || N > list.len() - from {
+    if from + N > list.len() {
         return None;
     }
     let mut bytes = [0; N];
@@ -218,11 +221,12 @@ fn array_in<const N: usize>(list: &[u8], from: usize) -> Option<[u8; N]>
 /// Puts `N` bytes at a place of a list, if there are as many.
 #[inline(always)]
 fn put_in<const N: usize>(list: &mut [u8], from: usize, put: [u8; N]) -> bool
+    requires { from + N < 2 ^ 64 }
     ensures within { result ≡ true → from + length put.entry ≤ length list.old }
     ensures all { result ≡ true → list.new ≡ with_bytes list.old from put.entry }
     ensures none { result ≡ false → list.new ≡ list.old }
 {
-    if from > list.len() || N > list.len() - from {
+    if from + N > list.len() {
         return false;
     }
     put_over(&mut list[from..from + N], put);
