@@ -63,7 +63,8 @@ fn opcode_of(byte: u8) -> Opcode {
         0x7b => Opcode::StoreEightRegister, 0x87 => Opcode::Negate64, 0x84 => Opcode::Negate32,
         0xd4 => Opcode::LittleEndian, 0xdc => Opcode::BigEndian, 0x05 => Opcode::Jump,
         0x85 => Opcode::Call, 0x8d => Opcode::CallRegister, 0x95 => Opcode::Exit,
-        0x18 => Opcode::LoadWide,
+        // the second slot of a wide load is not stepped on
+        0x18 | 0x00 => Opcode::LoadWide,
         _ => panic!("no row"),
     }
 }
@@ -197,11 +198,48 @@ impl Parts {
     }
 }
 
-struct Memory {
+/// What an input is made of: parts as the machine has them, or one list.
+trait Input {
+    fn len(&self) -> usize;
+    fn read(&self, at: usize, into: &mut [u8]);
+    fn write(&mut self, at: usize, bytes: &[u8]);
+}
+
+impl Input for Parts {
+    #[inline(always)]
+    fn len(&self) -> usize {
+        self.len
+    }
+    #[inline(always)]
+    fn read(&self, at: usize, into: &mut [u8]) {
+        Parts::read(self, at, into);
+    }
+    #[inline(always)]
+    fn write(&mut self, at: usize, bytes: &[u8]) {
+        Parts::write(self, at, bytes);
+    }
+}
+
+impl Input for Vec<u8> {
+    #[inline(always)]
+    fn len(&self) -> usize {
+        Vec::len(self)
+    }
+    #[inline(always)]
+    fn read(&self, at: usize, into: &mut [u8]) {
+        into.copy_from_slice(&self[at..at + into.len()]);
+    }
+    #[inline(always)]
+    fn write(&mut self, at: usize, bytes: &[u8]) {
+        self[at..at + bytes.len()].copy_from_slice(bytes);
+    }
+}
+
+struct Memory<I> {
     program: Arc<Vec<u8>>,
     stack: Vec<u8>,
     heap: Vec<u8>,
-    input: Parts,
+    input: I,
 }
 
 enum Region {
@@ -211,7 +249,7 @@ enum Region {
     Input,
 }
 
-impl Memory {
+impl<I: Input> Memory<I> {
     #[inline(always)]
     fn place(&self, addr: u64, len: u64) -> Option<(Region, usize)> {
         let at = addr & 0xffff_ffff;
@@ -227,7 +265,7 @@ impl Memory {
                 }
             }
             3 if end <= self.heap.len() as u64 => Some((Region::Heap, at as usize)),
-            4 if end <= self.input.len as u64 => Some((Region::Input, at as usize)),
+            4 if end <= self.input.len() as u64 => Some((Region::Input, at as usize)),
             _ => None,
         }
     }
@@ -256,14 +294,14 @@ impl Memory {
     }
 }
 
-struct Context {
+struct Context<I> {
     registers: [u64; 11],
     frames: Vec<Kept>,
-    memory: Memory,
+    memory: Memory<I>,
 }
 
 #[inline(always)]
-fn load<const N: usize>(dst: usize, addr: u64, context: &mut Context) -> Flow {
+fn load<const N: usize, I: Input>(dst: usize, addr: u64, context: &mut Context<I>) -> Flow {
     match context.memory.load::<N>(addr) {
         Some(value) => {
             context.registers[dst] = value;
@@ -278,7 +316,7 @@ fn load<const N: usize>(dst: usize, addr: u64, context: &mut Context) -> Flow {
 }
 
 #[inline(always)]
-fn store<const N: usize>(addr: u64, value: u64, context: &mut Context) -> Flow {
+fn store<const N: usize, I: Input>(addr: u64, value: u64, context: &mut Context<I>) -> Flow {
     if context.memory.store::<N>(addr, value) {
         Flow::Next
     } else {
@@ -290,7 +328,7 @@ fn store<const N: usize>(addr: u64, value: u64, context: &mut Context) -> Flow {
     }
 }
 
-fn enter(to: u32, place: u32, context: &mut Context) -> Flow {
+fn enter<I: Input>(to: u32, place: u32, context: &mut Context<I>) -> Flow {
     if context.frames.len() >= 63 {
         return Flow::Off(Stop::CallDepth);
     }
@@ -307,7 +345,7 @@ fn enter(to: u32, place: u32, context: &mut Context) -> Flow {
     Flow::To(to)
 }
 
-fn leave(context: &mut Context) -> Flow {
+fn leave<I: Input>(context: &mut Context<I>) -> Flow {
     match context.frames.pop() {
         None => Flow::Off(Stop::Exit(context.registers[0])),
         Some(kept) => {
@@ -321,7 +359,12 @@ fn leave(context: &mut Context) -> Flow {
     }
 }
 
-fn call_register(entries: &[Entry], value: u64, place: u32, context: &mut Context) -> Flow {
+fn call_register<I: Input>(
+    entries: &[Entry],
+    value: u64,
+    place: u32,
+    context: &mut Context<I>,
+) -> Flow {
     let past = value.wrapping_sub(0x1_0000_0000);
     if value >= 0x1_0000_0000 && past % 8 == 0 && past / 8 < entries.len() as u64 {
         enter((past / 8) as u32, place, context)
@@ -332,7 +375,7 @@ fn call_register(entries: &[Entry], value: u64, place: u32, context: &mut Contex
 
 #[rustfmt::skip]
 #[inline(always)]
-fn step(entries: &[Entry], entry: Entry, place: u32, context: &mut Context) -> Flow {
+fn step<I: Input>(entries: &[Entry], entry: Entry, place: u32, context: &mut Context<I>) -> Flow {
     let dst = entry.dst as usize;
     let src = entry.src as usize;
     match entry.opcode {
@@ -406,18 +449,18 @@ fn step(entries: &[Entry], entry: Entry, place: u32, context: &mut Context) -> F
         Opcode::JumpIfSignedLessRegister => { let d = context.registers[dst]; let s = context.registers[src]; if (d as i64) < (s as i64) { Flow::Jump } else { Flow::Next } }
         Opcode::JumpIfSignedLessOrEqualImmediate => { let d = context.registers[dst]; let s = entry.imm; if (d as i64) <= s as i64 { Flow::Jump } else { Flow::Next } }
         Opcode::JumpIfSignedLessOrEqualRegister => { let d = context.registers[dst]; let s = context.registers[src]; if (d as i64) <= s as i64 { Flow::Jump } else { Flow::Next } }
-        Opcode::LoadFour => load::<4>(dst, context.registers[src].wrapping_add(entry.offset), context),
-        Opcode::StoreFourImmediate => store::<4>(context.registers[dst].wrapping_add(entry.offset), entry.imm, context),
-        Opcode::StoreFourRegister => store::<4>(context.registers[dst].wrapping_add(entry.offset), context.registers[src], context),
-        Opcode::LoadTwo => load::<2>(dst, context.registers[src].wrapping_add(entry.offset), context),
-        Opcode::StoreTwoImmediate => store::<2>(context.registers[dst].wrapping_add(entry.offset), entry.imm, context),
-        Opcode::StoreTwoRegister => store::<2>(context.registers[dst].wrapping_add(entry.offset), context.registers[src], context),
-        Opcode::LoadOne => load::<1>(dst, context.registers[src].wrapping_add(entry.offset), context),
-        Opcode::StoreOneImmediate => store::<1>(context.registers[dst].wrapping_add(entry.offset), entry.imm, context),
-        Opcode::StoreOneRegister => store::<1>(context.registers[dst].wrapping_add(entry.offset), context.registers[src], context),
-        Opcode::LoadEight => load::<8>(dst, context.registers[src].wrapping_add(entry.offset), context),
-        Opcode::StoreEightImmediate => store::<8>(context.registers[dst].wrapping_add(entry.offset), entry.imm, context),
-        Opcode::StoreEightRegister => store::<8>(context.registers[dst].wrapping_add(entry.offset), context.registers[src], context),
+        Opcode::LoadFour => load::<4, I>(dst, context.registers[src].wrapping_add(entry.offset), context),
+        Opcode::StoreFourImmediate => store::<4, I>(context.registers[dst].wrapping_add(entry.offset), entry.imm, context),
+        Opcode::StoreFourRegister => store::<4, I>(context.registers[dst].wrapping_add(entry.offset), context.registers[src], context),
+        Opcode::LoadTwo => load::<2, I>(dst, context.registers[src].wrapping_add(entry.offset), context),
+        Opcode::StoreTwoImmediate => store::<2, I>(context.registers[dst].wrapping_add(entry.offset), entry.imm, context),
+        Opcode::StoreTwoRegister => store::<2, I>(context.registers[dst].wrapping_add(entry.offset), context.registers[src], context),
+        Opcode::LoadOne => load::<1, I>(dst, context.registers[src].wrapping_add(entry.offset), context),
+        Opcode::StoreOneImmediate => store::<1, I>(context.registers[dst].wrapping_add(entry.offset), entry.imm, context),
+        Opcode::StoreOneRegister => store::<1, I>(context.registers[dst].wrapping_add(entry.offset), context.registers[src], context),
+        Opcode::LoadEight => load::<8, I>(dst, context.registers[src].wrapping_add(entry.offset), context),
+        Opcode::StoreEightImmediate => store::<8, I>(context.registers[dst].wrapping_add(entry.offset), entry.imm, context),
+        Opcode::StoreEightRegister => store::<8, I>(context.registers[dst].wrapping_add(entry.offset), context.registers[src], context),
         Opcode::Negate64 => { context.registers[dst] = context.registers[dst].wrapping_neg(); Flow::Next }
         Opcode::Negate32 => { context.registers[dst] = u64::from((context.registers[dst] as u32).wrapping_neg()); Flow::Next }
         Opcode::LittleEndian => { let d = context.registers[dst]; context.registers[dst] = match entry.imm { 16 => u64::from(d as u16), 32 => u64::from(d as u32), _ => d }; Flow::Next }
@@ -431,7 +474,7 @@ fn step(entries: &[Entry], entry: Entry, place: u32, context: &mut Context) -> F
 }
 
 #[inline(never)]
-fn run(entries: &[Entry], given: u64, context: &mut Context) -> (Stop, u64) {
+fn run<I: Input>(entries: &[Entry], given: u64, context: &mut Context<I>) -> (Stop, u64) {
     let mut place = 0u32;
     let mut units = given;
     while units > 0 {
@@ -451,7 +494,12 @@ type Slot = (u8, u8, i16, i32);
 
 fn entries_of(first: &[Slot], slots: &[Slot]) -> Vec<Entry> {
     let mut entries = Vec::new();
-    for (place, &(opcode, registers, offset, imm)) in first.iter().chain(slots).enumerate() {
+    let all: Vec<Slot> = first.iter().chain(slots).copied().collect();
+    for (place, &(opcode, registers, offset, imm)) in all.iter().enumerate() {
+        let high = match all.get(place + 1) {
+            Some(next) if opcode == 0x18 => next.3 as u64,
+            _ => (imm >> 31) as u64,
+        };
         let target = match opcode {
             0x85 => place as i64 + 1 + imm as i64,
             _ => place as i64 + 1 + offset as i64,
@@ -462,7 +510,7 @@ fn entries_of(first: &[Slot], slots: &[Slot]) -> Vec<Entry> {
             src: registers / 16,
             target: target as u32,
             offset: offset as i64 as u64,
-            imm: imm as i64 as u64,
+            imm: u64::from(imm as u32) | high << 32,
         });
     }
     entries
@@ -492,54 +540,221 @@ const MIX: [Slot; 12] = [
     (0x95, 0, 0, 0),
 ];
 
-fn measure(name: &str, first: &[Slot], slots: &[Slot]) {
-    let entries = entries_of(first, slots);
-    let mut best = 0;
-    for _ in 0..5 {
-        let parts = Parts {
-            pieces: vec![
-                Piece {
-                    start: 0,
-                    backing: Backing::Own(vec![0; 8]),
-                },
-                Piece {
-                    start: 8,
-                    backing: Backing::Shared(Arc::new(vec![0; 4096])),
-                },
-                Piece {
-                    start: 4104,
-                    backing: Backing::Blank(4096),
-                },
-            ],
-            len: 8200,
+/// Loads of eight bytes from four places in a row, over all items 400 times.
+const LOADS: [Slot; 15] = [
+    (0xb7, 1, 0, 400),
+    (0xbf, 0x63, 0, 0),
+    (0x79, 0x34, 0, 0),
+    (0x0f, 0x40, 0, 0),
+    (0x79, 0x34, 8, 0),
+    (0x0f, 0x40, 0, 0),
+    (0x79, 0x34, 16, 0),
+    (0x0f, 0x40, 0, 0),
+    (0x79, 0x34, 24, 0),
+    (0x0f, 0x40, 0, 0),
+    (0x07, 3, 0, 32),
+    (0xad, 0x83, -10, 0),
+    (0x17, 1, 0, 1),
+    (0x55, 1, -13, 0),
+    (0x95, 0, 0, 0),
+];
+
+/// Stores of eight bytes at four places in a row, over all items 400 times.
+const STORES: [Slot; 11] = [
+    (0xb7, 1, 0, 400),
+    (0xbf, 0x63, 0, 0),
+    (0x7b, 0x13, 0, 0),
+    (0x7b, 0x13, 8, 0),
+    (0x7b, 0x13, 16, 0),
+    (0x7b, 0x13, 24, 0),
+    (0x07, 3, 0, 32),
+    (0xad, 0x83, -6, 0),
+    (0x17, 1, 0, 1),
+    (0x55, 1, -9, 0),
+    (0x95, 0, 0, 0),
+];
+
+/// Fills the items with numbers that look random, sorts them by a heap, and sums them up in order.
+const SORT: [Slot; 50] = [
+    (0x18, 5, 0, 1_284_865_837),
+    (0x00, 0, 0, 1_481_765_933),
+    (0xb7, 2, 0, 1),
+    (0xbf, 0x63, 0, 0),
+    (0x2f, 0x52, 0, 0),
+    (0x07, 2, 0, 1_442_695_041),
+    (0x7b, 0x23, 0, 0),
+    (0x07, 3, 0, 8),
+    (0xad, 0x83, -5, 0),
+    (0xbf, 0x67, 0, 0),
+    (0x07, 7, 0, 400_000),
+    (0x2d, 0x67, 6, 0),
+    (0x17, 8, 0, 8),
+    (0xbd, 0x68, 26, 0),
+    (0x79, 0x85, 0, 0),
+    (0x79, 0x62, 0, 0),
+    (0x7b, 0x28, 0, 0),
+    (0x05, 0, 2, 0),
+    (0x17, 7, 0, 8),
+    (0x79, 0x75, 0, 0),
+    (0xbf, 0x73, 0, 0),
+    (0xbf, 0x34, 0, 0),
+    (0x0f, 0x34, 0, 0),
+    (0x1f, 0x64, 0, 0),
+    (0x07, 4, 0, 8),
+    (0x3d, 0x84, 12, 0),
+    (0x79, 0x42, 0, 0),
+    (0xbf, 0x40, 0, 0),
+    (0x07, 0, 0, 8),
+    (0x3d, 0x80, 4, 0),
+    (0x79, 0x49, 8, 0),
+    (0xbd, 0x29, 2, 0),
+    (0xbf, 4, 0, 0),
+    (0xbf, 0x92, 0, 0),
+    (0xbd, 0x52, 3, 0),
+    (0x7b, 0x23, 0, 0),
+    (0xbf, 0x43, 0, 0),
+    (0x05, 0, -17, 0),
+    (0x7b, 0x53, 0, 0),
+    (0x05, 0, -29, 0),
+    (0xb7, 0, 0, 0),
+    (0xbf, 0x63, 0, 0),
+    (0xbf, 0x69, 0, 0),
+    (0x07, 9, 0, 800_000),
+    (0x79, 0x32, 0, 0),
+    (0x27, 0, 0, 31),
+    (0x0f, 0x20, 0, 0),
+    (0x07, 3, 0, 8),
+    (0xad, 0x93, -5, 0),
+    (0x95, 0, 0, 0),
+];
+
+/// r6 is where the items begin, and r8 where they end.
+const ITEMS: [Slot; 4] = [
+    (0xbf, 0x16, 0, 0),
+    (0x07, 6, 0, 8),
+    (0xbf, 0x68, 0, 0),
+    (0x07, 8, 0, 800_000),
+];
+
+/// A store into the stack.
+const FRAME: [Slot; 2] = [(0x7b, 0x1a, -8, 0), (0x95, 0, 0, 0)];
+
+/// The input of the first texts: three parts, of which the second is shared.
+fn three_parts() -> Parts {
+    parts_of(vec![
+        Backing::Own(vec![0; 8]),
+        Backing::Shared(Arc::new(vec![0; 4096])),
+        Backing::Blank(4096),
+    ])
+}
+
+/// 800,000 bytes of items behind eight others, in four parts: the items are shared.
+fn four_parts() -> Parts {
+    parts_of(vec![
+        Backing::Own(vec![0; 8]),
+        Backing::Shared(Arc::new(vec![0; 800_000])),
+        Backing::Blank(10_240),
+        Backing::Own(vec![0; 8]),
+    ])
+}
+
+/// The same in 202 parts: the items lie in 200, of which every second is shared.
+fn many_parts() -> Parts {
+    let mut parts = vec![Backing::Own(vec![0; 8])];
+    for _ in 0..100 {
+        parts.push(Backing::Own(vec![0; 4000]));
+        parts.push(Backing::Shared(Arc::new(vec![0; 4000])));
+    }
+    parts.push(Backing::Blank(10_240));
+    parts_of(parts)
+}
+
+fn parts_of(backings: Vec<Backing>) -> Parts {
+    let mut pieces = Vec::with_capacity(backings.len());
+    let mut len = 0;
+    for backing in backings {
+        let size = match &backing {
+            Backing::Own(bytes) => bytes.len(),
+            Backing::Shared(bytes) => bytes.len(),
+            Backing::Blank(count) => *count as usize,
         };
-        let memory = Memory {
+        pieces.push(Piece {
+            start: len,
+            backing,
+        });
+        len += size;
+    }
+    Parts { pieces, len }
+}
+
+/// The same bytes in one list.
+fn flat() -> Vec<u8> {
+    vec![0; 810_256]
+}
+
+fn context_of<I: Input>(input: I) -> Context<I> {
+    let mut context = Context {
+        registers: [0; 11],
+        frames: Vec::with_capacity(64),
+        memory: Memory {
             program: Arc::new(Vec::new()),
             stack: vec![0; 262144],
             heap: Vec::new(),
-            input: parts,
-        };
-        let mut context = Context {
-            registers: [0; 11],
-            frames: Vec::with_capacity(64),
-            memory,
-        };
-        context.registers[1] = 0x4_0000_0000;
-        context.registers[10] = 0x2_0000_1000;
+            input,
+        },
+    };
+    context.registers[1] = 0x4_0000_0000;
+    context.registers[10] = 0x2_0000_1000;
+    context
+}
+
+fn measure<I: Input>(name: &str, input: impl Fn() -> I, first: &[Slot], slots: &[Slot]) {
+    let entries = entries_of(first, slots);
+    let mut best = 0;
+    let mut value = 0;
+    for _ in 0..5 {
+        let mut context = context_of(input());
         let start = Instant::now();
         let (stop, left) = run(&entries, 1_000_000_000, &mut context);
         let took = start.elapsed().as_micros();
-        if let Stop::Exit(_) = stop {
+        if let Stop::Exit(r0) = stop {
+            value = r0;
             best = best.max(u128::from(1_000_000_000 - left) / took.max(1));
         } else {
             println!("{stop:?}");
         }
     }
-    println!("{name} {best} million instructions a second");
+    println!("{name} {best} million instructions a second, r0 {value}");
+}
+
+/// Makes a machine and runs a store into the stack, 100,000 times.
+fn frames() {
+    let entries = entries_of(&[], &FRAME);
+    let mut best = u128::MAX;
+    for _ in 0..5 {
+        let start = Instant::now();
+        for _ in 0..100_000 {
+            let mut context = context_of(vec![0; 8]);
+            run(&entries, 1000, &mut context);
+        }
+        best = best.min(start.elapsed().as_nanos() / 100_000);
+    }
+    println!("frame {best} nanoseconds");
 }
 
 fn main() {
-    measure("count", &[], &COUNT);
-    measure("stack", &[(0xbf, 0xa3, 0, 0)], &MIX);
-    measure("input", &[(0xbf, 0x13, 0, 0), (0x07, 3, 0, 64)], &MIX);
+    measure("count", three_parts, &[], &COUNT);
+    measure("stack", three_parts, &[(0xbf, 0xa3, 0, 0)], &MIX);
+    measure(
+        "input",
+        three_parts,
+        &[(0xbf, 0x13, 0, 0), (0x07, 3, 0, 64)],
+        &MIX,
+    );
+    for (name, slots) in [("loads", &LOADS[..]), ("stores", &STORES), ("sort", &SORT)] {
+        measure(&format!("{name} in 4 parts"), four_parts, &ITEMS, slots);
+        measure(&format!("{name} in 202 parts"), many_parts, &ITEMS, slots);
+        measure(&format!("{name} in one list"), flat, &ITEMS, slots);
+    }
+    frames();
 }

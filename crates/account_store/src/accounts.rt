@@ -69,8 +69,10 @@ impl Accounts {
         requires few { state.len self.old < 2 ^ 32 }
         requires short { IsShort entry.account }
         ensures fine { OnOk result (entry_fault (state.entries self.old) (entry_of entry) ≡ None) }
-        ensures pushed { OnOk result (state.entries self.new ≡ state.entries self.old ++ entry_of entry ∷ []) }
-        ensures err { IfErr result (IsFaultOr (entry_fault (state.entries self.old) (entry_of entry))) }
+        ensures pushed { OnOk result
+            (state.entries self.new ≡ state.entries self.old ++ entry_of entry ∷ []) }
+        ensures err { IfErr result
+            (IsFaultOr (entry_fault (state.entries self.old) (entry_of entry))) }
     {
         let total = self.total_with(self.len() as u32, &entry)?;
         let KeyedAccount { key, account } = entry;
@@ -83,9 +85,12 @@ impl Accounts {
     /// is wrong with that entry.
     fn total_with(&self, at: u32, entry: &KeyedAccount) -> Result<u64, StoreFault>
         requires { at ≡ length (state.entries self.now) }
-        ensures ok { IfOk result (λ total. total ≡ state.sum self.now + entry.now.account.lamports) }
-        ensures fine { OnOk result (entry_fault (state.entries self.now) (entry_of entry.now) ≡ None) }
-        ensures err { IfErr result (λ fault. entry_fault (state.entries self.now) (entry_of entry.now) ≡ Some fault) }
+        ensures ok { IfOk result
+            (λ total. total ≡ state.sum self.now + entry.now.account.lamports) }
+        ensures fine { OnOk result
+            (entry_fault (state.entries self.now) (entry_of entry.now) ≡ None) }
+        ensures err { IfErr result
+            (λ fault. entry_fault (state.entries self.now) (entry_of entry.now) ≡ Some fault) }
     {
         if !is_above(self.last_key(), &entry.key) {
             return Err(StoreFault::OutOfOrder { at });
@@ -110,7 +115,8 @@ impl Accounts {
 
     /// The account of the key. None where it is absent.
     pub fn get(&self, key: &Key) -> Option<&Arc<Account>>
-        ensures value { option_map (λ account. arc_value account.now) result ≡ state.get self.now key.now }
+        ensures value { option_map (λ account. arc_value account.now) result
+            ≡ state.get self.now key.now }
         ensures state { IsState self.now }
     {
         self.tree.get(key)
@@ -150,7 +156,8 @@ impl Accounts {
         ensures total { result ≡ state.sum self.now }
         ensures state { IsState self.now }
     {
-        self.total
+        let Accounts { total: sum, .. } = self;
+        *sum
     }
 
     /// The number of keys.
@@ -164,7 +171,8 @@ impl Accounts {
     /// The least key above the given one, or the least key of all where none is given, with its
     /// account. None where there is no such key.
     pub fn next_after(&self, key: Option<&Key>) -> Option<(&Key, &Arc<Account>)>
-        ensures next { option_map seen_entry result ≡ state.next_after self.now (option_copied key.entry) }
+        ensures next { option_map seen_entry result
+            ≡ state.next_after self.now (option_copied key.entry) }
         ensures state { IsState self.now }
     {
         match key {

@@ -2,6 +2,7 @@
 use Rattle.std.proofs.Common.{◌≡◌, ◌≢◌, ◌<◌, ◌+◌, ◌-◌, ◌%◌, ◌^◌, ◌==◌, ◌&&◌, ◌||◌, ◌⊎◌, inl, inr, ⊎_elim, not, ℕ, zero, suc, Bool, true, false, List, [], ◌∷◌, ◌++◌, length, take, set, Option, Some, None, Result, Ok, Err, refl, ap, sym, ◌∙◌, subst, arith, if◌then◌else◌, length-append}
 use Rattle.std.specs.Prelude.{nat_le, slice_get}
 use Rattle.std.specs.Int.{w32, w64}
+use Rattle.std.proofs.lemmas.Bool.{and_parts}
 use Rattle.std.proofs.lemmas.Bool.Decides.{nat_tests}
 use Rattle.std.proofs.lemmas.List.{length-set, length-take-le, get_or-set_same, get_or-set_other}
 use Rattle.sbpf_isa.specs.Rows.{Row, kind_at, kind_in, rows}
@@ -49,10 +50,6 @@ abbrev have_class : List Row → Bool
 have_class [] = true
 have_class (r ∷ rs) = (not (writes r.kind) || has_class r.opcode) && have_class rs
 
-both : (a b : Bool) → (a && b) ≡ true → (a ≡ true) × (b ≡ true)
-both true b h = (refl, h)
-both false b h = absurd (cc)
-
 unless : (a b : Bool) → (not a || b) ≡ true → a ≡ true → b ≡ true
 unless true b h w = h
 unless false b h w = absurd (cc)
@@ -69,7 +66,7 @@ class_here n kind r rest false ok onward is h w = onward h w
 class_in : (n : ℕ) (kind : OpKind) (rs : List Row) → have_class rs ≡ true → kind_in n rs ≡ Some kind → writes kind ≡ true → has_class n ≡ true
 class_in n kind [] ok h w = absurd (cc)
 class_in n kind (r ∷ rs) ok h w =
-    let oks = both (not (writes r.kind) || has_class r.opcode) (have_class rs) ok in
+    let oks = and_parts (not (writes r.kind) || has_class r.opcode) (have_class rs) ok in
     class_here n kind r (kind_in n rs) (n == r.opcode) oks.0 (class_in n kind rs oks.1) refl h w
 
 class_of : (n : ℕ) (kind : OpKind) → kind_at n ≡ Some kind → writes kind ≡ true → has_class n ≡ true

@@ -18,11 +18,8 @@ use crate::values::{
     is_taken, low, low_bits, negative32, negative64, swapped_bits, value32, value64,
 };
 use sbpf_isa::{Condition, Operation};
-use sbpf_memory::MemFault;
+use sbpf_memory::{FRAME_STEP, MemFault, PROGRAM_START};
 use sbpf_verify::{Entry, Opcode, Verified};
-
-/// The address of the first byte of a program.
-const PROGRAM_START: u64 = 0x1_0000_0000;
 
 /// Where the machine goes from an instruction.
 #[derive(Clone, Copy)]
@@ -57,7 +54,9 @@ fn binary64(operation: Operation, place: u32, dst: usize, s: u64, context: &mut 
     requires plain { divides operation ≡ false }
     ensures way { result ≡ next_one }
     ensures frames { context.new.frames ≡ context.old.frames }
-    ensures does { (target : ℕ) → Follows (Steps.binary64 operation dst s place context.old) target place context.new result }
+    ensures does { (target : ℕ)
+        → Follows (Steps.binary64 operation dst s place context.old) target place context.new
+        result }
 {
     context.registers[dst] = value64(operation, context.registers[dst], s);
     Flow::Next
@@ -70,7 +69,9 @@ fn binary32(operation: Operation, place: u32, dst: usize, s: u64, context: &mut 
     requires plain { divides operation ≡ false }
     ensures way { result ≡ next_one }
     ensures frames { context.new.frames ≡ context.old.frames }
-    ensures does { (target : ℕ) → Follows (Steps.binary32 operation dst s place context.old) target place context.new result }
+    ensures does { (target : ℕ)
+        → Follows (Steps.binary32 operation dst s place context.old) target place context.new
+        result }
 {
     context.registers[dst] = u64::from(value32(operation, low(context.registers[dst]), low(s)));
     Flow::Next
@@ -83,7 +84,9 @@ fn divide64(operation: Operation, place: u32, dst: usize, s: u64, context: &mut 
     requires divides { divides operation ≡ true }
     ensures way { IsNext result }
     ensures frames { context.new.frames ≡ context.old.frames }
-    ensures does { (target : ℕ) → Follows (Steps.binary64 operation dst s place context.old) target place context.new result }
+    ensures does { (target : ℕ)
+        → Follows (Steps.binary64 operation dst s place context.old) target place context.new
+        result }
 {
     if s == 0 {
         return Flow::Off(Stop::Fault(Fault::DivideByZero));
@@ -99,7 +102,9 @@ fn divide32(operation: Operation, place: u32, dst: usize, s: u64, context: &mut 
     requires divides { divides operation ≡ true }
     ensures way { IsNext result }
     ensures frames { context.new.frames ≡ context.old.frames }
-    ensures does { (target : ℕ) → Follows (Steps.binary32 operation dst s place context.old) target place context.new result }
+    ensures does { (target : ℕ)
+        → Follows (Steps.binary32 operation dst s place context.old) target place context.new
+        result }
 {
     let divisor = low(s);
     if divisor == 0 {
@@ -124,7 +129,9 @@ fn load(width: u8, place: u32, dst: usize, addr: u64, context: &mut Context) -> 
     requires width { IsWidth width }
     ensures way { IsNext result }
     ensures frames { context.new.frames ≡ context.old.frames }
-    ensures does { (target : ℕ) → Follows (Steps.load dst place context.old (load_from context.old.memory addr width)) target place context.new result }
+    ensures does { (target : ℕ)
+        → Follows (Steps.load dst place context.old (load_from context.old.memory addr width))
+        target place context.new result }
 {
     match context.memory.load(addr, width) {
         Ok(value) => {
@@ -142,9 +149,13 @@ fn load(width: u8, place: u32, dst: usize, addr: u64, context: &mut Context) -> 
 #[inline(always)]
 fn store(width: u8, place: u32, addr: u64, value: u64, context: &mut Context) -> Flow
     requires width { IsWidth width }
-    ensures way { let row = Steps.store place context.old (store_to context.old.memory addr width value) in IsNextOrWant addr width row context.old context.new result }
+    ensures way { let row = Steps.store place context.old
+        (store_to context.old.memory addr width value) in
+        IsNextOrWant addr width row context.old context.new result }
     ensures frames { context.new.frames ≡ context.old.frames }
-    ensures does { (target : ℕ) → Follows (Steps.store place context.old (store_to context.old.memory addr width value)) target place context.new result }
+    ensures does { (target : ℕ)
+        → Follows (Steps.store place context.old (store_to context.old.memory addr width value))
+        target place context.new result }
 {
     match context.memory.store(addr, width, value) {
         Ok(()) => Flow::Next,
@@ -157,7 +168,7 @@ fn store(width: u8, place: u32, addr: u64, value: u64, context: &mut Context) ->
 }
 
 #[inline(always)]
-fn jump_if(when: Condition, d: u64, s: u64) -> Flow
+fn jump(when: Condition, d: u64, s: u64) -> Flow
     ensures { result ≡ (if holds when d s then jumps else next_one) }
 {
     if is_taken(when, d, s) {
@@ -174,7 +185,8 @@ fn enter(program: &Verified, to: u32, place: u32, context: &mut Context) -> Flow
     requires backs { GoBack program.now context.old.frames }
     ensures way { IsTo to result }
     ensures backs { GoBack program.now context.new.frames }
-    ensures does { (target : ℕ) → Follows (Steps.enter to place context.old) target place context.new result }
+    ensures does { (target : ℕ)
+        → Follows (Steps.enter to place context.old) target place context.new result }
 {
     if context.frames.len() >= MAX_FRAMES - 1 {
         return Flow::Off(Stop::Fault(Fault::CallDepth));
@@ -188,7 +200,7 @@ fn enter(program: &Verified, to: u32, place: u32, context: &mut Context) -> Flow
         r9: r[9],
         r10: r[10],
     });
-    context.registers[10] = r[10].wrapping_add(8192);
+    context.registers[10] = r[10].wrapping_add(FRAME_STEP);
     Flow::To(to)
 }
 
@@ -197,7 +209,9 @@ fn leave(program: &Verified, context: &mut Context) -> Flow
     requires { GoBack program.now context.old.frames }
     ensures way { IsToStart program.now result }
     ensures backs { GoBack program.now context.new.frames }
-    ensures does { (target place : ℕ) → Follows (Steps.leave (Steps.last_kept context.old) context.old) target place context.new result }
+    ensures does { (target place : ℕ)
+        → Follows (Steps.leave (Steps.last_kept context.old) context.old) target place context.new
+        result }
 {
     match context.frames.pop() {
         None => Flow::Off(Stop::Exit {
@@ -237,14 +251,17 @@ fn start_at_address(program: &Verified, value: u64) -> Option<u32>
 }
 
 /// `callx`.
-fn call_register(program: &Verified, value: u64, place: u32, context: &mut Context) -> Flow
+fn callx(program: &Verified, value: u64, place: u32, context: &mut Context) -> Flow
     requires room { place < 65536 }
     requires verified { IsVerified program.now }
     requires next { is_start program.now (place + 1) ≡ true }
     requires backs { GoBack program.now context.old.frames }
     ensures way { IsToStart program.now result }
     ensures backs { GoBack program.now context.new.frames }
-    ensures does { (target : ℕ) → Follows (Steps.enter_at value place context.old (Steps.start_at_address program.now value)) target place context.new result }
+    ensures does { (target : ℕ)
+        → Follows
+        (Steps.enter_at value place context.old (Steps.start_at_address program.now value))
+        target place context.new result }
 {
     match start_at_address(program, value) {
         Some(to) => enter(program, to, place, context),
@@ -263,7 +280,9 @@ fn call(program: &Verified, entry: Entry, place: u32, context: &mut Context) -> 
     ensures lands { (target : ℕ) → LandsOn program.now target place result }
     ensures backs { GoBack program.now context.new.frames }
     ensures want { IsCalling result }
-    ensures does { (target : ℕ) → Follows (Steps.call (operands_of entry) place context.old) target place context.new result }
+    ensures does { (target : ℕ)
+        → Follows (Steps.call (operands_of entry) place context.old) target place context.new
+        result }
 {
     if entry.src == 1 {
         enter(program, entry.target, place, context)
@@ -283,389 +302,115 @@ pub fn step(program: &Verified, entry: Entry, place: u32, context: &mut Context)
     requires backs { GoBack program.now context.old.frames }
     ensures lands { LandsOn program.now entry.target place result }
     ensures backs { GoBack program.now context.new.frames }
-    ensures want { let row = Steps.act (meaning entry.opcode) program.now (operands_of entry) place context.old in WantsOnlyAt (meaning entry.opcode) (operands_of entry) row context.old context.new result }
-    ensures does { Follows (Steps.act (meaning entry.opcode) program.now (operands_of entry) place context.old) entry.target place context.new result }
+    ensures want { let row = Steps.act (meaning entry.opcode) program.now (operands_of entry) place
+        context.old in
+        WantsOnlyAt (meaning entry.opcode) (operands_of entry) row context.old context.new result }
+    ensures does { Follows
+        (Steps.act (meaning entry.opcode) program.now (operands_of entry) place context.old)
+        entry.target place context.new result }
 {
     let dst = entry.dst as usize;
     let src = entry.src as usize;
+    let d = context.registers[dst];
+    let s = context.registers[src];
+    let imm = entry.imm;
     match entry.opcode {
-        Opcode::Add64Immediate => binary64(Operation::Add, place, dst, entry.imm, context),
-        Opcode::Add64Register => binary64(
-            Operation::Add,
-            place,
-            dst,
-            context.registers[src],
-            context,
-        ),
-        Opcode::Add32Immediate => binary32(Operation::Add, place, dst, entry.imm, context),
-        Opcode::Add32Register => binary32(
-            Operation::Add,
-            place,
-            dst,
-            context.registers[src],
-            context,
-        ),
-        Opcode::Sub64Immediate => binary64(Operation::Sub, place, dst, entry.imm, context),
-        Opcode::Sub64Register => binary64(
-            Operation::Sub,
-            place,
-            dst,
-            context.registers[src],
-            context,
-        ),
-        Opcode::Sub32Immediate => binary32(Operation::Sub, place, dst, entry.imm, context),
-        Opcode::Sub32Register => binary32(
-            Operation::Sub,
-            place,
-            dst,
-            context.registers[src],
-            context,
-        ),
-        Opcode::Mul64Immediate => binary64(Operation::Mul, place, dst, entry.imm, context),
-        Opcode::Mul64Register => binary64(
-            Operation::Mul,
-            place,
-            dst,
-            context.registers[src],
-            context,
-        ),
-        Opcode::Mul32Immediate => binary32(Operation::Mul, place, dst, entry.imm, context),
-        Opcode::Mul32Register => binary32(
-            Operation::Mul,
-            place,
-            dst,
-            context.registers[src],
-            context,
-        ),
-        Opcode::Or64Immediate => binary64(Operation::Or, place, dst, entry.imm, context),
-        Opcode::Or64Register => binary64(
-            Operation::Or,
-            place,
-            dst,
-            context.registers[src],
-            context,
-        ),
-        Opcode::Or32Immediate => binary32(Operation::Or, place, dst, entry.imm, context),
-        Opcode::Or32Register => binary32(
-            Operation::Or,
-            place,
-            dst,
-            context.registers[src],
-            context,
-        ),
-        Opcode::And64Immediate => binary64(Operation::And, place, dst, entry.imm, context),
-        Opcode::And64Register => binary64(
-            Operation::And,
-            place,
-            dst,
-            context.registers[src],
-            context,
-        ),
-        Opcode::And32Immediate => binary32(Operation::And, place, dst, entry.imm, context),
-        Opcode::And32Register => binary32(
-            Operation::And,
-            place,
-            dst,
-            context.registers[src],
-            context,
-        ),
-        Opcode::Lsh64Immediate => binary64(Operation::Lsh, place, dst, entry.imm, context),
-        Opcode::Lsh64Register => binary64(
-            Operation::Lsh,
-            place,
-            dst,
-            context.registers[src],
-            context,
-        ),
-        Opcode::Lsh32Immediate => binary32(Operation::Lsh, place, dst, entry.imm, context),
-        Opcode::Lsh32Register => binary32(
-            Operation::Lsh,
-            place,
-            dst,
-            context.registers[src],
-            context,
-        ),
-        Opcode::Rsh64Immediate => binary64(Operation::Rsh, place, dst, entry.imm, context),
-        Opcode::Rsh64Register => binary64(
-            Operation::Rsh,
-            place,
-            dst,
-            context.registers[src],
-            context,
-        ),
-        Opcode::Rsh32Immediate => binary32(Operation::Rsh, place, dst, entry.imm, context),
-        Opcode::Rsh32Register => binary32(
-            Operation::Rsh,
-            place,
-            dst,
-            context.registers[src],
-            context,
-        ),
-        Opcode::Xor64Immediate => binary64(Operation::Xor, place, dst, entry.imm, context),
-        Opcode::Xor64Register => binary64(
-            Operation::Xor,
-            place,
-            dst,
-            context.registers[src],
-            context,
-        ),
-        Opcode::Xor32Immediate => binary32(Operation::Xor, place, dst, entry.imm, context),
-        Opcode::Xor32Register => binary32(
-            Operation::Xor,
-            place,
-            dst,
-            context.registers[src],
-            context,
-        ),
-        Opcode::Mov64Immediate => binary64(Operation::Mov, place, dst, entry.imm, context),
-        Opcode::Mov64Register => binary64(
-            Operation::Mov,
-            place,
-            dst,
-            context.registers[src],
-            context,
-        ),
-        Opcode::Mov32Immediate => binary32(Operation::Mov, place, dst, entry.imm, context),
-        Opcode::Mov32Register => binary32(
-            Operation::Mov,
-            place,
-            dst,
-            context.registers[src],
-            context,
-        ),
-        Opcode::Arsh64Immediate => binary64(Operation::Arsh, place, dst, entry.imm, context),
-        Opcode::Arsh64Register => binary64(
-            Operation::Arsh,
-            place,
-            dst,
-            context.registers[src],
-            context,
-        ),
-        Opcode::Arsh32Immediate => binary32(Operation::Arsh, place, dst, entry.imm, context),
-        Opcode::Arsh32Register => binary32(
-            Operation::Arsh,
-            place,
-            dst,
-            context.registers[src],
-            context,
-        ),
-        Opcode::Div64Immediate => divide64(Operation::Div, place, dst, entry.imm, context),
-        Opcode::Div64Register => divide64(
-            Operation::Div,
-            place,
-            dst,
-            context.registers[src],
-            context,
-        ),
-        Opcode::Div32Immediate => divide32(Operation::Div, place, dst, entry.imm, context),
-        Opcode::Div32Register => divide32(
-            Operation::Div,
-            place,
-            dst,
-            context.registers[src],
-            context,
-        ),
-        Opcode::Mod64Immediate => divide64(Operation::Mod, place, dst, entry.imm, context),
-        Opcode::Mod64Register => divide64(
-            Operation::Mod,
-            place,
-            dst,
-            context.registers[src],
-            context,
-        ),
-        Opcode::Mod32Immediate => divide32(Operation::Mod, place, dst, entry.imm, context),
-        Opcode::Mod32Register => divide32(
-            Operation::Mod,
-            place,
-            dst,
-            context.registers[src],
-            context,
-        ),
-        Opcode::JumpIfEqualImmediate => jump_if(
-            Condition::Equal,
-            context.registers[dst],
-            entry.imm,
-        ),
-        Opcode::JumpIfEqualRegister => jump_if(
-            Condition::Equal,
-            context.registers[dst],
-            context.registers[src],
-        ),
-        Opcode::JumpIfNotEqualImmediate => jump_if(
-            Condition::NotEqual,
-            context.registers[dst],
-            entry.imm,
-        ),
-        Opcode::JumpIfNotEqualRegister => jump_if(
-            Condition::NotEqual,
-            context.registers[dst],
-            context.registers[src],
-        ),
-        Opcode::JumpIfGreaterImmediate => jump_if(
-            Condition::Greater,
-            context.registers[dst],
-            entry.imm,
-        ),
-        Opcode::JumpIfGreaterRegister => jump_if(
-            Condition::Greater,
-            context.registers[dst],
-            context.registers[src],
-        ),
-        Opcode::JumpIfGreaterOrEqualImmediate => jump_if(
-            Condition::GreaterOrEqual,
-            context.registers[dst],
-            entry.imm,
-        ),
-        Opcode::JumpIfGreaterOrEqualRegister => jump_if(
-            Condition::GreaterOrEqual,
-            context.registers[dst],
-            context.registers[src],
-        ),
-        Opcode::JumpIfLessImmediate => jump_if(Condition::Less, context.registers[dst], entry.imm),
-        Opcode::JumpIfLessRegister => jump_if(
-            Condition::Less,
-            context.registers[dst],
-            context.registers[src],
-        ),
-        Opcode::JumpIfLessOrEqualImmediate => jump_if(
-            Condition::LessOrEqual,
-            context.registers[dst],
-            entry.imm,
-        ),
-        Opcode::JumpIfLessOrEqualRegister => jump_if(
-            Condition::LessOrEqual,
-            context.registers[dst],
-            context.registers[src],
-        ),
-        Opcode::JumpIfSetImmediate => jump_if(Condition::Set, context.registers[dst], entry.imm),
-        Opcode::JumpIfSetRegister => jump_if(
-            Condition::Set,
-            context.registers[dst],
-            context.registers[src],
-        ),
-        Opcode::JumpIfSignedGreaterImmediate => jump_if(
-            Condition::SignedGreater,
-            context.registers[dst],
-            entry.imm,
-        ),
-        Opcode::JumpIfSignedGreaterRegister => jump_if(
-            Condition::SignedGreater,
-            context.registers[dst],
-            context.registers[src],
-        ),
-        Opcode::JumpIfSignedGreaterOrEqualImmediate => jump_if(
+        Opcode::Add64Immediate => binary64(Operation::Add, place, dst, imm, context),
+        Opcode::Add64Register => binary64(Operation::Add, place, dst, s, context),
+        Opcode::Add32Immediate => binary32(Operation::Add, place, dst, imm, context),
+        Opcode::Add32Register => binary32(Operation::Add, place, dst, s, context),
+        Opcode::Sub64Immediate => binary64(Operation::Sub, place, dst, imm, context),
+        Opcode::Sub64Register => binary64(Operation::Sub, place, dst, s, context),
+        Opcode::Sub32Immediate => binary32(Operation::Sub, place, dst, imm, context),
+        Opcode::Sub32Register => binary32(Operation::Sub, place, dst, s, context),
+        Opcode::Mul64Immediate => binary64(Operation::Mul, place, dst, imm, context),
+        Opcode::Mul64Register => binary64(Operation::Mul, place, dst, s, context),
+        Opcode::Mul32Immediate => binary32(Operation::Mul, place, dst, imm, context),
+        Opcode::Mul32Register => binary32(Operation::Mul, place, dst, s, context),
+        Opcode::Or64Immediate => binary64(Operation::Or, place, dst, imm, context),
+        Opcode::Or64Register => binary64(Operation::Or, place, dst, s, context),
+        Opcode::Or32Immediate => binary32(Operation::Or, place, dst, imm, context),
+        Opcode::Or32Register => binary32(Operation::Or, place, dst, s, context),
+        Opcode::And64Immediate => binary64(Operation::And, place, dst, imm, context),
+        Opcode::And64Register => binary64(Operation::And, place, dst, s, context),
+        Opcode::And32Immediate => binary32(Operation::And, place, dst, imm, context),
+        Opcode::And32Register => binary32(Operation::And, place, dst, s, context),
+        Opcode::Lsh64Immediate => binary64(Operation::Lsh, place, dst, imm, context),
+        Opcode::Lsh64Register => binary64(Operation::Lsh, place, dst, s, context),
+        Opcode::Lsh32Immediate => binary32(Operation::Lsh, place, dst, imm, context),
+        Opcode::Lsh32Register => binary32(Operation::Lsh, place, dst, s, context),
+        Opcode::Rsh64Immediate => binary64(Operation::Rsh, place, dst, imm, context),
+        Opcode::Rsh64Register => binary64(Operation::Rsh, place, dst, s, context),
+        Opcode::Rsh32Immediate => binary32(Operation::Rsh, place, dst, imm, context),
+        Opcode::Rsh32Register => binary32(Operation::Rsh, place, dst, s, context),
+        Opcode::Xor64Immediate => binary64(Operation::Xor, place, dst, imm, context),
+        Opcode::Xor64Register => binary64(Operation::Xor, place, dst, s, context),
+        Opcode::Xor32Immediate => binary32(Operation::Xor, place, dst, imm, context),
+        Opcode::Xor32Register => binary32(Operation::Xor, place, dst, s, context),
+        Opcode::Mov64Immediate => binary64(Operation::Mov, place, dst, imm, context),
+        Opcode::Mov64Register => binary64(Operation::Mov, place, dst, s, context),
+        Opcode::Mov32Immediate => binary32(Operation::Mov, place, dst, imm, context),
+        Opcode::Mov32Register => binary32(Operation::Mov, place, dst, s, context),
+        Opcode::Arsh64Immediate => binary64(Operation::Arsh, place, dst, imm, context),
+        Opcode::Arsh64Register => binary64(Operation::Arsh, place, dst, s, context),
+        Opcode::Arsh32Immediate => binary32(Operation::Arsh, place, dst, imm, context),
+        Opcode::Arsh32Register => binary32(Operation::Arsh, place, dst, s, context),
+        Opcode::Div64Immediate => divide64(Operation::Div, place, dst, imm, context),
+        Opcode::Div64Register => divide64(Operation::Div, place, dst, s, context),
+        Opcode::Div32Immediate => divide32(Operation::Div, place, dst, imm, context),
+        Opcode::Div32Register => divide32(Operation::Div, place, dst, s, context),
+        Opcode::Mod64Immediate => divide64(Operation::Mod, place, dst, imm, context),
+        Opcode::Mod64Register => divide64(Operation::Mod, place, dst, s, context),
+        Opcode::Mod32Immediate => divide32(Operation::Mod, place, dst, imm, context),
+        Opcode::Mod32Register => divide32(Operation::Mod, place, dst, s, context),
+        Opcode::JumpIfEqualImmediate => jump(Condition::Equal, d, imm),
+        Opcode::JumpIfEqualRegister => jump(Condition::Equal, d, s),
+        Opcode::JumpIfNotEqualImmediate => jump(Condition::NotEqual, d, imm),
+        Opcode::JumpIfNotEqualRegister => jump(Condition::NotEqual, d, s),
+        Opcode::JumpIfGreaterImmediate => jump(Condition::Greater, d, imm),
+        Opcode::JumpIfGreaterRegister => jump(Condition::Greater, d, s),
+        Opcode::JumpIfGreaterOrEqualImmediate => jump(Condition::GreaterOrEqual, d, imm),
+        Opcode::JumpIfGreaterOrEqualRegister => jump(Condition::GreaterOrEqual, d, s),
+        Opcode::JumpIfLessImmediate => jump(Condition::Less, d, imm),
+        Opcode::JumpIfLessRegister => jump(Condition::Less, d, s),
+        Opcode::JumpIfLessOrEqualImmediate => jump(Condition::LessOrEqual, d, imm),
+        Opcode::JumpIfLessOrEqualRegister => jump(Condition::LessOrEqual, d, s),
+        Opcode::JumpIfSetImmediate => jump(Condition::Set, d, imm),
+        Opcode::JumpIfSetRegister => jump(Condition::Set, d, s),
+        Opcode::JumpIfSignedGreaterImmediate => jump(Condition::SignedGreater, d, imm),
+        Opcode::JumpIfSignedGreaterRegister => jump(Condition::SignedGreater, d, s),
+        Opcode::JumpIfSignedGreaterOrEqualImmediate => jump(
             Condition::SignedGreaterOrEqual,
-            context.registers[dst],
-            entry.imm,
+            d,
+            imm,
         ),
-        Opcode::JumpIfSignedGreaterOrEqualRegister => jump_if(
-            Condition::SignedGreaterOrEqual,
-            context.registers[dst],
-            context.registers[src],
-        ),
-        Opcode::JumpIfSignedLessImmediate => jump_if(
-            Condition::SignedLess,
-            context.registers[dst],
-            entry.imm,
-        ),
-        Opcode::JumpIfSignedLessRegister => jump_if(
-            Condition::SignedLess,
-            context.registers[dst],
-            context.registers[src],
-        ),
-        Opcode::JumpIfSignedLessOrEqualImmediate => jump_if(
-            Condition::SignedLessOrEqual,
-            context.registers[dst],
-            entry.imm,
-        ),
-        Opcode::JumpIfSignedLessOrEqualRegister => jump_if(
-            Condition::SignedLessOrEqual,
-            context.registers[dst],
-            context.registers[src],
-        ),
+        Opcode::JumpIfSignedGreaterOrEqualRegister => jump(Condition::SignedGreaterOrEqual, d, s),
+        Opcode::JumpIfSignedLessImmediate => jump(Condition::SignedLess, d, imm),
+        Opcode::JumpIfSignedLessRegister => jump(Condition::SignedLess, d, s),
+        Opcode::JumpIfSignedLessOrEqualImmediate => jump(Condition::SignedLessOrEqual, d, imm),
+        Opcode::JumpIfSignedLessOrEqualRegister => jump(Condition::SignedLessOrEqual, d, s),
         Opcode::LoadOne => load(1, place, dst, address(entry, src, context), context),
-        Opcode::StoreOneImmediate => store(
-            1,
-            place,
-            address(entry, dst, context),
-            entry.imm,
-            context,
-        ),
-        Opcode::StoreOneRegister => store(
-            1,
-            place,
-            address(entry, dst, context),
-            context.registers[src],
-            context,
-        ),
+        Opcode::StoreOneImmediate => store(1, place, address(entry, dst, context), imm, context),
+        Opcode::StoreOneRegister => store(1, place, address(entry, dst, context), s, context),
         Opcode::LoadTwo => load(2, place, dst, address(entry, src, context), context),
-        Opcode::StoreTwoImmediate => store(
-            2,
-            place,
-            address(entry, dst, context),
-            entry.imm,
-            context,
-        ),
-        Opcode::StoreTwoRegister => store(
-            2,
-            place,
-            address(entry, dst, context),
-            context.registers[src],
-            context,
-        ),
+        Opcode::StoreTwoImmediate => store(2, place, address(entry, dst, context), imm, context),
+        Opcode::StoreTwoRegister => store(2, place, address(entry, dst, context), s, context),
         Opcode::LoadFour => load(4, place, dst, address(entry, src, context), context),
-        Opcode::StoreFourImmediate => store(
-            4,
-            place,
-            address(entry, dst, context),
-            entry.imm,
-            context,
-        ),
-        Opcode::StoreFourRegister => store(
-            4,
-            place,
-            address(entry, dst, context),
-            context.registers[src],
-            context,
-        ),
+        Opcode::StoreFourImmediate => store(4, place, address(entry, dst, context), imm, context),
+        Opcode::StoreFourRegister => store(4, place, address(entry, dst, context), s, context),
         Opcode::LoadEight => load(8, place, dst, address(entry, src, context), context),
-        Opcode::StoreEightImmediate => store(
-            8,
-            place,
-            address(entry, dst, context),
-            entry.imm,
-            context,
-        ),
-        Opcode::StoreEightRegister => store(
-            8,
-            place,
-            address(entry, dst, context),
-            context.registers[src],
-            context,
-        ),
-        Opcode::Negate64 => set(dst, negative64(context.registers[dst]), context),
-        Opcode::Negate32 => set(
-            dst,
-            u64::from(negative32(low(context.registers[dst]))),
-            context,
-        ),
-        Opcode::LittleEndian => set(dst, low_bits(entry.imm, context.registers[dst]), context),
-        Opcode::BigEndian => set(
-            dst,
-            swapped_bits(entry.imm, context.registers[dst]),
-            context,
-        ),
+        Opcode::StoreEightImmediate => store(8, place, address(entry, dst, context), imm, context),
+        Opcode::StoreEightRegister => store(8, place, address(entry, dst, context), s, context),
+        Opcode::Negate64 => set(dst, negative64(d), context),
+        Opcode::Negate32 => set(dst, u64::from(negative32(low(d))), context),
+        Opcode::LittleEndian => set(dst, low_bits(imm, d), context),
+        Opcode::BigEndian => set(dst, swapped_bits(imm, d), context),
         Opcode::Jump => Flow::Jump,
         Opcode::Call => call(program, entry, place, context),
-        Opcode::CallRegister => call_register(
-            program,
-            context.registers[entry.imm as usize],
-            place,
-            context,
-        ),
+        Opcode::CallRegister => callx(program, context.registers[imm as usize], place, context),
         Opcode::Exit => leave(program, context),
         Opcode::LoadWide => {
-            context.registers[dst] = entry.imm;
+            context.registers[dst] = imm;
             Flow::To(place + 2)
         }
     }

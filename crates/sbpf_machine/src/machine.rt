@@ -12,18 +12,15 @@ use crate::context::Context;
 use crate::frames::Frames;
 use crate::run::run_from;
 use crate::stop::Stop;
-use sbpf_memory::Memory;
+use sbpf_memory::{FRAME_SIZE, INPUT_START, Memory, STACK_START};
 use sbpf_verify::{Decoded, Verified};
 use sol_base::OutOfMemory;
 use std::alloc::Global;
 use std::marker::Model;
 use std::sync::Arc;
 
-/// What r1 holds at the start: the first address of the input.
-const INPUT_START: u64 = 0x4_0000_0000;
-
 /// What r10 holds at the start: the end of the first frame of the stack.
-const FRAME_END: u64 = 0x2_0000_1000;
+const FRAME_END: u64 = STACK_START + FRAME_SIZE;
 
 /// A machine over a verified text. It stops at the end of the program, at a system call, and at a
 /// fault; only after a system call does it go on.
@@ -43,7 +40,8 @@ impl Model for Machine {
 
     ghost Value = { State };
 
-    ghost view = { λ m. record { text = arc_value m.code; place = m.place; context = m.context; units = m.units; stop = m.stop } };
+    ghost view = { λ m. record
+        { text = arc_value m.code; place = m.place; context = m.context; units = m.units; stop = m.stop } };
 
     ghost invariant = { λ m. StandsAtStart (arc_value m.code) m.place m.context m.stop };
 }
@@ -87,7 +85,8 @@ impl Machine {
     /// Runs to the first stop, and answers a stop that it stands at again. Want of memory leaves
     /// the machine before the store that met it.
     pub fn run(&mut self) -> Result<Stop, OutOfMemory>
-        ensures stops { IfOk result (λ stop. (steps self.old ≡ Some self.new) × (self.new.stop ≡ Some stop)) }
+        ensures stops { IfOk result
+            (λ stop. (steps self.old ≡ Some self.new) × (self.new.stop ≡ Some stop)) }
         ensures short { IfErr result (λ _. StandsBeforeStore self.old self.new) }
         ensures number { IfOk result IsNumbered }
         ensures units { TakesUnits self.old self.new }

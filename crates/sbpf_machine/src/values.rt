@@ -13,26 +13,33 @@ pub fn low(number: u64) -> u32
     (number & 0xffff_ffff) as u32
 }
 
+/// What an operation computes of two numbers of as many bits.
+macro_rules! value_of {
+    ($operation:expr, $d:expr, $s:expr, $bits:expr) => {
+        match $operation {
+            Operation::Add => $d.wrapping_add($s),
+            Operation::Sub => $d.wrapping_sub($s),
+            Operation::Mul => $d.wrapping_mul($s),
+            Operation::Div => $d / $s,
+            Operation::Or => $d | $s,
+            Operation::And => $d & $s,
+            Operation::Lsh => $d << ($s % $bits),
+            Operation::Rsh => $d >> ($s % $bits),
+            Operation::Mod => $d % $s,
+            Operation::Xor => $d ^ $s,
+            Operation::Mov => $s,
+            Operation::Arsh => ($d.cast_signed() >> ($s % $bits)).cast_unsigned(),
+        }
+    };
+}
+
 /// What an operation of class 7 computes.
 #[inline(always)]
 pub fn value64(operation: Operation, d: u64, s: u64) -> u64
     requires { divides operation ≡ true → s ≢ 0 }
     ensures { result ≡ value_of operation w64 d s }
 {
-    match operation {
-        Operation::Add => d.wrapping_add(s),
-        Operation::Sub => d.wrapping_sub(s),
-        Operation::Mul => d.wrapping_mul(s),
-        Operation::Div => d / s,
-        Operation::Or => d | s,
-        Operation::And => d & s,
-        Operation::Lsh => d << (s % 64),
-        Operation::Rsh => d >> (s % 64),
-        Operation::Mod => d % s,
-        Operation::Xor => d ^ s,
-        Operation::Mov => s,
-        Operation::Arsh => (d.cast_signed() >> (s % 64)).cast_unsigned(),
-    }
+    value_of!(operation, d, s, 64)
 }
 
 /// What an operation of class 4 computes.
@@ -41,20 +48,7 @@ pub fn value32(operation: Operation, d: u32, s: u32) -> u32
     requires { divides operation ≡ true → s ≢ 0 }
     ensures { result ≡ value_of operation w32 d s }
 {
-    match operation {
-        Operation::Add => d.wrapping_add(s),
-        Operation::Sub => d.wrapping_sub(s),
-        Operation::Mul => d.wrapping_mul(s),
-        Operation::Div => d / s,
-        Operation::Or => d | s,
-        Operation::And => d & s,
-        Operation::Lsh => d << (s % 32),
-        Operation::Rsh => d >> (s % 32),
-        Operation::Mod => d % s,
-        Operation::Xor => d ^ s,
-        Operation::Mov => s,
-        Operation::Arsh => (d.cast_signed() >> (s % 32)).cast_unsigned(),
-    }
+    value_of!(operation, d, s, 32)
 }
 
 /// Whether a jump is taken.

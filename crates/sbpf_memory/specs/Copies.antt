@@ -14,6 +14,10 @@ with_stack m stack = record m { stack = stack }
 abbrev pub with_heap : Ranges → List ℕ → Ranges
 with_heap m heap = record m { heap = heap }
 
+-- with other bytes in the input from a place on
+abbrev pub with_input_bytes : Ranges → ℕ → List ℕ → Ranges
+with_input_bytes m at bytes = with_input m (record { bytes = with_bytes m.input.bytes at bytes; prepared = m.input.prepared })
+
 -- len bytes from a place on
 abbrev pub bytes_of_place : Ranges → Place → ℕ → List ℕ
 bytes_of_place m place len = take len (drop place.at (range_bytes m place.region))
@@ -23,7 +27,7 @@ abbrev pub written_in : Ranges → List ℕ → ℕ → Region → Ranges
 written_in m bytes at Program = m
 written_in m bytes at Stack = with_stack m (with_bytes m.stack at bytes)
 written_in m bytes at Heap = with_heap m (with_bytes m.heap at bytes)
-written_in m bytes at Input = with_input m (record { bytes = with_bytes m.input.bytes at bytes; prepared = m.input.prepared })
+written_in m bytes at Input = with_input_bytes m at bytes
 
 abbrev pub copied_in : Ranges → Place → Place → ℕ → Ranges
 copied_in m to from len = written_in m (bytes_of_place m from len) to.at to.region

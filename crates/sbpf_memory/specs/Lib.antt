@@ -1,5 +1,6 @@
 pub mod Buffers
 pub mod Copies
+pub mod Faults
 pub mod Lending
 pub mod Memory
 pub mod Plain

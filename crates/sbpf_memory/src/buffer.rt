@@ -27,7 +27,8 @@ impl Model for Buffer {
 
     ghost view = { λ b. filled b.bytes.items b.size };
 
-    ghost invariant = { λ b. (length b.bytes.items ≤ b.size) × (b.size ≤ vec_capacity b.bytes) × (b.size < 2 ^ 32) };
+    ghost invariant = { λ b. (length b.bytes.items ≤ b.size) × (b.size ≤ vec_capacity b.bytes)
+        × (b.size < 2 ^ 32) };
 }
 
 impl Buffer {
@@ -140,7 +141,8 @@ impl Buffer {
         requires to { to + len ≤ length parts.old.bytes }
         requires from { from + len ≤ length self.old }
         ensures same { self.new ≡ self.old }
-        ensures ok { OnOk result (parts.new.bytes ≡ with_bytes parts.old.bytes to (take len (drop from self.old))) }
+        ensures ok { OnOk result
+            (parts.new.bytes ≡ with_bytes parts.old.bytes to (take len (drop from self.old))) }
         ensures err { OnErr result (parts.new.bytes ≡ parts.old.bytes) }
         ensures prepared { parts.new.prepared ≡ parts.old.prepared }
         ensures ready { ArePrepared parts.old.prepared to len → IsOk result }

@@ -1,4 +1,5 @@
 ghost use Rattle.std.specs.Prelude.{◌≡◌};
+ghost use Rattle.sbpf_memory.specs.Faults.{fault_number};
 ghost use Rattle.sbpf_memory.specs.Memory.{violation_of};
 
 use sol_base::OutOfMemory;
@@ -31,6 +32,19 @@ pub enum MemFault {
     Overlap,
     #[error("out of memory")]
     OutOfMemory,
+}
+
+impl MemFault {
+    /// The number of the refusal, from 1. Want of memory has none.
+    pub fn number(&self) -> Option<u8>
+        ensures { result ≡ fault_number self.now }
+    {
+        match self {
+            MemFault::AccessViolation { .. } => Some(1),
+            MemFault::Overlap => Some(2),
+            MemFault::OutOfMemory => None,
+        }
+    }
 }
 
 impl From<OutOfMemory> for MemFault {

@@ -35,9 +35,11 @@ impl Model for Memory {
 
     ghost Value = { Ranges };
 
-    ghost view = { λ m. record { program = arc_value m.program; stack = m.stack; heap = m.heap; input = m.input } };
+    ghost view = { λ m. record
+        { program = arc_value m.program; stack = m.stack; heap = m.heap; input = m.input } };
 
-    ghost invariant = { λ m. (length (arc_value m.program) ≤ 2 ^ 32) × (length m.stack ≡ frame_count * frame_size) × (length m.heap < 2 ^ 32) };
+    ghost invariant = { λ m. (length (arc_value m.program) ≤ 2 ^ 32)
+        × (length m.stack ≡ frame_count * frame_size) × (length m.heap < 2 ^ 32) };
 }
 
 impl Memory {
@@ -99,7 +101,8 @@ impl Memory {
     #[tactic(auto, unfolding(crate::specs::Memory::store_to))]
     pub fn store(&mut self, addr: u64, width: u8, value: u64) -> Result<(), MemFault>
         requires { IsWidth width }
-        ensures answer { Answers (or_refusal (store_to self.old addr width value)) self.old self.new result }
+        ensures answer { Answers (or_refusal (store_to self.old addr width value)) self.old self.new
+            result }
         ensures ready { IsPrepared self.old addr width → HasMemory result }
     {
         let [a, b, c, d, e, f, g, h] = value.to_le_bytes();
@@ -114,7 +117,8 @@ impl Memory {
     /// Writes the bytes at an address, whole or not at all.
     #[tactic(auto, unfolding(crate::specs::Memory::write_to, crate::specs::Memory::IsPrepared))]
     pub fn write(&mut self, addr: u64, bytes: &[u8]) -> Result<(), MemFault>
-        ensures answer { Answers (or_refusal (write_to self.old addr bytes.now)) self.old self.new result }
+        ensures answer { Answers (or_refusal (write_to self.old addr bytes.now)) self.old self.new
+            result }
         ensures ready { IsPrepared self.old addr (length bytes.now) → HasMemory result }
     {
         if bytes.is_empty() {
@@ -223,7 +227,8 @@ impl Memory {
     fn place(&self, addr: u64, len: u64) -> Option<Place>
         requires { 1 ≤ len }
         ensures value { result ≡ place_of self.now addr len }
-        ensures within { IfSome result (λ place. place.at + len ≤ length (range_bytes self.now place.region)) }
+        ensures within { IfSome result
+            (λ place. place.at + len ≤ length (range_bytes self.now place.region)) }
     {
         let _ = &self.program;
         if addr < PROGRAM_START {
@@ -248,7 +253,9 @@ impl Memory {
     #[tactic(auto, unfolding(crate::specs::Memory::write_refusal))]
     fn writable(&self, addr: u64, len: u64) -> Option<Place>
         requires { 1 ≤ len }
-        ensures { MatchOption result (write_refusal self.now addr len ≡ Some (violation_of addr len true)) (λ place. IsTarget self.now addr len place) }
+        ensures { MatchOption result
+            (write_refusal self.now addr len ≡ Some (violation_of addr len true))
+            (λ place. IsTarget self.now addr len place) }
     {
         let place = self.place(addr, len)?;
         match place.region {
@@ -279,7 +286,9 @@ impl Memory {
     fn copy_to_stack(&mut self, to: usize, from: Place, len: usize)
         requires to { to + len ≤ length self.old.stack }
         requires from { from.at + len ≤ length (range_bytes self.old from.region) }
-        ensures { self.new ≡ with_stack self.old (with_bytes self.old.stack to (bytes_of_place self.old from len)) }
+        ensures { self.new
+            ≡ with_stack self.old
+            (with_bytes self.old.stack to (bytes_of_place self.old from len)) }
     {
         let at = from.at as usize;
         match from.region {
@@ -294,7 +303,8 @@ impl Memory {
     fn copy_to_heap(&mut self, to: usize, from: Place, len: usize)
         requires to { to + len ≤ length self.old.heap }
         requires from { from.at + len ≤ length (range_bytes self.old from.region) }
-        ensures { self.new ≡ with_heap self.old (with_bytes self.old.heap to (bytes_of_place self.old from len)) }
+        ensures { self.new
+            ≡ with_heap self.old (with_bytes self.old.heap to (bytes_of_place self.old from len)) }
     {
         let at = from.at as usize;
         match from.region {
@@ -309,7 +319,11 @@ impl Memory {
     fn copy_to_input(&mut self, to: usize, from: Place, len: usize) -> Result<(), OutOfMemory>
         requires to { to + len ≤ length self.old.input.bytes }
         requires from { from.at + len ≤ length (range_bytes self.old from.region) }
-        ensures ok { OnOk result (self.new ≡ with_input self.old (record { bytes = with_bytes self.old.input.bytes to (bytes_of_place self.old from len); prepared = self.old.input.prepared })) }
+        ensures ok { OnOk result
+            (self.new
+            ≡ with_input self.old
+            (record
+            { bytes = with_bytes self.old.input.bytes to (bytes_of_place self.old from len); prepared = self.old.input.prepared })) }
         ensures err { OnErr result (self.new ≡ self.old) }
         ensures ready { ArePrepared self.old.input.prepared to len → IsOk result }
     {
@@ -326,7 +340,8 @@ impl Memory {
     #[inline(always)]
     fn read_at(&self, place: Place, into: &mut [u8])
         requires { place.at + length into.old ≤ length (range_bytes self.now place.region) }
-        ensures { into.new ≡ take (length into.old) (drop place.at (range_bytes self.now place.region)) }
+        ensures { into.new
+            ≡ take (length into.old) (drop place.at (range_bytes self.now place.region)) }
     {
         let at = place.at as usize;
         match place.region {
@@ -371,17 +386,18 @@ impl Memory {
         requires { at + N ≤ length self.now.input.bytes }
         ensures { result ≡ take N (drop at self.now.input.bytes) }
     {
-        let mut bytes = [0; N];
-        self.input.read(at, &mut bytes);
-        bytes
+        self.input.read_array(at)
     }
 
     /// Writes bytes at a place, if its range is written.
     #[inline(always)]
     fn write_at(&mut self, addr: u64, place: Place, bytes: &[u8]) -> Result<(), MemFault>
         requires { place.at + length bytes.now ≤ length (range_bytes self.old place.region) }
-        ensures answer { Answers (or_refusal (with_bytes_in self.old addr bytes.now place.at place.region)) self.old self.new result }
-        ensures ready { PreparedIn self.old (length bytes.now) place.at place.region → HasMemory result }
+        ensures answer { Answers
+            (or_refusal (with_bytes_in self.old addr bytes.now place.at place.region)) self.old
+            self.new result }
+        ensures ready { PreparedIn self.old (length bytes.now) place.at place.region
+            → HasMemory result }
     {
         let len = bytes.len() as u64;
         let at = place.at as usize;
@@ -399,7 +415,8 @@ impl Memory {
     #[tactic(auto, unfolding(crate::specs::Memory::write_to, crate::specs::Memory::IsPrepared))]
     fn put<const N: usize>(&mut self, addr: u64, bytes: [u8; N]) -> Result<(), MemFault>
         requires { 1 ≤ N }
-        ensures answer { Answers (or_refusal (write_to self.old addr bytes.entry)) self.old self.new result }
+        ensures answer { Answers (or_refusal (write_to self.old addr bytes.entry)) self.old self.new
+            result }
         ensures ready { IsPrepared self.old addr N → HasMemory result }
     {
         match self.place(addr, N as u64) {
@@ -417,7 +434,9 @@ impl Memory {
         bytes: [u8; N],
     ) -> Result<(), MemFault>
         requires { place.at + N ≤ length (range_bytes self.old place.region) }
-        ensures answer { Answers (or_refusal (with_bytes_in self.old addr bytes.entry place.at place.region)) self.old self.new result }
+        ensures answer { Answers
+            (or_refusal (with_bytes_in self.old addr bytes.entry place.at place.region)) self.old
+            self.new result }
         ensures ready { PreparedIn self.old N place.at place.region → HasMemory result }
     {
         let at = place.at as usize;
@@ -434,17 +453,22 @@ impl Memory {
     #[inline(always)]
     fn put_input<const N: usize>(&mut self, at: usize, bytes: [u8; N]) -> Result<(), OutOfMemory>
         requires { at + N ≤ length self.old.input.bytes }
-        ensures ok { OnOk result (self.new ≡ with_input self.old (record { bytes = with_bytes self.old.input.bytes at bytes.entry; prepared = self.old.input.prepared })) }
+        ensures ok { OnOk result
+            (self.new
+            ≡ with_input self.old
+            (record
+            { bytes = with_bytes self.old.input.bytes at bytes.entry; prepared = self.old.input.prepared })) }
         ensures err { OnErr result (self.new ≡ self.old) }
         ensures ready { ArePrepared self.old.input.prepared at N → IsOk result }
     {
-        self.input.write(at, &bytes)
+        self.input.write_array(at, bytes)
     }
 
     /// Makes ready for a write at a place, if its range is written.
     fn prepare_at(&mut self, addr: u64, place: Place, len: u64) -> Result<(), MemFault>
         requires { place.at + len ≤ length (range_bytes self.old place.region) }
-        ensures answer { PreparesIn (refused_in addr len place.region) (PreparedIn self.new len place.at place.region) result }
+        ensures answer { PreparesIn (refused_in addr len place.region)
+            (PreparedIn self.new len place.at place.region) result }
         ensures ready { PreparedIn self.old len place.at place.region → HasMemory result }
         ensures refused { StaysIfRefused self.old self.new result }
         ensures bytes { KeepsBytes self.old self.new }

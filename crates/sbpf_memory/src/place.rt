@@ -19,18 +19,18 @@ pub struct Place {
 }
 
 /// The first addresses of the ranges.
-pub(crate) const PROGRAM_START: u64 = 0x1_0000_0000;
+pub const PROGRAM_START: u64 = 0x1_0000_0000;
 
-pub(crate) const STACK_START: u64 = 0x2_0000_0000;
+pub const STACK_START: u64 = 0x2_0000_0000;
 
 pub(crate) const HEAP_START: u64 = 0x3_0000_0000;
 
-pub(crate) const INPUT_START: u64 = 0x4_0000_0000;
+pub const INPUT_START: u64 = 0x4_0000_0000;
 
 /// The bytes of a frame of the stack, how far apart frames begin, and how many there are.
-const FRAME_SIZE: u64 = 4096;
+pub const FRAME_SIZE: u64 = 4096;
 
-const FRAME_STEP: u64 = 8192;
+pub const FRAME_STEP: u64 = 8192;
 
 const FRAME_COUNT: u64 = 64;
 
@@ -53,7 +53,9 @@ pub(crate) fn within(region: Region, at: u64, len: u64, size: u64) -> Option<Pla
 /// A place of the stack, where its frame has `len` bytes from it on.
 #[inline(always)]
 pub(crate) fn within_frame(at: u64, len: u64) -> Option<Place>
-    ensures { result ≡ (if nat_lt (at / 8192) 64 && nat_le (at % 8192 + len) 4096 then at_place Stack (4096 * (at / 8192) + at % 8192) else None) }
+    ensures { result
+        ≡ (if nat_lt (at / 8192) 64 && nat_le (at % 8192 + len) 4096 then at_place Stack
+        (4096 * (at / 8192) + at % 8192) else None) }
 {
     let frame = at / FRAME_STEP;
     let inside = at % FRAME_STEP;

@@ -1,5 +1,5 @@
 -- Lists of bytes in parts, some of which are the data of shared accounts.
-use Rattle.std.specs.Prelude.{◌≡◌, ℕ, ◌+◌, ◌<◌, ◌≤◌, true, false, Bool, List, [], ◌∷◌, ◌++◌, length, map, take, drop, replicate, slice_get, Some}
+use Rattle.std.specs.Prelude.{◌≡◌, ℕ, ◌+◌, ◌-◌, ◌<◌, ◌≤◌, true, false, Bool, List, [], ◌∷◌, ◌++◌, length, map, min, take, drop, replicate, slice_get, Some}
 use Rattle.std.specs.List.{flat_map}
 use Rattle.std.specs.Arc.{arc_value}
 use Rattle.sol_base.specs.declared.account.Account.{Account}
@@ -63,6 +63,14 @@ is_prepared (Own bytes prepared) = prepared
 is_prepared (Shared shared) = false
 is_prepared (Blank count) = false
 
+-- N bytes are those of a list from a place on
+abbrev pub ArrayStandsIn : List ℕ → ℕ → ℕ → List ℕ → Type 0
+ArrayStandsIn list from N found = (from + N ≤ length list) × (found ≡ take N (drop from list))
+
+-- a backing has other bytes from a place on
+abbrev pub HasPut : Backing → Backing → ℕ → List ℕ → Type 0
+HasPut before after from put = backing_bytes after ≡ with_bytes (backing_bytes before) from put
+
 -- the test that is to hold where pieces are made ready to be written
 abbrev pub test_of : Bool → Backing → Bool
 test_of true = is_prepared
@@ -96,3 +104,11 @@ starts_from place (piece ∷ pieces) = place ∷ starts_from (place + length (pi
 -- each piece starts where those before it end
 unfoldable pub AreInOrder : List Piece → Type 0
 AreInOrder pieces = map (λ (piece : Piece). piece.start) pieces ≡ starts_from 0 pieces
+
+-- a list has the bytes of a range that stand before a place, and is else as it was
+abbrev pub IsWrittenUpTo : List ℕ → List ℕ → ℕ → List ℕ → ℕ → Type 0
+IsWrittenUpTo was now at bytes place = now ≡ with_bytes was at (take (min (length bytes) (place - at)) bytes)
+
+-- the places of a range that stand before a place are prepared
+abbrev pub ArePreparedUpTo : List Bool → ℕ → ℕ → ℕ → Type 0
+ArePreparedUpTo prepared at len place = ArePrepared prepared at (min len (place - at))

@@ -1,9 +1,10 @@
 //! A list of bytes that stands in parts, some of which are the data of shared accounts.
-ghost use Rattle.std.specs.Prelude.{◌≡◌, ◌<◌, ◌≤◌, ◌+◌, ◌^◌, true, None, length, take, drop, slice_get, slice_index, IfOk, IfSome, IsOk, OnOk, OnErr};
+ghost use Rattle.std.specs.Prelude.{◌≡◌, ◌<◌, ◌≤◌, ◌+◌, ◌^◌, true, false, None, length, take, drop, slice_get, slice_index, IfOk, IfSome, IsOk, OnOk, OnErr};
 ghost use Rattle.std.specs.Arc.{arc_value};
 ghost use Rattle.sol_base.specs.Parts.{bytes_of, unprepared, with_bytes, ArePrepared, StayPrepared, DataStandAt};
 
 mod moves;
+mod near;
 mod piece;
 mod range;
 #[cfg(test)]
@@ -35,6 +36,8 @@ pub enum Part {
 #[derive(Drop)]
 pub struct Parts {
     pieces: Vec<Piece>,
+    /// Where a place is sought first.
+    hints: Vec<usize>,
     len: usize,
 }
 
@@ -44,9 +47,11 @@ impl Model for Parts {
 
     ghost Value = { Content };
 
-    ghost view = { λ p. record { bytes = bytes_in p.pieces.items; prepared = tests_in is_prepared p.pieces.items } };
+    ghost view = { λ p. record
+        { bytes = bytes_in p.pieces.items; prepared = tests_in is_prepared p.pieces.items } };
 
-    ghost invariant = { λ p. (AreInOrder p.pieces.items) × (p.len ≡ length (bytes_in p.pieces.items)) × (p.len < 2 ^ 32) };
+    ghost invariant = { λ p. (AreInOrder p.pieces.items)
+        × (p.len ≡ length (bytes_in p.pieces.items)) × (p.len < 2 ^ 32) };
 }
 
 impl Parts {
@@ -63,7 +68,8 @@ impl Parts {
             len += backing.len();
             pieces.push(Piece { start, backing })?;
         }
-        Ok(Parts { pieces, len })
+        let hints = near::hints_of(alloc, pieces.as_slice())?;
+        Ok(Parts { pieces, hints, len })
     }
 
     /// How many bytes there are.
@@ -113,7 +119,7 @@ impl Parts {
             return;
         }
         let pieces = self.pieces.as_slice();
-        let first = range::find(pieces, at);
+        let first = near::find_from(pieces, near::hint(self.hints.as_slice(), at), at);
         let piece = &pieces[first];
         let from = at - piece.start;
         if from + into.len() <= piece.backing.len() {
@@ -121,6 +127,31 @@ impl Parts {
         } else {
             range::read_on(pieces, first, at, into);
         }
+    }
+
+    /// The `N` bytes from a place on.
+    #[inline(always)]
+    pub fn read_array<const N: usize>(&self, at: usize) -> [u8; N]
+        requires { at + N ≤ length self.now.bytes }
+        ensures { result ≡ take N (drop at self.now.bytes) }
+    {
+        let pieces = self.pieces.as_slice();
+        match near::array_at(pieces, near::hint(self.hints.as_slice(), at), at) {
+            Some(bytes) => bytes,
+            None => self.array_over(at),
+        }
+    }
+
+    /// The `N` bytes from a place on, which may lie over several parts.
+    #[cold]
+    #[inline(never)]
+    fn array_over<const N: usize>(&self, at: usize) -> [u8; N]
+        requires { at + N ≤ length self.now.bytes }
+        ensures { result ≡ take N (drop at self.now.bytes) }
+    {
+        let mut bytes = [0; N];
+        self.read(at, &mut bytes);
+        bytes
     }
 
     /// Writes the bytes from a place on, whole or not at all.
@@ -136,8 +167,9 @@ impl Parts {
             return Ok(());
         }
         let alloc = *self.pieces.allocator();
+        let near = near::hint(self.hints.as_slice(), at);
         let pieces = self.pieces.as_mut_slice();
-        let first = range::find(pieces, at);
+        let first = near::find_from(pieces, near, at);
         if range::write_within(pieces, first, at, bytes) {
             return Ok(());
         }
@@ -146,12 +178,57 @@ impl Parts {
         Ok(())
     }
 
+    /// Writes `N` bytes from a place on, whole or not at all.
+    #[inline(always)]
+    pub fn write_array<const N: usize>(
+        &mut self,
+        at: usize,
+        bytes: [u8; N],
+    ) -> Result<(), OutOfMemory>
+        requires { at + N ≤ length self.old.bytes }
+        ensures ok { OnOk result (self.new.bytes ≡ with_bytes self.old.bytes at bytes.entry) }
+        ensures err { OnErr result (self.new.bytes ≡ self.old.bytes) }
+        ensures prepared { self.new.prepared ≡ self.old.prepared }
+        ensures ready { ArePrepared self.old.prepared at N → IsOk result }
+    {
+        if self.put_near(at, bytes) {
+            return Ok(());
+        }
+        self.write_over(at, bytes)
+    }
+
+    /// Writes `N` bytes from a place on, which may lie over several parts.
+    #[cold]
+    #[inline(never)]
+    fn write_over<const N: usize>(&mut self, at: usize, bytes: [u8; N]) -> Result<(), OutOfMemory>
+        requires { at + N ≤ length self.old.bytes }
+        ensures ok { OnOk result (self.new.bytes ≡ with_bytes self.old.bytes at bytes.entry) }
+        ensures err { OnErr result (self.new.bytes ≡ self.old.bytes) }
+        ensures prepared { self.new.prepared ≡ self.old.prepared }
+        ensures ready { ArePrepared self.old.prepared at N → IsOk result }
+    {
+        self.write(at, &bytes)
+    }
+
+    /// Puts `N` bytes at a place, if the part that the hint names has them as the list's own.
+    #[inline(always)]
+    fn put_near<const N: usize>(&mut self, at: usize, bytes: [u8; N]) -> bool
+        requires { at + N ≤ length self.old.bytes }
+        ensures all { result ≡ true → self.new.bytes ≡ with_bytes self.old.bytes at bytes.entry }
+        ensures none { result ≡ false → self.new ≡ self.old }
+        ensures prepared { self.new.prepared ≡ self.old.prepared }
+    {
+        let near = near::hint(self.hints.as_slice(), at);
+        near::put_at(self.pieces.as_mut_slice(), near, at, bytes)
+    }
+
     /// Copies `len` bytes from one place to another, whole or not at all. Where the two ranges
     /// meet, the bytes that stood there before are copied.
     pub fn copy_within(&mut self, to: usize, from: usize, len: usize) -> Result<(), OutOfMemory>
         requires to { to + len ≤ length self.old.bytes }
         requires from { from + len ≤ length self.old.bytes }
-        ensures ok { OnOk result (self.new.bytes ≡ with_bytes self.old.bytes to (take len (drop from self.old.bytes))) }
+        ensures ok { OnOk result
+            (self.new.bytes ≡ with_bytes self.old.bytes to (take len (drop from self.old.bytes))) }
         ensures err { OnErr result (self.new.bytes ≡ self.old.bytes) }
         ensures prepared { self.new.prepared ≡ self.old.prepared }
         ensures ready { ArePrepared self.old.prepared to len → IsOk result }

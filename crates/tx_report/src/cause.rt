@@ -61,8 +61,8 @@ pub enum Cause {
     TooLarge = 26,
     /// The lamports of the accounts no longer have the same sum.
     Unbalanced = 27,
-    /// An account's data grew by more than 10,240 bytes in one frame, or above 10,485,760 bytes. The
-    /// detail is its first place in the frame's list.
+    /// An account's data grew by more than 10,240 bytes in one frame, or above 10,485,760 bytes.
+    /// The detail is its first place in the frame's list.
     LengthTooLarge = 28,
     /// An instruction lists more than 255 accounts.
     TooManyAccounts = 29,
@@ -77,8 +77,8 @@ pub enum Cause {
     /// A called program lists an account that its caller does not have. The detail is its place in
     /// the request's list, or the number of accounts there where the called program is missing.
     MissingAccount = 34,
-    /// A called program would get a right that its caller does not have. The detail is the account's
-    /// place in the request's list.
+    /// A called program would get a right that its caller does not have. The detail is the
+    /// account's place in the request's list.
     PrivilegeEscalation = 35,
     /// A program calls one that is in an outer frame and is not the caller itself.
     Reentrancy = 36,

@@ -29,7 +29,8 @@ impl Model for Logs {
 
     ghost view = { λ logs. record { lines = logs.lines; truncated = logs.truncated } };
 
-    ghost invariant = { λ logs. (logs.used ≤ 10000) × (logs.truncated ≡ false → logs.used ≡ sum_by length logs.lines) };
+    ghost invariant = { λ logs. (logs.used ≤ 10000)
+        × (logs.truncated ≡ false → logs.used ≡ sum_by length logs.lines) };
 }
 
 impl Logs {
@@ -83,5 +84,6 @@ impl Logs {
 /// that has at most 10,000 bytes, and then says where a line is left.
 pub fn logs_keep_the_longest_run()
     ensures none { IsLogOf [] no_lines }
-    ensures more { (given : List (List ℕ)) (log : Log) (line : List ℕ) → IsLogOf given log → IsLogOf (given ++ line ∷ []) (with_line log line) }
+    ensures more { (given : List (List ℕ)) (log : Log) (line : List ℕ) → IsLogOf given log
+        → IsLogOf (given ++ line ∷ []) (with_line log line) }
 {}

@@ -62,8 +62,10 @@ pub fn status_of(bytes: [u8; 8]) -> Option<Status>
 
 /// A law: each status is read from its bytes again, and what is read has these bytes.
 pub fn statuses_are_their_bytes()
-    ensures again { (status : StatusValue) → IsStatus status → status_from (status_bytes_of status) ≡ Some status }
-    ensures found { (bytes : List ℕ) (status : StatusValue) → length bytes ≡ 8 → IsBytes bytes → status_from bytes ≡ Some status → IsStatus status × (status_bytes_of status ≡ bytes) }
+    ensures again { (status : StatusValue) → IsStatus status
+        → status_from (status_bytes_of status) ≡ Some status }
+    ensures found { (bytes : List ℕ) (status : StatusValue) → length bytes ≡ 8 → IsBytes bytes
+        → status_from bytes ≡ Some status → IsStatus status × (status_bytes_of status ≡ bytes) }
 {}
 
 fn bytes_of_parts(kind: u8, index: u8, code: u16, detail: u32) -> [u8; 8]

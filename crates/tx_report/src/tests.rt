@@ -150,8 +150,8 @@ fn other_bytes_are_no_status(rt: HostRuntime) {
     }
 }
 
-/// The lengths of lines that are pushed one after the other, and those of the lines then kept; 13 is
-/// that of `Log truncated`.
+/// The lengths of lines that are pushed one after the other, and those of the lines then kept; 13
+/// is that of `Log truncated`.
 const PUSHED: [(&[usize], &[usize]); 4] = [
     (&[9_999, 1], &[9_999, 1]),
     (&[10_000, 0, 1, 0], &[10_000, 0, 13]),

@@ -17,7 +17,8 @@ pub fn move_range(pieces: &mut [Piece], to: usize, from: usize, len: usize)
     requires most { length (bytes_in pieces.old) < 2 ^ 32 }
     requires own { ArePrepared (tests_in is_own pieces.old) to len }
     ensures order { AreInOrder pieces.new }
-    ensures bytes { bytes_in pieces.new ≡ with_bytes (bytes_in pieces.old) to (take len (drop from (bytes_in pieces.old))) }
+    ensures bytes { bytes_in pieces.new
+        ≡ with_bytes (bytes_in pieces.old) to (take len (drop from (bytes_in pieces.old))) }
     ensures prepared { tests_in is_prepared pieces.new ≡ tests_in is_prepared pieces.old }
 {
     if to <= from {
@@ -35,7 +36,8 @@ fn move_forward(pieces: &mut [Piece], to: usize, from: usize, len: usize)
     requires most { length (bytes_in pieces.old) < 2 ^ 32 }
     requires own { ArePrepared (tests_in is_own pieces.old) to len }
     ensures order { AreInOrder pieces.new }
-    ensures bytes { bytes_in pieces.new ≡ with_bytes (bytes_in pieces.old) to (take len (drop from (bytes_in pieces.old))) }
+    ensures bytes { bytes_in pieces.new
+        ≡ with_bytes (bytes_in pieces.old) to (take len (drop from (bytes_in pieces.old))) }
     ensures prepared { tests_in is_prepared pieces.new ≡ tests_in is_prepared pieces.old }
 {
     let mut done = 0;
@@ -54,7 +56,8 @@ fn move_backward(pieces: &mut [Piece], to: usize, from: usize, len: usize)
     requires most { length (bytes_in pieces.old) < 2 ^ 32 }
     requires own { ArePrepared (tests_in is_own pieces.old) to len }
     ensures order { AreInOrder pieces.new }
-    ensures bytes { bytes_in pieces.new ≡ with_bytes (bytes_in pieces.old) to (take len (drop from (bytes_in pieces.old))) }
+    ensures bytes { bytes_in pieces.new
+        ≡ with_bytes (bytes_in pieces.old) to (take len (drop from (bytes_in pieces.old))) }
     ensures prepared { tests_in is_prepared pieces.new ≡ tests_in is_prepared pieces.old }
 {
     let mut rest = len;
@@ -74,7 +77,8 @@ fn move_chunk(pieces: &mut [Piece], to: usize, from: usize, len: usize)
     requires most { length (bytes_in pieces.old) < 2 ^ 32 }
     requires own { ArePrepared (tests_in is_own pieces.old) to len }
     ensures order { AreInOrder pieces.new }
-    ensures bytes { bytes_in pieces.new ≡ with_bytes (bytes_in pieces.old) to (take len (drop from (bytes_in pieces.old))) }
+    ensures bytes { bytes_in pieces.new
+        ≡ with_bytes (bytes_in pieces.old) to (take len (drop from (bytes_in pieces.old))) }
     ensures own { tests_in is_own pieces.new ≡ tests_in is_own pieces.old }
     ensures prepared { tests_in is_prepared pieces.new ≡ tests_in is_prepared pieces.old }
 {

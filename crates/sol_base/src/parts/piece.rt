@@ -2,7 +2,7 @@
 ghost use Rattle.std.specs.Prelude.{◌≡◌, ◌<◌, ◌≤◌, ◌+◌, ◌-◌, ◌^◌, true, false, min, length, take, drop, slice_index, None, IfSome, OnOk, IsOk};
 ghost use Rattle.std.specs.Arc.{arc_value};
 ghost use Rattle.sol_base.specs.declared.account.Account.{Account};
-ghost use Rattle.sol_base.specs.Parts.{part_bytes, backing_bytes, piece_bytes, is_own, is_prepared, test_of, with_bytes};
+ghost use Rattle.sol_base.specs.Parts.{part_bytes, backing_bytes, piece_bytes, is_own, is_prepared, test_of, with_bytes, ArrayStandsIn, HasPut};
 
 use crate::account::Account;
 use crate::memory::OutOfMemory;
@@ -75,7 +75,8 @@ impl Backing {
 
     /// The account that others share, if the bytes stand in one.
     pub fn lent(&self) -> Option<&Arc<Account>>
-        ensures bytes { IfSome result (λ lent. let a : Account = arc_value lent.now in a.bytes ≡ backing_bytes self.now) }
+        ensures bytes { IfSome result
+            (λ lent. let a : Account = arc_value lent.now in a.bytes ≡ backing_bytes self.now) }
         ensures own { is_prepared self.now ≡ true → result ≡ None }
     {
         match self {
@@ -109,6 +110,35 @@ impl Backing {
                 into.copy_from_slice(&account.bytes.as_slice()[at..at + len]);
             }
             Backing::Blank(_) => into.fill(0),
+        }
+    }
+
+    /// The `N` bytes from a place on, if they stand in memory.
+    #[inline(always)]
+    pub fn array<const N: usize>(&self, from: usize) -> Option<[u8; N]>
+        requires { from + N < 2 ^ 64 }
+        ensures { IfSome result (λ found. ArrayStandsIn (backing_bytes self.now) from N found) }
+    {
+        match self {
+            Backing::Own { bytes, .. } => array_in(bytes.as_slice(), from),
+            Backing::Shared(account) => array_in(account.bytes.as_slice(), from),
+            Backing::Blank(_) => None,
+        }
+    }
+
+    /// Puts `N` bytes at a place, if there are as many of the list's own.
+    #[inline(always)]
+    pub fn put<const N: usize>(&mut self, from: usize, put: [u8; N]) -> bool
+        requires { from + N < 2 ^ 64 }
+        ensures within { result ≡ true → from + length put.entry ≤ length (backing_bytes self.old) }
+        ensures all { result ≡ true → HasPut self.old self.new from put.entry }
+        ensures none { result ≡ false → backing_bytes self.new ≡ backing_bytes self.old }
+        ensures size { length (backing_bytes self.new) ≡ length (backing_bytes self.old) }
+        ensures prepared { is_prepared self.new ≡ is_prepared self.old }
+    {
+        match self {
+            Backing::Own { bytes, .. } => put_in(bytes.as_mut_slice(), from, put),
+            Backing::Shared(_) | Backing::Blank(_) => false,
         }
     }
 
@@ -160,7 +190,8 @@ impl Piece {
         ensures range { result.done + result.count ≤ len }
         ensures same { 0 < result.count → self.now.start + result.from ≡ at + result.done }
         ensures first { result.done ≡ min len (self.now.start - at) }
-        ensures last { result.done + result.count ≡ min len (self.now.start + length (piece_bytes self.now) - at) }
+        ensures last { result.done + result.count
+            ≡ min len (self.now.start + length (piece_bytes self.now) - at) }
     {
         let size = self.backing.len();
         let from = at.saturating_sub(self.start).min(size);
@@ -170,5 +201,45 @@ impl Piece {
             done,
             count: (size - from).min(len - done),
         }
+    }
+}
+
+/// The `N` bytes of a list from a place on, if there are as many.
+#[inline(always)]
+fn array_in<const N: usize>(list: &[u8], from: usize) -> Option<[u8; N]>
+    requires { from + N < 2 ^ 64 }
+    ensures { IfSome result (λ found. ArrayStandsIn list.now from N found) }
+{
+    if from + N > list.len() {
+        return None;
+    }
+    let mut bytes = [0; N];
+    bytes.copy_from_slice(&list[from..from + N]);
+    Some(bytes)
+}
+
+/// Puts `N` bytes at a place of a list, if there are as many.
+#[inline(always)]
+fn put_in<const N: usize>(list: &mut [u8], from: usize, put: [u8; N]) -> bool
+    requires { from + N < 2 ^ 64 }
+    ensures within { result ≡ true → from + length put.entry ≤ length list.old }
+    ensures all { result ≡ true → list.new ≡ with_bytes list.old from put.entry }
+    ensures none { result ≡ false → list.new ≡ list.old }
+{
+    if from + N > list.len() {
+        return false;
+    }
+    put_over(&mut list[from..from + N], put);
+    true
+}
+
+/// Puts `N` bytes in the place of as many.
+#[inline(always)]
+fn put_over<const N: usize>(list: &mut [u8], put: [u8; N])
+    requires { length list.old ≡ N }
+    ensures { list.new ≡ put.entry }
+{
+    if let Some(chunk) = list.first_chunk_mut::<N>() {
+        *chunk = put;
     }
 }

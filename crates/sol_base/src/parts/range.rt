@@ -1,6 +1,6 @@
 //! Ranges of places that may lie over several pieces.
-ghost use Rattle.std.specs.Prelude.{◌≡◌, ◌<◌, ◌≤◌, ◌+◌, ◌-◌, ◌^◌, ℕ, List, true, false, min, length, take, drop, slice_get, OnOk, IsOk};
-ghost use Rattle.sol_base.specs.Parts.{piece_bytes, bytes_in, tests_in, before, is_own, is_prepared, test_of, with_bytes, AreInOrder, ArePrepared, StayPrepared};
+ghost use Rattle.std.specs.Prelude.{◌≡◌, ◌<◌, ◌≤◌, ◌+◌, ◌-◌, ◌^◌, ℕ, List, true, false, length, take, drop, slice_get, OnOk, IsOk};
+ghost use Rattle.sol_base.specs.Parts.{piece_bytes, bytes_in, tests_in, before, is_own, is_prepared, test_of, with_bytes, AreInOrder, ArePrepared, ArePreparedUpTo, IsWrittenUpTo, StayPrepared};
 ghost use Rattle.sol_base.specs.declared.parts.piece.Piece.{Piece};
 
 use crate::memory::OutOfMemory;
@@ -70,7 +70,9 @@ fn write_at(pieces: &mut [Piece], index: usize, at: usize, bytes: &[u8])
     ensures own { tests_in is_own pieces.new ≡ tests_in is_own pieces.old }
     ensures prepared { tests_in is_prepared pieces.new ≡ tests_in is_prepared pieces.old }
     // what was written before this piece is written to its end
-    ensures bytes { (whole : List ℕ) → length whole ≡ length (bytes_in pieces.old) → bytes_in pieces.old ≡ with_bytes whole at (take (min (length bytes.now) (before pieces.old index - at)) bytes.now) → bytes_in pieces.new ≡ with_bytes whole at (take (min (length bytes.now) (before pieces.old (index + 1) - at)) bytes.now) }
+    ensures bytes { (whole : List ℕ) → length whole ≡ length (bytes_in pieces.old)
+        → IsWrittenUpTo whole (bytes_in pieces.old) at bytes.now (before pieces.old index)
+        → IsWrittenUpTo whole (bytes_in pieces.new) at bytes.now (before pieces.old (index + 1)) }
 {
     let piece = &mut pieces[index];
     let meeting = piece.meet(at, bytes.len());
@@ -96,8 +98,10 @@ pub fn own_on(
     ensures bytes { bytes_in pieces.new ≡ bytes_in pieces.old }
     ensures starts { (index : ℕ) → before pieces.new index ≡ before pieces.old index }
     ensures ok { OnOk result (ArePrepared (tests_in (test_of prepare) pieces.new) at len) }
-    ensures plain { prepare ≡ false → tests_in is_prepared pieces.new ≡ tests_in is_prepared pieces.old }
-    ensures stay { StayPrepared (tests_in is_prepared pieces.old) (tests_in is_prepared pieces.new) }
+    ensures plain { prepare ≡ false
+        → tests_in is_prepared pieces.new ≡ tests_in is_prepared pieces.old }
+    ensures stay { StayPrepared (tests_in is_prepared pieces.old)
+        (tests_in is_prepared pieces.new) }
     ensures ready { ArePrepared (tests_in is_own pieces.old) at len → IsOk result }
 {
     let end = at + len;
@@ -125,9 +129,14 @@ fn own_at(
     ensures order { AreInOrder pieces.new }
     ensures bytes { bytes_in pieces.new ≡ bytes_in pieces.old }
     ensures starts { (place : ℕ) → before pieces.new place ≡ before pieces.old place }
-    ensures ok { OnOk result (ArePrepared (tests_in (test_of prepare) pieces.old) at (min len (before pieces.old index - at)) → ArePrepared (tests_in (test_of prepare) pieces.new) at (min len (before pieces.old (index + 1) - at))) }
-    ensures plain { prepare ≡ false → tests_in is_prepared pieces.new ≡ tests_in is_prepared pieces.old }
-    ensures stay { StayPrepared (tests_in is_prepared pieces.old) (tests_in is_prepared pieces.new) }
+    ensures ok { OnOk result
+        (ArePreparedUpTo (tests_in (test_of prepare) pieces.old) at len (before pieces.old index)
+        → ArePreparedUpTo (tests_in (test_of prepare) pieces.new) at len
+        (before pieces.old (index + 1))) }
+    ensures plain { prepare ≡ false
+        → tests_in is_prepared pieces.new ≡ tests_in is_prepared pieces.old }
+    ensures stay { StayPrepared (tests_in is_prepared pieces.old)
+        (tests_in is_prepared pieces.new) }
     ensures own { StayPrepared (tests_in is_own pieces.old) (tests_in is_own pieces.new) }
     ensures ready { ArePrepared (tests_in is_own pieces.old) at len → IsOk result }
 {
@@ -147,9 +156,12 @@ pub fn write_within(pieces: &mut [Piece], index: usize, at: usize, bytes: &[u8])
     requires most { at + length bytes.now < 2 ^ 64 }
     ensures order { AreInOrder pieces.new }
     ensures prepared { tests_in is_prepared pieces.new ≡ tests_in is_prepared pieces.old }
-    ensures all { result ≡ true → bytes_in pieces.new ≡ with_bytes (bytes_in pieces.old) at bytes.now }
+    ensures all { result ≡ true
+        → bytes_in pieces.new ≡ with_bytes (bytes_in pieces.old) at bytes.now }
     ensures none { result ≡ false → pieces.new ≡ pieces.old }
-    ensures when { (piece : Piece) → slice_get pieces.old index ≡ Some piece → is_own piece.backing ≡ true → at - piece.start + length bytes.now ≤ length (piece_bytes piece) → result ≡ true }
+    ensures when { (piece : Piece) → slice_get pieces.old index ≡ Some piece
+        → is_own piece.backing ≡ true
+        → at - piece.start + length bytes.now ≤ length (piece_bytes piece) → result ≡ true }
 {
     let piece = &mut pieces[index];
     let from = at - piece.start;

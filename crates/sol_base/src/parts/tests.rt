@@ -22,7 +22,8 @@ fn account_with(alloc: Global, bytes: &[u8]) -> Result<Arc<Account>, Fail> {
 
 /// Adds a part.
 fn add(parts: &mut Items<Part>, part: Part) -> Result<(), Fail>
-    ensures { OnOk result (length (bytes_of parts.new) ≡ length (bytes_of parts.old) + length (part_bytes part)) }
+    ensures { OnOk result
+        (length (bytes_of parts.new) ≡ length (bytes_of parts.old) + length (part_bytes part)) }
 {
     parts.push(part)?;
     Ok(())
@@ -113,5 +114,31 @@ fn goes_over_empty_parts(rt: HostRuntime) -> Result<(), Fail> {
     assert_eq!(rt; all, [1, 7, 8, 9, 10]);
     list.write(5, &[])?;
     list.prepare(5, 0)?;
+    Ok(())
+}
+
+/// Two bytes of the region from a place on.
+const PAIRS: [(usize, [u8; 2]); 4] = [(0, [1, 2]), (1, [2, 3]), (2, [3, 4]), (3, [4, 0])];
+
+#[test]
+fn reads_and_writes_arrays(rt: HostRuntime) -> Result<(), Fail> {
+    let alloc = rt.alloc();
+    let lent = account_with(alloc, &[3, 4])?;
+    assert_eq!(rt; lent.bytes.len(), 2);
+    let mut list = region_with_gaps(alloc, &lent)?;
+    for (at, pair) in PAIRS {
+        assert!(rt; at <= 3);
+        assert_eq!(rt; list.len(), 5);
+        assert_eq!(rt; list.read_array::<2>(at), pair, "at {at}");
+    }
+    assert_eq!(rt; list.len(), 5);
+    list.write_array(0, [7])?;
+    assert_eq!(rt; list.len(), 5);
+    list.write_array(2, [8, 9])?;
+    assert_eq!(rt; list.len(), 5);
+    list.write_array(1, [5, 6, 7])?;
+    assert_eq!(rt; list.len(), 5);
+    assert_eq!(rt; list.read_array::<5>(0), [7, 5, 6, 7, 0]);
+    assert_eq!(rt; lent.bytes.as_slice(), [3, 4].as_slice());
     Ok(())
 }
