@@ -1,0 +1,82 @@
+-- The answer for a batch, from its parts.
+use Rattle.std.proofs.Common.{◌≡◌, ℕ, ◌+◌, ◌<◌, ◌≤◌, List, [], ◌∷◌, length, map, refl, sym, ap, ◌∙◌, subst, arith, Option, Result, Ok, Err, IfOk, All}
+use Rattle.std.specs.List.{AllByRecursion, IsDistinct, enumerate_from}
+use Rattle.std.proofs.lemmas.List.{length-map}
+use Rattle.std.proofs.lemmas.List.Elements.{All-from_recursion}
+use Rattle.std.proofs.lemmas.List.FromFn.{length-enumerate_from}
+use Rattle.sol_base.specs.Keys.{same_key}
+use Rattle.sol_base.specs.declared.memory.OutOfMemory.{OutOfMemory}
+use Rattle.message_codec.specs.declared.parsed.Parsed.{Parsed}
+use Rattle.message_codec.specs.Parsing.{parsed_of}
+use Rattle.admission.specs.declared.chosen.Admitted.{Admitted}
+use Rattle.admission.specs.declared.chosen.Chosen.{Chosen}
+use Rattle.admission.specs.declared.refusal.Refusal.{Refusal}
+use Rattle.admission.specs.Admission.{AreParsed, IsSound, Start, admitted, answer_of, early, line, listed, sifted_out, walk}
+use Rattle.admission.specs.Chosen.{IsChosen}
+use Rattle.admission.specs.Lines.{PositionsAscend}
+use Rattle.admission.specs.Sums.{keys_locked, numbered_in, with_late}
+use Rattle.admission.proofs.AnswerLaws.{StandsIn, all_run, are_parsed, locks_apart, stand_all}
+use Rattle.admission.proofs.LineLaws.{all_line}
+use Rattle.admission.proofs.WalkLaws.{refused_by_causes}
+
+weaker : (P Q : Chosen → Type 0) → ((one : Chosen) → P one → Q one) → (line : List Chosen) → AllByRecursion P line → AllByRecursion Q line
+weaker P Q to [] all = tt
+weaker P Q to (one ∷ others) all = (to one all.0, weaker P Q to others all.1)
+
+-- each transaction of the line has its place among the causes
+pub places : (line : List Chosen) (to : ℕ) (causes : List (Option Refusal)) → to ≡ length causes → AllByRecursion (StandsIn 0 to) line → All (λ one. one.position < length causes) line
+places line to causes e all = All-from_recursion (λ (one : Chosen). one.position < length causes) line (weaker (StandsIn 0 to) (λ one. one.position < length causes) (λ one is. subst (λ n. one.position < n) e is.below) line all)
+
+-- and locks each of its keys once
+pub aparts : (line : List Chosen) (to : ℕ) → AllByRecursion (StandsIn 0 to) line → All (λ one. IsDistinct same_key (keys_locked one.locks)) line
+aparts line to all = All-from_recursion (λ (one : Chosen). IsDistinct same_key (keys_locked one.locks)) line (weaker (StandsIn 0 to) (λ one. IsDistinct same_key (keys_locked one.locks)) (λ one is. locks_apart one is.is) line all)
+
+pub parsed_count : (wires : List (List ℕ)) (batch : List Parsed) → AreParsed wires batch → length batch ≡ length wires
+parsed_count wires batch are = ap length (are_parsed wires batch are).0 ∙ simp length-map
+
+pub all_sound : (wires : List (List ℕ)) (batch : List Parsed) → AreParsed wires batch → All IsSound batch
+all_sound wires batch are = All-from_recursion IsSound batch (are_parsed wires batch are).1
+
+pub cause_count : (start : Start) (batch : List Parsed) (causes : List (Option Refusal)) → causes ≡ map (early start batch) (enumerate_from 0 batch) → length batch ≡ length causes
+cause_count start batch causes e = sym (ap length e ∙ simp (length-map, length-enumerate_from))
+
+module _ (start : Start) (wires : List (List ℕ)) (batch : List Parsed) (few : start.limits.keys ≤ 128) (are : AreParsed wires batch) where
+  pub stand : (standing : List Chosen) → standing ≡ sifted_out start batch → AllByRecursion (StandsIn 0 (length batch)) standing
+  stand standing e = subst (AllByRecursion (StandsIn 0 (length batch))) (sym e) (stand_all start batch few (are_parsed wires batch are).1).0
+
+  pub ascend : (standing : List Chosen) → standing ≡ sifted_out start batch → PositionsAscend standing
+  ascend standing e = subst PositionsAscend (sym e) (stand_all start batch few (are_parsed wires batch are).1).1
+
+  pub stand_in_line : (standing found : List Chosen) → standing ≡ sifted_out start batch → found ≡ line standing → AllByRecursion (StandsIn 0 (length batch)) found
+  stand_in_line standing found e l = subst (AllByRecursion (StandsIn 0 (length batch))) (sym l) (all_line (StandsIn 0 (length batch)) standing (stand standing e))
+
+  answer : (found : List Chosen) (causes : List (Option Refusal)) (admission : Admitted) → causes ≡ map (early start batch) (enumerate_from 0 batch) → admission.order ≡ (walk start.limits found).order
+      → admission.refused ≡ numbered_in (with_late (walk start.limits found).refused causes) → admission ≡ answer_of start (map parsed_of wires) (walk start.limits found)
+  answer found causes admission c order refused =
+      let ascending = refused ∙ ap (λ cs. numbered_in (with_late (walk start.limits found).refused cs)) c ∙ refused_by_causes start batch (walk start.limits found).refused in
+      let whole : admission ≡ answer_of start batch (walk start.limits found) = λ i. record { order = order i; refused = ascending i } in
+      whole ∙ ap (λ b. answer_of start b (walk start.limits found)) (are_parsed wires batch are).0
+
+  both : (result : Result Admitted OutOfMemory) (P Q R : Admitted → Type 0) → ((a : Admitted) → P a → Q a → R a) → IfOk result P → IfOk result Q → IfOk result R
+  both (Ok a) P Q R to p q = to a p q
+  both (Err e) P Q R to p q = tt
+
+  pub is_admitted : (standing found : List Chosen) (causes : List (Option Refusal)) (result : Result Admitted OutOfMemory) → standing ≡ sifted_out start batch → found ≡ line standing → causes ≡ map (early start batch) (enumerate_from 0 batch)
+      → IfOk result (λ a. a.order ≡ (walk start.limits found).order) → IfOk result (λ a. a.refused ≡ numbered_in (with_late (walk start.limits found).refused causes)) → IfOk result (λ a. a ≡ admitted start wires)
+  unfolding admitted
+  is_admitted standing found causes result e l c order refused =
+      both result (λ a. a.order ≡ (walk start.limits found).order) (λ a. a.refused ≡ numbered_in (with_late (walk start.limits found).refused causes)) (λ a. a ≡ admitted start wires)
+      (λ a p q. answer found causes a c p q ∙ ap (λ ls. answer_of start (map parsed_of wires) (walk start.limits ls)) (l ∙ ap line (e ∙ ap (sifted_out start) (are_parsed wires batch are).0)))
+      order refused
+
+  pub is_listed : (standing : List Chosen) (causes : List (Option Refusal)) (result : Result Admitted OutOfMemory) → standing ≡ sifted_out start batch → causes ≡ map (early start batch) (enumerate_from 0 batch)
+      → IfOk result (λ a. a.order ≡ (walk start.limits standing).order) → IfOk result (λ a. a.refused ≡ numbered_in (with_late (walk start.limits standing).refused causes)) → IfOk result (λ a. a ≡ listed start wires)
+  unfolding listed
+  is_listed standing causes result e c order refused =
+      both result (λ a. a.order ≡ (walk start.limits standing).order) (λ a. a.refused ≡ numbered_in (with_late (walk start.limits standing).refused causes)) (λ a. a ≡ listed start wires)
+      (λ a p q. answer standing causes a c p q ∙ ap (λ ls. answer_of start (map parsed_of wires) (walk start.limits ls)) (e ∙ ap (sifted_out start) (are_parsed wires batch are).0))
+      order refused
+
+  pub all_chosen : (found : List Chosen) (result : Result Admitted OutOfMemory) → AllByRecursion (StandsIn 0 (length batch)) found → IfOk result (λ a. a.order ≡ (walk start.limits found).order) → IfOk result (λ a. All IsChosen a.order)
+  all_chosen found result all order = both result (λ a. a.order ≡ (walk start.limits found).order) (λ a. a.order ≡ (walk start.limits found).order) (λ a. All IsChosen a.order)
+      (λ a p q. All-from_recursion IsChosen a.order (subst (AllByRecursion IsChosen) (sym p) (weaker (StandsIn 0 (length batch)) IsChosen (λ one is. is.is) (walk start.limits found).order (all_run (StandsIn 0 (length batch)) start.limits found all)))) order order

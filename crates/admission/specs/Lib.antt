@@ -1,0 +1,6 @@
+pub mod Lookups
+pub mod Refusals
+pub mod Chosen
+pub mod Admission
+pub mod Sums
+pub mod Lines

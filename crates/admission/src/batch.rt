@@ -1,0 +1,103 @@
+ghost use Rattle.std.specs.Prelude.{◌≡◌, ◌<◌, ◌≤◌, ◌^◌, All, IfOk, length};
+ghost use Rattle.std.specs.List.{IsDistinct};
+ghost use Rattle.sol_base.specs.Keys.{same_key};
+ghost use Rattle.admission.specs.Admission.{AreParsed, admitted, listed, start_of, walk};
+ghost use Rattle.admission.specs.Chosen.{IsChosen};
+ghost use Rattle.admission.specs.Sums.{keys_locked, numbered_in, with_late};
+
+use crate::chosen::{Admitted, Chosen};
+use crate::line::line;
+use crate::refusal::Refusal;
+use crate::sift::{Sifted, sift};
+use crate::walk::{numbered, walk};
+use account_store::Accounts;
+use message_codec::{Parsed, parse};
+use sol_base::{Blob, Items, Limits, OutOfMemory};
+use status_cache::Recent;
+use std::alloc::Global;
+
+/// Which transactions of a batch run, in the order of their priorities, and why the others do not.
+pub fn admit(
+    alloc: Global,
+    wires: &Items<Blob>,
+    recent: &Recent,
+    accounts: &Accounts,
+    limits: &Limits,
+) -> Result<Admitted, OutOfMemory>
+    requires keys { limits.now.keys ≤ 128 }
+    requires few { length wires.now < 2 ^ 32 }
+    ensures exact { IfOk result (λ answer. answer ≡ admitted (start_of recent.now accounts.now limits.now) wires.now) }
+    ensures chosen { IfOk result (λ answer. All IsChosen answer.order) }
+{
+    let parsed = parse_all(alloc, wires)?;
+    admit_parsed(alloc, wires, parsed, recent, accounts, limits)
+}
+
+/// The same for wires that were read before.
+pub fn admit_parsed(
+    alloc: Global,
+    wires: &Items<Blob>,
+    parsed: Items<Parsed>,
+    recent: &Recent,
+    accounts: &Accounts,
+    limits: &Limits,
+) -> Result<Admitted, OutOfMemory>
+    requires read { AreParsed wires.now parsed }
+    requires keys { limits.now.keys ≤ 128 }
+    requires few { length wires.now < 2 ^ 32 }
+    ensures exact { IfOk result (λ answer. answer ≡ admitted (start_of recent.now accounts.now limits.now) wires.now) }
+    ensures chosen { IfOk result (λ answer. All IsChosen answer.order) }
+{
+    let Sifted { standing, causes } = sift(alloc, recent, accounts, limits, parsed)?;
+    let line = line(alloc, standing)?;
+    admit_line(alloc, limits, line, causes)
+}
+
+/// The same in the order of the batch.
+pub fn admit_listed(
+    alloc: Global,
+    wires: &Items<Blob>,
+    recent: &Recent,
+    accounts: &Accounts,
+    limits: &Limits,
+) -> Result<Admitted, OutOfMemory>
+    requires keys { limits.now.keys ≤ 128 }
+    requires few { length wires.now < 2 ^ 32 }
+    ensures exact { IfOk result (λ answer. answer ≡ listed (start_of recent.now accounts.now limits.now) wires.now) }
+    ensures chosen { IfOk result (λ answer. All IsChosen answer.order) }
+{
+    let parsed = parse_all(alloc, wires)?;
+    let Sifted { standing, causes } = sift(alloc, recent, accounts, limits, parsed)?;
+    admit_line(alloc, limits, standing, causes)
+}
+
+/// Reads all wires.
+fn parse_all(alloc: Global, wires: &Items<Blob>) -> Result<Items<Parsed>, OutOfMemory>
+    ensures { IfOk result (AreParsed wires.now) }
+{
+    let mut parsed = Items::with_capacity(alloc, wires.len())?;
+    for wire in wires.as_slice() {
+        parsed.push(parse(alloc, wire.as_slice())?)?;
+    }
+    Ok(parsed)
+}
+
+/// Walks the line, and gives each position that has a cause its place.
+fn admit_line(
+    alloc: Global,
+    limits: &Limits,
+    line: Vec<Chosen>,
+    mut causes: Vec<Option<Refusal>>,
+) -> Result<Admitted, OutOfMemory>
+    requires few { length causes.items < 2 ^ 32 }
+    requires places { All (λ one. one.position < length causes.items) line.items }
+    requires apart { All (λ one. IsDistinct same_key (keys_locked one.locks)) line.items }
+    ensures order { IfOk result (λ answer. answer.order ≡ (walk limits.now line.items).order) }
+    ensures refused { IfOk result (λ answer. answer.refused ≡ numbered_in (with_late (walk limits.now line.items).refused causes.items)) }
+{
+    let order = walk(alloc, limits, line, &mut causes)?;
+    Ok(Admitted {
+        order: Items::from_vec(order),
+        refused: numbered(alloc, &causes)?,
+    })
+}

@@ -1,0 +1,20 @@
+//! Which transactions of a batch run, and in which order: the causes for which one does not, the
+//! line by priority, and the limits on compute units.
+#![tactic(auto)]
+
+mod batch;
+mod chosen;
+mod line;
+mod lookups;
+mod refusal;
+mod sift;
+mod standing;
+mod text;
+mod units;
+mod walk;
+
+pub use batch::{admit, admit_listed, admit_parsed};
+pub use chosen::{Admitted, Chosen};
+pub use lookups::{LookupFault, TABLE_HEADER_LEN, resolve};
+pub use refusal::{Refusal, Refused};
+pub use text::refusal_text;

@@ -1,0 +1,81 @@
+ghost use Rattle.std.specs.Prelude.{◌≡◌, ◌<◌, ◌^◌, ◌||◌, All, IfOk, OnOk, length, map};
+ghost use Rattle.std.specs.List.{enumerate_from};
+ghost use Rattle.sol_base.specs.declared.key.Hash32.{Hash32 as HashValue};
+ghost use Rattle.admission.specs.Admission.{IsSound, early, has_name, is_name, sifted, sifted_out, standing_name, start_of};
+
+use crate::chosen::Chosen;
+use crate::refusal::Refusal;
+use crate::standing::{budgeted, stands};
+use account_store::Accounts;
+use message_codec::Parsed;
+use sol_base::{Hash32, Items, Limits, OutOfMemory};
+use status_cache::Recent;
+use std::alloc::Global;
+use std::collections::BTreeSet;
+
+/// A batch by its early causes.
+#[derive(Drop)]
+pub(crate) struct Sifted {
+    /// The transactions that have none, by their positions.
+    pub standing: Vec<Chosen>,
+    /// The early cause of each position that has one.
+    pub causes: Vec<Option<Refusal>>,
+}
+
+/// Finds the early cause of each position, or all that its transaction runs with.
+pub(crate) fn sift(
+    alloc: Global,
+    recent: &Recent,
+    accounts: &Accounts,
+    limits: &Limits,
+    wires: Items<Parsed>,
+) -> Result<Sifted, OutOfMemory>
+    requires few { length wires < 2 ^ 32 }
+    requires sound { All IsSound wires }
+    ensures standing { IfOk result (λ s. s.standing.items ≡ sifted_out (start_of recent.now accounts.now limits.now) wires) }
+    ensures causes { IfOk result (λ s. s.causes.items ≡ map (early (start_of recent.now accounts.now limits.now) wires) (enumerate_from 0 wires)) }
+{
+    let mut names = BTreeSet::new(alloc);
+    let mut standing = Vec::new(alloc);
+    let mut causes = Vec::with_capacity(alloc, wires.len())?;
+    for wire in wires.into_vec() {
+        let position = causes.len() as u32;
+        match sift_one(alloc, &mut names, recent, accounts, limits, position, wire)? {
+            Ok(chosen) => {
+                standing.push(chosen)?;
+                causes.push(None)?;
+            }
+            Err(cause) => causes.push(Some(cause))?,
+        }
+    }
+    Ok(Sifted { standing, causes })
+}
+
+/// Finds the early cause of one position, or all that its transaction runs with, told the names of
+/// the messages before it that none of the first five causes refuses. Its own is added to them.
+fn sift_one(
+    alloc: Global,
+    names: &mut BTreeSet<Hash32>,
+    recent: &Recent,
+    accounts: &Accounts,
+    limits: &Limits,
+    position: u32,
+    wire: Parsed,
+) -> Result<Result<Chosen, Refusal>, OutOfMemory>
+    requires { IsSound wire }
+    ensures found { IfOk result (λ found. found ≡ sifted (start_of recent.now accounts.now limits.now) (has_name names.old) position wire) }
+    ensures names { OnOk result ((name : HashValue) → has_name names.new name ≡ (has_name names.old name || is_name (standing_name (start_of recent.now accounts.now limits.now) wire) name)) }
+{
+    let (tx, name) = match wire {
+        Parsed::Bad(fault) => return Ok(Err(Refusal::Wire(fault))),
+        Parsed::Good { tx, name } => (tx, name),
+    };
+    let loaded = match stands(alloc, recent, accounts, limits, &tx, &name)? {
+        Ok(loaded) => loaded,
+        Err(cause) => return Ok(Err(cause)),
+    };
+    if !names.insert(name)? {
+        return Ok(Err(Refusal::RepeatedInBatch));
+    }
+    budgeted(alloc, position, tx, name, loaded)
+}

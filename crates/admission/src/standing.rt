@@ -1,0 +1,73 @@
+ghost use Rattle.std.specs.Prelude.{◌≡◌, ◌<◌, ◌≤◌, All, IfOk, length};
+ghost use Rattle.message_codec.specs.Wire.{HasShortLists};
+ghost use Rattle.admission.specs.Admission.{budgeted, stands, start_of};
+
+use crate::chosen::Chosen;
+use crate::lookups::{LookupFault, resolve};
+use crate::refusal::Refusal;
+use account_store::Accounts;
+use fee_rules::{budget_of, fee};
+use message_codec::{Loaded, Tx, locks, sanitize};
+use sol_base::{Hash32, Limits, OutOfMemory};
+use status_cache::Recent;
+use std::alloc::Global;
+
+/// The keys that a transaction loads, or the first of the causes that the starting snapshot shows:
+/// `Sanitize`, `Lookup`, `UnknownBlockhash` and `AlreadyProcessed`.
+#[tactic(auto, unfolding(crate::specs::Admission::stands))]
+pub(crate) fn stands(
+    alloc: Global,
+    recent: &Recent,
+    accounts: &Accounts,
+    limits: &Limits,
+    tx: &Tx,
+    name: &Hash32,
+) -> Result<Result<Loaded, Refusal>, OutOfMemory>
+    requires { HasShortLists tx.now.message }
+    ensures { IfOk result (λ found. found ≡ stands (start_of recent.now accounts.now limits.now) tx.now name.now) }
+{
+    if let Err(fault) = sanitize(tx, limits.keys) {
+        return Ok(Err(Refusal::Sanitize(fault)));
+    }
+    let loaded = match resolve(alloc, &tx.message, accounts) {
+        Ok(loaded) => loaded,
+        Err(LookupFault::OutOfMemory) => return Err(OutOfMemory),
+        Err(fault) => return Ok(Err(Refusal::Lookup(fault))),
+    };
+    if !recent.knows_hash(&tx.message.blockhash) {
+        return Ok(Err(Refusal::UnknownBlockhash));
+    }
+    if recent.was_processed(name) {
+        return Ok(Err(Refusal::AlreadyProcessed));
+    }
+    Ok(Ok(loaded))
+}
+
+/// The transaction with all that it runs with, or `Budget`.
+pub(crate) fn budgeted(
+    alloc: Global,
+    position: u32,
+    tx: Tx,
+    name: Hash32,
+    loaded: Loaded,
+) -> Result<Result<Chosen, Refusal>, OutOfMemory>
+    requires programs { All (λ i. i.program < length tx.message.keys) tx.message.instructions }
+    requires most { length tx.message.instructions ≤ 65535 }
+    ensures { IfOk result (λ found. found ≡ budgeted position tx name loaded) }
+{
+    let budget = match budget_of(&tx.message) {
+        Ok(budget) => budget,
+        Err(fault) => return Ok(Err(Refusal::Budget(fault))),
+    };
+    let fee = fee(&tx.message, &budget);
+    let locks = locks(alloc, &tx.message, &loaded)?;
+    Ok(Ok(Chosen {
+        position,
+        tx,
+        loaded,
+        name,
+        budget,
+        fee,
+        locks,
+    }))
+}
