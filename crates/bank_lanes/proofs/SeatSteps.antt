@@ -1,0 +1,165 @@
+-- The seats of lanes after one event more.
+use Rattle.std.proofs.Common.{◌≡◌, ℕ, ◌+◌, ◌<◌, ◌≤◌, Bool, true, false, List, [], ◌∷◌, ◌++◌, length, get_or, set, map, All, IfSome, Option, Some, None, refl, sym, ◌∙◌, ap, subst, inl, inr, arith}
+use Rattle.std.proofs.Math.ListN.{length-set}
+use Rattle.std.proofs.lemmas.Bool.{cases_eq}
+use Rattle.std.proofs.lemmas.List.{get_or-set_same, get_or-set_other, get_or-map, length-map, ext_get_or}
+use Rattle.std.specs.List.{AllWithin}
+use mathlib.Core.List.{IsPrefix}
+use base.Growing.{prefix_refl}
+use Rattle.bank_law.specs.declared.event.Event.{Event}
+use Rattle.bank_law.specs.declared.event.EventKind.{EventKind}
+use Rattle.bank_law.specs.declared.event.EventKind.TheVariants.{Grant, Commit, Return}
+use Rattle.bank_law.specs.Job.{Job}
+use Rattle.bank_law.specs.Machine.{with_event}
+use Rattle.bank_law.specs.History.{own, holds, returns}
+use Rattle.bank_core.specs.declared.loan.Loan.{Loan}
+use Rattle.bank_core.specs.declared.origin.Origin.{Origin}
+use Rattle.bank_core.specs.Takes.{HasLoanOf, KeepsOthers}
+use Rattle.bank_core.proofs.Seats.{grown_holds, grown_returns, grown_others}
+use Rattle.bank_lanes.specs.declared.seats.Seat.{Seat}
+use Rattle.bank_lanes.specs.Seats.{fresh_seat, IsEmptySeat, IsSeatOf, AreSeats, sitting, IsLoanOfWork, IsPerformed}
+use Rattle.bank_lanes.specs.Steps.{GrewBy}
+
+-- one event more is one of its lane alone
+pub grew_by : (journal next : List Event) (kind : EventKind) (lane p : ℕ) → next ≡ with_event journal kind lane p → GrewBy lane journal next
+grew_by journal next kind lane p e = record {
+  longer = (record { kind = kind; lane = lane; position = p } ∷ [], sym e);
+  others = grown_others journal next kind lane p e;
+}
+
+-- a journal that stays
+pub grew_none : (lane : ℕ) (journal next : List Event) → next ≡ journal → GrewBy lane journal next
+grew_none lane journal next e = record { longer = subst (IsPrefix journal) (sym e) (prefix_refl journal); others = λ other n. ap (λ j. own j other) e }
+
+module _ {W T : Type 0} {G : _} where
+  -- a lane with an empty seat holds nothing
+  pub empty_holds : (seat : Seat W T G) (origin : Origin T) (journal : List Event) (lane : ℕ) → IsEmptySeat seat → IsSeatOf seat origin journal lane → holds (own journal lane) ≡ None
+  empty_holds seat origin journal lane empty s = subst (λ (o : Option (Loan W T G)). HasLoanOf o origin journal lane) empty s.loan
+
+  -- a loan of a lane of which nothing happened
+  loan_stays : (o : Option (Loan W T G)) (origin next : Origin T) (old new : List Event) (lane : ℕ) → next ≡ origin → own new lane ≡ own old lane → HasLoanOf o origin old lane → HasLoanOf o next new lane
+  loan_stays None origin next old new lane q e h = ap holds e ∙ h
+  loan_stays (Some loan) origin next old new lane q e h = (h.0, h.1 ∙ sym q, ap holds e ∙ h.2)
+
+  -- the seat of a lane of which nothing happened
+  pub seat_stays : (seat : Seat W T G) (origin next : Origin T) (old new : List Event) (lane : ℕ) → next ≡ origin → own new lane ≡ own old lane → IsSeatOf seat origin old lane → IsSeatOf seat next new lane
+  seat_stays seat origin next old new lane q e s = record {
+    loan = loan_stays seat.loan origin next old new lane q e s.loan;
+    once = λ f. ap returns e ∙ s.once f;
+    out = s.out;
+  }
+
+  -- a loan into the seat of a lane that gave nothing back
+  pub seat_lent : (seat new_seat : Seat W T G) (origin next : Origin T) (old new : List Event) (lane : ℕ) (loan : Loan W T G) → next ≡ origin → new ≡ with_event old Grant lane loan.position
+      → loan.lane ≡ lane → loan.origin.value ≡ origin → seat.gave_back ≡ false → new_seat ≡ record seat { loan = Some loan } → IsSeatOf seat origin old lane → IsSeatOf new_seat next new lane
+  seat_lent seat new_seat origin next old new lane loan q grown of from here is s =
+      subst (λ (x : Seat W T G). IsSeatOf x next new lane) (sym is)
+      (record {
+        loan = (of, from ∙ sym q, grown_holds old new Grant lane loan.position grown);
+        once = λ f. let a = grown_returns old new Grant lane loan.position grown in let b = s.once here in omega (arith, a, b);
+        out = λ t. absurd (cc);
+      })
+
+  -- one event more of a loan's lane
+  pub seat_grew : (seat : Seat W T G) (origin : Origin T) (old new : List Event) (kind : EventKind) (lane : ℕ) (loan : Loan W T G) → new ≡ with_event old kind loan.lane loan.position
+      → seat.loan ≡ Some loan → IsSeatOf seat origin old lane → (new ≡ with_event old kind lane loan.position) × GrewBy lane old new
+  seat_grew seat origin old new kind lane loan grown has s =
+      let h = subst (λ (o : Option (Loan W T G)). HasLoanOf o origin old lane) has s.loan in
+      let grown' : new ≡ with_event old kind lane loan.position = grown ∙ ap (λ l. with_event old kind l loan.position) h.0 in
+      (grown', grew_by old new kind lane loan.position grown')
+
+  -- the seat once its loan was committed, and once it was given back
+  pub seat_committed : (seat new_seat : Seat W T G) (origin next : Origin T) (old new : List Event) (lane : ℕ) (loan : Loan W T G) → new ≡ with_event old Commit loan.lane loan.position
+      → seat.loan ≡ Some loan → IsEmptySeat new_seat → new_seat.gave_back ≡ seat.gave_back → IsSeatOf seat origin old lane → IsSeatOf new_seat next new lane
+  seat_committed seat new_seat origin next old new lane loan grown has empty same s =
+      let grown' = (seat_grew seat origin old new Commit lane loan grown has s).0 in
+      record {
+        loan = subst (λ (o : Option (Loan W T G)). HasLoanOf o next new lane) (sym empty) (grown_holds old new Commit lane loan.position grown');
+        once = λ f. let a = grown_returns old new Commit lane loan.position grown' in let b = s.once (sym same ∙ f) in omega (arith, a, b);
+        out = λ t. empty;
+      }
+
+  pub seat_returned : (seat new_seat : Seat W T G) (origin next : Origin T) (old new : List Event) (lane : ℕ) (loan : Loan W T G) → new ≡ with_event old Return loan.lane loan.position
+      → seat.loan ≡ Some loan → IsEmptySeat new_seat → new_seat.gave_back ≡ true → IsSeatOf seat origin old lane → IsSeatOf new_seat next new lane
+  seat_returned seat new_seat origin next old new lane loan grown has empty out s =
+      let grown' = (seat_grew seat origin old new Return lane loan grown has s).0 in
+      record {
+        loan = subst (λ (o : Option (Loan W T G)). HasLoanOf o next new lane) (sym empty) (grown_holds old new Return lane loan.position grown');
+        once = λ f. absurd (cc);
+        out = λ t. empty;
+      }
+
+  -- one seat changes, as one lane's events do
+  pub seats_set : (seats : List (Seat W T G)) (origin next : Origin T) (old new : List Event) (at : ℕ) (seat : Seat W T G) → at < length seats → next ≡ origin → GrewBy at old new
+      → AreSeats seats origin old → IsSeatOf seat next new at → AreSeats (set seats at seat) next new
+  seats_set seats origin next old new at seat within q grew all one lane d l =
+      elim (cases_eq lane at) [
+        | inl e ↦ subst (λ (k : ℕ). IsSeatOf (get_or (set seats at seat) k d) next new k) (sym e) (subst (λ (x : Seat W T G). IsSeatOf x next new at) (sym (get_or-set_same seats at seat d within)) one)
+        | inr n ↦
+            let other = all lane d (omega (arith, l, length-set {A = Seat W T G})) in
+            subst (λ (x : Seat W T G). IsSeatOf x next new lane) (sym (get_or-set_other seats at lane seat d n))
+            (seat_stays (get_or seats lane d) origin next old new lane q (grew.others lane (λ e. n (sym e))) other)
+      ]
+
+  -- seats of which the loans and the marks stay
+  pub seats_same : (old new : List (Seat W T G)) (origin : Origin T) (journal : List Event) → sitting new ≡ sitting old → AreSeats old origin journal → AreSeats new origin journal
+  seats_same old new origin journal same all lane d l =
+      let long : length new ≡ length old = sym (length-map new (λ (s : Seat W T G). (s.loan, s.gave_back))) ∙ (ap length same ∙ length-map old (λ (s : Seat W T G). (s.loan, s.gave_back))) in
+      let here : lane < length old = omega (arith, l, long) in
+      let e = sym (get_or-map (λ (s : Seat W T G). (s.loan, s.gave_back)) new lane d (d.loan, d.gave_back) l) ∙ (ap (λ xs. get_or xs lane (d.loan, d.gave_back)) same ∙ get_or-map (λ (s : Seat W T G). (s.loan, s.gave_back)) old lane d (d.loan, d.gave_back) here) in
+      let loan = ap (λ p. p.0) e in
+      let mark = ap (λ p. p.1) e in
+      let s = all lane d here in
+      record {
+        loan = subst (λ (o : Option (Loan W T G)). HasLoanOf o origin journal lane) (sym loan) s.loan;
+        once = λ f. s.once (sym mark ∙ f);
+        out = λ t. loan ∙ s.out (sym mark ∙ t);
+      }
+
+  -- no lane with a seat holds anything where all seats are empty
+  pub all_hold_none : (seats : List (Seat W T G)) (origin : Origin T) (journal : List Event) → AreSeats seats origin journal → All IsEmptySeat seats → (lane : ℕ) → lane < length seats → holds (own journal lane) ≡ None
+  all_hold_none seats origin journal all empty lane l = empty_holds (get_or seats lane fresh_seat) origin journal lane (empty lane fresh_seat l) (all lane fresh_seat l)
+
+  -- seats that were moved
+  pub seats_move : (seats seats' : List (Seat W T G)) (origin next : Origin T) (old new : List Event) → seats' ≡ seats → next ≡ origin → new ≡ old → AreSeats seats origin old → AreSeats seats' next new
+  seats_move seats seats' origin next old new e q j all =
+      subst (λ (x : List (Seat W T G)). AreSeats x next new) (sym e)
+      (subst (λ (x : Origin T). AreSeats seats x new) (sym q) (subst (λ (x : List Event). AreSeats seats origin x) (sym j) all))
+
+  pub set_length : (seats : List (Seat W T G)) (at : ℕ) (seat : Seat W T G) → length (set seats at seat) ≡ length seats
+  set_length seats at seat = simp length-set
+
+  -- what holds of the seats from one on still holds of those after it, whatever becomes of that one
+  pub rest_set : (P : Seat W T G → Type 0) (seats seats' : List (Seat W T G)) (at : ℕ) (seat : Seat W T G) → seats' ≡ set seats at seat → AllWithin P seats at (length seats) → AllWithin P seats' (at + 1) (length seats')
+  rest_set P seats seats' at seat e all =
+      subst (λ (x : List (Seat W T G)). AllWithin P x (at + 1) (length x)) (sym e)
+      (λ k d a b. subst P (sym (get_or-set_other seats at k seat d (λ q. omega (arith, q, a)))) (all k d (omega (arith, a)) (let n = set_length seats at seat in omega (arith, b, n))))
+
+  pub rest_same : (P : Seat W T G → Type 0) (seats seats' : List (Seat W T G)) (at : ℕ) → seats' ≡ seats → AllWithin P seats at (length seats) → AllWithin P seats' (at + 1) (length seats')
+  rest_same P seats seats' at e all =
+      subst (λ (x : List (Seat W T G)). AllWithin P x (at + 1) (length x)) (sym e) (λ k d a b. all k d (omega (arith, a)) b)
+
+  -- seats of which each has the loan and the mark that it had
+  pub sitting_same : (old new : List (Seat W T G)) → length new ≡ length old → ((k : ℕ) (d : Seat W T G) → k < length old → ((get_or new k d).loan ≡ (get_or old k d).loan) × ((get_or new k d).gave_back ≡ (get_or old k d).gave_back))
+      → sitting new ≡ sitting old
+  sitting_same old new long same =
+      let f : Seat W T G → Option (Loan W T G) × Bool = λ s. (s.loan, s.gave_back) in
+      let m = length-map new f in
+      let n = length-map old f in
+      ext_get_or (None, false) (sitting new) (sitting old) (m ∙ (long ∙ sym n))
+      (λ k l.
+      let here : k < length new = omega (arith, l, m) in
+      let there : k < length old = omega (arith, here, long) in
+      let s = same k fresh_seat there in
+      get_or-map f new k fresh_seat (None, false) here ∙ ((λ i. (s.0 i, s.1 i)) ∙ sym (get_or-map f old k fresh_seat (None, false) there)))
+
+  -- fresh seats, where no lane holds anything or has given anything back
+  pub fresh_seats : (seats : List (Seat W T G)) (origin : Origin T) (journal : List Event) → All (λ seat. IsEmptySeat seat × (seat.gave_back ≡ false)) seats
+      → ((lane : ℕ) → holds (own journal lane) ≡ None) → ((lane : ℕ) → returns (own journal lane) ≡ 0) → AreSeats seats origin journal
+  fresh_seats seats origin journal fresh free once lane d l =
+      let f = fresh lane d l in
+      record {
+        loan = subst (λ (o : Option (Loan W T G)). HasLoanOf o origin journal lane) (sym f.0) (free lane);
+        once = λ e. once lane;
+        out = λ e. f.0;
+      }

@@ -1,0 +1,12 @@
+use Rattle.std.proofs.Common.{◌≡◌, All}
+use mathlib.Core.List.{IsPrefix}
+use Rattle.bank_lanes.specs.Passes.{IsIdle, WentOn}
+use Rattle.bank_lanes.proofs.lanes.make_passes.Given as goal
+
+abbrev pub invariant-loop : goal.invariant-loop
+invariant-loop g l = record {
+  desk : g.D.Desk.is_of l.desk l.pass;
+  idle : IsIdle (g.D.Desk.view l.pass);
+  on : WentOn (g.D.Desk.view l.initial.pass) (g.D.Desk.view l.pass);
+  passes : All (λ p. g.D.Desk.is_of l.desk p × IsIdle (g.D.Desk.view p)) l.passes.items;
+}

@@ -1,0 +1,441 @@
+-- Each step keeps the rule of the desk.
+use Rattle.std.proofs.Common.{◌≡◌, ◌≢◌, ℕ, zero, suc, pred, ◌+◌, ◌*◌, ◌%◌, ◌<◌, ◌≤◌, List, [], ◌∷◌, ◌++◌, length, set, Option, Some, None, Bool, cond, eqb, eq-eqb, ne_eqb, refl, sym, ap, ◌∙◌, subst, ⊎_elim, arith, All, IfSome, IfNone, MatchBool, append-nil}
+use Rattle.std.specs.Prelude.{slice_index, option_to_list}
+use Rattle.std.proofs.lemmas.List.Elements.{filter-append, All-append, All-cons, All-head, All-tail, All-push, All-weaker}
+use mathlib.Core.Option.{some, none, some-ne-none, some-injective}
+use mathlib.Core.List.{IsPrefix}
+use mathlib.Core.Logic.{dite}
+use native.Mathlib.Decide.{ℕ_discrete, dec_le}
+use lib.ListN.{get_elem?}
+use lib.Seq.{set-get_or}
+use prog.Atomic.{either}
+use Rattle.atomic_table.specs.Table.{State, Me, Step, rest, Act, Valid, step, keeps, takes, gives, stepped, carried_after, Allows, Splits, Joins, opening}
+use Rattle.atomic_table.proofs.Lists.{at_set, at_snoc, set_again}
+use Rattle.bank_law.specs.declared.event.Event.{Event}
+use Rattle.bank_shared.specs.declared.view.View.{View}
+use Rattle.bank_shared.specs.History.{own, own_if}
+use Rattle.bank_shared.specs.Rule.{total, stands, first_view, spent_view, new_view, joined_view, Knows, Placed, IsRuled}
+use Rattle.bank_shared.specs.Plays.{holding, done, seated, caught_up, looked, Gets, Taken, took, released, drew}
+use Rattle.bank_shared.specs.Passes.{Adds, Sees, Keeps, Begins}
+use base.Growing.{prefix_refl, prefix_trans}
+use Rattle.bank_shared.proofs.Sums.{sum_set, sum_append, term_le, terms_le}
+
+-- a list with one item more begins with what the list begins with
+prefix_more : {A : Type 0} (xs ys zs : List A) → IsPrefix xs ys → IsPrefix xs (ys ++ zs)
+prefix_more xs ys zs p = prefix_trans xs ys (ys ++ zs) p (zs, refl)
+
+if_some_map : {A : Type 0} {P Q : A → Type 0} (x : Option A) → ((a : A) → P a → Q a) → IfSome x P → IfSome x Q
+if_some_map None f p = tt
+if_some_map (Some a) f p = f a p
+
+-- the events of another lane stay
+own_other : (l : Option ℕ) (h : List Event) (e : Event) → l ≢ Some e.lane → own_if (h ++ e ∷ []) l ≡ own_if h l
+own_other None h e ne = refl
+own_other (Some k) h e ne = filter-append (λ (x : Event). eqb x.lane k) h (e ∷ []) ∙ ap (λ (b : Bool). own h k ++ cond b (e ∷ []) []) (ne_eqb e.lane k (λ is. ne (ap Some (sym is)))) ∙ append-nil (own h k)
+
+-- a lane that is not drawn has no event
+own_none : (h : List Event) (d : ℕ) → All (λ e. e.lane < d) h → own h d ≡ []
+own_none [] d all = refl
+own_none (e ∷ h) d all = let below : e.lane < d = All-head (λ (x : Event). x.lane < d) e h all in ap (λ (b : Bool). cond b (e ∷ own h d) (own h d)) (ne_eqb e.lane d (λ is. omega arith)) ∙ own_none h d (All-tail (λ (x : Event). x.lane < d) e h all)
+
+module _ {C O : Type 0} (origin : C → O) (journal : C → List Event) (drawn : C → ℕ) (o : O) where
+  abbrev St : Type 0
+  St = State (Option C) (View O)
+
+  abbrev Rule : St → Type 0
+  Rule = IsRuled origin journal drawn o
+
+  abbrev Homes : Type 0
+  Homes = List (mathlib.Core.Option.Option (Option C))
+
+  abbrev Put : Option ℕ → List Event → ℕ → List ℕ → Homes → Type 0
+  Put holder h d ws hs = Placed origin journal drawn holder o h d ws hs
+
+  stands_own : (l : ℕ) (v : View O) → v.lane ≡ Some l → 1 ≤ stands l v
+  stands_own l v is =
+      let a : stands l v ≡ total (λ k. cond (eqb k l) 1 0) (l ∷ v.kept) = ap (λ (x : Option ℕ). total (λ k. cond (eqb k l) 1 0) (option_to_list x ++ v.kept)) is in
+      let b : ◌≡◌ {A = ℕ} (cond (eqb l l) 1 0) 1 = ap (λ (b : Bool). cond {A = ℕ} b 1 0) (eq-eqb l l refl) in
+      omega arith
+
+  -- an even word: the core is at home
+  at_home : (holder : Option ℕ) (h : List Event) (d : ℕ) (ws : List ℕ) (hs : Homes) → Put holder h d ws hs → slice_index ws 0 % 2 ≡ 0 → (holder ≡ None) × Put None h d ws hs
+  at_home None h d ws hs p even = (refl, p)
+  at_home (Some k) h d ws hs p even = let n : slice_index ws 0 ≡ 2 * length h + 1 = ap (λ (l : List ℕ). slice_index l 0) p.0 in absurd (omega arith)
+
+  -- who has the turn
+  turn_of : (s : St) (r : Rule s) (id : ℕ) (v : View O) (p : List Event × ℕ) → get_elem? s.views id ≡ some v → v.turn ≡ Some p → (r.holder ≡ Some id) × (p ≡ (r.history, r.count))
+  turn_of s r id v p at is = subst (λ (x : Option (List Event × ℕ)). IfSome x (λ q. (r.holder ≡ Some id) × (q ≡ (r.history, r.count)))) is (r.turn id v at)
+
+  -- one view changes, and the history and the number drawn stay
+  stays : (s : St) (r : Rule s) (id : ℕ) (v w : View O) → get_elem? s.views id ≡ some v → (ws : List ℕ) (hs : Homes) (h : List Event) (d : ℕ) (holder : Option ℕ)
+      → r.history ≡ h → r.count ≡ d → Put holder h d ws hs → IfSome w.turn (λ p. (holder ≡ Some id) × (p ≡ (h, d))) → ((j : ℕ) → j ≢ id → r.holder ≡ Some j → holder ≡ Some j)
+      → Knows o h d w → ((l : ℕ) → stands l w ≡ stands l v) → Rule (record { words = ws; homes = hs; views = set s.views id w })
+  stays s r id v w at ws hs h d holder same_h same_d placed turn others mine same_lanes = record {
+    history = h;
+    count = d;
+    holder = holder;
+    placed = placed;
+    turn = λ j u e. ⊎_elim
+        (λ (t : (j ≡ id) × (w ≡ u)). subst (λ (x : ℕ × View O). IfSome x.1.turn (λ p. (holder ≡ Some x.0) × (p ≡ (h, d)))) (λ i. (sym t.0 i, t.1 i)) turn)
+        (λ (t : (j ≢ id) × (get_elem? s.views j ≡ some u)). if_some_map u.turn (λ p q. (others j t.0 q.0, q.1 ∙ λ i. (same_h i, same_d i))) (r.turn j u t.1))
+        (at_set s.views id j w u e);
+    knows = λ j u e. ⊎_elim
+        (λ (t : (j ≡ id) × (w ≡ u)). subst (Knows o h d) t.1 mine)
+        (λ (t : (j ≢ id) × (get_elem? s.views j ≡ some u)). subst (λ (x : List Event × ℕ). Knows o x.0 x.1 u) (λ i. (same_h i, same_d i)) (r.knows j u t.1))
+        (at_set s.views id j w u e);
+    once = λ l below. let was = r.once l (subst (λ (k : ℕ). l < k) (sym same_d) below) in let lanes = same_lanes l in omega (arith, sum_set (stands l) s.views id v w at);
+    never = λ l above. let was = r.never l (subst (λ (k : ℕ). k ≤ l) (sym same_d) above) in let lanes = same_lanes l in omega (arith, sum_set (stands l) s.views id v w at);
+    later = subst (λ (x : List Event × ℕ). All (λ e. e.lane < x.1) x.0) (λ i. (same_h i, same_d i)) r.later;
+  }
+
+  -- the word is only read
+  unmoved : (s : St) (r : Rule s) (id : ℕ) (cs : List (ℕ × Option C)) (v w : View O) → get_elem? s.views id ≡ some v → w.turn ≡ v.turn → Knows o r.history r.count w → ((l : ℕ) → stands l w ≡ stands l v)
+      → Rule (stepped s 0 (slice_index s.words 0) id cs w keeps)
+  unmoved s r id cs v w at same mine lanes =
+      subst (λ (ws : List ℕ). Rule record { words = ws; homes = s.homes; views = set s.views id w }) (sym (set-get_or s.words 0 0))
+      (stays s r id v w at s.words s.homes r.history r.count r.holder refl refl r.placed (subst (λ (x : Option (List Event × ℕ)). IfSome x (λ p. (r.holder ≡ Some id) × (p ≡ (r.history, r.count)))) (sym same) (r.turn id v at)) (λ j _ is. is) mine lanes)
+
+  -- kind 3
+  pub looks : (slots id : ℕ) (me : Me (Option C) (View O)) (st : Step (Option C)) → Allows Rule slots id me 0 (λ n. n) (looked st me)
+  looks slots id me st s r len at small =
+      let v = me.0 in
+      let k = r.knows id v at in
+      let w = caught_up v r.history in (
+        w,
+        keeps,
+        tt,
+        unmoved s r id me.1 v w at refl (record { desk = k.desk; seen = prefix_refl r.history; olds = λ i d lt. absurd (omega arith); mine = k.mine; drawn = k.drawn }) (λ l. refl),
+        (r.history, refl, k.seen, k.olds, k.mine),
+      )
+
+  -- kind 4
+  takes_turn : (s : St) (r : Rule s) (id old : ℕ) (v : View O) → get_elem? s.views id ≡ some v → v.origin ≡ Some o → old % 2 ≡ 0 → slice_index s.words 0 ≡ old
+      → (c : C) × (get_elem? s.homes 0 ≡ some (some (Some c))) × Rule (stepped s 0 (old + 1) id [] (holding v (journal c) (drawn c)) (takes 0 (Some c))) × Taken origin journal drawn v c old (holding v (journal c) (drawn c), (0, Some c) ∷ [])
+  takes_turn s r id old v at is_desk even found =
+      let free = at_home r.holder r.history r.count s.words s.homes r.placed (ap (λ (n : ℕ). n % 2) found ∙ even) in
+      let home = free.1 in
+      let c = home.0 in
+      let is_o = home.1 in
+      let is_h = home.2 in
+      let is_d = home.3 in
+      let words = home.4 in
+      let homes = home.5 in
+      let len : slice_index s.words 0 ≡ 2 * length (journal c) = ap (λ (l : List ℕ). slice_index l 0) words ∙ ap (λ (h : List Event). 2 * length h) (sym is_h) in
+      let known : Knows (origin c) (journal c) (drawn c) v = subst (λ (x : O × List Event × ℕ). Knows x.0 x.1 x.2 v) (λ i. (sym is_o i, sym is_h i, sym is_d i)) (r.knows id v at) in
+      let w = holding v (journal c) (drawn c) in
+      let mine : Knows o (journal c) (drawn c) w = let k = subst (λ (x : List Event × ℕ). Knows o x.0 x.1 v) (λ i. (sym is_h i, sym is_d i)) (r.knows id v at) in record { desk = k.desk; seen = k.seen; olds = k.olds; mine = k.mine; drawn = k.drawn } in (
+        c,
+        ap (λ (hs : Homes). get_elem? hs 0) homes,
+        stays s r id v w at _ _ (journal c) (drawn c) (Some id) (sym is_h) (sym is_d)
+            (ap (λ (l : List ℕ). set l 0 (old + 1)) words ∙ ap (λ (n : ℕ). n ∷ []) (omega (arith, len)), ap (λ (hs : Homes). set hs 0 none) homes)
+            (refl, refl)
+            (λ j ne is. absurd (cc (is, free.0)))
+            mine (λ l. refl),
+        (refl, sym found ∙ len, known, subst (λ (x : List Event × ℕ). All (λ e. e.lane < x.1) x.0) (λ i. (sym is_h i, sym is_d i)) r.later),
+      )
+
+  pub takes_or_not : (slots id old : ℕ) (v : View O) (x : mathlib.Core.Option.Option (Option C)) → v.origin ≡ Some o → old % 2 ≡ 0
+      → Allows Rule slots id (v, []) 0 (λ n. either (eqb n old) (old + 1) n) (took origin journal drawn (step slots 0 old (old + 1) x) (v, []))
+  takes_or_not slots id old v x is_desk even s r len at small = dite (ℕ_discrete (slice_index s.words 0) old)
+      (λ is. subst (λ (b : Bool). Goal b) (sym (eq-eqb (slice_index s.words 0) old is))
+      (let t = takes_turn s r id old v at is_desk even is in
+      let c = t.0 in
+      (holding v (journal c) (drawn c), takes 0 (Some c), t.1, t.2, (c, (t.3.0, is ∙ t.3.1, t.3.2, t.3.3)))))
+      (λ not. subst (λ (b : Bool). Goal b) (sym (ne_eqb (slice_index s.words 0) old not))
+      (v, keeps, tt, unmoved s r id [] v v at refl (r.knows id v at) (λ l. refl), refl))
+    where
+      Goal : Bool → Type 0
+      Goal b = (w : View O) × (a : Act (Option C)) × Valid s.homes [] a × Rule (stepped s 0 (either b (old + 1) (slice_index s.words 0)) id [] w a)
+          × MatchBool b ((c : C) × Taken origin journal drawn v c (slice_index s.words 0) (w, carried_after [] a)) (◌≡◌ {A = Me (Option C) (View O)} (w, carried_after [] a) (v, []))
+
+  abbrev unslot : List (ℕ × Option C) → C → C
+  unslot ((k, Some x) ∷ xs) d = x
+  unslot ((k, None) ∷ xs) d = d
+  unslot [] d = d
+
+  slot_is : (c x : C) → ◌≡◌ {A = List (ℕ × Option C)} ((0, Some c) ∷ []) ((0, Some x) ∷ []) → c ≡ x
+  slot_is c x e = ap (λ (l : List (ℕ × Option C)). unslot l c) e
+
+  -- kind 8
+  pub releases : (slots id new : ℕ) (v : View O) (c : C) (h : List Event) (d : ℕ) → v.turn ≡ Some (h, d) → v.origin ≡ Some o → origin c ≡ o → journal c ≡ h → drawn c ≡ d → new ≡ 2 * length (journal c)
+      → Allows Rule slots id (v, (0, Some c) ∷ []) 0 (λ _. new) (λ _. released journal drawn (step slots 0 new 0 none) (v, (0, Some c) ∷ []) new)
+  releases slots id new v c h d turn is_desk is_o is_h is_d is_new s r len at small =
+      let t = turn_of s r id v (h, d) at turn in
+      let same_h : r.history ≡ journal c = ap (λ (p : List Event × ℕ). p.0) (sym t.1) ∙ sym is_h in
+      let same_d : r.count ≡ drawn c = ap (λ (p : List Event × ℕ). p.1) (sym t.1) ∙ sym is_d in
+      let p = subst (λ (k : Option ℕ). Put k r.history r.count s.words s.homes) t.0 r.placed in
+      let k = r.knows id v at in
+      let w = done v (journal c) (drawn c) in (
+        w,
+        gives,
+        tt,
+        stays s r id v w at _ _ (journal c) (drawn c) None same_h same_d
+            (c, is_o, refl, refl, ap (λ (l : List ℕ). set l 0 new) p.0 ∙ ap (λ (n : ℕ). n ∷ []) is_new, ap (λ (hs : Homes). set hs 0 (some (Some c))) p.1)
+            tt
+            (λ j ne is. absurd (ne (cc (is, t.0))))
+            (record { desk = k.desk; seen = prefix_refl (journal c); olds = λ i d lt. absurd (omega arith); mine = refl; drawn = omega arith })
+            (λ l. refl),
+        λ x is. ap (λ (y : C). (done v (journal y) (drawn y), [])) (slot_is c x is),
+      )
+
+  -- kind 7
+  pub commits : (slots id new : ℕ) (v : View O) (c : C) (h : List Event) (d : ℕ) (e : Event) → v.turn ≡ Some (h, d) → v.origin ≡ Some o → origin c ≡ o → journal c ≡ h ++ e ∷ [] → v.lane ≡ Some e.lane → drawn c ≡ d → new ≡ 2 * length (journal c)
+      → Allows Rule slots id (v, (0, Some c) ∷ []) 0 (λ _. new) (λ _. released journal drawn (step slots 0 new 0 none) (v, (0, Some c) ∷ []) new)
+  commits slots id new v c h d e turn is_desk is_o is_h is_lane is_d is_new s r len at small =
+      let t = turn_of s r id v (h, d) at turn in
+      let old_h : h ≡ r.history = ap (λ (p : List Event × ℕ). p.0) t.1 in
+      let same_h : journal c ≡ r.history ++ e ∷ [] = is_h ∙ ap (λ (l : List Event). l ++ e ∷ []) old_h in
+      let same_d : r.count ≡ drawn c = ap (λ (p : List Event × ℕ). p.1) (sym t.1) ∙ sym is_d in
+      let p = subst (λ (k : Option ℕ). Put k r.history r.count s.words s.homes) t.0 r.placed in
+      let k = r.knows id v at in
+      let w = done v (journal c) (drawn c) in
+      let mine = stands_own e.lane v is_lane in
+      let drawn_lane : e.lane < r.count = dite (dec_le r.count e.lane) (λ above. let none_yet = r.never e.lane above in absurd (omega (arith, term_le (stands e.lane) s.views id v at))) (λ not. grind (arith, not)) in
+      let one = r.once e.lane drawn_lane in
+      let grown : (j : ℕ) (u : View O) → j ≢ id → get_elem? s.views j ≡ some u → Knows o (journal c) (drawn c) u =
+      λ j u ne there.
+      let q = r.knows j u there in
+      let apart : u.lane ≢ Some e.lane = λ is. let theirs = stands_own e.lane u is in absurd (omega (arith, terms_le (stands e.lane) s.views id j v u ne at there)) in
+      subst (λ (x : List Event × ℕ). Knows o x.0 x.1 u) (λ i. (sym same_h i, same_d i))
+      (record { desk = q.desk; seen = prefix_more u.seen r.history (e ∷ []) q.seen; olds = All-weaker (λ x. IsPrefix x r.history) (λ x. IsPrefix x (r.history ++ e ∷ [])) (λ x y. prefix_more x r.history (e ∷ []) y) u.olds q.olds; mine = q.mine ∙ sym (own_other u.lane r.history e apart); drawn = q.drawn }) in (
+        w,
+        gives,
+        tt,
+        record {
+          history = journal c;
+          count = drawn c;
+          holder = None;
+          placed = (c, is_o, refl, refl, ap (λ (l : List ℕ). set l 0 new) p.0 ∙ ap (λ (n : ℕ). n ∷ []) is_new, ap (λ (hs : Homes). set hs 0 (some (Some c))) p.1);
+          turn = λ j u there. ⊎_elim
+              (λ (m : (j ≡ id) × (w ≡ u)). subst (λ (x : View O). IfSome x.turn (λ p. (None ≡ Some j) × (p ≡ (journal c, drawn c)))) m.1 tt)
+              (λ (m : (j ≢ id) × (get_elem? s.views j ≡ some u)). if_some_map u.turn (λ p q. absurd (m.0 (cc (q.0, t.0)))) (r.turn j u m.1))
+              (at_set s.views id j w u there);
+          knows = λ j u there. ⊎_elim
+              (λ (m : (j ≡ id) × (w ≡ u)). subst (Knows o (journal c) (drawn c)) m.1 (record { desk = k.desk; seen = prefix_refl (journal c); olds = λ i d lt. absurd (omega arith); mine = refl; drawn = omega arith }))
+              (λ (m : (j ≢ id) × (get_elem? s.views j ≡ some u)). grown j u m.0 m.1)
+              (at_set s.views id j w u there);
+          once = λ l below. let was = r.once l (subst (λ (k : ℕ). l < k) (sym same_d) below) in omega (arith, sum_set (stands l) s.views id v w at);
+          never = λ l above. let was = r.never l (subst (λ (k : ℕ). k ≤ l) (sym same_d) above) in omega (arith, sum_set (stands l) s.views id v w at);
+          later = subst (λ (x : List Event × ℕ). All (λ e. e.lane < x.1) x.0) (λ i. (sym same_h i, same_d i)) (All-push (λ (x : Event). x.lane < r.count) r.history e r.later drawn_lane);
+        },
+        λ x is. ap (λ (y : C). (done v (journal y) (drawn y), [])) (slot_is c x is),
+      )
+
+  -- kind 8, where the seat gets its lane
+  pub draws : (slots id new : ℕ) (v : View O) (c : C) (h : List Event) (d : ℕ) → v.turn ≡ Some (h, d) → v.origin ≡ Some o → v.lane ≡ None → origin c ≡ o → journal c ≡ h → drawn c ≡ d + 1 → new ≡ 2 * length (journal c)
+      → Allows Rule slots id (v, (0, Some c) ∷ []) 0 (λ _. new) (λ _. drew journal drawn (step slots 0 new 0 none) (v, (0, Some c) ∷ []) new)
+  draws slots id new v c h d turn is_desk no_lane is_o is_h is_d is_new s r len at small =
+      let t = turn_of s r id v (h, d) at turn in
+      let same_h : r.history ≡ journal c = ap (λ (p : List Event × ℕ). p.0) (sym t.1) ∙ sym is_h in
+      let same_d : d ≡ r.count = ap (λ (p : List Event × ℕ). p.1) t.1 in
+      let p = subst (λ (k : Option ℕ). Put k r.history r.count s.words s.homes) t.0 r.placed in
+      let k = r.knows id v at in
+      let w = seated v (journal c) (drawn c) in
+      let lane : pred (drawn c) ≡ r.count = omega arith in
+      let later : All (λ e. e.lane < r.count) (journal c) = subst (λ (l : List Event). All (λ e. e.lane < r.count) l) same_h r.later in
+      let count : (l : ℕ) → stands l w ≡ cond (eqb r.count l) 1 0 + stands l v = λ l.
+      let a : stands l v ≡ total (λ k. cond (eqb k l) 1 0) v.kept = ap (λ (x : Option ℕ). total (λ k. cond (eqb k l) 1 0) (option_to_list x ++ v.kept)) no_lane in
+      let b : stands l w ≡ cond (eqb r.count l) 1 0 + total (λ k. cond (eqb k l) 1 0) v.kept = ap (λ (x : ℕ). cond {A = ℕ} (eqb x l) 1 0 + total (λ k. cond (eqb k l) 1 0) v.kept) lane in
+      omega arith in (
+        w,
+        gives,
+        tt,
+        record {
+          history = journal c;
+          count = drawn c;
+          holder = None;
+          placed = (c, is_o, refl, refl, ap (λ (l : List ℕ). set l 0 new) p.0 ∙ ap (λ (n : ℕ). n ∷ []) is_new, ap (λ (hs : Homes). set hs 0 (some (Some c))) p.1);
+          turn = λ j u there. ⊎_elim
+              (λ (m : (j ≡ id) × (w ≡ u)). subst (λ (x : View O). IfSome x.turn (λ p. (None ≡ Some j) × (p ≡ (journal c, drawn c)))) m.1 tt)
+              (λ (m : (j ≢ id) × (get_elem? s.views j ≡ some u)). if_some_map u.turn (λ p q. absurd (m.0 (cc (q.0, t.0)))) (r.turn j u m.1))
+              (at_set s.views id j w u there);
+          knows = λ j u there. ⊎_elim
+              (λ (m : (j ≡ id) × (w ≡ u)). subst (Knows o (journal c) (drawn c)) m.1
+              (record { desk = k.desk; seen = prefix_refl (journal c); olds = λ i d lt. absurd (omega arith); mine = sym (ap (own (journal c)) lane ∙ own_none (journal c) r.count later); drawn = omega arith }))
+              (λ (m : (j ≢ id) × (get_elem? s.views j ≡ some u)).
+              let q = r.knows j u m.1 in
+              subst (λ (l : List Event). Knows o l (drawn c) u) same_h (record { desk = q.desk; seen = q.seen; olds = q.olds; mine = q.mine; drawn = (let n = q.drawn in omega arith) }))
+              (at_set s.views id j w u there);
+          once = λ l below. dite (ℕ_discrete r.count l)
+              (λ is. let was = r.never l (omega arith) in let n : cond {A = ℕ} (eqb r.count l) 1 0 ≡ 1 = ap (λ b. cond {A = ℕ} b 1 0) (eq-eqb r.count l is) in omega (arith, count l, sum_set (stands l) s.views id v w at))
+              (λ not. let was = r.once l (omega arith) in let n : cond {A = ℕ} (eqb r.count l) 1 0 ≡ 0 = ap (λ b. cond {A = ℕ} b 1 0) (ne_eqb r.count l not) in omega (arith, count l, sum_set (stands l) s.views id v w at));
+          never = λ l above. let was = r.never l (omega arith) in let n : cond {A = ℕ} (eqb r.count l) 1 0 ≡ 0 = ap (λ b. cond {A = ℕ} b 1 0) (ne_eqb r.count l (λ is. omega arith)) in omega (arith, count l, sum_set (stands l) s.views id v w at);
+          later = All-weaker (λ (e : Event). e.lane < r.count) (λ (e : Event). e.lane < drawn c) (λ e lt. omega arith) (journal c) later;
+        },
+        λ x is. ap (λ (y : C). (seated v (journal y) (drawn y), [])) (slot_is c x is),
+      )
+
+  -- kind 1
+  pub splits : (id : ℕ) (v : View O) → Splits Rule id v v (new_view v)
+  splits id v s r at =
+      let k = r.knows id v at in
+      let fresh : Knows o r.history r.count (new_view v) = record { desk = k.desk; seen = k.seen; olds = λ i d lt. absurd (omega arith); mine = refl; drawn = k.drawn } in
+      let was : (j : ℕ) (u : View O) → get_elem? (set s.views id v) j ≡ some u → get_elem? s.views j ≡ some u = λ j u there. subst (λ (l : List (View O)). get_elem? l j ≡ some u) (set_again s.views id v at) there in
+      let count : (l : ℕ) → total (stands l) (set s.views id v ++ new_view v ∷ []) ≡ total (stands l) s.views = λ l. omega (arith, ap (total (stands l)) (set_again s.views id v at), sum_append (stands l) (set s.views id v) (new_view v ∷ [])) in
+      record {
+        history = r.history;
+        count = r.count;
+        holder = r.holder;
+        placed = r.placed;
+        turn = λ j u there. ⊎_elim (λ was_there. r.turn j u (was j u was_there)) (λ (is : new_view v ≡ u). subst (λ (x : View O). IfSome x.turn (λ p. (r.holder ≡ Some j) × (p ≡ (r.history, r.count)))) is tt) (at_snoc (set s.views id v) (new_view v) u j there);
+        knows = λ j u there. ⊎_elim (λ was_there. r.knows j u (was j u was_there)) (λ (is : new_view v ≡ u). subst (Knows o r.history r.count) is fresh) (at_snoc (set s.views id v) (new_view v) u j there);
+        once = λ l below. count l ∙ r.once l below;
+        never = λ l above. count l ∙ r.never l above;
+        later = r.later;
+      }
+
+  -- kind 2
+  pub joins : (id : ℕ) (v : View O) (other : ℕ) (w : View O) → Joins Rule id v other w (joined_view v w) spent_view
+  joins id v other w s r at apart there =
+      let k = r.knows id v at in
+      let old_w : get_elem? s.views other ≡ some w = ⊎_elim (λ (t : (other ≡ id) × (joined_view v w ≡ w)). absurd (apart t.0)) (λ (t : (other ≢ id) × (get_elem? s.views other ≡ some w)). t.1) (at_set s.views id other (joined_view v w) w there) in
+      let q = r.knows other w old_w in
+      let mine : Knows o r.history r.count (joined_view v w) = record { desk = k.desk; seen = k.seen; olds = All-cons (λ x. IsPrefix x r.history) w.seen (w.olds ++ v.olds) q.seen (All-append (λ x. IsPrefix x r.history) w.olds v.olds q.olds k.olds); mine = k.mine; drawn = (let a = k.drawn in let b = q.drawn in omega arith) } in
+      let count : (l : ℕ) → total (stands l) (set (set s.views id (joined_view v w)) other spent_view) ≡ total (stands l) s.views = λ l.
+      let f : ℕ → ℕ = λ x. cond {A = ℕ} (eqb x l) 1 0 in
+      let a = sum_set (stands l) s.views id v (joined_view v w) at in
+      let b = sum_set (stands l) (set s.views id (joined_view v w)) other w spent_view there in
+      let c : total f (option_to_list v.lane ++ ((option_to_list w.lane ++ w.kept) ++ v.kept)) ≡ total f (option_to_list v.lane) + total f ((option_to_list w.lane ++ w.kept) ++ v.kept) = sum_append f (option_to_list v.lane) _ in
+      let d : total f ((option_to_list w.lane ++ w.kept) ++ v.kept) ≡ total f (option_to_list w.lane ++ w.kept) + total f v.kept = sum_append f (option_to_list w.lane ++ w.kept) v.kept in
+      let e : total f (option_to_list v.lane ++ v.kept) ≡ total f (option_to_list v.lane) + total f v.kept = sum_append f (option_to_list v.lane) v.kept in
+      omega (arith, a, b, c, d, e) in
+      record {
+        history = r.history;
+        count = r.count;
+        holder = r.holder;
+        placed = r.placed;
+        turn = λ j u at_j. ⊎_elim
+            (λ (m : (j ≡ other) × (spent_view ≡ u)). subst (λ (x : View O). IfSome x.turn (λ p. (r.holder ≡ Some j) × (p ≡ (r.history, r.count)))) m.1 tt)
+            (λ (m : (j ≢ other) × (get_elem? (set s.views id (joined_view v w)) j ≡ some u)). ⊎_elim
+            (λ (n : (j ≡ id) × (joined_view v w ≡ u)). subst (λ (x : ℕ × View O). IfSome x.1.turn (λ p. (r.holder ≡ Some x.0) × (p ≡ (r.history, r.count)))) (λ i. (sym n.0 i, n.1 i)) (r.turn id v at))
+            (λ (n : (j ≢ id) × (get_elem? s.views j ≡ some u)). r.turn j u n.1)
+            (at_set s.views id j (joined_view v w) u m.1))
+            (at_set (set s.views id (joined_view v w)) other j spent_view u at_j);
+        knows = λ j u at_j. ⊎_elim
+            (λ (m : (j ≡ other) × (spent_view ≡ u)). subst (Knows o r.history r.count) m.1 (record { desk = tt; seen = (r.history, refl); olds = λ i d lt. absurd (omega arith); mine = refl; drawn = omega arith }))
+            (λ (m : (j ≢ other) × (get_elem? (set s.views id (joined_view v w)) j ≡ some u)). ⊎_elim
+            (λ (n : (j ≡ id) × (joined_view v w ≡ u)). subst (Knows o r.history r.count) n.1 mine)
+            (λ (n : (j ≢ id) × (get_elem? s.views j ≡ some u)). r.knows j u n.1)
+            (at_set s.views id j (joined_view v w) u m.1))
+            (at_set (set s.views id (joined_view v w)) other j spent_view u at_j);
+        once = λ l below. count l ∙ r.once l below;
+        never = λ l above. count l ∙ r.never l above;
+        later = r.later;
+      }
+
+  pub opens : (c : C) → origin c ≡ o → journal c ≡ [] → drawn c ≡ 1 → Rule (opening (0 ∷ []) (Some c ∷ []) (first_view o))
+  opens c is_o is_h is_d = record {
+    history = [];
+    count = 1;
+    holder = None;
+    placed = (c, is_o, is_h, is_d, refl, refl);
+    turn = one (λ j u. IfSome u.turn (λ p. (None ≡ Some j) × (p ≡ ([], 1)))) tt;
+    knows = one (λ j u. Knows o [] 1 u) (record { desk = refl; seen = ([], refl); olds = λ i d lt. absurd (omega arith); mine = refl; drawn = omega arith });
+    once = λ l below. let z : l ≡ 0 = omega arith in subst (λ (k : ℕ). total (stands k) (first_view o ∷ []) ≡ 1) (sym z) refl;
+    never = λ l above. ap (λ b. cond {A = ℕ} b 1 0 + 0 + 0) (ne_eqb 0 l (λ is. omega arith));
+    later = λ i d lt. absurd (omega arith);
+  }
+    where
+      one : (P : ℕ → View O → Type 0) → P 0 (first_view o) → (j : ℕ) (u : View O) → get_elem? (first_view o ∷ []) j ≡ some u → P j u
+      one P p zero u e = subst (P 0) (some-injective _ _ e) p
+      one P p (suc j) u e = absurd (some-ne-none u (sym e))
+
+  -- the same, as the calls ask for it
+  pub opens_at : (xs ys : List (Option C)) (c : C) → xs ≡ ys ++ Some c ∷ [] → ys ≡ [] → origin c ≡ o → journal c ≡ [] → drawn c ≡ 1 → Rule (opening (0 ∷ []) xs (first_view o))
+  opens_at xs ys c is empty is_o is_h is_d = subst (λ (l : List (Option C)). Rule (opening (0 ∷ []) l (first_view o))) (sym (is ∙ ap (λ (l : List (Option C)). l ++ Some c ∷ []) empty)) (opens c is_o is_h is_d)
+
+  pub takes_at : (slots id old : ℕ) (me : Me (Option C) (View O)) (x : mathlib.Core.Option.Option (Option C)) → me.1 ≡ [] → me.0.origin ≡ Some o → old % 2 ≡ 0
+      → Allows Rule slots id me 0 (λ n. either (eqb n old) (old + 1) n) (took origin journal drawn (step slots 0 old (old + 1) x) me)
+  takes_at slots id old me x empty is_desk even =
+      subst (λ (cs : List (ℕ × Option C)). Allows Rule slots id (me.0, cs) 0 (λ n. either (eqb n old) (old + 1) n) (took origin journal drawn (step slots 0 old (old + 1) x) (me.0, cs))) (sym empty) (takes_or_not slots id old me.0 x is_desk even)
+
+  pub releases_at : (slots id new : ℕ) (me : Me (Option C) (View O)) (c : C) → me.1 ≡ (0, Some c) ∷ [] → me.0.turn ≡ Some (journal c, drawn c) → me.0.origin ≡ Some o → origin c ≡ o → new ≡ 2 * length (journal c)
+      → Allows Rule slots id me 0 (λ _. new) (λ _. released journal drawn (step slots 0 new 0 none) me new)
+  releases_at slots id new me c slot turn is_desk is_o is_new =
+      subst (λ (cs : List (ℕ × Option C)). Allows Rule slots id (me.0, cs) 0 (λ _. new) (λ _. released journal drawn (step slots 0 new 0 none) (me.0, cs) new)) (sym slot) (releases slots id new me.0 c (journal c) (drawn c) turn is_desk is_o refl refl is_new)
+
+  pub commits_at : (slots id new : ℕ) (me : Me (Option C) (View O)) (c : C) (h : List Event) (e : Event) → me.1 ≡ (0, Some c) ∷ [] → me.0.turn ≡ Some (h, drawn c) → me.0.origin ≡ Some o → origin c ≡ o → journal c ≡ h ++ e ∷ [] → me.0.lane ≡ Some e.lane → new ≡ 2 * length (journal c)
+      → Allows Rule slots id me 0 (λ _. new) (λ _. released journal drawn (step slots 0 new 0 none) me new)
+  commits_at slots id new me c h e slot turn is_desk is_o is_h is_lane is_new =
+      subst (λ (cs : List (ℕ × Option C)). Allows Rule slots id (me.0, cs) 0 (λ _. new) (λ _. released journal drawn (step slots 0 new 0 none) (me.0, cs) new)) (sym slot) (commits slots id new me.0 c h (drawn c) e turn is_desk is_o is_h is_lane refl is_new)
+
+  pub draws_at : (slots id new : ℕ) (me : Me (Option C) (View O)) (c : C) (d : ℕ) → me.1 ≡ (0, Some c) ∷ [] → me.0.turn ≡ Some (journal c, d) → me.0.origin ≡ Some o → me.0.lane ≡ None → origin c ≡ o → drawn c ≡ d + 1 → new ≡ 2 * length (journal c)
+      → Allows Rule slots id me 0 (λ _. new) (λ _. drew journal drawn (step slots 0 new 0 none) me new)
+  draws_at slots id new me c d slot turn is_desk no_lane is_o is_d is_new =
+      subst (λ (cs : List (ℕ × Option C)). Allows Rule slots id (me.0, cs) 0 (λ _. new) (λ _. drew journal drawn (step slots 0 new 0 none) (me.0, cs) new)) (sym slot) (draws slots id new me.0 c (journal c) d turn is_desk no_lane is_o refl is_d is_new)
+
+  -- what a compare-exchange told
+  pub hit : (slots old new : ℕ) (me : Me (Option C) (View O)) (n : ℕ) (me' : Me (Option C) (View O)) → n ≡ old → took origin journal drawn (step slots 0 old new none) me n me' → (c : C) × Taken origin journal drawn me.0 c n me'
+  hit slots old new me n me' is told = subst (λ (b : Bool). MatchBool b ((c : C) × Taken origin journal drawn me.0 c n me') (me' ≡ me)) (eq-eqb n old is) told
+
+  pub miss : (slots old new : ℕ) (me : Me (Option C) (View O)) (n : ℕ) (me' : Me (Option C) (View O)) → n ≢ old → took origin journal drawn (step slots 0 old new none) me n me' → me' ≡ me
+  miss slots old new me n me' not told = subst (λ (b : Bool). MatchBool b ((c : C) × Taken origin journal drawn me.0 c n me') (me' ≡ me)) (ne_eqb n old not) told
+
+  abbrev front : List (ℕ × Option C) → Option C
+  front [] = None
+  front (x ∷ xs) = x.1
+
+  pub holds_some : (slots old new : ℕ) (me : Me (Option C) (View O)) (n : ℕ) (me' : Me (Option C) (View O)) → n ≡ old → took origin journal drawn (step slots 0 old new none) me n me' → (x : Option C) × (me'.1 ≡ (0, x) ∷ rest me'.1)
+  holds_some slots old new me n me' is told = let t = hit slots old new me n me' is told in let e : me'.1 ≡ (0, Some t.0) ∷ [] = ap (λ (m : Me (Option C) (View O)). m.1) t.1.0 in (Some t.0, e ∙ ap (λ (l : List (ℕ × Option C)). (0, Some t.0) ∷ rest l) (sym e))
+
+  -- the turn was taken, and the core taken out
+  pub gets_some : (slots old new : ℕ) (me : Me (Option C) (View O)) (n : ℕ) (me' : Me (Option C) (View O)) → me.0.origin ≡ Some o → n ≡ old → took origin journal drawn (step slots 0 old new none) me n me'
+      → (x : Option C) (last : Me (Option C) (View O)) → me'.1 ≡ (0, x) ∷ rest me'.1 → last ≡ (me'.0, (0, None) ∷ rest me'.1) → (P : Type 0) → (IfNone x P) × (IfSome x (λ k. (last ≡ (holding me.0 (journal k) (drawn k), (0, None) ∷ [])) × Gets o (origin k) (journal k) (drawn k) me.0 old))
+  gets_some slots old new me n me' is_desk is told x last out then P =
+      let t = hit slots old new me n me' is told in
+      let c = t.0 in
+      let e : me'.1 ≡ (0, Some c) ∷ [] = ap (λ (m : Me (Option C) (View O)). m.1) t.1.0 in
+      let same : o ≡ origin c = subst (λ (y : Option O). IfSome y (λ p. p ≡ origin c)) is_desk t.1.2.desk in
+      let x_is : x ≡ Some c = ap front (sym out ∙ e) in
+      let now : last ≡ (holding me.0 (journal c) (drawn c), (0, None) ∷ []) = then ∙ ap (λ (m : Me (Option C) (View O)). (m.0, (0, None) ∷ rest m.1)) t.1.0 in
+      subst (λ (y : Option C). (IfNone y P) × (IfSome y (λ k. (last ≡ (holding me.0 (journal k) (drawn k), (0, None) ∷ [])) × Gets o (origin k) (journal k) (drawn k) me.0 old))) (sym x_is)
+      (tt, (now, record { desk = sym same; word = sym is ∙ t.1.1; knows = subst (λ (p : O). Knows p (journal c) (drawn c) me.0) (sym same) t.1.2; later = t.1.3 }))
+
+-- the events of the lane itself grow
+own_same : (k : ℕ) (h : List Event) (e : Event) → e.lane ≡ k → own (h ++ e ∷ []) k ≡ own h k ++ e ∷ []
+own_same k h e is = filter-append (λ (x : Event). eqb x.lane k) h (e ∷ []) ∙ ap (λ (b : Bool). own h k ++ cond b (e ∷ []) []) (eq-eqb e.lane k is)
+
+module _ {O : Type 0} where
+  pub adds : (o : O) (h new : List Event) (d d' : ℕ) (e : Event) (v w : View O) → Knows o h d v → v.lane ≡ Some e.lane → new ≡ h ++ e ∷ [] → w ≡ done (holding v h d) new d' → Adds v e w
+  adds o h new d d' e v w k lane is last = record {
+    before = h;
+    seen = ap (λ (u : View O). u.seen) last ∙ is;
+    longer = k.seen;
+    mine = ap (λ (u : View O). u.mine) last ∙ (ap (λ (x : List Event × Option ℕ). own_if x.0 x.1) (λ i. (is i, lane i)) ∙ (own_same e.lane h e refl ∙ ap (λ (l : List Event). l ++ e ∷ []) (sym (k.mine ∙ ap (own_if h) lane))));
+    turn = ap (λ (u : View O). u.turns) last;
+  }
+
+  pub sees : (o : O) (h : List Event) (d d' : ℕ) (v w : View O) → Knows o h d v → w ≡ done (holding v h d) h d' → Sees v w
+  sees o h d d' v w k last = record {
+    longer = subst (IsPrefix v.seen) (sym (ap (λ (u : View O). u.seen) last)) k.seen;
+    mine = ap (λ (u : View O). u.mine) last ∙ sym k.mine;
+    turn = ap (λ (u : View O). u.turns) last;
+  }
+
+  pub kept : (o : O) (h new more : List Event) (d d' : ℕ) (v w : View O) → Knows o h d v → new ≡ h ++ more → d ≤ d' → w ≡ done (holding v h d) new d' → Keeps v w
+  kept o h new more d d' v w k is grows last = record {
+    origin = ap (λ (u : View O). u.origin) last;
+    lane = ap (λ (u : View O). u.lane) last;
+    own = ap (λ (u : View O). u.mine) last ∙ sym (ap (λ (u : View O). own_if u.seen u.lane) last);
+    longer = subst (IsPrefix v.seen) (sym (ap (λ (u : View O). u.seen) last ∙ is)) (prefix_more v.seen h more k.seen);
+    drawn = (let n = k.drawn in let m : w.drawn ≡ d' = ap (λ (u : View O). u.drawn) last in omega arith);
+  }
+
+  pub begins : (o : O) (v w : View O) (h : List Event) (d : ℕ) → Knows o h d (new_view v) → All (λ e. e.lane < d) h → w ≡ seated (holding (new_view v) h d) h (d + 1) → Begins v d w × (w.turn ≡ None) × (w.origin ≡ v.origin) × (w.mine ≡ own w.seen d)
+  begins o v w h d k later is =
+      let lane : pred (d + 1) ≡ d = omega arith in (
+        record {
+          lane = ap (λ (u : View O). u.lane) is ∙ ap Some lane;
+          mine = ap (λ (u : View O). u.mine) is;
+          drawn = ap (λ (u : View O). u.drawn) is;
+          longer = subst (IsPrefix v.seen) (sym (ap (λ (u : View O). u.seen) is)) k.seen;
+          turns = ap (λ (u : View O). u.turns) is;
+        },
+        ap (λ (u : View O). u.turn) is,
+        ap (λ (u : View O). u.origin) is,
+        ap (λ (u : View O). u.mine) is ∙ (sym (own_none h d later) ∙ sym (ap (λ (u : View O). own u.seen d) is)),
+      )
+
+-- what a pass knows of its lane's events is all that the history has of it
+pub mine_is : {O : Type 0} (o : O) (h : List Event) (d l : ℕ) (v : View O) → Knows o h d v → v.lane ≡ Some l → own h l ≡ v.mine
+mine_is o h d l v k lane = sym (ap (own_if h) lane) ∙ sym k.mine

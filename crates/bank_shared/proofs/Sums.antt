@@ -1,0 +1,27 @@
+-- Sums over lists that change at one place.
+use Rattle.std.proofs.Common.{◌≡◌, ℕ, zero, suc, ◌+◌, ◌≤◌, ◌≢◌, List, [], ◌∷◌, ◌++◌, set, sym, refl, ap, arith}
+use mathlib.Core.Option.{some, some-injective, some-ne-none}
+use lib.ListN.{get_elem?}
+use Rattle.bank_shared.specs.Rule.{total}
+
+module _ {A : Type 0} (g : A → ℕ) where
+  pub sum_set : (l : List A) (j : ℕ) (v w : A) → get_elem? l j ≡ some v → total g (set l j w) + g v ≡ total g l + g w
+  sum_set [] j v w e = absurd (some-ne-none v (sym e))
+  sum_set (x ∷ xs) zero v w e = omega (arith, ap g (some-injective x v e))
+  sum_set (x ∷ xs) (suc j) v w e = omega (arith, sum_set xs j v w e)
+
+  pub term_le : (l : List A) (j : ℕ) (v : A) → get_elem? l j ≡ some v → g v ≤ total g l
+  term_le [] j v e = absurd (some-ne-none v (sym e))
+  term_le (x ∷ xs) zero v e = omega (arith, ap g (some-injective x v e))
+  term_le (x ∷ xs) (suc j) v e = omega (arith, term_le xs j v e)
+
+  pub terms_le : (l : List A) (j k : ℕ) (v u : A) → k ≢ j → get_elem? l j ≡ some v → get_elem? l k ≡ some u → g v + g u ≤ total g l
+  terms_le [] j k v u n e d = absurd (some-ne-none v (sym e))
+  terms_le (x ∷ xs) zero zero v u n e d = absurd (n refl)
+  terms_le (x ∷ xs) zero (suc k) v u n e d = omega (arith, ap g (some-injective x v e), term_le xs k u d)
+  terms_le (x ∷ xs) (suc j) zero v u n e d = omega (arith, ap g (some-injective x u d), term_le xs j v e)
+  terms_le (x ∷ xs) (suc j) (suc k) v u n e d = omega (arith, terms_le xs j k v u (λ h. n (ap suc h)) e d)
+
+  pub sum_append : (l m : List A) → total g (l ++ m) ≡ total g l + total g m
+  sum_append [] m = omega arith
+  sum_append (x ∷ xs) m = omega (arith, sum_append xs m)

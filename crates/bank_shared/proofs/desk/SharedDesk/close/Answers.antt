@@ -1,0 +1,7 @@
+use Rattle.std.proofs.Common.{ap}
+use Rattle.bank_shared.proofs.Ended.{ended}
+use Rattle.bank_shared.proofs.desk.SharedDesk.close.Goals as goal
+
+pub returns-clause-ended : goal.returns-clause-ended
+returns-clause-ended g c =
+    ended g.W.Work.job _ _ _ _ (ap (λ d. d.origin) c.lock-kept.ensures.gets.desk) c.lock-kept.result.1.core.runs.legal c.lock-kept.ensures.gets.knows.seen

@@ -1,0 +1,19 @@
+use Rattle.std.proofs.Common.{rules, ◌≡◌, ◌++◌, ◌+◌, ◌*◌, [], ◌∷◌, length, ap, sym, subst, IfSome, ◌<◌, ◌∙◌, Some, refl, length-append, arith, le_refl}
+use Rattle.bank_law.specs.declared.event.Event.{Event}
+use Rattle.bank_law.specs.declared.event.EventKind.TheVariants.{Grant}
+use Rattle.bank_shared.specs.History.{holds}
+use Rattle.bank_shared.specs.Plays.{had, done}
+use Rattle.bank_shared.proofs.Moves.{mine_is, adds, kept}
+use Rattle.bank_shared.proofs.desk.SharedDesk.lend.Goals as goal
+
+pub take-requires-clause-lane : goal.take-requires-clause-lane
+take-requires-clause-lane g c =
+    subst (λ r. c.args.pass.now.lane < r.lanes) (sym c.lock-word.ensures.gets.desk) (subst (λ o. IfSome o (λ root. c.args.pass.now.lane < root.lanes)) c.requires.desk c.args.pass.now.within)
+
+pub take-requires-clause-free : goal.take-requires-clause-free
+take-requires-clause-free g c = ap holds (mine_is _ _ _ c.args.pass.now.lane _ c.lock-word.ensures.gets.knows c.args.pass.now.lane_is) ∙ c.requires.free
+
+pub returns-in-Loan-clause-event : goal.returns-in-Loan-clause-event
+returns-in-Loan-clause-event g c =
+    adds _ c.lock-word.result.1.core.journal.items _ _ _ _ _ _ c.lock-word.ensures.gets.knows c.args.pass.now.lane_is c.in-Loan.ensures.journal
+    (ap (λ m. m.0) c.release_more.ensures.me ∙ ap (λ m. done m.0 c.take.new.self.journal.items c.lock-word.result.1.drawn) c.lock-word.ensures.me)

@@ -1,0 +1,87 @@
+//! The rule of the desk, and what each kind of step tells its seat.
+use crate::kept::{DeskOrigin, Kept};
+use crate::view::View;
+use atomic_table::{Join, Play, Split, TableRule};
+use bank_core::Work;
+use proof_note::Note;
+use std::marker::PhantomData;
+
+/// The rule of the desk.
+pub struct TurnRule<W> {
+    of: PhantomData<W>,
+}
+
+impl<W: Work> TableRule<Option<Kept<W>>, View<DeskOrigin<W::Told>>, Note<DeskOrigin<W::Told>>>
+    for TurnRule<W> {
+    ghost use Rattle.bank_shared.specs.Rule.{IsRuled, first_view};
+
+    ghost holds = { λ note s. IsRuled (λ kept. (record { origin = kept.core.origin.value; lanes = kept.core.lanes })) (λ kept. kept.core.journal.items) (λ kept. kept.drawn) note.value s };
+
+    ghost first = { λ note. first_view note.value };
+}
+
+/// Kind 4: the turn is taken; or kind 3, where another has it.
+pub struct Takes<W> {
+    of: PhantomData<W>,
+}
+
+impl<W: Work> Play<Option<Kept<W>>, View<DeskOrigin<W::Told>>> for Takes<W> {
+    ghost use Rattle.bank_shared.specs.Plays.{took};
+
+    ghost then = { took (λ kept. (record { origin = kept.core.origin.value; lanes = kept.core.lanes })) (λ kept. kept.core.journal.items) (λ kept. kept.drawn) };
+}
+
+/// Kind 3: a look, by which more may be seen.
+pub struct Looks<W> {
+    of: PhantomData<W>,
+}
+
+impl<W: Work> Play<Option<Kept<W>>, View<DeskOrigin<W::Told>>> for Looks<W> {
+    ghost use Rattle.bank_shared.specs.Plays.{looked};
+
+    ghost then = { looked };
+}
+
+/// Kinds 7 and 8: the turn is given up, with one event or none.
+pub struct Releases<W> {
+    of: PhantomData<W>,
+}
+
+impl<W: Work> Play<Option<Kept<W>>, View<DeskOrigin<W::Told>>> for Releases<W> {
+    ghost use Rattle.bank_shared.specs.Plays.{released};
+
+    ghost then = { released (λ kept. kept.core.journal.items) (λ kept. kept.drawn) };
+}
+
+/// Kind 8, by a new seat, which gets its lane.
+pub struct Draws<W> {
+    of: PhantomData<W>,
+}
+
+impl<W: Work> Play<Option<Kept<W>>, View<DeskOrigin<W::Told>>> for Draws<W> {
+    ghost use Rattle.bank_shared.specs.Plays.{drew};
+
+    ghost then = { drew (λ kept. kept.core.journal.items) (λ kept. kept.drawn) };
+}
+
+/// Kind 1: a seat is split.
+pub struct Parts;
+
+impl<O> Split<View<O>> for Parts {
+    ghost use Rattle.bank_shared.specs.Rule.{new_view};
+
+    ghost left = { λ v. v };
+
+    ghost right = { new_view };
+}
+
+/// Kind 2: a seat is joined into another.
+pub struct Folds;
+
+impl<O> Join<View<O>> for Folds {
+    ghost use Rattle.bank_shared.specs.Rule.{joined_view, spent_view};
+
+    ghost both = { joined_view };
+
+    ghost spent = { spent_view };
+}

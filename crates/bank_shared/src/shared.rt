@@ -1,0 +1,55 @@
+use crate::desk::{Pass, SharedDesk};
+use bank_core::{Desk, Effects, Loan, Split, Take, Work};
+use std::sync::Wait;
+
+impl<W: Work> Desk<W> for SharedDesk<W> {
+    ghost use Rattle.std.specs.Prelude.{◌≡◌, Some};
+    ghost use Rattle.sol_base.specs.Accounts.{accounts_of};
+
+    type Pass = Pass<W>;
+
+    type Loan = Loan<W>;
+
+    ghost origin = { λ desk. desk.table.shared.key.value.origin };
+
+    ghost lanes = { λ desk. desk.table.shared.key.value.lanes };
+
+    ghost is_of = { λ desk pass.
+        (pass.seat.table_id ≡ desk.table.shared.table_id)
+        × (pass.seat.me.0.origin ≡ Some desk.table.shared.key.value) };
+
+    ghost view = { λ pass. record {
+      lane = pass.lane;
+      seen = pass.seat.me.0.seen;
+      mine = pass.seat.me.0.mine;
+      drawn = pass.seat.me.0.drawn;
+      turns = pass.seat.me.0.turns;
+    } };
+
+    ghost loan = { λ loan. record {
+      position = loan.position;
+      lane = loan.lane;
+      origin = loan.origin.value;
+      values = accounts_of loan.values.items;
+    } };
+
+    fn take<R: Wait>(&self, rt: &R, pass: &mut Pass<W>) -> Take<W> {
+        self.lend(rt, pass)
+    }
+
+    fn commit<R: Wait>(&self, rt: &R, pass: &mut Pass<W>, loan: Loan<W>, effects: Effects) {
+        self.commit_loan(rt, pass, loan, effects)
+    }
+
+    fn give_back<R: Wait>(&self, rt: &R, pass: &mut Pass<W>, loan: Loan<W>) {
+        self.return_loan(rt, pass, loan)
+    }
+
+    fn split<R: Wait>(&self, rt: &R, pass: &mut Pass<W>) -> Split<Pass<W>> {
+        self.split_pass(rt, pass)
+    }
+
+    fn join(&self, pass: &mut Pass<W>, other: Pass<W>) {
+        self.join_pass(pass, other)
+    }
+}
