@@ -28,7 +28,8 @@ fn transfer(alloc: Global, number: u32) -> std::result::Result<Blob, OutOfMemory
 // The time of one gathering, in microseconds.
 fn time(rt: &HostRuntime, wires: &Items<Blob>, senders: u32) -> Result<u128> {
     ensure!(wires.len() <= 16_384, "too many wires");
-    ensure!((1..=8).contains(&senders), "{senders} senders");
+    ensure!(senders >= 1, "no sender");
+    ensure!(senders <= 8, "{senders} senders");
     let start = Instant::now(rt)?;
     let gathered = gather(rt, rt.alloc(), wires, senders, &OpenSend)?;
     let took = start.elapsed(rt)?.as_micros();

@@ -1,6 +1,7 @@
 -- What senders gather of the wires.
-use Rattle.std.specs.Prelude.{◌≡◌, ℕ, ◌+◌, ◌%◌, ◌==◌, List, [], ◌∷◌, length, map, filter, if◌then◌else◌}
+use Rattle.std.specs.Prelude.{◌≡◌, ℕ, ◌+◌, ◌%◌, ◌<◌, ◌==◌, List, [], ◌∷◌, length, map, filter, if◌then◌else◌, Result, IfOk}
 use Rattle.std.specs.List.{range_with_len, slice_index_or}
+use Rattle.sol_base.specs.declared.memory.OutOfMemory.{OutOfMemory}
 use Rattle.message_codec.specs.declared.parsed.Parsed.{Parsed}
 use Rattle.message_codec.specs.Parsing.{parsed_of}
 use Rattle.intake.specs.declared.gathering.Arrival.{Arrival}
@@ -28,6 +29,12 @@ HasSentShare intake wires senders s seat =
     IsSendSeatOf intake seat × (sender_of seat ≡ s)
     × (map carried (sent_by seat) ≡ map (parsed_at wires) (share_of (length wires) senders s))
 
+-- each of these seats came back with its sender's share sent, or for want of memory not at all
+abbrev pub HaveSentShares : Intake → List (List ℕ) → ℕ → List SendSeat → List (Result SendSeat OutOfMemory) → Type 0
+HaveSentShares intake wires senders seats sent =
+    (i : ℕ) (d : SendSeat) (r : Result SendSeat OutOfMemory) → i < length seats
+    → IfOk (slice_index_or sent i r) (HasSentShare intake wires senders (sender_of (slice_index_or seats i d)))
+
 -- these are the tickets of all senders
 abbrev pub CarriesShares : List (List ℕ) → ℕ → List Ticket → Type 0
 CarriesShares wires senders tickets =
@@ -47,3 +54,11 @@ arrived_of arrivals s = positions (filter (λ a. a.sender == s) arrivals)
 abbrev pub times : ℕ → List ℕ → ℕ
 times p [] = 0
 times p (x ∷ xs) = (if x == p then 1 else 0) + times p xs
+
+-- each position below `count` arrived once
+abbrev pub EachArrivesOnce : ℕ → List Arrival → Type 0
+EachArrivesOnce count arrivals = (p : ℕ) → p < count → times p (positions arrivals) ≡ 1
+
+-- of each sender its share arrived, ascending
+abbrev pub ArriveByShares : ℕ → ℕ → List Arrival → Type 0
+ArriveByShares count senders arrivals = (s : ℕ) → arrived_of arrivals s ≡ share_of count senders s

@@ -3,9 +3,9 @@ ghost use Rattle.std.specs.Prelude.{◌≡◌, ℕ, ◌+◌, ◌<◌, ◌≤◌,
 ghost use Rattle.std.specs.List.{range_with_len};
 ghost use Rattle.message_codec.specs.Parsing.{parsed_of};
 ghost use Rattle.intake.specs.declared.seats.SendSeat.{SendSeat};
-ghost use Rattle.intake.specs.Gathering.{CarriesShares, HasSentShare, arrival_of, arrived_of, positions, share_of, times};
+ghost use Rattle.intake.specs.Gathering.{ArriveByShares, CarriesShares, EachArrivesOnce, HasSentShare, HaveSentShares, arrival_of};
 ghost use Rattle.intake.specs.Layout.{laid};
-ghost use Rattle.intake.specs.Seats.{IsSendSeatOf, next_ticket, sender_of, sent_by};
+ghost use Rattle.intake.specs.Seats.{AreFresh, HasSent, IsFresh, IsSendSeatOf, next_ticket, sender_of, sent_by};
 
 use crate::gate::SendGate;
 use crate::ring::{Intake, Opened};
@@ -32,8 +32,8 @@ pub struct Gathered {
     pub arrivals: Items<Arrival>,
 }
 
-/// Parses the wires by several senders at once, each from a thread of its own. Sender s parses the positions p
-/// with `p % senders == s`, ascending, and passes the gate before each.
+/// Parses the wires by several senders at once, each from a thread of its own. Sender s parses the
+/// positions p with `p % senders == s`, ascending, and passes the gate before each.
 pub fn gather<R: Threads + Wait + Sync, G: SendGate>(
     rt: &R,
     alloc: Global,
@@ -44,8 +44,8 @@ pub fn gather<R: Threads + Wait + Sync, G: SendGate>(
     requires wires { length wires.now ≤ 16384 }
     requires senders { (1 ≤ senders) × (senders ≤ 8) }
     ensures parsed { IfOk result (λ g. g.parsed ≡ map parsed_of wires.now) }
-    ensures once { IfOk result (λ g. (p : ℕ) → p < length wires.now → times p (positions g.arrivals) ≡ 1) }
-    ensures ascending { IfOk result (λ g. (s : ℕ) → arrived_of g.arrivals s ≡ share_of (length wires.now) senders s) }
+    ensures once { IfOk result (λ g. EachArrivesOnce (length wires.now) g.arrivals) }
+    ensures ascending { IfOk result (λ g. ArriveByShares (length wires.now) senders g.arrivals) }
 {
     if wires.is_empty() {
         return Ok(Gathered {
@@ -77,15 +77,15 @@ fn send_all<R: Threads + Wait + Sync, G: SendGate>(
 ) -> Result<Vec<Result<SendSeat, OutOfMemory>>, OutOfMemory>
     requires wires { length wires.now ≤ 16384 }
     requires senders { 1 ≤ senders }
-    requires seats { All (λ s. IsSendSeatOf intake.now s × (sent_by s ≡ [])) seats }
+    requires seats { AreFresh intake.now seats }
     ensures count { IfOk result (λ sent. length sent.items ≡ length seats) }
-    ensures each { IfOk result (λ sent. (i : ℕ) (d : _) (r : _) → i < length seats → IfOk (slice_index_or sent.items i r) (HasSentShare intake.now wires.now senders (sender_of (slice_index_or seats i d)))) }
+    ensures each { IfOk result (λ sent. HaveSentShares intake.now wires.now senders seats sent.items) }
 {
     let sent = thread::map_vec(
         rt,
         seats.into_vec(),
         &|seat: SendSeat| -> Result<SendSeat, OutOfMemory>
-            requires { (length wires.now ≤ 16384) × (1 ≤ senders) × IsSendSeatOf intake.now seat × (sent_by seat ≡ []) }
+            requires { (length wires.now ≤ 16384) × (1 ≤ senders) × IsFresh intake.now seat }
             ensures { IfOk result (HasSentShare intake.entry.now wires.entry.now senders (sender_of seat)) }
         { send_share(rt, alloc, intake, wires, senders, gate, seat) },
     )?;
@@ -104,7 +104,7 @@ fn send_share<R: Wait, G: SendGate>(
 ) -> Result<SendSeat, OutOfMemory>
     requires wires { length wires.now ≤ 16384 }
     requires senders { 1 ≤ senders }
-    requires seat { IsSendSeatOf intake.now seat × (sent_by seat ≡ []) }
+    requires seat { IsFresh intake.now seat }
     ensures { IfOk result (HasSentShare intake.now wires.now senders (sender_of seat)) }
 {
     let sender = seat.sender;
@@ -124,7 +124,7 @@ fn send<R: Wait>(rt: &R, intake: &Intake, seat: &mut SendSeat, position: u32, pa
     requires seat { IsSendSeatOf intake.now seat.old }
     requires room { length (sent_by seat.old) < 2 ^ 32 - 1 }
     ensures seat { IsSendSeatOf intake.now seat.new × (sender_of seat.new ≡ sender_of seat.old) }
-    ensures sent { sent_by seat.new ≡ sent_by seat.old ++ next_ticket seat.old position parsed ∷ [] }
+    ensures sent { HasSent seat.old (next_ticket seat.old position parsed) seat.new }
 {
     let mut unsent = parsed;
     for _ in rt.forever() {

@@ -1,5 +1,5 @@
-//! The intake of a block: several senders parse its transactions at once, each in order, and hand them
-//! over through one bounded ring.
+//! The intake of a block: several senders parse its transactions at once, each in order, and hand
+//! them over through one bounded ring.
 #![tactic(auto)]
 
 mod gate;

@@ -28,15 +28,15 @@ pub struct Opened {
 
 impl Intake {
     ghost use Rattle.intake.specs.declared.seats.SendSeat.{SendSeat};
-    ghost use Rattle.intake.specs.Seats.{IsSendSeatOf, IsTakeSeatOf, WasEmpty, WasFull, capacity_of, next_ticket, sender_of, senders_of, sent_by, taken_by, with_all_joined};
+    ghost use Rattle.intake.specs.Seats.{AreFresh, AreOfTheFirst, AreSentBy, HasSent, IsSendSeatOf, IsTakeSeatOf, WasEmpty, WasFull, capacity_of, next_ticket, sender_of, senders_of, sent_by, taken_by, with_all_joined};
     ghost use Rattle.intake.specs.Tickets.{of};
     ghost use Rattle.crossbeam_queue.specs.Passes.{IsPassOf, view};
 
-    /// An intake whose ring holds up to `capacity` tickets, with a seat for each of `senders` senders.
+    /// An intake whose ring holds up to `capacity` tickets, with a seat for each of the senders.
     pub fn new(alloc: Global, capacity: u32, senders: u32) -> Result<Opened, OutOfMemory>
         requires { 1 ≤ capacity }
         ensures capacity { IfOk result (λ o. capacity_of o.intake ≡ capacity) }
-        ensures seats { IfOk result (λ o. All (λ s. IsSendSeatOf o.intake s × (sent_by s ≡ [])) o.seats) }
+        ensures seats { IfOk result (λ o. AreFresh o.intake o.seats) }
         ensures senders { IfOk result (λ o. map sender_of o.seats ≡ range_with_len 0 senders) }
         ensures taker { IfOk result (λ o. IsTakeSeatOf o.intake o.taker × (taken_by o.taker ≡ [])) }
         ensures made { IfOk result (λ o. senders_of o.taker ≡ senders) }
@@ -58,8 +58,8 @@ impl Intake {
         })
     }
 
-    /// Sends the next ticket of the seat's sender. `Full` comes only where the ring was full at one moment of
-    /// the call.
+    /// Sends the next ticket of the seat's sender. `Full` comes only where the ring was full at one
+    /// moment of the call.
     pub fn offer<R: Wait>(
         &self,
         rt: &R,
@@ -70,7 +70,7 @@ impl Intake {
         requires seat { IsSendSeatOf self.now seat.old }
         requires room { length (sent_by seat.old) < 2 ^ 32 - 1 }
         ensures seat { IsSendSeatOf self.now seat.new × (sender_of seat.new ≡ sender_of seat.old) }
-        ensures sent { OnOk result (sent_by seat.new ≡ sent_by seat.old ++ next_ticket seat.old position parsed ∷ []) }
+        ensures sent { OnOk result (HasSent seat.old (next_ticket seat.old position parsed) seat.new) }
         ensures full { IfErr result (λ full. (full.parsed ≡ parsed) × WasFull self.now seat.old) }
         ensures unsent { IfErr result (λ full. sent_by seat.new ≡ sent_by seat.old) }
     {
@@ -103,13 +103,14 @@ impl Intake {
         ensures seat { IsTakeSeatOf self.now seat.new × (senders_of seat.new ≡ senders_of seat.old) }
         ensures taken { IfSome result (λ t. taken_by seat.new ≡ taken_by seat.old ++ t ∷ []) }
         ensures place { IfSome result (λ t. t.place ≡ length (of (taken_by seat.old) t.sender)) }
-        ensures none { IfNone result ((taken_by seat.new ≡ taken_by seat.old) × WasEmpty self.now seat.old) }
+        ensures none { IfNone result (WasEmpty self.now seat.old) }
+        ensures untaken { IfNone result (taken_by seat.new ≡ taken_by seat.old) }
     {
         self.ring.pop_as::<Taking, R>(rt, &mut seat.pass)
     }
 
-    /// What is left in the ring, in order. With the seats of all senders handed in, each ticket that was sent
-    /// was taken or is left.
+    /// What is left in the ring, in order. With the seats of all senders handed in, each ticket that
+    /// was sent was taken or is left.
     pub fn close(
         self,
         seats: Items<SendSeat>,
@@ -117,8 +118,8 @@ impl Intake {
     ) -> Result<Items<Ticket>, OutOfMemory>
         requires seats { All (IsSendSeatOf self) seats }
         requires taker { IsTakeSeatOf self taker }
-        ensures sent { IfOk result (λ left. All (λ s. of (taken_by taker ++ left) (sender_of s) ≡ sent_by s) seats) }
-        ensures others { IfOk result (λ left. (s : ℕ) → senders_of taker ≤ s → of (taken_by taker ++ left) s ≡ []) }
+        ensures sent { IfOk result (λ left. AreSentBy seats (taken_by taker ++ left)) }
+        ensures others { IfOk result (λ left. AreOfTheFirst (senders_of taker) (taken_by taker ++ left)) }
     {
         let mut pass = self.joined(seats, taker);
         let mut left = Items::new(self.alloc);

@@ -1,8 +1,8 @@
 //! What senders hand over.
 use message_codec::Parsed;
 
-/// A parsed transaction, with its sender, its place among the tickets of that sender from 0 on, and its
-/// position in the batch.
+/// A parsed transaction, with its sender, its place among the tickets of that sender from 0 on, and
+/// its position in the batch.
 #[derive(Debug, Drop)]
 pub struct Ticket {
     pub sender: u32,
