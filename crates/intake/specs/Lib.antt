@@ -1,0 +1,5 @@
+pub mod Gathering
+pub mod Layout
+pub mod Rule
+pub mod Seats
+pub mod Tickets

@@ -1,0 +1,222 @@
+//! Gathering: the wires of a batch parsed by several senders at once.
+ghost use Rattle.std.specs.Prelude.{◌≡◌, ℕ, ◌+◌, ◌<◌, ◌≤◌, ◌-◌, ◌^◌, ◌++◌, ◌∷◌, [], List, length, map, All, IfOk, IfSome, IsSome, Ok, Some, None, slice_index_or, slice_set};
+ghost use Rattle.std.specs.List.{range_with_len};
+ghost use Rattle.message_codec.specs.Parsing.{parsed_of};
+ghost use Rattle.intake.specs.declared.seats.SendSeat.{SendSeat};
+ghost use Rattle.intake.specs.Gathering.{ArriveByShares, CarriesShares, EachArrivesOnce, HasSentShare, HaveSentShares, arrival_of};
+ghost use Rattle.intake.specs.Layout.{laid};
+ghost use Rattle.intake.specs.Seats.{AreFresh, HasSent, IsFresh, IsSendSeatOf, next_ticket, sender_of, sent_by};
+
+use crate::gate::SendGate;
+use crate::ring::{Intake, Opened};
+use crate::seats::SendSeat;
+use crate::ticket::{Full, Ticket};
+use message_codec::{Parsed, parse};
+use sol_base::{Blob, Items, OutOfMemory};
+use std::alloc::Global;
+use std::sync::Wait;
+use std::thread;
+use std::thread::Threads;
+
+/// That the ticket of a position arrived, and of whom.
+#[derive(Clone, Copy, Debug, PartialEq, Eq)]
+pub struct Arrival {
+    pub sender: u32,
+    pub position: u32,
+}
+
+/// What the senders parsed, by position, and the order in which it arrived.
+#[derive(Debug, Drop)]
+pub struct Gathered {
+    pub parsed: Items<Parsed>,
+    pub arrivals: Items<Arrival>,
+}
+
+/// Parses the wires by several senders at once, each from a thread of its own. Sender s parses the
+/// positions p with `p % senders == s`, ascending, and passes the gate before each.
+pub fn gather<R: Threads + Wait + Sync, G: SendGate>(
+    rt: &R,
+    alloc: Global,
+    wires: &Items<Blob>,
+    senders: u32,
+    gate: &G,
+) -> Result<Gathered, OutOfMemory>
+    requires wires { length wires.now ≤ 16384 }
+    requires senders { (1 ≤ senders) × (senders ≤ 8) }
+    ensures parsed { IfOk result (λ g. g.parsed ≡ map parsed_of wires.now) }
+    ensures once { IfOk result (λ g. EachArrivesOnce (length wires.now) g.arrivals) }
+    ensures ascending { IfOk result (λ g. ArriveByShares (length wires.now) senders g.arrivals) }
+{
+    if wires.is_empty() {
+        return Ok(Gathered {
+            parsed: Items::new(alloc),
+            arrivals: Items::new(alloc),
+        });
+    }
+    let wires = wires.as_slice();
+    let Opened {
+        intake,
+        seats,
+        taker,
+    } = Intake::new(alloc, wires.len() as u32, senders)?;
+    let sent = send_all(rt, alloc, &intake, wires, senders, gate, seats)?;
+    let seats = all_seats(alloc, sent)?;
+    let tickets = intake.close(seats, taker)?;
+    laid_out(alloc, wires, senders, tickets)
+}
+
+// The senders at work, and their seats once all are done.
+fn send_all<R: Threads + Wait + Sync, G: SendGate>(
+    rt: &R,
+    alloc: Global,
+    intake: &Intake,
+    wires: &[Blob],
+    senders: u32,
+    gate: &G,
+    seats: Items<SendSeat>,
+) -> Result<Vec<Result<SendSeat, OutOfMemory>>, OutOfMemory>
+    requires wires { length wires.now ≤ 16384 }
+    requires senders { 1 ≤ senders }
+    requires seats { AreFresh intake.now seats }
+    ensures count { IfOk result (λ sent. length sent.items ≡ length seats) }
+    ensures each { IfOk result (λ sent. HaveSentShares intake.now wires.now senders seats sent.items) }
+{
+    let sent = thread::map_vec(
+        rt,
+        seats.into_vec(),
+        &|seat: SendSeat| -> Result<SendSeat, OutOfMemory>
+            requires { (length wires.now ≤ 16384) × (1 ≤ senders) × IsFresh intake.now seat }
+            ensures { IfOk result (HasSentShare intake.entry.now wires.entry.now senders (sender_of seat)) }
+        { send_share(rt, alloc, intake, wires, senders, gate, seat) },
+    )?;
+    Ok(sent)
+}
+
+// One sender at work, until it is done or finds no memory.
+fn send_share<R: Wait, G: SendGate>(
+    rt: &R,
+    alloc: Global,
+    intake: &Intake,
+    wires: &[Blob],
+    senders: u32,
+    gate: &G,
+    mut seat: SendSeat,
+) -> Result<SendSeat, OutOfMemory>
+    requires wires { length wires.now ≤ 16384 }
+    requires senders { 1 ≤ senders }
+    requires seat { IsFresh intake.now seat }
+    ensures { IfOk result (HasSentShare intake.now wires.now senders (sender_of seat)) }
+{
+    let sender = seat.sender;
+    let count = wires.len() as u32;
+    for position in 0..count {
+        if position % senders == sender {
+            gate.pass(sender, position);
+            let parsed = parse(alloc, wires[position as usize].as_slice())?;
+            send(rt, intake, &mut seat, position, parsed);
+        }
+    }
+    Ok(seat)
+}
+
+// Offers the ticket until there is room for it.
+fn send<R: Wait>(rt: &R, intake: &Intake, seat: &mut SendSeat, position: u32, parsed: Parsed)
+    requires seat { IsSendSeatOf intake.now seat.old }
+    requires room { length (sent_by seat.old) < 2 ^ 32 - 1 }
+    ensures seat { IsSendSeatOf intake.now seat.new × (sender_of seat.new ≡ sender_of seat.old) }
+    ensures sent { HasSent seat.old (next_ticket seat.old position parsed) seat.new }
+{
+    let mut unsent = parsed;
+    for _ in rt.forever() {
+        match intake.offer(rt, seat, position, unsent) {
+            Ok(()) => return,
+            Err(full) => {
+                let Full { parsed } = full;
+                unsent = parsed;
+                thread::yield_now();
+            }
+        }
+    }
+    unreachable!()
+}
+
+// The seats of all senders, if each is done.
+fn all_seats(
+    alloc: Global,
+    sent: Vec<Result<SendSeat, OutOfMemory>>,
+) -> Result<Items<SendSeat>, OutOfMemory>
+    ensures { IfOk result (λ seats. map (λ s. Ok s) seats ≡ sent.items) }
+{
+    let mut seats = Items::with_capacity(alloc, sent.len())?;
+    for done in sent {
+        seats.push(done?)?;
+    }
+    Ok(seats)
+}
+
+// What the tickets carry, by position, and their arrivals in the order of the tickets.
+fn laid_out(
+    alloc: Global,
+    wires: &[Blob],
+    senders: u32,
+    tickets: Items<Ticket>,
+) -> Result<Gathered, OutOfMemory>
+    requires { CarriesShares wires.now senders tickets }
+    ensures parsed { IfOk result (λ g. g.parsed ≡ map parsed_of wires.now) }
+    ensures arrivals { IfOk result (λ g. g.arrivals ≡ map arrival_of tickets) }
+{
+    let slots = no_slots(alloc, wires)?;
+    let (slots, arrivals) = laid_in(alloc, slots, tickets)?;
+    let parsed = in_order(alloc, slots)?;
+    Ok(Gathered { parsed, arrivals })
+}
+
+// An empty slot for each wire.
+fn no_slots(alloc: Global, wires: &[Blob]) -> Result<Vec<Option<Parsed>>, OutOfMemory>
+    ensures { IfOk result (λ slots. slots.items ≡ map (λ _. None) wires.now) }
+{
+    Ok(wires.iter().map(|_| None).collect(alloc)?)
+}
+
+// Each ticket laid into the slot of its position.
+fn laid_in(
+    alloc: Global,
+    mut slots: Vec<Option<Parsed>>,
+    tickets: Items<Ticket>,
+) -> Result<(Vec<Option<Parsed>>, Items<Arrival>), OutOfMemory>
+    requires { All (λ t. t.position < length slots.items) tickets }
+    ensures slots { IfOk result (λ r. r.0.items ≡ laid slots.items tickets) }
+    ensures arrivals { IfOk result (λ r. r.1 ≡ map arrival_of tickets) }
+{
+    let mut arrivals = Items::with_capacity(alloc, slots.len())?;
+    for ticket in tickets.into_vec() {
+        let Ticket {
+            sender,
+            place: _,
+            position,
+            parsed,
+        } = ticket;
+        arrivals.push(Arrival { sender, position })?;
+        lay(&mut slots, position as usize, parsed);
+    }
+    Ok((slots, arrivals))
+}
+
+fn lay(slots: &mut Vec<Option<Parsed>>, position: usize, parsed: Parsed)
+    requires { position < length slots.old.items }
+    ensures { slots.new.items ≡ slice_set slots.old.items position (Some parsed) }
+{
+    slots[position] = Some(parsed);
+}
+
+// What lies in the slots, where none is empty.
+fn in_order(alloc: Global, slots: Vec<Option<Parsed>>) -> Result<Items<Parsed>, OutOfMemory>
+    requires { All IsSome slots.items }
+    ensures { IfOk result (λ parsed. map (λ x. Some x) parsed ≡ slots.items) }
+{
+    let mut parsed = Items::with_capacity(alloc, slots.len())?;
+    for slot in slots {
+        parsed.push(slot.unwrap())?;
+    }
+    Ok(parsed)
+}
