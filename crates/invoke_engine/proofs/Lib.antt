@@ -1,0 +1,11 @@
+pub mod Fuel
+pub mod Keeping
+pub mod Kept
+pub mod Begins
+pub mod Turns
+pub mod Stacks
+pub mod Suspended
+pub mod Loops
+pub mod Found
+pub mod Traces
+pub mod Buffers

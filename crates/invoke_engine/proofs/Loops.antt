@@ -1,0 +1,205 @@
+-- The loop over the frames: each step keeps the ending of the outermost.
+use Rattle.std.proofs.Common.{◌≡◌, ◌≤◌, ◌<◌, ◌+◌, ◌*◌, ◌∷◌, [], ℕ, Bool, true, false, List, length, Result, Ok, Err, refl, ap, sym, subst, ◌∙◌, arith}
+use Rattle.std.specs.Prelude.{IfOk, nat_le, if◌then◌else◌}
+use Rattle.std.proofs.lemmas.Bool.Decides.{nat_tests}
+use Rattle.sol_base.specs.declared.account.Account.{Account}
+use Rattle.sol_base.specs.Metas.{AreInRange}
+use Rattle.tx_report.specs.LogLines.{Log}
+use Rattle.invoke_engine.specs.declared.call.Call.{Call}
+use Rattle.std.proofs.lemmas.List.{length-map}
+use Rattle.sol_base.specs.declared.key.Key.{Key}
+use Rattle.invoke_engine.specs.Frames.{Fixed, Carried, Running, Ending, Next, Runs, Ends, Callee, Turn, GoesOn, Calls, Leaves}
+use Rattle.invoke_engine.specs.Turns.{turn}
+use Rattle.invoke_engine.specs.Returning.{returned}
+use Rattle.invoke_engine.specs.Starting.{begun}
+use Rattle.invoke_engine.specs.Frame.{frame, instruction, nothing_returned, go, after, follow}
+use Rattle.invoke_engine.specs.Fits.{NextFits, TurnFits, IsGoing, TurnTakes, NextTakes, Works, Stands, Steps, Goes, units_in, ending_in, measure}
+use Rattle.invoke_engine.specs.Given.{AreGiven, IsFrame, AreSuspended}
+use Rattle.invoke_engine.specs.Suspended.{programs_of, rest}
+use Rattle.invoke_engine.specs.Views.{next_as, ending_as, RunsFit, IsRun}
+use Rattle.invoke_engine.specs.declared.call.Ran.{Ran}
+use Rattle.sol_base.specs.declared.key.TheConstants.{SYSTEM_PROGRAM}
+use Rattle.invoke_engine.specs.declared.ending.End.{End}
+use Rattle.invoke_engine.specs.declared.begin.Next.{Next as NextValue}
+use Rattle.invoke_engine.specs.declared.begin.Next.TheVariants.{Runs as RunsValue, Ends as EndsValue}
+use Rattle.invoke_engine.proofs.Begins.{EndsFit, begun_fits, returned_fits}
+use Rattle.invoke_engine.proofs.Fuel.{go_turn, turn_takes, returned_takes, begun_takes}
+use Rattle.invoke_engine.proofs.Keeping.{turn_fits}
+
+-- where a frame stands among its own turns
+pub record Working (s : Fixed) (outer : List Key) (f : Running) (c : Carried) (g : Running) (d : Carried) : Type 0 where
+  pub same : go s outer g d ≡ go s outer f c
+  pub frame : IsFrame (length s.keys) g
+  pub going : IsGoing g
+  pub units : g.machine.units ≤ f.machine.units
+
+pub working_first : (s : Fixed) (outer : List Key) (f : Running) (c : Carried) → IsFrame (length s.keys) f → IsGoing f → Working s outer f c f c
+working_first s outer f c h k = record { same = refl; frame = h; going = k; units = omega arith }
+
+-- one more turn that goes on
+pub working_on : (s : Fixed) (outer : List Key) (f : Running) (c : Carried) (g : Running) (d : Carried) (h : Running) (e : Carried) → Working s outer f c g d → turn s.setting s.keys outer g d ≡ GoesOn h e → Working s outer f c h e × (h.machine.units < g.machine.units)
+working_on s outer f c g d h e w t =
+    let fits : IsFrame (length s.keys) h = subst (TurnFits (length s.keys) s.setting.height outer) t (turn_fits s.setting s.keys outer g d w.frame) in
+    let takes : TurnTakes g.machine.units (GoesOn h e) = subst (TurnTakes g.machine.units) t (turn_takes s.setting s.keys outer g d w.going) in
+    let less : h.machine.units < g.machine.units = takes.0 in
+    let most : g.machine.units ≤ f.machine.units = w.units in (
+      record {
+        same = sym (go_turn s outer g d w.going ∙ ap (follow s outer (go s)) t) ∙ w.same;
+        frame = fits;
+        going = takes.1;
+        units = omega arith;
+      },
+      less,
+    )
+
+takes_less : (u v : ℕ) (t : Turn) → u ≤ v → TurnTakes u t → TurnTakes v t
+takes_less u v (GoesOn f c) h k = (omega (arith, k.0), k.1)
+takes_less u v (Calls f c callee left) h k = (omega (arith, k.0), k.1, omega (arith, k.2))
+takes_less u v (Leaves e) h k = omega (arith, k)
+
+-- the last turn
+pub working_last : (s : Fixed) (outer : List Key) (f : Running) (c : Carried) (g : Running) (d : Carried) (t : Turn) → Working s outer f c g d → turn s.setting s.keys outer g d ≡ t → Works s outer f c t
+working_last s outer f c g d t w e = record {
+  same = sym (go_turn s outer g d w.going ∙ ap (follow s outer (go s)) e) ∙ w.same;
+  fits = subst (TurnFits (length s.keys) s.setting.height outer) e (turn_fits s.setting s.keys outer g d w.frame);
+  takes = takes_less g.machine.units f.machine.units t w.units (subst (TurnTakes g.machine.units) e (turn_takes s.setting s.keys outer g d w.going));
+}
+
+fewer : (n u v : ℕ) (fs : List Running) → u ≤ v → AreSuspended n v fs → AreSuspended n u fs
+fewer n u v [] h k = tt
+fewer n u v (f ∷ fs) h k = (k.0, omega (arith, k.1), k.2)
+
+goes_on : (u : ℕ) (next : Next) → NextTakes u next → Goes next
+goes_on u (Runs f c) h = h.1
+goes_on u (Ends e) h = tt
+
+units_most : (u : ℕ) (next : Next) → NextTakes u next → units_in next ≤ u
+units_most u (Runs f c) h = h.0
+units_most u (Ends e) h = h
+
+measured : (fs : List Running) (next : Next) → measure fs next ≤ 3 * units_in next + 2 * length fs + 1
+measured fs (Runs f c) = omega arith
+measured fs (Ends e) = omega arith
+
+-- a caller after its callee
+pub step_returned : (s : Fixed) (fs : List Running) (f : Running) (e : Ending) → Stands s (f ∷ fs) (Ends e) → NextFits (length s.keys) (returned (programs_of fs) f e) → Steps s (f ∷ fs) (Ends e) fs (returned (programs_of fs) f e)
+unfolding rest
+step_returned s fs f e h fits =
+    let takes : NextTakes e.units (returned (programs_of fs) f e) = returned_takes (programs_of fs) f e in
+    let most : units_in (returned (programs_of fs) f e) ≤ e.units = units_most e.units _ takes in
+    let had : e.units ≤ f.machine.units = h.waiting.1 in
+    let size = measured fs (returned (programs_of fs) f e) in
+    record {
+      stands = record {
+        fits = fits;
+        goes = goes_on e.units _ takes;
+        waiting = fewer (length s.keys) _ f.machine.units fs (omega arith) h.waiting.2;
+        height = omega (arith, h.height);
+      };
+      same = refl;
+      falls = omega (arith, size);
+    }
+
+-- a frame that leaves
+pub step_leaves : (s : Fixed) (fs : List Running) (f : Running) (c : Carried) (e : Ending) → Stands s fs (Runs f c) → Works s (programs_of fs) f c (Leaves e) → Steps s fs (Runs f c) fs (Ends e)
+step_leaves s fs f c e h w =
+    let most : e.units ≤ f.machine.units = w.takes in
+    record {
+      stands = record { fits = w.fits; goes = tt; waiting = fewer (length s.keys) e.units f.machine.units fs most h.waiting; height = h.height };
+      same = ap (rest s fs) w.same;
+      falls = omega arith;
+    }
+
+-- a frame that calls another
+pub step_calls : (s : Fixed) (fs : List Running) (f : Running) (c : Carried) (g : Running) (d : Carried) (callee : Callee) (left : ℕ) (next : Next) → Stands s fs (Runs f c) → Works s (programs_of fs) f c (Calls g d callee left) →
+    begun s (programs_of (g ∷ fs)) callee.call callee.accounts left d ≡ next → NextFits (length s.keys) next → Steps s fs (Runs f c) (g ∷ fs) next
+unfolding rest
+step_calls s fs f c g d callee left next h w e fits =
+    let takes : NextTakes left next = subst (NextTakes left) e (begun_takes s (programs_of (g ∷ fs)) callee.call callee.accounts left d) in
+    let most : units_in next ≤ left = units_most left next takes in
+    let one : left < f.machine.units = w.takes.0 in
+    let two : left ≤ g.machine.units = w.takes.1 in
+    let three : g.machine.units ≤ f.machine.units = w.takes.2 in
+    let size = measured (g ∷ fs) next in
+    let low : length (programs_of fs) + 1 < s.setting.height = w.fits.height in
+    let same : length (programs_of fs) ≡ length fs = length-map fs (λ (x : Running). x.program) in
+    record {
+      stands = record {
+        fits = fits;
+        goes = goes_on left next takes;
+        waiting = (w.fits.suspended, omega arith, fewer (length s.keys) g.machine.units f.machine.units fs three h.waiting);
+        height = omega arith;
+      };
+      same = ap (λ (x : Next). rest s fs (after (programs_of fs) (go s) (returned (programs_of fs) g (after (programs_of (g ∷ fs)) (go s) x)))) (sym e) ∙ ap (rest s fs) w.same;
+      falls = omega (arith, size);
+    }
+
+-- where the outermost has ended
+pub stands_end : (s : Fixed) (fs : List Running) (e : Ending) → fs ≡ [] → ending_in s fs (Ends e) ≡ e
+unfolding rest
+stands_end s fs e h = ap (λ (gs : List Running). rest s gs e) h
+
+-- the same steps, by what the code answers
+
+pub both_ok : {A E : Type 0} (r : Result A E) (P Q R : A → Type 0) → IfOk r P → IfOk r Q → ((a : A) → P a → Q a → R a) → IfOk r R
+both_ok (Ok a) P Q R p q h = h a p q
+both_ok (Err e) P Q R p q h = q
+
+next_fits : (n : ℕ) (next : NextValue) (c : Carried) → RunsFit n next → EndsFit n (next_as next c) → NextFits n (next_as next c)
+next_fits n (RunsValue f) c h k = h
+next_fits n (EndsValue e) c h k = k
+
+pub step_begun : (s : Fixed) (fs : List Running) (f : Running) (c : Carried) (g : Running) (d : Carried) (callee : Callee) (left : ℕ) (gs : List Running) (next : NextValue) (e : Carried) →
+    gs ≡ g ∷ fs → Stands s fs (Runs f c) → Works s (programs_of fs) f c (Calls g d callee left) → begun s (programs_of gs) callee.call callee.accounts left d ≡ next_as next e → RunsFit (length s.keys) next → Steps s fs (Runs f c) gs (next_as next e)
+step_begun s fs f c g d callee left gs next e same h w begins fits =
+    let ends : EndsFit (length s.keys) (next_as next e) = subst (EndsFit (length s.keys)) begins (begun_fits (length s.keys) s (programs_of gs) callee.call callee.accounts left d w.fits.call.range w.fits.accounts) in
+    subst (λ (hs : List Running). begun s (programs_of hs) callee.call callee.accounts left d ≡ next_as next e → Steps s fs (Runs f c) hs (next_as next e)) (sym same)
+    (λ (k : begun s (programs_of (g ∷ fs)) callee.call callee.accounts left d ≡ next_as next e). step_calls s fs f c g d callee left (next_as next e) h w k (next_fits (length s.keys) next e fits ends)) begins
+
+pub step_resumed : (s : Fixed) (stack : List Running) (now : NextValue) (c : Carried) (f : Running) (fs : List Running) (end : End) (next : NextValue) (d : Carried) →
+    Stands s stack (next_as now c) → stack ≡ f ∷ fs → now ≡ EndsValue end → returned (programs_of fs) f (ending_as end c) ≡ next_as next d → RunsFit (length s.keys) next → Steps s stack (next_as now c) fs (next_as next d)
+step_resumed s stack now c f fs end next d h same is r runs =
+    let ends : EndsFit (length s.keys) (next_as next d) = subst (EndsFit (length s.keys)) r (returned_fits (length s.keys) (programs_of fs) f (ending_as end c)) in
+    let fits : NextFits (length s.keys) (returned (programs_of fs) f (ending_as end c)) = subst (NextFits (length s.keys)) (sym r) (next_fits (length s.keys) next d runs ends) in
+    subst (λ (gs : List Running). Stands s gs (next_as now c) → Steps s gs (next_as now c) fs (next_as next d)) (sym same)
+    (subst (λ (n : NextValue). Stands s (f ∷ fs) (next_as n c) → Steps s (f ∷ fs) (next_as n c) fs (next_as next d)) (sym is)
+    (λ (k : Stands s (f ∷ fs) (Ends (ending_as end c))). subst (Steps s (f ∷ fs) (Ends (ending_as end c)) fs) r (step_returned s fs f (ending_as end c) k fits))) h
+
+pub end_of_all : (s : Fixed) (stack : List Running) (now : NextValue) (c : Carried) (end : End) (total : Ending) → stack ≡ [] → now ≡ EndsValue end → ending_in s stack (next_as now c) ≡ total → ending_as end c ≡ total
+end_of_all s stack now c end total none is h =
+    sym (stands_end s stack (ending_as end c) none) ∙ ap (λ (n : NextValue). ending_in s stack (next_as n c)) (sym is) ∙ h
+
+-- the first frame
+
+pub first_stands : (s : Fixed) (stack : List Running) (call : Call) (accounts : List Account) (units : ℕ) (c : Carried) (next : NextValue) (e : Carried) →
+    stack ≡ [] → 1 ≤ s.setting.height → AreInRange (length s.keys) call.metas → AreGiven (length s.keys) accounts → begun s (programs_of stack) call accounts units c ≡ next_as next e → RunsFit (length s.keys) next → Stands s stack (next_as next e)
+first_stands s stack call accounts units c next e none some range given begins fits =
+    let empty : length stack ≡ 0 = ap length none in
+    record {
+      fits = next_fits (length s.keys) next e fits (subst (EndsFit (length s.keys)) begins (begun_fits (length s.keys) s (programs_of stack) call accounts units c range given));
+      goes = goes_on units (next_as next e) (subst (NextTakes units) begins (begun_takes s (programs_of stack) call accounts units c));
+      waiting = subst (AreSuspended (length s.keys) (units_in (next_as next e))) (sym none) tt;
+      height = omega arith;
+    }
+
+pub first_ending : (s : Fixed) (stack : List Running) (call : Call) (accounts : List Account) (units : ℕ) (c : Carried) (next : Next) →
+    stack ≡ [] → begun s (programs_of stack) call accounts units c ≡ next → ending_in s stack next ≡ frame s [] call accounts units c
+unfolding rest
+first_ending s stack call accounts units c next none begins =
+    subst (λ (gs : List Running). begun s (programs_of gs) call accounts units c ≡ next → ending_in s gs next ≡ frame s [] call accounts units c) (sym none)
+    (λ (k : begun s [] call accounts units c ≡ next). ap (after [] (go s)) (sym k)) begins
+
+started_test : (b : Bool) (x y : Ending) → b ≡ false → (if b then x else y) ≡ y
+started_test true x y h = absurd (cc)
+started_test false x y h = refl
+
+pub instruction_started : (s : Fixed) (call : Call) (accounts : List Account) (units trace : ℕ) (log : Log) → trace < 64 → instruction s call accounts units trace log ≡ frame s [] call accounts units (nothing_returned trace log)
+instruction_started s call accounts units trace log h = started_test (nat_le 64 trace) _ _ (grind (arith, nat_tests))
+
+pub carried_first : (trace : ℕ) (kept : List ℕ) (log given : Log) → kept ≡ [] → log ≡ given → (let c : Carried = record { trace = trace; returned = kept; keeper = SYSTEM_PROGRAM; log = log } in c) ≡ nothing_returned trace given
+carried_first trace kept log given h k = rw (h, k) refl
+
+-- what a run answers, by the code's own first values
+pub run_is : (f : Carried → Ending) (ran : Ran) (before first after : Carried) (end : End) (log : Log) → ending_as end after ≡ f before → before ≡ first → after.log ≡ log → IsRun (ending_as end after) ran after.log → IsRun (f first) ran log
+run_is f ran before first after end log h k l run =
+    subst (λ (x : Log). IsRun (f first) ran x) l (subst (λ (e : Ending). IsRun e ran after.log) (h ∙ ap f k) run)

@@ -1,0 +1,16 @@
+pub mod Reasons
+pub mod Lines
+pub mod Frames
+pub mod Ends
+pub mod Leaving
+pub mod Calling
+pub mod Serving
+pub mod Turns
+pub mod Returning
+pub mod Native
+pub mod Starting
+pub mod Frame
+pub mod Suspended
+pub mod Given
+pub mod Fits
+pub mod Views

@@ -1,0 +1,106 @@
+//! A frame of a program in its middle, and the frames that wait for their callees.
+ghost use Rattle.std.specs.Prelude.{◌≡◌, ◌∷◌, [], Bool, length, IfSome, IfNone, IfOk, OnOk};
+ghost use Rattle.std.specs.List.{list_any};
+ghost use Rattle.sol_base.specs.Keys.{same_key};
+ghost use Rattle.invoke_engine.specs.Frames.{has_key};
+ghost use Rattle.invoke_engine.specs.Suspended.{programs_of};
+
+use sbpf_machine::Machine;
+use sol_base::{Account, Items, Key, Meta, OutOfMemory};
+use std::alloc::Global;
+use std::marker::Model;
+use std::sync::Arc;
+
+#[derive(Drop)]
+pub struct Frame {
+    pub program: Key,
+    pub metas: Items<Meta>,
+    pub start: Items<Arc<Account>>,
+    /// The accounts at the frame's start or at the last return of a callee.
+    pub before: Items<Arc<Account>>,
+    pub had: u64,
+    pub machine: Machine,
+}
+
+impl Model for Frame {
+    ghost use Rattle.sol_base.specs.Accounts.{accounts_of};
+    ghost use Rattle.sbpf_machine.specs.Plain.{plain};
+    ghost use Rattle.invoke_engine.specs.Frame.{Running};
+
+    ghost Value = { Running };
+
+    ghost view = { λ f. record {
+      program = f.program;
+      metas = f.metas;
+      start = accounts_of f.start;
+      before = accounts_of f.before;
+      had = f.had;
+      machine = plain f.machine;
+    } };
+}
+
+impl Frame {
+    pub fn key(&self) -> Key
+        ensures { result ≡ self.now.program }
+    {
+        self.program
+    }
+}
+
+/// The frames that wait, the innermost first.
+#[derive(Drop)]
+pub struct Stack {
+    frames: Vec<Frame>,
+}
+
+impl Model for Stack {
+    ghost use Rattle.std.specs.Prelude.{List, reverse};
+    ghost use Rattle.invoke_engine.specs.Frame.{Running};
+
+    ghost Value = { List Running };
+
+    ghost view = { λ s. reverse s.frames.items };
+}
+
+impl Stack {
+    pub fn new(alloc: Global) -> Stack
+        ensures { result ≡ [] }
+    {
+        Stack {
+            frames: Vec::new(alloc),
+        }
+    }
+
+    pub fn len(&self) -> usize
+        ensures { result ≡ length self.now }
+    {
+        self.frames.len()
+    }
+
+    pub fn push(&mut self, frame: Frame) -> Result<(), OutOfMemory>
+        ensures { OnOk result (self.new ≡ frame ∷ self.old) }
+    {
+        self.frames.push(frame)?;
+        Ok(())
+    }
+
+    pub fn pop(&mut self) -> Option<Frame>
+        ensures some { IfSome result (λ frame. self.old ≡ frame ∷ self.new) }
+        ensures none { IfNone result (self.old ≡ []) }
+    {
+        self.frames.pop()
+    }
+
+    /// Whether a frame that waits runs this program.
+    pub fn has(&self, program: &Key) -> bool
+        ensures { result ≡ has_key program.now (programs_of self.now) }
+    {
+        has_in(self.frames.as_slice(), program)
+    }
+}
+
+fn has_in(frames: &[Frame], program: &Key) -> bool
+    ensures { result ≡ list_any (λ frame. same_key frame.program program.now) frames.now }
+{
+    frames.iter().any(|frame| frame.key() == *program)
+}

@@ -1,0 +1,100 @@
+//! Laws over frames.
+ghost use Rattle.std.specs.Prelude.{◌≡◌, ◌<◌, ◌≤◌, ◌+◌, ◌∷◌, ℕ, List, Ok, IfOk, length};
+ghost use Rattle.sol_base.specs.declared.key.Key.{Key as KeyValue};
+ghost use Rattle.sol_base.specs.declared.key.TheConstants.{LOADER_PROGRAM};
+ghost use Rattle.sol_base.specs.declared.account.Account.{Account as AccountValue};
+ghost use Rattle.account_rules.specs.AccountRules.{listed_rules};
+ghost use Rattle.loader_prog.specs.Laws.{OnlyTheAuthorityWrites};
+ghost use Rattle.program_cache.specs.Programs.{Sought};
+ghost use Rattle.tx_report.specs.LogLines.{Log};
+ghost use Rattle.invoke_engine.specs.declared.call.Call.{Call as CallValue};
+ghost use Rattle.invoke_engine.specs.declared.call.Setting.{Setting as SettingValue};
+ghost use Rattle.invoke_engine.specs.Fits.{IsGoing, AreListed, EndKeeps, SameFound};
+ghost use Rattle.invoke_engine.specs.Frame.{Fixed, Carried, Running, Ending, Callee, Runs, GoesOn, Calls, Leaves, frame, go, turn, within, begun, returned, after, instruction};
+ghost use Rattle.invoke_engine.specs.Starting.{key_at};
+ghost use Rattle.invoke_engine.specs.Suspended.{programs_of, rest};
+ghost use Rattle.invoke_engine.specs.Views.{fixed};
+
+/// A law: no frame ends with more units than it had, and any bound above them serves.
+pub fn frames_take_units()
+    ensures gains_none { (s : Fixed) (outer : List KeyValue) (f : Running) (c : Carried) →
+        IsGoing f → (go s outer f c).units ≤ f.machine.units }
+    ensures enough { (s : Fixed) (n : ℕ) (outer : List KeyValue) (f : Running) (c : Carried) →
+        IsGoing f → f.machine.units < n → within s n outer f c ≡ go s outer f c }
+{}
+
+/// A law: each turn of a frame keeps the ending of the outermost of those that wait. The turn goes
+/// on, or pushes a callee, or ends the frame; an end takes a frame off.
+pub fn turns_keep_the_ending()
+    ensures goes_on { (s : Fixed) (fs : List Running) (f g : Running) (c d : Carried) →
+        IsGoing f → turn s.setting s.keys (programs_of fs) f c ≡ GoesOn g d →
+        rest s fs (go s (programs_of fs) g d) ≡ rest s fs (go s (programs_of fs) f c) }
+    ensures calls { (s : Fixed) (fs : List Running) (f g : Running) (c d : Carried)
+        (callee : Callee) (units : ℕ) → IsGoing f →
+        turn s.setting s.keys (programs_of fs) f c ≡ Calls g d callee units →
+        rest s (g ∷ fs)
+        (frame s (programs_of (g ∷ fs)) callee.call callee.accounts units d)
+        ≡ rest s fs (go s (programs_of fs) f c) }
+    ensures leaves { (s : Fixed) (fs : List Running) (f : Running) (c : Carried) (e : Ending) →
+        IsGoing f → turn s.setting s.keys (programs_of fs) f c ≡ Leaves e →
+        rest s fs e ≡ rest s fs (go s (programs_of fs) f c) }
+    ensures taken_off { (s : Fixed) (fs : List Running) (f : Running) (e : Ending) →
+        rest s fs (after (programs_of fs) (go s) (returned (programs_of fs) f e))
+        ≡ rest s (f ∷ fs) e }
+{}
+
+/// A law: a frame that ends well keeps of its accounts what its list asks: their number and
+/// lamports, lengths that are allowed, all that the list does not let it write, and each executable
+/// account and flag.
+pub fn frames_keep_accounts()
+    ensures { (s : Fixed) (outer : List KeyValue) (call : CallValue) (accounts : List AccountValue)
+        (units : ℕ) (c : Carried) → AreListed (length s.keys) call.metas accounts →
+        EndKeeps call.metas accounts (frame s outer call accounts units c) }
+{}
+
+/// A law: each stretch of a frame of an sBPF program that is followed by a call or by a good end
+/// breaks no account rule. It is measured from the accounts that the frame was given, or from those
+/// that its last callee left.
+pub fn stretches_keep_the_rules()
+    ensures calls { (setting : SettingValue) (keys outer : List KeyValue) (f g : Running)
+        (c d : Carried) (callee : Callee) (units : ℕ) →
+        turn setting keys outer f c ≡ Calls g d callee units →
+        listed_rules f.program f.metas f.before callee.accounts ≡ Ok tt }
+    ensures leaves { (setting : SettingValue) (keys outer : List KeyValue) (f : Running)
+        (c : Carried) (e : Ending) → turn setting keys outer f c ≡ Leaves e →
+        IfOk e.result (λ after. listed_rules f.program f.metas f.before after ≡ Ok tt) }
+    ensures goes_on { (setting : SettingValue) (keys outer : List KeyValue) (f g : Running)
+        (c d : Carried) → turn setting keys outer f c ≡ GoesOn g d →
+        (g.program ≡ f.program) × (g.metas ≡ f.metas) × (g.before ≡ f.before) }
+    ensures first { (s : Fixed) (outer : List KeyValue) (call : CallValue)
+        (accounts : List AccountValue) (units : ℕ) (c d : Carried) (f : Running) →
+        begun s outer call accounts units c ≡ Runs f d → f.before ≡ accounts }
+    ensures next { (outer : List KeyValue) (f g : Running) (e : Ending) (d : Carried) →
+        returned outer f e ≡ Runs g d → e.result ≡ Ok g.before }
+{}
+
+/// A law: of the programs, an instruction looks at those under the transaction's keys alone.
+pub fn instructions_look_at_their_keys()
+    ensures { (one other : KeyValue → Sought) (setting : SettingValue) (keys : List KeyValue)
+        (call : CallValue) (accounts : List AccountValue) (units trace : ℕ) (log : Log) →
+        SameFound keys one other →
+        instruction (fixed one setting keys) call accounts units trace log
+        ≡ instruction (fixed other setting keys) call accounts units trace log }
+{}
+
+/// A law: an instruction that is started counts at least one.
+pub fn instructions_are_counted()
+    ensures { (s : Fixed) (call : CallValue) (accounts : List AccountValue) (units trace : ℕ)
+        (log : Log) → trace < 64 →
+        trace + 1 ≤ (instruction s call accounts units trace log).carried.trace }
+{}
+
+/// A law: where a frame of the loader ends well and an account's data differ, either nothing stood
+/// where the magic of a buffer goes and the account signs, or the authority of the buffer signs.
+pub fn loader_frames_keep_buffers()
+    ensures { (s : Fixed) (outer : List KeyValue) (call : CallValue) (accounts : List AccountValue)
+        (units : ℕ) (c : Carried) → AreListed (length s.keys) call.metas accounts →
+        key_at s.keys call.program ≡ LOADER_PROGRAM →
+        IfOk (frame s outer call accounts units c).result
+        (λ after. OnlyTheAuthorityWrites s.keys accounts call.metas after) }
+{}

@@ -1,0 +1,93 @@
+//! A caller after its callee.
+ghost use Rattle.std.specs.Prelude.{◌≡◌, ◌<◌, ◌≤◌, Ok, Err, length, IfOk};
+ghost use Rattle.sol_base.specs.Accounts.{accounts_of};
+ghost use Rattle.abi_input.specs.Region.{patched};
+ghost use Rattle.invoke_engine.specs.Fits.{EndFits};
+ghost use Rattle.invoke_engine.specs.Given.{AreGiven, IsFrame, IsSuspended};
+ghost use Rattle.invoke_engine.specs.Returning.{returned};
+ghost use Rattle.invoke_engine.specs.Suspended.{programs_of};
+ghost use Rattle.invoke_engine.specs.Views.{ending_as, next_as, PatchesAs, RunsFit};
+
+use crate::begin::Next;
+use crate::call::Ended;
+use crate::carrier::Carrier;
+use crate::ending::End;
+use crate::frame::{Frame, Stack};
+use crate::lines::close;
+use crate::stopped::Stopped;
+use crate::turn::fail;
+use abi_input::patch;
+use sol_base::{Account, Key, OutOfMemory};
+use std::alloc::Global;
+use std::sync::Arc;
+
+/// Writes the accounts over the frame's region.
+fn write_over(
+    alloc: Global,
+    frame: &mut Frame,
+    keys: &[Key],
+    accounts: &[Arc<Account>],
+) -> Result<(), Stopped>
+    requires frame { IsFrame (length keys.now) frame.old }
+    requires accounts { AreGiven (length keys.now) (accounts_of accounts.now) }
+    ensures answer { PatchesAs
+        (patched frame.old.machine.context.memory.input.bytes frame.old.start
+        (accounts_of accounts.now) frame.old.metas)
+        frame.old frame.new result }
+    ensures size { length frame.new.machine.context.memory.input.bytes
+        ≡ length frame.old.machine.context.memory.input.bytes }
+{
+    let _keys = keys;
+    Ok(patch(
+        alloc,
+        frame.machine.memory_mut().input_mut(),
+        frame.start.as_slice(),
+        accounts,
+        frame.metas.as_slice(),
+    )?)
+}
+
+/// The caller goes on where its callee ended well, and fails with it where it failed.
+#[tactic(auto, unfolding(crate::specs::Returning::returned))]
+pub(crate) fn resume(
+    alloc: Global,
+    keys: &[Key],
+    outer: &Stack,
+    frame: Frame,
+    end: End,
+    carrier: &mut Carrier,
+) -> Result<Next, OutOfMemory>
+    requires outer { length outer.now < 255 }
+    requires frame { IsSuspended (length keys.now) frame }
+    requires end { EndFits (length keys.now) (ending_as end carrier.old) }
+    requires units { end.units ≤ frame.machine.units }
+    ensures next { IfOk result (λ next.
+        returned (programs_of outer.now) frame (ending_as end carrier.old)
+        ≡ next_as next carrier.new) }
+    ensures fits { IfOk result (λ next. RunsFit (length keys.now) next) }
+{
+    let mut frame = frame;
+    let End { units, ended } = end;
+    match ended {
+        Ended::Failed(error) => Ok(Next::Ends(close(
+            alloc,
+            &frame.program,
+            frame.had,
+            units,
+            carrier,
+            Ended::Failed(error),
+        )?)),
+        Ended::Good(accounts) => match write_over(alloc, &mut frame, keys, accounts.as_slice()) {
+            Ok(()) => {
+                frame.machine.set_units(units);
+                frame.machine.resume(0);
+                frame.before = accounts;
+                Ok(Next::Runs(frame))
+            }
+            Err(Stopped::Refused(reason)) => Ok(Next::Ends(fail(
+                alloc, outer, &frame, units, carrier, reason,
+            )?)),
+            Err(Stopped::OutOfMemory) => Err(OutOfMemory),
+        },
+    }
+}

@@ -1,0 +1,176 @@
+//! What a frame does at a stop of its machine.
+ghost use Rattle.std.specs.Prelude.{◌≡◌, ◌<◌, ◌≤◌, Ok, Err, MatchResult, length};
+ghost use Rattle.sol_base.specs.Accounts.{accounts_of};
+ghost use Rattle.cpi_calls.specs.Rights.{rights_of};
+ghost use Rattle.invoke_engine.specs.Calling as Calling;
+ghost use Rattle.invoke_engine.specs.Leaving as Leaving;
+ghost use Rattle.invoke_engine.specs.Given.{IsFrame};
+ghost use Rattle.invoke_engine.specs.Reasons.{StopsBy, refuse, by_rights};
+ghost use Rattle.invoke_engine.specs.Suspended.{programs_of};
+ghost use Rattle.invoke_engine.specs.Views.{Asks, Comes};
+
+use crate::call::{Call, Setting};
+use crate::ending::Callee;
+use crate::frame::{Frame, Stack};
+use crate::stopped::Stopped;
+use abi_input::take_back;
+use account_rules::check_listed;
+use cpi_calls::{CallRequest, Granted, grant_rights, read_call};
+use sol_base::{Account, Items, Key};
+use std::alloc::Global;
+use std::sync::Arc;
+use tx_report::Cause;
+
+/// The most instructions that a transaction starts.
+pub(crate) const MAX_TRACE: u8 = 64;
+
+/// The accounts as the frame leaves them, where it breaks no rule.
+#[tactic(auto, unfolding(crate::specs::Leaving::settled))]
+fn settled(alloc: Global, keys: &[Key], frame: &Frame) -> Result<Items<Arc<Account>>, Stopped>
+    requires { IsFrame (length keys.now) frame.now }
+    ensures { MatchResult result
+        (λ accounts. Leaving.settled frame.now ≡ Ok (accounts_of accounts))
+        (λ e. StopsBy e (Leaving.settled frame.now)) }
+{
+    let _keys = keys;
+    let taken = take_back(
+        alloc,
+        frame.machine.memory().input(),
+        frame.start.as_slice(),
+        frame.before.as_slice(),
+        frame.metas.as_slice(),
+    )?;
+    check_listed(
+        &frame.program,
+        frame.metas.as_slice(),
+        taken.touched.as_slice(),
+        frame.before.as_slice(),
+        taken.accounts.as_slice(),
+    )?;
+    Ok(taken.accounts)
+}
+
+/// What r0 says at the exit.
+#[tactic(auto, unfolding(crate::specs::Leaving::exited))]
+fn exited(r0: u64) -> Result<(), Stopped>
+    ensures { result ≡ Leaving.exited r0 }
+{
+    if r0 == 0 {
+        return Ok(());
+    }
+    if r0 < 0x1_0000_0000 {
+        return Err(Stopped::with(Cause::Custom, r0 as u32));
+    }
+    if r0 == 0x1_0000_0000 {
+        return Err(Stopped::plainly(Cause::Custom));
+    }
+    Err(Stopped::plainly(Cause::InvalidError))
+}
+
+/// The accounts after the exit of a frame's program.
+#[tactic(auto, unfolding(crate::specs::Leaving::left))]
+pub(crate) fn left(
+    alloc: Global,
+    keys: &[Key],
+    frame: &Frame,
+    r0: u64,
+) -> Result<Items<Arc<Account>>, Stopped>
+    requires { IsFrame (length keys.now) frame.now }
+    ensures { MatchResult result
+        (λ accounts. Leaving.left frame.now r0 ≡ Ok (accounts_of accounts))
+        (λ e. StopsBy e (Leaving.left frame.now r0)) }
+{
+    let after = settled(alloc, keys, frame)?;
+    exited(r0)?;
+    Ok(after)
+}
+
+/// Whether a program may be called now.
+#[tactic(auto, unfolding(crate::specs::Calling::may_start))]
+fn may_start(
+    setting: Setting,
+    outer: &Stack,
+    frame: &Frame,
+    trace: u8,
+    program: &Key,
+) -> Result<(), Stopped>
+    requires { length outer.now < 255 }
+    ensures { result
+        ≡ Calling.may_start setting.height (programs_of outer.now) frame.now trace program.now }
+{
+    if trace >= MAX_TRACE {
+        return Err(Stopped::plainly(Cause::TraceTooLong));
+    }
+    if outer.len() + 1 >= setting.height as usize {
+        return Err(Stopped::plainly(Cause::StackHeight));
+    }
+    if *program != frame.program && outer.has(program) {
+        return Err(Stopped::plainly(Cause::Reentrancy));
+    }
+    Ok(())
+}
+
+/// The request that the frame's machine makes.
+fn ask(alloc: Global, frame: &Frame, units: &mut u64) -> Result<CallRequest, Stopped>
+    requires { units.old ≡ frame.now.machine.units }
+    ensures { Asks (Calling.requested frame.now) units.new result }
+{
+    Ok(read_call(
+        alloc,
+        frame.machine.arguments(),
+        frame.machine.memory(),
+        &frame.program,
+        units,
+    )?)
+}
+
+/// The rights of the callee.
+fn grant(
+    alloc: Global,
+    keys: &[Key],
+    frame: &Frame,
+    request: &CallRequest,
+) -> Result<Granted, Stopped>
+    requires keys { length keys.now ≤ 255 }
+    requires metas { length request.now.metas ≤ 255 }
+    ensures { MatchResult result
+        (λ granted. rights_of request.now keys.now frame.now.metas ≡ Ok granted)
+        (λ e. StopsBy e (refuse by_rights (rights_of request.now keys.now frame.now.metas))) }
+{
+    Ok(grant_rights(alloc, request, keys, frame.metas.as_slice())?)
+}
+
+/// The callee of a request: its rights, then the accounts as the frame leaves them, then whether it
+/// may be called.
+#[tactic(auto, unfolding(crate::specs::Calling::called))]
+pub(crate) fn called(
+    alloc: Global,
+    setting: Setting,
+    keys: &[Key],
+    outer: &Stack,
+    frame: &Frame,
+    trace: u8,
+    units: &mut u64,
+) -> Result<Callee, Stopped>
+    requires keys { length keys.now ≤ 255 }
+    requires frame { IsFrame (length keys.now) frame.now }
+    requires outer { length outer.now < 255 }
+    requires units { units.old ≡ frame.now.machine.units }
+    ensures { Comes
+        (Calling.called setting.height keys.now (programs_of outer.now) frame.now trace
+        (Calling.requested frame.now).answer)
+        (Calling.requested frame.now).units units.new result }
+{
+    let request = ask(alloc, frame, units)?;
+    let granted = grant(alloc, keys, frame, &request)?;
+    let accounts = settled(alloc, keys, frame)?;
+    may_start(setting, outer, frame, trace, &request.program)?;
+    Ok(Callee {
+        call: Call {
+            program: granted.program,
+            metas: granted.metas,
+            input: request.input,
+        },
+        accounts,
+    })
+}

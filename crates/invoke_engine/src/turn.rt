@@ -1,0 +1,248 @@
+//! One turn of a frame: to the next stop of its machine, and what the stop asks for.
+ghost use Rattle.std.specs.Prelude.{◌≡◌, ◌<◌, ◌≤◌, Ok, Err, Some, length, IfOk};
+ghost use Rattle.sbpf_machine.specs.Runs.{IsNumbered};
+ghost use Rattle.sbpf_machine.specs.Steps.{IsHelper, arguments_in, steps};
+ghost use Rattle.sbpf_machine.specs.Lending.{with_memory};
+ghost use Rattle.sys_calls.specs.Costs.{IsServed};
+ghost use Rattle.sys_calls.specs.SysCalls.{sys_row};
+ghost use Rattle.invoke_engine.specs.Calling as Calling;
+ghost use Rattle.invoke_engine.specs.Ends.{closes};
+ghost use Rattle.invoke_engine.specs.Frames.{height};
+ghost use Rattle.invoke_engine.specs.Given.{IsFrame};
+ghost use Rattle.invoke_engine.specs.Leaving as Leaving;
+ghost use Rattle.invoke_engine.specs.Reasons.{by_fault};
+ghost use Rattle.invoke_engine.specs.Serving as Serving;
+ghost use Rattle.invoke_engine.specs.Suspended.{programs_of};
+ghost use Rattle.invoke_engine.specs.Turns as Turns;
+ghost use Rattle.invoke_engine.specs.Views.{ending_as, turn_as, ServesAs};
+ghost use Rattle.invoke_engine.specs.declared.stopped.Stopped.TheVariants.{Refused};
+
+use crate::call::{Ended, Setting};
+use crate::carrier::Carrier;
+use crate::ending::{Callee, End};
+use crate::frame::{Frame, Stack};
+use crate::lines::close;
+use crate::stop::{called, left};
+use crate::stopped::{Reason, Stopped};
+use sbpf_machine::{Fault, Stop};
+use sol_base::{Key, OutOfMemory};
+use std::alloc::Global;
+use sys_calls::{Env, serve};
+use tx_report::{Cause, InstructionError};
+
+/// The system call that calls another program.
+const INVOKE: u32 = 17;
+
+/// What a frame does at a stop of its machine.
+#[derive(Drop)]
+pub(crate) enum Turn {
+    GoesOn,
+    /// It calls another program, with the units then left.
+    Calls(Callee, u64),
+    Leaves(End),
+}
+
+/// The height of the frame that has these around it.
+pub(crate) fn height_in(outer: &Stack) -> u8
+    requires { length outer.now < 255 }
+    ensures { result ≡ height (programs_of outer.now) }
+{
+    outer.len() as u8 + 1
+}
+
+/// The end of a frame that fails.
+pub(crate) fn fail(
+    alloc: Global,
+    outer: &Stack,
+    frame: &Frame,
+    units: u64,
+    carrier: &mut Carrier,
+    reason: Reason,
+) -> Result<End, OutOfMemory>
+    requires { length outer.now < 255 }
+    ensures { IfOk result (λ e. ending_as e carrier.new
+        ≡ closes (programs_of outer.now) frame.now units carrier.old (Err (Refused reason))) }
+{
+    let error = InstructionError {
+        cause: reason.cause,
+        detail: reason.detail,
+        height: height_in(outer),
+    };
+    close(
+        alloc,
+        &frame.program,
+        frame.had,
+        units,
+        carrier,
+        Ended::Failed(error),
+    )
+}
+
+/// The end of a frame whose program has ended.
+fn leave(
+    alloc: Global,
+    keys: &[Key],
+    outer: &Stack,
+    frame: &Frame,
+    r0: u64,
+    carrier: &mut Carrier,
+) -> Result<End, OutOfMemory>
+    requires outer { length outer.now < 255 }
+    requires frame { IsFrame (length keys.now) frame.now }
+    ensures { IfOk result (λ e. ending_as e carrier.new
+        ≡ closes (programs_of outer.now) frame.now frame.now.machine.units carrier.old
+        (Leaving.left frame.now r0)) }
+{
+    let units = frame.machine.units();
+    match left(alloc, keys, frame, r0) {
+        Ok(accounts) => close(
+            alloc,
+            &frame.program,
+            frame.had,
+            units,
+            carrier,
+            Ended::Good(accounts),
+        ),
+        Err(Stopped::Refused(reason)) => fail(alloc, outer, frame, units, carrier, reason),
+        Err(Stopped::OutOfMemory) => Err(OutOfMemory),
+    }
+}
+
+fn reason_of(fault: Fault) -> Reason
+    ensures { by_fault fault ≡ Refused result }
+{
+    let cause = match fault {
+        Fault::UnitsSpent => Cause::UnitsSpent,
+        Fault::DivideByZero => Cause::DivideByZero,
+        Fault::AccessViolation { .. } => Cause::AccessViolation,
+        Fault::CallDepth => Cause::CallDepth,
+        Fault::BadCallTarget { .. } => Cause::BadCallTarget,
+    };
+    Reason { cause, detail: 0 }
+}
+
+/// Serves the system call that the frame's machine stands at.
+fn serve_for(alloc: Global, frame: &mut Frame, number: u32, env: &mut Env) -> Result<u64, Stopped>
+    requires { IsServed number }
+    ensures answer { ServesAs
+        (sys_row number (arguments_in frame.old.machine.context.registers)
+        frame.old.machine.context.memory env.old)
+        frame.new.machine.context.memory env.old env.new result }
+    ensures rest { frame.new
+        ≡ record frame.old {
+          machine = with_memory frame.old.machine frame.new.machine.context.memory;
+        } }
+    ensures units { env.new.units ≤ env.old.units }
+{
+    let arguments = frame.machine.arguments();
+    Ok(serve(alloc, number, arguments, frame.machine.memory_mut(), env)?)
+}
+
+fn serve_turn(
+    alloc: Global,
+    setting: Setting,
+    outer: &Stack,
+    frame: &mut Frame,
+    carrier: &mut Carrier,
+    number: u32,
+) -> Result<Turn, OutOfMemory>
+    requires outer { length outer.now < 255 }
+    requires helper { IsHelper frame.old.machine.stop }
+    requires number { IsServed number }
+    ensures { IfOk result (λ t.
+        Serving.serve_turn setting (programs_of outer.now) frame.old carrier.old number
+        ≡ turn_as t frame.new carrier.new) }
+{
+    carrier.env.slot = setting.slot;
+    carrier.env.program = frame.program;
+    carrier.env.height = height_in(outer);
+    carrier.env.units = frame.machine.units();
+    match serve_for(alloc, frame, number, &mut carrier.env) {
+        Ok(r0) => {
+            frame.machine.set_units(carrier.env.units);
+            frame.machine.resume(r0);
+            Ok(Turn::GoesOn)
+        }
+        Err(Stopped::Refused(reason)) => {
+            let units = carrier.env.units;
+            Ok(Turn::Leaves(fail(alloc, outer, frame, units, carrier, reason)?))
+        }
+        Err(Stopped::OutOfMemory) => Err(OutOfMemory),
+    }
+}
+
+fn call_turn(
+    alloc: Global,
+    setting: Setting,
+    keys: &[Key],
+    outer: &Stack,
+    frame: &Frame,
+    carrier: &mut Carrier,
+) -> Result<Turn, OutOfMemory>
+    requires keys { length keys.now ≤ 255 }
+    requires outer { length outer.now < 255 }
+    requires frame { IsFrame (length keys.now) frame.now }
+    ensures { IfOk result (λ t.
+        Calling.call_turn setting keys.now (programs_of outer.now) frame.now carrier.old
+        ≡ turn_as t frame.now carrier.new) }
+{
+    let mut units = frame.machine.units();
+    match called(
+        alloc,
+        setting,
+        keys,
+        outer,
+        frame,
+        carrier.trace,
+        &mut units,
+    ) {
+        Ok(callee) => Ok(Turn::Calls(callee, units)),
+        Err(Stopped::Refused(reason)) => Ok(Turn::Leaves(fail(
+            alloc, outer, frame, units, carrier, reason,
+        )?)),
+        Err(Stopped::OutOfMemory) => Err(OutOfMemory),
+    }
+}
+
+/// One turn of a frame.
+pub(crate) fn take_turn(
+    alloc: Global,
+    setting: Setting,
+    keys: &[Key],
+    outer: &Stack,
+    frame: &mut Frame,
+    carrier: &mut Carrier,
+) -> Result<Turn, OutOfMemory>
+    requires keys { length keys.now ≤ 255 }
+    requires outer { length outer.now < 255 }
+    requires frame { IsFrame (length keys.now) frame.old }
+    ensures { IfOk result (λ t.
+        Turns.turn setting keys.now (programs_of outer.now) frame.old carrier.old
+        ≡ turn_as t frame.new carrier.new) }
+{
+    match run(frame)? {
+        Stop::Exit { r0 } => Ok(Turn::Leaves(leave(alloc, keys, outer, frame, r0, carrier)?)),
+        Stop::Fault(fault) => {
+            let units = frame.machine.units();
+            Ok(Turn::Leaves(fail(alloc, outer, frame, units, carrier, reason_of(fault))?))
+        }
+        Stop::Helper { number } => {
+            if number == INVOKE {
+                call_turn(alloc, setting, keys, outer, frame, carrier)
+            } else {
+                serve_turn(alloc, setting, outer, frame, carrier, number)
+            }
+        }
+    }
+}
+
+/// Runs the frame's machine to its first stop.
+fn run(frame: &mut Frame) -> Result<Stop, OutOfMemory>
+    ensures steps { IfOk result (λ stop.
+        (steps frame.old.machine ≡ Some frame.new.machine)
+        × (frame.new.machine.stop ≡ Some stop)) }
+    ensures number { IfOk result IsNumbered }
+    ensures rest { frame.new ≡ record frame.old { machine = frame.new.machine } }
+{
+    frame.machine.run()
+}
