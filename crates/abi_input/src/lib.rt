@@ -14,7 +14,7 @@ mod taking;
 mod tests;
 
 pub use fault::{BackFault, PatchFault};
-pub use laws::what_is_laid_out_is_taken_back;
+pub use laws::{what_is_laid_out_is_taken_back, what_is_patched_in_is_taken_back};
 pub use laying::lay_out;
 pub use patching::patch;
 pub use taking::{TakenBack, take_back};

@@ -89,6 +89,7 @@ fn each_refusal_comes_at_its_slot(rt: HostRuntime) -> Result<(), Fail> {
     for row in 0..34usize {
         let (slots, cause) = REFUSED[row];
         let text = text_of(rt.alloc(), slots)?;
+        assert_eq!(rt; first_refusal(text.as_slice()), Some(cause), "row {row}");
         match verify(text) {
             Ok(_) => assert!(rt; false, "row {row} is verified"),
             Err(unfit) => assert_eq!(rt; unfit.cause, cause, "row {row}"),
@@ -116,6 +117,7 @@ fn lengths_and_worked_texts(rt: HostRuntime) -> Result<(), Fail> {
     }
     let wide = text_of(alloc, &[low, high, EXIT])?;
     let copy = wide.try_copy()?;
+    assert_eq!(rt; first_refusal(wide.as_slice()), None);
     match verify(wide) {
         Ok(program) => assert_eq!(rt; program.text(), copy.as_slice()),
         Err(unfit) => assert!(rt; false, "{}", unfit.cause),
@@ -174,4 +176,35 @@ fn entries_of_a_text(rt: HostRuntime) -> Result<(), Fail> {
     assert!(rt; !decoded.program().is_start(6));
     assert_eq!(rt; std::mem::size_of::<Entry>(), 24);
     Ok(())
+}
+
+/// Bytes, and the lengths of the text and of the constants where they are an image.
+const IMAGES: [(&[u8], Option<(usize, usize)>); 8] = [
+    (b"", None),
+    (b"SBPFIMG1\0\0\0\0\0\0\0", None),
+    (b"SBPFIMG1\0\0\0\0\0\0\0\0", Some((0, 0))),
+    (b"SBPFIMG2\0\0\0\0\0\0\0\0", None),
+    (b"SBPFIMG1\xff\xff\xff\xff\0\0\0\0", None),
+    (b"SBPFIMG1\x01\0\0\0\x02\0\0\0slot one+", None),
+    (b"SBPFIMG1\x01\0\0\0\x02\0\0\0slot one++", Some((8, 2))),
+    (b"SBPFIMG1\x01\0\0\0\x02\0\0\0slot one+++", None),
+];
+
+#[test]
+fn images_are_read_whole(rt: HostRuntime) {
+    for row in 0..8usize {
+        let (bytes, lens) = IMAGES[row];
+        match read_image(bytes) {
+            None => assert_eq!(rt; None, lens, "row {row}"),
+            Some(image) => {
+                let found = (image.text.len(), image.constants.len());
+                assert_eq!(rt; Some(found), lens, "row {row}");
+            }
+        }
+    }
+    let parts = ImageSlices {
+        text: b"slot one",
+        constants: b"++",
+    };
+    assert_eq!(rt; read_image(IMAGES[6].0), Some(parts));
 }
