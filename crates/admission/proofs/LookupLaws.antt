@@ -128,7 +128,7 @@ module _ (s : State) (message : Message) (place : ℕ) (writable readonly : List
   no_fault : filter_map (lookup_fault s) (enumerate_from 0 message.lookups) ≡ []
   no_fault =
       let all : take place (enumerate_from 0 message.lookups) ≡ enumerate_from 0 message.lookups =
-        ap (λ n. take n (enumerate_from 0 message.lookups)) (over ∙ sym (length-enumerate_from 0 message.lookups)) ∙ take-length (enumerate_from 0 message.lookups) in
+      ap (λ n. take n (enumerate_from 0 message.lookups)) (over ∙ sym (length-enumerate_from 0 message.lookups)) ∙ take-length (enumerate_from 0 message.lookups) in
       ap (filter_map (lookup_fault s)) (sym all) ∙ so_far.fine
 
   -- after the last lookup the answer is by the repeated keys alone

@@ -57,15 +57,8 @@ name_added old new name puts q = puts q ∙ go (is_at (hash_cmp name) q) (same_h
     go false true e o = absurd (cc)
     go false false e o = sym (or_false o)
 
--- no name more
-pub name_not_added : (has : Hash32 → Bool) (q : Hash32) → has q ≡ (has q || is_name None q)
-name_not_added has q = sym (or_false (has q))
-
 pub name_stands : (start : Start) (tx : Tx) (name : Hash32) (loaded : Loaded) → stands start tx name ≡ Ok loaded → standing_name start (Good tx name) ≡ Some name
 name_stands start tx name loaded e = ap (λ (r : Result Loaded Refusal). if is_ok r then Some name else None) e
-
-pub name_falls : (start : Start) (tx : Tx) (name : Hash32) (cause : Refusal) → stands start tx name ≡ Err cause → standing_name start (Good tx name) ≡ None
-name_falls start tx name cause e = ap (λ (r : Result Loaded Refusal). if is_ok r then Some name else None) e
 
 -- ---- one position
 -- a name that is not added was there

@@ -103,14 +103,6 @@ module _ (limits : Limits) (line done left more order : List Chosen) (first caus
         ∙ ap (λ (w : Walk). with_late w.refused first) (sym (walk_by (Some cause) is));
   }
 
-  -- none
-  pub walked_on : (order' : List Chosen) → late limits order one ≡ None → order' ≡ order ++ one ∷ [] → AreWalked limits line (done ++ one ∷ []) more order' first causes
-  walked_on order' is pushed = record {
-    all = all_more;
-    ordered = pushed ∙ ap (λ (ls : List Chosen). ls ++ one ∷ []) so_far.ordered ∙ ap (λ (w : Walk). w.order) (sym (walk_by None is));
-    caused = so_far.caused ∙ ap (λ (w : Walk). with_late w.refused first) (sym (walk_by None is));
-  }
-
 -- one more cause is numbered
 pub numbered_more : (causes : List (Option Refusal)) (i : ℕ) (o : Option Refusal) (refused refused' : List Refused) → i < length causes → o ≡ get_or causes i None → refused ≡ filter_map numbered_at (take i (enumerate_from 0 causes))
     → refused' ≡ refused ++ cons_option (numbered_at (i, o)) [] → refused' ≡ filter_map numbered_at (take (i + 1) (enumerate_from 0 causes))

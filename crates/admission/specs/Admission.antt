@@ -113,7 +113,7 @@ abbrev pub with_next : List Chosen → Chosen → List Chosen
 with_next [] one = one ∷ []
 with_next (other ∷ others) one = if nat_lt (priority other) (priority one) then one ∷ other ∷ others else other ∷ with_next others one
 
--- higher priority first, and then lower position first
+-- the line: higher priority first, and then lower position first, since positions come ascending
 abbrev pub line : List Chosen → List Chosen
 line standing = fold with_next [] standing
 
@@ -155,6 +155,7 @@ abbrev pub walk_with : Walk → Chosen → Option Refusal → Walk
 walk_with walk one None = record walk { order = walk.order ++ one ∷ [] }
 walk_with walk one (Some cause) = record walk { refused = record { position = one.position; cause = cause } ∷ walk.refused }
 
+-- the walk: each transaction of a line runs, unless a unit limit refuses it behind those that do
 abbrev pub walk : Limits → List Chosen → Walk
 walk limits standing = fold (λ before one. walk_with before one (late limits before.order one)) (record { order = []; refused = [] }) standing
 

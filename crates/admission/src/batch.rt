@@ -26,7 +26,8 @@ pub fn admit(
 ) -> Result<Admitted, OutOfMemory>
     requires keys { limits.now.keys ≤ 128 }
     requires few { length wires.now < 2 ^ 32 }
-    ensures exact { IfOk result (λ answer. answer ≡ admitted (start_of recent.now accounts.now limits.now) wires.now) }
+    ensures exact { IfOk result (λ answer.
+        answer ≡ admitted (start_of recent.now accounts.now limits.now) wires.now) }
     ensures chosen { IfOk result (λ answer. All IsChosen answer.order) }
 {
     let parsed = parse_all(alloc, wires)?;
@@ -45,7 +46,8 @@ pub fn admit_parsed(
     requires read { AreParsed wires.now parsed }
     requires keys { limits.now.keys ≤ 128 }
     requires few { length wires.now < 2 ^ 32 }
-    ensures exact { IfOk result (λ answer. answer ≡ admitted (start_of recent.now accounts.now limits.now) wires.now) }
+    ensures exact { IfOk result (λ answer.
+        answer ≡ admitted (start_of recent.now accounts.now limits.now) wires.now) }
     ensures chosen { IfOk result (λ answer. All IsChosen answer.order) }
 {
     let Sifted { standing, causes } = sift(alloc, recent, accounts, limits, parsed)?;
@@ -63,7 +65,8 @@ pub fn admit_listed(
 ) -> Result<Admitted, OutOfMemory>
     requires keys { limits.now.keys ≤ 128 }
     requires few { length wires.now < 2 ^ 32 }
-    ensures exact { IfOk result (λ answer. answer ≡ listed (start_of recent.now accounts.now limits.now) wires.now) }
+    ensures exact { IfOk result (λ answer.
+        answer ≡ listed (start_of recent.now accounts.now limits.now) wires.now) }
     ensures chosen { IfOk result (λ answer. All IsChosen answer.order) }
 {
     let parsed = parse_all(alloc, wires)?;
@@ -93,7 +96,8 @@ fn admit_line(
     requires places { All (λ one. one.position < length causes.items) line.items }
     requires apart { All (λ one. IsDistinct same_key (keys_locked one.locks)) line.items }
     ensures order { IfOk result (λ answer. answer.order ≡ (walk limits.now line.items).order) }
-    ensures refused { IfOk result (λ answer. answer.refused ≡ numbered_in (with_late (walk limits.now line.items).refused causes.items)) }
+    ensures refused { IfOk result (λ answer.
+        answer.refused ≡ numbered_in (with_late (walk limits.now line.items).refused causes.items)) }
 {
     let order = walk(alloc, limits, line, &mut causes)?;
     Ok(Admitted {

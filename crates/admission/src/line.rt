@@ -32,7 +32,10 @@ fn by_rank(alloc: Global, standing: Vec<Chosen>) -> Result<BTreeMap<Rank, Chosen
 {
     let mut ranked = BTreeMap::new(alloc);
     for chosen in standing {
-        let rank = (Reverse(priority(&chosen.fee, &chosen.budget)), chosen.position);
+        let rank = (
+            Reverse(priority(&chosen.fee, &chosen.budget)),
+            chosen.position,
+        );
         ranked.insert(rank, chosen)?;
     }
     Ok(ranked)

@@ -49,7 +49,8 @@ impl From<OutOfMemory> for LookupFault {
 pub fn resolve(alloc: Global, message: &Message, accounts: &Accounts) -> Result<Loaded, LookupFault>
     requires few { length message.now.lookups ≤ 65535 }
     requires apart { IsDistinct same_key message.now.keys }
-    ensures exact { Gives is_lookup_memory (λ loaded. loaded) result (load accounts.now message.now) }
+    ensures exact { Gives is_lookup_memory (λ loaded. loaded) result
+        (load accounts.now message.now) }
     ensures all { IfOk result (HasAllLoaded message.now) }
     ensures apart { IfOk result (λ loaded. IsDistinct same_key (all_keys message.now loaded)) }
 {
@@ -73,8 +74,11 @@ fn table_of<'a>(
     place: u16,
     lookup: &Lookup,
 ) -> Result<&'a [u8], LookupFault>
-    ensures fault { MatchResult result (λ _. lookup_fault accounts.now (place, lookup.now) ≡ None) (λ fault. lookup_fault accounts.now (place, lookup.now) ≡ Some fault) }
-    ensures bytes { IfOk result (λ bytes. bytes.now ≡ (account_at accounts.now lookup.now.table).bytes) }
+    ensures fault { MatchResult result
+        (λ _. lookup_fault accounts.now (place, lookup.now) ≡ None)
+        (λ fault. lookup_fault accounts.now (place, lookup.now) ≡ Some fault) }
+    ensures bytes { IfOk result (λ bytes.
+        bytes.now ≡ (account_at accounts.now lookup.now.table).bytes) }
     ensures written { IfOk result (λ bytes. is_beyond bytes.now lookup.now.writable ≡ false) }
     ensures read { IfOk result (λ bytes. is_beyond bytes.now lookup.now.readonly ≡ false) }
 {
@@ -85,7 +89,8 @@ fn table_of<'a>(
     if !is_table(bytes) {
         return Err(LookupFault::BadTable { lookup: place });
     }
-    if is_beyond(bytes, lookup.writable.as_slice()) || is_beyond(bytes, lookup.readonly.as_slice())
+    if is_beyond(bytes, lookup.writable.as_slice())
+        || is_beyond(bytes, lookup.readonly.as_slice())
     {
         return Err(LookupFault::BadIndex { lookup: place });
     }
@@ -140,7 +145,8 @@ fn address_at(table: &[u8], index: u8) -> Key
 fn repeats_a_key(alloc: Global, message: &Message, loaded: &Loaded) -> Result<bool, OutOfMemory>
     requires apart { IsDistinct same_key message.now.keys }
     requires none { message.now.lookups ≡ [] → loaded.now ≡ loads_none }
-    ensures { IfOk result (λ repeats. repeats ≡ has_repeated_key (all_keys message.now loaded.now)) }
+    ensures { IfOk result (λ repeats.
+        repeats ≡ has_repeated_key (all_keys message.now loaded.now)) }
 {
     if message.lookups.is_empty() {
         return Ok(false);

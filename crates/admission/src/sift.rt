@@ -32,8 +32,11 @@ pub(crate) fn sift(
 ) -> Result<Sifted, OutOfMemory>
     requires few { length wires < 2 ^ 32 }
     requires sound { All IsSound wires }
-    ensures standing { IfOk result (λ s. s.standing.items ≡ sifted_out (start_of recent.now accounts.now limits.now) wires) }
-    ensures causes { IfOk result (λ s. s.causes.items ≡ map (early (start_of recent.now accounts.now limits.now) wires) (enumerate_from 0 wires)) }
+    ensures standing { IfOk result (λ s.
+        s.standing.items ≡ sifted_out (start_of recent.now accounts.now limits.now) wires) }
+    ensures causes { IfOk result (λ s.
+        s.causes.items
+        ≡ map (early (start_of recent.now accounts.now limits.now) wires) (enumerate_from 0 wires)) }
 {
     let mut names = BTreeSet::new(alloc);
     let mut standing = Vec::new(alloc);
@@ -63,8 +66,12 @@ fn sift_one(
     wire: Parsed,
 ) -> Result<Result<Chosen, Refusal>, OutOfMemory>
     requires { IsSound wire }
-    ensures found { IfOk result (λ found. found ≡ sifted (start_of recent.now accounts.now limits.now) (has_name names.old) position wire) }
-    ensures names { OnOk result ((name : HashValue) → has_name names.new name ≡ (has_name names.old name || is_name (standing_name (start_of recent.now accounts.now limits.now) wire) name)) }
+    ensures found { IfOk result (λ found.
+        found ≡ sifted (start_of recent.now accounts.now limits.now) (has_name names.old) position wire) }
+    ensures names { OnOk result ((name : HashValue) →
+        has_name names.new name
+        ≡ (has_name names.old name
+        || is_name (standing_name (start_of recent.now accounts.now limits.now) wire) name)) }
 {
     let (tx, name) = match wire {
         Parsed::Bad(fault) => return Ok(Err(Refusal::Wire(fault))),

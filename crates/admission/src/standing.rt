@@ -24,7 +24,8 @@ pub(crate) fn stands(
     name: &Hash32,
 ) -> Result<Result<Loaded, Refusal>, OutOfMemory>
     requires { HasShortLists tx.now.message }
-    ensures { IfOk result (λ found. found ≡ stands (start_of recent.now accounts.now limits.now) tx.now name.now) }
+    ensures { IfOk result (λ found.
+        found ≡ stands (start_of recent.now accounts.now limits.now) tx.now name.now) }
 {
     if let Err(fault) = sanitize(tx, limits.keys) {
         return Ok(Err(Refusal::Sanitize(fault)));

@@ -67,7 +67,12 @@ impl Order {
         if passes(self.units, limit, limits.block_units) {
             return Some(Refusal::BlockUnits);
         }
-        if passes_key_units(&self.key_units, one.locks.as_slice(), limit, limits.key_units) {
+        if passes_key_units(
+            &self.key_units,
+            one.locks.as_slice(),
+            limit,
+            limits.key_units,
+        ) {
             return Some(Refusal::KeyUnits);
         }
         None
@@ -105,11 +110,10 @@ fn passes(sum: u64, limit: u32, most: u64) -> bool
 
 /// Whether a limit brings the sum of a key that is locked to be written above the most.
 fn passes_key_units(sums: &BTreeMap<Key, u64>, locks: &[Lock], limit: u32, most: u64) -> bool
-    ensures { result ≡ list_any (λ lock. lock.write && passes (sum_at sums.now lock.key) limit most) locks.now }
+    ensures { result
+        ≡ list_any (λ lock. lock.write && passes (sum_at sums.now lock.key) limit most) locks.now }
 {
-    locks
-        .iter()
-        .any(|lock| lock.write && passes(sum_at(sums, &lock.key), limit, most))
+    locks.iter().any(|lock| lock.write && passes(sum_at(sums, &lock.key), limit, most))
 }
 
 /// The sum of a key, and 0 where it has none.
@@ -120,14 +124,11 @@ fn sum_at(sums: &BTreeMap<Key, u64>, key: &Key) -> u64
 }
 
 /// Adds the limit to the sum of each key that is locked to be written.
-fn add_units(
-    sums: &mut BTreeMap<Key, u64>,
-    locks: &[Lock],
-    limit: u64,
-) -> Result<(), OutOfMemory>
+fn add_units(sums: &mut BTreeMap<Key, u64>, locks: &[Lock], limit: u64) -> Result<(), OutOfMemory>
     requires apart { IsDistinct same_key (keys_locked locks.now) }
     requires fits { (key : KeyValue) → sum_at sums.old key + limit < 2 ^ 64 }
-    ensures { OnOk result ((key : KeyValue) → sum_at sums.new key ≡ sum_at sums.old key + (if locks_write locks.now key then limit else 0)) }
+    ensures { OnOk result ((key : KeyValue) →
+        sum_at sums.new key ≡ sum_at sums.old key + (if locks_write locks.now key then limit else 0)) }
 {
     for lock in locks {
         if lock.write {

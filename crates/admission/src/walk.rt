@@ -20,7 +20,8 @@ pub(crate) fn walk(
     requires places { All (λ one. one.position < length causes.old.items) line.items }
     requires apart { All (λ one. IsDistinct same_key (keys_locked one.locks)) line.items }
     ensures order { IfOk result (λ order. order.items ≡ (walk limits.now line.items).order) }
-    ensures causes { OnOk result (causes.new.items ≡ with_late (walk limits.now line.items).refused causes.old.items) }
+    ensures causes { OnOk result (causes.new.items
+        ≡ with_late (walk limits.now line.items).refused causes.old.items) }
 {
     let mut order = Order::new(alloc);
     for one in line {

@@ -21,20 +21,20 @@ admit_line-requires-clause-few c =
 pub admit_line-requires-clause-places : goal.admit_line-requires-clause-places
 admit_line-requires-clause-places c =
     places c.in_ok-standing.field-0.standing.items (length c.in_ok-parsed.parsed) c.in_ok-standing.field-0.causes.items (cause_count (start_of c.args.recent.now c.args.accounts.now c.args.limits.now) c.in_ok-parsed.parsed c.in_ok-standing.field-0.causes.items c.in_ok-standing.ensures.causes)
-        (stand (start_of c.args.recent.now c.args.accounts.now c.args.limits.now) c.args.wires.now c.in_ok-parsed.parsed c.requires.keys c.in_ok-parsed.ensures c.in_ok-standing.field-0.standing.items c.in_ok-standing.ensures.standing)
+    (stand (start_of c.args.recent.now c.args.accounts.now c.args.limits.now) c.args.wires.now c.in_ok-parsed.parsed c.requires.keys c.in_ok-parsed.ensures c.in_ok-standing.field-0.standing.items c.in_ok-standing.ensures.standing)
 
 pub admit_line-requires-clause-apart : goal.admit_line-requires-clause-apart
 admit_line-requires-clause-apart c =
     aparts c.in_ok-standing.field-0.standing.items (length c.in_ok-parsed.parsed)
-        (stand (start_of c.args.recent.now c.args.accounts.now c.args.limits.now) c.args.wires.now c.in_ok-parsed.parsed c.requires.keys c.in_ok-parsed.ensures c.in_ok-standing.field-0.standing.items c.in_ok-standing.ensures.standing)
+    (stand (start_of c.args.recent.now c.args.accounts.now c.args.limits.now) c.args.wires.now c.in_ok-parsed.parsed c.requires.keys c.in_ok-parsed.ensures c.in_ok-standing.field-0.standing.items c.in_ok-standing.ensures.standing)
 
 pub returns-clause-exact : goal.returns-clause-exact
 returns-clause-exact c =
     is_listed (start_of c.args.recent.now c.args.accounts.now c.args.limits.now) c.args.wires.now c.in_ok-parsed.parsed c.requires.keys c.in_ok-parsed.ensures
-        c.in_ok-standing.field-0.standing.items c.in_ok-standing.field-0.causes.items c.admit_line.result c.in_ok-standing.ensures.standing c.in_ok-standing.ensures.causes c.admit_line.ensures.order c.admit_line.ensures.refused
+    c.in_ok-standing.field-0.standing.items c.in_ok-standing.field-0.causes.items c.admit_line.result c.in_ok-standing.ensures.standing c.in_ok-standing.ensures.causes c.admit_line.ensures.order c.admit_line.ensures.refused
 
 pub returns-clause-chosen : goal.returns-clause-chosen
 returns-clause-chosen c =
     all_chosen (start_of c.args.recent.now c.args.accounts.now c.args.limits.now) c.args.wires.now c.in_ok-parsed.parsed c.requires.keys c.in_ok-parsed.ensures
-        c.in_ok-standing.field-0.standing.items c.admit_line.result
-        (stand (start_of c.args.recent.now c.args.accounts.now c.args.limits.now) c.args.wires.now c.in_ok-parsed.parsed c.requires.keys c.in_ok-parsed.ensures c.in_ok-standing.field-0.standing.items c.in_ok-standing.ensures.standing) c.admit_line.ensures.order
+    c.in_ok-standing.field-0.standing.items c.admit_line.result
+    (stand (start_of c.args.recent.now c.args.accounts.now c.args.limits.now) c.args.wires.now c.in_ok-parsed.parsed c.requires.keys c.in_ok-parsed.ensures c.in_ok-standing.field-0.standing.items c.in_ok-standing.ensures.standing) c.admit_line.ensures.order

@@ -25,20 +25,20 @@ admit_line-requires-clause-few c =
 pub admit_line-requires-clause-places : goal.admit_line-requires-clause-places
 admit_line-requires-clause-places c =
     places c.in_ok-line.line.items (length c.args.parsed) c.in_ok-standing.field-0.causes.items (cause_count (start_of c.args.recent.now c.args.accounts.now c.args.limits.now) c.args.parsed c.in_ok-standing.field-0.causes.items c.in_ok-standing.ensures.causes)
-        (stand_in_line (start_of c.args.recent.now c.args.accounts.now c.args.limits.now) c.args.wires.now c.args.parsed c.requires.keys c.requires.read c.in_ok-standing.field-0.standing.items c.in_ok-line.line.items c.in_ok-standing.ensures.standing c.in_ok-line.ensures)
+    (stand_in_line (start_of c.args.recent.now c.args.accounts.now c.args.limits.now) c.args.wires.now c.args.parsed c.requires.keys c.requires.read c.in_ok-standing.field-0.standing.items c.in_ok-line.line.items c.in_ok-standing.ensures.standing c.in_ok-line.ensures)
 
 pub admit_line-requires-clause-apart : goal.admit_line-requires-clause-apart
 admit_line-requires-clause-apart c =
     aparts c.in_ok-line.line.items (length c.args.parsed)
-        (stand_in_line (start_of c.args.recent.now c.args.accounts.now c.args.limits.now) c.args.wires.now c.args.parsed c.requires.keys c.requires.read c.in_ok-standing.field-0.standing.items c.in_ok-line.line.items c.in_ok-standing.ensures.standing c.in_ok-line.ensures)
+    (stand_in_line (start_of c.args.recent.now c.args.accounts.now c.args.limits.now) c.args.wires.now c.args.parsed c.requires.keys c.requires.read c.in_ok-standing.field-0.standing.items c.in_ok-line.line.items c.in_ok-standing.ensures.standing c.in_ok-line.ensures)
 
 pub returns-clause-exact : goal.returns-clause-exact
 returns-clause-exact c =
     is_admitted (start_of c.args.recent.now c.args.accounts.now c.args.limits.now) c.args.wires.now c.args.parsed c.requires.keys c.requires.read
-        c.in_ok-standing.field-0.standing.items c.in_ok-line.line.items c.in_ok-standing.field-0.causes.items c.admit_line.result c.in_ok-standing.ensures.standing c.in_ok-line.ensures c.in_ok-standing.ensures.causes c.admit_line.ensures.order c.admit_line.ensures.refused
+    c.in_ok-standing.field-0.standing.items c.in_ok-line.line.items c.in_ok-standing.field-0.causes.items c.admit_line.result c.in_ok-standing.ensures.standing c.in_ok-line.ensures c.in_ok-standing.ensures.causes c.admit_line.ensures.order c.admit_line.ensures.refused
 
 pub returns-clause-chosen : goal.returns-clause-chosen
 returns-clause-chosen c =
     all_chosen (start_of c.args.recent.now c.args.accounts.now c.args.limits.now) c.args.wires.now c.args.parsed c.requires.keys c.requires.read
-        c.in_ok-line.line.items c.admit_line.result
-        (stand_in_line (start_of c.args.recent.now c.args.accounts.now c.args.limits.now) c.args.wires.now c.args.parsed c.requires.keys c.requires.read c.in_ok-standing.field-0.standing.items c.in_ok-line.line.items c.in_ok-standing.ensures.standing c.in_ok-line.ensures) c.admit_line.ensures.order
+    c.in_ok-line.line.items c.admit_line.result
+    (stand_in_line (start_of c.args.recent.now c.args.accounts.now c.args.limits.now) c.args.wires.now c.args.parsed c.requires.keys c.requires.read c.in_ok-standing.field-0.standing.items c.in_ok-line.line.items c.in_ok-standing.ensures.standing c.in_ok-line.ensures) c.admit_line.ensures.order

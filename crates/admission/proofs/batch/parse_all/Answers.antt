@@ -15,4 +15,4 @@ loop-wire-preserved c =
     let one = parsed_more (take i wires) c.loop-wire.parsed wire parsed c.loop-wire.invariant (subst (λ (bytes : List ℕ). IsParsed bytes parsed) c.as_slice.ensures c.in_ok-parse.ensures.meaning) in
     let next : take i wires ++ wire ∷ [] ≡ take (i + 1) wires = ap (λ (bytes : List ℕ). take i wires ++ bytes ∷ []) c.wire-item.is ∙ sym (take_more wires i wire c.loop-wire-test.true) in
     subst (λ (found : List Parsed). AreParsed (take (i + 1) wires) found) (sym c.in_ok-push.ensures.ok)
-        (subst (λ (bytes : List (List ℕ)). AreParsed bytes (c.loop-wire.parsed ++ parsed ∷ [])) next one)
+    (subst (λ (bytes : List (List ℕ)). AreParsed bytes (c.loop-wire.parsed ++ parsed ∷ [])) next one)

@@ -16,13 +16,13 @@ overflow_cast-position c =
 pub loop-wire-preserved-in-Continue-branch-5 : goal.loop-wire-preserved-in-Continue-branch-5
 loop-wire-preserved-in-Continue-branch-5 c =
     sifted_more (start_of c.args.recent.now c.args.accounts.now c.args.limits.now) c.args.wires c.loop-wire.yielded (into_iter_items c.loop-wire.wire-iterator) (into_iter_items c.next.new.self) c.loop-wire.standing.items c.loop-wire.causes.items
-        (has_name c.loop-wire.names) (has_name c.sift_one.new.names) c.loop-wire.invariant c.in-Some.wire c.in-Some.ensures.steps.0
-        c.len-position.result (omega (arith, c.len-position.ensures)) (Ok c.in-Ok.chosen) (sym c.in-Ok.is ∙ c.in_ok-chosen.ensures.found) c.in_ok-chosen.ensures.names
-        c.push.new.self.items c.push-in-Ok.new.self.items c.in_ok-push-in-Ok.ensures.items c.in_ok-push-in-Ok-2.ensures.items
+    (has_name c.loop-wire.names) (has_name c.sift_one.new.names) c.loop-wire.invariant c.in-Some.wire c.in-Some.ensures.steps.0
+    c.len-position.result (omega (arith, c.len-position.ensures)) (Ok c.in-Ok.chosen) (sym c.in-Ok.is ∙ c.in_ok-chosen.ensures.found) c.in_ok-chosen.ensures.names
+    c.push.new.self.items c.push-in-Ok.new.self.items c.in_ok-push-in-Ok.ensures.items c.in_ok-push-in-Ok-2.ensures.items
 
 pub loop-wire-preserved : goal.loop-wire-preserved
 loop-wire-preserved c =
     sifted_more (start_of c.args.recent.now c.args.accounts.now c.args.limits.now) c.args.wires c.loop-wire.yielded (into_iter_items c.loop-wire.wire-iterator) (into_iter_items c.next.new.self) c.loop-wire.standing.items c.loop-wire.causes.items
-        (has_name c.loop-wire.names) (has_name c.sift_one.new.names) c.loop-wire.invariant c.in-Some.wire c.in-Some.ensures.steps.0
-        c.len-position.result (omega (arith, c.len-position.ensures)) (Err c.in-Err.cause) (sym c.in-Err.is ∙ c.in_ok-chosen.ensures.found) c.in_ok-chosen.ensures.names
-        c.loop-wire.standing.items c.push-in-Err.new.self.items (sym (append-nil c.loop-wire.standing.items)) c.in_ok-push-in-Err.ensures.items
+    (has_name c.loop-wire.names) (has_name c.sift_one.new.names) c.loop-wire.invariant c.in-Some.wire c.in-Some.ensures.steps.0
+    c.len-position.result (omega (arith, c.len-position.ensures)) (Err c.in-Err.cause) (sym c.in-Err.is ∙ c.in_ok-chosen.ensures.found) c.in_ok-chosen.ensures.names
+    c.loop-wire.standing.items c.push-in-Err.new.self.items (sym (append-nil c.loop-wire.standing.items)) c.in_ok-push-in-Err.ensures.items

@@ -31,7 +31,7 @@ loop-lock-preserved c =
     let is = get_or_default locks i no_lock lock c.loop-lock-test.true in
     elim c.if-lock.branch [
       | then-lock+in_ok-insert w ↦ subst (λ (sums : BTreeMap Key ℕ). (key : Key) → sum_at sums key ≡ sum_at c.args.sums.now key + (if locks_write (take (i + 1) locks) key then c.args.limit else 0)) (sym w.sums-is)
-        (write_adds locks i lock c.loop-lock-test.true is c.args.limit w.sum_at-sum.result (sum_at c.args.sums.now) c.loop-lock.sums w.insert.new.self w.if-lock.true c.requires.apart w.sum_at-sum.ensures w.in_ok-insert.ensures.updates.0 c.loop-lock.invariant)
+          (write_adds locks i lock c.loop-lock-test.true is c.args.limit w.sum_at-sum.result (sum_at c.args.sums.now) c.loop-lock.sums w.insert.new.self w.if-lock.true c.requires.apart w.sum_at-sum.ensures w.in_ok-insert.ensures.updates.0 c.loop-lock.invariant)
       | else-lock w ↦ subst (λ (sums : BTreeMap Key ℕ). (key : Key) → sum_at sums key ≡ sum_at c.args.sums.now key + (if locks_write (take (i + 1) locks) key then c.args.limit else 0)) (sym w.sums-is)
-        (read_adds_none locks i lock c.loop-lock-test.true is c.args.limit (sum_at c.args.sums.now) (sum_at c.loop-lock.sums) w.if-lock.false c.loop-lock.invariant)
+          (read_adds_none locks i lock c.loop-lock-test.true is c.args.limit (sum_at c.args.sums.now) (sum_at c.loop-lock.sums) w.if-lock.false c.loop-lock.invariant)
     ]

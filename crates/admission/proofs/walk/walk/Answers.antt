@@ -33,7 +33,7 @@ loop-one-preserved-in-Some-late c =
     let whole = split c.args.limits.now line c.loop-one.yielded left more c.loop-one.order first c.loop-one.causes.items so_far c.in-Some.one c.in-Some.ensures.steps.0 in
     let below = next_of_all (λ (one : Chosen). one.position < length first) c.loop-one.yielded more line c.in-Some.one c.requires.places whole in
     let next = walked_late c.args.limits.now line c.loop-one.yielded left more c.loop-one.order first c.loop-one.causes.items so_far c.in-Some.one c.in-Some.ensures.steps.0
-      c.in-Some-late.cause (set c.loop-one.causes.items c.in-Some.one.position (Some c.in-Some-late.cause)) (sym c.late.ensures.exact ∙ c.in-Some-late.is) below refl in
+    c.in-Some-late.cause (set c.loop-one.causes.items c.in-Some.one.position (Some c.in-Some-late.cause)) (sym c.late.ensures.exact ∙ c.in-Some-late.is) below refl in
     record { all = next.all; ordered = next.ordered; caused = next.caused }
 
 pub with-requires-clause-fits : goal.with-requires-clause-fits

@@ -20,6 +20,6 @@ invariant_of-result c =
     let sums = c.self.inside.key_units in
     let next = c.add_units.new.sums in
     let has : HasSums (order ++ one ∷ []) (c.self.inside.units + one.budget.limit) next =
-      sums_more order c.self.inside.units sums next one c.self.invariant (λ key. c.in_ok-add_units.ensures key ∙ (λ i. sum_at sums key + (if locks_write (c.as_slice.ensures i) key then c.from-limit.ensures i else 0))) in
+    sums_more order c.self.inside.units sums next one c.self.invariant (λ key. c.in_ok-add_units.ensures key ∙ (λ i. sum_at sums key + (if locks_write (c.as_slice.ensures i) key then c.from-limit.ensures i else 0))) in
     subst (λ (order : List Chosen). HasSums order (c.self.inside.units + c.from-limit.result) next) (sym c.in_ok-push.ensures.items)
-        (subst (λ n. HasSums (order ++ one ∷ []) (c.self.inside.units + n) next) (sym c.from-limit.ensures) has)
+    (subst (λ n. HasSums (order ++ one ∷ []) (c.self.inside.units + n) next) (sym c.from-limit.ensures) has)
