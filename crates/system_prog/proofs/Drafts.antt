@@ -1,5 +1,5 @@
 -- Drafts of accounts: what one change makes of them.
-use Rattle.std.proofs.Common.{◌≡◌, ℕ, ◌+◌, ◌<◌, ◌≤◌, List, [], ◌∷◌, ◌++◌, length, map, take, get_or, set, refl, sym, ap, ◌∙◌, arith}
+use Rattle.std.proofs.Common.{◌≡◌, ℕ, ◌+◌, ◌<◌, ◌≤◌, List, [], ◌∷◌, ◌++◌, length, take, get_or, set, sym, ap, ◌∙◌, arith}
 use Rattle.std.specs.Arc.{arc_value}
 use Rattle.std.specs.declared.sync.Arc.{Arc}
 use Rattle.std.specs.declared.alloc.Global.{Global}
@@ -12,9 +12,6 @@ use Rattle.system_prog.specs.declared.draft.Held.{Held}
 use Rattle.system_prog.specs.declared.draft.Held.TheVariants.{Shared}
 use Rattle.system_prog.specs.Drafts.{changed, held_account, held_accounts}
 use Rattle.system_prog.specs.SystemProgram.{account_at}
-
-lamports_of : Account → ℕ
-lamports_of account = account.lamports
 
 -- an account has no more lamports than all together
 pub part_of : (accounts : List Account) (place : ℕ) (account : Account) → place < length accounts → account ≡ account_at accounts place → account.lamports ≤ lamports_in accounts

@@ -1,5 +1,5 @@
 -- What the accounts of a transaction keep under an instruction of the system program.
-use Rattle.std.proofs.Common.{◌≡◌, ◌≢◌, ◌⊎◌, ℕ, zero, suc, ◌+◌, ◌-◌, ◌<◌, ◌≤◌, ◌==◌, Bool, true, false, not, List, length, replicate, get_or, set, refl, sym, ap, subst, ◌∙◌, inl, inr, Some, None, Ok, Err, Result, arith, nat_eq, nat_lt, slice_get, get_or-set_other, get_or-set_same, if◌then◌else◌}
+use Rattle.std.proofs.Common.{◌≡◌, ◌≢◌, ◌⊎◌, ℕ, ◌+◌, ◌-◌, ◌<◌, ◌≤◌, ◌==◌, Bool, true, false, not, List, length, replicate, get_or, set, refl, sym, ap, subst, ◌∙◌, inl, inr, Some, Ok, Err, Result, arith, nat_eq, nat_lt, slice_get, get_or-set_other, get_or-set_same, if◌then◌else◌}
 use Rattle.std.proofs.lemmas.Bool.{both_ways, cases_lt}
 use Rattle.std.proofs.lemmas.Bool.Decides.{nat_tests}
 use Rattle.std.proofs.lemmas.List.{length-replicate, length-set}

@@ -1,5 +1,5 @@
 -- Lists of metas that list the same accounts in the same order, with the same rights of each account.
-use Rattle.std.proofs.Common.{◌≡◌, ℕ, zero, suc, ◌+◌, ◌-◌, ◌<◌, replicate, set, ◌==◌, Bool, true, false, not, ◌&&◌, ◌||◌, List, [], ◌∷◌, length, map, take, get_or, nat_eq, nat_lt, refl, sym, ap, subst, ◌∙◌, inl, inr, Result, Ok, Err, arith, if◌then◌else◌}
+use Rattle.std.proofs.Common.{◌≡◌, ℕ, zero, suc, ◌+◌, ◌-◌, replicate, set, ◌==◌, Bool, true, false, not, ◌&&◌, ◌||◌, List, [], ◌∷◌, length, map, take, get_or, nat_eq, nat_lt, refl, sym, ap, ◌∙◌, Ok, Err, arith, if◌then◌else◌}
 use Rattle.std.specs.List.{enumerate_from, filter, list_any}
 use Rattle.std.proofs.Math.ListN.{get_or-map}
 use Rattle.std.proofs.lemmas.List.{length-map}
@@ -13,7 +13,6 @@ use Rattle.sol_base.specs.Accounts.{empty_account, max_data_len}
 use Rattle.sol_base.specs.DerivedKeys.{seed_key_of}
 use Rattle.sol_base.specs.Metas.{is_first_listing, is_listed, is_listed_signer, is_listed_writable}
 use Rattle.account_rules.specs.AccountRules.{Change, broken_rules, first_of, listed_change, listed_changes, listed_rules}
-use Rattle.system_prog.specs.declared.fault.SystemFault.{SystemFault}
 use Rattle.system_prog.specs.declared.fault.SystemFault.TheVariants.{Custom, InvalidArgument, MissingSignature, NotEnoughAccounts}
 use Rattle.system_prog.specs.declared.authority.Authority.{Authority}
 use Rattle.system_prog.specs.declared.authority.Authority.TheVariants.{Itself, Base}
@@ -21,7 +20,7 @@ use Rattle.system_prog.specs.declared.instruction.Instruction.{Instruction}
 use Rattle.system_prog.specs.declared.instruction.Instruction.TheVariants.{CreateAccount, Assign, Transfer, CreateAccountWithSeed, Allocate, AllocateWithSeed, AssignWithSeed, TransferWithSeed}
 use Rattle.system_prog.specs.Instructions.{instruction_in}
 use Rattle.system_prog.specs.Listings.{SameListing, indexes}
-use Rattle.system_prog.specs.SystemProgram.{Listed, account_at, allocate, allocate_with_seed, as_rule, assign, assign_with_seed, by_base, counted_row, create, create_with_seed, derived, has_data, is_signature, is_signed_by, is_taken, key_at, key_in, least_accounts, no_meta, ok_derived, pay, place_in, row, rules_kept, signs, signs_in, system_key, system_row, transfer, transfer_with_seed}
+use Rattle.system_prog.specs.SystemProgram.{Listed, account_at, allocate, allocate_with_seed, as_rule, assign, assign_with_seed, by_base, counted_row, create, create_with_seed, derived, has_data, is_signed_by, is_taken, key_at, key_in, least_accounts, no_meta, ok_derived, pay, place_in, row, rules_kept, signs, signs_in, system_key, system_row, transfer, transfer_with_seed}
 
 -- ---- tests over metas
 both : (s t : Bool) → (s ≡ true → t ≡ true) → (t ≡ true → s ≡ true) → s ≡ t

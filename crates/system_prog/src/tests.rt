@@ -136,6 +136,43 @@ const LONG: SystemFault = SystemFault::Custom { code: 4 };
 
 const WRONG_KEY: SystemFault = SystemFault::Custom { code: 5 };
 
+// An account is made, and then its maker is asked for more than it has left.
+#[test]
+fn a_failed_second_instruction(rt: HostRuntime) -> Result<(), Fail> {
+    let keys = [Key([1; 32]), Key([0x0a; 32])];
+    let metas = metas(false, true, true);
+    let mut create = Blob::new(rt.alloc());
+    create.append(CREATE.as_bytes())?;
+    create.append(&890_880u64.to_le_bytes())?;
+    create.append(&[0; 8])?;
+    create.append(OWNER.as_bytes())?;
+    let before = [
+        account(rt.alloc(), 1_999_990_000, "")?,
+        account(rt.alloc(), 0, "")?,
+    ];
+    let after = run_system(rt.alloc(), &keys, &before, &metas, create.as_slice())?;
+    match after.as_slice() {
+        [payer, made] => {
+            assert_eq!(rt; payer.lamports, 1_999_099_120);
+            assert_eq!(rt; made.lamports, 890_880);
+            assert_eq!(rt; made.owner, PROGRAM);
+        }
+        _ => assert!(rt; false, "there are other accounts than before"),
+    }
+    let mut transfer = Blob::new(rt.alloc());
+    transfer.append(TRANSFER.as_bytes())?;
+    transfer.append(&5_000_000_000u64.to_le_bytes())?;
+    let before = [
+        account(rt.alloc(), 1_999_099_120, "")?,
+        account(rt.alloc(), 890_880, "")?,
+    ];
+    match run_system(rt.alloc(), &keys, &before, &metas, transfer.as_slice()) {
+        Ok(_) => assert!(rt; false, "an instruction ends well that is to fail"),
+        Err(fault) => assert_eq!(rt; fault, POOR),
+    }
+    Ok(())
+}
+
 #[test]
 fn each_instruction_ends_well(rt: HostRuntime) -> Result<(), Fail> {
     let cases = [
