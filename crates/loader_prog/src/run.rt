@@ -1,9 +1,8 @@
-ghost use Rattle.std.specs.Prelude.{◌≡◌, ◌+◌, ◌<◌, ◌≤◌, ◌^◌, true, false, length, replicate, slice_set, vec_len, IfOk};
+ghost use Rattle.std.specs.Prelude.{◌≡◌, ◌<◌, ◌≤◌, ◌^◌, true, false, length, replicate, slice_set, vec_len, IfOk};
 ghost use Rattle.std.specs.List.{slice_index_or};
 ghost use Rattle.spec_base.specs.Reading.{Gives};
 ghost use Rattle.sol_base.specs.Accounts.{accounts_of, empty_account, lamports_in};
 ghost use Rattle.sol_base.specs.Metas.{AreInRange};
-ghost use Rattle.account_rules.specs.AccountRules.{AreParallel};
 ghost use Rattle.loader_prog.specs.Requests.{is_memory};
 ghost use Rattle.loader_prog.specs.Loader.{AnswersLoader, holding, loader_row, ruled, with_data};
 ghost use Rattle.loader_prog.specs.Written.{IsReplaced, data_by};
