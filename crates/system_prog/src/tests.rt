@@ -39,7 +39,7 @@ const TWO: &str = "\x02\0\0\0\0\0\0\0";
 
 const FIVE: &str = "\x05\0\0\0\0\0\0\0";
 
-const TWO_THOUSAND: &str = "\x50\x07\0\0\0\0\0\0";
+const MORE_THAN_IT_HAS: &str = "\x50\x07\0\0\0\0\0\0";
 
 const TOO_MANY: &str = "\x01\0\0\x01\0\0\0\0";
 
@@ -274,7 +274,13 @@ fn each_refusal_comes(rt: HostRuntime) -> Result<(), Fail> {
             "text",
             SystemFault::InvalidArgument,
         ),
-        ([TRANSFER, TWO_THOUSAND, "", "", "", ""], FIRST, 0, "", POOR),
+        (
+            [TRANSFER, MORE_THAN_IT_HAS, "", "", "", ""],
+            FIRST,
+            0,
+            "",
+            POOR,
+        ),
         ([CREATE, FIVE, TWO, OWNER, "", ""], FIRST, 7, "", IN_USE),
         ([CREATE, FIVE, TWO, OWNER, "", ""], FIRST, 0, "text", IN_USE),
         (

@@ -1,0 +1,11 @@
+//! The first difference between the record of a block and the block that its entries give when they
+//! run again.
+#![tactic(auto)]
+
+mod comparing;
+#[cfg(test)]
+mod tests;
+mod verdict;
+
+pub use comparing::compare;
+pub use verdict::{Field, Verdict};

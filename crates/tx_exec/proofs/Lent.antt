@@ -1,0 +1,63 @@
+-- What is lent for writing.
+use Rattle.std.proofs.Common.{◌≡◌, ◌≤◌, ◌+◌, ℕ, suc, zero, List, [], ◌∷◌, length, Bool, true, false, Some, refl, ap, arith, if◌then◌else◌}
+use Rattle.std.specs.Prelude.{slice_get, filter}
+use Rattle.std.proofs.lemmas.List.Elements.{All-cons, All-nil, All-head, All-tail}
+use Rattle.sol_base.specs.declared.account.Account.{Account}
+use Rattle.sol_base.specs.declared.lock.Lock.{Lock}
+use Rattle.sol_base.specs.Accounts.{AreShort, IsShort, lamports_in}
+use Rattle.bank_law.specs.Lawful.{lent_for_writing}
+use Rattle.bank_law.proofs.States.{lamports_in-cons}
+use Rattle.invoke_engine.proofs.Fuel.{either}
+use Rattle.tx_exec.specs.Payer.{charged, less}
+
+pub lent_short : (ls : List Lock) (vs : List Account) → AreShort vs → AreShort (lent_for_writing ls vs)
+lent_short [] vs h = All-nil IsShort
+lent_short (lock ∷ ls) [] h = All-nil IsShort
+lent_short (lock ∷ ls) (v ∷ vs) h =
+    let rest : AreShort (lent_for_writing ls vs) = lent_short ls vs (All-tail IsShort v vs h) in
+    either AreShort lock.write (v ∷ lent_for_writing ls vs) (lent_for_writing ls vs)
+    (All-cons IsShort v (lent_for_writing ls vs) (All-head IsShort v vs h) rest) rest
+
+-- one value for each write lock
+pub lent_count : (ls : List Lock) (vs : List Account) → length vs ≡ length ls → length (lent_for_writing ls vs) ≡ length (filter (λ lock. lock.write) ls)
+lent_count [] vs h = refl
+lent_count (l ∷ ls) [] h = absurd (omega (arith, h))
+lent_count (l ∷ ls) (v ∷ vs) h = by_test l.write (lent_count ls vs (omega (arith, h)))
+  where
+    by_test : (b : Bool) → length (lent_for_writing ls vs) ≡ length (filter (λ lock. lock.write) ls) → length (if b then v ∷ lent_for_writing ls vs else lent_for_writing ls vs) ≡ length (if b then l ∷ filter (λ lock. lock.write) ls else filter (λ lock. lock.write) ls)
+    by_test true rest = omega (arith, rest)
+    by_test false rest = rest
+
+-- what is not lent for writing is the same
+abbrev pub SameRead : List Lock → List Account → List Account → Type 0
+SameRead ls a b = (place : ℕ) (lock : Lock) → slice_get ls place ≡ Some lock → lock.write ≡ false → slice_get b place ≡ slice_get a place
+
+-- where all lamports and what is not lent are the same, so are the lamports of what is lent
+pub lent_lamports : (ls : List Lock) (a b : List Account) → length a ≡ length ls → length b ≡ length ls → SameRead ls a b → lamports_in (lent_for_writing ls b) + lamports_in a ≡ lamports_in (lent_for_writing ls a) + lamports_in b
+lent_lamports [] [] [] h k same = refl
+lent_lamports [] [] (y ∷ b) h k same = absurd (omega (arith, k))
+lent_lamports [] (x ∷ a) b h k same = absurd (omega (arith, h))
+lent_lamports (l ∷ ls) [] b h k same = absurd (omega (arith, h))
+lent_lamports (l ∷ ls) (x ∷ a) [] h k same = absurd (omega (arith, k))
+lent_lamports (l ∷ ls) (x ∷ a) (y ∷ b) h k same =
+    let left = lamports_in-cons x a in
+    let right = lamports_in-cons y b in
+    let one : lamports_in (lent_for_writing (l ∷ ls) (y ∷ b)) + (x.lamports + lamports_in a) ≡ lamports_in (lent_for_writing (l ∷ ls) (x ∷ a)) + (y.lamports + lamports_in b) =
+    by_test l.write refl (lent_lamports ls a b (omega (arith, h)) (omega (arith, k)) (λ place lock there reads. same (suc place) lock there reads)) in
+    omega (arith, left, right, one)
+  where
+    by_test : (w : Bool) → l.write ≡ w → lamports_in (lent_for_writing ls b) + lamports_in a ≡ lamports_in (lent_for_writing ls a) + lamports_in b →
+        lamports_in (if w then y ∷ lent_for_writing ls b else lent_for_writing ls b) + (x.lamports + lamports_in a) ≡ lamports_in (if w then x ∷ lent_for_writing ls a else lent_for_writing ls a) + (y.lamports + lamports_in b)
+    by_test true e r = let one = lamports_in-cons y (lent_for_writing ls b) in let two = lamports_in-cons x (lent_for_writing ls a) in omega (arith, one, two, r)
+    by_test false e r = let s : Some y ≡ Some x = same 0 l refl e in let t : y ≡ x = cc in let u : y.lamports ≡ x.lamports = ap (λ (z : Account). z.lamports) t in omega (arith, u, r)
+
+-- the fee is taken from the first alone
+pub charged_lent : (ls : List Lock) (vs : List Account) (fee : ℕ) → lamports_in (lent_for_writing ls (charged vs fee)) ≤ lamports_in (lent_for_writing ls vs)
+charged_lent [] [] fee = omega arith
+charged_lent [] (v ∷ vs) fee = omega arith
+charged_lent (l ∷ ls) [] fee = omega arith
+charged_lent (l ∷ ls) (v ∷ vs) fee = by_test l.write
+  where
+    by_test : (w : Bool) → lamports_in (if w then less v fee ∷ lent_for_writing ls vs else lent_for_writing ls vs) ≤ lamports_in (if w then v ∷ lent_for_writing ls vs else lent_for_writing ls vs)
+    by_test true = let one = lamports_in-cons (less v fee) (lent_for_writing ls vs) in let two = lamports_in-cons v (lent_for_writing ls vs) in omega (arith, one, two)
+    by_test false = omega arith

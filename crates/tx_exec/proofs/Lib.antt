@@ -1,0 +1,4 @@
+mod Settled
+mod Lent
+pub mod Keeping
+pub mod Works

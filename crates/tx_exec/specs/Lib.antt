@@ -1,0 +1,5 @@
+pub mod Payer
+pub mod Executing
+pub mod Transaction
+pub mod TransactionLaws
+pub mod Told

@@ -1,0 +1,30 @@
+-- What a transaction keeps, and what of it a work promises.
+use Rattle.std.specs.Prelude.{◌≡◌, ◌≤◌, ◌+◌, ◌<◌, ℕ, true, false, All, List, length, filter, slice_get, Some}
+use Rattle.sol_base.specs.declared.account.Account.{Account}
+use Rattle.sol_base.specs.Accounts.{AreShort, lamports_in}
+use Rattle.sol_base.specs.Metas.{AreInRange}
+use Rattle.bank_law.specs.Lawful.{AreSettled, lent_for_writing}
+use Rattle.admission.specs.declared.chosen.Chosen.{Chosen}
+use Rattle.tx_exec.specs.Executing.{call_of, locks, writes}
+use Rattle.tx_exec.specs.Transaction.{Transacted, written}
+
+-- The values after a transaction: as many as before; with the fees paid they have the lamports of
+-- before; what the message does not let it write is as it was; the executable accounts are those of
+-- before; and none is too long.
+pub record Keeps (t : Chosen) (values : List Account) (x : Transacted) : Type 0 where
+  pub count : length x.values ≡ length values
+  pub lamports : lamports_in x.values + x.outcome.base_paid + x.outcome.priority_paid ≡ lamports_in values
+  pub read : (place : ℕ) → writes t place ≡ false → slice_get x.values place ≡ slice_get values place
+  pub programs : (place : ℕ) (account : Account) → slice_get values place ≡ Some account → account.executable ≡ true →
+      slice_get x.values place ≡ Some account
+  pub no_new : (place : ℕ) (account : Account) → slice_get x.values place ≡ Some account → account.executable ≡ true →
+      slice_get values place ≡ Some account
+  pub short : AreShort values → AreShort x.values
+
+-- what is written: one account for each write lock, with no more lamports than were lent for
+-- writing, none too long, and each without lamports the empty one
+pub record WritesFit (t : Chosen) (values : List Account) (x : Transacted) : Type 0 where
+  pub one_each : length (written t x.values) ≡ length (filter (λ lock. lock.write) (locks t))
+  pub no_more : lamports_in (written t x.values) ≤ lamports_in (lent_for_writing (locks t) values)
+  pub short : AreShort values → AreShort (written t x.values)
+  pub settled : AreSettled (written t x.values)

@@ -1,0 +1,9 @@
+use tx_report::Cause;
+
+/// Which instruction of a transaction failed, 255 for the transaction as a whole, and why.
+#[derive(Clone, Copy, Debug, PartialEq, Eq)]
+pub struct Failure {
+    pub index: u8,
+    pub cause: Cause,
+    pub detail: u32,
+}
