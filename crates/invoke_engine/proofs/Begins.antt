@@ -1,6 +1,6 @@
 -- Frames at their starts.
-use Rattle.std.proofs.Common.{◌≡◌, ◌<◌, ◌≤◌, ℕ, length, Bool, true, false, List, Result, Ok, Err, refl, ap, subst, ◌∙◌, ◌-◌, arith}
-use Rattle.std.specs.Prelude.{nat_lt, cond, not, ◌&&◌, if◌then◌else◌}
+use Rattle.std.proofs.Common.{◌≡◌, ◌≤◌, ℕ, length, Bool, true, false, List, Result, Ok, Err, refl, ap, ◌∙◌, ◌-◌, arith}
+use Rattle.std.specs.Prelude.{nat_lt, cond, not, ◌&&◌}
 use Rattle.std.proofs.lemmas.Bool.Decides.{nat_tests}
 use Rattle.sol_base.specs.declared.key.Key.{Key}
 use Rattle.sol_base.specs.declared.account.Account.{Account}

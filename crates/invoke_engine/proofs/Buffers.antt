@@ -1,11 +1,10 @@
 -- Frames of the loader, and the buffers that they change.
-use Rattle.std.proofs.Common.{◌≡◌, ◌∙◌, ℕ, length, Bool, true, false, List, Result, Ok, Err, refl, sym, subst, if◌then◌else◌}
+use Rattle.std.proofs.Common.{◌≡◌, ◌∙◌, ℕ, length, List, Result, Ok, Err, refl, sym, subst}
 use Rattle.std.specs.Prelude.{IfOk, nat_lt, not, ◌&&◌}
 use Rattle.sol_base.specs.declared.key.Key.{Key}
 use Rattle.sol_base.specs.declared.key.TheConstants.{LOADER_PROGRAM}
 use Rattle.sol_base.specs.declared.account.Account.{Account}
 use Rattle.sol_base.specs.declared.lock.Meta.{Meta}
-use Rattle.sol_base.specs.Metas.{AreInRange}
 use Rattle.loader_prog.specs.Laws.{OnlyTheAuthorityWrites}
 use Rattle.loader_prog.specs.Loader.{loader_row}
 use Rattle.loader_prog.proofs.Authority.{only_the_authority}

@@ -16,13 +16,12 @@ use Rattle.account_rules.specs.AccountRules.{listed_rules}
 use Rattle.account_rules.specs.KeptAccounts.{AreKeptBy}
 use Rattle.account_rules.proofs.KeptLaws.{AreKeptBy-refl, AreKeptBy-listed_rules}
 use Rattle.tx_report.specs.declared.cause.Cause.TheVariants.{TraceTooLong, StackHeight}
-use Rattle.tx_report.specs.declared.status.InstructionError.{InstructionError}
 use Rattle.sbpf_machine.specs.Steps.{State, steps, IsHelper, arguments_in}
 use Rattle.sbpf_machine.specs.Keeping.{Keeps}
 use Rattle.sbpf_machine.specs.declared.stop.Stop.{Stop}
 use Rattle.sbpf_machine.specs.declared.stop.Stop.TheVariants.{Exit, Helper, Fault as Faulted}
 use Rattle.sbpf_machine.proofs.Keeping.{steps_keep}
-use Rattle.abi_input.specs.Region.{account_back, back, is_too_long, unless_found}
+use Rattle.abi_input.specs.Region.{account_back, back, unless_found}
 use Rattle.sys_calls.specs.SysCalls.{Service, IsServedMemory}
 use Rattle.sys_calls.specs.declared.fault.SysFault.{SysFault}
 use Rattle.sys_calls.proofs.Rows.{sys_row-memory}

@@ -1,5 +1,5 @@
 -- What frames keep of their accounts, and the account rules of their stretches.
-use Rattle.std.proofs.Common.{◌≡◌, ◌==◌, ◌∷◌, ℕ, zero, suc, length, Bool, true, false, List, Option, Some, None, Result, Ok, Err, refl, ap, sym, subst, ◌∙◌}
+use Rattle.std.proofs.Common.{◌≡◌, ◌==◌, ◌∷◌, ℕ, zero, suc, length, Bool, true, false, List, Option, Some, None, Result, Ok, Err, refl, sym, subst, ◌∙◌}
 use Rattle.std.specs.Prelude.{MatchResult, IfOk, nat_lt, not, ◌&&◌}
 use Rattle.sol_base.specs.declared.key.Key.{Key}
 use Rattle.sol_base.specs.declared.account.Account.{Account}
@@ -22,7 +22,7 @@ use Rattle.invoke_engine.specs.declared.call.Setting.{Setting}
 use Rattle.invoke_engine.specs.declared.stopped.Stopped.{Stopped}
 use Rattle.invoke_engine.specs.Frames.{Fixed, Carried, Running, Ending, Next, Runs, Ends, Callee, Turn, GoesOn, Calls, Leaves, height}
 use Rattle.invoke_engine.specs.Ends.{closes, or_error}
-use Rattle.invoke_engine.specs.Leaving.{left, settled}
+use Rattle.invoke_engine.specs.Leaving.{left}
 use Rattle.invoke_engine.specs.Calling.{called, calling, requested, call_turn}
 use Rattle.invoke_engine.specs.Serving.{serving, served, serve_turn}
 use Rattle.invoke_engine.specs.Turns.{at_stop, run_to, turn}

@@ -1,5 +1,5 @@
 //! A frame of a program in its middle, and the frames that wait for their callees.
-ghost use Rattle.std.specs.Prelude.{◌≡◌, ◌∷◌, [], Bool, length, IfSome, IfNone, IfOk, OnOk};
+ghost use Rattle.std.specs.Prelude.{◌≡◌, ◌∷◌, [], length, IfSome, IfNone, OnOk};
 ghost use Rattle.std.specs.List.{list_any};
 ghost use Rattle.sol_base.specs.Keys.{same_key};
 ghost use Rattle.invoke_engine.specs.Frames.{has_key};
