@@ -1,22 +1,19 @@
 -- Who may write a buffer.
-use Rattle.std.proofs.Common.{◌≡◌, ◌≢◌, ◌⊎◌, ◌+◌, ◌<◌, ◌≤◌, ℕ, Bool, true, false, not, List, Result, Ok, Some, length, get_or, nat_eq, nat_lt, refl, sym, ap, ◌∙◌, inl, inr, subst, arith}
+use Rattle.std.proofs.Common.{◌≡◌, ◌≢◌, ◌⊎◌, ◌<◌, ◌≤◌, ℕ, Bool, true, false, List, Ok, Some, length, get_or, nat_eq, refl, sym, ap, ◌∙◌, inl, inr, subst, arith}
 use Rattle.std.specs.Prelude.{slice_get}
 use Rattle.std.proofs.lemmas.Bool.Decides.{nat_tests}
 use Rattle.std.proofs.lemmas.Option.{get_or_from_slice_get, same_Some, slice_get-get_or}
-use Rattle.spec_base.specs.Reading.{◌>>=◌}
 use Rattle.spec_base.proofs.Binding.{bind_ok}
 use Rattle.sol_base.specs.declared.key.Key.{Key}
-use Rattle.sol_base.specs.declared.key.TheConstants.{LOADER_PROGRAM, SYSTEM_PROGRAM}
+use Rattle.sol_base.specs.declared.key.TheConstants.{SYSTEM_PROGRAM}
 use Rattle.sol_base.specs.declared.account.Account.{Account}
 use Rattle.sol_base.specs.declared.lock.Meta.{Meta}
-use Rattle.sol_base.specs.Keys.{same_key}
 use Rattle.sol_base.specs.Accounts.{empty_account}
-use Rattle.sol_base.specs.Metas.{AreInRange, is_listed_signer}
+use Rattle.sol_base.specs.Metas.{AreInRange}
 use Rattle.sol_base.proofs.KeyLaws.{same_key-true}
-use Rattle.loader_prog.specs.declared.fault.LoaderFault.TheVariants.{Custom, MissingSignature}
 use Rattle.loader_prog.specs.Requests.{Request, Init, Write, Finalize, SetAuthority, accounts_needed}
-use Rattle.loader_prog.specs.Buffers.{authority_in, is_blank, is_buffer}
-use Rattle.loader_prog.specs.Loader.{account_in, data_row, finalize_row, holding, init_row, key_in, loader_row, no_meta, owned, place_in, set_authority_row, signs, unless, with_data, write_row}
+use Rattle.loader_prog.specs.Buffers.{authority_in}
+use Rattle.loader_prog.specs.Loader.{account_in, data_row, finalize_row, holding, init_row, key_in, loader_row, no_meta, owned, place_in, set_authority_row, write_row}
 use Rattle.loader_prog.specs.Laws.{IsInitialized, IsWrittenByAuthority, OnlyTheAuthorityWrites}
 use Rattle.loader_prog.proofs.Inversion.{EndsWell, ends_well, holds, unless_ok}
 use Rattle.loader_prog.proofs.Replacing.{slice_get-set_other}
