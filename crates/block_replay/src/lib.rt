@@ -3,8 +3,6 @@
 #![tactic(auto)]
 
 mod comparing;
-#[cfg(test)]
-mod tests;
 mod verdict;
 
 pub use comparing::compare;
