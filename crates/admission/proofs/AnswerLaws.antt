@@ -66,6 +66,20 @@ stands_ok start tx name loaded e = go (sanitized tx start.limits.keys) refl (loa
 pub stands_sane : (start : Start) (tx : Tx) (name : Hash32) (loaded : Loaded) → stands start tx name ≡ Ok loaded → IsSane tx start.limits.keys
 stands_sane start tx name loaded e = (is_sane tx start.limits.keys (sanitized tx start.limits.keys) refl).0 (stands_ok start tx name loaded e).0
 
+-- it is sane for the most keys that any chain allows
+sane_widely : (tx : Tx) (most : ℕ) → most ≤ 128 → IsSane tx most → IsSane tx 128
+sane_widely tx most few is = record {
+  signatures = is.signatures;
+  groups = is.groups;
+  payer = is.payer;
+  programs = is.programs;
+  accounts = is.accounts;
+  keys = omega (arith, is.keys, few);
+  apart = is.apart;
+  payer_free = is.payer_free;
+  lookups = is.lookups;
+}
+
 -- the keys of its locks are distinct
 pub locks_apart : (chosen : Chosen) → IsChosen chosen → IsDistinct same_key (keys_locked chosen.locks)
 locks_apart chosen is = subst (IsDistinct same_key) (sym (ap (map (λ (lock : Lock). lock.key)) is.locked ∙ lock_keys chosen.tx.message chosen.loaded)) is.apart
@@ -84,9 +98,7 @@ chosen_is start is_before position (Good tx name) chosen few sound e = go (stand
         let same : chosen_with position tx name loaded budget ≡ chosen = cc in
         let loads = load_ok start.state tx.message loaded (stands_ok start tx name loaded ea).1 in
         let is : IsChosen (chosen_with position tx name loaded budget) = record {
-          most = start.limits.keys;
-          few = few;
-          sane = stands_sane start tx name loaded ea;
+          sane = sane_widely tx start.limits.keys few (stands_sane start tx name loaded ea);
           signatures = sound.1;
           lists = sound.0;
           loaded = loads.0;

@@ -1,5 +1,5 @@
 -- What is known of a transaction that runs.
-use Rattle.std.specs.Prelude.{◌≡◌, ℕ, ◌≤◌, Ok}
+use Rattle.std.specs.Prelude.{◌≡◌, Ok}
 use Rattle.std.specs.List.{IsDistinct}
 use Rattle.sol_base.specs.Keys.{same_key}
 use Rattle.message_codec.specs.Wire.{HasShortLists, IsCountable, message_name}
@@ -10,10 +10,7 @@ use Rattle.admission.specs.declared.chosen.Chosen.{Chosen}
 
 -- all that the crates that run a transaction ask of it
 pub record IsChosen (chosen : Chosen) : Type 0 where
-  -- the most keys of the chain, for which the transaction is sane
-  pub most : ℕ
-  pub few : most ≤ 128
-  pub sane : IsSane chosen.tx most
+  pub sane : IsSane chosen.tx 128
   pub signatures : IsCountable chosen.tx.signatures
   pub lists : HasShortLists chosen.tx.message
   pub loaded : HasAllLoaded chosen.tx.message chosen.loaded

@@ -2,5 +2,6 @@ pub mod Lookups
 pub mod Refusals
 pub mod Chosen
 pub mod Admission
+pub mod Batches
 pub mod Sums
 pub mod Lines

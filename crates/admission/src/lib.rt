@@ -4,6 +4,7 @@
 
 mod batch;
 mod chosen;
+mod laws;
 mod line;
 mod lookups;
 mod refusal;
@@ -15,6 +16,7 @@ mod walk;
 
 pub use batch::{admit, admit_listed, admit_parsed};
 pub use chosen::{Admitted, Chosen};
+pub use laws::batches_are_parted;
 pub use lookups::{LookupFault, TABLE_HEADER_LEN, resolve};
 pub use refusal::{Refusal, Refused};
 pub use text::refusal_text;

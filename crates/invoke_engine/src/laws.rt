@@ -6,7 +6,7 @@ ghost use Rattle.sol_base.specs.declared.account.Account.{Account as AccountValu
 ghost use Rattle.account_rules.specs.AccountRules.{listed_rules};
 ghost use Rattle.loader_prog.specs.Laws.{OnlyTheAuthorityWrites};
 ghost use Rattle.program_cache.specs.Programs.{Sought};
-ghost use Rattle.tx_report.specs.LogLines.{Log};
+ghost use Rattle.tx_report.specs.LogLines.{IsSmall, Log};
 ghost use Rattle.invoke_engine.specs.declared.call.Call.{Call as CallValue};
 ghost use Rattle.invoke_engine.specs.declared.call.Setting.{Setting as SettingValue};
 ghost use Rattle.invoke_engine.specs.Fits.{IsGoing, AreListed, EndKeeps, SameFound};
@@ -97,4 +97,10 @@ pub fn loader_frames_keep_buffers()
         key_at s.keys call.program ≡ LOADER_PROGRAM →
         IfOk (frame s outer call accounts units c).result
         (λ after. OnlyTheAuthorityWrites s.keys accounts call.metas after) }
+{}
+
+/// A law: a log that is small stays small, since each line of a frame has a byte at least.
+pub fn logs_stay_small()
+    ensures { (s : Fixed) (call : CallValue) (accounts : List AccountValue) (units trace : ℕ)
+        (log : Log) → IsSmall log → IsSmall (instruction s call accounts units trace log).carried.log }
 {}

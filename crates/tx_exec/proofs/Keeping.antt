@@ -77,7 +77,7 @@ metas_there t n (p ∷ ps) h =
     (metas_there t n ps (All-tail (λ place. place < n) p ps h))
 
 pub all_there : (t : Chosen) → IsChosen t → All (IsThere t) t.tx.message.instructions
-all_there t is k d l = (are_named t.tx is.most t.loaded is.sane is.loaded k d l).accounts
+all_there t is k d l = (are_named t.tx 128 t.loaded is.sane is.loaded k d l).accounts
 
 -- ---- the instructions
 abbrev IsKept : Chosen → List Account → List Account → Type 0
@@ -209,7 +209,7 @@ transaction_keeps block t values is count = by_cause (dropped values (total_fee 
     by_cause (Some cause) h = dropped_keeps t values cause
     by_cause None h =
         let base : List Account = charged values (total_fee t) in
-        let k : IsCharged t values base = fee_taken t values (payer_is_writable t.tx is.most t.loaded is.sane) h in
+        let k : IsCharged t values base = fee_taken t values (payer_is_writable t.tx 128 t.loaded is.sane) h in
         either (Keeps t values) (nat_lt t.budget.loaded (data_in base)) _ _ (base_keeps t values base _ 0 [] k)
         (finished_keeps t values base _ _ (performed (fixed_for block t) t base).result k
         (executed_keeps block t 0 t.tx.message.instructions base t.budget.limit 0 no_lines (all_there t is) (k.count ∙ count)))
@@ -245,7 +245,7 @@ transaction_fits block t values is all h = by_cause (dropped values (total_fee t
     by_cause (Some cause) e = written_fits t values _ h (λ s. s) (omega arith)
     by_cause None e =
         let base : List Account = charged values (total_fee t) in
-        let k : IsCharged t values base = fee_taken t values (payer_is_writable t.tx is.most t.loaded is.sane) e in
+        let k : IsCharged t values base = fee_taken t values (payer_is_writable t.tx 128 t.loaded is.sane) e in
         let count : length base ≡ length (locks t) = k.count ∙ h in
         either (WritesFit t values) (nat_lt t.budget.loaded (data_in base)) _ _ (written_fits t values _ count k.short (charged_lent (locks t) values (total_fee t)))
         (finished_fits t values base _ _ (performed (fixed_for block t) t base).result count k.short (charged_lent (locks t) values (total_fee t))

@@ -1,8 +1,9 @@
 -- What a transaction keeps, and what of it a work promises.
-use Rattle.std.specs.Prelude.{◌≡◌, ◌≤◌, ◌+◌, ◌<◌, ℕ, true, false, All, List, length, filter, slice_get, Some}
+use Rattle.std.specs.Prelude.{◌≡◌, ◌≤◌, ◌+◌, ◌^◌, ◌<◌, ℕ, true, false, All, List, length, filter, slice_get, sum_by, Some}
 use Rattle.sol_base.specs.declared.account.Account.{Account}
 use Rattle.sol_base.specs.Accounts.{AreShort, lamports_in}
 use Rattle.sol_base.specs.Metas.{AreInRange}
+use Rattle.tx_report.specs.declared.outcome.Outcome.{Outcome}
 use Rattle.bank_law.specs.Lawful.{AreSettled, lent_for_writing}
 use Rattle.admission.specs.declared.chosen.Chosen.{Chosen}
 use Rattle.tx_exec.specs.Executing.{call_of, locks, writes}
@@ -21,10 +22,16 @@ pub record Keeps (t : Chosen) (values : List Account) (x : Transacted) : Type 0 
       slice_get values place ≡ Some account
   pub short : AreShort values → AreShort x.values
 
--- what is written: one account for each write lock, with no more lamports than were lent for
--- writing, none too long, and each without lamports the empty one
+-- what is written: one account for each write lock, which with the fees paid have the lamports that
+-- were lent for writing, none too long, and each without lamports the empty one
 pub record WritesFit (t : Chosen) (values : List Account) (x : Transacted) : Type 0 where
   pub one_each : length (written t x.values) ≡ length (filter (λ lock. lock.write) (locks t))
-  pub no_more : lamports_in (written t x.values) ≤ lamports_in (lent_for_writing (locks t) values)
+  pub lamports : lamports_in (written t x.values) + x.outcome.base_paid + x.outcome.priority_paid ≡ lamports_in (lent_for_writing (locks t) values)
   pub short : AreShort values → AreShort (written t x.values)
   pub settled : AreSettled (written t x.values)
+
+-- an outcome has a fee of 64 bits, and lines that are few and short
+pub record IsSmallOutcome (outcome : Outcome) : Type 0 where
+  pub fee : outcome.base_paid + outcome.priority_paid < 2 ^ 64
+  pub bytes : sum_by length outcome.lines ≤ 10013
+  pub filled : All (λ line. 1 ≤ length line) outcome.lines

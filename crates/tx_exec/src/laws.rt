@@ -8,11 +8,11 @@ ghost use Rattle.tx_exec.specs.declared.told.Told.{Told as ToldValue};
 ghost use Rattle.tx_exec.specs.Executing.{InBlock};
 ghost use Rattle.tx_exec.specs.Told.{job_of};
 ghost use Rattle.tx_exec.specs.Transaction.{transaction};
-ghost use Rattle.tx_exec.specs.TransactionLaws.{Keeps, WritesFit};
+ghost use Rattle.tx_exec.specs.TransactionLaws.{IsSmallOutcome, Keeps, WritesFit};
 
 /// A law: a transaction keeps the number of its accounts, their lamports but for the fees paid, what
 /// it may not write, and the executable accounts. What it writes is one account for each write lock,
-/// with no more lamports than were lent for writing.
+/// and with the fees paid these have the lamports that were lent for writing. Its outcome is small.
 pub fn transactions_keep_accounts()
     ensures keeps { (block : InBlock) (t : ChosenValue) (values : List AccountValue) →
         IsChosen t → length values ≡ length (all_keys t.tx.message t.loaded) →
@@ -20,6 +20,8 @@ pub fn transactions_keep_accounts()
     ensures fits { (block : InBlock) (t : ChosenValue) (values : List AccountValue) →
         IsChosen t → length values ≡ length (all_keys t.tx.message t.loaded) →
         WritesFit t values (transaction block t values) }
+    ensures small { (block : InBlock) (t : ChosenValue) (values : List AccountValue) →
+        IsChosen t → IsSmallOutcome (transaction block t values).outcome }
 {}
 
 /// A law: the transactions of a block, a position for each, are a lawful work.

@@ -1,0 +1,25 @@
+-- How a batch is parted into the transactions that run and those that do not.
+use Rattle.std.specs.Prelude.{◌≡◌, ℕ, ◌+◌, ◌<◌, ◌≤◌, List, [], length, map, All}
+use Rattle.std.specs.List.{IsDistinct, slice_index_or}
+use Rattle.sol_base.specs.Keys.{same_hash}
+use Rattle.message_codec.specs.declared.parsed.Parsed.TheVariants.{Good}
+use Rattle.message_codec.specs.Parsing.{parsed_of}
+use Rattle.admission.specs.declared.chosen.Chosen.{Chosen}
+use Rattle.admission.specs.declared.chosen.Admitted.{Admitted}
+
+-- the wire at a position of a batch
+abbrev pub wire_at : List (List ℕ) → ℕ → List ℕ
+wire_at wires position = slice_index_or wires position []
+
+-- it is what the wire at its position spells
+pub record IsOf (wires : List (List ℕ)) (chosen : Chosen) : Type 0 where
+  pub below : chosen.position < length wires
+  pub read : parsed_of (wire_at wires chosen.position) ≡ Good chosen.tx chosen.name
+  pub short : length (wire_at wires chosen.position) ≤ 1232
+
+-- each that runs is of its wire, no two of them have one name, and every position runs or is refused
+pub record IsParted (wires : List (List ℕ)) (answer : Admitted) : Type 0 where
+  pub each : All (IsOf wires) answer.order
+  pub apart : IsDistinct same_hash (map (λ chosen. chosen.name) answer.order)
+  pub count : length answer.order + length answer.refused ≡ length wires
+  pub below : All (λ refused. refused.position < length wires) answer.refused

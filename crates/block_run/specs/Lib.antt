@@ -1,0 +1,3 @@
+pub mod SerialRun
+pub mod BlockEnd
+pub mod Blocks

@@ -1,0 +1,40 @@
+-- The serial run of a block (Solana): its transactions one after another, in their order, over the accounts of a snapshot.
+use Rattle.std.specs.Prelude.{ℕ, List}
+use Rattle.std.specs.List.{flat_map}
+use Rattle.sol_base.specs.declared.key.Key.{Key}
+use Rattle.message_codec.specs.Roles.{all_keys}
+use Rattle.tx_report.specs.declared.outcome.Outcome.{Outcome}
+use Rattle.account_store.specs.State.{State, at}
+use Rattle.snapshot_codec.specs.declared.snapshot.Snapshot.{Snapshot}
+use Rattle.program_cache.specs.Programs.{programs_of}
+use Rattle.admission.specs.declared.chosen.Chosen.{Chosen}
+use Rattle.bank_law.specs.Job.{Job}
+use Rattle.bank_law.specs.SerialState.{serial_state}
+use Rattle.bank_core.specs.Ends.{serial_outcomes}
+use Rattle.tx_exec.specs.declared.told.Told.{Told}
+use Rattle.tx_exec.specs.Told.{job_of}
+
+-- the keys that the transactions declare
+abbrev pub keys_in : List Chosen → List Key
+keys_in order = flat_map (λ t. all_keys t.tx.message t.loaded) order
+
+-- the transactions as a work, with the programs that the snapshot has under their keys
+abbrev pub told_in : Snapshot → ℕ → List Chosen → Told
+told_in s slot order = record {
+  chosen = order;
+  programs = programs_of s.accounts (keys_in order);
+  slot = slot;
+  height = s.limits.height;
+}
+
+-- what a run leaves: the accounts, and the outcome of each transaction
+pub record Ran : Type 0 where
+  pub accounts : State
+  pub outcomes : List Outcome
+
+abbrev pub ran : Job → State → Ran
+ran job start = record { accounts = serial_state job start job.count; outcomes = serial_outcomes job (at start) }
+
+-- the serial run of these transactions in a block of that slot
+unfoldable pub serial_run : Snapshot → ℕ → List Chosen → Ran
+serial_run s slot order = ran (job_of (told_in s slot order)) s.accounts

@@ -1,0 +1,28 @@
+use admission::Refused;
+use block_record::Block;
+use snapshot_codec::Snapshot;
+use sol_base::{Items, Key};
+
+/// The slot of a block, and who collects what is not burned of its fees.
+#[derive(Clone, Copy, Debug, PartialEq, Eq)]
+pub struct Head {
+    pub slot: u64,
+    pub collector: Key,
+}
+
+/// A block, and the snapshot after it.
+#[derive(Debug, Drop)]
+pub struct Closed {
+    pub block: Block,
+    pub after: Snapshot,
+}
+
+/// What a batch comes to.
+#[derive(Debug, Drop)]
+pub struct BlockResult {
+    pub block: Block,
+    /// The snapshot after the block.
+    pub after: Snapshot,
+    /// The transactions that did not run, by their positions.
+    pub refused: Items<Refused>,
+}

@@ -1,0 +1,9 @@
+//! One block: which of its transactions run, what they come to on 1 to 64 lanes, how the block ends,
+//! and its record and the snapshot after it.
+#![tactic(auto)]
+
+mod block;
+mod run;
+
+pub use block::{BlockResult, Closed, Head};
+pub use run::{run_block, run_listed, run_parsed};
