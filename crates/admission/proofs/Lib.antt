@@ -5,3 +5,4 @@ pub mod LineLaws
 pub mod WalkLaws
 pub mod AnswerLaws
 pub mod BatchLaws
+pub mod PartLaws

@@ -1,13 +1,15 @@
 -- A line that is kept by ranks is the line.
-use Rattle.std.proofs.Common.{◌≡◌, ℕ, ◌<◌, ◌≤◌, Bool, true, false, cond, List, [], ◌∷◌, ◌++◌, map, refl, sym, ap, ◌∙◌, append_assoc, append-nil, arith, subst, fold}
+use Rattle.std.proofs.Common.{◌≡◌, ℕ, ◌<◌, Bool, true, false, cond, List, [], ◌∷◌, ◌++◌, map, refl, sym, ap, ◌∙◌, append-nil, arith, subst, fold}
 use Rattle.std.specs.Prelude.{nat_lt, nat_eq}
 use Rattle.std.specs.List.{AllByRecursion}
+use Rattle.std.specs.List.Sorted.{IsPermutation}
 use Rattle.std.specs.BTreeMap.{insert_entry}
 use Rattle.std.specs.Ordering.{nat_cmp, ordering_then, match_ordering}
 use Rattle.std.specs.declared.cmp.Ordering.{Ordering}
 use Rattle.std.specs.declared.cmp.Ordering.TheVariants.{Less, Equal, Greater}
 use Rattle.std.specs.declared.cmp.Reverse.{Reverse}
 use Rattle.std.proofs.lemmas.Bool.Decides.{nat_tests}
+use Rattle.std.proofs.lemmas.List.Sorted.{IsPermutation-append_left, IsPermutation-cons, IsPermutation-middle, IsPermutation-refl, IsPermutation-sym, IsPermutation-trans}
 use Rattle.std.proofs.lemmas.List.Sums.{fold-append}
 use Rattle.admission.specs.declared.chosen.Chosen.{Chosen}
 use Rattle.admission.specs.Admission.{line, priority, with_next}
@@ -85,3 +87,23 @@ same_entries (entry ∷ entries) = ap (λ more. entry ∷ more) (same_entries en
 pub line_back : (standing found : List Chosen) (yielded entries : List ((Reverse ℕ × ℕ) × Chosen)) → found ≡ map (λ (entry : (Reverse ℕ × ℕ) × Chosen). entry.1) yielded → map (λ (entry : (Reverse ℕ × ℕ) × Chosen). entry) yielded ≡ entries
     → entries ≡ map with_rank (line standing) → found ≡ line standing
 line_back standing found yielded entries so_far whole ranked = so_far ∙ ap (map (λ (entry : (Reverse ℕ × ℕ) × Chosen). entry.1)) (sym (same_entries yielded) ∙ whole ∙ ranked) ∙ unranked (line standing)
+
+-- ---- the order of a line
+-- a line with one more holds it and all that it held
+placed_permutes : (standing : List Chosen) (one : Chosen) → IsPermutation (one ∷ standing) (with_next standing one)
+placed_permutes [] one = IsPermutation-refl (one ∷ [])
+placed_permutes (other ∷ others) one = go (nat_lt (priority other) (priority one)) (placed_permutes others one)
+  where
+    go : (b : Bool) → IsPermutation (one ∷ others) (with_next others one) → IsPermutation (one ∷ other ∷ others) (cond b (one ∷ other ∷ others) (other ∷ with_next others one))
+    go true more = IsPermutation-refl (one ∷ other ∷ others)
+    go false more = IsPermutation-trans _ _ _ (IsPermutation-sym _ _ (IsPermutation-middle (other ∷ []) one others)) (IsPermutation-cons other _ _ more)
+
+permutes_from : (before standing : List Chosen) → IsPermutation (before ++ standing) (fold with_next before standing)
+permutes_from before [] = subst (λ (ls : List Chosen). IsPermutation ls before) (sym (append-nil before)) (IsPermutation-refl before)
+permutes_from before (one ∷ others) =
+    IsPermutation-trans _ _ _ (IsPermutation-middle before one others)
+    (IsPermutation-trans _ _ _ (IsPermutation-append_left others (one ∷ before) (with_next before one) (placed_permutes before one)) (permutes_from (with_next before one) others))
+
+-- a line holds those that stand, and no other
+pub line_permutes : (standing : List Chosen) → IsPermutation standing (line standing)
+line_permutes standing = permutes_from [] standing
