@@ -2,7 +2,7 @@ use Rattle.admission.proofs.PartLaws.{admitted_batches_are_parted, listed_batche
 use Rattle.admission.proofs.laws.batches_are_parted.Goals as goal
 
 pub returns-clause-by_priority : goal.returns-clause-by_priority
-returns-clause-by_priority c = λ start wires few. admitted_batches_are_parted start wires
+returns-clause-by_priority c = admitted_batches_are_parted
 
 pub returns-clause-by_position : goal.returns-clause-by_position
-returns-clause-by_position c = λ start wires few. listed_batches_are_parted start wires
+returns-clause-by_position c = listed_batches_are_parted
