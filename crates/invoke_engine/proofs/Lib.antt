@@ -9,3 +9,4 @@ pub mod Loops
 pub mod Found
 pub mod Traces
 pub mod Buffers
+pub mod SmallLogs
