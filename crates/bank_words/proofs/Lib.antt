@@ -1,0 +1,12 @@
+pub mod Rules
+pub mod Turns
+pub mod Uses
+pub mod Steps
+pub mod Levels
+pub mod Tops
+pub mod Found
+pub mod Commands
+pub mod SpelledUses
+pub mod ReadUses
+pub mod Spellings
+pub mod Ranges

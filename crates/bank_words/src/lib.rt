@@ -1,0 +1,15 @@
+//! The words of a command line, and the command that they spell. `clap` splits them.
+#![tactic(auto)]
+
+mod command;
+mod command_line;
+mod laws;
+mod numbers;
+mod reading;
+mod words;
+
+pub use command::{Command, WordsFault};
+pub use laws::commands_are_their_spellings;
+pub use reading::read_words;
+pub use words::Words;
+
