@@ -6,3 +6,4 @@ pub mod WalkLaws
 pub mod AnswerLaws
 pub mod BatchLaws
 pub mod PartLaws
+pub mod FaultLaws

@@ -1,6 +1,6 @@
 -- How a batch is parted into the transactions that run and those that do not.
 use Rattle.std.proofs.Common.{◌≡◌, ℕ, zero, suc, ◌+◌, ◌<◌, ◌≤◌, Bool, true, false, ◌||◌, List, [], ◌∷◌, ◌++◌, length, map, take, get_or, set, fold, refl, sym, ap, ◌∙◌, append_assoc, append-nil, length-append, zero-add, arith, subst, Option, Some, None, Result, Ok, Err, All, nat_lt, ne_eqb}
-use Rattle.std.specs.Prelude.{if◌then◌else◌, nat_eq}
+use Rattle.std.specs.Prelude.{AllPairs, if◌then◌else◌, nat_eq}
 use Rattle.std.specs.Result.{result_ok}
 use Rattle.std.specs.List.{AllByRecursion, IsDistinct, cons_option, enumerate_from, filter_map}
 use Rattle.std.specs.List.Sorted.{IsPermutation}
@@ -34,10 +34,10 @@ use Rattle.admission.specs.declared.refusal.Refusal.TheVariants.{Budget as no_bu
 use Rattle.admission.specs.declared.refusal.Refused.{Refused}
 use Rattle.admission.specs.Admission.{Start, Walk, admitted, answer_of, as_cause, chosen_with, early, is_name, late, late_cause, line, listed, or_else, refusal_in, refused_in, sifted, sifted_in, sifted_out, standing_name, standing_names, stands, walk, walk_with}
 use Rattle.admission.specs.Batches.{IsOf, IsParted}
-use Rattle.admission.specs.Lines.{PositionsAscend}
+use Rattle.admission.specs.Lines.{PositionsAscend, StandsBefore}
 use Rattle.admission.specs.Sums.{cause_with, numbered_at, numbered_in, with_late}
 use Rattle.admission.proofs.AnswerLaws.{all_run}
-use Rattle.admission.proofs.LineLaws.{line_permutes}
+use Rattle.admission.proofs.LineLaws.{Ranked, line_permutes, line_ranked, pairs_ranked}
 use Rattle.admission.proofs.SiftLaws.{name_stands, one_name_more}
 use Rattle.admission.proofs.WalkLaws.{count_late, late_more, none_late, refused_by_causes}
 
@@ -161,27 +161,37 @@ module _ (start : Start) (batch : List Parsed) where
   standing_names_differ = (names_from 0 [] batch refl refl).1
 
 -- ---- what the walk keeps
-module _ {K : Type 0} (e : K → K → Bool) (f : Chosen → K) where
-  dropped_all : (P : K → Type 0) (before : List Chosen) (one : Chosen) (left : List Chosen) → AllByRecursion P (map f (before ++ one ∷ left)) → AllByRecursion P (map f (before ++ left))
-  dropped_all P [] one left all = all.1
-  dropped_all P (other ∷ before) one left all = (all.0, dropped_all P before one left all.1)
+-- what holds of a list with one holds of the list without
+abbrev Drops : (List Chosen → Type 0) → Type 0
+Drops Q = (before : List Chosen) (one : Chosen) (left : List Chosen) → Q (before ++ one ∷ left) → Q (before ++ left)
 
-  dropped : (before : List Chosen) (one : Chosen) (left : List Chosen) → IsDistinct e (map f (before ++ one ∷ left)) → IsDistinct e (map f (before ++ left))
-  unfolding IsDistinct
-  dropped [] one left differ = differ.1
-  dropped (other ∷ before) one left differ = (dropped_all (λ k. e (f other) k ≡ false) before one left differ.0, dropped before one left differ.1)
+kept_walked : (Q : List Chosen → Type 0) → Drops Q → (limits : Limits) (before : Walk) (left : List Chosen) → Q (before.order ++ left) → Q (fold (λ before one. walk_with before one (late limits before.order one)) before left).order
+kept_walked Q drops limits before [] q = subst Q (append-nil before.order) q
+kept_walked Q drops limits before (one ∷ left) q = kept_walked Q drops limits (walk_with before one (late limits before.order one)) left (go (late limits before.order one))
+  where
+    go : (o : Option Refusal) → Q ((walk_with before one o).order ++ left)
+    go None = subst Q (sym (append_assoc before.order (one ∷ []) left)) q
+    go (Some cause) = drops before.order one left q
 
-  distinct_walked : (limits : Limits) (before : Walk) (left : List Chosen) → IsDistinct e (map f (before.order ++ left)) → IsDistinct e (map f (fold (λ before one. walk_with before one (late limits before.order one)) before left).order)
-  distinct_walked limits before [] differ = subst (λ (ls : List Chosen). IsDistinct e (map f ls)) (append-nil before.order) differ
-  distinct_walked limits before (one ∷ left) differ = distinct_walked limits (walk_with before one (late limits before.order one)) left (go (late limits before.order one))
-    where
-      go : (o : Option Refusal) → IsDistinct e (map f ((walk_with before one o).order ++ left))
-      go None = subst (λ (ls : List Chosen). IsDistinct e (map f ls)) (sym (append_assoc before.order (one ∷ []) left)) differ
-      go (Some cause) = dropped before.order one left differ
+kept_run : (Q : List Chosen → Type 0) → Drops Q → (limits : Limits) (line : List Chosen) → Q line → Q (walk limits line).order
+kept_run Q drops limits line q = kept_walked Q drops limits (record { order = []; refused = [] }) line q
 
-  -- what tells the transactions of a line apart tells those that run apart
-  pub distinct_run : (limits : Limits) (line : List Chosen) → IsDistinct e (map f line) → IsDistinct e (map f (walk limits line).order)
-  distinct_run limits line differ = distinct_walked limits (record { order = []; refused = [] }) line differ
+names_dropped : Drops (λ line. IsDistinct same_hash (map (λ one. one.name) line))
+unfolding IsDistinct
+names_dropped [] one left differ = differ.1
+names_dropped (other ∷ before) one left differ = (go before differ.0, names_dropped before one left differ.1)
+  where
+    go : (before : List Chosen) → AllByRecursion (λ name. same_hash other.name name ≡ false) (map (λ one. one.name) (before ++ one ∷ left)) → AllByRecursion (λ name. same_hash other.name name ≡ false) (map (λ one. one.name) (before ++ left))
+    go [] all = all.1
+    go (next ∷ before) all = (all.0, go before all.1)
+
+pairs_dropped : Drops Ranked
+pairs_dropped [] one left ranked = ranked.1
+pairs_dropped (other ∷ before) one left ranked = (go before ranked.0, pairs_dropped before one left ranked.1)
+  where
+    go : (before : List Chosen) → AllByRecursion (StandsBefore other) (before ++ one ∷ left) → AllByRecursion (StandsBefore other) (before ++ left)
+    go [] all = all.1
+    go (next ∷ before) all = (all.0, go before all.1)
 
 -- ---- how many positions have a cause
 -- how many have none
@@ -322,7 +332,7 @@ module _ (start : Start) (wires : List (List ℕ)) where
       let lower = All-from_recursion (λ (one : Refused). one.position < length wires) (numbered_in (with_late after.refused causes)) (numbered_below 0 (length wires) (with_late after.refused causes) (omega (arith, late_count))) in
       record {
         each = All-from_recursion (IsOf wires) after.order (all_run (IsOf wires) start.limits found (in_place (IsOf wires) found same each_of));
-        apart = distinct_run same_hash (λ one. one.name) start.limits found names;
+        apart = kept_run (λ line. IsDistinct same_hash (map (λ one. one.name) line)) names_dropped start.limits found names;
         count = omega (arith, ran, all, late_count, ap length refused);
         below = subst (All (λ one. one.position < length wires)) refused lower;
       }
@@ -336,3 +346,10 @@ admitted_batches_are_parted start wires = parted start wires (line (sifted_out s
 pub listed_batches_are_parted : (start : Start) (wires : List (List ℕ)) → IsParted wires (listed start wires)
 unfolding listed
 listed_batches_are_parted start wires = parted start wires (sifted_out start (map parsed_of wires)) (IsPermutation-refl (sifted_out start (map parsed_of wires)))
+
+-- those that run stand by their priorities
+pub batches_run_by_priority : (start : Start) (wires : List (List ℕ)) → AllPairs StandsBefore (admitted start wires).order
+unfolding admitted
+batches_run_by_priority start wires =
+    let standing = sifted_out start (map parsed_of wires) in
+    pairs_ranked (walk start.limits (line standing)).order (kept_run Ranked pairs_dropped start.limits (line standing) (line_ranked standing (standing_positions_ascend start (map parsed_of wires))))
