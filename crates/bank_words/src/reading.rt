@@ -36,7 +36,7 @@ pub fn read_words(alloc: Global, words: &Words) -> Result<Command, WordsFault>
 fn read_texts<'a>(alloc: Global, words: &'a [&'a str]) -> Result<Command, WordsFault>
     ensures { let texts = map (λ w. w.now) words.entry.now in
         MatchResult result (λ command. command_in texts ≡ Some command)
-            (λ fault. Explains fault (command_in texts)) }
+        (λ fault. Explains fault (command_in texts)) }
 {
     if !are_plain(words) {
         return Err(WordsFault::Refused);
