@@ -1,0 +1,13 @@
+//! A chain at its start and a block of transfers between its users, both drawn from a number, to try
+//! a block on.
+#![tactic(auto)]
+
+mod draws;
+mod made;
+mod start;
+mod transfers;
+
+pub use made::{Made, make};
+
+#[cfg(test)]
+mod tests;
