@@ -1,11 +1,9 @@
 -- What is known of the transactions that run.
-use Rattle.std.proofs.Common.{◌≡◌, ℕ, ◌+◌, ◌<◌, ◌≤◌, Bool, true, false, not, cond, List, [], ◌∷◌, ◌++◌, length, map, take, refl, sym, ap, ◌∙◌, subst, arith, rules, Option, Some, None, Result, Ok, Err, IsOk, fold, All}
+use Rattle.std.proofs.Common.{◌≡◌, ℕ, ◌+◌, ◌<◌, ◌≤◌, Bool, true, false, not, List, [], ◌∷◌, ◌++◌, length, map, take, refl, sym, ap, ◌∙◌, subst, arith, Option, Some, None, Result, Ok, Err, IsOk, fold}
 use Rattle.std.specs.Prelude.{if◌then◌else◌}
 use Rattle.std.specs.Result.{result_ok}
 use Rattle.std.specs.List.{AllByRecursion, IsDistinct, filter_map, cons_option, enumerate_from}
-use Rattle.std.proofs.lemmas.List.Elements.{All-from_recursion, recursion_from_All}
 use Rattle.spec_base.specs.Reading.{◌>>=◌, ok_if}
-use Rattle.sol_base.specs.declared.key.Key.{Key}
 use Rattle.sol_base.specs.declared.key.Hash32.{Hash32}
 use Rattle.sol_base.specs.declared.limits.Limits.{Limits}
 use Rattle.sol_base.specs.declared.lock.Lock.{Lock}
@@ -31,9 +29,9 @@ use Rattle.admission.specs.declared.lookups.LookupFault.TheVariants.{RepeatedKey
 use Rattle.admission.specs.declared.chosen.Chosen.{Chosen}
 use Rattle.admission.specs.declared.refusal.Refusal.{Refusal}
 use Rattle.admission.specs.declared.refusal.Refusal.TheVariants.{Sanitize as not_sane, Lookup as not_loaded, UnknownBlockhash, AlreadyProcessed, RepeatedInBatch, Budget as no_budget}
-use Rattle.admission.specs.Lookups.{first_or, if_apart, load, loaded_in, lookup_faults}
+use Rattle.admission.specs.Lookups.{first_or, load, loaded_in, lookup_faults}
 use Rattle.admission.specs.Chosen.{IsChosen}
-use Rattle.admission.specs.Admission.{AreParsed, IsSound, Start, Walk, as_cause, budgeted, chosen_with, late, sifted, sifted_in, sifted_out, stands, standing_names, walk, walk_with}
+use Rattle.admission.specs.Admission.{AreParsed, IsSound, Start, Walk, as_cause, chosen_with, late, sifted, sifted_in, sifted_out, stands, standing_names, walk, walk_with}
 use Rattle.admission.specs.Lines.{PositionsAscend}
 use Rattle.admission.specs.Sums.{keys_locked}
 use Rattle.admission.proofs.LookupLaws.{distinct, loaded_counts}
@@ -66,15 +64,15 @@ stands_ok start tx name loaded e = go (sanitized tx start.limits.keys) refl (loa
 pub stands_sane : (start : Start) (tx : Tx) (name : Hash32) (loaded : Loaded) → stands start tx name ≡ Ok loaded → IsSane tx start.limits.keys
 stands_sane start tx name loaded e = (is_sane tx start.limits.keys (sanitized tx start.limits.keys) refl).0 (stands_ok start tx name loaded e).0
 
--- it is sane for the most keys that any chain allows
-sane_widely : (tx : Tx) (most : ℕ) → most ≤ 128 → IsSane tx most → IsSane tx 128
-sane_widely tx most few is = record {
+-- what is sane for few keys is sane for more
+pub sane_for_few_keys_is_sane_for_more : (tx : Tx) (few more : ℕ) → few ≤ more → IsSane tx few → IsSane tx more
+sane_for_few_keys_is_sane_for_more tx few more fewer is = record {
   signatures = is.signatures;
   groups = is.groups;
   payer = is.payer;
   programs = is.programs;
   accounts = is.accounts;
-  keys = omega (arith, is.keys, few);
+  keys = omega (arith, is.keys, fewer);
   apart = is.apart;
   payer_free = is.payer_free;
   lookups = is.lookups;
@@ -98,7 +96,7 @@ chosen_is start is_before position (Good tx name) chosen few sound e = go (stand
         let same : chosen_with position tx name loaded budget ≡ chosen = cc in
         let loads = load_ok start.state tx.message loaded (stands_ok start tx name loaded ea).1 in
         let is : IsChosen (chosen_with position tx name loaded budget) = record {
-          sane = sane_widely tx start.limits.keys few (stands_sane start tx name loaded ea);
+          sane = sane_for_few_keys_is_sane_for_more tx start.limits.keys 128 few (stands_sane start tx name loaded ea);
           signatures = sound.1;
           lists = sound.0;
           loaded = loads.0;

@@ -5,3 +5,5 @@ pub mod LineLaws
 pub mod WalkLaws
 pub mod AnswerLaws
 pub mod BatchLaws
+pub mod PartLaws
+pub mod FaultLaws

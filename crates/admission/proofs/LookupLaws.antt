@@ -1,5 +1,5 @@
 -- What lookups pick from their tables, and keys that are given again.
-use Rattle.std.proofs.Common.{◌≡◌, ℕ, zero, suc, ◌+◌, ◌<◌, ◌≤◌, Bool, true, false, ◌||◌, List, [], ◌∷◌, ◌++◌, length, take, drop, map, get_or, refl, sym, ap, ◌∙◌, append_assoc, append-nil, length-append, arith, Option, Some, None, Result, Ok, Err, sum_by, zero-add}
+use Rattle.std.proofs.Common.{◌≡◌, ℕ, ◌+◌, ◌<◌, Bool, true, false, List, [], ◌∷◌, ◌++◌, length, take, map, get_or, refl, sym, ap, ◌∙◌, append_assoc, append-nil, length-append, arith, Some, None, Result, Ok, Err, sum_by, zero-add}
 use Rattle.std.specs.Prelude.{nat_le, MatchBool, if◌then◌else◌}
 use Rattle.std.specs.List.{list_any, filter_map, flat_map, enumerate_from, IsDistinct, AllByRecursion}
 use Rattle.std.proofs.Math.Seq.{take-length}

@@ -1,8 +1,8 @@
 -- The early causes of a batch, one position after the other.
-use Rattle.std.proofs.Common.{◌≡◌, ℕ, ◌+◌, ◌<◌, Bool, true, false, ◌||◌, not, cond, List, [], ◌∷◌, ◌++◌, length, take, map, refl, sym, ap, ◌∙◌, append_assoc, append-nil, length-append, arith, Option, Some, None, Result, Ok, Err, is_ok, subst, OnOk}
+use Rattle.std.proofs.Common.{◌≡◌, ℕ, ◌+◌, Bool, true, false, ◌||◌, not, cond, List, [], ◌∷◌, ◌++◌, length, take, map, refl, sym, ap, ◌∙◌, append_assoc, arith, Option, Some, None, Result, Ok, Err, is_ok, subst, OnOk}
 use Rattle.std.specs.Prelude.{if◌then◌else◌}
 use Rattle.std.specs.Result.{result_ok}
-use Rattle.std.specs.List.{list_any, filter_map, cons_option, enumerate_from}
+use Rattle.std.specs.List.{filter_map, cons_option, enumerate_from}
 use Rattle.std.specs.BTreeMap.{is_at}
 use Rattle.std.specs.BTreeSet.{BTreeSet, contains}
 use Rattle.std.specs.Ordering.{is_eq}
@@ -59,6 +59,17 @@ name_added old new name puts q = puts q ∙ go (is_at (hash_cmp name) q) (same_h
 
 pub name_stands : (start : Start) (tx : Tx) (name : Hash32) (loaded : Loaded) → stands start tx name ≡ Ok loaded → standing_name start (Good tx name) ≡ Some name
 name_stands start tx name loaded e = ap (λ (r : Result Loaded Refusal). if is_ok r then Some name else None) e
+
+any_name : (o : Option Hash32) (q : Hash32) → has_hash (cons_option o []) q ≡ is_name o q
+any_name None q = refl
+any_name (Some name) q = or_false (same_hash name q)
+
+-- the names of one position more
+pub one_name_more : (start : Start) (done : List Parsed) (x : Parsed) (q : Hash32) → has_hash (standing_names start (done ++ x ∷ [])) q ≡ (has_hash (standing_names start done) q || is_name (standing_name start x) q)
+one_name_more start done x q =
+    ap (λ hashes. has_hash hashes q) (filter_map-append (standing_name start) done (x ∷ []))
+    ∙ list_any-append (λ one. same_hash one q) (standing_names start done) (cons_option (standing_name start x) [])
+    ∙ ap (λ b. has_hash (standing_names start done) q || b) (any_name (standing_name start x) q)
 
 -- ---- one position
 -- a name that is not added was there
@@ -142,17 +153,11 @@ module _ (start : Start) (batch done left more : List Parsed) (standing : List C
       ∙ ap (λ (r : Result Chosen Refusal). map (early start batch) (enumerate_from 0 done) ++ refusal_in r ∷ []) (sym here)
       ∙ sym (ap (map (early start batch)) (enumerate-push done x) ∙ map-append (early start batch) (enumerate_from 0 done) ((length done, x) ∷ []))
 
-  any_name : (o : Option Hash32) (q : Hash32) → has_hash (cons_option o []) q ≡ is_name o q
-  any_name None q = refl
-  any_name (Some name) q = or_false (same_hash name q)
-
   name_more : (q : Hash32) → next q ≡ has_hash (standing_names start (done ++ x ∷ [])) q
   name_more q =
       names q
       ∙ ap (λ b. b || is_name (standing_name start x) q) (so_far.named q)
-      ∙ ap (λ b. has_hash (standing_names start done) q || b) (sym (any_name (standing_name start x) q))
-      ∙ sym (ap (λ hashes. has_hash hashes q) (filter_map-append (standing_name start) done (x ∷ []))
-      ∙ list_any-append (λ one. same_hash one q) (standing_names start done) (cons_option (standing_name start x) []))
+      ∙ sym (one_name_more start done x q)
 
   pub sifted_more : (standing' : List Chosen) (causes' : List (Option Refusal)) → standing' ≡ standing ++ cons_option (result_ok found) [] → causes' ≡ causes ++ refusal_in found ∷ [] → AreSifted start batch (done ++ x ∷ []) more standing' causes' next
   sifted_more standing' causes' s c = record {

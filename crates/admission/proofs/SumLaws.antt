@@ -1,5 +1,5 @@
 -- Sums of units, with one transaction more.
-use Rattle.std.proofs.Common.{◌≡◌, ℕ, zero, suc, ◌+◌, ◌<◌, ◌≤◌, ◌^◌, Bool, true, false, ◌||◌, ◌&&◌, cond, List, [], ◌∷◌, ◌++◌, length, take, map, filter, get_or, refl, sym, ap, ◌∙◌, append-nil, arith, Option, Some, None, subst, sum_by, unwrap_or, zero-add}
+use Rattle.std.proofs.Common.{◌≡◌, ℕ, zero, suc, ◌+◌, ◌<◌, ◌≤◌, Bool, true, false, ◌||◌, ◌&&◌, cond, List, [], ◌∷◌, ◌++◌, length, take, filter, get_or, refl, sym, ap, ◌∙◌, arith, Some, subst, unwrap_or, zero-add}
 use Rattle.std.specs.Prelude.{if◌then◌else◌, nat_lt}
 use Rattle.std.specs.List.{list_any, AllByRecursion, IsDistinct}
 use Rattle.std.specs.BTreeMap.{BTreeMap, get, is_at}
@@ -12,9 +12,9 @@ use Rattle.sol_base.specs.declared.key.Key.{Key}
 use Rattle.sol_base.specs.declared.lock.Lock.{Lock}
 use Rattle.sol_base.specs.declared.limits.Limits.{Limits}
 use Rattle.sol_base.specs.Keys.{key_cmp, same_key}
-use Rattle.sol_base.proofs.KeyLaws.{same_cmp, same_key-true, same_key-self, same_key-sym}
+use Rattle.sol_base.proofs.KeyLaws.{same_cmp, same_key-true}
 use Rattle.admission.specs.declared.chosen.Chosen.{Chosen}
-use Rattle.admission.specs.Admission.{units_of, units_on, writes, locks_write, passes_key_units}
+use Rattle.admission.specs.Admission.{units_of, units_on, writes, locks_write}
 use Rattle.admission.specs.Sums.{HasSums, keys_locked, passes, sum_at}
 
 -- a key has no more units than all together

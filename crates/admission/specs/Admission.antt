@@ -1,6 +1,6 @@
 -- Which transactions of a batch run, and in which order (Solana for the kinds of check; the order,
 -- the blocks that are remembered and the unit limits are the project's own).
-use Rattle.std.specs.Prelude.{◌≡◌, ℕ, ◌+◌, ◌==◌, Bool, false, not, ◌&&◌, nat_lt, List, [], ◌∷◌, ◌++◌, length, take, map, filter, fold, sum_by, Option, Some, None, option_map, Result, Ok, Err, is_ok, if◌then◌else◌}
+use Rattle.std.specs.Prelude.{◌≡◌, ℕ, ◌+◌, ◌==◌, Bool, false, not, ◌&&◌, nat_lt, List, [], ◌∷◌, ◌++◌, take, map, filter, fold, sum_by, Option, Some, None, option_map, Result, Ok, Err, is_ok, if◌then◌else◌}
 use Rattle.std.specs.List.{list_any, filter_map, enumerate_from}
 use Rattle.std.specs.BTreeSet.{BTreeSet, contains}
 use Rattle.std.specs.Result.{result_ok}
@@ -19,7 +19,6 @@ use Rattle.message_codec.specs.WireReading.{is_wire_memory}
 use Rattle.message_codec.specs.Parsing.{IsParsed, parsed_of}
 use Rattle.message_codec.specs.Roles.{locks_of, sanitized}
 use Rattle.fee_rules.specs.declared.budget.Budget.{Budget}
-use Rattle.fee_rules.specs.declared.budget.BudgetFault.{BudgetFault}
 use Rattle.fee_rules.specs.Budgets.{budget_in}
 use Rattle.fee_rules.specs.Fees.{fee_of, priority_of}
 use Rattle.status_cache.specs.declared.recent.Mark.{Mark}

@@ -1,15 +1,29 @@
--- The texts of refusals (the project's own).
-use Rattle.std.specs.Prelude.{ℕ, List, ◌++◌, codes, decimal}
+-- What refusals say, and their texts (the project's own).
+use Rattle.std.specs.Prelude.{ℕ, Bool, false, List, ◌++◌, codes, decimal}
 use Rattle.message_codec.specs.declared.fault.WireFault.{WireFault}
 use Rattle.message_codec.specs.declared.fault.WireFault.TheVariants.{TooLong, Truncated, BadLength, Version, Trailing, OutOfMemory as no_wire_memory}
 use Rattle.message_codec.specs.declared.fault.SanitizeFault.{SanitizeFault}
 use Rattle.message_codec.specs.declared.fault.SanitizeFault.TheVariants.{SignatureCount, HeaderRange, NoWritablePayer, ProgramIndex, AccountIndex, TooManyKeys, RepeatedKey, PayerReserved, EmptyLookup}
+use Rattle.message_codec.specs.WireReading.{is_wire_memory}
 use Rattle.fee_rules.specs.declared.budget.BudgetFault.{BudgetFault}
 use Rattle.fee_rules.specs.declared.budget.BudgetFault.TheVariants.{BadBudget, RepeatedBudget}
 use Rattle.admission.specs.declared.lookups.LookupFault.{LookupFault}
 use Rattle.admission.specs.declared.lookups.LookupFault.TheVariants.{NoTable, BadTable, BadIndex, RepeatedKey as repeated_key, OutOfMemory as no_lookup_memory}
+use Rattle.admission.specs.Lookups.{is_lookup_memory}
 use Rattle.admission.specs.declared.refusal.Refusal.{Refusal}
 use Rattle.admission.specs.declared.refusal.Refusal.TheVariants.{Wire, Sanitize, Lookup, UnknownBlockhash, AlreadyProcessed, RepeatedInBatch, Budget, BlockUnits, KeyUnits}
+
+-- the fault within is want of memory, which no input shows
+abbrev pub is_memory : Refusal → Bool
+is_memory (Wire fault) = is_wire_memory fault
+is_memory (Sanitize fault) = false
+is_memory (Lookup fault) = is_lookup_memory fault
+is_memory UnknownBlockhash = false
+is_memory AlreadyProcessed = false
+is_memory RepeatedInBatch = false
+is_memory (Budget fault) = false
+is_memory BlockUnits = false
+is_memory KeyUnits = false
 
 -- a name and the number after it
 abbrev pub numbered : List ℕ → ℕ → List ℕ

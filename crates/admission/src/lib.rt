@@ -16,7 +16,7 @@ mod walk;
 
 pub use batch::{admit, admit_listed, admit_parsed};
 pub use chosen::{Admitted, Chosen};
-pub use laws::batches_are_parted;
+pub use laws::{batches_are_parted, lines_are_by_priority, refusals_are_of_the_input};
 pub use lookups::{LookupFault, TABLE_HEADER_LEN, resolve};
 pub use refusal::{Refusal, Refused};
 pub use text::refusal_text;

@@ -1,4 +1,3 @@
-use Rattle.std.proofs.Common.{[]}
 use Rattle.admission.specs.Lookups.{address_at, address_count}
 use Rattle.admission.proofs.LookupLaws.{in_table, mapped_more}
 use Rattle.admission.proofs.lookups.push_picked.Goals as goal

@@ -1,7 +1,6 @@
 use Rattle.std.proofs.Common.{◌≡◌, ◌++◌, ◌∙◌, List, length, map, sym, ap, subst, arith, Err}
 use Rattle.std.specs.List.{filter_map, enumerate_from}
 use Rattle.std.proofs.lemmas.Result.{err_from_is_err_and}
-use Rattle.sol_base.specs.declared.key.Key.{Key}
 use Rattle.message_codec.specs.declared.message.Lookup.{Lookup}
 use Rattle.account_store.specs.State.{at}
 use Rattle.admission.specs.Lookups.{address_at, first_or, if_apart, load, loaded_in, lookup_fault}

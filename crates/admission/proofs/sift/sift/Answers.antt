@@ -1,4 +1,4 @@
-use Rattle.std.proofs.Common.{◌++◌, ◌∙◌, length, sym, ap, arith, length-append, append-nil, Ok, Err}
+use Rattle.std.proofs.Common.{◌∙◌, length, sym, ap, arith, length-append, append-nil, Ok, Err}
 use Rattle.std.specs.Vec.Iter.{into_iter_items}
 use Rattle.admission.specs.Admission.{has_name, start_of}
 use Rattle.admission.proofs.SiftLaws.{cause_count, sifted_more}

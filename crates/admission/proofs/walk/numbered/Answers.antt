@@ -1,7 +1,4 @@
-use Rattle.std.proofs.Common.{◌≤◌, ◌∙◌, ◌++◌, [], Some, None, Option, length, sym, ap, append-nil, arith}
-use Rattle.std.specs.List.{cons_option}
-use Rattle.admission.specs.declared.refusal.Refusal.{Refusal}
-use Rattle.admission.specs.Sums.{numbered_at}
+use Rattle.std.proofs.Common.{◌≤◌, ◌∙◌, Some, None, length, sym, append-nil, arith}
 use Rattle.admission.proofs.WalkLaws.{numbered_all, numbered_more}
 use Rattle.admission.proofs.walk.numbered.Goals as goal
 use Rattle.admission.proofs.walk.numbered.Goals.{in-Some+in_ok-push, in_default}
