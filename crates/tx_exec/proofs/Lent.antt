@@ -1,5 +1,5 @@
 -- What is lent for writing.
-use Rattle.std.proofs.Common.{◌≡◌, ◌≤◌, ◌+◌, ℕ, suc, zero, List, [], ◌∷◌, length, Bool, true, false, Some, refl, ap, arith, if◌then◌else◌}
+use Rattle.std.proofs.Common.{◌≡◌, ◌≤◌, ◌<◌, ◌+◌, ℕ, suc, zero, List, [], ◌∷◌, ◌++◌, length, take, get_or, Bool, true, false, Some, refl, ap, arith, if◌then◌else◌}
 use Rattle.std.specs.Prelude.{slice_get, filter}
 use Rattle.std.proofs.lemmas.List.Elements.{All-cons, All-nil, All-head, All-tail}
 use Rattle.sol_base.specs.declared.account.Account.{Account}
@@ -8,7 +8,6 @@ use Rattle.sol_base.specs.Accounts.{AreShort, IsShort, lamports_in}
 use Rattle.bank_law.specs.Lawful.{lent_for_writing}
 use Rattle.bank_law.proofs.States.{lamports_in-cons}
 use Rattle.invoke_engine.proofs.Fuel.{either}
-use Rattle.tx_exec.specs.Payer.{charged, less}
 
 pub lent_short : (ls : List Lock) (vs : List Account) → AreShort vs → AreShort (lent_for_writing ls vs)
 lent_short [] vs h = All-nil IsShort
@@ -51,13 +50,16 @@ lent_lamports (l ∷ ls) (x ∷ a) (y ∷ b) h k same =
     by_test true e r = let one = lamports_in-cons y (lent_for_writing ls b) in let two = lamports_in-cons x (lent_for_writing ls a) in omega (arith, one, two, r)
     by_test false e r = let s : Some y ≡ Some x = same 0 l refl e in let t : y ≡ x = cc in let u : y.lamports ≡ x.lamports = ap (λ (z : Account). z.lamports) t in omega (arith, u, r)
 
--- the fee is taken from the first alone
-pub charged_lent : (ls : List Lock) (vs : List Account) (fee : ℕ) → lamports_in (lent_for_writing ls (charged vs fee)) ≤ lamports_in (lent_for_writing ls vs)
-charged_lent [] [] fee = omega arith
-charged_lent [] (v ∷ vs) fee = omega arith
-charged_lent (l ∷ ls) [] fee = omega arith
-charged_lent (l ∷ ls) (v ∷ vs) fee = by_test l.write
+-- one lock more, and the value beside it
+pub lent_push : (ls : List Lock) (vs : List Account) (i : ℕ) (l : Lock) (v : Account) → i < length ls → i < length vs →
+    lent_for_writing (take (i + 1) ls) (take (i + 1) vs) ≡ lent_for_writing (take i ls) (take i vs) ++ lent_for_writing (get_or ls i l ∷ []) (get_or vs i v ∷ [])
+lent_push [] vs i l v h k = absurd (omega (arith, h))
+lent_push (x ∷ ls) [] i l v h k = absurd (omega (arith, k))
+lent_push (x ∷ ls) (y ∷ vs) zero l v h k = refl
+lent_push (x ∷ ls) (y ∷ vs) (suc i) l v h k = by_test x.write (lent_push ls vs i l v (omega (arith, h)) (omega (arith, k)))
   where
-    by_test : (w : Bool) → lamports_in (if w then less v fee ∷ lent_for_writing ls vs else lent_for_writing ls vs) ≤ lamports_in (if w then v ∷ lent_for_writing ls vs else lent_for_writing ls vs)
-    by_test true = let one = lamports_in-cons (less v fee) (lent_for_writing ls vs) in let two = lamports_in-cons v (lent_for_writing ls vs) in omega (arith, one, two)
-    by_test false = omega arith
+    by_test : (w : Bool) → lent_for_writing (take (i + 1) ls) (take (i + 1) vs) ≡ lent_for_writing (take i ls) (take i vs) ++ lent_for_writing (get_or ls i l ∷ []) (get_or vs i v ∷ []) →
+        (if w then y ∷ lent_for_writing (take (i + 1) ls) (take (i + 1) vs) else lent_for_writing (take (i + 1) ls) (take (i + 1) vs)) ≡
+        (if w then y ∷ lent_for_writing (take i ls) (take i vs) else lent_for_writing (take i ls) (take i vs)) ++ lent_for_writing (get_or ls i l ∷ []) (get_or vs i v ∷ [])
+    by_test true r = ap (λ (rest : List Account). y ∷ rest) r
+    by_test false r = r

@@ -1,9 +1,9 @@
 //! How a transaction ends.
 ghost use Rattle.std.specs.Prelude.{◌≡◌, ◌≤◌, length, map, IfOk, OnOk};
 ghost use Rattle.std.specs.Arc.{arc_value};
-ghost use Rattle.sol_base.specs.Accounts.{AreShort, accounts_of};
+ghost use Rattle.sol_base.specs.Accounts.{AreShort, IsShort, accounts_of};
 ghost use Rattle.bank_law.specs.Lawful.{lent_for_writing};
-ghost use Rattle.tx_exec.specs.Transaction.{data_in, rent_broken, settled};
+ghost use Rattle.tx_exec.specs.Transaction.{data_in, is_broken, rent_broken, settled};
 
 use crate::payer::may_become;
 use sol_base::{Account, Items, Lock, OutOfMemory};
@@ -33,12 +33,20 @@ pub fn find_broken_rent(
     ensures { result ≡ rent_broken locks.now (accounts_of before.now) (accounts_of after.now) }
 {
     for (place, lock) in locks.iter().enumerate() {
-        let new: &Account = &after[place];
-        if lock.write && !may_become(&before[place], new.lamports, new.bytes.len()) {
+        let broken = is_rent_broken(lock, &before[place], &after[place]);
+        if broken {
             return Some(place);
         }
     }
     None
+}
+
+fn is_rent_broken(lock: &Lock, before: &Account, after: &Account) -> bool
+    requires before { IsShort before.now }
+    requires after { IsShort after.now }
+    ensures { result ≡ is_broken (lock.now, (before.now, after.now)) }
+{
+    lock.write && !may_become(before, after.lamports, after.bytes.len())
 }
 
 /// What is written: the accounts beside write locks, those without lamports as the empty one.

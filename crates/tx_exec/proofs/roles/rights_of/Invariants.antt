@@ -1,0 +1,5 @@
+use Rattle.tx_exec.specs.Tables.{IsTableTo}
+use Rattle.tx_exec.proofs.roles.rights_of.Given as goal
+
+abbrev pub invariant-loop-place : goal.invariant-loop-place
+invariant-loop-place l = IsTableTo l.chosen l.place l.table
