@@ -1,9 +1,10 @@
 -- What fits the locks of a transaction fits its keys, and what its instructions name is there.
-use Rattle.std.proofs.Common.{◌≡◌, ◌≤◌, ◌<◌, ◌+◌, ◌-◌, ◌^◌, ◌++◌, ℕ, zero, suc, List, [], ◌∷◌, length, map, take, get_or, Some, All, refl, sym, ap, subst, ◌∙◌, ◌⊎◌, inl, inr, arith}
+use Rattle.std.proofs.Common.{◌≡◌, ◌≤◌, ◌<◌, ◌+◌, ◌-◌, ◌^◌, ◌++◌, ℕ, zero, suc, List, [], ◌∷◌, length, map, take, get_or, Some, All, refl, sym, ap, subst, ◌∙◌, inl, inr, arith}
 use Rattle.std.specs.Prelude.{slice_get, slice_index_or}
 use Rattle.std.specs.declared.sync.Arc.{Arc}
 use Rattle.std.specs.declared.alloc.Global.{Global}
 use Rattle.std.specs.Arc.{arc_value}
+use Rattle.std.proofs.lemmas.Bool.Decides.{leb_tells}
 use Rattle.std.proofs.lemmas.List.{length-append, length-map, map_more}
 use Rattle.std.proofs.lemmas.Option.{get_or_from_slice_get, slice_get-get_or}
 use Rattle.sol_base.specs.declared.key.Key.{Key}
@@ -82,14 +83,11 @@ push_at (y ∷ xs) x = push_at xs x
 pub table_more : (t : Chosen) (n : ℕ) (table : List Meta) (meta : Meta) → IsTableTo t n table → meta ≡ meta_of t n → IsTableTo t (n + 1) (table ++ meta ∷ [])
 table_more t n table meta is same = record {
   size = length-append table (meta ∷ []) ∙ ap (λ k. k + 1) is.size;
-  each = λ place below. elim (by_place place below) [
-    | inl before ↦ push_before table meta place (let size = is.size in omega (arith, size, before)) ∙ is.each place before
-    | inr here ↦ subst (λ k. slice_get (table ++ meta ∷ []) k ≡ Some (meta_of t k)) (sym here) (subst (λ k. slice_get (table ++ meta ∷ []) k ≡ Some (meta_of t n)) is.size (push_at table meta ∙ ap Some same))
+  each = λ place below. elim (leb_tells n place) [
+    | inl p ↦ let past = p.1 in let here : place ≡ n = omega (arith, past, below) in subst (λ k. slice_get (table ++ meta ∷ []) k ≡ Some (meta_of t k)) (sym here) (subst (λ k. slice_get (table ++ meta ∷ []) k ≡ Some (meta_of t n)) is.size (push_at table meta ∙ ap Some same))
+    | inr p ↦ let before = p.1 in let size = is.size in push_before table meta place (omega (arith, size, before)) ∙ is.each place before
   ];
 }
-  where
-    by_place : (place : ℕ) → place < n + 1 → (place < n) ⊎ (place ≡ n)
-    by_place place below = omega (arith, below)
 
 -- the rights that a lock and the signers give
 pub right_at : (t : Chosen) → IsChosen t → (place : ℕ) (d : Lock) → place < length t.locks → (get_or t.locks place d).write ≡ writes t place

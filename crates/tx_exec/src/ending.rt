@@ -1,5 +1,5 @@
 //! How a transaction ends.
-ghost use Rattle.std.specs.Prelude.{◌≡◌, ◌≤◌, length, map, IfOk, OnOk};
+ghost use Rattle.std.specs.Prelude.{◌≡◌, ◌∷◌, ◌++◌, [], length, map, IfOk, OnOk};
 ghost use Rattle.std.specs.Arc.{arc_value};
 ghost use Rattle.sol_base.specs.Accounts.{AreShort, IsShort, accounts_of};
 ghost use Rattle.bank_law.specs.Lawful.{lent_for_writing};
@@ -61,11 +61,24 @@ pub fn written_of(
 {
     let mut written = Items::with_capacity(alloc, locks.len())?;
     for (place, lock) in locks.iter().enumerate() {
-        if lock.write {
-            written.push(settle(alloc, &values[place])?)?;
-        }
+        push_written(alloc, &mut written, lock, &values[place])?;
     }
     Ok(written)
+}
+
+fn push_written(
+    alloc: Global,
+    written: &mut Items<Arc<Account>>,
+    lock: &Lock,
+    value: &Arc<Account>,
+) -> Result<(), OutOfMemory>
+    ensures { OnOk result (accounts_of written.new ≡ accounts_of written.old
+        ++ map settled (lent_for_writing (lock.now ∷ []) (arc_value value.now ∷ []))) }
+{
+    if lock.write {
+        written.push(settle(alloc, value)?)?;
+    }
+    Ok(())
 }
 
 fn settle(alloc: Global, account: &Arc<Account>) -> Result<Arc<Account>, OutOfMemory>

@@ -94,21 +94,21 @@ fn run_all(
             trace,
             &mut logs,
         )?;
-        match ran.ended {
-            Ended::Good(after) => {
-                units = ran.units;
-                trace = ran.trace;
-                accounts = after;
-            }
+        units = ran.units;
+        trace = ran.trace;
+        let Ran { ended, .. } = ran;
+        match ended {
+            Ended::Good(after) => accounts = after,
             Ended::Failed(error) => {
+                let failure = Failure {
+                    index: index as u8,
+                    cause: error.cause,
+                    detail: error.detail,
+                };
                 return Ok(Executed {
-                    units: ran.units,
+                    units,
                     logs,
-                    result: Err(Failure {
-                        index: index as u8,
-                        cause: error.cause,
-                        detail: error.detail,
-                    }),
+                    result: Err(failure),
                 });
             }
         }
