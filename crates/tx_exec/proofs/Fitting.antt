@@ -47,10 +47,13 @@ charged_fits ls (payer ∷ others) fee f =
     record { one_each = f.one_each; short = short_less payer (less payer fee) others refl f.short; supply = omega (arith, left, right, all) }
 
 -- one of them, behind its share
-pub short_at : (shares : List (Arc Account Global)) (i : ℕ) (d : Arc Account Global) → i < length shares → AreShort (accounts_of shares) → IsShort (arc_value (get_or shares i d))
-short_at [] i d h all = absurd (omega (arith, h))
-short_at (s ∷ ss) zero d h all = all zero (arc_value s) (omega (arith, h))
-short_at (s ∷ ss) (suc i) d h all = short_at ss i d (omega (arith, h)) (λ k e l. all (suc k) e (omega (arith, l)))
+pub short_at : (shares : List (Arc Account Global)) (i : ℕ) (share : Arc Account Global) → i < length shares → share ≡ get_or shares i share → AreShort (accounts_of shares) → IsShort (arc_value share)
+short_at shares i share h here all = subst (λ (s : Arc Account Global). IsShort (arc_value s)) (sym here) (one shares i h all)
+  where
+    one : (ss : List (Arc Account Global)) (n : ℕ) → n < length ss → AreShort (accounts_of ss) → IsShort (arc_value (get_or ss n share))
+    one [] n k a = absurd (omega (arith, k))
+    one (s ∷ ss) zero k a = a zero (arc_value s) (omega (arith, k))
+    one (s ∷ ss) (suc n) k a = one ss n (omega (arith, k)) (λ m e l. a (suc m) e (omega (arith, l)))
 
 -- ---- instructions
 pub keys_few : (t : Chosen) → IsChosen t → length (all_keys t.tx.message t.loaded) ≤ 128
@@ -58,6 +61,9 @@ keys_few t is = all_most t.tx 128 t.loaded is.sane is.loaded
 
 pub all_named : (t : Chosen) → IsChosen t → All (AreNamed t.tx.message t.loaded) t.tx.message.instructions
 all_named t is = are_named t.tx 128 t.loaded is.sane is.loaded
+
+pub named_at : (t : Chosen) → IsChosen t → (index : ℕ) (i : Instruction) → index < length t.tx.message.instructions → i ≡ get_or t.tx.message.instructions index i → AreNamed t.tx.message t.loaded i
+named_at t is index i below here = subst (λ (x : Instruction). AreNamed t.tx.message t.loaded x) (sym here) (all_named t is index i below)
 
 pub call_fits : (t : Chosen) (i : Instruction) → AreNamed t.tx.message t.loaded i → length i.input ≤ 65535 → IsCall (length (all_keys t.tx.message t.loaded)) (call_of t i)
 call_fits t i named short =
@@ -90,9 +96,9 @@ table_more t n table meta is same = record {
 }
 
 -- the rights that a lock and the signers give
-pub right_at : (t : Chosen) → IsChosen t → (place : ℕ) (d : Lock) → place < length t.locks → (get_or t.locks place d).write ≡ writes t place
-right_at t is place d below =
-    sym (lock_writes t place (get_or t.locks place d) (subst (λ (ls : List Lock). slice_get ls place ≡ Some (get_or t.locks place d)) is.locked (slice_get-get_or t.locks place d below)))
+pub right_at : (t : Chosen) → IsChosen t → (items : List Lock) → items ≡ t.locks → (place : ℕ) (d : Lock) → place < length items → (get_or items place d).write ≡ writes t place
+right_at t is items same place d below =
+    sym (lock_writes t place (get_or items place d) (subst (λ (ls : List Lock). slice_get ls place ≡ Some (get_or items place d)) (same ∙ is.locked) (slice_get-get_or items place d below)))
 
 -- the metas of an instruction's accounts are rows of the table
 pub metas_more : (t : Chosen) (table : List Meta) (ps : List ℕ) (i : ℕ) (d : Meta) (e : ℕ) (metas : List Meta) → IsTableOf t table → All (λ place. place < length (all_keys t.tx.message t.loaded)) ps → i < length ps →

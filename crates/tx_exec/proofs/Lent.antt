@@ -70,17 +70,17 @@ one_more (x ∷ ls) (y ∷ vs) (suc i) l v h k = by_test x.write (one_more ls vs
     by_test false r = r
 
 -- what is written so far, and one account more
-pub written_more : (ls : List Lock) (shares so_far next : List (Arc Account Global)) (i : ℕ) (l : Lock) (share : Arc Account Global) → i < length ls → i < length shares →
+pub written_more : (ls : List Lock) (shares so_far next : List (Arc Account Global)) (i : ℕ) (l : Lock) (share : Arc Account Global) → i < length ls → i < length shares → share ≡ get_or shares i share →
     accounts_of so_far ≡ map settled (lent_for_writing (take i ls) (take i (accounts_of shares))) →
-    accounts_of next ≡ accounts_of so_far ++ map settled (lent_for_writing (get_or ls i l ∷ []) (arc_value (get_or shares i share) ∷ [])) →
+    accounts_of next ≡ accounts_of so_far ++ map settled (lent_for_writing (get_or ls i l ∷ []) (arc_value share ∷ [])) →
     accounts_of next ≡ map settled (lent_for_writing (take (i + 1) ls) (take (i + 1) (accounts_of shares)))
-written_more ls shares so_far next i l share h k before pushed =
-    let value : get_or (accounts_of shares) i (arc_value share) ≡ arc_value (get_or shares i share) = get_or-map (λ (s : Arc Account Global). arc_value s) shares i share (arc_value share) k in
+written_more ls shares so_far next i l share h k here before pushed =
+    let value : get_or (accounts_of shares) i (arc_value share) ≡ arc_value share = get_or-map (λ (s : Arc Account Global). arc_value s) shares i share (arc_value share) k ∙ ap (λ (s : Arc Account Global). arc_value s) (sym here) in
     let count : length (accounts_of shares) ≡ length shares = length-map shares (λ (s : Arc Account Global). arc_value s) in
     let more = one_more ls (accounts_of shares) i l (arc_value share) h (omega (arith, count, k)) in
     let step : suc i ≡ i + 1 = omega arith in
     pushed
-    ∙ ap (λ (front : List Account). front ++ map settled (lent_for_writing (get_or ls i l ∷ []) (arc_value (get_or shares i share) ∷ []))) before
+    ∙ ap (λ (front : List Account). front ++ map settled (lent_for_writing (get_or ls i l ∷ []) (arc_value share ∷ []))) before
     ∙ ap (λ (v : Account). map settled (lent_for_writing (take i ls) (take i (accounts_of shares))) ++ map settled (lent_for_writing (get_or ls i l ∷ []) (v ∷ []))) (sym value)
     ∙ sym (map-append settled (lent_for_writing (take i ls) (take i (accounts_of shares))) (lent_for_writing (get_or ls i l ∷ []) (get_or (accounts_of shares) i (arc_value share) ∷ [])))
     ∙ ap (map settled) (sym more)

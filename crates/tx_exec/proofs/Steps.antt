@@ -20,6 +20,7 @@ use Rattle.invoke_engine.specs.Given.{AreGiven}
 use Rattle.invoke_engine.specs.Views.{IsRun, result_as}
 use Rattle.invoke_engine.proofs.Traces.{instruction_counts}
 use Rattle.tx_exec.specs.Executing.{Executed, Failure, InBlock, call_of, executed, fixed_for, following, performed}
+use Rattle.tx_exec.specs.Views.{IsExecuted, values_seen}
 use Rattle.tx_exec.proofs.Keeping.{GoodKeeps, instruction_keeps}
 
 -- where the loop over the instructions stands
@@ -53,25 +54,21 @@ late : (b : Bool) (x y : Ending) (after : List Account) → (let e : Ending = if
 late true x y after h e = h
 late false x y after h e = absurd (cc)
 
-module _ (block : InBlock) (t : Chosen) (base : List Account) (index : ℕ) (accounts : List Account) (units trace : ℕ) (log : Log) (stands : Stands block t base index accounts units trace log) (d : Instruction) (below : index < length t.tx.message.instructions) where
-  -- the instruction at this place
-  abbrev pub here : Instruction
-  here = get_or t.tx.message.instructions index d
-
+module _ (block : InBlock) (t : Chosen) (base : List Account) (index : ℕ) (accounts : List Account) (units trace : ℕ) (log : Log) (stands : Stands block t base index accounts units trace log) (i : Instruction) (below : index < length t.tx.message.instructions) (here : i ≡ get_or t.tx.message.instructions index i) where
   abbrev pub ending : Ending
-  ending = instruction (fixed_for block t) (call_of t here) accounts units trace log
+  ending = instruction (fixed_for block t) (call_of t i) accounts units trace log
 
   next : performed (fixed_for block t) t base ≡ following index (executed (fixed_for block t) t (index + 1) (drop (index + 1) t.tx.message.instructions)) ending.result ending
   unfolding executed
-  next = sym stands.same ∙ rw (drop_more t.tx.message.instructions index d below) refl
+  next = sym stands.same ∙ rw (drop_more t.tx.message.instructions index i below, ← here) refl
 
-  module _ (named : AreNamed t.tx.message t.loaded here) (ran : Ran) (log' : Log) (run : IsRun ending ran log') where
+  module _ (named : AreNamed t.tx.message t.loaded i) (ran : Ran) (log' : Log) (run : IsRun ending ran log') where
     -- the 65th is not started
     no_start : {after : List Account} → nat_le 64 trace ≡ true → ending.result ≡ Ok after → ⊥
     no_start {after} e good = refused (late (nat_le 64 trace) _ _ after good e)
 
     kept : GoodKeeps t accounts ending.result
-    kept = instruction_keeps block t here accounts units trace log named.accounts stands.given.count
+    kept = instruction_keeps block t i accounts units trace log named.accounts stands.given.count
 
     counts : (after : List Account) → ending.result ≡ Ok after → index + 1 ≤ ran.trace
     counts after good = by_test (nat_le 64 trace) refl
@@ -80,7 +77,7 @@ module _ (block : InBlock) (t : Chosen) (base : List Account) (index : ℕ) (acc
         by_test true e = absurd (no_start e good)
         by_test false e =
             let few : trace < 64 = grind (arith, nat_tests) in
-            let more = instruction_counts (fixed_for block t) (call_of t here) accounts units trace log few in
+            let more = instruction_counts (fixed_for block t) (call_of t i) accounts units trace log few in
             let same = run.trace in
             let old = stands.counted in
             omega (arith, more, same, old)
@@ -99,3 +96,11 @@ module _ (block : InBlock) (t : Chosen) (base : List Account) (index : ℕ) (acc
 
     pub bad : (error : InstructionError) → ran.ended ≡ Failed error → performed (fixed_for block t) t base ≡ record { units = ran.units; log = log'; result = Err (record { index = index; cause = error.cause; detail = error.detail }) }
     bad error failed = next ∙ stop index _ ending ran error log' run failed
+
+-- what the code tells of what instructions did
+pub tells : (e : Executed) (units : ℕ) (ended : Result (List (Arc Account Global)) Failure) (log : Log) → e ≡ record { units = units; log = log; result = values_seen ended } → IsExecuted e units ended log
+tells e units ended log same = record {
+  units = sym (ap (λ (x : Executed). x.units) same);
+  result = sym (ap (λ (x : Executed). x.result) same);
+  log = sym (ap (λ (x : Executed). x.log) same);
+}

@@ -1,5 +1,5 @@
 //! How a transaction ends.
-ghost use Rattle.std.specs.Prelude.{◌≡◌, ◌∷◌, ◌++◌, [], length, map, IfOk, OnOk};
+ghost use Rattle.std.specs.Prelude.{◌≡◌, ◌<◌, ◌∷◌, ◌++◌, [], length, map, IfOk, IfSome, OnOk};
 ghost use Rattle.std.specs.Arc.{arc_value};
 ghost use Rattle.sol_base.specs.Accounts.{AreShort, IsShort, accounts_of};
 ghost use Rattle.bank_law.specs.Lawful.{lent_for_writing};
@@ -30,7 +30,9 @@ pub fn find_broken_rent(
     requires after { length after.now ≡ length locks.now }
     requires short_before { AreShort (accounts_of before.now) }
     requires short_after { AreShort (accounts_of after.now) }
-    ensures { result ≡ rent_broken locks.now (accounts_of before.now) (accounts_of after.now) }
+    ensures exact { result
+        ≡ rent_broken locks.now (accounts_of before.now) (accounts_of after.now) }
+    ensures within { IfSome result (λ place. place < length locks.now) }
 {
     for (place, lock) in locks.iter().enumerate() {
         let broken = is_rent_broken(lock, &before[place], &after[place]);
@@ -41,10 +43,10 @@ pub fn find_broken_rent(
     None
 }
 
-fn is_rent_broken(lock: &Lock, before: &Account, after: &Account) -> bool
-    requires before { IsShort before.now }
-    requires after { IsShort after.now }
-    ensures { result ≡ is_broken (lock.now, (before.now, after.now)) }
+fn is_rent_broken(lock: &Lock, before: &Arc<Account>, after: &Arc<Account>) -> bool
+    requires before { IsShort (arc_value before.now) }
+    requires after { IsShort (arc_value after.now) }
+    ensures { result ≡ is_broken (lock.now, (arc_value before.now, arc_value after.now)) }
 {
     lock.write && !may_become(before, after.lamports, after.bytes.len())
 }
