@@ -1,17 +1,16 @@
 -- What fits the locks of a transaction fits its keys, and what its instructions name is there.
-use Rattle.std.proofs.Common.{◌≡◌, ◌≤◌, ◌<◌, ◌+◌, ◌-◌, ◌^◌, ◌++◌, ℕ, zero, suc, List, [], ◌∷◌, length, map, take, get_or, Some, All, refl, sym, ap, subst, ◌∙◌, inl, inr, arith}
-use Rattle.std.specs.Prelude.{slice_get, slice_index_or}
+use Rattle.std.proofs.Common.{◌≡◌, ◌≤◌, ◌<◌, ◌+◌, ◌++◌, ℕ, zero, suc, List, [], ◌∷◌, length, map, take, get_or, Some, All, refl, sym, ap, subst, ◌∙◌, inl, inr, arith}
+use Rattle.std.specs.Prelude.{slice_get}
 use Rattle.std.specs.declared.sync.Arc.{Arc}
 use Rattle.std.specs.declared.alloc.Global.{Global}
 use Rattle.std.specs.Arc.{arc_value}
 use Rattle.std.proofs.lemmas.Bool.Decides.{leb_tells}
-use Rattle.std.proofs.lemmas.List.{length-append, length-map, map_more}
+use Rattle.std.proofs.lemmas.List.{length-append, map_more}
 use Rattle.std.proofs.lemmas.Option.{get_or_from_slice_get, slice_get-get_or}
-use Rattle.sol_base.specs.declared.key.Key.{Key}
 use Rattle.sol_base.specs.declared.account.Account.{Account}
 use Rattle.sol_base.specs.declared.lock.Lock.{Lock}
 use Rattle.sol_base.specs.declared.lock.Meta.{Meta}
-use Rattle.sol_base.specs.Accounts.{AreShort, IsShort, accounts_of, lamports_in}
+use Rattle.sol_base.specs.Accounts.{AreShort, IsShort, accounts_of}
 use Rattle.message_codec.specs.declared.message.Instruction.{Instruction}
 use Rattle.message_codec.specs.Roles.{AreNamed, all_keys}
 use Rattle.message_codec.proofs.RoleLaws.{all_most, are_named, lock_count}

@@ -15,7 +15,7 @@ use Rattle.sol_base.specs.Metas.{AreInRange, is_listed_writable}
 use Rattle.account_rules.specs.KeptAccounts.{AreKeptBy}
 use Rattle.account_rules.proofs.KeptLaws.{AreKeptBy-refl, AreKeptBy-trans, AreKeptBy-weaker}
 use Rattle.message_codec.specs.declared.message.Instruction.{Instruction}
-use Rattle.message_codec.specs.Roles.{AreNamed, all_keys, lock_of, may_write}
+use Rattle.message_codec.specs.Roles.{all_keys, lock_of, may_write}
 use Rattle.message_codec.proofs.RoleLaws.{payer_is_writable, are_named}
 use Rattle.tx_report.specs.LogLines.{Log, no_lines}
 use Rattle.tx_report.specs.declared.cause.DropCause.{DropCause}
@@ -27,13 +27,13 @@ use Rattle.bank_law.specs.Lawful.{lent_for_writing}
 use Rattle.bank_law.proofs.States.{lamports_in-cons}
 use Rattle.admission.specs.declared.chosen.Chosen.{Chosen}
 use Rattle.admission.specs.Chosen.{IsChosen}
-use Rattle.invoke_engine.specs.Fits.{AreListed, EndKeeps}
-use Rattle.invoke_engine.specs.Frame.{Fixed, Ending, frame, instruction, nothing_returned}
+use Rattle.invoke_engine.specs.Fits.{AreListed}
+use Rattle.invoke_engine.specs.Frame.{Ending, frame, instruction, nothing_returned}
 use Rattle.invoke_engine.proofs.Fuel.{either}
 use Rattle.invoke_engine.proofs.Kept.{frame_keeps}
 use Rattle.tx_exec.specs.Payer.{charged, drop_cause, dropped, is_wallet, less, total_fee}
 use Rattle.tx_exec.specs.Executing.{Executed, Failure, InBlock, call_of, executed, fixed_for, following, locks, meta_of, performed, writes}
-use Rattle.tx_exec.specs.Transaction.{Transacted, by_drop, came_to, data_in, finished, finishing, no_fee, paid, ran, rent_broken, settled, transaction, written}
+use Rattle.tx_exec.specs.Transaction.{Transacted, by_drop, came_to, data_in, finished, finishing, no_fee, rent_broken, settled, transaction}
 use Rattle.tx_exec.specs.TransactionLaws.{Keeps, WritesFit}
 use Rattle.tx_exec.proofs.Settled.{all_settled, all_settled_lamports, all_settled_short}
 use Rattle.tx_exec.proofs.Lent.{lent_count, lent_lamports, lent_short}

@@ -1,7 +1,6 @@
 -- The outcome of a transaction is small.
-use Rattle.std.proofs.Common.{◌≡◌, ◌≤◌, ◌<◌, ◌+◌, ◌-◌, ◌*◌, ◌/◌, ◌^◌, ℕ, List, [], ◌∷◌, length, sum_by, Option, Some, None, Result, Ok, Err, All, refl, sym, subst, lit≤, arith, min}
+use Rattle.std.proofs.Common.{◌≤◌, ◌<◌, ◌+◌, ◌-◌, ◌*◌, ◌/◌, ◌^◌, ℕ, List, [], ◌∷◌, length, sum_by, Option, Some, None, Result, Ok, Err, All, sym, subst, lit≤, arith, min}
 use Rattle.std.specs.Prelude.{nat_lt}
-use Rattle.std.specs.List.{AllByRecursion}
 use Rattle.std.proofs.lemmas.List.Elements.{All-nil, All-from_recursion}
 use Rattle.sol_base.specs.declared.account.Account.{Account}
 use Rattle.message_codec.specs.declared.message.Instruction.{Instruction}

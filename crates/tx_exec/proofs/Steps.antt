@@ -1,18 +1,17 @@
 -- How the instructions go on, one after another.
-use Rattle.std.proofs.Common.{◌≡◌, ◌≤◌, ◌<◌, ◌+◌, ◌^◌, ℕ, List, [], ◌∷◌, length, drop, get_or, Bool, true, false, Result, Ok, Err, refl, sym, ap, subst, ◌∙◌, arith, if◌then◌else◌}
-use Rattle.std.specs.Prelude.{nat_le, MatchResult}
+use Rattle.std.proofs.Common.{◌≡◌, ◌≤◌, ◌<◌, ◌+◌, ℕ, List, length, drop, get_or, Bool, true, false, Result, Ok, Err, refl, sym, ap, subst, ◌∙◌, arith, if◌then◌else◌}
+use Rattle.std.specs.Prelude.{nat_le}
 use Rattle.std.specs.declared.sync.Arc.{Arc}
 use Rattle.std.specs.declared.alloc.Global.{Global}
 use Rattle.std.proofs.lemmas.List.{drop_more, drop_all}
 use Rattle.std.proofs.lemmas.Bool.Decides.{nat_tests}
 use Rattle.sol_base.specs.declared.account.Account.{Account}
-use Rattle.sol_base.specs.Accounts.{AreShort, accounts_of, lamports_in}
+use Rattle.sol_base.specs.Accounts.{accounts_of}
 use Rattle.message_codec.specs.declared.message.Instruction.{Instruction}
 use Rattle.message_codec.specs.Roles.{AreNamed, all_keys}
 use Rattle.tx_report.specs.LogLines.{Log}
 use Rattle.tx_report.specs.declared.status.InstructionError.{InstructionError}
 use Rattle.admission.specs.declared.chosen.Chosen.{Chosen}
-use Rattle.invoke_engine.specs.declared.call.Ended.{Ended}
 use Rattle.invoke_engine.specs.declared.call.Ended.TheVariants.{Good, Failed}
 use Rattle.invoke_engine.specs.declared.call.Ran.{Ran}
 use Rattle.invoke_engine.specs.Frame.{Ending, instruction}

@@ -1,14 +1,13 @@
 -- The transactions of a block are a lawful work.
-use Rattle.std.proofs.Common.{◌≡◌, ◌≤◌, ◌<◌, ◌∷◌, [], ℕ, zero, suc, List, length, map, filter, Option, Some, None, All, refl, sym, ap, subst, ◌∙◌, arith}
+use Rattle.std.proofs.Common.{◌≡◌, ◌≤◌, ◌<◌, ◌∷◌, [], ℕ, zero, suc, List, length, filter, Option, Some, All, refl, sym, ap, subst, ◌∙◌, arith}
 use Rattle.std.specs.Prelude.{slice_get}
 use Rattle.std.specs.List.{IsDistinct}
 use Rattle.std.proofs.lemmas.List.{length-map}
 use Rattle.sol_base.specs.declared.account.Account.{Account}
 use Rattle.sol_base.specs.declared.lock.Lock.{Lock}
 use Rattle.sol_base.specs.Accounts.{AreShort, lamports_in}
-use Rattle.message_codec.specs.Roles.{all_keys, locks_of}
 use Rattle.message_codec.proofs.RoleLaws.{lock_count, lock_keys as keys_of_locks}
-use Rattle.bank_law.specs.Job.{Job, keys, lock_keys, same_key, write_keys}
+use Rattle.bank_law.specs.Job.{lock_keys, same_key}
 use Rattle.bank_law.specs.Lawful.{AreSettled, Fits, IsLawful, lent_for_writing}
 use Rattle.admission.specs.declared.chosen.Chosen.{Chosen}
 use Rattle.admission.specs.Chosen.{IsChosen}

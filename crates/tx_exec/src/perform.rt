@@ -10,7 +10,7 @@ ghost use Rattle.tx_exec.specs.Transaction.{came_to, effects, effects_as, failin
 ghost use Rattle.tx_exec.specs.Told.{block_of};
 
 use crate::ending::{data_of, find_broken_rent, written_of};
-use crate::executing::execute;
+use crate::executing::{Executed, execute};
 use crate::failure::Failure;
 use crate::payer::{charge, why_dropped};
 use crate::told::Told;
@@ -69,10 +69,14 @@ fn perform_paid(
         };
         return fail(alloc, chosen, base, failure, 0, Items::new(alloc));
     }
-    let executed = execute(alloc, told, chosen, base)?;
-    let units = u64::from(chosen.budget.limit).saturating_sub(executed.units);
-    let lines = executed.logs.into_lines();
-    match executed.result {
+    let Executed {
+        units: left,
+        logs,
+        result,
+    } = execute(alloc, told, chosen, base)?;
+    let units = u64::from(chosen.budget.limit).saturating_sub(left);
+    let lines = logs.into_lines();
+    match result {
         Err(failure) => fail(alloc, chosen, base, failure, units, lines),
         Ok(after) => finish(alloc, chosen, base, after.as_slice(), units, lines),
     }

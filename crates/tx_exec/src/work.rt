@@ -6,7 +6,6 @@ ghost use Rattle.bank_law.proofs.Props.{IsLawful-prop};
 ghost use Rattle.admission.specs.Chosen.{IsChosen};
 ghost use Rattle.tx_exec.specs.Told.{job_of};
 
-
 use crate::perform::perform_one;
 use crate::told::Told;
 use admission::Chosen;

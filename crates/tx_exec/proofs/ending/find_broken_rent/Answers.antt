@@ -1,4 +1,4 @@
-use Rattle.std.proofs.Common.{◌<◌, length, sym, ◌∙◌, arith}
+use Rattle.std.proofs.Common.{sym, ◌∙◌, arith}
 use Rattle.sol_base.specs.Accounts.{accounts_of}
 use Rattle.tx_exec.proofs.Fitting.{short_at}
 use Rattle.tx_exec.proofs.Rent.{as_place, broken-found, broken-more, broken-none}

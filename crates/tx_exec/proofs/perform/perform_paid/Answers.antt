@@ -15,5 +15,5 @@ execute-requires-clause-base c = fits_given c.args.chosen.now (accounts_of c.arg
 
 pub finish-requires-clause-after : goal.finish-requires-clause-after
 finish-requires-clause-after c =
-    let given = subst (λ (r : Result (List (Arc Account Global)) Failure). MatchResult r (λ after. AreGiven (length (all_keys c.args.chosen.now.tx.message c.args.chosen.now.loaded)) (accounts_of after)) (λ _. Unit {0})) c.in-Ok.is c.in_ok-executed.ensures.fits in
+    let given = subst (λ (r : Result (List (Arc Account Global)) Failure). MatchResult r (λ after. AreGiven (length (all_keys c.args.chosen.now.tx.message c.args.chosen.now.loaded)) (accounts_of after)) (λ _. Unit {0})) c.in-Ok.is c.in_ok-left.ensures.fits in
     rw c.as_slice.ensures (given_fits c.args.chosen.now (accounts_of c.in-Ok.after) c.requires.chosen given)

@@ -1,4 +1,4 @@
-use Rattle.std.proofs.Common.{◌≡◌, ◌≤◌, length, ap, subst, arith, refl}
+use Rattle.std.proofs.Common.{◌≡◌, length, ap, subst, arith, refl}
 use Rattle.message_codec.specs.Roles.{all_keys}
 use Rattle.tx_exec.specs.Tables.{IsTableTo}
 use Rattle.tx_exec.proofs.Fitting.{keys_few, locks_beside, right_at, table_more}
@@ -15,7 +15,7 @@ overflow_cast-index c =
 pub loop-place-preserved : goal.loop-place-preserved
 loop-place-preserved c = record {
   rows = rw c.in_ok-push.ensures.ok (table_more c.args.chosen.now c.loop-place.place c.loop-place.table _ c.loop-place.invariant.rows
-    (rw (c.is_signer.ensures, right_at c.args.chosen.now c.requires c.as_slice-lock-items.result.now c.as_slice-lock-items.ensures c.loop-place.place _ c.loop-place-test.true) refl));
+      (rw (c.is_signer.ensures, right_at c.args.chosen.now c.requires c.as_slice-lock-items.result.now c.as_slice-lock-items.ensures c.loop-place.place _ c.loop-place-test.true) refl));
   most = let below = c.loop-place-test.true in omega (arith, below);
 }
 
