@@ -15,7 +15,7 @@ use Rattle.sol_base.specs.Metas.{AreInRange, is_listed_writable}
 use Rattle.account_rules.specs.KeptAccounts.{AreKeptBy}
 use Rattle.account_rules.proofs.KeptLaws.{AreKeptBy-refl, AreKeptBy-trans, AreKeptBy-weaker}
 use Rattle.message_codec.specs.declared.message.Instruction.{Instruction}
-use Rattle.message_codec.specs.Roles.{AreNamed, all_keys, lock_of, may_write}
+use Rattle.message_codec.specs.Roles.{all_keys, lock_of, may_write}
 use Rattle.message_codec.proofs.RoleLaws.{payer_is_writable, are_named}
 use Rattle.tx_report.specs.LogLines.{Log, no_lines}
 use Rattle.tx_report.specs.declared.cause.DropCause.{DropCause}
@@ -27,16 +27,16 @@ use Rattle.bank_law.specs.Lawful.{lent_for_writing}
 use Rattle.bank_law.proofs.States.{lamports_in-cons}
 use Rattle.admission.specs.declared.chosen.Chosen.{Chosen}
 use Rattle.admission.specs.Chosen.{IsChosen}
-use Rattle.invoke_engine.specs.Fits.{AreListed, EndKeeps}
-use Rattle.invoke_engine.specs.Frame.{Fixed, Ending, frame, instruction, nothing_returned}
+use Rattle.invoke_engine.specs.Fits.{AreListed}
+use Rattle.invoke_engine.specs.Frame.{Ending, frame, instruction, nothing_returned}
 use Rattle.invoke_engine.proofs.Fuel.{either}
 use Rattle.invoke_engine.proofs.Kept.{frame_keeps}
 use Rattle.tx_exec.specs.Payer.{charged, drop_cause, dropped, is_wallet, less, total_fee}
 use Rattle.tx_exec.specs.Executing.{Executed, Failure, InBlock, call_of, executed, fixed_for, following, locks, meta_of, performed, writes}
-use Rattle.tx_exec.specs.Transaction.{Transacted, by_drop, came_to, data_in, finished, finishing, no_fee, paid, ran, rent_broken, settled, transaction, written}
+use Rattle.tx_exec.specs.Transaction.{Transacted, by_drop, came_to, data_in, finished, finishing, no_fee, rent_broken, settled, transaction}
 use Rattle.tx_exec.specs.TransactionLaws.{Keeps, WritesFit}
 use Rattle.tx_exec.proofs.Settled.{all_settled, all_settled_lamports, all_settled_short}
-use Rattle.tx_exec.proofs.Lent.{charged_lent, lent_count, lent_lamports, lent_short}
+use Rattle.tx_exec.proofs.Lent.{lent_count, lent_lamports, lent_short}
 
 -- ---- the rights of an instruction
 
@@ -70,7 +70,7 @@ no_right t (p ∷ ps) place h = by_test (nat_eq p place) refl (no_right t ps pla
 abbrev pub IsThere : Chosen → Instruction → Type 0
 IsThere t i = All (λ place. place < length (all_keys t.tx.message t.loaded)) i.accounts
 
-metas_there : (t : Chosen) (n : ℕ) (ps : List ℕ) → All (λ place. place < n) ps → AreInRange n (map (meta_of t) ps)
+pub metas_there : (t : Chosen) (n : ℕ) (ps : List ℕ) → All (λ place. place < n) ps → AreInRange n (map (meta_of t) ps)
 metas_there t n [] h = All-nil (λ (meta : Meta). meta.index < n)
 metas_there t n (p ∷ ps) h =
     All-cons (λ (meta : Meta). meta.index < n) (meta_of t p) (map (meta_of t) ps) (All-head (λ place. place < n) p ps h)
@@ -80,17 +80,17 @@ pub all_there : (t : Chosen) → IsChosen t → All (IsThere t) t.tx.message.ins
 all_there t is k d l = (are_named t.tx 128 t.loaded is.sane is.loaded k d l).accounts
 
 -- ---- the instructions
-abbrev IsKept : Chosen → List Account → List Account → Type 0
+abbrev pub IsKept : Chosen → List Account → List Account → Type 0
 IsKept t before after = AreKeptBy (writes t) before after
 
-abbrev GoodKeeps : {E : Type 0} → Chosen → List Account → Result (List Account) E → Type 0
+abbrev pub GoodKeeps : {E : Type 0} → Chosen → List Account → Result (List Account) E → Type 0
 GoodKeeps t a result = MatchResult result (λ b. IsKept t a b) (λ _. Unit {0})
 
 of_end : (t : Chosen) (i : Instruction) (a : List Account) (result : Result (List Account) InstructionError) → MatchResult result (λ b. AreKeptBy (is_listed_writable (call_of t i).metas) a b) (λ _. Unit {0}) → GoodKeeps t a result
 of_end t i a (Ok b) k = AreKeptBy-weaker (is_listed_writable (call_of t i).metas) (writes t) a b (no_right t i.accounts) k
 of_end t i a (Err error) k = tt
 
-instruction_keeps : (block : InBlock) (t : Chosen) (i : Instruction) (a : List Account) (units trace : ℕ) (log : Log) → IsThere t i → length a ≡ length (all_keys t.tx.message t.loaded) → GoodKeeps t a (instruction (fixed_for block t) (call_of t i) a units trace log).result
+pub instruction_keeps : (block : InBlock) (t : Chosen) (i : Instruction) (a : List Account) (units trace : ℕ) (log : Log) → IsThere t i → length a ≡ length (all_keys t.tx.message t.loaded) → GoodKeeps t a (instruction (fixed_for block t) (call_of t i) a units trace log).result
 instruction_keeps block t i a units trace log there count =
     let listed : AreListed (length (all_keys t.tx.message t.loaded)) (call_of t i).metas a = record { count = count; range = metas_there t (length (all_keys t.tx.message t.loaded)) i.accounts there } in
     either (λ (e : Ending). GoodKeeps t a e.result) (nat_le 64 trace) _ _ tt
@@ -150,7 +150,7 @@ other_program : (payer less : Account) (others : List Account) → payer.executa
 other_program payer less others p zero account h e = let same : payer ≡ account = cc in let none : account.executable ≡ false = ap (λ (a : Account). a.executable) (sym same) ∙ p in absurd (cc)
 other_program payer less others p (suc place) account h e = h
 
-short_less : (payer less : Account) (others : List Account) → less.bytes ≡ payer.bytes → AreShort (payer ∷ others) → AreShort (less ∷ others)
+pub short_less : (payer less : Account) (others : List Account) → less.bytes ≡ payer.bytes → AreShort (payer ∷ others) → AreShort (less ∷ others)
 short_less payer less others e h =
     All-cons IsShort less others (subst (λ (b : List ℕ). length b ≤ 10485760) (sym e) (All-head IsShort payer others h)) (All-tail IsShort payer others h)
 
@@ -214,39 +214,19 @@ transaction_keeps block t values is count = by_cause (dropped values (total_fee 
         (finished_keeps t values base _ _ (performed (fixed_for block t) t base).result k
         (executed_keeps block t 0 t.tx.message.instructions base t.budget.limit 0 no_lines (all_there t is) (k.count ∙ count)))
 
--- what is written fits what was lent
-written_fits : (t : Chosen) (values : List Account) (x : Transacted) → length x.values ≡ length (locks t) → (AreShort values → AreShort x.values) → lamports_in (lent_for_writing (locks t) x.values) ≤ lamports_in (lent_for_writing (locks t) values) → WritesFit t values x
-written_fits t values x h short k =
+-- what is written fits what was lent, where the values are kept
+fits_kept : (t : Chosen) (values : List Account) (x : Transacted) → length values ≡ length (locks t) → Keeps t values x → WritesFit t values x
+fits_kept t values x h k =
     let one : length (map settled (lent_for_writing (locks t) x.values)) ≡ length (lent_for_writing (locks t) x.values) = length-map (lent_for_writing (locks t) x.values) settled in
     let two = all_settled_lamports (lent_for_writing (locks t) x.values) in
+    let same = lent_lamports (locks t) values x.values h (k.count ∙ h) (λ place lock there reads. k.read place (lock_writes t place lock there ∙ reads)) in
+    let sum = k.lamports in
     record {
-      one_each = one ∙ lent_count (locks t) x.values h;
-      no_more = omega (arith, two, k);
-      short = λ s. all_settled_short (lent_for_writing (locks t) x.values) (lent_short (locks t) x.values (short s));
+      one_each = one ∙ lent_count (locks t) x.values (k.count ∙ h);
+      lamports = omega (arith, two, same, sum);
+      short = λ s. all_settled_short (lent_for_writing (locks t) x.values) (lent_short (locks t) x.values (k.short s));
       settled = all_settled (lent_for_writing (locks t) x.values);
     }
 
-finished_fits : (t : Chosen) (values base : List Account) (units : ℕ) (lines : List (List ℕ)) (result : Result (List Account) Failure) → length base ≡ length (locks t) → (AreShort values → AreShort base) → lamports_in (lent_for_writing (locks t) base) ≤ lamports_in (lent_for_writing (locks t) values) → GoodKeeps t base result → WritesFit t values (finished t base units lines result)
-finished_fits t values base units lines (Err f) h s k l = written_fits t values _ h s k
-finished_fits t values base units lines (Ok after) h s k l = by_rent (rent_broken (locks t) base after)
-  where
-    by_rent : (o : Option ℕ) → WritesFit t values (finishing t base units lines after o)
-    by_rent (Some i) = written_fits t values _ h s k
-    by_rent None =
-        let same = lent_lamports (locks t) base after h (l.count ∙ h) (λ place lock there reads. l.readonly place (lock_writes t place lock there ∙ reads)) in
-        let sum = l.lamports in
-        written_fits t values _ (l.count ∙ h) (λ x. l.short (s x)) (omega (arith, same, sum, k))
-
 pub transaction_fits : (block : InBlock) (t : Chosen) (values : List Account) → IsChosen t → length values ≡ length (all_keys t.tx.message t.loaded) → length values ≡ length (locks t) → WritesFit t values (transaction block t values)
-unfolding transaction
-transaction_fits block t values is all h = by_cause (dropped values (total_fee t)) refl
-  where
-    by_cause : (o : Option DropCause) → dropped values (total_fee t) ≡ o → WritesFit t values (by_drop (fixed_for block t) t values o)
-    by_cause (Some cause) e = written_fits t values _ h (λ s. s) (omega arith)
-    by_cause None e =
-        let base : List Account = charged values (total_fee t) in
-        let k : IsCharged t values base = fee_taken t values (payer_is_writable t.tx 128 t.loaded is.sane) e in
-        let count : length base ≡ length (locks t) = k.count ∙ h in
-        either (WritesFit t values) (nat_lt t.budget.loaded (data_in base)) _ _ (written_fits t values _ count k.short (charged_lent (locks t) values (total_fee t)))
-        (finished_fits t values base _ _ (performed (fixed_for block t) t base).result count k.short (charged_lent (locks t) values (total_fee t))
-        (executed_keeps block t 0 t.tx.message.instructions base t.budget.limit 0 no_lines (all_there t is) (k.count ∙ all)))
+transaction_fits block t values is all h = fits_kept t values _ h (transaction_keeps block t values is all)

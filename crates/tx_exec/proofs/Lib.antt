@@ -1,4 +1,8 @@
 mod Settled
 mod Lent
+mod Rent
+mod Fitting
+mod Steps
+mod Small
 pub mod Keeping
 pub mod Works

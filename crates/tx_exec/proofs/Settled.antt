@@ -1,5 +1,5 @@
 -- Accounts without lamports are written as the empty one, and with them no lamport is lost.
-use Rattle.std.proofs.Common.{◌≡◌, ◌+◌, ◌==◌, suc, zero, List, [], ◌∷◌, map, Bool, true, false, refl, arith, if◌then◌else◌}
+use Rattle.std.proofs.Common.{◌≡◌, ◌==◌, List, [], ◌∷◌, map, Bool, true, false, refl, arith, if◌then◌else◌}
 use Rattle.std.proofs.lemmas.List.Elements.{All-cons, All-nil, All-head, All-tail}
 use Rattle.std.proofs.lemmas.Bool.Decides.{nat_tests}
 use Rattle.sol_base.specs.declared.account.Account.{Account}

@@ -1,14 +1,13 @@
 -- The transactions of a block are a lawful work.
-use Rattle.std.proofs.Common.{◌≡◌, ◌≤◌, ◌<◌, ◌∷◌, [], ℕ, zero, suc, List, length, map, filter, Option, Some, None, All, refl, sym, ap, subst, ◌∙◌, arith}
+use Rattle.std.proofs.Common.{◌≡◌, ◌≤◌, ◌<◌, ◌∷◌, [], ℕ, zero, suc, List, length, filter, Option, Some, All, refl, sym, ap, subst, ◌∙◌, arith}
 use Rattle.std.specs.Prelude.{slice_get}
 use Rattle.std.specs.List.{IsDistinct}
 use Rattle.std.proofs.lemmas.List.{length-map}
 use Rattle.sol_base.specs.declared.account.Account.{Account}
 use Rattle.sol_base.specs.declared.lock.Lock.{Lock}
 use Rattle.sol_base.specs.Accounts.{AreShort, lamports_in}
-use Rattle.message_codec.specs.Roles.{all_keys, locks_of}
 use Rattle.message_codec.proofs.RoleLaws.{lock_count, lock_keys as keys_of_locks}
-use Rattle.bank_law.specs.Job.{Job, keys, lock_keys, same_key, write_keys}
+use Rattle.bank_law.specs.Job.{lock_keys, same_key}
 use Rattle.bank_law.specs.Lawful.{AreSettled, Fits, IsLawful, lent_for_writing}
 use Rattle.admission.specs.declared.chosen.Chosen.{Chosen}
 use Rattle.admission.specs.Chosen.{IsChosen}
@@ -51,7 +50,7 @@ module _ (told : Told) (t : Chosen) (is : IsChosen t) where
         ∙ sym (length-map (filter (λ (lock : Lock). lock.write) t.locks) (λ lock. lock.key))
 
     written_less : lamports_in (effects_at (block_of told) (Some t) vs).written ≤ lamports_in (lent_for_writing t.locks vs)
-    written_less = subst (λ (ls : List Lock). lamports_in (effects_at (block_of told) (Some t) vs).written ≤ lamports_in (lent_for_writing ls vs)) (sym is.locked) written_fit.no_more
+    written_less = subst (λ (ls : List Lock). lamports_in (effects_at (block_of told) (Some t) vs).written ≤ lamports_in (lent_for_writing ls vs)) (sym is.locked) (let sum = written_fit.lamports in omega (arith, sum))
 
     written_short : AreShort (effects_at (block_of told) (Some t) vs).written
     written_short = written_fit.short fits.short

@@ -2,11 +2,10 @@
 use Rattle.std.specs.Prelude.{◌≡◌, ◌≤◌, ◌+◌, ◌^◌, ◌<◌, ℕ, true, false, All, List, length, filter, slice_get, sum_by, Some}
 use Rattle.sol_base.specs.declared.account.Account.{Account}
 use Rattle.sol_base.specs.Accounts.{AreShort, lamports_in}
-use Rattle.sol_base.specs.Metas.{AreInRange}
 use Rattle.tx_report.specs.declared.outcome.Outcome.{Outcome}
 use Rattle.bank_law.specs.Lawful.{AreSettled, lent_for_writing}
 use Rattle.admission.specs.declared.chosen.Chosen.{Chosen}
-use Rattle.tx_exec.specs.Executing.{call_of, locks, writes}
+use Rattle.tx_exec.specs.Executing.{locks, writes}
 use Rattle.tx_exec.specs.Transaction.{Transacted, written}
 
 -- The values after a transaction: as many as before; with the fees paid they have the lamports of

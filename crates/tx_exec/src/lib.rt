@@ -2,10 +2,17 @@
 //! work has to keep.
 #![tactic(auto)]
 
+mod ending;
+mod executing;
 mod failure;
 mod laws;
+mod payer;
+mod perform;
+mod roles;
 mod told;
+mod work;
 
 pub use failure::Failure;
 pub use laws::{transactions_are_lawful_works, transactions_keep_accounts};
 pub use told::Told;
+pub use work::TxWork;

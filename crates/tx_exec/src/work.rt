@@ -1,0 +1,84 @@
+ghost use Rattle.std.specs.Prelude.{◌≡◌, ◌<◌, ◌≤◌, ◌^◌, All, length, IfOk};
+ghost use Rattle.std.proofs.Props.{props};
+ghost use Rattle.std.proofs.lemmas.Map.Keys.{IsDistinct-prop};
+ghost use Rattle.bank_law.specs.Lawful.{IsLawful};
+ghost use Rattle.bank_law.proofs.Props.{IsLawful-prop};
+ghost use Rattle.admission.specs.Chosen.{IsChosen};
+ghost use Rattle.tx_exec.specs.Told.{job_of};
+
+use crate::perform::perform_one;
+use crate::told::Told;
+use admission::Chosen;
+use bank_core::{Effects, Work};
+use program_cache::Programs;
+use sol_base::{Account, Items, LockList, OutOfMemory};
+use std::alloc::Global;
+use std::sync::Arc;
+
+/// The transactions of a block as the work of lanes, a position for each.
+#[derive(Drop)]
+pub struct TxWork {
+    told: Told,
+    alloc: Global,
+    ghost few: { length told.chosen < 2 ^ 32 },
+    ghost height: { (1 ≤ told.height) × (told.height ≤ 9) } by { Prim.hlevel props },
+    ghost lawful: { IsLawful (job_of told) } by { IsLawful-prop (job_of told) },
+    ghost each: { All IsChosen told.chosen } by { Prim.hlevel (props, IsDistinct-prop) },
+}
+
+impl TxWork {
+    /// A work over admitted transactions, with the programs among their keys.
+    pub fn new(
+        alloc: Global,
+        chosen: Items<Chosen>,
+        programs: Programs,
+        slot: u64,
+        height: u8,
+    ) -> Result<TxWork, OutOfMemory>
+        requires few { length chosen < 2 ^ 32 }
+        requires height { (1 ≤ height) × (height ≤ 9) }
+        requires chosen { All IsChosen chosen }
+        ensures { IfOk result (λ work. work.told
+            ≡ record { chosen = chosen; programs = programs; slot = slot; height = height }) }
+    {
+        Ok(TxWork {
+            told: Told {
+                chosen,
+                programs,
+                slot,
+                height,
+            },
+            alloc,
+        })
+    }
+
+    /// The transactions, in the order in which they count.
+    pub fn chosen(&self) -> &[Chosen]
+        ensures { result.now ≡ self.now.told.chosen }
+    {
+        self.told.chosen.as_slice()
+    }
+}
+
+impl Work for TxWork {
+    type Told = Told;
+
+    ghost told = { λ work. work.told };
+
+    ghost job = { job_of };
+
+    ghost lawful = { λ work. work.lawful };
+
+    fn count(&self) -> u32 {
+        self.told.chosen.len() as u32
+    }
+
+    fn locks(&self, position: u32) -> &LockList {
+        &self.told.chosen.as_slice()[position as usize].locks
+    }
+
+    fn perform(&self, position: u32, values: &[Arc<Account>]) -> Result<Effects, OutOfMemory> {
+        let chosen = &self.told.chosen.as_slice()[position as usize];
+        perform_one(self.alloc, &self.told, chosen, values)
+    }
+}
