@@ -1,3 +1,5 @@
 pub mod SerialRun
 pub mod BlockEnd
 pub mod Blocks
+pub mod Activation
+pub mod Ending

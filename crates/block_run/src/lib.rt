@@ -2,8 +2,18 @@
 //! and its record and the snapshot after it.
 #![tactic(auto)]
 
+mod activation;
 mod block;
+mod closing;
+mod entries;
+mod fees;
+mod lanes;
+mod names;
+mod order;
 mod run;
 
 pub use block::{BlockResult, Closed, Head};
 pub use run::{run_block, run_listed, run_parsed};
+
+#[cfg(test)]
+mod tests;
