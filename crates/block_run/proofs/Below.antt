@@ -1,12 +1,15 @@
 -- What the crates below show of batches and of transactions.
-use Rattle.std.proofs.Common.{◌≡◌, ◌≤◌, ℕ, List, length}
+use Rattle.std.proofs.Common.{◌≡◌, ◌≤◌, ℕ, List, length, All}
 use Rattle.sol_base.specs.declared.account.Account.{Account}
 use Rattle.message_codec.specs.Roles.{all_keys}
 use Rattle.admission.specs.declared.chosen.Chosen.{Chosen}
 use Rattle.admission.specs.Admission.{Start, admitted, listed}
 use Rattle.admission.specs.Batches.{IsParted}
 use Rattle.admission.specs.Chosen.{IsChosen}
+use Rattle.bank_law.specs.Lawful.{IsLawful}
+use Rattle.tx_exec.specs.declared.told.Told.{Told}
 use Rattle.tx_exec.specs.Executing.{InBlock}
+use Rattle.tx_exec.specs.Told.{job_of}
 use Rattle.tx_exec.specs.Transaction.{transaction}
 use Rattle.tx_exec.specs.TransactionLaws.{IsSmallOutcome, Keeps, WritesFit}
 
@@ -24,3 +27,6 @@ transaction_fits block t values is count = ?
 
 pub outcome_is_small : (block : InBlock) (t : Chosen) (values : List Account) → IsChosen t → IsSmallOutcome (transaction block t values).outcome
 outcome_is_small block t values is = ?
+
+pub works_are_lawful : (told : Told) → All IsChosen told.chosen → IsLawful (job_of told)
+works_are_lawful told all = ?

@@ -1,7 +1,7 @@
 -- The record at the end of a block, and the snapshot after it.
 use Rattle.std.proofs.Common.{◌≡◌, ◌≤◌, ◌<◌, ◌+◌, ◌-◌, ◌^◌, ◌∷◌, [], ℕ, zero, suc, Bool, true, false, cond, List, length, take, map, Option, Some, None, All, refl, sym, ap, subst, ◌∙◌, arith}
 use Rattle.std.specs.Prelude.{min, sum_by}
-use Rattle.std.specs.List.{AllByRecursion, filter_map, zip}
+use Rattle.std.specs.List.{AllByRecursion, cons_option, filter_map, zip}
 use Rattle.std.specs.FinMap.Entries.{by_order}
 use Rattle.std.specs.declared.cmp.Ordering.{Ordering}
 use Rattle.std.specs.declared.cmp.Ordering.TheVariants.{Less, Equal, Greater}

@@ -23,8 +23,8 @@ use Rattle.tx_exec.specs.Executing.{locks}
 use Rattle.tx_exec.specs.Told.{block_of, effects_at, job_of, locks_at}
 use Rattle.tx_exec.specs.Transaction.{settled, transaction, written}
 use Rattle.tx_exec.specs.TransactionLaws.{Keeps}
-use Rattle.tx_exec.proofs.Works.{at_position, works_are_lawful}
-use Rattle.block_run.proofs.Below.{transaction_keeps}
+use Rattle.block_run.proofs.Below.{transaction_keeps, works_are_lawful}
+use Rattle.block_run.proofs.Positions.{at_position}
 
 -- the keys of the write locks
 abbrev written_keys : List Lock → List Key
@@ -44,13 +44,10 @@ later f key lock v ls after p same = record { place = suc p.place; value = p.val
 placed : (f : Key → Account) (key : Key) (ls : List Lock) (after : List Account) → length after ≡ length ls → has_key key (written_keys ls) ≡ true → Placed f key ls after
 placed f key [] after count has = absurd (cc)
 placed f key (lock ∷ ls) [] count has = absurd (omega (arith, count))
-placed f key (lock ∷ ls) (v ∷ after) count has = by_write lock.write refl has
+placed f key (lock ∷ ls) (v ∷ after) count has = by_write (placed f key ls after (omega (arith, count))) lock.write refl has
   where
-    shorter : length after ≡ length ls
-    shorter = omega (arith, count)
-
-    by_key : lock.write ≡ true → (b : Bool) → same_key key lock.key ≡ b → (b || has_key key (written_keys ls)) ≡ true → Placed f key (lock ∷ ls) (v ∷ after)
-    by_key w true same h = record {
+    by_key : (has_key key (written_keys ls) ≡ true → Placed f key ls after) → lock.write ≡ true → (b : Bool) → same_key key lock.key ≡ b → (b || has_key key (written_keys ls)) ≡ true → Placed f key (lock ∷ ls) (v ∷ after)
+    by_key rest w true same h = record {
       place = 0;
       value = v;
       before = ap (λ (k : Key). Some (f k)) (sym (same_key-true key lock.key same));
@@ -59,13 +56,13 @@ placed f key (lock ∷ ls) (v ∷ after) count has = by_write lock.write refl ha
           ap (λ (b : Bool). beside key (lock_keys (cond b (lock ∷ filter (λ lock. lock.write) ls) (filter (λ lock. lock.write) ls))) (map settled (cond b (v ∷ lent_for_writing ls after) (lent_for_writing ls after)))) w
           ∙ ap (λ (b : Bool). cond b (settled v) (beside key (written_keys ls) (map settled (lent_for_writing ls after)))) same;
     }
-    by_key w false apart h = later f key lock v ls after (placed f key ls after shorter h)
+    by_key rest w false apart h = later f key lock v ls after (rest h)
         (ap (λ (b : Bool). beside key (lock_keys (cond b (lock ∷ filter (λ lock. lock.write) ls) (filter (λ lock. lock.write) ls))) (map settled (cond b (v ∷ lent_for_writing ls after) (lent_for_writing ls after)))) w
         ∙ ap (λ (b : Bool). cond b (settled v) (beside key (written_keys ls) (map settled (lent_for_writing ls after)))) apart)
 
-    by_write : (b : Bool) → lock.write ≡ b → has_key key (lock_keys (cond b (lock ∷ filter (λ lock. lock.write) ls) (filter (λ lock. lock.write) ls))) ≡ true → Placed f key (lock ∷ ls) (v ∷ after)
-    by_write true w h = by_key w (same_key key lock.key) refl h
-    by_write false w h = later f key lock v ls after (placed f key ls after shorter h)
+    by_write : (has_key key (written_keys ls) ≡ true → Placed f key ls after) → (b : Bool) → lock.write ≡ b → has_key key (lock_keys (cond b (lock ∷ filter (λ lock. lock.write) ls) (filter (λ lock. lock.write) ls))) ≡ true → Placed f key (lock ∷ ls) (v ∷ after)
+    by_write rest true w h = by_key rest w (same_key key lock.key) refl h
+    by_write rest false w h = later f key lock v ls after (rest h)
         (ap (λ (b : Bool). beside key (lock_keys (cond b (lock ∷ filter (λ lock. lock.write) ls) (filter (λ lock. lock.write) ls))) (map settled (cond b (v ∷ lent_for_writing ls after) (lent_for_writing ls after)))) w)
 
 -- an executable account is not the empty one

@@ -3,6 +3,8 @@ pub mod Positions
 pub mod Runs
 pub mod Activating
 pub mod Sorting
+pub mod Beside
 pub mod Orders
 pub mod Closings
 pub mod Executables
+pub mod Turns

@@ -1,12 +1,12 @@
 -- What holds of each position of the transactions of a block.
 use Rattle.std.proofs.Common.{◌≡◌, ◌≤◌, ◌<◌, ◌+◌, ◌*◌, ◌^◌, ◌∷◌, [], ◌++◌, ℕ, zero, suc, Bool, true, false, cond, List, length, map, filter, Option, Some, None, All, refl, sym, ap, subst, ◌∙◌, arith, length-append}
-use Rattle.std.specs.Prelude.{slice_get}
+use Rattle.std.specs.Prelude.{slice_get, sum_by}
 use Rattle.std.proofs.lemmas.List.{length-map}
 use Rattle.sol_base.specs.declared.key.Key.{Key}
 use Rattle.sol_base.specs.declared.account.Account.{Account}
 use Rattle.sol_base.specs.declared.lock.Lock.{Lock}
 use Rattle.sol_base.specs.Accounts.{lamports_in}
-use Rattle.message_codec.specs.Roles.{all_keys, locks_of}
+use Rattle.message_codec.specs.Roles.{all_keys, load_count, locks_of}
 use Rattle.message_codec.proofs.RoleLaws.{lock_count}
 use Rattle.bank_law.specs.Job.{Job, JobEffects, keys, lock_keys, write_keys}
 use Rattle.bank_law.specs.Lawful.{lent_for_writing}
@@ -17,18 +17,27 @@ use Rattle.tx_exec.specs.declared.told.Told.{Told}
 use Rattle.tx_exec.specs.Told.{block_of, effects_at, job_of, locks_at}
 use Rattle.tx_exec.specs.Transaction.{transaction}
 use Rattle.tx_exec.specs.TransactionLaws.{IsSmallOutcome}
-use Rattle.tx_exec.proofs.Works.{at_position}
 use Rattle.block_run.proofs.Below.{outcome_is_small, transaction_fits}
+
+-- a position below the count has its transaction
+there : (chosen : List Chosen) (i : ℕ) → i < length chosen → All IsChosen chosen → (t : Chosen) × (slice_get chosen i ≡ Some t) × IsChosen t
+there [] i below all = absurd (omega (arith, below))
+there (t ∷ ts) zero below all = (t, refl, all zero t (omega arith))
+there (t ∷ ts) (suc i) below all = there ts i (omega (arith, below)) (λ k d l. all (suc k) d (omega (arith, l)))
+
+-- what holds of each transaction holds of its position
+pub at_position : (told : Told) → All IsChosen told.chosen → (P : Option Chosen → Type 0) → ((t : Chosen) → IsChosen t → P (Some t)) → (i : ℕ) → i < length told.chosen → P (slice_get told.chosen i)
+at_position told all P each i below = let x = there told.chosen i below all in subst P (sym x.1) (each x.0 x.2)
 
 -- a transaction has at most 128 locks
 few_locks : (t : Chosen) → IsChosen t → length t.locks ≤ 128
 few_locks t is =
     let a = ap length is.locked in
     let b = lock_count t.tx.message t.loaded in
-    let c = length-append t.tx.message.keys (t.loaded.writable ++ t.loaded.readonly) in
-    let d = length-append t.loaded.writable t.loaded.readonly in
-    let e = is.loaded in
-    let f = is.sane.keys in
+    let c : length (all_keys t.tx.message t.loaded) ≡ length (t.tx.message.keys ++ t.loaded.writable) + length t.loaded.readonly = length-append (t.tx.message.keys ++ t.loaded.writable) t.loaded.readonly in
+    let d = length-append t.tx.message.keys t.loaded.writable in
+    let e : length t.loaded.writable + length t.loaded.readonly ≡ sum_by load_count t.tx.message.lookups = is.loaded in
+    let f : length t.tx.message.keys + sum_by load_count t.tx.message.lookups ≤ 128 = is.sane.keys in
     omega (arith, a, b, c, d, e, f)
 
 -- what effects paid

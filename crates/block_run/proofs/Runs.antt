@@ -1,8 +1,8 @@
 -- The serial run of the transactions of a block: the lamports that it pays, and the accounts that it adds.
-use Rattle.std.proofs.Common.{◌≡◌, ◌≤◌, ◌<◌, ◌+◌, ◌-◌, ◌*◌, ◌^◌, ◌∷◌, [], ◌++◌, ℕ, zero, suc, Bool, true, false, cond, List, length, map, Option, Some, None, All, refl, sym, ap, subst, ◌∙◌, add-one, arith}
+use Rattle.std.proofs.Common.{◌≡◌, ◌≤◌, ◌<◌, ◌+◌, ◌-◌, ◌==◌, ◌*◌, ◌^◌, ◌∷◌, [], ◌++◌, ℕ, zero, suc, Bool, true, false, cond, List, length, map, Option, Some, None, All, refl, sym, ap, subst, ◌∙◌, add-one, arith}
 use Rattle.std.specs.Prelude.{sum_by}
 use Rattle.std.specs.List.{range_with_len}
-use Rattle.std.specs.FinMap.{FinMap, contains_key, len-insert, len-remove} as map
+use Rattle.std.specs.FinMap as map
 use Rattle.std.proofs.lemmas.List.{length-map}
 use Rattle.std.proofs.lemmas.List.FromFn.{length-map-range_with_len, sum_by-map-range_with_len_more, get_or-map-range_with_len}
 use Rattle.sol_base.specs.declared.key.Key.{Key}
@@ -25,10 +25,10 @@ use Rattle.admission.specs.Chosen.{IsChosen}
 use Rattle.tx_exec.specs.declared.told.Told.{Told}
 use Rattle.tx_exec.specs.Told.{job_of}
 use Rattle.tx_exec.specs.TransactionLaws.{IsSmallOutcome}
-use Rattle.tx_exec.proofs.Works.{works_are_lawful}
 use Rattle.block_run.specs.SerialRun.{Ran, ran, serial_run, told_in}
 use Rattle.block_run.specs.BlockEnd.{base_fees, priority_fees}
 use Rattle.block_run.specs.Ending.{AreOf, MayEnd}
+use Rattle.block_run.proofs.Below.{works_are_lawful}
 use Rattle.block_run.proofs.Positions.{locks_most, paid_in, position_is_small, position_pays, written_keys_few}
 
 -- ---- how many accounts there are
@@ -82,21 +82,27 @@ module _ (told : Told) (all : All IsChosen told.chosen) (start : State) (is : Is
       let b = position_pays told all n l vs (length-map (keys (job_of told) n) (serial (job_of told) (at start) n) ∙ length-map ((job_of told).locks n) (λ (lock : Lock). lock.key)) in
       omega (arith, a, b)
 
+  more_paid : (paid : Outcome → ℕ) (n : ℕ) → sum_by paid (outcomes_to (suc n)) ≡ sum_by paid (outcomes_to n) + paid (result (job_of told) (at start) n)
+  more_paid paid n =
+      let z : 0 + n ≡ n = omega arith in
+      subst (λ m. sum_by paid (map (result (job_of told) (at start)) (range_with_len 0 m)) ≡ sum_by paid (map (result (job_of told) (at start)) (range_with_len 0 n)) + paid (result (job_of told) (at start) n)) (add-one n)
+      (sum_by-map-range_with_len_more paid (result (job_of told) (at start)) 0 n n z)
+
   -- and all of them theirs
   pub pays_all : (n : ℕ) → n ≤ length told.chosen
       → sum (serial_state (job_of told) start n) + base_fees (outcomes_to n) + priority_fees (outcomes_to n) ≡ sum start
-  pays_all zero l = refl
+  pays_all zero l = omega arith
   pays_all (suc n) l =
       let one = pays_once n (omega (arith, l)) in
       let rest = pays_all n (omega (arith, l)) in
-      let b = sum_by-map-range_with_len_more (λ (o : Outcome). o.base_paid) (result (job_of told) (at start)) 0 n n refl in
-      let p = sum_by-map-range_with_len_more (λ (o : Outcome). o.priority_paid) (result (job_of told) (at start)) 0 n n refl in
+      let b = more_paid (λ (o : Outcome). o.base_paid) n in
+      let p = more_paid (λ (o : Outcome). o.priority_paid) n in
       omega (arith, one, rest, b, p)
 
   pub all_small : All IsSmallOutcome (serial_outcomes (job_of told) (at start))
   all_small i d l =
       let here : i < length told.chosen = omega (arith, l, length-map-range_with_len (result (job_of told) (at start)) 0 (length told.chosen)) in
-      subst IsSmallOutcome (sym (get_or-map-range_with_len (result (job_of told) (at start)) 0 (length told.chosen) i i d here refl))
+      subst IsSmallOutcome (sym (get_or-map-range_with_len (result (job_of told) (at start)) 0 (length told.chosen) i i d here (omega arith)))
       (position_is_small told all i here (map (serial (job_of told) (at start) i) (keys (job_of told) i)))
 
 -- a block may end with the serial run of its transactions
@@ -106,7 +112,7 @@ run_may_end s slot wires order readable all of =
     let told = told_in s slot order in
     let n = length order in
     record {
-      order = of;
+      of = of;
       one_each = length-map-range_with_len (result (job_of told) (at s.accounts)) 0 n;
       small = all_small told all s.accounts readable.state;
       state = serial_states (job_of told) s.accounts (works_are_lawful told all) readable.state n (omega arith);

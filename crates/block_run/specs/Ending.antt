@@ -20,7 +20,7 @@ pub record AreOf (wires : List (List ℕ)) (order : List Chosen) : Type 0 where
 -- transactions of a batch, and a run of them that a block may end with: an outcome for each, all of
 -- them small; fees that were taken out of the accounts; and accounts that can be counted
 pub record MayEnd (wires : List (List ℕ)) (order : List Chosen) (ran : Ran) : Type 0 where
-  pub order : AreOf wires order
+  pub of : AreOf wires order
   pub one_each : length ran.outcomes ≡ length order
   pub small : All IsSmallOutcome ran.outcomes
   pub state : IsState ran.accounts

@@ -43,8 +43,9 @@ pub(crate) fn entries_of(
     ensures { IfOk result (λ entries. entries ≡ entries_of wires.now order.now outcomes) }
 {
     let mut entries = Items::with_capacity(alloc, order.len())?;
-    for (at, outcome) in outcomes.into_vec().into_iter().enumerate() {
-        entries.push(entry_of(wires, &order[at], outcome)?)?;
+    for outcome in outcomes.into_vec() {
+        let chosen = &order[entries.len()];
+        entries.push(entry_of(wires, chosen, outcome)?)?;
     }
     Ok(entries)
 }

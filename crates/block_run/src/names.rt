@@ -1,5 +1,5 @@
 //! The names of the messages that a block processed.
-ghost use Rattle.std.specs.Prelude.{◌≡◌, IfOk};
+ghost use Rattle.std.specs.Prelude.{◌≡◌, IfOk, length};
 ghost use Rattle.status_cache.specs.Recent.{Ascends};
 ghost use Rattle.block_run.specs.Blocks.{ascending, processed_by, processed_in};
 
@@ -25,13 +25,16 @@ fn processed_in(
     order: &[Chosen],
     outcomes: &[Outcome],
 ) -> Result<Vec<Hash32>, OutOfMemory>
+    requires { length outcomes.now ≡ length order.now }
     ensures { IfOk result (λ names. names.items ≡ processed_in order.now outcomes.now) }
 {
-    Ok(order
-        .iter()
-        .zip(outcomes)
-        .filter_map(|(chosen, outcome)| processed_by(chosen.name, &outcome.status))
-        .collect(alloc)?)
+    let mut names = Vec::new(alloc);
+    for (at, chosen) in order.iter().enumerate() {
+        if let Some(name) = processed_by(chosen.name, &outcomes[at].status) {
+            names.push(name)?;
+        }
+    }
+    Ok(names)
 }
 
 /// The names in ascending order.
@@ -52,6 +55,7 @@ pub(crate) fn processed_names(
     order: &[Chosen],
     outcomes: &[Outcome],
 ) -> Result<Items<Hash32>, OutOfMemory>
+    requires { length outcomes.now ≡ length order.now }
     ensures exact { IfOk result (λ names. names ≡ ascending (processed_in order.now outcomes.now)) }
     ensures ascends { IfOk result Ascends }
 {
