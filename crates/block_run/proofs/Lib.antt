@@ -8,3 +8,5 @@ pub mod Orders
 pub mod Closings
 pub mod Executables
 pub mod Turns
+pub mod Calls
+pub mod Conserved

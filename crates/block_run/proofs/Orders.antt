@@ -14,6 +14,11 @@ length-take-le zero xs = omega arith
 length-take-le (suc n) [] = omega arith
 length-take-le (suc n) (x ∷ xs) = let rest = length-take-le n xs in omega (arith, rest)
 
+pub length-take-least : {X : Type 0} (n : ℕ) (xs : List X) → length (take n xs) ≤ n
+length-take-least zero xs = omega arith
+length-take-least (suc n) [] = omega arith
+length-take-least (suc n) (x ∷ xs) = let rest = length-take-least n xs in omega (arith, rest)
+
 -- those that run are of their wires
 pub parted_are_of : (wires : List (List ℕ)) (answer : Admitted) → length wires ≤ 16384 → IsParted wires answer → AreOf wires answer.order
 parted_are_of wires answer few parted = record {

@@ -3,3 +3,4 @@ pub mod BlockEnd
 pub mod Blocks
 pub mod Activation
 pub mod Ending
+pub mod Laws

@@ -8,11 +8,13 @@ mod closing;
 mod entries;
 mod fees;
 mod lanes;
+mod laws;
 mod names;
 mod order;
 mod run;
 
 pub use block::{BlockResult, Closed, Head};
+pub use laws::{activated_programs_are_ready, executable_accounts_stay, lamports_are_conserved};
 pub use run::{run_block, run_listed, run_parsed};
 
 #[cfg(test)]
