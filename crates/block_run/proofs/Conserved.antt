@@ -147,7 +147,7 @@ shared_fees_before s collector outcomes key a executable e = shared_before s col
 ready_after : (t : State) (key : Key) (was account : Account) → get (activate_all t) key ≡ Some account → IsActivated was account → IsReadyUnder (activate_all t) key
 ready_after t key was account there is =
     let program : IsProgramOf (activate_all t) key (ready_image is.image) =
-        record { account = account; image = is.image; there = there; executable = is.executable; read = is.holds; verified = is.verified; ready_as = refl } in
+    record { account = account; image = is.image; there = there; executable = is.executable; read = is.holds; verified = is.verified; ready_as = refl } in
     record { image = ready_image is.image; program = program; found = program_is_ready (activate_all t) key (ready_image is.image) program }
 
 -- an executable account after activation was there before, or it is a program that is ready

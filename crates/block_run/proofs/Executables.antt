@@ -177,6 +177,7 @@ module _ (told : Told) (all : All IsChosen told.chosen) (start : State) (is : Is
       → (get (serial_state (job_of told) start n) key ≡ Some a) ↔ (get start key ≡ Some a)
   executable_stay n l key a executable =
       let same = states_run (job_of told) start (works_are_lawful told all) is n l key in
-      let stays = stays_all n l key a executable in
-      (λ e. there_if start key a executable (stays.0 (sym same ∙ ap (λ (o : Option Account). unwrap_or o empty_account) e)),
-      λ e. there_if (serial_state (job_of told) start n) key a executable (same ∙ stays.1 (ap (λ (o : Option Account). unwrap_or o empty_account) e)))
+      let stays = stays_all n l key a executable in (
+        λ e. there_if start key a executable (stays.0 (sym same ∙ ap (λ (o : Option Account). unwrap_or o empty_account) e)),
+        λ e. there_if (serial_state (job_of told) start n) key a executable (same ∙ stays.1 (ap (λ (o : Option Account). unwrap_or o empty_account) e)),
+      )

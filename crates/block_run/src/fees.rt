@@ -94,7 +94,10 @@ fn share(
 ) -> Result<Shared, OutOfMemory>
     requires { sum accounts + split.burned + split.rest < 2 ^ 64 }
     ensures { IfOk result (λ shared. (record {
-        accounts = shared.accounts; burned = shared.burned; collected = shared.collected })
+      accounts = shared.accounts;
+      burned = shared.burned;
+      collected = shared.collected;
+    })
         ≡ share accounts collector.now split) }
 {
     let FeeSplit { burned, rest } = split;
@@ -126,7 +129,10 @@ pub(crate) fn share_fees(
 ) -> Result<Shared, OutOfMemory>
     requires { sum accounts + base_fees outcomes.now + priority_fees outcomes.now < 2 ^ 64 }
     ensures { IfOk result (λ shared. (record {
-        accounts = shared.accounts; burned = shared.burned; collected = shared.collected })
+      accounts = shared.accounts;
+      burned = shared.burned;
+      collected = shared.collected;
+    })
         ≡ share_fees accounts collector.now outcomes.now) }
 {
     share(alloc, accounts, collector, split_paid(outcomes))

@@ -17,11 +17,7 @@ use std::thread::Threads;
 
 /// Takes, passes the gate, performs and commits on the one lane of a core, until all positions are
 /// done. Where the work finds no memory the loan goes back, and the run ends.
-fn run_alone<W: Work, G: Gate>(
-    core: &mut Core<W>,
-    work: &W,
-    gate: &G,
-) -> Result<(), OutOfMemory>
+fn run_alone<W: Work, G: Gate>(core: &mut Core<W>, work: &W, gate: &G) -> Result<(), OutOfMemory>
     requires one { core.old.lanes ≡ 1 }
     requires told { core.old.origin.value.told ≡ W.told work.now }
     requires journal { core.old.journal.items ≡ [] }

@@ -209,8 +209,9 @@ pub fn run_listed<G: Gate, R: Threads + Wait + Sync>(
         collector: given.collector,
     };
     let order = before_refused(order, refused.as_slice());
-    let Closed { block, after: _ } =
-        run_order(rt, alloc, snapshot, &head, &wires, order, lanes, gate)?;
+    let Closed { block, after: _ } = run_order(
+        rt, alloc, snapshot, &head, &wires, order, lanes, gate,
+    )?;
     Ok(Listed {
         block,
         halted: !refused.is_empty(),

@@ -1,7 +1,6 @@
 //! Examples "two transfers", "two lanes at once", "no barrier" and "deploy a program", a block whose
 //! entries halt, and a block of wires that were read before.
-ghost use Rattle.std.specs.Prelude.{◌≡◌, ◌<◌, ◌≤◌, IfOk, length};
-ghost use Rattle.snapshot_codec.specs.Snapshot.{IsReadable};
+ghost use Rattle.std.specs.Prelude.{◌≤◌, length};
 
 use crate::{BlockResult, run_block, run_listed, run_parsed};
 use bank_lanes::{Gate, OpenGate};
@@ -10,9 +9,11 @@ use message_codec::parse;
 use snapshot_codec::{Batch, Prefix, Snapshot, read_batch, read_snapshot};
 use sol_base::{Blob, Hash32, Items, Key, OutOfMemory};
 use std::alloc::Global;
+use std::sync::Wait;
 use std::sync::atomic::{AtomicBool, Ordering};
 use std::test::Fail;
 use std::thread;
+use std::thread::Threads;
 use tx_report::Status;
 
 /// What a snapshot of version 1 with slot 7 and one mark begins with, up to its accounts.
@@ -66,7 +67,9 @@ fn append_final(out: &mut Blob, key: u8) -> Result<(), OutOfMemory> {
 
 /// Two wallets of two billion lamports, the collector, and these transfers of payer, destination and
 /// lamports.
-fn transfers_of(alloc: Global, transfers: &[(u8, u8, u64)]) -> Result<Blob, OutOfMemory> {
+fn transfers_of(alloc: Global, transfers: &[(u8, u8, u64)]) -> Result<Blob, OutOfMemory>
+    requires { length transfers.now ≤ 16384 }
+{
     let mut input = Blob::new(alloc);
     begin_snapshot(&mut input, 3)?;
     append_wallet(&mut input, 1, 2_000_000_000)?;
@@ -83,8 +86,8 @@ fn transfers_of(alloc: Global, transfers: &[(u8, u8, u64)]) -> Result<Blob, OutO
 const TWO_TRANSFERS: [(u8, u8, u64); 2] = [(1, 0x11, 1_000_000_000), (2, 0x12, 1_000_000_000)];
 
 /// Runs the batch that follows the snapshot.
-fn run<G: Gate>(
-    rt: &HostRuntime,
+fn run<G: Gate, R: Threads + Wait + Sync>(
+    rt: &R,
     alloc: Global,
     input: &[u8],
     lanes: u32,
@@ -248,7 +251,7 @@ fn entry_of(alloc: Global, wire: &[u8]) -> Result<Entry, OutOfMemory> {
 }
 
 /// Lists the first transfer once, and then again if it is to halt.
-fn listed(rt: &HostRuntime, alloc: Global, twice: bool) -> Result<Listed, Fail> {
+fn listed<R: Threads + Wait + Sync>(rt: &R, alloc: Global, twice: bool) -> Result<Listed, Fail> {
     let mut wire = Blob::new(alloc);
     append_transfer(&mut wire, 1, 0x11, 1_000_000_000)?;
     let mut entries = Items::new(alloc);
@@ -285,7 +288,7 @@ fn a_repeated_entry_halts(rt: HostRuntime) -> Result<(), Fail> {
 }
 
 /// A batch of one transfer, whose wire was read before.
-fn read_before(rt: &HostRuntime, alloc: Global) -> Result<BlockResult, Fail> {
+fn read_before<R: Threads + Wait + Sync>(rt: &R, alloc: Global) -> Result<BlockResult, Fail> {
     let mut wire = Blob::new(alloc);
     append_transfer(&mut wire, 1, 0x11, 1_000_000_000)?;
     let mut parsed = Items::new(alloc);

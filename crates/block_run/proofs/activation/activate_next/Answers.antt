@@ -4,7 +4,7 @@ use Rattle.std.specs.Option.{option_copied}
 use Rattle.sol_base.specs.declared.key.Key.{Key}
 use Rattle.sol_base.specs.declared.account.Account.{Account}
 use Rattle.sol_base.specs.Accounts.{IsShort}
-use Rattle.account_store.specs.State.{State, put, sum}
+use Rattle.account_store.specs.State.{put, sum}
 use Rattle.loader_prog.specs.Loader.{activated}
 use Rattle.block_run.specs.Activation.{activated_at}
 use Rattle.block_run.proofs.Activating.{activated_fits, activated_short, next_held, no_value, none_activated}

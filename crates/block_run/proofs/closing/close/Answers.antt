@@ -12,7 +12,7 @@ pub state_hash-requires : goal.state_hash-requires
 state_hash-requires c =
     let shares = ap (λ (s : Shares). s.accounts) c.in_ok-accounts.ensures in
     let e : c.in_ok-accounts-2.accounts ≡ activate_all (share_fees c.args.run.accounts c.args.head.now.collector c.args.run.outcomes).accounts =
-        c.in_ok-accounts-2.ensures ∙ ap activate_all (shares ∙ ap (λ (os : List Outcome). (share_fees c.args.run.accounts c.args.head.now.collector os).accounts) c.as_slice-2.ensures) in
+    c.in_ok-accounts-2.ensures ∙ ap activate_all (shares ∙ ap (λ (os : List Outcome). (share_fees c.args.run.accounts c.args.head.now.collector os).accounts) c.as_slice-2.ensures) in
     subst (λ (s : State). len s < 2 ^ 32) (sym e) (accounts_few c.args.run.accounts c.args.head.now.collector c.args.run.outcomes c.requires.run.room)
 
 pub seal-requires : goal.seal-requires
@@ -24,7 +24,7 @@ pub returns-clause-writable : goal.returns-clause-writable
 returns-clause-writable c =
     let shares = ap (λ (s : Shares). s.accounts) c.in_ok-accounts.ensures in
     let e : c.in_ok-accounts-2.accounts ≡ activate_all (share_fees c.args.run.accounts c.args.head.now.collector c.args.run.outcomes).accounts =
-        c.in_ok-accounts-2.ensures ∙ ap activate_all (shares ∙ ap (λ (os : List Outcome). (share_fees c.args.run.accounts c.args.head.now.collector os).accounts) c.as_slice-2.ensures) in
+    c.in_ok-accounts-2.ensures ∙ ap activate_all (shares ∙ ap (λ (os : List Outcome). (share_fees c.args.run.accounts c.args.head.now.collector os).accounts) c.as_slice-2.ensures) in
     let one : length c.in_ok-names.names ≤ 16384 = subst (λ (ns : List Hash32). length ns ≤ 16384) (sym c.in_ok-names.ensures.exact) (names_few c.args.order.now _ c.requires.run.of.few) in
     record {
       limits = c.requires.limits;

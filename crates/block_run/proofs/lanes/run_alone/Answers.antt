@@ -1,4 +1,4 @@
-use Rattle.std.proofs.Common.{◌≡◌, ◌+◌, ◌-◌, ◌*◌, ◌<◌, length, sym, ap, subst, ◌∙◌}
+use Rattle.std.proofs.Common.{◌+◌, ◌-◌, ◌*◌, ◌<◌, length, sym, ap, subst, ◌∙◌}
 use Rattle.account_store.specs.State.{at}
 use Rattle.bank_law.specs.declared.event.EventKind.TheVariants.{Commit}
 use Rattle.bank_law.specs.History.{holds, own}
