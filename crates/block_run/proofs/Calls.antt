@@ -1,5 +1,5 @@
 -- From what was admitted to what the calls answer.
-use Rattle.std.proofs.Common.{◌≡◌, ◌≤◌, ◌<◌, ◌+◌, ◌↔◌, ◌∷◌, [], ℕ, Bool, true, false, not, List, length, map, take, All, Result, Ok, Err, refl, sym, ap, ap₂, subst, ◌∙◌, arith}
+use Rattle.std.proofs.Common.{◌≡◌, ◌≤◌, ◌<◌, ◌+◌, ◌∷◌, [], ℕ, Bool, true, false, List, length, map, take, All, Result, Ok, Err, refl, sym, ap, ap₂, subst, ◌∙◌, arith}
 use Rattle.std.specs.Prelude.{IfOk, MatchBool, min}
 use Rattle.std.specs.List.{zip}
 use Rattle.std.proofs.lemmas.List.{length-map}
@@ -84,21 +84,16 @@ listed_parted s wires answer readable is = subst (IsParted wires) (sym is) (by_p
 pub listed_are_of : (s : Snapshot) (wires : List (List ℕ)) (answer : Admitted) → IsReadable s → length wires ≤ 16384 → answer ≡ listed (start_in s) wires → AreOf wires answer.order
 listed_are_of s wires answer readable few is = parted_are_of wires answer few (listed_parted s wires answer readable is)
 
-halted_is : (refused : List Refused) (empty : Bool) → (empty ≡ true) ↔ (refused ≡ []) → not empty ≡ is_halted refused
-halted_is [] empty same = ap not (same.1 refl)
-halted_is (one ∷ others) true same = let e = same.0 refl in absurd (cc)
-halted_is (one ∷ others) false same = refl
-
 -- the head of a block that is run again
 abbrev pub head_again : Block → Head
 head_again given = record { slot = given.slot; collector = given.collector }
 
-pub listed_is : (s : Snapshot) (given : Block) (wires : List (List ℕ)) (answer : Admitted) (end : Closed) (empty : Bool) → wires ≡ wires_of given → answer ≡ listed (start_in s) wires
-    → end ≡ closed s (head_again given) wires (before_refused answer.refused answer.order) → (empty ≡ true) ↔ (answer.refused ≡ [])
-    → ◌≡◌ {A = Listed} (record { block = end.block; halted = not empty }) (listed_result s given)
+pub listed_is : (s : Snapshot) (given : Block) (wires : List (List ℕ)) (answer : Admitted) (end : Closed) (halted : Bool) → wires ≡ wires_of given → answer ≡ listed (start_in s) wires
+    → end ≡ closed s (head_again given) wires (before_refused answer.refused answer.order) → halted ≡ is_halted answer.refused
+    → ◌≡◌ {A = Listed} (record { block = end.block; halted = halted }) (listed_result s given)
 unfolding listed_result
-listed_is s given wires answer end empty read is ended same =
-    ap₂ (λ (e : Closed) (h : Bool). let r : Listed = record { block = e.block; halted = h } in r) ended (halted_is answer.refused empty same)
+listed_is s given wires answer end halted read is ended same =
+    ap₂ (λ (e : Closed) (h : Bool). let r : Listed = record { block = e.block; halted = h } in r) ended same
     ∙ ap (λ (a : Admitted). let r : Listed = record { block = (closed s (head_again given) wires (before_refused a.refused a.order)).block; halted = is_halted a.refused } in r) is
     ∙ ap (λ (w : List (List ℕ)). let a = listed (start_in s) w in let r : Listed = record { block = (closed s (head_again given) w (before_refused a.refused a.order)).block; halted = is_halted a.refused } in r) read
 
@@ -111,13 +106,13 @@ cut_by wires order (one ∷ others) count all below is =
     let b = All-head (λ (one : Refused). one.position < length wires) one others below in
     omega (arith, l, b, is)
 
-pub listed_cut : (s : Snapshot) (given : Block) (wires : List (List ℕ)) (answer : Admitted) (end : Closed) (empty : Bool) → IsReadable s → wires ≡ wires_of given → answer ≡ listed (start_in s) wires
-    → end ≡ closed s (head_again given) wires (before_refused answer.refused answer.order) → (empty ≡ true) ↔ (answer.refused ≡ [])
-    → MatchBool (not empty) (length end.block.entries < length given.entries) (length end.block.entries ≡ length given.entries)
-listed_cut s given wires answer end empty readable read is ended same =
+pub listed_cut : (s : Snapshot) (given : Block) (wires : List (List ℕ)) (answer : Admitted) (end : Closed) (halted : Bool) → IsReadable s → wires ≡ wires_of given → answer ≡ listed (start_in s) wires
+    → end ≡ closed s (head_again given) wires (before_refused answer.refused answer.order) → halted ≡ is_halted answer.refused
+    → MatchBool halted (length end.block.entries < length given.entries) (length end.block.entries ≡ length given.entries)
+listed_cut s given wires answer end halted readable read is ended same =
     let parted = listed_parted s wires answer readable is in
     let entries = ap (λ (e : Closed). length e.block.entries) ended ∙ entry_each s (head_again given) wires (before_refused answer.refused answer.order) in
     let long = ap length read ∙ length-map given.entries (λ (entry : Entry). entry.wire) in
-    subst (λ (h : Bool). MatchBool h (length end.block.entries < length given.entries) (length end.block.entries ≡ length given.entries)) (sym (halted_is answer.refused empty same))
+    subst (λ (h : Bool). MatchBool h (length end.block.entries < length given.entries) (length end.block.entries ≡ length given.entries)) (sym same)
     (subst (λ n. MatchBool (is_halted answer.refused) (length end.block.entries < n) (length end.block.entries ≡ n)) long
     (cut_by wires answer.order answer.refused (length end.block.entries) parted.count parted.below entries))

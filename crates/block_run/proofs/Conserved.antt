@@ -123,9 +123,6 @@ kept_is a b = by_case (a.lamports == 0)
 shared_before : (s : State) (collector : Key) (split : FeeSplit) (key : Key) (a : Account) → a.executable ≡ true → get (share s collector split).accounts key ≡ Some a → get s key ≡ Some a
 shared_before s collector split key a executable = by_case (not (split.rest == 0) && may_collect collector (more (at s collector) split.rest)) refl
   where
-    paid : Account
-    paid = more (at s collector) split.rest
-
     by_key : may_collect collector (more (at s collector) split.rest) ≡ true → (b : Bool) → cond b (kept (more (at s collector) split.rest)) (get s key) ≡ Some a → get s key ≡ Some a
     by_key may true e =
         let same = kept_is (more (at s collector) split.rest) a e in

@@ -85,19 +85,12 @@ stays_settled a executable fine = by_case (a.lamports == 0) refl
 
 -- ---- one transaction
 module _ (told : Told) (t : Chosen) (is : IsChosen t) (f : Key → Account) (fine : (key : Key) → IsSettled (f key)) (key : Key) where
-  vs : List Account
-  vs = map f (lock_keys t.locks)
-
   keeps : Keeps t (map f (lock_keys t.locks)) (transaction (block_of told) t (map f (lock_keys t.locks)))
   keeps = transaction_keeps (block_of told) t (map f (lock_keys t.locks)) is
       (length-map (lock_keys t.locks) f ∙ length-map t.locks (λ (lock : Lock). lock.key) ∙ ap length is.locked ∙ lock_count t.tx.message t.loaded)
 
   count : length (transaction (block_of told) t (map f (lock_keys t.locks))).values ≡ length t.locks
   count = keeps.count ∙ length-map (lock_keys t.locks) f ∙ length-map t.locks (λ (lock : Lock). lock.key)
-
-  -- what stands beside a written key
-  abbrev after : Account
-  after = beside key (written_keys t.locks) (effects_at (block_of told) (Some t) (map f (lock_keys t.locks))).written
 
   by_locks : (effects_at (block_of told) (Some t) (map f (lock_keys t.locks))).written ≡ map settled (lent_for_writing t.locks (transaction (block_of told) t (map f (lock_keys t.locks))).values)
   by_locks = ap (λ (ls : List Lock). map settled (lent_for_writing ls (transaction (block_of told) t (map f (lock_keys t.locks))).values)) (sym is.locked)
@@ -130,9 +123,6 @@ module _ (told : Told) (t : Chosen) (is : IsChosen t) (f : Key → Account) (fin
 
 -- ---- the serial run
 module _ (told : Told) (all : All IsChosen told.chosen) (start : State) (is : IsState start) where
-  run : ℕ → Key → Account
-  run n = serial (job_of told) (at start) n
-
   fine_run : (n : ℕ) → n ≤ length told.chosen → (key : Key) → IsSettled (serial (job_of told) (at start) n key)
   fine_run n l key =
       subst IsSettled (states_run (job_of told) start (works_are_lawful told all) is n l key)

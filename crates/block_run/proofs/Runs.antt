@@ -53,9 +53,6 @@ len-put_each s (k ∷ ks) [] = omega arith
 len-put_each s (k ∷ ks) (v ∷ vs) = let a = len-put s k v in let b = len-put_each (put s k v) ks vs in omega (arith, a, b)
 
 module _ (told : Told) (all : All IsChosen told.chosen) (start : State) (is : IsState start) where
-  abbrev job : Job
-  job = job_of told
-
   W : IsLawful (job_of told)
   W = works_are_lawful told all
 

@@ -10,7 +10,6 @@ use Rattle.bank_law.specs.Machine.{IsLegal, with_event}
 use Rattle.bank_law.specs.History.{holds, own, returns}
 use Rattle.bank_law.proofs.Counts.{short}
 use Rattle.bank_law.proofs.Histories.{returns_push}
-use Rattle.bank_core.specs.Takes.{SomeLaneHolds}
 use Rattle.bank_core.proofs.Seats.{grown_holds, grown_returns}
 
 -- the lane holds nothing, and nothing was given back
@@ -18,9 +17,6 @@ pub record IsAlone (journal : List Event) : Type 0 where
   pub free : holds (own journal 0) ≡ None
   pub once : returns (own journal 0) ≡ 0
   pub none : returns journal ≡ 0
-
-pub begins_alone : (journal : List Event) → journal ≡ [] → IsAlone journal
-begins_alone journal e = subst IsAlone (sym e) (record { free = refl; once = refl; none = refl })
 
 -- a loan of the lane, and then its effects
 module _ (journal lent : List Event) (p : ℕ) (alone : IsAlone journal) (grant : lent ≡ with_event journal Grant 0 p) where
@@ -48,11 +44,3 @@ module _ (journal lent : List Event) (p : ℕ) (alone : IsAlone journal) (grant 
         let c = ap length grant ∙ length-append journal (record { kind = Grant; lane = 0; position = p } ∷ []) in
         let d = ap length commit ∙ length-append lent (record { kind = Commit; lane = 0; position = p } ∷ []) in
         omega (arith, a, b, c, d)
-
--- no other lane holds anything
-pub none_else : (journal : List Event) → IsAlone journal → SomeLaneHolds 1 journal → ⊥
-none_else journal alone some =
-    let first : some.lane ≡ 0 = (let b = some.below in omega (arith, b)) in
-    let held = some.is_held in
-    let free = ap (λ lane. holds (own journal lane)) first ∙ alone.free in
-    absurd (cc)

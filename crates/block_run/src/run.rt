@@ -177,6 +177,13 @@ fn before_refused(order: Items<Chosen>, refused: &[Refused]) -> Items<Chosen>
     Items::from_vec(order)
 }
 
+/// Whether one is refused.
+fn is_halted(refused: &[Refused]) -> bool
+    ensures { result ≡ is_halted refused.now }
+{
+    !refused.is_empty()
+}
+
 /// Runs the entries of a block again, in their order, up to the first that is not admitted.
 pub fn run_listed<G: Gate, R: Threads + Wait + Sync>(
     rt: &R,
@@ -214,6 +221,6 @@ pub fn run_listed<G: Gate, R: Threads + Wait + Sync>(
     )?;
     Ok(Listed {
         block,
-        halted: !refused.is_empty(),
+        halted: is_halted(refused.as_slice()),
     })
 }
