@@ -1,3 +1,6 @@
 pub mod SerialRun
 pub mod BlockEnd
 pub mod Blocks
+pub mod Activation
+pub mod Ending
+pub mod Laws

@@ -2,8 +2,20 @@
 //! and its record and the snapshot after it.
 #![tactic(auto)]
 
+mod activation;
 mod block;
+mod closing;
+mod entries;
+mod fees;
+mod lanes;
+mod laws;
+mod names;
+mod order;
 mod run;
 
 pub use block::{BlockResult, Closed, Head};
+pub use laws::{activated_programs_are_ready, executable_accounts_stay, lamports_are_conserved};
 pub use run::{run_block, run_listed, run_parsed};
+
+#[cfg(test)]
+mod tests;

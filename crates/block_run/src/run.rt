@@ -1,19 +1,98 @@
 //! The calls that run a block.
-ghost use Rattle.std.specs.Prelude.{◌≡◌, ◌≤◌, ◌<◌, IfOk, MatchBool, length};
-ghost use Rattle.admission.specs.Admission.{AreParsed};
+ghost use Rattle.std.specs.Prelude.{◌≡◌, ◌≤◌, ◌<◌, All, IfOk, MatchBool, length, map};
+ghost use Rattle.admission.specs.Admission.{AreParsed, admitted, listed};
+ghost use Rattle.admission.specs.Chosen.{IsChosen};
 ghost use Rattle.block_record.specs.Record.{IsCounted};
 ghost use Rattle.snapshot_codec.specs.Snapshot.{IsReadable, IsWritable};
-ghost use Rattle.block_run.specs.Blocks.{block_result, listed_result};
+ghost use Rattle.block_run.specs.Blocks.{before_refused, block_result, closed, is_halted, listed_result, start_in};
+ghost use Rattle.block_run.specs.Ending.{AreOf};
 
-use crate::block::BlockResult;
+use crate::block::{BlockResult, Closed, Head};
+use crate::closing::close;
+use crate::lanes::run_work;
+use crate::order::work_of;
+use admission::{Admitted, Chosen, Refused, admit, admit_listed, admit_parsed};
 use bank_lanes::Gate;
-use block_record::{Block, Listed};
+use block_record::{Block, Entry, Listed};
 use message_codec::Parsed;
 use snapshot_codec::{Batch, Snapshot};
-use sol_base::{Items, OutOfMemory};
+use sol_base::{Blob, Items, OutOfMemory};
 use std::alloc::Global;
 use std::sync::Wait;
 use std::thread::Threads;
+
+/// Runs transactions in their order over a snapshot, and ends the block.
+fn run_order<G: Gate, R: Threads + Wait + Sync>(
+    rt: &R,
+    alloc: Global,
+    snapshot: Snapshot,
+    head: &Head,
+    wires: &Items<Blob>,
+    order: Items<Chosen>,
+    lanes: u32,
+    gate: &G,
+) -> Result<Closed, OutOfMemory>
+    requires some { 1 ≤ lanes }
+    requires most { lanes ≤ 64 }
+    requires readable { IsReadable snapshot }
+    requires chosen { All IsChosen order }
+    requires of { AreOf wires.now order }
+    ensures exact { IfOk result (λ end. end ≡ closed snapshot head.now wires.now order) }
+    ensures counted { IfOk result (λ end. IsCounted end.block) }
+    ensures writable { IfOk result (λ end. IsWritable end.after) }
+{
+    let work = work_of(alloc, &snapshot, head.slot, order)?;
+    let Snapshot {
+        slot: _,
+        limits,
+        recent,
+        accounts,
+    } = snapshot;
+    let run = run_work(rt, alloc, accounts, &work, lanes, gate)?;
+    close(alloc, limits, recent, head, wires, work.chosen(), run)
+}
+
+/// Runs the transactions of a batch that are admitted.
+fn run_admitted<G: Gate, R: Threads + Wait + Sync>(
+    rt: &R,
+    alloc: Global,
+    snapshot: Snapshot,
+    batch: &Batch,
+    answer: Admitted,
+    lanes: u32,
+    gate: &G,
+) -> Result<BlockResult, OutOfMemory>
+    requires some { 1 ≤ lanes }
+    requires most { lanes ≤ 64 }
+    requires readable { IsReadable snapshot }
+    requires few { length batch.now.wires ≤ 16384 }
+    requires answer { answer ≡ admitted (start_in snapshot) batch.now.wires }
+    requires chosen { All IsChosen answer.order }
+    ensures exact { IfOk result (λ answer. answer ≡ block_result snapshot batch.now) }
+    ensures counted { IfOk result (λ answer. IsCounted answer.block) }
+    ensures writable { IfOk result (λ answer. IsWritable answer.after) }
+{
+    let Admitted { order, refused } = answer;
+    let head = Head {
+        slot: batch.slot,
+        collector: batch.collector,
+    };
+    let Closed { block, after } = run_order(
+        rt,
+        alloc,
+        snapshot,
+        &head,
+        &batch.wires,
+        order,
+        lanes,
+        gate,
+    )?;
+    Ok(BlockResult {
+        block,
+        after,
+        refused,
+    })
+}
 
 /// Runs a batch over a snapshot on so many lanes: the record is that of executing the admitted
 /// transactions one after another, by priority (Solana; the order and the formats are the project's
@@ -35,7 +114,14 @@ pub fn run_block<G: Gate, R: Threads + Wait + Sync>(
     ensures counted { IfOk result (λ answer. IsCounted answer.block) }
     ensures writable { IfOk result (λ answer. IsWritable answer.after) }
 {
-    todo
+    let answer = admit(
+        alloc,
+        &batch.wires,
+        &snapshot.recent,
+        &snapshot.accounts,
+        &snapshot.limits,
+    )?;
+    run_admitted(rt, alloc, snapshot, batch, answer, lanes, gate)
 }
 
 /// The same for a batch whose wires were read before.
@@ -58,7 +144,44 @@ pub fn run_parsed<G: Gate, R: Threads + Wait + Sync>(
     ensures counted { IfOk result (λ answer. IsCounted answer.block) }
     ensures writable { IfOk result (λ answer. IsWritable answer.after) }
 {
-    todo
+    let answer = admit_parsed(
+        alloc,
+        &batch.wires,
+        parsed,
+        &snapshot.recent,
+        &snapshot.accounts,
+        &snapshot.limits,
+    )?;
+    run_admitted(rt, alloc, snapshot, batch, answer, lanes, gate)
+}
+
+/// The transactions of a block as they came.
+fn wires_of(alloc: Global, entries: &[Entry]) -> Result<Items<Blob>, OutOfMemory>
+    ensures { IfOk result (λ wires. wires ≡ map (λ entry. entry.wire) entries.now) }
+{
+    let mut wires = Items::with_capacity(alloc, entries.len())?;
+    for entry in entries {
+        wires.push(entry.wire.try_copy()?)?;
+    }
+    Ok(wires)
+}
+
+/// The transactions before the first that is refused.
+fn before_refused(order: Items<Chosen>, refused: &[Refused]) -> Items<Chosen>
+    ensures { result ≡ before_refused refused.now order }
+{
+    let mut order = order.into_vec();
+    if let Some(first) = refused.first() {
+        order.truncate(first.position as usize);
+    }
+    Items::from_vec(order)
+}
+
+/// Whether one is refused.
+fn is_halted(refused: &[Refused]) -> bool
+    ensures { result ≡ is_halted refused.now }
+{
+    !refused.is_empty()
 }
 
 /// Runs the entries of a block again, in their order, up to the first that is not admitted.
@@ -80,5 +203,24 @@ pub fn run_listed<G: Gate, R: Threads + Wait + Sync>(
         (length answer.block.entries < length given.now.entries)
         (length answer.block.entries ≡ length given.now.entries)) }
 {
-    todo
+    let wires = wires_of(alloc, given.entries.as_slice())?;
+    let Admitted { order, refused } = admit_listed(
+        alloc,
+        &wires,
+        &snapshot.recent,
+        &snapshot.accounts,
+        &snapshot.limits,
+    )?;
+    let head = Head {
+        slot: given.slot,
+        collector: given.collector,
+    };
+    let order = before_refused(order, refused.as_slice());
+    let Closed { block, after: _ } = run_order(
+        rt, alloc, snapshot, &head, &wires, order, lanes, gate,
+    )?;
+    Ok(Listed {
+        block,
+        halted: is_halted(refused.as_slice()),
+    })
 }

@@ -1,0 +1,143 @@
+-- The record at the end of a block, and the snapshot after it.
+use Rattle.std.proofs.Common.{◌≡◌, ◌≤◌, ◌<◌, ◌+◌, ◌-◌, ◌^◌, ◌∷◌, [], ℕ, zero, suc, Bool, true, false, cond, List, length, take, map, Option, Some, None, All, refl, sym, ap, subst, ◌∙◌, arith}
+use Rattle.std.specs.Prelude.{min, sum_by}
+use Rattle.std.specs.List.{AllByRecursion, cons_option, filter_map, zip}
+use Rattle.std.specs.FinMap.Entries.{by_order}
+use Rattle.std.specs.declared.cmp.Ordering.{Ordering}
+use Rattle.std.specs.declared.cmp.Ordering.TheVariants.{Less, Equal, Greater}
+use Rattle.std.proofs.lemmas.List.{length-map}
+use Rattle.std.proofs.lemmas.List.Elements.{All-cons, All-from_recursion, All-map, All-take, All-weaker, recursion_from_All}
+use Rattle.std.proofs.lemmas.List.Sums.{sum_by-cons}
+use Rattle.std.proofs.lemmas.Slice.Zip.{length-zip}
+use Rattle.sol_base.specs.declared.key.Key.{Key}
+use Rattle.sol_base.specs.declared.key.Hash32.{Hash32}
+use Rattle.sol_base.specs.declared.limits.Limits.{Limits}
+use Rattle.sol_base.specs.Keys.{hash_cmp}
+use Rattle.message_codec.specs.Wire.{IsCountable}
+use Rattle.fee_rules.specs.declared.split.FeeSplit.{FeeSplit}
+use Rattle.status_cache.specs.declared.recent.Mark.{Mark}
+use Rattle.status_cache.specs.Recent.{max_marks}
+use Rattle.tx_report.specs.declared.outcome.Outcome.{Outcome}
+use Rattle.account_store.specs.State.{State, at, len, put}
+use Rattle.snapshot_codec.specs.Snapshot.{AreAllowed, IsWritable}
+use Rattle.block_record.specs.declared.block.Block.{Block}
+use Rattle.block_record.specs.declared.block.Entry.{Entry}
+use Rattle.block_record.specs.Record.{AreCountable, IsCounted}
+use Rattle.admission.specs.declared.chosen.Chosen.{Chosen}
+use Rattle.admission.specs.Batches.{IsOf}
+use Rattle.tx_exec.specs.TransactionLaws.{IsSmallOutcome}
+use Rattle.block_run.specs.SerialRun.{Ran}
+use Rattle.block_run.specs.BlockEnd.{Shares, activate_all, may_collect, more, share, share_fees}
+use Rattle.block_run.specs.Blocks.{ascending, entries_of, entry_of, placed, processed_by, processed_in}
+use Rattle.block_run.specs.Ending.{AreOf, MayEnd}
+use Rattle.block_run.proofs.Runs.{len-put}
+use Rattle.block_run.proofs.Activating.{len-activate_all}
+
+-- ---- the accounts
+either_few : (b : Bool) (n : ℕ) (s t : Shares) → len s.accounts ≤ n → len t.accounts ≤ n → len (cond b s t).accounts ≤ n
+either_few true n s t a b = a
+either_few false n s t a b = b
+
+-- the collector is at most one account more
+len-share : (s : State) (collector : Key) (split : FeeSplit) → len (share s collector split).accounts ≤ len s + 1
+len-share s collector split =
+    let paid = more (at s collector) split.rest in
+    either_few _ (len s + 1) (record { accounts = put s collector paid; burned = split.burned; collected = split.rest }) (record { accounts = s; burned = split.burned + split.rest; collected = 0 })
+    (len-put s collector paid) (omega arith)
+
+pub len-share_fees : (s : State) (collector : Key) (outcomes : List Outcome) → len (share_fees s collector outcomes).accounts ≤ len s + 1
+unfolding share_fees
+len-share_fees s collector outcomes = len-share s collector _
+
+pub accounts_few : (s : State) (collector : Key) (outcomes : List Outcome) → len s + 1 < 2 ^ 32 → len (activate_all (share_fees s collector outcomes).accounts) < 2 ^ 32
+accounts_few s collector outcomes room =
+    let a = len-share_fees s collector outcomes in
+    let b = len-activate_all (share_fees s collector outcomes).accounts in
+    omega (arith, a, b, room)
+
+-- ---- the entries
+-- lists of at least one byte each are no more, and none is longer, than all bytes
+count_le_sum : (ls : List (List ℕ)) → AllByRecursion (λ line. 1 ≤ length line) ls → length ls ≤ sum_by length ls
+count_le_sum [] h = omega arith
+count_le_sum (l ∷ ls) h =
+    let a = sum_by-cons (λ (line : List ℕ). length line) l ls in
+    let rest = count_le_sum ls h.1 in
+    let b = h.0 in
+    omega (arith, a, b, rest)
+
+each_le_sum : (most : ℕ) (ls : List (List ℕ)) → sum_by length ls ≤ most → AllByRecursion (λ line. length line ≤ most) ls
+each_le_sum most [] h = tt
+each_le_sum most (l ∷ ls) h =
+    let a = sum_by-cons (λ (line : List ℕ). length line) l ls in
+    (omega (arith, a, h), each_le_sum most ls (omega (arith, a, h)))
+
+-- the lines of a small outcome have a spelling
+pub lines_countable : (outcome : Outcome) → IsSmallOutcome outcome → AreCountable outcome.lines
+lines_countable outcome small = record {
+  few = let a = count_le_sum outcome.lines (recursion_from_All (λ line. 1 ≤ length line) outcome.lines small.filled) in let b = small.bytes in omega (arith, a, b);
+  each = All-from_recursion IsCountable outcome.lines (each_le_sum 65535 outcome.lines (let b = small.bytes in omega (arith, b)));
+}
+
+-- what holds of each transaction and of each outcome holds of both beside each other
+All-zip : {X Y : Type 0} (P : X → Type 0) (Q : Y → Type 0) (xs : List X) (ys : List Y) → AllByRecursion P xs → AllByRecursion Q ys → AllByRecursion (λ (e : X × Y). P e.0 × Q e.1) (zip xs ys)
+All-zip P Q [] ys p q = tt
+All-zip P Q (x ∷ xs) [] p q = tt
+All-zip P Q (x ∷ xs) (y ∷ ys) p q = ((p.0, q.0), All-zip P Q xs ys p.1 q.1)
+
+module _ (wires : List (List ℕ)) (order : List Chosen) (outcomes : List Outcome) (of : AreOf wires order) (small : All IsSmallOutcome outcomes) where
+  both : All (λ (e : Chosen × Outcome). IsOf wires e.0 × IsSmallOutcome e.1) (zip order outcomes)
+  both = All-from_recursion _ (zip order outcomes) (All-zip (IsOf wires) IsSmallOutcome order outcomes (recursion_from_All (IsOf wires) order of.each) (recursion_from_All IsSmallOutcome outcomes small))
+
+  all_entries : (P : Entry → Type 0) → ((e : Chosen × Outcome) → IsOf wires e.0 × IsSmallOutcome e.1 → P (entry_of wires e)) → All P (entries_of wires order outcomes)
+  all_entries P each = All-map P (entry_of wires) (zip order outcomes) (All-weaker _ (λ (e : Chosen × Outcome). P (entry_of wires e)) each (zip order outcomes) both)
+
+  entries_few : length (entries_of wires order outcomes) ≤ 16384
+  entries_few =
+      let a = length-map (zip order outcomes) (entry_of wires) in
+      let b = length-zip order outcomes in
+      let c = of.few in
+      omega (arith, a, b, c)
+
+  -- a block of them can be counted
+  pub block_counted : (block : Block) → block.entries ≡ entries_of wires order outcomes → IsCounted block
+  block_counted block is = record {
+    entries = subst (λ (es : List Entry). length es ≤ 16384) (sym is) entries_few;
+    wires = subst (All (λ (entry : Entry). length entry.wire ≤ 1232)) (sym is) (all_entries (λ (entry : Entry). length entry.wire ≤ 1232) (λ e h. h.0.short));
+    lines = subst (All (λ (entry : Entry). AreCountable entry.lines)) (sym is) (all_entries (λ (entry : Entry). AreCountable entry.lines) (λ e h. lines_countable e.1 h.1));
+  }
+
+-- ---- the marks
+placed_more : (r : Ordering) (n : ℕ) (a b c : List Hash32) → length a ≤ n → length b ≤ n → length c ≤ n → length (by_order r a b c) ≤ n
+placed_more Less n a b c x y z = x
+placed_more Equal n a b c x y z = y
+placed_more Greater n a b c x y z = z
+
+length-placed : (name : Hash32) (names : List Hash32) → length (placed name names) ≤ suc (length names)
+length-placed name [] = omega arith
+length-placed name (n ∷ ns) =
+    let rest = length-placed name ns in
+    placed_more (hash_cmp name n) (suc (suc (length ns))) (name ∷ n ∷ ns) (n ∷ ns) (n ∷ placed name ns) (omega arith) (omega arith) (omega (arith, rest))
+
+length-ascending : (names : List Hash32) → length (ascending names) ≤ length names
+length-ascending [] = omega arith
+length-ascending (n ∷ ns) = let a = length-placed n (ascending ns) in let b = length-ascending ns in omega (arith, a, b)
+
+length-cons_option : {Y : Type 0} (o : Option Y) (ys : List Y) → length (cons_option o ys) ≤ suc (length ys)
+length-cons_option None ys = omega arith
+length-cons_option (Some y) ys = omega arith
+
+length-filter_map : {X Y : Type 0} (f : X → Option Y) (xs : List X) → length (filter_map f xs) ≤ length xs
+length-filter_map f [] = omega arith
+length-filter_map f (x ∷ xs) = let a = length-cons_option (f x) (filter_map f xs) in let rest = length-filter_map f xs in omega (arith, a, rest)
+
+pub names_few : (order : List Chosen) (outcomes : List Outcome) → length order ≤ 16384 → length (ascending (processed_in order outcomes)) ≤ 16384
+names_few order outcomes few =
+    let a = length-ascending (processed_in order outcomes) in
+    let b = length-filter_map (λ (e : Chosen × Outcome). processed_by e.0.name e.1.status) (zip order outcomes) in
+    let c = length-zip order outcomes in
+    omega (arith, a, b, c, few)
+
+pub marks_few : (mark : Mark) (recent : List Mark) → length mark.messages ≤ 16384 → All (λ mark. length mark.messages ≤ 16384) recent → All (λ mark. length mark.messages < 2 ^ 32) (take max_marks (mark ∷ recent))
+marks_few mark recent one all =
+    All-weaker (λ (m : Mark). length m.messages ≤ 16384) (λ (m : Mark). length m.messages < 2 ^ 32) (λ m h. omega (arith, h)) (take max_marks (mark ∷ recent))
+    (All-take (λ (m : Mark). length m.messages ≤ 16384) max_marks (mark ∷ recent) (All-cons (λ (m : Mark). length m.messages ≤ 16384) mark recent one all))

@@ -1,0 +1,12 @@
+pub mod Below
+pub mod Positions
+pub mod Runs
+pub mod Activating
+pub mod Sorting
+pub mod Beside
+pub mod Orders
+pub mod Closings
+pub mod Executables
+pub mod Turns
+pub mod Calls
+pub mod Conserved

@@ -1,0 +1,85 @@
+-- What holds of each position of the transactions of a block.
+use Rattle.std.proofs.Common.{◌≡◌, ◌≤◌, ◌<◌, ◌+◌, ◌*◌, ◌^◌, ◌∷◌, [], ◌++◌, ℕ, zero, suc, Bool, true, false, cond, List, length, map, filter, Option, Some, None, All, refl, sym, ap, subst, ◌∙◌, arith, length-append}
+use Rattle.std.specs.Prelude.{slice_get, sum_by}
+use Rattle.std.proofs.lemmas.List.{length-map}
+use Rattle.sol_base.specs.declared.key.Key.{Key}
+use Rattle.sol_base.specs.declared.account.Account.{Account}
+use Rattle.sol_base.specs.declared.lock.Lock.{Lock}
+use Rattle.sol_base.specs.Accounts.{lamports_in}
+use Rattle.message_codec.specs.Roles.{all_keys, load_count, locks_of}
+use Rattle.message_codec.proofs.RoleLaws.{lock_count}
+use Rattle.bank_law.specs.Job.{Job, JobEffects, keys, lock_keys, write_keys}
+use Rattle.bank_law.specs.Lawful.{lent_for_writing}
+use Rattle.bank_core.specs.Counts.{locks_before}
+use Rattle.admission.specs.declared.chosen.Chosen.{Chosen}
+use Rattle.admission.specs.Chosen.{IsChosen}
+use Rattle.tx_exec.specs.declared.told.Told.{Told}
+use Rattle.tx_exec.specs.Told.{block_of, effects_at, job_of, locks_at}
+use Rattle.tx_exec.specs.Transaction.{transaction}
+use Rattle.tx_exec.specs.TransactionLaws.{IsSmallOutcome}
+use Rattle.block_run.proofs.Below.{outcome_is_small, transaction_fits}
+
+-- a position below the count has its transaction
+there : (chosen : List Chosen) (i : ℕ) → i < length chosen → All IsChosen chosen → (t : Chosen) × (slice_get chosen i ≡ Some t) × IsChosen t
+there [] i below all = absurd (omega (arith, below))
+there (t ∷ ts) zero below all = (t, refl, all zero t (omega arith))
+there (t ∷ ts) (suc i) below all = there ts i (omega (arith, below)) (λ k d l. all (suc k) d (omega (arith, l)))
+
+-- what holds of each transaction holds of its position
+pub at_position : (told : Told) → All IsChosen told.chosen → (P : Option Chosen → Type 0) → ((t : Chosen) → IsChosen t → P (Some t)) → (i : ℕ) → i < length told.chosen → P (slice_get told.chosen i)
+at_position told all P each i below = let x = there told.chosen i below all in subst P (sym x.1) (each x.0 x.2)
+
+-- a transaction has at most 128 locks
+few_locks : (t : Chosen) → IsChosen t → length t.locks ≤ 128
+few_locks t is =
+    let a = ap length is.locked in
+    let b = lock_count t.tx.message t.loaded in
+    let c : length (all_keys t.tx.message t.loaded) ≡ length (t.tx.message.keys ++ t.loaded.writable) + length t.loaded.readonly = length-append (t.tx.message.keys ++ t.loaded.writable) t.loaded.readonly in
+    let d = length-append t.tx.message.keys t.loaded.writable in
+    let e : length t.loaded.writable + length t.loaded.readonly ≡ sum_by load_count t.tx.message.lookups = is.loaded in
+    let f : length t.tx.message.keys + sum_by load_count t.tx.message.lookups ≤ 128 = is.sane.keys in
+    omega (arith, a, b, c, d, e, f)
+
+-- what effects paid
+abbrev pub paid_in : JobEffects → ℕ
+paid_in effects = effects.outcome.base_paid + effects.outcome.priority_paid
+
+-- with the fees paid, what a transaction writes has the lamports that were lent for writing
+pays : (told : Told) (t : Chosen) → IsChosen t → (vs : List Account) → length vs ≡ length t.locks
+    → lamports_in (effects_at (block_of told) (Some t) vs).written + paid_in (effects_at (block_of told) (Some t) vs) ≡ lamports_in (lent_for_writing t.locks vs)
+pays told t is vs count =
+    let fits = transaction_fits (block_of told) t vs is (count ∙ ap length is.locked ∙ lock_count t.tx.message t.loaded) in
+    let a = fits.lamports in
+    let b = ap (λ (ls : List Lock). lamports_in (lent_for_writing ls vs)) is.locked in
+    omega (arith, a, b)
+
+module _ (told : Told) (all : All IsChosen told.chosen) where
+  pub locks_most : (i : ℕ) → i < length told.chosen → length ((job_of told).locks i) ≤ 128
+  locks_most = at_position told all (λ o. length (locks_at o) ≤ 128) few_locks
+
+  pub locks_few : (n : ℕ) → n ≤ length told.chosen → locks_before (job_of told) n ≤ 128 * n
+  locks_few zero l = omega arith
+  locks_few (suc n) l =
+      let here = locks_most n (omega (arith, l)) in
+      let rest = locks_few n (omega (arith, l)) in
+      omega (arith, here, rest)
+
+  pub position_pays : (i : ℕ) → i < length told.chosen → (vs : List Account) → length vs ≡ length ((job_of told).locks i)
+      → lamports_in ((job_of told).effects i vs).written + paid_in ((job_of told).effects i vs) ≡ lamports_in (lent_for_writing ((job_of told).locks i) vs)
+  position_pays i l vs = at_position told all
+      (λ o. length vs ≡ length (locks_at o) → lamports_in (effects_at (block_of told) o vs).written + paid_in (effects_at (block_of told) o vs) ≡ lamports_in (lent_for_writing (locks_at o) vs))
+      (λ t is. pays told t is vs) i l
+
+  pub position_is_small : (i : ℕ) → i < length told.chosen → (vs : List Account) → IsSmallOutcome ((job_of told).effects i vs).outcome
+  position_is_small i l vs = at_position told all (λ o. IsSmallOutcome (effects_at (block_of told) o vs).outcome) (λ t is. outcome_is_small (block_of told) t vs is) i l
+
+length-filter-le : {X : Type 0} (p : X → Bool) (xs : List X) → length (filter p xs) ≤ length xs
+length-filter-le p [] = omega arith
+length-filter-le p (x ∷ xs) = let rest = length-filter-le p xs in elim (p x) as (λ b. length (cond b (x ∷ filter p xs) (filter p xs)) ≤ suc (length xs)) [ true ↦ omega (arith, rest) | false ↦ omega (arith, rest) ]
+
+-- no more keys are written than there are locks
+pub written_keys_few : (job : Job) (i : ℕ) → length (write_keys job i) ≤ length (job.locks i)
+written_keys_few job i =
+    let a = length-map (filter (λ (lock : Lock). lock.write) (job.locks i)) (λ lock. lock.key) in
+    let b = length-filter-le (λ (lock : Lock). lock.write) (job.locks i) in
+    omega (arith, a, b)

@@ -1,0 +1,28 @@
+-- What the end of a block rests on.
+use Rattle.std.specs.Prelude.{◌≡◌, ℕ, ◌+◌, ◌<◌, ◌≤◌, ◌^◌, List, length, All}
+use Rattle.account_store.specs.State.{IsState, len, sum}
+use Rattle.admission.specs.declared.chosen.Chosen.{Chosen}
+use Rattle.admission.specs.Batches.{IsOf}
+use Rattle.bank_core.specs.declared.finish.Sealed.{Sealed}
+use Rattle.tx_exec.specs.TransactionLaws.{IsSmallOutcome}
+use Rattle.block_run.specs.SerialRun.{Ran}
+use Rattle.block_run.specs.BlockEnd.{base_fees, priority_fees}
+
+-- what a core ended with, as what a run leaves
+abbrev pub ran_of : Sealed → Ran
+ran_of run = record { accounts = run.accounts; outcomes = run.outcomes }
+
+-- transactions of these wires, no more than a block may have
+pub record AreOf (wires : List (List ℕ)) (order : List Chosen) : Type 0 where
+  pub few : length order ≤ 16384
+  pub each : All (IsOf wires) order
+
+-- transactions of a batch, and a run of them that a block may end with: an outcome for each, all of
+-- them small; fees that were taken out of the accounts; and accounts that can be counted
+pub record MayEnd (wires : List (List ℕ)) (order : List Chosen) (ran : Ran) : Type 0 where
+  pub of : AreOf wires order
+  pub one_each : length ran.outcomes ≡ length order
+  pub small : All IsSmallOutcome ran.outcomes
+  pub state : IsState ran.accounts
+  pub supply : sum ran.accounts + base_fees ran.outcomes + priority_fees ran.outcomes < 2 ^ 64
+  pub room : len ran.accounts + 1 < 2 ^ 32

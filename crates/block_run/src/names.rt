@@ -1,0 +1,63 @@
+//! The names of the messages that a block processed.
+ghost use Rattle.std.specs.Prelude.{◌≡◌, IfOk, length};
+ghost use Rattle.status_cache.specs.Recent.{Ascends};
+ghost use Rattle.block_run.specs.Blocks.{ascending, processed_by, processed_in};
+
+use admission::Chosen;
+use sol_base::{Hash32, Items, OutOfMemory};
+use std::alloc::Global;
+use std::collections::BTreeSet;
+use tx_report::{Outcome, Status};
+
+/// The name, unless the transaction was dropped.
+fn processed_by(name: Hash32, status: &Status) -> Option<Hash32>
+    ensures { result ≡ processed_by name status.now }
+{
+    match status {
+        Status::Good | Status::Failed { .. } => Some(name),
+        Status::Dropped { .. } => None,
+    }
+}
+
+/// The names of those that were not dropped, in their order.
+fn processed_in(
+    alloc: Global,
+    order: &[Chosen],
+    outcomes: &[Outcome],
+) -> Result<Vec<Hash32>, OutOfMemory>
+    requires { length outcomes.now ≡ length order.now }
+    ensures { IfOk result (λ names. names.items ≡ processed_in order.now outcomes.now) }
+{
+    let mut names = Vec::new(alloc);
+    for (at, chosen) in order.iter().enumerate() {
+        if let Some(name) = processed_by(chosen.name, &outcomes[at].status) {
+            names.push(name)?;
+        }
+    }
+    Ok(names)
+}
+
+/// The names in ascending order.
+fn ascending(alloc: Global, mut names: Vec<Hash32>) -> Result<Items<Hash32>, OutOfMemory>
+    ensures exact { IfOk result (λ sorted. sorted ≡ ascending names.items) }
+    ensures ascends { IfOk result Ascends }
+{
+    let mut set = BTreeSet::new(alloc);
+    while let Some(name) = names.pop() {
+        set.insert(name)?;
+    }
+    Ok(Items::from_vec(set.into_iter().collect(alloc)?))
+}
+
+/// The names of the messages whose transactions were not dropped, ascending.
+pub(crate) fn processed_names(
+    alloc: Global,
+    order: &[Chosen],
+    outcomes: &[Outcome],
+) -> Result<Items<Hash32>, OutOfMemory>
+    requires { length outcomes.now ≡ length order.now }
+    ensures exact { IfOk result (λ names. names ≡ ascending (processed_in order.now outcomes.now)) }
+    ensures ascends { IfOk result Ascends }
+{
+    ascending(alloc, processed_in(alloc, order, outcomes)?)
+}
