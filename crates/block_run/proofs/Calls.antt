@@ -32,7 +32,7 @@ use Rattle.block_run.specs.declared.block.Head.{Head}
 use Rattle.block_run.specs.SerialRun.{Ran, ran, serial_run, told_in}
 use Rattle.block_run.specs.Blocks.{before_refused, block_result, closed, closed_with, entries_of, entry_of, head_of, is_halted, listed_result, start_in, wires_of}
 use Rattle.block_run.specs.Ending.{AreOf, ran_of}
-use Rattle.block_run.proofs.Below.{by_position, by_priority}
+use Rattle.admission.proofs.PartLaws.{admitted_batches_are_parted, listed_batches_are_parted}
 use Rattle.block_run.proofs.Orders.{length-take-least, parted_are_of}
 
 -- ---- one run
@@ -68,7 +68,7 @@ keys_most s readable = readable.limits.keys.1
 
 pub admitted_are_of : (s : Snapshot) (wires : List (List ℕ)) (answer : Admitted) → IsReadable s → length wires ≤ 16384 → answer ≡ admitted (start_in s) wires → AreOf wires answer.order
 admitted_are_of s wires answer readable few is =
-    parted_are_of wires answer few (subst (IsParted wires) (sym is) (by_priority (start_in s) wires (keys_most s readable)))
+    parted_are_of wires answer few (subst (IsParted wires) (sym is) (admitted_batches_are_parted (start_in s) wires))
 
 pub admitted_result : (s : Snapshot) (batch : Batch) (answer : Admitted) (end : Closed) → answer ≡ admitted (start_in s) batch.wires → end ≡ closed s (head_of batch) batch.wires answer.order
     → ◌≡◌ {A = BlockResult} (record { block = end.block; after = end.after; refused = answer.refused }) (block_result s batch)
@@ -79,7 +79,7 @@ admitted_result s batch answer end is ended =
 
 -- ---- a list
 listed_parted : (s : Snapshot) (wires : List (List ℕ)) (answer : Admitted) → IsReadable s → answer ≡ listed (start_in s) wires → IsParted wires answer
-listed_parted s wires answer readable is = subst (IsParted wires) (sym is) (by_position (start_in s) wires (keys_most s readable))
+listed_parted s wires answer readable is = subst (IsParted wires) (sym is) (listed_batches_are_parted (start_in s) wires)
 
 pub listed_are_of : (s : Snapshot) (wires : List (List ℕ)) (answer : Admitted) → IsReadable s → length wires ≤ 16384 → answer ≡ listed (start_in s) wires → AreOf wires answer.order
 listed_are_of s wires answer readable few is = parted_are_of wires answer few (listed_parted s wires answer readable is)

@@ -23,7 +23,8 @@ use Rattle.tx_exec.specs.Executing.{locks}
 use Rattle.tx_exec.specs.Told.{block_of, effects_at, job_of, locks_at}
 use Rattle.tx_exec.specs.Transaction.{settled, transaction, written}
 use Rattle.tx_exec.specs.TransactionLaws.{Keeps}
-use Rattle.block_run.proofs.Below.{transaction_keeps, works_are_lawful}
+use Rattle.tx_exec.proofs.Keeping.{transaction_keeps}
+use Rattle.tx_exec.proofs.Works.{works_are_lawful}
 use Rattle.block_run.proofs.Positions.{at_position}
 
 -- the keys of the write locks

@@ -1,4 +1,3 @@
-pub mod Below
 pub mod Positions
 pub mod Runs
 pub mod Activating

@@ -17,7 +17,8 @@ use Rattle.tx_exec.specs.declared.told.Told.{Told}
 use Rattle.tx_exec.specs.Told.{block_of, effects_at, job_of, locks_at}
 use Rattle.tx_exec.specs.Transaction.{transaction}
 use Rattle.tx_exec.specs.TransactionLaws.{IsSmallOutcome}
-use Rattle.block_run.proofs.Below.{outcome_is_small, transaction_fits}
+use Rattle.tx_exec.proofs.Keeping.{transaction_fits}
+use Rattle.tx_exec.proofs.Small.{transaction_small}
 
 -- a position below the count has its transaction
 there : (chosen : List Chosen) (i : ℕ) → i < length chosen → All IsChosen chosen → (t : Chosen) × (slice_get chosen i ≡ Some t) × IsChosen t
@@ -48,7 +49,7 @@ paid_in effects = effects.outcome.base_paid + effects.outcome.priority_paid
 pays : (told : Told) (t : Chosen) → IsChosen t → (vs : List Account) → length vs ≡ length t.locks
     → lamports_in (effects_at (block_of told) (Some t) vs).written + paid_in (effects_at (block_of told) (Some t) vs) ≡ lamports_in (lent_for_writing t.locks vs)
 pays told t is vs count =
-    let fits = transaction_fits (block_of told) t vs is (count ∙ ap length is.locked ∙ lock_count t.tx.message t.loaded) in
+    let fits = transaction_fits (block_of told) t vs is (count ∙ ap length is.locked ∙ lock_count t.tx.message t.loaded) (count ∙ ap length is.locked) in
     let a = fits.lamports in
     let b = ap (λ (ls : List Lock). lamports_in (lent_for_writing ls vs)) is.locked in
     omega (arith, a, b)
@@ -71,7 +72,7 @@ module _ (told : Told) (all : All IsChosen told.chosen) where
       (λ t is. pays told t is vs) i l
 
   pub position_is_small : (i : ℕ) → i < length told.chosen → (vs : List Account) → IsSmallOutcome ((job_of told).effects i vs).outcome
-  position_is_small i l vs = at_position told all (λ o. IsSmallOutcome (effects_at (block_of told) o vs).outcome) (λ t is. outcome_is_small (block_of told) t vs is) i l
+  position_is_small i l vs = at_position told all (λ o. IsSmallOutcome (effects_at (block_of told) o vs).outcome) (λ t is. transaction_small (block_of told) t vs is) i l
 
 length-filter-le : {X : Type 0} (p : X → Bool) (xs : List X) → length (filter p xs) ≤ length xs
 length-filter-le p [] = omega arith

@@ -28,7 +28,7 @@ use Rattle.tx_exec.specs.TransactionLaws.{IsSmallOutcome}
 use Rattle.block_run.specs.SerialRun.{Ran, ran, serial_run, told_in}
 use Rattle.block_run.specs.BlockEnd.{base_fees, priority_fees}
 use Rattle.block_run.specs.Ending.{AreOf, MayEnd}
-use Rattle.block_run.proofs.Below.{works_are_lawful}
+use Rattle.tx_exec.proofs.Works.{works_are_lawful}
 use Rattle.block_run.proofs.Positions.{locks_most, paid_in, position_is_small, position_pays, written_keys_few}
 
 -- ---- how many accounts there are

@@ -3,6 +3,6 @@ mod Lent
 mod Rent
 mod Fitting
 mod Steps
-mod Small
+pub mod Small
 pub mod Keeping
 pub mod Works
