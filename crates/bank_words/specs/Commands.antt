@@ -1,0 +1,6 @@
+-- The command that words spell, if any.
+use Rattle.std.specs.Prelude.{ℕ, List, Option}
+use Rattle.bank_words.specs.declared.command.Command.{Command}
+
+unfoldable pub command_in : List (List ℕ) → Option Command
+command_in words = ?
