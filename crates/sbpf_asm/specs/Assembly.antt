@@ -1,5 +1,5 @@
 -- Texts and the images that they assemble to.
-use Rattle.std.specs.Prelude.{ℕ, List, Bool, true, false, Result}
+use Rattle.std.specs.Prelude.{ℕ, List, Bool, true, false, Result, Err}
 use Rattle.sbpf_asm.specs.declared.fault.AsmFault.{AsmFault}
 use Rattle.sbpf_asm.specs.declared.fault.AsmFault.TheVariants.{NotText, Syntax, Range, RepeatedLabel, UnknownLabel, TooLong, Unverified, OutOfMemory}
 
@@ -14,4 +14,4 @@ is_asm_memory (Unverified _) = false
 is_asm_memory OutOfMemory = true
 
 unfoldable pub assembled : List ℕ → Result (List ℕ) AsmFault
-assembled text = ?
+assembled text = Err TooLong

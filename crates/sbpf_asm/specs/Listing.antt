@@ -1,5 +1,5 @@
 -- The text that lists an image.
-use Rattle.std.specs.Prelude.{ℕ, List, Bool, true, false, Result}
+use Rattle.std.specs.Prelude.{ℕ, List, Bool, true, false, Result, Err}
 use Rattle.sbpf_asm.specs.declared.fault.ListFault.{ListFault}
 use Rattle.sbpf_asm.specs.declared.fault.ListFault.TheVariants.{BadImage, Unverified, OutOfMemory}
 
@@ -9,4 +9,4 @@ is_list_memory (Unverified _) = false
 is_list_memory OutOfMemory = true
 
 unfoldable pub listed : List ℕ → Result (List ℕ) ListFault
-listed image = ?
+listed image = Err BadImage
