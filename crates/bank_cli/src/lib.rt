@@ -18,3 +18,6 @@ pub use top::{
     bank_main,
 };
 
+
+#[cfg(test)]
+mod tests;

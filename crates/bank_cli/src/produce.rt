@@ -1,9 +1,14 @@
 //! The command `produce`: a block is run, and its record and the snapshot after it are written.
 ghost use Rattle.std.specs.Prelude.{◌≡◌, ◌≤◌, ◌<◌, ◌++◌, length, IfOk, OnOk};
+ghost use Rattle.std.specs.List.{AllByRecursion};
+ghost use Rattle.spec_base.specs.Bytes.{IsBytes};
+ghost use Rattle.spec_base.specs.Reading.{Gives};
 ghost use Rattle.block_record.specs.Record.{IsCounted};
+ghost use Rattle.snapshot_codec.specs.Batch.{IsBatch};
+ghost use Rattle.snapshot_codec.specs.BatchReading.{batch_of, is_batch_memory};
 ghost use Rattle.snapshot_codec.specs.Snapshot.{IsReadable, IsWritable};
 ghost use Rattle.block_run.specs.Blocks.{block_result};
-ghost use Rattle.bank_cli.specs.Answer.{produced as produced_of, produced_after, ran};
+ghost use Rattle.bank_cli.specs.Answer.{produced as produced_of, ran};
 ghost use Rattle.bank_cli.specs.Texts.{refused_line, refused_lines};
 
 use crate::answer::Answer;
@@ -13,7 +18,7 @@ use bank_lanes::Gate;
 use block_record::record_bytes;
 use block_run::{BlockResult, run_parsed};
 use intake::{SendGate, gather};
-use snapshot_codec::{Batch, Snapshot, read_batch, read_snapshot, snapshot_bytes};
+use snapshot_codec::{Batch, BatchFault, Snapshot, read_batch, read_snapshot, snapshot_bytes};
 use sol_base::{Blob, OutOfMemory};
 use std::alloc::Global;
 use std::sync::Wait;
@@ -39,18 +44,26 @@ pub(crate) fn produced<G: Gate, H: SendGate, R: Threads + Wait + Sync>(
         Err(fault) => return refuse_snapshot(alloc, fault),
     };
     let snapshot = prefix.snapshot;
-    match read_batch(alloc, &bytes[prefix.length..], snapshot.slot) {
+    match read_rest(alloc, &bytes[prefix.length..], snapshot.slot) {
         Ok(batch) => {
             drop(input);
-            let block = run_gathered(rt, alloc, lanes, senders, snapshot, &batch, gate, send)?;
-            write_block(alloc, &block)
+            produce_block(rt, alloc, lanes, senders, snapshot, &batch, gate, send)
         }
         Err(fault) => refuse_batch(alloc, fault),
     }
 }
 
+/// The batch that the bytes are. Its transactions are bytes too.
+fn read_rest(alloc: Global, bytes: &[u8], before: u64) -> Result<Batch, BatchFault>
+    ensures batch { IfOk result (λ batch. IsBatch before bytes.now batch) }
+    ensures bytes { IfOk result (λ batch. AllByRecursion IsBytes batch.wires) }
+    ensures exact { Gives is_batch_memory (λ batch. batch) result (batch_of before bytes.now) }
+{
+    read_batch(alloc, bytes, before)
+}
+
 /// Senders decode the batch, each transaction once, and it is run as they hand it over.
-fn run_gathered<G: Gate, H: SendGate, R: Threads + Wait + Sync>(
+fn produce_block<G: Gate, H: SendGate, R: Threads + Wait + Sync>(
     rt: &R,
     alloc: Global,
     lanes: u32,
@@ -59,18 +72,18 @@ fn run_gathered<G: Gate, H: SendGate, R: Threads + Wait + Sync>(
     batch: &Batch,
     gate: &G,
     send: &H,
-) -> Result<BlockResult, OutOfMemory>
+) -> Result<Answer, OutOfMemory>
     requires lanes { (1 ≤ lanes) × (lanes ≤ 64) }
     requires senders { (1 ≤ senders) × (senders ≤ 8) }
     requires readable { IsReadable snapshot }
     requires later { snapshot.slot < batch.now.slot }
     requires few { length batch.now.wires ≤ 16384 }
-    ensures exact { IfOk result (λ block. block ≡ block_result snapshot batch.now) }
-    ensures counted { IfOk result (λ block. IsCounted block.block) }
-    ensures writable { IfOk result (λ block. IsWritable block.after) }
+    requires bytes { AllByRecursion IsBytes batch.now.wires }
+    ensures { IfOk result (λ told. told ≡ ran (block_result snapshot batch.now)) }
 {
     let gathered = gather(rt, alloc, &batch.wires, senders, send)?;
-    run_parsed(rt, alloc, snapshot, batch, gathered.parsed, lanes, gate)
+    let block = run_parsed(rt, alloc, snapshot, batch, gathered.parsed, lanes, gate)?;
+    write_block(alloc, &block)
 }
 
 /// The record, then the snapshot; and the transactions that did not run.

@@ -1,0 +1,395 @@
+//! Worked examples through the top call, and the texts of refusals.
+use crate::texts::{refuse_asm, refuse_batch, refuse_list, refuse_record, refuse_snapshot};
+use crate::{Answer, bank_main};
+use bank_lanes::{Gate, OpenGate};
+use bank_words::Words;
+use block_record::RecordFault;
+use intake::{OpenSend, SendGate};
+use sbpf_asm::{AsmFault, ListFault};
+use sbpf_verify::VerifyFault;
+use snapshot_codec::{BatchFault, SnapshotFault};
+use sol_base::{Blob, Items, OutOfMemory};
+use sol_io::{MemSink, MemSource, NeverSink, NeverSource};
+use std::alloc::Global;
+use std::sync::Wait;
+use std::sync::atomic::{AtomicBool, Ordering};
+use std::test::Fail;
+use std::thread;
+use std::thread::Threads;
+
+/// A gate that keeps position 0 until another position has passed, for at most 10,000,000 turns.
+#[derive(Drop)]
+struct Until {
+    position: u32,
+    passed: AtomicBool,
+    within: AtomicBool,
+}
+
+impl Until {
+    fn new(position: u32) -> Until {
+        Until {
+            position,
+            passed: AtomicBool::new(false),
+            within: AtomicBool::new(false),
+        }
+    }
+
+    fn keep(&self, position: u32) {
+        if position == self.position {
+            self.passed.store(true, Ordering::SeqCst);
+        }
+        if position != 0 {
+            return;
+        }
+        for _ in 0..10_000_000 {
+            if self.passed.load(Ordering::SeqCst) {
+                self.within.store(true, Ordering::SeqCst);
+                return;
+            }
+            thread::yield_now();
+        }
+    }
+
+    fn was_passed(&self) -> bool {
+        self.within.load(Ordering::SeqCst)
+    }
+}
+
+impl Gate for Until {
+    fn pass(&self, _lane: u32, position: u32) {
+        self.keep(position);
+    }
+}
+
+impl SendGate for Until {
+    fn pass(&self, _sender: u32, position: u32) {
+        self.keep(position);
+    }
+}
+
+/// The words of a line, each after one space.
+fn words_of(alloc: Global, line: &str) -> Result<Words, Fail> {
+    let mut words = Items::new(alloc);
+    for word in line.split(' ') {
+        words.push(Blob::from_slice(alloc, word.as_bytes())?)?;
+    }
+    Ok(Words::from_items(words).ok_or("a word is no text")?)
+}
+
+/// What the top call answers, with devices that never fail.
+fn ask<G: Gate, H: SendGate, R: Threads + Wait + Sync>(
+    rt: &R,
+    alloc: Global,
+    line: &str,
+    input: &[u8],
+    gate: &G,
+    send: &H,
+) -> Result<Answer, Fail> {
+    let words = words_of(alloc, line)?;
+    let mut source = NeverSource::new(Blob::from_slice(alloc, input)?);
+    let mut out = NeverSink::new(alloc);
+    let mut notes = NeverSink::new(alloc);
+    let status = bank_main(rt, alloc, &words, &mut source, &mut out, &mut notes, gate, send);
+    Ok(Answer {
+        status,
+        output: Blob::from_slice(alloc, out.held())?,
+        notes: Blob::from_slice(alloc, notes.held())?,
+    })
+}
+
+/// The first bytes, at most so many.
+fn front(bytes: &[u8], count: usize) -> &[u8] {
+    if count <= bytes.len() {
+        &bytes[..count]
+    } else {
+        bytes
+    }
+}
+
+/// The bytes from a place on.
+fn back(bytes: &[u8], from: usize) -> &[u8] {
+    if from <= bytes.len() {
+        &bytes[from..]
+    } else {
+        &[]
+    }
+}
+
+/// A wallet of the snapshot: key, lamports, the system program as owner, no program, no data.
+fn append_wallet(out: &mut Blob, key: u8, lamports: u64) -> Result<(), OutOfMemory> {
+    out.append(&[key; 32])?;
+    out.append(&lamports.to_le_bytes())?;
+    out.append(&[0; 37])
+}
+
+/// A transfer, as 215 bytes behind their length.
+fn append_transfer(out: &mut Blob, payer: u8, to: u8, lamports: u64) -> Result<(), OutOfMemory> {
+    out.append(&[215, 0, 1])?;
+    out.append(&[0; 64])?;
+    out.append(&[1, 0, 1, 3])?;
+    out.append(&[payer; 32])?;
+    out.append(&[to; 32])?;
+    out.append(&[0; 32])?;
+    out.append(&[0xaa; 32])?;
+    out.append(&[1, 2, 2, 0, 1, 12, 2, 0, 0, 0])?;
+    out.append(&lamports.to_le_bytes())
+}
+
+/// The snapshot of example "two transfers": 291 bytes.
+fn snapshot(alloc: Global) -> Result<Blob, OutOfMemory> {
+    let mut input = Blob::from_slice(alloc, b"SOLSNAP1")?;
+    input.append(&7u64.to_le_bytes())?;
+    input.append(&1u32.to_le_bytes())?;
+    input.append(&[0xaa; 32])?;
+    input.append(&0u32.to_le_bytes())?;
+    input.append(&3u32.to_le_bytes())?;
+    append_wallet(&mut input, 1, 2_000_000_000)?;
+    append_wallet(&mut input, 2, 2_000_000_000)?;
+    append_wallet(&mut input, 0xc0, 1_000_000_000)?;
+    Ok(input)
+}
+
+/// The snapshot, and the head of a batch of so many transactions.
+fn head(alloc: Global, count: u32) -> Result<Blob, OutOfMemory> {
+    let mut input = snapshot(alloc)?;
+    input.append(b"SOLBATC1")?;
+    input.append(&8u64.to_le_bytes())?;
+    input.append(&[0xc0; 32])?;
+    input.append(&count.to_le_bytes())?;
+    Ok(input)
+}
+
+/// The input of example "two transfers": 777 bytes.
+fn two_transfers(alloc: Global) -> Result<Blob, OutOfMemory> {
+    let mut input = head(alloc, 2)?;
+    append_transfer(&mut input, 1, 0x11, 1_000_000_000)?;
+    append_transfer(&mut input, 2, 0x12, 1_000_000_000)?;
+    Ok(input)
+}
+
+/// Its first transaction twice, so that the second is refused.
+fn repeated(alloc: Global) -> Result<Blob, OutOfMemory> {
+    let mut input = head(alloc, 2)?;
+    append_transfer(&mut input, 1, 0x11, 1_000_000_000)?;
+    append_transfer(&mut input, 1, 0x11, 1_000_000_000)?;
+    Ok(input)
+}
+
+/// The input of example "no barrier".
+fn no_barrier(alloc: Global) -> Result<Blob, OutOfMemory> {
+    let mut input = head(alloc, 3)?;
+    append_transfer(&mut input, 1, 0x11, 1_000_000_000)?;
+    append_transfer(&mut input, 2, 0x12, 900_000)?;
+    append_transfer(&mut input, 2, 0x12, 900_001)?;
+    Ok(input)
+}
+
+/// The snapshot and a record, with one byte of the record set.
+fn replay_input(alloc: Global, record: &[u8], at: usize, byte: u8) -> Result<Blob, OutOfMemory> {
+    let mut input = snapshot(alloc)?;
+    input.append(front(record, at))?;
+    input.append(&[byte])?;
+    input.append(back(record, at.saturating_add(1)))?;
+    Ok(input)
+}
+
+/// A list of one number.
+fn failing(alloc: Global, call: u32) -> Result<Items<u32>, Fail> {
+    let mut calls = Items::new(alloc);
+    calls.push(call)?;
+    Ok(calls)
+}
+
+#[test]
+fn two_transfers_on_lanes(rt: HostRuntime) -> Result<(), Fail> {
+    let alloc = rt.alloc();
+    let input = two_transfers(alloc)?;
+    let one = ask(&rt, alloc, "produce", input.as_slice(), &OpenGate, &OpenSend)?;
+    assert_eq!(rt; (one.status, one.output.len(), one.notes.len()), (0, 1548, 0));
+    assert_eq!(rt; front(back(one.output.as_slice(), 984), 8), b"SOLSNAP2".as_slice());
+    let gate = Until::new(1);
+    let two = ask(&rt, alloc, "produce --lanes 2", input.as_slice(), &gate, &OpenSend)?;
+    assert!(rt; gate.was_passed());
+    assert_eq!(rt; two.output.as_slice(), one.output.as_slice());
+    let send = Until::new(1);
+    let line = "produce --senders 2 --lanes 3";
+    let sent = ask(&rt, alloc, line, input.as_slice(), &OpenGate, &send)?;
+    assert!(rt; send.was_passed());
+    assert_eq!(rt; sent.output.as_slice(), one.output.as_slice());
+    Ok(())
+}
+
+#[test]
+fn no_barrier_on_lanes(rt: HostRuntime) -> Result<(), Fail> {
+    let alloc = rt.alloc();
+    let input = no_barrier(alloc)?;
+    let gate = Until::new(2);
+    let told = ask(&rt, alloc, "produce --lanes 2", input.as_slice(), &gate, &OpenSend)?;
+    assert!(rt; gate.was_passed());
+    assert_eq!(rt; (told.status, told.notes.len()), (0, 0));
+    Ok(())
+}
+
+#[test]
+fn replay_on_lanes(rt: HostRuntime) -> Result<(), Fail> {
+    let alloc = rt.alloc();
+    let input = two_transfers(alloc)?;
+    let made = ask(&rt, alloc, "produce", input.as_slice(), &OpenGate, &OpenSend)?;
+    let record = front(made.output.as_slice(), 984);
+    let same = replay_input(alloc, record, 0, b'S')?;
+    let gate = Until::new(1);
+    let told = ask(&rt, alloc, "replay --lanes=2", same.as_slice(), &gate, &OpenSend)?;
+    assert!(rt; gate.was_passed());
+    assert_eq!(rt; (told.status, told.output.len()), (0, 71));
+    assert_eq!(rt; front(told.output.as_slice(), 6), b"match ".as_slice());
+    // The first letter of entry 0's first line, and the low byte of burned.
+    let lines = replay_input(alloc, record, 84 + 245, b'Q')?;
+    let told = ask(&rt, alloc, "replay", lines.as_slice(), &OpenGate, &OpenSend)?;
+    assert_eq!(rt; told.status, 1);
+    assert_eq!(rt; told.output.as_slice(), b"differ entry 0 lines\n".as_slice());
+    let burned = replay_input(alloc, record, 904, 0x89)?;
+    let told = ask(&rt, alloc, "replay", burned.as_slice(), &OpenGate, &OpenSend)?;
+    assert_eq!(rt; told.output.as_slice(), b"differ block burned\n".as_slice());
+    Ok(())
+}
+
+#[test]
+fn made_and_shown(rt: HostRuntime) -> Result<(), Fail> {
+    let alloc = rt.alloc();
+    let made = ask(&rt, alloc, "make --number 1 --count 1", &[], &OpenGate, &OpenSend)?;
+    assert_eq!(rt; made.status, 0);
+    let block = ask(&rt, alloc, "produce", made.output.as_slice(), &OpenGate, &OpenSend)?;
+    assert_eq!(rt; (block.status, block.notes.len()), (0, 0));
+    let line = "make --run --count=1 --number=1";
+    let run = ask(&rt, alloc, line, &[], &OpenGate, &OpenSend)?;
+    let begun = b"made 1 admitted 1 ok 1 failed 0 dropped 0 burned 2500 hash ".as_slice();
+    assert_eq!(rt; front(run.output.as_slice(), 59), begun);
+    let mut empty = head(alloc, 0)?;
+    let block = ask(&rt, alloc, "produce", empty.as_slice(), &OpenGate, &OpenSend)?;
+    let record = front(block.output.as_slice(), 164);
+    let shown = ask(&rt, alloc, "show", record, &OpenGate, &OpenSend)?;
+    let begun = b"{\"burned\":0,\"collected\":0,\"collector\":\"c0".as_slice();
+    assert_eq!(rt; front(shown.output.as_slice(), 41), begun);
+    empty.append(&[0])?;
+    let told = ask(&rt, alloc, "produce", empty.as_slice(), &OpenGate, &OpenSend)?;
+    assert_eq!(rt; told.notes.as_slice(), b"batch: Trailing at 52\n".as_slice());
+    Ok(())
+}
+
+#[test]
+fn three_lines_assembled(rt: HostRuntime) -> Result<(), Fail> {
+    let alloc = rt.alloc();
+    let text = b"stb [r1+96], 7\nmov64 r0, 0\nexit\n";
+    let image = ask(&rt, alloc, "asm", text, &OpenGate, &OpenSend)?;
+    assert_eq!(rt; (image.status, image.output.len()), (0, 40));
+    let listed = ask(&rt, alloc, "list", image.output.as_slice(), &OpenGate, &OpenSend)?;
+    assert_eq!(rt; listed.output.as_slice(), text.as_slice());
+    let text = b"mov64 r10, 1\nexit\n";
+    let refused = ask(&rt, alloc, "asm", text, &OpenGate, &OpenSend)?;
+    assert_eq!(rt; refused.status, 3);
+    let note = b"asm: Unverified WritesFrame at 0\n".as_slice();
+    assert_eq!(rt; refused.notes.as_slice(), note);
+    Ok(())
+}
+
+#[test]
+fn words_are_refused(rt: HostRuntime) -> Result<(), Fail> {
+    let alloc = rt.alloc();
+    let told = ask(&rt, alloc, "produce --lanes 0", &[], &OpenGate, &OpenSend)?;
+    assert_eq!(rt; (told.status, told.output.len()), (2, 0));
+    assert_eq!(rt; told.notes.as_slice(), b"words refused\n".as_slice());
+    let told = ask(&rt, alloc, "produce", &[], &OpenGate, &OpenSend)?;
+    assert_eq!(rt; told.status, 3);
+    assert_eq!(rt; told.notes.as_slice(), b"snapshot: Truncated at 0\n".as_slice());
+    Ok(())
+}
+
+#[test]
+fn a_failing_second_read(rt: HostRuntime) -> Result<(), Fail> {
+    let alloc = rt.alloc();
+    let words = words_of(alloc, "produce")?;
+    let mut source = MemSource::new(two_transfers(alloc)?, failing(alloc, 1)?);
+    let mut out = NeverSink::new(alloc);
+    let mut notes = NeverSink::new(alloc);
+    let status =
+        bank_main(&rt, alloc, &words, &mut source, &mut out, &mut notes, &OpenGate, &OpenSend);
+    assert_eq!(rt; status, 4);
+    assert!(rt; out.held().is_empty());
+    assert_eq!(rt; notes.held(), b"read failed\n".as_slice());
+    Ok(())
+}
+
+/// A failing first write of the output leaves the notes as they are, which would not be empty.
+#[test]
+fn a_failing_first_write(rt: HostRuntime) -> Result<(), Fail> {
+    let alloc = rt.alloc();
+    let words = words_of(alloc, "produce")?;
+    let mut source = NeverSource::new(repeated(alloc)?);
+    let mut out = MemSink::new(alloc, failing(alloc, 0)?);
+    let mut notes = NeverSink::new(alloc);
+    let status =
+        bank_main(&rt, alloc, &words, &mut source, &mut out, &mut notes, &OpenGate, &OpenSend);
+    assert_eq!(rt; status, 5);
+    assert!(rt; out.held().is_empty());
+    assert!(rt; notes.held().is_empty());
+    Ok(())
+}
+
+/// A failing first write of the notes comes after the whole output.
+#[test]
+fn a_failing_note(rt: HostRuntime) -> Result<(), Fail> {
+    let alloc = rt.alloc();
+    let told = ask(&rt, alloc, "produce", repeated(alloc)?.as_slice(), &OpenGate, &OpenSend)?;
+    assert_eq!(rt; told.notes.as_slice(), b"refused 1: RepeatedInBatch\n".as_slice());
+    let words = words_of(alloc, "produce")?;
+    let mut source = NeverSource::new(repeated(alloc)?);
+    let mut out = NeverSink::new(alloc);
+    let mut notes = MemSink::new(alloc, failing(alloc, 0)?);
+    let status =
+        bank_main(&rt, alloc, &words, &mut source, &mut out, &mut notes, &OpenGate, &OpenSend);
+    assert_eq!(rt; status, 5);
+    assert_eq!(rt; out.held(), told.output.as_slice());
+    assert!(rt; notes.held().is_empty());
+    Ok(())
+}
+
+#[test]
+fn texts_of_refusals(rt: HostRuntime) -> Result<(), Fail> {
+    let alloc = rt.alloc();
+    let table = [
+        (
+            refuse_snapshot(alloc, SnapshotFault::SupplyTooLarge)?,
+            "snapshot: SupplyTooLarge\n",
+        ),
+        (
+            refuse_snapshot(alloc, SnapshotFault::DataTooLong { at: 132 })?,
+            "snapshot: DataTooLong at 132\n",
+        ),
+        (
+            refuse_batch(alloc, BatchFault::SlotNotLater)?,
+            "batch: SlotNotLater\n",
+        ),
+        (
+            refuse_record(alloc, RecordFault::BadField { at: 0 })?,
+            "record: BadField at 0\n",
+        ),
+        (
+            refuse_asm(alloc, AsmFault::UnknownLabel { line: 1 })?,
+            "asm: UnknownLabel at 1\n",
+        ),
+        (
+            refuse_asm(alloc, AsmFault::Unverified(VerifyFault::Length))?,
+            "asm: Unverified Length\n",
+        ),
+        (refuse_list(alloc, ListFault::BadImage)?, "list: BadImage\n"),
+        (
+            refuse_list(alloc, ListFault::Unverified(VerifyFault::Jump { at: 7 }))?,
+            "list: Unverified Jump at 7\n",
+        ),
+    ];
+    for (told, text) in &table {
+        assert_eq!(rt; told.status, 3);
+        assert_eq!(rt; told.notes.as_slice(), text.as_bytes());
+    }
+    Ok(())
+}
