@@ -18,6 +18,5 @@ pub use top::{
     bank_main,
 };
 
-
 #[cfg(test)]
 mod tests;

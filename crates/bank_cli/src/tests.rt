@@ -89,7 +89,16 @@ fn ask<G: Gate, H: SendGate, R: Threads + Wait + Sync>(
     let mut source = NeverSource::new(Blob::from_slice(alloc, input)?);
     let mut out = NeverSink::new(alloc);
     let mut notes = NeverSink::new(alloc);
-    let status = bank_main(rt, alloc, &words, &mut source, &mut out, &mut notes, gate, send);
+    let status = bank_main(
+        rt,
+        alloc,
+        &words,
+        &mut source,
+        &mut out,
+        &mut notes,
+        gate,
+        send,
+    );
     Ok(Answer {
         status,
         output: Blob::from_slice(alloc, out.held())?,
@@ -204,11 +213,31 @@ fn failing(alloc: Global, call: u32) -> Result<Items<u32>, Fail> {
 fn two_transfers_on_lanes(rt: HostRuntime) -> Result<(), Fail> {
     let alloc = rt.alloc();
     let input = two_transfers(alloc)?;
-    let one = ask(&rt, alloc, "produce", input.as_slice(), &OpenGate, &OpenSend)?;
-    assert_eq!(rt; (one.status, one.output.len(), one.notes.len()), (0, 1548, 0));
-    assert_eq!(rt; front(back(one.output.as_slice(), 984), 8), b"SOLSNAP2".as_slice());
+    let one = ask(
+        &rt,
+        alloc,
+        "produce",
+        input.as_slice(),
+        &OpenGate,
+        &OpenSend,
+    )?;
+    assert_eq!(rt;
+        (one.status, one.output.len(), one.notes.len()),
+        (0, 1548, 0)
+    );
+    assert_eq!(rt;
+        front(back(one.output.as_slice(), 984), 8),
+        b"SOLSNAP2".as_slice()
+    );
     let gate = Until::new(1);
-    let two = ask(&rt, alloc, "produce --lanes 2", input.as_slice(), &gate, &OpenSend)?;
+    let two = ask(
+        &rt,
+        alloc,
+        "produce --lanes 2",
+        input.as_slice(),
+        &gate,
+        &OpenSend,
+    )?;
     assert!(rt; gate.was_passed());
     assert_eq!(rt; two.output.as_slice(), one.output.as_slice());
     let send = Until::new(1);
@@ -224,7 +253,14 @@ fn no_barrier_on_lanes(rt: HostRuntime) -> Result<(), Fail> {
     let alloc = rt.alloc();
     let input = no_barrier(alloc)?;
     let gate = Until::new(2);
-    let told = ask(&rt, alloc, "produce --lanes 2", input.as_slice(), &gate, &OpenSend)?;
+    let told = ask(
+        &rt,
+        alloc,
+        "produce --lanes 2",
+        input.as_slice(),
+        &gate,
+        &OpenSend,
+    )?;
     assert!(rt; gate.was_passed());
     assert_eq!(rt; (told.status, told.notes.len()), (0, 0));
     Ok(())
@@ -234,11 +270,25 @@ fn no_barrier_on_lanes(rt: HostRuntime) -> Result<(), Fail> {
 fn replay_on_lanes(rt: HostRuntime) -> Result<(), Fail> {
     let alloc = rt.alloc();
     let input = two_transfers(alloc)?;
-    let made = ask(&rt, alloc, "produce", input.as_slice(), &OpenGate, &OpenSend)?;
+    let made = ask(
+        &rt,
+        alloc,
+        "produce",
+        input.as_slice(),
+        &OpenGate,
+        &OpenSend,
+    )?;
     let record = front(made.output.as_slice(), 984);
     let same = replay_input(alloc, record, 0, b'S')?;
     let gate = Until::new(1);
-    let told = ask(&rt, alloc, "replay --lanes=2", same.as_slice(), &gate, &OpenSend)?;
+    let told = ask(
+        &rt,
+        alloc,
+        "replay --lanes=2",
+        same.as_slice(),
+        &gate,
+        &OpenSend,
+    )?;
     assert!(rt; gate.was_passed());
     assert_eq!(rt; (told.status, told.output.len()), (0, 71));
     assert_eq!(rt; front(told.output.as_slice(), 6), b"match ".as_slice());
@@ -246,9 +296,19 @@ fn replay_on_lanes(rt: HostRuntime) -> Result<(), Fail> {
     let lines = replay_input(alloc, record, 84 + 245, b'Q')?;
     let told = ask(&rt, alloc, "replay", lines.as_slice(), &OpenGate, &OpenSend)?;
     assert_eq!(rt; told.status, 1);
-    assert_eq!(rt; told.output.as_slice(), b"differ entry 0 lines\n".as_slice());
+    assert_eq!(rt;
+        told.output.as_slice(),
+        b"differ entry 0 lines\n".as_slice()
+    );
     let burned = replay_input(alloc, record, 904, 0x89)?;
-    let told = ask(&rt, alloc, "replay", burned.as_slice(), &OpenGate, &OpenSend)?;
+    let told = ask(
+        &rt,
+        alloc,
+        "replay",
+        burned.as_slice(),
+        &OpenGate,
+        &OpenSend,
+    )?;
     assert_eq!(rt; told.output.as_slice(), b"differ block burned\n".as_slice());
     Ok(())
 }
@@ -256,23 +316,54 @@ fn replay_on_lanes(rt: HostRuntime) -> Result<(), Fail> {
 #[test]
 fn made_and_shown(rt: HostRuntime) -> Result<(), Fail> {
     let alloc = rt.alloc();
-    let made = ask(&rt, alloc, "make --number 1 --count 1", &[], &OpenGate, &OpenSend)?;
+    let made = ask(
+        &rt,
+        alloc,
+        "make --number 1 --count 1",
+        &[],
+        &OpenGate,
+        &OpenSend,
+    )?;
     assert_eq!(rt; made.status, 0);
-    let block = ask(&rt, alloc, "produce", made.output.as_slice(), &OpenGate, &OpenSend)?;
+    let block = ask(
+        &rt,
+        alloc,
+        "produce",
+        made.output.as_slice(),
+        &OpenGate,
+        &OpenSend,
+    )?;
     assert_eq!(rt; (block.status, block.notes.len()), (0, 0));
     let line = "make --run --count=1 --number=1";
     let run = ask(&rt, alloc, line, &[], &OpenGate, &OpenSend)?;
     let begun = b"made 1 admitted 1 ok 1 failed 0 dropped 0 burned 2500 hash ".as_slice();
     assert_eq!(rt; front(run.output.as_slice(), 59), begun);
     let mut empty = head(alloc, 0)?;
-    let block = ask(&rt, alloc, "produce", empty.as_slice(), &OpenGate, &OpenSend)?;
+    let block = ask(
+        &rt,
+        alloc,
+        "produce",
+        empty.as_slice(),
+        &OpenGate,
+        &OpenSend,
+    )?;
     let record = front(block.output.as_slice(), 164);
     let shown = ask(&rt, alloc, "show", record, &OpenGate, &OpenSend)?;
     let begun = b"{\"burned\":0,\"collected\":0,\"collector\":\"c0".as_slice();
     assert_eq!(rt; front(shown.output.as_slice(), 41), begun);
     empty.append(&[0])?;
-    let told = ask(&rt, alloc, "produce", empty.as_slice(), &OpenGate, &OpenSend)?;
-    assert_eq!(rt; told.notes.as_slice(), b"batch: Trailing at 52\n".as_slice());
+    let told = ask(
+        &rt,
+        alloc,
+        "produce",
+        empty.as_slice(),
+        &OpenGate,
+        &OpenSend,
+    )?;
+    assert_eq!(rt;
+        told.notes.as_slice(),
+        b"batch: Trailing at 52\n".as_slice()
+    );
     Ok(())
 }
 
@@ -282,7 +373,14 @@ fn three_lines_assembled(rt: HostRuntime) -> Result<(), Fail> {
     let text = b"stb [r1+96], 7\nmov64 r0, 0\nexit\n";
     let image = ask(&rt, alloc, "asm", text, &OpenGate, &OpenSend)?;
     assert_eq!(rt; (image.status, image.output.len()), (0, 40));
-    let listed = ask(&rt, alloc, "list", image.output.as_slice(), &OpenGate, &OpenSend)?;
+    let listed = ask(
+        &rt,
+        alloc,
+        "list",
+        image.output.as_slice(),
+        &OpenGate,
+        &OpenSend,
+    )?;
     assert_eq!(rt; listed.output.as_slice(), text.as_slice());
     let text = b"mov64 r10, 1\nexit\n";
     let refused = ask(&rt, alloc, "asm", text, &OpenGate, &OpenSend)?;
@@ -300,7 +398,10 @@ fn words_are_refused(rt: HostRuntime) -> Result<(), Fail> {
     assert_eq!(rt; told.notes.as_slice(), b"words refused\n".as_slice());
     let told = ask(&rt, alloc, "produce", &[], &OpenGate, &OpenSend)?;
     assert_eq!(rt; told.status, 3);
-    assert_eq!(rt; told.notes.as_slice(), b"snapshot: Truncated at 0\n".as_slice());
+    assert_eq!(rt;
+        told.notes.as_slice(),
+        b"snapshot: Truncated at 0\n".as_slice()
+    );
     Ok(())
 }
 
@@ -311,8 +412,16 @@ fn a_failing_second_read(rt: HostRuntime) -> Result<(), Fail> {
     let mut source = MemSource::new(two_transfers(alloc)?, failing(alloc, 1)?);
     let mut out = NeverSink::new(alloc);
     let mut notes = NeverSink::new(alloc);
-    let status =
-        bank_main(&rt, alloc, &words, &mut source, &mut out, &mut notes, &OpenGate, &OpenSend);
+    let status = bank_main(
+        &rt,
+        alloc,
+        &words,
+        &mut source,
+        &mut out,
+        &mut notes,
+        &OpenGate,
+        &OpenSend,
+    );
     assert_eq!(rt; status, 4);
     assert!(rt; out.held().is_empty());
     assert_eq!(rt; notes.held(), b"read failed\n".as_slice());
@@ -327,8 +436,16 @@ fn a_failing_first_write(rt: HostRuntime) -> Result<(), Fail> {
     let mut source = NeverSource::new(repeated(alloc)?);
     let mut out = MemSink::new(alloc, failing(alloc, 0)?);
     let mut notes = NeverSink::new(alloc);
-    let status =
-        bank_main(&rt, alloc, &words, &mut source, &mut out, &mut notes, &OpenGate, &OpenSend);
+    let status = bank_main(
+        &rt,
+        alloc,
+        &words,
+        &mut source,
+        &mut out,
+        &mut notes,
+        &OpenGate,
+        &OpenSend,
+    );
     assert_eq!(rt; status, 5);
     assert!(rt; out.held().is_empty());
     assert!(rt; notes.held().is_empty());
@@ -339,14 +456,32 @@ fn a_failing_first_write(rt: HostRuntime) -> Result<(), Fail> {
 #[test]
 fn a_failing_note(rt: HostRuntime) -> Result<(), Fail> {
     let alloc = rt.alloc();
-    let told = ask(&rt, alloc, "produce", repeated(alloc)?.as_slice(), &OpenGate, &OpenSend)?;
-    assert_eq!(rt; told.notes.as_slice(), b"refused 1: RepeatedInBatch\n".as_slice());
+    let told = ask(
+        &rt,
+        alloc,
+        "produce",
+        repeated(alloc)?.as_slice(),
+        &OpenGate,
+        &OpenSend,
+    )?;
+    assert_eq!(rt;
+        told.notes.as_slice(),
+        b"refused 1: RepeatedInBatch\n".as_slice()
+    );
     let words = words_of(alloc, "produce")?;
     let mut source = NeverSource::new(repeated(alloc)?);
     let mut out = NeverSink::new(alloc);
     let mut notes = MemSink::new(alloc, failing(alloc, 0)?);
-    let status =
-        bank_main(&rt, alloc, &words, &mut source, &mut out, &mut notes, &OpenGate, &OpenSend);
+    let status = bank_main(
+        &rt,
+        alloc,
+        &words,
+        &mut source,
+        &mut out,
+        &mut notes,
+        &OpenGate,
+        &OpenSend,
+    );
     assert_eq!(rt; status, 5);
     assert_eq!(rt; out.held(), told.output.as_slice());
     assert!(rt; notes.held().is_empty());

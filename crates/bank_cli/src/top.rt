@@ -38,14 +38,7 @@ pub const OUT_OF_MEMORY: u8 = 6;
 /// answered (Solana for what a block comes to; the commands, texts and formats are the project's own).
 ///
 /// A lane passes `gate` before it works, and a sender of `produce` passes `send` before it parses.
-pub fn bank_main<
-    S: Source,
-    O: Sink,
-    N: Sink,
-    G: Gate,
-    H: SendGate,
-    R: Threads + Wait + Sync,
->(
+pub fn bank_main<S: Source, O: Sink, N: Sink, G: Gate, H: SendGate, R: Threads + Wait + Sync>(
     rt: &R,
     alloc: Global,
     words: &Words,
@@ -58,7 +51,7 @@ pub fn bank_main<
     // Every status but 4, 5 and 6 is that of the defined answer, which is written whole.
     ensures answered { result ≢ 4 → result ≢ 5 → result ≢ 6 →
         EndsWhole words.now (S.left source.old) (S.faults source.old) (S.faults source.new) result
-            (O.held out.old) (O.held out.new) (N.held notes.old) (N.held notes.new) }
+        (O.held out.old) (O.held out.new) (N.held notes.old) (N.held notes.new) }
     // Status 4 comes only where the source failed, and says so.
     ensures source_failed { result ≡ 4 →
         Rose (S.faults source.old) (S.faults source.new) × (reads_input words.now ≡ true)
@@ -72,9 +65,9 @@ pub fn bank_main<
     // they were unless the output has been taken whole.
     ensures fronts { (result ≡ 5) ⊎ (result ≡ 6) →
         EndsEarly words.now (S.left source.old) (S.faults source.old) (S.faults source.new)
-            (O.held out.old) (O.held out.new) (N.held notes.old) (N.held notes.new)
+        (O.held out.old) (O.held out.new) (N.held notes.old) (N.held notes.new)
         ⊎ FailsEarly words.now (S.faults source.old) (S.faults source.new)
-            (O.held out.old) (O.held out.new) (N.held notes.old) (N.held notes.new) }
+        (O.held out.old) (O.held out.new) (N.held notes.old) (N.held notes.new) }
     // Words that ask for no input take nothing from the source.
     ensures untouched { reads_input words.now ≡ false →
         Keeps (S.left source.old) (S.left source.new) × (S.faults source.new ≡ S.faults source.old) }
