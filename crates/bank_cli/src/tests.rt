@@ -209,47 +209,86 @@ fn failing(alloc: Global, call: u32) -> Result<Items<u32>, Fail> {
     Ok(calls)
 }
 
-#[test]
-fn two_transfers_on_lanes(rt: HostRuntime) -> Result<(), Fail> {
-    let alloc = rt.alloc();
+/// What is answered to the input of example "two transfers".
+fn ask_two<G: Gate, H: SendGate, R: Threads + Wait + Sync>(
+    rt: &R,
+    alloc: Global,
+    line: &str,
+    gate: &G,
+    send: &H,
+) -> Result<Answer, Fail> {
     let input = two_transfers(alloc)?;
-    let one = ask(
-        &rt,
-        alloc,
-        "produce",
-        input.as_slice(),
-        &OpenGate,
-        &OpenSend,
-    )?;
+    ask(rt, alloc, line, input.as_slice(), gate, send)
+}
+
+/// Whether it is the same as on one lane and by one sender.
+fn is_as_alone<G: Gate, H: SendGate, R: Threads + Wait + Sync>(
+    rt: &R,
+    alloc: Global,
+    line: &str,
+    gate: &G,
+    send: &H,
+) -> Result<bool, Fail> {
+    let alone = ask_two(rt, alloc, "produce", &OpenGate, &OpenSend)?;
+    let told = ask_two(rt, alloc, line, gate, send)?;
+    Ok(told.status == 0 && told.output.as_slice() == alone.output.as_slice())
+}
+
+/// What `replay` answers to the record of example "two transfers" with one byte set.
+fn replay_with<G: Gate, R: Threads + Wait + Sync>(
+    rt: &R,
+    alloc: Global,
+    line: &str,
+    at: usize,
+    byte: u8,
+    gate: &G,
+) -> Result<Answer, Fail> {
+    let told = ask_two(rt, alloc, "produce", &OpenGate, &OpenSend)?;
+    let record = front(told.output.as_slice(), 984);
+    let input = replay_input(alloc, record, at, byte)?;
+    ask(rt, alloc, line, input.as_slice(), gate, &OpenSend)
+}
+
+/// The record of an empty block.
+fn empty_record<R: Threads + Wait + Sync>(rt: &R, alloc: Global) -> Result<Blob, Fail> {
+    let input = head(alloc, 0)?;
+    let told = ask(rt, alloc, "produce", input.as_slice(), &OpenGate, &OpenSend)?;
+    Ok(Blob::from_slice(alloc, front(told.output.as_slice(), 164))?)
+}
+
+#[test]
+fn two_transfers_are_written(rt: HostRuntime) -> Result<(), Fail> {
+    let told = ask_two(&rt, rt.alloc(), "produce --lanes 3", &OpenGate, &OpenSend)?;
     assert_eq!(rt;
-        (one.status, one.output.len(), one.notes.len()),
+        (told.status, told.output.len(), told.notes.len()),
         (0, 1548, 0)
     );
     assert_eq!(rt;
-        front(back(one.output.as_slice(), 984), 8),
+        front(back(told.output.as_slice(), 984), 8),
         b"SOLSNAP2".as_slice()
     );
-    let gate = Until::new(1);
-    let two = ask(
-        &rt,
-        alloc,
-        "produce --lanes 2",
-        input.as_slice(),
-        &gate,
-        &OpenSend,
-    )?;
-    assert!(rt; gate.was_passed());
-    assert_eq!(rt; two.output.as_slice(), one.output.as_slice());
-    let send = Until::new(1);
-    let line = "produce --senders 2 --lanes 3";
-    let sent = ask(&rt, alloc, line, input.as_slice(), &OpenGate, &send)?;
-    assert!(rt; send.was_passed());
-    assert_eq!(rt; sent.output.as_slice(), one.output.as_slice());
     Ok(())
 }
 
 #[test]
-fn no_barrier_on_lanes(rt: HostRuntime) -> Result<(), Fail> {
+fn two_lanes_at_once(rt: HostRuntime) -> Result<(), Fail> {
+    let gate = Until::new(1);
+    assert!(rt; is_as_alone(&rt, rt.alloc(), "produce --lanes 2", &gate, &OpenSend)?);
+    assert!(rt; gate.was_passed());
+    Ok(())
+}
+
+#[test]
+fn two_senders_at_once(rt: HostRuntime) -> Result<(), Fail> {
+    let send = Until::new(1);
+    let line = "produce --senders 2 --lanes 3";
+    assert!(rt; is_as_alone(&rt, rt.alloc(), line, &OpenGate, &send)?);
+    assert!(rt; send.was_passed());
+    Ok(())
+}
+
+#[test]
+fn no_barrier_between_lanes(rt: HostRuntime) -> Result<(), Fail> {
     let alloc = rt.alloc();
     let input = no_barrier(alloc)?;
     let gate = Until::new(2);
@@ -267,54 +306,59 @@ fn no_barrier_on_lanes(rt: HostRuntime) -> Result<(), Fail> {
 }
 
 #[test]
-fn replay_on_lanes(rt: HostRuntime) -> Result<(), Fail> {
-    let alloc = rt.alloc();
-    let input = two_transfers(alloc)?;
-    let made = ask(
-        &rt,
-        alloc,
-        "produce",
-        input.as_slice(),
-        &OpenGate,
-        &OpenSend,
-    )?;
-    let record = front(made.output.as_slice(), 984);
-    let same = replay_input(alloc, record, 0, b'S')?;
+fn replay_on_two_lanes(rt: HostRuntime) -> Result<(), Fail> {
     let gate = Until::new(1);
-    let told = ask(
-        &rt,
-        alloc,
-        "replay --lanes=2",
-        same.as_slice(),
-        &gate,
-        &OpenSend,
-    )?;
+    let told = replay_with(&rt, rt.alloc(), "replay --lanes=2", 0, b'S', &gate)?;
     assert!(rt; gate.was_passed());
     assert_eq!(rt; (told.status, told.output.len()), (0, 71));
     assert_eq!(rt; front(told.output.as_slice(), 6), b"match ".as_slice());
-    // The first letter of entry 0's first line, and the low byte of burned.
-    let lines = replay_input(alloc, record, 84 + 245, b'Q')?;
-    let told = ask(&rt, alloc, "replay", lines.as_slice(), &OpenGate, &OpenSend)?;
+    Ok(())
+}
+
+/// The first letter of entry 0's first line is another.
+#[test]
+fn replay_of_another_line(rt: HostRuntime) -> Result<(), Fail> {
+    let told = replay_with(&rt, rt.alloc(), "replay", 84 + 245, b'Q', &OpenGate)?;
     assert_eq!(rt; told.status, 1);
     assert_eq!(rt;
         told.output.as_slice(),
         b"differ entry 0 lines\n".as_slice()
     );
-    let burned = replay_input(alloc, record, 904, 0x89)?;
-    let told = ask(
-        &rt,
-        alloc,
-        "replay",
-        burned.as_slice(),
-        &OpenGate,
-        &OpenSend,
-    )?;
+    Ok(())
+}
+
+/// One lamport more is burned.
+#[test]
+fn replay_of_more_burned(rt: HostRuntime) -> Result<(), Fail> {
+    let told = replay_with(&rt, rt.alloc(), "replay", 904, 0x89, &OpenGate)?;
+    assert_eq!(rt; told.status, 1);
     assert_eq!(rt; told.output.as_slice(), b"differ block burned\n".as_slice());
     Ok(())
 }
 
 #[test]
-fn made_and_shown(rt: HostRuntime) -> Result<(), Fail> {
+fn an_empty_block_is_shown(rt: HostRuntime) -> Result<(), Fail> {
+    let alloc = rt.alloc();
+    let record = empty_record(&rt, alloc)?;
+    let told = ask(&rt, alloc, "show", record.as_slice(), &OpenGate, &OpenSend)?;
+    let begun = b"{\"burned\":0,\"collected\":0,\"collector\":\"c0".as_slice();
+    assert_eq!(rt; told.status, 0);
+    assert_eq!(rt; front(told.output.as_slice(), 41), begun);
+    Ok(())
+}
+
+#[test]
+fn a_made_input_is_run(rt: HostRuntime) -> Result<(), Fail> {
+    let line = "make --run --count=1 --number=1";
+    let told = ask(&rt, rt.alloc(), line, &[], &OpenGate, &OpenSend)?;
+    let begun = b"made 1 admitted 1 ok 1 failed 0 dropped 0 burned 2500 hash ".as_slice();
+    assert_eq!(rt; told.status, 0);
+    assert_eq!(rt; front(told.output.as_slice(), 59), begun);
+    Ok(())
+}
+
+#[test]
+fn a_made_input_is_produced(rt: HostRuntime) -> Result<(), Fail> {
     let alloc = rt.alloc();
     let made = ask(
         &rt,
@@ -324,8 +368,7 @@ fn made_and_shown(rt: HostRuntime) -> Result<(), Fail> {
         &OpenGate,
         &OpenSend,
     )?;
-    assert_eq!(rt; made.status, 0);
-    let block = ask(
+    let told = ask(
         &rt,
         alloc,
         "produce",
@@ -333,44 +376,14 @@ fn made_and_shown(rt: HostRuntime) -> Result<(), Fail> {
         &OpenGate,
         &OpenSend,
     )?;
-    assert_eq!(rt; (block.status, block.notes.len()), (0, 0));
-    let line = "make --run --count=1 --number=1";
-    let run = ask(&rt, alloc, line, &[], &OpenGate, &OpenSend)?;
-    let begun = b"made 1 admitted 1 ok 1 failed 0 dropped 0 burned 2500 hash ".as_slice();
-    assert_eq!(rt; front(run.output.as_slice(), 59), begun);
-    let mut empty = head(alloc, 0)?;
-    let block = ask(
-        &rt,
-        alloc,
-        "produce",
-        empty.as_slice(),
-        &OpenGate,
-        &OpenSend,
-    )?;
-    let record = front(block.output.as_slice(), 164);
-    let shown = ask(&rt, alloc, "show", record, &OpenGate, &OpenSend)?;
-    let begun = b"{\"burned\":0,\"collected\":0,\"collector\":\"c0".as_slice();
-    assert_eq!(rt; front(shown.output.as_slice(), 41), begun);
-    empty.append(&[0])?;
-    let told = ask(
-        &rt,
-        alloc,
-        "produce",
-        empty.as_slice(),
-        &OpenGate,
-        &OpenSend,
-    )?;
-    assert_eq!(rt;
-        told.notes.as_slice(),
-        b"batch: Trailing at 52\n".as_slice()
-    );
+    assert_eq!(rt; (told.status, told.notes.len()), (0, 0));
     Ok(())
 }
 
 #[test]
-fn three_lines_assembled(rt: HostRuntime) -> Result<(), Fail> {
+fn three_lines_are_assembled_and_listed(rt: HostRuntime) -> Result<(), Fail> {
     let alloc = rt.alloc();
-    let text = b"stb [r1+96], 7\nmov64 r0, 0\nexit\n";
+    let text = b"stb [r1+96], 7\nmov64 r0, 0\nexit\n".as_slice();
     let image = ask(&rt, alloc, "asm", text, &OpenGate, &OpenSend)?;
     assert_eq!(rt; (image.status, image.output.len()), (0, 40));
     let listed = ask(
@@ -381,23 +394,29 @@ fn three_lines_assembled(rt: HostRuntime) -> Result<(), Fail> {
         &OpenGate,
         &OpenSend,
     )?;
-    assert_eq!(rt; listed.output.as_slice(), text.as_slice());
-    let text = b"mov64 r10, 1\nexit\n";
-    let refused = ask(&rt, alloc, "asm", text, &OpenGate, &OpenSend)?;
-    assert_eq!(rt; refused.status, 3);
-    let note = b"asm: Unverified WritesFrame at 0\n".as_slice();
-    assert_eq!(rt; refused.notes.as_slice(), note);
+    assert_eq!(rt; listed.output.as_slice(), text);
     Ok(())
 }
 
 #[test]
 fn words_are_refused(rt: HostRuntime) -> Result<(), Fail> {
-    let alloc = rt.alloc();
-    let told = ask(&rt, alloc, "produce --lanes 0", &[], &OpenGate, &OpenSend)?;
+    let told = ask(
+        &rt,
+        rt.alloc(),
+        "produce --lanes 0",
+        &[],
+        &OpenGate,
+        &OpenSend,
+    )?;
     assert_eq!(rt; (told.status, told.output.len()), (2, 0));
     assert_eq!(rt; told.notes.as_slice(), b"words refused\n".as_slice());
-    let told = ask(&rt, alloc, "produce", &[], &OpenGate, &OpenSend)?;
-    assert_eq!(rt; told.status, 3);
+    Ok(())
+}
+
+#[test]
+fn no_input_is_refused(rt: HostRuntime) -> Result<(), Fail> {
+    let told = ask(&rt, rt.alloc(), "produce", &[], &OpenGate, &OpenSend)?;
+    assert_eq!(rt; (told.status, told.output.len()), (3, 0));
     assert_eq!(rt;
         told.notes.as_slice(),
         b"snapshot: Truncated at 0\n".as_slice()
@@ -452,22 +471,30 @@ fn a_failing_first_write(rt: HostRuntime) -> Result<(), Fail> {
     Ok(())
 }
 
-/// A failing first write of the notes comes after the whole output.
 #[test]
-fn a_failing_note(rt: HostRuntime) -> Result<(), Fail> {
+fn a_repeated_transaction_is_noted(rt: HostRuntime) -> Result<(), Fail> {
     let alloc = rt.alloc();
+    let input = repeated(alloc)?;
     let told = ask(
         &rt,
         alloc,
         "produce",
-        repeated(alloc)?.as_slice(),
+        input.as_slice(),
         &OpenGate,
         &OpenSend,
     )?;
+    assert_eq!(rt; (told.status, told.output.len()), (0, 1029));
     assert_eq!(rt;
         told.notes.as_slice(),
         b"refused 1: RepeatedInBatch\n".as_slice()
     );
+    Ok(())
+}
+
+/// A failing first write of the notes comes after the whole output.
+#[test]
+fn a_failing_note(rt: HostRuntime) -> Result<(), Fail> {
+    let alloc = rt.alloc();
     let words = words_of(alloc, "produce")?;
     let mut source = NeverSource::new(repeated(alloc)?);
     let mut out = NeverSink::new(alloc);
@@ -482,49 +509,40 @@ fn a_failing_note(rt: HostRuntime) -> Result<(), Fail> {
         &OpenGate,
         &OpenSend,
     );
-    assert_eq!(rt; status, 5);
-    assert_eq!(rt; out.held(), told.output.as_slice());
+    assert_eq!(rt; (status, out.held().len()), (5, 1029));
     assert!(rt; notes.held().is_empty());
     Ok(())
 }
 
+/// Whether the answer is a refusal of the input with this note.
+fn is_note(told: Answer, note: &str) -> bool {
+    told.status == 3 && told.output.is_empty() && told.notes.as_slice() == note.as_bytes()
+}
+
 #[test]
-fn texts_of_refusals(rt: HostRuntime) -> Result<(), Fail> {
+fn texts_of_refused_parts(rt: HostRuntime) -> Result<(), Fail> {
     let alloc = rt.alloc();
-    let table = [
-        (
-            refuse_snapshot(alloc, SnapshotFault::SupplyTooLarge)?,
-            "snapshot: SupplyTooLarge\n",
-        ),
-        (
-            refuse_snapshot(alloc, SnapshotFault::DataTooLong { at: 132 })?,
-            "snapshot: DataTooLong at 132\n",
-        ),
-        (
-            refuse_batch(alloc, BatchFault::SlotNotLater)?,
-            "batch: SlotNotLater\n",
-        ),
-        (
-            refuse_record(alloc, RecordFault::BadField { at: 0 })?,
-            "record: BadField at 0\n",
-        ),
-        (
-            refuse_asm(alloc, AsmFault::UnknownLabel { line: 1 })?,
-            "asm: UnknownLabel at 1\n",
-        ),
-        (
-            refuse_asm(alloc, AsmFault::Unverified(VerifyFault::Length))?,
-            "asm: Unverified Length\n",
-        ),
-        (refuse_list(alloc, ListFault::BadImage)?, "list: BadImage\n"),
-        (
-            refuse_list(alloc, ListFault::Unverified(VerifyFault::Jump { at: 7 }))?,
-            "list: Unverified Jump at 7\n",
-        ),
-    ];
-    for (told, text) in &table {
-        assert_eq!(rt; told.status, 3);
-        assert_eq!(rt; told.notes.as_slice(), text.as_bytes());
-    }
+    let told = refuse_snapshot(alloc, SnapshotFault::SupplyTooLarge)?;
+    assert!(rt; is_note(told, "snapshot: SupplyTooLarge\n"));
+    let told = refuse_snapshot(alloc, SnapshotFault::DataTooLong { at: 132 })?;
+    assert!(rt; is_note(told, "snapshot: DataTooLong at 132\n"));
+    let told = refuse_batch(alloc, BatchFault::SlotNotLater)?;
+    assert!(rt; is_note(told, "batch: SlotNotLater\n"));
+    let told = refuse_record(alloc, RecordFault::BadField { at: 0 })?;
+    assert!(rt; is_note(told, "record: BadField at 0\n"));
+    Ok(())
+}
+
+#[test]
+fn texts_of_refused_programs(rt: HostRuntime) -> Result<(), Fail> {
+    let alloc = rt.alloc();
+    let told = refuse_asm(alloc, AsmFault::UnknownLabel { line: 1 })?;
+    assert!(rt; is_note(told, "asm: UnknownLabel at 1\n"));
+    let told = refuse_asm(alloc, AsmFault::Unverified(VerifyFault::Length))?;
+    assert!(rt; is_note(told, "asm: Unverified Length\n"));
+    let told = refuse_list(alloc, ListFault::BadImage)?;
+    assert!(rt; is_note(told, "list: BadImage\n"));
+    let told = refuse_list(alloc, ListFault::Unverified(VerifyFault::Jump { at: 7 }))?;
+    assert!(rt; is_note(told, "list: Unverified Jump at 7\n"));
     Ok(())
 }
