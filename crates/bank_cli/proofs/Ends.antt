@@ -1,64 +1,145 @@
 -- The ends of the top call.
-use Rattle.std.proofs.Common.{◌≡◌, ◌≢◌, ℕ, ◌<◌, List, [], Bool, true, false, cond, Option, Some, None, Result, Ok, Err, ◌⊎◌, inl, inr, refl, sym, ap, subst, ◌∙◌, length, nat_le, arith}
-use Rattle.std.specs.Prelude.{codes}
+use Rattle.std.proofs.Common.{◌≡◌, ◌≢◌, ℕ, ◌+◌, ◌<◌, List, [], length, Bool, true, false, cond, Option, Some, None, Result, Ok, Err, ◌⊎◌, inl, inr, refl, sym, ap, subst, ◌∙◌, nat_le, arith}
+use Rattle.std.specs.Prelude.{codes, replicate}
 use Rattle.std.proofs.lemmas.Bool.Decides.{nat_tests}
-use Rattle.std.proofs.KnownBytes.{Appends-nil}
+use Rattle.std.proofs.lemmas.List.{length-replicate}
+use Rattle.std.proofs.KnownBytes.{Appends-nil, Keeps-refl}
 use Rattle.sol_io.specs.Bytes.{ReadsAll}
 use Rattle.sol_io.specs.Counts.{Rose}
 use Rattle.sol_io.specs.declared.fault.ReadFault.TheVariants.{TooLong}
+use Rattle.snapshot_codec.specs.declared.snapshot.Snapshot.{Snapshot}
+use Rattle.snapshot_codec.specs.declared.snapshot.Prefix.{Prefix}
+use Rattle.snapshot_codec.specs.SnapshotReading.{prefix_of}
+use Rattle.snapshot_codec.specs.BatchReading.{batch_of}
+use Rattle.block_record.specs.declared.block.Block.{Block}
+use Rattle.block_record.specs.RecordReading.{record_of}
+use Rattle.status_cache.specs.Recent.{newest_of}
+use Rattle.block_run.specs.Blocks.{listed_result}
+use Rattle.block_replay.specs.Verdict.{verdict}
+use Rattle.block_replay.specs.declared.verdict.Verdict.{Verdict}
+use Rattle.block_replay.specs.declared.verdict.Verdict.TheVariants.{Match, Differ}
+use Rattle.sbpf_asm.specs.Assembly.{assembled as assembled_of}
+use Rattle.sbpf_asm.specs.Listing.{listed as listed_of}
+use Rattle.bank_words.specs.Commands.{command_in}
+use Rattle.bank_words.specs.declared.command.Command.{Command}
+use Rattle.bank_words.specs.declared.command.Command.TheVariants.{Produce, Replay, Show, Make, Assemble, List as list_image}
 use Rattle.bank_cli.specs.declared.answer.Answer.{Answer}
-use Rattle.bank_cli.specs.declared.plain.PlainInput.{PlainInput}
-use Rattle.bank_cli.specs.declared.plain.PlainFault.{PlainFault}
-use Rattle.bank_cli.specs.Plain.{plain_of, input_at, text_at, input_limit}
-use Rattle.bank_cli.specs.Serial.{not_good}
-use Rattle.bank_cli.specs.Answer.{is_produce, refused, ran, produced, answer, read_failed}
+use Rattle.bank_cli.specs.Texts.{snapshot_text, batch_text, record_text, asm_text, list_text}
+use Rattle.bank_cli.specs.Answer.{refused, unless_refused, after_snapshot, produced, produced_after, judged, replayed, replayed_over, replayed_after, shown, made, assembled, listed, within, input_limit, answer_to, answer_for, answer, takes_input, reads_input, read_failed}
 use Rattle.bank_cli.specs.Ending.{Writes, Begins, TellsAnswer, TellsFault, Stops, EndsEarly, FailsEarly}
 
+-- ---- answers that do not look at the input
+
+-- the answer is the same for all bytes
+told_always : (answers : List ℕ → Answer) (left : Option (List ℕ)) (count : ℕ) (told : Answer) → ((bytes : List ℕ) → told ≡ answers bytes) → TellsAnswer answers left count count told
+told_always answers None count told same = record { bytes = []; input = tt; defined = same []; stands = refl }
+told_always answers (Some bytes) count told same = record { bytes = bytes; input = refl; defined = same bytes; stands = refl }
+
 -- words that are not in form have their answer whatever the input
-pub words_refused : (words : List (List ℕ)) (left : Option (List ℕ)) (count : ℕ) (told : Answer) → is_produce words ≡ false → told ≡ refused 2 (codes "words refused") → TellsAnswer words left count count told
-words_refused words None count told form is = record { bytes = []; input = tt; defined = is ∙ rw form refl; stands = refl }
-words_refused words (Some bytes) count told form is = record { bytes = bytes; input = refl; defined = is ∙ rw form refl; stands = refl }
+pub words_refused : (words : List (List ℕ)) (left : Option (List ℕ)) (count : ℕ) (told : Answer) → command_in words ≡ None → told ≡ refused 2 (codes "words refused") → TellsAnswer (answer words) left count count told
+words_refused words left count told form is = told_always (answer words) left count told (λ bytes. is ∙ ap (λ (command : Option Command). answer_for command bytes) (sym form))
 
-long_is_not_plain : (bytes : List ℕ) → input_limit < length bytes → produced (plain_of bytes) ≡ refused 3 (codes "input: NotPlain")
-unfolding plain_of
-long_is_not_plain bytes h = let e : nat_le (length bytes) input_limit ≡ false = grind (arith, nat_tests) in rw e refl
+made_always : (command : Command) (told : Answer) (bytes input : List ℕ) → takes_input command ≡ false → told ≡ answer_to command input → told ≡ answer_to command bytes
+made_always (Produce lanes senders) told bytes input ignored is = absurd (cc)
+made_always (Replay lanes) told bytes input ignored is = absurd (cc)
+made_always Show told bytes input ignored is = absurd (cc)
+made_always (Make number count run lanes) told bytes input ignored is = is
+made_always Assemble told bytes input ignored is = absurd (cc)
+made_always list_image told bytes input ignored is = absurd (cc)
 
-empty_is_not_plain : produced (plain_of []) ≡ refused 3 (codes "input: NotPlain")
-unfolding plain_of input_at text_at
-empty_is_not_plain = refl
+-- a command that does not look at its input has its answer whatever it is
+pub input_ignored : (command : Command) (left : Option (List ℕ)) (count : ℕ) (input : List ℕ) (told : Answer) → takes_input command ≡ false → told ≡ answer_to command input → TellsAnswer (answer_to command) left count count told
+input_ignored command left count input told ignored is = told_always (answer_to command) left count told (λ bytes. made_always command told bytes input ignored is)
 
--- more bytes than the limit are not plain
-pub too_long : (words : List (List ℕ)) (left : Option (List ℕ)) (old new : ℕ) (told : Answer) → is_produce words ≡ true → ReadsAll left input_limit (Err TooLong) → new ≡ old → told ≡ refused 3 (codes "input: NotPlain") → TellsAnswer words left old new told
-too_long words None old new told form long stands is = record { bytes = []; input = tt; defined = is ∙ sym empty_is_not_plain ∙ rw form refl; stands = stands }
-too_long words (Some bytes) old new told form long stands is = record { bytes = bytes; input = refl; defined = is ∙ sym (long_is_not_plain bytes long) ∙ rw form refl; stands = stands }
+-- ---- inputs that are too long
 
--- no defined answer has the status of a source that failed
-ran_not_four : (p : PlainInput) (position : Option ℕ) → (ran p position).status ≢ 4
-ran_not_four p None h = absurd (omega arith)
-ran_not_four p (Some position) h = absurd (omega arith)
+abbrev too_long_answer : Answer
+too_long_answer = refused 3 (codes "input: TooLong")
 
-produced_not_four : (read : Result PlainInput PlainFault) → (produced read).status ≢ 4
-produced_not_four (Ok p) = ran_not_four p (not_good p.accounts p.transfers)
-produced_not_four (Err e) = λ h. absurd (omega arith)
+long_refused : (a : Answer) (bytes : List ℕ) → input_limit < length bytes → within bytes a ≡ too_long_answer
+long_refused a bytes long = let e : nat_le (length bytes) input_limit ≡ false = grind (arith, nat_tests) in rw e refl
 
-not_four : (words : List (List ℕ)) (bytes : List ℕ) → (answer words bytes).status ≢ 4
-not_four words bytes = by_form (is_produce words)
+long_answer : (command : Command) (bytes : List ℕ) → takes_input command ≡ true → input_limit < length bytes → answer_to command bytes ≡ too_long_answer
+long_answer (Produce lanes senders) bytes looks long = long_refused (produced bytes) bytes long
+long_answer (Replay lanes) bytes looks long = long_refused (replayed bytes) bytes long
+long_answer Show bytes looks long = long_refused (shown bytes) bytes long
+long_answer (Make number count run lanes) bytes looks long = absurd (cc)
+long_answer Assemble bytes looks long = long_refused (assembled bytes) bytes long
+long_answer list_image bytes looks long = long_refused (listed bytes) bytes long
+
+some_long : (n : ℕ) → (bytes : List ℕ) × (length bytes ≡ n)
+some_long n = (replicate n 0, length-replicate n 0)
+
+-- more bytes than the limit are refused for it
+pub too_long : (command : Command) (left : Option (List ℕ)) (old new : ℕ) (told : Answer) → takes_input command ≡ true → ReadsAll left input_limit (Err TooLong) → new ≡ old → told ≡ too_long_answer → TellsAnswer (answer_to command) left old new told
+too_long command None old new told looks long stands is =
+    let some = some_long (input_limit + 1) in
+    let e = some.1 in
+    record { bytes = some.0; input = tt; defined = is ∙ sym (long_answer command some.0 looks (omega (arith, e))); stands = stands }
+too_long command (Some bytes) old new told looks long stands is =
+    record { bytes = bytes; input = refl; defined = is ∙ sym (long_answer command bytes looks long); stands = stands }
+
+-- ---- no defined answer has the status of a source that failed
+
+abbrev IsNoFault : Answer → Type 0
+IsNoFault a = a.status ≢ 4
+
+part_no_fault : {X E : Type 0} (text : E → List ℕ) (told : X → Answer) (part : Result X E) → ((x : X) → IsNoFault (told x)) → IsNoFault (unless_refused text told part)
+part_no_fault text told (Ok x) each = each x
+part_no_fault text told (Err fault) each = λ h. absurd (omega arith)
+
+within_no_fault : (bytes : List ℕ) (a : Answer) → IsNoFault a → IsNoFault (within bytes a)
+within_no_fault bytes a is = by_test (nat_le (length bytes) input_limit)
   where
-    by_form : (form : Bool) → (let a : Answer = cond form (produced (plain_of bytes)) (refused 2 (codes "words refused")) in a.status) ≢ 4
-    by_form true = produced_not_four (plain_of bytes)
-    by_form false = λ h. absurd (omega arith)
+    by_test : (test : Bool) → IsNoFault (cond test a too_long_answer)
+    by_test true = is
+    by_test false = λ h. absurd (omega arith)
+
+judged_no_fault : (given : Block) (found : Verdict) → IsNoFault (judged given found)
+judged_no_fault given Match = λ h. absurd (omega arith)
+judged_no_fault given (Differ entry field expected found) = λ h. absurd (omega arith)
+
+made_no_fault : (number count : ℕ) (run : Bool) → IsNoFault (made number count run)
+made_no_fault number count true = λ h. absurd (omega arith)
+made_no_fault number count false = λ h. absurd (omega arith)
+
+snapshot_no_fault : (told : Snapshot → List ℕ → Answer) (bytes : List ℕ) → ((snapshot : Snapshot) (rest : List ℕ) → IsNoFault (told snapshot rest)) → IsNoFault (after_snapshot told bytes)
+snapshot_no_fault told bytes each = part_no_fault snapshot_text _ (prefix_of bytes) (λ (prefix : Prefix). each prefix.snapshot _)
+
+produced_no_fault : (snapshot : Snapshot) (rest : List ℕ) → IsNoFault (produced_after snapshot rest)
+produced_no_fault snapshot rest = part_no_fault batch_text _ (batch_of snapshot.slot rest) (λ batch. λ h. absurd (omega arith))
+
+replayed_no_fault : (snapshot : Snapshot) (rest : List ℕ) → IsNoFault (replayed_after snapshot rest)
+replayed_no_fault snapshot rest =
+    part_no_fault record_text (replayed_over snapshot) (record_of rest) (λ given. judged_no_fault given (verdict snapshot.slot (newest_of snapshot.recent) given (listed_result snapshot given)))
+
+command_no_fault : (command : Command) (bytes : List ℕ) → IsNoFault (answer_to command bytes)
+command_no_fault (Produce lanes senders) bytes = within_no_fault bytes (produced bytes) (snapshot_no_fault produced_after bytes produced_no_fault)
+command_no_fault (Replay lanes) bytes = within_no_fault bytes (replayed bytes) (snapshot_no_fault replayed_after bytes replayed_no_fault)
+command_no_fault Show bytes = within_no_fault bytes (shown bytes) (part_no_fault record_text _ (record_of bytes) (λ block. λ h. absurd (omega arith)))
+command_no_fault (Make number count run lanes) bytes = made_no_fault number count run
+command_no_fault Assemble bytes = within_no_fault bytes (assembled bytes) (part_no_fault asm_text _ (assembled_of bytes) (λ image. λ h. absurd (omega arith)))
+command_no_fault list_image bytes = within_no_fault bytes (listed bytes) (part_no_fault list_text _ (listed_of bytes) (λ text. λ h. absurd (omega arith)))
+
+answer_no_fault : (words : List (List ℕ)) (bytes : List ℕ) → IsNoFault (answer words bytes)
+answer_no_fault words bytes = by_command (command_in words)
+  where
+    by_command : (command : Option Command) → IsNoFault (answer_for command bytes)
+    by_command (Some command) = command_no_fault command bytes
+    by_command None = λ h. absurd (omega arith)
 
 -- status 4 comes where the source failed, and says so
-pub fault_told : (words : List (List ℕ)) (left : Option (List ℕ)) (old new : ℕ) (told : Answer) (out out' notes notes' : Option (List ℕ)) → TellsAnswer words left old new told ⊎ TellsFault words old new told
-    → Writes told out out' notes notes' → told.status ≡ 4 → Rose old new × (is_produce words ≡ true) × Writes read_failed out out' notes notes'
-fault_told words left old new told out out' notes notes' (inl t) written four = absurd (not_four words t.bytes (ap (λ (a : Answer). a.status) (sym t.defined) ∙ four))
+pub fault_told : (words : List (List ℕ)) (left : Option (List ℕ)) (old new : ℕ) (told : Answer) (out out' notes notes' : Option (List ℕ)) → TellsAnswer (answer words) left old new told ⊎ TellsFault (reads_input words) old new told
+    → Writes told out out' notes notes' → told.status ≡ 4 → Rose old new × (reads_input words ≡ true) × Writes read_failed out out' notes notes'
+fault_told words left old new told out out' notes notes' (inl t) written four = absurd (answer_no_fault words t.bytes (ap (λ (a : Answer). a.status) (sym t.defined) ∙ four))
 fault_told words left old new told out out' notes notes' (inr t) written four = (t.rose, t.in_form, subst (λ (a : Answer). Writes a out out' notes notes') t.defined written)
 
-nothing_begins : (told : Answer) (out notes : Option (List ℕ)) → Begins told out out notes notes
-nothing_begins told out notes = record { output_begun = (0, omega arith, Appends-nil out); notes_begun = (0, omega arith, Appends-nil notes) }
+-- ---- memory ran out before anything was written
 
--- memory ran out before anything was written
-pub stops : (words : List (List ℕ)) (left : Option (List ℕ)) (old new : ℕ) (out notes : Option (List ℕ)) → Stops words old new → EndsEarly words left old new out out notes notes ⊎ FailsEarly words old new out out notes notes
+nothing_begins : (told : Answer) (out notes : Option (List ℕ)) → Begins told out out notes notes
+nothing_begins told out notes = record { output_begun = (0, omega arith, Appends-nil out); notes_begun = (0, omega arith, Appends-nil notes); ordered = inl (Keeps-refl notes) }
+
+pub stops : (words : List (List ℕ)) (left : Option (List ℕ)) (old new : ℕ) (out notes : Option (List ℕ)) → Stops (reads_input words) old new → EndsEarly words left old new out out notes notes ⊎ FailsEarly words old new out out notes notes
 stops words None old new out notes (inl stands) = inl (record { told = answer words []; tells = record { bytes = []; input = tt; defined = refl; stands = stands }; begun = nothing_begins _ out notes })
 stops words (Some bytes) old new out notes (inl stands) = inl (record { told = answer words bytes; tells = record { bytes = bytes; input = refl; defined = refl; stands = stands }; begun = nothing_begins _ out notes })
 stops words left old new out notes (inr failed) = inr (record { in_form = failed.0; rose = failed.1; begun = nothing_begins _ out notes })

@@ -1,11 +1,3 @@
-pub mod State
-pub mod Transfer
-pub mod Snapshot
-pub mod Batch
-pub mod Record
-pub mod Serial
-pub mod BlockEnd
-pub mod Plain
+pub mod Texts
 pub mod Answer
 pub mod Ending
-pub mod Output

@@ -1,18 +1,28 @@
 //! What is answered to words and input.
-ghost use Rattle.std.specs.Prelude.{◌≡◌, ◌⊎◌, ◌+◌, ◌++◌, codes, false, IfOk, IfErr, OnErr, OnOk, Ok};
-ghost use Rattle.std.specs.Fmt.{decimal};
-ghost use Rattle.bank_cli.specs.Plain.{plain_of};
-ghost use Rattle.bank_cli.specs.Answer.{is_produce, produced, refused};
+ghost use Rattle.std.specs.Prelude.{◌≡◌, ◌⊎◌, ◌≤◌, length, false, IfOk, OnErr};
+ghost use Rattle.bank_words.specs.Reading.{IsInRange};
+ghost use Rattle.bank_cli.specs.Answer.{answer, answer_to, input_limit, reads_input, takes_input};
 ghost use Rattle.bank_cli.specs.Ending.{TellsAnswer, TellsFault, Stops};
 ghost use Rattle.sol_io.specs.Bytes.{Keeps};
 
-use crate::output::{Produced, produce};
-use crate::plain::{INPUT_LIMIT, PlainFault, read_plain};
+use crate::asm::{assembled, listed};
+use crate::make::made;
+use crate::produce::produced;
+use crate::replay::replayed;
+use crate::show::shown;
+use crate::texts::refuse;
 use crate::top::{INPUT_REFUSED, READ_FAILED, WORDS_REFUSED};
-use crate::words::Words;
+use bank_lanes::Gate;
+use bank_words::{Command, Words, WordsFault, read_words};
+use intake::SendGate;
 use sol_base::{Blob, OutOfMemory};
 use sol_io::{ReadFault, Source, read_all};
 use std::alloc::Global;
+use std::sync::Wait;
+use std::thread::Threads;
+
+/// The most bytes of an input.
+pub const INPUT_LIMIT: usize = 536_870_912;
 
 /// A status, and what is written for it.
 #[derive(Debug, Drop)]
@@ -22,63 +32,91 @@ pub struct Answer {
     pub notes: Blob,
 }
 
-/// The answer to the words, which takes the input from the source where they are in form.
-pub(crate) fn answer_of<S: Source>(
+/// The answer to the words, which takes the input from the source where they ask for it.
+pub(crate) fn answer_of<S: Source, G: Gate, H: SendGate, R: Threads + Wait + Sync>(
+    rt: &R,
     alloc: Global,
     words: &Words,
     source: &mut S,
+    gate: &G,
+    send: &H,
 ) -> Result<Answer, OutOfMemory>
-    ensures told { IfOk result (λ told. TellsAnswer words.now (S.left source.old) (S.faults source.old) (S.faults source.new) told ⊎ TellsFault words.now (S.faults source.old) (S.faults source.new) told) }
-    ensures stopped { OnErr result (Stops words.now (S.faults source.old) (S.faults source.new)) }
-    ensures untouched { is_produce words.now ≡ false → Keeps (S.left source.old) (S.left source.new) × (S.faults source.new ≡ S.faults source.old) }
+    ensures told { IfOk result (λ told.
+        TellsAnswer (answer words.now) (S.left source.old) (S.faults source.old) (S.faults source.new) told
+        ⊎ TellsFault (reads_input words.now) (S.faults source.old) (S.faults source.new) told) }
+    ensures stopped { OnErr result
+        (Stops (reads_input words.now) (S.faults source.old) (S.faults source.new)) }
+    ensures untouched { reads_input words.now ≡ false →
+        Keeps (S.left source.old) (S.left source.new) × (S.faults source.new ≡ S.faults source.old) }
 {
-    if !words.is_produce() {
-        return refuse(alloc, WORDS_REFUSED, b"words refused");
+    match read_words(alloc, words) {
+        Ok(command) => answer_command(rt, alloc, command, source, gate, send),
+        Err(WordsFault::Refused) => refuse(alloc, WORDS_REFUSED, b"words refused"),
+        Err(WordsFault::OutOfMemory) => Err(OutOfMemory),
+    }
+}
+
+/// The answer to a command, which takes the input from the source where it looks at it.
+fn answer_command<S: Source, G: Gate, H: SendGate, R: Threads + Wait + Sync>(
+    rt: &R,
+    alloc: Global,
+    command: Command,
+    source: &mut S,
+    gate: &G,
+    send: &H,
+) -> Result<Answer, OutOfMemory>
+    requires { IsInRange command }
+    ensures told { IfOk result (λ told.
+        TellsAnswer (answer_to command) (S.left source.old) (S.faults source.old) (S.faults source.new) told
+        ⊎ TellsFault (takes_input command) (S.faults source.old) (S.faults source.new) told) }
+    ensures stopped { OnErr result
+        (Stops (takes_input command) (S.faults source.old) (S.faults source.new)) }
+    ensures untouched { takes_input command ≡ false →
+        Keeps (S.left source.old) (S.left source.new) × (S.faults source.new ≡ S.faults source.old) }
+{
+    if !looks_at_input(command) {
+        return answer_input(rt, alloc, command, Blob::new(alloc), gate, send);
     }
     match read_all(alloc, source, INPUT_LIMIT) {
-        Ok(bytes) => answer_input(alloc, bytes.as_slice()),
-        Err(ReadFault::TooLong) => refuse(alloc, INPUT_REFUSED, b"input: NotPlain"),
+        Ok(input) => answer_input(rt, alloc, command, input, gate, send),
+        Err(ReadFault::TooLong) => refuse(alloc, INPUT_REFUSED, b"input: TooLong"),
         Err(ReadFault::Failed) => refuse(alloc, READ_FAILED, b"read failed"),
         Err(ReadFault::OutOfMemory) => Err(OutOfMemory),
     }
 }
 
-/// The answer to `produce` over the whole input.
-fn answer_input(alloc: Global, bytes: &[u8]) -> Result<Answer, OutOfMemory>
-    ensures { IfOk result (λ told. told ≡ produced (plain_of bytes.now)) }
+fn looks_at_input(command: Command) -> bool
+    ensures { result ≡ takes_input command }
 {
-    let input = match read_plain(alloc, bytes) {
-        Ok(input) => input,
-        Err(PlainFault::NotPlain) => return refuse(alloc, INPUT_REFUSED, b"input: NotPlain"),
-        Err(PlainFault::OutOfMemory) => return Err(OutOfMemory),
-    };
-    match produce(alloc, input)? {
-        Produced::Output(output) => Ok(Answer {
-            status: 0,
-            output,
-            notes: Blob::new(alloc),
-        }),
-        Produced::NotGood { position } => refuse_position(alloc, position),
+    !matches!(command, Command::Make { .. })
+}
+
+/// The answer to a command and the whole input.
+fn answer_input<G: Gate, H: SendGate, R: Threads + Wait + Sync>(
+    rt: &R,
+    alloc: Global,
+    command: Command,
+    input: Blob,
+    gate: &G,
+    send: &H,
+) -> Result<Answer, OutOfMemory>
+    requires range { IsInRange command }
+    requires limit { length input ≤ input_limit }
+    ensures { IfOk result (λ told. told ≡ answer_to command input) }
+{
+    match command {
+        Command::Produce { lanes, senders } => {
+            produced(rt, alloc, lanes, senders, input, gate, send)
+        }
+        Command::Replay { lanes } => replayed(rt, alloc, lanes, input, gate),
+        Command::Show => shown(alloc, input),
+        Command::Make {
+            number,
+            count,
+            run,
+            lanes,
+        } => made(rt, alloc, number, count, run, lanes, gate),
+        Command::Assemble => assembled(alloc, input),
+        Command::List => listed(alloc, input),
     }
-}
-
-/// The answer where the transaction at this position is not executed yet.
-fn refuse_position(alloc: Global, position: usize) -> Result<Answer, OutOfMemory>
-    ensures { IfOk result (λ told. told ≡ refused 3 (codes "batch: NotYet at " ++ decimal position)) }
-{
-    let text = format!(in alloc; "batch: NotYet at {position}")?;
-    refuse(alloc, INPUT_REFUSED, text.as_bytes())
-}
-
-/// An answer that is one line of a note.
-fn refuse(alloc: Global, status: u8, text: &[u8]) -> Result<Answer, OutOfMemory>
-    ensures { IfOk result (λ told. told ≡ refused status text.now) }
-{
-    let mut notes = Blob::from_slice(alloc, text)?;
-    notes.append(b"\n")?;
-    Ok(Answer {
-        status,
-        output: Blob::new(alloc),
-        notes,
-    })
 }

@@ -1,8 +1,11 @@
-//! Executes one block: words from the command line, the input from standard input, the output to
-//! standard output, notes to standard error.
+//! The program: words from the command line, the input from standard input, the output to standard
+//! output, notes to standard error.
 #![tactic(auto)]
 
-use bank_cli::{OUT_OF_MEMORY, WORDS_REFUSED, Words, bank_main};
+use bank_cli::{OUT_OF_MEMORY, WORDS_REFUSED, bank_main};
+use bank_lanes::OpenGate;
+use bank_words::Words;
+use intake::OpenSend;
 use sol_base::{Blob, Items, OutOfMemory};
 use sol_io::{StdSink, StdSource};
 use std::env;
@@ -46,5 +49,15 @@ fn main(rt: HostRuntime) -> ExitCode {
     let mut source = StdSource::new(rt.reader());
     let mut out = StdSink::new(rt.stdout());
     let mut notes = StdSink::new(rt.stderr());
-    ExitCode::from(bank_main(rt.alloc(), &words, &mut source, &mut out, &mut notes))
+    let status = bank_main(
+        &rt,
+        rt.alloc(),
+        &words,
+        &mut source,
+        &mut out,
+        &mut notes,
+        &OpenGate,
+        &OpenSend,
+    );
+    ExitCode::from(status)
 }

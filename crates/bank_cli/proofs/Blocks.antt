@@ -1,0 +1,34 @@
+-- What a run and a replay are told by.
+use Rattle.std.proofs.Common.{◌≡◌, ℕ, List, length, ap, ◌∙◌}
+use Rattle.sol_base.specs.declared.key.Hash32.{Hash32}
+use Rattle.snapshot_codec.specs.declared.snapshot.Snapshot.{Snapshot}
+use Rattle.snapshot_codec.specs.declared.batch.Batch.{Batch}
+use Rattle.block_record.specs.declared.block.Block.{Block}
+use Rattle.block_record.specs.declared.block.Listed.{Listed}
+use Rattle.status_cache.specs.Recent.{newest_of}
+use Rattle.block_run.specs.declared.block.BlockResult.{BlockResult}
+use Rattle.block_run.specs.Blocks.{block_result, listed_result}
+use Rattle.block_replay.specs.declared.verdict.Verdict.{Verdict}
+use Rattle.block_replay.specs.Verdict.{verdict}
+use Rattle.batch_gen.specs.declared.made.Made.{Made}
+use Rattle.bank_cli.specs.declared.answer.Answer.{Answer}
+use Rattle.bank_cli.specs.Answer.{ran, judged, replayed_over, run_line, written, made_run}
+use Rattle.bank_cli.proofs.EntryCount.{entry_count}
+
+-- the answer to a block is that to what its batch comes to
+pub block_told : (snapshot : Snapshot) (batch : Batch) (block : BlockResult) (told : Answer) → block ≡ block_result snapshot batch → told ≡ ran block → told ≡ ran (block_result snapshot batch)
+block_told snapshot batch block told done is = is ∙ ap ran done
+
+-- the line of a made input, from the block that it came to
+pub line_told : (count : ℕ) (m : Made) (block : BlockResult) (line : List ℕ) → block ≡ block_result m.snapshot m.batch → line ≡ run_line count (length block.block.entries) block.block
+    → written line ≡ made_run count m
+line_told count m block line ran told =
+    ap written (told ∙ ap (λ (b : BlockResult). run_line count (length b.block.entries) b.block) ran
+    ∙ ap (λ (n : ℕ). run_line count n (block_result m.snapshot m.batch).block) (entry_count m.snapshot m.batch))
+
+-- the verdict over the replayed block is that of the record
+pub verdict_told : (snapshot : Snapshot) (given : Block) (newest : Hash32) (listed : Listed) (found : Verdict) (told : Answer) → newest ≡ newest_of snapshot.recent → listed ≡ listed_result snapshot given
+    → found ≡ verdict snapshot.slot newest given listed → told ≡ judged given found → told ≡ replayed_over snapshot given
+verdict_told snapshot given newest listed found told same ran compared is =
+    is ∙ ap (judged given) (compared ∙ ap (λ (hash : Hash32). verdict snapshot.slot hash given listed) same
+    ∙ ap (λ (replayed : Listed). verdict snapshot.slot (newest_of snapshot.recent) given replayed) ran)

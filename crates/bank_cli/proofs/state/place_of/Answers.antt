@@ -1,8 +1,0 @@
-use Rattle.std.proofs.Common.{rules}
-use Rattle.std.proofs.lemmas.List.Sorted.{answers_always}
-use Rattle.bank_cli.specs.declared.state.KeyedAccount.{KeyedAccount}
-use Rattle.bank_cli.proofs.state.place_of.Goals as goal
-
-pub returns-clause-position : goal.returns-clause-position
-returns-clause-position c =
-    c.binary_search_by_key.ensures.position (λ (e : KeyedAccount). e.key) (answers_always _ _ _ (λ f a r g called. search rules))

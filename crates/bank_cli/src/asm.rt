@@ -1,0 +1,30 @@
+//! The commands `asm` and `list`: the image of a text, and the text of an image.
+ghost use Rattle.std.specs.Prelude.{◌≡◌, ◌≤◌, length, IfOk};
+ghost use Rattle.bank_cli.specs.Answer.{assembled as assembled_of, input_limit, listed as listed_of};
+
+use crate::answer::Answer;
+use crate::texts::{refuse_asm, refuse_list, tell};
+use sbpf_asm::{assemble, list};
+use sol_base::{Blob, OutOfMemory};
+use std::alloc::Global;
+
+/// The answer to `asm`: a text.
+pub(crate) fn assembled(alloc: Global, input: Blob) -> Result<Answer, OutOfMemory>
+    requires { length input ≤ input_limit }
+    ensures { IfOk result (λ told. told ≡ assembled_of input) }
+{
+    match assemble(alloc, input.as_slice()) {
+        Ok(image) => Ok(tell(alloc, image)),
+        Err(fault) => refuse_asm(alloc, fault),
+    }
+}
+
+/// The answer to `list`: an image.
+pub(crate) fn listed(alloc: Global, input: Blob) -> Result<Answer, OutOfMemory>
+    ensures { IfOk result (λ told. told ≡ listed_of input) }
+{
+    match list(alloc, input.as_slice()) {
+        Ok(text) => Ok(tell(alloc, text)),
+        Err(fault) => refuse_list(alloc, fault),
+    }
+}

@@ -1,0 +1,124 @@
+//! The command `produce`: a block is run, and its record and the snapshot after it are written.
+ghost use Rattle.std.specs.Prelude.{◌≡◌, ◌≤◌, ◌<◌, ◌++◌, length, IfOk, OnOk};
+ghost use Rattle.std.specs.List.{AllByRecursion};
+ghost use Rattle.spec_base.specs.Bytes.{IsBytes};
+ghost use Rattle.spec_base.specs.Reading.{Gives};
+ghost use Rattle.block_record.specs.Record.{IsCounted};
+ghost use Rattle.snapshot_codec.specs.Batch.{IsBatch};
+ghost use Rattle.snapshot_codec.specs.BatchReading.{batch_of, is_batch_memory};
+ghost use Rattle.snapshot_codec.specs.Snapshot.{IsReadable, IsWritable};
+ghost use Rattle.block_run.specs.Blocks.{block_result};
+ghost use Rattle.bank_cli.specs.Answer.{produced as produced_of, ran};
+ghost use Rattle.bank_cli.specs.Texts.{refused_line, refused_lines};
+
+use crate::answer::Answer;
+use crate::texts::{append_number, refuse_batch, refuse_snapshot};
+use admission::{Refused, refusal_text};
+use bank_lanes::Gate;
+use block_record::record_bytes;
+use block_run::{BlockResult, run_parsed};
+use intake::{SendGate, gather};
+use snapshot_codec::{Batch, BatchFault, Snapshot, read_batch, read_snapshot, snapshot_bytes};
+use sol_base::{Blob, OutOfMemory};
+use std::alloc::Global;
+use std::sync::Wait;
+use std::thread::Threads;
+
+/// The answer to `produce`: a snapshot and a batch after it.
+pub(crate) fn produced<G: Gate, H: SendGate, R: Threads + Wait + Sync>(
+    rt: &R,
+    alloc: Global,
+    lanes: u32,
+    senders: u32,
+    input: Blob,
+    gate: &G,
+    send: &H,
+) -> Result<Answer, OutOfMemory>
+    requires lanes { (1 ≤ lanes) × (lanes ≤ 64) }
+    requires senders { (1 ≤ senders) × (senders ≤ 8) }
+    ensures { IfOk result (λ told. told ≡ produced_of input) }
+{
+    let bytes = input.as_slice();
+    let prefix = match read_snapshot(alloc, bytes) {
+        Ok(prefix) => prefix,
+        Err(fault) => return refuse_snapshot(alloc, fault),
+    };
+    let snapshot = prefix.snapshot;
+    match read_rest(alloc, &bytes[prefix.length..], snapshot.slot) {
+        Ok(batch) => {
+            drop(input);
+            produce_block(rt, alloc, lanes, senders, snapshot, &batch, gate, send)
+        }
+        Err(fault) => refuse_batch(alloc, fault),
+    }
+}
+
+/// The batch that the bytes are. Its transactions are bytes too.
+fn read_rest(alloc: Global, bytes: &[u8], before: u64) -> Result<Batch, BatchFault>
+    ensures batch { IfOk result (λ batch. IsBatch before bytes.now batch) }
+    ensures bytes { IfOk result (λ batch. AllByRecursion IsBytes batch.wires) }
+    ensures exact { Gives is_batch_memory (λ batch. batch) result (batch_of before bytes.now) }
+{
+    read_batch(alloc, bytes, before)
+}
+
+/// Senders decode the batch, each transaction once, and it is run as they hand it over.
+fn produce_block<G: Gate, H: SendGate, R: Threads + Wait + Sync>(
+    rt: &R,
+    alloc: Global,
+    lanes: u32,
+    senders: u32,
+    snapshot: Snapshot,
+    batch: &Batch,
+    gate: &G,
+    send: &H,
+) -> Result<Answer, OutOfMemory>
+    requires lanes { (1 ≤ lanes) × (lanes ≤ 64) }
+    requires senders { (1 ≤ senders) × (senders ≤ 8) }
+    requires readable { IsReadable snapshot }
+    requires later { snapshot.slot < batch.now.slot }
+    requires few { length batch.now.wires ≤ 16384 }
+    requires bytes { AllByRecursion IsBytes batch.now.wires }
+    ensures { IfOk result (λ told. told ≡ ran (block_result snapshot batch.now)) }
+{
+    let gathered = gather(rt, alloc, &batch.wires, senders, send)?;
+    let block = run_parsed(rt, alloc, snapshot, batch, gathered.parsed, lanes, gate)?;
+    write_block(alloc, &block)
+}
+
+/// The record, then the snapshot; and the transactions that did not run.
+fn write_block(alloc: Global, block: &BlockResult) -> Result<Answer, OutOfMemory>
+    requires counted { IsCounted block.now.block }
+    requires writable { IsWritable block.now.after }
+    ensures { IfOk result (λ told. told ≡ ran block.now) }
+{
+    let mut output = record_bytes(alloc, &block.block)?;
+    output.append(snapshot_bytes(alloc, &block.after)?.as_slice())?;
+    let notes = refused_notes(alloc, block.refused.as_slice())?;
+    Ok(Answer {
+        status: 0,
+        output,
+        notes,
+    })
+}
+
+/// A line for each transaction that did not run.
+fn refused_notes(alloc: Global, refused: &[Refused]) -> Result<Blob, OutOfMemory>
+    ensures { IfOk result (λ notes. notes ≡ refused_lines refused.now) }
+{
+    let mut notes = Blob::new(alloc);
+    for one in refused {
+        append_refused(alloc, &mut notes, one)?;
+    }
+    Ok(notes)
+}
+
+fn append_refused(alloc: Global, notes: &mut Blob, refused: &Refused) -> Result<(), OutOfMemory>
+    ensures { OnOk result (notes.new ≡ notes.old ++ refused_line refused.now) }
+{
+    notes.append(b"refused ")?;
+    append_number(notes, u64::from(refused.position))?;
+    notes.append(b": ")?;
+    notes.append(refusal_text(alloc, &refused.cause)?.as_slice())?;
+    notes.append(b"\n")
+}
