@@ -4,3 +4,6 @@
 mod json;
 
 pub use json::block_text;
+
+#[cfg(test)]
+mod tests;

@@ -1,16 +1,16 @@
 -- Commands and the words that spell them.
-use Rattle.std.proofs.Common.{◌≡◌, ◌<◌, ◌==◌, ◌&&◌, Bool, true, false, not, List, [], ◌∷◌, ◌++◌, length, nat_lt, map, Option, Some, None, refl, sym, ap, ◌∙◌}
+use Rattle.std.proofs.Common.{◌≡◌, ◌&&◌, Bool, true, false, List, [], ◌∷◌, length, nat_lt, map, Option, Some, None, refl, sym, ap, ◌∙◌}
 use Rattle.std.specs.Prelude.{find, option_and_then}
-use Rattle.std.specs.List.{list_all, flat_map, IsDistinct}
+use Rattle.std.specs.List.{list_all, flat_map}
 use Rattle.std.specs.Str.{bytes_eq}
 use Rattle.std.proofs.lemmas.Slice.Eq.{bytes_eq-Decides}
 use Rattle.std.proofs.lemmas.Bool.{and_parts, ltb-true}
-use Rattle.bank_words.specs.Options.{Text, Options, Takes, number, nothing, unknown, is_among, takes, Use, uses_in}
+use Rattle.bank_words.specs.Options.{Text, Options, is_among, Use, uses_in}
 use Rattle.bank_words.specs.Commands.{Form, forms, form_named, command_by, command_in}
-use Rattle.bank_words.specs.Spelling.{Written, apart, joined, alone, words_of, use_of, name_of, Fits, IsSpelled}
+use Rattle.bank_words.specs.Spelling.{Written, words_of, use_of, name_of, IsSpelled}
 use Rattle.bank_words.specs.declared.command.Command.{Command}
 use Rattle.bank_words.proofs.SpelledUses.{IsName, no_equals, AreNamed, used_names, spelled_after}
-use Rattle.bank_words.proofs.ReadUses.{Spells, read_back}
+use Rattle.bank_words.proofs.ReadUses.{read_back}
 
 -- ---- the options of every command have names
 

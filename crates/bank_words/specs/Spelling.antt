@@ -1,5 +1,5 @@
 -- How commands are spelled in words.
-use Rattle.std.specs.Prelude.{◌≡◌, false, List, ◌∷◌, [], ◌++◌, map, Option, Some, None}
+use Rattle.std.specs.Prelude.{◌≡◌, false, List, ◌∷◌, [], ◌++◌, map, Some, None}
 use Rattle.std.specs.List.{flat_map, IsDistinct, AllByRecursion}
 use Rattle.std.specs.Str.{bytes_eq}
 use Rattle.bank_words.specs.Options.{Text, Options, number, nothing, takes, Use, is_dashed}

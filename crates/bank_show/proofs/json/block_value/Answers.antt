@@ -1,4 +1,3 @@
-use Rattle.std.proofs.Common.{rules, sym, ◌≡◌}
 use Rattle.bank_show.proofs.json.block_value.Goals as goal
 
 pub entries_value-requires : goal.entries_value-requires

@@ -1,0 +1,6 @@
+mod desk;
+mod ends;
+mod gates;
+mod lanes;
+mod trial;
+mod works;

@@ -1,0 +1,51 @@
+//! A gate that keeps a lane.
+use bank_lanes::Gate;
+use std::sync::atomic::{AtomicU64, Ordering};
+use std::thread;
+
+pub const TURNS: u64 = 10_000_000;
+
+/// Waits, for at most so many turns, until the flag is up. True where it was.
+pub fn wait_for(flag: &AtomicU64) -> bool {
+    for _ in 0..TURNS {
+        if flag.load(Ordering::SeqCst) != 0 {
+            return true;
+        }
+        thread::yield_now();
+    }
+    false
+}
+
+/// Keeps position 0 until another position has passed.
+#[derive(Drop)]
+pub struct KeepingGate {
+    pub until: u32,
+    passed: AtomicU64,
+    within: AtomicU64,
+}
+
+impl KeepingGate {
+    pub fn new(until: u32) -> KeepingGate {
+        KeepingGate {
+            until,
+            passed: AtomicU64::new(0),
+            within: AtomicU64::new(0),
+        }
+    }
+
+    /// The other position passed before the turns of position 0 were over.
+    pub fn was_passed_within(&self) -> bool {
+        self.within.load(Ordering::SeqCst) != 0
+    }
+}
+
+impl Gate for KeepingGate {
+    fn pass(&self, _lane: u32, position: u32) {
+        if position == self.until {
+            self.passed.store(1, Ordering::SeqCst);
+        }
+        if position == 0 && wait_for(&self.passed) {
+            self.within.store(1, Ordering::SeqCst);
+        }
+    }
+}

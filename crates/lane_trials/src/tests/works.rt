@@ -1,0 +1,90 @@
+//! Works around the small one: one that finds no memory, and one that waits in its work.
+ghost use Rattle.bank_core.specs.Trial.{trial_job};
+ghost use Rattle.bank_core.specs.TrialLaws.{trial_lawful};
+
+use crate::tests::gates::wait_for;
+use crate::tests::trial::Trial;
+use bank_core::{Effects, Work};
+use sol_base::{Account, Items, LockList, OutOfMemory};
+use std::sync::Arc;
+use std::sync::atomic::{AtomicU64, Ordering};
+
+/// Finds no memory for position 1, as often as it says.
+#[derive(Drop)]
+pub struct Refusing {
+    pub trial: Trial,
+    pub left: AtomicU64,
+}
+
+impl Work for Refusing {
+    type Told = Items<LockList>;
+
+    ghost told = { λ work. work.trial.locks };
+
+    ghost job = { trial_job };
+
+    ghost lawful = { λ work. trial_lawful work.trial.locks work.trial.distinct };
+
+    fn count(&self) -> u32 {
+        self.trial.count()
+    }
+
+    fn locks(&self, position: u32) -> &LockList {
+        self.trial.locks(position)
+    }
+
+    fn perform(&self, position: u32, values: &[Arc<Account>]) -> Result<Effects, OutOfMemory> {
+        if position == 1 && self.refuses() {
+            return Err(OutOfMemory);
+        }
+        self.trial.perform(position, values)
+    }
+}
+
+impl Refusing {
+    // One refusal fewer is left.
+    fn refuses(&self) -> bool {
+        let left = self.left.load(Ordering::SeqCst);
+        if left == 0 {
+            return false;
+        }
+        self.left.store(left - 1, Ordering::SeqCst);
+        true
+    }
+}
+
+/// Performs position 0 only once position 1 has begun, or the turns are over.
+#[derive(Drop)]
+pub struct Waiting {
+    pub trial: Trial,
+    pub begun: AtomicU64,
+    pub within: AtomicU64,
+}
+
+impl Work for Waiting {
+    type Told = Items<LockList>;
+
+    ghost told = { λ work. work.trial.locks };
+
+    ghost job = { trial_job };
+
+    ghost lawful = { λ work. trial_lawful work.trial.locks work.trial.distinct };
+
+    fn count(&self) -> u32 {
+        self.trial.count()
+    }
+
+    fn locks(&self, position: u32) -> &LockList {
+        self.trial.locks(position)
+    }
+
+    fn perform(&self, position: u32, values: &[Arc<Account>]) -> Result<Effects, OutOfMemory> {
+        if position == 1 {
+            self.begun.store(1, Ordering::SeqCst);
+        }
+        if position == 0 && wait_for(&self.begun) {
+            self.within.store(1, Ordering::SeqCst);
+        }
+        self.trial.perform(position, values)
+    }
+}
