@@ -1,5 +1,5 @@
 -- The accounts of a chain at its start.
-use Rattle.std.proofs.Common.{◌≡◌, ◌+◌, ◌≤◌, ◌<◌, ◌^◌, ℕ, List, [], ◌∷◌, ◌++◌, length, All, Ok, refl, sym, ap, ◌∙◌, arith, rules}
+use Rattle.std.proofs.Common.{◌≡◌, ◌+◌, ◌≤◌, ℕ, List, [], ◌∷◌, ◌++◌, length, All, Ok, refl, sym, ap, ◌∙◌, arith, rules}
 use Rattle.std.specs.Prelude.{map}
 use Rattle.std.specs.List.{range_with_len}
 use Rattle.std.specs.FinMap.{from_entries, len-entries}
@@ -16,8 +16,8 @@ use Rattle.status_cache.specs.declared.recent.Mark.{Mark}
 use Rattle.status_cache.specs.Recent.{Ascends}
 use Rattle.snapshot_codec.specs.Snapshot.{IsReadable}
 use Rattle.sol_base.specs.Limits.{first_limits}
-use Rattle.account_store.specs.State.{State, entries, len, IsState}
-use Rattle.account_store.specs.Sorted.{entry_of, entries_of, state_of}
+use Rattle.account_store.specs.State.{State, len, IsState}
+use Rattle.account_store.specs.Sorted.{entry_of, state_of}
 use Rattle.account_store.proofs.EntryLists.{from_entries-entries}
 use Rattle.account_store.proofs.SortedLaws.{state_of-ok}
 use Rattle.batch_gen.specs.Generator.{user, wallet, user_account, collector_account, start_hash, start_accounts, start_state}

@@ -27,7 +27,7 @@ fn draw_wires(alloc: Global, number: u64, count: u32) -> Result<Items<Blob>, Out
     let mut draws = Draws { state: number };
     let mut wires = Items::with_capacity(alloc, count as usize)?;
     for t in 0..count {
-        wires.push(draw_wire(alloc, &mut draws, u64::from(t) + 1)?)?;
+        wires.push(draw_wire(alloc, &mut draws, t)?)?;
     }
     Ok(wires)
 }

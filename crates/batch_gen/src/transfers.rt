@@ -1,7 +1,7 @@
 //! Transfers between two users, as transactions and as bytes.
-ghost use Rattle.std.specs.Prelude.{◌≡◌, ◌≤◌, ◌+◌, ◌∷◌, [], ◌++◌, IfOk, ◌<◌, ◌^◌};
+ghost use Rattle.std.specs.Prelude.{◌≡◌, ◌≤◌, ◌+◌, ◌%◌, ◌∷◌, [], ◌++◌, IfOk, ◌<◌, ◌^◌};
 ghost use Rattle.message_codec.specs.Wire.{tx_bytes};
-ghost use Rattle.batch_gen.specs.Generator.{state_after, unit_limit, unit_price, payment, transfer as transfer_of, drawn_transfer};
+ghost use Rattle.batch_gen.specs.Generator.{state_after, draw, unit_limit, unit_price, payment, transfer as transfer_of, drawn_transfer};
 
 use crate::draws::Draws;
 use crate::start::{START_HASH, USERS, user_key};
@@ -141,19 +141,40 @@ fn transfer_wire(
     write_wire(alloc, &tx)
 }
 
-/// A transfer of so many lamports between two different users, drawn.
-pub(crate) fn draw_wire(
-    alloc: Global,
-    draws: &mut Draws,
-    lamports: u64,
-) -> Result<Blob, OutOfMemory>
-    ensures wire { IfOk result (λ wire. wire
-        ≡ tx_bytes (drawn_transfer draws.old.state lamports)) }
-    ensures state { draws.new.state ≡ state_after 3 draws.old.state }
+/// Two different users.
+fn draw_users(draws: &mut Draws) -> (u8, u8)
+    ensures from { result.0 ≡ draw draws.old.state 1 % 64 }
+    ensures to { result.1 ≡ (result.0 + 1 + draw draws.old.state 2 % 63) % 64 }
+    ensures state { draws.new.state ≡ state_after 2 draws.old.state }
 {
     let users = u64::from(USERS);
     let from = draws.next() % users;
     let to = (from + 1 + draws.next() % (users - 1)) % users;
-    let price = draws.next() % PRICES;
-    transfer_wire(alloc, from as u8, to as u8, price, lamports)
+    (from as u8, to as u8)
+}
+
+/// A price in micro-lamports a compute unit.
+fn draw_price(draws: &mut Draws) -> u64
+    ensures price { result ≡ draw draws.old.state 1 % 1000000 }
+    ensures state { draws.new.state ≡ state_after 1 draws.old.state }
+{
+    draws.next() % PRICES
+}
+
+/// What transaction t transfers.
+fn lamports_of(t: u32) -> u64
+    ensures { result ≡ t + 1 }
+{
+    u64::from(t) + 1
+}
+
+/// Transaction t.
+pub(crate) fn draw_wire(alloc: Global, draws: &mut Draws, t: u32) -> Result<Blob, OutOfMemory>
+    ensures wire { IfOk result (λ wire. wire
+        ≡ tx_bytes (drawn_transfer draws.old.state (t + 1))) }
+    ensures state { draws.new.state ≡ state_after 3 draws.old.state }
+{
+    let (from, to) = draw_users(draws);
+    let price = draw_price(draws);
+    transfer_wire(alloc, from, to, price, lamports_of(t))
 }

@@ -1,7 +1,3 @@
-use Rattle.std.proofs.Common.{◌≡◌, ◌*◌}
-use Rattle.std.specs.Prelude.{map}
-use Rattle.std.specs.List.{range_with_len}
-use Rattle.batch_gen.specs.Generator.{state_after, wire_of}
 use Rattle.batch_gen.proofs.Drawing.{AreDrawn}
 use Rattle.batch_gen.proofs.made.draw_wires.Given as goal
 

@@ -1,12 +1,11 @@
-use Rattle.std.proofs.Common.{◌≡◌}
+use Rattle.std.proofs.Common.{◌≡◌, ◌+◌, ◌%◌}
 use Rattle.batch_gen.specs.Generator.{draw}
 use Rattle.batch_gen.proofs.transfers.draw_wire.Goals as goal
 
 pub returns-clause-wire : goal.returns-clause-wire
 returns-clause-wire c =
     let x = c.args.draws.now.state in
-    let first : c.next.result ≡ draw x 1 = c.next.ensures.drawn in
-    let second : c.next-2.result ≡ draw x 2 = rw c.next.ensures.state at c.next-2.ensures.drawn in
-    let third : c.next-price.result ≡ draw x 3 = rw (c.next-2.ensures.state, c.next.ensures.state) at c.next-price.ensures.drawn in
-    let wire = rw c.from-users.ensures at c.transfer_wire.ensures in
-    rw (← first, ← second, ← third) wire
+    let from : c.draw_users-from.result.0 ≡ draw x 1 % 64 = c.draw_users-from.ensures.from in
+    let to : c.draw_users-from.result.1 ≡ (draw x 1 % 64 + 1 + draw x 2 % 63) % 64 = rw from at c.draw_users-from.ensures.to in
+    let price : c.draw_price-price.result ≡ draw x 3 % 1000000 = rw c.draw_users-from.ensures.state at c.draw_price-price.ensures.price in
+    rw (from, to, price, c.lamports_of.ensures) at c.transfer_wire.ensures
