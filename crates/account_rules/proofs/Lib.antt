@@ -4,3 +4,4 @@ pub mod Kept
 pub mod KeptLaws
 pub mod Listings
 pub mod Sums
+pub mod SameListings

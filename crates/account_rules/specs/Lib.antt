@@ -1,2 +1,3 @@
 pub mod AccountRules
 pub mod KeptAccounts
+pub mod Listings

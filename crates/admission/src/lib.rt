@@ -10,6 +10,8 @@ mod lookups;
 mod refusal;
 mod sift;
 mod standing;
+#[cfg(test)]
+mod tests;
 mod text;
 mod units;
 mod walk;

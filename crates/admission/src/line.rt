@@ -1,6 +1,6 @@
 ghost use Rattle.std.specs.Prelude.{◌≡◌, IfOk, map};
 ghost use Rattle.admission.specs.Admission.{line};
-ghost use Rattle.admission.specs.Lines.{PositionsAscend, with_rank};
+ghost use Rattle.admission.specs.Lines.{PositionsAscend, rank, with_rank};
 
 use crate::chosen::Chosen;
 use fee_rules::priority;
@@ -25,6 +25,15 @@ pub(crate) fn line(alloc: Global, standing: Vec<Chosen>) -> Result<Vec<Chosen>, 
     Ok(line)
 }
 
+fn rank_of(chosen: &Chosen) -> Rank
+    ensures { result ≡ rank chosen.now }
+{
+    (
+        Reverse(priority(&chosen.fee, &chosen.budget)),
+        chosen.position,
+    )
+}
+
 /// The transactions by their ranks.
 fn by_rank(alloc: Global, standing: Vec<Chosen>) -> Result<BTreeMap<Rank, Chosen>, OutOfMemory>
     requires { PositionsAscend standing.items }
@@ -32,11 +41,7 @@ fn by_rank(alloc: Global, standing: Vec<Chosen>) -> Result<BTreeMap<Rank, Chosen
 {
     let mut ranked = BTreeMap::new(alloc);
     for chosen in standing {
-        let rank = (
-            Reverse(priority(&chosen.fee, &chosen.budget)),
-            chosen.position,
-        );
-        ranked.insert(rank, chosen)?;
+        ranked.insert(rank_of(&chosen), chosen)?;
     }
     Ok(ranked)
 }

@@ -5,3 +5,4 @@ pub mod Inversion
 pub mod Keeping
 pub mod Patches
 pub mod Replacing
+pub mod Listings

@@ -4,6 +4,7 @@ ghost use Rattle.sol_base.specs.declared.account.Account.{Account};
 ghost use Rattle.sol_base.specs.declared.lock.Meta.{Meta};
 ghost use Rattle.sol_base.specs.Metas.{AreInRange, is_listed_writable};
 ghost use Rattle.account_rules.specs.KeptAccounts.{AreKeptBy};
+ghost use Rattle.account_rules.specs.Listings.{SameListing};
 ghost use Rattle.loader_prog.specs.Loader.{activated, active, loader_row};
 ghost use Rattle.loader_prog.specs.Laws.{IsActivated, OnlyTheAuthorityWrites};
 
@@ -24,6 +25,15 @@ pub fn only_the_authority_changes_a_buffer()
         (after : List Account) → length accounts ≡ length keys →
         AreInRange (length accounts) metas → loader_row keys accounts metas input ≡ Ok after →
         OnlyTheAuthorityWrites keys accounts metas after }
+{}
+
+/// A law: accounts that are listed several times act as one, with the rights of all their metas
+/// together. So lists that have the same accounts in the same order, and give each the same rights,
+/// have the same answer.
+pub fn accounts_listed_twice_act_as_one()
+    ensures { (keys : List Key) (accounts : List Account) (metas others : List Meta)
+        (input : List ℕ) → SameListing metas others →
+        loader_row keys accounts metas input ≡ loader_row keys accounts others input }
 {}
 
 /// A law: an account that is activated is executable and holds an image with a verified text, and

@@ -17,6 +17,7 @@ mod tests;
 pub use activation::activate_one;
 pub use fault::LoaderFault;
 pub use laws::{
-    activated_programs_are_verified, calls_keep_accounts, only_the_authority_changes_a_buffer,
+    accounts_listed_twice_act_as_one, activated_programs_are_verified, calls_keep_accounts,
+    only_the_authority_changes_a_buffer,
 };
 pub use run::run_loader;

@@ -12,14 +12,14 @@ use Rattle.sol_base.specs.Keys.{same_key}
 use Rattle.sol_base.specs.Accounts.{empty_account, max_data_len}
 use Rattle.sol_base.specs.DerivedKeys.{seed_key_of}
 use Rattle.sol_base.specs.Metas.{is_first_listing, is_listed, is_listed_signer, is_listed_writable}
-use Rattle.account_rules.specs.AccountRules.{Change, broken_rules, first_of, listed_change, listed_changes, listed_rules}
+use Rattle.account_rules.specs.Listings.{SameListing}
+use Rattle.account_rules.proofs.SameListings.{same_length, same_places, same_rules}
 use Rattle.system_prog.specs.declared.fault.SystemFault.TheVariants.{Custom, InvalidArgument, MissingSignature, NotEnoughAccounts}
 use Rattle.system_prog.specs.declared.authority.Authority.{Authority}
 use Rattle.system_prog.specs.declared.authority.Authority.TheVariants.{Itself, Base}
 use Rattle.system_prog.specs.declared.instruction.Instruction.{Instruction}
 use Rattle.system_prog.specs.declared.instruction.Instruction.TheVariants.{CreateAccount, Assign, Transfer, CreateAccountWithSeed, Allocate, AllocateWithSeed, AssignWithSeed, TransferWithSeed}
 use Rattle.system_prog.specs.Instructions.{instruction_in}
-use Rattle.system_prog.specs.Listings.{SameListing, indexes}
 use Rattle.system_prog.specs.SystemProgram.{Listed, account_at, allocate, allocate_with_seed, as_rule, assign, assign_with_seed, by_base, counted_row, create, create_with_seed, derived, has_data, is_signed_by, is_taken, key_at, key_in, least_accounts, no_meta, ok_derived, pay, place_in, row, rules_kept, signs, signs_in, system_key, system_row, transfer, transfer_with_seed}
 
 -- ---- tests over metas
@@ -73,38 +73,6 @@ any-found (meta ∷ metas) test place listed passes = by_meta (nat_eq meta.index
     by_meta true false same signed some again = or-right (meta.signer && test meta.index) (list_any (λ one. one.signer && test one.index) metas) (again some)
     by_meta false t same signed some again = or-right (meta.signer && test meta.index) (list_any (λ one. one.signer && test one.index) metas) (again some)
 
--- ---- the changes that account rules speak of, by the indexes of the metas alone
-at_index : ℕ × Meta → ℕ × ℕ
-at_index (at, meta) = (at, meta.index)
-
-is_first_index : List ℕ → ℕ × ℕ → Bool
-is_first_index list (at, index) = not (list_any (λ one. one == index) (take at list))
-
-change_at : (ℕ → Bool) → List Account → List Account → ℕ × ℕ → Change
-change_at writable before after (at, index) = (at, (writable index, (get_or before index empty_account, get_or after index empty_account)))
-
-changes_by : List ℕ → (ℕ → Bool) → List Account → List Account → List Change
-changes_by list writable before after = map (change_at writable before after) (filter (is_first_index list) (enumerate_from 0 list))
-
-any-taken : (at place : ℕ) (metas : List Meta) → is_listed (take at metas) place ≡ list_any (λ one. one == place) (take at (indexes metas))
-any-taken zero place metas = refl
-any-taken (suc at) place [] = refl
-any-taken (suc at) place (meta ∷ metas) = ap (λ t. (meta.index == place) || t) (any-taken at place metas)
-
-picked : {X Y : Type 0} (F : X → Change) (G : Y → Change) (s t : Bool) (x : X) (y : Y) (xs : List X) (ys : List Y) → s ≡ t → F x ≡ G y → map F xs ≡ map G ys → map F (if s then x ∷ xs else xs) ≡ map G (if t then y ∷ ys else ys)
-picked F G true true x y xs ys same head tail = λ i. head i ∷ tail i
-picked F G true false x y xs ys same head tail = absurd (cc)
-picked F G false true x y xs ys same head tail = absurd (cc)
-picked F G false false x y xs ys same head tail = tail
-
-by_indexes : (P : ℕ × Meta → Bool) (Q : ℕ × ℕ → Bool) (F : ℕ × Meta → Change) (G : ℕ × ℕ → Change) → ((x : ℕ × Meta) → P x ≡ Q (x.0, x.1.index)) → ((x : ℕ × Meta) → F x ≡ G (x.0, x.1.index)) → (n : ℕ) (metas : List Meta) → map F (filter P (enumerate_from n metas)) ≡ map G (filter Q (enumerate_from n (indexes metas)))
-by_indexes P Q F G tests values n [] = refl
-by_indexes P Q F G tests values n (meta ∷ metas) = picked F G (P (n, meta)) (Q (n, meta.index)) (n, meta) (n, meta.index) (filter P (enumerate_from (n + 1) metas)) (filter Q (enumerate_from (n + 1) (indexes metas))) (tests (n, meta)) (values (n, meta)) (by_indexes P Q F G tests values (n + 1) metas)
-
-changes-indexes : (metas : List Meta) (before after : List Account) → listed_changes metas before after ≡ changes_by (indexes metas) (is_listed_writable metas) before after
-unfolding changes_by change_at is_first_index
-changes-indexes metas before after = by_indexes (is_first_listing metas) (is_first_index (indexes metas)) (listed_change metas before after) (change_at (is_listed_writable metas) before after) (λ x. ap not (any-taken x.0 x.1.index metas)) (λ x. refl) 0 metas
-
 -- ---- two lists of metas that say the same
 module _ (keys : List Key) (some others : List Meta) (same : SameListing some others) where
   abbrev one : Listed
@@ -113,11 +81,8 @@ module _ (keys : List Key) (some others : List Meta) (same : SameListing some ot
   abbrev two : Listed
   two = record { keys = keys; metas = others }
 
-  same_length : length some ≡ length others
-  same_length = sym (length-map some (λ (meta : Meta). meta.index)) ∙ ap length same.order ∙ length-map others (λ (meta : Meta). meta.index)
-
   places : (role : ℕ) → place_in one role ≡ place_in two role
-  places role = sym (get_or-map (λ (meta : Meta). meta.index) some role no_meta) ∙ ap (λ (list : List ℕ). get_or list role 0) same.order ∙ get_or-map (λ (meta : Meta). meta.index) others role no_meta
+  places role = same_places some others same no_meta role
 
   same_key_signs : (key : Key) → is_signed_by one key ≡ is_signed_by two key
   same_key_signs key =
@@ -194,15 +159,12 @@ module _ (keys : List Key) (some others : List Meta) (same : SameListing some ot
 
   same_counted : (instruction : Instruction) (accounts : List Account) → counted_row one instruction accounts ≡ counted_row two instruction accounts
   unfolding counted_row
-  same_counted instruction accounts = λ i. if nat_lt (same_length i) (least_accounts instruction) then Err NotEnoughAccounts else same_row instruction accounts i
+  same_counted instruction accounts = λ i. if nat_lt (same_length some others same i) (least_accounts instruction) then Err NotEnoughAccounts else same_row instruction accounts i
 
-  same_changes : (before after : List Account) → listed_changes some before after ≡ listed_changes others before after
-  same_changes before after = changes-indexes some before after ∙ (λ i. changes_by (same.order i) (λ place. same.writable place i) before after) ∙ sym (changes-indexes others before after)
-
-  same_rules : (before after : List Account) → rules_kept some before after ≡ rules_kept others before after
-  unfolding rules_kept listed_rules
-  same_rules before after = ap (λ (changes : List Change). as_rule (first_of (broken_rules system_key changes))) (same_changes before after)
+  same_kept : (before after : List Account) → rules_kept some before after ≡ rules_kept others before after
+  unfolding rules_kept
+  same_kept before after = ap as_rule (same_rules some others same system_key before after)
 
   pub same_system : (accounts : List Account) (input : List ℕ) → system_row keys accounts some input ≡ system_row keys accounts others input
   unfolding system_row
-  same_system accounts input = λ i. instruction_in input >>= (λ instruction. same_counted instruction accounts i >>= (λ after. same_rules accounts after i >>= (λ _. Ok after)))
+  same_system accounts input = λ i. instruction_in input >>= (λ instruction. same_counted instruction accounts i >>= (λ after. same_kept accounts after i >>= (λ _. Ok after)))

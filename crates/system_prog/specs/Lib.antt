@@ -3,4 +3,3 @@ pub mod Instructions
 pub mod Drafts
 pub mod SystemProgram
 pub mod Written
-pub mod Listings

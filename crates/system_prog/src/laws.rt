@@ -4,7 +4,7 @@ ghost use Rattle.sol_base.specs.declared.key.Key.{Key};
 ghost use Rattle.sol_base.specs.declared.lock.Meta.{Meta};
 ghost use Rattle.sol_base.specs.Metas.{AreInRange, is_listed_writable};
 ghost use Rattle.account_rules.specs.KeptAccounts.{AreKeptBy};
-ghost use Rattle.system_prog.specs.Listings.{SameListing};
+ghost use Rattle.account_rules.specs.Listings.{SameListing};
 ghost use Rattle.system_prog.specs.SystemProgram.{system_row};
 
 /// A law: a call that ends well leaves as many accounts as before, with the same sum of lamports,

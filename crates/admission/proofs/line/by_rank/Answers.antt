@@ -17,7 +17,7 @@ loop-chosen-preserved-in_ok-insert c =
       all = append_assoc done (one ∷ []) left ∙ split;
       ranked =
           c.in_ok-insert.ensures.entries
-          ∙ ap (λ (priority : ℕ). let key : Reverse ℕ × ℕ = (record { 0 = priority }, one.position) in insert_entry rank_cmp c.loop-chosen.ranked.entries key one) c.priority.ensures
+          ∙ ap (λ (key : Reverse ℕ × ℕ). insert_entry rank_cmp c.loop-chosen.ranked.entries key one) c.rank_of.ensures
           ∙ ap (λ entries. insert_entry rank_cmp entries (rank one) one) c.loop-chosen.invariant.ranked
           ∙ line_more c.args.standing.items done left one split c.requires;
     }
@@ -32,7 +32,7 @@ loop-chosen-preserved c =
       all = append_assoc done (one ∷ []) left ∙ split;
       ranked =
           c.in_ok-insert.ensures.entries
-          ∙ ap (λ (priority : ℕ). let key : Reverse ℕ × ℕ = (record { 0 = priority }, one.position) in insert_entry rank_cmp c.loop-chosen.ranked.entries key one) c.priority.ensures
+          ∙ ap (λ (key : Reverse ℕ × ℕ). insert_entry rank_cmp c.loop-chosen.ranked.entries key one) c.rank_of.ensures
           ∙ ap (λ entries. insert_entry rank_cmp entries (rank one) one) c.loop-chosen.invariant.ranked
           ∙ line_more c.args.standing.items done left one split c.requires;
     }
