@@ -1,0 +1,7 @@
+pub mod Words
+pub mod Operands
+pub mod Rows
+pub mod Lines
+pub mod Assembly
+pub mod Listing
+pub mod Views

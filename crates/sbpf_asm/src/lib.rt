@@ -1,0 +1,20 @@
+//! Assembler text and images of programs: the assembler and the lister (the project's own format).
+#![tactic(auto)]
+
+mod assembler;
+mod draft;
+mod fault;
+mod instruction;
+mod line;
+mod lister;
+mod number;
+mod operand;
+mod piece;
+mod row;
+mod source;
+#[cfg(test)]
+mod tests;
+
+pub use assembler::assemble;
+pub use fault::{AsmFault, ListFault};
+pub use lister::list;
