@@ -38,8 +38,7 @@ after_word (Some p) = trim p.1
 
 -- the operands, parted by commas, without the blanks around each
 abbrev pub operands_of : Text → List Text
-operands_of [] = []
-operands_of (b ∷ text) = map trim (slice_split is_comma (b ∷ text))
+operands_of text = if length text == 0 then [] else map trim (slice_split is_comma text)
 
 abbrev pub word_item : Text → Text → Option Item
 word_item word rest = if bytes_eq word (codes ".const") then constants_item rest else option_map instruction (draft_of (row_of word) (operands_of rest))

@@ -56,8 +56,11 @@ abbrev pub constants_text : List ℕ → Text
 constants_text bytes = codes ".const " ++ encode_lower bytes
 
 -- the constants, 32 bytes a line
+abbrev pub constant_line : List ℕ → ℕ → Text
+constant_line bytes n = constants_text (slice_chunk bytes 32 n) ++ codes "\n"
+
 abbrev pub constant_lines : List ℕ → Text
-constant_lines bytes = flat_map (λ n. constants_text (slice_chunk bytes 32 n) ++ codes "\n") (range_with_len 0 ((length bytes + 31) / 32))
+constant_lines bytes = flat_map (constant_line bytes) (range_with_len 0 ((length bytes + 31) / 32))
 
 -- the whole text of an image
 abbrev pub listing : ImageParts → Text

@@ -1,5 +1,5 @@
 -- Operands of assembler text: registers, targets, places (the project's own format).
-use Rattle.std.specs.Prelude.{ℕ, ◌-◌, ◌==◌, ◌&&◌, ◌||◌, not, Bool, [], ◌∷◌, ◌++◌, length, take, drop, slice_index, nat_le, nat_lt, Option, Some, None, option_map, option_and_then, if◌then◌else◌, codes, ℤ, pos, negsuc}
+use Rattle.std.specs.Prelude.{ℕ, ◌-◌, ◌==◌, ◌&&◌, ◌||◌, not, Bool, [], ◌∷◌, ◌++◌, length, drop, slice_index, slice_range, nat_le, nat_lt, Option, Some, None, option_map, option_and_then, if◌then◌else◌, codes, ℤ, pos, negsuc}
 use Rattle.std.specs.List.{list_all}
 use Rattle.std.specs.Char.{is_ascii_digit, is_ascii_alphanumeric}
 use Rattle.std.specs.Str.{bytes_eq}
@@ -56,7 +56,7 @@ place_within parts = place_by (register_of parts.front) (offset_after parts.rest
 abbrev pub place_of : Text → Option Place
 place_of text =
     if nat_lt 1 (length text) && starts_with text (codes "[") && ends_with text (codes "]")
-    then place_within (cut is_sign (take (length text - 2) (drop 1 text))) else None
+    then place_within (cut is_sign (slice_range text 1 (length text - 1))) else None
 
 abbrev pub place_text : ℕ → ℤ → Text
 place_text r o = 91 ∷ (register_text r ++ (signed_text o ++ 93 ∷ []))

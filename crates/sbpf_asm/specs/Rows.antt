@@ -1,7 +1,6 @@
 -- The instructions of assembler text: mnemonics, operands, and what they stand for (the project's own format).
 use Rattle.std.specs.Prelude.{ℕ, ◌+◌, ◌==◌, ◌&&◌, Bool, List, [], ◌∷◌, ◌++◌, map, fold, find, Option, Some, None, option_map, option_and_then, if◌then◌else◌, codes, ℤ, pos, unsigned_abs}
 use Rattle.std.specs.Ordering.{int_eq}
-use Rattle.std.specs.List.{flat_map}
 use Rattle.std.specs.Str.{bytes_eq}
 use Rattle.std.specs.Fmt.{signed_decimal}
 use Rattle.sbpf_asm.specs.declared.instruction.Instruction.{Instruction}
@@ -47,7 +46,7 @@ abbrev pub store_register : Text → ℕ → Row
 store_register mnemonic opcode = row mnemonic opcode (DestinationPlace ∷ Source ∷ [])
 
 -- the table
-abbrev pub rows : List Row
+unfoldable pub rows : List Row
 rows =
     two (codes "add64") 0x07 0x0f ∷ two (codes "add32") 0x04 0x0c ∷
     two (codes "sub64") 0x17 0x1f ∷ two (codes "sub32") 0x14 0x1c ∷
@@ -153,14 +152,14 @@ operand_text r i DestinationPlace = place_text i.dst i.offset
 operand_text r i SourcePlace = place_text i.src i.offset
 operand_text r i RegisterNumber = register_text (unsigned_abs i.imm)
 
--- operands parted by a comma and a space, after a space
-abbrev pub operands_text : List Text → Text
-operands_text [] = []
-operands_text (t ∷ texts) = 32 ∷ (t ++ flat_map (λ u. 44 ∷ 32 ∷ u) texts)
+-- operands, the first behind this text and each other behind a comma and a space
+abbrev pub operands_text : Text → List Text → Text
+operands_text before [] = []
+operands_text before (t ∷ texts) = before ++ (t ++ operands_text (codes ", ") texts)
 
 -- an instruction as the listing has it, by its row
 abbrev pub row_text : Row → Instruction → Text
-row_text r i = r.mnemonic ++ operands_text (map (operand_text r i) r.operands)
+row_text r i = r.mnemonic ++ operands_text (codes " ") (map (operand_text r i) r.operands)
 
 -- an instruction with the fields that the operand has in another
 abbrev pub taken : Row → Instruction → Instruction → Operand → Instruction
@@ -178,8 +177,12 @@ abbrev pub written : Row → Instruction → Instruction
 written r i = fold (taken r i) (start r).instruction r.operands
 
 abbrev pub same_instruction : Instruction → Instruction → Bool
-same_instruction a b = (a.opcode == b.opcode) && (a.dst == b.dst) && (a.src == b.src) && int_eq a.offset b.offset && int_eq a.imm b.imm
+same_instruction a b = (a.opcode == b.opcode) && ((a.dst == b.dst) && ((a.src == b.src) && (int_eq a.offset b.offset && int_eq a.imm b.imm)))
+
+-- the row, written with the operands that an instruction has, is that instruction
+abbrev pub writes : Instruction → Row → Bool
+writes i r = same_instruction (written r i) i
 
 -- the row of an instruction: the first that writes all of it
 abbrev pub row_for : Instruction → Option Row
-row_for i = find (λ r. same_instruction (written r i) i) rows
+row_for i = find (writes i) rows

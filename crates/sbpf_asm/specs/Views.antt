@@ -2,7 +2,8 @@
 use Rattle.std.specs.Prelude.{ℕ, Bool, List, [], ◌∷◌, Option, Some, None, option_map, map}
 use Rattle.std.specs.Borrow.{Bor}
 use Rattle.hex.specs.Hex.{decode_of}
-use Rattle.sbpf_asm.specs.Words.{Cut, is_blank, is_comma, is_semicolon, is_line_feed, is_sign}
+use Rattle.std.specs.List.{slice_split}
+use Rattle.sbpf_asm.specs.Words.{Text, Cut, trim, is_blank, is_comma, is_semicolon, is_line_feed, is_sign}
 use Rattle.sbpf_asm.specs.Operands.{Target, label as named, offset}
 use Rattle.sbpf_asm.specs.Rows.{Row, Draft}
 use Rattle.sbpf_asm.specs.Lines.{Item, nothing, label, instruction, decoded}
@@ -30,8 +31,15 @@ is_mark Semicolon = is_semicolon
 is_mark LineFeed = is_line_feed
 is_mark Sign = is_sign
 
+abbrev pub rest_view : Option (ℕ × Bor (List ℕ)) → Option (ℕ × Text)
+rest_view rest = option_map (λ p. (p.0, p.1.now)) rest
+
 abbrev pub cut_view : Parts → Cut
-cut_view c = record { front = c.front.now; rest = option_map (λ p. (p.0, p.1.now)) c.rest }
+cut_view c = record { front = c.front.now; rest = rest_view c.rest }
+
+-- what follows the byte that a text is cut at
+abbrev pub behind : Option (ℕ × Text) → Option Text
+behind rest = option_map (λ p. p.1) rest
 
 abbrev pub target_view : TargetSlice → Target
 target_view (LabelTarget name) = named name.now
@@ -50,6 +58,11 @@ operands_of StoreNumber = DestinationPlace ∷ Number ∷ []
 operands_of StoreRegister = DestinationPlace ∷ Source ∷ []
 operands_of RegisterAndNumber = Destination ∷ Number ∷ []
 
+-- the operands that are left to be read, where a text is left
+abbrev pub operands_left : Option Text → List Text
+operands_left None = []
+operands_left (Some text) = map trim (slice_split is_comma text)
+
 abbrev pub row_view : TableRow → Row
 row_view r = record { mnemonic = r.mnemonic.now; opcode = r.opcode; register_opcode = r.register_opcode; src = r.src; imm = r.imm; operands = operands_of r.shape }
 
@@ -62,6 +75,10 @@ item_view Nothing = Some nothing
 item_view (Label name) = Some (label name.now)
 item_view (Constants digits) = decoded (decode_of digits.now)
 item_view (InstructionItem draft) = Some (instruction (draft_view draft))
+
+abbrev pub text_behind : Option (ℕ × Text) → Text
+text_behind None = []
+text_behind (Some p) = p.1
 
 abbrev pub placed_view : PlacedSlices → Placed
 placed_view p = record { line = p.line; place = p.place; draft = draft_view p.draft }

@@ -1,6 +1,7 @@
-ghost use Rattle.std.specs.Prelude.{◌≡◌, ◌++◌, ◌<◌, ◌≤◌, ◌*◌, ◌+◌, ◌^◌, [], IfOk, OnOk, false, length, map};
+ghost use Rattle.std.specs.Prelude.{◌≡◌, ◌++◌, ◌<◌, ◌≤◌, ◌*◌, ◌+◌, ◌^◌, [], IfOk, OnOk, length, pos, ◌-ℤ◌};
 ghost use Rattle.spec_base.specs.Reading.{Gives};
-ghost use Rattle.sbpf_asm.specs.Assembly.{assembled, instruction_bytes, is_asm_memory, is_too_long, settled, slots_after};
+ghost use Rattle.sbpf_asm.specs.Assembly.{assembled, image_of, instruction_bytes, is_asm_memory, is_too_long, settled, slots_after, verified_image};
+ghost use Rattle.sbpf_asm.specs.Rows.{leading};
 ghost use Rattle.sbpf_asm.specs.Views.{labels_view, placed_view, source_view};
 ghost use Rattle.sbpf_verify.specs.Images.{image_bytes};
 
@@ -26,6 +27,20 @@ fn is_too_long(source: &Source<'_>) -> bool
         || source.constants.len() as u64 > MAX_IMAGE_LEN - 16 - 8 * source.slots
 }
 
+/// How many slots on from the next a place is.
+fn distance(target: u64, place: u64) -> i128
+    ensures { result ≡ pos target -ℤ pos (place + 1) }
+{
+    i128::from(target) - i128::from(place) - 1
+}
+
+/// The instruction at a place that leads to another.
+fn led(instruction: Instruction, target: u64, place: u64) -> Instruction
+    ensures { result ≡ leading (pos target -ℤ pos (place + 1)) instruction }
+{
+    leading(distance(target, place), instruction)
+}
+
 /// The instruction with its label put in.
 fn settled(labels: &IndexMap<&[u8], u64>, placed: Placed<'_>) -> Result<Instruction, AsmFault>
     ensures { let p = placed_view placed.entry in result ≡ settled (labels_view labels.now.entries) p p.draft.target }
@@ -37,10 +52,9 @@ fn settled(labels: &IndexMap<&[u8], u64>, placed: Placed<'_>) -> Result<Instruct
     let Some(target) = labels.get(name) else {
         return Err(AsmFault::UnknownLabel { line: placed.line });
     };
-    let away = i128::from(*target) - i128::from(placed.place) - 1;
-    let led = leading(away, instruction);
-    if is_in_range(led) {
-        Ok(led)
+    let instruction = led(instruction, *target, placed.place);
+    if is_in_range(instruction) {
+        Ok(instruction)
     } else {
         Err(AsmFault::Range { line: placed.line })
     }
@@ -72,8 +86,7 @@ fn text_of(alloc: Global, source: &Source<'_>) -> Result<Blob, AsmFault>
     Ok(text)
 }
 
-/// The image of a text and its constants.
-fn image_of(alloc: Global, text: &[u8], constants: &[u8]) -> Result<Blob, OutOfMemory>
+fn write_image(alloc: Global, text: &[u8], constants: &[u8]) -> Result<Blob, OutOfMemory>
     requires slots { length text.now ≤ 8 * 65536 }
     requires bytes { length constants.now ≤ 10485760 }
     ensures { IfOk result (λ image. image ≡ image_bytes (record { text = text.now; constants = constants.now })) }
@@ -87,19 +100,35 @@ fn image_of(alloc: Global, text: &[u8], constants: &[u8]) -> Result<Blob, OutOfM
     Ok(image)
 }
 
+/// The image of a text and its constants, if the text is verified.
+fn verified_image(alloc: Global, text: &[u8], constants: &[u8]) -> Result<Blob, AsmFault>
+    requires { length constants.now ≤ 10485760 }
+    ensures { Gives is_asm_memory (λ b. b) result (verified_image text.now constants.now) }
+{
+    match first_refusal(text) {
+        Some(fault) => Err(AsmFault::Unverified(fault)),
+        None => Ok(write_image(alloc, text, constants)?),
+    }
+}
+
+/// The image of a source.
+fn image_of(alloc: Global, source: &Source<'_>) -> Result<Blob, AsmFault>
+    ensures { Gives is_asm_memory (λ b. b) result (image_of (source_view source.now)) }
+{
+    if is_too_long(source) {
+        return Err(AsmFault::TooLong);
+    }
+    let text = text_of(alloc, source)?;
+    verified_image(alloc, text.as_slice(), source.constants.as_slice())
+}
+
 /// The image of an assembler text (the project's own format).
+#[tactic(auto, unfolding(crate::specs::Assembly::assembled))]
 pub fn assemble(alloc: Global, text: &[u8]) -> Result<Blob, AsmFault>
     requires { length text.now < 2 ^ 32 }
     ensures exact { Gives is_asm_memory (λ b. b) result (assembled text.now) }
 {
     let mut source = Source::new(alloc);
     source.add_lines(text)?;
-    if is_too_long(&source) {
-        return Err(AsmFault::TooLong);
-    }
-    let slots = text_of(alloc, &source)?;
-    match first_refusal(slots.as_slice()) {
-        Some(fault) => Err(AsmFault::Unverified(fault)),
-        None => Ok(image_of(alloc, slots.as_slice(), source.constants.as_slice())?),
-    }
+    image_of(alloc, &source)
 }

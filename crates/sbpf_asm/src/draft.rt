@@ -1,7 +1,7 @@
 ghost use Rattle.std.specs.Prelude.{◌≡◌, option_map, Some};
 ghost use Rattle.sbpf_asm.specs.Rows.{draft_of, leading, start, with_fields, with_operand, with_target};
 ghost use Rattle.sbpf_asm.specs.Lines.{operands_of};
-ghost use Rattle.sbpf_asm.specs.Views.{draft_view, row_view, target_view};
+ghost use Rattle.sbpf_asm.specs.Views.{behind, draft_view, operands_left, rest_view, row_view, target_view};
 
 use crate::instruction::{CALL, Instruction};
 use crate::number::number_of;
@@ -134,20 +134,37 @@ fn start<'a>(row: Row) -> Draft<'a>
     }
 }
 
+/// The operands, or None where there is none.
+fn operands_left(operands: &[u8]) -> Option<&[u8]>
+    ensures { operands_left (option_map (λ text. text.now) result) ≡ operands_of operands.now }
+{
+    if operands.is_empty() {
+        None
+    } else {
+        Some(operands)
+    }
+}
+
+/// What follows the byte that a text is cut at.
+fn text_behind<'a>(rest: Option<(u8, &'a [u8])>) -> Option<&'a [u8]>
+    ensures { option_map (λ text. text.now) result ≡ behind (rest_view rest.entry) }
+{
+    match rest {
+        None => None,
+        Some((_, text)) => Some(text),
+    }
+}
+
 /// The instruction of a row with these operands.
 pub(crate) fn draft_of(row: Row, operands: &[u8]) -> Option<Draft<'_>>
     ensures { option_map draft_view result ≡ draft_of (Some (row_view row)) (operands_of operands.now) }
 {
     let mut draft = start(row);
-    let mut rest = if operands.is_empty() {
-        None
-    } else {
-        Some(operands)
-    };
+    let mut rest = operands_left(operands);
     for operand in operands_of(row.shape) {
         let parts = cut_at(Mark::Comma, rest?);
         draft = with_operand(row, *operand, trim(parts.front), draft)?;
-        rest = parts.rest.map(|after| after.1);
+        rest = text_behind(parts.rest);
     }
     match rest {
         None => Some(draft),

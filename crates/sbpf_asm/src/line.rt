@@ -1,6 +1,6 @@
-ghost use Rattle.std.specs.Prelude.{◌≡◌, option_and_then, option_map};
+ghost use Rattle.std.specs.Prelude.{◌≡◌, option_and_then};
 ghost use Rattle.sbpf_asm.specs.Lines.{after_word, code_item, constants_item, item_of, label_item, word_item};
-ghost use Rattle.sbpf_asm.specs.Views.{item_view};
+ghost use Rattle.sbpf_asm.specs.Views.{item_view, rest_view};
 
 use crate::draft::{Draft, draft_of};
 use crate::number::are_hex_digits;
@@ -49,7 +49,7 @@ fn word_item<'a>(word: &[u8], rest: &'a [u8]) -> Option<Item<'a>>
 
 /// The text after the first word.
 fn after_word<'a>(rest: Option<(u8, &'a [u8])>) -> &'a [u8]
-    ensures { result.now ≡ after_word (option_map (λ p. (p.0, p.1.now)) rest.entry) }
+    ensures { result.now ≡ after_word (rest_view rest.entry) }
 {
     match rest {
         None => &[],

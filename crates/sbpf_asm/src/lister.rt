@@ -1,11 +1,12 @@
-ghost use Rattle.std.specs.Prelude.{◌≡◌, ◌++◌, ◌<◌, OnOk, option_map};
+ghost use Rattle.std.specs.Prelude.{◌≡◌, ◌++◌, ◌*◌, ◌<◌, ◌≤◌, OnOk, codes, find, length, map, option_map};
+ghost use Rattle.std.specs.Fork.{slice_chunk};
 ghost use Rattle.spec_base.specs.Reading.{Gives};
 ghost use Rattle.std.specs.Fmt.{signed_decimal};
 ghost use Rattle.sbpf_verify.specs.Places.{slot_count};
 ghost use Rattle.sbpf_verify.specs.Verified.{IsVerified};
-ghost use Rattle.sbpf_asm.specs.Rows.{distance, operand_text, row_for, row_text, written, taken};
+ghost use Rattle.sbpf_asm.specs.Rows.{distance, operand_text, row_for, row_text, written, writes, taken};
 ghost use Rattle.sbpf_asm.specs.Operands.{register_text, signed_text, place_text};
-ghost use Rattle.sbpf_asm.specs.Listing.{constant_lines, constants_text, instruction_lines, instruction_of, instruction_text, is_list_memory, listed, slot_line};
+ghost use Rattle.sbpf_asm.specs.Listing.{constant_line, constant_lines, instruction_lines, instruction_of, instruction_text, is_list_memory, listed, slot_line};
 ghost use Rattle.sbpf_asm.specs.Views.{row_view};
 
 use crate::fault::ListFault;
@@ -145,16 +146,22 @@ fn written(row: Row, i: Instruction) -> Instruction
     made
 }
 
-/// The row of an instruction: the first that writes all of it.
-fn row_for(i: Instruction) -> Option<Row>
-    ensures { option_map row_view result ≡ row_for i }
+fn row_in(rows: &[Row], i: Instruction) -> Option<Row>
+    ensures { option_map row_view result ≡ find (writes i) (map row_view rows.now) }
 {
-    for row in rows() {
+    for row in rows {
         if written(*row, i) == i {
             return Some(*row);
         }
     }
     None
+}
+
+/// The row of an instruction: the first that writes all of it.
+fn row_for(i: Instruction) -> Option<Row>
+    ensures { option_map row_view result ≡ row_for i }
+{
+    row_in(rows(), i)
 }
 
 fn append_row(out: &mut Blob, row: Row, i: Instruction) -> Result<(), OutOfMemory>
@@ -192,6 +199,23 @@ fn instruction_of(text: &[u8], place: usize) -> Instruction
     }
 }
 
+/// Appends an instruction without a line feed.
+fn append_instruction(out: &mut Blob, i: Instruction) -> Result<(), OutOfMemory>
+    ensures { OnOk result (out.new ≡ out.old ++ instruction_text i) }
+{
+    match row_for(i) {
+        Some(row) => append_row(out, row, i),
+        None => Ok(()),
+    }
+}
+
+fn append_line(out: &mut Blob, i: Instruction) -> Result<(), OutOfMemory>
+    ensures { OnOk result (out.new ≡ out.old ++ (instruction_text i ++ codes "\n")) }
+{
+    append_instruction(out, i)?;
+    out.append(b"\n")
+}
+
 /// Appends the line of a slot. The second slot of `lddw` has none.
 fn append_slot(out: &mut Blob, text: &[u8], place: usize) -> Result<(), OutOfMemory>
     requires verified { IsVerified text.now }
@@ -201,11 +225,7 @@ fn append_slot(out: &mut Blob, text: &[u8], place: usize) -> Result<(), OutOfMem
     if slot_at(text, place).opcode == 0 {
         return Ok(());
     }
-    let instruction = instruction_of(text, place);
-    if let Some(row) = row_for(instruction) {
-        append_row(out, row, instruction)?;
-    }
-    out.append(b"\n")
+    append_line(out, instruction_of(text, place))
 }
 
 fn append_instructions(out: &mut Blob, text: &[u8]) -> Result<(), OutOfMemory>
@@ -218,20 +238,46 @@ fn append_instructions(out: &mut Blob, text: &[u8]) -> Result<(), OutOfMemory>
     Ok(())
 }
 
+/// The bytes of a line of constants.
+fn chunk(bytes: &[u8], line: usize) -> &[u8]
+    requires { 32 * line ≤ length bytes.now }
+    ensures { result.now ≡ slice_chunk bytes.now 32 line }
+{
+    let from = 32 * line;
+    let left = bytes.len() - from;
+    if left <= 32 {
+        &bytes[from..]
+    } else {
+        &bytes[from..from + 32]
+    }
+}
+
+fn append_constant_line(
+    alloc: Global,
+    out: &mut Blob,
+    constants: &[u8],
+    line: usize,
+) -> Result<(), OutOfMemory>
+    requires { 32 * line ≤ length constants.now }
+    ensures { OnOk result (out.new ≡ out.old ++ constant_line constants.now line) }
+{
+    out.append(b".const ")?;
+    out.append(hex::encode(alloc, chunk(constants, line))?.as_bytes())?;
+    out.append(b"\n")
+}
+
 /// Appends the constants, 32 bytes a line.
 fn append_constants(alloc: Global, out: &mut Blob, constants: &[u8]) -> Result<(), OutOfMemory>
     ensures { OnOk result (out.new ≡ out.old ++ constant_lines constants.now) }
 {
     for line in 0..constants.len().div_ceil(32) {
-        let end = constants.len().min(32 * line + 32);
-        out.append(b".const ")?;
-        out.append(hex::encode(alloc, &constants[32 * line..end])?.as_bytes())?;
-        out.append(b"\n")?;
+        append_constant_line(alloc, out, constants, line)?;
     }
     Ok(())
 }
 
 /// The text of a program image (the project's own format).
+#[tactic(auto, unfolding(crate::specs::Listing::listed))]
 pub fn list(alloc: Global, image: &[u8]) -> Result<Blob, ListFault>
     ensures exact { Gives is_list_memory (λ b. b) result (listed image.now) }
 {

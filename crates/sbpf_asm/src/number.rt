@@ -1,6 +1,6 @@
 ghost use Rattle.std.specs.Prelude.{◌≡◌, ◌≤◌, ◌<◌, ◌^◌, length, true, IfSome, option_map};
 ghost use Rattle.std.specs.List.{list_all};
-ghost use Rattle.std.specs.Char.{is_ascii_digit};
+ghost use Rattle.std.specs.Char.{digit_value, is_ascii_digit};
 ghost use Rattle.std.specs.Str.Parse.{digits_value};
 ghost use Rattle.sbpf_asm.specs.Words.{decimal_of, hex_of, unsigned_of, number_of, signed_of, is_hex_digit};
 
@@ -38,6 +38,7 @@ fn decimal_value(text: &[u8]) -> u128
 
 fn hex_digit_value(digit: u8) -> u8
     requires { is_hex_digit digit ≡ true }
+    ensures { result ≡ digit_value digit }
 {
     if digit <= b'9' {
         digit - b'0'

@@ -587,6 +587,7 @@ static ROWS: [Row; 61] = [
 ];
 
 /// The table.
+#[tactic(auto, unfolding(crate::specs::Rows::rows))]
 pub(crate) fn rows() -> &'static [Row]
     ensures { map row_view result.now ≡ rows }
 {

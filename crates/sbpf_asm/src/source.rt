@@ -1,10 +1,10 @@
-ghost use Rattle.std.specs.Prelude.{◌≡◌, ◌+◌, ◌*◌, ◌<◌, ◌≤◌, ◌^◌, Some, length};
+ghost use Rattle.std.specs.Prelude.{◌≡◌, ◌+◌, ◌*◌, ◌<◌, ◌≤◌, ◌^◌, ◌∷◌, Some, length};
 ghost use Rattle.std.specs.List.{list_all};
 ghost use Rattle.spec_base.specs.Reading.{Gives, ok_if};
 ghost use Rattle.sbpf_asm.specs.declared.fault.AsmFault.TheVariants.{Range};
 ghost use Rattle.sbpf_asm.specs.Assembly.{empty, is_asm_memory, is_in_range, is_text, is_text_byte, place_in, with_draft, with_item, with_label, with_line, with_lines};
 ghost use Rattle.sbpf_asm.specs.Lines.{constants as constants_of, decoded, lines_of};
-ghost use Rattle.sbpf_asm.specs.Views.{draft_view, source_view};
+ghost use Rattle.sbpf_asm.specs.Views.{draft_view, rest_view, source_view, text_behind};
 ghost use Rattle.hex.specs.Hex.{decode_of};
 
 use crate::draft::Draft;
@@ -58,10 +58,31 @@ pub(crate) fn is_in_range(i: Instruction) -> bool
     }
 }
 
+/// What follows a line feed, or nothing.
+fn text_behind<'a>(rest: Option<(u8, &'a [u8])>) -> &'a [u8]
+    ensures { result.now ≡ text_behind (rest_view rest.entry) }
+{
+    match rest {
+        None => &[],
+        Some((_, text)) => text,
+    }
+}
+
+/// The first line of a text, and what follows it.
+fn first_line<'a>(text: &'a [u8]) -> (&'a [u8], &'a [u8])
+    requires { 0 < length text.now }
+    ensures lines { lines_of text.entry.now ≡ result.0.now ∷ lines_of result.1.now }
+    ensures shorter { length result.1.now < length text.entry.now }
+{
+    let parts = cut_at(Mark::LineFeed, text);
+    (parts.front, text_behind(parts.rest))
+}
+
 impl<'a> Source<'a> {
     /// A source without lines.
     pub fn new(alloc: Global) -> Source<'a>
-        ensures { source_view result ≡ empty }
+        ensures value { source_view result ≡ empty }
+        ensures slots { result.slots ≡ 0 }
     {
         Source {
             alloc,
@@ -144,13 +165,10 @@ impl<'a> Source<'a> {
         let mut number = 0;
         let mut rest = text;
         while !rest.is_empty() {
-            let parts = cut_at(Mark::LineFeed, rest);
+            let lines = first_line(rest);
             number += 1;
-            self.add_line(number, parts.front)?;
-            rest = match parts.rest {
-                None => &[],
-                Some((_, after)) => after,
-            };
+            self.add_line(number, lines.0)?;
+            rest = lines.1;
         }
         Ok(())
     }
