@@ -6,7 +6,7 @@ use Rattle.std.proofs.lemmas.List.{drop_more}
 use Rattle.sbpf_asm.specs.declared.row.Operand.{Operand}
 use Rattle.sbpf_asm.specs.declared.row.Operand.TheVariants.{Destination}
 use Rattle.sbpf_asm.specs.Words.{Text, Cut, is_comma, trim, cut}
-use Rattle.sbpf_asm.specs.Rows.{Row, Draft, with_operand, with_operands}
+use Rattle.sbpf_asm.specs.Rows.{Row, Draft, finished, with_operand, with_operands}
 use Rattle.sbpf_asm.specs.Views.{behind, operands_left}
 use Rattle.sbpf_asm.proofs.Pieces.{split_cut, parts_after}
 
@@ -27,6 +27,15 @@ pub next_operand : (r : Row) (os : List Operand) (i : ℕ) (z : Operand) (text t
     → with_operands r (drop i os) (operands_left (Some text)) d ≡ with_operands r (drop (i + 1) os) (operands_left (behind parts.rest)) e
 next_operand r os i z text t parts d e h p q w =
     one_operand r os i z text t parts d h p q ∙ ap (option_and_then (with_operands r (drop (i + 1) os) (operands_left (behind parts.rest)))) w
+
+pub refused_operand : (r : Row) (os : List Operand) (i : ℕ) (z : Operand) (text t : Text) (parts : Cut) (d : Draft) → i < length os → parts ≡ cut is_comma text → t ≡ trim parts.front → with_operand r (get_or os i z) t d ≡ None
+    → with_operands r (drop i os) (operands_left (Some text)) d ≡ None
+refused_operand r os i z text t parts d h p q w =
+    one_operand r os i z text t parts d h p q ∙ ap (option_and_then (with_operands r (drop (i + 1) os) (operands_left (behind parts.rest)))) w
+
+-- a text that is left behind all operands
+pub not_finished : (text : Text) (d : Draft) → finished (operands_left (Some text)) d ≡ None
+not_finished text d = ap (λ (texts : List Text). finished texts d) (operands_cut text)
 
 -- an operand that is not there
 pub no_operand : (r : Row) (os : List Operand) (i : ℕ) (d : Draft) → i < length os → with_operands r (drop i os) [] d ≡ None

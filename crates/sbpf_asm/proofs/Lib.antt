@@ -5,3 +5,4 @@ pub mod Drafts
 pub mod Lists
 pub mod Rows
 pub mod Sources
+pub mod Texts

@@ -1,7 +1,6 @@
 -- Lists that are put together piece by piece.
-use Rattle.std.proofs.Common.{◌≡◌, ℕ, suc, ◌+◌, ◌-◌, ◌*◌, ◌<◌, ◌≤◌, List, [], ◌∷◌, ◌++◌, take, drop, length, sym, ap, ◌∙◌, arith, append_assoc, length-drop}
+use Rattle.std.proofs.Common.{◌≡◌, ℕ, suc, ◌+◌, ◌-◌, ◌<◌, List, ◌∷◌, ◌++◌, sym, ap, ◌∙◌, arith, append_assoc}
 use Rattle.std.specs.List.{flat_map, range_with_len}
-use Rattle.std.proofs.lemmas.List.{take_all}
 
 -- one more number of a range
 pub range_step : (f : ℕ → List ℕ) (out : List ℕ) (p n : ℕ) → p < n → out ++ flat_map f (range_with_len p (n - p)) ≡ (out ++ f p) ++ flat_map f (range_with_len (p + 1) (n - (p + 1)))

@@ -1,10 +1,10 @@
--- Cutting and trimming texts that are put together.
-use Rattle.std.proofs.Common.{◌≡◌, ℕ, not, Bool, true, false, List, [], ◌∷◌, ◌++◌, Option, Some, None, refl, sym, ap, ◌∙◌, reverse}
+-- Where a text is cut, and its parts.
+use Rattle.std.proofs.Common.{◌≡◌, ℕ, not, Bool, true, false, List, [], ◌∷◌, ◌++◌, Option, Some, None, refl, sym, ap, ◌∙◌}
 use Rattle.std.specs.List.{list_all, slice_split}
-use Rattle.std.proofs.lemmas.Bool.{and_parts, and_from, not-true}
+use Rattle.std.proofs.lemmas.Bool.{and_parts, not-true}
 use Rattle.std.proofs.Common.{◌<◌, ◌≤◌, ◌+◌, length, take, drop, get_or}
-use Rattle.std.proofs.lemmas.List.{reverse-append, reverse-reverse, drop_more, take_more, take_all, take-append-drop}
-use Rattle.sbpf_asm.specs.Words.{Text, is_blank, without_first_blanks, trim, cut}
+use Rattle.std.proofs.lemmas.List.{drop_more, take_more, take_all, take-append-drop}
+use Rattle.sbpf_asm.specs.Words.{Text, cut}
 
 pub cut_none : (at : ℕ → Bool) (xs : Text) → list_all (λ b. not (at b)) xs ≡ true → cut at xs ≡ record { front = xs; rest = None }
 cut_none at [] h = refl
@@ -18,53 +18,11 @@ cut_here at (x ∷ xs) b ys h e =
     let parts = and_parts (not (at x)) (list_all (λ b. not (at b)) xs) h in
     rw (not-true (at x) parts.0, cut_here at xs b ys parts.1 e) refl
 
-pub all_append : (p : ℕ → Bool) (xs ys : Text) → list_all p xs ≡ true → list_all p ys ≡ true → list_all p (xs ++ ys) ≡ true
-all_append p [] ys h k = k
-all_append p (x ∷ xs) ys h k =
-    let parts = and_parts (p x) (list_all p xs) h in
-    and_from (p x) (list_all p (xs ++ ys)) parts.0 (all_append p xs ys parts.1 k)
-
-pub split_none : (at : ℕ → Bool) (xs : Text) → list_all (λ b. not (at b)) xs ≡ true → slice_split at xs ≡ xs ∷ []
-split_none at [] h = refl
-split_none at (x ∷ xs) h =
-    let parts = and_parts (not (at x)) (list_all (λ b. not (at b)) xs) h in
-    rw (not-true (at x) parts.0, split_none at xs parts.1) refl
-
-pub split_here : (at : ℕ → Bool) (xs : Text) (b : ℕ) (ys : Text) → list_all (λ c. not (at c)) xs ≡ true → at b ≡ true → slice_split at (xs ++ b ∷ ys) ≡ xs ∷ slice_split at ys
-split_here at [] b ys h e = rw e refl
-split_here at (x ∷ xs) b ys h e =
-    let parts = and_parts (not (at x)) (list_all (λ b. not (at b)) xs) h in
-    rw (not-true (at x) parts.0, split_here at xs b ys parts.1 e) refl
-
--- the text begins and ends with a byte that is no blank
-pub record Framed (text : Text) : Type 0 where
-  pub first : ℕ
-  pub after : Text
-  pub begins : text ≡ first ∷ after
-  pub no_blank : is_blank first ≡ false
-  pub before : Text
-  pub last : ℕ
-  pub ends : text ≡ before ++ last ∷ []
-  pub no_blank_last : is_blank last ≡ false
-
-kept : (b : ℕ) (bs : Text) → is_blank b ≡ false → without_first_blanks (b ∷ bs) ≡ b ∷ bs
-kept b bs e = rw e refl
-
-pub trim_framed : (text : Text) → Framed text → trim text ≡ text
-trim_framed text f =
-    let first : without_first_blanks text ≡ text = rw f.begins (kept f.first f.after f.no_blank) in
-    let turned : reverse text ≡ f.last ∷ reverse f.before = ap reverse f.ends ∙ reverse-append f.before (f.last ∷ []) in
-    let second : without_first_blanks (reverse text) ≡ reverse text = rw turned (kept f.last (reverse f.before) f.no_blank_last) in
-    ap (λ (t : Text). reverse (without_first_blanks (reverse t))) first ∙ ap reverse second ∙ reverse-reverse text
-
 -- a text that is cut at the place i
 pub cut_found : (at : ℕ → Bool) (text : Text) (i : ℕ) → i < length text → list_all (λ b. not (at b)) (take i text) ≡ true → at (get_or text i 0) ≡ true → cut at text ≡ record { front = take i text; rest = Some (get_or text i 0, drop (i + 1) text) }
 cut_found at text i h none here =
     let parts : text ≡ take i text ++ get_or text i 0 ∷ drop (i + 1) text = sym (ap (λ (t : Text). take i text ++ t) (sym (drop_more text i 0 h)) ∙ take-append-drop i text) in
     ap (cut at) parts ∙ cut_here at (take i text) (get_or text i 0) (drop (i + 1) text) none here
-
-pub none_more : (at : ℕ → Bool) (text : Text) (i : ℕ) → i < length text → list_all (λ b. not (at b)) (take i text) ≡ true → at (get_or text i 0) ≡ false → list_all (λ b. not (at b)) (take (i + 1) text) ≡ true
-none_more at text i h none here = rw (take_more text i 0 h) (all_append (λ b. not (at b)) (take i text) (get_or text i 0 ∷ []) none (rw here refl))
 
 pub cut_nowhere : (at : ℕ → Bool) (text : Text) (i : ℕ) → length text ≤ i → list_all (λ b. not (at b)) (take i text) ≡ true → cut at text ≡ record { front = text; rest = None }
 cut_nowhere at text i h none = cut_none at text (rw (take_all i text h) at none)

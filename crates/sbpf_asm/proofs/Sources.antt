@@ -51,6 +51,10 @@ line_cut text h = ap without_last_empty (split_cut is_line_feed text) ∙ go (cu
     go None e = rw (uncut is_line_feed text e, no_empty (length text) h) refl
     go (Some p) e = rw (split_cut is_line_feed p.1) refl
 
+pub no_lines : (text : Text) → length text ≡ 0 → lines_of text ≡ []
+no_lines [] h = refl
+no_lines (b ∷ bs) h = absurd (omega arith)
+
 -- with one line, and then with the others
 pub lines_on : (n : ℕ) (s t : Source) (rest after line : Text) → lines_of rest ≡ line ∷ lines_of after → with_line n s line ≡ Ok t → with_lines n s (lines_of rest) ≡ with_lines (n + 1) t (lines_of after)
 lines_on n s t rest after line e f = ap (with_lines n s) e ∙ ap (λ (r : Result Source AsmFault). r >>= (λ next. with_lines (n + 1) next (lines_of after))) f

@@ -5,3 +5,4 @@ pub mod Lines
 pub mod Assembly
 pub mod Listing
 pub mod Views
+pub mod Texts

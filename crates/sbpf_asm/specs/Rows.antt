@@ -122,9 +122,13 @@ abbrev pub with_operand : Row → Operand → Text → Draft → Option Draft
 with_operand r JumpTarget text d = option_map (with_target d) (target_of text)
 with_operand r o text d = option_map (with_instruction d) (with_fields r o text d.instruction)
 
+-- the draft, where no text is left
+abbrev pub finished : List Text → Draft → Option Draft
+finished [] d = Some d
+finished (t ∷ texts) d = None
+
 abbrev pub with_operands : Row → List Operand → List Text → Draft → Option Draft
-with_operands r [] [] d = Some d
-with_operands r [] (t ∷ texts) d = None
+with_operands r [] texts d = finished texts d
 with_operands r (o ∷ os) [] d = None
 with_operands r (o ∷ os) (t ∷ texts) d = option_and_then (with_operands r os texts) (with_operand r o t d)
 
@@ -167,7 +171,7 @@ taken r i d Destination = record d { dst = i.dst }
 taken r i d Source = record d { src = i.src }
 taken r i d RegisterOrNumber = if i.opcode == r.opcode then record d { imm = i.imm } else record d { opcode = r.register_opcode; src = i.src }
 taken r i d Number = record d { imm = i.imm }
-taken r i d JumpTarget = if i.opcode == 0x85 then record d { imm = i.imm } else record d { offset = i.offset }
+taken r i d JumpTarget = leading (distance i) d
 taken r i d DestinationPlace = record d { dst = i.dst; offset = i.offset }
 taken r i d SourcePlace = record d { src = i.src; offset = i.offset }
 taken r i d RegisterNumber = record d { imm = i.imm }

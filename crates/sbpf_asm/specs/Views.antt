@@ -32,14 +32,14 @@ is_mark LineFeed = is_line_feed
 is_mark Sign = is_sign
 
 abbrev pub rest_view : Option (ℕ × Bor (List ℕ)) → Option (ℕ × Text)
-rest_view rest = option_map (λ p. (p.0, p.1.now)) rest
+rest_view rest = option_map (λ (p : ℕ × Bor (List ℕ)). (p.0, p.1.now)) rest
 
 abbrev pub cut_view : Parts → Cut
 cut_view c = record { front = c.front.now; rest = rest_view c.rest }
 
 -- what follows the byte that a text is cut at
 abbrev pub behind : Option (ℕ × Text) → Option Text
-behind rest = option_map (λ p. p.1) rest
+behind rest = option_map (λ (p : ℕ × Text). p.1) rest
 
 abbrev pub target_view : TargetSlice → Target
 target_view (LabelTarget name) = named name.now

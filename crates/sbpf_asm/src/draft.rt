@@ -1,5 +1,5 @@
 ghost use Rattle.std.specs.Prelude.{◌≡◌, option_map, Some};
-ghost use Rattle.sbpf_asm.specs.Rows.{draft_of, leading, start, with_fields, with_operand, with_target};
+ghost use Rattle.sbpf_asm.specs.Rows.{draft_of, finished, leading, start, with_fields, with_operand, with_target};
 ghost use Rattle.sbpf_asm.specs.Lines.{operands_of};
 ghost use Rattle.sbpf_asm.specs.Views.{behind, draft_view, operands_left, rest_view, row_view, target_view};
 
@@ -155,6 +155,16 @@ fn text_behind<'a>(rest: Option<(u8, &'a [u8])>) -> Option<&'a [u8]>
     }
 }
 
+/// The draft, where no operand is left.
+fn finished<'a>(rest: Option<&'a [u8]>, draft: Draft<'a>) -> Option<Draft<'a>>
+    ensures { option_map draft_view result ≡ finished (operands_left (option_map (λ text. text.now) rest.entry)) (draft_view draft.entry) }
+{
+    match rest {
+        None => Some(draft),
+        Some(_) => None,
+    }
+}
+
 /// The instruction of a row with these operands.
 pub(crate) fn draft_of(row: Row, operands: &[u8]) -> Option<Draft<'_>>
     ensures { option_map draft_view result ≡ draft_of (Some (row_view row)) (operands_of operands.now) }
@@ -166,8 +176,5 @@ pub(crate) fn draft_of(row: Row, operands: &[u8]) -> Option<Draft<'_>>
         draft = with_operand(row, *operand, trim(parts.front), draft)?;
         rest = text_behind(parts.rest);
     }
-    match rest {
-        None => Some(draft),
-        Some(_) => None,
-    }
+    finished(rest, draft)
 }

@@ -5,6 +5,7 @@ mod assembler;
 mod draft;
 mod fault;
 mod instruction;
+pub mod laws;
 mod line;
 mod lister;
 mod number;

@@ -9,6 +9,7 @@ ghost use Rattle.sbpf_asm.specs.Operands.{register_text, signed_text, place_text
 ghost use Rattle.sbpf_asm.specs.Listing.{constant_line, constant_lines, instruction_lines, instruction_of, instruction_text, is_list_memory, listed, slot_line};
 ghost use Rattle.sbpf_asm.specs.Views.{row_view};
 
+use crate::draft::leading;
 use crate::fault::ListFault;
 use crate::instruction::{CALL, Instruction, LOAD_WIDE};
 use crate::row::{Operand, Row, operands_of, rows};
@@ -105,16 +106,7 @@ fn taken(row: Row, i: Instruction, onto: Instruction, operand: Operand) -> Instr
             }
         }
         Operand::Number => Instruction { imm: i.imm, ..onto },
-        Operand::JumpTarget => {
-            if i.opcode == CALL {
-                Instruction { imm: i.imm, ..onto }
-            } else {
-                Instruction {
-                    offset: i.offset,
-                    ..onto
-                }
-            }
-        }
+        Operand::JumpTarget => leading(distance(i), onto),
         Operand::DestinationPlace => Instruction {
             dst: i.dst,
             offset: i.offset,
