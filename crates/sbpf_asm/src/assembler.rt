@@ -43,7 +43,8 @@ fn led(instruction: Instruction, target: u64, place: u64) -> Instruction
 
 /// The instruction with its label put in.
 fn settled(labels: &IndexMap<&[u8], u64>, placed: Placed<'_>) -> Result<Instruction, AsmFault>
-    ensures { let p = placed_view placed.entry in result ≡ settled (labels_view labels.now.entries) p p.draft.target }
+    ensures { let p = placed_view placed.entry
+        in result ≡ settled (labels_view labels.now.entries) p p.draft.target }
 {
     let instruction = placed.draft.instruction;
     let Some(name) = placed.draft.target else {
@@ -77,7 +78,8 @@ fn append_instruction(out: &mut Blob, i: Instruction) -> Result<(), OutOfMemory>
 /// The slots of the instructions.
 fn text_of(alloc: Global, source: &Source<'_>) -> Result<Blob, AsmFault>
     requires { source.now.slots ≤ 65536 }
-    ensures { let s = source_view source.now in Gives is_asm_memory (λ b. b) result (slots_after s.labels [] s.instructions) }
+    ensures { let s = source_view source.now
+        in Gives is_asm_memory (λ b. b) result (slots_after s.labels [] s.instructions) }
 {
     let mut text = Blob::with_capacity(alloc, 8 * source.slots as usize)?;
     for placed in source.instructions.as_slice() {
@@ -89,7 +91,8 @@ fn text_of(alloc: Global, source: &Source<'_>) -> Result<Blob, AsmFault>
 fn write_image(alloc: Global, text: &[u8], constants: &[u8]) -> Result<Blob, OutOfMemory>
     requires slots { length text.now ≤ 8 * 65536 }
     requires bytes { length constants.now ≤ 10485760 }
-    ensures { IfOk result (λ image. image ≡ image_bytes (record { text = text.now; constants = constants.now })) }
+    ensures { IfOk result
+        (λ image. image ≡ image_bytes (record { text = text.now; constants = constants.now })) }
 {
     let mut image = Blob::with_capacity(alloc, 16 + text.len() + constants.len())?;
     image.append(b"SBPFIMG1")?;
@@ -122,7 +125,8 @@ fn image_of(alloc: Global, source: &Source<'_>) -> Result<Blob, AsmFault>
     verified_image(alloc, text.as_slice(), source.constants.as_slice())
 }
 
-/// The image of an assembler text (the project's own format).
+/// The image of an assembler text (the project's own format). Refusals are looked for in four rounds:
+/// in each line, then how much there is, then the labels, then the verifier.
 #[tactic(auto, unfolding(crate::specs::Assembly::assembled))]
 pub fn assemble(alloc: Global, text: &[u8]) -> Result<Blob, AsmFault>
     requires { length text.now < 2 ^ 32 }

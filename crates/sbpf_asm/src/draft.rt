@@ -107,7 +107,8 @@ fn with_operand<'a>(
     text: &'a [u8],
     draft: Draft<'a>,
 ) -> Option<Draft<'a>>
-    ensures { option_map draft_view result ≡ with_operand (row_view row) operand text.entry.now (draft_view draft.entry) }
+    ensures { option_map draft_view result
+        ≡ with_operand (row_view row) operand text.entry.now (draft_view draft.entry) }
 {
     match operand {
         Operand::JumpTarget => Some(with_target(draft, target_of(text)?)),
@@ -157,7 +158,8 @@ fn text_behind<'a>(rest: Option<(u8, &'a [u8])>) -> Option<&'a [u8]>
 
 /// The draft, where no operand is left.
 fn finished<'a>(rest: Option<&'a [u8]>, draft: Draft<'a>) -> Option<Draft<'a>>
-    ensures { option_map draft_view result ≡ finished (operands_left (option_map (λ text. text.now) rest.entry)) (draft_view draft.entry) }
+    ensures { option_map draft_view result
+        ≡ finished (operands_left (option_map (λ text. text.now) rest.entry)) (draft_view draft.entry) }
 {
     match rest {
         None => Some(draft),
@@ -167,7 +169,8 @@ fn finished<'a>(rest: Option<&'a [u8]>, draft: Draft<'a>) -> Option<Draft<'a>>
 
 /// The instruction of a row with these operands.
 pub(crate) fn draft_of(row: Row, operands: &[u8]) -> Option<Draft<'_>>
-    ensures { option_map draft_view result ≡ draft_of (Some (row_view row)) (operands_of operands.now) }
+    ensures { option_map draft_view result
+        ≡ draft_of (Some (row_view row)) (operands_of operands.now) }
 {
     let mut draft = start(row);
     let mut rest = operands_left(operands);

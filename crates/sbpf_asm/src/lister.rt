@@ -268,7 +268,8 @@ fn append_constants(alloc: Global, out: &mut Blob, constants: &[u8]) -> Result<(
     Ok(())
 }
 
-/// The text of a program image (the project's own format).
+/// The text of a program image (the project's own format): a line for each instruction, then the
+/// constants, 32 bytes a line. Each line ends with a line feed.
 #[tactic(auto, unfolding(crate::specs::Listing::listed))]
 pub fn list(alloc: Global, image: &[u8]) -> Result<Blob, ListFault>
     ensures exact { Gives is_list_memory (λ b. b) result (listed image.now) }

@@ -94,7 +94,8 @@ impl<'a> Source<'a> {
     }
 
     fn add_label(&mut self, line: u32, name: &'a [u8]) -> Result<(), AsmFault>
-        ensures added { Gives is_asm_memory (λ _. source_view self.new) result (with_label line (source_view self.old) name.entry.now (place_in name.entry.now (source_view self.old).labels)) }
+        ensures added { let before = source_view self.old in Gives is_asm_memory (λ _. source_view self.new) result
+            (with_label line before name.entry.now (place_in name.entry.now before.labels)) }
         ensures slots { self.new.slots ≡ self.old.slots }
     {
         if self.labels.contains_key(name) {
@@ -107,7 +108,8 @@ impl<'a> Source<'a> {
     }
 
     fn add_constants(&mut self, line: u32, digits: &[u8]) -> Result<(), AsmFault>
-        ensures added { Gives is_asm_memory (λ _. source_view self.new) result (with_item line (source_view self.old) (decoded (decode_of digits.now))) }
+        ensures added { Gives is_asm_memory (λ _. source_view self.new) result
+            (with_item line (source_view self.old) (decoded (decode_of digits.now))) }
         ensures slots { self.new.slots ≡ self.old.slots }
     {
         match hex::decode(self.alloc, digits) {
@@ -119,7 +121,8 @@ impl<'a> Source<'a> {
 
     fn add_instruction(&mut self, line: u32, draft: Draft<'a>) -> Result<(), AsmFault>
         requires { self.old.slots < 2 ^ 62 }
-        ensures added { let d = draft_view draft.entry in Gives is_asm_memory (λ _. source_view self.new) result (ok_if (is_in_range d.instruction) (Range line) (with_draft line (source_view self.old) d)) }
+        ensures added { let d = draft_view draft.entry in Gives is_asm_memory (λ _. source_view self.new) result
+            (ok_if (is_in_range d.instruction) (Range line) (with_draft line (source_view self.old) d)) }
         ensures slots { self.new.slots ≤ self.old.slots + 2 }
     {
         if !is_in_range(draft.instruction) {
@@ -141,7 +144,8 @@ impl<'a> Source<'a> {
     /// Adds what a line stands for.
     fn add_line(&mut self, line: u32, text: &'a [u8]) -> Result<(), AsmFault>
         requires { self.old.slots < 2 ^ 62 }
-        ensures added { Gives is_asm_memory (λ _. source_view self.new) result (with_line line (source_view self.old) text.entry.now) }
+        ensures added { Gives is_asm_memory (λ _. source_view self.new) result
+            (with_line line (source_view self.old) text.entry.now) }
         ensures slots { self.new.slots ≤ self.old.slots + 2 }
     {
         if !is_text(text) {
@@ -160,7 +164,8 @@ impl<'a> Source<'a> {
     pub fn add_lines(&mut self, text: &'a [u8]) -> Result<(), AsmFault>
         requires new { self.old.slots ≡ 0 }
         requires few { length text.now < 2 ^ 32 }
-        ensures { Gives is_asm_memory (λ _. source_view self.new) result (with_lines 1 (source_view self.old) (lines_of text.entry.now)) }
+        ensures { Gives is_asm_memory (λ _. source_view self.new) result
+            (with_lines 1 (source_view self.old) (lines_of text.entry.now)) }
     {
         let mut number = 0;
         let mut rest = text;
