@@ -1,10 +1,21 @@
-//! Program images from text, and text from program images.
+//! Assembler text and images of programs: the assembler and the lister (the project's own format).
 #![tactic(auto)]
 
-mod assembling;
+mod assembler;
+mod draft;
 mod fault;
-mod listing;
+mod instruction;
+pub mod laws;
+mod line;
+mod lister;
+mod number;
+mod operand;
+mod piece;
+mod row;
+mod source;
+#[cfg(test)]
+mod tests;
 
-pub use assembling::assemble;
+pub use assembler::assemble;
 pub use fault::{AsmFault, ListFault};
-pub use listing::list;
+pub use lister::list;

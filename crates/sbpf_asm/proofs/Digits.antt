@@ -1,0 +1,43 @@
+-- Digits read from the left.
+use Rattle.std.proofs.Common.{◌≡◌, ◌<◌, ◌≤◌, ◌+◌, ◌-◌, ◌*◌, ◌^◌, ℕ, zero, suc, Bool, true, List, [], ◌∷◌, ◌++◌, length, refl, ap, ◌∙◌, take, get_or, add-one, arith}
+use Rattle.std.specs.List.{list_all}
+use Rattle.std.specs.Char.{is_ascii_digit, digit_value}
+use Rattle.std.specs.Str.Parse.{digits_value, digits_value_after}
+use Rattle.std.proofs.Math.Nat.{pow-suc, pow-le-pow_right}
+use Rattle.std.proofs.lemmas.Bool.{and_parts}
+use Rattle.std.proofs.lemmas.Bool.Decides.{nat_tests}
+use Rattle.std.proofs.lemmas.List.{take_more}
+use Rattle.sbpf_asm.specs.Words.{is_hex_digit}
+
+after_push : (r n c : ℕ) (ds : List ℕ) → digits_value_after r n (ds ++ c ∷ []) ≡ digits_value_after r n ds * r + digit_value c
+after_push r n c [] = refl
+after_push r n c (d ∷ ds) = after_push r (n * r + digit_value d) c ds
+
+-- the number that one more digit writes
+pub value_more : (r : ℕ) (text : List ℕ) (i : ℕ) → i < length text → digits_value r (take (i + 1) text) ≡ digits_value r (take i text) * r + digit_value (get_or text i 0)
+value_more r text i l = ap (digits_value r) (take_more text i 0 l) ∙ after_push r 0 (get_or text i 0) (take i text)
+
+-- a byte of a text whose bytes all pass a test
+pub all_get : (p : ℕ → Bool) (ds : List ℕ) (i : ℕ) → list_all p ds ≡ true → i < length ds → p (get_or ds i 0) ≡ true
+all_get p [] i h l = absurd (omega arith)
+all_get p (d ∷ ds) zero h l = (and_parts (p d) (list_all p ds) h).0
+all_get p (d ∷ ds) (suc i) h l = all_get p ds i (and_parts (p d) (list_all p ds) h).1 (omega arith)
+
+pub decimal_digit : (c : ℕ) → is_ascii_digit c ≡ true → (48 ≤ c) × ((c ≤ 57) × (digit_value c ≡ c - 48))
+decimal_digit c h = (grind (arith, nat_tests), (grind (arith, nat_tests), grind (arith, nat_tests)))
+
+pub hex_digit_below : (c : ℕ) → is_hex_digit c ≡ true → digit_value c < 16
+hex_digit_below c h = grind (arith, nat_tests)
+
+-- a power of ten or of sixteen, one step on and as a bound
+pub ten_more : (i : ℕ) → 10 ^ (i + 1) ≡ 10 ^ i * 10
+ten_more i = rw add-one (pow-suc 10 i)
+
+pub ten_most : (i : ℕ) → i ≤ 20 → 10 ^ i ≤ 10 ^ 20
+ten_most i h = pow-le-pow_right (omega arith) h
+
+pub sixteen_more : (i : ℕ) → 16 ^ (i + 1) ≡ 16 ^ i * 16
+sixteen_more i = rw add-one (pow-suc 16 i)
+
+pub sixteen_most : (i : ℕ) → i ≤ 16 → 16 ^ i ≤ 16 ^ 16
+sixteen_most i h = pow-le-pow_right (omega arith) h

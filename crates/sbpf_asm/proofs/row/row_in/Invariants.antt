@@ -1,0 +1,7 @@
+use Rattle.std.proofs.Common.{◌≡◌, drop}
+use Rattle.std.specs.Prelude.{find}
+use Rattle.std.specs.Str.{bytes_eq}
+use Rattle.sbpf_asm.proofs.row.row_in.Given as goal
+
+abbrev pub invariant-loop-row : goal.invariant-loop-row
+invariant-loop-row l = find (λ r. bytes_eq r.mnemonic.now l.mnemonic) (drop l.row-index l.rows) ≡ find (λ r. bytes_eq r.mnemonic.now l.mnemonic) l.rows

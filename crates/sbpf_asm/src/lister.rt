@@ -1,0 +1,287 @@
+ghost use Rattle.std.specs.Prelude.{◌≡◌, ◌++◌, ◌*◌, ◌<◌, ◌≤◌, OnOk, codes, find, length, map, option_map};
+ghost use Rattle.std.specs.Fork.{slice_chunk};
+ghost use Rattle.spec_base.specs.Reading.{Gives};
+ghost use Rattle.std.specs.Fmt.{signed_decimal};
+ghost use Rattle.sbpf_verify.specs.Places.{slot_count};
+ghost use Rattle.sbpf_verify.specs.Verified.{IsVerified};
+ghost use Rattle.sbpf_asm.specs.Rows.{distance, operand_text, row_for, row_text, written, writes, taken};
+ghost use Rattle.sbpf_asm.specs.Operands.{register_text, signed_text, place_text};
+ghost use Rattle.sbpf_asm.specs.Listing.{constant_line, constant_lines, instruction_lines, instruction_of, instruction_text, is_list_memory, listed, slot_line};
+ghost use Rattle.sbpf_asm.specs.Views.{row_view};
+
+use crate::draft::leading;
+use crate::fault::ListFault;
+use crate::instruction::{CALL, Instruction, LOAD_WIDE};
+use crate::row::{Operand, Row, operands_of, rows};
+use itoa::Buffer;
+use sbpf_isa::slot_at;
+use sbpf_verify::{first_refusal, read_image};
+use sol_base::{Blob, OutOfMemory};
+use std::alloc::Global;
+
+fn append_number(out: &mut Blob, number: i128) -> Result<(), OutOfMemory>
+    ensures { OnOk result (out.new ≡ out.old ++ signed_decimal number) }
+{
+    out.append(Buffer::new().format(number).as_bytes())
+}
+
+fn append_register(out: &mut Blob, register: u8) -> Result<(), OutOfMemory>
+    ensures { OnOk result (out.new ≡ out.old ++ register_text register) }
+{
+    out.append(b"r")?;
+    out.append(Buffer::new().format(register).as_bytes())
+}
+
+/// A number with its sign.
+fn append_signed(out: &mut Blob, number: i128) -> Result<(), OutOfMemory>
+    ensures { OnOk result (out.new ≡ out.old ++ signed_text number) }
+{
+    if number >= 0 {
+        out.append(b"+")?;
+    }
+    append_number(out, number)
+}
+
+fn append_place(out: &mut Blob, register: u8, offset: i128) -> Result<(), OutOfMemory>
+    ensures { OnOk result (out.new ≡ out.old ++ place_text register offset) }
+{
+    out.append(b"[")?;
+    append_register(out, register)?;
+    append_signed(out, offset)?;
+    out.append(b"]")
+}
+
+/// How far on from the next instruction an instruction leads.
+fn distance(i: Instruction) -> i128
+    ensures { result ≡ distance i }
+{
+    if i.opcode == CALL { i.imm } else { i.offset }
+}
+
+fn append_operand(
+    out: &mut Blob,
+    row: Row,
+    i: Instruction,
+    operand: Operand,
+) -> Result<(), OutOfMemory>
+    ensures { OnOk result (out.new ≡ out.old ++ operand_text (row_view row) i operand) }
+{
+    match operand {
+        Operand::Destination => append_register(out, i.dst),
+        Operand::Source => append_register(out, i.src),
+        Operand::RegisterOrNumber => {
+            if i.opcode == row.opcode {
+                append_number(out, i.imm)
+            } else {
+                append_register(out, i.src)
+            }
+        }
+        Operand::Number => append_number(out, i.imm),
+        Operand::JumpTarget => append_signed(out, distance(i)),
+        Operand::DestinationPlace => append_place(out, i.dst, i.offset),
+        Operand::SourcePlace => append_place(out, i.src, i.offset),
+        Operand::RegisterNumber => {
+            out.append(b"r")?;
+            out.append(Buffer::new().format(i.imm.unsigned_abs()).as_bytes())
+        }
+    }
+}
+
+/// An instruction with the fields that an operand has in another.
+fn taken(row: Row, i: Instruction, onto: Instruction, operand: Operand) -> Instruction
+    ensures { result ≡ taken (row_view row) i onto operand }
+{
+    match operand {
+        Operand::Destination => Instruction { dst: i.dst, ..onto },
+        Operand::Source => Instruction { src: i.src, ..onto },
+        Operand::RegisterOrNumber => {
+            if i.opcode == row.opcode {
+                Instruction { imm: i.imm, ..onto }
+            } else {
+                Instruction {
+                    opcode: row.register_opcode,
+                    src: i.src,
+                    ..onto
+                }
+            }
+        }
+        Operand::Number => Instruction { imm: i.imm, ..onto },
+        Operand::JumpTarget => leading(distance(i), onto),
+        Operand::DestinationPlace => Instruction {
+            dst: i.dst,
+            offset: i.offset,
+            ..onto
+        },
+        Operand::SourcePlace => Instruction {
+            src: i.src,
+            offset: i.offset,
+            ..onto
+        },
+        Operand::RegisterNumber => Instruction { imm: i.imm, ..onto },
+    }
+}
+
+/// What a row writes of an instruction.
+fn written(row: Row, i: Instruction) -> Instruction
+    ensures { result ≡ written (row_view row) i }
+{
+    let mut made = Instruction {
+        opcode: row.opcode,
+        dst: 0,
+        src: row.src,
+        offset: 0,
+        imm: row.imm,
+    };
+    for operand in operands_of(row.shape) {
+        made = taken(row, i, made, *operand);
+    }
+    made
+}
+
+fn row_in(rows: &[Row], i: Instruction) -> Option<Row>
+    ensures { option_map row_view result ≡ find (writes i) (map row_view rows.now) }
+{
+    for row in rows {
+        if written(*row, i) == i {
+            return Some(*row);
+        }
+    }
+    None
+}
+
+/// The row of an instruction: the first that writes all of it.
+fn row_for(i: Instruction) -> Option<Row>
+    ensures { option_map row_view result ≡ row_for i }
+{
+    row_in(rows(), i)
+}
+
+fn append_row(out: &mut Blob, row: Row, i: Instruction) -> Result<(), OutOfMemory>
+    ensures { OnOk result (out.new ≡ out.old ++ row_text (row_view row) i) }
+{
+    out.append(row.mnemonic)?;
+    let mut parting: &[u8] = b" ";
+    for operand in operands_of(row.shape) {
+        out.append(parting)?;
+        append_operand(out, row, i, *operand)?;
+        parting = b", ";
+    }
+    Ok(())
+}
+
+/// The instruction of a slot.
+fn instruction_of(text: &[u8], place: usize) -> Instruction
+    requires verified { IsVerified text.now }
+    requires there { place < slot_count text.now }
+    ensures { result ≡ instruction_of text.now place }
+{
+    let slot = slot_at(text, place);
+    let imm = if slot.opcode == LOAD_WIDE {
+        let high = slot_at(text, place + 1).imm.cast_unsigned();
+        i128::from(u64::from(slot.imm.cast_unsigned()) | u64::from(high) << 32)
+    } else {
+        i128::from(slot.imm)
+    };
+    Instruction {
+        opcode: slot.opcode,
+        dst: slot.dst,
+        src: slot.src,
+        offset: i128::from(slot.offset),
+        imm,
+    }
+}
+
+/// Appends an instruction without a line feed.
+fn append_instruction(out: &mut Blob, i: Instruction) -> Result<(), OutOfMemory>
+    ensures { OnOk result (out.new ≡ out.old ++ instruction_text i) }
+{
+    match row_for(i) {
+        Some(row) => append_row(out, row, i),
+        None => Ok(()),
+    }
+}
+
+fn append_line(out: &mut Blob, i: Instruction) -> Result<(), OutOfMemory>
+    ensures { OnOk result (out.new ≡ out.old ++ (instruction_text i ++ codes "\n")) }
+{
+    append_instruction(out, i)?;
+    out.append(b"\n")
+}
+
+/// Appends the line of a slot. The second slot of `lddw` has none.
+fn append_slot(out: &mut Blob, text: &[u8], place: usize) -> Result<(), OutOfMemory>
+    requires verified { IsVerified text.now }
+    requires there { place < slot_count text.now }
+    ensures { OnOk result (out.new ≡ out.old ++ slot_line text.now place) }
+{
+    if slot_at(text, place).opcode == 0 {
+        return Ok(());
+    }
+    append_line(out, instruction_of(text, place))
+}
+
+fn append_instructions(out: &mut Blob, text: &[u8]) -> Result<(), OutOfMemory>
+    requires { IsVerified text.now }
+    ensures { OnOk result (out.new ≡ out.old ++ instruction_lines text.now) }
+{
+    for place in 0..text.len() / 8 {
+        append_slot(out, text, place)?;
+    }
+    Ok(())
+}
+
+/// The bytes of a line of constants.
+fn chunk(bytes: &[u8], line: usize) -> &[u8]
+    requires { 32 * line ≤ length bytes.now }
+    ensures { result.now ≡ slice_chunk bytes.now 32 line }
+{
+    let from = 32 * line;
+    let left = bytes.len() - from;
+    if left <= 32 {
+        &bytes[from..]
+    } else {
+        &bytes[from..from + 32]
+    }
+}
+
+fn append_constant_line(
+    alloc: Global,
+    out: &mut Blob,
+    constants: &[u8],
+    line: usize,
+) -> Result<(), OutOfMemory>
+    requires { 32 * line ≤ length constants.now }
+    ensures { OnOk result (out.new ≡ out.old ++ constant_line constants.now line) }
+{
+    out.append(b".const ")?;
+    out.append(hex::encode(alloc, chunk(constants, line))?.as_bytes())?;
+    out.append(b"\n")
+}
+
+/// Appends the constants, 32 bytes a line.
+fn append_constants(alloc: Global, out: &mut Blob, constants: &[u8]) -> Result<(), OutOfMemory>
+    ensures { OnOk result (out.new ≡ out.old ++ constant_lines constants.now) }
+{
+    for line in 0..constants.len().div_ceil(32) {
+        append_constant_line(alloc, out, constants, line)?;
+    }
+    Ok(())
+}
+
+/// The text of a program image (the project's own format): a line for each instruction, then the
+/// constants, 32 bytes a line. Each line ends with a line feed.
+#[tactic(auto, unfolding(crate::specs::Listing::listed))]
+pub fn list(alloc: Global, image: &[u8]) -> Result<Blob, ListFault>
+    ensures exact { Gives is_list_memory (λ b. b) result (listed image.now) }
+{
+    let Some(parts) = read_image(image) else {
+        return Err(ListFault::BadImage);
+    };
+    if let Some(fault) = first_refusal(parts.text) {
+        return Err(ListFault::Unverified(fault));
+    }
+    let mut out = Blob::new(alloc);
+    append_instructions(&mut out, parts.text)?;
+    append_constants(alloc, &mut out, parts.constants)?;
+    Ok(out)
+}
