@@ -1,17 +1,15 @@
 -- Lists of metas that list the same accounts in the same order, with the same rights of each account.
-use Rattle.std.proofs.Common.{◌≡◌, ℕ, zero, suc, ◌+◌, ◌-◌, replicate, set, ◌==◌, Bool, true, false, not, ◌&&◌, ◌||◌, List, [], ◌∷◌, length, map, take, get_or, nat_eq, nat_lt, refl, sym, ap, ◌∙◌, Ok, Err, arith, if◌then◌else◌}
-use Rattle.std.specs.List.{enumerate_from, filter, list_any}
-use Rattle.std.proofs.Math.ListN.{get_or-map}
-use Rattle.std.proofs.lemmas.List.{length-map}
+use Rattle.std.proofs.Common.{◌≡◌, ℕ, ◌+◌, ◌-◌, replicate, set, ◌==◌, Bool, true, false, not, ◌&&◌, ◌||◌, List, [], ◌∷◌, nat_eq, nat_lt, refl, sym, ap, ◌∙◌, Ok, Err, arith, if◌then◌else◌}
+use Rattle.std.specs.List.{list_any}
 use Rattle.std.proofs.lemmas.Bool.Decides.{nat_tests}
 use Rattle.spec_base.specs.Reading.{◌>>=◌}
 use Rattle.sol_base.specs.declared.key.Key.{Key}
 use Rattle.sol_base.specs.declared.account.Account.{Account}
 use Rattle.sol_base.specs.declared.lock.Meta.{Meta}
 use Rattle.sol_base.specs.Keys.{same_key}
-use Rattle.sol_base.specs.Accounts.{empty_account, max_data_len}
+use Rattle.sol_base.specs.Accounts.{max_data_len}
 use Rattle.sol_base.specs.DerivedKeys.{seed_key_of}
-use Rattle.sol_base.specs.Metas.{is_first_listing, is_listed, is_listed_signer, is_listed_writable}
+use Rattle.sol_base.specs.Metas.{is_listed_signer}
 use Rattle.account_rules.specs.Listings.{SameListing}
 use Rattle.account_rules.proofs.SameListings.{same_length, same_places, same_rules}
 use Rattle.system_prog.specs.declared.fault.SystemFault.TheVariants.{Custom, InvalidArgument, MissingSignature, NotEnoughAccounts}
