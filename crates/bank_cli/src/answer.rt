@@ -1,6 +1,6 @@
 //! What is answered to words and input.
 ghost use Rattle.std.specs.Prelude.{◌≡◌, ◌⊎◌, ◌≤◌, length, false, IfOk, OnErr};
-ghost use Rattle.bank_words.specs.Reading.{IsInRange};
+ghost use Rattle.bank_words.specs.Commands.{IsInRange};
 ghost use Rattle.bank_cli.specs.Answer.{answer, answer_to, input_limit, reads_input, takes_input};
 ghost use Rattle.bank_cli.specs.Ending.{TellsAnswer, TellsFault, Stops};
 ghost use Rattle.sol_io.specs.Bytes.{Keeps};
