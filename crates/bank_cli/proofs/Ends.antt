@@ -1,5 +1,5 @@
 -- The ends of the top call.
-use Rattle.std.proofs.Common.{◌≡◌, ◌≢◌, ℕ, ◌+◌, ◌<◌, List, [], length, Bool, true, false, cond, Option, Some, None, Result, Ok, Err, ◌⊎◌, inl, inr, refl, sym, ap, subst, ◌∙◌, nat_le, arith}
+use Rattle.std.proofs.Common.{◌≡◌, ℕ, ◌+◌, ◌<◌, ◌≤◌, List, [], length, Bool, true, false, cond, Option, Some, None, Result, Ok, Err, ◌⊎◌, inl, inr, refl, sym, ap, subst, ◌∙◌, nat_le, arith}
 use Rattle.std.specs.Prelude.{codes, replicate}
 use Rattle.std.proofs.lemmas.Bool.Decides.{nat_tests}
 use Rattle.std.proofs.lemmas.List.{length-replicate}
@@ -82,32 +82,32 @@ too_long command (Some bytes) old new told looks long stands is =
 -- ---- no defined answer has the status of a source that failed
 
 abbrev IsNoFault : Answer → Type 0
-IsNoFault a = a.status ≢ 4
+IsNoFault a = a.status ≤ 3
 
 part_no_fault : {X E : Type 0} (text : E → List ℕ) (told : X → Answer) (part : Result X E) → ((x : X) → IsNoFault (told x)) → IsNoFault (unless_refused text told part)
 part_no_fault text told (Ok x) each = each x
-part_no_fault text told (Err fault) each = λ h. absurd (omega arith)
+part_no_fault text told (Err fault) each = omega arith
 
 within_no_fault : (bytes : List ℕ) (a : Answer) → IsNoFault a → IsNoFault (within bytes a)
 within_no_fault bytes a is = by_test (nat_le (length bytes) input_limit)
   where
     by_test : (test : Bool) → IsNoFault (cond test a too_long_answer)
     by_test true = is
-    by_test false = λ h. absurd (omega arith)
+    by_test false = omega arith
 
 judged_no_fault : (given : Block) (found : Verdict) → IsNoFault (judged given found)
-judged_no_fault given Match = λ h. absurd (omega arith)
-judged_no_fault given (Differ entry field expected found) = λ h. absurd (omega arith)
+judged_no_fault given Match = omega arith
+judged_no_fault given (Differ entry field expected found) = omega arith
 
 made_no_fault : (number count : ℕ) (run : Bool) → IsNoFault (made number count run)
-made_no_fault number count true = λ h. absurd (omega arith)
-made_no_fault number count false = λ h. absurd (omega arith)
+made_no_fault number count true = omega arith
+made_no_fault number count false = omega arith
 
 snapshot_no_fault : (told : Snapshot → List ℕ → Answer) (bytes : List ℕ) → ((snapshot : Snapshot) (rest : List ℕ) → IsNoFault (told snapshot rest)) → IsNoFault (after_snapshot told bytes)
 snapshot_no_fault told bytes each = part_no_fault snapshot_text _ (prefix_of bytes) (λ (prefix : Prefix). each prefix.snapshot _)
 
 produced_no_fault : (snapshot : Snapshot) (rest : List ℕ) → IsNoFault (produced_after snapshot rest)
-produced_no_fault snapshot rest = part_no_fault batch_text _ (batch_of snapshot.slot rest) (λ batch. λ h. absurd (omega arith))
+produced_no_fault snapshot rest = part_no_fault batch_text _ (batch_of snapshot.slot rest) (λ batch. omega arith)
 
 replayed_no_fault : (snapshot : Snapshot) (rest : List ℕ) → IsNoFault (replayed_after snapshot rest)
 replayed_no_fault snapshot rest =
@@ -116,23 +116,36 @@ replayed_no_fault snapshot rest =
 command_no_fault : (command : Command) (bytes : List ℕ) → IsNoFault (answer_to command bytes)
 command_no_fault (Produce lanes senders) bytes = within_no_fault bytes (produced bytes) (snapshot_no_fault produced_after bytes produced_no_fault)
 command_no_fault (Replay lanes) bytes = within_no_fault bytes (replayed bytes) (snapshot_no_fault replayed_after bytes replayed_no_fault)
-command_no_fault Show bytes = within_no_fault bytes (shown bytes) (part_no_fault record_text _ (record_of bytes) (λ block. λ h. absurd (omega arith)))
+command_no_fault Show bytes = within_no_fault bytes (shown bytes) (part_no_fault record_text _ (record_of bytes) (λ block. omega arith))
 command_no_fault (Make number count run lanes) bytes = made_no_fault number count run
-command_no_fault Assemble bytes = within_no_fault bytes (assembled bytes) (part_no_fault asm_text _ (assembled_of bytes) (λ image. λ h. absurd (omega arith)))
-command_no_fault list_image bytes = within_no_fault bytes (listed bytes) (part_no_fault list_text _ (listed_of bytes) (λ text. λ h. absurd (omega arith)))
+command_no_fault Assemble bytes = within_no_fault bytes (assembled bytes) (part_no_fault asm_text _ (assembled_of bytes) (λ image. omega arith))
+command_no_fault list_image bytes = within_no_fault bytes (listed bytes) (part_no_fault list_text _ (listed_of bytes) (λ text. omega arith))
 
 answer_no_fault : (words : List (List ℕ)) (bytes : List ℕ) → IsNoFault (answer words bytes)
 answer_no_fault words bytes = by_command (command_in words)
   where
     by_command : (command : Option Command) → IsNoFault (answer_for command bytes)
     by_command (Some command) = command_no_fault command bytes
-    by_command None = λ h. absurd (omega arith)
+    by_command None = omega arith
 
 -- status 4 comes where the source failed, and says so
 pub fault_told : (words : List (List ℕ)) (left : Option (List ℕ)) (old new : ℕ) (told : Answer) (out out' notes notes' : Option (List ℕ)) → TellsAnswer (answer words) left old new told ⊎ TellsFault (reads_input words) old new told
     → Writes told out out' notes notes' → told.status ≡ 4 → Rose old new × (reads_input words ≡ true) × Writes read_failed out out' notes notes'
-fault_told words left old new told out out' notes notes' (inl t) written four = absurd (answer_no_fault words t.bytes (ap (λ (a : Answer). a.status) (sym t.defined) ∙ four))
+fault_told words left old new told out out' notes notes' (inl t) written four =
+    let low : (answer words t.bytes).status ≤ 3 = answer_no_fault words t.bytes in
+    let same : told.status ≡ (answer words t.bytes).status = ap (λ (a : Answer). a.status) t.defined in
+    absurd (omega (arith, low, same, four))
 fault_told words left old new told out out' notes notes' (inr t) written four = (t.rose, t.in_form, subst (λ (a : Answer). Writes a out out' notes notes') t.defined written)
+
+-- what is told has none of the statuses that come only when it is delivered
+pub status_told : (words : List (List ℕ)) (left : Option (List ℕ)) (old new : ℕ) (told : Answer) → TellsAnswer (answer words) left old new told ⊎ TellsFault (reads_input words) old new told → told.status ≤ 4
+status_told words left old new told (inl t) =
+    let low : (answer words t.bytes).status ≤ 3 = answer_no_fault words t.bytes in
+    let same : told.status ≡ (answer words t.bytes).status = ap (λ (a : Answer). a.status) t.defined in
+    omega (arith, low, same)
+status_told words left old new told (inr t) =
+    let same : told.status ≡ 4 = ap (λ (a : Answer). a.status) t.defined in
+    omega (arith, same)
 
 -- ---- memory ran out before anything was written
 
