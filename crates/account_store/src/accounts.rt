@@ -4,13 +4,14 @@ ghost use Rattle.spec_base.specs.Reading.{Gives};
 ghost use Rattle.sol_base.specs.Accounts.{IsShort};
 ghost use Rattle.account_store.specs.State as state;
 ghost use Rattle.account_store.specs.State.{IsState, is_above};
-ghost use Rattle.account_store.specs.Shared.{shared_lamports, seen_entry};
+ghost use Rattle.account_store.specs.Shared.{shared_lamports, seen, seen_entry};
 ghost use Rattle.account_store.specs.Sorted.{state_of, is_store_memory, entry_of, entry_fault, last_key, IsFaultOr};
 
 use crate::sorted::{KeyedAccount, StoreFault};
 use sol_base::{Account, Items, Key, OutOfMemory};
 use std::alloc::Global;
 use std::collections::BTreeMap;
+use std::collections::btree_map::Iter;
 use std::marker::Model;
 use std::ops::Bound;
 use std::sync::Arc;
@@ -166,6 +167,15 @@ impl Accounts {
         ensures state { IsState self.now }
     {
         self.tree.len()
+    }
+
+    /// The accounts with their keys, the keys ascending. To go over all of them takes time by their
+    /// number.
+    pub fn iter(&self) -> Iter<'_, Key, Arc<Account>>
+        ensures entries { seen result ≡ state.entries self.now }
+        ensures state { IsState self.now }
+    {
+        self.tree.iter()
     }
 
     /// The least key above the given one, or the least key of all where none is given, with its

@@ -1,16 +1,14 @@
--- Accounts one after the other, each the next after the last one.
-use Rattle.std.proofs.Common.{◌≡◌, ◌<◌, ◌≤◌, ◌^◌, ℕ, List, [], ◌∷◌, ◌++◌, length, Option, Some, None, Bool, true, false, cond, refl, sym, ap, subst, ◌∙◌, append_assoc, arith}
-use Rattle.std.specs.Prelude.{filter, slice_get, option_map}
+-- Accounts one after the other, as an iterator shows them.
+use Rattle.std.proofs.Common.{◌≡◌, ◌<◌, ◌^◌, ℕ, List, [], ◌∷◌, ◌++◌, length, Option, Some, None, refl, sym, ap, subst, ◌∙◌, append_assoc, arith}
+use Rattle.std.specs.Prelude.{MatchOption}
 use Rattle.std.specs.Borrow.{Bor}
 use Rattle.std.specs.List.{flat_map, AllByRecursion}
 use Rattle.std.proofs.lemmas.List.{append-nil}
 use Rattle.std.proofs.lemmas.Grind.{flat_map-append}
 use Rattle.sol_base.specs.declared.key.Key.{Key}
 use Rattle.sol_base.specs.declared.account.Account.{Account}
-use Rattle.sol_base.specs.Accounts.{IsShort}
-use Rattle.account_store.specs.State.{State, IsHeld, IsState, entries, is_above, entries_after, next_after}
-use Rattle.account_store.specs.Shared.{Shared, seen_entry}
-use Rattle.account_store.proofs.NextLaws.{entries_after-none, next_after-some, next_after-none}
+use Rattle.account_store.specs.State.{IsHeld}
+use Rattle.account_store.specs.Shared.{Shared}
 use Rattle.snapshot_codec.specs.Output.{Adds}
 use Rattle.snapshot_codec.specs.Snapshot.{account_bytes}
 use Rattle.snapshot_codec.proofs.Adding.{Adds-none, Adds-then, Adds-as}
@@ -21,41 +19,35 @@ pub record IsWritten {O : Type 0} (holds : O → List ℕ → Type 0) (old new :
   pub split : done ++ left ≡ all
   pub added : Adds holds old new (flat_map account_bytes done)
 
-pub begun : {O : Type 0} (holds : O → List ℕ → Type 0) (out : O) (s : State) → IsWritten holds out out (entries s) (entries_after s None)
-begun holds out s = record { done = []; split = entries_after-none (entries s); added = Adds-none holds out }
+pub begun : {O : Type 0} (holds : O → List ℕ → Type 0) (out : O) (all left : List (Key × Account)) → left ≡ all → IsWritten holds out out all left
+begun holds out all left h = record { done = []; split = h; added = Adds-none holds out }
 
-pub goes_on : {O : Type 0} {holds : O → List ℕ → Type 0} {old mid new : O} (s : State) (given : Option Key) (e : Key × Account) → IsWritten holds old mid (entries s) (entries_after s given) → Some e ≡ next_after s given → Adds holds mid new (account_bytes e)
-    → IsWritten holds old new (entries s) (entries_after s (Some e.0))
-goes_on s given e written next added =
-    let left : entries_after s given ≡ e ∷ entries_after s (Some e.0) = next_after-some s given e (sym next) in
-    record {
-      done = written.done ++ e ∷ [];
-      split = append_assoc written.done (e ∷ []) (entries_after s (Some e.0)) ∙ ap (λ (l : List (Key × Account)). written.done ++ l) (sym left) ∙ written.split;
-      added = Adds-as (Adds-then written.added added) (sym (flat_map-append account_bytes written.done (e ∷ []) ∙ ap (λ (l : List ℕ). flat_map account_bytes written.done ++ l) (append-nil (account_bytes e))));
-    }
+pub goes_on : {O : Type 0} {holds : O → List ℕ → Type 0} {old mid new : O} (all left after : List (Key × Account)) (e : Key × Account) → IsWritten holds old mid all left → left ≡ e ∷ after → Adds holds mid new (account_bytes e)
+    → IsWritten holds old new all after
+goes_on all left after e written next added = record {
+  done = written.done ++ e ∷ [];
+  split = append_assoc written.done (e ∷ []) after ∙ ap (λ (l : List (Key × Account)). written.done ++ l) (sym next) ∙ written.split;
+  added = Adds-as (Adds-then written.added added) (sym (flat_map-append account_bytes written.done (e ∷ []) ∙ ap (λ (l : List ℕ). flat_map account_bytes written.done ++ l) (append-nil (account_bytes e))));
+}
 
-pub ends : {O : Type 0} {holds : O → List ℕ → Type 0} {old new : O} (s : State) (given : Option Key) → IsWritten holds old new (entries s) (entries_after s given) → None ≡ next_after s given → Adds holds old new (flat_map account_bytes (entries s))
-ends s given written none =
-    let left : entries_after s given ≡ [] = next_after-none s given (sym none) in
-    Adds-as written.added (ap (flat_map account_bytes) (sym (append-nil written.done) ∙ ap (λ (l : List (Key × Account)). written.done ++ l) (sym left) ∙ written.split))
+pub ends : {O : Type 0} {holds : O → List ℕ → Type 0} {old new : O} (all left : List (Key × Account)) → IsWritten holds old new all left → left ≡ [] → Adds holds old new (flat_map account_bytes all)
+ends all left written none =
+    Adds-as written.added (ap (flat_map account_bytes) (sym (append-nil written.done) ∙ ap (λ (l : List (Key × Account)). written.done ++ l) (sym none) ∙ written.split))
 
-pub fewer_left : (s : State) (given : Option Key) (e : Key × Account) → Some e ≡ next_after s given → length (entries_after s (Some e.0)) < length (entries_after s given)
-fewer_left s given e next = omega (arith, ap length (next_after-some s given e (sym next)))
-
-all_kept : (P : Key × Account → Type 0) (test : Key × Account → Bool) (es : List (Key × Account)) → AllByRecursion P es → AllByRecursion P (filter test es)
-all_kept P test [] h = tt
-all_kept P test (e ∷ es) h = elim (test e) as (λ b. AllByRecursion P (cond b (e ∷ filter test es) (filter test es))) [ true ↦ (h.0, all_kept P test es h.1) | false ↦ all_kept P test es h.1 ]
+-- what holds of each entry holds of one that is left
+left_held : (P : Key × Account → Type 0) (done after : List (Key × Account)) (e : Key × Account) → AllByRecursion P (done ++ e ∷ after) → P e
+left_held P [] after e h = h.0
+left_held P (d ∷ done) after e h = left_held P done after e h.1
 
 -- the data of the next account have a length that is allowed
-pub next_is_short : (s : State) (given : Option Key) (e : Key × Account) → IsState s → Some e ≡ next_after s given → length e.1.bytes < 2 ^ 32
-next_is_short s given e is next =
-    let left : entries_after s given ≡ e ∷ entries_after s (Some e.0) = next_after-some s given e (sym next) in
-    let all : AllByRecursion (λ d. IsHeld d.1) (entries_after s given) = all_kept (λ d. IsHeld d.1) (λ d. is_above given d.0) (entries s) is.held in
-    let here = subst (AllByRecursion (λ (d : Key × Account). IsHeld d.1)) left all in
-    let short = here.0.1 in
+pub next_is_short : {O : Type 0} {holds : O → List ℕ → Type 0} {old mid : O} (all left after : List (Key × Account)) (e : Key × Account) → AllByRecursion (λ d. IsHeld d.1) all → IsWritten holds old mid all left → left ≡ e ∷ after → length e.1.bytes < 2 ^ 32
+next_is_short all left after e held written next =
+    let split : all ≡ written.done ++ e ∷ after = sym written.split ∙ ap (λ (l : List (Key × Account)). written.done ++ l) next in
+    let is_held = left_held (λ d. IsHeld d.1) written.done after e (subst (AllByRecursion (λ (d : Key × Account). IsHeld d.1)) split held) in
+    let short = is_held.1 in
     omega arith
 
--- no next account
-pub none_next : (r : Option (Bor Key × Bor Shared)) (s : State) (given : Option Key) → ((x : Bor Key × Bor Shared) → r ≡ Some x → ⊥) → option_map seen_entry r ≡ next_after s given → None ≡ next_after s given
-none_next None s given some next = next
-none_next (Some x) s given some next = absurd (some x refl)
+-- where no account is next, none is left
+pub none_left : (r : Option (Bor Key × Bor Shared)) (left after : List (Key × Shared)) → ((x : Bor Key × Bor Shared) → r ≡ Some x → ⊥) → MatchOption r ((left ≡ []) × (after ≡ [])) (λ x. left ≡ (x.0.now, x.1.now) ∷ after) → left ≡ []
+none_left None left after some h = h.0
+none_left (Some x) left after some h = absurd (some x refl)

@@ -86,10 +86,9 @@ fn write_each_account<O: Output>(out: &mut O, accounts: &Accounts) -> Result<(),
     ensures { OnOk result
         (Adds O.holds out.old out.new (flat_map account_bytes (entries accounts.now))) }
 {
-    let mut last = None;
-    while let Some((key, account)) = accounts.next_after(last) {
+    let mut rest = accounts.iter();
+    while let Some((key, account)) = rest.next() {
         write_account(out, key, account)?;
-        last = Some(key);
     }
     Ok(())
 }
@@ -106,10 +105,9 @@ fn write_state<O: Output>(out: &mut O, accounts: &Accounts) -> Result<(), OutOfM
 /// The bytes of the data of all accounts together.
 fn data_len(accounts: &Accounts) -> usize {
     let mut sum: usize = 0;
-    let mut last = None;
-    while let Some((key, account)) = accounts.next_after(last) {
+    let mut rest = accounts.iter();
+    while let Some((_key, account)) = rest.next() {
         sum = sum.saturating_add(account.bytes.len());
-        last = Some(key);
     }
     sum
 }
