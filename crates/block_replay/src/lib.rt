@@ -7,3 +7,6 @@ mod verdict;
 
 pub use comparing::compare;
 pub use verdict::{Field, Verdict};
+
+#[cfg(test)]
+mod tests;

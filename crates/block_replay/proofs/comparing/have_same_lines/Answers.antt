@@ -1,4 +1,4 @@
-use Rattle.std.proofs.Common.{add-one, ◌≡◌, true, false, sym, ◌∙◌, arith}
+use Rattle.std.proofs.Common.{add-one, ◌≡◌, true, false, sym, arith}
 use Rattle.block_replay.specs.Verdict.{same_bytes}
 use Rattle.block_replay.proofs.Lines.{other_here, same_next}
 use Rattle.block_replay.proofs.comparing.have_same_lines.Goals as goal
