@@ -206,6 +206,7 @@ fn first_frame(
     )?;
     let memory = Memory::new(alloc, Arc::try_clone(image.bytes())?, setting.heap, region)?;
     let machine = Machine::of(Arc::try_clone(image.code())?, memory, units);
+    let machine = Box::new(alloc, machine)?;
     Ok(Frame {
         program: key,
         metas: copy_of(alloc, call.metas.as_slice())?,

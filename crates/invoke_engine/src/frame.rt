@@ -19,7 +19,8 @@ pub struct Frame {
     /// The accounts at the frame's start or at the last return of a callee.
     pub before: Items<Arc<Account>>,
     pub had: u64,
-    pub machine: Machine,
+    /// It is large, and stays where it is while the frame is handed on.
+    pub machine: Box<Machine>,
 }
 
 impl Model for Frame {
@@ -35,7 +36,7 @@ impl Model for Frame {
       start = accounts_of f.start;
       before = accounts_of f.before;
       had = f.had;
-      machine = plain f.machine;
+      machine = plain f.machine.value;
     } };
 }
 

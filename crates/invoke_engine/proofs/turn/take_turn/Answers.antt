@@ -1,4 +1,6 @@
 use Rattle.std.proofs.Common.{◌≡◌, ◌∙◌, length, ap, sym, Some}
+use Rattle.sbpf_machine.specs.Plain.{plain}
+use Rattle.sbpf_machine.specs.Steps.{State}
 use Rattle.sbpf_machine.specs.declared.stop.Stop.TheVariants.{Exit, Helper, Fault as Faulted}
 use Rattle.invoke_engine.specs.declared.stopped.Stopped.TheVariants.{Refused}
 use Rattle.invoke_engine.specs.Frames.{Running, Leaves}
@@ -27,7 +29,8 @@ returns-in_ok-leave-in-Exit c =
 pub returns-in_ok-fail-in-Fault : goal.returns-in_ok-fail-in-Fault
 returns-in_ok-fail-in-Fault c =
     let r : Ran c.args.frame.now c.run.new.frame (Faulted c.in-Fault.fault) = record { steps = c.in_ok-r0.ensures.steps.0; rest = c.run.ensures.rest; stop = c.in_ok-r0.ensures.steps.1 ∙ ap Some c.in-Fault.is } in
-    let units : c.run.new.frame.machine.units ≡ c.units-units.result = ap (λ (f : Running). f.machine.units) (sym c.frame.view_is) ∙ sym c.units-units.ensures in
+    let machine : c.run.new.frame.machine ≡ plain c.deref.result.now = ap (λ (f : Running). f.machine) (sym c.frame.view_is) ∙ ap plain (sym c.deref.ensures) in
+    let units : c.run.new.frame.machine.units ≡ c.units-units.result = ap (λ (m : State). m.units) machine ∙ sym c.units-units.ensures in
     turn_at c.args.setting c.args.keys.now (programs_of c.args.outer.now) c.args.frame.now c.run.new.frame c.args.carrier.now _ r ∙
     ap (λ (x : Stopped). Leaves (closes (programs_of c.args.outer.now) c.run.new.frame c.run.new.frame.machine.units c.args.carrier.now (Err x))) c.reason_of.ensures ∙
     ap (λ n. Leaves (closes (programs_of c.args.outer.now) c.run.new.frame n c.args.carrier.now (Err (Refused c.reason_of.result)))) units ∙
