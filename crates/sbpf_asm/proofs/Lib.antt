@@ -6,3 +6,15 @@ pub mod Lists
 pub mod Rows
 pub mod Sources
 pub mod Texts
+pub mod Numbers
+pub mod Clean
+pub mod Operands
+pub mod OpcodeRows
+pub mod VerifiedRows
+pub mod ListedLines
+pub mod ListedInstructions
+pub mod ListedSlots
+pub mod ListedTexts
+pub mod ListedWalk
+pub mod ListedConstants
+pub mod Listings

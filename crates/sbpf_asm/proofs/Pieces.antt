@@ -1,10 +1,10 @@
 -- Where a text is cut, and its parts.
-use Rattle.std.proofs.Common.{◌≡◌, ℕ, not, Bool, true, false, List, [], ◌∷◌, ◌++◌, Option, Some, None, refl, sym, ap, ◌∙◌}
+use Rattle.std.proofs.Common.{◌≡◌, ℕ, not, Bool, true, false, List, [], ◌∷◌, ◌++◌, Option, Some, None, refl, sym, ap, ◌∙◌, reverse}
 use Rattle.std.specs.List.{list_all, slice_split}
-use Rattle.std.proofs.lemmas.Bool.{and_parts, not-true}
+use Rattle.std.proofs.lemmas.Bool.{and_parts, and_from, not-true}
 use Rattle.std.proofs.Common.{◌<◌, ◌≤◌, ◌+◌, length, take, drop, get_or}
-use Rattle.std.proofs.lemmas.List.{drop_more, take_more, take_all, take-append-drop}
-use Rattle.sbpf_asm.specs.Words.{Text, cut}
+use Rattle.std.proofs.lemmas.List.{drop_more, take_all, take-append-drop, reverse-append, reverse-reverse}
+use Rattle.sbpf_asm.specs.Words.{Text, cut, is_blank, without_first_blanks, trim}
 
 pub cut_none : (at : ℕ → Bool) (xs : Text) → list_all (λ b. not (at b)) xs ≡ true → cut at xs ≡ record { front = xs; rest = None }
 cut_none at [] h = refl
@@ -40,3 +40,37 @@ split_cut at (b ∷ bs) = go (split_cut at bs) (at b) refl
     go : slice_split at bs ≡ (cut at bs).front ∷ parts_after at (cut at bs).rest → (x : Bool) → at b ≡ x → slice_split at (b ∷ bs) ≡ (cut at (b ∷ bs)).front ∷ parts_after at (cut at (b ∷ bs)).rest
     go more true e = rw e refl
     go more false e = rw (e, more) refl
+
+-- the parts of a text that is put together
+pub split_none : (at : ℕ → Bool) (xs : Text) → list_all (λ b. not (at b)) xs ≡ true → slice_split at xs ≡ xs ∷ []
+split_none at xs h = split_cut at xs ∙ rw (cut_none at xs h) refl
+
+pub split_here : (at : ℕ → Bool) (xs : Text) (b : ℕ) (ys : Text) → list_all (λ c. not (at c)) xs ≡ true → at b ≡ true → slice_split at (xs ++ b ∷ ys) ≡ xs ∷ slice_split at ys
+split_here at xs b ys h e = split_cut at (xs ++ b ∷ ys) ∙ rw (cut_here at xs b ys h e) refl
+
+pub all_append : (p : ℕ → Bool) (xs ys : Text) → list_all p xs ≡ true → list_all p ys ≡ true → list_all p (xs ++ ys) ≡ true
+all_append p [] ys h k = k
+all_append p (x ∷ xs) ys h k =
+    let parts = and_parts (p x) (list_all p xs) h in
+    and_from (p x) (list_all p (xs ++ ys)) parts.0 (all_append p xs ys parts.1 k)
+
+-- the text begins and ends with a byte that is no blank
+pub record Framed (text : Text) : Type 0 where
+  pub first : ℕ
+  pub after : Text
+  pub begins : text ≡ first ∷ after
+  pub no_blank : is_blank first ≡ false
+  pub before : Text
+  pub last : ℕ
+  pub ends : text ≡ before ++ last ∷ []
+  pub no_blank_last : is_blank last ≡ false
+
+kept : (b : ℕ) (bs : Text) → is_blank b ≡ false → without_first_blanks (b ∷ bs) ≡ b ∷ bs
+kept b bs e = rw e refl
+
+pub trim_framed : (text : Text) → Framed text → trim text ≡ text
+trim_framed text f =
+    let first : without_first_blanks text ≡ text = rw f.begins (kept f.first f.after f.no_blank) in
+    let turned : reverse text ≡ f.last ∷ reverse f.before = ap reverse f.ends ∙ reverse-append f.before (f.last ∷ []) in
+    let second : without_first_blanks (reverse text) ≡ reverse text = rw turned (kept f.last (reverse f.before) f.no_blank_last) in
+    ap (λ (t : Text). reverse (without_first_blanks (reverse t))) first ∙ ap reverse second ∙ reverse-reverse text

@@ -1,6 +1,5 @@
 -- The lines of a text one by one, and labels one by one.
-use Rattle.std.proofs.Common.{◌≡◌, ℕ, suc, ◌+◌, ◌<◌, ◌≤◌, ◌==◌, Bool, true, false, List, [], ◌∷◌, ◌++◌, length, Option, Some, None, is_some, Result, Ok, Err, refl, sym, ap, ◌∙◌, arith}
-use Rattle.std.specs.List.{slice_split}
+use Rattle.std.proofs.Common.{◌≡◌, ℕ, ◌+◌, ◌<◌, ◌≤◌, ◌==◌, Bool, true, false, [], ◌∷◌, ◌++◌, length, Option, Some, None, is_some, Result, Ok, Err, refl, sym, ap, ◌∙◌, arith}
 use Rattle.std.proofs.lemmas.Bool.Decides.{nat_tests}
 use Rattle.sbpf_asm.specs.declared.fault.AsmFault.{AsmFault}
 use Rattle.sbpf_asm.specs.declared.fault.AsmFault.TheVariants.{RepeatedLabel}
@@ -8,7 +7,7 @@ use Rattle.sbpf_asm.specs.Words.{Text, cut, is_line_feed}
 use Rattle.sbpf_asm.specs.Lines.{lines_of, without_last_empty}
 use Rattle.spec_base.specs.Reading.{◌>>=◌}
 use Rattle.std.specs.Prelude.{MatchBool}
-use Rattle.sbpf_asm.specs.Assembly.{Source, Label, is_asm_memory, with_label, with_line, with_lines}
+use Rattle.sbpf_asm.specs.Assembly.{Source, is_asm_memory, with_label, with_line, with_lines}
 use Rattle.sbpf_asm.specs.Views.{text_behind}
 use Rattle.sbpf_asm.proofs.Pieces.{split_cut, parts_after}
 

@@ -1,6 +1,5 @@
 -- The lines of a text that is assembled stand for items.
 use Rattle.std.proofs.Common.{◌≡◌, ℕ, ◌+◌, Bool, true, false, List, [], ◌∷◌, ◌++◌, Option, Some, None, Result, Ok, Err, refl, sym, ap, ◌∙◌, cond, arith, append_assoc, append-nil, add-zero, zero-add, subst}
-use Rattle.spec_base.specs.Reading.{◌>>=◌, ok_if}
 use Rattle.spec_base.proofs.Binding.{bind_ok, ok_if_true, ok_same}
 use Rattle.sbpf_verify.specs.Images.{image_bytes}
 use Rattle.sbpf_verify.specs.Verified.{unfit}
@@ -8,7 +7,6 @@ use Rattle.sbpf_verify.specs.declared.fault.VerifyFault.{VerifyFault}
 use Rattle.sbpf_asm.specs.declared.fault.AsmFault.{AsmFault}
 use Rattle.sbpf_asm.specs.declared.fault.AsmFault.TheVariants.{Range}
 use Rattle.sbpf_asm.specs.Words.{Text}
-use Rattle.sbpf_asm.specs.Rows.{Draft}
 use Rattle.sbpf_asm.specs.Lines.{Item, nothing, label, constants, instruction, item_of, lines_of}
 use Rattle.sbpf_asm.specs.Assembly.{Label, Placed, Source, empty, is_text, is_in_range, is_too_long, slots_taken, place_in, slots_after, with_draft, with_item, with_label, with_line, with_lines, if_fit, image_of, verified_image, assembled}
 use Rattle.sbpf_asm.specs.Texts.{StandFor, slots_in, constants_in, labels_in, instructions_in, AreAllowed, source_of, IsAssembly}

@@ -1,10 +1,10 @@
 -- A text and the image that it is assembled to, or its first refusal (the project's own format).
-use Rattle.std.specs.Prelude.{◌≡◌, ℕ, ◌+◌, ◌-◌, ◌*◌, ◌%◌, ◌==◌, ◌&&◌, ◌||◌, Bool, true, false, List, [], ◌∷◌, ◌++◌, length, take, drop, nat_lt, nat_le, Option, Some, None, Result, Ok, Err, if◌then◌else◌, ℤ, pos, negsuc, ◌-ℤ◌, int_le}
+use Rattle.std.specs.Prelude.{◌≡◌, ℕ, ◌+◌, ◌*◌, ◌%◌, ◌==◌, ◌&&◌, ◌||◌, Bool, true, false, List, [], ◌∷◌, ◌++◌, length, take, drop, nat_lt, nat_le, Option, Some, None, Result, Ok, Err, if◌then◌else◌, ℤ, pos, negsuc, ◌-ℤ◌, int_le}
 use Rattle.std.specs.List.{list_all}
 use Rattle.std.specs.Str.{bytes_eq}
 use Rattle.std.specs.Int.{w64, w128, cast_unsigned, to_le_bytes}
 use Rattle.spec_base.specs.Reading.{◌>>=◌, ok_if}
-use Rattle.sbpf_verify.specs.Images.{ImageParts, image_bytes}
+use Rattle.sbpf_verify.specs.Images.{image_bytes}
 use Rattle.sbpf_verify.specs.Verified.{unfit}
 use Rattle.sbpf_verify.specs.declared.fault.VerifyFault.{VerifyFault}
 use Rattle.sbpf_asm.specs.declared.fault.AsmFault.{AsmFault}

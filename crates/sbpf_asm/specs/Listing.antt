@@ -1,5 +1,5 @@
 -- The text of an image: one line for each instruction, then the constants (the project's own format).
-use Rattle.std.specs.Prelude.{ℕ, ◌+◌, ◌*◌, ◌/◌, ◌^◌, ◌==◌, Bool, true, false, List, [], ◌∷◌, ◌++◌, length, Option, Some, None, Result, Ok, Err, if◌then◌else◌, codes, pos}
+use Rattle.std.specs.Prelude.{◌≡◌, ℕ, ◌+◌, ◌*◌, ◌/◌, ◌^◌, ◌==◌, Bool, true, false, List, [], ◌++◌, length, Option, Some, None, Result, Ok, Err, if◌then◌else◌, codes, pos}
 use Rattle.std.specs.List.{flat_map, range_with_len}
 use Rattle.std.specs.Fork.{slice_chunk}
 use Rattle.std.specs.Int.{w32, cast_unsigned}
@@ -77,3 +77,7 @@ listed_parts (Some image) = listing_if_fit (unfit image.text) image
 -- what an image is listed as, or the first refusal
 unfoldable pub listed : List ℕ → Result Text ListFault
 listed bytes = listed_parts (image_in bytes)
+
+-- the text is the listing of the bytes, which are an image with a verified text
+abbrev pub Listed : List ℕ → Text → Type 0
+Listed bytes text = listed bytes ≡ Ok text

@@ -1,5 +1,5 @@
 -- The instructions of assembler text: mnemonics, operands, and what they stand for (the project's own format).
-use Rattle.std.specs.Prelude.{ℕ, ◌+◌, ◌==◌, ◌&&◌, Bool, List, [], ◌∷◌, ◌++◌, map, fold, find, Option, Some, None, option_map, option_and_then, if◌then◌else◌, codes, ℤ, pos, unsigned_abs}
+use Rattle.std.specs.Prelude.{ℕ, ◌==◌, ◌&&◌, Bool, List, [], ◌∷◌, ◌++◌, map, fold, find, Option, Some, None, option_map, option_and_then, if◌then◌else◌, codes, ℤ, pos, unsigned_abs}
 use Rattle.std.specs.Ordering.{int_eq}
 use Rattle.std.specs.Str.{bytes_eq}
 use Rattle.std.specs.Fmt.{signed_decimal}

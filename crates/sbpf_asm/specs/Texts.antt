@@ -1,9 +1,9 @@
 -- An assembled text as a relation of its lines to what they stand for.
-use Rattle.std.specs.Prelude.{◌≡◌, ℕ, ◌+◌, Bool, true, false, List, [], ◌∷◌, ◌++◌, None, Ok}
-use Rattle.sbpf_verify.specs.Images.{ImageParts, image_bytes}
+use Rattle.std.specs.Prelude.{◌≡◌, ℕ, ◌+◌, true, false, List, [], ◌∷◌, ◌++◌, None, Ok}
+use Rattle.sbpf_verify.specs.Images.{image_bytes}
 use Rattle.sbpf_verify.specs.Verified.{unfit}
 use Rattle.sbpf_asm.specs.Words.{Text}
-use Rattle.sbpf_asm.specs.Lines.{Item, nothing, label, constants, instruction, Line, lines_of}
+use Rattle.sbpf_asm.specs.Lines.{Item, label, constants, instruction, Line, lines_of}
 use Rattle.sbpf_asm.specs.Assembly.{Label, Placed, Source, is_text, is_in_range, is_too_long, slots_taken, place_in, slots_after}
 
 -- each line is text, and stands for its item

@@ -1,6 +1,5 @@
-use Rattle.std.proofs.Common.{◌≡◌, ℕ, ◌+◌, true, false, Option, Some, None, Ok, Err, refl, sym, ap, ◌∙◌}
-use Rattle.std.specs.Prelude.{ℤ, pos, ◌-ℤ◌, option_map, option_copied}
-use Rattle.std.specs.Borrow.{Bor}
+use Rattle.std.proofs.Common.{◌≡◌, ℕ, ◌+◌, true, false, Some, refl, sym, ap, ◌∙◌}
+use Rattle.std.specs.Prelude.{pos, ◌-ℤ◌, option_map, option_copied}
 use Rattle.spec_base.specs.Reading.{ok_if}
 use Rattle.sbpf_asm.specs.declared.fault.AsmFault.TheVariants.{Range}
 use Rattle.sbpf_asm.specs.declared.instruction.Instruction.{Instruction}

@@ -1,6 +1,5 @@
 use Rattle.std.proofs.Common.{◌≡◌, ◌++◌, ◌-◌}
 use Rattle.std.specs.List.{flat_map, range_with_len}
-use Rattle.sbpf_verify.specs.Places.{slot_count}
 use Rattle.sbpf_asm.specs.Listing.{slot_line, instruction_lines}
 use Rattle.sbpf_asm.proofs.lister.append_instructions.Given as goal
 

@@ -1,6 +1,6 @@
 use Rattle.std.proofs.Common.{◌≡◌, drop, fold}
 use Rattle.sbpf_asm.specs.Rows.{taken, start}
-use Rattle.sbpf_asm.specs.Views.{row_view, operands_of}
+use Rattle.sbpf_asm.specs.Views.{row_view}
 use Rattle.sbpf_asm.proofs.lister.written.Given as goal
 
 abbrev pub invariant-loop-operand : goal.invariant-loop-operand

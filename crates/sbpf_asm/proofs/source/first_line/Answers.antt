@@ -1,4 +1,4 @@
-use Rattle.std.proofs.Common.{◌≡◌, ◌<◌, ℕ, List, ◌∷◌, length, sym, ap, ◌∙◌, subst}
+use Rattle.std.proofs.Common.{◌≡◌, ◌<◌, ◌∷◌, length}
 use Rattle.sbpf_asm.specs.Words.{Text, Cut, is_line_feed, cut}
 use Rattle.sbpf_asm.specs.Lines.{lines_of}
 use Rattle.sbpf_asm.specs.Views.{text_behind}

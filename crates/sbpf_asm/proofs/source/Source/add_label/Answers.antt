@@ -1,7 +1,7 @@
-use Rattle.std.proofs.Common.{◌≡◌, ℕ, List, [], ◌∷◌, ◌++◌, Ok, is_some, false, sym, ap, ◌∙◌}
+use Rattle.std.proofs.Common.{List, [], ◌∷◌, Ok, is_some, sym, ap, ◌∙◌}
 use Rattle.std.proofs.lemmas.List.{map-append}
 use Rattle.indexmap.proofs.CallerLemmas.{insert_entry-new}
-use Rattle.sbpf_asm.specs.Assembly.{Source, Label}
+use Rattle.sbpf_asm.specs.Assembly.{Label}
 use Rattle.sbpf_asm.specs.Views.{label_view, labels_view, source_view}
 use Rattle.sbpf_asm.proofs.Labels.{place_found}
 use Rattle.sbpf_asm.proofs.Sources.{repeated, new_label, none_there}

@@ -1,0 +1,157 @@
+-- The lines of constants, read one after another.
+use Rattle.std.proofs.Common.{◌≡◌, ◌<◌, ◌≤◌, ◌+◌, ◌*◌, ◌/◌, ◌%◌, ◌-◌, ℕ, zero, suc, Bool, true, false, List, [], ◌∷◌, ◌++◌, take, drop, length, get_or, Some, None, Ok, refl, sym, ap, subst, ◌∙◌, arith, append-nil, length-drop, codes}
+use Rattle.std.specs.Prelude.{nat_lt, if◌then◌else◌}
+use Rattle.std.specs.List.{list_all, flat_map, range_with_len}
+use Rattle.std.specs.Fork.{slice_chunk}
+use Rattle.std.proofs.Math.Seq.{take-add}
+use Rattle.std.proofs.lemmas.Bool.{and_from, lt-ltb}
+use Rattle.std.proofs.lemmas.Bool.Decides.{nat_tests}
+use Rattle.std.proofs.lemmas.List.{length-take-le, take-append-drop, take_all}
+use Rattle.hex.specs.Hex.{lower_digits, encode_with, encode_lower, decode_of}
+use Rattle.hex.proofs.HexLemmas.{length-encode_with, decode_of-encode_lower}
+use Rattle.spec_base.specs.Bytes.{IsBytes}
+use Rattle.spec_base.proofs.Binding.{after_bytes, before_bytes}
+use Rattle.sbpf_asm.specs.Words.{Text, is_hex_digit, trim}
+use Rattle.sbpf_asm.specs.Lines.{constants, decoded, are_digits, constants_item, parts_item, item_of, lines_of}
+use Rattle.sbpf_asm.specs.Assembly.{Source, is_text, with_line, with_lines}
+use Rattle.sbpf_asm.specs.Listing.{constants_text, constant_line}
+use Rattle.sbpf_asm.proofs.Digits.{all_get}
+use Rattle.sbpf_asm.proofs.Clean.{Clean, is_plain, weaker}
+use Rattle.sbpf_asm.proofs.Sources.{lines_on}
+use Rattle.sbpf_asm.proofs.ListedLines.{line_parts, trim_clean, word_first, word_is_text, word_text}
+use Rattle.sbpf_asm.proofs.ListedWalk.{Holds, line_first}
+
+-- ---- a line
+
+hex_digit : (d : ℕ) → d < 16 → is_hex_digit (get_or lower_digits d 0) ≡ true
+hex_digit d h = all_get is_hex_digit lower_digits d refl h
+
+hex_digits : (bytes : List ℕ) → IsBytes bytes → list_all is_hex_digit (encode_lower bytes) ≡ true
+unfolding encode_with
+hex_digits [] are = refl
+hex_digits (b ∷ bytes) are =
+    let below : b < 256 = are 0 in
+    rw (hex_digit (b / 16) (omega arith), hex_digit (b % 16) (omega arith)) (hex_digits bytes (λ i. are (suc i)))
+
+plain_digit : (c : ℕ) → is_hex_digit c ≡ true → is_plain c ≡ true
+plain_digit c h = grind (arith, nat_tests)
+
+some_digits : (bytes : List ℕ) → 0 < length bytes → 0 < length (encode_lower bytes)
+some_digits bytes h = omega (arith, length-encode_with lower_digits bytes)
+
+clean_digits : (bytes : List ℕ) → 0 < length bytes → IsBytes bytes → Clean (encode_lower bytes)
+clean_digits bytes h are = record { some = some_digits bytes h; all = weaker is_hex_digit is_plain plain_digit (encode_lower bytes) (hex_digits bytes are) }
+
+clean_word : Clean (codes ".const")
+clean_word = record { some = omega arith; all = refl }
+
+as_word : (bytes : List ℕ) → constants_text bytes ≡ word_text (codes ".const") (encode_lower bytes ∷ [])
+as_word bytes = ap (λ (t : Text). codes ".const " ++ t) (sym (append-nil (encode_lower bytes)))
+
+digits_back : (bytes : List ℕ) → 0 < length bytes → IsBytes bytes → constants_item (encode_lower bytes) ≡ Some (constants bytes)
+digits_back bytes h are =
+    let digits : are_digits (encode_lower bytes) ≡ true = and_from (list_all is_hex_digit (encode_lower bytes)) (nat_lt 0 (length (encode_lower bytes))) (hex_digits bytes are) (lt-ltb 0 (length (encode_lower bytes)) (some_digits bytes h)) in
+    ap (λ (b : Bool). if b then decoded (decode_of (encode_lower bytes)) else None) digits ∙ ap decoded (decode_of-encode_lower bytes are)
+
+-- a line of constants is read as them
+constants_back : (bytes : List ℕ) → 0 < length bytes → IsBytes bytes → item_of (constants_text bytes) ≡ Some (constants bytes)
+constants_back bytes h are =
+    let digits = clean_digits bytes h are in
+    ap item_of (as_word bytes)
+    ∙ line_parts (codes ".const") (encode_lower bytes ∷ []) clean_word (digits, tt)
+    ∙ ap parts_item (word_first (codes ".const") (encode_lower bytes ++ []) clean_word)
+    ∙ ap (λ (t : Text). constants_item (trim t)) (append-nil (encode_lower bytes))
+    ∙ ap constants_item (trim_clean (encode_lower bytes) digits)
+    ∙ digits_back bytes h are
+
+constants_are_text : (bytes : List ℕ) → 0 < length bytes → IsBytes bytes → is_text (constants_text bytes) ≡ true
+constants_are_text bytes h are = ap is_text (as_word bytes) ∙ word_is_text (codes ".const") (encode_lower bytes ∷ []) clean_word (clean_digits bytes h are, tt)
+
+-- ---- lines of 32 bytes
+
+abbrev line_count : List ℕ → ℕ
+line_count bytes = (length bytes + 31) / 32
+
+abbrev pub constants_from : List ℕ → ℕ → Text
+constants_from bytes j = flat_map (constant_line bytes) (range_with_len j (line_count bytes - j))
+
+-- the bytes of a part
+pub part_bytes : (n k : ℕ) (bytes : List ℕ) → IsBytes bytes → IsBytes (take n (drop k bytes))
+part_bytes n k bytes are =
+    before_bytes (take n (drop k bytes)) (drop n (drop k bytes))
+    (subst IsBytes (sym (take-append-drop n (drop k bytes))) (after_bytes bytes (take k bytes) (drop k bytes) are (sym (take-append-drop k bytes))))
+
+some_left : (bytes : List ℕ) (j : ℕ) → j < line_count bytes → 0 < length (slice_chunk bytes 32 j)
+some_left bytes j h = go (nat_lt (length (drop (j * 32) bytes)) 32) refl
+  where
+    left : 0 < length (drop (j * 32) bytes)
+    left = omega (arith, length-drop (j * 32) bytes)
+
+    go : (b : Bool) → nat_lt (length (drop (j * 32) bytes)) 32 ≡ b → 0 < length (slice_chunk bytes 32 j)
+    go true e =
+        let few : length (drop (j * 32) bytes) ≤ 32 = grind (arith, nat_tests) in
+        rw (take_all 32 (drop (j * 32) bytes) few) left
+    go false e =
+        let many : 32 ≤ length (drop (j * 32) bytes) = grind (arith, nat_tests) in
+        omega (arith, length-take-le 32 (drop (j * 32) bytes) many)
+
+one_more : (bytes : List ℕ) (j : ℕ) → j < line_count bytes → constants_from bytes j ≡ constant_line bytes j ++ constants_from bytes (j + 1)
+one_more bytes j h = let e : line_count bytes - j ≡ suc (line_count bytes - (j + 1)) = omega arith in ap (λ (k : ℕ). flat_map (constant_line bytes) (range_with_len j k)) e
+
+-- the source with more constants
+abbrev more : Source → List ℕ → Source
+more s bytes = record s { constants = s.constants ++ bytes }
+
+one_line : (n : ℕ) (s : Source) (bytes : List ℕ) → 0 < length bytes → IsBytes bytes → with_line n s (constants_text bytes) ≡ Ok (more s bytes)
+one_line n s bytes h are = rw (constants_are_text bytes h are, constants_back bytes h are) refl
+
+holds_more : (text bytes : List ℕ) (p j : ℕ) (s : Source) → Holds text p (take (j * 32) bytes) s → Holds text p (take ((j + 1) * 32) bytes) (more s (slice_chunk bytes 32 j))
+holds_more text bytes p j s h =
+    let next : (j + 1) * 32 ≡ j * 32 + 32 = omega arith in
+    record {
+      slots = h.slots;
+      constants = ap (λ (c : List ℕ). c ++ slice_chunk bytes 32 j) h.constants ∙ sym (ap (λ (k : ℕ). take k bytes) next ∙ take-add (j * 32) 32 bytes);
+      settles = h.settles;
+    }
+
+-- lines that have all been read
+pub record Read (text : List ℕ) (p n : ℕ) (bytes : List ℕ) (s : Source) (lines : Text) : Type 0 where
+  pub source : Source
+  pub holds : Holds text p bytes source
+  pub same : with_lines n s (lines_of lines) ≡ Ok source
+
+at_end : (text bytes : List ℕ) (p j n : ℕ) (s : Source) → line_count bytes ≤ j → Holds text p (take (j * 32) bytes) s → Read text p n bytes s (constants_from bytes j)
+at_end text bytes p j n s e h =
+    let none : line_count bytes - j ≡ 0 = omega arith in
+    let whole : take (j * 32) bytes ≡ bytes = take_all (j * 32) bytes (omega arith) in
+    record {
+      source = s;
+      holds = subst (λ (c : List ℕ). Holds text p c s) whole h;
+      same = ap (λ (k : ℕ). with_lines n s (lines_of (flat_map (constant_line bytes) (range_with_len j k)))) none;
+    }
+
+on : (text bytes : List ℕ) (p j n : ℕ) (s : Source) → IsBytes bytes → j < line_count bytes
+    → Read text p (n + 1) bytes (more s (slice_chunk bytes 32 j)) (constants_from bytes (j + 1)) → Read text p n bytes s (constants_from bytes j)
+on text bytes p j n s are l r =
+    let chunk = slice_chunk bytes 32 j in
+    let some = some_left bytes j l in
+    let here = part_bytes 32 (j * 32) bytes are in
+    let cut : lines_of (constants_from bytes j) ≡ constants_text chunk ∷ lines_of (constants_from bytes (j + 1)) =
+    ap lines_of (one_more bytes j l) ∙ line_first (constants_text chunk) (constants_from bytes (j + 1)) (constants_are_text chunk some here) in
+    record {
+      source = r.source;
+      holds = r.holds;
+      same = lines_on n s (more s chunk) (constants_from bytes j) (constants_from bytes (j + 1)) (constants_text chunk) cut (one_line n s chunk some here) ∙ r.same;
+    }
+
+-- the lines of constants are read as them
+pub read : (text bytes : List ℕ) (p : ℕ) → IsBytes bytes → (fuel j n : ℕ) (s : Source) → line_count bytes ≤ j + fuel → Holds text p (take (j * 32) bytes) s → Read text p n bytes s (constants_from bytes j)
+read text bytes p are zero j n s few h = at_end text bytes p j n s (omega arith) h
+read text bytes p are (suc fuel) j n s few h = go (read text bytes p are fuel) (nat_lt j (line_count bytes)) refl
+  where
+    go : ((k m : ℕ) (t : Source) → line_count bytes ≤ k + fuel → Holds text p (take (k * 32) bytes) t → Read text p m bytes t (constants_from bytes k))
+        → (b : Bool) → nat_lt j (line_count bytes) ≡ b → Read text p n bytes s (constants_from bytes j)
+    go rest true e =
+        let l : j < line_count bytes = grind (arith, nat_tests) in
+        on text bytes p j n s are l (rest (j + 1) (n + 1) (more s (slice_chunk bytes 32 j)) (omega arith) (holds_more text bytes p j s h))
+    go rest false e = at_end text bytes p j n s (grind (arith, nat_tests)) h
