@@ -12,7 +12,7 @@ use sol_base::{Blob, Items, OutOfMemory};
 use sol_io::{MemSink, MemSource, NeverSink, NeverSource};
 use std::alloc::Global;
 use std::sync::Wait;
-use std::sync::atomic::{AtomicBool, Ordering};
+use std::sync::atomic::{AtomicBool, AtomicU32, Ordering};
 use std::test::Fail;
 use std::thread;
 use std::thread::Threads;
@@ -64,6 +64,18 @@ impl Gate for Until {
 impl SendGate for Until {
     fn pass(&self, _sender: u32, position: u32) {
         self.keep(position);
+    }
+}
+
+/// A gate that counts the transactions that are parsed.
+#[derive(Drop)]
+struct Count {
+    passed: AtomicU32,
+}
+
+impl SendGate for Count {
+    fn pass(&self, _sender: u32, _position: u32) {
+        self.passed.fetch_add(1, Ordering::SeqCst);
     }
 }
 
@@ -284,6 +296,17 @@ fn two_senders_at_once(rt: HostRuntime) -> Result<(), Fail> {
     let line = "produce --senders 2 --lanes 3";
     assert!(rt; is_as_alone(&rt, rt.alloc(), line, &OpenGate, &send)?);
     assert!(rt; send.was_passed());
+    Ok(())
+}
+
+#[test]
+fn each_transaction_is_parsed_once(rt: HostRuntime) -> Result<(), Fail> {
+    let send = Count {
+        passed: AtomicU32::new(0),
+    };
+    let told = ask_two(&rt, rt.alloc(), "produce --senders 2", &OpenGate, &send)?;
+    assert_eq!(rt; told.status, 0);
+    assert_eq!(rt; send.passed.load(Ordering::SeqCst), 2);
     Ok(())
 }
 
