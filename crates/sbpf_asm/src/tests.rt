@@ -1,5 +1,6 @@
 use super::*;
 use sbpf_verify::VerifyFault;
+use sol_base::Blob;
 use std::test::Fail;
 
 /// Three lines, and their image.
@@ -59,6 +60,87 @@ fn refused_texts(rt: HostRuntime) -> Result<(), Fail> {
             Ok(_) => assert!(rt; false, "text {at} is assembled"),
             Err(refused) => assert_eq!(rt; refused, fault, "text {at}"),
         }
+    }
+    Ok(())
+}
+
+/// A line with each mnemonic but `lddw`, and `exit`; and the slot of the line: opcode, registers
+/// (the source in the high nibble), offset and immediate.
+const MNEMONICS: [(&[u8], u8, u8, i16, i32); 60] = [
+    (b"add64 r1, 7\nexit", 0x07, 0x01, 0, 7),
+    (b"add32 r1, r2\nexit", 0x0c, 0x21, 0, 0),
+    (b"sub64 r1, 7\nexit", 0x17, 0x01, 0, 7),
+    (b"sub32 r1, r2\nexit", 0x1c, 0x21, 0, 0),
+    (b"mul64 r1, 7\nexit", 0x27, 0x01, 0, 7),
+    (b"mul32 r1, r2\nexit", 0x2c, 0x21, 0, 0),
+    (b"div64 r1, 7\nexit", 0x37, 0x01, 0, 7),
+    (b"div32 r1, r2\nexit", 0x3c, 0x21, 0, 0),
+    (b"or64 r1, 7\nexit", 0x47, 0x01, 0, 7),
+    (b"or32 r1, r2\nexit", 0x4c, 0x21, 0, 0),
+    (b"and64 r1, 7\nexit", 0x57, 0x01, 0, 7),
+    (b"and32 r1, r2\nexit", 0x5c, 0x21, 0, 0),
+    (b"lsh64 r1, 7\nexit", 0x67, 0x01, 0, 7),
+    (b"lsh32 r1, r2\nexit", 0x6c, 0x21, 0, 0),
+    (b"rsh64 r1, 7\nexit", 0x77, 0x01, 0, 7),
+    (b"rsh32 r1, r2\nexit", 0x7c, 0x21, 0, 0),
+    (b"mod64 r1, 7\nexit", 0x97, 0x01, 0, 7),
+    (b"mod32 r1, r2\nexit", 0x9c, 0x21, 0, 0),
+    (b"xor64 r1, 7\nexit", 0xa7, 0x01, 0, 7),
+    (b"xor32 r1, r2\nexit", 0xac, 0x21, 0, 0),
+    (b"mov64 r1, 7\nexit", 0xb7, 0x01, 0, 7),
+    (b"mov32 r1, r2\nexit", 0xbc, 0x21, 0, 0),
+    (b"arsh64 r1, 7\nexit", 0xc7, 0x01, 0, 7),
+    (b"arsh32 r1, r2\nexit", 0xcc, 0x21, 0, 0),
+    (b"neg64 r1\nexit", 0x87, 0x01, 0, 0),
+    (b"neg32 r1\nexit", 0x84, 0x01, 0, 0),
+    (b"le16 r1\nexit", 0xd4, 0x01, 0, 16),
+    (b"le32 r1\nexit", 0xd4, 0x01, 0, 32),
+    (b"le64 r1\nexit", 0xd4, 0x01, 0, 64),
+    (b"be16 r1\nexit", 0xdc, 0x01, 0, 16),
+    (b"be32 r1\nexit", 0xdc, 0x01, 0, 32),
+    (b"be64 r1\nexit", 0xdc, 0x01, 0, 64),
+    (b"ja +0\nexit", 0x05, 0x00, 0, 0),
+    (b"jeq r1, -7, -1\nexit", 0x15, 0x01, -1, -7),
+    (b"jne r1, r2, +0\nexit", 0x5d, 0x21, 0, 0),
+    (b"jgt r1, -7, -1\nexit", 0x25, 0x01, -1, -7),
+    (b"jge r1, r2, +0\nexit", 0x3d, 0x21, 0, 0),
+    (b"jlt r1, -7, -1\nexit", 0xa5, 0x01, -1, -7),
+    (b"jle r1, r2, +0\nexit", 0xbd, 0x21, 0, 0),
+    (b"jset r1, -7, -1\nexit", 0x45, 0x01, -1, -7),
+    (b"jsgt r1, r2, +0\nexit", 0x6d, 0x21, 0, 0),
+    (b"jsge r1, -7, -1\nexit", 0x75, 0x01, -1, -7),
+    (b"jslt r1, r2, +0\nexit", 0xcd, 0x21, 0, 0),
+    (b"jsle r1, -7, -1\nexit", 0xd5, 0x01, -1, -7),
+    (b"call +0\nexit", 0x85, 0x10, 0, 0),
+    (b"syscall 1\nexit", 0x85, 0x00, 0, 1),
+    (b"callx r9\nexit", 0x8d, 0x00, 0, 9),
+    (b"exit\nexit", 0x95, 0x00, 0, 0),
+    (b"ldxw r1, [r2+16]\nexit", 0x61, 0x21, 16, 0),
+    (b"stw [r1-16], 7\nexit", 0x62, 0x01, -16, 7),
+    (b"stxw [r1], r2\nexit", 0x63, 0x21, 0, 0),
+    (b"ldxh r1, [r2+16]\nexit", 0x69, 0x21, 16, 0),
+    (b"sth [r1-16], 7\nexit", 0x6a, 0x01, -16, 7),
+    (b"stxh [r1], r2\nexit", 0x6b, 0x21, 0, 0),
+    (b"ldxb r1, [r2+16]\nexit", 0x71, 0x21, 16, 0),
+    (b"stb [r1-16], 7\nexit", 0x72, 0x01, -16, 7),
+    (b"stxb [r1], r2\nexit", 0x73, 0x21, 0, 0),
+    (b"ldxdw r1, [r2+16]\nexit", 0x79, 0x21, 16, 0),
+    (b"stdw [r1-16], 7\nexit", 0x7a, 0x01, -16, 7),
+    (b"stxdw [r1], r2\nexit", 0x7b, 0x21, 0, 0),
+];
+
+#[test]
+fn each_mnemonic(rt: HostRuntime) -> Result<(), Fail> {
+    for at in 0..60usize {
+        let (text, opcode, registers, offset, imm) = MNEMONICS[at];
+        assert!(rt; text.len() < 32, "text {at}");
+        let mut wanted = Blob::from_slice(rt.alloc(), b"SBPFIMG1\x02\0\0\0\0\0\0\0")?;
+        wanted.append(&[opcode, registers])?;
+        wanted.append(&offset.to_le_bytes())?;
+        wanted.append(&imm.to_le_bytes())?;
+        wanted.append(b"\x95\0\0\0\0\0\0\0")?;
+        let image = assemble(rt.alloc(), text)?;
+        assert_eq!(rt; image.as_slice(), wanted.as_slice(), "text {at}");
     }
     Ok(())
 }
