@@ -18,13 +18,13 @@ use Rattle.std.proofs.lemmas.Option.{slice_get-get_or, slice_get_within, slice_g
 use Rattle.sol_base.specs.declared.key.Key.{Key}
 use Rattle.sol_base.specs.declared.account.Account.{Account}
 use Rattle.sol_base.specs.declared.lock.Meta.{Meta}
-use Rattle.sol_base.specs.Accounts.{accounts_of, max_data_len}
+use Rattle.sol_base.specs.Accounts.{accounts_of, max_data_len, SameUnlessTouched}
 use Rattle.sol_base.specs.Metas.{is_listed, is_first_listing, first_listings}
 use Rattle.abi_input.specs.declared.fault.BackFault.{BackFault}
 use Rattle.abi_input.specs.declared.fault.BackFault.TheVariants.{LengthTooLarge, OutOfMemory}
 use Rattle.abi_input.specs.Region.{account_at, account_back, account_in, back, data_len_at, entry_start, first_place, first_size, has_outgrown, is_too_long, number_at, room_of, unless_found, IsRegionOf}
 use Rattle.abi_input.specs.Entries.{account_by, entry_among, found_among, AreEntries, IsEntryOf}
-use Rattle.abi_input.specs.Answers.{IsPlaceOf, RefusesBack, SameUnlessTouched, TakesBack}
+use Rattle.abi_input.specs.Answers.{IsPlaceOf, RefusesBack, TakesBack}
 use Rattle.abi_input.proofs.Listed.{first_of_account, place_at_first, IsFirstOf}
 use Rattle.abi_input.proofs.Entries.{first_fits}
 use Rattle.abi_input.proofs.Finding.{found_all, none_passes, refused_back}

@@ -1,5 +1,5 @@
 -- What the calls answer.
-use Rattle.std.specs.Prelude.{◌≡◌, ℕ, List, Bool, false, Option, Some, Result, Ok, Err, option_map, slice_get}
+use Rattle.std.specs.Prelude.{◌≡◌, ℕ, List, Option, Some, Result, Ok, Err, option_map}
 use Rattle.sol_base.specs.declared.account.Account.{Account}
 use Rattle.sol_base.specs.declared.lock.Meta.{Meta}
 use Rattle.sol_base.specs.Accounts.{accounts_of}
@@ -31,7 +31,3 @@ RefusesBack found no_memory = Unit {0}
 abbrev pub RefusesPatch : Option (ℕ × Meta) → PatchFault → Type 0
 RefusesPatch found (too_large i) = IsPlaceOf found i
 RefusesPatch found no_room = Unit {0}
-
--- what is not touched is the same
-abbrev pub SameUnlessTouched : List Bool → List Account → List Account → Type 0
-SameUnlessTouched touched before after = (i : ℕ) → slice_get touched i ≡ Some false → slice_get after i ≡ slice_get before i

@@ -3,12 +3,12 @@ ghost use Rattle.std.specs.Option.{ForSome};
 ghost use Rattle.std.specs.Arc.{arc_value};
 ghost use Rattle.std.specs.List.{enumerate_from, slice_index_or};
 ghost use Rattle.sol_base.specs.declared.account.Account.{Account as AccountValue};
-ghost use Rattle.sol_base.specs.Accounts.{accounts_of, max_data_len};
+ghost use Rattle.sol_base.specs.Accounts.{accounts_of, max_data_len, SameUnlessTouched};
 ghost use Rattle.sol_base.specs.Metas.{AreInRange, is_first_listing};
 ghost use Rattle.abi_input.specs.Listing.{IsTableOf};
 ghost use Rattle.abi_input.specs.Region.{account_at, account_back, back, data_len_at, entry_start, has_outgrown, is_too_long, room_of, IsRegionOf};
 ghost use Rattle.abi_input.specs.Entries.{account_by, found_among, AreEntries, IsEntryOf};
-ghost use Rattle.abi_input.specs.Answers.{RefusesBack, SameUnlessTouched, TakesBack};
+ghost use Rattle.abi_input.specs.Answers.{RefusesBack, TakesBack};
 
 use crate::entry::{
     DATA_AT, DATA_LEN_AT, FIRST_ENTRY, LAMPORTS_AT, OWNER_AT, entry_len, key_in_region, number_in,

@@ -13,10 +13,10 @@ use Rattle.spec_base.proofs.Filters.{nothing_more, first_found}
 use Rattle.sol_base.specs.declared.key.Key.{Key}
 use Rattle.sol_base.specs.declared.account.Account.{Account}
 use Rattle.sol_base.specs.declared.lock.Meta.{Meta}
-use Rattle.sol_base.specs.Accounts.{accounts_of, empty_account}
+use Rattle.sol_base.specs.Accounts.{accounts_of, empty_account, SameUnlessTouched}
 use Rattle.sol_base.specs.Metas.{is_first_listing, is_listed, is_listed_writable}
 use Rattle.account_rules.specs.declared.rules.RuleFault.{RuleFault}
-use Rattle.account_rules.specs.AccountRules.{SameUnlessTouched, broken_by, broken_rule, listed_change, listed_faults}
+use Rattle.account_rules.specs.AccountRules.{broken_by, broken_rule, listed_change, listed_faults}
 
 -- a function over what passes a test, in one walk
 filter_map-filter : {X Y Z : Type 0} (p : X → Bool) (h : X → Z) (f : Z → Option Y) (xs : List X) → filter_map f (map h (filter p xs)) ≡ filter_map (λ x. if p x then f (h x) else None) xs

@@ -1,5 +1,5 @@
 -- What the accounts of a frame keep under a stretch of its program's work (Solana; rule 2 and the order are the project's own).
-use Rattle.std.specs.Prelude.{◌≡◌, ℕ, ◌<◌, ◌==◌, Bool, false, not, ◌&&◌, ◌||◌, List, [], ◌∷◌, ◌++◌, length, map, nat_eq, nat_lt, slice_get, slice_index_or, Option, Some, None, Result, Ok, Err, if◌then◌else◌}
+use Rattle.std.specs.Prelude.{◌≡◌, ℕ, ◌<◌, ◌==◌, Bool, not, ◌&&◌, ◌||◌, List, [], ◌∷◌, ◌++◌, length, map, nat_eq, nat_lt, slice_get, slice_index_or, Option, Some, None, Result, Ok, Err, if◌then◌else◌}
 use Rattle.std.specs.List.{list_any, filter_map, enumerate_from, zip}
 use Rattle.std.specs.Cmp.Lexicographic.{pointwise}
 use Rattle.sol_base.specs.declared.key.Key.{Key}
@@ -120,10 +120,6 @@ listed_rules program metas before after = first_of (broken_rules program (listed
 pub record AreParallel (flags : List Bool) (before after : List Account) : Type 0 where
   pub marks : length flags ≡ length before
   pub count : length after ≡ length before
-
--- an account whose flag is false has the same value before and after
-abbrev pub SameUnlessTouched : List Bool → List Account → List Account → Type 0
-SameUnlessTouched touched before after = (place : ℕ) → slice_get touched place ≡ Some false → slice_get after place ≡ slice_get before place
 
 -- one flag for each of 256 places, as a test says
 abbrev pub AreFlagsOf : (ℕ → Bool) → List Bool → Type 0

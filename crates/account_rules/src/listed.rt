@@ -1,7 +1,7 @@
 ghost use Rattle.std.specs.Prelude.{◌≡◌, ℕ, ◌≤◌, OnOk, length, slice_get};
-ghost use Rattle.sol_base.specs.Accounts.{accounts_of};
+ghost use Rattle.sol_base.specs.Accounts.{accounts_of, SameUnlessTouched};
 ghost use Rattle.sol_base.specs.Metas.{AreInRange, SameUnlessListed, is_listed_writable};
-ghost use Rattle.account_rules.specs.AccountRules.{AreFlagsOf, AreParallel, SameUnlessTouched, listed_faults, listed_rules};
+ghost use Rattle.account_rules.specs.AccountRules.{AreFlagsOf, AreParallel, listed_faults, listed_rules};
 ghost use Rattle.account_rules.specs.KeptAccounts.{AreKeptBy};
 
 use crate::account::broken_at;

@@ -1,7 +1,7 @@
 ghost use Rattle.std.specs.Prelude.{◌≡◌, ◌≤◌, ◌↔◌, IsTrue, IsSomeAnd, OnOk, length, slice_get, false, Some};
 ghost use Rattle.std.specs.Option.{ForSome};
-ghost use Rattle.sol_base.specs.Accounts.{accounts_of, lamports_in};
-ghost use Rattle.account_rules.specs.AccountRules.{AreParallel, SameUnlessTouched, rules};
+ghost use Rattle.sol_base.specs.Accounts.{accounts_of, lamports_in, SameUnlessTouched};
+ghost use Rattle.account_rules.specs.AccountRules.{AreParallel, rules};
 ghost use Rattle.account_rules.specs.KeptAccounts.{AreKept};
 
 use crate::account::broken_at;

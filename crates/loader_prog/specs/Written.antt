@@ -3,8 +3,8 @@ use Rattle.std.specs.Prelude.{◌≡◌, ℕ, Bool, List, slice_set, Option, unw
 use Rattle.std.specs.List.{slice_index_or}
 use Rattle.sol_base.specs.declared.account.Account.{Account}
 use Rattle.sol_base.specs.declared.lock.Meta.{Meta}
-use Rattle.sol_base.specs.Accounts.{empty_account}
-use Rattle.account_rules.specs.AccountRules.{AreParallel, SameUnlessTouched}
+use Rattle.sol_base.specs.Accounts.{empty_account, SameUnlessTouched}
+use Rattle.account_rules.specs.AccountRules.{AreParallel}
 use Rattle.loader_prog.specs.Loader.{data_in, holding}
 
 -- the data of the first account, where only other data are told

@@ -1,5 +1,5 @@
 -- Accounts as values.
-use Rattle.std.specs.Prelude.{ℕ, ◌≤◌, List, [], Bool, false, All, length, map, sum_by, replicate, refl}
+use Rattle.std.specs.Prelude.{◌≡◌, ℕ, ◌≤◌, List, [], Bool, false, Some, All, length, map, slice_get, sum_by, replicate, refl}
 use Rattle.std.specs.Arc.{arc_value}
 use Rattle.std.specs.declared.sync.Arc.{Arc}
 use Rattle.std.specs.declared.alloc.Global.{Global}
@@ -30,6 +30,10 @@ IsShort account = length account.bytes ≤ max_data_len
 
 abbrev pub AreShort : List Account → Type 0
 AreShort accounts = All IsShort accounts
+
+-- an account whose flag is false has the same value before and after
+abbrev pub SameUnlessTouched : List Bool → List Account → List Account → Type 0
+SameUnlessTouched touched before after = (place : ℕ) → slice_get touched place ≡ Some false → slice_get after place ≡ slice_get before place
 
 -- accounts as the values of a finite map
 abbrev pub coded_account : Coded Account

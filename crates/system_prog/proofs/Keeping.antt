@@ -10,10 +10,10 @@ use Rattle.sol_base.specs.declared.key.Key.{Key}
 use Rattle.sol_base.specs.declared.account.Account.{Account}
 use Rattle.sol_base.specs.declared.lock.Meta.{Meta}
 use Rattle.sol_base.specs.Keys.{same_key}
-use Rattle.sol_base.specs.Accounts.{empty_account, max_data_len}
+use Rattle.sol_base.specs.Accounts.{empty_account, max_data_len, SameUnlessTouched}
 use Rattle.sol_base.specs.Metas.{AreInRange, SameUnlessListed, is_listed, is_listed_writable}
 use Rattle.account_rules.specs.declared.rules.RuleFault.{RuleFault}
-use Rattle.account_rules.specs.AccountRules.{SameUnlessTouched, listed_rules}
+use Rattle.account_rules.specs.AccountRules.{listed_rules}
 use Rattle.account_rules.specs.KeptAccounts.{AreKeptBy}
 use Rattle.account_rules.proofs.KeptLaws.{AreKeptBy-listed_rules}
 use Rattle.system_prog.specs.declared.fault.SystemFault.{SystemFault}

@@ -2,9 +2,8 @@ use Rattle.std.proofs.Common.{◌≡◌, ◌∷◌, ◌++◌, ◌+◌, [], List,
 use Rattle.std.specs.Arc.{arc_value}
 use Rattle.std.proofs.lemmas.List.{length-append, length-map}
 use Rattle.sol_base.specs.declared.account.Account.{Account}
-use Rattle.sol_base.specs.Accounts.{accounts_of}
+use Rattle.sol_base.specs.Accounts.{accounts_of, SameUnlessTouched}
 use Rattle.abi_input.specs.Region.{account_back}
-use Rattle.abi_input.specs.Answers.{SameUnlessTouched}
 use Rattle.abi_input.proofs.TakeLaws.{account_by_is, all_taken, entry_holds, pushed, shared_at, taken_more, untouched_more}
 use Rattle.abi_input.proofs.taking.taken_by.Goals as goal
 

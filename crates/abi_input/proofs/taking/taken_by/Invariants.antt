@@ -1,8 +1,7 @@
 use Rattle.std.proofs.Common.{◌≡◌, length, map, take}
 use Rattle.std.specs.List.{enumerate_from}
-use Rattle.sol_base.specs.Accounts.{accounts_of}
+use Rattle.sol_base.specs.Accounts.{accounts_of, SameUnlessTouched}
 use Rattle.abi_input.specs.Region.{account_back}
-use Rattle.abi_input.specs.Answers.{SameUnlessTouched}
 use Rattle.abi_input.proofs.taking.taken_by.Given as goal
 
 -- the accounts so far, as they stand in their entries

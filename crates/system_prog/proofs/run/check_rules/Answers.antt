@@ -3,9 +3,8 @@ use Rattle.std.specs.Arc.{arc_value}
 use Rattle.std.proofs.lemmas.List.{length-map}
 use Rattle.sol_base.specs.declared.account.Account.{Account}
 use Rattle.sol_base.specs.declared.lock.Meta.{Meta}
-use Rattle.sol_base.specs.Accounts.{accounts_of}
+use Rattle.sol_base.specs.Accounts.{accounts_of, SameUnlessTouched}
 use Rattle.sol_base.specs.Metas.{SameUnlessListed}
-use Rattle.account_rules.specs.AccountRules.{SameUnlessTouched}
 use Rattle.system_prog.specs.Written.{flags_of, written}
 use Rattle.system_prog.proofs.Keeping.{enough, length_flags, stays, unlisted, untouched}
 use Rattle.system_prog.proofs.run.check_rules.Goals as goal
