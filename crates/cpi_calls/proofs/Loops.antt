@@ -1,49 +1,28 @@
--- Items done one after the other, as a loop does them.
-use Rattle.std.proofs.Common.{◌≡◌, ℕ, suc, ◌+◌, ◌-◌, ◌<◌, ◌≤◌, List, [], ◌∷◌, ◌++◌, Result, Ok, Err, Bool, true, false, refl, sym, ap, ◌∙◌, append_assoc, append-nil, arith}
+-- Items read by their indexes, one after the other, as a loop reads them.
+use Rattle.std.proofs.Common.{◌≡◌, ℕ, ◌+◌, ◌<◌, ◌≤◌, List, [], ◌∷◌, ◌++◌, drop, Result, Ok, Err, zero-add}
 use Rattle.std.specs.Prelude.{MatchBool}
-use Rattle.spec_base.specs.Reading.{◌>>=◌}
-use Rattle.cpi_calls.specs.Reads.{is_memory, items_from}
+use Rattle.std.specs.List.{range_with_len}
+use Rattle.std.proofs.lemmas.List.FromFn.{length-range_with_len, get_or-range_with_len}
+use Rattle.spec_base.specs.Reading.{each}
+use Rattle.spec_base.proofs.Each.{joined, each-more, each-stops, each-done}
+use Rattle.cpi_calls.specs.Reads.{is_memory}
 use Rattle.cpi_calls.specs.declared.fault.CallFault.{CallFault}
 
--- what was done and then the rest
-abbrev pub joined : {Y : Type 0} → List Y → Result (List Y) CallFault → Result (List Y) CallFault
-joined done rest = rest >>= (λ more. Ok (done ++ more))
-
-joined-more : {Y : Type 0} (done : List Y) (y : Y) (rest : Result (List Y) CallFault) → joined done (rest >>= (λ ys. Ok (y ∷ ys))) ≡ joined (done ++ y ∷ []) rest
-joined-more done y (Ok ys) = ap Ok (sym (append_assoc done (y ∷ []) ys))
-joined-more done y (Err e) = refl
+-- what is left to read from an index on
+abbrev pub left : {Y : Type 0} → (ℕ → Result Y CallFault) → ℕ → ℕ → Result (List Y) CallFault
+left one index count = each one (drop index (range_with_len 0 count))
 
 -- one item more is read
-pub items-more : {Y : Type 0} (one : ℕ → Result Y CallFault) (done : List Y) (count i : ℕ) (y : Y) → i < count → one i ≡ Ok y → joined done (items_from one i (count - i)) ≡ joined (done ++ y ∷ []) (items_from one (i + 1) (count - (i + 1)))
-unfolding items_from
+pub items-more : {Y : Type 0} (one : ℕ → Result Y CallFault) (done : List Y) (count i : ℕ) (y : Y) → i < count → one i ≡ Ok y → joined done (left one i count) ≡ joined (done ++ y ∷ []) (left one (i + 1) count)
 items-more one done count i y below h =
-    let k : count - i ≡ suc (count - (i + 1)) = omega arith in
-    rw (k, h) (joined-more done y (items_from one (i + 1) (count - (i + 1))))
-
--- the next is refused
-pub items-ends : {Y : Type 0} (one : ℕ → Result Y CallFault) (done : List Y) (count i : ℕ) (e : CallFault) → i < count → one i ≡ Err e → joined done (items_from one i (count - i)) ≡ Err e
-unfolding items_from
-items-ends one done count i e below h =
-    let k : count - i ≡ suc (count - (i + 1)) = omega arith in
-    rw (k, h) refl
+    each-more one done (range_with_len 0 count) i 0 y (rw (length-range_with_len 0 count) below) (rw (get_or-range_with_len 0 count i 0 below, zero-add i) h)
 
 -- the next is refused, or memory ran out
 pub items-stops : {Y : Type 0} (one : ℕ → Result Y CallFault) (done : List Y) (count i : ℕ) (e : CallFault) (total : Result (List Y) CallFault) → i < count → MatchBool (is_memory e) (Unit {0}) (one i ≡ Err e)
-    → joined done (items_from one i (count - i)) ≡ total → MatchBool (is_memory e) (Unit {0}) (total ≡ Err e)
-items-stops one done count i e total below h so_far = by_case (is_memory e) h
-  where
-    by_case : (b : Bool) → MatchBool b (Unit {0}) (one i ≡ Err e) → MatchBool b (Unit {0}) (total ≡ Err e)
-    by_case true g = tt
-    by_case false g = sym so_far ∙ items-ends one done count i e below g
+    → joined done (left one i count) ≡ total → MatchBool (is_memory e) (Unit {0}) (total ≡ Err e)
+items-stops one done count i e total below h =
+    each-stops is_memory one done (range_with_len 0 count) i 0 e total (rw (length-range_with_len 0 count) below) (rw (get_or-range_with_len 0 count i 0 below, zero-add i) h)
 
 -- all are read
-pub items-done : {Y : Type 0} (one : ℕ → Result Y CallFault) (done : List Y) (count i : ℕ) → count ≤ i → joined done (items_from one i (count - i)) ≡ Ok done
-unfolding items_from
-items-done one done count i past =
-    let k : count - i ≡ 0 = omega arith in
-    rw k (ap Ok (append-nil done))
-
--- before any is read
-pub items-none : {Y : Type 0} (r : Result (List Y) CallFault) → joined [] r ≡ r
-items-none (Ok ys) = refl
-items-none (Err e) = refl
+pub items-done : {Y : Type 0} (one : ℕ → Result Y CallFault) (done : List Y) (count i : ℕ) → count ≤ i → joined done (left one i count) ≡ Ok done
+items-done one done count i past = each-done one done (range_with_len 0 count) i (rw (length-range_with_len 0 count) past)

@@ -1,8 +1,11 @@
 -- What requests and grants keep.
 use Rattle.std.proofs.Common.{◌≡◌, ℕ, zero, suc, ◌+◌, ◌-◌, ◌/◌, ◌≤◌, ◌<◌, Bool, true, false, List, [], ◌∷◌, length, take, drop, Option, Some, None, Result, Ok, Err, refl, sym, ap, subst, ◌∙◌, if◌then◌else◌, arith, length-take}
 use Rattle.std.specs.Prelude.{◌==◌, nat_lt, slice_index}
+use Rattle.std.specs.List.{range_with_len}
 use Rattle.std.proofs.lemmas.Bool.Decides.{nat_tests}
-use Rattle.spec_base.specs.Reading.{◌>>=◌}
+use Rattle.std.proofs.lemmas.List.FromFn.{length-range_with_len}
+use Rattle.spec_base.specs.Reading.{◌>>=◌, each}
+use Rattle.spec_base.proofs.Each.{Counts, each-counts}
 use Rattle.sol_base.specs.declared.key.Key.{Key}
 use Rattle.sbpf_memory.specs.Memory.{Ranges, read_from, place_of, bytes_at, range_bytes}
 use Rattle.sbpf_memory.specs.declared.place.Place.{Place}
@@ -12,7 +15,7 @@ use Rattle.cpi_calls.specs.declared.request.KeyMeta.{KeyMeta}
 use Rattle.cpi_calls.specs.declared.request.CallRequest.{CallRequest}
 use Rattle.cpi_calls.specs.declared.fault.CallFault.{CallFault}
 use Rattle.cpi_calls.specs.declared.fault.CallFault.TheVariants.{UnitsSpent, TooManyAccounts, DataTooLong, TooManySigners}
-use Rattle.cpi_calls.specs.Reads.{or_violation, bytes_read, items_from, items_read, metas_read, meta_read, signers_read, signer_read}
+use Rattle.cpi_calls.specs.Reads.{or_violation, bytes_read, items_read, metas_read, meta_read, signers_read, signer_read}
 use Rattle.cpi_calls.specs.Calls.{Requested, IsSmallRequest, refused, after_cost, header_read, lists_read, limited, by_header, request_of}
 
 -- a refusal, or a request of a size that is allowed
@@ -20,20 +23,8 @@ abbrev Sized : Result CallRequest CallFault → Type 0
 Sized (Ok request) = IsSmallRequest request
 Sized (Err fault) = Unit {0}
 
--- so many items are read as are asked for
-abbrev Counts : {Y : Type 0} → ℕ → Result (List Y) CallFault → Type 0
-Counts count (Ok items) = length items ≡ count
-Counts count (Err fault) = Unit {0}
-
-then-counts : {Y : Type 0} (count : ℕ) (item : Result Y CallFault) (items : Result (List Y) CallFault) → Counts count items → Counts (suc count) (item >>= (λ y. items >>= (λ ys. Ok (y ∷ ys))))
-then-counts count (Ok y) (Ok ys) counts = ap suc counts
-then-counts count (Ok y) (Err e) counts = tt
-then-counts count (Err e) items counts = tt
-
-items-count : {Y : Type 0} (one : ℕ → Result Y CallFault) (index count : ℕ) → Counts count (items_from one index count)
-unfolding items_from
-items-count one index zero = refl
-items-count one index (suc count) = then-counts count (one index) (items_from one (index + 1) count) (items-count one (index + 1) count)
+items-count : {Y : Type 0} (one : ℕ → Result Y CallFault) (count : ℕ) → Counts count (each one (range_with_len 0 count))
+items-count one count = subst (λ (n : ℕ). Counts n (each one (range_with_len 0 count))) (length-range_with_len 0 count) (each-counts one (range_with_len 0 count))
 
 -- no more bytes are read than are asked for
 abbrev AtMost : ℕ → Result (List ℕ) CallFault → Type 0
@@ -63,7 +54,7 @@ lists-sized : (m : Ranges) (caller : Key) (arguments : List ℕ) (program : Key)
 unfolding lists_read
 lists-sized m caller arguments program call few short =
     lists-of program call.meta_count call.data_len (metas_read m call.metas call.meta_count) (bytes_read m call.data_at call.data_len) (signers_read m caller (slice_index arguments 3) (slice_index arguments 4))
-    (items-count _ 0 call.meta_count) (bytes-most m call.data_at call.data_len) few short
+    (items-count _ call.meta_count) (bytes-most m call.data_at call.data_len) few short
 
 -- what holds of the answers of a request whose units were some number
 record Fits (units : ℕ) (wanted : Requested) : Type 0 where

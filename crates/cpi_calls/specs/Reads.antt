@@ -1,7 +1,8 @@
 -- What is read of a cross-program call (the structures of the C interface).
 use Rattle.std.specs.Prelude.{ℕ, zero, suc, ◌+◌, ◌*◌, ◌%◌, ◌^◌, ◌==◌, ◌||◌, Bool, true, false, nat_lt, List, [], ◌∷◌, take, drop, slice_index, Result, Ok, Err, if◌then◌else◌}
+use Rattle.std.specs.List.{range_with_len}
 use Rattle.std.specs.Int.{w64, from_le_bytes}
-use Rattle.spec_base.specs.Reading.{◌>>=◌, ok_if}
+use Rattle.spec_base.specs.Reading.{◌>>=◌, each, ok_if}
 use Rattle.sol_base.specs.declared.key.Key.{Key}
 use Rattle.sol_base.specs.declared.derived.SeedsFault.{SeedsFault}
 use Rattle.sol_base.specs.DerivedKeys.{program_key_of}
@@ -33,17 +34,9 @@ number_from bytes at = from_le_bytes w64 (take 8 (drop at bytes))
 abbrev pub item_at : ℕ → ℕ → ℕ
 item_at list index = (list + 16 * index) % 2 ^ 64
 
--- so many items from an index on, each read in order, or the first refusal
-unfoldable pub items_from : {Y : Type 0} → (ℕ → Result Y CallFault) → ℕ → ℕ → Result (List Y) CallFault
-items_from one index zero = Ok []
-items_from one index (suc count) = do
-  item ← one index
-  items ← items_from one (index + 1) count
-  Ok (item ∷ items)
-
 -- the items of a list, read by their addresses
 abbrev pub items_read : {Y : Type 0} → (ℕ → Result Y CallFault) → ℕ → ℕ → Result (List Y) CallFault
-items_read one list count = items_from (λ index. one (item_at list index)) 0 count
+items_read one list count = each (λ index. one (item_at list index)) (range_with_len 0 count)
 
 -- the five numbers of a call: the program key's address, and the addresses and counts of metas and data
 abbrev pub call_in : List ℕ → Call

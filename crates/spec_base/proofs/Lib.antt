@@ -1,4 +1,5 @@
 pub mod Binding
+pub mod Each
 pub mod Loop
 pub mod Formats
 pub mod Filters

@@ -9,6 +9,14 @@ abbrev pub ◌>>=◌ : {A B E : Type 0} → Result A E → (A → Result B E) �
 (Ok x) >>= f = f x
 (Err e) >>= f = Err e
 
+-- what is done with each item in order, or the first refusal
+unfoldable pub each : {X Y E : Type 0} → (X → Result Y E) → List X → Result (List Y) E
+each one [] = Ok []
+each one (x ∷ xs) = do
+  y ← one x
+  ys ← each one xs
+  Ok (y ∷ ys)
+
 -- What a call answered, seen by view, is what reading gives, or memory ran out.
 abbrev pub Gives : {X Y E : Type 0} → (E → Bool) → (X → Y) → Result X E → Result Y E → Type 0
 Gives is_memory view (Ok x) read = read ≡ Ok (view x)

@@ -3,7 +3,7 @@ use Rattle.std.specs.Prelude.{ℕ, ◌+◌, ◌*◌, ◌-◌, ◌/◌, max, Bool
 use Rattle.std.specs.List.{range_with_len, list_any}
 use Rattle.std.specs.Int.{w64, from_le_bytes}
 use Rattle.sha2.specs.Sha256.{sha256}
-use Rattle.spec_base.specs.Reading.{◌>>=◌}
+use Rattle.spec_base.specs.Reading.{◌>>=◌, each}
 use Rattle.sbpf_memory.specs.Memory.{Ranges}
 use Rattle.sys_calls.specs.declared.slices.Slice.{Slice}
 use Rattle.sys_calls.specs.declared.fault.SysFault.{SysFault}
@@ -27,14 +27,6 @@ slices_read m at count = do
 -- a slice has more than 32 bytes
 abbrev pub has_long_slice : List Slice → Bool
 has_long_slice slices = list_any (λ slice. nat_lt 32 slice.len) slices
-
--- what is done with each item in order, or the first refusal
-unfoldable pub each : {X Y : Type 0} → (X → Result Y SysFault) → List X → Result (List Y) SysFault
-each one [] = Ok []
-each one (x ∷ xs) = do
-  y ← one x
-  ys ← each one xs
-  Ok (y ∷ ys)
 
 -- the bytes of each slice, read in order
 abbrev pub all_read : Ranges → List Slice → Result (List (List ℕ)) SysFault

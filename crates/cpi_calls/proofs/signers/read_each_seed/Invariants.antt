@@ -1,10 +1,11 @@
-use Rattle.std.proofs.Common.{◌≡◌, ◌-◌}
+use Rattle.std.proofs.Common.{◌≡◌}
+use Rattle.spec_base.proofs.Each.{joined}
 use Rattle.sbpf_memory.specs.Plain.{plain_memory}
-use Rattle.cpi_calls.specs.Reads.{item_at, items_from, items_read, seed_read}
-use Rattle.cpi_calls.proofs.Loops.{joined}
+use Rattle.cpi_calls.specs.Reads.{item_at, items_read, seed_read}
+use Rattle.cpi_calls.proofs.Loops.{left}
 use Rattle.cpi_calls.proofs.signers.read_each_seed.Given as goal
 
 -- what was read and what is left give what the whole gives
 abbrev pub invariant-loop-index : goal.invariant-loop-index
 invariant-loop-index l =
-    joined l.seeds (items_from (λ index. seed_read (plain_memory l.memory) (item_at l.list index)) l.index (l.count - l.index)) ≡ items_read (seed_read (plain_memory l.memory)) l.list l.count
+    joined l.seeds (left (λ index. seed_read (plain_memory l.memory) (item_at l.list index)) l.index l.count) ≡ items_read (seed_read (plain_memory l.memory)) l.list l.count
