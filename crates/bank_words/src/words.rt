@@ -2,7 +2,7 @@ ghost use Rattle.std.specs.Prelude.{◌≡◌, IfOk, IfSome, is_some, map, true}
 ghost use Rattle.std.specs.List.{list_all};
 ghost use Rattle.std.specs.Str.{is_utf8};
 
-use sol_base::{Blob, Items};
+use sol_base::{Blob, Items, is_text};
 use std::alloc::{AllocError, Global};
 use std::marker::Model;
 use std::str;
@@ -64,13 +64,4 @@ fn are_texts(words: &[Blob]) -> bool
     ensures { result ≡ list_all is_utf8 words.now }
 {
     words.iter().all(|word| is_text(word.as_slice()))
-}
-
-fn is_text(word: &[u8]) -> bool
-    ensures { result ≡ is_utf8 word.now }
-{
-    match str::from_utf8(word) {
-        Ok(_) => true,
-        Err(_) => false,
-    }
 }

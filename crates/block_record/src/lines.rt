@@ -1,11 +1,10 @@
 //! The log lines of an entry.
 ghost use Rattle.std.specs.Prelude.{◌≡◌};
-ghost use Rattle.std.specs.Str.{is_utf8};
 ghost use Rattle.spec_base.specs.Reading.{Gives, many, place as place_of};
 ghost use Rattle.block_record.specs.RecordReading.{is_record_memory, text_at, line_at, lines_at};
 
 use crate::fault::RecordFault;
-use sol_base::{Blob, Items};
+use sol_base::{Blob, Items, is_text};
 use spec_base::{bytes_field, u16_field};
 use std::alloc::Global;
 
@@ -17,15 +16,6 @@ pub(crate) fn place(total: usize, bytes: &[u8]) -> usize
     ensures { result ≡ place_of total bytes.now }
 {
     total.saturating_sub(bytes.len())
-}
-
-fn is_text(bytes: &[u8]) -> bool
-    ensures { result ≡ is_utf8 bytes.now }
-{
-    match str::from_utf8(bytes) {
-        Ok(_) => true,
-        Err(_) => false,
-    }
 }
 
 /// A text of so many bytes.

@@ -15,6 +15,7 @@ mod memory;
 mod parts;
 #[cfg(test)]
 mod tests;
+mod text;
 
 pub use account::{Account, MAX_DATA_LEN};
 pub use blob::Blob;
@@ -32,3 +33,4 @@ pub use limits::Limits;
 pub use lock::{Lock, LockList, Meta};
 pub use memory::OutOfMemory;
 pub use parts::{Part, Parts};
+pub use text::is_text;

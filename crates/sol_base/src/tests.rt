@@ -1,7 +1,7 @@
 use crate::{
     Account, Blob, CLOCK_SYSVAR, COMPUTE_BUDGET_PROGRAM, Hash32, Items, Key, LOADER_PROGRAM, Lock,
     LockList, OutOfMemory, RENT_SYSVAR, SYSTEM_PROGRAM, SeedFault, SeedsFault, hash, hash_field,
-    key_field, key_text, program_key, seed_key,
+    is_text, key_field, key_text, program_key, seed_key,
 };
 use spec_base::Refusal;
 use std::alloc::Global;
@@ -130,6 +130,33 @@ fn derives_keys_of_a_program(rt: HostRuntime) -> Result<(), Fail> {
         );
     }
     Ok(())
+}
+
+/// The first and the last character of each length in UTF-8, and bytes that RFC 3629 refuses.
+#[test]
+fn tells_texts(rt: HostRuntime) {
+    for text in [
+        "",
+        "\u{7f}",
+        "\u{80}",
+        "\u{7ff}",
+        "\u{800}",
+        "\u{ffff}",
+        "\u{10000}",
+        "\u{10ffff}",
+    ] {
+        assert!(rt; is_text(text.as_bytes()), "{text:?}");
+    }
+    for bytes in [
+        b"\x80".as_slice(),
+        b"\xc0\xaf",
+        b"\xe2\x89",
+        b"\xed\xa0\x80",
+        b"\xf4\x90\x80\x80",
+        b"a\xff",
+    ] {
+        assert!(rt; !is_text(bytes), "{bytes:?}");
+    }
 }
 
 #[test]

@@ -1,7 +1,6 @@
 //! The lines of the calls that write one.
 ghost use Rattle.std.specs.Prelude.{◌≡◌, ◌++◌, codes, OnOk};
 ghost use Rattle.std.specs.List.{flat_map};
-ghost use Rattle.std.specs.Str.{is_utf8};
 ghost use Rattle.sbpf_memory.specs.Plain.{plain_memory};
 ghost use Rattle.spec_base.specs.Reading.{Gives};
 ghost use Rattle.sys_calls.specs.Access.{is_memory};
@@ -10,7 +9,7 @@ ghost use Rattle.sys_calls.specs.Lines.{number_text, log_line, log_64_line, log_
 use crate::access::{read_array, read_bytes};
 use crate::fault::SysFault;
 use sbpf_memory::Memory;
-use sol_base::{Key, OutOfMemory, key_text};
+use sol_base::{Key, OutOfMemory, is_text, key_text};
 use std::alloc::Global;
 
 /// What stands before what a program logs.
@@ -29,16 +28,6 @@ pub(crate) fn log(alloc: Global, text: u64, len: u64, memory: &Memory) -> Result
     let mut line = Vec::from_slice(alloc, &PROGRAM_LOG)?;
     line.extend_from_slice(bytes.as_slice())?;
     Ok(line)
-}
-
-/// Whether bytes are UTF-8.
-fn is_text(bytes: &[u8]) -> bool
-    ensures { result ≡ is_utf8 bytes.now }
-{
-    match str::from_utf8(bytes) {
-        Ok(_) => true,
-        Err(_) => false,
-    }
 }
 
 /// The line of five numbers.

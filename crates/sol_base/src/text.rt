@@ -1,0 +1,15 @@
+//! Bytes that are a text.
+ghost use Rattle.std.specs.Prelude.{◌≡◌};
+ghost use Rattle.std.specs.Str.{is_utf8};
+
+use std::str;
+
+/// Whether bytes are UTF-8 (RFC 3629).
+pub fn is_text(bytes: &[u8]) -> bool
+    ensures { result ≡ is_utf8 bytes.now }
+{
+    match str::from_utf8(bytes) {
+        Ok(_) => true,
+        Err(_) => false,
+    }
+}
