@@ -7,30 +7,30 @@ use Rattle.std.proofs.lemmas.List.Sums.{sum_by-cons}
 use Rattle.std.proofs.lemmas.Map.Keys.{IsDistinct-head, IsDistinct-tail}
 use Rattle.sol_base.specs.declared.key.Key.{Key}
 use Rattle.sol_base.specs.declared.account.Account.{Account}
-use Rattle.sol_base.specs.Keys.{same_key}
+use Rattle.sol_base.specs.Keys.{same_key, has_key}
 use Rattle.sol_base.specs.Accounts.{empty_account}
 use Rattle.sol_base.proofs.KeyLaws.{same_key-true, same_key-self}
-use Rattle.account_store.specs.State.{State, at, remove, sum, lamports_under, is_among, AgreeElsewhere, IsState}
+use Rattle.account_store.specs.State.{State, at, remove, sum, lamports_under, AgreeElsewhere, IsState}
 use Rattle.account_store.proofs.StateLaws.{same_at, at-remove, sum-remove, IsState-remove}
 
-among_first : (k : Key) (ks : List Key) → is_among k (k ∷ ks) ≡ true
+among_first : (k : Key) (ks : List Key) → has_key k (k ∷ ks) ≡ true
 among_first k ks = or_left _ _ (same_key-self k)
 
-among_rest : (q k : Key) (ks : List Key) → is_among q ks ≡ true → is_among q (k ∷ ks) ≡ true
+among_rest : (q k : Key) (ks : List Key) → has_key q ks ≡ true → has_key q (k ∷ ks) ≡ true
 among_rest q k ks h = or_right (same_key q k) _ h
 
-not_among : (q : Key) (ks : List Key) → AllByRecursion (λ k. same_key q k ≡ false) ks → is_among q ks ≡ false
+not_among : (q : Key) (ks : List Key) → AllByRecursion (λ k. same_key q k ≡ false) ks → has_key q ks ≡ false
 not_among q [] apart = refl
-not_among q (k ∷ ks) apart = or_from (same_key q k) (is_among q ks) apart.0 (not_among q ks apart.1)
+not_among q (k ∷ ks) apart = or_from (same_key q k) (has_key q ks) apart.0 (not_among q ks apart.1)
 
-first_apart : (k : Key) (ks : List Key) → IsDistinct same_key (k ∷ ks) → is_among k ks ≡ false
+first_apart : (k : Key) (ks : List Key) → IsDistinct same_key (k ∷ ks) → has_key k ks ≡ false
 first_apart k ks d = not_among k ks (IsDistinct-head same_key k ks d)
 
 under-cons : (f : Key → Account) (k : Key) (ks : List Key) → lamports_under f (k ∷ ks) ≡ (f k).lamports + lamports_under f ks
 under-cons f k ks = sum_by-cons (λ (key : Key). (f key).lamports) k ks
 
 -- what is the same under each key holds the same lamports
-pub under-same : (f g : Key → Account) (ks : List Key) → ((key : Key) → is_among key ks ≡ true → f key ≡ g key) → lamports_under f ks ≡ lamports_under g ks
+pub under-same : (f g : Key → Account) (ks : List Key) → ((key : Key) → has_key key ks ≡ true → f key ≡ g key) → lamports_under f ks ≡ lamports_under g ks
 under-same f g [] same = refl
 under-same f g (k ∷ ks) same =
     let here = ap (λ (a : Account). a.lamports) (same k (among_first k ks)) in
@@ -40,11 +40,11 @@ under-same f g (k ∷ ks) same =
     omega (arith, here, rest, a, b)
 
 -- what is taken out at one key leaves what is under others
-under-removed : (s : State) (k : Key) (ks : List Key) → is_among k ks ≡ false → lamports_under (at (remove s k)) ks ≡ lamports_under (at s) ks
+under-removed : (s : State) (k : Key) (ks : List Key) → has_key k ks ≡ false → lamports_under (at (remove s k)) ks ≡ lamports_under (at s) ks
 under-removed s k ks apart = under-same (at (remove s k)) (at s) ks (λ key m. at-remove s k key ∙ cond-false (same_key key k) empty_account (at s key) (other key m))
   where
-    other : (key : Key) → is_among key ks ≡ true → same_key key k ≡ false
-    other key m = false_from_ne_true _ (λ e. both_ways _ apart (subst (λ x. is_among x ks ≡ true) (same_key-true key k e) m))
+    other : (key : Key) → has_key key ks ≡ true → same_key key k ≡ false
+    other key m = false_from_ne_true _ (λ e. both_ways _ apart (subst (λ x. has_key x ks ≡ true) (same_key-true key k e) m))
 
 -- distinct keys hold no more than all
 pub under-le : (s : State) (ks : List Key) → IsDistinct same_key ks → lamports_under (at s) ks ≤ sum s
@@ -69,9 +69,9 @@ sums_differ s t (k ∷ ks) is it d agree =
     let v = under-removed t k ks (first_apart k ks d) in
     omega (arith, rest, a, b, f, g, u, v)
   where
-    others : (key : Key) → is_among key ks ≡ false → at (remove s k) key ≡ at (remove t k) key
+    others : (key : Key) → has_key key ks ≡ false → at (remove s k) key ≡ at (remove t k) key
     others key out = at-remove s k key ∙ (by_case (same_key key k) refl ∙ sym (at-remove t k key))
       where
         by_case : (b : Bool) → same_key key k ≡ b → cond b empty_account (at s key) ≡ cond b empty_account (at t key)
         by_case true e = refl
-        by_case false e = agree key (or_from (same_key key k) (is_among key ks) e out)
+        by_case false e = agree key (or_from (same_key key k) (has_key key ks) e out)

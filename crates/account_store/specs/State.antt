@@ -1,11 +1,11 @@
 -- A state: the accounts that are there, by their keys, each with at least 1 lamport (Solana).
 use Rattle.std.specs.Prelude.{◌≡◌, ℕ, ◌-◌, ◌^◌, ◌≤◌, ◌==◌, List, sum_by, filter, slice_get, Bool, true, false, if◌then◌else◌, Option, Some, None, unwrap_or}
-use Rattle.std.specs.List.{AllByRecursion, list_any}
+use Rattle.std.specs.List.{AllByRecursion}
 use Rattle.std.specs.Ordering.{is_lt}
 use Rattle.std.specs.FinMap as map
 use Rattle.sol_base.specs.declared.key.Key.{Key}
 use Rattle.sol_base.specs.declared.account.Account.{Account}
-use Rattle.sol_base.specs.Keys.{key_cmp, same_key}
+use Rattle.sol_base.specs.Keys.{key_cmp, has_key}
 use Rattle.sol_base.specs.Accounts.{empty_account, IsShort}
 
 abbrev pub State : Type 0
@@ -56,13 +56,9 @@ sum s = lamports_of (entries s)
 abbrev pub lamports_under : (Key → Account) → List Key → ℕ
 lamports_under accounts keys = sum_by (λ key. (accounts key).lamports) keys
 
--- the key stands in the list
-abbrev pub is_among : Key → List Key → Bool
-is_among key keys = list_any (λ k. same_key key k) keys
-
 -- two states show the same under all keys but these
 abbrev pub AgreeElsewhere : State → State → List Key → Type 0
-AgreeElsewhere s t keys = (key : Key) → is_among key keys ≡ false → at s key ≡ at t key
+AgreeElsewhere s t keys = (key : Key) → has_key key keys ≡ false → at s key ≡ at t key
 
 -- whether a key is above the given one; where none is given, each is
 abbrev pub is_above : Option Key → Key → Bool

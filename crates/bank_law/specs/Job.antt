@@ -1,11 +1,10 @@
 -- A work of many positions, as plain data.
 use Rattle.std.specs.Prelude.{ℕ, Bool, List, [], ◌∷◌, map, filter, if◌then◌else◌}
-use Rattle.std.specs.List.{list_any}
 use Rattle.sol_base.specs.declared.key.Key.{Key}
 use Rattle.sol_base.specs.declared.account.Account.{Account}
 use Rattle.sol_base.specs.declared.lock.Lock.{Lock}
 use Rattle.sol_base.specs.Accounts.{empty_account}
-pub use Rattle.sol_base.specs.Keys.{same_key}
+pub use Rattle.sol_base.specs.Keys.{has_key, same_key}
 use Rattle.tx_report.specs.declared.outcome.Outcome.{Outcome}
 
 -- what performing a position gives: its outcome, and one account for each write lock, in their order
@@ -18,10 +17,6 @@ pub record Job : Type 0 where
   pub count : ℕ
   pub locks : ℕ → List Lock
   pub effects : ℕ → List Account → JobEffects
-
--- the key stands in the list
-abbrev pub has_key : Key → List Key → Bool
-has_key key ks = list_any (λ k. same_key key k) ks
 
 -- the keys of locks, in their order
 abbrev pub lock_keys : List Lock → List Key

@@ -3,7 +3,7 @@ use Rattle.std.specs.Prelude.{ℕ, ◌&&◌, not, nat_le, List, Result, Ok, Err,
 use Rattle.spec_base.specs.Reading.{◌>>=◌}
 use Rattle.sol_base.specs.declared.key.Key.{Key}
 use Rattle.sol_base.specs.declared.account.Account.{Account}
-use Rattle.sol_base.specs.Keys.{same_key}
+use Rattle.sol_base.specs.Keys.{same_key, has_key}
 use Rattle.sbpf_machine.specs.Steps.{arguments_in}
 use Rattle.cpi_calls.specs.Calls.{Requested, request_of}
 use Rattle.cpi_calls.specs.Rights.{rights_of}
@@ -14,7 +14,7 @@ use Rattle.tx_report.specs.declared.cause.Cause.TheVariants.{TraceTooLong, Stack
 use Rattle.invoke_engine.specs.declared.call.Setting.{Setting}
 use Rattle.invoke_engine.specs.declared.stopped.Stopped.{Stopped}
 use Rattle.invoke_engine.specs.Reasons.{plainly, refuse, by_call, by_rights}
-use Rattle.invoke_engine.specs.Frames.{Carried, Running, Callee, Turn, Calls, Leaves, height, has_key}
+use Rattle.invoke_engine.specs.Frames.{Carried, Running, Callee, Turn, Calls, Leaves, height}
 use Rattle.invoke_engine.specs.Ends.{closes}
 use Rattle.invoke_engine.specs.Leaving.{settled}
 

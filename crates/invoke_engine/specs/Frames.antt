@@ -1,10 +1,8 @@
 -- What frames are made of: a frame runs one program with a list of accounts, and may call other programs, each in a frame of its own (Solana).
-use Rattle.std.specs.Prelude.{ℕ, ◌+◌, Bool, List, length, Result}
-use Rattle.std.specs.List.{list_any}
+use Rattle.std.specs.Prelude.{ℕ, ◌+◌, List, length, Result}
 use Rattle.sol_base.specs.declared.key.Key.{Key}
 use Rattle.sol_base.specs.declared.account.Account.{Account}
 use Rattle.sol_base.specs.declared.lock.Meta.{Meta}
-use Rattle.sol_base.specs.Keys.{same_key}
 use Rattle.tx_report.specs.LogLines.{Log}
 use Rattle.tx_report.specs.declared.status.InstructionError.{InstructionError}
 use Rattle.sbpf_machine.specs.Steps.{State}
@@ -59,6 +57,3 @@ pub data Turn : Type 0 where
 -- the height of the frame that has the frames of these programs around it, the innermost first
 abbrev pub height : List Key → ℕ
 height outer = length outer + 1
-
-abbrev pub has_key : Key → List Key → Bool
-has_key key keys = list_any (λ k. same_key k key) keys

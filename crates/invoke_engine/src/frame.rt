@@ -1,8 +1,7 @@
 //! A frame of a program in its middle, and the frames that wait for their callees.
 ghost use Rattle.std.specs.Prelude.{◌≡◌, ◌∷◌, [], length, IfSome, IfNone, OnOk};
 ghost use Rattle.std.specs.List.{list_any};
-ghost use Rattle.sol_base.specs.Keys.{same_key};
-ghost use Rattle.invoke_engine.specs.Frames.{has_key};
+ghost use Rattle.sol_base.specs.Keys.{same_key, has_key};
 ghost use Rattle.invoke_engine.specs.Suspended.{programs_of};
 
 use sbpf_machine::Machine;
@@ -101,7 +100,7 @@ impl Stack {
 }
 
 fn has_in(frames: &[Frame], program: &Key) -> bool
-    ensures { result ≡ list_any (λ frame. same_key frame.program program.now) frames.now }
+    ensures { result ≡ list_any (λ frame. same_key program.now frame.program) frames.now }
 {
-    frames.iter().any(|frame| frame.key() == *program)
+    frames.iter().any(|frame| *program == frame.key())
 }

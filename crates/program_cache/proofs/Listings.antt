@@ -10,9 +10,9 @@ use Rattle.std.specs.declared.cmp.Ordering.TheVariants.{Less, Equal, Greater}
 use Rattle.std.specs.FinMap as finite
 use Rattle.std.specs.FinMap.{find, get-from_entries, get-entries, get-insert, len-entries, len-empty, same_map}
 use Rattle.sol_base.specs.declared.key.Key.{Key}
-use Rattle.sol_base.specs.Keys.{key_cmp, same_key}
+use Rattle.sol_base.specs.Keys.{key_cmp, same_key, has_key}
 use Rattle.sol_base.proofs.KeyLaws.{key_cmp_exact, key_cmp_total, same_cmp, same_key-true}
-use Rattle.account_store.specs.State.{State, is_among}
+use Rattle.account_store.specs.State.{State}
 use Rattle.account_store.proofs.EntryLists.{find-lookup, entries-insert_entry}
 use Rattle.program_cache.specs.Programs.{Sought, Listing, IsAbsent, sought_in, programs_of, sought}
 use Rattle.program_cache.specs.declared.kept.Kept.{Kept}
@@ -34,30 +34,30 @@ found_pair s k q among true e = ap (λ (key : Key). let o : Option Sought = Some
 found_pair s k q among false e = refl
 
 -- what is found under a key
-find-pairs : (s : State) (keys : List Key) (q : Key) → find key_cmp q (pairs s keys) ≡ if_among s q (is_among q keys)
+find-pairs : (s : State) (keys : List Key) (q : Key) → find key_cmp q (pairs s keys) ≡ if_among s q (has_key q keys)
 find-pairs s [] q = refl
 find-pairs s (k ∷ keys) q =
     ap (λ (o : Option Sought). cond (eq_by_cmp key_cmp q k) (Some (sought_in s k)) o) (find-pairs s keys q)
-    ∙ ap (λ (b : Bool). cond b (Some (sought_in s k)) (if_among s q (is_among q keys))) (same_cmp q k)
-    ∙ found_pair s k q (is_among q keys) (same_key q k) refl
+    ∙ ap (λ (b : Bool). cond b (Some (sought_in s k)) (if_among s q (has_key q keys))) (same_cmp q k)
+    ∙ found_pair s k q (has_key q keys) (same_key q k) refl
 
-get-kept : (s : State) (keys : List Key) (q : Key) → finite.get (kept_map s keys) q ≡ if_among s q (is_among q keys)
+get-kept : (s : State) (keys : List Key) (q : Key) → finite.get (kept_map s keys) q ≡ if_among s q (has_key q keys)
 get-kept s keys q = get-from_entries key_cmp_total (pairs s keys) q ∙ find-pairs s keys q
 
 -- what is found among all that is kept
-pub sought-programs : (s : State) (keys : List Key) (q : Key) → sought (programs_of s keys) q ≡ unwrap_or (if_among s q (is_among q keys)) IsAbsent
+pub sought-programs : (s : State) (keys : List Key) (q : Key) → sought (programs_of s keys) q ≡ unwrap_or (if_among s q (has_key q keys)) IsAbsent
 unfolding sought programs_of
 sought-programs s keys q = ap (λ (o : Option Sought). unwrap_or o IsAbsent) (sym (get-entries (kept_map s keys) q) ∙ get-kept s keys q)
 
-pub sought-among : (s : State) (keys : List Key) (q : Key) → is_among q keys ≡ true → sought (programs_of s keys) q ≡ sought_in s q
+pub sought-among : (s : State) (keys : List Key) (q : Key) → has_key q keys ≡ true → sought (programs_of s keys) q ≡ sought_in s q
 sought-among s keys q h = sought-programs s keys q ∙ ap (λ (b : Bool). unwrap_or (if_among s q b) IsAbsent) h
 
-pub sought-other : (s : State) (keys : List Key) (q : Key) → is_among q keys ≡ false → sought (programs_of s keys) q ≡ IsAbsent
+pub sought-other : (s : State) (keys : List Key) (q : Key) → has_key q keys ≡ false → sought (programs_of s keys) q ≡ IsAbsent
 sought-other s keys q h = sought-programs s keys q ∙ ap (λ (b : Bool). unwrap_or (if_among s q b) IsAbsent) h
 
-among-append : (q k : Key) (keys : List Key) → is_among q (keys ++ k ∷ []) ≡ (same_key q k || is_among q keys)
+among-append : (q k : Key) (keys : List Key) → has_key q (keys ++ k ∷ []) ≡ (same_key q k || has_key q keys)
 among-append q k [] = refl
-among-append q k (x ∷ keys) = ap (λ (b : Bool). same_key q x || b) (among-append q k keys) ∙ swapped (same_key q x) (same_key q k) (is_among q keys)
+among-append q k (x ∷ keys) = ap (λ (b : Bool). same_key q x || b) (among-append q k keys) ∙ swapped (same_key q x) (same_key q k) (has_key q keys)
   where
     swapped : (a b c : Bool) → (a || (b || c)) ≡ (b || (a || c))
     swapped true true c = refl
@@ -69,20 +69,20 @@ kept_map-push : (s : State) (keys : List Key) (k : Key) → kept_map s (keys ++ 
 kept_map-push s keys k = same_map key_cmp_total key_cmp_exact _ _ (λ q.
     get-kept s (keys ++ k ∷ []) q
     ∙ ap (λ (b : Bool). if_among s q b) (among-append q k keys)
-    ∙ sym (found_pair s k q (is_among q keys) (same_key q k) refl)
-    ∙ ap (λ (b : Bool). cond b (Some (sought_in s k)) (if_among s q (is_among q keys))) (sym (same_cmp q k))
+    ∙ sym (found_pair s k q (has_key q keys) (same_key q k) refl)
+    ∙ ap (λ (b : Bool). cond b (Some (sought_in s k)) (if_among s q (has_key q keys))) (sym (same_cmp q k))
     ∙ ap (λ (o : Option Sought). cond (eq_by_cmp key_cmp q k) (Some (sought_in s k)) o) (sym (get-kept s keys q))
     ∙ sym (get-insert key_cmp_total (kept_map s keys) k (sought_in s k) q))
 
 -- a key that is there already
-kept_map-again : (s : State) (keys : List Key) (k : Key) → is_among k keys ≡ true → kept_map s (keys ++ k ∷ []) ≡ kept_map s keys
+kept_map-again : (s : State) (keys : List Key) (k : Key) → has_key k keys ≡ true → kept_map s (keys ++ k ∷ []) ≡ kept_map s keys
 kept_map-again s keys k h = same_map key_cmp_total key_cmp_exact _ _ (λ q.
     get-kept s (keys ++ k ∷ []) q
     ∙ ap (λ (b : Bool). if_among s q b) (among-append q k keys ∙ still q (same_key q k) refl)
     ∙ sym (get-kept s keys q))
   where
-    still : (q : Key) (b : Bool) → same_key q k ≡ b → (b || is_among q keys) ≡ is_among q keys
-    still q true e = sym (subst (λ (key : Key). is_among key keys ≡ true) (sym (same_key-true q k e)) h)
+    still : (q : Key) (b : Bool) → same_key q k ≡ b → (b || has_key q keys) ≡ has_key q keys
+    still q true e = sym (subst (λ (key : Key). has_key key keys ≡ true) (sym (same_key-true q k e)) h)
     still q false e = refl
 
 some_among : (s : State) (q : Key) (b : Bool) → is_some (if_among s q b) ≡ b
@@ -94,10 +94,10 @@ pub with_key-programs : (s : State) (keys : List Key) (k : Key) → with_key (pr
 unfolding with_key programs_of
 with_key-programs s keys k =
     let m = kept_map s keys in
-    ap (λ (b : Bool). cond b (finite.entries m) (insert_entry key_cmp (finite.entries m) k (sought_in s k))) (ap is_some (sym (get-entries m k) ∙ get-kept s keys k) ∙ some_among s k (is_among k keys))
-    ∙ by_test (is_among k keys) refl
+    ap (λ (b : Bool). cond b (finite.entries m) (insert_entry key_cmp (finite.entries m) k (sought_in s k))) (ap is_some (sym (get-entries m k) ∙ get-kept s keys k) ∙ some_among s k (has_key k keys))
+    ∙ by_test (has_key k keys) refl
   where
-    by_test : (b : Bool) → is_among k keys ≡ b → cond b (finite.entries (kept_map s keys)) (insert_entry key_cmp (finite.entries (kept_map s keys)) k (sought_in s k)) ≡ finite.entries (kept_map s (keys ++ k ∷ []))
+    by_test : (b : Bool) → has_key k keys ≡ b → cond b (finite.entries (kept_map s keys)) (insert_entry key_cmp (finite.entries (kept_map s keys)) k (sought_in s k)) ≡ finite.entries (kept_map s (keys ++ k ∷ []))
     by_test true e = ap finite.entries (sym (kept_map-again s keys k e))
     by_test false e = sym (entries-insert_entry key_cmp_total (kept_map s keys) k (sought_in s k)) ∙ ap finite.entries (sym (kept_map-push s keys k))
 

@@ -4,6 +4,7 @@ use Rattle.std.specs.Ordering.{nat_cmp}
 use Rattle.std.specs.declared.cmp.Ordering.{Ordering}
 use Rattle.std.specs.Coded.{Coded, code_by, coded_list, coded_ℕ}
 use Rattle.std.specs.Cmp.Lexicographic.{slice_cmp, pointwise}
+use Rattle.std.specs.List.{list_any}
 use Rattle.spec_base.specs.Reading.{field_at, read_as}
 use Rattle.sol_base.specs.declared.key.Key.{Key}
 use Rattle.sol_base.specs.declared.key.Hash32.{Hash32}
@@ -22,6 +23,10 @@ same_key a b = pointwise nat_eq a.0 b.0
 
 abbrev pub same_hash : Hash32 → Hash32 → Bool
 same_hash a b = pointwise nat_eq a.0 b.0
+
+-- the key stands in the list
+abbrev pub has_key : Key → List Key → Bool
+has_key key keys = list_any (λ k. same_key key k) keys
 
 -- the first byte that differs decides
 abbrev pub key_cmp : Key → Key → Ordering

@@ -1,5 +1,6 @@
 use Rattle.std.proofs.Common.{ap, List}
-use Rattle.invoke_engine.specs.Frames.{Running, has_key}
+use Rattle.sol_base.specs.Keys.{has_key}
+use Rattle.invoke_engine.specs.Frames.{Running}
 use Rattle.invoke_engine.specs.Suspended.{programs_of}
 use Rattle.invoke_engine.proofs.Stacks.{has_reversed}
 use Rattle.invoke_engine.proofs.frame.Stack.has.Goals as goal
