@@ -8,6 +8,7 @@ use Rattle.sol_base.specs.declared.key.Hash32.{Hash32}
 use Rattle.sol_base.specs.declared.limits.Limits.{Limits}
 use Rattle.sol_base.specs.declared.lock.Lock.{Lock}
 use Rattle.sol_base.specs.Keys.{same_key}
+use Rattle.sol_base.specs.Locks.{lock_keys}
 use Rattle.message_codec.specs.declared.fault.SanitizeFault.{SanitizeFault}
 use Rattle.message_codec.specs.declared.message.Loaded.{Loaded}
 use Rattle.message_codec.specs.declared.message.Message.{Message}
@@ -17,7 +18,7 @@ use Rattle.message_codec.specs.declared.parsed.Parsed.TheVariants.{Good, Bad}
 use Rattle.message_codec.specs.Roles.{HasAllLoaded, IsSane, all_keys, has_repeated_key, sanitized}
 use Rattle.message_codec.specs.Parsing.{IsParsed, parsed_of}
 use Rattle.message_codec.proofs.SaneLaws.{is_sane}
-use Rattle.message_codec.proofs.RoleLaws.{lock_keys}
+use Rattle.message_codec.proofs.RoleLaws.{keys_of_locks}
 use Rattle.message_codec.proofs.WireLaws.{wire_again}
 use Rattle.fee_rules.specs.declared.budget.Budget.{Budget}
 use Rattle.fee_rules.specs.declared.budget.BudgetFault.{BudgetFault}
@@ -33,7 +34,6 @@ use Rattle.admission.specs.Lookups.{first_or, load, loaded_in, lookup_faults}
 use Rattle.admission.specs.Chosen.{IsChosen}
 use Rattle.admission.specs.Admission.{AreParsed, IsSound, Start, Walk, as_cause, chosen_with, late, sifted, sifted_in, sifted_out, stands, standing_names, walk, walk_with}
 use Rattle.admission.specs.Lines.{PositionsAscend}
-use Rattle.admission.specs.Sums.{keys_locked}
 use Rattle.admission.proofs.LookupLaws.{distinct, loaded_counts}
 
 -- what is loaded
@@ -79,8 +79,8 @@ sane_for_few_keys_is_sane_for_more tx few more fewer is = record {
 }
 
 -- the keys of its locks are distinct
-pub locks_apart : (chosen : Chosen) → IsChosen chosen → IsDistinct same_key (keys_locked chosen.locks)
-locks_apart chosen is = subst (IsDistinct same_key) (sym (ap (map (λ (lock : Lock). lock.key)) is.locked ∙ lock_keys chosen.tx.message chosen.loaded)) is.apart
+pub locks_apart : (chosen : Chosen) → IsChosen chosen → IsDistinct same_key (lock_keys chosen.locks)
+locks_apart chosen is = subst (IsDistinct same_key) (sym (ap (map (λ (lock : Lock). lock.key)) is.locked ∙ keys_of_locks chosen.tx.message chosen.loaded)) is.apart
 
 pub chosen_is : (start : Start) (is_before : Hash32 → Bool) (position : ℕ) (parsed : Parsed) (chosen : Chosen) → start.limits.keys ≤ 128 → IsSound parsed → sifted start is_before position parsed ≡ Ok chosen → IsChosen chosen × (chosen.position ≡ position)
 unfolding sifted

@@ -6,6 +6,7 @@ use Rattle.std.proofs.lemmas.List.Elements.{All-from_recursion}
 use Rattle.std.proofs.lemmas.List.FromFn.{length-enumerate_from}
 use Rattle.sol_base.specs.Keys.{same_key}
 use Rattle.sol_base.specs.declared.memory.OutOfMemory.{OutOfMemory}
+use Rattle.sol_base.specs.Locks.{lock_keys}
 use Rattle.message_codec.specs.declared.parsed.Parsed.{Parsed}
 use Rattle.message_codec.specs.Parsing.{parsed_of}
 use Rattle.admission.specs.declared.chosen.Admitted.{Admitted}
@@ -14,7 +15,7 @@ use Rattle.admission.specs.declared.refusal.Refusal.{Refusal}
 use Rattle.admission.specs.Admission.{AreParsed, IsSound, Start, admitted, answer_of, early, line, listed, sifted_out, walk}
 use Rattle.admission.specs.Chosen.{IsChosen}
 use Rattle.admission.specs.Lines.{PositionsAscend}
-use Rattle.admission.specs.Sums.{keys_locked, numbered_in, with_late}
+use Rattle.admission.specs.Sums.{numbered_in, with_late}
 use Rattle.admission.proofs.AnswerLaws.{StandsIn, all_run, are_parsed, locks_apart, stand_all}
 use Rattle.admission.proofs.LineLaws.{all_line}
 use Rattle.admission.proofs.WalkLaws.{refused_by_causes}
@@ -28,8 +29,8 @@ pub places : (line : List Chosen) (to : ℕ) (causes : List (Option Refusal)) �
 places line to causes e all = All-from_recursion (λ (one : Chosen). one.position < length causes) line (weaker (StandsIn 0 to) (λ one. one.position < length causes) (λ one is. subst (λ n. one.position < n) e is.below) line all)
 
 -- and locks each of its keys once
-pub aparts : (line : List Chosen) (to : ℕ) → AllByRecursion (StandsIn 0 to) line → All (λ one. IsDistinct same_key (keys_locked one.locks)) line
-aparts line to all = All-from_recursion (λ (one : Chosen). IsDistinct same_key (keys_locked one.locks)) line (weaker (StandsIn 0 to) (λ one. IsDistinct same_key (keys_locked one.locks)) (λ one is. locks_apart one is.is) line all)
+pub aparts : (line : List Chosen) (to : ℕ) → AllByRecursion (StandsIn 0 to) line → All (λ one. IsDistinct same_key (lock_keys one.locks)) line
+aparts line to all = All-from_recursion (λ (one : Chosen). IsDistinct same_key (lock_keys one.locks)) line (weaker (StandsIn 0 to) (λ one. IsDistinct same_key (lock_keys one.locks)) (λ one is. locks_apart one is.is) line all)
 
 pub parsed_count : (wires : List (List ℕ)) (batch : List Parsed) → AreParsed wires batch → length batch ≡ length wires
 parsed_count wires batch are = ap length (are_parsed wires batch are).0 ∙ simp length-map

@@ -13,9 +13,10 @@ use Rattle.sol_base.specs.declared.lock.Lock.{Lock}
 use Rattle.sol_base.specs.declared.limits.Limits.{Limits}
 use Rattle.sol_base.specs.Keys.{key_cmp, same_key}
 use Rattle.sol_base.proofs.KeyLaws.{same_cmp, same_key-true}
+use Rattle.sol_base.specs.Locks.{lock_keys}
 use Rattle.admission.specs.declared.chosen.Chosen.{Chosen}
 use Rattle.admission.specs.Admission.{units_of, units_on, writes, locks_write}
-use Rattle.admission.specs.Sums.{HasSums, keys_locked, passes, sum_at}
+use Rattle.admission.specs.Sums.{HasSums, passes, sum_at}
 
 -- a key has no more units than all together
 pub part_of_all : (key : Key) (order : List Chosen) → units_on key order ≤ units_of order
@@ -64,13 +65,13 @@ one_lock lock key = go (lock.write && same_key lock.key key)
     go false = refl
 
 -- the keys before a place are none of those from there on
-apart_at : (locks : List Lock) (i : ℕ) (x : Lock) → i < length locks → x ≡ get_or locks i x → IsDistinct same_key (keys_locked locks) → locks_write (take i locks) x.key ≡ false
+apart_at : (locks : List Lock) (i : ℕ) (x : Lock) → i < length locks → x ≡ get_or locks i x → IsDistinct same_key (lock_keys locks) → locks_write (take i locks) x.key ≡ false
 unfolding IsDistinct
 apart_at [] i x l is d = absurd (omega arith)
 apart_at (lock ∷ locks) zero x l is d = refl
 apart_at (lock ∷ locks) (suc i) x l is d = go (same_key lock.key x.key) refl (lock.write) (apart_at locks i x (omega arith) is d.1)
   where
-    other : (keys : List Lock) (j : ℕ) → j < length keys → x ≡ get_or keys j x → AllByRecursion (λ key. same_key lock.key key ≡ false) (keys_locked keys) → same_key lock.key x.key ≡ false
+    other : (keys : List Lock) (j : ℕ) → j < length keys → x ≡ get_or keys j x → AllByRecursion (λ key. same_key lock.key key ≡ false) (lock_keys keys) → same_key lock.key x.key ≡ false
     other [] j lt e a = absurd (omega arith)
     other (k ∷ ks) zero lt e a = ap (λ (one : Lock). same_key lock.key one.key) e ∙ a.0
     other (k ∷ ks) (suc j) lt e a = other ks j (omega arith) e a.1
@@ -97,11 +98,11 @@ module _ (locks : List Lock) (i : ℕ) (x : Lock) (l : i < length locks) (is_x :
       or_none false = refl
 
   -- a key that is first written now has its first sum
-  pub first_sum : (limit : ℕ) (first sums : Key → ℕ) → IsDistinct same_key (keys_locked locks) → ((key : Key) → sums key ≡ first key + (if locks_write (take i locks) key then limit else 0)) → sums x.key ≡ first x.key
+  pub first_sum : (limit : ℕ) (first sums : Key → ℕ) → IsDistinct same_key (lock_keys locks) → ((key : Key) → sums key ≡ first key + (if locks_write (take i locks) key then limit else 0)) → sums x.key ≡ first x.key
   first_sum limit first sums d so_far =
       so_far x.key ∙ ap (λ b. first x.key + (if b then limit else 0)) (apart_at locks i x l is_x d) ∙ (let e : first x.key + 0 ≡ first x.key = omega arith in e)
 
-  pub write_adds : (limit sum : ℕ) (first : Key → ℕ) (sums next : BTreeMap Key ℕ) → x.write ≡ true → IsDistinct same_key (keys_locked locks) → sum ≡ sum_at sums x.key
+  pub write_adds : (limit sum : ℕ) (first : Key → ℕ) (sums next : BTreeMap Key ℕ) → x.write ≡ true → IsDistinct same_key (lock_keys locks) → sum ≡ sum_at sums x.key
       → ((key : Key) → get key_cmp next key ≡ cond (is_at (key_cmp x.key) key) (Some (sum + limit)) (get key_cmp sums key))
       → ((key : Key) → sum_at sums key ≡ first key + (if locks_write (take i locks) key then limit else 0)) → (key : Key) → sum_at next key ≡ first key + (if locks_write (take (i + 1) locks) key then limit else 0)
   write_adds limit sum first sums next some d is_sum puts so_far key = go (same_key x.key key) refl

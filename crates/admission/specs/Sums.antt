@@ -3,7 +3,6 @@ use Rattle.std.specs.Prelude.{◌≡◌, ℕ, ◌+◌, Bool, nat_lt, List, map, 
 use Rattle.std.specs.List.{enumerate_from, filter_map}
 use Rattle.std.specs.BTreeMap.{BTreeMap, get}
 use Rattle.sol_base.specs.declared.key.Key.{Key}
-use Rattle.sol_base.specs.declared.lock.Lock.{Lock}
 use Rattle.sol_base.specs.Keys.{key_cmp}
 use Rattle.admission.specs.declared.chosen.Chosen.{Chosen}
 use Rattle.admission.specs.declared.refusal.Refusal.{Refusal}
@@ -13,9 +12,6 @@ use Rattle.admission.specs.Admission.{late_cause, or_else, units_of, units_on}
 -- the sum of a key, and 0 where it has none
 abbrev pub sum_at : BTreeMap Key ℕ → Key → ℕ
 sum_at sums key = unwrap_or (get key_cmp sums key) 0
-
-abbrev pub keys_locked : List Lock → List Key
-keys_locked locks = map (λ lock. lock.key) locks
 
 -- a limit brings a sum above the most
 abbrev pub passes : ℕ → ℕ → ℕ → Bool

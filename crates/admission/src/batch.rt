@@ -1,9 +1,10 @@
 ghost use Rattle.std.specs.Prelude.{◌≡◌, ◌<◌, ◌≤◌, ◌^◌, All, IfOk, length};
 ghost use Rattle.std.specs.List.{IsDistinct};
 ghost use Rattle.sol_base.specs.Keys.{same_key};
+ghost use Rattle.sol_base.specs.Locks.{lock_keys};
 ghost use Rattle.admission.specs.Admission.{AreParsed, admitted, listed, start_of, walk};
 ghost use Rattle.admission.specs.Chosen.{IsChosen};
-ghost use Rattle.admission.specs.Sums.{keys_locked, numbered_in, with_late};
+ghost use Rattle.admission.specs.Sums.{numbered_in, with_late};
 
 use crate::chosen::{Admitted, Chosen};
 use crate::line::line;
@@ -94,7 +95,7 @@ fn admit_line(
 ) -> Result<Admitted, OutOfMemory>
     requires few { length causes.items < 2 ^ 32 }
     requires places { All (λ one. one.position < length causes.items) line.items }
-    requires apart { All (λ one. IsDistinct same_key (keys_locked one.locks)) line.items }
+    requires apart { All (λ one. IsDistinct same_key (lock_keys one.locks)) line.items }
     ensures order { IfOk result (λ answer. answer.order ≡ (walk limits.now line.items).order) }
     ensures refused { IfOk result (λ answer.
         answer.refused ≡ numbered_in (with_late (walk limits.now line.items).refused causes.items)) }

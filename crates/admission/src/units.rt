@@ -3,8 +3,9 @@ ghost use Rattle.std.specs.Bool.{OnFalse};
 ghost use Rattle.std.specs.List.{IsDistinct, list_any};
 ghost use Rattle.sol_base.specs.declared.key.Key.{Key as KeyValue};
 ghost use Rattle.sol_base.specs.Keys.{same_key};
+ghost use Rattle.sol_base.specs.Locks.{lock_keys};
 ghost use Rattle.admission.specs.Admission.{late, locks_write, units_of};
-ghost use Rattle.admission.specs.Sums.{HasSums, keys_locked, passes, sum_at};
+ghost use Rattle.admission.specs.Sums.{HasSums, passes, sum_at};
 
 use crate::chosen::Chosen;
 use crate::refusal::Refusal;
@@ -81,7 +82,7 @@ impl Order {
     /// These and one more, which none of the limits refuses.
     pub(crate) fn with(self, one: Chosen) -> Result<Order, OutOfMemory>
         requires fits { units_of self + one.budget.limit < 2 ^ 64 }
-        requires apart { IsDistinct same_key (keys_locked one.locks) }
+        requires apart { IsDistinct same_key (lock_keys one.locks) }
         ensures { IfOk result (λ order. order ≡ self ++ one ∷ []) }
     {
         let Order {
@@ -125,7 +126,7 @@ fn sum_at(sums: &BTreeMap<Key, u64>, key: &Key) -> u64
 
 /// Adds the limit to the sum of each key that is locked to be written.
 fn add_units(sums: &mut BTreeMap<Key, u64>, locks: &[Lock], limit: u64) -> Result<(), OutOfMemory>
-    requires apart { IsDistinct same_key (keys_locked locks.now) }
+    requires apart { IsDistinct same_key (lock_keys locks.now) }
     requires fits { (key : KeyValue) → sum_at sums.old key + limit < 2 ^ 64 }
     ensures { OnOk result ((key : KeyValue) →
         sum_at sums.new key ≡ sum_at sums.old key + (if locks_write locks.now key then limit else 0)) }

@@ -1,8 +1,9 @@
 ghost use Rattle.std.specs.Prelude.{◌≡◌, ◌<◌, ◌^◌, All, IfOk, OnOk, length};
 ghost use Rattle.std.specs.List.{IsDistinct};
 ghost use Rattle.sol_base.specs.Keys.{same_key};
+ghost use Rattle.sol_base.specs.Locks.{lock_keys};
 ghost use Rattle.admission.specs.Admission.{walk};
-ghost use Rattle.admission.specs.Sums.{keys_locked, numbered_in, with_late};
+ghost use Rattle.admission.specs.Sums.{numbered_in, with_late};
 
 use crate::chosen::Chosen;
 use crate::refusal::{Refusal, Refused};
@@ -18,7 +19,7 @@ pub(crate) fn walk(
     causes: &mut Vec<Option<Refusal>>,
 ) -> Result<Vec<Chosen>, OutOfMemory>
     requires places { All (λ one. one.position < length causes.old.items) line.items }
-    requires apart { All (λ one. IsDistinct same_key (keys_locked one.locks)) line.items }
+    requires apart { All (λ one. IsDistinct same_key (lock_keys one.locks)) line.items }
     ensures order { IfOk result (λ order. order.items ≡ (walk limits.now line.items).order) }
     ensures causes { OnOk result (causes.new.items
         ≡ with_late (walk limits.now line.items).refused causes.old.items) }

@@ -6,7 +6,7 @@ use Rattle.sol_base.specs.declared.key.Key.{Key}
 use Rattle.sol_base.specs.declared.account.Account.{Account}
 use Rattle.sol_base.specs.declared.lock.Lock.{Lock}
 pub use Rattle.sol_base.proofs.KeyLaws.{same_key-true, same_key-self, same_key-equiv}
-use Rattle.bank_law.specs.Job.{same_key, has_key, lock_keys, beside}
+use Rattle.bank_law.specs.Job.{same_key, has_key, lock_keys, beside, written_keys}
 use Rattle.bank_law.specs.Machine.{meet, clash}
 
 pub same_key-sym : (a b : Key) → same_key a b ≡ same_key b a
@@ -35,15 +35,12 @@ map-same f g [] h = refl
 map-same f g (k ∷ ks) h =
     ap₂ (λ (v : Account) (vs : List Account). v ∷ vs) (h k (has_key-first k ks)) (map-same f g ks (λ key m. h key (has_key-rest key k ks m)))
 
-abbrev written_of : List Lock → List Key
-written_of locks = lock_keys (filter (λ lock. lock.write) locks)
-
 -- what is written is declared
 pub written_declared : (locks : List Lock) (key : Key) → has_key key (lock_keys (filter (λ lock. lock.write) locks)) ≡ true → has_key key (lock_keys locks) ≡ true
 written_declared [] key h = h
 written_declared (x ∷ xs) key h = by_case x.write (written_declared xs key) h
   where
-    by_case : (b : Bool) → (has_key key (written_of xs) ≡ true → has_key key (lock_keys xs) ≡ true)
+    by_case : (b : Bool) → (has_key key (written_keys xs) ≡ true → has_key key (lock_keys xs) ≡ true)
         → has_key key (lock_keys (cond b (x ∷ filter (λ lock. lock.write) xs) (filter (λ lock. lock.write) xs))) ≡ true → has_key key (lock_keys (x ∷ xs)) ≡ true
     by_case true rest g = elim (or_cases (same_key key x.key) _ g) [ inl t ↦ or_left (same_key key x.key) (has_key key (lock_keys xs)) t | inr r ↦ has_key-rest key x.key (lock_keys xs) (rest r) ]
     by_case false rest g = has_key-rest key x.key (lock_keys xs) (rest g)
@@ -58,11 +55,11 @@ meets_any a (b ∷ bs) key e w h =
     ]
 
 -- a lock on a key meets a list that writes it
-meets_written : (a : Lock) (other : List Lock) (key : Key) → same_key key a.key ≡ true → has_key key (written_of other) ≡ true → list_any (λ b. meet a b) other ≡ true
+meets_written : (a : Lock) (other : List Lock) (key : Key) → same_key key a.key ≡ true → has_key key (written_keys other) ≡ true → list_any (λ b. meet a b) other ≡ true
 meets_written a [] key e h = absurd (false≢true h)
 meets_written a (b ∷ bs) key e h = by_case b.write refl (meets_written a bs key e) h
   where
-    by_case : (c : Bool) → b.write ≡ c → (has_key key (written_of bs) ≡ true → list_any (λ o. meet a o) bs ≡ true)
+    by_case : (c : Bool) → b.write ≡ c → (has_key key (written_keys bs) ≡ true → list_any (λ o. meet a o) bs ≡ true)
         → has_key key (lock_keys (cond c (b ∷ filter (λ lock. lock.write) bs) (filter (λ lock. lock.write) bs))) ≡ true → list_any (λ o. meet a o) (b ∷ bs) ≡ true
     by_case true w rest g =
         elim (or_cases (same_key key b.key) _ g) [
@@ -76,7 +73,7 @@ pub clash-first : (one other : List Lock) (key : Key) → has_key key (lock_keys
 clash-first [] other key h m = absurd (false≢true h)
 clash-first (a ∷ rest) other key h m = by_case a.write refl (clash-first rest other key) h
   where
-    by_case : (c : Bool) → a.write ≡ c → (has_key key (written_of rest) ≡ true → has_key key (lock_keys other) ≡ true → clash rest other ≡ true)
+    by_case : (c : Bool) → a.write ≡ c → (has_key key (written_keys rest) ≡ true → has_key key (lock_keys other) ≡ true → clash rest other ≡ true)
         → has_key key (lock_keys (cond c (a ∷ filter (λ lock. lock.write) rest) (filter (λ lock. lock.write) rest))) ≡ true → clash (a ∷ rest) other ≡ true
     by_case true w more g =
         elim (or_cases (same_key key a.key) _ g) [

@@ -1,10 +1,11 @@
 -- A work of many positions, as plain data.
-use Rattle.std.specs.Prelude.{ℕ, Bool, List, [], ◌∷◌, map, filter, if◌then◌else◌}
+use Rattle.std.specs.Prelude.{ℕ, Bool, List, [], ◌∷◌, if◌then◌else◌}
 use Rattle.sol_base.specs.declared.key.Key.{Key}
 use Rattle.sol_base.specs.declared.account.Account.{Account}
 use Rattle.sol_base.specs.declared.lock.Lock.{Lock}
 use Rattle.sol_base.specs.Accounts.{empty_account}
 pub use Rattle.sol_base.specs.Keys.{has_key, same_key}
+pub use Rattle.sol_base.specs.Locks.{lock_keys, written_keys}
 use Rattle.tx_report.specs.declared.outcome.Outcome.{Outcome}
 
 -- what performing a position gives: its outcome, and one account for each write lock, in their order
@@ -18,16 +19,12 @@ pub record Job : Type 0 where
   pub locks : ℕ → List Lock
   pub effects : ℕ → List Account → JobEffects
 
--- the keys of locks, in their order
-abbrev pub lock_keys : List Lock → List Key
-lock_keys locks = map (λ lock. lock.key) locks
-
 -- the keys that position i declares, and those that it writes
 abbrev pub keys : Job → ℕ → List Key
 keys job i = lock_keys (job.locks i)
 
 abbrev pub write_keys : Job → ℕ → List Key
-write_keys job i = lock_keys (filter (λ lock. lock.write) (job.locks i))
+write_keys job i = written_keys (job.locks i)
 
 abbrev pub declares : Job → ℕ → Key → Bool
 declares job i key = has_key key (keys job i)

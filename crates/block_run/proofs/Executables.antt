@@ -11,7 +11,7 @@ use Rattle.sol_base.specs.Accounts.{empty_account}
 use Rattle.sol_base.proofs.KeyLaws.{same_key-true}
 use Rattle.message_codec.proofs.RoleLaws.{lock_count}
 use Rattle.account_store.specs.State.{State, IsState, at, get}
-use Rattle.bank_law.specs.Job.{Job, beside, has_key, keys, lock_keys, same_key, write_keys, writes}
+use Rattle.bank_law.specs.Job.{Job, beside, has_key, keys, lock_keys, same_key, write_keys, writes, written_keys}
 use Rattle.bank_law.specs.Lawful.{IsSettled, lent_for_writing}
 use Rattle.bank_law.specs.Serial.{performed, serial}
 use Rattle.bank_law.specs.SerialState.{serial_state}
@@ -26,10 +26,6 @@ use Rattle.tx_exec.specs.TransactionLaws.{Keeps}
 use Rattle.tx_exec.proofs.Keeping.{transaction_keeps}
 use Rattle.tx_exec.proofs.Works.{works_are_lawful}
 use Rattle.block_run.proofs.Positions.{at_position}
-
--- the keys of the write locks
-abbrev written_keys : List Lock → List Key
-written_keys ls = lock_keys (filter (λ lock. lock.write) ls)
 
 -- what stands beside a written key is what became of the value at one of its places
 record Placed (f : Key → Account) (key : Key) (ls : List Lock) (after : List Account) : Type 0 where

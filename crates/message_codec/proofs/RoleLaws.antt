@@ -84,11 +84,11 @@ keys_numbered message loaded n [] = refl
 keys_numbered message loaded n (key ∷ keys) = ap (λ (l : List Key). key ∷ l) (keys_numbered message loaded (n + 1) keys)
 
 -- the keys of the locks are all keys
-pub lock_keys : (message : Message) (loaded : Loaded) → map (λ (lock : Lock). lock.key) (locks_of message loaded) ≡ all_keys message loaded
-lock_keys message loaded = keys_numbered message loaded 0 (all_keys message loaded)
+pub keys_of_locks : (message : Message) (loaded : Loaded) → map (λ (lock : Lock). lock.key) (locks_of message loaded) ≡ all_keys message loaded
+keys_of_locks message loaded = keys_numbered message loaded 0 (all_keys message loaded)
 
 pub lock_count : (message : Message) (loaded : Loaded) → length (locks_of message loaded) ≡ length (all_keys message loaded)
-lock_count message loaded = sym (length-map (locks_of message loaded) (λ (lock : Lock). lock.key)) ∙ ap length (lock_keys message loaded)
+lock_count message loaded = sym (length-map (locks_of message loaded) (λ (lock : Lock). lock.key)) ∙ ap length (keys_of_locks message loaded)
 
 numbered : (n i : ℕ) (keys : List Key) → slice_get (enumerate_from n keys) i ≡ option_map (λ (key : Key). (n + i, key)) (slice_get keys i)
 numbered n i [] = refl

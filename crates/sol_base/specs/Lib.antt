@@ -2,6 +2,7 @@ pub mod Keys
 pub mod Accounts
 pub mod DerivedKeys
 pub mod Limits
+pub mod Locks
 pub mod Metas
 pub mod Parts
 pub use Rattle.spec_base.specs.Bytes

@@ -6,7 +6,7 @@ use Rattle.std.proofs.lemmas.List.{length-map}
 use Rattle.sol_base.specs.declared.account.Account.{Account}
 use Rattle.sol_base.specs.declared.lock.Lock.{Lock}
 use Rattle.sol_base.specs.Accounts.{AreShort, lamports_in}
-use Rattle.message_codec.proofs.RoleLaws.{lock_count, lock_keys as keys_of_locks}
+use Rattle.message_codec.proofs.RoleLaws.{lock_count, keys_of_locks}
 use Rattle.bank_law.specs.Job.{lock_keys, same_key}
 use Rattle.bank_law.specs.Lawful.{AreSettled, Fits, IsLawful, lent_for_writing}
 use Rattle.admission.specs.declared.chosen.Chosen.{Chosen}

@@ -1,8 +1,8 @@
-use Rattle.message_codec.proofs.RoleLaws.{lock_keys, lock_count, lock_each}
+use Rattle.message_codec.proofs.RoleLaws.{keys_of_locks, lock_count, lock_each}
 use Rattle.message_codec.proofs.laws.locks_stand_beside_the_keys.Goals as goal
 
 pub returns-clause-keys : goal.returns-clause-keys
-returns-clause-keys c = lock_keys
+returns-clause-keys c = keys_of_locks
 
 pub returns-clause-count : goal.returns-clause-count
 returns-clause-count c = lock_count
