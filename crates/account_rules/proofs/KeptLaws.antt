@@ -9,12 +9,12 @@ use Rattle.sol_base.specs.declared.key.Key.{Key}
 use Rattle.sol_base.specs.declared.account.Account.{Account}
 use Rattle.sol_base.specs.declared.lock.Meta.{Meta}
 use Rattle.sol_base.specs.Accounts.{AreShort, IsShort, empty_account, lamports_in}
-use Rattle.sol_base.specs.Metas.{AreInRange, SameUnlessListed, is_listed, is_listed_writable}
+use Rattle.sol_base.specs.Metas.{AreInRange, SameUnlessListed, is_listed, is_listed_writable, no_meta}
 use Rattle.account_rules.specs.AccountRules.{afters, befores, broken_by, listed_changes, listed_rules}
 use Rattle.account_rules.specs.KeptAccounts.{AreKeptBy, IsKept}
 use Rattle.account_rules.proofs.Flags.{listed_more}
 use Rattle.account_rules.proofs.Kept.{kept, none_at, none_broken}
-use Rattle.account_rules.proofs.Listings.{at_first, fault_of, faults_of, length-listings, listing_at, listings, no_meta}
+use Rattle.account_rules.proofs.Listings.{at_first, fault_of, faults_of, length-listings, listing_at, listings}
 use Rattle.account_rules.proofs.Sums.{one_sum}
 
 pub AreKeptBy-refl : (may_write : ℕ → Bool) (accounts : List Account) → AreKeptBy may_write accounts accounts

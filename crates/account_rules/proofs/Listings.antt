@@ -27,10 +27,6 @@ filter_map-filter p h f (x ∷ xs) =
       | false ↦ filter_map-filter p h f xs
     ]
 
--- what a list of metas has past its end
-abbrev pub no_meta : Meta
-no_meta = record { index = 0; signer = false; writable = false }
-
 -- the metas, each with its place
 abbrev pub listings : List Meta → List (ℕ × Meta)
 listings metas = enumerate_from 0 metas

@@ -10,12 +10,12 @@ use Rattle.sol_base.specs.declared.key.Key.{Key}
 use Rattle.sol_base.specs.declared.account.Account.{Account}
 use Rattle.sol_base.specs.declared.lock.Meta.{Meta}
 use Rattle.sol_base.specs.Accounts.{empty_account, lamports_in}
-use Rattle.sol_base.specs.Metas.{AreInRange, SameUnlessListed, first_listings, is_first_listing, is_listed}
+use Rattle.sol_base.specs.Metas.{AreInRange, SameUnlessListed, first_listings, is_first_listing, is_listed, no_meta}
 use Rattle.account_rules.specs.declared.rules.RuleFault.{RuleFault}
 use Rattle.account_rules.specs.declared.rules.RuleFault.TheVariants.{Unbalanced}
 use Rattle.account_rules.specs.AccountRules.{Change, afters, befores, first_of, listed_change, listed_changes, listed_faults, listed_rules, unbalanced}
 use Rattle.account_rules.proofs.Flags.{listed_again, listed_else, listed_here}
-use Rattle.account_rules.proofs.Listings.{length-listings, listing_at, listings, no_meta}
+use Rattle.account_rules.proofs.Listings.{length-listings, listing_at, listings}
 
 -- the lamports of the accounts at places that a test does not name
 rest : (ℕ → Bool) → List Account → ℕ

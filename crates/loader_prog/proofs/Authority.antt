@@ -9,11 +9,11 @@ use Rattle.sol_base.specs.declared.key.TheConstants.{SYSTEM_PROGRAM}
 use Rattle.sol_base.specs.declared.account.Account.{Account}
 use Rattle.sol_base.specs.declared.lock.Meta.{Meta}
 use Rattle.sol_base.specs.Accounts.{empty_account}
-use Rattle.sol_base.specs.Metas.{AreInRange}
+use Rattle.sol_base.specs.Metas.{AreInRange, no_meta}
 use Rattle.sol_base.proofs.KeyLaws.{same_key-true}
 use Rattle.loader_prog.specs.Requests.{Request, Init, Write, Finalize, SetAuthority, accounts_needed}
 use Rattle.loader_prog.specs.Buffers.{authority_in}
-use Rattle.loader_prog.specs.Loader.{account_in, data_row, finalize_row, holding, init_row, key_in, loader_row, no_meta, owned, place_in, set_authority_row, write_row}
+use Rattle.loader_prog.specs.Loader.{account_in, data_row, finalize_row, holding, init_row, key_in, loader_row, owned, place_in, set_authority_row, write_row}
 use Rattle.loader_prog.specs.Laws.{IsInitialized, IsWrittenByAuthority, OnlyTheAuthorityWrites}
 use Rattle.loader_prog.proofs.Inversion.{EndsWell, ends_well, holds, unless_ok}
 use Rattle.loader_prog.proofs.Replacing.{slice_get-set_other}

@@ -8,13 +8,13 @@ use Rattle.sol_base.specs.declared.account.Account.{Account}
 use Rattle.sol_base.specs.declared.lock.Meta.{Meta}
 use Rattle.sol_base.specs.Keys.{same_key}
 use Rattle.sol_base.specs.Accounts.{empty_account}
-use Rattle.sol_base.specs.Metas.{is_listed_signer}
+use Rattle.sol_base.specs.Metas.{is_listed_signer, no_meta}
 use Rattle.sol_base.specs.Parts.{with_bytes}
 use Rattle.account_rules.specs.Listings.{SameListing}
 use Rattle.account_rules.proofs.SameListings.{same_length, same_places, same_rules}
 use Rattle.loader_prog.specs.declared.fault.LoaderFault.TheVariants.{Custom, MissingSignature, NotEnoughAccounts}
 use Rattle.loader_prog.specs.Buffers.{authority_in, candidate_in, final_magic, is_blank, is_buffer, rest_in}
-use Rattle.loader_prog.specs.Loader.{account_in, data_row, finalize_row, head_of, holding, if_verified, init_row, key_in, loader_row, no_meta, or_rule, owned, place_in, ruled, set_authority_row, signs, unless, with_data, write_row}
+use Rattle.loader_prog.specs.Loader.{account_in, data_row, finalize_row, head_of, holding, if_verified, init_row, key_in, loader_row, or_rule, owned, place_in, ruled, set_authority_row, signs, unless, with_data, write_row}
 use Rattle.loader_prog.specs.Requests.{Finalize, Init, Request, SetAuthority, Write, accounts_needed, request_in}
 
 module _ (keys : List Key) (accounts : List Account) (some others : List Meta) (same : SameListing some others) where

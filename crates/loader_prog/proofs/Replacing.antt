@@ -10,8 +10,8 @@ use Rattle.std.proofs.lemmas.List.Folds.{list_any_at}
 use Rattle.sol_base.specs.declared.account.Account.{Account}
 use Rattle.sol_base.specs.declared.lock.Meta.{Meta}
 use Rattle.sol_base.specs.Accounts.{accounts_of, empty_account}
-use Rattle.sol_base.specs.Metas.{SameUnlessListed, is_listed}
-use Rattle.loader_prog.specs.Loader.{holding, no_meta, place_in}
+use Rattle.sol_base.specs.Metas.{SameUnlessListed, is_listed, no_meta}
+use Rattle.loader_prog.specs.Loader.{holding, place_in}
 use Rattle.loader_prog.specs.Written.{IsReplaced}
 
 -- ---- an element of a list is set

@@ -10,7 +10,7 @@ use Rattle.sol_base.specs.declared.account.Account.{Account}
 use Rattle.sol_base.specs.declared.lock.Meta.{Meta}
 use Rattle.sol_base.specs.Keys.{same_key}
 use Rattle.sol_base.specs.Accounts.{accounts_of, empty_account}
-use Rattle.sol_base.specs.Metas.{is_listed_signer}
+use Rattle.sol_base.specs.Metas.{is_listed_signer, no_meta}
 use Rattle.sol_base.specs.Parts.{with_bytes}
 use Rattle.account_rules.specs.declared.rules.RuleFault.{RuleFault}
 use Rattle.account_rules.specs.AccountRules.{listed_rules}
@@ -22,8 +22,6 @@ use Rattle.loader_prog.specs.Requests.{Request, Init, Write, Finalize, SetAuthor
 use Rattle.loader_prog.specs.Buffers.{authority_in, buffer_magic, candidate_in, final_magic, is_blank, is_buffer, is_final, is_verified, rest_in}
 
 -- ---- the accounts that an instruction lists, by their places in its list
-abbrev pub no_meta : Meta
-no_meta = record { index = 0; signer = false; writable = false }
 
 -- the place of a listed account among all of the transaction
 abbrev pub place_in : List Meta → ℕ → ℕ

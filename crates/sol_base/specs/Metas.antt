@@ -4,6 +4,10 @@ use Rattle.std.specs.List.{list_any, enumerate_from}
 use Rattle.sol_base.specs.declared.account.Account.{Account}
 use Rattle.sol_base.specs.declared.lock.Meta.{Meta}
 
+-- what stands where no meta does
+abbrev pub no_meta : Meta
+no_meta = record { index = 0; signer = false; writable = false }
+
 abbrev pub is_listed : List Meta → ℕ → Bool
 is_listed metas place = list_any (λ meta. meta.index == place) metas
 

@@ -11,7 +11,7 @@ use Rattle.sol_base.specs.declared.account.Account.{Account}
 use Rattle.sol_base.specs.declared.lock.Meta.{Meta}
 use Rattle.sol_base.specs.Keys.{same_key}
 use Rattle.sol_base.specs.Accounts.{empty_account, max_data_len, SameUnlessTouched}
-use Rattle.sol_base.specs.Metas.{AreInRange, SameUnlessListed, is_listed, is_listed_writable}
+use Rattle.sol_base.specs.Metas.{AreInRange, SameUnlessListed, is_listed, is_listed_writable, no_meta}
 use Rattle.account_rules.specs.declared.rules.RuleFault.{RuleFault}
 use Rattle.account_rules.specs.AccountRules.{listed_rules}
 use Rattle.account_rules.specs.KeptAccounts.{AreKeptBy}
@@ -23,7 +23,7 @@ use Rattle.system_prog.specs.declared.authority.Authority.TheVariants.{Itself}
 use Rattle.system_prog.specs.declared.instruction.Instruction.{Instruction}
 use Rattle.system_prog.specs.declared.instruction.Instruction.TheVariants.{CreateAccount, Assign, Transfer, CreateAccountWithSeed, Allocate, AllocateWithSeed, AssignWithSeed, TransferWithSeed}
 use Rattle.system_prog.specs.Instructions.{instruction_in}
-use Rattle.system_prog.specs.SystemProgram.{Listed, account_in, allocate, allocate_with_seed, as_rule, assign, assign_with_seed, by_base, counted_row, create, create_with_seed, derived, has_data, is_taken, key_in, least_accounts, moved, no_meta, pay, place_in, row, rules_kept, signs_in, system_key, system_row, transfer, transfer_with_seed, with_account}
+use Rattle.system_prog.specs.SystemProgram.{Listed, account_in, allocate, allocate_with_seed, as_rule, assign, assign_with_seed, by_base, counted_row, create, create_with_seed, derived, has_data, is_taken, key_in, least_accounts, moved, pay, place_in, row, rules_kept, signs_in, system_key, system_row, transfer, transfer_with_seed, with_account}
 use Rattle.system_prog.specs.Written.{flags_of, written}
 
 abbrev Answer : Type 0

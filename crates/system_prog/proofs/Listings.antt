@@ -9,7 +9,7 @@ use Rattle.sol_base.specs.declared.lock.Meta.{Meta}
 use Rattle.sol_base.specs.Keys.{same_key}
 use Rattle.sol_base.specs.Accounts.{max_data_len}
 use Rattle.sol_base.specs.DerivedKeys.{seed_key_of}
-use Rattle.sol_base.specs.Metas.{is_listed_signer}
+use Rattle.sol_base.specs.Metas.{is_listed_signer, no_meta}
 use Rattle.account_rules.specs.Listings.{SameListing}
 use Rattle.account_rules.proofs.SameListings.{same_length, same_places, same_rules}
 use Rattle.system_prog.specs.declared.fault.SystemFault.TheVariants.{Custom, InvalidArgument, MissingSignature, NotEnoughAccounts}
@@ -18,7 +18,7 @@ use Rattle.system_prog.specs.declared.authority.Authority.TheVariants.{Itself, B
 use Rattle.system_prog.specs.declared.instruction.Instruction.{Instruction}
 use Rattle.system_prog.specs.declared.instruction.Instruction.TheVariants.{CreateAccount, Assign, Transfer, CreateAccountWithSeed, Allocate, AllocateWithSeed, AssignWithSeed, TransferWithSeed}
 use Rattle.system_prog.specs.Instructions.{instruction_in}
-use Rattle.system_prog.specs.SystemProgram.{Listed, account_at, allocate, allocate_with_seed, as_rule, assign, assign_with_seed, by_base, counted_row, create, create_with_seed, derived, has_data, is_signed_by, is_taken, key_at, key_in, least_accounts, no_meta, ok_derived, pay, place_in, row, rules_kept, signs, signs_in, system_key, system_row, transfer, transfer_with_seed}
+use Rattle.system_prog.specs.SystemProgram.{Listed, account_at, allocate, allocate_with_seed, as_rule, assign, assign_with_seed, by_base, counted_row, create, create_with_seed, derived, has_data, is_signed_by, is_taken, key_at, key_in, least_accounts, ok_derived, pay, place_in, row, rules_kept, signs, signs_in, system_key, system_row, transfer, transfer_with_seed}
 
 -- ---- tests over metas
 both : (s t : Bool) → (s ≡ true → t ≡ true) → (t ≡ true → s ≡ true) → s ≡ t

@@ -11,7 +11,7 @@ use Rattle.sol_base.specs.declared.derived.SeedFault.{SeedFault}
 use Rattle.sol_base.specs.declared.derived.SeedFault.TheVariants.{TooLong, IllegalOwner}
 use Rattle.sol_base.specs.Keys.{same_key}
 use Rattle.sol_base.specs.Accounts.{accounts_of, empty_account, max_data_len}
-use Rattle.sol_base.specs.Metas.{is_listed_signer}
+use Rattle.sol_base.specs.Metas.{is_listed_signer, no_meta}
 use Rattle.sol_base.specs.DerivedKeys.{seed_key_of}
 use Rattle.account_rules.specs.declared.rules.RuleFault.{RuleFault}
 use Rattle.account_rules.specs.AccountRules.{listed_rules}
@@ -32,9 +32,6 @@ system_key = record { 0 = replicate 32 0 }
 pub record Listed : Type 0 where
   pub keys : List Key
   pub metas : List Meta
-
-abbrev pub no_meta : Meta
-no_meta = record { index = 0; signer = false; writable = false }
 
 -- where the account in a role stands among all accounts
 abbrev pub place_in : Listed → ℕ → ℕ

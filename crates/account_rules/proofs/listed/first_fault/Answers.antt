@@ -1,8 +1,8 @@
 use Rattle.std.proofs.Common.{◌≡◌, ◌+◌, ◌<◌, ◌∙◌, sym, refl, take, get_or, length, true, false, arith}
 use Rattle.sol_base.specs.Accounts.{accounts_of}
-use Rattle.sol_base.specs.Metas.{is_listed, is_listed_writable}
+use Rattle.sol_base.specs.Metas.{is_listed, is_listed_writable, no_meta}
 use Rattle.account_rules.proofs.Flags.{flag_at, no_flag, one_flag, again_flag, listed_more}
-use Rattle.account_rules.proofs.Listings.{again, at_first, ends, goes_on, no_meta, rule_at, same_at, stops}
+use Rattle.account_rules.proofs.Listings.{again, at_first, ends, goes_on, rule_at, same_at, stops}
 use Rattle.account_rules.proofs.listed.first_fault.Goals as goal
 
 pub loop-at-init : goal.loop-at-init

@@ -1,8 +1,7 @@
 use Rattle.std.proofs.Common.{◌+◌, subst, sym, refl, take, get_or, List, Bool, arith}
-use Rattle.sol_base.specs.Metas.{is_listed_writable}
+use Rattle.sol_base.specs.Metas.{is_listed_writable, no_meta}
 use Rattle.account_rules.specs.AccountRules.{AreFlagsOf}
 use Rattle.account_rules.proofs.Flags.{no_flag, one_flag, kept_flags, writable_yes, writable_no}
-use Rattle.account_rules.proofs.Listings.{no_meta}
 use Rattle.account_rules.proofs.listed.writable_flags.Goals as goal
 use Rattle.account_rules.proofs.listed.writable_flags.Goals.{then-meta, else-meta}
 
