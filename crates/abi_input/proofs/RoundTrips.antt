@@ -11,6 +11,7 @@ use Rattle.std.proofs.lemmas.List.Concat.{flat_map-append}
 use Rattle.std.proofs.lemmas.List.FromFn.{length-enumerate_from}
 use Rattle.std.proofs.lemmas.Nat.{from_le_bytes-to_le_bytes_8}
 use Rattle.std.proofs.lemmas.Option.{slice_get-get_or, slice_get_within, get_or_from_slice_get}
+use Rattle.spec_base.specs.Bytes.{number_from}
 use Rattle.sol_base.specs.declared.key.Key.{Key}
 use Rattle.sol_base.specs.declared.account.Account.{Account}
 use Rattle.sol_base.specs.declared.lock.Meta.{Meta}
@@ -18,7 +19,7 @@ use Rattle.sol_base.specs.Keys.{IsKey}
 use Rattle.sol_base.specs.Accounts.{empty_account, max_data_len}
 use Rattle.sol_base.specs.Metas.{is_listed, is_first_listing, is_listed_signer, is_listed_writable, AreInRange, first_listings}
 use Rattle.abi_input.specs.Entries.{found_among}
-use Rattle.abi_input.specs.Region.{account_at, account_back, account_in, back, data_len_at, entry_of, entry_size, entry_start, first_entry, first_place, first_size, growth, has_outgrown, input_of, is_outgrown, is_too_long, IsRegionOf, over_entry, patched, patched_entry, unless_found, key_in, number_at, number_bytes, padding, repeated_entry, room_of, state_bytes}
+use Rattle.abi_input.specs.Region.{account_at, account_back, account_in, back, data_len_at, entry_of, entry_size, entry_start, first_entry, first_place, first_size, growth, has_outgrown, input_of, is_outgrown, is_too_long, IsRegionOf, over_entry, patched, patched_entry, unless_found, key_in, number_bytes, padding, repeated_entry, room_of, state_bytes}
 use Rattle.abi_input.specs.Widths.{AreKeys, HasWidths, HaveWidths}
 use Rattle.abi_input.proofs.Entries.{item_at, item_within, flat_more, all_items, start_zero, start_more, start_within, start_least, key_there, index_in}
 use Rattle.abi_input.proofs.Finding.{none_more, none_passes, found_all}
@@ -37,7 +38,7 @@ further all front part behind e = e ∙ sym (append_assoc front part behind)
 -- an account with its widths in the first of its entries, behind other bytes
 pub record Stands (all : List ℕ) (at : ℕ) (account : Account) : Type 0 where
   pub owner : take 32 (drop (at + 40) all) ≡ account.owner.0
-  pub lamports : number_at all (at + 72) ≡ account.lamports
+  pub lamports : number_from all (at + 72) ≡ account.lamports
   pub len : data_len_at all at ≡ length account.bytes
   pub bytes : take (length account.bytes) (drop (at + 88) all) ≡ account.bytes
 
@@ -45,7 +46,7 @@ pub record Stands (all : List ℕ) (at : ℕ) (account : Account) : Type 0 where
 regroup : (o l n b z rest : List ℕ) → ((((o ++ l) ++ n) ++ b) ++ z) ++ rest ≡ o ++ (l ++ (n ++ (b ++ (z ++ rest))))
 regroup o l n b z rest = simp append_assoc refl
 
-number_again : (all front behind : List ℕ) (n at : ℕ) → all ≡ front ++ (number_bytes n ++ behind) → length front ≡ at → n < 2 ^ 64 → number_at all at ≡ n
+number_again : (all front behind : List ℕ) (n at : ℕ) → all ≡ front ++ (number_bytes n ++ behind) → length front ≡ at → n < 2 ^ 64 → number_from all at ≡ n
 number_again all front behind n at e long fits = ap (from_le_bytes w64) (standing all front (number_bytes n) behind at 8 e long refl) ∙ from_le_bytes-to_le_bytes_8 n fits
 
 stands : (all front head behind : List ℕ) (at room : ℕ) (account : Account) → all ≡ front ++ (head ++ (state_bytes room account ++ behind)) → length front ≡ at → length head ≡ 40 → HasWidths account → Stands all at account

@@ -15,6 +15,7 @@ use Rattle.std.proofs.lemmas.List.Folds.{list_any_more}
 use Rattle.std.proofs.lemmas.List.FromFn.{get_or-enumerate_from, length-enumerate_from}
 use Rattle.std.proofs.lemmas.List.Quantifiers.{position-Some}
 use Rattle.std.proofs.lemmas.Option.{slice_get-get_or, slice_get_within, slice_get_past, get_or_from_slice_get}
+use Rattle.spec_base.specs.Bytes.{number_from}
 use Rattle.sol_base.specs.declared.key.Key.{Key}
 use Rattle.sol_base.specs.declared.account.Account.{Account}
 use Rattle.sol_base.specs.declared.lock.Meta.{Meta}
@@ -22,7 +23,7 @@ use Rattle.sol_base.specs.Accounts.{accounts_of, max_data_len, SameUnlessTouched
 use Rattle.sol_base.specs.Metas.{is_listed, is_first_listing, first_listings}
 use Rattle.abi_input.specs.declared.fault.BackFault.{BackFault}
 use Rattle.abi_input.specs.declared.fault.BackFault.TheVariants.{LengthTooLarge, OutOfMemory}
-use Rattle.abi_input.specs.Region.{account_at, account_back, account_in, back, data_len_at, entry_start, first_place, first_size, has_outgrown, is_too_long, number_at, room_of, unless_found, IsRegionOf}
+use Rattle.abi_input.specs.Region.{account_at, account_back, account_in, back, data_len_at, entry_start, first_place, first_size, has_outgrown, is_too_long, room_of, unless_found, IsRegionOf}
 use Rattle.abi_input.specs.Entries.{account_by, entry_among, found_among, AreEntries, IsEntryOf}
 use Rattle.abi_input.specs.Answers.{IsPlaceOf, RefusesBack, TakesBack}
 use Rattle.abi_input.proofs.Listed.{first_of_account, place_at_first, IsFirstOf}
@@ -33,12 +34,12 @@ made : Account → ℕ → Key → List ℕ → Account
 made account lamports owner bytes = record account { lamports = lamports; owner = owner; bytes = bytes }
 
 -- an account with what was read of its entry
-pub account_is : (region : List ℕ) (entry : ℕ) (account : Account) (lamports len : ℕ) (owner : Key) (bytes : List ℕ) → lamports ≡ number_at region (entry + 72) → owner.0 ≡ take 32 (drop (entry + 40) region) → len ≡ data_len_at region entry → bytes ≡ take len (drop (entry + 88) region)
+pub account_is : (region : List ℕ) (entry : ℕ) (account : Account) (lamports len : ℕ) (owner : Key) (bytes : List ℕ) → lamports ≡ number_from region (entry + 72) → owner.0 ≡ take 32 (drop (entry + 40) region) → len ≡ data_len_at region entry → bytes ≡ take len (drop (entry + 88) region)
     → record account { lamports = lamports; owner = owner; bytes = bytes } ≡ account_at region entry account
 unfolding made account_at
 account_is region entry account lamports len owner bytes is_lamports is_owner is_len is_bytes =
-    ap (λ n. made account n owner bytes) is_lamports ∙ ap (λ (l : List ℕ). made account (number_at region (entry + 72)) (record { 0 = l }) bytes) is_owner
-    ∙ ap (λ (l : List ℕ). made account (number_at region (entry + 72)) (record { 0 = take 32 (drop (entry + 40) region) }) l) (is_bytes ∙ ap (λ n. take n (drop (entry + 88) region)) is_len)
+    ap (λ n. made account n owner bytes) is_lamports ∙ ap (λ (l : List ℕ). made account (number_from region (entry + 72)) (record { 0 = l }) bytes) is_owner
+    ∙ ap (λ (l : List ℕ). made account (number_from region (entry + 72)) (record { 0 = take 32 (drop (entry + 40) region) }) l) (is_bytes ∙ ap (λ n. take n (drop (entry + 88) region)) is_len)
 
 -- no account has an entry at first
 pub fresh_entries : (n index : ℕ) → slice_index_or (replicate n (let none : Option ℕ = None in none)) index None ≡ None
@@ -191,7 +192,7 @@ pub pushed : (shares new : List (Arc Account Global)) (t : Arc Account Global) �
 pushed shares new t e = ap (λ (l : List (Arc Account Global)). accounts_of l) e ∙ map-append (λ (share : Arc Account Global). arc_value share) shares (t ∷ [])
 
 -- an account that stands in its entry as it is
-pub same_account : (region : List ℕ) (entry : ℕ) (account : Account) → number_at region (entry + 72) ≡ account.lamports → take 32 (drop (entry + 40) region) ≡ account.owner.0 → data_len_at region entry ≡ length account.bytes
+pub same_account : (region : List ℕ) (entry : ℕ) (account : Account) → number_from region (entry + 72) ≡ account.lamports → take 32 (drop (entry + 40) region) ≡ account.owner.0 → data_len_at region entry ≡ length account.bytes
     → take (length account.bytes) (drop (entry + 88) region) ≡ account.bytes → account_at region entry account ≡ account
 same_account region entry account is_lamports is_owner is_len is_bytes =
     sym (account_is region entry account account.lamports (length account.bytes) account.owner account.bytes (sym is_lamports) (sym is_owner) (sym is_len) (sym is_bytes))

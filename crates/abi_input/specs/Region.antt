@@ -1,7 +1,8 @@
 -- The input region of a frame, in Solana's aligned layout: what a program finds of its accounts, its instruction and its own key, and what it writes of them.
 use Rattle.std.specs.Prelude.{◌≡◌, ℕ, ◌+◌, ◌-◌, ◌%◌, ◌^◌, ◌≤◌, ◌==◌, ◌||◌, Bool, List, [], ◌∷◌, ◌++◌, length, map, take, drop, replicate, sum_by, slice_get, nat_lt, unwrap_or, Option, Some, None, Result, Ok, Err, if◌then◌else◌}
 use Rattle.std.specs.List.{enumerate_from, find, flat_map, position_or_len}
-use Rattle.std.specs.Int.{w64, to_le_bytes, from_le_bytes, from_bool}
+use Rattle.std.specs.Int.{w64, to_le_bytes, from_bool}
+use Rattle.spec_base.specs.Bytes.{number_from}
 use Rattle.sol_base.specs.declared.key.Key.{Key}
 use Rattle.sol_base.specs.declared.account.Account.{Account}
 use Rattle.sol_base.specs.declared.lock.Meta.{Meta}
@@ -81,19 +82,15 @@ entry_start start metas place = 8 + sum_by (entry_size start metas) (take place 
 abbrev pub IsRegionOf : List Account → List Meta → List ℕ → Type 0
 IsRegionOf start metas region = entry_start start metas (length metas) ≤ length region
 
--- the number at a place
-abbrev pub number_at : List ℕ → ℕ → ℕ
-number_at region place = from_le_bytes w64 (take 8 (drop place region))
-
 -- the length of an account's data, as it stands in its entry
 abbrev pub data_len_at : List ℕ → ℕ → ℕ
-data_len_at region entry = number_at region (entry + 80)
+data_len_at region entry = number_from region (entry + 80)
 
 -- an account with the owner, the lamports and the data that stand in its entry
 unfoldable pub account_at : List ℕ → ℕ → Account → Account
 account_at region entry account = record account {
   owner = record { 0 = take 32 (drop (entry + 40) region) };
-  lamports = number_at region (entry + 72);
+  lamports = number_from region (entry + 72);
   bytes = take (data_len_at region entry) (drop (entry + 88) region);
 }
 

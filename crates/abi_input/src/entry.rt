@@ -1,10 +1,11 @@
 ghost use Rattle.std.specs.Prelude.{◌≡◌, ◌+◌, ◌<◌, ◌≤◌, ◌++◌, ◌^◌, length, slice_get, take, drop, OnOk, Some};
 ghost use Rattle.std.specs.Arc.{arc_value};
+ghost use Rattle.spec_base.specs.Bytes.{number_from};
 ghost use Rattle.sol_base.specs.declared.account.Account.{Account as AccountValue};
 ghost use Rattle.sol_base.specs.Accounts.{accounts_of, IsShort};
 ghost use Rattle.sol_base.specs.Metas.{AreInRange};
 ghost use Rattle.abi_input.specs.Listing.{IsTableOf};
-ghost use Rattle.abi_input.specs.Region.{entry_size, entry_start, first_entry, first_size, number_at, padding, repeated_entry, room_of, state_bytes};
+ghost use Rattle.abi_input.specs.Region.{entry_size, entry_start, first_entry, first_size, padding, repeated_entry, room_of, state_bytes};
 
 use crate::draft::Draft;
 use crate::listing::{Listing, PLACES, is_first};
@@ -143,7 +144,7 @@ pub fn add_repeated(draft: &mut Draft, place: u8) -> Result<(), OutOfMemory>
 /// The number at a place of a region.
 pub fn number_in(region: &Parts, place: usize) -> u64
     requires { place + 8 ≤ length region.now.bytes }
-    ensures { result ≡ number_at region.now.bytes place }
+    ensures { result ≡ number_from region.now.bytes place }
 {
     let mut number = [0; 8];
     region.read(place, &mut number);

@@ -1,8 +1,8 @@
 -- What is read of a cross-program call (the structures of the C interface).
-use Rattle.std.specs.Prelude.{ℕ, zero, suc, ◌+◌, ◌*◌, ◌%◌, ◌^◌, ◌==◌, ◌||◌, Bool, true, false, nat_lt, List, [], ◌∷◌, take, drop, slice_index, Result, Ok, Err, if◌then◌else◌}
+use Rattle.std.specs.Prelude.{ℕ, ◌+◌, ◌*◌, ◌%◌, ◌^◌, ◌==◌, Bool, true, false, nat_lt, List, slice_index, Result, Ok, Err, if◌then◌else◌}
 use Rattle.std.specs.List.{range_with_len}
-use Rattle.std.specs.Int.{w64, from_le_bytes}
-use Rattle.spec_base.specs.Reading.{◌>>=◌, each, ok_if}
+use Rattle.spec_base.specs.Reading.{◌>>=◌, each}
+use Rattle.spec_base.specs.Bytes.{number_from}
 use Rattle.sol_base.specs.declared.key.Key.{Key}
 use Rattle.sol_base.specs.declared.derived.SeedsFault.{SeedsFault}
 use Rattle.sol_base.specs.DerivedKeys.{program_key_of}
@@ -25,10 +25,6 @@ or_violation (Err v) = Err AccessViolation
 -- the bytes of a range of addresses
 abbrev pub bytes_read : Ranges → ℕ → ℕ → Result (List ℕ) CallFault
 bytes_read m addr len = or_violation (read_from m addr len)
-
--- the number of 8 bytes from a place on
-abbrev pub number_from : List ℕ → ℕ → ℕ
-number_from bytes at = from_le_bytes w64 (take 8 (drop at bytes))
 
 -- The address of an item of a list, 16 bytes each. Addresses wrap, as those of a program do.
 abbrev pub item_at : ℕ → ℕ → ℕ

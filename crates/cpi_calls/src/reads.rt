@@ -1,8 +1,8 @@
 //! Reads of the structures of the C interface.
-ghost use Rattle.std.specs.Prelude.{◌≡◌, ◌+◌, ◌*◌, ◌≤◌, length, IfOk};
+ghost use Rattle.std.specs.Prelude.{◌≡◌, ◌*◌};
 ghost use Rattle.spec_base.specs.Reading.{Gives};
 ghost use Rattle.sbpf_memory.specs.Plain.{plain_memory};
-ghost use Rattle.cpi_calls.specs.Reads.{is_memory, bytes_read, number_from, item_at};
+ghost use Rattle.cpi_calls.specs.Reads.{is_memory, bytes_read, item_at};
 
 use crate::fault::CallFault;
 use sbpf_memory::Memory;
@@ -52,14 +52,4 @@ pub(crate) fn item_addr(list: u64, index: u8) -> u64
     ensures { result ≡ item_at list index }
 {
     list.wrapping_add(ITEM_LEN * u64::from(index))
-}
-
-/// The number of 8 bytes from a place on.
-pub(crate) fn number_in(bytes: &[u8], at: usize) -> u64
-    requires { at + 8 ≤ length bytes.now }
-    ensures { result ≡ number_from bytes.now at }
-{
-    let mut number = [0; 8];
-    number.copy_from_slice(&bytes[at..at + 8]);
-    u64::from_le_bytes(number)
 }

@@ -5,10 +5,11 @@ ghost use Rattle.cpi_calls.specs.Reads.{is_memory, call_in as call_of, flag as f
 ghost use Rattle.cpi_calls.specs.Calls.{Reads, header_read, lists_read, request_of};
 
 use crate::fault::CallFault;
-use crate::reads::{item_addr, number_in, read_array, read_blob};
+use crate::reads::{item_addr, read_array, read_blob};
 use crate::signers::read_signers;
 use sbpf_memory::Memory;
 use sol_base::{Blob, Items, Key};
+use spec_base::number_in;
 use std::alloc::Global;
 
 /// An account of a request, by its key, and what the callee may do with it.

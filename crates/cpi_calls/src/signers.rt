@@ -5,9 +5,10 @@ ghost use Rattle.sbpf_memory.specs.Plain.{plain_memory};
 ghost use Rattle.cpi_calls.specs.Reads.{is_memory, items_read, seed_read, seeds_read, signer_read, signers_read};
 
 use crate::fault::CallFault;
-use crate::reads::{item_addr, number_in, read_array, read_blob};
+use crate::reads::{item_addr, read_array, read_blob};
 use sbpf_memory::Memory;
 use sol_base::{Blob, Items, Key, MAX_SEED_LEN, MAX_SEEDS, program_key};
+use spec_base::number_in;
 use std::alloc::Global;
 
 const MAX_SIGNERS: u64 = 16;

@@ -1,4 +1,6 @@
-use crate::{Refusal, array_field, byte_field, bytes_field, u16_field, u32_field, u64_field};
+use crate::{
+    Refusal, array_field, byte_field, bytes_field, number_in, u16_field, u32_field, u64_field,
+};
 use std::test::Fail;
 
 #[derive(Clone, Copy, Debug, PartialEq, Eq)]
@@ -56,4 +58,10 @@ fn refuses_a_cut_field_at_its_place(rt: HostRuntime) {
         let cut = Err(Fault::Truncated { at: place });
         assert_eq!(rt; fields(&TEXT[..len]), cut, "at {len} bytes");
     }
+}
+
+#[test]
+fn reads_a_number_at_a_place(rt: HostRuntime) {
+    assert_eq!(rt; number_in(&TEXT, 7), 0x0809_0a0b_0c0d_0e0f);
+    assert_eq!(rt; number_in(&TEXT, 12), 0x1413_1211_1008_090a);
 }

@@ -1,18 +1,14 @@
 -- Lists of slices: an address and a length each, 8 bytes both (the C interface).
-use Rattle.std.specs.Prelude.{ℕ, ◌+◌, ◌*◌, ◌-◌, ◌/◌, max, Bool, List, [], ◌∷◌, ◌++◌, map, take, drop, nat_lt, Result, Ok, Err, if◌then◌else◌}
+use Rattle.std.specs.Prelude.{ℕ, ◌+◌, ◌*◌, ◌-◌, ◌/◌, max, Bool, List, [], ◌∷◌, ◌++◌, map, nat_lt, Result, Ok, Err, if◌then◌else◌}
 use Rattle.std.specs.List.{range_with_len, list_any}
-use Rattle.std.specs.Int.{w64, from_le_bytes}
 use Rattle.sha2.specs.Sha256.{sha256}
 use Rattle.spec_base.specs.Reading.{◌>>=◌, each}
+use Rattle.spec_base.specs.Bytes.{number_from}
 use Rattle.sbpf_memory.specs.Memory.{Ranges}
 use Rattle.sys_calls.specs.declared.slices.Slice.{Slice}
 use Rattle.sys_calls.specs.declared.fault.SysFault.{SysFault}
 use Rattle.sys_calls.specs.declared.fault.SysFault.TheVariants.{UnitsSpent}
 use Rattle.sys_calls.specs.Access.{bytes_read}
-
--- the number of 8 bytes from a place on
-abbrev pub number_from : List ℕ → ℕ → ℕ
-number_from bytes at = from_le_bytes w64 (take 8 (drop at bytes))
 
 -- the slice that stands at an index, 16 bytes each
 abbrev pub slice_at : List ℕ → ℕ → Slice

@@ -4,12 +4,13 @@ ghost use Rattle.std.specs.List.{range_with_len};
 ghost use Rattle.spec_base.specs.Reading.{Gives};
 ghost use Rattle.sbpf_memory.specs.Plain.{plain_memory};
 ghost use Rattle.sys_calls.specs.Access.{is_memory};
-ghost use Rattle.sys_calls.specs.Slices.{number_from, slice_at, slices_read};
+ghost use Rattle.sys_calls.specs.Slices.{slice_at, slices_read};
 
 use crate::access::read_bytes;
 use crate::fault::SysFault;
 use sbpf_memory::Memory;
 use sol_base::{Items, OutOfMemory};
+use spec_base::number_in;
 use std::alloc::Global;
 
 /// A range of addresses that a program names.
@@ -61,14 +62,4 @@ fn slice_in(bytes: &[u8], index: usize) -> Slice
         addr: number_in(bytes, at),
         len: number_in(bytes, at + 8),
     }
-}
-
-/// The number of 8 bytes from a place on.
-fn number_in(bytes: &[u8], at: usize) -> u64
-    requires { at + 8 ≤ length bytes.now }
-    ensures { result ≡ number_from bytes.now at }
-{
-    let mut number = [0; 8];
-    number.copy_from_slice(&bytes[at..at + 8]);
-    u64::from_le_bytes(number)
 }
