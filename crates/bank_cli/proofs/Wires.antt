@@ -3,7 +3,7 @@ use Rattle.std.proofs.Common.{◌≡◌, ℕ, List, [], ◌∷◌, ◌++◌, len
 use Rattle.std.specs.Prelude.{map, codes}
 use Rattle.std.specs.Int.{w16, w32, w64, to_le_bytes}
 use Rattle.std.specs.List.{flat_map, AllByRecursion}
-use Rattle.spec_base.specs.Bytes.{IsBytes}
+use Rattle.spec_base.specs.Bytes.{IsBytes, sized_bytes}
 use Rattle.spec_base.proofs.Binding.{after_bytes, before_bytes}
 use Rattle.sol_base.specs.Keys.{key_bytes}
 use Rattle.message_codec.specs.declared.message.Tx.{Tx}
@@ -13,7 +13,7 @@ use Rattle.message_codec.specs.Parsing.{parsed_by, parsed_of, IsParsed}
 use Rattle.message_codec.proofs.WireLaws.{wire_takes}
 use Rattle.message_codec.proofs.Refusals.{refused_by_bytes}
 use Rattle.snapshot_codec.specs.declared.batch.Batch.{Batch}
-use Rattle.snapshot_codec.specs.Batch.{wire_bytes, batch_bytes}
+use Rattle.snapshot_codec.specs.Batch.{batch_bytes}
 use Rattle.admission.specs.Admission.{AreParsed}
 
 is_parsed : (wire : List ℕ) → IsBytes wire → IsParsed wire (parsed_of wire)
@@ -28,15 +28,15 @@ pub are_parsed : (wires : List (List ℕ)) → AllByRecursion IsBytes wires → 
 are_parsed [] all = tt
 are_parsed (wire ∷ wires) all = (is_parsed wire all.0, are_parsed wires all.1)
 
-wires_are_bytes : (wires : List (List ℕ)) → IsBytes (flat_map wire_bytes wires) → AllByRecursion IsBytes wires
+wires_are_bytes : (wires : List (List ℕ)) → IsBytes (flat_map sized_bytes wires) → AllByRecursion IsBytes wires
 wires_are_bytes [] h = tt
 wires_are_bytes (wire ∷ wires) h =
-    let own = before_bytes (wire_bytes wire) (flat_map wire_bytes wires) h in
-    let rest = after_bytes _ (wire_bytes wire) (flat_map wire_bytes wires) h refl in
+    let own = before_bytes (sized_bytes wire) (flat_map sized_bytes wires) h in
+    let rest = after_bytes _ (sized_bytes wire) (flat_map sized_bytes wires) h refl in
     (after_bytes _ (to_le_bytes w16 (length wire)) wire own refl, wires_are_bytes wires rest)
 
 -- the wires of a batch are bytes where all of it is
 pub batch_wires_are_bytes : (bytes : List ℕ) (b : Batch) → IsBytes bytes → bytes ≡ batch_bytes b → AllByRecursion IsBytes b.wires
 batch_wires_are_bytes bytes b h spelled =
     let head = codes "SOLBATC1" ++ to_le_bytes w64 b.slot ++ key_bytes b.collector ++ to_le_bytes w32 (length b.wires) in
-    wires_are_bytes b.wires (after_bytes bytes head (flat_map wire_bytes b.wires) h spelled)
+    wires_are_bytes b.wires (after_bytes bytes head (flat_map sized_bytes b.wires) h spelled)

@@ -9,7 +9,7 @@ use Rattle.std.proofs.lemmas.Bool.Decides.{nat_tests}
 use Rattle.std.proofs.lemmas.List.{append-nil}
 use Rattle.std.proofs.lemmas.List.Elements.{All-from_recursion, recursion_from_All}
 use Rattle.std.proofs.lemmas.Str.{IsUtf8-from_is_utf8, is_utf8-from_IsUtf8}
-use Rattle.spec_base.specs.Bytes.{IsBytes}
+use Rattle.spec_base.specs.Bytes.{IsBytes, sized_bytes}
 use Rattle.spec_base.specs.Reading.{Gives}
 use Rattle.spec_base.proofs.Binding.{bind_ok, ok_parts, whole_ok, onward, follows}
 use Rattle.spec_base.proofs.Formats.{Reads, by_taking, field_reads, u16_reads, u32_reads, u64_reads, read_if_reads, many_reads}
@@ -22,7 +22,7 @@ use Rattle.block_record.specs.declared.fault.RecordFault.{RecordFault}
 use Rattle.block_record.specs.declared.fault.RecordFault.TheVariants.{Truncated, BadField, Trailing}
 use Rattle.block_record.specs.declared.block.Entry.{Entry}
 use Rattle.block_record.specs.declared.block.Block.{Block}
-use Rattle.block_record.specs.Record.{sized_bytes, bytes_of_lines, entry_bytes, entries_bytes, block_bytes, bytes_of_record, AreCountable, IsCounted, HasTexts, HasWidths, IsRecord}
+use Rattle.block_record.specs.Record.{bytes_of_lines, entry_bytes, entries_bytes, block_bytes, bytes_of_record, AreCountable, IsCounted, HasTexts, HasWidths, IsRecord}
 use Rattle.block_record.specs.RecordReading.{Read, is_record_memory, magic_at, wire_len_at, wire_at, text_at, line_at, lines_at, entry_at, entry_count_at, entries_at, block_at, record_of}
 use Rattle.block_record.specs.Laws.{RoundTrip}
 

@@ -3,16 +3,13 @@ use Rattle.std.specs.Prelude.{◌≡◌, ℕ, ◌≤◌, ◌<◌, ◌^◌, List,
 use Rattle.std.specs.Int.{w16, w32, w64, to_le_bytes}
 use Rattle.std.specs.List.{flat_map}
 use Rattle.sha2.specs.Sha256.{sha256}
+use Rattle.spec_base.specs.Bytes.{sized_bytes}
 use Rattle.sol_base.specs.Keys.{IsKey, IsHash, key_bytes, hash_bytes}
 use Rattle.sol_base.specs.declared.key.Hash32.{Hash32}
 use Rattle.message_codec.specs.Wire.{IsCountable}
 use Rattle.tx_report.specs.Statuses.{IsStatus, status_bytes_of}
 use Rattle.block_record.specs.declared.block.Entry.{Entry}
 use Rattle.block_record.specs.declared.block.Block.{Block}
-
--- a transaction or a line: its length, and its bytes
-abbrev pub sized_bytes : List ℕ → List ℕ
-sized_bytes bytes = to_le_bytes w16 (length bytes) ++ bytes
 
 -- the number of lines, and the lines
 abbrev pub bytes_of_lines : List (List ℕ) → List ℕ

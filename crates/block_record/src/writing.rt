@@ -1,8 +1,9 @@
 ghost use Rattle.std.specs.Prelude.{◌≡◌, ◌≤◌, length, All, OnOk, IfOk};
 ghost use Rattle.std.specs.List.{flat_map};
+ghost use Rattle.spec_base.specs.Bytes.{sized_bytes};
 ghost use Rattle.message_codec.specs.Wire.{IsCountable};
 ghost use Rattle.snapshot_codec.specs.Output.{Adds};
-ghost use Rattle.block_record.specs.Record.{AreCountable, IsCounted, sized_bytes, bytes_of_lines, entry_bytes, entries_bytes, block_bytes, hash_of_block, bytes_of_record};
+ghost use Rattle.block_record.specs.Record.{AreCountable, IsCounted, bytes_of_lines, entry_bytes, entries_bytes, block_bytes, hash_of_block, bytes_of_record};
 
 use crate::block::{Block, Entry};
 use crate::entries::ENTRY_LEN;

@@ -7,7 +7,7 @@ use Rattle.std.specs.Cmp.Lexicographic.{bytes_decides}
 use Rattle.std.proofs.lemmas.Bool.Decides.{nat_tests}
 use Rattle.std.proofs.lemmas.List.{append-nil}
 use Rattle.std.proofs.lemmas.List.Elements.{All-from_recursion, recursion_from_All}
-use Rattle.spec_base.specs.Bytes.{IsBytes}
+use Rattle.spec_base.specs.Bytes.{IsBytes, sized_bytes}
 use Rattle.spec_base.specs.Reading.{Gives, field_at, many}
 use Rattle.spec_base.proofs.Binding.{bind_ok, ok_parts, whole_ok, onward, follows}
 use Rattle.spec_base.proofs.Formats.{Reads, by_taking, field_reads, u16_reads, u32_reads, u64_reads, read_if_reads, many_reads}
@@ -16,7 +16,7 @@ use Rattle.sol_base.proofs.KeyLaws.{key_reads}
 use Rattle.snapshot_codec.specs.declared.fault.BatchFault.{BatchFault}
 use Rattle.snapshot_codec.specs.declared.fault.BatchFault.TheVariants.{Magic, Truncated, TooMany, Trailing, SlotNotLater}
 use Rattle.snapshot_codec.specs.declared.batch.Batch.{Batch}
-use Rattle.snapshot_codec.specs.Batch.{wire_bytes, batch_bytes, IsShortWire, IsBatch}
+use Rattle.snapshot_codec.specs.Batch.{batch_bytes, IsShortWire, IsBatch}
 use Rattle.snapshot_codec.specs.BatchReading.{Read, is_batch_memory, magic_at, slot_at, count_at, wire_at, batch_at, batch_of}
 use Rattle.snapshot_codec.specs.Laws.{BatchRoundTrip}
 use Rattle.snapshot_codec.proofs.Sized.{sized_reads, sized_field_reads, IsCount, count_fits, count_le}
@@ -33,7 +33,7 @@ count_reads : (total : ℕ) → Reads (count_at total) (to_le_bytes w32) (IsCoun
 unfolding count_at
 count_reads total = read_if_reads (λ _. TooMany) (λ n. nat_le n 16384) total (u32_reads Truncated total)
 
-wire_reads : (total : ℕ) → Reads (wire_at total) wire_bytes (λ wire. (length wire < 2 ^ 16) × Unit {0})
+wire_reads : (total : ℕ) → Reads (wire_at total) sized_bytes (λ wire. (length wire < 2 ^ 16) × Unit {0})
 unfolding wire_at
 wire_reads total = sized_reads length (u16_reads Truncated total) (sized_field_reads Truncated total)
 
@@ -46,11 +46,11 @@ record BatchFits (before : ℕ) (b : Batch) : Type 0 where
 batch_again : (before total : ℕ) (b : Batch) (rest : List ℕ) → BatchFits before b → batch_at before total (batch_bytes b ++ rest) ≡ Ok (b, rest)
 unfolding batch_at
 batch_again before total b rest fits =
-    let wires = flat_map wire_bytes b.wires ++ rest in
+    let wires = flat_map sized_bytes b.wires ++ rest in
     let counted = to_le_bytes w32 (length b.wires) ++ wires in
     let collected = key_bytes b.collector ++ counted in
     let front : batch_bytes b ++ rest ≡ codes "SOLBATC1" ++ (to_le_bytes w64 b.slot ++ collected) =
-    append_assoc (codes "SOLBATC1" ++ to_le_bytes w64 b.slot ++ key_bytes b.collector ++ to_le_bytes w32 (length b.wires)) (flat_map wire_bytes b.wires) rest
+    append_assoc (codes "SOLBATC1" ++ to_le_bytes w64 b.slot ++ key_bytes b.collector ++ to_le_bytes w32 (length b.wires)) (flat_map sized_bytes b.wires) rest
     ∙ append_assoc (codes "SOLBATC1" ++ to_le_bytes w64 b.slot ++ key_bytes b.collector) (to_le_bytes w32 (length b.wires)) wires
     ∙ append_assoc (codes "SOLBATC1" ++ to_le_bytes w64 b.slot) (key_bytes b.collector) counted
     ∙ append_assoc (codes "SOLBATC1") (to_le_bytes w64 b.slot) collected in
@@ -78,7 +78,7 @@ batch_takes before total bytes b rest are h =
     let to_slot = follows (codes "SOLBATC1") (to_le_bytes w64 slot) r2 named e2 in
     let to_collector = follows head (key_bytes collector) r3 to_slot e3 in
     let to_count = follows (head ++ key_bytes collector) (to_le_bytes w32 (length wires)) r4 to_collector counted in
-    let all = follows (head ++ key_bytes collector ++ to_le_bytes w32 (length wires)) (flat_map wire_bytes wires) rest to_count (onward (flat_map wire_bytes wires) e5 p.1) in
+    let all = follows (head ++ key_bytes collector ++ to_le_bytes w32 (length wires)) (flat_map sized_bytes wires) rest to_count (onward (flat_map sized_bytes wires) e5 p.1) in
     subst (λ (v : Batch). BatchFits before v × (bytes ≡ batch_bytes v ++ rest)) p.0
     (record { slot = f2; collector = f3; few = subst (IsCount 16384) (sym f5.0) f4; wires = f5.1 }, all))))))
 

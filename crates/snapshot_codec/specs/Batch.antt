@@ -1,18 +1,16 @@
 -- The batch of a block as bytes (the project's own format).
 use Rattle.std.specs.Prelude.{◌≡◌, ℕ, ◌≤◌, ◌<◌, ◌^◌, List, ◌++◌, length, All, codes}
-use Rattle.std.specs.Int.{w16, w32, w64, to_le_bytes}
+use Rattle.std.specs.Int.{w32, w64, to_le_bytes}
 use Rattle.std.specs.List.{flat_map}
+use Rattle.spec_base.specs.Bytes.{sized_bytes}
 use Rattle.sol_base.specs.Keys.{IsKey, key_bytes}
 use Rattle.snapshot_codec.specs.declared.batch.Batch.{Batch}
 
--- a transaction: its length, and its bytes
-abbrev pub wire_bytes : List ℕ → List ℕ
-wire_bytes wire = to_le_bytes w16 (length wire) ++ wire
-
+-- each transaction follows its length
 abbrev pub batch_bytes : Batch → List ℕ
 batch_bytes batch =
     codes "SOLBATC1" ++ to_le_bytes w64 batch.slot ++ key_bytes batch.collector ++ to_le_bytes w32 (length batch.wires)
-    ++ flat_map wire_bytes batch.wires
+    ++ flat_map sized_bytes batch.wires
 
 -- what a length of a transaction can count
 abbrev pub IsShortWire : List ℕ → Type 0

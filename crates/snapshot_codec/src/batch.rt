@@ -1,8 +1,9 @@
 ghost use Rattle.std.specs.Prelude.{◌≡◌, ◌++◌, ◌≤◌, Ok, length, All, OnOk, IfOk};
 ghost use Rattle.std.specs.List.{flat_map};
 ghost use Rattle.spec_base.specs.Reading.{Gives, many};
+ghost use Rattle.spec_base.specs.Bytes.{sized_bytes};
 ghost use Rattle.snapshot_codec.specs.declared.batch.Batch.{Batch as BatchValue};
-ghost use Rattle.snapshot_codec.specs.Batch.{IsBatch, IsShortWire, wire_bytes, batch_bytes as bytes_of};
+ghost use Rattle.snapshot_codec.specs.Batch.{IsBatch, IsShortWire, batch_bytes as bytes_of};
 ghost use Rattle.snapshot_codec.specs.BatchReading.{is_batch_memory, magic_at, slot_at, count_at, wire_at, batch_at, batch_of};
 
 use crate::fault::BatchFault;
@@ -148,7 +149,7 @@ pub fn read_batch(alloc: Global, bytes: &[u8], before: u64) -> Result<Batch, Bat
 
 fn write_wire(out: &mut Blob, wire: &Blob) -> Result<(), OutOfMemory>
     requires { IsShortWire wire.now }
-    ensures { OnOk result (out.new ≡ out.old ++ wire_bytes wire.now) }
+    ensures { OnOk result (out.new ≡ out.old ++ sized_bytes wire.now) }
 {
     out.append(&(wire.len() as u16).to_le_bytes())?;
     out.append(wire.as_slice())
@@ -156,7 +157,7 @@ fn write_wire(out: &mut Blob, wire: &Blob) -> Result<(), OutOfMemory>
 
 fn write_wires(out: &mut Blob, wires: &[Blob]) -> Result<(), OutOfMemory>
     requires { All IsShortWire wires.now }
-    ensures { OnOk result (out.new ≡ out.old ++ flat_map wire_bytes wires.now) }
+    ensures { OnOk result (out.new ≡ out.old ++ flat_map sized_bytes wires.now) }
 {
     for wire in wires {
         write_wire(out, wire)?;
