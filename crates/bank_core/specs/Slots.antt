@@ -2,14 +2,10 @@
 use Rattle.std.specs.Prelude.{◌≡◌, ℕ, ◌<◌, ◌==◌, Bool, true, not, ◌&&◌, if◌then◌else◌, List, [], ◌∷◌, map, filter, slice_index_or, All, Option, Some, None, IsSome, option_map, sum_by}
 use Rattle.std.specs.List.{list_any, IsDistinct}
 use Rattle.std.specs.Arc.{arc_value}
-use Rattle.std.specs.declared.sync.Arc.{Arc}
-use Rattle.std.specs.declared.alloc.Global.{Global}
 use Rattle.sol_base.specs.Accounts.{empty_account}
 use Rattle.sol_base.specs.declared.account.Account.{Account}
+pub use Rattle.account_store.specs.Shared.{Shared}
 use Rattle.lock_table.specs.declared.locks.NumberedLock.{NumberedLock}
-
-abbrev pub Shared : Type 0
-Shared = Arc Account Global
 
 -- the account behind a share
 abbrev pub value_of : Shared → Account
