@@ -10,7 +10,7 @@ use Rattle.sol_base.specs.declared.lock.Lock.{Lock}
 use Rattle.sol_base.specs.Accounts.{empty_account}
 use Rattle.sol_base.proofs.KeyLaws.{same_key-true}
 use Rattle.message_codec.proofs.RoleLaws.{lock_count}
-use Rattle.account_store.specs.State.{State, IsState, at, get}
+use Rattle.account_store.specs.State.{State, IsState, at, get, settled}
 use Rattle.bank_law.specs.Job.{Job, beside, has_key, keys, lock_keys, same_key, write_keys, writes, written_keys}
 use Rattle.bank_law.specs.Lawful.{IsSettled, lent_for_writing}
 use Rattle.bank_law.specs.Serial.{performed, serial}
@@ -21,7 +21,7 @@ use Rattle.admission.specs.Chosen.{IsChosen}
 use Rattle.tx_exec.specs.declared.told.Told.{Told}
 use Rattle.tx_exec.specs.Executing.{locks}
 use Rattle.tx_exec.specs.Told.{block_of, effects_at, job_of, locks_at}
-use Rattle.tx_exec.specs.Transaction.{settled, transaction, written}
+use Rattle.tx_exec.specs.Transaction.{transaction, written}
 use Rattle.tx_exec.specs.TransactionLaws.{Keeps}
 use Rattle.tx_exec.proofs.Keeping.{transaction_keeps}
 use Rattle.tx_exec.proofs.Works.{works_are_lawful}

@@ -12,6 +12,7 @@ use Rattle.sol_base.specs.declared.lock.Lock.{Lock}
 use Rattle.sol_base.specs.declared.lock.Meta.{Meta}
 use Rattle.sol_base.specs.Accounts.{AreShort, IsShort, lamports_in}
 use Rattle.sol_base.specs.Metas.{AreInRange, is_listed_writable}
+use Rattle.account_store.specs.State.{settled}
 use Rattle.account_rules.specs.KeptAccounts.{AreKeptBy}
 use Rattle.account_rules.proofs.KeptLaws.{AreKeptBy-refl, AreKeptBy-trans, AreKeptBy-weaker}
 use Rattle.message_codec.specs.declared.message.Instruction.{Instruction}
@@ -33,7 +34,7 @@ use Rattle.invoke_engine.proofs.Fuel.{either}
 use Rattle.invoke_engine.proofs.Kept.{frame_keeps}
 use Rattle.tx_exec.specs.Payer.{charged, drop_cause, dropped, is_wallet, less, total_fee}
 use Rattle.tx_exec.specs.Executing.{Executed, Failure, InBlock, call_of, executed, fixed_for, following, locks, meta_of, performed, writes}
-use Rattle.tx_exec.specs.Transaction.{Transacted, by_drop, came_to, data_in, finished, finishing, no_fee, rent_broken, settled, transaction}
+use Rattle.tx_exec.specs.Transaction.{Transacted, by_drop, came_to, data_in, finished, finishing, no_fee, rent_broken, transaction}
 use Rattle.tx_exec.specs.TransactionLaws.{Keeps, WritesFit}
 use Rattle.tx_exec.proofs.Settled.{all_settled, all_settled_lamports, all_settled_short}
 use Rattle.tx_exec.proofs.Lent.{lent_count, lent_lamports, lent_short}

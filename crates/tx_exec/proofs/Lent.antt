@@ -9,10 +9,10 @@ use Rattle.std.proofs.lemmas.List.Elements.{All-cons, All-nil, All-head, All-tai
 use Rattle.sol_base.specs.declared.account.Account.{Account}
 use Rattle.sol_base.specs.declared.lock.Lock.{Lock}
 use Rattle.sol_base.specs.Accounts.{AreShort, IsShort, accounts_of, lamports_in}
+use Rattle.account_store.specs.State.{settled}
 use Rattle.bank_law.specs.Lawful.{lent_for_writing}
 use Rattle.bank_law.proofs.States.{lamports_in-cons}
 use Rattle.invoke_engine.proofs.Fuel.{either}
-use Rattle.tx_exec.specs.Transaction.{settled}
 
 pub lent_short : (ls : List Lock) (vs : List Account) → AreShort vs → AreShort (lent_for_writing ls vs)
 lent_short [] vs h = All-nil IsShort

@@ -4,10 +4,10 @@ use Rattle.std.proofs.lemmas.List.Elements.{All-cons, All-nil, All-head, All-tai
 use Rattle.std.proofs.lemmas.Bool.Decides.{nat_tests}
 use Rattle.sol_base.specs.declared.account.Account.{Account}
 use Rattle.sol_base.specs.Accounts.{AreShort, IsShort, empty_account, lamports_in}
+use Rattle.account_store.specs.State.{settled}
 use Rattle.bank_law.specs.Lawful.{AreSettled, IsSettled}
 use Rattle.bank_law.proofs.States.{lamports_in-cons}
 use Rattle.invoke_engine.proofs.Fuel.{either}
-use Rattle.tx_exec.specs.Transaction.{settled}
 
 settled_lamports : (account : Account) → (settled account).lamports ≡ account.lamports
 settled_lamports account = by_test (account.lamports == 0) refl

@@ -1,9 +1,9 @@
 -- One transaction (Solana): a function of what is fixed for the block, and of the values of its keys.
-use Rattle.std.specs.Prelude.{ℕ, ◌-◌, ◌==◌, ◌&&◌, Bool, List, [], length, map, sum_by, nat_lt, position, Option, Some, None, Result, Ok, Err, if◌then◌else◌}
+use Rattle.std.specs.Prelude.{ℕ, ◌-◌, ◌&&◌, Bool, List, [], length, map, sum_by, nat_lt, position, Option, Some, None, Result, Ok, Err, if◌then◌else◌}
 use Rattle.std.specs.List.{zip}
 use Rattle.sol_base.specs.declared.account.Account.{Account}
 use Rattle.sol_base.specs.declared.lock.Lock.{Lock}
-use Rattle.sol_base.specs.Accounts.{empty_account}
+use Rattle.account_store.specs.State.{settled}
 use Rattle.fee_rules.specs.Charge.{Charge}
 use Rattle.tx_report.specs.declared.cause.Cause.TheVariants.{RentState, LoadedDataTooLarge}
 use Rattle.tx_report.specs.declared.cause.DropCause.{DropCause}
@@ -77,10 +77,6 @@ by_drop s t values None = paid s t (charged values (total_fee t))
 -- the status, units, fees paid and lines of a transaction, and the new values of its keys
 unfoldable pub transaction : InBlock → Chosen → List Account → Transacted
 transaction block t values = by_drop (fixed_for block t) t values (dropped values (total_fee t))
-
--- an account without lamports is absent
-abbrev pub settled : Account → Account
-settled account = if account.lamports == 0 then empty_account else account
 
 -- what is written: the new values of the writable keys
 abbrev pub written : Chosen → List Account → List Account

@@ -2,8 +2,9 @@
 ghost use Rattle.std.specs.Prelude.{◌≡◌, ◌<◌, ◌∷◌, ◌++◌, [], length, map, IfOk, IfSome, OnOk};
 ghost use Rattle.std.specs.Arc.{arc_value};
 ghost use Rattle.sol_base.specs.Accounts.{AreShort, IsShort, accounts_of};
+ghost use Rattle.account_store.specs.State.{settled};
 ghost use Rattle.bank_law.specs.Lawful.{lent_for_writing};
-ghost use Rattle.tx_exec.specs.Transaction.{data_in, is_broken, rent_broken, settled};
+ghost use Rattle.tx_exec.specs.Transaction.{data_in, is_broken, rent_broken};
 
 use crate::payer::may_become;
 use sol_base::{Account, Items, Lock, OutOfMemory};
