@@ -4,17 +4,10 @@ use Rattle.std.proofs.lemmas.Bool.Decides.{nat_tests}
 use Rattle.std.proofs.lemmas.List.{get_or-replicate, length-replicate, length-set}
 use Rattle.std.proofs.lemmas.Option.{get_or_from_slice_get, slice_get-get_or, slice_get_within}
 use Rattle.std.proofs.lemmas.List.Folds.{list_any_more}
+use Rattle.std.proofs.Math.Bool.{or-false, or-true}
 use Rattle.sol_base.specs.declared.lock.Meta.{Meta}
 use Rattle.sol_base.specs.Metas.{is_listed, is_listed_writable}
 use Rattle.account_rules.specs.AccountRules.{AreFlagsOf}
-
-or_false : (t : Bool) → (t || false) ≡ t
-or_false true = refl
-or_false false = refl
-
-or_true : (t : Bool) → (t || true) ≡ true
-or_true true = refl
-or_true false = refl
 
 -- a flag that is read
 pub flag_at : (test : ℕ → Bool) (flags : List Bool) (place : ℕ) (t : Bool) → AreFlagsOf test flags → place < 256 → get_or flags place false ≡ t → test place ≡ t
@@ -34,10 +27,10 @@ one_flag old new flags at within was more place below = by_test (nat_eq at place
     by_test : (t : Bool) → nat_eq at place ≡ t → slice_get (set flags at true) place ≡ Some (new place)
     by_test true here =
         let same : at ≡ place = grind (arith, nat_tests) in
-        slice_get-get_or (set flags at true) place false (long below) ∙ ap Some (ap (λ p. get_or (set flags at true) p false) (sym same) ∙ get_or-set_same flags at true false (slice_get_within flags at (old at) (was at within)) ∙ sym (more place ∙ ap (λ t. old place || t) here ∙ or_true (old place)))
+        slice_get-get_or (set flags at true) place false (long below) ∙ ap Some (ap (λ p. get_or (set flags at true) p false) (sym same) ∙ get_or-set_same flags at true false (slice_get_within flags at (old at) (was at within)) ∙ sym (more place ∙ ap (λ t. old place || t) here ∙ or-true (old place)))
     by_test false other =
         let differ : place ≢ at = grind (arith, nat_tests) in
-        slice_get-get_or (set flags at true) place false (long below) ∙ ap Some (get_or-set_other flags at place true false differ ∙ get_or_from_slice_get flags place (old place) false (was place below) ∙ sym (more place ∙ ap (λ t. old place || t) other ∙ or_false (old place)))
+        slice_get-get_or (set flags at true) place false (long below) ∙ ap Some (get_or-set_other flags at place true false differ ∙ get_or_from_slice_get flags place (old place) false (was place below) ∙ sym (more place ∙ ap (λ t. old place || t) other ∙ or-false (old place)))
 
 -- a flag that is set already
 pub again_flag : (old new : ℕ → Bool) (flags : List Bool) (at : ℕ) → AreFlagsOf old flags → old at ≡ true → ((place : ℕ) → new place ≡ (old place || nat_eq at place)) → AreFlagsOf new flags
@@ -46,8 +39,8 @@ again_flag old new flags at was already more place below = was place below ∙ a
     by_test : (t : Bool) → nat_eq at place ≡ t → (old place || t) ≡ old place
     by_test true here =
         let same : at ≡ place = grind (arith, nat_tests) in
-        or_true (old place) ∙ sym (ap old (sym same) ∙ already)
-    by_test false other = or_false (old place)
+        or-true (old place) ∙ sym (ap old (sym same) ∙ already)
+    by_test false other = or-false (old place)
 
 -- no flag more is set
 pub kept_flags : (old new : ℕ → Bool) (flags : List Bool) → AreFlagsOf old flags → ((place : ℕ) → new place ≡ old place) → AreFlagsOf new flags
@@ -63,17 +56,17 @@ listed_again metas n d place below again = listed_more metas n d place below ∙
     by_test : (t : Bool) → nat_eq (get_or metas n d).index place ≡ t → (is_listed (take n metas) place || t) ≡ is_listed (take n metas) place
     by_test true here =
         let same : (get_or metas n d).index ≡ place = grind (arith, nat_tests) in
-        or_true (is_listed (take n metas) place) ∙ sym (ap (is_listed (take n metas)) (sym same) ∙ again)
-    by_test false other = or_false (is_listed (take n metas) place)
+        or-true (is_listed (take n metas) place) ∙ sym (ap (is_listed (take n metas)) (sym same) ∙ again)
+    by_test false other = or-false (is_listed (take n metas) place)
 
 pub listed_here : (metas : List Meta) (n : ℕ) (d : Meta) → n < length metas → is_listed (take (n + 1) metas) (get_or metas n d).index ≡ true
-listed_here metas n d below = listed_more metas n d (get_or metas n d).index below ∙ ap (λ t. is_listed (take n metas) (get_or metas n d).index || t) (self (get_or metas n d).index) ∙ or_true (is_listed (take n metas) (get_or metas n d).index)
+listed_here metas n d below = listed_more metas n d (get_or metas n d).index below ∙ ap (λ t. is_listed (take n metas) (get_or metas n d).index || t) (self (get_or metas n d).index) ∙ or-true (is_listed (take n metas) (get_or metas n d).index)
   where
     self : (x : ℕ) → nat_eq x x ≡ true
     self x = grind (arith, nat_tests)
 
 pub listed_else : (metas : List Meta) (n : ℕ) (d : Meta) (place : ℕ) → n < length metas → place ≢ (get_or metas n d).index → is_listed (take (n + 1) metas) place ≡ is_listed (take n metas) place
-listed_else metas n d place below differ = listed_more metas n d place below ∙ ap (λ t. is_listed (take n metas) place || t) (other (get_or metas n d).index place differ) ∙ or_false (is_listed (take n metas) place)
+listed_else metas n d place below differ = listed_more metas n d place below ∙ ap (λ t. is_listed (take n metas) place || t) (other (get_or metas n d).index place differ) ∙ or-false (is_listed (take n metas) place)
   where
     other : (x y : ℕ) → y ≢ x → nat_eq x y ≡ false
     other x y differ = grind (arith, nat_tests)
@@ -89,7 +82,7 @@ writable_yes metas n d place below holds = writable_more metas n d place below �
     and_true false = refl
 
 pub writable_no : (metas : List Meta) (n : ℕ) (d : Meta) (place : ℕ) → n < length metas → (get_or metas n d).writable ≡ false → is_listed_writable (take (n + 1) metas) place ≡ is_listed_writable (take n metas) place
-writable_no metas n d place below holds = writable_more metas n d place below ∙ ap (λ t. is_listed_writable (take n metas) place || (nat_eq (get_or metas n d).index place && t)) holds ∙ ap (λ t. is_listed_writable (take n metas) place || t) (and_false (nat_eq (get_or metas n d).index place)) ∙ or_false (is_listed_writable (take n metas) place)
+writable_no metas n d place below holds = writable_more metas n d place below ∙ ap (λ t. is_listed_writable (take n metas) place || (nat_eq (get_or metas n d).index place && t)) holds ∙ ap (λ t. is_listed_writable (take n metas) place || t) (and_false (nat_eq (get_or metas n d).index place)) ∙ or-false (is_listed_writable (take n metas) place)
   where
     and_false : (t : Bool) → (t && false) ≡ false
     and_false true = refl

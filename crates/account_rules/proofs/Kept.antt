@@ -2,7 +2,7 @@
 use Rattle.std.proofs.Common.{zero, suc, ◌≡◌, ◌≤◌, ℕ, Bool, true, false, not, ◌&&◌, ◌||◌, List, [], ◌∷◌, ◌++◌, length, get_or, refl, sym, ap, inl, inr, nat_eq, nat_lt, Option, Some, None, Ok, arith, if◌then◌else◌, All, ◌∙◌}
 use Rattle.std.specs.List.{list_any, filter_map, cons_option}
 use Rattle.std.specs.Cmp.Lexicographic.{bytes_decides}
-use Rattle.std.proofs.lemmas.Bool.{and_cases, and_parts, or_parts}
+use Rattle.std.proofs.lemmas.Bool.{and_cases, and_parts, or_parts, not-false, false_from_ne_true, ltb-false, eqb-true}
 use Rattle.std.proofs.lemmas.Bool.Decides.{nat_tests}
 use Rattle.std.proofs.lemmas.List.Folds.{list_any_at}
 use Rattle.sol_base.specs.declared.key.Key.{Key}
@@ -25,26 +25,12 @@ not_second : (s t : Bool) → (s && t) ≡ false → s ≡ true → t ≡ false
 not_second true t none holds = none
 not_second false t none holds = absurd (cc)
 
-is_true : (t : Bool) → not t ≡ false → t ≡ true
-is_true true none = refl
-is_true false none = absurd (cc)
-
-is_false : (t : Bool) → (t ≡ true → ⊥) → t ≡ false
-is_false true never = absurd (never refl)
-is_false false never = refl
-
 is_zero : (x : ℕ) → not (nat_eq x 0) ≡ false → x ≡ 0
 is_zero x none = grind (arith, nat_tests)
 
-is_same : (x y : ℕ) → nat_eq x y ≡ true → x ≡ y
-is_same x y holds = grind (arith, nat_tests)
-
-not_below : (x y : ℕ) → nat_lt x y ≡ false → y ≤ x
-not_below x y none = grind (arith, nat_tests)
-
 -- ---- accounts
 no_byte : (list : List ℕ) → list_any (λ byte. not (nat_eq byte 0)) list ≡ false → All (λ byte. byte ≡ 0) list
-no_byte list none k d below = is_zero (get_or list k d) (is_false (not (nat_eq (get_or list k d) 0)) (λ here. let found = list_any_at (λ byte. not (nat_eq byte 0)) list k d below here in cc))
+no_byte list none k d below = is_zero (get_or list k d) (false_from_ne_true (not (nat_eq (get_or list k d) 0)) (λ here. let found = list_any_at (λ byte. not (nat_eq byte 0)) list k d below here in cc))
 
 flag_is : (s t : Bool) → (if s then t else not t) ≡ true → s ≡ t
 flag_is true t same = sym same
@@ -56,7 +42,7 @@ account_is a b same =
     let last = and_parts (nat_eq a.lamports b.lamports && same_key a.owner b.owner && same_flag a b) (same_data a b) same in
     let third = and_parts (nat_eq a.lamports b.lamports && same_key a.owner b.owner) (same_flag a b) last.0 in
     let first = and_parts (nat_eq a.lamports b.lamports) (same_key a.owner b.owner) third.0 in
-    let lamports : a.lamports ≡ b.lamports = is_same a.lamports b.lamports first.0 in
+    let lamports : a.lamports ≡ b.lamports = eqb-true a.lamports b.lamports first.0 in
     let owner : a.owner ≡ b.owner = same_key-true a.owner b.owner first.1 in
     let executable : a.executable ≡ b.executable = flag_is a.executable b.executable third.1 in
     let bytes : a.bytes ≡ b.bytes = (bytes_decides a.bytes b.bytes).0 last.1 in
@@ -72,22 +58,22 @@ kept program writable before after n none =
     let six = passed (too_large after) _ _ five.1 in
     let two' = or_parts (before.executable && not (same_account before after)) (not (same_flag before after)) two.0 in
     record {
-      readonly = λ locked. account_is before after (is_true (same_account before after) (not_second (not writable) (not (same_account before after)) one.0 (ap not locked)));
-      executable = λ holds. account_is before after (is_true (same_account before after) (not_second before.executable (not (same_account before after)) two'.0 holds));
-      flag = flag_is before.executable after.executable (is_true (same_flag before after) two'.1);
+      readonly = λ locked. account_is before after (not-false (same_account before after) (not_second (not writable) (not (same_account before after)) one.0 (ap not locked)));
+      executable = λ holds. account_is before after (not-false (same_account before after) (not_second before.executable (not (same_account before after)) two'.0 holds));
+      flag = flag_is before.executable after.executable (not-false (same_flag before after) two'.1);
       owner = elim (and_cases (not (same_key before.owner after.owner)) (not (owns program before) || has_byte after) three.0) [
-        | inl same ↦ inl (same_key-true before.owner after.owner (is_true (same_key before.owner after.owner) same))
-        | inr given ↦ let parts = or_parts (not (owns program before)) (has_byte after) given in inr (same_key-true before.owner program (is_true (owns program before) parts.0), no_byte after.bytes parts.1)
+        | inl same ↦ inl (same_key-true before.owner after.owner (not-false (same_key before.owner after.owner) same))
+        | inr given ↦ let parts = or_parts (not (owns program before)) (has_byte after) given in inr (same_key-true before.owner program (not-false (owns program before) parts.0), no_byte after.bytes parts.1)
       ];
       lamports = elim (and_cases (nat_lt after.lamports before.lamports) (not (owns program before)) four.0) [
-        | inl more ↦ inl (not_below after.lamports before.lamports more)
-        | inr owned ↦ inr (same_key-true before.owner program (is_true (owns program before) owned))
+        | inl more ↦ inl (ltb-false after.lamports before.lamports more)
+        | inr owned ↦ inr (same_key-true before.owner program (not-false (owns program before) owned))
       ];
       bytes = elim (and_cases (not (same_data before after)) (not (owns program before)) five.0) [
-        | inl same ↦ inl ((bytes_decides before.bytes after.bytes).0 (is_true (same_data before after) same))
-        | inr owned ↦ inr (same_key-true before.owner program (is_true (owns program before) owned))
+        | inl same ↦ inl ((bytes_decides before.bytes after.bytes).0 (not-false (same_data before after) same))
+        | inr owned ↦ inr (same_key-true before.owner program (not-false (owns program before) owned))
       ];
-      size = not_below max_data_len (length after.bytes) six.0;
+      size = ltb-false max_data_len (length after.bytes) six.0;
     }
 
 -- ---- lists
@@ -109,7 +95,7 @@ no_fault [] ok = refl
 no_fault (fault ∷ faults) ok = absurd (cc)
 
 balanced : (before after : List Account) → (if unbalanced before after then Unbalanced ∷ [] else []) ≡ [] → lamports_in before ≡ lamports_in after
-balanced before after none = is_same (lamports_in before) (lamports_in after) (is_true (nat_eq (lamports_in before) (lamports_in after)) (no_item (unbalanced before after) none))
+balanced before after none = eqb-true (lamports_in before) (lamports_in after) (not-false (nat_eq (lamports_in before) (lamports_in after)) (no_item (unbalanced before after) none))
   where
     no_item : (t : Bool) → (if t then Unbalanced ∷ [] else []) ≡ [] → t ≡ false
     no_item true none = absurd (cc)

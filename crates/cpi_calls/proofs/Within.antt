@@ -6,6 +6,7 @@ use Rattle.std.proofs.lemmas.Bool.Decides.{nat_tests}
 use Rattle.std.proofs.lemmas.List.{length-map}
 use Rattle.std.proofs.lemmas.List.Elements.{All-nil, All-cons}
 use Rattle.std.proofs.lemmas.List.Quantifiers.{position-Some}
+use Rattle.std.proofs.lemmas.Bool.{or_right, eqb-true, and_parts, or_cases}
 use Rattle.spec_base.specs.Reading.{◌>>=◌}
 use Rattle.sol_base.specs.declared.key.Key.{Key}
 use Rattle.sol_base.specs.declared.lock.Meta.{Meta}
@@ -54,15 +55,6 @@ in-range keys caller [] all = All-nil _
 in-range keys caller (x ∷ xs) all =
     All-cons (λ (meta : Meta). meta.index < length keys) (meta_of keys caller x) (map (meta_of keys caller) xs) (place-within keys caller x.key _ (there (place_of keys caller x.key) all.0)) (in-range keys caller xs all.1)
 
-either : (a b : Bool) → (a || b) ≡ true → (a ≡ true) ⊎ (b ≡ true)
-either true b h = inl refl
-either false b h = inr h
-
-both : (a b : Bool) → (a && b) ≡ true → (a ≡ true) × (b ≡ true)
-both true true h = (refl, refl)
-both true false h = absurd (cc)
-both false b h = absurd (cc)
-
 may-write : (signer writable sign write : Bool) → ((signer && not sign) || (writable && not write)) ≡ false → writable ≡ true → write ≡ true
 may-write signer writable sign true h asks = refl
 may-write true true true false h asks = absurd (cc)
@@ -75,20 +67,13 @@ may-sign signer writable true write h asks = refl
 may-sign true writable false write h asks = absurd (cc)
 may-sign false writable false write h asks = absurd (cc)
 
-same-place : (a b : ℕ) → (a == b) ≡ true → a ≡ b
-same-place a b h = grind (arith, nat_tests)
-
 -- what may be written may be so by the caller
 writes : (keys signers : List Key) (caller : List Meta) (place : ℕ) (asked : List KeyMeta) → Nowhere (exceeds keys signers caller) asked → is_listed_writable (map (meta_of keys caller) asked) place ≡ true → is_listed_writable caller place ≡ true
 writes keys signers caller place [] all h = absurd (cc)
-writes keys signers caller place (x ∷ xs) all h = elim (either _ _ h) [
-  | inl here ↦ let p = both _ _ here in subst (λ (n : ℕ). is_listed_writable caller n ≡ true) (same-place _ _ p.0) (may-write x.signer x.writable (may_sign signers caller x.key (meta_of keys caller x).index) (is_listed_writable caller (meta_of keys caller x).index) all.0 p.1)
+writes keys signers caller place (x ∷ xs) all h = elim (or_cases _ _ h) [
+  | inl here ↦ let p = and_parts _ _ here in subst (λ (n : ℕ). is_listed_writable caller n ≡ true) (eqb-true _ _ p.0) (may-write x.signer x.writable (may_sign signers caller x.key (meta_of keys caller x).index) (is_listed_writable caller (meta_of keys caller x).index) all.0 p.1)
   | inr later ↦ writes keys signers caller place xs all.1 later
 ]
-
-more-given : (a b : Bool) → b ≡ true → (a || b) ≡ true
-more-given true b h = refl
-more-given false b h = h
 
 here-given : (a b c : Bool) → a ≡ true → b ≡ true → ((a && b) || c) ≡ true
 here-given true true c one two = refl
@@ -102,14 +87,14 @@ signs keys signers caller place (x ∷ xs) all h =
     let index : ℕ = (meta_of keys caller x).index in
     let given_here : Bool = list_any (λ signer. same_key signer x.key) signers in
     let given_later : Bool = list_any (λ (y : KeyMeta). ((meta_of keys caller y).index == place) && list_any (λ signer. same_key signer y.key) signers) xs in
-    elim (either ((index == place) && x.signer) (is_listed_signer (map (meta_of keys caller) xs) place) h) [
-      | inl here ↦ let p = both (index == place) x.signer here in
-          elim (either given_here (is_listed_signer caller index) (may-sign x.signer x.writable (may_sign signers caller x.key index) (is_listed_writable caller index) all.0 p.1)) [
+    elim (or_cases ((index == place) && x.signer) (is_listed_signer (map (meta_of keys caller) xs) place) h) [
+      | inl here ↦ let p = and_parts (index == place) x.signer here in
+          elim (or_cases given_here (is_listed_signer caller index) (may-sign x.signer x.writable (may_sign signers caller x.key index) (is_listed_writable caller index) all.0 p.1)) [
             | inl given ↦ inl (here-given (index == place) given_here given_later p.0 given)
-            | inr own ↦ inr (subst (λ (n : ℕ). is_listed_signer caller n ≡ true) (same-place index place p.0) own)
+            | inr own ↦ inr (subst (λ (n : ℕ). is_listed_signer caller n ≡ true) (eqb-true index place p.0) own)
           ]
       | inr later ↦ elim (signs keys signers caller place xs all.1 later) [
-        | inl given ↦ inl (more-given ((index == place) && given_here) given_later given)
+        | inl given ↦ inl (or_right ((index == place) && given_here) given_later given)
         | inr own ↦ inr own
       ]
     ]

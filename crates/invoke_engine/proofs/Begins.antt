@@ -2,6 +2,7 @@
 use Rattle.std.proofs.Common.{◌≡◌, ◌≤◌, ℕ, length, Bool, true, false, List, Result, Ok, Err, refl, ap, ◌∙◌, ◌-◌, arith}
 use Rattle.std.specs.Prelude.{nat_lt, cond, not, ◌&&◌}
 use Rattle.std.proofs.lemmas.Bool.Decides.{nat_tests}
+use Rattle.std.proofs.lemmas.Bool.{cond-false}
 use Rattle.sol_base.specs.declared.key.Key.{Key}
 use Rattle.sol_base.specs.declared.account.Account.{Account}
 use Rattle.tx_report.specs.declared.status.InstructionError.{InstructionError}
@@ -20,14 +21,10 @@ use Rattle.invoke_engine.specs.Given.{AreGiven}
 use Rattle.invoke_engine.proofs.Fuel.{either}
 use Rattle.invoke_engine.proofs.Keeping.{kept_given, native_row_keeps}
 
-passed : {X : Type 0} (b : Bool) (x y : X) → b ≡ false → cond b x y ≡ y
-passed true x y h = absurd (cc)
-passed false x y h = refl
-
 pub entering_ready : (s : Fixed) (outer : List Key) (key : Key) (call : Call) (accounts : List Account) (units : ℕ) (c : Carried) (image : ReadyImage) → length call.metas ≤ 255 → is_native key ≡ false → s.programs key ≡ IsReady image → entering s outer key call accounts units c ≡ Runs (first_running s.setting s.keys key image call accounts units) c
 unfolding entering
 entering_ready s outer key call accounts units c image h k l =
-    passed (nat_lt 255 (length call.metas)) _ _ (grind (arith, nat_tests)) ∙ passed (is_native key) _ _ k ∙ ap (entered s.setting s.keys outer key call accounts units c) l
+    cond-false (nat_lt 255 (length call.metas)) _ _ (grind (arith, nat_tests)) ∙ cond-false (is_native key) _ _ k ∙ ap (entered s.setting s.keys outer key call accounts units c) l
 
 or_error_fits : (n units : ℕ) (c : Carried) (height : ℕ) (result : Result (List Account) Stopped) → ((after : List Account) → result ≡ Ok after → AreGiven n after) → (let e : Ending = record { units = units; carried = c; result = or_error height result } in EndFits n e)
 or_error_fits n units c height (Ok after) k = k after refl

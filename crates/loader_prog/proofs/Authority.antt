@@ -3,6 +3,7 @@ use Rattle.std.proofs.Common.{◌≡◌, ◌≢◌, ◌⊎◌, ◌<◌, ◌≤�
 use Rattle.std.specs.Prelude.{slice_get}
 use Rattle.std.proofs.lemmas.Bool.Decides.{nat_tests}
 use Rattle.std.proofs.lemmas.Option.{get_or_from_slice_get, same_Some, slice_get-get_or}
+use Rattle.std.proofs.lemmas.Bool.{not-false}
 use Rattle.spec_base.proofs.Binding.{bind_ok}
 use Rattle.sol_base.specs.declared.key.Key.{Key}
 use Rattle.sol_base.specs.declared.key.TheConstants.{SYSTEM_PROGRAM}
@@ -15,7 +16,7 @@ use Rattle.loader_prog.specs.Requests.{Request, Init, Write, Finalize, SetAuthor
 use Rattle.loader_prog.specs.Buffers.{authority_in}
 use Rattle.loader_prog.specs.Loader.{account_in, data_row, finalize_row, holding, init_row, key_in, loader_row, owned, place_in, set_authority_row, write_row}
 use Rattle.loader_prog.specs.Laws.{IsInitialized, IsWrittenByAuthority, OnlyTheAuthorityWrites}
-use Rattle.loader_prog.proofs.Inversion.{EndsWell, ends_well, holds, unless_ok}
+use Rattle.loader_prog.proofs.Inversion.{EndsWell, ends_well, unless_ok}
 use Rattle.loader_prog.proofs.Replacing.{slice_get-set_other}
 
 -- an account that may become a buffer
@@ -26,7 +27,7 @@ initialized accounts metas authority bytes h =
     let signed = unless_ok _ _ _ bytes owner.1 in
     let room = unless_ok _ _ _ bytes signed.1 in
     let blank = unless_ok _ _ _ bytes room.1 in
-    record { blank = holds _ blank.0; signs = holds _ signed.0 }
+    record { blank = not-false _ blank.0; signs = not-false _ signed.0 }
 
 -- a key of a role is there
 key_there : (keys : List Key) (count : ℕ) (metas : List Meta) (role : ℕ) → count ≡ length keys → AreInRange count metas → role < length metas → slice_get keys (place_in metas role) ≡ Some (key_in keys metas role)
@@ -41,12 +42,12 @@ by_authority keys accounts metas bytes same range two h =
     let buffer = unless_ok _ _ _ bytes owner.1 in
     let key = unless_ok _ _ _ bytes buffer.1 in
     let signed = unless_ok _ _ _ bytes key.1 in
-    let one : key_in keys metas 1 ≡ authority_in (account_in accounts metas 0).bytes = same_key-true _ _ (holds _ key.0) in
+    let one : key_in keys metas 1 ≡ authority_in (account_in accounts metas 0).bytes = same_key-true _ _ (not-false _ key.0) in
     record {
-      buffer = holds _ buffer.0;
+      buffer = not-false _ buffer.0;
       place = place_in metas 1;
       key = key_there keys (length accounts) metas 1 same range (omega arith) ∙ ap Some one;
-      signs = holds _ signed.0;
+      signs = not-false _ signed.0;
     }
 
 Allowed : List Key → List Meta → ℕ → Account → Type 0

@@ -1,6 +1,7 @@
 -- What holds where an instruction ends well.
 use Rattle.std.proofs.Common.{◌≡◌, ◌<◌, ◌≤◌, ℕ, Bool, true, false, not, List, Result, Ok, Err, length, nat_lt, refl, sym, ap, ◌∙◌, arith}
 use Rattle.std.proofs.lemmas.Bool.Decides.{nat_tests}
+use Rattle.std.proofs.lemmas.Bool.{ltb-false}
 use Rattle.spec_base.specs.Reading.{◌>>=◌}
 use Rattle.spec_base.proofs.Binding.{bind_ok}
 use Rattle.sol_base.specs.declared.key.Key.{Key}
@@ -19,17 +20,9 @@ pub unless_ok : {X : Type 0} (test : Bool) (fault : LoaderFault) (value : Result
 unless_ok true fault value x h = absurd (cc)
 unless_ok false fault value x h = (refl, h)
 
--- a test of what must hold, that did not refuse
-pub holds : (test : Bool) → not test ≡ false → test ≡ true
-holds true h = refl
-holds false h = absurd (cc)
-
 or_rule_ok : (rules : Result (Unit {0}) RuleFault) (after x : List Account) → or_rule rules after ≡ Ok x → (rules ≡ Ok tt) × (after ≡ x)
 or_rule_ok (Ok _) after x h = (refl, cc)
 or_rule_ok (Err fault) after x h = absurd (cc)
-
-not_below : (x y : ℕ) → nat_lt x y ≡ false → y ≤ x
-not_below x y none = grind (arith, nat_tests)
 
 -- an instruction that ends well
 pub record EndsWell (keys : List Key) (before : List Account) (metas : List Meta) (after : List Account) : Type 0 where
@@ -49,7 +42,7 @@ ends_well keys accounts metas input after h =
     let last = or_rule_ok (listed_rules LOADER_PROGRAM metas accounts (with_data accounts metas third.0)) (with_data accounts metas third.0) after third.2 in
     record {
       request = first.0;
-      enough = not_below (length metas) (accounts_needed first.0) second.0;
+      enough = ltb-false (length metas) (accounts_needed first.0) second.0;
       bytes = third.0;
       row = third.1;
       written = last.1;

@@ -1,6 +1,6 @@
 -- What the accounts of a transaction keep under an instruction of the system program.
 use Rattle.std.proofs.Common.{◌≡◌, ◌≢◌, ◌⊎◌, ℕ, ◌+◌, ◌-◌, ◌<◌, ◌≤◌, ◌==◌, Bool, true, false, not, List, length, replicate, get_or, set, refl, sym, ap, subst, ◌∙◌, inl, inr, Some, Ok, Err, Result, arith, nat_eq, nat_lt, slice_get, get_or-set_other, get_or-set_same, if◌then◌else◌}
-use Rattle.std.proofs.lemmas.Bool.{both_ways, cases_lt}
+use Rattle.std.proofs.lemmas.Bool.{both_ways, cases_lt, ltb-false}
 use Rattle.std.proofs.lemmas.Bool.Decides.{nat_tests}
 use Rattle.std.proofs.lemmas.List.{length-replicate, length-set}
 use Rattle.std.proofs.lemmas.List.Folds.{list_any_at}
@@ -70,9 +70,6 @@ either-stays one two false accounts after rest others ok = others ok
 choice-stays : (one two : ℕ) (test : Bool) (accounts a b : List Account) → StaysBut one two accounts a → StaysBut one two accounts b → StaysBut one two accounts (if test then a else b)
 choice-stays one two true accounts a b first second = first
 choice-stays one two false accounts a b first second = second
-
-not_below : (x y : ℕ) → nat_lt x y ≡ false → y ≤ x
-not_below x y none = grind (arith, nat_tests)
 
 is_equal : (x y : ℕ) → y ≡ x → nat_eq x y ≡ true
 is_equal x y same = grind (arith, nat_tests)
@@ -185,7 +182,7 @@ module _ (listed : Listed) (instruction : Instruction) (before after : List Acco
   ends = not_refused_by (nat_lt (length listed.metas) (least_accounts instruction)) NotEnoughAccounts _ after ended
 
   pub enough : least_accounts instruction ≤ length listed.metas
-  enough = not_below (length listed.metas) (least_accounts instruction) ends.0
+  enough = ltb-false (length listed.metas) (least_accounts instruction) ends.0
 
   pub stays : StaysBut (place_in listed (written instruction).0) (place_in listed (written instruction).1) before after
   stays = row-stays listed instruction before after ends.1

@@ -2,6 +2,7 @@
 use Rattle.std.proofs.Common.{◌≡◌, ℕ, ◌+◌, ◌-◌, replicate, set, ◌==◌, Bool, true, false, not, ◌&&◌, ◌||◌, List, [], ◌∷◌, nat_eq, nat_lt, refl, sym, ap, ◌∙◌, Ok, Err, arith, if◌then◌else◌}
 use Rattle.std.specs.List.{list_any}
 use Rattle.std.proofs.lemmas.Bool.Decides.{nat_tests}
+use Rattle.std.proofs.lemmas.Bool.{or_left, or_right, and_from, eqb-true}
 use Rattle.spec_base.specs.Reading.{◌>>=◌}
 use Rattle.sol_base.specs.declared.key.Key.{Key}
 use Rattle.sol_base.specs.declared.account.Account.{Account}
@@ -26,18 +27,6 @@ both true t to from = sym (to refl)
 both false true to from = from refl
 both false false to from = refl
 
-or-left : (s t : Bool) → s ≡ true → (s || t) ≡ true
-or-left true t holds = refl
-or-left false t holds = absurd (cc)
-
-or-right : (s t : Bool) → t ≡ true → (s || t) ≡ true
-or-right true t holds = refl
-or-right false t holds = holds
-
-and-both : (s t : Bool) → s ≡ true → t ≡ true → (s && t) ≡ true
-and-both true t first second = second
-and-both false t first second = absurd (cc)
-
 -- an account that signs and passes a test
 record Found (metas : List Meta) (test : ℕ → Bool) : Type 0 where
   place : ℕ
@@ -47,18 +36,15 @@ record Found (metas : List Meta) (test : ℕ → Bool) : Type 0 where
 same_number : (n : ℕ) → nat_eq n n ≡ true
 same_number n = grind (arith, nat_tests)
 
-is_number : (m n : ℕ) → nat_eq m n ≡ true → m ≡ n
-is_number m n same = grind (arith, nat_tests)
-
 found : (metas : List Meta) (test : ℕ → Bool) → list_any (λ meta. meta.signer && test meta.index) metas ≡ true → Found metas test
 found [] test some = absurd (cc)
 found (meta ∷ metas) test some = by_meta meta.signer (test meta.index) refl refl some (λ later. found metas test later)
   where
     before : Found metas test → Found (meta ∷ metas) test
-    before there = record { place = there.place; signs_there = or-right (nat_eq meta.index there.place && meta.signer) (is_listed_signer metas there.place) there.signs_there; passes = there.passes }
+    before there = record { place = there.place; signs_there = or_right (nat_eq meta.index there.place && meta.signer) (is_listed_signer metas there.place) there.signs_there; passes = there.passes }
 
     by_meta : (s t : Bool) → meta.signer ≡ s → test meta.index ≡ t → ((s && t) || list_any (λ one. one.signer && test one.index) metas) ≡ true → (list_any (λ one. one.signer && test one.index) metas ≡ true → Found metas test) → Found (meta ∷ metas) test
-    by_meta true true signed passed some again = record { place = meta.index; signs_there = or-left (nat_eq meta.index meta.index && meta.signer) (is_listed_signer metas meta.index) (and-both (nat_eq meta.index meta.index) meta.signer (same_number meta.index) signed); passes = passed }
+    by_meta true true signed passed some again = record { place = meta.index; signs_there = or_left (nat_eq meta.index meta.index && meta.signer) (is_listed_signer metas meta.index) (and_from (nat_eq meta.index meta.index) meta.signer (same_number meta.index) signed); passes = passed }
     by_meta true false signed passed some again = before (again some)
     by_meta false t signed passed some again = before (again some)
 
@@ -67,9 +53,9 @@ any-found [] test place listed passes = absurd (cc)
 any-found (meta ∷ metas) test place listed passes = by_meta (nat_eq meta.index place) meta.signer refl refl listed (λ later. any-found metas test place later passes)
   where
     by_meta : (s t : Bool) → nat_eq meta.index place ≡ s → meta.signer ≡ t → ((s && t) || is_listed_signer metas place) ≡ true → (is_listed_signer metas place ≡ true → list_any (λ one. one.signer && test one.index) metas ≡ true) → ((meta.signer && test meta.index) || list_any (λ one. one.signer && test one.index) metas) ≡ true
-    by_meta true true same signed some again = or-left (meta.signer && test meta.index) (list_any (λ one. one.signer && test one.index) metas) (and-both meta.signer (test meta.index) signed (ap test (is_number meta.index place same) ∙ passes))
-    by_meta true false same signed some again = or-right (meta.signer && test meta.index) (list_any (λ one. one.signer && test one.index) metas) (again some)
-    by_meta false t same signed some again = or-right (meta.signer && test meta.index) (list_any (λ one. one.signer && test one.index) metas) (again some)
+    by_meta true true same signed some again = or_left (meta.signer && test meta.index) (list_any (λ one. one.signer && test one.index) metas) (and_from meta.signer (test meta.index) signed (ap test (eqb-true meta.index place same) ∙ passes))
+    by_meta true false same signed some again = or_right (meta.signer && test meta.index) (list_any (λ one. one.signer && test one.index) metas) (again some)
+    by_meta false t same signed some again = or_right (meta.signer && test meta.index) (list_any (λ one. one.signer && test one.index) metas) (again some)
 
 -- ---- two lists of metas that say the same
 module _ (keys : List Key) (some others : List Meta) (same : SameListing some others) where
