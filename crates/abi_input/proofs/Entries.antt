@@ -10,7 +10,7 @@ use Rattle.std.proofs.lemmas.List.Elements.{All-get_or, All-from_get_or}
 use Rattle.std.proofs.lemmas.List.Concat.{flat_map-append}
 use Rattle.std.proofs.lemmas.List.FromFn.{get_or-enumerate_from, length-enumerate_from}
 use Rattle.std.proofs.lemmas.List.Sums.{sum_by_more, sum_by-take-le, sum_by-le}
-use Rattle.std.proofs.lemmas.Bool.{ltb-false}
+use Rattle.std.proofs.lemmas.Bool.{ltb-false, cond-false}
 use Rattle.std.proofs.lemmas.Option.{slice_get-get_or, slice_get_within, get_or_from_slice_get, slice_get-map, slice_get_read, slice_get_cases}
 use Rattle.sol_base.specs.declared.key.Key.{Key}
 use Rattle.sol_base.specs.declared.account.Account.{Account}
@@ -105,10 +105,6 @@ cond_true : {X : Type 0} (b : Bool) (x y : X) → b ≡ true → cond b x y ≡ 
 cond_true true x y e = refl
 cond_true false x y e = absurd (cc)
 
-cond_false : {X : Type 0} (b : Bool) (x y : X) → b ≡ false → cond b x y ≡ y
-cond_false true x y e = absurd (cc)
-cond_false false x y e = refl
-
 -- an entry at a first listing
 pub entry_first : (keys : List Key) (accounts : List Account) (metas : List Meta) (k : ℕ) (meta : Meta) (key : Key) (account : Account) → is_first_listing metas (k, meta) ≡ true
     → key_in keys meta.index ≡ key → account_in accounts meta.index ≡ account → entry_of keys accounts metas (k, meta) ≡ first_entry (is_listed_signer metas meta.index) (is_listed_writable metas meta.index) key account
@@ -120,14 +116,14 @@ entry_first keys accounts metas k meta key account first same_key same_account =
 
 pub entry_again : (keys : List Key) (accounts : List Account) (metas : List Meta) (k : ℕ) (meta : Meta) (i : ℕ) → is_first_listing metas (k, meta) ≡ false → i ≡ first_place metas meta.index → entry_of keys accounts metas (k, meta) ≡ repeated_entry i
 entry_again keys accounts metas k meta i again is =
-    cond_false (is_first_listing metas (k, meta)) (first_entry (is_listed_signer metas meta.index) (is_listed_writable metas meta.index) (key_in keys meta.index) (account_in accounts meta.index)) (repeated_entry (first_place metas meta.index)) again ∙ ap (λ n. repeated_entry n) (sym is)
+    cond-false (is_first_listing metas (k, meta)) (first_entry (is_listed_signer metas meta.index) (is_listed_writable metas meta.index) (key_in keys meta.index) (account_in accounts meta.index)) (repeated_entry (first_place metas meta.index)) again ∙ ap (λ n. repeated_entry n) (sym is)
 
 pub size_first : (start : List Account) (metas : List Meta) (k : ℕ) (meta : Meta) (account : Account) → is_first_listing metas (k, meta) ≡ true → account_in start meta.index ≡ account → entry_size start metas (k, meta) ≡ first_size account
 size_first start metas k meta account first same =
     cond_true (is_first_listing metas (k, meta)) (first_size (account_in start meta.index)) 8 first ∙ ap (λ (x : Account). first_size x) same
 
 pub size_again : (start : List Account) (metas : List Meta) (k : ℕ) (meta : Meta) → is_first_listing metas (k, meta) ≡ false → entry_size start metas (k, meta) ≡ 8
-size_again start metas k meta again = cond_false (is_first_listing metas (k, meta)) (first_size (account_in start meta.index)) 8 again
+size_again start metas k meta again = cond-false (is_first_listing metas (k, meta)) (first_size (account_in start meta.index)) 8 again
 
 -- an account of the list that is short
 pub short_at : (accounts : List Account) (i : ℕ) → AreShort accounts → IsShort (account_in accounts i)

@@ -9,6 +9,7 @@ use Rattle.std.proofs.lemmas.List.Folds.{list_any_more}
 use Rattle.std.proofs.lemmas.Option.{slice_get-get_or, slice_get_within, get_or_from_slice_get}
 use Rattle.std.proofs.lemmas.List.Quantifiers.{position-Some}
 use Rattle.std.proofs.lemmas.Iterator.Adapters.{position_from-zero}
+use Rattle.std.proofs.Math.Bool.{or-false, or-true}
 use Rattle.sol_base.specs.declared.lock.Meta.{Meta}
 use Rattle.sol_base.specs.Metas.{is_listed, is_listed_signer, is_listed_writable, is_first_listing}
 use Rattle.abi_input.specs.declared.listing.Listing.{Listing}
@@ -35,14 +36,6 @@ position_more p xs k d lt =
     let long : length (take k xs) ≡ k = length-take-le k xs (omega arith) in
     ap (λ l. position p l) (take_more xs k d lt) ∙ position_push p (take k xs) (get_or xs k d) ∙ ap (λ n. option_or (position p (take k xs)) (cond (p (get_or xs k d)) (Some n) None)) long
 
-or_none : (b : Bool) → (b || false) ≡ b
-or_none true = refl
-or_none false = refl
-
-or_true : (b : Bool) → (b || true) ≡ true
-or_true true = refl
-or_true false = refl
-
 no_more : (o : Option ℕ) → option_or o None ≡ o
 no_more None = refl
 no_more (Some x) = refl
@@ -65,7 +58,7 @@ listing_more metas k d index lt =
 
     by_case : (x : Meta) (b : Bool) (old new : Listing) → new.first ≡ option_or old.first (cond b (Some k) None) → new.signer ≡ (old.signer || (b && x.signer)) → new.writable ≡ (old.writable || (b && x.writable)) → new ≡ cond b (listed_again old k x) old
     by_case x true old new first signer writable = same (listed_again old k x) new first signer writable
-    by_case x false old new first signer writable = same old new (first ∙ no_more old.first) (signer ∙ or_none old.signer) (writable ∙ or_none old.writable)
+    by_case x false old new first signer writable = same old new (first ∙ no_more old.first) (signer ∙ or-false old.signer) (writable ∙ or-false old.writable)
 
 -- no account is listed at first
 pub fresh_table : (n index : ℕ) → index < n → slice_get (replicate n (listing_in [] index)) index ≡ Some (listing_in [] index)
@@ -114,7 +107,7 @@ lists_itself metas k x e =
     let lt : k < length metas = slice_get_within metas k x e in
     let there : get_or metas k x ≡ x = get_or_from_slice_get metas k x x e in
     let same : nat_eq (get_or metas k x).index x.index ≡ true = ap (λ (m : Meta). nat_eq m.index x.index) there ∙ self x.index in
-    let any : is_listed (take (k + 1) metas) x.index ≡ true = list_any_more (λ (m : Meta). nat_eq m.index x.index) metas k x lt ∙ ap (λ b. is_listed (take k metas) x.index || b) same ∙ or_true _ in
+    let any : is_listed (take (k + 1) metas) x.index ≡ true = list_any_more (λ (m : Meta). nat_eq m.index x.index) metas k x lt ∙ ap (λ b. is_listed (take k metas) x.index || b) same ∙ or-true _ in
     let below : Before true (first_place metas x.index) (k + 1) = subst (λ (b : Bool). Before b (first_place metas x.index) (k + 1)) any (before (λ (m : Meta). nat_eq m.index x.index) metas (k + 1) (omega arith)) in
     as_le below
   where

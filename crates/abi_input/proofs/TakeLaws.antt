@@ -15,6 +15,7 @@ use Rattle.std.proofs.lemmas.List.Folds.{list_any_more}
 use Rattle.std.proofs.lemmas.List.FromFn.{get_or-enumerate_from, length-enumerate_from}
 use Rattle.std.proofs.lemmas.List.Quantifiers.{position-Some}
 use Rattle.std.proofs.lemmas.Option.{slice_get-get_or, slice_get_within, slice_get_past, get_or_from_slice_get}
+use Rattle.std.proofs.Math.Bool.{or-false}
 use Rattle.spec_base.specs.Bytes.{number_from}
 use Rattle.sol_base.specs.declared.key.Key.{Key}
 use Rattle.sol_base.specs.declared.account.Account.{Account}
@@ -47,10 +48,6 @@ fresh_entries zero index = refl
 fresh_entries (suc n) zero = refl
 fresh_entries (suc n) (suc index) = fresh_entries n index
 
-or_none : (b : Bool) → (b || false) ≡ b
-or_none true = refl
-or_none false = refl
-
 -- the entries after one meta more
 pub entered_more : (start : List Account) (metas : List Meta) (k : ℕ) (meta : Meta) (entries : List (Option ℕ)) (i entry : ℕ) (d new : Option ℕ) → slice_get metas k ≡ Some meta → i ≡ meta.index → i < length entries → new ≡ option_or (get_or entries i d) (Some entry) → entry ≡ entry_start start metas k
     → AreEntries start metas k entries → AreEntries start metas (k + 1) (set entries i new)
@@ -77,7 +74,7 @@ entered_more start metas k meta entries i entry d new e is below new_is at seen 
         ∙ listed_now (is_listed (take k metas) meta.index) refl ∙ ap (λ n. cond (is_listed (take k metas) n || true) (Some (entry_start start metas (first_place metas n))) None) at_index
     by_case false other =
         let apart : index ≢ i = λ same. absurd (grind (arith, nat_tests)) in
-        get_or-set_other entries i index new None apart ∙ seen index ∙ ap (λ b. cond b (Some (entry_start start metas (first_place metas index))) None) (sym (or_none (is_listed (take k metas) index)))
+        get_or-set_other entries i index new None apart ∙ seen index ∙ ap (λ b. cond b (Some (entry_start start metas (first_place metas index))) None) (sym (or-false (is_listed (take k metas) index)))
 
 -- an account that is listed has its entry in the region, with all data that it says it has
 pub entry_holds : (region : List ℕ) (start : List Account) (metas : List Meta) (index : ℕ) (o : Option ℕ) (entry : ℕ) → IsRegionOf start metas region → found_among (is_too_long region start metas) metas (length metas) ≡ None

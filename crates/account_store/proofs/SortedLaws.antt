@@ -12,7 +12,7 @@ use Rattle.std.specs.declared.cmp.Ordering.{Ordering}
 use Rattle.std.specs.declared.cmp.Ordering.TheVariants.{Less, Equal, Greater}
 use Rattle.std.proofs.Math.ListN.{get_or}
 use Rattle.std.proofs.Math.Seq.{get_or-append_seam}
-use Rattle.std.proofs.lemmas.Bool.{both_ways, false_from_ne_true}
+use Rattle.std.proofs.lemmas.Bool.{both_ways, false_from_ne_true, not-false}
 use Rattle.std.proofs.lemmas.Bool.Decides.{nat_tests}
 use Rattle.std.proofs.lemmas.List.Sums.{sum_by-cons, sum_by_push, sum_by-append}
 use Rattle.std.proofs.lemmas.List.Elements.{All-from_recursion, recursion_from_All, All-push}
@@ -36,10 +36,6 @@ less : (o : Ordering) → is_lt o ≡ true → o ≡ Less
 less Less e = refl
 less Equal e = absurd (cc)
 less Greater e = absurd (cc)
-
-not_false : (b : Bool) → not b ≡ false → b ≡ true
-not_false true g = refl
-not_false false g = absurd (cc)
 
 not_true : (b : Bool) → not b ≡ true → b ≡ false
 not_true true g = absurd (cc)
@@ -66,7 +62,7 @@ IsFine-from_none before e h =
         | inr q ↦ elim (chosen (nat_lt (2 ^ 64 - 1) (lamports_of before + e.1.lamports)) (Some SupplyTooLarge) None None q.1) [
           | inl r ↦ absurd (some_is_not_none _ r.1)
           | inr r ↦ record {
-            above = not_false (is_above (last_key before) e.0) p.0;
+            above = not-false (is_above (last_key before) e.0) p.0;
             some = let t = q.0 in grind (arith, nat_tests);
             fits = let t = r.0 in grind (arith, nat_tests);
           }
@@ -244,7 +240,7 @@ wrong-from_fault before e fault are h =
     elim (chosen (not (is_above (last_key before) e.0)) (Some (OutOfOrder (length before))) _ (Some fault) h) [
       | inl p ↦ subst (IsWrongAfter before e) (same_some _ fault p.1) (refl, λ ascend. both_ways _ (not_true (is_above (last_key before) e.0) p.0) (above-from_Ascend before e ascend))
       | inr p ↦
-          let ascend = Ascend-above before e are.ascend (not_false (is_above (last_key before) e.0) p.0) in
+          let ascend = Ascend-above before e are.ascend (not-false (is_above (last_key before) e.0) p.0) in
           elim (chosen (nat_eq e.1.lamports 0) (Some (Empty (length before))) _ (Some fault) p.1) [
             | inl q ↦ subst (IsWrongAfter before e) (same_some _ fault q.1) (refl, ascend, (let t = q.0 in grind (arith, nat_tests)))
             | inr q ↦ elim (chosen (nat_lt (2 ^ 64 - 1) (lamports_of before + e.1.lamports)) (Some SupplyTooLarge) None (Some fault) q.1) [

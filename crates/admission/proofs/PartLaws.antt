@@ -4,7 +4,7 @@ use Rattle.std.specs.Prelude.{AllPairs, if◌then◌else◌, nat_eq}
 use Rattle.std.specs.Result.{result_ok}
 use Rattle.std.specs.List.{AllByRecursion, IsDistinct, cons_option, enumerate_from, filter_map}
 use Rattle.std.specs.List.Sorted.{IsPermutation}
-use Rattle.std.proofs.lemmas.Bool.{both_ways, false_from_ne_true}
+use Rattle.std.proofs.lemmas.Bool.{both_ways, false_from_ne_true, or_parts}
 use Rattle.std.proofs.lemmas.Bool.Decides.{nat_tests}
 use Rattle.std.proofs.lemmas.List.{get_or-map, get_or_at, length-map, take_at}
 use Rattle.std.proofs.lemmas.List.Elements.{All-from_recursion, recursion_from_All}
@@ -40,10 +40,6 @@ use Rattle.admission.proofs.AnswerLaws.{all_run}
 use Rattle.admission.proofs.LineLaws.{Ranked, line_permutes, line_ranked, pairs_ranked}
 use Rattle.admission.proofs.SiftLaws.{name_stands, one_name_more}
 use Rattle.admission.proofs.WalkLaws.{count_late, late_more, none_late, refused_by_causes}
-
-neither : (a b : Bool) → (a || b) ≡ false → (a ≡ false) × (b ≡ false)
-neither true b e = absurd (cc)
-neither false b e = (refl, e)
 
 -- ---- one that stands
 -- a transaction that stands at a position is what was read there, and none before it has its name
@@ -138,7 +134,7 @@ module _ (start : Start) (batch : List Parsed) where
       before = ap (take n) (sym whole) ∙ take_at done (x ∷ rest) n (sym e)
 
       split : (one : Chosen) → NotNamed (done ++ x ∷ []) one → NotNamed done one × (is_name (standing_name start x) one.name ≡ false)
-      split one is = neither (has_hash (standing_names start done) one.name) (is_name (standing_name start x) one.name) (sym (one_name_more start done x one.name) ∙ is)
+      split one is = or_parts (has_hash (standing_names start done) one.name) (is_name (standing_name start x) one.name) (sym (one_name_more start done x one.name) ∙ is)
 
       fewer : (others : List Chosen) → AllByRecursion (NotNamed (done ++ x ∷ [])) others → AllByRecursion (NotNamed done) others
       fewer [] all = tt

@@ -14,6 +14,7 @@ use Rattle.std.proofs.lemmas.List.{map-append, length-map, take_at}
 use Rattle.std.proofs.lemmas.List.Elements.{filter_map-append}
 use Rattle.std.proofs.lemmas.List.Folds.{list_any-append}
 use Rattle.std.proofs.lemmas.List.FromFn.{length-enumerate_from}
+use Rattle.std.proofs.Math.Bool.{or-false}
 use Rattle.sol_base.specs.declared.key.Hash32.{Hash32}
 use Rattle.sol_base.specs.Keys.{hash_cmp, same_hash}
 use Rattle.sol_base.proofs.KeyLaws.{hash_cmp_exact, hash_cmp_total, same_hash-Decides}
@@ -42,10 +43,6 @@ same_name name other = by_test (same_hash name other) refl
     by_test true same = subst (λ (hash : Hash32). is_at (hash_cmp name) hash ≡ true) ((same_hash-Decides name other).0 same) ((eq_by_cmp_equiv hash_cmp_total).refl name)
     by_test false differ = false_from_ne_true (is_at (hash_cmp name) other) (λ e. both_ways (same_hash name other) differ ((same_hash-Decides name other).1 (hash_cmp_exact name other (equal (hash_cmp name other) e))))
 
-or_false : (b : Bool) → (b || false) ≡ b
-or_false true = refl
-or_false false = refl
-
 -- a name more
 pub name_added : (old new : BTreeSet Hash32) (name : Hash32) → ((q : Hash32) → contains hash_cmp new q ≡ cond (is_at (hash_cmp name) q) true (contains hash_cmp old q)) → (q : Hash32) → has_name new q ≡ (has_name old q || same_hash name q)
 name_added old new name puts q = puts q ∙ go (is_at (hash_cmp name) q) (same_hash name q) (same_name name q) (contains hash_cmp old q)
@@ -55,14 +52,14 @@ name_added old new name puts q = puts q ∙ go (is_at (hash_cmp name) q) (same_h
     go true true e false = refl
     go true false e o = absurd (cc)
     go false true e o = absurd (cc)
-    go false false e o = sym (or_false o)
+    go false false e o = sym (or-false o)
 
 pub name_stands : (start : Start) (tx : Tx) (name : Hash32) (loaded : Loaded) → stands start tx name ≡ Ok loaded → standing_name start (Good tx name) ≡ Some name
 name_stands start tx name loaded e = ap (λ (r : Result Loaded Refusal). if is_ok r then Some name else None) e
 
 any_name : (o : Option Hash32) (q : Hash32) → has_hash (cons_option o []) q ≡ is_name o q
 any_name None q = refl
-any_name (Some name) q = or_false (same_hash name q)
+any_name (Some name) q = or-false (same_hash name q)
 
 -- the names of one position more
 pub one_name_more : (start : Start) (done : List Parsed) (x : Parsed) (q : Hash32) → has_hash (standing_names start (done ++ x ∷ [])) q ≡ (has_hash (standing_names start done) q || is_name (standing_name start x) q)
