@@ -26,7 +26,7 @@ not_among q (k ∷ ks) apart = or_from (same_key q k) (has_key q ks) apart.0 (no
 first_apart : (k : Key) (ks : List Key) → IsDistinct same_key (k ∷ ks) → has_key k ks ≡ false
 first_apart k ks d = not_among k ks (IsDistinct-head same_key k ks d)
 
-under-cons : (f : Key → Account) (k : Key) (ks : List Key) → lamports_under f (k ∷ ks) ≡ (f k).lamports + lamports_under f ks
+pub under-cons : (f : Key → Account) (k : Key) (ks : List Key) → lamports_under f (k ∷ ks) ≡ (f k).lamports + lamports_under f ks
 under-cons f k ks = sum_by-cons (λ (key : Key). (f key).lamports) k ks
 
 -- what is the same under each key holds the same lamports

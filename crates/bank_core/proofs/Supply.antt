@@ -23,8 +23,8 @@ use Rattle.prio_graph.specs.Ready.{Positions, set_at}
 use Rattle.bank_law.specs.Job.{Job, same_key, has_key, keys}
 use Rattle.bank_law.proofs.Keys.{has_key-first, has_key-rest}
 use Rattle.bank_law.specs.Lawful.{lamports_under, IsLawful, IsShort, IsSettled, IsStart}
-use Rattle.account_store.proofs.SumLaws.{sums_differ}
-use Rattle.bank_law.proofs.States.{at_fits, under-cons}
+use Rattle.account_store.proofs.SumLaws.{sums_differ, under-cons}
+use Rattle.bank_law.proofs.States.{at_fits}
 use Rattle.bank_core.specs.Slots.{Shared, numbers}
 use Rattle.bank_core.specs.Keeping.{Keeps, IsApart}
 use Rattle.lock_table.specs.Numbers.{numbered_key}

@@ -5,12 +5,9 @@ use Rattle.std.specs.List.{list_any}
 use Rattle.sol_base.specs.declared.key.Key.{Key}
 use Rattle.sol_base.specs.declared.account.Account.{Account}
 use Rattle.sol_base.specs.declared.lock.Lock.{Lock}
-pub use Rattle.sol_base.proofs.KeyLaws.{same_key-true, same_key-self, same_key-equiv}
+pub use Rattle.sol_base.proofs.KeyLaws.{same_key-true, same_key-self, same_key-sym, same_key-equiv}
 use Rattle.bank_law.specs.Job.{same_key, has_key, lock_keys, beside, written_keys}
 use Rattle.bank_law.specs.Machine.{meet, clash}
-
-pub same_key-sym : (a b : Key) → same_key a b ≡ same_key b a
-same_key-sym = same_key-equiv.symm
 
 both_same : (a b key : Key) → same_key key a ≡ true → same_key key b ≡ true → same_key a b ≡ true
 both_same a b key e f = subst (λ k. same_key k b ≡ true) (same_key-true key a e) f

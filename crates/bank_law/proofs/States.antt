@@ -21,7 +21,7 @@ use Rattle.sol_base.proofs.KeyLaws.{key_cmp_exact, key_cmp_total, same_key-true,
 use Rattle.account_store.specs.State.{State, get, at, put, remove, entries, sum, IsHeld, IsState}
 use Rattle.account_store.proofs.EntryLists.{entries-insert_entry, entries-remove_entry, all-insert_entry, all-remove_entry}
 use Rattle.account_store.proofs.StateLaws.{IsHeld-get, at-put, sum-put, put-zero, put-more}
-use Rattle.account_store.proofs.SumLaws.{under-same, under-le}
+use Rattle.account_store.proofs.SumLaws.{under-same, under-le, under-cons}
 use Rattle.bank_law.specs.Job.{Job, same_key, has_key, keys, write_keys, writes, beside}
 use Rattle.bank_law.specs.Serial.{serial, performed}
 use Rattle.bank_law.specs.SerialState.{put_each, next_state, serial_state}
@@ -45,9 +45,6 @@ held_or_empty s key is (Some a) e = let h = IsHeld-get s key a is e in (h.1, λ 
 -- each account of a state is short and settled
 pub at_fits : (s : State) → IsState s → (key : Key) → IsShort (at s key) × IsSettled (at s key)
 at_fits s is key = held_or_empty s key is (get s key) refl
-
-pub under-cons : (f : Key → Account) (k : Key) (ks : List Key) → lamports_under f (k ∷ ks) ≡ (f k).lamports + lamports_under f ks
-under-cons f k ks = sum_by-cons (λ (key : Key). (f key).lamports) k ks
 
 pub lamports_in-cons : (v : Account) (vs : List Account) → lamports_in (v ∷ vs) ≡ v.lamports + lamports_in vs
 lamports_in-cons v vs = sum_by-cons (λ (a : Account). a.lamports) v vs
