@@ -11,6 +11,7 @@ use Rattle.std.specs.Ordering.{is_lt, ordering_reverse}
 use Rattle.std.specs.declared.ops.Bound.TheVariants.{Excluded, Unbounded}
 use Rattle.std.specs.declared.cmp.Ordering.{Ordering}
 use Rattle.std.specs.declared.cmp.Ordering.TheVariants.{Less, Equal, Greater}
+use Rattle.spec_base.proofs.Orders.{less}
 use Rattle.sol_base.specs.declared.key.Key.{Key}
 use Rattle.sol_base.specs.declared.account.Account.{Account}
 use Rattle.sol_base.specs.Keys.{key_cmp}
@@ -55,11 +56,6 @@ all-seen es ascends = sym (entries_after-none (seen es)) ∙ ap (filter (λ (e :
 keeps_all : (k : Key) (es : List (Key × Account)) → AllByRecursion (λ (q : Key). key_cmp k q ≡ Less) (keys_of es) → filter (λ e. is_above (Some k) e.0) es ≡ es
 keeps_all k [] h = refl
 keeps_all k (e ∷ es) h = ap (λ (o : Ordering). cond (is_lt o) (e ∷ filter (λ d. is_above (Some k) d.0) es) (filter (λ d. is_above (Some k) d.0) es)) h.0 ∙ ap (λ (l : List (Key × Account)). e ∷ l) (keeps_all k es h.1)
-
-less : (o : Ordering) → is_lt o ≡ true → o ≡ Less
-less Less e = refl
-less Equal e = absurd (cc)
-less Greater e = absurd (cc)
 
 -- what is above a key that is above the given one is above that one too
 further : (given : Option Key) (k q : Key) → is_above given k ≡ true → key_cmp k q ≡ Less → is_above given q ≡ true

@@ -18,6 +18,7 @@ use Rattle.std.proofs.lemmas.List.Sums.{sum_by-cons, sum_by_push, sum_by-append}
 use Rattle.std.proofs.lemmas.List.Elements.{All-from_recursion, recursion_from_All, All-push}
 use Rattle.std.proofs.lemmas.List.{append-nil, length-append, length-map, map-append}
 use Rattle.spec_base.proofs.Binding.{chosen}
+use Rattle.spec_base.proofs.Orders.{less}
 use Rattle.sol_base.specs.declared.key.Key.{Key}
 use Rattle.sol_base.specs.declared.account.Account.{Account}
 use Rattle.sol_base.specs.Keys.{key_cmp}
@@ -31,11 +32,6 @@ use Rattle.account_store.proofs.EntryLists.{sorted-entries, entries-from_entries
 
 abbrev pub Entry : Type 0
 Entry = Key × Account
-
-less : (o : Ordering) → is_lt o ≡ true → o ≡ Less
-less Less e = refl
-less Equal e = absurd (cc)
-less Greater e = absurd (cc)
 
 not_true : (b : Bool) → not b ≡ true → b ≡ false
 not_true true g = absurd (cc)

@@ -11,12 +11,8 @@ use Rattle.std.proofs.lemmas.List.{append-nil}
 use Rattle.std.proofs.lemmas.List.Elements.{All-from_recursion, recursion_from_All}
 use Rattle.std.proofs.lemmas.List.Kept.{AllPairs-cons}
 use Rattle.spec_base.specs.Reading.{AllAfter}
+use Rattle.spec_base.proofs.Orders.{less}
 use Rattle.snapshot_codec.specs.SnapshotReading.{last_passes}
-
-pub less : (o : Ordering) → is_lt o ≡ true → o ≡ Less
-less Less e = refl
-less Equal e = absurd (cc)
-less Greater e = absurd (cc)
 
 last_passes-cons : {X : Type 0} (test : X → Bool) (x y : X) (xs : List X) → last_passes test (x ∷ y ∷ xs) ≡ last_passes test (y ∷ xs)
 last_passes-cons {X = X} test x y xs =

@@ -3,3 +3,4 @@ pub mod Each
 pub mod Loop
 pub mod Formats
 pub mod Filters
+pub mod Orders
