@@ -38,7 +38,7 @@ pub with_within : (xs ys zs bytes : List ℕ) (from : ℕ) → from + length byt
 with_within xs ys zs bytes from h = same_lists _ _ (search (rules, places)) (λ k d below. grind (arith, places))
 
 -- two writes side by side are one
-with_more : (list bytes more : List ℕ) (at : ℕ) → at + length bytes + length more ≤ length list → with_bytes (with_bytes list at bytes) (at + length bytes) more ≡ with_bytes list at (bytes ++ more)
+pub with_more : (list bytes more : List ℕ) (at : ℕ) → at + length bytes + length more ≤ length list → with_bytes (with_bytes list at bytes) (at + length bytes) more ≡ with_bytes list at (bytes ++ more)
 with_more list bytes more at h = same_lists _ _ (search (rules, places)) (λ k d below. grind (arith, places))
 
 -- the same, where the second is written in front of the first

@@ -3,6 +3,7 @@ use Rattle.std.proofs.Common.{◌≡◌, ℕ, zero, suc, ◌+◌, ◌≤◌, ◌
 use Rattle.std.specs.Prelude.{slice_get}
 use Rattle.std.proofs.lemmas.List.{places, same_lists, take-append-drop, append-nil, length-replicate, replicate-append-replicate}
 use Rattle.sol_base.specs.Parts.{with_bytes, ArePrepared}
+use Rattle.sol_base.proofs.PartLaws.{with_more, with_none}
 use Rattle.sbpf_memory.specs.declared.fault.AccessViolation.{AccessViolation}
 use Rattle.sbpf_memory.specs.declared.fault.MemFault.{MemFault}
 use Rattle.sbpf_memory.specs.declared.place.Place.{Place}
@@ -21,14 +22,6 @@ use Rattle.sys_calls.proofs.Plain.{write-plain}
 use Rattle.sys_calls.proofs.Pieces.{place-part, place-low}
 use Rattle.sys_calls.proofs.Prepares.{done, plain-kept}
 use Rattle.sys_calls.proofs.Sizes.{write-sizes, place-sizes, prepared-sizes}
-
--- two writes side by side are one
-with_more : (list bytes more : List ℕ) (at : ℕ) → at + length bytes + length more ≤ length list → with_bytes (with_bytes list at bytes) (at + length bytes) more ≡ with_bytes list at (bytes ++ more)
-with_more list bytes more at h = same_lists _ _ (search (rules, places)) (λ k d below. grind (arith, places))
-
--- a write of nothing changes nothing
-with_none : (list : List ℕ) (at : ℕ) → with_bytes list at [] ≡ list
-with_none list at = simp (append-nil, add-zero, take-append-drop)
 
 written-more : (m : Ranges) (xs ys : List ℕ) (at : ℕ) (region : Region) → at + length xs + length ys ≤ length (range_bytes m region) → written_in (written_in m xs at region) ys (at + length xs) region ≡ written_in m (xs ++ ys) at region
 written-more m xs ys at Program fits = refl
