@@ -34,6 +34,8 @@ use Rattle.prio_graph.specs.declared.mark.Mark.{Mark}
 use Rattle.prio_graph.specs.declared.mark.Mark.TheVariants.{Waiting, Started, Done}
 use Rattle.prio_graph.specs.Ready.{Positions, set_at, mark_at}
 use Rattle.prio_graph.specs.Laws.{IsOf, mark_of}
+use Rattle.prio_graph.proofs.Moves.{inside}
+use Rattle.prio_graph.proofs.MachineLaws.{is-waits}
 use Rattle.bank_core.specs.Slots.{Shared, account_at, value_of, has, numbers, write_numbers, put_at, taken_at, put_back_at, AllThere, AreDistinct, ReadsAny, found}
 use Rattle.bank_core.specs.Keeping.{Keeps, HasRoom, HasBuffers, IsWide, outcome_of}
 use Rattle.bank_core.proofs.Numbers.{has_is, keys_is, numbers_within, as_many_locks, as_many_written, found_is, taken_is, written_is, returned_is}
@@ -41,18 +43,10 @@ use Rattle.bank_law.proofs.Histories.{own_same, own_other, own_none, holds_push,
 use Rattle.bank_law.proofs.Held.{some_passes}
 use Rattle.bank_core.specs.Takes.{SomeLaneHolds}
 
-in_marks : (marks : List Mark) (i : ℕ) → (mark_at marks i ≡ Done → ⊥) → i < length marks
-in_marks marks i n = elim (cases_lt i (length marks)) [ inl l ↦ l | inr l ↦ absurd (n (get_or_past marks i Done l)) ]
-
 started_is : (x : Stage) (lane : ℕ) → is_held_by lane x ≡ true → mark_of x ≡ Started
 started_is waiting lane h = absurd (cc)
 started_is (held other vs) lane h = refl
 started_is (done o) lane h = absurd (cc)
-
-waits_is : (x : Stage) → is_waiting x ≡ true → mark_of x ≡ Waiting
-waits_is waiting h = refl
-waits_is (held other vs) h = absurd (cc)
-waits_is (done o) h = absurd (cc)
 
 held_outcome : (x : Stage) (lane : ℕ) → is_held_by lane x ≡ true → outcome_of x ≡ None
 held_outcome waiting lane h = absurd (cc)
@@ -106,7 +100,7 @@ module _ (job : Job) (start : Key → Account) (ks : List Key) (p : Positions) (
     held_started_mark = K.of.marked i held_below_count ∙ started_is (s.stage i) lane h
 
     held_in_marks : i < length p.marks
-    held_in_marks = in_marks p.marks i (λ d. let m = held_started_mark in absurd (cc))
+    held_in_marks = inside p.marks i (λ d. let m = held_started_mark in absurd (cc))
 
     pub held_loan : loan (s.stage i) ≡ map (serial job start i) (keys job i)
     held_loan = loan_agrees job start i lane (s.stage i) h (sound.agrees i)
@@ -186,7 +180,7 @@ module _ (job : Job) (start : Key → Account) (ks : List Key) (p : Positions) (
     ready_once W = Numbers-distinct ks (job.locks i) (set_at p.sets i) ready_set (W.distinct i r.below)
 
     ready_in_marks : i < length p.marks
-    ready_in_marks = in_marks p.marks i (λ d. let m = K.of.marked i r.below ∙ waits_is (s.stage i) r.waits in absurd (cc))
+    ready_in_marks = inside p.marks i (λ d. let m = K.of.marked i r.below ∙ is-waits (s.stage i) r.waits in absurd (cc))
 
     -- the values of a ready position are there
     pub all_there : AllThere (set_at p.sets i) (account_at slots)

@@ -12,7 +12,7 @@ waits-is waiting e = refl
 waits-is (held lane vs) e = absurd (cc)
 waits-is (done outcome) e = absurd (cc)
 
-is-waits : (x : Stage) → is_waiting x ≡ true → mark_of x ≡ Waiting
+pub is-waits : (x : Stage) → is_waiting x ≡ true → mark_of x ≡ Waiting
 is-waits waiting e = refl
 is-waits (held lane vs) e = absurd (cc)
 is-waits (done outcome) e = absurd (cc)

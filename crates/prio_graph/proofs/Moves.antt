@@ -30,7 +30,7 @@ mark-cases P marks p m l here there i =
     ]
 
 -- a position past the end counts as done
-inside : (marks : List Mark) (i : ℕ) → (mark_at marks i ≡ Done → ⊥) → i < length marks
+pub inside : (marks : List Mark) (i : ℕ) → (mark_at marks i ≡ Done → ⊥) → i < length marks
 inside marks i d = elim (cases_lt i (length marks)) [ inl u ↦ u | inr v ↦ absurd (d (get_or_past marks i Done v)) ]
 
 waiting-is : (m : Mark) → is_waiting_mark m ≡ true → m ≡ Waiting
