@@ -66,7 +66,7 @@ all_further : (given : Option Key) (k : Key) (es : List (Key × Account)) → is
 all_further given k [] above h = refl
 all_further given k (e ∷ es) above h = ap (λ (b : Bool). cond b (e ∷ filter (λ d. is_above given d.0) es) (filter (λ d. is_above given d.0) es)) (further given k e.0 above h.0) ∙ ap (λ (l : List (Key × Account)). e ∷ l) (all_further given k es above h.1)
 
-not_itself : (k : Key) → is_above (Some k) k ≡ false
+pub not_itself : (k : Key) → is_above (Some k) k ≡ false
 not_itself k = ap is_lt (tied_itself key_cmp_total k)
 
 not_before : (k q : Key) → key_cmp q k ≡ Less → is_above (Some k) q ≡ false

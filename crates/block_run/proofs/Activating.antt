@@ -18,7 +18,7 @@ use Rattle.std.proofs.lemmas.Option.{same_Some}
 use Rattle.std.proofs.lemmas.List.{length-map}
 use Rattle.sol_base.specs.Accounts.{IsShort, empty_account}
 use Rattle.account_store.proofs.StateLaws.{IsHeld-get, get-put_key, put-more, same_state, sum-put}
-use Rattle.account_store.proofs.NextLaws.{next_after-none, next_after-some}
+use Rattle.account_store.proofs.NextLaws.{next_after-none, next_after-some, not_itself}
 use Rattle.loader_prog.specs.Buffers.{rest_in}
 use Rattle.loader_prog.specs.Loader.{activated, active, is_ready}
 use Rattle.loader_prog.proofs.Activating.{lamports-active}
@@ -63,9 +63,6 @@ between_none s given e q left apart above below =
 -- ---- a write at the next account
 filter-out : (p : Key × Account → Bool) (e : Key × Account) (es : List (Key × Account)) → p e ≡ false → filter p (e ∷ es) ≡ filter p es
 filter-out p e es out = ap (λ b. cond b (e ∷ filter p es) (filter p es)) out
-
-not_itself : (k : Key) → is_above (Some k) k ≡ false
-not_itself k = ap is_lt (tied_itself key_cmp_total k)
 
 above-put : (k : Key) (a : Account) (es : List (Key × Account)) → filter (λ e. is_above (Some k) e.0) (finite.put key_cmp k a es) ≡ filter (λ e. is_above (Some k) e.0) es
 above-put k a [] = filter-out (λ e. is_above (Some k) e.0) (k, a) [] (not_itself k)

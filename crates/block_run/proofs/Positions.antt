@@ -19,12 +19,7 @@ use Rattle.tx_exec.specs.Transaction.{transaction}
 use Rattle.tx_exec.specs.TransactionLaws.{IsSmallOutcome}
 use Rattle.tx_exec.proofs.Keeping.{transaction_fits}
 use Rattle.tx_exec.proofs.Small.{transaction_small}
-
--- a position below the count has its transaction
-there : (chosen : List Chosen) (i : ℕ) → i < length chosen → All IsChosen chosen → (t : Chosen) × (slice_get chosen i ≡ Some t) × IsChosen t
-there [] i below all = absurd (omega (arith, below))
-there (t ∷ ts) zero below all = (t, refl, all zero t (omega arith))
-there (t ∷ ts) (suc i) below all = there ts i (omega (arith, below)) (λ k d l. all (suc k) d (omega (arith, l)))
+use Rattle.tx_exec.proofs.Works.{there}
 
 -- what holds of each transaction holds of its position
 pub at_position : (told : Told) → All IsChosen told.chosen → (P : Option Chosen → Type 0) → ((t : Chosen) → IsChosen t → P (Some t)) → (i : ℕ) → i < length told.chosen → P (slice_get told.chosen i)

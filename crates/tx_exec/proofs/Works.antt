@@ -19,7 +19,7 @@ use Rattle.tx_exec.specs.Told.{block_of, effects_at, job_of, locks_at}
 use Rattle.tx_exec.proofs.Keeping.{transaction_fits}
 
 -- a position below the count has its transaction
-there : (chosen : List Chosen) (i : ℕ) → i < length chosen → All IsChosen chosen → (t : Chosen) × (slice_get chosen i ≡ Some t) × IsChosen t
+pub there : (chosen : List Chosen) (i : ℕ) → i < length chosen → All IsChosen chosen → (t : Chosen) × (slice_get chosen i ≡ Some t) × IsChosen t
 there [] i below all = absurd (omega (arith, below))
 there (t ∷ ts) zero below all = (t, refl, all zero t (omega arith))
 there (t ∷ ts) (suc i) below all = there ts i (omega (arith, below)) (λ k d l. all (suc k) d (omega (arith, l)))
