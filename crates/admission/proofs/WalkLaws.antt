@@ -66,13 +66,6 @@ pub refused_by_causes : (start : Start) (batch : List Parsed) (refused : List Re
 refused_by_causes start batch refused = ap numbered_in (causes_from start batch refused 0 batch) ∙ numbered_from start batch refused 0 batch
 
 -- ---- one transaction after the other
-pub next_of_all : {X : Type 0} (P : X → Type 0) (done left all : List X) (x : X) → All P all → done ++ x ∷ left ≡ all → P x
-next_of_all {X = X} P done left all x holds split = at done (recursion_from_All P (done ++ x ∷ left) (subst (All P) (sym split) holds))
-  where
-    at : (ys : List X) → AllByRecursion P (ys ++ x ∷ left) → P x
-    at [] a = a.0
-    at (y ∷ ys) a = at ys a.1
-
 -- the first transactions of a line are walked
 pub record AreWalked (limits : Limits) (line done left order : List Chosen) (first causes : List (Option Refusal)) : Type 0 where
   pub all : done ++ left ≡ line

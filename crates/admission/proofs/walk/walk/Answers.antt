@@ -1,7 +1,8 @@
 use Rattle.std.proofs.Common.{◌<◌, ◌∙◌, length, refl, set, sym, arith, Some}
 use Rattle.std.specs.Vec.Iter.{into_iter_items}
+use Rattle.account_store.proofs.SortedLaws.{next-of-all}
 use Rattle.admission.specs.declared.chosen.Chosen.{Chosen}
-use Rattle.admission.proofs.WalkLaws.{AreWalked, next_of_all, none_late, same_count, split, walked_late}
+use Rattle.admission.proofs.WalkLaws.{AreWalked, none_late, same_count, split, walked_late}
 use Rattle.admission.proofs.walk.walk.Goals as goal
 
 pub loop-one-init : goal.loop-one-init
@@ -20,7 +21,7 @@ index_mut-requires c =
     let so_far : AreWalked c.args.limits.now line c.loop-one.yielded left c.loop-one.order first c.loop-one.causes.items = record { all = c.loop-one.invariant.all; ordered = c.loop-one.invariant.ordered; caused = c.loop-one.invariant.caused } in
     let whole = split c.args.limits.now line c.loop-one.yielded left more c.loop-one.order first c.loop-one.causes.items so_far c.in-Some.one c.in-Some.ensures.steps.0 in
     let count = same_count c.args.limits.now line c.loop-one.yielded left more c.loop-one.order first c.loop-one.causes.items so_far c.in-Some.one c.in-Some.ensures.steps.0 in
-    let below = next_of_all (λ (one : Chosen). one.position < length first) c.loop-one.yielded more line c.in-Some.one c.requires.places whole in
+    let below = next-of-all (λ (one : Chosen). one.position < length first) c.loop-one.yielded more line c.in-Some.one c.requires.places whole in
     omega (arith, below, count)
 
 pub loop-one-preserved-in-Some-late : goal.loop-one-preserved-in-Some-late
@@ -31,7 +32,7 @@ loop-one-preserved-in-Some-late c =
     let more = into_iter_items c.next.new.self in
     let so_far : AreWalked c.args.limits.now line c.loop-one.yielded left c.loop-one.order first c.loop-one.causes.items = record { all = c.loop-one.invariant.all; ordered = c.loop-one.invariant.ordered; caused = c.loop-one.invariant.caused } in
     let whole = split c.args.limits.now line c.loop-one.yielded left more c.loop-one.order first c.loop-one.causes.items so_far c.in-Some.one c.in-Some.ensures.steps.0 in
-    let below = next_of_all (λ (one : Chosen). one.position < length first) c.loop-one.yielded more line c.in-Some.one c.requires.places whole in
+    let below = next-of-all (λ (one : Chosen). one.position < length first) c.loop-one.yielded more line c.in-Some.one c.requires.places whole in
     let next = walked_late c.args.limits.now line c.loop-one.yielded left more c.loop-one.order first c.loop-one.causes.items so_far c.in-Some.one c.in-Some.ensures.steps.0
     c.in-Some-late.cause (set c.loop-one.causes.items c.in-Some.one.position (Some c.in-Some-late.cause)) (sym c.late.ensures.exact ∙ c.in-Some-late.is) below refl in
     record { all = next.all; ordered = next.ordered; caused = next.caused }
