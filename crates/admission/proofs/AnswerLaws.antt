@@ -17,7 +17,7 @@ use Rattle.message_codec.specs.declared.parsed.Parsed.{Parsed}
 use Rattle.message_codec.specs.declared.parsed.Parsed.TheVariants.{Good, Bad}
 use Rattle.message_codec.specs.Roles.{HasAllLoaded, IsSane, all_keys, has_repeated_key, sanitized}
 use Rattle.message_codec.specs.Parsing.{IsParsed, parsed_of}
-use Rattle.message_codec.proofs.SaneLaws.{is_sane}
+use Rattle.message_codec.proofs.SaneLaws.{is_sane, are_distinct}
 use Rattle.message_codec.proofs.RoleLaws.{keys_of_locks}
 use Rattle.message_codec.proofs.WireLaws.{wire_again}
 use Rattle.fee_rules.specs.declared.budget.Budget.{Budget}
@@ -34,7 +34,7 @@ use Rattle.admission.specs.Lookups.{first_or, load, loaded_in, lookup_faults}
 use Rattle.admission.specs.Chosen.{IsChosen}
 use Rattle.admission.specs.Admission.{AreParsed, IsSound, Start, Walk, as_cause, chosen_with, late, sifted, sifted_in, sifted_out, stands, standing_names, walk, walk_with}
 use Rattle.admission.specs.Lines.{PositionsAscend}
-use Rattle.admission.proofs.LookupLaws.{distinct, loaded_counts}
+use Rattle.admission.proofs.LookupLaws.{loaded_counts}
 
 -- what is loaded
 pub load_ok : (s : State) (message : Message) (loaded : Loaded) → load s message ≡ Ok loaded → HasAllLoaded message loaded × IsDistinct same_key (all_keys message loaded)
@@ -46,7 +46,7 @@ load_ok s message loaded e = go (lookup_faults s message.lookups) (has_repeated_
     go [] true apart e = absurd (cc)
     go [] false apart e =
         let same : loaded_in s message.lookups ≡ loaded = cc in
-        (subst (HasAllLoaded message) same (loaded_counts s message.lookups), subst (λ (l : Loaded). IsDistinct same_key (all_keys message l)) same (distinct _ apart))
+        (subst (HasAllLoaded message) same (loaded_counts s message.lookups), subst (λ (l : Loaded). IsDistinct same_key (all_keys message l)) same (are_distinct _ apart))
 
 pub stands_ok : (start : Start) (tx : Tx) (name : Hash32) (loaded : Loaded) → stands start tx name ≡ Ok loaded → IsOk (sanitized tx start.limits.keys) × (load start.state tx.message ≡ Ok loaded)
 unfolding stands

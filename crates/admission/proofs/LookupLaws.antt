@@ -18,6 +18,7 @@ use Rattle.message_codec.specs.declared.message.Loaded.{Loaded}
 use Rattle.message_codec.specs.declared.message.Lookup.{Lookup}
 use Rattle.message_codec.specs.declared.message.Message.{Message}
 use Rattle.message_codec.specs.Roles.{HasAllLoaded, all_keys, has_repeated_key, load_count}
+use Rattle.message_codec.proofs.SaneLaws.{no_repeated}
 use Rattle.account_store.specs.State.{State}
 use Rattle.admission.specs.declared.lookups.LookupFault.{LookupFault}
 use Rattle.admission.specs.declared.lookups.LookupFault.TheVariants.{RepeatedKey}
@@ -39,28 +40,6 @@ mapped_more f xs i before old new y l is so_far pushed =
     ∙ ap (λ ys. before ++ ys) (ap (λ z. map f (take i xs) ++ z ∷ []) is ∙ sym (map_more f xs i 0 l))
 
 -- ---- keys that are given again
-turned : (key : Key) (others : List Key) → list_any (λ other. same_key other key) others ≡ false → AllByRecursion (λ other. same_key key other ≡ false) others
-turned key [] h = tt
-turned key (other ∷ others) h =
-    let n = or_parts (same_key other key) (list_any (λ one. same_key one key) others) h in
-    (same_key-sym key other ∙ n.0, turned key others n.1)
-
-turned_back : (key : Key) (others : List Key) → AllByRecursion (λ other. same_key key other ≡ false) others → list_any (λ other. same_key other key) others ≡ false
-turned_back key [] h = refl
-turned_back key (other ∷ others) h = or_from (same_key other key) (list_any (λ one. same_key one key) others) (same_key-sym other key ∙ h.0) (turned_back key others h.1)
-
-pub distinct : (keys : List Key) → has_repeated_key keys ≡ false → IsDistinct same_key keys
-unfolding IsDistinct
-distinct [] h = tt
-distinct (key ∷ others) h =
-    let n = or_parts (list_any (λ other. same_key other key) others) (has_repeated_key others) h in
-    (turned key others n.0, distinct others n.1)
-
-pub none_repeated : (keys : List Key) → IsDistinct same_key keys → has_repeated_key keys ≡ false
-unfolding IsDistinct
-none_repeated [] d = refl
-none_repeated (key ∷ others) d = or_from (list_any (λ other. same_key other key) others) (has_repeated_key others) (turned_back key others d.0) (none_repeated others d.1)
-
 -- ---- lookups
 pub loaded_counts : (s : State) (lookups : List Lookup) → length (loaded_to_write s lookups) + length (loaded_to_read s lookups) ≡ sum_by load_count lookups
 loaded_counts s [] = refl
@@ -153,4 +132,4 @@ module _ (s : State) (message : Message) (place : ℕ) (writable readonly : List
 pub none_loaded : (message : Message) (loaded : Loaded) → loaded ≡ record { writable = []; readonly = [] } → IsDistinct same_key message.keys → false ≡ has_repeated_key (all_keys message loaded)
 none_loaded message loaded e d =
     let keys : all_keys message loaded ≡ message.keys = ap (all_keys message) e ∙ append-nil (message.keys ++ []) ∙ append-nil message.keys in
-    sym (ap has_repeated_key keys ∙ none_repeated message.keys d)
+    sym (ap has_repeated_key keys ∙ no_repeated message.keys d)

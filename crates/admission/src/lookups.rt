@@ -7,7 +7,7 @@ ghost use Rattle.account_store.specs.State.{at as account_at};
 ghost use Rattle.admission.specs.Lookups.{address_at, address_count, is_beyond, is_lookup_memory, is_table, load, loads_none, lookup_fault};
 
 use account_store::Accounts;
-use message_codec::{Loaded, Lookup, Message, keys_of};
+use message_codec::{Loaded, Lookup, Message, has_repeated_key, keys_of};
 use sol_base::{Items, Key, OutOfMemory};
 use std::alloc::Global;
 use thiserror::Error;
@@ -153,18 +153,4 @@ fn repeats_a_key(alloc: Global, message: &Message, loaded: &Loaded) -> Result<bo
     }
     let keys = keys_of(alloc, message, loaded)?;
     Ok(has_repeated_key(keys.as_slice()))
-}
-
-/// Whether a key is given again. Each pair is compared: a message has at most 128 keys.
-fn has_repeated_key(keys: &[Key]) -> bool
-    ensures { result ≡ has_repeated_key keys.now }
-{
-    let mut others = keys;
-    while let [key, after @ ..] = others {
-        if after.contains(key) {
-            return true;
-        }
-        others = after;
-    }
-    false
 }

@@ -44,12 +44,13 @@ turned_back : (key : Key) (others : List Key) → AllByRecursion (λ other. same
 turned_back key [] h = tt
 turned_back key (other ∷ others) h = (same_key-equiv.symm other key ∙ h.0, turned_back key others h.1)
 
-apart : (keys : List Key) → has_repeated_key keys ≡ false → IsDistinct same_key keys
+-- keys of which none stands again
+pub are_distinct : (keys : List Key) → has_repeated_key keys ≡ false → IsDistinct same_key keys
 unfolding IsDistinct
-apart [] h = tt
-apart (key ∷ others) h =
+are_distinct [] h = tt
+are_distinct (key ∷ others) h =
     let n = or_parts (list_any (λ other. same_key other key) others) (has_repeated_key others) h in
-    (turned key others (none_passes (λ other. same_key other key) others n.0), apart others n.1)
+    (turned key others (none_passes (λ other. same_key other key) others n.0), are_distinct others n.1)
 
 none_before_end : {X : Type 0} (test : X → Bool) (xs : List X) → nat_lt (position_or_len test xs) (length xs) ≡ false → AllByRecursion (λ x. test x ≡ false) xs
 none_before_end test [] h = tt
@@ -99,7 +100,7 @@ none_of_nine tx most h =
       programs = programs tx.message.instructions (length tx.message.keys) d.0;
       accounts = accounts tx.message.instructions (key_count tx.message) e.0;
       keys = within _ _ f.0;
-      apart = apart tx.message.keys g.0;
+      apart = are_distinct tx.message.keys g.0;
       payer_free = i.0;
       lookups = lookups tx.message.lookups i.1;
     }
@@ -139,7 +140,7 @@ all_below : {X : Type 0} (test : X → Bool) (xs : List X) → AllByRecursion (�
 all_below test [] h = refl
 all_below test (x ∷ xs) h = rw (h.0, all_below test xs h.1) refl
 
-no_repeated : (keys : List Key) → IsDistinct same_key keys → has_repeated_key keys ≡ false
+pub no_repeated : (keys : List Key) → IsDistinct same_key keys → has_repeated_key keys ≡ false
 unfolding IsDistinct
 no_repeated [] h = refl
 no_repeated (key ∷ others) h = rw (all_below (λ other. same_key other key) others (turned_back key others h.0), no_repeated others h.1) refl

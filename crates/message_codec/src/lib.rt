@@ -24,7 +24,7 @@ pub use message::{Header, Instruction, Loaded, Lookup, Message, MessageKind, Sig
 pub use parsed::{Parsed, parse};
 pub use reading::{MAX_WIRE_LEN, read_wire};
 pub use roles::{is_signer, is_writable, keys_of, locks, reserved};
-pub use sanity::sanitize;
+pub use sanity::{has_repeated_key, sanitize};
 pub use writing::{message_key, write_wire};
 
 #[cfg(test)]

@@ -105,7 +105,8 @@ fn has_index_from(indexes: &[u8], key_count: usize) -> bool
     indexes.iter().any(|index| usize::from(*index) >= key_count)
 }
 
-fn has_repeated_key(keys: &[Key]) -> bool
+/// Whether a key is given again. Each pair is compared: a message has at most 128 keys.
+pub fn has_repeated_key(keys: &[Key]) -> bool
     ensures { result ≡ has_repeated_key keys.now }
 {
     let mut others = keys;

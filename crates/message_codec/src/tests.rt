@@ -194,6 +194,15 @@ fn an_empty_lookup_is_refused(rt: HostRuntime) -> Result<(), Fail> {
     Ok(())
 }
 
+#[test]
+fn keys_that_are_given_again(rt: HostRuntime) {
+    let (a, b, c) = (Key([1; 32]), Key([2; 32]), Key([3; 32]));
+    assert!(rt; !has_repeated_key(&[]));
+    assert!(rt; !has_repeated_key(&[a, b, c]));
+    assert!(rt; has_repeated_key(&[a, b, a]));
+    assert!(rt; has_repeated_key(&[c, a, b, b]));
+}
+
 fn crosses_threads<T: Send + Sync>(_value: &T) {}
 
 #[test]

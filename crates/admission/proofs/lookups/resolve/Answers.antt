@@ -2,9 +2,10 @@ use Rattle.std.proofs.Common.{◌≡◌, ◌++◌, ◌∙◌, List, length, map,
 use Rattle.std.specs.List.{filter_map, enumerate_from}
 use Rattle.std.proofs.lemmas.Result.{err_from_is_err_and}
 use Rattle.message_codec.specs.declared.message.Lookup.{Lookup}
+use Rattle.message_codec.proofs.SaneLaws.{are_distinct}
 use Rattle.account_store.specs.State.{at}
 use Rattle.admission.specs.Lookups.{address_at, first_or, if_apart, load, loaded_in, lookup_fault}
-use Rattle.admission.proofs.LookupLaws.{AreLoaded, distinct, has_all, load_refused, loaded_more, loads_again, loads_apart, or_memory, refused}
+use Rattle.admission.proofs.LookupLaws.{AreLoaded, has_all, load_refused, loaded_more, loads_again, loads_apart, or_memory, refused}
 use Rattle.admission.proofs.lookups.resolve.Goals as goal
 
 pub returns-in_err-table-clause-exact : goal.returns-in_err-table-clause-exact
@@ -52,4 +53,4 @@ returns-clause-all c =
     (omega arith)
 
 pub returns-clause-apart : goal.returns-clause-apart
-returns-clause-apart c = distinct _ (sym c.in_ok-repeats_a_key.ensures ∙ c.if-branch.false)
+returns-clause-apart c = are_distinct _ (sym c.in_ok-repeats_a_key.ensures ∙ c.if-branch.false)
