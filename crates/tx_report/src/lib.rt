@@ -2,6 +2,7 @@
 #![tactic(auto)]
 
 mod cause;
+mod laws;
 mod logs;
 mod outcome;
 mod status;
@@ -10,7 +11,8 @@ mod tests;
 mod text;
 
 pub use cause::{Cause, DropCause};
-pub use logs::{Logs, logs_keep_the_longest_run};
+pub use laws::{logs_keep_the_longest_run, statuses_are_their_bytes};
+pub use logs::Logs;
 pub use outcome::Outcome;
-pub use status::{InstructionError, Status, status_bytes, status_of, statuses_are_their_bytes};
+pub use status::{InstructionError, Status, status_bytes, status_of};
 pub use text::{cause_text, status_text};

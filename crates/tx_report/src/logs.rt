@@ -1,5 +1,5 @@
-ghost use Rattle.std.specs.Prelude.{◌≡◌, ◌∷◌, ◌++◌, [], List, ℕ, OnOk, OnErr};
-ghost use Rattle.tx_report.specs.LogLines.{Log, no_lines, with_line, IsLogOf};
+ghost use Rattle.std.specs.Prelude.{◌≡◌, OnOk, OnErr};
+ghost use Rattle.tx_report.specs.LogLines.{no_lines, with_line};
 
 use sol_base::{Blob, Items, OutOfMemory};
 use std::alloc::Global;
@@ -79,11 +79,3 @@ impl Logs {
         lines
     }
 }
-
-/// A law: line by line, a log comes to keep the longest run of all lines given, from the first on,
-/// that has at most 10,000 bytes, and then says where a line is left.
-pub fn logs_keep_the_longest_run()
-    ensures none { IsLogOf [] no_lines }
-    ensures more { (given : List (List ℕ)) (log : Log) (line : List ℕ) → IsLogOf given log
-        → IsLogOf (given ++ line ∷ []) (with_line log line) }
-{}

@@ -1,7 +1,5 @@
-ghost use Rattle.std.specs.Prelude.{◌≡◌, ℕ, List, length};
-ghost use Rattle.spec_base.specs.Bytes.{IsBytes};
-ghost use Rattle.tx_report.specs.declared.status.Status.{Status as StatusValue};
-ghost use Rattle.tx_report.specs.Statuses.{status_bytes_of, status_from, IsStatus, part_bytes, status_with};
+ghost use Rattle.std.specs.Prelude.{◌≡◌};
+ghost use Rattle.tx_report.specs.Statuses.{status_bytes_of, status_from, part_bytes, status_with};
 
 use crate::cause::{Cause, DropCause};
 
@@ -59,14 +57,6 @@ pub fn status_of(bytes: [u8; 8]) -> Option<Status>
         u32::from_le_bytes([w, x, y, z]),
     )
 }
-
-/// A law: each status is read from its bytes again, and what is read has these bytes.
-pub fn statuses_are_their_bytes()
-    ensures again { (status : StatusValue) → IsStatus status
-        → status_from (status_bytes_of status) ≡ Some status }
-    ensures found { (bytes : List ℕ) (status : StatusValue) → length bytes ≡ 8 → IsBytes bytes
-        → status_from bytes ≡ Some status → IsStatus status × (status_bytes_of status ≡ bytes) }
-{}
 
 fn bytes_of_parts(kind: u8, index: u8, code: u16, detail: u32) -> [u8; 8]
     ensures { result ≡ part_bytes kind index code detail }

@@ -1,5 +1,5 @@
 use Rattle.tx_report.proofs.StatusLaws.{status_from-status_bytes_of, status_bytes_of-status_from}
-use Rattle.tx_report.proofs.status.statuses_are_their_bytes.Goals as goal
+use Rattle.tx_report.proofs.laws.statuses_are_their_bytes.Goals as goal
 
 pub returns-clause-again : goal.returns-clause-again
 returns-clause-again c = status_from-status_bytes_of

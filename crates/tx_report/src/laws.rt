@@ -1,0 +1,22 @@
+//! Laws of statuses and log lines.
+ghost use Rattle.std.specs.Prelude.{◌≡◌, ◌∷◌, ◌++◌, [], List, ℕ, length};
+ghost use Rattle.spec_base.specs.Bytes.{IsBytes};
+ghost use Rattle.tx_report.specs.declared.status.Status.{Status};
+ghost use Rattle.tx_report.specs.LogLines.{IsLogOf, Log, no_lines, with_line};
+ghost use Rattle.tx_report.specs.Statuses.{IsStatus, status_bytes_of, status_from};
+
+/// A law: each status is read from its bytes again, and what is read has these bytes.
+pub fn statuses_are_their_bytes()
+    ensures again { (status : Status) → IsStatus status
+        → status_from (status_bytes_of status) ≡ Some status }
+    ensures found { (bytes : List ℕ) (status : Status) → length bytes ≡ 8 → IsBytes bytes
+        → status_from bytes ≡ Some status → IsStatus status × (status_bytes_of status ≡ bytes) }
+{}
+
+/// A law: line by line, a log comes to keep the longest run of all lines given, from the first on,
+/// that has at most 10,000 bytes, and then says where a line is left.
+pub fn logs_keep_the_longest_run()
+    ensures none { IsLogOf [] no_lines }
+    ensures more { (given : List (List ℕ)) (log : Log) (line : List ℕ) → IsLogOf given log
+        → IsLogOf (given ++ line ∷ []) (with_line log line) }
+{}
