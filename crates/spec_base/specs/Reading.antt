@@ -1,6 +1,6 @@
 -- Reading a format from left to right: a value and the bytes after it, or the first refusal.
 -- A place counts from the first byte of the whole text, whose length is total.
-use Rattle.std.specs.Prelude.{◌≡◌, ℕ, zero, suc, ◌-◌, List, [], ◌∷◌, ◌++◌, length, take, drop, Result, Ok, Err, Bool, nat_lt, nat_eq, if◌then◌else◌, MatchBool, slice_index}
+use Rattle.std.specs.Prelude.{◌≡◌, ℕ, zero, suc, ◌-◌, List, [], ◌∷◌, ◌++◌, length, take, drop, Result, Ok, Err, Bool, nat_lt, if◌then◌else◌, MatchBool, slice_index, ◌==◌}
 use Rattle.std.specs.Int.{Width, byte_len, from_le_bytes}
 
 -- what was read, and then what is read after it
@@ -77,4 +77,4 @@ AllAfter P before (x ∷ xs) = P before x × AllAfter P (before ++ x ∷ []) xs
 
 -- the value, where no byte is left after it
 abbrev pub whole : {X E : Type 0} → (ℕ → E) → ℕ → X × List ℕ → Result X E
-whole trailing total read = ok_if (nat_eq (length read.1) 0) (trailing (place total read.1)) read.0
+whole trailing total read = ok_if (length read.1 == 0) (trailing (place total read.1)) read.0

@@ -1,5 +1,5 @@
 -- How a transaction ended: as eight bytes of a record, and as a text (the project's own).
-use Rattle.std.specs.Prelude.{ℕ, ◌<◌, ◌^◌, List, [], ◌∷◌, ◌++◌, codes, decimal, take, drop, slice_index, nat_eq, ◌&&◌, if◌then◌else◌, Option, Some, None, option_map, ok_or, Result, Ok}
+use Rattle.std.specs.Prelude.{ℕ, ◌<◌, ◌^◌, List, [], ◌∷◌, ◌++◌, codes, decimal, take, drop, slice_index, ◌&&◌, if◌then◌else◌, Option, Some, None, option_map, ok_or, Result, Ok, ◌==◌}
 use Rattle.std.specs.Int.{w16, w32, to_le_bytes, from_le_bytes}
 use Rattle.spec_base.specs.Reading.{◌>>=◌, place, field_at}
 use Rattle.tx_report.specs.declared.cause.Cause.{Cause}
@@ -26,9 +26,9 @@ IsStatus (Dropped cause) = Unit {0}
 -- the status of these parts; a failed one may have any index and detail
 abbrev pub status_with : ℕ → ℕ → ℕ → ℕ → Option Status
 status_with kind index code detail =
-    if nat_eq kind 0 && nat_eq index 0 && nat_eq code 0 && nat_eq detail 0 then Some Good else
-    if nat_eq kind 1 then option_map (λ cause. Failed index cause detail) (cause_with code) else
-    if nat_eq kind 2 && nat_eq index 0 && nat_eq detail 0 then option_map (λ cause. Dropped cause) (drop_cause_with code) else
+    if kind == 0 && index == 0 && code == 0 && detail == 0 then Some Good else
+    if kind == 1 then option_map (λ cause. Failed index cause detail) (cause_with code) else
+    if kind == 2 && index == 0 && detail == 0 then option_map (λ cause. Dropped cause) (drop_cause_with code) else
     None
 
 -- the status of eight bytes
@@ -49,7 +49,7 @@ cause_text_of cause detail = name_of cause
 
 -- which instruction failed
 abbrev pub index_text_of : ℕ → List ℕ
-index_text_of index = if nat_eq index 255 then codes "transaction" else decimal index
+index_text_of index = if index == 255 then codes "transaction" else decimal index
 
 abbrev pub status_text_of : Status → List ℕ
 status_text_of Good = codes "Ok"
