@@ -1,4 +1,6 @@
 ghost use Rattle.std.specs.Prelude.{◌≡◌, ◌<◌, ◌≤◌, All, length};
+ghost use Rattle.message_codec.specs.Compact.{max_count};
+ghost use Rattle.message_codec.specs.Wire.{IsCountable};
 ghost use Rattle.fee_rules.specs.Budgets.{budget_for, budget_in, is_budget};
 
 use crate::request::{Asked, MIN_HEAP_FRAME, read_request};
@@ -41,7 +43,7 @@ pub enum BudgetFault {
 /// them that is bad or repeats a kind is the refusal.
 pub fn budget_of(message: &Message) -> Result<Budget, BudgetFault>
     requires programs { All (λ i. i.program < length message.now.keys) message.now.instructions }
-    requires most { length message.now.instructions ≤ 65535 }
+    requires most { IsCountable message.now.instructions }
     ensures { result ≡ budget_in message.now }
 {
     let keys = message.keys.as_slice();
@@ -72,7 +74,7 @@ fn calls_compute_budget(keys: &[Key], instruction: &Instruction) -> bool
 }
 
 fn budget_from(asked: &Asked, others: u64) -> Budget
-    requires { others ≤ 65535 }
+    requires { others ≤ max_count }
     ensures { result ≡ budget_for asked.now others }
 {
     Budget {

@@ -1,6 +1,10 @@
 -- Compact lengths (Solana): the 7-bit digits of a number up to 65,535, low digit first.
 use Rattle.std.specs.Prelude.{◌≡◌, ◌≢◌, ◌↔◌, ℕ, ◌+◌, ◌*◌, ◌/◌, ◌%◌, ◌<◌, ◌≤◌, nat_lt, List, [], ◌∷◌, ◌++◌, if◌then◌else◌}
 
+-- the greatest number that has a compact length (Solana)
+abbrev pub max_count : ℕ
+max_count = 65535
+
 -- as few digits as hold the number, and at least one; each but the last has 128 added
 unfoldable pub compact : ℕ → List ℕ
 compact v =
@@ -26,8 +30,8 @@ AreDigits (digit ∷ next ∷ digits) = (128 ≤ digit) × (digit < 256) × AreL
 
 -- begins with the spelling of a length
 abbrev pub BeginsWithLength : List ℕ → Type 0
-BeginsWithLength bytes = (v : ℕ) × (rest : List ℕ) × (v ≤ 65535) × (bytes ≡ compact v ++ rest)
+BeginsWithLength bytes = (v : ℕ) × (rest : List ℕ) × (v ≤ max_count) × (bytes ≡ compact v ++ rest)
 
 -- a proper prefix of the spelling of a length
 abbrev pub IsCutLength : List ℕ → Type 0
-IsCutLength bytes = (v : ℕ) × (rest : List ℕ) × (v ≤ 65535) × (rest ≢ []) × (bytes ++ rest ≡ compact v)
+IsCutLength bytes = (v : ℕ) × (rest : List ℕ) × (v ≤ max_count) × (rest ≢ []) × (bytes ++ rest ≡ compact v)

@@ -12,7 +12,7 @@ use Rattle.message_codec.specs.declared.message.MessageKind.TheVariants.{Legacy,
 use Rattle.message_codec.specs.declared.message.Lookup.{Lookup}
 use Rattle.message_codec.specs.declared.message.Message.{Message}
 use Rattle.message_codec.specs.declared.message.Tx.{Tx}
-use Rattle.message_codec.specs.Compact.{compact}
+use Rattle.message_codec.specs.Compact.{compact, max_count}
 
 -- a compact array: the length, and then the items
 abbrev pub array_bytes : {X : Type 0} → (X → List ℕ) → List X → List ℕ
@@ -57,7 +57,7 @@ message_name message = record { 0 = sha256 (message_bytes message) }
 
 -- no more than a compact length can count
 abbrev pub IsCountable : {X : Type 0} → List X → Type 0
-IsCountable items = length items ≤ 65535
+IsCountable items = length items ≤ max_count
 
 -- each list of the message is such
 pub record HasShortLists (message : Message) : Type 0 where
@@ -90,9 +90,13 @@ abbrev pub BeginsAsItsKind : MessageKind → Header → Type 0
 BeginsAsItsKind Legacy header = header.required < 128
 BeginsAsItsKind Zero header = Unit {0}
 
+-- the most bytes of a transaction (Solana)
+abbrev pub max_wire_len : ℕ
+max_wire_len = 1232
+
 -- the bytes are that transaction
 pub record Wire (bytes : List ℕ) (tx : Tx) : Type 0 where
-  pub short : length bytes ≤ 1232
+  pub short : length bytes ≤ max_wire_len
   pub spelled : bytes ≡ tx_bytes tx
   pub begins : BeginsAsItsKind tx.message.kind tx.message.header
   pub allows : AllowsLookups tx.message.kind tx.message.lookups
@@ -102,7 +106,7 @@ pub record Wire (bytes : List ℕ) (tx : Tx) : Type 0 where
 
 -- a transaction whose bytes are a wire
 pub record IsOneWire (tx : Tx) : Type 0 where
-  pub short : length (tx_bytes tx) ≤ 1232
+  pub short : length (tx_bytes tx) ≤ max_wire_len
   pub begins : BeginsAsItsKind tx.message.kind tx.message.header
   pub allows : AllowsLookups tx.message.kind tx.message.lookups
   pub signatures : IsCountable tx.signatures

@@ -12,6 +12,7 @@ use Rattle.message_codec.specs.declared.message.MessageKind.TheVariants.{Legacy,
 use Rattle.message_codec.specs.declared.message.Lookup.{Lookup}
 use Rattle.message_codec.specs.declared.message.Message.{Message}
 use Rattle.message_codec.specs.declared.message.Tx.{Tx}
+use Rattle.message_codec.specs.Wire.{max_wire_len}
 
 abbrev pub is_wire_memory : WireFault → Bool
 is_wire_memory TooLong = false
@@ -112,6 +113,6 @@ tx_at total bytes = do
 -- the transaction that the bytes are, or the first refusal
 unfoldable pub wire_of : List ℕ → Result Tx WireFault
 wire_of bytes =
-    if nat_lt 1232 (length bytes) then Err TooLong else do
+    if nat_lt max_wire_len (length bytes) then Err TooLong else do
       tx ← tx_at (length bytes) bytes
       whole Trailing (length bytes) tx

@@ -1,7 +1,7 @@
 //! Compact lengths (Solana): 7 bits a byte, low bits first, in as few bytes as hold the number.
 ghost use Rattle.std.specs.Prelude.{◌≡◌, ◌+◌, ◌<◌, ◌≤◌, ◌++◌, OnOk, IfOk};
 ghost use Rattle.spec_base.specs.Reading.{Gives};
-ghost use Rattle.message_codec.specs.Compact.{compact};
+ghost use Rattle.message_codec.specs.Compact.{compact, max_count};
 ghost use Rattle.message_codec.specs.WireReading.{is_wire_memory, compact_at, second_at, third_at};
 
 use crate::fault::WireFault;
@@ -50,7 +50,7 @@ fn third_digit(at: usize, low: usize, bytes: &[u8]) -> Result<(usize, &[u8]), Wi
 /// Adds the length's one spelling to the bytes.
 #[tactic(auto, unfolding(crate::specs::Compact::compact))]
 pub(crate) fn write_length(out: &mut Blob, length: usize) -> Result<(), OutOfMemory>
-    requires { length ≤ 65535 }
+    requires { length ≤ max_count }
     ensures { OnOk result (out.new ≡ out.old ++ compact length) }
 {
     if length < 128 {

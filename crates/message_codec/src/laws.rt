@@ -8,7 +8,7 @@ ghost use Rattle.message_codec.specs.declared.fault.WireFault.TheVariants.{Trunc
 ghost use Rattle.message_codec.specs.declared.message.Message.{Message};
 ghost use Rattle.message_codec.specs.declared.message.Loaded.{Loaded};
 ghost use Rattle.message_codec.specs.declared.message.Tx.{Tx};
-ghost use Rattle.message_codec.specs.Compact.{compact, AreDigits, digits_value, BeginsWithLength, IsCutLength};
+ghost use Rattle.message_codec.specs.Compact.{compact, AreDigits, digits_value, BeginsWithLength, IsCutLength, max_count};
 ghost use Rattle.message_codec.specs.Wire.{Wire, IsOneWire, tx_bytes};
 ghost use Rattle.message_codec.specs.WireReading.{compact_at, wire_of, is_wire_memory};
 ghost use Rattle.message_codec.specs.Roles.{IsSane, HasAllLoaded, AreNamed, is_signer_at, is_writable_at, all_keys, key_count, lock_of, locks_of};
@@ -16,14 +16,14 @@ ghost use Rattle.message_codec.specs.Roles.{IsSane, HasAllLoaded, AreNamed, is_s
 /// A law: the spelling of a compact length is the one list of its 7-bit digits, low digit first, 128
 /// added to each but the last, and the last not 0 unless it stands alone.
 pub fn lengths_have_one_spelling()
-    ensures { (v : ℕ) (bytes : List ℕ) → v ≤ 65535 → (bytes ≡ compact v) ↔ (AreDigits bytes × (digits_value bytes ≡ v)) }
+    ensures { (v : ℕ) (bytes : List ℕ) → v ≤ max_count → (bytes ≡ compact v) ↔ (AreDigits bytes × (digits_value bytes ≡ v)) }
 {}
 
 /// A law: a compact length is read where the bytes begin with its spelling. It is cut short exactly
 /// where they are a proper prefix of the spelling of some length, and bad exactly where they neither
 /// begin with a spelling nor are such a prefix.
 pub fn lengths_are_read_or_cut_or_bad()
-    ensures value { (total : ℕ) (bytes : List ℕ) → IsBytes bytes → (v : ℕ) (rest : List ℕ) → (compact_at total bytes ≡ Ok (v, rest)) ↔ ((v ≤ 65535) × (bytes ≡ compact v ++ rest)) }
+    ensures value { (total : ℕ) (bytes : List ℕ) → IsBytes bytes → (v : ℕ) (rest : List ℕ) → (compact_at total bytes ≡ Ok (v, rest)) ↔ ((v ≤ max_count) × (bytes ≡ compact v ++ rest)) }
     ensures cut { (total : ℕ) (bytes : List ℕ) → IsBytes bytes → (compact_at total bytes ≡ Err (Truncated (place total bytes))) ↔ IsCutLength bytes }
     ensures bad { (total : ℕ) (bytes : List ℕ) → IsBytes bytes → (compact_at total bytes ≡ Err (BadLength (place total bytes))) ↔ ((¬ BeginsWithLength bytes) × (¬ IsCutLength bytes)) }
 {}

@@ -1,6 +1,6 @@
 ghost use Rattle.std.specs.Prelude.{◌≡◌, ◌+◌, ◌≤◌, length, nat_le, IsOk, ◌↔◌};
 ghost use Rattle.std.specs.List.{list_any};
-ghost use Rattle.message_codec.specs.Wire.{HasShortLists};
+ghost use Rattle.message_codec.specs.Wire.{HasShortLists, IsCountable};
 ghost use Rattle.message_codec.specs.Roles.{sanitized, IsSane, key_count, load_count, has_bad_program, has_bad_account, has_repeated_key, has_reserved_payer, empty_lookup, loads_none, lookups_sanitized};
 
 use crate::fault::SanitizeFault;
@@ -60,7 +60,7 @@ fn first_fault(tx: &Tx, most: u16) -> Result<(), SanitizeFault>
 }
 
 fn check_lookups(lookups: &[Lookup]) -> Result<(), SanitizeFault>
-    requires { length lookups.now ≤ 65535 }
+    requires { IsCountable lookups.now }
     ensures { result ≡ lookups_sanitized (empty_lookup lookups.now) }
 {
     match empty_lookup(lookups) {
