@@ -4,6 +4,7 @@ use Rattle.std.specs.List.{IsDistinct, slice_index_or}
 use Rattle.sol_base.specs.Keys.{same_hash}
 use Rattle.message_codec.specs.declared.parsed.Parsed.TheVariants.{Good}
 use Rattle.message_codec.specs.Parsing.{parsed_of}
+use Rattle.message_codec.specs.Wire.{max_wire_len}
 use Rattle.admission.specs.declared.chosen.Chosen.{Chosen}
 use Rattle.admission.specs.declared.chosen.Admitted.{Admitted}
 
@@ -15,7 +16,7 @@ wire_at wires position = slice_index_or wires position []
 pub record IsOf (wires : List (List ℕ)) (chosen : Chosen) : Type 0 where
   pub below : chosen.position < length wires
   pub read : parsed_of (wire_at wires chosen.position) ≡ Good chosen.tx chosen.name
-  pub short : length (wire_at wires chosen.position) ≤ 1232
+  pub short : length (wire_at wires chosen.position) ≤ max_wire_len
 
 -- each that runs is of its wire, no two of them have one name, and every position runs or is refused
 pub record IsParted (wires : List (List ℕ)) (answer : Admitted) : Type 0 where

@@ -3,6 +3,7 @@ ghost use Rattle.std.specs.List.{IsDistinct};
 ghost use Rattle.spec_base.specs.Reading.{Gives};
 ghost use Rattle.sol_base.specs.Keys.{same_key};
 ghost use Rattle.message_codec.specs.Roles.{HasAllLoaded, all_keys, has_repeated_key};
+ghost use Rattle.message_codec.specs.Wire.{IsCountable};
 ghost use Rattle.account_store.specs.State.{at as account_at};
 ghost use Rattle.admission.specs.Lookups.{address_at, address_count, is_beyond, is_lookup_memory, is_table, load, loads_none, lookup_fault};
 
@@ -47,7 +48,7 @@ impl From<OutOfMemory> for LookupFault {
 /// read each in the order of the lookups (Solana). The first refusal comes lookup by lookup, and
 /// that of a repeated key last. A sane message has so few lookups, and no static key twice.
 pub fn resolve(alloc: Global, message: &Message, accounts: &Accounts) -> Result<Loaded, LookupFault>
-    requires few { length message.now.lookups ≤ 65535 }
+    requires few { IsCountable message.now.lookups }
     requires apart { IsDistinct same_key message.now.keys }
     ensures exact { Gives is_lookup_memory (λ loaded. loaded) result
         (load accounts.now message.now) }

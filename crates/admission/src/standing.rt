@@ -1,5 +1,5 @@
 ghost use Rattle.std.specs.Prelude.{◌≡◌, ◌<◌, ◌≤◌, All, IfOk, length};
-ghost use Rattle.message_codec.specs.Wire.{HasShortLists};
+ghost use Rattle.message_codec.specs.Wire.{HasShortLists, IsCountable};
 ghost use Rattle.admission.specs.Admission.{budgeted, stands, start_of};
 
 use crate::chosen::Chosen;
@@ -53,7 +53,7 @@ pub(crate) fn budgeted(
     loaded: Loaded,
 ) -> Result<Result<Chosen, Refusal>, OutOfMemory>
     requires programs { All (λ i. i.program < length tx.message.keys) tx.message.instructions }
-    requires most { length tx.message.instructions ≤ 65535 }
+    requires most { IsCountable tx.message.instructions }
     ensures { IfOk result (λ found. found ≡ budgeted position tx name loaded) }
 {
     let budget = match budget_of(&tx.message) {

@@ -6,7 +6,7 @@ use Rattle.sha2.specs.Sha256.{sha256}
 use Rattle.spec_base.specs.Bytes.{sized_bytes}
 use Rattle.sol_base.specs.Keys.{IsKey, IsHash, key_bytes, hash_bytes}
 use Rattle.sol_base.specs.declared.key.Hash32.{Hash32}
-use Rattle.message_codec.specs.Wire.{IsCountable}
+use Rattle.message_codec.specs.Wire.{IsCountable, max_wire_len}
 use Rattle.tx_report.specs.Statuses.{IsStatus, status_bytes_of}
 use Rattle.block_record.specs.declared.block.Entry.{Entry}
 use Rattle.block_record.specs.declared.block.Block.{Block}
@@ -45,7 +45,7 @@ pub record AreCountable (lines : List (List ℕ)) : Type 0 where
 -- a block whose counts fit the format
 pub record IsCounted (block : Block) : Type 0 where
   pub entries : length block.entries ≤ 16384
-  pub wires : All (λ entry. length entry.wire ≤ 1232) block.entries
+  pub wires : All (λ entry. length entry.wire ≤ max_wire_len) block.entries
   pub lines : All (λ entry. AreCountable entry.lines) block.entries
 
 -- its lines are texts

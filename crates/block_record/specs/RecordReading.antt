@@ -4,6 +4,7 @@ use Rattle.std.specs.Int.{w16, w32, w64}
 use Rattle.std.specs.Str.{is_utf8}
 use Rattle.spec_base.specs.Reading.{◌>>=◌, field_at, number_at, read_if, many, whole}
 use Rattle.sol_base.specs.Keys.{key_at, hash_at}
+use Rattle.message_codec.specs.Wire.{max_wire_len}
 use Rattle.tx_report.specs.Statuses.{status_at}
 use Rattle.block_record.specs.declared.fault.RecordFault.{RecordFault}
 use Rattle.block_record.specs.declared.fault.RecordFault.TheVariants.{Truncated, BadField, Trailing, OutOfMemory}
@@ -24,7 +25,7 @@ unfoldable pub magic_at : ℕ → List ℕ → Read (List ℕ)
 magic_at total bytes = read_if BadField (λ magic. bytes_eq magic (codes "SOLBLCK1")) (field_at Truncated total 8) total bytes
 
 unfoldable pub wire_len_at : ℕ → List ℕ → Read ℕ
-wire_len_at total bytes = read_if BadField (λ n. nat_le n 1232) (number_at Truncated w16 total) total bytes
+wire_len_at total bytes = read_if BadField (λ n. nat_le n max_wire_len) (number_at Truncated w16 total) total bytes
 
 -- a transaction, one field after its length
 unfoldable pub wire_at : ℕ → List ℕ → Read (List ℕ)

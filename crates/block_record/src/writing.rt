@@ -1,7 +1,7 @@
 ghost use Rattle.std.specs.Prelude.{◌≡◌, ◌≤◌, length, All, OnOk, IfOk};
 ghost use Rattle.std.specs.List.{flat_map};
 ghost use Rattle.spec_base.specs.Bytes.{sized_bytes};
-ghost use Rattle.message_codec.specs.Wire.{IsCountable};
+ghost use Rattle.message_codec.specs.Wire.{IsCountable, max_wire_len};
 ghost use Rattle.snapshot_codec.specs.Output.{Adds};
 ghost use Rattle.block_record.specs.Record.{AreCountable, IsCounted, bytes_of_lines, entry_bytes, entries_bytes, block_bytes, hash_of_block, bytes_of_record};
 
@@ -49,7 +49,7 @@ fn write_lines<O: Output>(out: &mut O, lines: &Items<Blob>) -> Result<(), OutOfM
 }
 
 fn write_entry<O: Output>(out: &mut O, entry: &Entry) -> Result<(), OutOfMemory>
-    requires wire { length entry.now.wire ≤ 1232 }
+    requires wire { length entry.now.wire ≤ max_wire_len }
     requires lines { AreCountable entry.now.lines }
     ensures { OnOk result (Adds O.holds out.old out.new (entry_bytes entry.now)) }
 {
@@ -61,7 +61,7 @@ fn write_entry<O: Output>(out: &mut O, entry: &Entry) -> Result<(), OutOfMemory>
 }
 
 fn write_each_entry<O: Output>(out: &mut O, entries: &[Entry]) -> Result<(), OutOfMemory>
-    requires wires { All (λ entry. length entry.wire ≤ 1232) entries.now }
+    requires wires { All (λ entry. length entry.wire ≤ max_wire_len) entries.now }
     requires lines { All (λ entry. AreCountable entry.lines) entries.now }
     ensures { OnOk result (Adds O.holds out.old out.new (flat_map entry_bytes entries.now)) }
 {
@@ -73,7 +73,7 @@ fn write_each_entry<O: Output>(out: &mut O, entries: &[Entry]) -> Result<(), Out
 
 fn write_entries<O: Output>(out: &mut O, entries: &[Entry]) -> Result<(), OutOfMemory>
     requires few { length entries.now ≤ 16384 }
-    requires wires { All (λ entry. length entry.wire ≤ 1232) entries.now }
+    requires wires { All (λ entry. length entry.wire ≤ max_wire_len) entries.now }
     requires lines { All (λ entry. AreCountable entry.lines) entries.now }
     ensures { OnOk result (Adds O.holds out.old out.new (entries_bytes entries.now)) }
 {
