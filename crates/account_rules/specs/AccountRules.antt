@@ -1,7 +1,8 @@
 -- What the accounts of a frame keep under a stretch of its program's work (Solana; rule 2 and the order are the project's own).
-use Rattle.std.specs.Prelude.{◌≡◌, ℕ, ◌<◌, ◌==◌, Bool, not, ◌&&◌, ◌||◌, List, [], ◌∷◌, ◌++◌, length, map, nat_eq, nat_lt, slice_get, slice_index_or, Option, Some, None, Result, Ok, Err, if◌then◌else◌}
+use Rattle.std.specs.Prelude.{◌≡◌, ℕ, ◌<◌, ◌==◌, Bool, not, ◌&&◌, ◌||◌, List, [], ◌∷◌, ◌++◌, length, map, nat_eq, nat_lt, slice_get, slice_index_or, Option, Some, None, Result, Ok, if◌then◌else◌}
 use Rattle.std.specs.List.{list_any, filter_map, enumerate_from, zip}
 use Rattle.std.specs.Cmp.Lexicographic.{pointwise}
+use Rattle.spec_base.specs.Reading.{first_or}
 use Rattle.sol_base.specs.declared.key.Key.{Key}
 use Rattle.sol_base.specs.declared.account.Account.{Account}
 use Rattle.sol_base.specs.declared.lock.Meta.{Meta}
@@ -89,8 +90,7 @@ broken_rules program changes =
 
 -- nothing, or the first of the faults
 abbrev pub first_of : List RuleFault → Result (Unit {0}) RuleFault
-first_of [] = Ok tt
-first_of (fault ∷ _) = Err fault
+first_of faults = first_or faults (Ok tt)
 
 -- the accounts of lists, each named by its place in them
 abbrev pub changes : List Bool → List Account → List Account → List Change

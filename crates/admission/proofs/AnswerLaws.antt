@@ -3,7 +3,7 @@ use Rattle.std.proofs.Common.{◌≡◌, ℕ, ◌+◌, ◌<◌, ◌≤◌, Bool,
 use Rattle.std.specs.Prelude.{if◌then◌else◌}
 use Rattle.std.specs.Result.{result_ok}
 use Rattle.std.specs.List.{AllByRecursion, IsDistinct, filter_map, cons_option, enumerate_from}
-use Rattle.spec_base.specs.Reading.{◌>>=◌, ok_if}
+use Rattle.spec_base.specs.Reading.{◌>>=◌, ok_if, first_or}
 use Rattle.sol_base.specs.declared.key.Hash32.{Hash32}
 use Rattle.sol_base.specs.declared.limits.Limits.{Limits}
 use Rattle.sol_base.specs.declared.lock.Lock.{Lock}
@@ -30,7 +30,7 @@ use Rattle.admission.specs.declared.lookups.LookupFault.TheVariants.{RepeatedKey
 use Rattle.admission.specs.declared.chosen.Chosen.{Chosen}
 use Rattle.admission.specs.declared.refusal.Refusal.{Refusal}
 use Rattle.admission.specs.declared.refusal.Refusal.TheVariants.{Sanitize as not_sane, Lookup as not_loaded, UnknownBlockhash, AlreadyProcessed, RepeatedInBatch, Budget as no_budget}
-use Rattle.admission.specs.Lookups.{first_or, load, loaded_in, lookup_faults}
+use Rattle.admission.specs.Lookups.{load, loaded_in, lookup_faults}
 use Rattle.admission.specs.Chosen.{IsChosen}
 use Rattle.admission.specs.Admission.{AreParsed, IsSound, Start, Walk, as_cause, chosen_with, late, sifted, sifted_in, sifted_out, stands, standing_names, walk, walk_with}
 use Rattle.admission.specs.Lines.{PositionsAscend}

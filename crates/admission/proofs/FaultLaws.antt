@@ -3,7 +3,7 @@ use Rattle.std.proofs.Common.{◌≡◌, ℕ, ◌+◌, ◌||◌, Bool, true, fal
 use Rattle.std.specs.Prelude.{◌==◌, if◌then◌else◌}
 use Rattle.std.specs.List.{AllByRecursion, cons_option, enumerate_from, filter_map}
 use Rattle.std.proofs.lemmas.List.Elements.{All-from_recursion}
-use Rattle.spec_base.specs.Reading.{◌>>=◌, ok_if}
+use Rattle.spec_base.specs.Reading.{◌>>=◌, ok_if, first_or}
 use Rattle.sol_base.specs.declared.account.Account.{Account}
 use Rattle.sol_base.specs.declared.key.Hash32.{Hash32}
 use Rattle.sol_base.specs.declared.limits.Limits.{Limits}
@@ -28,7 +28,7 @@ use Rattle.admission.specs.declared.refusal.Refusal.{Refusal}
 use Rattle.admission.specs.declared.refusal.Refusal.TheVariants.{Sanitize as not_sane, Lookup as not_loaded, UnknownBlockhash, AlreadyProcessed, RepeatedInBatch, Budget as no_budget, BlockUnits, KeyUnits}
 use Rattle.admission.specs.declared.refusal.Refused.{Refused}
 use Rattle.admission.specs.Admission.{Start, Walk, admitted, as_cause, budgeted, late, late_cause, line, listed, or_else, passes_key_units, refusal, refusal_in, refused_in, sifted, sifted_in, sifted_out, standing_names, stands, units_of, walk, walk_with}
-use Rattle.admission.specs.Lookups.{first_or, is_beyond, is_lookup_memory, is_table, load, loaded_in, lookup_fault, lookup_faults, table_fault}
+use Rattle.admission.specs.Lookups.{is_beyond, is_lookup_memory, is_table, load, loaded_in, lookup_fault, lookup_faults, table_fault}
 use Rattle.admission.specs.Refusals.{is_memory}
 
 -- the answer is no refusal for want of memory

@@ -11,6 +11,7 @@ use Rattle.std.proofs.lemmas.List.Folds.{list_any_at}
 use Rattle.std.proofs.lemmas.List.Sums.{sum_by-cons}
 use Rattle.std.proofs.lemmas.List.FromFn.{get_or-enumerate_from, length-enumerate_from}
 use Rattle.spec_base.proofs.Filters.{nothing_more, first_found}
+use Rattle.spec_base.specs.Reading.{first_or}
 use Rattle.sol_base.specs.declared.key.Key.{Key}
 use Rattle.sol_base.specs.Keys.{same_key}
 use Rattle.sol_base.proofs.KeyLaws.{same_key-sym}
@@ -22,7 +23,7 @@ use Rattle.message_codec.proofs.SaneLaws.{no_repeated}
 use Rattle.account_store.specs.State.{State}
 use Rattle.admission.specs.declared.lookups.LookupFault.{LookupFault}
 use Rattle.admission.specs.declared.lookups.LookupFault.TheVariants.{RepeatedKey}
-use Rattle.admission.specs.Lookups.{first_or, if_apart, is_lookup_memory, load, loaded_in, loaded_to_read, loaded_to_write, lookup_fault, picked}
+use Rattle.admission.specs.Lookups.{if_apart, is_lookup_memory, load, loaded_in, loaded_to_read, loaded_to_write, lookup_fault, picked}
 
 -- an index of which none is beyond the table
 pub in_table : (count : ℕ) (indexes : List ℕ) (k : ℕ) → k < length indexes → list_any (nat_le count) indexes ≡ false → get_or indexes k 0 < count

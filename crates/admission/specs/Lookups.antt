@@ -1,7 +1,8 @@
 -- What the lookups of a message load from their tables (Solana; that a table's owner, authority and
 -- deactivation are not looked at is the project's own).
-use Rattle.std.specs.Prelude.{ℕ, ◌+◌, ◌-◌, ◌*◌, ◌/◌, ◌%◌, ◌==◌, Bool, true, false, not, ◌&&◌, ◌||◌, nat_le, List, [], ◌∷◌, length, take, drop, map, Option, Some, None, Result, Ok, Err, if◌then◌else◌}
+use Rattle.std.specs.Prelude.{ℕ, ◌+◌, ◌-◌, ◌*◌, ◌/◌, ◌%◌, ◌==◌, Bool, true, false, not, ◌&&◌, ◌||◌, nat_le, List, [], length, take, drop, map, Option, Some, None, Result, Ok, Err, if◌then◌else◌}
 use Rattle.std.specs.List.{list_any, filter_map, flat_map, enumerate_from}
+use Rattle.spec_base.specs.Reading.{first_or}
 use Rattle.sol_base.specs.declared.account.Account.{Account}
 use Rattle.sol_base.specs.declared.key.Key.{Key}
 use Rattle.message_codec.specs.declared.message.Loaded.{Loaded}
@@ -69,11 +70,6 @@ loaded_in s lookups = record { writable = loaded_to_write s lookups; readonly = 
 -- no key
 abbrev pub loads_none : Loaded
 loads_none = record { writable = []; readonly = [] }
-
--- the first that is wrong, or the answer
-abbrev pub first_or : {X : Type 0} → List LookupFault → Result X LookupFault → Result X LookupFault
-first_or [] answer = answer
-first_or (fault ∷ _) answer = Err fault
 
 -- what is loaded, where no key of the message stands twice
 abbrev pub if_apart : Message → Loaded → Result Loaded LookupFault

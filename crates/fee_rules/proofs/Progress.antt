@@ -1,5 +1,5 @@
 -- What is known of a message's budget after its first instructions.
-use Rattle.std.proofs.Common.{◌≡◌, ℕ, ◌+◌, ◌<◌, ◌≤◌, Bool, true, false, not, List, [], ◌∷◌, ◌++◌, length, take, get_or, refl, sym, ap, ◌∙◌, Option, Some, None, is_some, Ok, Err, arith, if◌then◌else◌, slice_get, zero-add, append-nil}
+use Rattle.std.proofs.Common.{◌≡◌, ℕ, ◌+◌, ◌<◌, ◌≤◌, Bool, true, false, not, List, [], ◌∷◌, ◌++◌, length, take, get_or, refl, sym, ap, ◌∙◌, Option, Some, None, is_some, Ok, Err, arith, if◌then◌else◌, slice_get, zero-add, append-nil, Result}
 use Rattle.std.proofs.lemmas.List.Sums.{count_by_more_yes, count_by_more_no}
 use Rattle.std.specs.List.{filter_map, cons_option, enumerate_from}
 use Rattle.std.proofs.Math.Seq.{take-length}
@@ -7,6 +7,7 @@ use Rattle.std.proofs.lemmas.List.{take_more}
 use Rattle.std.proofs.lemmas.List.Elements.{filter_map-append}
 use Rattle.std.proofs.lemmas.List.FromFn.{get_or-enumerate_from, length-enumerate_from}
 use Rattle.spec_base.proofs.Filters.{nothing_more, first_found}
+use Rattle.spec_base.specs.Reading.{first_or}
 use Rattle.sol_base.specs.declared.key.Key.{Key}
 use Rattle.message_codec.specs.declared.message.Instruction.{Instruction}
 use Rattle.message_codec.specs.declared.message.Message.{Message}
@@ -15,7 +16,8 @@ use Rattle.fee_rules.specs.declared.request.Request.TheVariants.{HeapFrame, Unit
 use Rattle.fee_rules.specs.declared.request.Asked.{Asked}
 use Rattle.fee_rules.specs.declared.budget.BudgetFault.TheVariants.{BadBudget, RepeatedBudget}
 use Rattle.fee_rules.specs.Requests.{asked_of, asked_with, first_asked, has_asked, heap_in, limit_in, loaded_in, price_in, request_of}
-use Rattle.fee_rules.specs.Budgets.{budget_for, budget_in, fault_at, fault_of, faults_in, first_or, is_budget, others_in, request_in, requests_in}
+use Rattle.fee_rules.specs.Budgets.{budget_for, budget_in, fault_at, fault_of, faults_in, is_budget, others_in, request_in, requests_in}
+use Rattle.fee_rules.specs.declared.budget.BudgetFault.{BudgetFault}
 
 -- ---- requests
 first_more : (xs : List ℕ) (o : Option ℕ) → is_some (slice_get xs 0) ≡ false → slice_get (xs ++ cons_option o []) 0 ≡ o
@@ -79,10 +81,10 @@ module _ (keys : List Key) (instructions : List Instruction) (n : ℕ) (asked : 
     few = let few = so_far.few in omega arith;
   }
 
-  pub bad : is_budget keys x ≡ true → request_of x.input ≡ None → {X : Type 0} (answer : X) → first_or (faults_in keys instructions) answer ≡ Err (BadBudget n)
+  pub bad : is_budget keys x ≡ true → request_of x.input ≡ None → {X : Type 0} (answer : Result X BudgetFault) → first_or (faults_in keys instructions) answer ≡ Err (BadBudget n)
   bad is spells answer = ap (λ faults. first_or faults answer) (first_found (fault_at keys instructions) (enumerate_from 0 instructions) n (n, x) (BadBudget n) within so_far.none_wrong (fault_here true is ∙ ap (λ o. fault_of asked o n) spells))
 
-  pub repeated : (r : Request) → is_budget keys x ≡ true → request_of x.input ≡ Some r → has_asked asked r ≡ true → {X : Type 0} (answer : X) → first_or (faults_in keys instructions) answer ≡ Err (RepeatedBudget n)
+  pub repeated : (r : Request) → is_budget keys x ≡ true → request_of x.input ≡ Some r → has_asked asked r ≡ true → {X : Type 0} (answer : Result X BudgetFault) → first_or (faults_in keys instructions) answer ≡ Err (RepeatedBudget n)
   repeated r is spells again answer = ap (λ faults. first_or faults answer) (first_found (fault_at keys instructions) (enumerate_from 0 instructions) n (n, x) (RepeatedBudget n) within so_far.none_wrong (fault_here true is ∙ ap (λ o. fault_of asked o n) spells ∙ ap (λ b. if b then Some (RepeatedBudget n) else None) again))
 
 -- after the last instruction
@@ -94,4 +96,4 @@ all_asked message n asked others so_far over =
     let none : faults_in message.keys message.instructions ≡ [] = ap (filter_map (fault_at message.keys message.instructions)) (sym all) ∙ so_far.none_wrong in
     let asks : asked_of (requests_in message.keys message.instructions) ≡ asked = ap (λ is. asked_of (requests_in message.keys is)) (sym whole) ∙ sym so_far.asks in
     let counted : others_in message.keys message.instructions ≡ others = ap (others_in message.keys) (sym whole) ∙ sym so_far.counted in
-    λ i. first_or (none i) (budget_for (asks i) (counted i))
+    λ i. first_or (none i) (Ok (budget_for (asks i) (counted i)))

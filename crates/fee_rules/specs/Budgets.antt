@@ -1,7 +1,8 @@
 -- The budget of a message (Solana).
-use Rattle.std.specs.Prelude.{ℕ, ◌*◌, Bool, false, not, List, [], ◌∷◌, take, min, count_by, slice_get, Option, Some, None, unwrap_or, Result, Ok, Err, if◌then◌else◌}
+use Rattle.std.specs.Prelude.{ℕ, ◌*◌, Bool, false, not, List, take, min, count_by, slice_get, Option, Some, None, unwrap_or, Result, Ok, if◌then◌else◌}
 use Rattle.std.specs.Option.{option_map_or}
 use Rattle.std.specs.List.{filter_map, enumerate_from}
+use Rattle.spec_base.specs.Reading.{first_or}
 use Rattle.sol_base.specs.declared.key.Key.{Key}
 use Rattle.sol_base.specs.declared.key.TheConstants.{COMPUTE_BUDGET_PROGRAM}
 use Rattle.sol_base.specs.Keys.{same_key}
@@ -64,17 +65,13 @@ abbrev pub others_in : List Key → List Instruction → ℕ
 others_in keys instructions =
     count_by (λ instruction. not (is_budget keys instruction)) instructions
 
--- the budget, or the first that is wrong
-abbrev pub first_or : {X : Type 0} → List BudgetFault → X → Result X BudgetFault
-first_or [] answer = Ok answer
-first_or (fault ∷ _) answer = Err fault
-
 -- the budget, where nothing is wrong
 abbrev pub asked_budget : List Key → List Instruction → Budget
 asked_budget keys instructions =
     budget_for (asked_of (requests_in keys instructions)) (others_in keys instructions)
 
+-- the budget, or the first that is wrong
 unfoldable pub budget_in : Message → Result Budget BudgetFault
 budget_in message =
     first_or (faults_in message.keys message.instructions)
-    (asked_budget message.keys message.instructions)
+    (Ok (asked_budget message.keys message.instructions))

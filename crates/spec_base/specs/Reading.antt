@@ -9,6 +9,11 @@ abbrev pub ◌>>=◌ : {A B E : Type 0} → Result A E → (A → Result B E) �
 (Ok x) >>= f = f x
 (Err e) >>= f = Err e
 
+-- the first of many refusals, and the answer where there is none
+abbrev pub first_or : {X E : Type 0} → List E → Result X E → Result X E
+first_or [] answer = answer
+first_or (refusal ∷ _) answer = Err refusal
+
 -- what is done with each item in order, or the first refusal
 unfoldable pub each : {X Y E : Type 0} → (X → Result Y E) → List X → Result (List Y) E
 each one [] = Ok []

@@ -1,10 +1,11 @@
 use Rattle.std.proofs.Common.{◌≡◌, ◌++◌, ◌∙◌, List, length, map, sym, ap, subst, arith, Err}
 use Rattle.std.specs.List.{filter_map, enumerate_from}
 use Rattle.std.proofs.lemmas.Result.{err_from_is_err_and}
+use Rattle.spec_base.specs.Reading.{first_or}
 use Rattle.message_codec.specs.declared.message.Lookup.{Lookup}
 use Rattle.message_codec.proofs.SaneLaws.{are_distinct}
 use Rattle.account_store.specs.State.{at}
-use Rattle.admission.specs.Lookups.{address_at, first_or, if_apart, load, loaded_in, lookup_fault}
+use Rattle.admission.specs.Lookups.{address_at, if_apart, load, loaded_in, lookup_fault}
 use Rattle.admission.proofs.LookupLaws.{AreLoaded, has_all, load_refused, loaded_more, loads_again, loads_apart, or_memory, refused}
 use Rattle.admission.proofs.lookups.resolve.Goals as goal
 

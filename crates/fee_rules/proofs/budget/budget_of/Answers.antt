@@ -1,6 +1,7 @@
-use Rattle.std.proofs.Common.{◌∙◌, sym, ap, length, arith}
+use Rattle.std.proofs.Common.{◌∙◌, sym, ap, length, Ok, Result, arith}
 use Rattle.message_codec.specs.declared.message.Message.{Message}
 use Rattle.fee_rules.specs.declared.budget.Budget.{Budget}
+use Rattle.fee_rules.specs.declared.budget.BudgetFault.{BudgetFault}
 use Rattle.fee_rules.specs.Requests.{asked_of}
 use Rattle.fee_rules.specs.Budgets.{budget_for, budget_in, others_in, requests_in}
 use Rattle.fee_rules.proofs.Progress.{all_asked, bad, other, repeated, request}
@@ -8,8 +9,8 @@ use Rattle.fee_rules.proofs.budget.budget_of.Goals as goal
 use Rattle.fee_rules.proofs.budget.budget_of.Goals.{then-calls_compute_budget+in-Some+else-has, else-calls_compute_budget}
 
 -- the budget, where nothing is wrong
-answer : Message → Budget
-answer message = budget_for (asked_of (requests_in message.keys message.instructions)) (others_in message.keys message.instructions)
+answer : Message → Result Budget BudgetFault
+answer message = Ok (budget_for (asked_of (requests_in message.keys message.instructions)) (others_in message.keys message.instructions))
 
 pub returns-in_default : goal.returns-in_default
 unfolding answer budget_in
