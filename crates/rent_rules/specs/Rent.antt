@@ -25,8 +25,8 @@ rent_state_of lamports len =
     Paying lamports len
 
 -- the rent state of an account
-abbrev pub state_of : Account → RentState
-state_of a = rent_state_of a.lamports (length a.bytes)
+abbrev pub rent_of : Account → RentState
+rent_of a = rent_state_of a.lamports (length a.bytes)
 
 -- `MayMove` by rent states alone
 abbrev pub moves : RentState → RentState → Bool

@@ -1,7 +1,7 @@
 ghost use Rattle.std.specs.Prelude.{◌≡◌, ◌↔◌, ◌≤◌, IsTrue};
 ghost use Rattle.sol_base.specs.declared.account.Account.{Account};
 ghost use Rattle.sol_base.specs.Accounts.{max_data_len};
-ghost use Rattle.rent_rules.specs.Rent.{minimum_of, rent_state_of, state_of, moves, MayMove};
+ghost use Rattle.rent_rules.specs.Rent.{minimum_of, rent_state_of, rent_of, moves, MayMove};
 
 /// The bytes that an account takes beside its data (Solana).
 pub const ACCOUNT_OVERHEAD: u64 = 128;
@@ -46,7 +46,7 @@ pub fn rent_state(lamports: u64, len: u64) -> RentState
 /// Whether an account may go from the one state to the other (Solana).
 pub fn may_move(before: &RentState, after: &RentState) -> bool
     ensures states { result ≡ moves before.now after.now }
-    ensures accounts { (a b : Account) → state_of a ≡ before.now → state_of b ≡ after.now →
+    ensures accounts { (a b : Account) → rent_of a ≡ before.now → rent_of b ≡ after.now →
         (IsTrue result ↔ MayMove a b) }
 {
     match (before, after) {
