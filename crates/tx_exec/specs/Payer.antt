@@ -3,7 +3,7 @@ use Rattle.std.specs.Prelude.{ℕ, ◌+◌, ◌-◌, ◌==◌, ◌&&◌, not, Bo
 use Rattle.sol_base.specs.declared.key.TheConstants.{SYSTEM_PROGRAM}
 use Rattle.sol_base.specs.declared.account.Account.{Account}
 use Rattle.sol_base.specs.Keys.{same_key}
-use Rattle.rent_rules.specs.Rent.{state_of, moves}
+use Rattle.rent_rules.specs.Rent.{rent_of, moves}
 use Rattle.tx_report.specs.declared.cause.DropCause.{DropCause}
 use Rattle.tx_report.specs.declared.cause.DropCause.TheVariants.{PayerAbsent, PayerNotSystem, CannotPayFee, PayerRent}
 use Rattle.admission.specs.declared.chosen.Chosen.{Chosen}
@@ -21,7 +21,7 @@ is_wallet account = same_key account.owner SYSTEM_PROGRAM && not account.executa
 
 -- the rent does not allow what the fee leaves
 abbrev pub breaks_rent : Account → Account → Bool
-breaks_rent before after = not (moves (state_of before) (state_of after))
+breaks_rent before after = not (moves (rent_of before) (rent_of after))
 
 -- why a payer cannot pay, by the first reason
 abbrev pub drop_cause : Account → ℕ → Option DropCause

@@ -2,7 +2,7 @@
 ghost use Rattle.std.specs.Prelude.{◌≡◌, ◌∷◌, ◌++◌, ◌≤◌, [], None, map, IfOk, OnOk};
 ghost use Rattle.std.specs.Arc.{arc_value};
 ghost use Rattle.sol_base.specs.Accounts.{AreShort, IsShort, accounts_of};
-ghost use Rattle.rent_rules.specs.Rent.{moves, rent_state_of, state_of};
+ghost use Rattle.rent_rules.specs.Rent.{moves, rent_state_of, rent_of};
 ghost use Rattle.tx_exec.specs.Payer.{charged, drop_cause, dropped, is_wallet, less};
 
 use rent_rules::{may_move, rent_state};
@@ -49,7 +49,7 @@ fn is_a_wallet(account: &Account) -> bool
 pub fn may_become(before: &Account, lamports: u64, len: usize) -> bool
     requires before { IsShort before.now }
     requires after { len ≤ 10485760 }
-    ensures { result ≡ moves (state_of before.now) (rent_state_of lamports len) }
+    ensures { result ≡ moves (rent_of before.now) (rent_state_of lamports len) }
 {
     let old = rent_state(before.lamports, before.bytes.len() as u64);
     let new = rent_state(lamports, len as u64);
