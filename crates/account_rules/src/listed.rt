@@ -1,3 +1,4 @@
+//! The account rules over the accounts that a frame lists.
 ghost use Rattle.std.specs.Prelude.{◌≡◌, ℕ, ◌≤◌, OnOk, length, slice_get};
 ghost use Rattle.sol_base.specs.Accounts.{accounts_of, SameUnlessTouched};
 ghost use Rattle.sol_base.specs.Metas.{AreInRange, SameUnlessListed, is_listed_writable};

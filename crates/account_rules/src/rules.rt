@@ -1,3 +1,4 @@
+//! The account rules over all accounts of a frame.
 ghost use Rattle.std.specs.Prelude.{◌≡◌, ◌≤◌, ◌↔◌, IsTrue, IsSomeAnd, OnOk, length, slice_get, false, Some};
 ghost use Rattle.std.specs.Option.{ForSome};
 ghost use Rattle.sol_base.specs.Accounts.{accounts_of, lamports_in, SameUnlessTouched};

@@ -1,3 +1,4 @@
+//! One byte changed, by each of the three calls.
 ghost use Rattle.std.specs.Prelude.{◌≡◌};
 
 use crate::{RuleFault, check, check_listed, check_touched};

@@ -1,3 +1,4 @@
+//! Accounts by key, and their sum.
 ghost use Rattle.std.specs.Prelude.{◌≡◌, ◌≤◌, ◌+◌, ◌-◌, ◌^◌, ◌<◌, ◌∷◌, ◌++◌, [], None, Some, All, OnOk, OnErr, IfOk, IfErr, option_map, option_copied, length};
 ghost use Rattle.std.specs.Arc.{arc_value};
 ghost use Rattle.spec_base.specs.Reading.{Gives};

@@ -1,3 +1,4 @@
+//! Accounts with their keys, and why a list of them is no state.
 ghost use Rattle.std.specs.Prelude.{◌≡◌};
 ghost use Rattle.account_store.specs.declared.sorted.StoreFault.TheVariants.{OutOfMemory as no_memory};
 

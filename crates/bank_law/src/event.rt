@@ -1,3 +1,4 @@
+//! The events of the core machine.
 /// What happens to a position: it is lent to a lane, its effects are taken, or it is given back.
 #[derive(Clone, Copy, Debug, PartialEq, Eq)]
 pub enum EventKind {

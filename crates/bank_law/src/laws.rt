@@ -1,3 +1,4 @@
+//! The laws of the serial run, the core machine and its histories.
 ghost use Rattle.bank_law.specs.Laws.{EveryLegalHistoryIsSound, SomePositionIsReady, OneIsLeastReady, LeastReadyIsOne, NoneLeftIsAllDone, AccountsEndSerial, OutcomesEndSerial, EachJobCanEnd};
 ghost use Rattle.bank_law.specs.Laws.{LanesHoldTheirOwn, OwnGrows, OwnOfOthersStays, HoldsByTheLast, GrantsAddOne, EndsTakeOne, FewAreHeld, HistoriesAreShort, ReturnsAreFew, DoneStaysDone, AllDoneIsTheEnd};
 ghost use Rattle.bank_law.specs.Laws.{LoansFit, LoansHaveNoMore, SerialRunsHaveNoMore, SerialRunsFit, LamportsMove, UnwrittenStays, StatesRunSerially, SerialStatesAreStates, SumsMove};

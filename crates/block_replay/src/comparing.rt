@@ -1,3 +1,4 @@
+//! Comparing a record with what its entries give when they run again.
 ghost use Rattle.std.specs.Prelude.{◌≡◌, ◌<◌, ◌≤◌, ℕ, length, All, drop, slice_get, IfOk};
 ghost use Rattle.block_record.specs.Record.{AreCountable, IsCounted};
 ghost use Rattle.block_replay.specs.Verdict.{IsReplayOf, differences, entries_differences, entry_differences, head_differences, in_hash, in_lines, in_number, in_status, refused_entry, same_bytes, same_lines, tail_differences, verdict};

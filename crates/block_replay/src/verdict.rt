@@ -1,3 +1,4 @@
+//! What a replay comes to.
 ghost use Rattle.std.specs.Prelude.{◌≡◌};
 ghost use Rattle.block_replay.specs.Verdict.{name_of};
 

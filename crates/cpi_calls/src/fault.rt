@@ -1,3 +1,4 @@
+//! The refusals of requests and of rights.
 use sbpf_memory::AccessViolation;
 use sol_base::OutOfMemory;
 use std::alloc::AllocError;

@@ -1,3 +1,4 @@
+//! The rights that a called program is granted.
 ghost use Rattle.std.specs.Prelude.{◌≡◌, ◌<◌, ◌≤◌, length, position, IfSome};
 ghost use Rattle.std.specs.List.{list_any, position_from, zip};
 ghost use Rattle.spec_base.specs.Reading.{Gives};

@@ -1,3 +1,4 @@
+//! Laws of requests and of rights.
 ghost use Rattle.std.specs.Prelude.{◌≡◌, ℕ, ◌≤◌, List};
 ghost use Rattle.sol_base.specs.declared.key.Key.{Key};
 ghost use Rattle.sol_base.specs.declared.lock.Meta.{Meta};

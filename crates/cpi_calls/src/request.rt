@@ -1,3 +1,4 @@
+//! Reading the request of a cross-program call.
 ghost use Rattle.std.specs.Prelude.{◌≡◌, ◌-◌, ◌≤◌, nat_lt, length, if◌then◌else◌};
 ghost use Rattle.spec_base.specs.Reading.{Gives};
 ghost use Rattle.sbpf_memory.specs.Plain.{plain_memory};

@@ -1,3 +1,4 @@
+//! Calls that are read, that are refused, and signed by seeds.
 use crate::{CallFault, CallRequest, KeyMeta, RightsFault, grant_rights, read_call};
 use sbpf_memory::{MemFault, Memory};
 use sol_base::{Blob, Items, Key, Meta, OutOfMemory, Parts, SYSTEM_PROGRAM, program_key};

@@ -1,3 +1,4 @@
+//! The budget of a message.
 ghost use Rattle.std.specs.Prelude.{◌≡◌, ◌<◌, ◌≤◌, All, length};
 ghost use Rattle.message_codec.specs.Compact.{max_count};
 ghost use Rattle.message_codec.specs.Wire.{IsCountable};

@@ -1,3 +1,4 @@
+//! Fees and the priority of a message.
 ghost use Rattle.std.specs.Prelude.{◌≡◌, ◌+◌};
 ghost use Rattle.fee_rules.specs.Fees.{fee_of, priority_of};
 

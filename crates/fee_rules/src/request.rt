@@ -1,3 +1,4 @@
+//! The requests of compute budget instructions.
 ghost use Rattle.std.specs.Prelude.{◌≡◌};
 ghost use Rattle.std.specs.Int.{w32, w64};
 ghost use Rattle.fee_rules.specs.Requests.{asked_with, has_asked, heap_frame_of, loaded_limit_of, no_request, number_of, request_of};

@@ -1,3 +1,4 @@
+//! How fees are split between the collector and what is burned.
 ghost use Rattle.std.specs.Prelude.{◌≡◌, ◌+◌, ◌<◌, ◌^◌};
 ghost use Rattle.fee_rules.specs.Fees.{split_of};
 

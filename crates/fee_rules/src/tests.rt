@@ -1,3 +1,4 @@
+//! Budgets and fees of messages.
 ghost use Rattle.std.specs.Prelude.{◌<◌, ◌↔◌, All, IsTrue, length};
 
 use super::*;

@@ -1,3 +1,4 @@
+//! The refusals of the loader.
 use account_rules::RuleFault;
 use sol_base::OutOfMemory;
 use spec_base::Refusal;

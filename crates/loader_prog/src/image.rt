@@ -1,3 +1,4 @@
+//! The image that an account holds.
 ghost use Rattle.std.specs.Prelude.{◌≡◌};
 ghost use Rattle.loader_prog.specs.Buffers.{candidate_in};
 

@@ -1,3 +1,4 @@
+//! The instructions of the loader.
 ghost use Rattle.std.specs.Prelude.{◌≡◌};
 ghost use Rattle.spec_base.specs.Reading.{Gives};
 ghost use Rattle.loader_prog.specs.Requests.{accounts_needed, fields_at, init_at, is_memory, request_as, request_in, set_authority_at, write_at};

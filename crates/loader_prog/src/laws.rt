@@ -1,3 +1,4 @@
+//! Laws of the loader and of activation.
 ghost use Rattle.std.specs.Prelude.{◌≡◌, ℕ, List, Ok, Some, length};
 ghost use Rattle.sol_base.specs.declared.key.Key.{Key};
 ghost use Rattle.sol_base.specs.declared.account.Account.{Account};

@@ -1,3 +1,4 @@
+//! One instruction of the loader.
 ghost use Rattle.std.specs.Prelude.{◌≡◌, ◌<◌, ◌≤◌, ◌^◌, true, false, length, replicate, slice_set, vec_len, IfOk};
 ghost use Rattle.std.specs.List.{slice_index_or};
 ghost use Rattle.spec_base.specs.Reading.{Gives};

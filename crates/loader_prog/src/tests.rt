@@ -1,3 +1,4 @@
+//! Each instruction once, the order of refusals, and a program that is deployed.
 ghost use Rattle.std.specs.Prelude.{◌≡◌, IfOk};
 ghost use Rattle.std.specs.Arc.{arc_value};
 ghost use Rattle.sol_base.specs.declared.account.Account.{Account as AccountValue};

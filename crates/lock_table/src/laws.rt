@@ -1,3 +1,4 @@
+//! Laws of numbered keys and sets.
 ghost use Rattle.lock_table.specs.Laws.{ConflictIsClash, EqualKeysEqualNumbers, KeysStayDistinct, TablesGrowLittle, KeysStay};
 
 /// A law: numbered locks conflict exactly where the locks that they stand for do.

@@ -1,3 +1,4 @@
+//! Locks over numbers, and lists of locks with distinct keys.
 ghost use Rattle.std.specs.Prelude.{◌≡◌, ◌↔◌, IsTrue};
 ghost use Rattle.std.specs.List.{IsDistinct, list_any};
 ghost use Rattle.bank_law.specs.Job.{same_key, lock_keys};

@@ -1,3 +1,4 @@
+//! The locks of a position over numbers, and when two sets conflict.
 ghost use Rattle.std.specs.Prelude.{◌≡◌, ◌+◌, ◌^◌, ◌<◌, IfOk, OnOk, OnErr, length};
 ghost use Rattle.std.specs.List.{IsDistinct, list_any};
 ghost use Rattle.bank_law.specs.Job.{same_key, lock_keys};

@@ -1,3 +1,4 @@
+//! Each call once, and sets that conflict.
 use crate::{KeyTable, LockSet, NumberedLock, conflict, has_distinct_keys, set_of};
 use sol_base::{Key, Lock, LockList};
 use std::alloc::Global;

@@ -1,3 +1,4 @@
+//! The refusals of bytes and of transactions.
 ghost use Rattle.std.specs.Prelude.{◌≡◌};
 
 use sol_base::OutOfMemory;

@@ -1,3 +1,4 @@
+//! Transactions and messages.
 use sol_base::{Blob, Hash32, Items, Key};
 
 /// An Ed25519 signature: 64 bytes. It is carried and never tested.

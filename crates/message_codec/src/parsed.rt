@@ -1,3 +1,4 @@
+//! What a wire is read as.
 ghost use Rattle.std.specs.Prelude.{◌≡◌, IfOk};
 ghost use Rattle.message_codec.specs.Parsing.{IsParsed, parsed_of};
 

@@ -1,3 +1,4 @@
+//! Reading a transaction from its bytes.
 ghost use Rattle.std.specs.Prelude.{◌≡◌, List, IfOk, Ok};
 ghost use Rattle.spec_base.specs.Reading.{Gives};
 ghost use Rattle.message_codec.specs.Wire.{Wire, message_bytes};

@@ -1,3 +1,4 @@
+//! What the keys of a message may do.
 ghost use Rattle.std.specs.Prelude.{◌≡◌, ◌↔◌, ◌+◌, ◌^◌, ◌++◌, ℕ, false, length, map, IsTrue, Contains, IfOk, OnOk, slice_get, ◌||◌, ◌<◌};
 ghost use Rattle.std.specs.List.{slice_index_or, enumerate_from};
 ghost use Rattle.std.specs.Option.{option_copied};

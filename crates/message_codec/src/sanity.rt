@@ -1,3 +1,4 @@
+//! When a transaction is sane.
 ghost use Rattle.std.specs.Prelude.{◌≡◌, ◌+◌, ◌≤◌, length, nat_le, IsOk, ◌↔◌};
 ghost use Rattle.std.specs.List.{list_any};
 ghost use Rattle.message_codec.specs.Wire.{HasShortLists, IsCountable};

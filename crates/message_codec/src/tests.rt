@@ -1,3 +1,4 @@
+//! Every prefix, each refusal, both kinds of message, and roles.
 use super::*;
 use sol_base::{Items, Key, LockList, OutOfMemory, hash};
 use std::alloc::{AllocError, Global};

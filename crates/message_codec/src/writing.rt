@@ -1,3 +1,4 @@
+//! The bytes of a transaction, and the name of a message.
 ghost use Rattle.std.specs.Prelude.{◌≡◌, ◌++◌, All, OnOk, IfOk};
 ghost use Rattle.message_codec.specs.Wire.{IsCountable, HasShortLists, AllowsLookups, kind_bytes, header_bytes, lookups_bytes, message_bytes, message_name, tx_bytes};
 

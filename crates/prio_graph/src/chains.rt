@@ -1,3 +1,4 @@
+//! The chains of each number: its last writer, and the readers since.
 ghost use Rattle.std.specs.Prelude.{◌≡◌, ◌<◌, All, IfOk, OnOk, length};
 ghost use Rattle.std.specs.List.{flat_map};
 ghost use Rattle.lock_table.specs.Numbers.{EachOnce};

@@ -1,3 +1,4 @@
+//! The edges between positions.
 ghost use Rattle.std.specs.Prelude.{◌≡◌, ℕ, ◌+◌, ◌^◌, ◌<◌, ◌≤◌, All, IfOk, OnOk, length};
 ghost use Rattle.prio_graph.specs.Ready.{set_at};
 ghost use Rattle.prio_graph.specs.Kept.{CountsEdges, HasEdges, HasNoOthers};

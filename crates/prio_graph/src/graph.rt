@@ -1,3 +1,4 @@
+//! The graph of positions: which are ready, and the least of them.
 ghost use Rattle.std.specs.Prelude.{◌≡◌, ℕ, ◌+◌, ◌*◌, ◌^◌, ◌<◌, ◌≤◌, All, IfOk, IfSome, IfNone, length, slice_index, slice_set};
 ghost use Rattle.prio_graph.specs.Trees.{IsTree};
 ghost use Rattle.prio_graph.specs.Ready.{all_waiting, IsReady, IsLeastReady, mark_at, set_at};

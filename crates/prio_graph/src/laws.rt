@@ -1,3 +1,4 @@
+//! Laws of the graph.
 ghost use Rattle.prio_graph.specs.Laws.{CountersTell, ReadyInTheMachine};
 
 /// The law of the chained graph: a position's counter is 0 exactly where every earlier conflicting

@@ -1,3 +1,4 @@
+//! Rows of positions.
 ghost use Rattle.std.specs.Prelude.{◌≡◌, ◌<◌, [], All, IfOk, OnOk, OnErr, length, replicate, slice_set};
 ghost use Rattle.prio_graph.specs.Kept.{AddsEdges, pushed_at};
 

@@ -1,3 +1,4 @@
+//! The tree of ready positions, which gives the least.
 ghost use Rattle.std.specs.Prelude.{◌≡◌, ℕ, ◌+◌, ◌*◌, ◌^◌, ◌<◌, ◌≤◌, ◌⊎◌, length, replicate, IfOk};
 ghost use Rattle.prio_graph.specs.Trees.{IsTree, leaf, LeafIsSet, IsALeaf};
 

@@ -1,3 +1,4 @@
+//! The rent of accounts, and the moves that it allows.
 ghost use Rattle.std.specs.Prelude.{◌≡◌, ◌↔◌, ◌≤◌, IsTrue};
 ghost use Rattle.sol_base.specs.declared.account.Account.{Account};
 ghost use Rattle.sol_base.specs.Accounts.{max_data_len};

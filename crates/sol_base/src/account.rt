@@ -1,3 +1,4 @@
+//! Accounts.
 ghost use Rattle.std.specs.Prelude.{◌≡◌, IfOk};
 ghost use Rattle.sol_base.specs.Accounts.{empty_account};
 

@@ -1,3 +1,4 @@
+//! Keys that are derived from others and from seeds.
 ghost use Rattle.std.specs.Prelude.{◌≡◌};
 ghost use Rattle.sol_base.specs.DerivedKeys.{seed_key_of, program_key_of, signing_key_of, has_long};
 

@@ -1,3 +1,4 @@
+//! Keys and hashes, and the keys that are fixed.
 ghost use Rattle.std.specs.Prelude.{◌≡◌};
 ghost use Rattle.sha2.specs.Sha256.{sha256};
 ghost use Rattle.hex.specs.Hex.{encode_lower};

@@ -1,3 +1,4 @@
+//! The locks of a transaction, and the accounts of an instruction.
 use crate::items::Items;
 use crate::key::Key;
 

@@ -1,3 +1,4 @@
+//! Published vectors, and each call once.
 use crate::{
     Account, Blob, CLOCK_SYSVAR, COMPUTE_BUDGET_PROGRAM, Hash32, Items, Key, LOADER_PROGRAM, Lock,
     LockList, OutOfMemory, RENT_SYSVAR, SYSTEM_PROGRAM, SeedFault, SeedsFault, hash, hash_field,

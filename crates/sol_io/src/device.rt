@@ -1,3 +1,4 @@
+//! Sources and sinks.
 ghost use Rattle.std.specs.Prelude.{◌≡◌, ℕ, ◌<◌, ◌≤◌, List, Option, take, length, IfOk, MatchResult};
 ghost use Rattle.sol_io.specs.Counts.{CountsFailures, SinkCounts};
 ghost use Rattle.sol_io.specs.Bytes.{Consumes, Keeps, Appends, IsAtEnd};

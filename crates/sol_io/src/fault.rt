@@ -1,3 +1,4 @@
+//! What a device answers where it fails.
 use sol_base::OutOfMemory;
 use thiserror::Error;
 

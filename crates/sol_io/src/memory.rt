@@ -1,3 +1,4 @@
+//! Devices in memory.
 ghost use Rattle.std.specs.Prelude.{◌≡◌, ◌↔◌, ◌<◌, ◌≤◌, [], min, take, length, IsTrue, Contains, Some, IfOk, MatchResult};
 ghost use Rattle.sol_io.specs.Counts.{CountsFailures, SinkCounts};
 ghost use Rattle.sol_io.specs.Bytes.{Consumes, Keeps, Appends, IsAtEnd};

@@ -1,3 +1,4 @@
+//! Devices in memory that never fail.
 ghost use Rattle.std.specs.Prelude.{◌≡◌, []};
 
 use crate::device::{Sink, Source};

@@ -1,3 +1,4 @@
+//! Devices over the readers and writers of std.
 ghost use Rattle.std.specs.Prelude.{◌≡◌};
 
 use crate::device::{Sink, Source};

@@ -1,3 +1,4 @@
+//! Each device once, with the faults that are listed.
 use crate::{
     MemSink, MemSource, NeverSink, NeverSource, ReadFault, StdSink, StdSource, WriteFault,
     read_all, write_all,

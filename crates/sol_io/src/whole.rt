@@ -1,3 +1,4 @@
+//! Reading and writing whole.
 ghost use Rattle.std.specs.Prelude.{◌≡◌, ◌≤◌, length, take, OnOk, IfErr};
 ghost use Rattle.sol_io.specs.Counts.{ReadCounts, WriteCounts, written_of};
 ghost use Rattle.sol_io.specs.Bytes.{ReadsAll, LosesFront, Appends, IsAtEnd};

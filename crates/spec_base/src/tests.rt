@@ -1,3 +1,4 @@
+//! The fields of a text, each once, and where a cut text is refused.
 use crate::{
     Refusal, array_field, byte_field, bytes_field, number_in, u16_field, u32_field, u64_field,
 };

@@ -1,3 +1,4 @@
+//! The newest blocks of a chain.
 ghost use Rattle.std.specs.Prelude.{◌≡◌, ◌∷◌, [], OnOk, OnErr, take};
 ghost use Rattle.status_cache.specs.Recent.{Ascends, IsRecent, has_hash, knows, max_marks, newest_of, processed};
 

@@ -1,3 +1,4 @@
+//! What a frame lends to its system calls.
 ghost use Rattle.std.specs.Prelude.{◌≡◌, ◌-◌, ◌≤◌, nat_lt, if◌then◌else◌};
 
 use crate::fault::SysFault;

@@ -1,3 +1,4 @@
+//! Laws of system calls.
 ghost use Rattle.std.specs.Prelude.{◌≡◌, ℕ, ◌≤◌, List};
 ghost use Rattle.sbpf_memory.specs.Memory.{Ranges};
 ghost use Rattle.sys_calls.specs.declared.env.Env.{Env};

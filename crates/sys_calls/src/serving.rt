@@ -1,3 +1,4 @@
+//! Serving one system call.
 ghost use Rattle.std.specs.Prelude.{◌≡◌, ◌≤◌, OnOk, OnErr, IfOk, IfErr};
 ghost use Rattle.tx_report.specs.LogLines.{with_line};
 ghost use Rattle.sbpf_memory.specs.Plain.{plain_memory};

@@ -1,3 +1,4 @@
+//! Each system call once, its cost, and its refusals.
 ghost use Rattle.std.specs.Prelude.{◌≤◌};
 
 use crate::{Env, SysFault, serve};

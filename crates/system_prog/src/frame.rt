@@ -1,3 +1,4 @@
+//! What an instruction of the system program is given.
 ghost use Rattle.std.specs.Prelude.{◌≡◌, ◌<◌, length};
 ghost use Rattle.sol_base.specs.Metas.{AreInRange, is_listed_signer};
 ghost use Rattle.std.specs.List.{list_any};

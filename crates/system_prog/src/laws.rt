@@ -1,3 +1,4 @@
+//! Laws of the system program.
 ghost use Rattle.std.specs.Prelude.{◌≡◌, ℕ, List, Ok, length};
 ghost use Rattle.sol_base.specs.declared.account.Account.{Account};
 ghost use Rattle.sol_base.specs.declared.key.Key.{Key};

@@ -1,3 +1,4 @@
+//! One instruction of the system program.
 ghost use Rattle.std.specs.Prelude.{◌≡◌, ◌<◌, ◌≤◌, ◌^◌, IfOk, Ok, length};
 ghost use Rattle.spec_base.specs.Reading.{Gives};
 ghost use Rattle.sol_base.specs.Accounts.{accounts_of, lamports_in};

@@ -1,3 +1,4 @@
+//! Each instruction once, each refusal, and a transfer that fails.
 ghost use Rattle.std.specs.Prelude.{◌≡◌, IfOk, length};
 ghost use Rattle.std.specs.Arc.{arc_value};
 ghost use Rattle.sol_base.specs.declared.account.Account.{Account as AccountValue};

@@ -1,3 +1,4 @@
+//! Why transactions fail or are dropped.
 ghost use Rattle.std.specs.Prelude.{◌≡◌};
 ghost use Rattle.tx_report.specs.Causes.{code_of, name_of, cause_with, drop_code_of, drop_name_of, drop_cause_with, numbered};
 

@@ -1,3 +1,4 @@
+//! The log lines of a transaction.
 ghost use Rattle.std.specs.Prelude.{◌≡◌, OnOk, OnErr};
 ghost use Rattle.tx_report.specs.LogLines.{no_lines, with_line};
 

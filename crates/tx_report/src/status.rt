@@ -1,3 +1,4 @@
+//! Statuses, and their bytes.
 ghost use Rattle.std.specs.Prelude.{◌≡◌};
 ghost use Rattle.tx_report.specs.Statuses.{status_bytes_of, status_from, part_bytes, status_with};
 

@@ -1,3 +1,4 @@
+//! The texts of causes and statuses.
 ghost use Rattle.std.specs.Prelude.{◌≡◌, ◌++◌, IfOk, OnOk};
 ghost use Rattle.tx_report.specs.Statuses.{cause_text_of, index_text_of, status_text_of};
 

@@ -1,3 +1,4 @@
+//! Blocks with no message and with two, and the block that is forgotten.
 ghost use Rattle.std.specs.Prelude.{IfOk};
 ghost use Rattle.status_cache.specs.Recent.{Ascends};
 
