@@ -23,4 +23,5 @@ listed_again listing place meta = record {
 
 -- the listings of all accounts that a meta can name
 abbrev pub IsTableOf : List Meta → List Listing → Type 0
-IsTableOf metas table = (index : ℕ) → index < 256 → slice_get table index ≡ Some (listing_in metas index)
+IsTableOf metas table =
+    (index : ℕ) → index < 256 → slice_get table index ≡ Some (listing_in metas index)

@@ -47,7 +47,8 @@ impl Draft {
 
     /// Adds the data of an account, which are lent.
     pub fn lend(&mut self, alloc: Global, account: &Arc<Account>) -> Result<(), OutOfMemory>
-        ensures { OnOk result (let lent : AccountValue = arc_value account.now in self.new ≡ self.old ++ lent.bytes) }
+        ensures { OnOk result
+            (let lent : AccountValue = arc_value account.now in self.new ≡ self.old ++ lent.bytes) }
     {
         self.add(alloc, Part::Lent(Arc::try_clone(account)?))
     }

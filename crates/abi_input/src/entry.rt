@@ -70,7 +70,8 @@ pub fn add_state(
 ) -> Result<(), OutOfMemory>
     requires room { room < 2 ^ 32 }
     requires fits { let value : AccountValue = arc_value account.now in length value.bytes ≤ room }
-    ensures bytes { OnOk result (draft.new ≡ draft.old ++ state_bytes room (arc_value account.now)) }
+    ensures bytes { OnOk result (draft.new
+        ≡ draft.old ++ state_bytes room (arc_value account.now)) }
     ensures size { OnOk result (length draft.new ≡ length draft.old + 48 + room) }
 {
     let value: &Account = account;
@@ -93,8 +94,10 @@ pub fn add_first(
     account: &Arc<Account>,
 ) -> Result<(), OutOfMemory>
     requires { IsShort (arc_value account.now) }
-    ensures bytes { OnOk result (draft.new ≡ draft.old ++ first_entry signer writable key.now (arc_value account.now)) }
-    ensures size { OnOk result (length draft.new ≡ length draft.old + first_size (arc_value account.now)) }
+    ensures bytes { OnOk result (draft.new
+        ≡ draft.old ++ first_entry signer writable key.now (arc_value account.now)) }
+    ensures size { OnOk result (length draft.new
+        ≡ length draft.old + first_size (arc_value account.now)) }
 {
     let value: &Account = account;
     let flags = [

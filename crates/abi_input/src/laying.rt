@@ -28,8 +28,12 @@ pub fn lay_out(
     requires range { AreInRange (length (accounts_of accounts.now)) metas.now }
     requires short { AreShort (accounts_of accounts.now) }
     requires input { length input.now ≤ 65535 }
-    ensures value { IfOk result (λ region. region ≡ unprepared (input_of keys.now (accounts_of accounts.now) metas.now input.now program.now)) }
-    ensures size { IfOk result (λ region. IsRegionOf (accounts_of accounts.now) metas.now region.bytes) }
+    ensures value { IfOk result
+        (λ region. region
+        ≡ unprepared (input_of keys.now (accounts_of accounts.now) metas.now input.now
+        program.now)) }
+    ensures size { IfOk result
+        (λ region. IsRegionOf (accounts_of accounts.now) metas.now region.bytes) }
 {
     let mut draft = Draft::new(alloc, parts_for(metas))?;
     draft.append(&(metas.len() as u64).to_le_bytes())?;
@@ -57,8 +61,11 @@ fn add_entries(
     requires most { length metas.now ≤ 255 }
     requires range { AreInRange (length (accounts_of accounts.now)) metas.now }
     requires short { AreShort (accounts_of accounts.now) }
-    ensures bytes { OnOk result (draft.new ≡ draft.old ++ flat_map (entry_of keys.now (accounts_of accounts.now) metas.now) (enumerate_from 0 metas.now)) }
-    ensures size { OnOk result (length draft.new + 8 ≡ length draft.old + entry_start (accounts_of accounts.now) metas.now (length metas.now)) }
+    ensures bytes { OnOk result (draft.new
+        ≡ draft.old ++ flat_map (entry_of keys.now (accounts_of accounts.now) metas.now)
+        (enumerate_from 0 metas.now)) }
+    ensures size { OnOk result (length draft.new + 8
+        ≡ length draft.old + entry_start (accounts_of accounts.now) metas.now (length metas.now)) }
 {
     let table = listings(metas);
     for (place, meta) in metas.iter().enumerate() {
@@ -83,8 +90,10 @@ fn add_entry(
     requires short { AreShort (accounts_of accounts.now) }
     requires table { IsTableOf metas.now table.now }
     requires there { slice_get metas.now place ≡ Some meta.now }
-    ensures bytes { OnOk result (draft.new ≡ draft.old ++ entry_of keys.now (accounts_of accounts.now) metas.now (place, meta.now)) }
-    ensures size { OnOk result (length draft.new ≡ length draft.old + entry_size (accounts_of accounts.now) metas.now (place, meta.now)) }
+    ensures bytes { OnOk result (draft.new
+        ≡ draft.old ++ entry_of keys.now (accounts_of accounts.now) metas.now (place, meta.now)) }
+    ensures size { OnOk result (length draft.new
+        ≡ length draft.old + entry_size (accounts_of accounts.now) metas.now (place, meta.now)) }
 {
     let index = usize::from(meta.index);
     let listing = listing_of(metas, table, meta);

@@ -37,7 +37,9 @@ pub fn patch(
     requires most { length metas.now ≤ 255 }
     requires range { AreInRange (length (accounts_of start.now)) metas.now }
     requires region { IsRegionOf (accounts_of start.now) metas.now region.old.bytes }
-    ensures answer { Patches (patched region.old.bytes (accounts_of start.now) (accounts_of now.now) metas.now) region.old.bytes region.new.bytes result }
+    ensures answer { Patches
+        (patched region.old.bytes (accounts_of start.now) (accounts_of now.now) metas.now)
+        region.old.bytes region.new.bytes result }
     ensures size { length region.new.bytes ≡ length region.old.bytes }
 {
     let _len = region.len();
@@ -60,8 +62,12 @@ fn check_rooms(
     requires range { AreInRange (length (accounts_of start.now)) metas.now }
     requires table { IsTableOf metas.now table.now }
     requires sizes { entry_start (accounts_of start.now) metas.now (length metas.now) < 2 ^ 32 }
-    ensures ok { OnOk result (found_among (is_outgrown (accounts_of start.now) (accounts_of now.now)) metas.now (length metas.now) ≡ None) }
-    ensures err { IfErr result (RefusesPatch (found_among (is_outgrown (accounts_of start.now) (accounts_of now.now)) metas.now (length metas.now))) }
+    ensures ok { OnOk result
+        (found_among (is_outgrown (accounts_of start.now) (accounts_of now.now)) metas.now
+        (length metas.now) ≡ None) }
+    ensures err { IfErr result
+        (RefusesPatch (found_among (is_outgrown (accounts_of start.now) (accounts_of now.now))
+        metas.now (length metas.now))) }
 {
     for (place, meta) in metas.iter().enumerate() {
         if outgrows(start, now, metas, table, place, meta) {
@@ -85,7 +91,8 @@ fn outgrows(
     requires table { IsTableOf metas.now table.now }
     requires there { slice_get metas.now place ≡ Some meta.now }
     requires most { entry_start (accounts_of start.now) metas.now (length metas.now) < 2 ^ 32 }
-    ensures { result ≡ (is_first_listing metas.now (place, meta.now) && is_outgrown (accounts_of start.now) (accounts_of now.now) (place, meta.now)) }
+    ensures { result ≡ (is_first_listing metas.now (place, meta.now)
+        && is_outgrown (accounts_of start.now) (accounts_of now.now) (place, meta.now)) }
 {
     if !is_first(metas, table, place, meta) {
         return false;
@@ -111,8 +118,11 @@ fn patched_region(
     requires region { IsRegionOf (accounts_of start.now) metas.now region.now.bytes }
     requires most_bytes { length region.now.bytes < 2 ^ 32 }
     requires table { IsTableOf metas.now table.now }
-    requires rooms { found_among (is_outgrown (accounts_of start.now) (accounts_of now.now)) metas.now (length metas.now) ≡ None }
-    ensures bytes { IfOk result (λ next. patched region.now.bytes (accounts_of start.now) (accounts_of now.now) metas.now ≡ Ok next.bytes) }
+    requires rooms { found_among (is_outgrown (accounts_of start.now) (accounts_of now.now))
+        metas.now (length metas.now) ≡ None }
+    ensures bytes { IfOk result
+        (λ next. patched region.now.bytes (accounts_of start.now) (accounts_of now.now) metas.now
+        ≡ Ok next.bytes) }
     ensures size { IfOk result (λ next. length next.bytes ≡ length region.now.bytes) }
 {
     let mut draft = Draft::new(alloc, parts_for(metas))?;
@@ -138,10 +148,16 @@ fn patch_entries(
     requires region { IsRegionOf (accounts_of start.now) metas.now region.now.bytes }
     requires most_bytes { length region.now.bytes < 2 ^ 32 }
     requires table { IsTableOf metas.now table.now }
-    requires rooms { found_among (is_outgrown (accounts_of start.now) (accounts_of now.now)) metas.now (length metas.now) ≡ None }
-    ensures bytes { OnOk result (draft.new ≡ draft.old ++ flat_map (patched_entry region.now.bytes (accounts_of start.now) (accounts_of now.now) metas.now) (enumerate_from 0 metas.now)) }
-    ensures size { OnOk result (length draft.new + 8 ≡ length draft.old + entry_start (accounts_of start.now) metas.now (length metas.now)) }
-    ensures end { IfOk result (λ end. end ≡ entry_start (accounts_of start.now) metas.now (length metas.now)) }
+    requires rooms { found_among (is_outgrown (accounts_of start.now) (accounts_of now.now))
+        metas.now (length metas.now) ≡ None }
+    ensures bytes { OnOk result (draft.new
+        ≡ draft.old ++ flat_map
+        (patched_entry region.now.bytes (accounts_of start.now) (accounts_of now.now) metas.now)
+        (enumerate_from 0 metas.now)) }
+    ensures size { OnOk result (length draft.new + 8
+        ≡ length draft.old + entry_start (accounts_of start.now) metas.now (length metas.now)) }
+    ensures end { IfOk result
+        (λ end. end ≡ entry_start (accounts_of start.now) metas.now (length metas.now)) }
 {
     let mut entry = FIRST_ENTRY;
     for (place, meta) in metas.iter().enumerate() {
@@ -173,10 +189,14 @@ fn patch_entry(
     requires most_bytes { length region.now.bytes < 2 ^ 32 }
     requires table { IsTableOf metas.now table.now }
     requires there { slice_get metas.now place ≡ Some meta.now }
-    requires rooms { found_among (is_outgrown (accounts_of start.now) (accounts_of now.now)) metas.now (length metas.now) ≡ None }
+    requires rooms { found_among (is_outgrown (accounts_of start.now) (accounts_of now.now))
+        metas.now (length metas.now) ≡ None }
     requires entry { entry ≡ entry_start (accounts_of start.now) metas.now place }
-    ensures bytes { OnOk result (draft.new ≡ draft.old ++ patched_entry region.now.bytes (accounts_of start.now) (accounts_of now.now) metas.now (place, meta.now)) }
-    ensures size { OnOk result (length draft.new ≡ length draft.old + entry_size (accounts_of start.now) metas.now (place, meta.now)) }
+    ensures bytes { OnOk result (draft.new
+        ≡ draft.old ++ patched_entry region.now.bytes (accounts_of start.now) (accounts_of now.now)
+        metas.now (place, meta.now)) }
+    ensures size { OnOk result (length draft.new
+        ≡ length draft.old + entry_size (accounts_of start.now) metas.now (place, meta.now)) }
 {
     if is_first(metas, table, place, meta) {
         let index = usize::from(meta.index);
@@ -199,8 +219,11 @@ fn patch_first(
 ) -> Result<(), OutOfMemory>
     requires within { entry + first_size start.now ≤ length region.now.bytes }
     requires most { length region.now.bytes < 2 ^ 32 }
-    requires room { let value : AccountValue = arc_value now.now in length value.bytes ≤ room_of start.now }
-    ensures bytes { OnOk result (draft.new ≡ draft.old ++ over_entry start.now (arc_value now.now) (take (first_size start.now) (drop entry region.now.bytes))) }
+    requires room { let value : AccountValue = arc_value now.now in
+        length value.bytes ≤ room_of start.now }
+    ensures bytes { OnOk result (draft.new
+        ≡ draft.old ++ over_entry start.now (arc_value now.now)
+        (take (first_size start.now) (drop entry region.now.bytes))) }
     ensures size { OnOk result (length draft.new ≡ length draft.old + first_size start.now) }
 {
     let room = room_for(start);

@@ -51,9 +51,12 @@ pub fn take_back(
     requires most { length metas.now ≤ 255 }
     requires range { AreInRange (length (accounts_of start.now)) metas.now }
     requires region { IsRegionOf (accounts_of start.now) metas.now region.now.bytes }
-    ensures answer { TakesBack (back region.now.bytes (accounts_of start.now) (accounts_of now.now) metas.now) result }
+    ensures answer { TakesBack
+        (back region.now.bytes (accounts_of start.now) (accounts_of now.now) metas.now) result }
     ensures flags { IfOk result (λ taken. length taken.touched ≡ length (accounts_of now.now)) }
-    ensures untouched { IfOk result (λ taken. SameUnlessTouched taken.touched (accounts_of now.now) (accounts_of taken.accounts)) }
+    ensures untouched { IfOk result
+        (λ taken. SameUnlessTouched taken.touched (accounts_of now.now)
+        (accounts_of taken.accounts)) }
 {
     let _len = region.len();
     let entries = checked_entries(region, start, metas)?;
@@ -71,9 +74,14 @@ fn checked_entries(
     requires range { AreInRange (length (accounts_of start.now)) metas.now }
     requires region { IsRegionOf (accounts_of start.now) metas.now region.now.bytes }
     requires bytes { length region.now.bytes < 2 ^ 32 }
-    ensures ok { IfOk result (λ entries. AreEntries (accounts_of start.now) metas.now (length metas.now) entries) }
-    ensures none { IfOk result (λ entries. found_among (is_too_long region.now.bytes (accounts_of start.now) metas.now) metas.now (length metas.now) ≡ None) }
-    ensures err { IfErr result (RefusesBack (found_among (is_too_long region.now.bytes (accounts_of start.now) metas.now) metas.now (length metas.now))) }
+    ensures ok { IfOk result
+        (λ entries. AreEntries (accounts_of start.now) metas.now (length metas.now) entries) }
+    ensures none { IfOk result
+        (λ entries. found_among (is_too_long region.now.bytes (accounts_of start.now) metas.now)
+        metas.now (length metas.now) ≡ None) }
+    ensures err { IfErr result
+        (RefusesBack (found_among (is_too_long region.now.bytes (accounts_of start.now) metas.now)
+        metas.now (length metas.now))) }
 {
     let table = listings(metas);
     let mut entries = [None; PLACES];
@@ -106,7 +114,8 @@ fn is_refused(
     requires table { IsTableOf metas.now table.now }
     requires there { slice_get metas.now place ≡ Some meta.now }
     requires entry { entry ≡ entry_start (accounts_of start.now) metas.now place }
-    ensures { result ≡ (is_first_listing metas.now (place, meta.now) && is_too_long region.now.bytes (accounts_of start.now) metas.now (place, meta.now)) }
+    ensures { result ≡ (is_first_listing metas.now (place, meta.now)
+        && is_too_long region.now.bytes (accounts_of start.now) metas.now (place, meta.now)) }
 {
     if !is_first(metas, table, place, meta) {
         return false;
@@ -119,7 +128,8 @@ fn has_long_data(region: &Parts, entry: usize, start: &Account) -> bool
     requires within { entry + 88 ≤ length region.now.bytes }
     requires most { length region.now.bytes < 2 ^ 32 }
     requires start { length start.now.bytes < 2 ^ 32 }
-    ensures { result ≡ (has_outgrown start.now (data_len_at region.now.bytes entry) || nat_lt max_data_len (data_len_at region.now.bytes entry)) }
+    ensures { result ≡ (has_outgrown start.now (data_len_at region.now.bytes entry)
+        || nat_lt max_data_len (data_len_at region.now.bytes entry)) }
 {
     let len = number_in(region, entry + DATA_LEN_AT);
     len > room_for(start) as u64 || len > MAX_DATA_LEN as u64
@@ -139,10 +149,16 @@ fn taken_by(
     requires region { IsRegionOf (accounts_of start.now) metas.now region.now.bytes }
     requires most { length region.now.bytes < 2 ^ 32 }
     requires entries { AreEntries (accounts_of start.now) metas.now (length metas.now) entries.now }
-    requires lengths { found_among (is_too_long region.now.bytes (accounts_of start.now) metas.now) metas.now (length metas.now) ≡ None }
-    ensures accounts { IfOk result (λ taken. accounts_of taken.accounts ≡ map (account_back region.now.bytes (accounts_of start.now) metas.now) (enumerate_from 0 (accounts_of now.now))) }
+    requires lengths { found_among (is_too_long region.now.bytes (accounts_of start.now) metas.now)
+        metas.now (length metas.now) ≡ None }
+    ensures accounts { IfOk result
+        (λ taken. accounts_of taken.accounts
+        ≡ map (account_back region.now.bytes (accounts_of start.now) metas.now)
+        (enumerate_from 0 (accounts_of now.now))) }
     ensures flags { IfOk result (λ taken. length taken.touched ≡ length (accounts_of now.now)) }
-    ensures untouched { IfOk result (λ taken. SameUnlessTouched taken.touched (accounts_of now.now) (accounts_of taken.accounts)) }
+    ensures untouched { IfOk result
+        (λ taken. SameUnlessTouched taken.touched (accounts_of now.now)
+        (accounts_of taken.accounts)) }
 {
     let mut accounts = Items::with_capacity(alloc, now.len())?;
     let mut touched = Items::with_capacity(alloc, now.len())?;
@@ -170,8 +186,11 @@ fn take_one(
 ) -> Result<Taken, OutOfMemory>
     requires entry { ForSome entry (IsEntryOf region.now.bytes) }
     requires most { length region.now.bytes < 2 ^ 32 }
-    ensures value { IfOk result (λ taken. arc_value taken.account ≡ account_by region.now.bytes entry (arc_value account.now)) }
-    ensures same { IfOk result (λ taken. taken.touched ≡ false → arc_value taken.account ≡ arc_value account.now) }
+    ensures value { IfOk result
+        (λ taken. arc_value taken.account
+        ≡ account_by region.now.bytes entry (arc_value account.now)) }
+    ensures same { IfOk result (λ taken. taken.touched ≡ false
+        → arc_value taken.account ≡ arc_value account.now) }
 {
     let Some(entry) = entry else {
         return untouched(account);
@@ -226,7 +245,8 @@ fn is_same_key(key: &Key, other: &Key) -> bool
 
 /// The data of the account stand at a place, and are lent or empty.
 fn has_data(region: &Parts, at: usize, account: &Account) -> bool
-    ensures { result ≡ true → take (length account.now.bytes) (drop at region.now.bytes) ≡ account.now.bytes }
+    ensures { result ≡ true → take (length account.now.bytes) (drop at region.now.bytes)
+        ≡ account.now.bytes }
 {
     if account.bytes.is_empty() {
         return true;

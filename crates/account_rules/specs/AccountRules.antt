@@ -1,4 +1,5 @@
--- What the accounts of a frame keep under a stretch of its program's work (Solana; rule 2 and the order are the project's own).
+-- What the accounts of a frame keep under a stretch of its program's work (Solana; rule 2 and the
+-- order are the project's own).
 use Rattle.std.specs.Prelude.{◌≡◌, ℕ, ◌<◌, ◌==◌, Bool, not, ◌&&◌, ◌||◌, List, [], ◌∷◌, ◌++◌, length, map, nat_eq, nat_lt, slice_get, slice_index_or, Option, Some, None, Result, Ok, if◌then◌else◌}
 use Rattle.std.specs.List.{list_any, filter_map, enumerate_from, zip}
 use Rattle.std.specs.Cmp.Lexicographic.{pointwise}
@@ -20,7 +21,8 @@ abbrev pub same_flag : Account → Account → Bool
 same_flag a b = if a.executable then b.executable else not b.executable
 
 abbrev pub same_account : Account → Account → Bool
-same_account a b = (a.lamports == b.lamports) && same_key a.owner b.owner && same_flag a b && same_data a b
+same_account a b =
+    (a.lamports == b.lamports) && same_key a.owner b.owner && same_flag a b && same_data a b
 
 -- a data byte is not zero
 abbrev pub has_byte : Account → Bool
@@ -36,15 +38,19 @@ readonly_changed writable before after = not writable && not (same_account befor
 
 -- 2. an executable account differs, or an executable flag differs
 abbrev pub executable_changed : Account → Account → Bool
-executable_changed before after = (before.executable && not (same_account before after)) || not (same_flag before after)
+executable_changed before after =
+    (before.executable && not (same_account before after)) || not (same_flag before after)
 
--- 3. the owner differs, and either the program is not the owner before or a data byte after is not zero
+-- 3. the owner differs, and either the program is not the owner before or a data byte after is not
+-- zero
 abbrev pub owner_change : Key → Account → Account → Bool
-owner_change program before after = not (same_key before.owner after.owner) && (not (owns program before) || has_byte after)
+owner_change program before after =
+    not (same_key before.owner after.owner) && (not (owns program before) || has_byte after)
 
 -- 4. the lamports fell and the program is not the owner before
 abbrev pub foreign_debit : Key → Account → Account → Bool
-foreign_debit program before after = nat_lt after.lamports before.lamports && not (owns program before)
+foreign_debit program before after =
+    nat_lt after.lamports before.lamports && not (owns program before)
 
 -- 5. the data differ and the program is not the owner before
 abbrev pub foreign_data : Key → Account → Account → Bool
@@ -65,12 +71,14 @@ broken_rule program writable before after i =
     if too_large after then Some (TooLarge i) else
     None
 
--- one account of a frame: the place that a fault of it names, whether it is writable, and how it was before and is after
+-- one account of a frame: the place that a fault of it names, whether it is writable, and how it
+-- was before and is after
 abbrev pub Change : Type 0
 Change = ℕ × (Bool × (Account × Account))
 
 abbrev pub broken_by : Key → Change → Option RuleFault
-broken_by program (place, (writable, (before, after))) = broken_rule program writable before after place
+broken_by program (place, (writable, (before, after))) =
+    broken_rule program writable before after place
 
 abbrev pub befores : List Change → List Account
 befores changes = map (λ change. change.1.1.0) changes
@@ -98,11 +106,22 @@ changes writable before after = enumerate_from 0 (zip writable (zip before after
 
 -- nothing, or the first broken rule with its place
 unfoldable pub rules : Key → List Bool → List Account → List Account → Result (Unit {0}) RuleFault
-rules program writable before after = first_of (broken_rules program (changes writable before after))
+rules program writable before after =
+    first_of (broken_rules program (changes writable before after))
 
 -- the account of a meta, named by the place of that meta; it is writable where one of its metas is
 abbrev pub listed_change : List Meta → List Account → List Account → ℕ × Meta → Change
-listed_change metas before after (at, meta) = (at, (is_listed_writable metas meta.index, (slice_index_or before meta.index empty_account, slice_index_or after meta.index empty_account)))
+listed_change metas before after (at, meta) = (
+  at,
+  (
+    is_listed_writable metas meta.index,
+    (
+      slice_index_or before meta.index empty_account,
+      slice_index_or after meta.index
+          empty_account,
+    ),
+  ),
+)
 
 -- the accounts of a frame, each once, in the order of their first listings
 abbrev pub listed_changes : List Meta → List Account → List Account → List Change
@@ -110,11 +129,14 @@ listed_changes metas before after = map (listed_change metas before after) (firs
 
 -- the broken rules over single accounts of a frame
 abbrev pub listed_faults : Key → List Meta → List Account → List Account → List RuleFault
-listed_faults program metas before after = filter_map (broken_by program) (listed_changes metas before after)
+listed_faults program metas before after =
+    filter_map (broken_by program) (listed_changes metas before after)
 
 -- nothing, or the first rule that the accounts of a frame break, with its place
-unfoldable pub listed_rules : Key → List Meta → List Account → List Account → Result (Unit {0}) RuleFault
-listed_rules program metas before after = first_of (broken_rules program (listed_changes metas before after))
+unfoldable pub listed_rules : Key → List Meta → List Account → List Account
+    → Result (Unit {0}) RuleFault
+listed_rules program metas before after =
+    first_of (broken_rules program (listed_changes metas before after))
 
 -- one flag and one account after for each account before
 pub record AreParallel (flags : List Bool) (before after : List Account) : Type 0 where

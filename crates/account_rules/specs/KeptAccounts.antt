@@ -10,15 +10,18 @@ pub record IsKept (program : Key) (writable : Bool) (before after : Account) : T
   pub readonly : writable ≡ false → before ≡ after
   pub executable : before.executable ≡ true → before ≡ after
   pub flag : before.executable ≡ after.executable
-  pub owner : (before.owner ≡ after.owner) ⊎ ((before.owner ≡ program) × All (λ byte. byte ≡ 0) after.bytes)
+  pub owner : (before.owner ≡ after.owner) ⊎ ((before.owner ≡ program)
+      × All (λ byte. byte ≡ 0) after.bytes)
   pub lamports : (before.lamports ≤ after.lamports) ⊎ (before.owner ≡ program)
   pub bytes : (before.bytes ≡ after.bytes) ⊎ (before.owner ≡ program)
   pub size : IsShort after
 
 -- each account keeps that, and all together their lamports
-pub record AreKept (program : Key) (writable : List Bool) (before after : List Account) : Type 0 where
-  pub each : All (λ (change : Change). IsKept program change.1.0 change.1.1.0 change.1.1.1) (changes writable before after)
-  pub sum : lamports_in before ≡ lamports_in after
+pub record AreKept (program : Key) (writable : List Bool) (before after : List Account) : Type 0
+  where
+    pub each : All (λ (change : Change). IsKept program change.1.0 change.1.1.0 change.1.1.1)
+        (changes writable before after)
+    pub sum : lamports_in before ≡ lamports_in after
 
 -- what the accounts of a transaction keep where only those at some places may be written: their
 -- number, the sum of their lamports, the accounts at the other places, the programs among them, and
@@ -26,8 +29,11 @@ pub record AreKept (program : Key) (writable : List Bool) (before after : List A
 pub record AreKeptBy (may_write : ℕ → Bool) (before after : List Account) : Type 0 where
   pub count : length after ≡ length before
   pub lamports : lamports_in after ≡ lamports_in before
-  pub readonly : (place : ℕ) → may_write place ≡ false → slice_get after place ≡ slice_get before place
+  pub readonly : (place : ℕ) → may_write place ≡ false
+      → slice_get after place ≡ slice_get before place
   -- an executable account stays, and no account becomes executable
-  pub programs : (place : ℕ) (account : Account) → slice_get before place ≡ Some account → account.executable ≡ true → slice_get after place ≡ Some account
-  pub no_new : (place : ℕ) (account : Account) → slice_get after place ≡ Some account → account.executable ≡ true → slice_get before place ≡ Some account
+  pub programs : (place : ℕ) (account : Account) → slice_get before place ≡ Some account
+      → account.executable ≡ true → slice_get after place ≡ Some account
+  pub no_new : (place : ℕ) (account : Account) → slice_get after place ≡ Some account
+      → account.executable ≡ true → slice_get before place ≡ Some account
   pub short : AreShort before → AreShort after

@@ -7,7 +7,8 @@ use Rattle.sol_base.specs.Metas.{is_listed_signer, is_listed_writable}
 abbrev pub indexes : List Meta → List ℕ
 indexes metas = map (λ meta. meta.index) metas
 
--- Two lists have the same accounts in the same order, and each account has the same rights of all its metas together.
+-- Two lists have the same accounts in the same order, and each account has the same rights of all
+-- its metas together.
 pub record SameListing (some others : List Meta) : Type 0 where
   pub order : indexes some ≡ indexes others
   pub signer : (place : ℕ) → is_listed_signer some place ≡ is_listed_signer others place

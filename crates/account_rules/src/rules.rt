@@ -104,7 +104,8 @@ fn check_each(
 }
 
 fn is_untouched(touched: Option<&[bool]>, i: usize) -> bool
-    ensures { IsTrue result ↔ IsSomeAnd touched.entry (λ flags. slice_get flags.now i ≡ Some false) }
+    ensures { IsTrue result
+        ↔ IsSomeAnd touched.entry (λ flags. slice_get flags.now i ≡ Some false) }
 {
     touched.is_some_and(|flags| i < flags.len() && !flags[i])
 }

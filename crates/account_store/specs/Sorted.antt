@@ -35,8 +35,10 @@ pub record AreOfState (es : List (Key × Account)) : Type 0 where
 -- what is wrong with the entry that follows the entries of a state
 abbrev pub IsWrongAfter : List (Key × Account) → Key × Account → StoreFault → Type 0
 IsWrongAfter before e (OutOfOrder at) = (at ≡ length before) × (¬ Ascend (before ++ e ∷ []))
-IsWrongAfter before e (Empty at) = (at ≡ length before) × Ascend (before ++ e ∷ []) × (e.1.lamports ≡ 0)
-IsWrongAfter before e SupplyTooLarge = Ascend (before ++ e ∷ []) × (1 ≤ e.1.lamports) × (2 ^ 64 ≤ lamports_of (before ++ e ∷ []))
+IsWrongAfter before e (Empty at) =
+    (at ≡ length before) × Ascend (before ++ e ∷ []) × (e.1.lamports ≡ 0)
+IsWrongAfter before e SupplyTooLarge =
+    Ascend (before ++ e ∷ []) × (1 ≤ e.1.lamports) × (2 ^ 64 ≤ lamports_of (before ++ e ∷ []))
 IsWrongAfter before e OutOfMemory = ⊥
 
 -- the entries up to some place are those of a state, and the fault is that of the entry there

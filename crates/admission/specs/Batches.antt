@@ -18,7 +18,8 @@ pub record IsOf (wires : List (List ℕ)) (chosen : Chosen) : Type 0 where
   pub read : parsed_of (wire_at wires chosen.position) ≡ Good chosen.tx chosen.name
   pub short : length (wire_at wires chosen.position) ≤ max_wire_len
 
--- each that runs is of its wire, no two of them have one name, and every position runs or is refused
+-- each that runs is of its wire, no two of them have one name, and every position runs or is
+-- refused
 pub record IsParted (wires : List (List ℕ)) (answer : Admitted) : Type 0 where
   pub each : All (IsOf wires) answer.order
   pub apart : IsDistinct same_hash (map (λ chosen. chosen.name) answer.order)

@@ -26,4 +26,5 @@ with_rank chosen = (rank chosen, chosen)
 -- each transaction has a lower position than those after it
 abbrev pub PositionsAscend : List Chosen → Type 0
 PositionsAscend [] = Unit {0}
-PositionsAscend (one ∷ others) = AllByRecursion (λ other. one.position < other.position) others × PositionsAscend others
+PositionsAscend (one ∷ others) =
+    AllByRecursion (λ other. one.position < other.position) others × PositionsAscend others

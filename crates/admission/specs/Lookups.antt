@@ -42,7 +42,8 @@ abbrev pub table_fault : ℕ → Lookup → Option Account → Option LookupFaul
 table_fault place lookup None = Some (NoTable place)
 table_fault place lookup (Some table) =
     if not (is_table table.bytes) then Some (BadTable place) else
-    if is_beyond table.bytes lookup.writable || is_beyond table.bytes lookup.readonly then Some (BadIndex place) else
+    if is_beyond table.bytes lookup.writable || is_beyond table.bytes lookup.readonly
+    then Some (BadIndex place) else
     None
 
 -- what is wrong with the lookup at a place
@@ -65,7 +66,8 @@ abbrev pub loaded_to_read : State → List Lookup → List Key
 loaded_to_read s lookups = flat_map (λ lookup. picked s lookup.table lookup.readonly) lookups
 
 abbrev pub loaded_in : State → List Lookup → Loaded
-loaded_in s lookups = record { writable = loaded_to_write s lookups; readonly = loaded_to_read s lookups }
+loaded_in s lookups =
+    record { writable = loaded_to_write s lookups; readonly = loaded_to_read s lookups }
 
 -- no key
 abbrev pub loads_none : Loaded
@@ -73,8 +75,10 @@ loads_none = record { writable = []; readonly = [] }
 
 -- what is loaded, where no key of the message stands twice
 abbrev pub if_apart : Message → Loaded → Result Loaded LookupFault
-if_apart message loaded = if has_repeated_key (all_keys message loaded) then Err RepeatedKey else Ok loaded
+if_apart message loaded =
+    if has_repeated_key (all_keys message loaded) then Err RepeatedKey else Ok loaded
 
 -- what a message loads in a state, or the first refusal
 unfoldable pub load : State → Message → Result Loaded LookupFault
-load s message = first_or (lookup_faults s message.lookups) (if_apart message (loaded_in s message.lookups))
+load s message =
+    first_or (lookup_faults s message.lookups) (if_apart message (loaded_in s message.lookups))

@@ -33,7 +33,8 @@ with_late refused causes = map (cause_with refused) (enumerate_from 0 causes)
 
 -- a cause with its position
 abbrev pub numbered_at : ℕ × Option Refusal → Option Refused
-numbered_at (position, cause) = option_map (λ cause. record { position = position; cause = cause }) cause
+numbered_at (position, cause) =
+    option_map (λ cause. record { position = position; cause = cause }) cause
 
 abbrev pub numbered_in : List (Option Refusal) → List Refused
 numbered_in causes = filter_map numbered_at (enumerate_from 0 causes)

@@ -98,7 +98,8 @@ fn admit_line(
     requires apart { All (λ one. IsDistinct same_key (lock_keys one.locks)) line.items }
     ensures order { IfOk result (λ answer. answer.order ≡ (walk limits.now line.items).order) }
     ensures refused { IfOk result (λ answer.
-        answer.refused ≡ numbered_in (with_late (walk limits.now line.items).refused causes.items)) }
+        answer.refused
+        ≡ numbered_in (with_late (walk limits.now line.items).refused causes.items)) }
 {
     let order = walk(alloc, limits, line, &mut causes)?;
     Ok(Admitted {

@@ -129,7 +129,8 @@ fn add_units(sums: &mut BTreeMap<Key, u64>, locks: &[Lock], limit: u64) -> Resul
     requires apart { IsDistinct same_key (lock_keys locks.now) }
     requires fits { (key : KeyValue) → sum_at sums.old key + limit < 2 ^ 64 }
     ensures { OnOk result ((key : KeyValue) →
-        sum_at sums.new key ≡ sum_at sums.old key + (if locks_write locks.now key then limit else 0)) }
+        sum_at sums.new key ≡ sum_at sums.old key + (if locks_write locks.now key then limit
+        else 0)) }
 {
     for lock in locks {
         if lock.write {

@@ -50,9 +50,11 @@ unless_refused text answer (Err fault) = refused 3 (text fault)
 -- what is answered to a snapshot and the bytes after it
 abbrev pub after_snapshot : (Snapshot → List ℕ → Answer) → List ℕ → Answer
 after_snapshot answer bytes =
-    unless_refused snapshot_text (λ prefix. answer prefix.snapshot (drop prefix.length bytes)) (prefix_of bytes)
+    unless_refused snapshot_text (λ prefix. answer prefix.snapshot (drop prefix.length bytes))
+    (prefix_of bytes)
 
--- ---- produce: the record of the block and the snapshot after it; a line for each transaction that did not run
+-- ---- produce: the record of the block and the snapshot after it; a line for each transaction that
+-- did not run
 
 abbrev pub ran : BlockResult → Answer
 ran block = record {
@@ -63,7 +65,8 @@ ran block = record {
 
 abbrev pub produced_after : Snapshot → List ℕ → Answer
 produced_after snapshot rest =
-    unless_refused batch_text (λ batch. ran (block_result snapshot batch)) (batch_of snapshot.slot rest)
+    unless_refused batch_text (λ batch. ran (block_result snapshot batch))
+    (batch_of snapshot.slot rest)
 
 abbrev pub produced : List ℕ → Answer
 produced bytes = after_snapshot produced_after bytes
@@ -79,7 +82,8 @@ judged given (Differ entry field expected found) = differed entry field
 
 abbrev pub replayed_over : Snapshot → Block → Answer
 replayed_over snapshot given =
-    judged given (verdict snapshot.slot (newest_of snapshot.recent) given (listed_result snapshot given))
+    judged given (verdict snapshot.slot (newest_of snapshot.recent) given
+    (listed_result snapshot given))
 
 abbrev pub replayed_after : Snapshot → List ℕ → Answer
 replayed_after snapshot rest = unless_refused record_text (replayed_over snapshot) (record_of rest)
@@ -90,7 +94,8 @@ replayed bytes = after_snapshot replayed_after bytes
 -- ---- show: the block of a record as one JSON object
 
 abbrev pub shown : List ℕ → Answer
-shown bytes = unless_refused record_text (λ block. written (line (text_of_block block))) (record_of bytes)
+shown bytes =
+    unless_refused record_text (λ block. written (line (text_of_block block))) (record_of bytes)
 
 -- ---- make: an input that a number draws, or one line of what it comes to
 
@@ -126,7 +131,8 @@ counts_text count order entries =
 
 abbrev pub run_line : ℕ → ℕ → Block → List ℕ
 run_line count order block =
-    line (counts_text count order block.entries ++ codes " burned " ++ decimal block.burned ++ codes " hash " ++ encode_lower block.hash.0)
+    line (counts_text count order block.entries ++ codes " burned " ++ decimal block.burned
+    ++ codes " hash " ++ encode_lower block.hash.0)
 
 abbrev pub input_bytes : Made → List ℕ
 input_bytes m = snapshot_bytes m.snapshot ++ batch_bytes m.batch
@@ -135,7 +141,9 @@ abbrev pub made_run : ℕ → Made → Answer
 made_run count m = written (run_line count (admitted m) (block_result m.snapshot m.batch).block)
 
 abbrev pub made : ℕ → ℕ → Bool → Answer
-made number count run = if run then made_run count (made_of number count) else written (input_bytes (made_of number count))
+made number count run =
+    if run then made_run count (made_of number count)
+    else written (input_bytes (made_of number count))
 
 -- ---- asm and list: the image of a text, and the text of an image
 
@@ -152,7 +160,8 @@ abbrev pub input_limit : ℕ
 input_limit = 536870912
 
 abbrev pub within : List ℕ → Answer → Answer
-within bytes answer = if nat_le (length bytes) input_limit then answer else refused 3 (codes "input: TooLong")
+within bytes answer =
+    if nat_le (length bytes) input_limit then answer else refused 3 (codes "input: TooLong")
 
 -- The number of lanes and of senders changes nothing, nor do the bytes where an input is made.
 abbrev pub answer_to : Command → List ℕ → Answer

@@ -42,12 +42,14 @@ pub(crate) fn answer_of<S: Source, G: Gate, H: SendGate, R: Threads + Wait + Syn
     send: &H,
 ) -> Result<Answer, OutOfMemory>
     ensures told { IfOk result (λ told.
-        TellsAnswer (answer words.now) (S.left source.old) (S.faults source.old) (S.faults source.new) told
+        TellsAnswer (answer words.now) (S.left source.old) (S.faults source.old)
+        (S.faults source.new) told
         ⊎ TellsFault (reads_input words.now) (S.faults source.old) (S.faults source.new) told) }
     ensures stopped { OnErr result
         (Stops (reads_input words.now) (S.faults source.old) (S.faults source.new)) }
     ensures untouched { reads_input words.now ≡ false →
-        Keeps (S.left source.old) (S.left source.new) × (S.faults source.new ≡ S.faults source.old) }
+        Keeps (S.left source.old) (S.left source.new)
+        × (S.faults source.new ≡ S.faults source.old) }
 {
     match read_words(alloc, words) {
         Ok(command) => answer_command(rt, alloc, command, source, gate, send),
@@ -67,12 +69,14 @@ fn answer_command<S: Source, G: Gate, H: SendGate, R: Threads + Wait + Sync>(
 ) -> Result<Answer, OutOfMemory>
     requires { IsInRange command }
     ensures told { IfOk result (λ told.
-        TellsAnswer (answer_to command) (S.left source.old) (S.faults source.old) (S.faults source.new) told
+        TellsAnswer (answer_to command) (S.left source.old) (S.faults source.old)
+        (S.faults source.new) told
         ⊎ TellsFault (takes_input command) (S.faults source.old) (S.faults source.new) told) }
     ensures stopped { OnErr result
         (Stops (takes_input command) (S.faults source.old) (S.faults source.new)) }
     ensures untouched { takes_input command ≡ false →
-        Keeps (S.left source.old) (S.left source.new) × (S.faults source.new ≡ S.faults source.old) }
+        Keeps (S.left source.old) (S.left source.new)
+        × (S.faults source.new ≡ S.faults source.old) }
 {
     if !looks_at_input(command) {
         return answer_input(rt, alloc, command, Blob::new(alloc), gate, send);

@@ -20,9 +20,12 @@ pub(crate) fn deliver<O: Sink, N: Sink>(
     out: &mut O,
     notes: &mut N,
 ) -> Result<(), Undelivered>
-    ensures whole { OnOk result (Writes told.now (O.held out.old) (O.held out.new) (N.held notes.old) (N.held notes.new)) }
-    ensures begun { OnErr result (Begins told.now (O.held out.old) (O.held out.new) (N.held notes.old) (N.held notes.new)) }
-    ensures counts { DeliveryCounts result (O.faults out.old) (O.faults out.new) (N.faults notes.old) (N.faults notes.new) }
+    ensures whole { OnOk result
+        (Writes told.now (O.held out.old) (O.held out.new) (N.held notes.old) (N.held notes.new)) }
+    ensures begun { OnErr result
+        (Begins told.now (O.held out.old) (O.held out.new) (N.held notes.old) (N.held notes.new)) }
+    ensures counts { DeliveryCounts result (O.faults out.old) (O.faults out.new)
+        (N.faults notes.old) (N.faults notes.new) }
 {
     match write_all(alloc, out, told.output.as_slice()) {
         Ok(()) => {}

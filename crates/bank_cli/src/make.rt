@@ -89,7 +89,8 @@ fn line_of(alloc: Global, count: u32, block: &Block) -> Result<Blob, OutOfMemory
 
 /// Adds how many transactions were made, how many ran, and how they ended.
 fn append_counts(text: &mut Blob, count: u32, entries: &[Entry]) -> Result<(), OutOfMemory>
-    ensures { OnOk result (text.new ≡ text.old ++ counts_text count (length entries.now) entries.now) }
+    ensures { OnOk result (text.new
+        ≡ text.old ++ counts_text count (length entries.now) entries.now) }
 {
     text.append(b"made ")?;
     append_number(text, u64::from(count))?;

@@ -35,7 +35,8 @@ pub const WRITE_FAILED: u8 = 5;
 pub const OUT_OF_MEMORY: u8 = 6;
 
 /// Answers the words and the input: the output and the notes are written, and the status is
-/// answered (Solana for what a block comes to; the commands, texts and formats are the project's own).
+/// answered (Solana for what a block comes to; the commands, texts and formats are the project's
+/// own).
 ///
 /// A lane passes `gate` before it works, and a sender of `produce` passes `send` before it parses.
 pub fn bank_main<S: Source, O: Sink, N: Sink, G: Gate, H: SendGate, R: Threads + Wait + Sync>(
@@ -55,7 +56,8 @@ pub fn bank_main<S: Source, O: Sink, N: Sink, G: Gate, H: SendGate, R: Threads +
     // Status 4 comes only where the source failed, and says so.
     ensures source_failed { result ≡ 4 →
         Rose (S.faults source.old) (S.faults source.new) × (reads_input words.now ≡ true)
-        × Writes read_failed (O.held out.old) (O.held out.new) (N.held notes.old) (N.held notes.new) }
+        × Writes read_failed (O.held out.old) (O.held out.new) (N.held notes.old)
+        (N.held notes.new) }
     // Status 5 comes only where a sink failed, and every other status only where none did.
     ensures sink_failed { result ≡ 5 →
         Rose (O.faults out.old) (O.faults out.new) ⊎ Rose (N.faults notes.old) (N.faults notes.new) }
@@ -70,7 +72,8 @@ pub fn bank_main<S: Source, O: Sink, N: Sink, G: Gate, H: SendGate, R: Threads +
         (O.held out.old) (O.held out.new) (N.held notes.old) (N.held notes.new) }
     // Words that ask for no input take nothing from the source.
     ensures untouched { reads_input words.now ≡ false →
-        Keeps (S.left source.old) (S.left source.new) × (S.faults source.new ≡ S.faults source.old) }
+        Keeps (S.left source.old) (S.left source.new)
+        × (S.faults source.new ≡ S.faults source.old) }
 {
     let told = match answer_of(rt, alloc, words, source, gate, send) {
         Ok(told) => told,

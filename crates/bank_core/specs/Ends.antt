@@ -18,7 +18,9 @@ serial_outcomes job start = map (result job start) (range_with_len 0 job.count)
 module _ {T : Type 0} (job : T → Job) (origin : Origin T) where
   -- each key has the account of the serial run
   abbrev pub HasSerialAccounts : State → Type 0
-  HasSerialAccounts s = (key : Key) → at s key ≡ serial (job origin.told) (at origin.start) (job origin.told).count key
+  HasSerialAccounts s =
+      (key : Key) → at s key
+      ≡ serial (job origin.told) (at origin.start) (job origin.told).count key
 
   -- the state that the serial run ends with
   abbrev pub state_at_end : State

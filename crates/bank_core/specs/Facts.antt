@@ -16,14 +16,18 @@ use Rattle.prio_graph.specs.Ready.{Positions}
 use Rattle.bank_core.specs.Slots.{Shared}
 use Rattle.bank_core.specs.Keeping.{Keeps, IsApart, HasRoom, HasBuffers}
 
-pub Keeps-prop : (job : Job) (start : Key → Account) (ks : List Key) (p : Positions) (slots : List (Option Shared)) (outcomes : List (Option Outcome)) (journal : List Event) → IsProp (Keeps job start ks p slots outcomes journal)
+pub Keeps-prop : (job : Job) (start : Key → Account) (ks : List Key) (p : Positions)
+    (slots : List (Option Shared)) (outcomes : List (Option Outcome)) (journal : List Event)
+    → IsProp (Keeps job start ks p slots outcomes journal)
 Keeps-prop job start ks p slots outcomes journal = hlevel (props, IsLegalFrom-prop, IsDistinct-prop)
 
 pub IsApart-prop : (start rest : State) (ks : List Key) → IsProp (IsApart start rest ks)
 IsApart-prop start rest ks = hlevel props
 
-pub HasRoom-prop : (count lanes capacity : ℕ) (journal : List Event) → IsProp (HasRoom count lanes capacity journal)
+pub HasRoom-prop : (count lanes capacity : ℕ) (journal : List Event)
+    → IsProp (HasRoom count lanes capacity journal)
 HasRoom-prop count lanes capacity journal = hlevel props
 
-pub HasBuffers-prop : (job : Job) (lanes : ℕ) (journal : List Event) (buffers : List (Vec Shared Global)) → IsProp (HasBuffers job lanes journal buffers)
+pub HasBuffers-prop : (job : Job) (lanes : ℕ) (journal : List Event)
+    (buffers : List (Vec Shared Global)) → IsProp (HasBuffers job lanes journal buffers)
 HasBuffers-prop job lanes journal buffers = hlevel props

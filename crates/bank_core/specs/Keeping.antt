@@ -25,14 +25,18 @@ outcome_of (held lane vs) = None
 outcome_of (done outcome) = Some outcome
 
 -- positions, slots and outcomes are those of the state after the journal, which is legal
-pub record Keeps (job : Job) (start : Key → Account) (ks : List Key) (p : Positions) (slots : List (Option Shared)) (outcomes : List (Option Outcome)) (journal : List Event) : Type 0 where
+pub record Keeps (job : Job) (start : Key → Account) (ks : List Key) (p : Positions)
+    (slots : List (Option Shared)) (outcomes : List (Option Outcome))
+    (journal : List Event) : Type 0 where
   pub legal : IsLegal job start journal
   pub distinct : IsDistinct same_key ks
   pub of : IsOf ks job (Run job start journal) p
   pub slots_length : length slots ≡ length ks
-  pub stored : (n : ℕ) → n < length ks → account_at slots n ≡ (Run job start journal).store (numbered_key ks n)
+  pub stored : (n : ℕ) → n < length ks
+      → account_at slots n ≡ (Run job start journal).store (numbered_key ks n)
   pub outcomes_length : length outcomes ≡ job.count
-  pub kept : (i : ℕ) → i < job.count → slice_index_or outcomes i None ≡ outcome_of ((Run job start journal).stage i)
+  pub kept : (i : ℕ) → i < job.count
+      → slice_index_or outcomes i None ≡ outcome_of ((Run job start journal).stage i)
 
 -- the accounts of other keys stand apart
 pub record IsApart (start rest : State) (ks : List Key) : Type 0 where
@@ -40,7 +44,8 @@ pub record IsApart (start rest : State) (ks : List Key) : Type 0 where
   pub is_rest : IsState rest
   pub at_rest : (key : Key) → at rest key ≡ (if has_key key ks then empty_account else at start key)
 
--- the journal has room for all that may come: its events are of the core's lanes, each of which returned at most once
+-- the journal has room for all that may come: its events are of the core's lanes, each of which
+-- returned at most once
 pub record HasRoom (count lanes capacity : ℕ) (journal : List Event) : Type 0 where
   pub few : count < 2 ^ 32
   pub most : lanes ≤ 64
@@ -53,6 +58,9 @@ abbrev pub IsWide : Job → ℕ → Type 0
 IsWide job capacity = (i : ℕ) → i < job.count → length (job.locks i) ≤ capacity
 
 -- a lane that holds nothing has an empty buffer that is wide enough
-pub record HasBuffers (job : Job) (lanes : ℕ) (journal : List Event) (buffers : List (Vec Shared Global)) : Type 0 where
+pub record HasBuffers (job : Job) (lanes : ℕ) (journal : List Event)
+    (buffers : List (Vec Shared Global)) : Type 0 where
   pub buffers_length : length buffers ≡ lanes
-  pub free : (lane : ℕ) (d : Vec Shared Global) → lane < lanes → holds (own journal lane) ≡ None → (vec_len (slice_index_or buffers lane d) ≡ 0) × IsWide job (vec_capacity (slice_index_or buffers lane d))
+  pub free : (lane : ℕ) (d : Vec Shared Global) → lane < lanes → holds (own journal lane) ≡ None
+      → (vec_len (slice_index_or buffers lane d) ≡ 0)
+      × IsWide job (vec_capacity (slice_index_or buffers lane d))

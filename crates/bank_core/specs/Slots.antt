@@ -49,10 +49,12 @@ abbrev pub taken_at : List ℕ → (ℕ → Option Account) → ℕ → Option A
 taken_at ns slots n = if has n ns then None else slots n
 
 -- the values lent for writing go back, one value beside each lock
-abbrev pub put_back_at : List NumberedLock → List Account → (ℕ → Option Account) → ℕ → Option Account
+abbrev pub put_back_at : List NumberedLock → List Account → (ℕ → Option Account) → ℕ
+    → Option Account
 put_back_at [] vs slots n = slots n
 put_back_at (lock ∷ locks) [] slots n = slots n
-put_back_at (lock ∷ locks) (v ∷ vs) slots n = if lock.write && (n == lock.number) then Some v else put_back_at locks vs slots n
+put_back_at (lock ∷ locks) (v ∷ vs) slots n =
+    if lock.write && (n == lock.number) then Some v else put_back_at locks vs slots n
 
 -- each lock's account is there
 abbrev pub AllThere : List NumberedLock → (ℕ → Option Account) → Type 0

@@ -41,18 +41,21 @@ module _ {T : Type 0} (job : T → Job) (origin : Origin T) where
 
 -- a fact for each answer of a take
 module _ {W T : Type 0} {G : _} where
-  abbrev pub MatchTake : Take W T G → (Loan W T G → Type 0) → (ℕ → Type 0) → Type 0 → Type 0 → Type 0
+  abbrev pub MatchTake : Take W T G → (Loan W T G → Type 0) → (ℕ → Type 0) → Type 0 → Type 0
+      → Type 0
   MatchTake (take.Loan loan) f g h short = f loan
   MatchTake (take.NotNow held) f g h short = g held
   MatchTake take.Finished f g h short = h
   MatchTake take.OutOfMemory f g h short = short
 
--- the loan that a lane has, if any, is of this core, and its position is the one that the lane holds
+-- the loan that a lane has, if any, is of this core, and its position is the one that the lane
+-- holds
 module _ {W T : Type 0} {G : _} where
   abbrev pub HasLoanOf : Option (Loan W T G) → Origin T → List Event → ℕ → Type 0
   HasLoanOf None origin journal lane = holds (own journal lane) ≡ None
   HasLoanOf (Some loan) origin journal lane =
-      (loan.lane ≡ lane) × (loan.origin.value ≡ origin) × (holds (own journal lane) ≡ Some loan.position)
+      (loan.lane ≡ lane) × (loan.origin.value ≡ origin)
+      × (holds (own journal lane) ≡ Some loan.position)
 
 -- the events of the other lanes stay
 abbrev pub KeepsOthers : List Event → List Event → ℕ → Type 0

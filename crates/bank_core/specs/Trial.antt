@@ -14,7 +14,8 @@ use Rattle.bank_law.specs.Lawful.{lent_for_writing}
 -- one lamport is taken, and an account without more is the empty one
 abbrev pub spent : Account → Account
 spent account =
-    if nat_lt 1 account.lamports then record account { lamports = account.lamports - 1 } else empty_account
+    if nat_lt 1 account.lamports then record account { lamports = account.lamports - 1 }
+    else empty_account
 
 -- an outcome that tells a number
 abbrev pub trial_outcome : ℕ → Outcome

@@ -15,7 +15,8 @@ use Rattle.bank_core.specs.Trial.{spent, trial_job, AreDistinctLists}
 spent-le : (a : Account) → (spent a).lamports ≤ a.lamports
 spent-le a = by_case (nat_lt 1 a.lamports)
   where
-    by_case : (b : Bool) → (cond b (record a { lamports = a.lamports - 1 }) empty_account).lamports ≤ a.lamports
+    by_case : (b : Bool) → (cond b (record a { lamports = a.lamports - 1 }) empty_account).lamports
+        ≤ a.lamports
     by_case true = omega arith
     by_case false = omega arith
 
@@ -29,8 +30,10 @@ spent-short a s = by_case (nat_lt 1 a.lamports)
 spent-settled : (a : Account) → IsSettled (spent a)
 spent-settled a = by_case (nat_lt 1 a.lamports) refl
   where
-    by_case : (b : Bool) → nat_lt 1 a.lamports ≡ b → IsSettled (cond b (record a { lamports = a.lamports - 1 }) empty_account)
-    by_case true e = λ z. let l : 1 < a.lamports = grind (arith, nat_tests) in absurd (omega (arith, z, l))
+    by_case : (b : Bool) → nat_lt 1 a.lamports ≡ b
+        → IsSettled (cond b (record a { lamports = a.lamports - 1 }) empty_account)
+    by_case true e =
+        λ z. let l : 1 < a.lamports = grind (arith, nat_tests) in absurd (omega (arith, z, l))
     by_case false e = λ z. refl
 
 all_spent-le : (vs : List Account) → lamports_in (map spent vs) ≤ lamports_in vs
@@ -44,37 +47,48 @@ all_spent-le (v ∷ vs) =
 
 all_spent-short : (vs : List Account) → AreShort vs → AreShort (map spent vs)
 all_spent-short [] s = All-nil IsShort
-all_spent-short (v ∷ vs) s = All-cons IsShort (spent v) (map spent vs) (spent-short v (All-head IsShort v vs s)) (all_spent-short vs (All-tail IsShort v vs s))
+all_spent-short (v ∷ vs) s =
+    All-cons IsShort (spent v) (map spent vs) (spent-short v (All-head IsShort v vs s))
+    (all_spent-short vs (All-tail IsShort v vs s))
 
 all_spent-settled : (vs : List Account) → AreSettled (map spent vs)
 all_spent-settled [] = All-nil IsSettled
-all_spent-settled (v ∷ vs) = All-cons IsSettled (spent v) (map spent vs) (spent-settled v) (all_spent-settled vs)
+all_spent-settled (v ∷ vs) =
+    All-cons IsSettled (spent v) (map spent vs) (spent-settled v) (all_spent-settled vs)
 
 -- what is lent for writing
-lent-length : (locks : List Lock) (vs : List Account) → length vs ≡ length locks → length (lent_for_writing locks vs) ≡ length (lock_keys (filter (λ lock. lock.write) locks))
+lent-length : (locks : List Lock) (vs : List Account) → length vs ≡ length locks
+    → length (lent_for_writing locks vs) ≡ length (lock_keys (filter (λ lock. lock.write) locks))
 lent-length [] vs e = refl
 lent-length (x ∷ xs) [] e = absurd (omega (arith, e))
 lent-length (x ∷ xs) (v ∷ vs) e = by_case x.write (lent-length xs vs (omega (arith, e)))
   where
-    by_case : (b : Bool) → length (lent_for_writing xs vs) ≡ length (lock_keys (filter (λ lock. lock.write) xs))
-        → length (cond b (v ∷ lent_for_writing xs vs) (lent_for_writing xs vs)) ≡ length (lock_keys (cond b (x ∷ filter (λ lock. lock.write) xs) (filter (λ lock. lock.write) xs)))
+    by_case : (b : Bool) → length (lent_for_writing xs vs)
+        ≡ length (lock_keys (filter (λ lock. lock.write) xs))
+        → length (cond b (v ∷ lent_for_writing xs vs) (lent_for_writing xs vs))
+        ≡ length (lock_keys
+        (cond b (x ∷ filter (λ lock. lock.write) xs) (filter (λ lock. lock.write) xs)))
     by_case true rest = ap suc rest
     by_case false rest = rest
 
-lent-short : (locks : List Lock) (vs : List Account) → AreShort vs → AreShort (lent_for_writing locks vs)
+lent-short : (locks : List Lock) (vs : List Account) → AreShort vs
+    → AreShort (lent_for_writing locks vs)
 lent-short [] vs s = All-nil IsShort
 lent-short (x ∷ xs) [] s = All-nil IsShort
 lent-short (x ∷ xs) (v ∷ vs) s = by_case x.write (lent-short xs vs (All-tail IsShort v vs s))
   where
-    by_case : (b : Bool) → AreShort (lent_for_writing xs vs) → AreShort (cond b (v ∷ lent_for_writing xs vs) (lent_for_writing xs vs))
+    by_case : (b : Bool) → AreShort (lent_for_writing xs vs)
+        → AreShort (cond b (v ∷ lent_for_writing xs vs) (lent_for_writing xs vs))
     by_case true rest = All-cons IsShort v (lent_for_writing xs vs) (All-head IsShort v vs s) rest
     by_case false rest = rest
 
 pub trial_lawful : (lists : List (List Lock)) → AreDistinctLists lists → IsLawful (trial_job lists)
 trial_lawful lists distinct = record {
   distinct = λ i l. distinct i [] l;
-  one_each = λ i vs l F. length-map (lent_for_writing ((trial_job lists).locks i) vs) spent ∙ lent-length ((trial_job lists).locks i) vs F.one_each;
+  one_each = λ i vs l F. length-map (lent_for_writing ((trial_job lists).locks i) vs) spent
+      ∙ lent-length ((trial_job lists).locks i) vs F.one_each;
   no_more = λ i vs l F. all_spent-le (lent_for_writing ((trial_job lists).locks i) vs);
-  short = λ i vs l F. all_spent-short (lent_for_writing ((trial_job lists).locks i) vs) (lent-short ((trial_job lists).locks i) vs F.short);
+  short = λ i vs l F. all_spent-short (lent_for_writing ((trial_job lists).locks i) vs)
+      (lent-short ((trial_job lists).locks i) vs F.short);
   settled = λ i vs l F s. all_spent-settled (lent_for_writing ((trial_job lists).locks i) vs);
 }

@@ -24,7 +24,8 @@ pub enum Split<P> {
 pub trait Desk<W: Work>: Sync {
     type Pass: Send;
 
-    /// `Loan<W>`. A struct with a type parameter cannot stand in the parameters of a trait's method.
+    /// `Loan<W>`. A struct with a type parameter cannot stand in the parameters of a trait's
+    /// method.
     type Loan;
 
     /// What its core began with.
@@ -65,7 +66,8 @@ pub trait Desk<W: Work>: Sync {
         requires origin { (loan given).origin ≡ origin self.now }
         requires lane { (loan given).lane ≡ (view pass.old).lane }
         requires held { holds (view pass.old).mine ≡ Some (loan given).position }
-        requires right { effects_seen effects ≡ (W.job (origin self.now).told).effects (loan given).position (loan given).values }
+        requires right { effects_seen effects
+            ≡ (W.job (origin self.now).told).effects (loan given).position (loan given).values }
         ensures desk { is_of self.now pass.new }
         ensures stays { Stays (view pass.old) (view pass.new) }
         ensures legal { IsLegalFor W.job (origin self.now) (view pass.new).seen }
@@ -88,8 +90,11 @@ pub trait Desk<W: Work>: Sync {
         requires { is_of self.now pass.old }
         ensures desk { is_of self.now pass.new }
         ensures stays { Stays (view pass.old) (view pass.new) }
-        ensures same { ((view pass.new).mine ≡ (view pass.old).mine) × ((view pass.new).turns ≡ (view pass.old).turns) }
-        ensures made { MatchSplit result (λ made. is_of self.now made × ((view made).lane < lanes self.now) × IsNew (view pass.old) (view made)) ((view pass.new).drawn ≡ lanes self.now) };
+        ensures same { ((view pass.new).mine ≡ (view pass.old).mine)
+            × ((view pass.new).turns ≡ (view pass.old).turns) }
+        ensures made { MatchSplit result
+            (λ made. is_of self.now made × ((view made).lane < lanes self.now)
+            × IsNew (view pass.old) (view made)) ((view pass.new).drawn ≡ lanes self.now) };
 
     /// Joins another pass into this one.
     fn join(&self, pass: &mut Self::Pass, other: Self::Pass)

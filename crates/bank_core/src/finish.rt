@@ -30,13 +30,18 @@ pub(crate) fn put_all(
 ) -> Result<(), OutOfMemory>
     requires long { length slots.old ≡ length table.now }
     requires distinct { IsDistinct same_key table.now }
-    requires fit { (n : ℕ) → n < length table.now → IsShort (in_slot (account_at slots.old n)) × IsSettled (in_slot (account_at slots.old n)) }
+    requires fit { (n : ℕ) → n < length table.now
+        → IsShort (in_slot (account_at slots.old n))
+        × IsSettled (in_slot (account_at slots.old n)) }
     requires state { IsState accounts.old }
-    requires fresh { (key : KeyValue) → has_key key table.now ≡ true → at accounts.old key ≡ empty_account }
+    requires fresh { (key : KeyValue) → has_key key table.now ≡ true
+        → at accounts.old key ≡ empty_account }
     requires supply { sum accounts.old + slot_lamports slots.old ≤ 2 ^ 64 - 1 }
     ensures state { OnOk result (IsState accounts.new) }
-    ensures within { OnOk result ((n : ℕ) → n < length table.now → at accounts.new (numbered_key table.now n) ≡ in_slot (account_at slots.old n)) }
-    ensures others { OnOk result ((key : KeyValue) → has_key key table.now ≡ false → at accounts.new key ≡ at accounts.old key) }
+    ensures within { OnOk result ((n : ℕ) → n < length table.now
+        → at accounts.new (numbered_key table.now n) ≡ in_slot (account_at slots.old n)) }
+    ensures others { OnOk result ((key : KeyValue) → has_key key table.now ≡ false
+        → at accounts.new key ≡ at accounts.old key) }
 {
     for n in 0..table.len() {
         if let Some(account) = slots[n as usize].take() {

@@ -43,11 +43,17 @@ pub struct Core<W: Work> {
     pub(crate) journal: Vec<Event>,
     pub(crate) alloc: Global,
     ghost lawful: { IsLawful (W.job origin.value.told) } by { IsLawful-prop (W.job origin.value.told) },
-    ghost runs: { Keeps (W.job origin.value.told) (at origin.value.start) table graph slots.items outcomes.items journal.items } by { Keeps-prop (W.job origin.value.told) (at origin.value.start) table graph slots.items outcomes.items journal.items },
+    ghost runs: { Keeps (W.job origin.value.told) (at origin.value.start) table graph slots.items
+        outcomes.items journal.items } by { Keeps-prop (W.job origin.value.told)
+            (at origin.value.start) table graph slots.items outcomes.items journal.items },
     ghost apart: { IsApart origin.value.start rest table } by { IsApart-prop origin.value.start rest table },
-    ghost room: { HasRoom (W.job origin.value.told).count lanes (vec_capacity journal) journal.items } by { HasRoom-prop (W.job origin.value.told).count lanes (vec_capacity journal) journal.items },
+    ghost room: { HasRoom (W.job origin.value.told).count lanes (vec_capacity journal)
+        journal.items } by { HasRoom-prop (W.job origin.value.told).count lanes
+            (vec_capacity journal) journal.items },
     ghost buffered: { HasBuffers (W.job origin.value.told) lanes journal.items buffers.items } by { HasBuffers-prop (W.job origin.value.told) lanes journal.items buffers.items },
-    ghost counted: { held ≡ held_count (W.job origin.value.told) (Run (W.job origin.value.told) (at origin.value.start) journal.items) },
+    ghost counted: { held
+        ≡ held_count (W.job origin.value.told)
+        (Run (W.job origin.value.told) (at origin.value.start) journal.items) },
 }
 
 impl<W: Work> Drop for Core<W> {
@@ -80,10 +86,13 @@ impl<W: Work> Core<W> {
     pub fn commit(&mut self, loan: Loan<W>, effects: Effects)
         requires origin { loan.origin.value ≡ self.old.origin.value }
         requires held { holds (own self.old.journal.items loan.lane) ≡ Some loan.position }
-        requires right { effects_seen effects ≡ (W.job self.old.origin.value.told).effects loan.position (accounts_of loan.values.items) }
+        requires right { effects_seen effects
+            ≡ (W.job self.old.origin.value.told).effects loan.position
+            (accounts_of loan.values.items) }
         ensures origin { self.new.origin.value ≡ self.old.origin.value }
         ensures lanes { self.new.lanes ≡ self.old.lanes }
-        ensures journal { self.new.journal.items ≡ with_event self.old.journal.items Commit loan.lane loan.position }
+        ensures journal { self.new.journal.items
+            ≡ with_event self.old.journal.items Commit loan.lane loan.position }
     {
         let Loan {
             position,
@@ -118,7 +127,8 @@ impl<W: Work> Core<W> {
         requires once { returns (own self.old.journal.items loan.lane) ≡ 0 }
         ensures origin { self.new.origin.value ≡ self.old.origin.value }
         ensures lanes { self.new.lanes ≡ self.old.lanes }
-        ensures journal { self.new.journal.items ≡ with_event self.old.journal.items Return loan.lane loan.position }
+        ensures journal { self.new.journal.items
+            ≡ with_event self.old.journal.items Return loan.lane loan.position }
     {
         let Loan {
             position,
@@ -152,16 +162,20 @@ impl<W: Work> Core<W> {
         ensures lanes { self.new.lanes ≡ self.old.lanes }
         ensures legal { IsLegalFor W.job self.old.origin.value self.new.journal.items }
         ensures journal { MatchTake result
-            (λ loan. self.new.journal.items ≡ with_event self.old.journal.items Grant lane loan.position)
+            (λ loan. self.new.journal.items
+            ≡ with_event self.old.journal.items Grant lane loan.position)
             (λ held. self.new.journal.items ≡ self.old.journal.items)
             (self.new.journal.items ≡ self.old.journal.items)
             (self.new.journal.items ≡ self.old.journal.items) }
         ensures take { MatchTake result
-            (λ loan. (loan.lane ≡ lane) × (loan.origin.value ≡ self.old.origin.value) × IsLeastReadyAfter W.job self.old.origin.value self.old.journal.items loan.position)
+            (λ loan. (loan.lane ≡ lane) × (loan.origin.value ≡ self.old.origin.value)
+            × IsLeastReadyAfter W.job self.old.origin.value self.old.journal.items
+            loan.position)
             (λ held. IsNotNowAfter W.job self.old.origin.value self.old.journal.items held)
             (AllDoneAfter W.job self.old.origin.value self.old.journal.items)
             (ReadsLeastAfter W.job self.old.origin.value self.old.journal.items) }
-        ensures others { MatchTake result (λ loan. ⊤) (λ held. SomeLaneHolds self.old.lanes self.old.journal.items) ⊤ ⊤ }
+        ensures others { MatchTake result (λ loan. ⊤)
+            (λ held. SomeLaneHolds self.old.lanes self.old.journal.items) ⊤ ⊤ }
     {
         match self.graph.least_ready() {
             Some(position) => match self.grant(lane, position) {
@@ -177,13 +191,17 @@ impl<W: Work> Core<W> {
     pub(crate) fn grant(&mut self, lane: u32, position: u32) -> Result<Loan<W>, OutOfMemory>
         requires lane { lane < self.old.lanes }
         requires free { holds (own self.old.journal.items lane) ≡ None }
-        requires least { IsLeastReadyAfter W.job self.old.origin.value self.old.journal.items position }
+        requires least { IsLeastReadyAfter W.job self.old.origin.value self.old.journal.items
+            position }
         ensures origin { self.new.origin.value ≡ self.old.origin.value }
         ensures lanes { self.new.lanes ≡ self.old.lanes }
-        ensures journal { OnOk result (self.new.journal.items ≡ with_event self.old.journal.items Grant lane position) }
-        ensures loan { IfOk result (λ l. (l.lane ≡ lane) × (l.position ≡ position) × (l.origin.value ≡ self.old.origin.value)) }
+        ensures journal { OnOk result (self.new.journal.items
+            ≡ with_event self.old.journal.items Grant lane position) }
+        ensures loan { IfOk result (λ l. (l.lane ≡ lane) × (l.position ≡ position)
+            × (l.origin.value ≡ self.old.origin.value)) }
         ensures same { OnErr result (self.new.journal.items ≡ self.old.journal.items) }
-        ensures reads { OnErr result (ReadsLeastAfter W.job self.old.origin.value self.old.journal.items) }
+        ensures reads { OnErr result
+            (ReadsLeastAfter W.job self.old.origin.value self.old.journal.items) }
     {
         let mut values = take_at(&mut self.buffers, lane as usize, Vec::new(self.alloc));
         if let Err(e) = lend(
@@ -215,9 +233,11 @@ impl<W: Work> Core<W> {
     /// Ends a core whose positions are all done.
     pub fn finish(self) -> Result<Sealed, OutOfMemory>
         requires { AllDoneAfter W.job self.origin.value self.journal.items }
-        ensures accounts { IfOk result (λ end. HasSerialAccounts W.job self.origin.value end.accounts) }
+        ensures accounts { IfOk result
+            (λ end. HasSerialAccounts W.job self.origin.value end.accounts) }
         ensures state { IfOk result (λ end. end.accounts ≡ state_at_end W.job self.origin.value) }
-        ensures outcomes { IfOk result (λ end. end.outcomes ≡ outcomes_at_end W.job self.origin.value) }
+        ensures outcomes { IfOk result
+            (λ end. end.outcomes ≡ outcomes_at_end W.job self.origin.value) }
     {
         let Core {
             origin: _,

@@ -20,9 +20,12 @@ pub struct Loan<W: Work> {
     pub(crate) values: Vec<Arc<Account>>,
     pub(crate) origin: Note<Origin<W::Told>>,
     ghost below: { position < (W.job origin.value.told).count },
-    ghost lent: { accounts_of values.items ≡ map (serial (W.job origin.value.told) (at origin.value.start) position) (keys (W.job origin.value.told) position) } by { Prim.hlevel props },
+    ghost lent: { accounts_of values.items
+        ≡ map (serial (W.job origin.value.told) (at origin.value.start) position)
+        (keys (W.job origin.value.told) position) } by { Prim.hlevel props },
     ghost fits: { Fits ((W.job origin.value.told).locks position) (accounts_of values.items) } by { Fits-prop ((W.job origin.value.told).locks position) (accounts_of values.items) },
-    ghost room: { (i : ℕ) → i < (W.job origin.value.told).count → length ((W.job origin.value.told).locks i) ≤ vec_capacity values },
+    ghost room: { (i : ℕ) → i < (W.job origin.value.told).count
+        → length ((W.job origin.value.told).locks i) ≤ vec_capacity values },
 }
 
 impl<W: Work> Loan<W> {
@@ -48,7 +51,8 @@ impl<W: Work> Loan<W> {
     }
 }
 
-/// What a take answers: a loan, or how many positions are held where none is ready, or that all are done.
+/// What a take answers: a loan, or how many positions are held where none is ready, or that all are
+/// done.
 pub enum Take<W: Work> {
     Loan(Loan<W>),
     NotNow { held: u32 },

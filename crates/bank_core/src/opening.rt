@@ -39,9 +39,11 @@ fn sets_of<W: Work>(
     table: &mut KeyTable,
 ) -> Result<Items<LockSet>, OutOfMemory>
     requires empty { table.old ≡ [] }
-    requires room { locks_before (W.job (W.told work.now)) (W.job (W.told work.now)).count < 2 ^ 32 }
+    requires room { locks_before (W.job (W.told work.now)) (W.job (W.told work.now)).count
+        < 2 ^ 32 }
     ensures long { IfOk result (λ sets. length sets ≡ (W.job (W.told work.now)).count) }
-    ensures numbered { IfOk result (λ sets. (i : ℕ) → i < (W.job (W.told work.now)).count → Numbers table.new ((W.job (W.told work.now)).locks i) (set_at sets i)) }
+    ensures numbered { IfOk result (λ sets. (i : ℕ) → i < (W.job (W.told work.now)).count
+        → Numbers table.new ((W.job (W.told work.now)).locks i) (set_at sets i)) }
     ensures distinct { OnOk result (IsDistinct same_key table.new) }
 {
     let mut sets = Items::new(alloc);
@@ -70,7 +72,8 @@ fn slots_of(
 ) -> Result<Vec<Option<Arc<Account>>>, OutOfMemory>
     requires { IsDistinct same_key table.now }
     ensures long { IfOk result (λ slots. length slots.items ≡ length table.now) }
-    ensures stored { IfOk result (λ slots. (n : ℕ) → n < length table.now → account_at slots.items n ≡ Some (at accounts.old (numbered_key table.now n))) }
+    ensures stored { IfOk result (λ slots. (n : ℕ) → n < length table.now
+        → account_at slots.items n ≡ Some (at accounts.old (numbered_key table.now n))) }
     ensures apart { OnOk result (IsApart accounts.old accounts.new table.now) }
 {
     let _total = accounts.total();
@@ -104,7 +107,9 @@ fn buffers_of(
     room: usize,
 ) -> Result<Vec<Vec<Arc<Account>>>, OutOfMemory>
     ensures long { IfOk result (λ buffers. length buffers.items ≡ lanes) }
-    ensures free { IfOk result (λ buffers. (lane : ℕ) (d : VecValue Shared GlobalValue) → lane < lanes → (vec_len (slice_index_or buffers.items lane d) ≡ 0) × (room ≤ vec_capacity (slice_index_or buffers.items lane d))) }
+    ensures free { IfOk result (λ buffers. (lane : ℕ) (d : VecValue Shared GlobalValue)
+        → lane < lanes → (vec_len (slice_index_or buffers.items lane d) ≡ 0)
+        × (room ≤ vec_capacity (slice_index_or buffers.items lane d))) }
 {
     let mut buffers = Vec::with_capacity(alloc, lanes)?;
     while buffers.len() < lanes {
@@ -124,8 +129,10 @@ impl<W: Work> Core<W> {
     ) -> Result<Core<W>, OutOfMemory>
         requires some { 1 ≤ lanes }
         requires most { lanes ≤ 64 }
-        requires room { locks_before (W.job (W.told work.now)) (W.job (W.told work.now)).count < 2 ^ 32 }
-        ensures origin { IfOk result (λ core. core.origin.value ≡ record { start = accounts; told = W.told work.now }) }
+        requires room { locks_before (W.job (W.told work.now)) (W.job (W.told work.now)).count
+            < 2 ^ 32 }
+        ensures origin { IfOk result
+            (λ core. core.origin.value ≡ record { start = accounts; told = W.told work.now }) }
         ensures lanes { IfOk result (λ core. core.lanes ≡ lanes) }
         ensures journal { IfOk result (λ core. core.journal.items ≡ []) }
     {

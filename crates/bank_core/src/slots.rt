@@ -15,7 +15,8 @@ pub(crate) fn put_written(
 )
     requires one_each { length written ≡ length (write_numbers locks.now) }
     requires within { All (λ lock. lock.number < length slots.old) locks.now }
-    ensures { (n : ℕ) → account_at slots.new n ≡ put_at (write_numbers locks.now) (accounts_of written) (account_at slots.old) n }
+    ensures { (n : ℕ) → account_at slots.new n
+        ≡ put_at (write_numbers locks.now) (accounts_of written) (account_at slots.old) n }
 {
     let mut at = locks.len();
     while at > 0 {
@@ -37,7 +38,10 @@ pub(crate) fn put_back(
     requires within { All (λ lock. lock.number < length slots.old) locks.now }
     ensures emptied { values.new.items ≡ [] }
     ensures capacity { vec_capacity values.old ≤ vec_capacity values.new }
-    ensures back { (n : ℕ) → account_at slots.new n ≡ put_back_at (take (length values.old.items) locks.now) (accounts_of values.old.items) (account_at slots.old) n }
+    ensures back { (n : ℕ)
+        → account_at slots.new n
+        ≡ put_back_at (take (length values.old.items) locks.now) (accounts_of values.old.items)
+        (account_at slots.old) n }
 {
     while let Some(account) = values.pop() {
         let lock = locks[values.len()];
@@ -55,7 +59,8 @@ fn lend_one(
     requires within { lock.number < length slots.old }
     requires there { IsSome (account_at slots.old lock.number) }
     ensures ok { IfOk result (λ a. Some (value_of a) ≡ account_at slots.old lock.number) }
-    ensures left { OnOk result ((n : ℕ) → account_at slots.new n ≡ taken_at (write_numbers (lock ∷ [])) (account_at slots.old) n) }
+    ensures left { OnOk result ((n : ℕ)
+        → account_at slots.new n ≡ taken_at (write_numbers (lock ∷ [])) (account_at slots.old) n) }
     ensures err { OnErr result (slots.new ≡ slots.old) }
     ensures reads { OnErr result (lock.write ≡ false) }
 {
@@ -78,8 +83,10 @@ pub(crate) fn lend(
     requires within { All (λ lock. lock.number < length slots.old) locks.now }
     requires there { AllThere locks.now (account_at slots.old) }
     requires distinct { AreDistinct locks.now }
-    ensures lent { OnOk result (accounts_of values.new.items ≡ found locks.now (account_at slots.old)) }
-    ensures left { OnOk result ((n : ℕ) → account_at slots.new n ≡ taken_at (write_numbers locks.now) (account_at slots.old) n) }
+    ensures lent { OnOk result (accounts_of values.new.items
+        ≡ found locks.now (account_at slots.old)) }
+    ensures left { OnOk result ((n : ℕ)
+        → account_at slots.new n ≡ taken_at (write_numbers locks.now) (account_at slots.old) n) }
     ensures same { OnErr result ((n : ℕ) → account_at slots.new n ≡ account_at slots.old n) }
     ensures emptied { OnErr result (values.new.items ≡ []) }
     ensures reads { OnErr result (ReadsAny locks.now) }

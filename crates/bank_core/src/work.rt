@@ -8,7 +8,8 @@ use sol_base::{Account, Items, LockList, OutOfMemory};
 use std::sync::Arc;
 use tx_report::Outcome;
 
-/// What performing a position gives: its outcome, and one account for each write lock, in their order.
+/// What performing a position gives: its outcome, and one account for each write lock, in their
+/// order.
 #[derive(Drop)]
 pub struct Effects {
     pub outcome: Outcome,
@@ -40,5 +41,7 @@ pub trait Work {
     fn perform(&self, position: u32, values: &[Arc<Account>]) -> Result<Effects, OutOfMemory>
         requires below { position < (job (told self.now)).count }
         requires fits { Fits ((job (told self.now)).locks position) (accounts_of values.now) }
-        ensures { IfOk result (λ effects. effects_seen effects ≡ (job (told self.now)).effects position (accounts_of values.now)) };
+        ensures { IfOk result
+            (λ effects. effects_seen effects
+            ≡ (job (told self.now)).effects position (accounts_of values.now)) };
 }

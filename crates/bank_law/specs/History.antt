@@ -1,4 +1,5 @@
--- The history of a core: its list of events, and what one lane and one pass know of it (the project's own).
+-- The history of a core: its list of events, and what one lane and one pass know of it (the
+-- project's own).
 use Rattle.std.specs.Prelude.{ℕ, ◌==◌, Bool, true, false, List, filter, count_by, Option, Some, None, option_and_then}
 use Rattle.std.specs.List.{last_or}
 use Rattle.bank_law.specs.declared.event.Event.{Event}
@@ -28,7 +29,8 @@ is_return Return = true
 abbrev pub returns : List Event → ℕ
 returns events = count_by (λ event. is_return event.kind) events
 
--- What a pass to a desk knows, beside which desk it is of: its lane, a beginning of the history, its
+-- What a pass to a desk knows, beside which desk it is of: its lane, a beginning of the history,
+-- its
 -- lane's events, how many lanes it knows to be drawn, and how often it has had the turn.
 pub record PassView : Type 0 where
   pub lane : ℕ

@@ -8,12 +8,14 @@ pub use Rattle.sol_base.specs.Keys.{has_key, same_key}
 pub use Rattle.sol_base.specs.Locks.{lock_keys, written_keys}
 use Rattle.tx_report.specs.declared.outcome.Outcome.{Outcome}
 
--- what performing a position gives: its outcome, and one account for each write lock, in their order
+-- what performing a position gives: its outcome, and one account for each write lock, in their
+-- order
 pub record JobEffects : Type 0 where
   pub outcome : Outcome
   pub written : List Account
 
--- the number of positions, the locks of each, and what performing one on the values of its keys gives
+-- the number of positions, the locks of each, and what performing one on the values of its keys
+-- gives
 pub record Job : Type 0 where
   pub count : ℕ
   pub locks : ℕ → List Lock

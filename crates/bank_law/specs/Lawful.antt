@@ -47,7 +47,8 @@ pub record IsLawful (job : Job) : Type 0 where
   pub settled : (i : ℕ) (vs : List Account) → i < job.count → Fits (job.locks i) vs →
       AreSettled vs → AreSettled (job.effects i vs).written
 
--- What a serial run begins with: the keys are distinct and among them are all that positions declare;
+-- What a serial run begins with: the keys are distinct and among them are all that positions
+-- declare;
 -- the accounts have fewer than 2^64 lamports under them, and each account is short and settled.
 pub record IsStart (job : Job) (start : Key → Account) (ks : List Key) : Type 0 where
   pub distinct : IsDistinct same_key ks

@@ -199,6 +199,7 @@ SumsMove =
     (job : Job) (start : state.State) → IsLawful job → IsState start →
     (n : ℕ) → n < job.count →
     state.sum (serial_state job start (suc n))
-    + lamports_in (lent_for_writing (job.locks n) (map (serial job (state.at start) n) (keys job n)))
+    + lamports_in
+    (lent_for_writing (job.locks n) (map (serial job (state.at start) n) (keys job n)))
     ≡ state.sum (serial_state job start n)
     + lamports_in (performed job (serial job (state.at start) n) n).written

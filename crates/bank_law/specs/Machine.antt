@@ -17,7 +17,8 @@ pub data Stage : Type 0 where
   held : ℕ → List Account → Stage
   done : Outcome → Stage
 
--- the stage of each position, and the store, from which an account is away while it is lent for writing
+-- the stage of each position, and the store, from which an account is away while it is lent for
+-- writing
 pub record State : Type 0 where
   pub stage : ℕ → Stage
   pub store : Key → Option Account
@@ -112,17 +113,20 @@ abbrev pub taken_out : List Key → (Key → Option Account) → Key → Option 
 taken_out ks store key = if has_key key ks then None else store key
 
 -- these keys are put in, each with the value that stands beside it among all
-abbrev pub put_in : List Key → List Key → List Account → (Key → Option Account) → Key → Option Account
+abbrev pub put_in : List Key → List Key → List Account → (Key → Option Account) → Key
+    → Option Account
 put_in ks all vs store key = if has_key key ks then Some (beside key all vs) else store key
 
 -- the loan has the value of each declared key; written keys leave the store
 abbrev pub grant : Job → State → ℕ → ℕ → State
 grant job s lane i = record {
-  stage = at_stage s.stage i (held lane (map (λ key. unwrap_or (s.store key) empty_account) (keys job i)));
+  stage = at_stage s.stage i
+      (held lane (map (λ key. unwrap_or (s.store key) empty_account) (keys job i)));
   store = taken_out (write_keys job i) s.store;
 }
 
--- the work's effects on the loan's values are put in the store, the outcome is kept, and the position is done
+-- the work's effects on the loan's values are put in the store, the outcome is kept, and the
+-- position is done
 abbrev pub commit : Job → State → ℕ → State
 commit job s i =
     let effects = job.effects i (loan (s.stage i)) in
@@ -155,7 +159,8 @@ after job s (event ∷ events) = after job (after_event job s event) events
 abbrev pub IsLegalFrom : Job → State → List Event → Type 0
 IsLegalFrom job s [] = Unit {0}
 IsLegalFrom job s (event ∷ events) =
-    MayCome job s event.kind event.lane event.position × IsLegalFrom job (after_event job s event) events
+    MayCome job s event.kind event.lane event.position
+    × IsLegalFrom job (after_event job s event) events
 
 -- a list of events, and one more
 abbrev pub with_event : List Event → EventKind → ℕ → ℕ → List Event

@@ -13,7 +13,8 @@ performed job accounts i = job.effects i (map accounts (keys job i))
 -- the accounts once it ran
 abbrev pub next : Job → (Key → Account) → ℕ → Key → Account
 next job accounts i key =
-    if writes job i key then beside key (write_keys job i) (performed job accounts i).written else accounts key
+    if writes job i key then beside key (write_keys job i) (performed job accounts i).written
+    else accounts key
 
 -- the accounts once the first positions ran, as many as the number says
 abbrev pub serial : Job → (Key → Account) → ℕ → Key → Account

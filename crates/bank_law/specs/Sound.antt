@@ -42,9 +42,11 @@ pub record Sound (job : Job) (start : Key → Account) (s : State) : Type 0 wher
   -- only positions of the work are ever held or done
   pub within : (i : ℕ) → is_waiting (s.stage i) ≡ false → i < job.count
   -- (a) if i is held or done, each earlier conflicting position is done
-  pub earlier : (i j : ℕ) → is_waiting (s.stage i) ≡ false → j < i → conflict job j i ≡ true → is_done (s.stage j) ≡ true
+  pub earlier : (i j : ℕ) → is_waiting (s.stage i) ≡ false → j < i → conflict job j i ≡ true
+      → is_done (s.stage j) ≡ true
   -- (b) the value of a key, in the store or in its write loan, is the account due
   pub values : (key : Key) →
-      MatchOption (s.store key) (IsLent job s key (due job start s key)) (λ v. v ≡ due job start s key)
+      MatchOption (s.store key) (IsLent job s key (due job start s key))
+      (λ v. v ≡ due job start s key)
   -- (c) of each held position, and (d) of each done one
   pub agrees : (i : ℕ) → Agrees job start i (s.stage i)

@@ -15,22 +15,68 @@ had (Some p) = p.0
 module _ {O : Type 0} where
   -- a seat that has the turn
   abbrev pub holding : View O → List Event → ℕ → View O
-  holding v h d = record { origin = v.origin; lane = v.lane; kept = v.kept; olds = v.olds; seen = v.seen; mine = v.mine; drawn = v.drawn; turns = suc v.turns; turn = Some (h, d) }
+  holding v h d =
+      record {
+        origin = v.origin;
+        lane = v.lane;
+        kept = v.kept;
+        olds = v.olds;
+        seen = v.seen;
+        mine = v.mine;
+        drawn = v.drawn;
+        turns = suc v.turns;
+        turn = Some (h, d);
+      }
 
   -- a seat that has given it up
   abbrev pub done : View O → List Event → ℕ → View O
-  done v h d = record { origin = v.origin; lane = v.lane; kept = v.kept; olds = []; seen = h; mine = own_if h v.lane; drawn = d; turns = v.turns; turn = None }
+  done v h d =
+      record {
+        origin = v.origin;
+        lane = v.lane;
+        kept = v.kept;
+        olds = [];
+        seen = h;
+        mine = own_if h v.lane;
+        drawn = d;
+        turns = v.turns;
+        turn = None;
+      }
 
   -- a seat that has drawn the last of d lanes
   abbrev pub seated : View O → List Event → ℕ → View O
-  seated v h d = record { origin = v.origin; lane = Some (pred d); kept = v.kept; olds = []; seen = h; mine = []; drawn = d; turns = v.turns; turn = None }
+  seated v h d =
+      record {
+        origin = v.origin;
+        lane = Some (pred d);
+        kept = v.kept;
+        olds = [];
+        seen = h;
+        mine = [];
+        drawn = d;
+        turns = v.turns;
+        turn = None;
+      }
 
   -- a seat that has looked
   abbrev pub caught_up : View O → List Event → View O
-  caught_up v h = record { origin = v.origin; lane = v.lane; kept = v.kept; olds = []; seen = h; mine = v.mine; drawn = v.drawn; turns = v.turns; turn = v.turn }
+  caught_up v h =
+      record {
+        origin = v.origin;
+        lane = v.lane;
+        kept = v.kept;
+        olds = [];
+        seen = h;
+        mine = v.mine;
+        drawn = v.drawn;
+        turns = v.turns;
+        turn = v.turn;
+      }
 
   abbrev pub looked : {S : Type 0} → Step S → Me S (View O) → ℕ → Me S (View O) → Type 0
-  looked s m n m' = (h : List Event) × (m' ≡ (caught_up m.0 h, m.1)) × IsPrefix m.0.seen h × All (λ old. IsPrefix old h) m.0.olds × (m.0.mine ≡ own_if h m.0.lane)
+  looked s m n m' =
+      (h : List Event) × (m' ≡ (caught_up m.0 h, m.1)) × IsPrefix m.0.seen h
+      × All (λ old. IsPrefix old h) m.0.olds × (m.0.mine ≡ own_if h m.0.lane)
 
   -- what stands in the slot when the turn is taken from a word
   pub record Gets (o p : O) (h : List Event) (d : ℕ) (v : View O) (n : ℕ) : Type 0 where
@@ -42,14 +88,18 @@ module _ {O : Type 0} where
   module _ {C : Type 0} (origin : C → O) (journal : C → List Event) (drawn : C → ℕ) where
     -- what is taken with the turn
     abbrev pub Taken : View O → C → ℕ → Me (Option C) (View O) → Type 0
-    Taken v c n m' = (m' ≡ (holding v (journal c) (drawn c), (0, Some c) ∷ [])) × (n ≡ 2 * length (journal c)) × Knows (origin c) (journal c) (drawn c) v × All (λ e. e.lane < drawn c) (journal c)
+    Taken v c n m' =
+        (m' ≡ (holding v (journal c) (drawn c), (0, Some c) ∷ [])) × (n ≡ 2 * length (journal c))
+        × Knows (origin c) (journal c) (drawn c) v × All (λ e. e.lane < drawn c) (journal c)
 
     abbrev pub took : Step (Option C) → Me (Option C) (View O) → ℕ → Me (Option C) (View O) → Type 0
     took s m n m' = MatchBool (n == s.first) ((c : C) × Taken m.0 c n m') (m' ≡ m)
 
   module _ {C : Type 0} (journal : C → List Event) (drawn : C → ℕ) where
-    abbrev pub released : Step (Option C) → Me (Option C) (View O) → ℕ → Me (Option C) (View O) → Type 0
-    released s m n m' = (c : C) → (m.1 ≡ (0, Some c) ∷ []) → m' ≡ (done m.0 (journal c) (drawn c), [])
+    abbrev pub released : Step (Option C) → Me (Option C) (View O) → ℕ → Me (Option C) (View O)
+        → Type 0
+    released s m n m' =
+        (c : C) → (m.1 ≡ (0, Some c) ∷ []) → m' ≡ (done m.0 (journal c) (drawn c), [])
 
     abbrev pub drew : Step (Option C) → Me (Option C) (View O) → ℕ → Me (Option C) (View O) → Type 0
     drew s m n m' = (c : C) → (m.1 ≡ (0, Some c) ∷ []) → m' ≡ (seated m.0 (journal c) (drawn c), [])

@@ -24,17 +24,20 @@ impl<W: Work> SharedDesk<W> {
         ensures table { pass.new.seat.table_id ≡ pass.old.seat.table_id }
         ensures lane { pass.new.lane ≡ pass.old.lane }
         ensures kept { Keeps pass.old.seat.me.0 pass.new.seat.me.0 }
-        ensures legal { IsLegalFor W.job self.now.table.shared.key.value.origin pass.new.seat.me.0.seen }
+        ensures legal { IsLegalFor W.job self.now.table.shared.key.value.origin
+            pass.new.seat.me.0.seen }
         ensures event { MatchTake result
             (λ loan. Adds pass.old.seat.me.0
-            (record { kind = Grant; lane = pass.old.lane; position = loan.position }) pass.new.seat.me.0)
+            (record { kind = Grant; lane = pass.old.lane; position = loan.position })
+            pass.new.seat.me.0)
             (λ held. Sees pass.old.seat.me.0 pass.new.seat.me.0)
             (Sees pass.old.seat.me.0 pass.new.seat.me.0)
             (Sees pass.old.seat.me.0 pass.new.seat.me.0) }
         ensures take { MatchTake result
             (λ loan. (loan.lane ≡ pass.old.lane)
             × (loan.origin.value ≡ self.now.table.shared.key.value.origin))
-            (λ held. IsNotNowAfter W.job self.now.table.shared.key.value.origin pass.new.seat.me.0.seen held)
+            (λ held. IsNotNowAfter W.job self.now.table.shared.key.value.origin
+            pass.new.seat.me.0.seen held)
             (AllDoneAfter W.job self.now.table.shared.key.value.origin pass.new.seat.me.0.seen)
             (ReadsLeastAfter W.job self.now.table.shared.key.value.origin pass.new.seat.me.0.seen) }
     {
@@ -79,13 +82,16 @@ impl<W: Work> SharedDesk<W> {
         requires lane { loan.lane ≡ pass.old.lane }
         requires held { holds pass.old.seat.me.0.mine ≡ Some loan.position }
         requires right { effects_seen effects
-            ≡ (W.job self.now.table.shared.key.value.origin.told).effects loan.position (accounts_of loan.values.items) }
+            ≡ (W.job self.now.table.shared.key.value.origin.told).effects loan.position
+            (accounts_of loan.values.items) }
         ensures table { pass.new.seat.table_id ≡ pass.old.seat.table_id }
         ensures lane { pass.new.lane ≡ pass.old.lane }
         ensures kept { Keeps pass.old.seat.me.0 pass.new.seat.me.0 }
-        ensures legal { IsLegalFor W.job self.now.table.shared.key.value.origin pass.new.seat.me.0.seen }
+        ensures legal { IsLegalFor W.job self.now.table.shared.key.value.origin
+            pass.new.seat.me.0.seen }
         ensures event { Adds pass.old.seat.me.0
-            (record { kind = Commit; lane = pass.old.lane; position = loan.position }) pass.new.seat.me.0 }
+            (record { kind = Commit; lane = pass.old.lane; position = loan.position })
+            pass.new.seat.me.0 }
     {
         let lane = pass.lane;
         let event = Event {
@@ -109,9 +115,11 @@ impl<W: Work> SharedDesk<W> {
         ensures table { pass.new.seat.table_id ≡ pass.old.seat.table_id }
         ensures lane { pass.new.lane ≡ pass.old.lane }
         ensures kept { Keeps pass.old.seat.me.0 pass.new.seat.me.0 }
-        ensures legal { IsLegalFor W.job self.now.table.shared.key.value.origin pass.new.seat.me.0.seen }
+        ensures legal { IsLegalFor W.job self.now.table.shared.key.value.origin
+            pass.new.seat.me.0.seen }
         ensures event { Adds pass.old.seat.me.0
-            (record { kind = Return; lane = pass.old.lane; position = loan.position }) pass.new.seat.me.0 }
+            (record { kind = Return; lane = pass.old.lane; position = loan.position })
+            pass.new.seat.me.0 }
     {
         let lane = pass.lane;
         let event = Event {

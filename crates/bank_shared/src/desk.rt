@@ -28,8 +28,8 @@ pub struct Pass<W: Work> {
     ghost within: { IfSome seat.me.0.origin (λ desk. lane < desk.lanes) } by { Prim.hlevel props },
 }
 
-/// A desk: a core that lanes share, each with a pass. One pass at a time has the turn, for a grant, a
-/// commit or a return alone; the work runs outside it.
+/// A desk: a core that lanes share, each with a pass. One pass at a time has the turn, for a grant,
+/// a commit or a return alone; the work runs outside it.
 pub struct SharedDesk<W: Work> {
     pub(crate) table: Table<
         Option<Kept<W>>,
@@ -43,8 +43,8 @@ pub struct SharedDesk<W: Work> {
 }
 
 impl<W: Work> SharedDesk<W> {
-    /// A desk over a core of which nothing happened yet, and the pass of lane 0. The core is dropped
-    /// where memory runs out.
+    /// A desk over a core of which nothing happened yet, and the pass of lane 0. The core is
+    /// dropped where memory runs out.
     pub fn new(alloc: Global, core: Core<W>) -> Result<(SharedDesk<W>, Pass<W>), OutOfMemory>
         requires some { 1 ≤ core.lanes }
         requires journal { core.journal.items ≡ [] }
@@ -52,7 +52,8 @@ impl<W: Work> SharedDesk<W> {
             ≡ record { origin = core.origin.value; lanes = core.lanes }) }
         ensures pass { IfOk result (λ made.
             (made.1.seat.table_id ≡ made.0.table.shared.table_id) × (made.1.lane ≡ 0)) }
-        ensures view { IfOk result (λ made. made.1.seat.me.0 ≡ first_view made.0.table.shared.key.value) }
+        ensures view { IfOk result
+            (λ made. made.1.seat.me.0 ≡ first_view made.0.table.shared.key.value) }
     {
         let about = origin_of(&core);
         let mut slots = Vec::new(alloc);

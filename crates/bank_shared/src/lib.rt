@@ -1,6 +1,6 @@
-//! A core that lanes share, under one word and one slot. The word is twice the number of events, and
-//! one more while a lane has the turn; the slot has the core, and the number of lanes that are drawn.
-//! Every change is one event of one history, and of that each pass has seen a beginning.
+//! A core that lanes share, under one word and one slot. The word is twice the number of events,
+//! and one more while a lane has the turn; the slot has the core, and the number of lanes that are
+//! drawn. Every change is one event of one history, and of that each pass has seen a beginning.
 #![tactic(auto)]
 
 mod calls;

@@ -15,7 +15,9 @@ impl<W: Work> TableRule<Option<Kept<W>>, View<DeskOrigin<W::Told>>, Note<DeskOri
     for TurnRule<W> {
     ghost use Rattle.bank_shared.specs.Rule.{IsRuled, first_view};
 
-    ghost holds = { λ note s. IsRuled (λ kept. (record { origin = kept.core.origin.value; lanes = kept.core.lanes })) (λ kept. kept.core.journal.items) (λ kept. kept.drawn) note.value s };
+    ghost holds = { λ note s. IsRuled
+        (λ kept. (record { origin = kept.core.origin.value; lanes = kept.core.lanes }))
+        (λ kept. kept.core.journal.items) (λ kept. kept.drawn) note.value s };
 
     ghost first = { λ note. first_view note.value };
 }
@@ -28,7 +30,8 @@ pub struct Takes<W> {
 impl<W: Work> Play<Option<Kept<W>>, View<DeskOrigin<W::Told>>> for Takes<W> {
     ghost use Rattle.bank_shared.specs.Plays.{took};
 
-    ghost then = { took (λ kept. (record { origin = kept.core.origin.value; lanes = kept.core.lanes })) (λ kept. kept.core.journal.items) (λ kept. kept.drawn) };
+    ghost then = { took (λ kept. (record { origin = kept.core.origin.value; lanes = kept.core.lanes }))
+        (λ kept. kept.core.journal.items) (λ kept. kept.drawn) };
 }
 
 /// Kind 3: a look, by which more may be seen.

@@ -26,7 +26,8 @@ impl<W: Work> SharedDesk<W> {
         ensures table { seat.new.table_id ≡ seat.old.table_id }
         ensures none { IfNone result (seat.new.me ≡ seat.old.me) }
         ensures some { IfSome result (λ kept.
-            (seat.new.me ≡ (holding seat.old.me.0 kept.core.journal.items kept.drawn, (0, None) ∷ []))
+            (seat.new.me
+            ≡ (holding seat.old.me.0 kept.core.journal.items kept.drawn, (0, None) ∷ []))
             × Gets self.now.table.shared.key.value
             (record { origin = kept.core.origin.value; lanes = kept.core.lanes })
             kept.core.journal.items kept.drawn seat.old.me.0 word) }
@@ -80,7 +81,8 @@ impl<W: Work> SharedDesk<W> {
     )
         requires table { seat.old.table_id ≡ self.now.table.shared.table_id }
         requires desk { (seat.old.me.0.origin ≡ Some self.now.table.shared.key.value)
-            × ((record { origin = kept.core.origin.value; lanes = kept.core.lanes }) ≡ self.now.table.shared.key.value) }
+            × ((record { origin = kept.core.origin.value; lanes = kept.core.lanes })
+            ≡ self.now.table.shared.key.value) }
         requires slot { seat.old.me.1 ≡ (0, None) ∷ [] }
         requires turn { seat.old.me.0.turn ≡ Some (kept.core.journal.items, kept.drawn) }
         requires word { word ≡ 2 * length kept.core.journal.items }
@@ -102,7 +104,8 @@ impl<W: Work> SharedDesk<W> {
     )
         requires table { seat.old.table_id ≡ self.now.table.shared.table_id }
         requires desk { (seat.old.me.0.origin ≡ Some self.now.table.shared.key.value)
-            × ((record { origin = kept.core.origin.value; lanes = kept.core.lanes }) ≡ self.now.table.shared.key.value) }
+            × ((record { origin = kept.core.origin.value; lanes = kept.core.lanes })
+            ≡ self.now.table.shared.key.value) }
         requires slot { seat.old.me.1 ≡ (0, None) ∷ [] }
         requires turn { seat.old.me.0.turn ≡ Some (had seat.old.me.0.turn, kept.drawn) }
         requires event { (kept.core.journal.items ≡ had seat.old.me.0.turn ++ event ∷ [])
@@ -127,7 +130,8 @@ impl<W: Work> SharedDesk<W> {
     )
         requires table { seat.old.table_id ≡ self.now.table.shared.table_id }
         requires desk { (seat.old.me.0.origin ≡ Some self.now.table.shared.key.value)
-            × ((record { origin = kept.core.origin.value; lanes = kept.core.lanes }) ≡ self.now.table.shared.key.value) }
+            × ((record { origin = kept.core.origin.value; lanes = kept.core.lanes })
+            ≡ self.now.table.shared.key.value) }
         requires slot { (seat.old.me.1 ≡ (0, None) ∷ []) × (seat.old.me.0.lane ≡ None) }
         requires turn { (seat.old.me.0.turn ≡ Some (kept.core.journal.items, lane))
             × (kept.drawn ≡ lane + 1) }

@@ -1,4 +1,5 @@
--- A block record as one JSON object (the project's own form), as `serde_json` writes it without spaces.
+-- A block record as one JSON object (the project's own form), as `serde_json` writes it without
+-- spaces.
 use Rattle.std.specs.Prelude.{ℕ, List, map, codes}
 use Rattle.hex.specs.Hex.{encode_lower}
 use Rattle.serde_json.specs.Data.{Data, number, unsigned, string, array, object, member, no_members}

@@ -13,13 +13,17 @@ abbrev pub flag_rule : Text → Rule
 flag_rule name = record (new_rule name) { long = Some name; action = Some SetTrue }
 
 abbrev pub produce_app : App
-produce_app = with_rule (with_rule (new_app (codes "produce")) (value_rule (codes "lanes"))) (value_rule (codes "senders"))
+produce_app =
+    with_rule (with_rule (new_app (codes "produce")) (value_rule (codes "lanes")))
+    (value_rule (codes "senders"))
 
 abbrev pub replay_app : App
 replay_app = with_rule (new_app (codes "replay")) (value_rule (codes "lanes"))
 
 abbrev pub make_app : App
-make_app = with_rule (with_rule (with_rule (with_rule (new_app (codes "make")) (value_rule (codes "number"))) (value_rule (codes "count"))) (value_rule (codes "lanes"))) (flag_rule (codes "run"))
+make_app = with_rule
+    (with_rule (with_rule (with_rule (new_app (codes "make")) (value_rule (codes "number")))
+    (value_rule (codes "count"))) (value_rule (codes "lanes"))) (flag_rule (codes "run"))
 
 -- the top command: it has no name among the words, and answers no help
 abbrev pub top_app : App
@@ -38,7 +42,9 @@ abbrev pub with_simple : App → App → App
 with_simple app sub = with_subcommand app sub.top
 
 abbrev pub three_app : App
-three_app = with_simple (with_simple (with_simple top_app produce_app) replay_app) (new_app (codes "show"))
+three_app = with_simple (with_simple (with_simple top_app produce_app) replay_app)
+    (new_app (codes "show"))
 
 abbrev pub bank_app : App
-bank_app = with_simple (with_simple (with_simple three_app make_app) (new_app (codes "asm"))) (new_app (codes "list"))
+bank_app = with_simple (with_simple (with_simple three_app make_app) (new_app (codes "asm")))
+    (new_app (codes "list"))

@@ -1,4 +1,5 @@
--- Words in form: a command, and after it its options, each at most once, with numbers in their ranges.
+-- Words in form: a command, and after it its options, each at most once, with numbers in their
+-- ranges.
 use Rattle.std.specs.Prelude.{ℕ, ◌≤◌, Bool, List, [], ◌∷◌, Option, Some, None, option_map, option_and_then, find, codes}
 use Rattle.std.specs.Str.{bytes_eq}
 use Rattle.bank_words.specs.Options.{Text, Options, Use, has_use, given, uses_in}
@@ -16,18 +17,25 @@ abbrev pub replay_options : Options
 replay_options = record { numbers = codes "lanes" ∷ []; flags = [] }
 
 abbrev pub make_options : Options
-make_options = record { numbers = codes "number" ∷ codes "count" ∷ codes "lanes" ∷ []; flags = codes "run" ∷ [] }
+make_options =
+    record {
+      numbers = codes "number" ∷ codes "count" ∷ codes "lanes" ∷ [];
+      flags = codes "run" ∷ [];
+    }
 
 -- the commands by the texts of their numbers
 abbrev pub produce_from : Option Text → Option Text → Option Command
-produce_from lanes senders = option_and_then (λ l. option_map (λ s. Produce l s) (senders_in senders)) (lanes_in lanes)
+produce_from lanes senders =
+    option_and_then (λ l. option_map (λ s. Produce l s) (senders_in senders)) (lanes_in lanes)
 
 abbrev pub replay_from : Option Text → Option Command
 replay_from lanes = option_map (λ l. Replay l) (lanes_in lanes)
 
 abbrev pub make_from : Option Text → Option Text → Bool → Option Text → Option Command
 make_from seed count run lanes =
-    option_and_then (λ n. option_and_then (λ c. option_map (λ l. Make n c run l) (lanes_in lanes)) (count_in count)) (seed_in seed)
+    option_and_then
+    (λ n. option_and_then (λ c. option_map (λ l. Make n c run l) (lanes_in lanes))
+    (count_in count)) (seed_in seed)
 
 -- the commands by the uses of their options
 abbrev pub produce_by : List Use → Option Command
@@ -38,7 +46,8 @@ replay_by uses = replay_from (given (codes "lanes") uses)
 
 abbrev pub make_by : List Use → Option Command
 make_by uses =
-    make_from (given (codes "number") uses) (given (codes "count") uses) (has_use (codes "run") uses) (given (codes "lanes") uses)
+    make_from (given (codes "number") uses) (given (codes "count") uses)
+    (has_use (codes "run") uses) (given (codes "lanes") uses)
 
 -- the form of a command: its name, its options, and what it is by their uses
 pub record Form : Type 0 where

@@ -7,7 +7,8 @@ use Rattle.bank_words.specs.Options.{Text}
 
 -- the text is a number: 1 to 20 decimal digits
 abbrev pub is_number_text : Text → Bool
-is_number_text text = list_all is_ascii_digit text && (nat_lt 0 (length text) && nat_le (length text) 20)
+is_number_text text =
+    list_all is_ascii_digit text && (nat_lt 0 (length text) && nat_le (length text) 20)
 
 -- the number from low to high that the text is
 abbrev pub number_in : ℕ → ℕ → Text → Option ℕ

@@ -22,7 +22,8 @@ abbrev pub is_among : Text → List Text → Bool
 is_among name names = list_any (λ n. bytes_eq n name) names
 
 abbrev pub takes : Options → Text → Takes
-takes o name = if is_among name o.numbers then number else (if is_among name o.flags then nothing else unknown)
+takes o name =
+    if is_among name o.numbers then number else (if is_among name o.flags then nothing else unknown)
 
 -- a use of an option: its name, and the text of its number where it takes one
 pub record Use : Type 0 where
@@ -45,22 +46,30 @@ abbrev pub is_dashed : Text → Bool
 is_dashed word = slice_index word 0 == 45
 
 -- what the word `--name` or `--name=value` comes to: a use, or a number is waited for
-abbrev pub option_uses : Takes → Text → Option Text → List Use → (List Use → Option Text → Option (List Use)) → Option (List Use)
-option_uses number name (Some value) uses next = more uses (record { name = name; value = Some value }) (λ us. next us None)
+abbrev pub option_uses : Takes → Text → Option Text → List Use
+    → (List Use → Option Text → Option (List Use)) → Option (List Use)
+option_uses number name (Some value) uses next =
+    more uses (record { name = name; value = Some value }) (λ us. next us None)
 option_uses number name None uses next = next uses (Some name)
-option_uses nothing name None uses next = more uses (record { name = name; value = None }) (λ us. next us None)
+option_uses nothing name None uses next =
+    more uses (record { name = name; value = None }) (λ us. next us None)
 option_uses _ name value uses next = None
 
-abbrev pub word_uses : Options → Option (Text × Option Text) → List Use → (List Use → Option Text → Option (List Use)) → Option (List Use)
+abbrev pub word_uses : Options → Option (Text × Option Text) → List Use
+    → (List Use → Option Text → Option (List Use)) → Option (List Use)
 word_uses o None uses next = None
 word_uses o (Some p) uses next = option_uses (takes o p.0) p.0 p.1 uses next
 
--- the uses so far and those that the words spell, each option at most once; a name may wait for its number
+-- the uses so far and those that the words spell, each option at most once; a name may wait for its
+-- number
 abbrev pub uses_after : Options → List Use → Option Text → List Text → Option (List Use)
 uses_after o uses None [] = Some uses
 uses_after o uses (Some name) [] = None
-uses_after o uses (Some name) (word ∷ words) = if is_dashed word then None else more uses (record { name = name; value = Some word }) (λ us. uses_after o us None words)
-uses_after o uses None (word ∷ words) = word_uses o (long_of word) uses (λ us waits. uses_after o us waits words)
+uses_after o uses (Some name) (word ∷ words) =
+    if is_dashed word then None
+    else more uses (record { name = name; value = Some word }) (λ us. uses_after o us None words)
+uses_after o uses None (word ∷ words) =
+    word_uses o (long_of word) uses (λ us waits. uses_after o us waits words)
 
 -- the uses that the words spell, or None where they spell none
 abbrev pub uses_in : Options → List Text → Option (List Use)

@@ -23,7 +23,8 @@ abbrev pub fault_of_kind : ErrorKind → WordsFault
 fault_of_kind kind.OutOfMemory = OutOfMemory
 fault_of_kind _ = Refused
 
--- `clap` reads the word as an option `--..` or as a value, and in no other way: not as `-`, `--` or `-x`
+-- `clap` reads the word as an option `--..` or as a value, and in no other way: not as `-`, `--` or
+-- `-x`
 abbrev pub is_plain : Text → Bool
 is_plain word = is_some (long_of word) || not (is_dashed word)
 
@@ -40,7 +41,8 @@ runs f = option_map_or (λ t. bytes_eq t (codes "true")) (first_value f (codes "
 
 abbrev pub make_found : Found → Option Command
 make_found f =
-    make_from (first_value f (codes "number")) (first_value f (codes "count")) (runs f) (first_value f (codes "lanes"))
+    make_from (first_value f (codes "number")) (first_value f (codes "count")) (runs f)
+    (first_value f (codes "lanes"))
 
 abbrev pub command_named : Text → Option Command → Option Command → Option Command → Option Command
 command_named name produce replay make =

@@ -6,7 +6,8 @@ use Rattle.bank_words.specs.Options.{Text, Options, number, nothing, takes, Use,
 use Rattle.bank_words.specs.Commands.{Form, form_named}
 use Rattle.bank_words.specs.declared.command.Command.{Command}
 
--- a use of an option as it is written: `--name value` as two words, `--name=value` as one, or `--name`
+-- a use of an option as it is written: `--name value` as two words, `--name=value` as one, or
+-- `--name`
 pub data Written : Type 0 where
   apart : Text → Text → Written
   joined : Text → Text → Written

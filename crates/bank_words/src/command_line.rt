@@ -12,8 +12,10 @@ fn with_value<'a>(
     command: Command<'a>,
     name: &'a str,
 ) -> Result<Command<'a>, AllocError>
-    ensures app { IfOk result (λ c. app_of c ≡ with_rule (app_of command.entry) (value_rule name.entry.now)) }
-    ensures local { (fields_of command.entry).has_globals ≡ false → IfOk result (λ c. (fields_of c).has_globals ≡ false) }
+    ensures app { IfOk result
+        (λ c. app_of c ≡ with_rule (app_of command.entry) (value_rule name.entry.now)) }
+    ensures local { (fields_of command.entry).has_globals ≡ false
+        → IfOk result (λ c. (fields_of c).has_globals ≡ false) }
 {
     command.arg(Arg::new(alloc, name).long(name))
 }
@@ -24,8 +26,10 @@ fn with_flag<'a>(
     command: Command<'a>,
     name: &'a str,
 ) -> Result<Command<'a>, AllocError>
-    ensures app { IfOk result (λ c. app_of c ≡ with_rule (app_of command.entry) (flag_rule name.entry.now)) }
-    ensures local { (fields_of command.entry).has_globals ≡ false → IfOk result (λ c. (fields_of c).has_globals ≡ false) }
+    ensures app { IfOk result
+        (λ c. app_of c ≡ with_rule (app_of command.entry) (flag_rule name.entry.now)) }
+    ensures local { (fields_of command.entry).has_globals ≡ false
+        → IfOk result (λ c. (fields_of c).has_globals ≡ false) }
 {
     let flag = Arg::new(alloc, name).long(name).action(ArgAction::SetTrue);
     command.arg(flag)
@@ -59,7 +63,8 @@ fn make_command<'a>(alloc: Global) -> Result<Command<'a>, AllocError>
 /// The command with one more subcommand.
 fn with<'a>(command: Command<'a>, subcommand: Command<'a>) -> Result<Command<'a>, AllocError>
     requires { (fields_of subcommand).has_globals ≡ false }
-    ensures { IfOk result (λ c. app_of c ≡ with_simple (app_of command.entry) (app_of subcommand.entry)) }
+    ensures { IfOk result
+        (λ c. app_of c ≡ with_simple (app_of command.entry) (app_of subcommand.entry)) }
 {
     command.subcommand(subcommand)
 }

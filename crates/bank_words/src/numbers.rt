@@ -20,7 +20,8 @@ fn is_number_text(text: &str) -> bool
 /// The number that the digits write. None where it is above what a u64 holds.
 fn value_of(text: &str) -> Option<u64>
     requires { is_number_text text.now ≡ true }
-    ensures { MatchOption result (2 ^ 64 ≤ digits_value 10 text.now) (λ n. n ≡ digits_value 10 text.now) }
+    ensures { MatchOption result (2 ^ 64 ≤ digits_value 10 text.now)
+        (λ n. n ≡ digits_value 10 text.now) }
 {
     match text.parse() {
         Ok(number) => Some(number),

@@ -46,7 +46,12 @@ start_hash = record { 0 = replicate 32 170 }
 
 -- an account of the system program without data
 abbrev pub wallet : ℕ → Account
-wallet lamports = record { lamports = lamports; owner = SYSTEM_PROGRAM; executable = false; bytes = [] }
+wallet lamports = record {
+  lamports = lamports;
+  owner = SYSTEM_PROGRAM;
+  executable = false;
+  bytes = [];
+}
 
 abbrev pub user_account : ℕ → KeyedAccount
 user_account i = record { key = user i; account = wallet 1000000000000 }
@@ -79,7 +84,12 @@ unit_price price = record { program = 3; accounts = []; input = 3 ∷ to_le_byte
 
 -- a transfer of lamports from key 0 to key 1
 abbrev pub payment : ℕ → Instruction
-payment lamports = record { program = 2; accounts = 0 ∷ 1 ∷ []; input = to_le_bytes w32 2 ++ to_le_bytes w64 lamports }
+payment lamports =
+    record {
+      program = 2;
+      accounts = 0 ∷ 1 ∷ [];
+      input = to_le_bytes w32 2 ++ to_le_bytes w64 lamports;
+    }
 
 -- the message of a transfer between two users
 abbrev pub transfer_message : ℕ → ℕ → ℕ → ℕ → Message
@@ -114,5 +124,9 @@ wire_of number t = tx_bytes (drawn_transfer (state_after (3 * t) number) (t + 1)
 unfoldable pub made : ℕ → ℕ → Made
 made number count = record {
   snapshot = start_snapshot;
-  batch = record { slot = 1; collector = collector; wires = map (wire_of number) (range_with_len 0 count) };
+  batch = record {
+    slot = 1;
+    collector = collector;
+    wires = map (wire_of number) (range_with_len 0 count);
+  };
 }

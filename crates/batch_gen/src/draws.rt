@@ -1,8 +1,8 @@
 ghost use Rattle.std.specs.Prelude.{◌≡◌};
 ghost use Rattle.batch_gen.specs.Generator.{next_state, draw};
 
-/// A generator of numbers: the state runs through all 64-bit numbers, and its upper 31 bits are what
-/// is drawn (the project's own choice of numbers for a linear congruence).
+/// A generator of numbers: the state runs through all 64-bit numbers, and its upper 31 bits are
+/// what is drawn (the project's own choice of numbers for a linear congruence).
 #[derive(Drop)]
 pub(crate) struct Draws {
     pub(crate) state: u64,

@@ -1,5 +1,5 @@
-//! A chain at its start and a block of transfers between its users, both drawn from a number, to try
-//! a block on.
+//! A chain at its start and a block of transfers between its users, both drawn from a number, to
+//! try a block on.
 #![tactic(auto)]
 
 mod draws;

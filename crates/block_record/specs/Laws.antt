@@ -5,4 +5,5 @@ use Rattle.block_record.specs.Record.{bytes_of_record, IsCounted, HasTexts, HasW
 use Rattle.block_record.specs.RecordReading.{record_of}
 
 abbrev pub RoundTrip : Type 0
-RoundTrip = (block : Block) → IsCounted block → HasTexts block → HasWidths block → record_of (bytes_of_record block) ≡ Ok block
+RoundTrip = (block : Block) → IsCounted block → HasTexts block → HasWidths block
+    → record_of (bytes_of_record block) ≡ Ok block

@@ -22,10 +22,13 @@ abbrev pub Read : Type 0 → Type 0
 Read X = Result (X × List ℕ) RecordFault
 
 unfoldable pub magic_at : ℕ → List ℕ → Read (List ℕ)
-magic_at total bytes = read_if BadField (λ magic. bytes_eq magic (codes "SOLBLCK1")) (field_at Truncated total 8) total bytes
+magic_at total bytes =
+    read_if BadField (λ magic. bytes_eq magic (codes "SOLBLCK1")) (field_at Truncated total 8) total
+    bytes
 
 unfoldable pub wire_len_at : ℕ → List ℕ → Read ℕ
-wire_len_at total bytes = read_if BadField (λ n. nat_le n max_wire_len) (number_at Truncated w16 total) total bytes
+wire_len_at total bytes =
+    read_if BadField (λ n. nat_le n max_wire_len) (number_at Truncated w16 total) total bytes
 
 -- a transaction, one field after its length
 unfoldable pub wire_at : ℕ → List ℕ → Read (List ℕ)
@@ -55,10 +58,20 @@ entry_at total bytes = do
   units ← number_at Truncated w64 total status.1
   fee ← number_at Truncated w64 total units.1
   lines ← lines_at total fee.1
-  Ok (record { wire = wire.0; status = status.0; units = units.0; fee = fee.0; lines = lines.0 }, lines.1)
+  Ok (
+    record {
+      wire = wire.0;
+      status = status.0;
+      units = units.0;
+      fee = fee.0;
+      lines = lines.0;
+    },
+    lines.1,
+  )
 
 unfoldable pub entry_count_at : ℕ → List ℕ → Read ℕ
-entry_count_at total bytes = read_if BadField (λ n. nat_le n 16384) (number_at Truncated w32 total) total bytes
+entry_count_at total bytes =
+    read_if BadField (λ n. nat_le n 16384) (number_at Truncated w32 total) total bytes
 
 unfoldable pub entries_at : ℕ → List ℕ → Read (List Entry)
 entries_at total bytes = do
@@ -76,7 +89,19 @@ block_at total bytes = do
   collected ← number_at Truncated w64 total burned.1
   state ← hash_at Truncated total collected.1
   hash ← hash_at Truncated total state.1
-  Ok (record { slot = slot.0; collector = collector.0; previous = previous.0; entries = entries.0; burned = burned.0; collected = collected.0; state = state.0; hash = hash.0 }, hash.1)
+  Ok (
+    record {
+      slot = slot.0;
+      collector = collector.0;
+      previous = previous.0;
+      entries = entries.0;
+      burned = burned.0;
+      collected = collected.0;
+      state = state.0;
+      hash = hash.0;
+    },
+    hash.1,
+  )
 
 -- the block whose record the bytes are, or the first refusal
 unfoldable pub record_of : List ℕ → Result Block RecordFault

@@ -4,8 +4,8 @@ use sol_base::OutOfMemory;
 use spec_base::Refusal;
 use thiserror::Error;
 
-/// Why bytes are no record. A place counts from the first byte of the record, and is that of the first
-/// byte of the field concerned.
+/// Why bytes are no record. A place counts from the first byte of the record, and is that of the
+/// first byte of the field concerned.
 #[derive(Clone, Copy, Debug, PartialEq, Eq, Error)]
 pub enum RecordFault {
     #[error("the record is cut at byte {at}")]

@@ -1,4 +1,5 @@
--- The first difference between a record and the block that its entries give when they run again (the project's own).
+-- The first difference between a record and the block that its entries give when they run again
+-- (the project's own).
 use Rattle.std.specs.Prelude.{◌≡◌, ℕ, ◌<◌, ◌==◌, Bool, nat_eq, nat_lt, List, [], ◌∷◌, ◌++◌, codes, length, drop, slice_get, unwrap_or, MatchBool, if◌then◌else◌}
 use Rattle.std.specs.List.{flat_map, enumerate_from, zip}
 use Rattle.std.specs.Int.{w64, to_le_bytes}
@@ -44,15 +45,19 @@ abbrev pub same_lines : List (List ℕ) → List (List ℕ) → Bool
 same_lines expected found = pointwise same_bytes expected found
 
 abbrev pub in_number : ℕ → Field → ℕ → ℕ → List Verdict
-in_number entry field expected found = unless (expected == found) entry field (to_le_bytes w64 expected) (to_le_bytes w64 found)
+in_number entry field expected found =
+    unless (expected == found) entry field (to_le_bytes w64 expected) (to_le_bytes w64 found)
 
 abbrev pub in_hash : ℕ → Field → Hash32 → Hash32 → List Verdict
-in_hash entry field expected found = unless (same_hash expected found) entry field (hash_bytes expected) (hash_bytes found)
+in_hash entry field expected found =
+    unless (same_hash expected found) entry field (hash_bytes expected) (hash_bytes found)
 
--- what stands before the entries: the record's slot is above the snapshot's, and the block before is the snapshot's newest
+-- what stands before the entries: the record's slot is above the snapshot's, and the block before
+-- is the snapshot's newest
 abbrev pub head_differences : ℕ → Hash32 → Block → List Verdict
 head_differences slot newest given =
-    unless (nat_lt slot given.slot) of_block Slot (to_le_bytes w64 slot) (to_le_bytes w64 given.slot)
+    unless (nat_lt slot given.slot) of_block Slot (to_le_bytes w64 slot)
+    (to_le_bytes w64 given.slot)
     ++ in_hash of_block Previous newest given.previous
 
 abbrev pub in_status : ℕ → Entry → Entry → List Verdict
@@ -63,7 +68,8 @@ in_status place given replayed =
 
 abbrev pub in_lines : ℕ → Entry → Entry → List Verdict
 in_lines place given replayed =
-    unless (same_lines replayed.lines given.lines) place Lines (bytes_of_lines replayed.lines) (bytes_of_lines given.lines)
+    unless (same_lines replayed.lines given.lines) place Lines (bytes_of_lines replayed.lines)
+    (bytes_of_lines given.lines)
 
 -- an entry of the record beside the replayed one
 abbrev pub entry_differences : ℕ × (Entry × Entry) → List Verdict
@@ -74,7 +80,8 @@ entry_differences (place, (given, replayed)) =
     ++ in_lines place given replayed
 
 abbrev pub entries_differences : List Entry → List Entry → List Verdict
-entries_differences given replayed = flat_map entry_differences (enumerate_from 0 (zip given replayed))
+entries_differences given replayed =
+    flat_map entry_differences (enumerate_from 0 (zip given replayed))
 
 -- the first entry that did not run, since it is not admitted
 abbrev pub refused_entry : ℕ → List Entry → List Verdict
@@ -99,7 +106,8 @@ differences slot newest given replayed =
 
 -- the first of them, or none
 unfoldable pub verdict : ℕ → Hash32 → Block → Listed → Verdict
-verdict slot newest given listed = unwrap_or (slice_get (differences slot newest given listed.block) 0) Match
+verdict slot newest given listed =
+    unwrap_or (slice_get (differences slot newest given listed.block) 0) Match
 
 -- the replayed block ends before an entry that is not admitted, or has them all
 abbrev pub IsReplayOf : Block → Listed → Type 0

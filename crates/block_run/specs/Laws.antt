@@ -29,14 +29,17 @@ abbrev pub FeesLeaveTheAccounts : Type 0
 FeesLeaveTheAccounts =
     (s : Snapshot) (slot : ℕ) (order : List Chosen) → IsReadable s → All IsChosen order →
     (i : ℕ) → i < length order →
-    sum (state_after s slot order (suc i)) + (outcome_of s slot order i).base_paid + (outcome_of s slot order i).priority_paid
+    sum (state_after s slot order (suc i)) + (outcome_of s slot order i).base_paid
+    + (outcome_of s slot order i).priority_paid
     ≡ sum (state_after s slot order i)
 
 -- and what a block burns is all that it takes out
 abbrev pub BurnedIsAllThatLeaves : Type 0
 BurnedIsAllThatLeaves =
-    (s : Snapshot) (head : Head) (wires : List (List ℕ)) (order : List Chosen) → IsReadable s → All IsChosen order →
-    sum (closed s head wires order).after.accounts + (closed s head wires order).block.burned ≡ sum s.accounts
+    (s : Snapshot) (head : Head) (wires : List (List ℕ)) (order : List Chosen) → IsReadable s
+    → All IsChosen order →
+    sum (closed s head wires order).after.accounts + (closed s head wires order).block.burned
+    ≡ sum s.accounts
 
 -- while transactions run, the executable accounts are those of the start, unchanged
 abbrev pub ExecutableAccountsStay : Type 0
@@ -51,9 +54,14 @@ pub record IsReadyUnder (state : State) (key : Key) : Type 0 where
   pub program : IsProgramOf state key image
   pub found : sought_in state key ≡ IsReady image
 
--- an account that is executable at the end of a block was so at its start, or it is a program that is ready
+-- an account that is executable at the end of a block was so at its start, or it is a program that
+-- is ready
 abbrev pub ActivatedProgramsAreReady : Type 0
 ActivatedProgramsAreReady =
-    (s : Snapshot) (head : Head) (wires : List (List ℕ)) (order : List Chosen) → IsReadable s → All IsChosen order →
-    (key : Key) (account : Account) → get (closed s head wires order).after.accounts key ≡ Some account → account.executable ≡ true →
-    (get s.accounts key ≡ Some account) ⊎ IsReadyUnder (closed s head wires order).after.accounts key
+    (s : Snapshot) (head : Head) (wires : List (List ℕ)) (order : List Chosen) → IsReadable s
+    → All IsChosen order →
+    (key : Key) (account : Account)
+    → get (closed s head wires order).after.accounts key ≡ Some account
+    → account.executable ≡ true →
+    (get s.accounts key ≡ Some account) ⊎ IsReadyUnder (closed s head wires order).after.accounts
+    key

@@ -1,4 +1,5 @@
--- The serial run of a block (Solana): its transactions one after another, in their order, over the accounts of a snapshot.
+-- The serial run of a block (Solana): its transactions one after another, in their order, over the
+-- accounts of a snapshot.
 use Rattle.std.specs.Prelude.{ℕ, List}
 use Rattle.std.specs.List.{flat_map}
 use Rattle.sol_base.specs.declared.key.Key.{Key}
@@ -33,7 +34,11 @@ pub record Ran : Type 0 where
   pub outcomes : List Outcome
 
 abbrev pub ran : Job → State → Ran
-ran job start = record { accounts = serial_state job start job.count; outcomes = serial_outcomes job (at start) }
+ran job start =
+    record {
+      accounts = serial_state job start job.count;
+      outcomes = serial_outcomes job (at start);
+    }
 
 -- the serial run of these transactions in a block of that slot
 unfoldable pub serial_run : Snapshot → ℕ → List Chosen → Ran

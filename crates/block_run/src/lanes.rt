@@ -63,8 +63,8 @@ fn run_shared<W: Work + Sync, G: Gate, R: Threads + Wait + Sync>(
     Ok(desk.close(rt, pass))
 }
 
-/// Runs a work on so many lanes over these accounts. It ends as the serial run does. With one lane no
-/// thread is started.
+/// Runs a work on so many lanes over these accounts. It ends as the serial run does. With one lane
+/// no thread is started.
 pub(crate) fn run_work<W: Work + Sync, G: Gate, R: Threads + Wait + Sync>(
     rt: &R,
     alloc: Global,
@@ -75,7 +75,8 @@ pub(crate) fn run_work<W: Work + Sync, G: Gate, R: Threads + Wait + Sync>(
 ) -> Result<Sealed, OutOfMemory>
     requires some { 1 ≤ lanes }
     requires most { lanes ≤ 64 }
-    requires room { locks_before (W.job (W.told work.now)) (W.job (W.told work.now)).count < 2 ^ 32 }
+    requires room { locks_before (W.job (W.told work.now)) (W.job (W.told work.now)).count
+        < 2 ^ 32 }
     ensures accounts { IfOk result (λ end. let job = W.job (W.told work.now) in
         end.accounts ≡ serial_state job accounts job.count) }
     ensures outcomes { IfOk result (λ end. let job = W.job (W.told work.now) in

@@ -1,5 +1,5 @@
-//! Examples "two transfers", "two lanes at once", "no barrier" and "deploy a program", a block whose
-//! entries halt, and a block of wires that were read before.
+//! Examples "two transfers", "two lanes at once", "no barrier" and "deploy a program", a block
+//! whose entries halt, and a block of wires that were read before.
 ghost use Rattle.std.specs.Prelude.{◌≤◌, length};
 
 use crate::{BlockResult, run_block, run_listed, run_parsed};
@@ -65,8 +65,8 @@ fn append_final(out: &mut Blob, key: u8) -> Result<(), OutOfMemory> {
     out.append(b"SBPFIMG1\x01\0\0\0\0\0\0\0\x95\0\0\0\0\0\0\0")
 }
 
-/// Two wallets of two billion lamports, the collector, and these transfers of payer, destination and
-/// lamports.
+/// Two wallets of two billion lamports, the collector, and these transfers of payer, destination
+/// and lamports.
 fn transfers_of(alloc: Global, transfers: &[(u8, u8, u64)]) -> Result<Blob, OutOfMemory>
     requires { length transfers.now ≤ 16384 }
 {

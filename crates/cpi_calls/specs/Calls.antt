@@ -42,7 +42,8 @@ limited m caller arguments units header =
     let call = header.0 in
     if nat_lt 255 call.meta_count then refused units TooManyAccounts else
     if nat_lt 10240 call.data_len then refused units DataTooLong else
-    after_cost (call.data_len / 250) units (λ left. record { units = left; answer = lists_read m caller arguments header.1 call })
+    after_cost (call.data_len / 250) units
+    (λ left. record { units = left; answer = lists_read m caller arguments header.1 call })
 
 abbrev pub by_header : Ranges → Key → List ℕ → ℕ → Result (Call × Key) CallFault → Requested
 by_header m caller arguments units (Ok header) = limited m caller arguments units header
@@ -51,7 +52,8 @@ by_header m caller arguments units (Err fault) = refused units fault
 -- The request of a call, by its arguments r1, r4 and r5: of the memory it looks at the bytes alone.
 unfoldable pub request_of : List ℕ → Ranges → Key → ℕ → Requested
 request_of arguments m caller units =
-    after_cost 1000 units (λ left. by_header m caller arguments left (header_read m (slice_index arguments 0)))
+    after_cost 1000 units
+    (λ left. by_header m caller arguments left (header_read m (slice_index arguments 0)))
 
 -- what a call answers, by the request that is asked for
 abbrev pub Reads : Requested → ℕ → Result CallRequest CallFault → Type 0

@@ -34,7 +34,8 @@ item_at list index = (list + 16 * index) % 2 ^ 64
 abbrev pub items_read : {Y : Type 0} → (ℕ → Result Y CallFault) → ℕ → ℕ → Result (List Y) CallFault
 items_read one list count = each (λ index. one (item_at list index)) (range_with_len 0 count)
 
--- the five numbers of a call: the program key's address, and the addresses and counts of metas and data
+-- the five numbers of a call: the program key's address, and the addresses and counts of metas and
+-- data
 abbrev pub call_in : List ℕ → Call
 call_in bytes = record {
   program = number_from bytes 0;
@@ -64,14 +65,16 @@ metas_read m list count = items_read (meta_read m) list count
 unfoldable pub seed_read : Ranges → ℕ → Result (List ℕ) CallFault
 seed_read m addr = do
   bytes ← bytes_read m addr 16
-  if nat_lt 32 (number_from bytes 8) then Err BadSeeds else bytes_read m (number_from bytes 0) (number_from bytes 8)
+  if nat_lt 32 (number_from bytes 8) then Err BadSeeds
+      else bytes_read m (number_from bytes 0) (number_from bytes 8)
 
 abbrev pub or_bad_seeds : Result Key SeedsFault → Result Key CallFault
 or_bad_seeds (Ok key) = Ok key
 or_bad_seeds (Err fault) = Err BadSeeds
 
 abbrev pub seeds_read : Ranges → ℕ → ℕ → Result (List (List ℕ)) CallFault
-seeds_read m list count = if nat_lt 16 count then Err BadSeeds else items_read (seed_read m) list count
+seeds_read m list count =
+    if nat_lt 16 count then Err BadSeeds else items_read (seed_read m) list count
 
 -- a signer: the program key of its seeds and the caller
 unfoldable pub signer_read : Ranges → Key → ℕ → Result Key CallFault
@@ -81,4 +84,5 @@ signer_read m caller addr = do
   or_bad_seeds (program_key_of seeds caller)
 
 abbrev pub signers_read : Ranges → Key → ℕ → ℕ → Result (List Key) CallFault
-signers_read m caller list count = if nat_lt 16 count then Err TooManySigners else items_read (signer_read m caller) list count
+signers_read m caller list count =
+    if nat_lt 16 count then Err TooManySigners else items_read (signer_read m caller) list count

@@ -1,4 +1,5 @@
--- What a callee is given (Solana). A key that the caller lists several times has the rights of all its metas together.
+-- What a callee is given (Solana). A key that the caller lists several times has the rights of all
+-- its metas together.
 use Rattle.std.specs.Prelude.{◌≡◌, ℕ, ◌<◌, ◌⊎◌, ◌==◌, ◌&&◌, ◌||◌, not, Bool, true, false, List, length, map, position, is_none, unwrap_or, Option, Some, None, Result, Ok, Err, if◌then◌else◌}
 use Rattle.std.specs.List.{list_any, position_from}
 use Rattle.spec_base.specs.Reading.{◌>>=◌}
@@ -26,19 +27,27 @@ is_missing keys caller asked = is_none (place_of keys caller asked.key)
 
 -- what is asked for with an account, by its place
 abbrev pub meta_of : List Key → List Meta → KeyMeta → Meta
-meta_of keys caller asked = record { index = unwrap_or (place_of keys caller asked.key) 0; signer = asked.signer; writable = asked.writable }
+meta_of keys caller asked =
+    record {
+      index = unwrap_or (place_of keys caller asked.key) 0;
+      signer = asked.signer;
+      writable = asked.writable;
+    }
 
 -- the caller may sign for a key: by its own list, or by seeds
 abbrev pub may_sign : List Key → List Meta → Key → ℕ → Bool
-may_sign signers caller key place = list_any (λ signer. same_key signer key) signers || is_listed_signer caller place
+may_sign signers caller key place =
+    list_any (λ signer. same_key signer key) signers || is_listed_signer caller place
 
 -- a right is asked for that the caller cannot give
 abbrev pub exceeds_at : List Key → List Meta → KeyMeta → ℕ → Bool
 exceeds_at signers caller asked place =
-    (asked.signer && not (may_sign signers caller asked.key place)) || (asked.writable && not (is_listed_writable caller place))
+    (asked.signer && not (may_sign signers caller asked.key place))
+    || (asked.writable && not (is_listed_writable caller place))
 
 abbrev pub exceeds : List Key → List Key → List Meta → KeyMeta → Bool
-exceeds keys signers caller asked = exceeds_at signers caller asked (meta_of keys caller asked).index
+exceeds keys signers caller asked =
+    exceeds_at signers caller asked (meta_of keys caller asked).index
 
 abbrev pub or_missing : {X : Type 0} → Option ℕ → X → Result X RightsFault
 or_missing (Some i) x = Err (MissingAccount i)
@@ -50,14 +59,16 @@ or_escalation None = Ok tt
 
 -- the metas of what is asked for, or the first account that is missing
 abbrev pub metas_found : List Key → List Meta → List KeyMeta → Result (List Meta) RightsFault
-metas_found keys caller asked = or_missing (position_from (is_missing keys caller) 0 asked) (map (meta_of keys caller) asked)
+metas_found keys caller asked =
+    or_missing (position_from (is_missing keys caller) 0 asked) (map (meta_of keys caller) asked)
 
 -- the place of the program, whose place in the request is after the metas
 abbrev pub program_found : ℕ → Option ℕ → Result ℕ RightsFault
 program_found count None = Err (MissingAccount count)
 program_found count (Some place) = Ok place
 
--- The callee's program and list, or the first refusal: every account of the request, and then its program, is looked for before any right is.
+-- The callee's program and list, or the first refusal: every account of the request, and then its
+-- program, is looked for before any right is.
 unfoldable pub rights_of : CallRequest → List Key → List Meta → Result Granted RightsFault
 rights_of request keys caller = do
   metas ← metas_found keys caller request.metas
@@ -83,12 +94,18 @@ Grants wanted (Err fault) = wanted ≡ Err fault
 -- a signer is given for an account at a place, by a key that is asked for
 abbrev pub IsGiven : List Key → List Meta → List Key → List KeyMeta → ℕ → Type 0
 IsGiven keys caller signers asked place =
-    list_any (λ (x : KeyMeta). ((meta_of keys caller x).index == place) && list_any (λ signer. same_key signer x.key) signers) asked ≡ true
+    list_any (λ (x : KeyMeta). ((meta_of keys caller x).index == place)
+    && list_any (λ signer. same_key signer x.key) signers) asked ≡ true
 
--- What is granted names keys that are there, is as long as what is asked for, and gives no right that neither the caller's list nor, to sign, a signer has.
-pub record IsWithin (request : CallRequest) (keys : List Key) (caller : List Meta) (granted : Granted) : Type 0 where
+-- What is granted names keys that are there, is as long as what is asked for, and gives no right
+-- that neither the caller's list nor, to sign, a signer has.
+pub record IsWithin (request : CallRequest) (keys : List Key) (caller : List Meta)
+    (granted : Granted) : Type 0 where
   pub program : granted.program < length keys
   pub range : AreInRange (length keys) granted.metas
   pub count : length granted.metas ≡ length request.metas
-  pub writes : (place : ℕ) → is_listed_writable granted.metas place ≡ true → is_listed_writable caller place ≡ true
-  pub signs : (place : ℕ) → is_listed_signer granted.metas place ≡ true → IsGiven keys caller request.signers request.metas place ⊎ (is_listed_signer caller place ≡ true)
+  pub writes : (place : ℕ) → is_listed_writable granted.metas place ≡ true
+      → is_listed_writable caller place ≡ true
+  pub signs : (place : ℕ) → is_listed_signer granted.metas place ≡ true
+      → IsGiven keys caller request.signers request.metas place ⊎ (is_listed_signer caller place
+      ≡ true)

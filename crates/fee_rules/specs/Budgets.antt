@@ -18,7 +18,8 @@ use Rattle.fee_rules.specs.Requests.{asked_of, has_asked, request_of}
 -- the instruction calls the compute budget program
 abbrev pub is_budget : List Key → Instruction → Bool
 is_budget keys instruction =
-    option_map_or (λ key. same_key key COMPUTE_BUDGET_PROGRAM) (slice_get keys instruction.program) false
+    option_map_or (λ key. same_key key COMPUTE_BUDGET_PROGRAM) (slice_get keys instruction.program)
+    false
 
 -- its request, if it has one
 abbrev pub request_in : List Key → Instruction → Option Request

@@ -37,7 +37,8 @@ fn message(alloc: Global, required: u8, inputs: &[(bool, &[u8])]) -> Result<Mess
 }
 
 fn has_programs(message: &Message) -> bool
-    ensures { IsTrue result ↔ All (λ i. i.program < length message.now.keys) message.now.instructions }
+    ensures { IsTrue result
+        ↔ All (λ i. i.program < length message.now.keys) message.now.instructions }
 {
     let keys = message.keys.len();
     message

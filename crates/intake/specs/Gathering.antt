@@ -30,10 +30,12 @@ HasSentShare intake wires senders s seat =
     × (map carried (sent_by seat) ≡ map (parsed_at wires) (share_of (length wires) senders s))
 
 -- each of these seats came back with its sender's share sent, or for want of memory not at all
-abbrev pub HaveSentShares : Intake → List (List ℕ) → ℕ → List SendSeat → List (Result SendSeat OutOfMemory) → Type 0
+abbrev pub HaveSentShares : Intake → List (List ℕ) → ℕ → List SendSeat
+    → List (Result SendSeat OutOfMemory) → Type 0
 HaveSentShares intake wires senders seats sent =
     (i : ℕ) (d : SendSeat) (r : Result SendSeat OutOfMemory) → i < length seats
-    → IfOk (slice_index_or sent i r) (HasSentShare intake wires senders (sender_of (slice_index_or seats i d)))
+    → IfOk (slice_index_or sent i r)
+    (HasSentShare intake wires senders (sender_of (slice_index_or seats i d)))
 
 -- these are the tickets of all senders
 abbrev pub CarriesShares : List (List ℕ) → ℕ → List Ticket → Type 0

@@ -28,7 +28,12 @@ sent_by seat = (view seat.pass).sent
 -- the ticket that the seat sends next
 abbrev pub next_ticket : SendSeat → ℕ → Parsed → Ticket
 next_ticket seat position parsed =
-    record { sender = sender_of seat; place = length (sent_by seat); position = position; parsed = parsed }
+    record {
+      sender = sender_of seat;
+      place = length (sent_by seat);
+      position = position;
+      parsed = parsed;
+    }
 
 -- the ticket was sent after all others of the seat
 abbrev pub HasSent : SendSeat → Ticket → SendSeat → Type 0

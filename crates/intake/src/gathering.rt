@@ -79,14 +79,16 @@ fn send_all<R: Threads + Wait + Sync, G: SendGate>(
     requires senders { 1 ≤ senders }
     requires seats { AreFresh intake.now seats }
     ensures count { IfOk result (λ sent. length sent.items ≡ length seats) }
-    ensures each { IfOk result (λ sent. HaveSentShares intake.now wires.now senders seats sent.items) }
+    ensures each { IfOk result
+        (λ sent. HaveSentShares intake.now wires.now senders seats sent.items) }
 {
     let sent = thread::map_vec(
         rt,
         seats.into_vec(),
         &|seat: SendSeat| -> Result<SendSeat, OutOfMemory>
             requires { (length wires.now ≤ 16384) × (1 ≤ senders) × IsFresh intake.now seat }
-            ensures { IfOk result (HasSentShare intake.entry.now wires.entry.now senders (sender_of seat)) }
+            ensures { IfOk result
+                (HasSentShare intake.entry.now wires.entry.now senders (sender_of seat)) }
         { send_share(rt, alloc, intake, wires, senders, gate, seat) },
     )?;
     Ok(sent)

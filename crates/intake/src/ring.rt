@@ -70,7 +70,8 @@ impl Intake {
         requires seat { IsSendSeatOf self.now seat.old }
         requires room { length (sent_by seat.old) < 2 ^ 32 - 1 }
         ensures seat { IsSendSeatOf self.now seat.new × (sender_of seat.new ≡ sender_of seat.old) }
-        ensures sent { OnOk result (HasSent seat.old (next_ticket seat.old position parsed) seat.new) }
+        ensures sent { OnOk result
+            (HasSent seat.old (next_ticket seat.old position parsed) seat.new) }
         ensures full { IfErr result (λ full. (full.parsed ≡ parsed) × WasFull self.now seat.old) }
         ensures unsent { IfErr result (λ full. sent_by seat.new ≡ sent_by seat.old) }
     {
@@ -100,7 +101,8 @@ impl Intake {
     /// Takes the oldest ticket. None only where the ring was empty at one moment of the call.
     pub fn next<R: Wait>(&self, rt: &R, seat: &mut TakeSeat) -> Option<Ticket>
         requires { IsTakeSeatOf self.now seat.old }
-        ensures seat { IsTakeSeatOf self.now seat.new × (senders_of seat.new ≡ senders_of seat.old) }
+        ensures seat { IsTakeSeatOf self.now seat.new
+            × (senders_of seat.new ≡ senders_of seat.old) }
         ensures taken { IfSome result (λ t. taken_by seat.new ≡ taken_by seat.old ++ t ∷ []) }
         ensures place { IfSome result (λ t. t.place ≡ length (of (taken_by seat.old) t.sender)) }
         ensures none { IfNone result (WasEmpty self.now seat.old) }
@@ -109,8 +111,8 @@ impl Intake {
         self.ring.pop_as::<Taking, R>(rt, &mut seat.pass)
     }
 
-    /// What is left in the ring, in order. With the seats of all senders handed in, each ticket that
-    /// was sent was taken or is left.
+    /// What is left in the ring, in order. With the seats of all senders handed in, each ticket
+    /// that was sent was taken or is left.
     pub fn close(
         self,
         seats: Items<SendSeat>,
@@ -119,7 +121,8 @@ impl Intake {
         requires seats { All (IsSendSeatOf self) seats }
         requires taker { IsTakeSeatOf self taker }
         ensures sent { IfOk result (λ left. AreSentBy seats (taken_by taker ++ left)) }
-        ensures others { IfOk result (λ left. AreOfTheFirst (senders_of taker) (taken_by taker ++ left)) }
+        ensures others { IfOk result
+            (λ left. AreOfTheFirst (senders_of taker) (taken_by taker ++ left)) }
     {
         let mut pass = self.joined(seats, taker);
         let mut left = Items::new(self.alloc);

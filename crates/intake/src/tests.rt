@@ -25,8 +25,10 @@ fn number_of(parsed: &Parsed) -> Option<u8> {
 /// The two last seats, the last one first.
 fn last_two(intake: &Intake, mut seats: Items<SendSeat>) -> Option<(SendSeat, SendSeat)>
     requires { All (λ s. IsSendSeatOf intake.now s × (sent_by s ≡ [])) seats }
-    ensures last { IfSome result (λ two. IsSendSeatOf intake.now two.0 × (length (sent_by two.0) ≡ 0)) }
-    ensures other { IfSome result (λ two. IsSendSeatOf intake.now two.1 × (length (sent_by two.1) ≡ 0)) }
+    ensures last { IfSome result
+        (λ two. IsSendSeatOf intake.now two.0 × (length (sent_by two.0) ≡ 0)) }
+    ensures other { IfSome result
+        (λ two. IsSendSeatOf intake.now two.1 × (length (sent_by two.1) ≡ 0)) }
 {
     let last = seats.pop()?;
     let other = seats.pop()?;

@@ -1,4 +1,5 @@
--- What a frame does that calls another program (Solana): the request, the callee's rights, the caller's accounts and rules, and whether the callee may start, in this order.
+-- What a frame does that calls another program (Solana): the request, the callee's rights, the
+-- caller's accounts and rules, and whether the callee may start, in this order.
 use Rattle.std.specs.Prelude.{ℕ, ◌&&◌, not, nat_le, List, Result, Ok, Err, if◌then◌else◌}
 use Rattle.spec_base.specs.Reading.{◌>>=◌}
 use Rattle.sol_base.specs.declared.key.Key.{Key}
@@ -18,7 +19,8 @@ use Rattle.invoke_engine.specs.Frames.{Carried, Running, Callee, Turn, Calls, Le
 use Rattle.invoke_engine.specs.Ends.{closes}
 use Rattle.invoke_engine.specs.Leaving.{settled}
 
--- whether a program may be called now, under this greatest height and with so many instructions started; the caller itself may be called
+-- whether a program may be called now, under this greatest height and with so many instructions
+-- started; the caller itself may be called
 unfoldable pub may_start : ℕ → List Key → Running → ℕ → Key → Result (Unit {0}) Stopped
 may_start most outer f trace program =
     if nat_le 64 trace then Err (plainly TraceTooLong) else
@@ -28,10 +30,19 @@ may_start most outer f trace program =
 
 abbrev pub callee_of : CallRequest → Granted → List Account → Callee
 callee_of request granted accounts =
-    record { call = record { program = granted.program; metas = granted.metas; input = request.input }; accounts = accounts }
+    record {
+      call = record {
+        program = granted.program;
+        metas = granted.metas;
+        input = request.input;
+      };
+      accounts = accounts;
+    }
 
--- the callee of a request: its rights, then the accounts as the caller leaves them, then whether it may start
-unfoldable pub called : ℕ → List Key → List Key → Running → ℕ → Result CallRequest CallFault → Result Callee Stopped
+-- the callee of a request: its rights, then the accounts as the caller leaves them, then whether it
+-- may start
+unfoldable pub called : ℕ → List Key → List Key → Running → ℕ → Result CallRequest CallFault
+    → Result Callee Stopped
 called most keys outer f trace answer = do
   request ← refuse by_call answer
   granted ← refuse by_rights (rights_of request keys f.metas)
@@ -45,7 +56,11 @@ calling outer f c units (Err stopped) = Leaves (closes outer f units c (Err stop
 
 -- what the machine asks for, and the units then left
 abbrev pub requested : Running → Requested
-requested f = request_of (arguments_in f.machine.context.registers) f.machine.context.memory f.program f.machine.units
+requested f =
+    request_of (arguments_in f.machine.context.registers) f.machine.context.memory f.program
+    f.machine.units
 
 abbrev pub call_turn : Setting → List Key → List Key → Running → Carried → Turn
-call_turn setting keys outer f c = calling outer f c (requested f).units (called setting.height keys outer f c.trace (requested f).answer)
+call_turn setting keys outer f c =
+    calling outer f c (requested f).units
+    (called setting.height keys outer f c.trace (requested f).answer)

@@ -15,7 +15,8 @@ say line c = record c { log = with_line c.log line }
 
 -- the error of a frame at this height; no definition gives want of memory
 abbrev pub error_of : ℕ → Stopped → InstructionError
-error_of height (Refused reason) = record { cause = reason.cause; detail = reason.detail; height = height }
+error_of height (Refused reason) =
+    record { cause = reason.cause; detail = reason.detail; height = height }
 error_of height no_memory = record { cause = Abort; detail = 0; height = height }
 
 -- the accounts, or the error of a frame at this height
@@ -25,11 +26,14 @@ or_error height (Err stopped) = Err (error_of height stopped)
 
 -- the end of a frame, with its last line
 abbrev pub ended : Key → ℕ → Carried → Result (List Account) InstructionError → Ending
-ended program units c result = record { units = units; carried = say (last_line program result) c; result = result }
+ended program units c result =
+    record { units = units; carried = say (last_line program result) c; result = result }
 
--- the same where its program was ready: the line of the units that it and its callees used stands before the last
+-- the same where its program was ready: the line of the units that it and its callees used stands
+-- before the last
 abbrev pub closed : Key → ℕ → ℕ → Carried → Result (List Account) InstructionError → Ending
-closed program had units c result = ended program units (say (consumed_line program (had - units) had) c) result
+closed program had units c result =
+    ended program units (say (consumed_line program (had - units) had) c) result
 
 -- the end of a frame that ran, by its own accounts or its own refusal
 abbrev pub closes : List Key → Running → ℕ → Carried → Result (List Account) Stopped → Ending

@@ -18,8 +18,10 @@ abbrev pub NextFits : ℕ → Next → Type 0
 NextFits n (Runs f c) = IsFrame n f
 NextFits n (Ends e) = EndFits n e
 
--- a call of another program: the caller is suspended, the call and the accounts fit, and one more instruction and one more frame are allowed
-pub record CallFits (n most : ℕ) (outer : List Key) (f : Running) (c : Carried) (callee : Callee) : Type 0 where
+-- a call of another program: the caller is suspended, the call and the accounts fit, and one more
+-- instruction and one more frame are allowed
+pub record CallFits (n most : ℕ) (outer : List Key) (f : Running) (c : Carried)
+    (callee : Callee) : Type 0 where
   pub suspended : IsSuspended n f
   pub call : IsCall n callee.call
   pub accounts : AreGiven n callee.accounts
@@ -38,18 +40,21 @@ IsGoing f = f.machine.stop ≡ None
 -- what a turn of a frame leaves of so many units
 abbrev pub TurnTakes : ℕ → Turn → Type 0
 TurnTakes units (GoesOn f c) = (f.machine.units < units) × IsGoing f
-TurnTakes units (Calls f c callee left) = (left < units) × (left ≤ f.machine.units) × (f.machine.units ≤ units)
+TurnTakes units (Calls f c callee left) =
+    (left < units) × (left ≤ f.machine.units) × (f.machine.units ≤ units)
 TurnTakes units (Leaves e) = e.units ≤ units
 
 abbrev pub NextTakes : ℕ → Next → Type 0
 NextTakes units (Runs f c) = (f.machine.units ≤ units) × IsGoing f
 NextTakes units (Ends e) = e.units ≤ units
 
--- what a frame comes to by its own turns, the last of which is this: it has the frame's ending, it fits, and no unit is gained
-pub record Works (s : Fixed) (outer : List Key) (f : Running) (c : Carried) (last : Turn) : Type 0 where
-  pub same : follow s outer (go s) last ≡ go s outer f c
-  pub fits : TurnFits (length s.keys) s.setting.height outer last
-  pub takes : TurnTakes f.machine.units last
+-- what a frame comes to by its own turns, the last of which is this: it has the frame's ending, it
+-- fits, and no unit is gained
+pub record Works (s : Fixed) (outer : List Key) (f : Running) (c : Carried) (last : Turn) : Type 0
+  where
+    pub same : follow s outer (go s) last ≡ go s outer f c
+    pub fits : TurnFits (length s.keys) s.setting.height outer last
+    pub takes : TurnTakes f.machine.units last
 
 -- the ending of the outermost of the frames that wait, where this is next
 abbrev pub ending_in : Fixed → List Running → Next → Ending
@@ -76,7 +81,8 @@ measure fs (Runs f c) = 3 * f.machine.units + 2 * length fs + 1
 measure fs (Ends e) = 3 * e.units + 2 * length fs
 
 -- a step of the loop
-pub record Steps (s : Fixed) (fs : List Running) (next : Next) (fs' : List Running) (next' : Next) : Type 0 where
+pub record Steps (s : Fixed) (fs : List Running) (next : Next) (fs' : List Running)
+    (next' : Next) : Type 0 where
   pub stands : Stands s fs' next'
   pub same : ending_in s fs' next' ≡ ending_in s fs next
   pub falls : measure fs' next' < measure fs next
@@ -88,8 +94,11 @@ pub record AreListed (n : ℕ) (metas : List Meta) (accounts : List Account) : T
 
 -- where a frame ended well, it kept the accounts as its list asks
 abbrev pub EndKeeps : List Meta → List Account → Ending → Type 0
-EndKeeps metas before e = MatchResult e.result (λ after. AreKeptBy (is_listed_writable metas) before after) (λ _. Unit {0})
+EndKeeps metas before e =
+    MatchResult e.result (λ after. AreKeptBy (is_listed_writable metas) before after)
+    (λ _. Unit {0})
 
 -- the same is found under each of the keys
 abbrev pub SameFound : List Key → (Key → Sought) → (Key → Sought) → Type 0
-SameFound keys one other = (place : ℕ) (key : Key) → slice_get keys place ≡ Some key → one key ≡ other key
+SameFound keys one other =
+    (place : ℕ) (key : Key) → slice_get keys place ≡ Some key → one key ≡ other key

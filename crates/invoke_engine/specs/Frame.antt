@@ -22,15 +22,20 @@ after outer go (Ends e) = e
 abbrev pub follow : Fixed → List Key → (List Key → Running → Carried → Ending) → Turn → Ending
 follow s outer go (GoesOn f c) = go outer f c
 follow s outer go (Calls f c callee units) =
-    after outer go (returned outer f (after (f.program ∷ outer) go (begun s (f.program ∷ outer) callee.call callee.accounts units c)))
+    after outer go
+    (returned outer f
+    (after (f.program ∷ outer) go
+    (begun s (f.program ∷ outer) callee.call callee.accounts units c)))
 follow s outer go (Leaves e) = e
 
 -- the ending of a frame in its middle, with a bound on its turns
 unfoldable pub within : Fixed → ℕ → List Key → Running → Carried → Ending
-within s zero outer f c = record { units = 0; carried = c; result = Err (error_of (height outer) (plainly UnitsSpent)) }
+within s zero outer f c =
+    record { units = 0; carried = c; result = Err (error_of (height outer) (plainly UnitsSpent)) }
 within s (suc n) outer f c = follow s outer (within s n) (turn s.setting s.keys outer f c)
 
--- the ending of a frame in its middle: each turn takes a unit, so one more than the units is bound enough
+-- the ending of a frame in its middle: each turn takes a unit, so one more than the units is bound
+-- enough
 abbrev pub go : Fixed → List Key → Running → Carried → Ending
 go s outer f c = within s (suc f.machine.units) outer f c
 
@@ -39,11 +44,16 @@ abbrev pub frame : Fixed → List Key → Call → List Account → ℕ → Carr
 frame s outer call accounts units c = after outer (go s) (begun s outer call accounts units c)
 
 abbrev pub nothing_returned : ℕ → Log → Carried
-nothing_returned trace log = record { trace = trace; returned = []; keeper = SYSTEM_PROGRAM; log = log }
+nothing_returned trace log =
+    record { trace = trace; returned = []; keeper = SYSTEM_PROGRAM; log = log }
 
 -- a top instruction: the 65th of a transaction is not started, and has no line
 abbrev pub instruction : Fixed → Call → List Account → ℕ → ℕ → Log → Ending
 instruction s call accounts units trace log =
     if nat_le 64 trace
-    then record { units = units; carried = nothing_returned trace log; result = Err (error_of 1 (plainly TraceTooLong)) }
+    then record {
+      units = units;
+      carried = nothing_returned trace log;
+      result = Err (error_of 1 (plainly TraceTooLong));
+    }
     else frame s [] call accounts units (nothing_returned trace log)

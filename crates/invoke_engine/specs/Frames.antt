@@ -1,4 +1,5 @@
--- What frames are made of: a frame runs one program with a list of accounts, and may call other programs, each in a frame of its own (Solana).
+-- What frames are made of: a frame runs one program with a list of accounts, and may call other
+-- programs, each in a frame of its own (Solana).
 use Rattle.std.specs.Prelude.{ℕ, ◌+◌, List, length, Result}
 use Rattle.sol_base.specs.declared.key.Key.{Key}
 use Rattle.sol_base.specs.declared.account.Account.{Account}
@@ -10,20 +11,23 @@ use Rattle.program_cache.specs.Programs.{Sought}
 use Rattle.invoke_engine.specs.declared.call.Call.{Call}
 use Rattle.invoke_engine.specs.declared.call.Setting.{Setting}
 
--- what is fixed beside the frames of a transaction: what is found under the key of a program, the setting, and the transaction's keys
+-- what is fixed beside the frames of a transaction: what is found under the key of a program, the
+-- setting, and the transaction's keys
 pub record Fixed : Type 0 where
   pub programs : Key → Sought
   pub setting : Setting
   pub keys : List Key
 
--- what frames hand on to each other beside accounts and units: the number of started instructions, the returned bytes with their keeper, and the log
+-- what frames hand on to each other beside accounts and units: the number of started instructions,
+-- the returned bytes with their keeper, and the log
 pub record Carried : Type 0 where
   pub trace : ℕ
   pub returned : List ℕ
   pub keeper : Key
   pub log : Log
 
--- A frame of a program in its middle: its list, the accounts at its start, those at its start or at the last return of a callee, the units at its start, and its machine.
+-- A frame of a program in its middle: its list, the accounts at its start, those at its start or at
+-- the last return of a callee, the units at its start, and its machine.
 pub record Running : Type 0 where
   pub program : Key
   pub metas : List Meta
@@ -48,7 +52,8 @@ pub record Callee : Type 0 where
   pub call : Call
   pub accounts : List Account
 
--- what a frame does at a stop of its machine: it goes on, it calls another program with the units then left, or it ends
+-- what a frame does at a stop of its machine: it goes on, it calls another program with the units
+-- then left, or it ends
 pub data Turn : Type 0 where
   GoesOn : Running → Carried → Turn
   Calls : Running → Carried → Callee → ℕ → Turn

@@ -20,7 +20,8 @@ pub record IsCall (count : ℕ) (call : Call) : Type 0 where
   pub range : AreInRange count call.metas
   pub input : length call.input ≤ 65535
 
--- a frame in its middle: its list and accounts are there, and its region was laid out from the accounts at its start
+-- a frame in its middle: its list and accounts are there, and its region was laid out from the
+-- accounts at its start
 pub record IsFrame (count : ℕ) (f : Running) : Type 0 where
   pub most : length f.metas ≤ 255
   pub range : AreInRange count f.metas
@@ -33,7 +34,9 @@ pub record IsSuspended (count : ℕ) (f : Running) : Type 0 where
   pub frame : IsFrame count f
   pub helper : IsHelper f.machine.stop
 
--- each of the frames that wait, the innermost first, and at its call each had at least the units of those within it
+-- each of the frames that wait, the innermost first, and at its call each had at least the units of
+-- those within it
 abbrev pub AreSuspended : ℕ → ℕ → List Running → Type 0
 AreSuspended n units [] = Unit {0}
-AreSuspended n units (f ∷ fs) = IsSuspended n f × (units ≤ f.machine.units) × AreSuspended n f.machine.units fs
+AreSuspended n units (f ∷ fs) =
+    IsSuspended n f × (units ≤ f.machine.units) × AreSuspended n f.machine.units fs

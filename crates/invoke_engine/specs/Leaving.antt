@@ -1,4 +1,5 @@
--- What a frame leaves: its accounts, taken back from its region, where no account rule is broken, and what r0 says at the exit (Solana).
+-- What a frame leaves: its accounts, taken back from its region, where no account rule is broken,
+-- and what r0 says at the exit (Solana).
 use Rattle.std.specs.Prelude.{ℕ, ◌^◌, ◌==◌, nat_lt, List, Result, Ok, Err, if◌then◌else◌}
 use Rattle.spec_base.specs.Reading.{◌>>=◌}
 use Rattle.sol_base.specs.declared.account.Account.{Account}
@@ -9,7 +10,8 @@ use Rattle.invoke_engine.specs.declared.stopped.Stopped.{Stopped}
 use Rattle.invoke_engine.specs.Reasons.{at, plainly, refuse, by_length, by_rule}
 use Rattle.invoke_engine.specs.Frames.{Running}
 
--- the accounts as the frame leaves them, before each call and at its exit: the rules are checked against the values at its start or at the last return of a callee
+-- the accounts as the frame leaves them, before each call and at its exit: the rules are checked
+-- against the values at its start or at the last return of a callee
 unfoldable pub settled : Running → Result (List Account) Stopped
 settled f = do
   accounts ← refuse by_length (back f.machine.context.memory.input.bytes f.start f.before f.metas)

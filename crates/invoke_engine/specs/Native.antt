@@ -1,4 +1,5 @@
--- Frames of the native programs: the system program, the loader and the compute budget program, which does nothing (Solana; the loader and the cost are the project's own).
+-- Frames of the native programs: the system program, the loader and the compute budget program,
+-- which does nothing (Solana; the loader and the cost are the project's own).
 use Rattle.std.specs.Prelude.{ℕ, ◌-◌, ◌||◌, nat_lt, Bool, List, Result, Ok, Err, if◌then◌else◌}
 use Rattle.sol_base.specs.declared.key.Key.{Key}
 use Rattle.sol_base.specs.declared.key.TheConstants.{SYSTEM_PROGRAM, COMPUTE_BUDGET_PROGRAM, LOADER_PROGRAM}
@@ -14,13 +15,17 @@ use Rattle.invoke_engine.specs.Frames.{Carried, Ending, height}
 use Rattle.invoke_engine.specs.Ends.{error_of, or_error, ended}
 
 abbrev pub is_native : Key → Bool
-is_native key = same_key key SYSTEM_PROGRAM || (same_key key LOADER_PROGRAM || same_key key COMPUTE_BUDGET_PROGRAM)
+is_native key =
+    same_key key SYSTEM_PROGRAM
+    || (same_key key LOADER_PROGRAM || same_key key COMPUTE_BUDGET_PROGRAM)
 
 -- what a native program does
 unfoldable pub native_row : Key → List Key → List Account → Call → Result (List Account) Stopped
 native_row key keys accounts call =
-    if same_key key SYSTEM_PROGRAM then refuse by_system (system_row keys accounts call.metas call.input) else
-    if same_key key LOADER_PROGRAM then refuse by_loader (loader_row keys accounts call.metas call.input) else
+    if same_key key SYSTEM_PROGRAM
+    then refuse by_system (system_row keys accounts call.metas call.input) else
+    if same_key key LOADER_PROGRAM
+    then refuse by_loader (loader_row keys accounts call.metas call.input) else
     Ok accounts
 
 -- 150 units are taken first; where fewer are left, they become 0

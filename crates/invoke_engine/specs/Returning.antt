@@ -1,4 +1,5 @@
--- A caller after its callee: it fails with it, or its region is patched and its machine goes on with 0 in r0 (Solana).
+-- A caller after its callee: it fails with it, or its region is patched and its machine goes on
+-- with 0 in r0 (Solana).
 use Rattle.std.specs.Prelude.{ℕ, List, Result, Ok, Err}
 use Rattle.sol_base.specs.declared.key.Key.{Key}
 use Rattle.sol_base.specs.declared.account.Account.{Account}
@@ -13,12 +14,15 @@ abbrev pub patching : List Key → Running → List Account → ℕ → Carried 
 patching outer f accounts units c (Err i) = Ends (closes outer f units c (Err (by_length i)))
 patching outer f accounts units c (Ok region) =
     let memory = f.machine.context.memory in
-    Runs (record (onward f (record memory { input = record memory.input { bytes = region } }) units 0) { before = accounts }) c
+    Runs (record (onward f (record memory { input = record memory.input { bytes = region } }) units
+    0) { before = accounts }) c
 
-abbrev pub returning : List Key → Running → ℕ → Carried → Result (List Account) InstructionError → Next
+abbrev pub returning : List Key → Running → ℕ → Carried → Result (List Account) InstructionError
+    → Next
 returning outer f units c (Err error) = Ends (closed f.program f.had units c (Err error))
 returning outer f units c (Ok accounts) =
-    patching outer f accounts units c (patched f.machine.context.memory.input.bytes f.start accounts f.metas)
+    patching outer f accounts units c
+    (patched f.machine.context.memory.input.bytes f.start accounts f.metas)
 
 unfoldable pub returned : List Key → Running → Ending → Next
 returned outer f e = returning outer f e.units e.carried e.result

@@ -26,15 +26,24 @@ env_of setting outer f c = record {
 
 -- the machine goes on behind its stop, with this memory, these units and this r0
 abbrev pub onward : Running → Ranges → ℕ → ℕ → Running
-onward f memory units r0 = record f { machine = resumed (with_units (with_memory f.machine memory) units) r0 }
+onward f memory units r0 =
+    record f { machine = resumed (with_units (with_memory f.machine memory) units) r0 }
 
 abbrev pub serving : List Key → Running → Carried → ℕ → Result Service SysFault → Turn
 serving outer f c units (Ok service) =
-    GoesOn (onward f service.memory units service.r0) (record c { returned = service.returned; keeper = service.keeper; log = service.log })
+    GoesOn (onward f service.memory units service.r0) (record c {
+      returned = service.returned;
+      keeper = service.keeper;
+      log = service.log;
+    })
 serving outer f c units (Err fault) = Leaves (closes outer f units c (Err (by_sys fault)))
 
 abbrev pub served : Setting → List Key → Running → Carried → ℕ → SysAnswer
-served setting outer f c number = sys_row number (arguments_in f.machine.context.registers) f.machine.context.memory (env_of setting outer f c)
+served setting outer f c number =
+    sys_row number (arguments_in f.machine.context.registers) f.machine.context.memory
+    (env_of setting outer f c)
 
 abbrev pub serve_turn : Setting → List Key → Running → Carried → ℕ → Turn
-serve_turn setting outer f c number = serving outer f c (served setting outer f c number).units (served setting outer f c number).answer
+serve_turn setting outer f c number =
+    serving outer f c (served setting outer f c number).units
+    (served setting outer f c number).answer

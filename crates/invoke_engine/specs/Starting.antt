@@ -1,4 +1,5 @@
--- Frames at their starts (Solana): the invoke line, the number of accounts, and then a native program, or one that is ready and runs on a new machine.
+-- Frames at their starts (Solana): the invoke line, the number of accounts, and then a native
+-- program, or one that is ready and runs on a new machine.
 use Rattle.std.specs.Prelude.{ℕ, ◌+◌, ◌&&◌, not, Bool, true, false, nat_lt, List, [], length, slice_get, unwrap_or, Err, if◌then◌else◌}
 use Rattle.sol_base.specs.declared.key.Key.{Key}
 use Rattle.sol_base.specs.declared.key.TheConstants.{SYSTEM_PROGRAM}
@@ -27,12 +28,22 @@ key_at keys i = unwrap_or (slice_get keys i) SYSTEM_PROGRAM
 -- a machine at the start of a program
 abbrev pub first_machine : Setting → List Key → Key → ReadyImage → Call → List Account → ℕ → State
 first_machine setting keys key image call accounts units =
-    first_state image.text (fresh image.bytes setting.heap (record { bytes = input_of keys accounts call.metas call.input key; prepared = [] })) units
+    first_state image.text
+    (fresh image.bytes setting.heap
+    (record { bytes = input_of keys accounts call.metas call.input key; prepared = [] }))
+    units
 
 -- the frame of a program at its start
 abbrev pub first_running : Setting → List Key → Key → ReadyImage → Call → List Account → ℕ → Running
 first_running setting keys key image call accounts units =
-    record { program = key; metas = call.metas; start = accounts; before = accounts; had = units; machine = first_machine setting keys key image call accounts units }
+    record {
+      program = key;
+      metas = call.metas;
+      start = accounts;
+      before = accounts;
+      had = units;
+      machine = first_machine setting keys key image call accounts units;
+    }
 
 -- the end of a frame whose program does not run
 abbrev pub refusing : Key → List Key → ℕ → Carried → Stopped → Ending
@@ -42,18 +53,25 @@ abbrev pub refused : Key → List Key → ℕ → Carried → Stopped → Next
 refused key outer units c stopped = Ends (refusing key outer units c stopped)
 
 -- a program that is not native: it runs where it is ready
-abbrev pub entered : Setting → List Key → List Key → Key → Call → List Account → ℕ → Carried → Sought → Next
-entered setting keys outer key call accounts units c (IsReady image) = Runs (first_running setting keys key image call accounts units) c
-entered setting keys outer key call accounts units c IsAbsent = refused key outer units c (plainly UnknownProgram)
-entered setting keys outer key call accounts units c IsNoProgram = refused key outer units c (plainly UnknownProgram)
-entered setting keys outer key call accounts units c IsBad = refused key outer units c (plainly BadImage)
-entered setting keys outer key call accounts units c (IsUnverified fault) = refused key outer units c (at Unverified (fault_number fault))
+abbrev pub entered : Setting → List Key → List Key → Key → Call → List Account → ℕ → Carried
+    → Sought → Next
+entered setting keys outer key call accounts units c (IsReady image) =
+    Runs (first_running setting keys key image call accounts units) c
+entered setting keys outer key call accounts units c IsAbsent =
+    refused key outer units c (plainly UnknownProgram)
+entered setting keys outer key call accounts units c IsNoProgram =
+    refused key outer units c (plainly UnknownProgram)
+entered setting keys outer key call accounts units c IsBad =
+    refused key outer units c (plainly BadImage)
+entered setting keys outer key call accounts units c (IsUnverified fault) =
+    refused key outer units c (at Unverified (fault_number fault))
 
 abbrev pub is_ready : Sought → Bool
 is_ready (IsReady image) = true
 is_ready _ = false
 
--- a list of more than 255 accounts is refused before any unit is taken; where the program is ready, the line of the units stands too
+-- a list of more than 255 accounts is refused before any unit is taken; where the program is ready,
+-- the line of the units stands too
 unfoldable pub crowded : (Key → Sought) → Key → List Key → ℕ → Carried → Ending
 crowded programs key outer units c =
     if not (is_native key) && is_ready (programs key)
@@ -69,9 +87,16 @@ entering s outer key call accounts units c =
 
 -- a started instruction: one more is counted, nothing is returned yet, and its first line stands
 abbrev pub started : Key → ℕ → Carried → Carried
-started key height c = record { trace = c.trace + 1; returned = []; keeper = c.keeper; log = with_line c.log (invoke_line key height) }
+started key height c =
+    record {
+      trace = c.trace + 1;
+      returned = [];
+      keeper = c.keeper;
+      log = with_line c.log (invoke_line key height);
+    }
 
 -- a frame at its start, with the frames of these programs around it
 unfoldable pub begun : Fixed → List Key → Call → List Account → ℕ → Carried → Next
 begun s outer call accounts units c =
-    let key = key_at s.keys call.program in entering s outer key call accounts units (started key (height outer) c)
+    let key = key_at s.keys call.program in
+    entering s outer key call accounts units (started key (height outer) c)

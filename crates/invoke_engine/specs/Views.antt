@@ -61,7 +61,8 @@ abbrev pub RunsFit : ℕ → NextValue → Type 0
 RunsFit n (RunsValue f) = IsFrame n f
 RunsFit n (EndsValue e) = Unit {0}
 
--- a call came to a callee, or stopped as the definition says with the units then left, or found no memory
+-- a call came to a callee, or stopped as the definition says with the units then left, or found no
+-- memory
 abbrev pub Comes : Result Callee Stopped → ℕ → ℕ → Result CalleeValue Stopped → Type 0
 Comes wanted left units (Ok callee) = (wanted ≡ Ok (callee_as callee)) × (left ≡ units)
 Comes wanted left units (Err no_memory) = Unit {0}
@@ -71,21 +72,26 @@ Comes wanted left units (Err (Refused reason)) = (wanted ≡ Err (Refused reason
 abbrev pub Asks : Requested → ℕ → Result CallRequest Stopped → Type 0
 Asks wanted units (Ok request) = (wanted.answer ≡ Ok request) × (wanted.units ≡ units)
 Asks wanted units (Err no_memory) = Unit {0}
-Asks wanted units (Err (Refused reason)) = (refuse by_call wanted.answer ≡ Err (Refused reason)) × (wanted.units ≡ units)
+Asks wanted units (Err (Refused reason)) =
+    (refuse by_call wanted.answer ≡ Err (Refused reason)) × (wanted.units ≡ units)
 
 -- a system call was served, or stopped as the row says, or found no memory
 abbrev pub ServesAs : SysAnswer → Ranges → Env → Env → Result ℕ Stopped → Type 0
-ServesAs row memory env env' (Ok r0) = (row.answer ≡ Ok (service r0 memory env')) × (row.units ≡ env'.units)
+ServesAs row memory env env' (Ok r0) =
+    (row.answer ≡ Ok (service r0 memory env')) × (row.units ≡ env'.units)
 ServesAs row memory env env' (Err no_memory) = Unit {0}
-ServesAs row memory env env' (Err (Refused reason)) = (refuse by_sys row.answer ≡ Err (Refused reason)) × (env' ≡ record env { units = row.units })
+ServesAs row memory env env' (Err (Refused reason)) =
+    (refuse by_sys row.answer ≡ Err (Refused reason)) × (env' ≡ record env { units = row.units })
 
 -- the caller's region was patched, or it stopped as the definition says
 abbrev pub PatchesAs : Result (List ℕ) ℕ → Running → Running → Result (Unit {0}) Stopped → Type 0
 PatchesAs wanted f g (Ok _) =
-    (wanted ≡ Ok g.machine.context.memory.input.bytes) × (g ≡ record f { machine = with_memory f.machine g.machine.context.memory }) ×
+    (wanted ≡ Ok g.machine.context.memory.input.bytes)
+    × (g ≡ record f { machine = with_memory f.machine g.machine.context.memory }) ×
     (g.machine.context.memory ≡ record f.machine.context.memory { input = record f.machine.context.memory.input { bytes = g.machine.context.memory.input.bytes } })
 PatchesAs wanted f g (Err no_memory) = Unit {0}
-PatchesAs wanted f g (Err (Refused reason)) = (refuse by_length wanted ≡ Err (Refused reason)) × (g.program ≡ f.program) × (g.had ≡ f.had)
+PatchesAs wanted f g (Err (Refused reason)) =
+    (refuse by_length wanted ≡ Err (Refused reason)) × (g.program ≡ f.program) × (g.had ≡ f.had)
 
 -- what an instruction did is the ending, with its log
 pub record IsRun (e : Ending) (ran : Ran) (log : Log) : Type 0 where

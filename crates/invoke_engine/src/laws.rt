@@ -102,5 +102,6 @@ pub fn loader_frames_keep_buffers()
 /// A law: a log that is small stays small, since each line of a frame has a byte at least.
 pub fn logs_stay_small()
     ensures { (s : Fixed) (call : CallValue) (accounts : List AccountValue) (units trace : ℕ)
-        (log : Log) → IsSmall log → IsSmall (instruction s call accounts units trace log).carried.log }
+        (log : Log) → IsSmall log
+        → IsSmall (instruction s call accounts units trace log).carried.log }
 {}

@@ -1,4 +1,5 @@
--- Buffers, in which a program is written piece by piece: a magic, the key of an authority and an image (the project's own).
+-- Buffers, in which a program is written piece by piece: a magic, the key of an authority and an
+-- image (the project's own).
 use Rattle.std.specs.Prelude.{ℕ, ◌==◌, ◌&&◌, not, Bool, true, false, List, length, take, drop, codes, nat_eq, nat_le, Option, Some, None, is_none, if◌then◌else◌}
 use Rattle.std.specs.List.{list_any, starts_with}
 use Rattle.sol_base.specs.declared.key.Key.{Key}
@@ -43,7 +44,8 @@ abbrev pub by_image : Option ImageParts → Candidate
 by_image None = NoImage
 by_image (Some image) = if is_none (unfit image.text) then Verified else Unverified
 
--- what bytes are as a program: no image, an image that the verifier refuses, or one with a verified text
+-- what bytes are as a program: no image, an image that the verifier refuses, or one with a verified
+-- text
 abbrev pub candidate_in : List ℕ → Candidate
 candidate_in bytes = by_image (image_in bytes)
 

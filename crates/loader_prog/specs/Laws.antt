@@ -22,7 +22,9 @@ pub record IsWrittenByAuthority (keys : List Key) (metas : List Meta) (was : Acc
 
 -- no account has other data for another reason
 abbrev pub OnlyTheAuthorityWrites : List Key → List Account → List Meta → List Account → Type 0
-OnlyTheAuthorityWrites keys before metas after = (place : ℕ) (was is : Account) → slice_get before place ≡ Some was → slice_get after place ≡ Some is →
+OnlyTheAuthorityWrites keys before metas after =
+    (place : ℕ) (was is : Account) → slice_get before place ≡ Some was
+    → slice_get after place ≡ Some is →
     (was.bytes ≡ is.bytes) ⊎ IsInitialized metas place was ⊎ IsWrittenByAuthority keys metas was
 
 -- an account has become executable, with an image of a verified text as its data; all else stays

@@ -1,4 +1,5 @@
--- The loader program: one equation for each of its requests, and what becomes of a final buffer (the project's own).
+-- The loader program: one equation for each of its requests, and what becomes of a final buffer
+-- (the project's own).
 use Rattle.std.specs.Prelude.{◌≡◌, ℕ, ◌+◌, ◌&&◌, not, Bool, true, false, List, ◌++◌, length, nat_lt, slice_set, Option, Some, None, unwrap_or, Result, Ok, Err, if◌then◌else◌}
 use Rattle.std.specs.List.{slice_index_or}
 use Rattle.std.specs.declared.sync.Arc.{Arc}
@@ -47,7 +48,8 @@ holding account bytes = record account { bytes = bytes }
 
 -- the accounts, where the first listed one has other data
 abbrev pub with_data : List Account → List Meta → List ℕ → List Account
-with_data accounts metas bytes = slice_set accounts (place_in metas 0) (holding (account_in accounts metas 0) bytes)
+with_data accounts metas bytes =
+    slice_set accounts (place_in metas 0) (holding (account_in accounts metas 0) bytes)
 
 -- ---- the steps
 -- the value that follows, where the test passes, else the refusal
@@ -77,10 +79,12 @@ init_row accounts metas authority =
     unless (not (is_blank buffer.bytes)) (Custom 3) (
     Ok (with_bytes buffer.bytes 0 (head_of authority))))))
 
-unfoldable pub write_row : List Key → List Account → List Meta → ℕ → List ℕ → Result (List ℕ) LoaderFault
+unfoldable pub write_row : List Key → List Account → List Meta → ℕ → List ℕ
+    → Result (List ℕ) LoaderFault
 write_row keys accounts metas offset bytes = do
   buffer ← owned keys accounts metas
-  unless (nat_lt (length buffer) (offset + length bytes + 40)) (Custom 6) (Ok (with_bytes buffer (40 + offset) bytes))
+  unless (nat_lt (length buffer) (offset + length bytes + 40)) (Custom 6)
+      (Ok (with_bytes buffer (40 + offset) bytes))
 
 -- the value, where the image has a verified text
 abbrev pub if_verified : {X : Type 0} → Candidate → X → Result X LoaderFault
@@ -93,7 +97,8 @@ finalize_row keys accounts metas = do
   buffer ← owned keys accounts metas
   if_verified (candidate_in (rest_in buffer)) (with_bytes buffer 0 final_magic)
 
-unfoldable pub set_authority_row : List Key → List Account → List Meta → Key → Result (List ℕ) LoaderFault
+unfoldable pub set_authority_row : List Key → List Account → List Meta → Key
+    → Result (List ℕ) LoaderFault
 set_authority_row keys accounts metas authority = do
   buffer ← owned keys accounts metas
   Ok (with_bytes buffer 8 authority.0)
@@ -103,7 +108,8 @@ abbrev pub data_row : List Key → List Account → List Meta → Request → Re
 data_row keys accounts metas (Init authority) = init_row accounts metas authority
 data_row keys accounts metas (Write offset bytes) = write_row keys accounts metas offset bytes
 data_row keys accounts metas Finalize = finalize_row keys accounts metas
-data_row keys accounts metas (SetAuthority authority) = set_authority_row keys accounts metas authority
+data_row keys accounts metas (SetAuthority authority) =
+    set_authority_row keys accounts metas authority
 
 abbrev pub or_rule : Result (Unit {0}) RuleFault → List Account → Result (List Account) LoaderFault
 or_rule (Ok _) after = Ok after
@@ -114,7 +120,8 @@ abbrev pub ruled : List Meta → List Account → List Account → Result (List 
 ruled metas before after = or_rule (listed_rules LOADER_PROGRAM metas before after) after
 
 -- the accounts after an instruction, or the first refusal
-unfoldable pub loader_row : List Key → List Account → List Meta → List ℕ → Result (List Account) LoaderFault
+unfoldable pub loader_row : List Key → List Account → List Meta → List ℕ
+    → Result (List Account) LoaderFault
 loader_row keys accounts metas input = do
   request ← request_in input
   unless (nat_lt (length metas) (accounts_needed request)) NotEnoughAccounts (do
@@ -122,7 +129,8 @@ loader_row keys accounts metas input = do
     ruled metas accounts (with_data accounts metas bytes))
 
 -- what a call answers, by what is wanted of it
-abbrev pub AnswersLoader : Result (List Account) LoaderFault → Result (List (Arc Account Global)) LoaderFault → Type 0
+abbrev pub AnswersLoader : Result (List Account) LoaderFault
+    → Result (List (Arc Account Global)) LoaderFault → Type 0
 AnswersLoader wanted (Ok accounts) = wanted ≡ Ok (accounts_of accounts)
 AnswersLoader wanted (Err no_memory) = Unit {0}
 AnswersLoader wanted (Err fault) = wanted ≡ Err fault
@@ -131,12 +139,14 @@ AnswersLoader wanted (Err fault) = wanted ≡ Err fault
 -- an account of the loader that is final, holds a verified image and is not executable yet
 abbrev pub is_ready : Account → Bool
 is_ready account =
-    same_key account.owner LOADER_PROGRAM && not account.executable && is_final account.bytes && is_verified (candidate_in (rest_in account.bytes))
+    same_key account.owner LOADER_PROGRAM && not account.executable && is_final account.bytes
+    && is_verified (candidate_in (rest_in account.bytes))
 
 -- the account as an executable one that holds the image alone, if it is to become that
 unfoldable pub activated : Account → Option Account
 activated account =
-    if is_ready account then Some (record account { executable = true; bytes = rest_in account.bytes }) else None
+    if is_ready account
+    then Some (record account { executable = true; bytes = rest_in account.bytes }) else None
 
 -- the account after the end of a block
 abbrev pub active : Account → Account

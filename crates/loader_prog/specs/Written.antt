@@ -12,7 +12,9 @@ abbrev pub data_by : List Account → List Meta → Option (List ℕ) → List �
 data_by accounts metas written = unwrap_or written (data_in accounts metas)
 
 -- the accounts after what was written at a place, if anything was, and flags of which may differ
-pub record IsReplaced (before : List Account) (place : ℕ) (written : Option (List ℕ)) (touched : List Bool) (after : List Account) : Type 0 where
-  pub value : after ≡ (let account = slice_index_or before place empty_account in slice_set before place (holding account (unwrap_or written account.bytes)))
+pub record IsReplaced (before : List Account) (place : ℕ) (written : Option (List ℕ))
+    (touched : List Bool) (after : List Account) : Type 0 where
+  pub value : after ≡ (let account = slice_index_or before place empty_account in
+      slice_set before place (holding account (unwrap_or written account.bytes)))
   pub flags : AreParallel touched before after
   pub untouched : SameUnlessTouched touched before after

@@ -11,8 +11,8 @@ pub fn equal_keys_have_equal_numbers()
     ensures equal { EqualKeysEqualNumbers }
 {}
 
-/// A law: a table keeps its keys and their numbers, stays distinct, and gets at most as many keys as
-/// are put in.
+/// A law: a table keeps its keys and their numbers, stays distinct, and gets at most as many keys
+/// as are put in.
 pub fn tables_grow_by_what_is_put_in()
     ensures keys { KeysStay }
     ensures distinct { KeysStayDistinct }

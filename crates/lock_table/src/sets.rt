@@ -64,8 +64,8 @@ pub fn set_of(alloc: Global, table: &mut KeyTable, locks: &LockList) -> Result<L
     Ok(LockSet { locks: numbered })
 }
 
-/// Whether a number is in both sets, and at least one of the two writes it. It compares each lock of
-/// the one with each of the other.
+/// Whether a number is in both sets, and at least one of the two writes it. It compares each lock
+/// of the one with each of the other.
 pub fn conflict(one: &LockSet, other: &LockSet) -> bool
     ensures { result ≡ conflicts one.now other.now }
 {

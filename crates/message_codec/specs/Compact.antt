@@ -21,7 +21,8 @@ digits_value (digit ∷ digits) = digit % 128 + 128 * digits_value digits
 abbrev pub AreLaterDigits : List ℕ → Type 0
 AreLaterDigits [] = ⊥
 AreLaterDigits (digit ∷ []) = (0 < digit) × (digit < 128)
-AreLaterDigits (digit ∷ next ∷ digits) = (128 ≤ digit) × (digit < 256) × AreLaterDigits (next ∷ digits)
+AreLaterDigits (digit ∷ next ∷ digits) =
+    (128 ≤ digit) × (digit < 256) × AreLaterDigits (next ∷ digits)
 
 abbrev pub AreDigits : List ℕ → Type 0
 AreDigits [] = ⊥
@@ -34,4 +35,5 @@ BeginsWithLength bytes = (v : ℕ) × (rest : List ℕ) × (v ≤ max_count) × 
 
 -- a proper prefix of the spelling of a length
 abbrev pub IsCutLength : List ℕ → Type 0
-IsCutLength bytes = (v : ℕ) × (rest : List ℕ) × (v ≤ max_count) × (rest ≢ []) × (bytes ++ rest ≡ compact v)
+IsCutLength bytes =
+    (v : ℕ) × (rest : List ℕ) × (v ≤ max_count) × (rest ≢ []) × (bytes ++ rest ≡ compact v)

@@ -34,26 +34,34 @@ is_signer_at message i = nat_lt i message.header.required
 abbrev pub is_program : List Instruction → ℕ → Bool
 is_program instructions i = list_any (λ instruction. instruction.program == i) instructions
 
--- the place of a static key that is not among the last of its group, those that sign or those that do not
+-- the place of a static key that is not among the last of its group, those that sign or those that
+-- do not
 abbrev pub is_writable_static : Header → ℕ → ℕ → Bool
 is_writable_static header key_count i =
-    nat_lt i key_count && (nat_lt i (header.required - header.readonly_signed) || (nat_le header.required i && nat_lt i (key_count - header.readonly_unsigned)))
+    nat_lt i key_count
+    && (nat_lt i (header.required - header.readonly_signed)
+    || (nat_le header.required i && nat_lt i (key_count - header.readonly_unsigned)))
 
 -- the place of a key that is loaded to be written
 abbrev pub is_writable_loaded : ℕ → ℕ → ℕ → Bool
-is_writable_loaded key_count writable_count i = nat_le key_count i && nat_lt i (key_count + writable_count)
+is_writable_loaded key_count writable_count i =
+    nat_le key_count i && nat_lt i (key_count + writable_count)
 
 abbrev pub has_writable_place : Message → Loaded → ℕ → Bool
 has_writable_place message loaded i =
-    is_writable_static message.header (length message.keys) i || is_writable_loaded (length message.keys) (length loaded.writable) i
+    is_writable_static message.header (length message.keys) i
+    || is_writable_loaded (length message.keys) (length loaded.writable) i
 
 -- the rule of writability: the key's place allows it, and the key is neither a program nor reserved
 abbrev pub may_write : Message → Loaded → ℕ → Key → Bool
-may_write message loaded i key = has_writable_place message loaded i && not (is_program message.instructions i) && not (is_reserved key)
+may_write message loaded i key =
+    has_writable_place message loaded i && not (is_program message.instructions i)
+    && not (is_reserved key)
 
 -- the key at a place may be written
 abbrev pub is_writable_at : Message → Loaded → ℕ → Bool
-is_writable_at message loaded i = option_map_or (may_write message loaded i) (slice_get (all_keys message loaded) i) false
+is_writable_at message loaded i =
+    option_map_or (may_write message loaded i) (slice_get (all_keys message loaded) i) false
 
 -- the lock of the key at a place
 abbrev pub lock_of : Message → Loaded → ℕ × Key → Lock
@@ -72,29 +80,36 @@ key_count message = length message.keys + sum_by load_count message.lookups
 
 -- as many keys are loaded as the lookups have indexes
 abbrev pub HasAllLoaded : Message → Loaded → Type 0
-HasAllLoaded message loaded = length loaded.writable + length loaded.readonly ≡ sum_by load_count message.lookups
+HasAllLoaded message loaded =
+    length loaded.writable + length loaded.readonly ≡ sum_by load_count message.lookups
 
 -- an instruction's program is a static key other than key 0, and its accounts are among all keys
 pub record AreNamed (message : Message) (loaded : Loaded) (instruction : Instruction) : Type 0 where
   pub static : instruction.program < length message.keys
   pub no_payer : 0 < instruction.program
-  pub program : slice_get (all_keys message loaded) instruction.program ≡ slice_get message.keys instruction.program
+  pub program : slice_get (all_keys message loaded) instruction.program
+      ≡ slice_get message.keys instruction.program
   pub accounts : All (λ index. index < length (all_keys message loaded)) instruction.accounts
 
 -- each refusal of a transaction is a test that it fails
 
 -- an instruction's program is the fee payer or no static key
 abbrev pub has_bad_program : List Instruction → ℕ → Bool
-has_bad_program instructions key_count = list_any (λ instruction. instruction.program == 0 || nat_le key_count instruction.program) instructions
+has_bad_program instructions key_count =
+    list_any (λ instruction. instruction.program == 0 || nat_le key_count instruction.program)
+    instructions
 
 -- an instruction's account is no key
 abbrev pub has_bad_account : List Instruction → ℕ → Bool
-has_bad_account instructions key_count = list_any (λ instruction. list_any (λ index. nat_le key_count index) instruction.accounts) instructions
+has_bad_account instructions key_count =
+    list_any (λ instruction. list_any (λ index. nat_le key_count index) instruction.accounts)
+    instructions
 
 -- a key is given again
 abbrev pub has_repeated_key : List Key → Bool
 has_repeated_key [] = false
-has_repeated_key (key ∷ others) = list_any (λ other. same_key other key) others || has_repeated_key others
+has_repeated_key (key ∷ others) =
+    list_any (λ other. same_key other key) others || has_repeated_key others
 
 -- the fee payer is reserved
 abbrev pub has_reserved_payer : List Key → Bool
@@ -118,7 +133,8 @@ sanitized tx most =
     let message = tx.message in
     let header = message.header in
     if not (length tx.signatures == header.required) then Err SignatureCount else
-    if nat_lt (length message.keys) (header.required + header.readonly_unsigned) then Err HeaderRange else
+    if nat_lt (length message.keys) (header.required + header.readonly_unsigned)
+    then Err HeaderRange else
     if nat_le header.required header.readonly_signed then Err NoWritablePayer else
     if has_bad_program message.instructions (length message.keys) then Err ProgramIndex else
     if has_bad_account message.instructions (key_count message) then Err AccountIndex else
@@ -130,10 +146,14 @@ sanitized tx most =
 -- none of the nine refusals holds
 pub record IsSane (tx : Tx) (most : ℕ) : Type 0 where
   pub signatures : length tx.signatures ≡ tx.message.header.required
-  pub groups : tx.message.header.required + tx.message.header.readonly_unsigned ≤ length tx.message.keys
+  pub groups : tx.message.header.required + tx.message.header.readonly_unsigned
+      ≤ length tx.message.keys
   pub payer : tx.message.header.readonly_signed < tx.message.header.required
-  pub programs : All (λ instruction. (0 < instruction.program) × (instruction.program < length tx.message.keys)) tx.message.instructions
-  pub accounts : All (λ instruction. All (λ index. index < key_count tx.message) instruction.accounts) tx.message.instructions
+  pub programs : All (λ instruction. (0 < instruction.program)
+      × (instruction.program < length tx.message.keys)) tx.message.instructions
+  pub accounts : All
+      (λ instruction. All (λ index. index < key_count tx.message) instruction.accounts)
+      tx.message.instructions
   pub keys : key_count tx.message ≤ most
   pub apart : IsDistinct same_key tx.message.keys
   pub payer_free : has_reserved_payer tx.message.keys ≡ false

@@ -28,10 +28,12 @@ abbrev pub header_bytes : Header → List ℕ
 header_bytes header = header.required ∷ header.readonly_signed ∷ header.readonly_unsigned ∷ []
 
 abbrev pub instruction_bytes : Instruction → List ℕ
-instruction_bytes instruction = instruction.program ∷ blob_bytes instruction.accounts ++ blob_bytes instruction.input
+instruction_bytes instruction =
+    instruction.program ∷ blob_bytes instruction.accounts ++ blob_bytes instruction.input
 
 abbrev pub lookup_bytes : Lookup → List ℕ
-lookup_bytes lookup = key_bytes lookup.table ++ blob_bytes lookup.writable ++ blob_bytes lookup.readonly
+lookup_bytes lookup =
+    key_bytes lookup.table ++ blob_bytes lookup.writable ++ blob_bytes lookup.readonly
 
 -- a version 0 message begins with 128
 abbrev pub kind_bytes : MessageKind → List ℕ
@@ -45,8 +47,10 @@ lookups_bytes Zero lookups = array_bytes lookup_bytes lookups
 
 abbrev pub message_bytes : Message → List ℕ
 message_bytes message =
-    kind_bytes message.kind ++ header_bytes message.header ++ array_bytes key_bytes message.keys ++ hash_bytes message.blockhash
-    ++ array_bytes instruction_bytes message.instructions ++ lookups_bytes message.kind message.lookups
+    kind_bytes message.kind ++ header_bytes message.header ++ array_bytes key_bytes message.keys
+    ++ hash_bytes message.blockhash
+    ++ array_bytes instruction_bytes message.instructions
+    ++ lookups_bytes message.kind message.lookups
 
 abbrev pub tx_bytes : Tx → List ℕ
 tx_bytes tx = array_bytes signature_bytes tx.signatures ++ message_bytes tx.message

@@ -29,7 +29,8 @@ Read X = Result (X × List ℕ) WireFault
 -- the third byte of a compact length, after the digits that were read
 abbrev pub third_at : ℕ → ℕ → List ℕ → Read ℕ
 third_at at low [] = Err (Truncated at)
-third_at at low (c ∷ rest) = if c == 0 || nat_lt 3 c then Err (BadLength at) else Ok (low + 16384 * c, rest)
+third_at at low (c ∷ rest) =
+    if c == 0 || nat_lt 3 c then Err (BadLength at) else Ok (low + 16384 * c, rest)
 
 -- the second
 abbrev pub second_at : ℕ → ℕ → List ℕ → Read ℕ
@@ -59,13 +60,21 @@ blob_at total bytes = do
   field_at Truncated total count.0 count.1
 
 abbrev pub signature_at : ℕ → List ℕ → Read Signature
-signature_at total bytes = read_as (λ field. record { 0 = field }) (field_at Truncated total 64) bytes
+signature_at total bytes =
+    read_as (λ field. record { 0 = field }) (field_at Truncated total 64) bytes
 
 -- the three header bytes, one field
 unfoldable pub header_at : ℕ → List ℕ → Read Header
 header_at total bytes = do
   field ← field_at Truncated total 3 bytes
-  Ok (record { required = slice_index field.0 0; readonly_signed = slice_index field.0 1; readonly_unsigned = slice_index field.0 2 }, field.1)
+  Ok (
+    record {
+      required = slice_index field.0 0;
+      readonly_signed = slice_index field.0 1;
+      readonly_unsigned = slice_index field.0 2;
+    },
+    field.1,
+  )
 
 unfoldable pub instruction_at : ℕ → List ℕ → Read Instruction
 instruction_at total bytes = do
@@ -102,7 +111,17 @@ message_at total bytes = do
   blockhash ← hash_at Truncated total keys.1
   instructions ← array_at instruction_at total blockhash.1
   lookups ← lookups_at kind.0 total instructions.1
-  Ok (record { kind = kind.0; header = header.0; keys = keys.0; blockhash = blockhash.0; instructions = instructions.0; lookups = lookups.0 }, lookups.1)
+  Ok (
+    record {
+      kind = kind.0;
+      header = header.0;
+      keys = keys.0;
+      blockhash = blockhash.0;
+      instructions = instructions.0;
+      lookups = lookups.0;
+    },
+    lookups.1,
+  )
 
 unfoldable pub tx_at : ℕ → List ℕ → Read Tx
 tx_at total bytes = do

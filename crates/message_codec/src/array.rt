@@ -39,7 +39,8 @@ pub(crate) fn read_array<T: Item>(
     total: usize,
     bytes: &[u8],
 ) -> Result<(Items<T>, &[u8]), WireFault>
-    ensures { Gives is_wire_memory (λ x. (x.0, x.1.now)) result (array_at T.item_at total bytes.now) }
+    ensures { Gives is_wire_memory (λ x. (x.0, x.1.now)) result
+        (array_at T.item_at total bytes.now) }
 {
     let (count, rest) = read_length(total, bytes)?;
     read_items(alloc, total, count, rest)
@@ -51,7 +52,8 @@ fn read_items<T: Item>(
     count: usize,
     bytes: &[u8],
 ) -> Result<(Items<T>, &[u8]), WireFault>
-    ensures { Gives is_wire_memory (λ x. (x.0, x.1.now)) result (many (T.item_at total) count bytes.now) }
+    ensures { Gives is_wire_memory (λ x. (x.0, x.1.now)) result
+        (many (T.item_at total) count bytes.now) }
 {
     let mut items = Items::with_capacity(alloc, count.min(bytes.len()))?;
     let mut rest = bytes;

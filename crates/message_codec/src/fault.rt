@@ -5,8 +5,8 @@ use sol_base::OutOfMemory;
 use spec_base::Refusal;
 use thiserror::Error;
 
-/// Why bytes are no transaction. A place counts from the first byte of the transaction, and is that of
-/// the first byte of the field, item or compact length concerned.
+/// Why bytes are no transaction. A place counts from the first byte of the transaction, and is that
+/// of the first byte of the field, item or compact length concerned.
 #[derive(Clone, Copy, Debug, PartialEq, Eq, Error)]
 pub enum WireFault {
     #[error("the transaction has more than 1,232 bytes")]

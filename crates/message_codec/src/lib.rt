@@ -1,5 +1,5 @@
-//! Transactions and messages as Solana has them: their wire format, the roles of their keys, and the
-//! tests that a transaction must pass before anything else is asked of it.
+//! Transactions and messages as Solana has them: their wire format, the roles of their keys, and
+//! the tests that a transaction must pass before anything else is asked of it.
 #![tactic(auto)]
 
 mod array;

@@ -31,8 +31,8 @@ pub fn is_signer(message: &Message, index: u8) -> bool
 }
 
 /// Whether the message may write the account of the key at this place, among the static keys and
-/// then the loaded ones (Solana; that programs and reserved keys are never writable in this width is
-/// the project's own).
+/// then the loaded ones (Solana; that programs and reserved keys are never writable in this width
+/// is the project's own).
 pub fn is_writable(message: &Message, loaded: &Loaded, index: u8) -> bool
     ensures { result ≡ is_writable_at message.now loaded.now index }
 {
@@ -167,8 +167,10 @@ fn push_locks(
     first: usize,
 ) -> Result<(), OutOfMemory>
     requires room { first + length keys.now < 2 ^ 64 }
-    requires marked { (i : ℕ) → slice_index_or programs.now i false ≡ is_program message.now.instructions i }
-    ensures { OnOk result (locks.new ≡ locks.old ++ map (lock_of message.now loaded.now) (enumerate_from first keys.now)) }
+    requires marked { (i : ℕ) → slice_index_or programs.now i false
+        ≡ is_program message.now.instructions i }
+    ensures { OnOk result (locks.new
+        ≡ locks.old ++ map (lock_of message.now loaded.now) (enumerate_from first keys.now)) }
 {
     for (offset, key) in keys.iter().enumerate() {
         locks.push(lock_of(message, loaded, programs, first + offset, key))?;
@@ -183,7 +185,8 @@ fn lock_of(
     place: usize,
     key: &Key,
 ) -> Lock
-    requires { (i : ℕ) → slice_index_or programs.now i false ≡ is_program message.now.instructions i }
+    requires { (i : ℕ) → slice_index_or programs.now i false
+        ≡ is_program message.now.instructions i }
     ensures { result ≡ lock_of message.now loaded.now (place, key.now) }
 {
     Lock {

@@ -21,7 +21,8 @@ fn add(wire: &mut Vec<u8>, byte: u8, count: usize) -> Result<(), AllocError> {
     Ok(())
 }
 
-/// A transfer of 1,000,000,000 lamports from the key of bytes 01 to that of bytes 11, up to its data.
+/// A transfer of 1,000,000,000 lamports from the key of bytes 01 to that of bytes 11, up to its
+/// data.
 fn legacy_opening(alloc: Global) -> Result<Vec<u8>, AllocError> {
     let mut wire = Vec::new(alloc);
     wire.extend_from_slice(&[1])?;
@@ -35,7 +36,8 @@ fn legacy_opening(alloc: Global) -> Result<Vec<u8>, AllocError> {
     Ok(wire)
 }
 
-/// The same transfer as a version 0 message, with the second account and the lookup's indexes as given.
+/// The same transfer as a version 0 message, with the second account and the lookup's indexes as
+/// given.
 fn zero(alloc: Global, version: u8, account: u8, indexes: &[u8]) -> Result<Vec<u8>, AllocError> {
     let mut wire = Vec::new(alloc);
     wire.extend_from_slice(&[1])?;

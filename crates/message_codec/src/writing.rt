@@ -28,7 +28,8 @@ fn write_lookups(
 }
 
 fn write_opening(out: &mut Blob, message: &Message) -> Result<(), OutOfMemory>
-    ensures { OnOk result (out.new ≡ out.old ++ (kind_bytes message.now.kind ++ header_bytes message.now.header)) }
+    ensures { OnOk result (out.new
+        ≡ out.old ++ (kind_bytes message.now.kind ++ header_bytes message.now.header)) }
 {
     let header = message.header;
     if message.kind == MessageKind::Zero {

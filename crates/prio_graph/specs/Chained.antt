@@ -8,7 +8,8 @@ use Rattle.prio_graph.specs.Kept.{times, edges}
 -- whom a lock waits for, where these are the last writers and the readers since
 abbrev pub awaited_by : List (Option ℕ) → List (List ℕ) → NumberedLock → List ℕ
 awaited_by last readers lock =
-    option_to_list (slice_index_or last lock.number None) ++ (if lock.write then slice_index_or readers lock.number [] else [])
+    option_to_list (slice_index_or last lock.number None)
+    ++ (if lock.write then slice_index_or readers lock.number [] else [])
 
 -- the last writer of a number once a position with these locks has passed, and the readers since
 abbrev pub writer_after : List NumberedLock → ℕ → ℕ → Option ℕ → Option ℕ
@@ -33,7 +34,8 @@ PassesReaders locks position readers next =
 
 -- The chains and the edges of the first i positions: the last writer of each number and its readers
 -- since, the later ends of the edges from each position, and how many lead to each.
-pub record Chained (sets : List (List NumberedLock)) (i : ℕ) (last : List (Option ℕ)) (readers rows : List (List ℕ)) (waits : List ℕ) : Type 0 where
+pub record Chained (sets : List (List NumberedLock)) (i : ℕ) (last : List (Option ℕ))
+    (readers rows : List (List ℕ)) (waits : List ℕ) : Type 0 where
   pub numbers : (j : ℕ) → All (λ lock. lock.number < length last) (set_at sets j)
   pub readers_length : length readers ≡ length last
   pub rows_length : length rows ≡ length sets

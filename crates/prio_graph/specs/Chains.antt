@@ -16,19 +16,22 @@ reads_number set n = list_any (λ lock. (lock.number == n) && not lock.write) se
 -- the last writer of the number before position i
 abbrev pub last_writer : List (List NumberedLock) → ℕ → ℕ → Option ℕ
 last_writer sets zero n = None
-last_writer sets (suc i) n = if writes_number (set_at sets i) n then Some i else last_writer sets i n
+last_writer sets (suc i) n =
+    if writes_number (set_at sets i) n then Some i else last_writer sets i n
 
 -- the readers of the number since, before position i
 abbrev pub readers_since : List (List NumberedLock) → ℕ → ℕ → List ℕ
 readers_since sets zero n = []
 readers_since sets (suc i) n =
     if writes_number (set_at sets i) n then [] else
-    if reads_number (set_at sets i) n then readers_since sets i n ++ i ∷ [] else readers_since sets i n
+    if reads_number (set_at sets i) n then readers_since sets i n ++ i ∷ []
+    else readers_since sets i n
 
 -- a reader waits for the last writer, and a writer for it and the readers since
 abbrev pub awaited : List (List NumberedLock) → ℕ → NumberedLock → List ℕ
 awaited sets i lock =
-    option_to_list (last_writer sets i lock.number) ++ (if lock.write then readers_since sets i lock.number else [])
+    option_to_list (last_writer sets i lock.number)
+    ++ (if lock.write then readers_since sets i lock.number else [])
 
 -- the earlier ends of the edges of position i
 abbrev pub edges_into : List (List NumberedLock) → ℕ → List ℕ
@@ -45,4 +48,5 @@ counter sets marks i = count_by (λ j. not (is_done_mark (mark_at marks j))) (ed
 
 -- each started or done position has all its earlier conflicting positions done
 abbrev pub StartedInOrder : List (List NumberedLock) → List Mark → Type 0
-StartedInOrder sets marks = (i : ℕ) → i < length sets → (mark_at marks i ≡ Waiting → ⊥) → EarlierDone sets marks i
+StartedInOrder sets marks =
+    (i : ℕ) → i < length sets → (mark_at marks i ≡ Waiting → ⊥) → EarlierDone sets marks i

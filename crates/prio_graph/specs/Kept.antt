@@ -1,4 +1,5 @@
--- What a graph keeps beside its positions: a counter and the later ends of its edges for each, and the ready ones as leaves of a tree.
+-- What a graph keeps beside its positions: a counter and the later ends of its edges for each, and
+-- the ready ones as leaves of a tree.
 use Rattle.std.specs.Prelude.{◌≡◌, ℕ, ◌+◌, ◌*◌, ◌^◌, ◌<◌, ◌≤◌, ◌==◌, Bool, true, false, ◌&&◌, if◌then◌else◌, List, [], ◌∷◌, ◌++◌, length, slice_set, nat_lt, count_by, slice_index, slice_index_or}
 use Rattle.lock_table.specs.declared.locks.NumberedLock.{NumberedLock}
 use Rattle.prio_graph.specs.declared.mark.Mark.{Mark}
@@ -65,7 +66,8 @@ AddsEdges earlier position rows next =
     (j i : ℕ) → edges next j i ≡ edges rows j i + (if i == position then times j earlier else 0)
 
 -- what a graph keeps
-pub record IsGraph (sets : List (List NumberedLock)) (marks : List Mark) (waits : List ℕ) (rows : List (List ℕ)) (tree : List ℕ) : Type 0 where
+pub record IsGraph (sets : List (List NumberedLock)) (marks : List Mark) (waits : List ℕ)
+    (rows : List (List ℕ)) (tree : List ℕ) : Type 0 where
   pub few : length sets < 2 ^ 32
   pub marks_length : length marks ≡ length sets
   pub waits_length : length waits ≡ length sets
@@ -77,4 +79,5 @@ pub record IsGraph (sets : List (List NumberedLock)) (marks : List Mark) (waits 
   pub never : (j i : ℕ) → length sets ≤ i → edges rows j i ≡ 0
   pub is_tree : IsTree tree (length sets)
   pub leaves : (i : ℕ) → i < length sets →
-      leaf tree (length sets) i ≡ shown (is_waiting_mark (mark_at marks i) && (slice_index waits i == 0)) i
+      leaf tree (length sets) i
+      ≡ shown (is_waiting_mark (mark_at marks i) && (slice_index waits i == 0)) i

@@ -32,5 +32,6 @@ pub record IsOf (keys : List Key) (job : Job) (s : State) (p : Positions) : Type
 -- a position is ready there exactly where it is ready in the core machine
 abbrev pub ReadyInTheMachine : Type 0
 ReadyInTheMachine =
-    (keys : List Key) → IsDistinct same_key keys → (job : Job) (s : State) (p : Positions) → IsOf keys job s p →
+    (keys : List Key) → IsDistinct same_key keys → (job : Job) (s : State) (p : Positions)
+    → IsOf keys job s p →
     (i : ℕ) → IsReady p i ↔ Ready job s i

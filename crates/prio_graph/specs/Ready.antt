@@ -22,7 +22,8 @@ mark_at marks i = slice_index_or marks i Done
 
 -- every earlier conflicting position is done
 abbrev pub EarlierDone : List (List NumberedLock) → List Mark → ℕ → Type 0
-EarlierDone sets marks i = (j : ℕ) → j < i → conflicts (set_at sets j) (set_at sets i) ≡ true → mark_at marks j ≡ Done
+EarlierDone sets marks i =
+    (j : ℕ) → j < i → conflicts (set_at sets j) (set_at sets i) ≡ true → mark_at marks j ≡ Done
 
 -- position i is waiting, and every earlier conflicting position is done
 pub record IsReady (p : Positions) (i : ℕ) : Type 0 where

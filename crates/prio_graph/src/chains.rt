@@ -18,7 +18,8 @@ pub(crate) fn awaited(
 ) -> Result<Vec<u32>, OutOfMemory>
     requires last { All (λ lock. lock.number < length last.now) locks.now }
     requires readers { All (λ lock. lock.number < length readers.now) locks.now }
-    ensures { IfOk result (λ all. all.items ≡ flat_map (awaited_by last.now readers.now) locks.now) }
+    ensures { IfOk result
+        (λ all. all.items ≡ flat_map (awaited_by last.now readers.now) locks.now) }
 {
     let mut earlier = Vec::new(alloc);
     for lock in locks {
@@ -33,7 +34,8 @@ pub(crate) fn awaited(
     Ok(earlier)
 }
 
-/// Lets a position pass: it is the last writer of what it writes, and one more reader of what it reads.
+/// Lets a position pass: it is the last writer of what it writes, and one more reader of what it
+/// reads.
 pub(crate) fn pass_locks(
     alloc: Global,
     last: &mut [Option<u32>],

@@ -53,7 +53,8 @@ fn add_position(
     requires few { length sets.now < 2 ^ 32 }
     requires below { position < length sets.now }
     requires chained { Chained sets.now position last.old readers.old later.old waits.old }
-    ensures { OnOk result (Chained sets.now (position + 1) last.new readers.new later.new waits.new) }
+    ensures { OnOk result
+        (Chained sets.now (position + 1) last.new readers.new later.new waits.new) }
 {
     let locks = sets[position].items();
     let earlier = awaited(alloc, last, readers, locks)?;

@@ -38,7 +38,8 @@ impl Model for Graph {
 }
 
 impl Graph {
-    /// The positions of these locks, all of them waiting. It takes all memory that the graph will need.
+    /// The positions of these locks, all of them waiting. It takes all memory that the graph will
+    /// need.
     pub fn new(alloc: Global, sets: Items<LockSet>) -> Result<Graph, OutOfMemory>
         requires { length sets < 2 ^ 32 }
         ensures { IfOk result (λ graph. graph ≡ all_waiting sets) }

@@ -20,4 +20,6 @@ listing entries = each (λ entry. (entry.0, kept_as entry.1)) entries
 
 -- the listing with one more key; what is there already stays
 unfoldable pub with_key : Listing → Key → Sought → Listing
-with_key programs key found = if is_some (find key_cmp key programs) then programs else insert_entry key_cmp programs key found
+with_key programs key found =
+    if is_some (find key_cmp key programs) then programs
+    else insert_entry key_cmp programs key found

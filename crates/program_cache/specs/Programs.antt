@@ -60,13 +60,15 @@ Listing = List (Key × Sought)
 
 -- what is kept for a list of keys of a state: for each of them what is found under it
 unfoldable pub programs_of : State → List Key → Listing
-programs_of s keys = finite.entries (finite.from_entries {R = key_cmp} (each (λ key. (key, sought_in s key)) keys))
+programs_of s keys =
+    finite.entries (finite.from_entries {R = key_cmp} (each (λ key. (key, sought_in s key)) keys))
 
 -- what is found under a key among all that is kept
 unfoldable pub sought : Listing → Key → Sought
 sought programs key = unwrap_or (finite.find key_cmp key programs) IsAbsent
 
--- a program that is ready under a key of a state is that of the account there: executable, its data an image with a verified text
+-- a program that is ready under a key of a state is that of the account there: executable, its data
+-- an image with a verified text
 pub record IsProgramOf (s : State) (key : Key) (ready : ReadyImage) : Type 0 where
   pub account : Account
   pub image : ImageParts

@@ -4,8 +4,8 @@
 //!
 //! A note says what its maker chose to note. It can be taken again at will, so it shows nothing of
 //! ownership, and no answer of a program can depend on it. Nor does it show that such a value ever
-//! was: of a note of a `T` no range, no length and no invariant of `T` is known. A struct that needs
-//! them keeps them beside the note, in a ghost field of its own.
+//! was: of a note of a `T` no range, no length and no invariant of `T` is known. A struct that
+//! needs them keeps them beside the note, in a ghost field of its own.
 #![tactic(auto)]
 
 ghost use Rattle.std.specs.Prelude.{◌≡◌};

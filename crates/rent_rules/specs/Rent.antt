@@ -12,10 +12,13 @@ minimum_of len = (128 + len) * 3480 * 2
 abbrev pub IsPaying : Account → Type 0
 IsPaying a = (0 < a.lamports) × (a.lamports < minimum_of (length a.bytes))
 
--- an account becomes or stays a paying one only from a paying one with as many data bytes and at least its lamports
+-- an account becomes or stays a paying one only from a paying one with as many data bytes and at
+-- least its lamports
 abbrev pub MayMove : Account → Account → Type 0
 MayMove before after =
-    IsPaying after → (IsPaying before × (length before.bytes ≡ length after.bytes) × (after.lamports ≤ before.lamports))
+    IsPaying after
+    → (IsPaying before × (length before.bytes ≡ length after.bytes)
+    × (after.lamports ≤ before.lamports))
 
 -- the rent state of a balance and a number of data bytes
 abbrev pub rent_state_of : ℕ → ℕ → RentState

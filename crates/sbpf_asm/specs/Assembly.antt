@@ -44,7 +44,8 @@ abbrev pub fits_wide : ℤ → Bool
 fits_wide = is_within (negsuc 9223372036854775807) (pos 18446744073709551615)
 
 abbrev pub is_in_range : Instruction → Bool
-is_in_range i = fits_offset i.offset && (if i.opcode == 0x18 then fits_wide i.imm else fits_immediate i.imm)
+is_in_range i =
+    fits_offset i.offset && (if i.opcode == 0x18 then fits_wide i.imm else fits_immediate i.imm)
 
 -- how many slots an instruction takes
 abbrev pub slots_taken : Instruction → ℕ
@@ -77,7 +78,8 @@ place_in name [] = None
 place_in name (l ∷ labels) = if bytes_eq name l.name then Some l.place else place_in name labels
 
 abbrev pub with_label : ℕ → Source → Text → Option ℕ → Result Source AsmFault
-with_label line s name None = Ok (record s { labels = s.labels ++ (record { name = name; place = s.slots }) ∷ [] })
+with_label line s name None =
+    Ok (record s { labels = s.labels ++ (record { name = name; place = s.slots }) ∷ [] })
 with_label line s name (Some place) = Err (RepeatedLabel line)
 
 abbrev pub with_draft : ℕ → Source → Draft → Source
@@ -92,7 +94,8 @@ with_item line s None = Err (Syntax line)
 with_item line s (Some nothing) = Ok s
 with_item line s (Some (label name)) = with_label line s name (place_in name s.labels)
 with_item line s (Some (constants bytes)) = Ok (record s { constants = s.constants ++ bytes })
-with_item line s (Some (instruction d)) = ok_if (is_in_range d.instruction) (Range line) (with_draft line s d)
+with_item line s (Some (instruction d)) =
+    ok_if (is_in_range d.instruction) (Range line) (with_draft line s d)
 
 -- the source with one more line
 abbrev pub with_line : ℕ → Source → Text → Result Source AsmFault
@@ -101,7 +104,8 @@ with_line line s text = if is_text text then with_item line s (item_of text) els
 -- the source with more lines, of which the first has this number
 abbrev pub with_lines : ℕ → Source → List Text → Result Source AsmFault
 with_lines number s [] = Ok s
-with_lines number s (text ∷ texts) = with_line number s text >>= (λ next. with_lines (number + 1) next texts)
+with_lines number s (text ∷ texts) =
+    with_line number s text >>= (λ next. with_lines (number + 1) next texts)
 
 -- ---- round two: how much there is
 
@@ -113,7 +117,9 @@ is_too_long s = nat_lt 65536 s.slots || nat_lt 10485760 (16 + 8 * s.slots + leng
 -- an instruction that leads to a label's place
 abbrev pub led_to : Placed → Option ℕ → Result Instruction AsmFault
 led_to p None = Err (UnknownLabel p.line)
-led_to p (Some target) = let i = leading (pos target -ℤ pos (p.place + 1)) p.draft.instruction in ok_if (is_in_range i) (Range p.line) i
+led_to p (Some target) =
+    let i = leading (pos target -ℤ pos (p.place + 1)) p.draft.instruction in
+    ok_if (is_in_range i) (Range p.line) i
 
 abbrev pub settled : List Label → Placed → Option Text → Result Instruction AsmFault
 settled labels p None = Ok p.draft.instruction
@@ -123,9 +129,12 @@ settled labels p (Some name) = led_to p (place_in name labels)
 abbrev pub low_bytes : ℤ → List ℕ
 low_bytes z = to_le_bytes w64 (cast_unsigned w128 z)
 
--- the bytes of an instruction (RFC 9669): the slot's immediate is the low half of the number of `lddw`, and the high half stands in a second slot
+-- the bytes of an instruction (RFC 9669): the slot's immediate is the low half of the number of
+-- `lddw`, and the high half stands in a second slot
 abbrev pub first_slot : Instruction → List ℕ
-first_slot i = i.opcode ∷ (16 * (i.src % 16) + i.dst % 16) ∷ (take 2 (low_bytes i.offset) ++ take 4 (low_bytes i.imm))
+first_slot i =
+    i.opcode ∷ (16 * (i.src % 16) + i.dst % 16)
+    ∷ (take 2 (low_bytes i.offset) ++ take 4 (low_bytes i.imm))
 
 abbrev pub second_slot : Instruction → List ℕ
 second_slot i = if i.opcode == 0x18 then 0 ∷ 0 ∷ 0 ∷ 0 ∷ drop 4 (low_bytes i.imm) else []
@@ -136,7 +145,8 @@ instruction_bytes i = first_slot i ++ second_slot i
 -- the slots of instructions, after those that stand already
 abbrev pub slots_after : List Label → List ℕ → List Placed → Result (List ℕ) AsmFault
 slots_after labels before [] = Ok before
-slots_after labels before (p ∷ ps) = settled labels p p.draft.target >>= (λ i. slots_after labels (before ++ instruction_bytes i) ps)
+slots_after labels before (p ∷ ps) =
+    settled labels p p.draft.target >>= (λ i. slots_after labels (before ++ instruction_bytes i) ps)
 
 -- ---- round four: the text is verified
 
@@ -145,11 +155,14 @@ if_fit None image = Ok image
 if_fit (Some fault) image = Err (Unverified fault)
 
 abbrev pub verified_image : List ℕ → List ℕ → Result (List ℕ) AsmFault
-verified_image text bytes = if_fit (unfit text) (image_bytes (record { text = text; constants = bytes }))
+verified_image text bytes =
+    if_fit (unfit text) (image_bytes (record { text = text; constants = bytes }))
 
 -- rounds two to four
 abbrev pub image_of : Source → Result (List ℕ) AsmFault
-image_of s = if is_too_long s then Err TooLong else slots_after s.labels [] s.instructions >>= (λ text. verified_image text s.constants)
+image_of s =
+    if is_too_long s then Err TooLong
+    else slots_after s.labels [] s.instructions >>= (λ text. verified_image text s.constants)
 
 -- what a text is assembled to, or its first refusal
 unfoldable pub assembled : Text → Result (List ℕ) AsmFault

@@ -41,7 +41,9 @@ abbrev pub operands_of : Text → List Text
 operands_of text = if length text == 0 then [] else map trim (slice_split is_comma text)
 
 abbrev pub word_item : Text → Text → Option Item
-word_item word rest = if bytes_eq word (codes ".const") then constants_item rest else option_map instruction (draft_of (row_of word) (operands_of rest))
+word_item word rest =
+    if bytes_eq word (codes ".const") then constants_item rest
+    else option_map instruction (draft_of (row_of word) (operands_of rest))
 
 abbrev pub parts_item : Cut → Option Item
 parts_item parts = word_item parts.front (after_word parts.rest)
@@ -53,7 +55,8 @@ label_item name = if is_name name then Some (label name) else None
 abbrev pub code_item : Text → Option Item
 code_item code =
     if length code == 0 then Some nothing
-    else (if ends_with code (codes ":") then label_item (take (length code - 1) code) else parts_item (cut is_blank code))
+    else (if ends_with code (codes ":") then label_item (take (length code - 1) code)
+    else parts_item (cut is_blank code))
 
 abbrev pub item_of : Text → Option Item
 item_of line = code_item (code_of line)

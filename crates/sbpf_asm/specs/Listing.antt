@@ -1,4 +1,5 @@
--- The text of an image: one line for each instruction, then the constants (the project's own format).
+-- The text of an image: one line for each instruction, then the constants (the project's own
+-- format).
 use Rattle.std.specs.Prelude.{◌≡◌, ℕ, ◌+◌, ◌*◌, ◌/◌, ◌^◌, ◌==◌, Bool, true, false, List, [], ◌++◌, length, Option, Some, None, Result, Ok, Err, if◌then◌else◌, codes, pos}
 use Rattle.std.specs.List.{flat_map, range_with_len}
 use Rattle.std.specs.Fork.{slice_chunk}
@@ -20,9 +21,12 @@ abbrev pub is_list_memory : ListFault → Bool
 is_list_memory OutOfMemory = true
 is_list_memory _ = false
 
--- the number of `lddw`, which is unsigned: its low half stands in its own slot, the high half in the next
+-- the number of `lddw`, which is unsigned: its low half stands in its own slot, the high half in
+-- the next
 abbrev pub wide_number : List ℕ → ℕ → ℕ
-wide_number text place = cast_unsigned w32 (slot_of text place).imm + 2 ^ 32 * cast_unsigned w32 (slot_of text (place + 1)).imm
+wide_number text place =
+    cast_unsigned w32 (slot_of text place).imm
+    + 2 ^ 32 * cast_unsigned w32 (slot_of text (place + 1)).imm
 
 -- the instruction of a slot
 abbrev pub instruction_of : List ℕ → ℕ → Instruction
@@ -45,7 +49,9 @@ instruction_text i = text_by (row_for i) i
 
 -- the line of a slot, or nothing for the second slot of `lddw`
 abbrev pub slot_line : List ℕ → ℕ → Text
-slot_line text place = if (slot_of text place).opcode == 0 then [] else instruction_text (instruction_of text place) ++ codes "\n"
+slot_line text place =
+    if (slot_of text place).opcode == 0 then []
+    else instruction_text (instruction_of text place) ++ codes "\n"
 
 -- the lines of the instructions
 abbrev pub instruction_lines : List ℕ → Text

@@ -11,7 +11,8 @@ use Rattle.sbpf_asm.specs.declared.operand.Place.{Place}
 abbrev pub register_of : Text → Option ℕ
 register_of text =
     if bytes_eq text (codes "r10") then Some 10
-    else (if (length text == 2) && starts_with text (codes "r") && is_ascii_digit (slice_index text 1) then Some (slice_index text 1 - 48) else None)
+    else (if (length text == 2) && starts_with text (codes "r")
+    && is_ascii_digit (slice_index text 1) then Some (slice_index text 1 - 48) else None)
 
 abbrev pub register_text : ℕ → Text
 register_text r = codes "r" ++ decimal r
@@ -21,7 +22,9 @@ abbrev pub is_name_byte : ℕ → Bool
 is_name_byte b = is_ascii_alphanumeric b || (b == 95)
 
 abbrev pub is_name : Text → Bool
-is_name text = list_all is_name_byte text && nat_lt 0 (length text) && nat_le (length text) 64 && not (is_ascii_digit (slice_index text 0))
+is_name text =
+    list_all is_name_byte text && nat_lt 0 (length text) && nat_le (length text) 64
+    && not (is_ascii_digit (slice_index text 0))
 
 -- a target: a label's name, or a sign and an unsigned number
 pub data Target : Type 0 where
@@ -35,7 +38,9 @@ abbrev pub name_of : Text → Option Target
 name_of text = if is_name text then Some (label text) else None
 
 abbrev pub target_of : Text → Option Target
-target_of text = if starts_with_sign text then option_map offset (signed_of (slice_index text 0) (drop 1 text)) else name_of text
+target_of text =
+    if starts_with_sign text then option_map offset (signed_of (slice_index text 0) (drop 1 text))
+    else name_of text
 
 -- a number that is always written with its sign
 abbrev pub signed_text : ℤ → Text
@@ -48,7 +53,8 @@ offset_after None = Some (pos 0)
 offset_after (Some p) = signed_of p.0 p.1
 
 abbrev pub place_by : Option ℕ → Option ℤ → Option Place
-place_by register away = option_and_then (λ r. option_map (λ o. record { register = r; offset = o }) away) register
+place_by register away =
+    option_and_then (λ r. option_map (λ o. record { register = r; offset = o }) away) register
 
 abbrev pub place_within : Cut → Option Place
 place_within parts = place_by (register_of parts.front) (offset_after parts.rest)

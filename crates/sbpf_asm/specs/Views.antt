@@ -64,10 +64,19 @@ operands_left None = []
 operands_left (Some text) = map trim (slice_split is_comma text)
 
 abbrev pub row_view : TableRow → Row
-row_view r = record { mnemonic = r.mnemonic.now; opcode = r.opcode; register_opcode = r.register_opcode; src = r.src; imm = r.imm; operands = operands_of r.shape }
+row_view r =
+    record {
+      mnemonic = r.mnemonic.now;
+      opcode = r.opcode;
+      register_opcode = r.register_opcode;
+      src = r.src;
+      imm = r.imm;
+      operands = operands_of r.shape;
+    }
 
 abbrev pub draft_view : DraftSlices → Draft
-draft_view d = record { instruction = d.instruction; target = option_map (λ name. name.now) d.target }
+draft_view d =
+    record { instruction = d.instruction; target = option_map (λ name. name.now) d.target }
 
 -- digits of an odd number stand for nothing
 abbrev pub item_view : ItemSlices → Option Item

@@ -1,4 +1,5 @@
--- Pieces of a line of assembler text: blanks, what stands before the first byte of a kind, numbers (the project's own format).
+-- Pieces of a line of assembler text: blanks, what stands before the first byte of a kind, numbers
+-- (the project's own format).
 use Rattle.std.specs.Prelude.{ℕ, ◌==◌, ◌&&◌, ◌||◌, Bool, List, [], ◌∷◌, length, drop, nat_eq, nat_le, nat_lt, Option, Some, None, option_map, if◌then◌else◌, codes, reverse, ℤ, pos, neg_ℤ}
 use Rattle.std.specs.List.{list_all, starts_with as slice_starts_with, ends_with as slice_ends_with}
 use Rattle.std.specs.Char.{is_ascii_digit}
@@ -50,18 +51,24 @@ pub record Cut : Type 0 where
 
 abbrev pub cut : (ℕ → Bool) → Text → Cut
 cut at [] = record { front = []; rest = None }
-cut at (b ∷ bs) = if at b then record { front = []; rest = Some (b, bs) } else record { front = b ∷ (cut at bs).front; rest = (cut at bs).rest }
+cut at (b ∷ bs) =
+    if at b then record { front = []; rest = Some (b, bs) }
+    else record { front = b ∷ (cut at bs).front; rest = (cut at bs).rest }
 
 -- 1 to 20 decimal digits
 abbrev pub decimal_of : Text → Option ℕ
-decimal_of text = if list_all is_ascii_digit text && nat_lt 0 (length text) && nat_le (length text) 20 then Some (digits_value 10 text) else None
+decimal_of text =
+    if list_all is_ascii_digit text && nat_lt 0 (length text) && nat_le (length text) 20
+    then Some (digits_value 10 text) else None
 
 -- 1 to 16 lower case hexadecimal digits
 abbrev pub is_hex_digit : ℕ → Bool
 is_hex_digit b = is_ascii_digit b || is_in_range 97 102 b
 
 abbrev pub hex_of : Text → Option ℕ
-hex_of text = if list_all is_hex_digit text && nat_lt 0 (length text) && nat_le (length text) 16 then Some (digits_value 16 text) else None
+hex_of text =
+    if list_all is_hex_digit text && nat_lt 0 (length text) && nat_le (length text) 16
+    then Some (digits_value 16 text) else None
 
 -- an unsigned number: decimal digits, or `0x` and hexadecimal ones
 abbrev pub unsigned_of : Text → Option ℕ
@@ -75,8 +82,11 @@ positive = option_map (λ n. pos n)
 
 -- a number: an optional `-` before an unsigned one
 abbrev pub number_of : Text → Option ℤ
-number_of text = if starts_with text (codes "-") then negative (unsigned_of (drop 1 text)) else positive (unsigned_of text)
+number_of text =
+    if starts_with text (codes "-") then negative (unsigned_of (drop 1 text))
+    else positive (unsigned_of text)
 
 -- a sign and an unsigned number
 abbrev pub signed_of : ℕ → Text → Option ℤ
-signed_of sign text = if sign == 45 then negative (unsigned_of text) else positive (unsigned_of text)
+signed_of sign text =
+    if sign == 45 then negative (unsigned_of text) else positive (unsigned_of text)

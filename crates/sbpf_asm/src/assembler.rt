@@ -125,8 +125,8 @@ fn image_of(alloc: Global, source: &Source<'_>) -> Result<Blob, AsmFault>
     verified_image(alloc, text.as_slice(), source.constants.as_slice())
 }
 
-/// The image of an assembler text (the project's own format). Refusals are looked for in four rounds:
-/// in each line, then how much there is, then the labels, then the verifier.
+/// The image of an assembler text (the project's own format). Refusals are looked for in four
+/// rounds: in each line, then how much there is, then the labels, then the verifier.
 #[tactic(auto, unfolding(crate::specs::Assembly::assembled))]
 pub fn assemble(alloc: Global, text: &[u8]) -> Result<Blob, AsmFault>
     requires { length text.now < 2 ^ 32 }

@@ -159,7 +159,8 @@ fn text_behind<'a>(rest: Option<(u8, &'a [u8])>) -> Option<&'a [u8]>
 /// The draft, where no operand is left.
 fn finished<'a>(rest: Option<&'a [u8]>, draft: Draft<'a>) -> Option<Draft<'a>>
     ensures { option_map draft_view result
-        ≡ finished (operands_left (option_map (λ text. text.now) rest.entry)) (draft_view draft.entry) }
+        ≡ finished (operands_left (option_map (λ text. text.now) rest.entry))
+        (draft_view draft.entry) }
 {
     match rest {
         None => Some(draft),

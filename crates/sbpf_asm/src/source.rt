@@ -94,7 +94,8 @@ impl<'a> Source<'a> {
     }
 
     fn add_label(&mut self, line: u32, name: &'a [u8]) -> Result<(), AsmFault>
-        ensures added { let before = source_view self.old in Gives is_asm_memory (λ _. source_view self.new) result
+        ensures added { let before = source_view self.old in
+            Gives is_asm_memory (λ _. source_view self.new) result
             (with_label line before name.entry.now (place_in name.entry.now before.labels)) }
         ensures slots { self.new.slots ≡ self.old.slots }
     {
@@ -121,8 +122,10 @@ impl<'a> Source<'a> {
 
     fn add_instruction(&mut self, line: u32, draft: Draft<'a>) -> Result<(), AsmFault>
         requires { self.old.slots < 2 ^ 62 }
-        ensures added { let d = draft_view draft.entry in Gives is_asm_memory (λ _. source_view self.new) result
-            (ok_if (is_in_range d.instruction) (Range line) (with_draft line (source_view self.old) d)) }
+        ensures added { let d = draft_view draft.entry in
+            Gives is_asm_memory (λ _. source_view self.new) result
+            (ok_if (is_in_range d.instruction) (Range line)
+            (with_draft line (source_view self.old) d)) }
         ensures slots { self.new.slots ≤ self.old.slots + 2 }
     {
         if !is_in_range(draft.instruction) {

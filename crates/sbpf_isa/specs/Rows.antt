@@ -19,7 +19,8 @@ pub record Row : Type 0 where
 abbrev pub row : ℕ → OpKind → Row
 row n k = record { opcode = n; kind = k }
 
--- the opcodes of an operation: class 7 with immediate and register, class 4 with immediate and register
+-- the opcodes of an operation: class 7 with immediate and register, class 4 with immediate and
+-- register
 abbrev pub operation : Operation → ℕ → ℕ → ℕ → ℕ → List Row
 operation op a b c d =
     row a (Binary op Bits64 Immediate) ∷ row b (Binary op Bits64 Register) ∷
@@ -31,7 +32,8 @@ jump when a b = row a (JumpIf when Immediate) ∷ row b (JumpIf when Register) �
 
 -- the opcodes of a size: load, store of the immediate, store of the register
 abbrev pub moves : Size → ℕ → ℕ → ℕ → List Row
-moves size a b c = row a (Load size) ∷ row b (Store size Immediate) ∷ row c (Store size Register) ∷ []
+moves size a b c =
+    row a (Load size) ∷ row b (Store size Immediate) ∷ row c (Store size Register) ∷ []
 
 -- the table
 abbrev pub rows : List Row

@@ -16,7 +16,8 @@ pub record IsWritable (image : ImageParts) : Type 0 where
 -- the bytes of an image: magic, number of slots, number of constant bytes, text, constants
 abbrev pub image_bytes : ImageParts → List ℕ
 image_bytes image =
-    codes "SBPFIMG1" ++ to_le_bytes w32 (length image.text / 8) ++ to_le_bytes w32 (length image.constants) ++ image.text ++ image.constants
+    codes "SBPFIMG1" ++ to_le_bytes w32 (length image.text / 8)
+    ++ to_le_bytes w32 (length image.constants) ++ image.text ++ image.constants
 
 -- the number of slots that bytes name, if they are an image
 abbrev pub slots_named : List ℕ → ℕ
@@ -35,4 +36,5 @@ parts_named bytes = record {
 
 -- the parts, where the bytes are an image: those of the parts that they name, and nothing more
 unfoldable pub image_in : List ℕ → Option ImageParts
-image_in bytes = if bytes_eq bytes (image_bytes (parts_named bytes)) then Some (parts_named bytes) else None
+image_in bytes =
+    if bytes_eq bytes (image_bytes (parts_named bytes)) then Some (parts_named bytes) else None

@@ -4,7 +4,8 @@ use Rattle.sbpf_isa.specs.declared.slot.Slot.{Slot}
 use Rattle.sbpf_isa.specs.declared.rows.OpKind.{OpKind}
 use Rattle.sbpf_isa.specs.declared.rows.OpKind.TheVariants.{LittleEndian, BigEndian, Call, CallRegister}
 
--- the registers that an instruction names are there, and so is the one whose number `callx` has as its immediate
+-- the registers that an instruction names are there, and so is the one whose number `callx` has as
+-- its immediate
 pub record HasRegisters (slot : Slot) (kind : OpKind) : Type 0 where
   pub dst : slot.dst ≤ 10
   pub src : slot.src ≤ 10
@@ -12,7 +13,8 @@ pub record HasRegisters (slot : Slot) (kind : OpKind) : Type 0 where
 
 -- the values of `le`, `be` and `call` are among those that mean something
 pub record HasValues (slot : Slot) (kind : OpKind) : Type 0 where
-  pub little : kind ≡ LittleEndian → (slot.imm ≡ pos 16) ⊎ ((slot.imm ≡ pos 32) ⊎ (slot.imm ≡ pos 64))
+  pub little : kind ≡ LittleEndian
+      → (slot.imm ≡ pos 16) ⊎ ((slot.imm ≡ pos 32) ⊎ (slot.imm ≡ pos 64))
   pub big : kind ≡ BigEndian → (slot.imm ≡ pos 16) ⊎ ((slot.imm ≡ pos 32) ⊎ (slot.imm ≡ pos 64))
   pub source : kind ≡ Call → slot.src ≤ 1
   pub helper : kind ≡ Call → slot.src ≡ 0 → (pos 1 ≤ℤ slot.imm) × (slot.imm ≤ℤ pos 17)

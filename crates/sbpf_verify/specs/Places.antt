@@ -20,7 +20,8 @@ is_start_at text (negsuc _) = false
 
 -- what the instruction at a place is, where a slot is there and its opcode has a row
 unfoldable pub instruction_at : List ℕ → ℕ → Option OpKind
-instruction_at text place = if nat_lt place (slot_count text) then kind_at (slot_of text place).opcode else None
+instruction_at text place =
+    if nat_lt place (slot_count text) then kind_at (slot_of text place).opcode else None
 
 -- the place that a jump, or a call into the program, leads to
 abbrev pub leads_to : OpKind → Slot → ℕ → Option ℤ
@@ -40,9 +41,14 @@ abbrev pub slots_taken : OpKind → ℕ
 slots_taken LoadWide = 2
 slots_taken _ = 1
 
--- the places that an execution can reach: the first slot, the place after an instruction that goes on, the target of a jump or a call, and after `callx` any start
+-- the places that an execution can reach: the first slot, the place after an instruction that goes
+-- on, the target of a jump or a call, and after `callx` any start
 pub data Reached (text : List ℕ) : ℕ → Type 0 where
   first : Reached text 0
-  after : {place : ℕ} {kind : OpKind} → Reached text place → instruction_at text place ≡ Some kind → goes_on kind ≡ true → Reached text (place + slots_taken kind)
-  jumped : {place target : ℕ} {kind : OpKind} → Reached text place → instruction_at text place ≡ Some kind → leads_to kind (slot_of text place) place ≡ Some (pos target) → Reached text target
-  called : {place target : ℕ} → Reached text place → instruction_at text place ≡ Some CallRegister → is_start text target ≡ true → Reached text target
+  after : {place : ℕ} {kind : OpKind} → Reached text place → instruction_at text place ≡ Some kind
+      → goes_on kind ≡ true → Reached text (place + slots_taken kind)
+  jumped : {place target : ℕ} {kind : OpKind} → Reached text place
+      → instruction_at text place ≡ Some kind
+      → leads_to kind (slot_of text place) place ≡ Some (pos target) → Reached text target
+  called : {place target : ℕ} → Reached text place → instruction_at text place ≡ Some CallRegister
+      → is_start text target ≡ true → Reached text target

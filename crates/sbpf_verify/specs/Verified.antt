@@ -1,4 +1,5 @@
--- The verified texts: the table of refusals, and the first that applies (sBPF, in this project's profile).
+-- The verified texts: the table of refusals, and the first that applies (sBPF, in this project's
+-- profile).
 use Rattle.std.specs.Prelude.{◌≡◌, ℕ, zero, suc, ◌+◌, ◌-◌, ◌%◌, ◌<◌, ◌==◌, ◌&&◌, ◌||◌, not, Bool, true, false, List, [], ◌∷◌, ◌++◌, length, nat_lt, Option, Some, None, is_none, if◌then◌else◌, ℤ, pos, int_lt}
 use Rattle.std.specs.List.{AllByRecursion, flat_map, range_with_len}
 use Rattle.std.specs.Ordering.{int_eq}
@@ -21,7 +22,8 @@ is_outside low high number = int_lt number low || int_lt high number
 
 -- Length: the length is 0, no multiple of 8, or above 65,536 slots
 abbrev pub has_bad_length : List ℕ → Bool
-has_bad_length text = (length text == 0) || not (length text % 8 == 0) || nat_lt 65536 (slot_count text)
+has_bad_length text =
+    (length text == 0) || not (length text % 8 == 0) || nat_lt 65536 (slot_count text)
 
 -- the slot before is `lddw`
 abbrev pub follows_wide : List ℕ → ℕ → Bool
@@ -31,13 +33,15 @@ follows_wide text (suc before) = (slot_of text before).opcode == 0x18
 -- Opcode: no row in the table of instructions, but for opcode 0 directly after `lddw`
 abbrev pub lacks_row : List ℕ → ℕ → Bool
 lacks_row text place =
-    let opcode = (slot_of text place).opcode in is_none (kind_at opcode) && not ((opcode == 0) && follows_wide text place)
+    let opcode = (slot_of text place).opcode in
+    is_none (kind_at opcode) && not ((opcode == 0) && follows_wide text place)
 
 -- a slot is there whose opcode, registers and offset are 0
 abbrev pub is_second_half : List ℕ → ℕ → Bool
 is_second_half text place =
     let slot = slot_of text place in
-    nat_lt place (slot_count text) && (slot.opcode == 0) && (slot.dst == 0) && (slot.src == 0) && int_eq slot.offset (pos 0)
+    nat_lt place (slot_count text) && (slot.opcode == 0) && (slot.dst == 0) && (slot.src == 0)
+    && int_eq slot.offset (pos 0)
 
 -- HalfWide: `lddw` without such a slot after it
 abbrev pub is_half_wide : List ℕ → ℕ → OpKind → Bool
@@ -50,12 +54,14 @@ calls_bad_register slot CallRegister = is_outside (pos 0) (pos 9) slot.imm
 calls_bad_register slot _ = false
 
 abbrev pub has_bad_register : Slot → OpKind → Bool
-has_bad_register slot kind = nat_lt 10 slot.dst || nat_lt 10 slot.src || calls_bad_register slot kind
+has_bad_register slot kind =
+    nat_lt 10 slot.dst || nat_lt 10 slot.src || calls_bad_register slot kind
 
 -- WritesFrame: classes 0, 1, 4 and 7 with destination 10
 abbrev pub writes_frame : Slot → Bool
 writes_frame slot =
-    let class = slot.opcode % 8 in ((class == 0) || (class == 1) || (class == 4) || (class == 7)) && (slot.dst == 10)
+    let class = slot.opcode % 8 in ((class == 0) || (class == 1) || (class == 4) || (class == 7))
+    && (slot.dst == 10)
 
 -- the fields that a row uses
 pub record Fields : Type 0 where
@@ -85,14 +91,17 @@ used (Store size Immediate) = fields true false true true
 used (Store size RegisterOperand) = fields true true true false
 used LoadWide = fields true false false true
 
--- Field: a field that the row does not use is not 0; `le` and `be` with an immediate other than 16, 32 and 64; `call` with a source above 1
+-- Field: a field that the row does not use is not 0; `le` and `be` with an immediate other than 16,
+-- 32 and 64; `call` with a source above 1
 abbrev pub has_stray_field : Slot → Fields → Bool
 has_stray_field slot row =
     (not row.dst && not (slot.dst == 0)) || (not row.src && not (slot.src == 0)) ||
-    (not row.offset && not (int_eq slot.offset (pos 0))) || (not row.imm && not (int_eq slot.imm (pos 0)))
+    (not row.offset && not (int_eq slot.offset (pos 0)))
+    || (not row.imm && not (int_eq slot.imm (pos 0)))
 
 abbrev pub is_no_width : ℤ → Bool
-is_no_width number = not (int_eq number (pos 16) || int_eq number (pos 32) || int_eq number (pos 64))
+is_no_width number =
+    not (int_eq number (pos 16) || int_eq number (pos 32) || int_eq number (pos 64))
 
 abbrev pub has_bad_value : Slot → OpKind → Bool
 has_bad_value slot LittleEndian = is_no_width slot.imm
@@ -135,7 +144,9 @@ calls_no_helper slot _ = false
 
 -- OpenEnd: the last slot's opcode is neither that of `exit` nor that of `ja`
 abbrev pub has_open_end : List ℕ → Bool
-has_open_end text = let opcode = (slot_of text (slot_count text - 1)).opcode in not ((opcode == 0x95) || (opcode == 0x05))
+has_open_end text =
+    let opcode = (slot_of text (slot_count text - 1)).opcode in
+    not ((opcode == 0x95) || (opcode == 0x05))
 
 -- a row of the table: whether it applies, and its refusal
 pub record Row : Type 0 where
@@ -164,12 +175,14 @@ rows_of text place slot (Some kind) = instruction_rows text place slot kind
 -- the rows for a slot; of a slot without an instruction, only whether it may be there is asked
 unfoldable pub slot_rows : List ℕ → ℕ → List Row
 slot_rows text place =
-    let slot = slot_of text place in row (lacks_row text place) (Opcode place) ∷ rows_of text place slot (kind_at slot.opcode)
+    let slot = slot_of text place in
+    row (lacks_row text place) (Opcode place) ∷ rows_of text place slot (kind_at slot.opcode)
 
 -- the whole table: the length first, then slot by slot upwards, and the end last
 abbrev pub table : List ℕ → List Row
 table text =
-    (row (has_bad_length text) Length ∷ []) ++ flat_map (slot_rows text) (range_with_len 0 (slot_count text)) ++
+    (row (has_bad_length text) Length ∷ [])
+    ++ flat_map (slot_rows text) (range_with_len 0 (slot_count text)) ++
     (row (has_open_end text) OpenEnd ∷ [])
 
 -- the refusal of the first row that applies
@@ -185,7 +198,8 @@ unfit text = first_applying (table text)
 abbrev pub NoneApplies : List Row → Type 0
 NoneApplies rows = AllByRecursion (λ r. r.applies ≡ false) rows
 
--- a text is verified where no row of the table applies: not to its length, not to any slot, not to its end
+-- a text is verified where no row of the table applies: not to its length, not to any slot, not to
+-- its end
 pub record IsVerified (text : List ℕ) : Type 0 where
   pub len : has_bad_length text ≡ false
   pub slots : (place : ℕ) → place < slot_count text → NoneApplies (slot_rows text place)

@@ -17,14 +17,17 @@ pub fn verified_is_without_refusal()
 /// A law: the first slot of a verified text is a start, and no start is beyond 65,536 slots.
 pub fn first_slot_is_a_start()
     ensures first { (text : List ℕ) → IsVerified text → is_start text 0 ≡ true }
-    ensures below { (text : List ℕ) (place : ℕ) → IsVerified text → is_start text place ≡ true → place < 65536 }
+    ensures below { (text : List ℕ) (place : ℕ) → IsVerified text → is_start text place ≡ true
+        → place < 65536 }
 {}
 
 /// A law: each start of a verified text has an instruction, and an instruction stands at no other
 /// place of any text.
 pub fn starts_have_instructions()
-    ensures there { (text : List ℕ) (place : ℕ) → IsVerified text → is_start text place ≡ true → (kind : OpKind) × (instruction_at text place ≡ Some kind) }
-    ensures alone { (text : List ℕ) (place : ℕ) (kind : OpKind) → instruction_at text place ≡ Some kind → is_start text place ≡ true }
+    ensures there { (text : List ℕ) (place : ℕ) → IsVerified text → is_start text place ≡ true
+        → (kind : OpKind) × (instruction_at text place ≡ Some kind) }
+    ensures alone { (text : List ℕ) (place : ℕ) (kind : OpKind)
+        → instruction_at text place ≡ Some kind → is_start text place ≡ true }
 {}
 
 /// A law: a jump of a verified text, or a call into it, leads to a start.
@@ -44,22 +47,26 @@ pub fn what_follows_is_a_start()
 
 /// A law: each place of a verified text that is reached is a start.
 pub fn reached_places_are_starts()
-    ensures { (text : List ℕ) (place : ℕ) → IsVerified text → Reached text place → is_start text place ≡ true }
+    ensures { (text : List ℕ) (place : ℕ) → IsVerified text → Reached text place
+        → is_start text place ≡ true }
 {}
 
 /// A law: the second half of `lddw` is never reached in a verified text.
 pub fn second_halves_are_never_reached()
-    ensures { (text : List ℕ) (place : ℕ) → IsVerified text → instruction_at text place ≡ Some LoadWide → Reached text (place + 1) → ⊥ }
+    ensures { (text : List ℕ) (place : ℕ) → IsVerified text
+        → instruction_at text place ≡ Some LoadWide → Reached text (place + 1) → ⊥ }
 {}
 
 /// A law: no register above 10 is named in a verified text.
 pub fn registers_are_there()
-    ensures { (text : List ℕ) (place : ℕ) (kind : OpKind) → IsVerified text → instruction_at text place ≡ Some kind → HasRegisters (slot_of text place) kind }
+    ensures { (text : List ℕ) (place : ℕ) (kind : OpKind) → IsVerified text
+        → instruction_at text place ≡ Some kind → HasRegisters (slot_of text place) kind }
 {}
 
 /// A law: `le`, `be` and `call` have values in a verified text that mean something.
 pub fn values_are_allowed()
-    ensures { (text : List ℕ) (place : ℕ) (kind : OpKind) → IsVerified text → instruction_at text place ≡ Some kind → HasValues (slot_of text place) kind }
+    ensures { (text : List ℕ) (place : ℕ) (kind : OpKind) → IsVerified text
+        → instruction_at text place ≡ Some kind → HasValues (slot_of text place) kind }
 {}
 
 /// A law: the entry of a start names registers that are there, and leads to starts.
@@ -77,5 +84,6 @@ pub fn images_are_read_again()
 
 /// A law: what is read as an image is written so, and no other bytes are read as that image.
 pub fn images_are_written_as_they_are_read()
-    ensures { (bytes : List ℕ) (image : ImageParts) → image_in bytes ≡ Some image → bytes ≡ image_bytes image }
+    ensures { (bytes : List ℕ) (image : ImageParts) → image_in bytes ≡ Some image
+        → bytes ≡ image_bytes image }
 {}

@@ -9,7 +9,8 @@ use Rattle.snapshot_codec.specs.declared.batch.Batch.{Batch}
 -- each transaction follows its length
 abbrev pub batch_bytes : Batch → List ℕ
 batch_bytes batch =
-    codes "SOLBATC1" ++ to_le_bytes w64 batch.slot ++ key_bytes batch.collector ++ to_le_bytes w32 (length batch.wires)
+    codes "SOLBATC1" ++ to_le_bytes w64 batch.slot ++ key_bytes batch.collector
+    ++ to_le_bytes w32 (length batch.wires)
     ++ flat_map sized_bytes batch.wires
 
 -- what a length of a transaction can count

@@ -20,14 +20,19 @@ abbrev pub Read : Type 0 → Type 0
 Read X = Result (X × List ℕ) BatchFault
 
 unfoldable pub magic_at : ℕ → List ℕ → Read (List ℕ)
-magic_at total bytes = read_if (λ _. Magic) (λ magic. bytes_eq magic (codes "SOLBATC1")) (field_at Truncated total 8) total bytes
+magic_at total bytes =
+    read_if (λ _. Magic) (λ magic. bytes_eq magic (codes "SOLBATC1")) (field_at Truncated total 8)
+    total bytes
 
 -- a slot after the given one
 unfoldable pub slot_at : ℕ → ℕ → List ℕ → Read ℕ
-slot_at before total bytes = read_if (λ _. SlotNotLater) (λ slot. nat_lt before slot) (number_at Truncated w64 total) total bytes
+slot_at before total bytes =
+    read_if (λ _. SlotNotLater) (λ slot. nat_lt before slot) (number_at Truncated w64 total) total
+    bytes
 
 unfoldable pub count_at : ℕ → List ℕ → Read ℕ
-count_at total bytes = read_if (λ _. TooMany) (λ n. nat_le n 16384) (number_at Truncated w32 total) total bytes
+count_at total bytes =
+    read_if (λ _. TooMany) (λ n. nat_le n 16384) (number_at Truncated w32 total) total bytes
 
 -- a transaction, one field after its length
 unfoldable pub wire_at : ℕ → List ℕ → Read (List ℕ)

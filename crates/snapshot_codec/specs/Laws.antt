@@ -11,12 +11,15 @@ use Rattle.snapshot_codec.specs.BatchReading.{batch_of}
 -- a snapshot, whatever follows it
 abbrev pub SnapshotRoundTrip : Type 0
 SnapshotRoundTrip = (s : Snapshot) (rest : List ℕ) → IsReadable s → HasWidths s
-    → prefix_of (snapshot_bytes s ++ rest) ≡ Ok (record { snapshot = s; length = length (snapshot_bytes s) })
+    → prefix_of (snapshot_bytes s ++ rest)
+    ≡ Ok (record { snapshot = s; length = length (snapshot_bytes s) })
 
 -- a snapshot of version 1
 abbrev pub FirstVersionRead : Type 0
-FirstVersionRead = (s : Snapshot) (rest : List ℕ) → s.limits ≡ first_limits → IsReadable s → HasWidths s
-    → prefix_of (snapshot_bytes_one s ++ rest) ≡ Ok (record { snapshot = s; length = length (snapshot_bytes_one s) })
+FirstVersionRead =
+    (s : Snapshot) (rest : List ℕ) → s.limits ≡ first_limits → IsReadable s → HasWidths s
+    → prefix_of (snapshot_bytes_one s ++ rest)
+    ≡ Ok (record { snapshot = s; length = length (snapshot_bytes_one s) })
 
 -- what is read may be written
 abbrev pub ReadableWritten : Type 0
@@ -24,4 +27,6 @@ ReadableWritten = (s : Snapshot) → IsReadable s → IsWritable s
 
 -- a batch, for a block after an earlier slot
 abbrev pub BatchRoundTrip : Type 0
-BatchRoundTrip = (before : ℕ) (b : Batch) → IsBatch before (batch_bytes b) b → batch_of before (batch_bytes b) ≡ Ok b
+BatchRoundTrip =
+    (before : ℕ) (b : Batch) → IsBatch before (batch_bytes b) b
+    → batch_of before (batch_bytes b) ≡ Ok b

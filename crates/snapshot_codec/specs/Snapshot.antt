@@ -1,4 +1,5 @@
--- Snapshots of a chain as bytes, in two versions (the project's own format). Only the second is written.
+-- Snapshots of a chain as bytes, in two versions (the project's own format). Only the second is
+-- written.
 use Rattle.std.specs.Prelude.{◌≡◌, ℕ, ◌≤◌, ◌<◌, ◌^◌, List, [], ◌∷◌, ◌++◌, length, take, All, codes, Bool, if◌then◌else◌, ◌⊎◌}
 use Rattle.std.specs.Int.{w16, w32, w64, to_le_bytes}
 use Rattle.std.specs.List.{flat_map}
@@ -17,7 +18,9 @@ use Rattle.snapshot_codec.specs.declared.snapshot.Prefix.{Prefix}
 
 -- a block: its hash, the number of its messages, and their names
 abbrev pub mark_bytes : Mark → List ℕ
-mark_bytes mark = hash_bytes mark.hash ++ to_le_bytes w32 (length mark.messages) ++ flat_map hash_bytes mark.messages
+mark_bytes mark =
+    hash_bytes mark.hash ++ to_le_bytes w32 (length mark.messages)
+    ++ flat_map hash_bytes mark.messages
 
 -- the newest blocks, newest first
 abbrev pub marks_bytes : List Mark → List ℕ
@@ -28,7 +31,8 @@ flag is_set = if is_set then 1 else 0
 
 abbrev pub account_bytes : Key × Account → List ℕ
 account_bytes (key, account) =
-    key_bytes key ++ to_le_bytes w64 account.lamports ++ key_bytes account.owner ++ flag account.executable ∷ []
+    key_bytes key ++ to_le_bytes w64 account.lamports ++ key_bytes account.owner
+    ++ flag account.executable ∷ []
     ++ to_le_bytes w32 (length account.bytes) ++ account.bytes
 
 -- the number of accounts, and the accounts
@@ -45,17 +49,20 @@ hash_of_state state = record { 0 = sha256 (state_bytes state) }
 
 abbrev pub limits_bytes : Limits → List ℕ
 limits_bytes limits =
-    to_le_bytes w16 limits.keys ++ limits.height ∷ [] ++ to_le_bytes w64 limits.key_units ++ to_le_bytes w64 limits.block_units
+    to_le_bytes w16 limits.keys ++ limits.height ∷ [] ++ to_le_bytes w64 limits.key_units
+    ++ to_le_bytes w64 limits.block_units
 
 -- version 1, which stands for the first limits
 abbrev pub snapshot_bytes_one : Snapshot → List ℕ
 snapshot_bytes_one snapshot =
-    codes "SOLSNAP1" ++ to_le_bytes w64 snapshot.slot ++ marks_bytes snapshot.recent ++ state_bytes snapshot.accounts
+    codes "SOLSNAP1" ++ to_le_bytes w64 snapshot.slot ++ marks_bytes snapshot.recent
+    ++ state_bytes snapshot.accounts
 
 -- version 2, which carries the limits
 abbrev pub snapshot_bytes : Snapshot → List ℕ
 snapshot_bytes snapshot =
-    codes "SOLSNAP2" ++ to_le_bytes w64 snapshot.slot ++ limits_bytes snapshot.limits ++ marks_bytes snapshot.recent
+    codes "SOLSNAP2" ++ to_le_bytes w64 snapshot.slot ++ limits_bytes snapshot.limits
+    ++ marks_bytes snapshot.recent
     ++ state_bytes snapshot.accounts
 
 -- the number lies from 1 to the greatest
@@ -93,7 +100,9 @@ pub record HasWidths (snapshot : Snapshot) : Type 0 where
 
 -- the bytes spell the snapshot in one of the two versions
 abbrev pub Spells : List ℕ → Snapshot → Type 0
-Spells bytes snapshot = (bytes ≡ snapshot_bytes snapshot) ⊎ ((bytes ≡ snapshot_bytes_one snapshot) × (snapshot.limits ≡ first_limits))
+Spells bytes snapshot =
+    (bytes ≡ snapshot_bytes snapshot) ⊎ ((bytes ≡ snapshot_bytes_one snapshot)
+    × (snapshot.limits ≡ first_limits))
 
 -- the bytes begin with the snapshot
 pub record BeginsWith (bytes : List ℕ) (prefix : Prefix) : Type 0 where

@@ -36,14 +36,18 @@ Read X = Result (X × List ℕ) SnapshotFault
 
 -- a number of items, refused where it is above the greatest
 abbrev pub count_at : (ℕ → SnapshotFault) → ℕ → ℕ → List ℕ → Read ℕ
-count_at refusal most total bytes = read_if refusal (λ n. nat_le n most) (number_at Truncated w32 total) total bytes
+count_at refusal most total bytes =
+    read_if refusal (λ n. nat_le n most) (number_at Truncated w32 total) total bytes
 
 -- a number from 1 to the greatest
 abbrev pub limit_at : ℕ → Width → ℕ → List ℕ → Read ℕ
-limit_at most width total bytes = read_if BadField (λ n. nat_le 1 n && nat_le n most) (number_at Truncated width total) total bytes
+limit_at most width total bytes =
+    read_if BadField (λ n. nat_le 1 n && nat_le n most) (number_at Truncated width total) total
+    bytes
 
 abbrev pub height_at : ℕ → List ℕ → Read ℕ
-height_at total bytes = read_if BadField (λ n. nat_le 1 n && nat_le n 9) (byte_at Truncated total) total bytes
+height_at total bytes =
+    read_if BadField (λ n. nat_le 1 n && nat_le n 9) (byte_at Truncated total) total bytes
 
 unfoldable pub limits_at : ℕ → List ℕ → Read Limits
 limits_at total bytes = do
@@ -51,11 +55,20 @@ limits_at total bytes = do
   height ← height_at total keys.1
   key_units ← limit_at 1000000000000 w64 total height.1
   block_units ← limit_at 1000000000000 w64 total key_units.1
-  Ok (record { keys = keys.0; height = height.0; key_units = key_units.0; block_units = block_units.0 }, block_units.1)
+  Ok (
+    record {
+      keys = keys.0;
+      height = height.0;
+      key_units = key_units.0;
+      block_units = block_units.0;
+    },
+    block_units.1,
+  )
 
 -- slot and limits, as each version has them
 unfoldable pub head_one_at : ℕ → List ℕ → Read (ℕ × Limits)
-head_one_at total bytes = read_as (λ slot. (slot, first_limits)) (number_at Truncated w64 total) bytes
+head_one_at total bytes =
+    read_as (λ slot. (slot, first_limits)) (number_at Truncated w64 total) bytes
 
 unfoldable pub head_two_at : ℕ → List ℕ → Read (ℕ × Limits)
 head_two_at total bytes = do
@@ -88,7 +101,8 @@ last_passes test items = unwrap_or (option_map test (slice_get items (length ite
 -- a name, above the one before in its mark
 unfoldable pub name_after : ℕ → List Hash32 → List ℕ → Read Hash32
 name_after total before bytes =
-    read_if OutOfOrder (λ name. last_passes (λ last. is_lt (hash_cmp last name)) before) (hash_at Truncated total) total bytes
+    read_if OutOfOrder (λ name. last_passes (λ last. is_lt (hash_cmp last name)) before)
+    (hash_at Truncated total) total bytes
 
 unfoldable pub mark_at : ℕ → List ℕ → Read Mark
 mark_at total bytes = do
@@ -105,7 +119,8 @@ marks_at total bytes = do
 -- a key, above that of the account before
 unfoldable pub key_after : ℕ → List KeyedAccount → List ℕ → Read Key
 key_after total before bytes =
-    read_if OutOfOrder (λ key. last_passes (λ last. is_lt (key_cmp last.key key)) before) (key_at Truncated total) total bytes
+    read_if OutOfOrder (λ key. last_passes (λ last. is_lt (key_cmp last.key key)) before)
+    (key_at Truncated total) total bytes
 
 -- lamports, some, and with those before not more than there can be
 unfoldable pub lamports_after : ℕ → List KeyedAccount → List ℕ → Read ℕ
@@ -114,7 +129,9 @@ lamports_after total before bytes =
     (λ rest. read_if Empty (λ n. nat_le 1 n) (number_at Truncated w64 total) total rest) total bytes
 
 unfoldable pub flag_at : ℕ → List ℕ → Read Bool
-flag_at total bytes = read_as (λ n. n == 1) (λ rest. read_if BadField (λ n. nat_le n 1) (byte_at Truncated total) total rest) bytes
+flag_at total bytes =
+    read_as (λ n. n == 1)
+    (λ rest. read_if BadField (λ n. nat_le n 1) (byte_at Truncated total) total rest) bytes
 
 -- the data of an account, one field after its length
 unfoldable pub data_at : ℕ → List ℕ → Read (List ℕ)
@@ -129,7 +146,18 @@ account_after total before bytes = do
   owner ← key_at Truncated total lamports.1
   executable ← flag_at total owner.1
   bytes ← data_at total executable.1
-  Ok (record { key = key.0; account = record { lamports = lamports.0; owner = owner.0; executable = executable.0; bytes = bytes.0 } }, bytes.1)
+  Ok (
+    record {
+      key = key.0;
+      account = record {
+        lamports = lamports.0;
+        owner = owner.0;
+        executable = executable.0;
+        bytes = bytes.0;
+      };
+    },
+    bytes.1,
+  )
 
 unfoldable pub entries_at : ℕ → List ℕ → Read (List KeyedAccount)
 entries_at total bytes = do
@@ -138,7 +166,8 @@ entries_at total bytes = do
 
 -- the state section
 unfoldable pub state_at : ℕ → List ℕ → Read State
-state_at total bytes = read_as (λ accounts. map.from_entries (entries_of accounts)) (entries_at total) bytes
+state_at total bytes =
+    read_as (λ accounts. map.from_entries (entries_of accounts)) (entries_at total) bytes
 
 unfoldable pub snapshot_at : ℕ → List ℕ → Read Snapshot
 snapshot_at total bytes = do

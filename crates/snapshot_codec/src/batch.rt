@@ -24,7 +24,8 @@ const FIXED_LEN: usize = 52;
 /// The bytes of the length of a transaction.
 const LENGTH_LEN: usize = 2;
 
-/// What a block is to be made of: its slot, who collects the fees, and the transactions as they came.
+/// What a block is to be made of: its slot, who collects the fees, and the transactions as they
+/// came.
 #[derive(Debug, Drop)]
 pub struct Batch {
     pub slot: u64,
@@ -131,8 +132,8 @@ fn read_whole(alloc: Global, bytes: &[u8], before: u64) -> Result<Batch, BatchFa
     Ok(batch)
 }
 
-/// The batch that the bytes are, all of them, for a block after the slot `before` (the project's own
-/// format).
+/// The batch that the bytes are, all of them, for a block after the slot `before` (the project's
+/// own format).
 ///
 /// The refusals come in the order of the fields.
 pub fn read_batch(alloc: Global, bytes: &[u8], before: u64) -> Result<Batch, BatchFault>

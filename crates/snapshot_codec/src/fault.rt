@@ -4,8 +4,8 @@ use sol_base::OutOfMemory;
 use spec_base::Refusal;
 use thiserror::Error;
 
-/// Why bytes begin with no snapshot. A place counts from the first byte of the snapshot, and is that
-/// of the first byte of the field concerned.
+/// Why bytes begin with no snapshot. A place counts from the first byte of the snapshot, and is
+/// that of the first byte of the field concerned.
 #[derive(Clone, Copy, Debug, PartialEq, Eq, Error)]
 pub enum SnapshotFault {
     #[error("the first eight bytes are those of no version")]
@@ -51,8 +51,8 @@ impl Refusal for SnapshotFault {
     }
 }
 
-/// Why bytes are no batch. A place counts from the first byte of the batch, and is that of the first
-/// byte of the field concerned.
+/// Why bytes are no batch. A place counts from the first byte of the batch, and is that of the
+/// first byte of the field concerned.
 #[derive(Clone, Copy, Debug, PartialEq, Eq, Error)]
 pub enum BatchFault {
     #[error("the first eight bytes are not those of a batch")]

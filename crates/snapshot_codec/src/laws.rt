@@ -1,8 +1,8 @@
 //! Laws over the definitions that the contracts of this crate cite. Their calls do nothing.
 ghost use Rattle.snapshot_codec.specs.Laws.{SnapshotRoundTrip, FirstVersionRead, ReadableWritten, BatchRoundTrip};
 
-/// What `snapshot_bytes` writes is read again, whatever follows it, where the snapshot is within the
-/// limits of its format.
+/// What `snapshot_bytes` writes is read again, whatever follows it, where the snapshot is within
+/// the limits of its format.
 pub fn written_snapshots_are_read()
     ensures { SnapshotRoundTrip }
 {}

@@ -41,8 +41,8 @@ fn read_prefix(alloc: Global, bytes: &[u8]) -> Result<Prefix, SnapshotFault>
     Ok(Prefix { snapshot, length })
 }
 
-/// The snapshot that the bytes begin with, and how many of them it takes (the project's own format).
-/// Other bytes may follow it.
+/// The snapshot that the bytes begin with, and how many of them it takes (the project's own
+/// format). Other bytes may follow it.
 ///
 /// Version 1 is read too: it stands for the first limits. The refusals come in the order of the
 /// fields.

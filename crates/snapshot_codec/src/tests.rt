@@ -47,7 +47,8 @@ const FIRST_LIMITS: [u8; 19] = [
     0x40, 0, 5, 0x00, 0x1b, 0xb7, 0, 0, 0, 0, 0, 0x00, 0x6c, 0xdc, 0x02, 0, 0, 0, 0,
 ];
 
-/// A snapshot of version 2 with a mark of two messages, and two accounts, of which the first has data.
+/// A snapshot of version 2 with a mark of two messages, and two accounts, of which the first has
+/// data.
 fn second_version(alloc: Global) -> Result<Blob, OutOfMemory> {
     let mut out = Blob::new(alloc);
     out.append(b"SOLSNAP2")?;

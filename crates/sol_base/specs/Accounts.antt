@@ -10,7 +10,8 @@ use Rattle.sol_base.specs.Keys.{coded_key}
 
 -- what an absent account stands for (Solana)
 abbrev pub empty_account : Account
-empty_account = record { lamports = 0; owner = record { 0 = replicate 32 0 }; executable = false; bytes = [] }
+empty_account =
+    record { lamports = 0; owner = record { 0 = replicate 32 0 }; executable = false; bytes = [] }
 
 -- the accounts behind shares
 abbrev pub accounts_of : List (Arc Account Global) → List Account
@@ -33,11 +34,15 @@ AreShort accounts = All IsShort accounts
 
 -- an account whose flag is false has the same value before and after
 abbrev pub SameUnlessTouched : List Bool → List Account → List Account → Type 0
-SameUnlessTouched touched before after = (place : ℕ) → slice_get touched place ≡ Some false → slice_get after place ≡ slice_get before place
+SameUnlessTouched touched before after =
+    (place : ℕ) → slice_get touched place ≡ Some false
+    → slice_get after place ≡ slice_get before place
 
 -- accounts as the values of a finite map
 abbrev pub coded_account : Coded Account
-coded_account = code_by (ℕ × (Key × (Bool × List ℕ))) (coded× coded_ℕ (coded× coded_key (coded× coded_bool (coded_list coded_ℕ))))
+coded_account =
+    code_by (ℕ × (Key × (Bool × List ℕ)))
+    (coded× coded_ℕ (coded× coded_key (coded× coded_bool (coded_list coded_ℕ))))
     (λ a. (a.lamports, (a.owner, (a.executable, a.bytes))))
     (λ p. record { lamports = p.0; owner = p.1.0; executable = p.1.1.0; bytes = p.1.1.1 })
     (λ _. refl)

@@ -28,7 +28,8 @@ seed_key_of base seed owner =
 
 -- the hash of the seeds, the program and the text
 abbrev pub signing_key_of : List (List ℕ) → Key → Key
-signing_key_of seeds program = record { 0 = sha256 (flat_map (λ seed. seed) seeds ++ program.0 ++ marker) }
+signing_key_of seeds program =
+    record { 0 = sha256 (flat_map (λ seed. seed) seeds ++ program.0 ++ marker) }
 
 -- a seed is too long
 abbrev pub has_long : List (List ℕ) → Bool

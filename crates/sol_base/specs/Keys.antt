@@ -45,11 +45,14 @@ hash_bytes hash = hash.0
 
 -- a field that is a key, and one that is a hash
 abbrev pub key_at : {E : Type 0} → (ℕ → E) → ℕ → List ℕ → Result (Key × List ℕ) E
-key_at truncated total bytes = read_as (λ field. record { 0 = field }) (field_at truncated total 32) bytes
+key_at truncated total bytes =
+    read_as (λ field. record { 0 = field }) (field_at truncated total 32) bytes
 
 abbrev pub hash_at : {E : Type 0} → (ℕ → E) → ℕ → List ℕ → Result (Hash32 × List ℕ) E
-hash_at truncated total bytes = read_as (λ field. record { 0 = field }) (field_at truncated total 32) bytes
+hash_at truncated total bytes =
+    read_as (λ field. record { 0 = field }) (field_at truncated total 32) bytes
 
 -- keys as the keys of a finite map
 abbrev pub coded_key : Coded Key
-coded_key = code_by (List ℕ) (coded_list coded_ℕ) (λ key. key.0) (λ bytes. record { 0 = bytes }) (λ _. refl)
+coded_key = code_by (List ℕ) (coded_list coded_ℕ) (λ key. key.0) (λ bytes. record { 0 = bytes })
+    (λ _. refl)

@@ -1,4 +1,5 @@
--- The accounts that a frame lists, by their places among the transaction's keys (Solana). An account that is listed several times has the rights of all its metas together.
+-- The accounts that a frame lists, by their places among the transaction's keys (Solana). An
+-- account that is listed several times has the rights of all its metas together.
 use Rattle.std.specs.Prelude.{◌≡◌, ℕ, ◌<◌, ◌==◌, ◌&&◌, Bool, false, not, All, List, filter, take, slice_get}
 use Rattle.std.specs.List.{list_any, enumerate_from}
 use Rattle.sol_base.specs.declared.account.Account.{Account}
@@ -25,10 +26,12 @@ AreInRange count metas = All (λ meta. meta.index < count) metas
 abbrev pub is_first_listing : List Meta → ℕ × Meta → Bool
 is_first_listing metas (at, meta) = not (is_listed (take at metas) meta.index)
 
--- the accounts of a frame, each once, in the order of their first listings: each with the place of that meta in the list
+-- the accounts of a frame, each once, in the order of their first listings: each with the place of
+-- that meta in the list
 abbrev pub first_listings : List Meta → List (ℕ × Meta)
 first_listings metas = filter (is_first_listing metas) (enumerate_from 0 metas)
 
 -- what is not listed has the same value before and after
 abbrev pub SameUnlessListed : List Meta → List Account → List Account → Type 0
-SameUnlessListed metas before after = (place : ℕ) → is_listed metas place ≡ false → slice_get after place ≡ slice_get before place
+SameUnlessListed metas before after =
+    (place : ℕ) → is_listed metas place ≡ false → slice_get after place ≡ slice_get before place

@@ -28,7 +28,8 @@ impl Blob {
         }
     }
 
-    /// No bytes, with room for `capacity` of them. No clause speaks of the room: it saves time alone.
+    /// No bytes, with room for `capacity` of them. No clause speaks of the room: it saves time
+    /// alone.
     pub fn with_capacity(alloc: Global, capacity: usize) -> Result<Blob, OutOfMemory>
         ensures { IfOk result (λ b. b ≡ []) }
     {

@@ -74,7 +74,8 @@ impl<T> Items<T> {
 }
 
 impl<T: Drop> Items<T> {
-    /// No items, with room for `capacity` of them. No clause speaks of the room: it saves time alone.
+    /// No items, with room for `capacity` of them. No clause speaks of the room: it saves time
+    /// alone.
     pub fn with_capacity(alloc: Global, capacity: usize) -> Result<Items<T>, OutOfMemory>
         ensures { IfOk result (λ items. items ≡ []) }
     {

@@ -26,7 +26,12 @@ impl Model for MemSource {
 
     ghost Value = { SourceState };
 
-    ghost view = { λ s. record { rest = drop s.at s.bytes; failing = s.failing; calls = s.calls; faults = s.faults } };
+    ghost view = { λ s. record {
+      rest = drop s.at s.bytes;
+      failing = s.failing;
+      calls = s.calls;
+      faults = s.faults;
+    } };
 
     ghost invariant = { λ s. s.at ≤ length s.bytes };
 }

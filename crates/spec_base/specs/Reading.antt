@@ -38,7 +38,8 @@ ok_if test refusal x = if test then Ok x else Err refusal
 -- a field of so many bytes, refused at its own place where it does not fit in the bytes left
 unfoldable pub field_at : {E : Type 0} → (ℕ → E) → ℕ → ℕ → List ℕ → Result (List ℕ × List ℕ) E
 field_at truncated total count bytes =
-    if nat_lt (length bytes) count then Err (truncated (place total bytes)) else Ok (take count bytes, drop count bytes)
+    if nat_lt (length bytes) count then Err (truncated (place total bytes))
+    else Ok (take count bytes, drop count bytes)
 
 -- a field of one byte
 unfoldable pub byte_at : {E : Type 0} → (ℕ → E) → ℕ → List ℕ → Result (ℕ × List ℕ) E
@@ -53,26 +54,30 @@ number_at truncated width total bytes = do
   Ok (from_le_bytes width field.0, field.1)
 
 -- what one reads, refused at its own place where its value fails the test
-unfoldable pub read_if : {X E : Type 0} → (ℕ → E) → (X → Bool) → (List ℕ → Result (X × List ℕ) E) → ℕ → List ℕ → Result (X × List ℕ) E
+unfoldable pub read_if : {X E : Type 0} → (ℕ → E) → (X → Bool) → (List ℕ → Result (X × List ℕ) E)
+    → ℕ → List ℕ → Result (X × List ℕ) E
 read_if refusal test one total bytes = do
   read ← one bytes
   ok_if (test read.0) (refusal (place total bytes)) read
 
 -- what one reads, as a value of another shape
-unfoldable pub read_as : {X Y E : Type 0} → (X → Y) → (List ℕ → Result (X × List ℕ) E) → List ℕ → Result (Y × List ℕ) E
+unfoldable pub read_as : {X Y E : Type 0} → (X → Y) → (List ℕ → Result (X × List ℕ) E) → List ℕ
+    → Result (Y × List ℕ) E
 read_as shape one bytes = do
   read ← one bytes
   Ok (shape read.0, read.1)
 
 -- so many items, one after the other, each read with those before it known
-unfoldable pub many_after : {X E : Type 0} → (List X → List ℕ → Result (X × List ℕ) E) → List X → ℕ → List ℕ → Result (List X × List ℕ) E
+unfoldable pub many_after : {X E : Type 0} → (List X → List ℕ → Result (X × List ℕ) E) → List X → ℕ
+    → List ℕ → Result (List X × List ℕ) E
 many_after one before zero bytes = Ok (before, bytes)
 many_after one before (suc count) bytes = do
   item ← one before bytes
   many_after one (before ++ item.0 ∷ []) count item.1
 
 -- so many items, each read by itself
-abbrev pub many : {X E : Type 0} → (List ℕ → Result (X × List ℕ) E) → ℕ → List ℕ → Result (List X × List ℕ) E
+abbrev pub many : {X E : Type 0} → (List ℕ → Result (X × List ℕ) E) → ℕ → List ℕ
+    → Result (List X × List ℕ) E
 many one count bytes = many_after (λ _ rest. one rest) [] count bytes
 
 -- each item is as asked of it and of the items before it

@@ -62,7 +62,8 @@ pub fn byte_field<E: Refusal>(total: usize, bytes: &[u8]) -> Result<(u8, &[u8]),
 /// A field that is a u16.
 #[tactic(auto, unfolding(crate::specs::Reading::number_at))]
 pub fn u16_field<E: Refusal>(total: usize, bytes: &[u8]) -> Result<(u16, &[u8]), E>
-    ensures { Gives E.is_memory (λ x. (x.0, x.1.now)) result (number_at E.cut_at w16 total bytes.now) }
+    ensures { Gives E.is_memory (λ x. (x.0, x.1.now)) result
+        (number_at E.cut_at w16 total bytes.now) }
 {
     let (field, rest) = array_field::<E, 2>(total, bytes)?;
     Ok((u16::from_le_bytes(field), rest))
@@ -71,7 +72,8 @@ pub fn u16_field<E: Refusal>(total: usize, bytes: &[u8]) -> Result<(u16, &[u8]),
 /// A field that is a u32.
 #[tactic(auto, unfolding(crate::specs::Reading::number_at))]
 pub fn u32_field<E: Refusal>(total: usize, bytes: &[u8]) -> Result<(u32, &[u8]), E>
-    ensures { Gives E.is_memory (λ x. (x.0, x.1.now)) result (number_at E.cut_at w32 total bytes.now) }
+    ensures { Gives E.is_memory (λ x. (x.0, x.1.now)) result
+        (number_at E.cut_at w32 total bytes.now) }
 {
     let (field, rest) = array_field::<E, 4>(total, bytes)?;
     Ok((u32::from_le_bytes(field), rest))
@@ -80,7 +82,8 @@ pub fn u32_field<E: Refusal>(total: usize, bytes: &[u8]) -> Result<(u32, &[u8]),
 /// A field that is a u64.
 #[tactic(auto, unfolding(crate::specs::Reading::number_at))]
 pub fn u64_field<E: Refusal>(total: usize, bytes: &[u8]) -> Result<(u64, &[u8]), E>
-    ensures { Gives E.is_memory (λ x. (x.0, x.1.now)) result (number_at E.cut_at w64 total bytes.now) }
+    ensures { Gives E.is_memory (λ x. (x.0, x.1.now)) result
+        (number_at E.cut_at w64 total bytes.now) }
 {
     let (field, rest) = array_field::<E, 8>(total, bytes)?;
     Ok((u64::from_le_bytes(field), rest))

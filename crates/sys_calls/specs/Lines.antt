@@ -26,7 +26,9 @@ number_text number = codes "0x" ++ digits 16 false number
 
 -- the line of numbers, of which there is at least one
 abbrev pub log_64_line : ℕ → List ℕ → List ℕ
-log_64_line first others = (program_log ++ number_text first) ++ flat_map (λ number. codes ", " ++ number_text number) others
+log_64_line first others =
+    (program_log ++ number_text first)
+    ++ flat_map (λ number. codes ", " ++ number_text number) others
 
 -- the line of a key
 unfoldable pub log_key_line : Ranges → ℕ → Result (List ℕ) SysFault

@@ -12,7 +12,8 @@ use Rattle.sys_calls.specs.Access.{bytes_read}
 
 -- the slice that stands at an index, 16 bytes each
 abbrev pub slice_at : List ℕ → ℕ → Slice
-slice_at bytes index = record { addr = number_from bytes (16 * index); len = number_from bytes (16 * index + 8) }
+slice_at bytes index =
+    record { addr = number_from bytes (16 * index); len = number_from bytes (16 * index + 8) }
 
 -- the slices of a list of count, which is read whole
 unfoldable pub slices_read : Ranges → ℕ → ℕ → Result (List Slice) SysFault

@@ -35,7 +35,14 @@ pub record SysAnswer : Type 0 where
 
 -- a memory and surroundings as a call leaves them
 abbrev pub service : ℕ → Ranges → Env → Service
-service r0 m env = record { r0 = r0; memory = m; log = env.logs; returned = env.returned; keeper = env.returned_by }
+service r0 m env =
+    record {
+      r0 = r0;
+      memory = m;
+      log = env.logs;
+      returned = env.returned;
+      keeper = env.returned_by;
+    }
 
 abbrev pub logged : Ranges → Env → Result (List ℕ) SysFault → Result Service SysFault
 logged m env line = do
@@ -89,7 +96,8 @@ key_written m program result slices =
       bytes ← bytes_read m program 32
       key_or_one m result (program_key_of seeds (record { 0 = bytes }))
 
--- The key of the seeds and the program is written. Where a seed is too long, r0 is 1, and nothing more is read or written.
+-- The key of the seeds and the program is written. Where a seed is too long, r0 is 1, and nothing
+-- more is read or written.
 unfoldable pub key_derived : Ranges → ℕ → ℕ → ℕ → ℕ → Result (ℕ × Ranges) SysFault
 key_derived m seeds count program result =
     if nat_lt 16 count then Err TooManySeeds else
@@ -116,7 +124,8 @@ slices_hashed m env result (Err fault) = at_cost env (Err fault)
 
 unfoldable pub hashed : Ranges → Env → ℕ → ℕ → ℕ → SysAnswer
 hashed m env slices count result =
-    if nat_lt 20000 count then at_cost env (Err TooManySlices) else slices_hashed m env result (slices_read m slices count)
+    if nat_lt 20000 count then at_cost env (Err TooManySlices)
+    else slices_hashed m env result (slices_read m slices count)
 
 unfoldable pub return_set : Ranges → Env → ℕ → ℕ → Result Service SysFault
 return_set m env addr len =
@@ -130,7 +139,8 @@ both_written m to first other second = do
   after ← bytes_written m to first
   bytes_written after other second
 
--- r0 is the kept length; where it is not 0, the first bytes that are kept and the keeper are written
+-- r0 is the kept length; where it is not 0, the first bytes that are kept and the keeper are
+-- written
 unfoldable pub return_got : Ranges → List ℕ → Key → ℕ → ℕ → ℕ → Result (ℕ × Ranges) SysFault
 return_got m returned keeper to len program =
     if length returned == 0 then Ok (0, m) else
@@ -142,7 +152,8 @@ return_got m returned keeper to len program =
 abbrev pub effect_of : SystemCall → List ℕ → Ranges → Env → SysAnswer
 effect_of Call.Abort r m env = at_cost env (Err Abort)
 effect_of Call.Log r m env = at_cost env (logged m env (log_line m (r1 r) (r2 r)))
-effect_of Call.Log64 r m env = at_cost env (logged m env (Ok (log_64_line (r1 r) (r2 r ∷ r3 r ∷ r4 r ∷ r5 r ∷ []))))
+effect_of Call.Log64 r m env =
+    at_cost env (logged m env (Ok (log_64_line (r1 r) (r2 r ∷ r3 r ∷ r4 r ∷ r5 r ∷ []))))
 effect_of Call.LogKey r m env = at_cost env (logged m env (log_key_line m (r1 r)))
 effect_of Call.LogUnits r m env = at_cost env (logged m env (Ok (log_units_line env.units)))
 effect_of Call.Sha256 r m env = hashed m env (r1 r) (r2 r) (r3 r)
@@ -150,37 +161,45 @@ effect_of Call.Memcpy r m env = at_cost env (wrote env (bytes_copied m (r1 r) (r
 effect_of Call.Memmove r m env = at_cost env (wrote env (bytes_copied m (r1 r) (r2 r) (r3 r) false))
 effect_of Call.Memcmp r m env = at_cost env (wrote env (compared m (r1 r) (r2 r) (r3 r) (r4 r)))
 effect_of Call.Memset r m env = at_cost env (wrote env (filled m (r1 r) (r2 r) (r3 r)))
-effect_of Call.ProgramKey r m env = at_cost env (answered env (key_derived m (r1 r) (r2 r) (r3 r) (r4 r)))
-effect_of Call.GetSlot r m env = at_cost env (wrote env (bytes_written m (r1 r) (to_le_bytes w64 env.slot)))
-effect_of Call.GetRent r m env = at_cost env (wrote env (bytes_written m (r1 r) (to_le_bytes w64 3480 ++ to_le_bytes w64 2)))
+effect_of Call.ProgramKey r m env =
+    at_cost env (answered env (key_derived m (r1 r) (r2 r) (r3 r) (r4 r)))
+effect_of Call.GetSlot r m env =
+    at_cost env (wrote env (bytes_written m (r1 r) (to_le_bytes w64 env.slot)))
+effect_of Call.GetRent r m env =
+    at_cost env (wrote env (bytes_written m (r1 r) (to_le_bytes w64 3480 ++ to_le_bytes w64 2)))
 effect_of Call.SetReturn r m env = at_cost env (return_set m env (r1 r) (r2 r))
-effect_of Call.GetReturn r m env = at_cost env (answered env (return_got m env.returned env.returned_by (r1 r) (r2 r) (r3 r)))
+effect_of Call.GetReturn r m env =
+    at_cost env (answered env (return_got m env.returned env.returned_by (r1 r) (r2 r) (r3 r)))
 effect_of Call.GetHeight r m env = at_cost env (Ok (service env.height m env))
 
 -- the cost is taken first; where fewer units are left, they become 0
 abbrev pub after_cost : ℕ → Env → (Env → SysAnswer) → SysAnswer
 after_cost cost env effect =
-    if nat_lt env.units cost then record { units = 0; answer = Err UnitsSpent } else effect (record env { units = env.units - cost })
+    if nat_lt env.units cost then record { units = 0; answer = Err UnitsSpent }
+    else effect (record env { units = env.units - cost })
 
 -- The row of a call that is served: the units then left, and what it gives or the first refusal.
 unfoldable pub sys_row : ℕ → List ℕ → Ranges → Env → SysAnswer
 sys_row number arguments m env =
     let call = call_numbered number in
-    after_cost (cost_of call arguments (length env.returned)) env (λ left. effect_of call arguments m left)
+    after_cost (cost_of call arguments (length env.returned)) env
+    (λ left. effect_of call arguments m left)
 
 -- the units that are left, but after want of memory
 abbrev pub HasUnits : ℕ → ℕ → Result ℕ SysFault → Type 0
 HasUnits wanted units (Ok r0) = wanted ≡ units
 HasUnits wanted units (Err fault) = is_memory fault ≡ false → wanted ≡ units
 
--- What a call says of the row: after Ok the rest of the surroundings stays, after a refusal all but the units, and after want of memory too.
+-- What a call says of the row: after Ok the rest of the surroundings stays, after a refusal all but
+-- the units, and after want of memory too.
 abbrev pub Serves : SysAnswer → Ranges → Ranges → Env → Env → Result ℕ SysFault → Type 0
 Serves row old new env env' (Ok r0) =
     (row.answer ≡ Ok (service r0 (plain_memory new) env')) × (row.units ≡ env'.units)
 Serves row old new env env' (Err no_memory) =
     (plain_memory new ≡ plain_memory old) × (env' ≡ record env { units = env'.units })
 Serves row old new env env' (Err fault) =
-    (row.answer ≡ Err fault) × (env' ≡ record env { units = row.units }) × (plain_memory new ≡ plain_memory old)
+    (row.answer ≡ Err fault) × (env' ≡ record env { units = row.units })
+    × (plain_memory new ≡ plain_memory old)
 
 -- what no call changes
 pub record KeepsBlock (env env' : Env) : Type 0 where
@@ -192,14 +211,16 @@ pub record KeepsBlock (env env' : Env) : Type 0 where
 pub record KeepsSizes (old new : Ranges) : Type 0 where
   pub input : length new.input.bytes ≡ length old.input.bytes
 
--- What the function of a call answers once its cost is taken: what the row gives, or memory ran out.
+-- What the function of a call answers once its cost is taken: what the row gives, or memory ran
+-- out.
 abbrev pub Does : SysAnswer → Ranges → Ranges → Env → Env → Result ℕ SysFault → Type 0
 Does row old new env env' result =
     Gives is_memory (λ r0. service r0 (plain_memory new) env') result row.answer
     × HasUnits row.units env'.units result
     × KeepsBlock env env'
     × (env'.units ≤ env.units)
-    × OnErr result ((plain_memory new ≡ plain_memory old) × (env' ≡ record env { units = env'.units }))
+    × OnErr result ((plain_memory new ≡ plain_memory old)
+    × (env' ≡ record env { units = env'.units }))
 
 -- a served call leaves a memory with as many bytes in each range
 pub record IsServedMemory (old new : Ranges) : Type 0 where

@@ -1,4 +1,5 @@
--- The instructions of the system program as bytes (Solana): a tag, fields, and bytes that are ignored.
+-- The instructions of the system program as bytes (Solana): a tag, fields, and bytes that are
+-- ignored.
 use Rattle.std.specs.Prelude.{ℕ, ◌==◌, List, length, Result, Ok, Err, if◌then◌else◌}
 use Rattle.std.specs.Int.{w32, w64}
 use Rattle.std.specs.Str.{is_utf8}

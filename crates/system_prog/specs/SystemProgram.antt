@@ -1,4 +1,5 @@
--- What an instruction of the system program does to the accounts of a transaction (Solana; the causes of a failed derivation are the project's own).
+-- What an instruction of the system program does to the accounts of a transaction (Solana; the
+-- causes of a failed derivation are the project's own).
 use Rattle.std.specs.Prelude.{◌≡◌, ℕ, ◌+◌, ◌-◌, ◌==◌, ◌&&◌, ◌||◌, not, Bool, false, List, length, replicate, nat_lt, slice_index_or, slice_set, Result, Ok, Err, if◌then◌else◌}
 use Rattle.std.specs.List.{list_any}
 use Rattle.std.specs.declared.sync.Arc.{Arc}
@@ -28,7 +29,8 @@ abbrev pub system_key : Key
 system_key = record { 0 = replicate 32 0 }
 
 -- ---- the accounts in their roles
--- what an instruction is given beside the accounts: their keys, and those that it lists. A role is a place in that list.
+-- what an instruction is given beside the accounts: their keys, and those that it lists. A role is
+-- a place in that list.
 pub record Listed : Type 0 where
   pub keys : List Key
   pub metas : List Meta
@@ -57,10 +59,12 @@ is_signature keys key meta = meta.signer && same_key (key_at keys meta.index) ke
 abbrev pub is_signed_by : Listed → Key → Bool
 is_signed_by listed key = list_any (is_signature listed.keys key) listed.metas
 
--- An account signs for itself where one of its metas signs; for an account that is derived from a base, the base signs in its place.
+-- An account signs for itself where one of its metas signs; for an account that is derived from a
+-- base, the base signs in its place.
 abbrev pub signs : Listed → Authority → ℕ → Bool
 signs listed Itself place = is_listed_signer listed.metas place
-signs listed (Base derived key) place = if place == derived then is_signed_by listed key else is_listed_signer listed.metas place
+signs listed (Base derived key) place =
+    if place == derived then is_signed_by listed key else is_listed_signer listed.metas place
 
 abbrev pub signs_in : Listed → Authority → ℕ → Bool
 signs_in listed authority role = signs listed authority (place_in listed role)
@@ -94,7 +98,8 @@ unfoldable pub derived : Listed → ℕ → Key → List ℕ → Key → Result 
 derived listed role base seed owner = ok_derived (seed_key_of base seed owner) (key_in listed role)
 
 -- an account that no one has taken gets so many zero bytes
-unfoldable pub allocate : Listed → Authority → ℕ → ℕ → List Account → Result (List Account) SystemFault
+unfoldable pub allocate : Listed → Authority → ℕ → ℕ → List Account
+    → Result (List Account) SystemFault
 allocate listed authority role space accounts =
     let account = account_in listed accounts role in
     if not (signs_in listed authority role) then Err (MissingSignature role) else
@@ -103,7 +108,8 @@ allocate listed authority role space accounts =
     Ok (with_account listed accounts role (record account { bytes = replicate space 0 }))
 
 -- an account gets an owner, which only one that is new to it has to sign
-unfoldable pub assign : Listed → Authority → ℕ → Key → List Account → Result (List Account) SystemFault
+unfoldable pub assign : Listed → Authority → ℕ → Key → List Account
+    → Result (List Account) SystemFault
 assign listed authority role owner accounts =
     let account = account_in listed accounts role in
     if same_key account.owner owner then Ok accounts else
@@ -116,7 +122,9 @@ moved listed from to lamports accounts =
     let payer = account_in listed accounts from in
     let payee = account_in listed accounts to in
     if place_in listed from == place_in listed to then accounts else
-    with_account listed (with_account listed accounts from (record payer { lamports = payer.lamports - lamports })) to (record payee { lamports = payee.lamports + lamports })
+    with_account listed
+    (with_account listed accounts from (record payer { lamports = payer.lamports - lamports }))
+    to (record payee { lamports = payee.lamports + lamports })
 
 -- a payment, whoever signs
 unfoldable pub pay : Listed → ℕ → ℕ → ℕ → List Account → Result (List Account) SystemFault
@@ -127,13 +135,15 @@ pay listed from to lamports accounts =
     Ok (moved listed from to lamports accounts)
 
 -- a payment that the payer signs
-unfoldable pub transfer : Listed → Authority → ℕ → ℕ → ℕ → List Account → Result (List Account) SystemFault
+unfoldable pub transfer : Listed → Authority → ℕ → ℕ → ℕ → List Account
+    → Result (List Account) SystemFault
 transfer listed authority from to lamports accounts =
     if not (signs_in listed authority from) then Err (MissingSignature from) else
     pay listed from to lamports accounts
 
 -- an account without lamports gets room, an owner and lamports
-unfoldable pub create : Listed → Authority → ℕ → ℕ → Key → List Account → Result (List Account) SystemFault
+unfoldable pub create : Listed → Authority → ℕ → ℕ → Key → List Account
+    → Result (List Account) SystemFault
 create listed authority lamports space owner accounts =
     if not ((account_in listed accounts 1).lamports == 0) then Err (Custom 0) else do
       allocated ← allocate listed authority 1 space accounts
@@ -153,24 +163,28 @@ least_accounts (AssignWithSeed _ _ _) = 1
 least_accounts (TransferWithSeed _ _ _) = 3
 
 -- what an instruction with a seed does: the derivation, and then the steps by the base's signature
-unfoldable pub create_with_seed : Listed → Key → List ℕ → ℕ → ℕ → Key → List Account → Result (List Account) SystemFault
+unfoldable pub create_with_seed : Listed → Key → List ℕ → ℕ → ℕ → Key → List Account
+    → Result (List Account) SystemFault
 create_with_seed listed base seed lamports space owner accounts = do
   _ ← derived listed 1 base seed owner
   create listed (by_base listed 1 base) lamports space owner accounts
 
-unfoldable pub allocate_with_seed : Listed → Key → List ℕ → ℕ → Key → List Account → Result (List Account) SystemFault
+unfoldable pub allocate_with_seed : Listed → Key → List ℕ → ℕ → Key → List Account
+    → Result (List Account) SystemFault
 allocate_with_seed listed base seed space owner accounts = do
   _ ← derived listed 0 base seed owner
   allocated ← allocate listed (by_base listed 0 base) 0 space accounts
   assign listed (by_base listed 0 base) 0 owner allocated
 
-unfoldable pub assign_with_seed : Listed → Key → List ℕ → Key → List Account → Result (List Account) SystemFault
+unfoldable pub assign_with_seed : Listed → Key → List ℕ → Key → List Account
+    → Result (List Account) SystemFault
 assign_with_seed listed base seed owner accounts = do
   _ ← derived listed 0 base seed owner
   assign listed (by_base listed 0 base) 0 owner accounts
 
 -- the base is listed, and signs for itself
-unfoldable pub transfer_with_seed : Listed → ℕ → List ℕ → Key → List Account → Result (List Account) SystemFault
+unfoldable pub transfer_with_seed : Listed → ℕ → List ℕ → Key → List Account
+    → Result (List Account) SystemFault
 transfer_with_seed listed lamports seed owner accounts =
     if not (signs_in listed Itself 1) then Err (MissingSignature 1) else do
       _ ← derived listed 0 (key_in listed 1) seed owner
@@ -178,14 +192,19 @@ transfer_with_seed listed lamports seed owner accounts =
 
 -- what each instruction does, where enough accounts are listed
 unfoldable pub row : Listed → Instruction → List Account → Result (List Account) SystemFault
-row listed (CreateAccount lamports space owner) accounts = create listed Itself lamports space owner accounts
+row listed (CreateAccount lamports space owner) accounts =
+    create listed Itself lamports space owner accounts
 row listed (Assign owner) accounts = assign listed Itself 0 owner accounts
 row listed (Transfer lamports) accounts = transfer listed Itself 0 1 lamports accounts
-row listed (CreateAccountWithSeed base seed lamports space owner) accounts = create_with_seed listed base seed lamports space owner accounts
+row listed (CreateAccountWithSeed base seed lamports space owner) accounts =
+    create_with_seed listed base seed lamports space owner accounts
 row listed (Allocate space) accounts = allocate listed Itself 0 space accounts
-row listed (AllocateWithSeed base seed space owner) accounts = allocate_with_seed listed base seed space owner accounts
-row listed (AssignWithSeed base seed owner) accounts = assign_with_seed listed base seed owner accounts
-row listed (TransferWithSeed lamports seed owner) accounts = transfer_with_seed listed lamports seed owner accounts
+row listed (AllocateWithSeed base seed space owner) accounts =
+    allocate_with_seed listed base seed space owner accounts
+row listed (AssignWithSeed base seed owner) accounts =
+    assign_with_seed listed base seed owner accounts
+row listed (TransferWithSeed lamports seed owner) accounts =
+    transfer_with_seed listed lamports seed owner accounts
 
 unfoldable pub counted_row : Listed → Instruction → List Account → Result (List Account) SystemFault
 counted_row listed instruction accounts =
@@ -201,7 +220,8 @@ unfoldable pub rules_kept : List Meta → List Account → List Account → Resu
 rules_kept metas before after = as_rule (listed_rules system_key metas before after)
 
 -- the accounts after an instruction, or the first refusal
-unfoldable pub system_row : List Key → List Account → List Meta → List ℕ → Result (List Account) SystemFault
+unfoldable pub system_row : List Key → List Account → List Meta → List ℕ
+    → Result (List Account) SystemFault
 system_row keys accounts metas input = do
   instruction ← instruction_in input
   after ← counted_row (record { keys = keys; metas = metas }) instruction accounts
@@ -209,7 +229,8 @@ system_row keys accounts metas input = do
   Ok after
 
 -- what a call answers, by what is wanted
-abbrev pub AnswersSystem : Result (List Account) SystemFault → Result (List (Arc Account Global)) SystemFault → Type 0
+abbrev pub AnswersSystem : Result (List Account) SystemFault
+    → Result (List (Arc Account Global)) SystemFault → Type 0
 AnswersSystem wanted (Ok accounts) = wanted ≡ Ok (accounts_of accounts)
 AnswersSystem wanted (Err no_memory) = Unit {0}
 AnswersSystem wanted (Err fault) = wanted ≡ Err fault

@@ -17,4 +17,6 @@ written (TransferWithSeed _ _ _) = (0, 2)
 
 -- of so many accounts, whether each stands in one of two roles
 abbrev pub flags_of : Listed → ℕ × ℕ → ℕ → List Bool
-flags_of listed roles count = slice_set (slice_set (replicate count false) (place_in listed roles.0) true) (place_in listed roles.1) true
+flags_of listed roles count =
+    slice_set (slice_set (replicate count false) (place_in listed roles.0) true)
+    (place_in listed roles.1) true

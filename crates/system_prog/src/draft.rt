@@ -110,9 +110,11 @@ impl Draft {
     /// Gives one field of an account a new value.
     pub(crate) fn change(&mut self, place: usize, change: Change) -> Result<(), OutOfMemory>
         requires { place < length self.old }
-        ensures ok { OnOk result (self.new ≡ slice_set self.old place (changed change (account_at self.old place))) }
+        ensures ok { OnOk result (self.new
+            ≡ slice_set self.old place (changed change (account_at self.old place))) }
         ensures count { length self.new ≡ length self.old }
-        ensures lamports { OnOk result (lamports_in self.new + (account_at self.old place).lamports ≡
+        ensures lamports { OnOk result (lamports_in self.new + (account_at self.old place).lamports
+            ≡
             lamports_in self.old + (changed change (account_at self.old place)).lamports) }
     {
         self.held[place].change(change)?;

@@ -18,8 +18,8 @@ use std::sync::Arc;
 
 /// Runs one instruction of the system program (Solana) over all accounts of a transaction, of which
 /// `metas` lists those of the instruction. The answer shares the accounts that are not changed. The
-/// `i` of a `MissingSignature` is the place in the list at which the account was asked to sign, that
-/// of a broken rule the place of the account's first meta.
+/// `i` of a `MissingSignature` is the place in the list at which the account was asked to sign,
+/// that of a broken rule the place of the account's first meta.
 pub fn run_system(
     alloc: Global,
     keys: &[Key],
@@ -112,7 +112,8 @@ fn touched_by(
 ) -> Result<Vec<bool>, OutOfMemory>
     requires count { count ≡ length frame.now.keys }
     requires roles { least_accounts instruction.now ≤ length frame.now.metas }
-    ensures { IfOk result (λ flags. flags.items ≡ flags_of frame.now (written instruction.now) count) }
+    ensures { IfOk result
+        (λ flags. flags.items ≡ flags_of frame.now (written instruction.now) count) }
 {
     let (first, second) = instruction.written();
     let mut touched = vec![in alloc; false; count]?;

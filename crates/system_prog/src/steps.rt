@@ -39,7 +39,8 @@ impl Frame<'_> {
         owner: &Key,
     ) -> Result<(), SystemFault>
         requires { role < length self.now.metas }
-        ensures { Gives is_memory (λ _. tt) result (derived self.now role base.now seed.now owner.now) }
+        ensures { Gives is_memory (λ _. tt) result
+            (derived self.now role base.now seed.now owner.now) }
     {
         match seed_key(base, seed, owner) {
             Ok(key) if key == self.key(role) => Ok(()),

@@ -57,7 +57,8 @@ const OWNER: &str = "33333333333333333333333333333333";
 const ILLEGAL: &str = "33333333333ProgramDerivedAddress";
 
 fn account(alloc: Global, lamports: u32, text: &str) -> Result<Arc<Account>, OutOfMemory>
-    ensures { IfOk result (λ share. let value : AccountValue = arc_value share in value.lamports ≡ lamports) }
+    ensures { IfOk result (λ share. let value : AccountValue = arc_value share in
+        value.lamports ≡ lamports) }
 {
     let account = Account {
         lamports: u64::from(lamports),

@@ -14,7 +14,8 @@ use Rattle.invoke_engine.specs.declared.call.Call.{Call}
 use Rattle.invoke_engine.specs.Frame.{Fixed, Ending, instruction}
 pub use Rattle.tx_exec.specs.declared.failure.Failure.{Failure}
 
--- what is fixed for all transactions of a block: what is found under the key of a program, the slot, and the greatest stack height
+-- what is fixed for all transactions of a block: what is found under the key of a program, the
+-- slot, and the greatest stack height
 pub record InBlock : Type 0 where
   pub programs : Key → Sought
   pub slot : ℕ
@@ -38,7 +39,8 @@ writes t place = is_writable_at t.tx.message t.loaded place
 
 -- the rights that the message gives the accounts of an instruction
 abbrev pub meta_of : Chosen → ℕ → Meta
-meta_of t place = record { index = place; signer = is_signer_at t.tx.message place; writable = writes t place }
+meta_of t place =
+    record { index = place; signer = is_signer_at t.tx.message place; writable = writes t place }
 
 abbrev pub call_of : Chosen → Instruction → Call
 call_of t i = record { program = i.program; metas = map (meta_of t) i.accounts; input = i.input }
@@ -50,16 +52,24 @@ pub record Executed : Type 0 where
   pub result : Result (List Account) Failure
 
 -- what follows the instruction at a place: nothing where it failed
-abbrev pub following : ℕ → (List Account → ℕ → ℕ → Log → Executed) → Result (List Account) InstructionError → Ending → Executed
+abbrev pub following : ℕ → (List Account → ℕ → ℕ → Log → Executed)
+    → Result (List Account) InstructionError → Ending → Executed
 following index on (Ok accounts) e = on accounts e.units e.carried.trace e.carried.log
 following index on (Err error) e =
-    record { units = e.units; log = e.carried.log; result = Err (record { index = index; cause = error.cause; detail = error.detail }) }
+    record {
+      units = e.units;
+      log = e.carried.log;
+      result = Err (record { index = index; cause = error.cause; detail = error.detail });
+    }
 
 -- the instructions from a place on, each on the values and with the units that the one before left
-unfoldable pub executed : Fixed → Chosen → ℕ → List Instruction → List Account → ℕ → ℕ → Log → Executed
-executed s t index [] accounts units trace log = record { units = units; log = log; result = Ok accounts }
+unfoldable pub executed : Fixed → Chosen → ℕ → List Instruction → List Account → ℕ → ℕ → Log
+    → Executed
+executed s t index [] accounts units trace log =
+    record { units = units; log = log; result = Ok accounts }
 executed s t index (i ∷ is) accounts units trace log =
-    let e : Ending = instruction s (call_of t i) accounts units trace log in following index (executed s t (index + 1) is) e.result e
+    let e : Ending = instruction s (call_of t i) accounts units trace log in
+    following index (executed s t (index + 1) is) e.result e
 
 -- all of them, with the units of the budget
 abbrev pub performed : Fixed → Chosen → List Account → Executed

@@ -1,4 +1,5 @@
--- The fee payer, which is the first of a transaction's accounts (Solana): why a transaction is dropped, and what its fee leaves.
+-- The fee payer, which is the first of a transaction's accounts (Solana): why a transaction is
+-- dropped, and what its fee leaves.
 use Rattle.std.specs.Prelude.{ℕ, ◌+◌, ◌-◌, ◌==◌, ◌&&◌, not, Bool, nat_lt, List, [], ◌∷◌, length, Option, Some, None, if◌then◌else◌}
 use Rattle.sol_base.specs.declared.key.TheConstants.{SYSTEM_PROGRAM}
 use Rattle.sol_base.specs.declared.account.Account.{Account}
@@ -17,7 +18,8 @@ less account lamports = record account { lamports = account.lamports - lamports 
 
 -- an account of the system program, no program itself and without data
 abbrev pub is_wallet : Account → Bool
-is_wallet account = same_key account.owner SYSTEM_PROGRAM && not account.executable && (length account.bytes == 0)
+is_wallet account = same_key account.owner SYSTEM_PROGRAM && not account.executable
+    && (length account.bytes == 0)
 
 -- the rent does not allow what the fee leaves
 abbrev pub breaks_rent : Account → Account → Bool

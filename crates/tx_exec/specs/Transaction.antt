@@ -1,4 +1,5 @@
--- One transaction (Solana): a function of what is fixed for the block, and of the values of its keys.
+-- One transaction (Solana): a function of what is fixed for the block, and of the values of its
+-- keys.
 use Rattle.std.specs.Prelude.{ℕ, ◌-◌, ◌&&◌, Bool, List, [], length, map, sum_by, nat_lt, position, Option, Some, None, Result, Ok, Err, if◌then◌else◌}
 use Rattle.std.specs.List.{zip}
 use Rattle.sol_base.specs.declared.account.Account.{Account}
@@ -39,7 +40,13 @@ pub record Transacted : Type 0 where
 
 abbrev pub came_to : Status → ℕ → Charge → List (List ℕ) → List Account → Transacted
 came_to status units paid lines values = record {
-  outcome = record { status = status; units = units; base_paid = paid.base; priority_paid = paid.priority; lines = lines };
+  outcome = record {
+    status = status;
+    units = units;
+    base_paid = paid.base;
+    priority_paid = paid.priority;
+    lines = lines;
+  };
   values = values;
 }
 
@@ -51,12 +58,16 @@ abbrev pub failing : Chosen → List Account → Failure → ℕ → List (List 
 failing t base f units lines = came_to (Failed f.index f.cause f.detail) units t.fee lines base
 
 -- it ended well, unless the rent of a key is broken
-abbrev pub finishing : Chosen → List Account → ℕ → List (List ℕ) → List Account → Option ℕ → Transacted
+abbrev pub finishing : Chosen → List Account → ℕ → List (List ℕ) → List Account → Option ℕ
+    → Transacted
 finishing t base units lines after None = came_to Good units t.fee lines after
-finishing t base units lines after (Some place) = failing t base (record { index = of_all; cause = RentState; detail = place }) units lines
+finishing t base units lines after (Some place) =
+    failing t base (record { index = of_all; cause = RentState; detail = place }) units lines
 
-abbrev pub finished : Chosen → List Account → ℕ → List (List ℕ) → Result (List Account) Failure → Transacted
-finished t base units lines (Ok after) = finishing t base units lines after (rent_broken (locks t) base after)
+abbrev pub finished : Chosen → List Account → ℕ → List (List ℕ) → Result (List Account) Failure
+    → Transacted
+finished t base units lines (Ok after) =
+    finishing t base units lines after (rent_broken (locks t) base after)
 finished t base units lines (Err f) = failing t base f units lines
 
 -- what its instructions came to

@@ -13,11 +13,15 @@ use Rattle.tx_exec.specs.Transaction.{Transacted, written}
 -- before; and none is too long.
 pub record Keeps (t : Chosen) (values : List Account) (x : Transacted) : Type 0 where
   pub count : length x.values ≡ length values
-  pub lamports : lamports_in x.values + x.outcome.base_paid + x.outcome.priority_paid ≡ lamports_in values
-  pub read : (place : ℕ) → writes t place ≡ false → slice_get x.values place ≡ slice_get values place
-  pub programs : (place : ℕ) (account : Account) → slice_get values place ≡ Some account → account.executable ≡ true →
+  pub lamports : lamports_in x.values + x.outcome.base_paid + x.outcome.priority_paid
+      ≡ lamports_in values
+  pub read : (place : ℕ) → writes t place ≡ false
+      → slice_get x.values place ≡ slice_get values place
+  pub programs : (place : ℕ) (account : Account) → slice_get values place ≡ Some account
+      → account.executable ≡ true →
       slice_get x.values place ≡ Some account
-  pub no_new : (place : ℕ) (account : Account) → slice_get x.values place ≡ Some account → account.executable ≡ true →
+  pub no_new : (place : ℕ) (account : Account) → slice_get x.values place ≡ Some account
+      → account.executable ≡ true →
       slice_get values place ≡ Some account
   pub short : AreShort values → AreShort x.values
 
@@ -25,7 +29,8 @@ pub record Keeps (t : Chosen) (values : List Account) (x : Transacted) : Type 0 
 -- were lent for writing, none too long, and each without lamports the empty one
 pub record WritesFit (t : Chosen) (values : List Account) (x : Transacted) : Type 0 where
   pub one_each : length (written t x.values) ≡ length (filter (λ lock. lock.write) (locks t))
-  pub lamports : lamports_in (written t x.values) + x.outcome.base_paid + x.outcome.priority_paid ≡ lamports_in (lent_for_writing (locks t) values)
+  pub lamports : lamports_in (written t x.values) + x.outcome.base_paid + x.outcome.priority_paid
+      ≡ lamports_in (lent_for_writing (locks t) values)
   pub short : AreShort values → AreShort (written t x.values)
   pub settled : AreSettled (written t x.values)
 

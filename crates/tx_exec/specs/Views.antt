@@ -12,7 +12,8 @@ values_seen (Ok accounts) = Ok (accounts_of accounts)
 values_seen (Err failure) = Err failure
 
 -- what the code tells of what instructions did
-pub record IsExecuted (wanted : Executed) (left : ℕ) (ended : Result (List (Arc Account Global)) Failure) (lines : Log) : Type 0 where
+pub record IsExecuted (wanted : Executed) (left : ℕ)
+    (ended : Result (List (Arc Account Global)) Failure) (lines : Log) : Type 0 where
   pub units : left ≡ wanted.units
   pub result : values_seen ended ≡ wanted.result
   pub log : lines ≡ wanted.log

@@ -10,9 +10,10 @@ ghost use Rattle.tx_exec.specs.Told.{job_of};
 ghost use Rattle.tx_exec.specs.Transaction.{transaction};
 ghost use Rattle.tx_exec.specs.TransactionLaws.{IsSmallOutcome, Keeps, WritesFit};
 
-/// A law: a transaction keeps the number of its accounts, their lamports but for the fees paid, what
-/// it may not write, and the executable accounts. What it writes is one account for each write lock,
-/// and with the fees paid these have the lamports that were lent for writing. Its outcome is small.
+/// A law: a transaction keeps the number of its accounts, their lamports but for the fees paid,
+/// what it may not write, and the executable accounts. What it writes is one account for each write
+/// lock, and with the fees paid these have the lamports that were lent for writing. Its outcome is
+/// small.
 pub fn transactions_keep_accounts()
     ensures keeps { (block : InBlock) (t : ChosenValue) (values : List AccountValue) →
         IsChosen t → length values ≡ length (all_keys t.tx.message t.loaded) →

@@ -1,5 +1,5 @@
-//! One transaction as the work of a lane: what it does to the values of its keys, and the laws that a
-//! work has to keep.
+//! One transaction as the work of a lane: what it does to the values of its keys, and the laws that
+//! a work has to keep.
 #![tactic(auto)]
 
 mod ending;

@@ -36,7 +36,8 @@ pub fn call_for(
     instruction: &Instruction,
 ) -> Result<Call, OutOfMemory>
     requires table { IsTableOf chosen.now table.now }
-    requires there { All (λ place. place < length (all_keys chosen.now.tx.message chosen.now.loaded))
+    requires there { All
+        (λ place. place < length (all_keys chosen.now.tx.message chosen.now.loaded))
         instruction.now.accounts }
     ensures { IfOk result (λ call. call ≡ call_of chosen.now instruction.now) }
 {

@@ -1,4 +1,5 @@
--- Why transactions fail or are dropped: the code in a status and the name in a text (the project's own).
+-- Why transactions fail or are dropped: the code in a status and the name in a text (the project's
+-- own).
 use Rattle.std.specs.Prelude.{ℕ, zero, suc, List, [], ◌∷◌, codes, Option, None, slice_get}
 use Rattle.tx_report.specs.declared.cause.Cause.{Cause}
 use Rattle.tx_report.specs.declared.cause.Cause.TheVariants.{Custom, InvalidInstruction, MissingSignature, NotEnoughAccounts, InvalidArgument, UnknownProgram, BadImage, Unverified, UnitsSpent, DivideByZero, AccessViolation, CallDepth, BadCallTarget, Abort, Overlap, TooManySeeds, ReturnTooLong, BadText, TooManySlices, InvalidError, ReadonlyChanged, ExecutableChanged, ForeignDebit, ForeignData, OwnerChange, TooLarge, Unbalanced, LengthTooLarge, TooManyAccounts, DataTooLong, TooManySigners, BadSeeds, BadFlag, MissingAccount, PrivilegeEscalation, Reentrancy, StackHeight, TraceTooLong, RentState, LoadedDataTooLarge}
@@ -68,7 +69,13 @@ drop_name_of cause = (drop_row cause).1
 
 -- all causes, in the order of their codes, from 1 on
 abbrev pub causes : List Cause
-causes = Custom ∷ InvalidInstruction ∷ MissingSignature ∷ NotEnoughAccounts ∷ InvalidArgument ∷ UnknownProgram ∷ BadImage ∷ Unverified ∷ UnitsSpent ∷ DivideByZero ∷ AccessViolation ∷ CallDepth ∷ BadCallTarget ∷ Abort ∷ Overlap ∷ TooManySeeds ∷ ReturnTooLong ∷ BadText ∷ TooManySlices ∷ InvalidError ∷ ReadonlyChanged ∷ ExecutableChanged ∷ ForeignDebit ∷ ForeignData ∷ OwnerChange ∷ TooLarge ∷ Unbalanced ∷ LengthTooLarge ∷ TooManyAccounts ∷ DataTooLong ∷ TooManySigners ∷ BadSeeds ∷ BadFlag ∷ MissingAccount ∷ PrivilegeEscalation ∷ Reentrancy ∷ StackHeight ∷ TraceTooLong ∷ RentState ∷ LoadedDataTooLarge ∷ []
+causes = Custom ∷ InvalidInstruction ∷ MissingSignature ∷ NotEnoughAccounts ∷ InvalidArgument
+    ∷ UnknownProgram ∷ BadImage ∷ Unverified ∷ UnitsSpent ∷ DivideByZero ∷ AccessViolation
+    ∷ CallDepth ∷ BadCallTarget ∷ Abort ∷ Overlap ∷ TooManySeeds ∷ ReturnTooLong ∷ BadText
+    ∷ TooManySlices ∷ InvalidError ∷ ReadonlyChanged ∷ ExecutableChanged ∷ ForeignDebit
+    ∷ ForeignData ∷ OwnerChange ∷ TooLarge ∷ Unbalanced ∷ LengthTooLarge ∷ TooManyAccounts
+    ∷ DataTooLong ∷ TooManySigners ∷ BadSeeds ∷ BadFlag ∷ MissingAccount ∷ PrivilegeEscalation
+    ∷ Reentrancy ∷ StackHeight ∷ TraceTooLong ∷ RentState ∷ LoadedDataTooLarge ∷ []
 
 abbrev pub drop_causes : List DropCause
 drop_causes = PayerAbsent ∷ PayerNotSystem ∷ CannotPayFee ∷ PayerRent ∷ []

@@ -19,16 +19,20 @@ truncated_line = codes "Log truncated"
 abbrev pub with_line : Log → List ℕ → Log
 with_line log line =
     if log.truncated then log else
-    if nat_le (sum_by length log.lines + length line) 10000 then record { lines = log.lines ++ line ∷ []; truncated = false } else
+    if nat_le (sum_by length log.lines + length line) 10000
+    then record { lines = log.lines ++ line ∷ []; truncated = false } else
     record { lines = log.lines ++ truncated_line ∷ []; truncated = true }
 
--- The log of all lines that were given: the longest run of them, from the first on, that has at most
+-- The log of all lines that were given: the longest run of them, from the first on, that has at
+-- most
 -- 10,000 bytes, and then, where a line is left, the text that says so.
 pub record IsLogOf (given : List (List ℕ)) (log : Log) : Type 0 where
   pub count : ℕ
   pub room : sum_by length (take count given) ≤ 10000
   pub all : log.truncated ≡ false → (count ≡ length given) × (log.lines ≡ given)
-  pub cut : log.truncated ≡ true → (count < length given) × (10000 < sum_by length (take (count + 1) given)) × (log.lines ≡ take count given ++ truncated_line ∷ [])
+  pub cut : log.truncated ≡ true → (count < length given)
+      × (10000 < sum_by length (take (count + 1) given))
+      × (log.lines ≡ take count given ++ truncated_line ∷ [])
 
 -- what holds of every log whose lines have at least one byte each: they are few, and short
 pub record IsSmall (log : Log) : Type 0 where

@@ -10,7 +10,8 @@ use Rattle.tx_report.specs.Causes.{code_of, name_of, cause_with, drop_code_of, d
 
 -- kind, index, code and detail of a status, as they follow each other
 abbrev pub part_bytes : ℕ → ℕ → ℕ → ℕ → List ℕ
-part_bytes kind index code detail = kind ∷ index ∷ [] ++ to_le_bytes w16 code ++ to_le_bytes w32 detail
+part_bytes kind index code detail =
+    kind ∷ index ∷ [] ++ to_le_bytes w16 code ++ to_le_bytes w32 detail
 
 abbrev pub status_bytes_of : Status → List ℕ
 status_bytes_of Good = part_bytes 0 0 0 0
@@ -28,15 +29,19 @@ abbrev pub status_with : ℕ → ℕ → ℕ → ℕ → Option Status
 status_with kind index code detail =
     if kind == 0 && index == 0 && code == 0 && detail == 0 then Some Good else
     if kind == 1 then option_map (λ cause. Failed index cause detail) (cause_with code) else
-    if kind == 2 && index == 0 && detail == 0 then option_map (λ cause. Dropped cause) (drop_cause_with code) else
+    if kind == 2 && index == 0 && detail == 0
+    then option_map (λ cause. Dropped cause) (drop_cause_with code) else
     None
 
 -- the status of eight bytes
 abbrev pub status_from : List ℕ → Option Status
-status_from bytes = status_with (slice_index bytes 0) (slice_index bytes 1) (from_le_bytes w16 (take 2 (drop 2 bytes))) (from_le_bytes w32 (take 4 (drop 4 bytes)))
+status_from bytes =
+    status_with (slice_index bytes 0) (slice_index bytes 1)
+    (from_le_bytes w16 (take 2 (drop 2 bytes))) (from_le_bytes w32 (take 4 (drop 4 bytes)))
 
 -- a field that is a status, refused at its own place where no status has these bytes
-unfoldable pub status_at : {E : Type 0} → (ℕ → E) → (ℕ → E) → ℕ → List ℕ → Result (Status × List ℕ) E
+unfoldable pub status_at : {E : Type 0} → (ℕ → E) → (ℕ → E) → ℕ → List ℕ
+    → Result (Status × List ℕ) E
 status_at truncated refused total bytes = do
   field ← field_at truncated total 8 bytes
   status ← ok_or (status_from field.0) (refused (place total bytes))
@@ -53,5 +58,6 @@ index_text_of index = if index == 255 then codes "transaction" else decimal inde
 
 abbrev pub status_text_of : Status → List ℕ
 status_text_of Good = codes "Ok"
-status_text_of (Failed index cause detail) = codes "Failed " ++ index_text_of index ++ codes " " ++ cause_text_of cause detail
+status_text_of (Failed index cause detail) =
+    codes "Failed " ++ index_text_of index ++ codes " " ++ cause_text_of cause detail
 status_text_of (Dropped cause) = codes "Dropped " ++ drop_name_of cause

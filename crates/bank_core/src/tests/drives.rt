@@ -77,7 +77,8 @@ fn take_on(core: &mut Core<Trial>, lane: u32) -> (Option<Loan<Trial>>, Answer)
     ensures origin { core.new.origin.value ≡ core.old.origin.value }
     ensures lanes { core.new.lanes ≡ core.old.lanes }
     ensures loan { HasLoanOf result.0 core.new.origin.value core.new.journal.items lane }
-    ensures returns { returns (own core.new.journal.items lane) ≡ returns (own core.old.journal.items lane) }
+    ensures returns { returns (own core.new.journal.items lane)
+        ≡ returns (own core.old.journal.items lane) }
     ensures others { KeepsOthers core.old.journal.items core.new.journal.items lane }
 {
     match core.take(lane) {
@@ -102,7 +103,8 @@ fn commit_on(
     ensures origin { core.new.origin.value ≡ core.old.origin.value }
     ensures lanes { core.new.lanes ≡ core.old.lanes }
     ensures loan { HasLoanOf result.0 core.new.origin.value core.new.journal.items loan.lane }
-    ensures returns { returns (own core.new.journal.items loan.lane) ≡ returns (own core.old.journal.items loan.lane) }
+    ensures returns { returns (own core.new.journal.items loan.lane)
+        ≡ returns (own core.old.journal.items loan.lane) }
     ensures others { KeepsOthers core.old.journal.items core.new.journal.items loan.lane }
 {
     let position = loan.position();

@@ -20,8 +20,8 @@ pub const CALLS_BACK: &[u8] = b"\
     \0\0\0\0\0\0\0\xc8\0\0\0\x01\0\0\0\0\0\0\0\0\0\0\0wwwwwwwwwwwwwwwwwwwwwwwwwwwwwwww\xa8\0\0\
     \0\x01\0\0\0\0\0\0\0\0\0\0\0wwwwwwwwwwwwwwwwwwwwwwwwwwwwwwww";
 
-/// `syscall 16`, `jge r0, MOST, +8`, and then the same with a call of itself; and what stands behind
-/// the lowest byte of MOST.
+/// `syscall 16`, `jge r0, MOST, +8`, and then the same with a call of itself; and what stands
+/// behind the lowest byte of MOST.
 pub const CALLS_ITSELF: &[u8] = b"\
     SBPFIMG1\x0c\0\0\0\x78\0\0\0\x85\0\0\0\x10\0\0\0\x35\0\x08\0";
 
@@ -44,8 +44,9 @@ pub const STORES_AND_CALLS: &[u8] = b"\
     \xa0\0\0\0\x01\0\0\0\0\0\0\0\0\0\0\0\xa0\0\0\0\x01\0\0\0\x0c\0\0\0\0\0\0\0\0\0\0\0\0\0\0\0\
     \0\0\0\0\0\0\0\0\0\0\0\0\0\0\0\0\0\0\0\0\0\0\0\0\x02\0\0\0\0\0\0\0\0\0\0\0\0\0\0\0";
 
-/// A call of the system program for a transfer of 1,000,000 lamports from the vault, and what stands
-/// behind the lowest byte of the number of signers; the one that is there has the seed `vault`.
+/// A call of the system program for a transfer of 1,000,000 lamports from the vault, and what
+/// stands behind the lowest byte of the number of signers; the one that is there has the seed
+/// `vault`.
 pub const TRANSFERS: &[u8] = b"\
     SBPFIMG1\x0a\0\0\0\xdd\0\0\0\x18\x01\0\0\x50\0\0\0\0\0\0\0\x01\0\0\0\xb7\x02\0\0\0\0\0\0\
     \xb7\x03\0\0\0\0\0\0\x18\x04\0\0\x08\x01\0\0\0\0\0\0\x01\0\0\0\xb7\x05\0\0";
