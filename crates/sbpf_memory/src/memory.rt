@@ -231,21 +231,21 @@ impl Memory {
             (λ place. place.at + len ≤ length (range_bytes self.now place.region)) }
     {
         let _ = &self.program;
-        if addr < PROGRAM_START {
-            None
-        } else if addr < STACK_START {
+        if addr >= INPUT_START {
+            within(Region::Input, addr - INPUT_START, len, self.input_size())
+        } else if addr >= HEAP_START {
+            within(Region::Heap, addr - HEAP_START, len, self.heap_size())
+        } else if addr >= STACK_START {
+            within_frame(addr - STACK_START, len)
+        } else if addr >= PROGRAM_START {
             within(
                 Region::Program,
                 addr - PROGRAM_START,
                 len,
                 self.program_size(),
             )
-        } else if addr < HEAP_START {
-            within_frame(addr - STACK_START, len)
-        } else if addr < INPUT_START {
-            within(Region::Heap, addr - HEAP_START, len, self.heap_size())
         } else {
-            within(Region::Input, addr - INPUT_START, len, self.input_size())
+            None
         }
     }
 

@@ -63,6 +63,12 @@ is_prepared (Own bytes prepared) = prepared
 is_prepared (Shared shared) = false
 is_prepared (Blank count) = false
 
+-- the bytes are zeros that stand nowhere
+abbrev pub is_blank : Backing → Bool
+is_blank (Own bytes prepared) = false
+is_blank (Shared shared) = false
+is_blank (Blank count) = true
+
 -- N bytes are those of a list from a place on
 abbrev pub ArrayStandsIn : List ℕ → ℕ → ℕ → List ℕ → Type 0
 ArrayStandsIn list from N found = (from + N ≤ length list) × (found ≡ take N (drop from list))
@@ -79,6 +85,14 @@ test_of false = is_own
 -- the bytes of a piece
 abbrev pub piece_bytes : Piece → List ℕ
 piece_bytes piece = backing_bytes piece.backing
+
+-- N bytes are those of a piece from a place of the list on
+abbrev pub ArrayStandsAt : Piece → ℕ → ℕ → List ℕ → Type 0
+ArrayStandsAt piece at N found = (piece.start ≤ at) × ArrayStandsIn (piece_bytes piece) (at - piece.start) N found
+
+-- what stands in the place of a piece that is kept apart
+abbrev pub blank_of : Piece → Piece
+blank_of piece = record { start = piece.start; backing = Blank (length (piece_bytes piece)) }
 
 -- for each byte of a piece, what a test says of the piece
 abbrev pub for_each_byte : (Backing → Bool) → Piece → List Bool

@@ -6,6 +6,7 @@ ghost use Rattle.sol_base.specs.Parts.{bytes_of, unprepared, with_bytes, ArePrep
 mod moves;
 mod near;
 mod piece;
+mod pieces;
 mod range;
 #[cfg(test)]
 mod tests;
@@ -15,6 +16,7 @@ use crate::blob::Blob;
 use crate::items::Items;
 use crate::memory::OutOfMemory;
 use piece::{Backing, Piece};
+use pieces::Pieces;
 use std::alloc::Global;
 use std::marker::Model;
 use std::sync::Arc;
@@ -35,7 +37,7 @@ pub enum Part {
 /// without taking memory.
 #[derive(Drop)]
 pub struct Parts {
-    pieces: Vec<Piece>,
+    pieces: Pieces,
     /// Where a place is sought first.
     hints: Vec<usize>,
     len: usize,
@@ -48,10 +50,10 @@ impl Model for Parts {
     ghost Value = { Content };
 
     ghost view = { λ p. record
-        { bytes = bytes_in p.pieces.items; prepared = tests_in is_prepared p.pieces.items } };
+        { bytes = bytes_in p.pieces; prepared = tests_in is_prepared p.pieces } };
 
-    ghost invariant = { λ p. (AreInOrder p.pieces.items)
-        × (p.len ≡ length (bytes_in p.pieces.items)) × (p.len < 2 ^ 32) };
+    ghost invariant = { λ p. (AreInOrder p.pieces)
+        × (p.len ≡ length (bytes_in p.pieces)) × (p.len < 2 ^ 32) };
 }
 
 impl Parts {
@@ -69,7 +71,11 @@ impl Parts {
             pieces.push(Piece { start, backing })?;
         }
         let hints = near::hints_of(alloc, pieces.as_slice())?;
-        Ok(Parts { pieces, hints, len })
+        Ok(Parts {
+            pieces: Pieces::of(pieces),
+            hints,
+            len,
+        })
     }
 
     /// How many bytes there are.
@@ -86,8 +92,8 @@ impl Parts {
         requires { at < length self.now.bytes }
         ensures { result ≡ slice_index self.now.bytes at }
     {
-        let pieces = self.pieces.as_slice();
-        let piece = &pieces[range::find(pieces, at)];
+        let near = near::hint(self.hints.as_slice(), at);
+        let piece = self.pieces.at(self.pieces.find_from(near, at));
         piece.backing.get(at - piece.start)
     }
 
@@ -100,8 +106,8 @@ impl Parts {
         if at >= self.len {
             return None;
         }
-        let pieces = self.pieces.as_slice();
-        let piece = &pieces[range::find(pieces, at)];
+        let near = near::hint(self.hints.as_slice(), at);
+        let piece = self.pieces.at(self.pieces.find_from(near, at));
         if piece.start == at {
             piece.backing.lent()
         } else {
@@ -118,14 +124,14 @@ impl Parts {
         if into.is_empty() {
             return;
         }
-        let pieces = self.pieces.as_slice();
-        let first = near::find_from(pieces, near::hint(self.hints.as_slice(), at), at);
-        let piece = &pieces[first];
+        let near = near::hint(self.hints.as_slice(), at);
+        let first = self.pieces.find_from(near, at);
+        let piece = self.pieces.at(first);
         let from = at - piece.start;
         if from + into.len() <= piece.backing.len() {
             piece.backing.read(from, into);
         } else {
-            range::read_on(pieces, first, at, into);
+            self.pieces.read_on(first, at, into);
         }
     }
 
@@ -135,8 +141,8 @@ impl Parts {
         requires { at + N ≤ length self.now.bytes }
         ensures { result ≡ take N (drop at self.now.bytes) }
     {
-        let pieces = self.pieces.as_slice();
-        match near::array_at(pieces, near::hint(self.hints.as_slice(), at), at) {
+        let near = near::hint(self.hints.as_slice(), at);
+        match self.pieces.array(near, at) {
             Some(bytes) => bytes,
             None => self.array_over(at),
         }
@@ -166,16 +172,12 @@ impl Parts {
         if bytes.is_empty() {
             return Ok(());
         }
-        let alloc = *self.pieces.allocator();
+        let alloc = *self.hints.allocator();
         let near = near::hint(self.hints.as_slice(), at);
-        let pieces = self.pieces.as_mut_slice();
-        let first = near::find_from(pieces, near, at);
-        if range::write_within(pieces, first, at, bytes) {
-            return Ok(());
-        }
-        range::own_on(alloc, pieces, first, at, bytes.len(), false)?;
-        range::write_on(pieces, first, at, bytes);
-        Ok(())
+        let mut pieces = self.pieces.take(alloc);
+        let written = range::write_range(alloc, pieces.as_mut_slice(), near, at, bytes);
+        self.pieces = Pieces::of(pieces);
+        written
     }
 
     /// Writes `N` bytes from a place on, whole or not at all.
@@ -207,10 +209,26 @@ impl Parts {
         ensures prepared { self.new.prepared ≡ self.old.prepared }
         ensures ready { ArePrepared self.old.prepared at N → IsOk result }
     {
+        if N == 0 {
+            return Ok(());
+        }
+        self.open_at(at);
+        if self.put_near(at, bytes) {
+            return Ok(());
+        }
         self.write(at, &bytes)
     }
 
-    /// Puts `N` bytes at a place, if the part that the hint names has them as the list's own.
+    /// Opens the part that a place lies in, for the writes to come.
+    fn open_at(&mut self, at: usize)
+        requires { at < length self.old.bytes }
+        ensures { self.new ≡ self.old }
+    {
+        let near = near::hint(self.hints.as_slice(), at);
+        self.pieces.open(self.pieces.find_from(near, at));
+    }
+
+    /// Puts `N` bytes at a place, if the open part has them as the list's own.
     #[inline(always)]
     fn put_near<const N: usize>(&mut self, at: usize, bytes: [u8; N]) -> bool
         requires { at + N ≤ length self.old.bytes }
@@ -218,8 +236,7 @@ impl Parts {
         ensures none { result ≡ false → self.new ≡ self.old }
         ensures prepared { self.new.prepared ≡ self.old.prepared }
     {
-        let near = near::hint(self.hints.as_slice(), at);
-        near::put_at(self.pieces.as_mut_slice(), near, at, bytes)
+        self.pieces.put(at, bytes)
     }
 
     /// Copies `len` bytes from one place to another, whole or not at all. Where the two ranges
@@ -233,15 +250,11 @@ impl Parts {
         ensures prepared { self.new.prepared ≡ self.old.prepared }
         ensures ready { ArePrepared self.old.prepared to len → IsOk result }
     {
-        if len == 0 {
-            return Ok(());
-        }
-        let alloc = *self.pieces.allocator();
-        let pieces = self.pieces.as_mut_slice();
-        let first = range::find(pieces, to);
-        range::own_on(alloc, pieces, first, to, len, false)?;
-        moves::move_range(pieces, to, from, len);
-        Ok(())
+        let alloc = *self.hints.allocator();
+        let mut pieces = self.pieces.take(alloc);
+        let moved = moves::copy_range(alloc, pieces.as_mut_slice(), to, from, len);
+        self.pieces = Pieces::of(pieces);
+        moved
     }
 
     /// Makes ready for writes that take no memory: `len` places from a place on.
@@ -252,12 +265,14 @@ impl Parts {
         ensures ready { ArePrepared self.old.prepared at len → IsOk result }
         ensures stay { StayPrepared self.old.prepared self.new.prepared }
     {
-        if len > 0 {
-            let alloc = *self.pieces.allocator();
-            let pieces = self.pieces.as_mut_slice();
-            let first = range::find(pieces, at);
-            range::own_on(alloc, pieces, first, at, len, true)?;
+        if len == 0 {
+            return Ok(());
         }
-        Ok(())
+        let alloc = *self.hints.allocator();
+        let mut pieces = self.pieces.take(alloc);
+        let first = range::find(pieces.as_slice(), at);
+        let ready = range::own_on(alloc, pieces.as_mut_slice(), first, at, len, true);
+        self.pieces = Pieces::of(pieces);
+        ready
     }
 }

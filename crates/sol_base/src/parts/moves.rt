@@ -1,16 +1,47 @@
 //! Moves of bytes from one range of places to another, through a small buffer.
-ghost use Rattle.std.specs.Prelude.{◌≡◌, ◌<◌, ◌≤◌, ◌+◌, ◌^◌, length, take, drop};
+ghost use Rattle.std.specs.Prelude.{◌≡◌, ◌<◌, ◌≤◌, ◌+◌, ◌^◌, length, take, drop, OnOk, OnErr, IsOk};
 ghost use Rattle.sol_base.specs.Parts.{bytes_in, tests_in, is_own, is_prepared, with_bytes, AreInOrder, ArePrepared};
 
+use crate::memory::OutOfMemory;
 use crate::parts::piece::Piece;
-use crate::parts::range::{find, read_on, write_on};
+use crate::parts::range::{find, own_on, read_on, write_on};
+use std::alloc::Global;
 
 /// The most bytes that are moved at once.
 const CHUNK: usize = 512;
 
+/// Copies a range to other places, whole or not at all. Where the two meet, the bytes that stood
+/// there before are copied.
+pub fn copy_range(
+    alloc: Global,
+    pieces: &mut [Piece],
+    to: usize,
+    from: usize,
+    len: usize,
+) -> Result<(), OutOfMemory>
+    requires order { AreInOrder pieces.old }
+    requires to { to + len ≤ length (bytes_in pieces.old) }
+    requires from { from + len ≤ length (bytes_in pieces.old) }
+    requires most { length (bytes_in pieces.old) < 2 ^ 32 }
+    ensures order { AreInOrder pieces.new }
+    ensures ok { OnOk result (bytes_in pieces.new
+        ≡ with_bytes (bytes_in pieces.old) to (take len (drop from (bytes_in pieces.old)))) }
+    ensures err { OnErr result (bytes_in pieces.new ≡ bytes_in pieces.old) }
+    ensures prepared { tests_in is_prepared pieces.new ≡ tests_in is_prepared pieces.old }
+    ensures ready { ArePrepared (tests_in is_prepared pieces.old) to len → IsOk result }
+{
+    if len == 0 {
+        return Ok(());
+    }
+    let first = find(pieces, to);
+    own_on(alloc, pieces, first, to, len, false)?;
+    move_range(pieces, to, from, len);
+    Ok(())
+}
+
 /// Moves a range to places that the pieces own. Where the two meet, the bytes that stood there
 /// before are moved.
-pub fn move_range(pieces: &mut [Piece], to: usize, from: usize, len: usize)
+fn move_range(pieces: &mut [Piece], to: usize, from: usize, len: usize)
     requires order { AreInOrder pieces.old }
     requires to { to + len ≤ length (bytes_in pieces.old) }
     requires from { from + len ≤ length (bytes_in pieces.old) }

@@ -2,7 +2,8 @@
 ghost use Rattle.std.specs.Prelude.{◌≡◌, ◌<◌, ◌≤◌, ◌+◌, ◌-◌, ◌^◌, true, false, min, length, take, drop, slice_index, None, IfSome, OnOk, IsOk};
 ghost use Rattle.std.specs.Arc.{arc_value};
 ghost use Rattle.sol_base.specs.declared.account.Account.{Account};
-ghost use Rattle.sol_base.specs.Parts.{part_bytes, backing_bytes, piece_bytes, is_own, is_prepared, test_of, with_bytes, ArrayStandsIn, HasPut};
+ghost use Rattle.sol_base.specs.declared.parts.piece.Backing.TheVariants.{Blank};
+ghost use Rattle.sol_base.specs.Parts.{part_bytes, backing_bytes, piece_bytes, is_own, is_prepared, is_blank, test_of, with_bytes, ArrayStandsIn, ArrayStandsAt, HasPut};
 
 use crate::account::Account;
 use crate::memory::OutOfMemory;
@@ -117,7 +118,9 @@ impl Backing {
     #[inline(always)]
     pub fn array<const N: usize>(&self, from: usize) -> Option<[u8; N]>
         requires { from + N < 2 ^ 64 }
-        ensures { IfSome result (λ found. ArrayStandsIn (backing_bytes self.now) from N found) }
+        ensures bytes { IfSome result
+            (λ found. ArrayStandsIn (backing_bytes self.now) from N found) }
+        ensures blank { is_blank self.now ≡ true → result ≡ None }
     {
         match self {
             Backing::Own { bytes, .. } => array_in(bytes.as_slice(), from),
@@ -135,6 +138,8 @@ impl Backing {
         ensures none { result ≡ false → backing_bytes self.new ≡ backing_bytes self.old }
         ensures size { length (backing_bytes self.new) ≡ length (backing_bytes self.old) }
         ensures prepared { is_prepared self.new ≡ is_prepared self.old }
+        ensures blank { is_blank self.new ≡ is_blank self.old }
+        ensures never { is_blank self.old ≡ true → result ≡ false }
     {
         match self {
             Backing::Own { bytes, .. } => put_in(bytes.as_mut_slice(), from, put),
@@ -183,6 +188,52 @@ impl Backing {
 }
 
 impl Piece {
+    /// Zeros that stand nowhere.
+    pub fn blank(start: usize, count: u32) -> Piece
+        ensures start { result.start ≡ start }
+        ensures backing { result.backing ≡ Blank count }
+    {
+        Piece {
+            start,
+            backing: Backing::Blank(count),
+        }
+    }
+
+    /// The `N` bytes from a place of the list on, if they stand in this piece's memory.
+    #[inline(always)]
+    pub fn array<const N: usize>(&self, at: usize) -> Option<[u8; N]>
+        requires { at + N < 2 ^ 64 }
+        ensures bytes { IfSome result (λ found. ArrayStandsAt self.now at N found) }
+        ensures blank { is_blank self.now.backing ≡ true → result ≡ None }
+    {
+        if at < self.start {
+            return None;
+        }
+        self.backing.array(at - self.start)
+    }
+
+    /// Puts `N` bytes at a place of the list, if this piece has them as the list's own.
+    #[inline(always)]
+    pub fn put<const N: usize>(&mut self, at: usize, put: [u8; N]) -> bool
+        requires { at + N < 2 ^ 64 }
+        ensures start { self.new.start ≡ self.old.start }
+        ensures first { result ≡ true → self.old.start ≤ at }
+        ensures within { result ≡ true
+            → at - self.old.start + length put.entry ≤ length (piece_bytes self.old) }
+        ensures all { result ≡ true
+            → HasPut self.old.backing self.new.backing (at - self.old.start) put.entry }
+        ensures none { result ≡ false → piece_bytes self.new ≡ piece_bytes self.old }
+        ensures size { length (piece_bytes self.new) ≡ length (piece_bytes self.old) }
+        ensures prepared { is_prepared self.new.backing ≡ is_prepared self.old.backing }
+        ensures blank { is_blank self.new.backing ≡ is_blank self.old.backing }
+        ensures never { is_blank self.old.backing ≡ true → result ≡ false }
+    {
+        if at < self.start {
+            return false;
+        }
+        self.backing.put(at - self.start, put)
+    }
+
     /// Where the piece and the range of `len` places from `at` on meet.
     pub fn meet(&self, at: usize, len: usize) -> Meeting
         requires { at + len < 2 ^ 64 }

@@ -1,9 +1,10 @@
 //! Ranges of places that may lie over several pieces.
-ghost use Rattle.std.specs.Prelude.{◌≡◌, ◌<◌, ◌≤◌, ◌+◌, ◌-◌, ◌^◌, ℕ, List, true, false, length, take, drop, slice_get, OnOk, IsOk};
+ghost use Rattle.std.specs.Prelude.{◌≡◌, ◌<◌, ◌≤◌, ◌+◌, ◌-◌, ◌^◌, ℕ, List, true, false, length, take, drop, slice_get, OnOk, OnErr, IsOk};
 ghost use Rattle.sol_base.specs.Parts.{piece_bytes, bytes_in, tests_in, before, is_own, is_prepared, test_of, with_bytes, AreInOrder, ArePrepared, ArePreparedUpTo, IsWrittenUpTo, StayPrepared};
 ghost use Rattle.sol_base.specs.declared.parts.piece.Piece.{Piece};
 
 use crate::memory::OutOfMemory;
+use crate::parts::near::find_from;
 use crate::parts::piece::Piece;
 use std::alloc::Global;
 
@@ -145,6 +146,35 @@ fn own_at(
         return Ok(());
     }
     piece.backing.make_own(alloc, prepare)
+}
+
+/// Writes a range, whole or not at all. Its first piece is sought from `near` on.
+pub fn write_range(
+    alloc: Global,
+    pieces: &mut [Piece],
+    near: usize,
+    at: usize,
+    bytes: &[u8],
+) -> Result<(), OutOfMemory>
+    requires order { AreInOrder pieces.old }
+    requires some { 0 < length bytes.now }
+    requires within { at + length bytes.now ≤ length (bytes_in pieces.old) }
+    requires most { length (bytes_in pieces.old) < 2 ^ 32 }
+    ensures order { AreInOrder pieces.new }
+    ensures ok { OnOk result
+        (bytes_in pieces.new ≡ with_bytes (bytes_in pieces.old) at bytes.now) }
+    ensures err { OnErr result (bytes_in pieces.new ≡ bytes_in pieces.old) }
+    ensures prepared { tests_in is_prepared pieces.new ≡ tests_in is_prepared pieces.old }
+    ensures ready { ArePrepared (tests_in is_prepared pieces.old) at (length bytes.now)
+        → IsOk result }
+{
+    let first = find_from(pieces, near, at);
+    if write_within(pieces, first, at, bytes) {
+        return Ok(());
+    }
+    own_on(alloc, pieces, first, at, bytes.len(), false)?;
+    write_on(pieces, first, at, bytes);
+    Ok(())
 }
 
 /// Writes a range that lies within one piece, if its bytes are the list's own.

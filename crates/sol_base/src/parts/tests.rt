@@ -134,8 +134,12 @@ fn reads_and_writes_arrays(rt: HostRuntime) -> Result<(), Fail> {
     assert_eq!(rt; list.len(), 5);
     list.write_array(0, [7])?;
     assert_eq!(rt; list.len(), 5);
+    assert_eq!(rt; list.read_array::<5>(0), [7, 2, 3, 4, 0]);
     list.write_array(2, [8, 9])?;
     assert_eq!(rt; list.len(), 5);
+    list.write_array(3, [1])?;
+    assert_eq!(rt; list.len(), 5);
+    assert_eq!(rt; list.read_array::<5>(0), [7, 2, 8, 1, 0]);
     list.write_array(1, [5, 6, 7])?;
     assert_eq!(rt; list.len(), 5);
     assert_eq!(rt; list.read_array::<5>(0), [7, 5, 6, 7, 0]);

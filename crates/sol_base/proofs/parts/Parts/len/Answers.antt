@@ -4,5 +4,5 @@ use Rattle.sol_base.proofs.parts.Parts.len.Goals as goal
 
 pub returns-clause-prepared : goal.returns-clause-prepared
 returns-clause-prepared c =
-    let same = tests_length is_prepared c.self.inside.pieces.items in
+    let same = tests_length is_prepared c.self.inside.pieces in
     cc

@@ -1,14 +1,21 @@
-use Rattle.std.proofs.Common.{◌≡◌, ◌∙◌, ap, List}
-use Rattle.std.specs.Prelude.{IsOk}
+use Rattle.std.proofs.Common.{◌≡◌, ◌∙◌, ap, sym, subst, List, rules}
+use Rattle.std.proofs.lemmas.List.{with_items_is, places}
+use Rattle.std.specs.Prelude.{OnOk, IsOk}
+use Rattle.std.specs.Vec.{with_items}
 use Rattle.sol_base.specs.declared.parts.piece.Piece.{Piece}
-use Rattle.sol_base.specs.Parts.{tests_in, is_prepared, Content}
+use Rattle.sol_base.specs.Parts.{tests_in, is_prepared, Content, ArePrepared}
 use Rattle.sol_base.proofs.PartLaws.{prepared_are_own}
 use Rattle.sol_base.proofs.parts.Parts.prepare.Goals as goal
 
-pub returns-in_err-own_on-clause-ready : goal.returns-in_err-own_on-clause-ready
-returns-in_err-own_on-clause-ready c = λ prepared.
-    let pieces : List Piece = c.as_mut_slice-pieces.result.now in
-    let same : tests_in is_prepared pieces ≡ c.args.self.now.prepared = ap (λ (l : List Piece). tests_in is_prepared l) c.as_mut_slice-pieces.ensures.value ∙ ap (λ (content : Content). content.prepared) c.self.view_is in
-    let ok : IsOk c.own_on.result = c.own_on.ensures.ready (prepared_are_own pieces c.args.self.now.prepared c.args.at c.args.len same prepared) in
-    let no = rw c.in_err-own_on.was at ok in
-    absurd (cc)
+pub returns-clause-ok : goal.returns-clause-ok
+returns-clause-ok c =
+    let pieces : List Piece = c.own_on-ready.new.pieces in
+    let items : (with_items c.take-pieces.result pieces).items ≡ pieces = with_items_is c.take-pieces.result pieces (search (rules, places)) in
+    let same : c.of.result ≡ pieces = c.of.ensures ∙ items in
+    subst (λ (l : List Piece). OnOk c.own_on-ready.result (ArePrepared (tests_in is_prepared l) c.args.at c.args.len)) (sym same) c.own_on-ready.ensures.ok
+
+pub returns-clause-ready : goal.returns-clause-ready
+returns-clause-ready c = λ prepared.
+    let pieces : List Piece = c.as_mut_slice.result.now in
+    let same : tests_in is_prepared pieces ≡ c.args.self.now.prepared = ap (λ (l : List Piece). tests_in is_prepared l) (c.as_mut_slice.ensures.value ∙ c.take-pieces.ensures) ∙ ap (λ (content : Content). content.prepared) c.self.view_is in
+    c.own_on-ready.ensures.ready (prepared_are_own pieces c.args.self.now.prepared c.args.at c.args.len same prepared)

@@ -1,0 +1,173 @@
+//! The pieces of a list of bytes, of which the one that was written last stands apart.
+ghost use Rattle.std.specs.Prelude.{◌≡◌, ◌<◌, ◌≤◌, ◌+◌, ◌^◌, true, false, length, take, drop, IfSome, slice_index_or, slice_set};
+ghost use Rattle.sol_base.specs.Parts.{bytes_in, tests_in, before, blank_of, is_prepared, with_bytes, AreInOrder};
+
+use crate::parts::near;
+use crate::parts::piece::Piece;
+use crate::parts::range::read_on;
+use std::alloc::Global;
+use std::marker::Model;
+use std::mem;
+
+/// Pieces, one after another. One may be open: it is met first, and no piece is sought then.
+#[derive(Drop)]
+pub struct Pieces {
+    /// All pieces. In the place of the open one stands a blank one of as many bytes.
+    list: Vec<Piece>,
+    opened: Piece,
+    /// The place of the open piece, and one behind the last where none is open.
+    place: usize,
+}
+
+impl Model for Pieces {
+    ghost use Rattle.std.specs.Prelude.{◌≡◌, ◌≤◌, List, true, length, slice_set};
+    ghost use Rattle.sol_base.specs.declared.parts.piece.Piece.{Piece};
+    ghost use Rattle.sol_base.specs.Parts.{blank_of, is_blank};
+
+    ghost Value = { List Piece };
+
+    ghost view = { λ p. slice_set p.list.items p.place p.opened };
+
+    ghost invariant = { λ p. (slice_set p.list.items p.place (blank_of p.opened) ≡ p.list.items)
+        × (length p.list.items ≤ p.place → is_blank p.opened.backing ≡ true) };
+}
+
+impl Pieces {
+    /// The pieces, of which none is open.
+    pub fn of(list: Vec<Piece>) -> Pieces
+        ensures { result ≡ list.items }
+    {
+        let place = list.len();
+        Pieces {
+            list,
+            opened: Piece::blank(0, 0),
+            place,
+        }
+    }
+
+    /// The pieces as a vector.
+    pub fn into_vec(self) -> Vec<Piece>
+        ensures { result.items ≡ self }
+    {
+        let Pieces {
+            mut list,
+            opened,
+            place,
+        } = self;
+        if place < list.len() {
+            list[place] = opened;
+        }
+        list
+    }
+
+    /// Takes all pieces out.
+    pub fn take(&mut self, alloc: Global) -> Vec<Piece>
+        ensures { result.items ≡ self.old }
+    {
+        mem::replace(self, Pieces::of(Vec::new(alloc))).into_vec()
+    }
+
+    /// The piece at an index.
+    #[inline]
+    pub fn at(&self, index: usize) -> &Piece
+        requires { index < length self.now }
+        ensures { result.now ≡ slice_index_or self.now index result.now }
+    {
+        if index == self.place {
+            &self.opened
+        } else {
+            &self.list[index]
+        }
+    }
+
+    /// The piece that a place lies in, sought from an index on.
+    pub fn find_from(&self, near: usize, at: usize) -> usize
+        requires order { AreInOrder self.now }
+        requires within { at < length (bytes_in self.now) }
+        ensures piece { result < length self.now }
+        ensures first { before self.now result ≤ at }
+        ensures last { at < before self.now (result + 1) }
+    {
+        near::find_from(self.list.as_slice(), near, at)
+    }
+
+    /// The `N` bytes from a place on, if the piece at an index or the open one has them in memory.
+    #[inline(always)]
+    pub fn array<const N: usize>(&self, near: usize, at: usize) -> Option<[u8; N]>
+        requires order { AreInOrder self.now }
+        requires most { at + N < 2 ^ 64 }
+        ensures { IfSome result (λ found. found ≡ take N (drop at (bytes_in self.now))) }
+    {
+        if near < self.list.len() {
+            if let Some(bytes) = self.list[near].array(at) {
+                return Some(bytes);
+            }
+        }
+        self.opened.array(at)
+    }
+
+    /// Reads a range, from the first piece that it meets on.
+    pub fn read_on(&self, first: usize, at: usize, into: &mut [u8])
+        requires order { AreInOrder self.now }
+        requires first { before self.now first ≤ at }
+        requires within { at + length into.old ≤ length (bytes_in self.now) }
+        requires most { length (bytes_in self.now) < 2 ^ 32 }
+        ensures { into.new ≡ take (length into.old) (drop at (bytes_in self.now)) }
+    {
+        read_on(self.list.as_slice(), first, at, into);
+        if self.place < self.list.len() {
+            let meeting = self.opened.meet(at, into.len());
+            let part = &mut into[meeting.done..meeting.done + meeting.count];
+            self.opened.backing.read(meeting.from, part);
+        }
+    }
+
+    /// Puts `N` bytes at a place, if the open piece has them as the list's own.
+    #[inline(always)]
+    pub fn put<const N: usize>(&mut self, at: usize, put: [u8; N]) -> bool
+        requires order { AreInOrder self.old }
+        requires most { at + N < 2 ^ 64 }
+        ensures order { AreInOrder self.new }
+        ensures prepared { tests_in is_prepared self.new ≡ tests_in is_prepared self.old }
+        ensures all { result ≡ true
+            → bytes_in self.new ≡ with_bytes (bytes_in self.old) at put.entry }
+        ensures none { result ≡ false → bytes_in self.new ≡ bytes_in self.old }
+    {
+        self.opened.put(at, put)
+    }
+
+    /// Opens the piece at an index.
+    pub fn open(&mut self, index: usize)
+        requires index { index < length self.old }
+        requires most { length (bytes_in self.old) < 2 ^ 32 }
+        ensures { self.new ≡ self.old }
+    {
+        let list = self.list.as_mut_slice();
+        put_back(list, self.place, &mut self.opened);
+        self.opened = take_at(list, index);
+        self.place = index;
+    }
+}
+
+/// Puts a piece in its place.
+#[inline]
+fn put_back(list: &mut [Piece], place: usize, piece: &mut Piece)
+    ensures { list.new ≡ slice_set list.old place piece.old }
+{
+    if place < list.len() {
+        mem::swap(&mut list[place], piece);
+    }
+}
+
+/// Takes a piece out, and leaves a blank one.
+#[inline]
+fn take_at(list: &mut [Piece], index: usize) -> Piece
+    requires index { index < length list.old }
+    requires most { length (bytes_in list.old) < 2 ^ 32 }
+    ensures taken { result ≡ slice_index_or list.old index result }
+    ensures left { list.new ≡ slice_set list.old index (blank_of result) }
+{
+    let piece = &mut list[index];
+    let blank = Piece::blank(piece.start, piece.backing.len() as u32);
+    mem::replace(piece, blank)
+}
