@@ -1,4 +1,4 @@
-use Rattle.std.proofs.Common.{◌≡◌, ◌+◌, ℕ, length, take, drop, sym, ap, ◌∙◌, rules}
+use Rattle.std.proofs.Common.{◌≡◌, ◌+◌, length, sym, ap, ◌∙◌, rules}
 use Rattle.sol_base.specs.declared.key.Key.{Key}
 use Rattle.abi_input.specs.Region.{data_len_at, number_at}
 use Rattle.abi_input.proofs.TakeLaws.{same_account}
