@@ -1,5 +1,5 @@
 -- The entries of a region, one after another.
-use Rattle.std.proofs.Common.{◌≡◌, ◌<◌, ◌≤◌, ◌+◌, ◌-◌, ◌*◌, ◌%◌, ℕ, List, [], ◌∷◌, ◌++◌, length, map, take, drop, get_or, Bool, true, false, ◌&&◌, ◌||◌, Some, None, slice_get, refl, sym, ap, ◌∙◌, subst, inl, inr, arith, add-zero, append_assoc}
+use Rattle.std.proofs.Common.{◌≡◌, ◌<◌, ◌≤◌, ◌+◌, ◌*◌, ℕ, List, [], ◌∷◌, ◌++◌, length, take, drop, get_or, Bool, true, false, ◌&&◌, ◌||◌, Some, None, slice_get, refl, sym, ap, ◌∙◌, subst, inl, inr, arith}
 use Rattle.std.specs.Prelude.{All, nat_lt, Option, cond, unwrap_or, sum_by}
 use Rattle.std.specs.List.{enumerate_from, flat_map}
 use Rattle.std.specs.Arc.{arc_value}
@@ -19,7 +19,7 @@ use Rattle.sol_base.specs.Accounts.{accounts_of, empty_account, max_data_len, Is
 use Rattle.sol_base.specs.Metas.{is_first_listing, is_listed_signer, is_listed_writable, AreInRange}
 use Rattle.abi_input.specs.declared.listing.Listing.{Listing}
 use Rattle.abi_input.specs.Listing.{listing_in}
-use Rattle.abi_input.specs.Region.{data_len_at, has_outgrown, is_outgrown, is_too_long, over_entry, patched_entry, account_in, key_in, first_place, first_entry, repeated_entry, entry_of, first_size, entry_size, entry_start, room_of, padding}
+use Rattle.abi_input.specs.Region.{data_len_at, has_outgrown, is_outgrown, is_too_long, over_entry, patched_entry, account_in, key_in, first_place, first_entry, repeated_entry, entry_of, first_size, entry_size, entry_start, room_of}
 
 -- a meta with its place, among all of them
 pub item_at : (metas : List Meta) (k : ℕ) (meta : Meta) → slice_get metas k ≡ Some meta → get_or (enumerate_from 0 metas) k (k, meta) ≡ (k, meta)

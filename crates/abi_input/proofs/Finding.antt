@@ -1,17 +1,16 @@
 -- The first of the first listings that passes a test.
-use Rattle.std.proofs.Common.{◌≡◌, ◌<◌, ◌≤◌, ◌+◌, ℕ, List, [], ◌∷◌, ◌++◌, length, take, drop, get_or, Bool, true, false, ◌&&◌, Some, None, slice_get, Result, Ok, Err, refl, sym, ap, ◌∙◌, subst, arith}
+use Rattle.std.proofs.Common.{◌≡◌, ◌+◌, ℕ, List, [], ◌∷◌, ◌++◌, length, take, drop, Bool, true, false, ◌&&◌, Some, None, slice_get, Err, refl, sym, ap, ◌∙◌}
 use Rattle.std.specs.Prelude.{Option, cond, option_map}
 use Rattle.std.specs.Option.{option_or}
 use Rattle.std.specs.List.{enumerate_from, filter, find}
-use Rattle.std.proofs.lemmas.List.{take-append-drop, take_all}
+use Rattle.std.proofs.lemmas.List.{take-append-drop}
 use Rattle.std.proofs.lemmas.List.Elements.{filter_more, filter-append}
 use Rattle.std.proofs.lemmas.List.Folds.{find-append}
-use Rattle.std.proofs.lemmas.List.FromFn.{length-enumerate_from}
 use Rattle.sol_base.specs.declared.lock.Meta.{Meta}
 use Rattle.sol_base.specs.Metas.{is_first_listing, first_listings}
 use Rattle.abi_input.specs.Entries.{found_among}
 use Rattle.abi_input.specs.Region.{unless_found}
-use Rattle.abi_input.specs.Answers.{IsPlaceOf, RefusesBack, RefusesPatch, TakesBack}
+use Rattle.abi_input.specs.Answers.{IsPlaceOf}
 use Rattle.abi_input.proofs.Entries.{item_at, item_within, all_items}
 
 -- one meta more

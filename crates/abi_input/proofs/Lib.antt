@@ -5,3 +5,4 @@ pub mod Finding
 pub mod PatchLaws
 pub mod TakeLaws
 pub mod RoundTrips
+pub mod RegionLaws

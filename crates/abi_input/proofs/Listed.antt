@@ -1,5 +1,5 @@
 -- How a list of metas lists an account.
-use Rattle.std.proofs.Common.{◌≡◌, ◌≢◌, ◌<◌, ◌≤◌, ◌+◌, ℕ, zero, suc, List, [], ◌∷◌, ◌++◌, length, take, get_or, set, replicate, Bool, true, false, ◌||◌, ◌&&◌, Some, None, slice_get, refl, sym, ap, ◌∙◌, subst, arith, add-zero, ltb, leb}
+use Rattle.std.proofs.Common.{◌≡◌, ◌≢◌, ◌<◌, ◌≤◌, ◌+◌, ℕ, zero, suc, List, [], ◌∷◌, ◌++◌, length, take, get_or, set, replicate, Bool, true, false, ◌||◌, ◌&&◌, Some, None, slice_get, refl, sym, ap, ◌∙◌, subst, arith, add-zero, leb}
 use Rattle.std.specs.Prelude.{nat_eq, nat_lt, not, Option, cond}
 use Rattle.std.specs.Option.{option_or}
 use Rattle.std.specs.List.{list_any, position, position_from, position_or_len}
@@ -11,7 +11,7 @@ use Rattle.std.proofs.lemmas.List.Quantifiers.{position-Some}
 use Rattle.std.proofs.lemmas.Iterator.Adapters.{position_from-zero}
 use Rattle.std.proofs.Math.Bool.{or-false, or-true}
 use Rattle.sol_base.specs.declared.lock.Meta.{Meta}
-use Rattle.sol_base.specs.Metas.{is_listed, is_listed_signer, is_listed_writable, is_first_listing}
+use Rattle.sol_base.specs.Metas.{is_listed, is_first_listing}
 use Rattle.abi_input.specs.declared.listing.Listing.{Listing}
 use Rattle.abi_input.specs.Listing.{listing_in, listed_again, IsTableOf}
 use Rattle.abi_input.specs.Region.{first_place}

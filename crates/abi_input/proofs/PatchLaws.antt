@@ -1,11 +1,10 @@
 -- A region that is written over, as the code builds it.
 use Rattle.std.proofs.Common.{◌≡◌, ◌-◌, ℕ, List, [], ◌++◌, length, take, drop, None, Result, Ok, Err, refl, sym, ap, ◌∙◌}
 use Rattle.std.specs.Prelude.{Option}
-use Rattle.std.specs.List.{enumerate_from, find, flat_map}
+use Rattle.std.specs.List.{enumerate_from, flat_map}
 use Rattle.std.proofs.lemmas.List.{take_rest}
 use Rattle.sol_base.specs.declared.account.Account.{Account}
 use Rattle.sol_base.specs.declared.lock.Meta.{Meta}
-use Rattle.sol_base.specs.Metas.{first_listings}
 use Rattle.abi_input.specs.declared.fault.PatchFault.{PatchFault}
 use Rattle.abi_input.specs.declared.fault.PatchFault.TheVariants.{LengthTooLarge, OutOfMemory}
 use Rattle.abi_input.specs.Region.{entry_start, is_outgrown, patched, patched_entry, unless_found}

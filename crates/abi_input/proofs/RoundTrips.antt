@@ -1,14 +1,13 @@
 -- A region that was laid out has each account where it is taken back.
-use Rattle.std.proofs.Common.{◌≡◌, ◌<◌, ◌≤◌, ◌+◌, ◌-◌, ◌^◌, ℕ, zero, suc, List, [], ◌∷◌, ◌++◌, length, map, take, drop, get_or, replicate, Bool, true, false, ◌&&◌, ◌||◌, not, Some, None, slice_get, Result, Ok, Err, refl, sym, ap, ◌∙◌, subst, arith, append_assoc, length-append, add-one}
-use Rattle.std.specs.Prelude.{All, Option, cond, nat_lt, unwrap_or, option_map}
-use Rattle.std.specs.Int.{w64, to_le_bytes, from_le_bytes, from_bool}
+use Rattle.std.proofs.Common.{◌≡◌, ◌<◌, ◌≤◌, ◌+◌, ◌-◌, ◌^◌, ℕ, zero, suc, List, [], ◌∷◌, ◌++◌, length, map, take, drop, get_or, replicate, Bool, true, false, ◌&&◌, ◌||◌, Some, None, slice_get, Result, Ok, Err, refl, sym, ap, ◌∙◌, subst, arith, append_assoc, length-append}
+use Rattle.std.specs.Prelude.{Option, cond, nat_lt, unwrap_or}
+use Rattle.std.specs.Int.{w64, from_le_bytes, from_bool}
 use Rattle.std.specs.List.{enumerate_from, find, flat_map}
 use Rattle.std.proofs.lemmas.Bool.Decides.{nat_tests}
-use Rattle.std.proofs.lemmas.List.{take-append-drop, take_at, drop_at, take_all, drop-drop, take_more, length-replicate, length-take-le, length-drop}
+use Rattle.std.proofs.lemmas.List.{take-append-drop, take_at, drop_at, length-replicate, length-take-le, length-drop}
 use Rattle.std.proofs.lemmas.Bool.{ltb-false}
 use Rattle.std.proofs.lemmas.List.Elements.{All-get_or}
 use Rattle.std.proofs.lemmas.List.Concat.{flat_map-append}
-use Rattle.std.proofs.lemmas.List.FromFn.{length-enumerate_from}
 use Rattle.std.proofs.lemmas.Nat.{from_le_bytes-to_le_bytes_8}
 use Rattle.std.proofs.lemmas.Option.{slice_get-get_or, slice_get_within, get_or_from_slice_get}
 use Rattle.spec_base.specs.Bytes.{number_from}
@@ -19,9 +18,9 @@ use Rattle.sol_base.specs.Keys.{IsKey}
 use Rattle.sol_base.specs.Accounts.{empty_account, max_data_len}
 use Rattle.sol_base.specs.Metas.{is_listed, is_first_listing, is_listed_signer, is_listed_writable, AreInRange, first_listings}
 use Rattle.abi_input.specs.Entries.{found_among}
-use Rattle.abi_input.specs.Region.{account_at, account_back, account_in, back, data_len_at, entry_of, entry_size, entry_start, first_entry, first_place, first_size, growth, has_outgrown, input_of, is_outgrown, is_too_long, IsRegionOf, over_entry, patched, patched_entry, unless_found, key_in, number_bytes, padding, repeated_entry, room_of, state_bytes}
+use Rattle.abi_input.specs.Region.{account_at, account_back, account_in, back, data_len_at, entry_of, entry_size, entry_start, first_entry, first_place, first_size, growth, has_outgrown, input_of, is_outgrown, is_too_long, IsRegionOf, over_entry, patched, patched_entry, unless_found, key_in, number_bytes, padding, repeated_entry, room_of, state_bytes, number_at}
 use Rattle.abi_input.specs.Widths.{AreKeys, HasWidths, HaveWidths}
-use Rattle.abi_input.proofs.Entries.{item_at, item_within, flat_more, all_items, start_zero, start_more, start_within, start_least, key_there, index_in}
+use Rattle.abi_input.proofs.Entries.{flat_more, all_items, start_zero, start_more, start_within, start_least, key_there, index_in}
 use Rattle.abi_input.proofs.Finding.{none_more, none_passes, found_all}
 use Rattle.abi_input.proofs.Listed.{IsFirstOf, first_of_account}
 use Rattle.abi_input.proofs.TakeLaws.{back_is, same_account}
@@ -256,6 +255,19 @@ module _ (keys : List Key) (accounts : List Account) (metas : List Meta) (count 
     where
       grouped : (n f l i p : List ℕ) → n ++ f ++ l ++ i ++ p ≡ (n ++ f) ++ (l ++ (i ++ p))
       grouped n f l i p = simp append_assoc refl
+
+  -- bytes as many as were laid out are long enough for the entries
+  pub long_enough : (region input : List ℕ) (program : Key) → length region ≡ length (input_of keys accounts metas input program) → IsRegionOf accounts metas region
+  long_enough region input program long =
+      let items : List (ℕ × Meta) = enumerate_from 0 metas in
+      let number : List ℕ = number_bytes (length metas) in
+      let entries : List ℕ = flat_map laid items in
+      let tail : List ℕ = number_bytes (length input) ++ (input ++ program.0) in
+      let all : length (input_of keys accounts metas input program) ≡ length ((number ++ entries) ++ tail) = ap length (laid_whole input program) in
+      let end : 8 + length entries ≡ entry_start accounts metas (length metas) =
+      ap (λ (l : List (ℕ × Meta)). 8 + length (flat_map laid l)) (sym (all_items metas)) ∙ before_entry accounts metas laid laid_length (length metas) (omega arith) in
+      let eight : length number ≡ 8 = refl in
+      omega (arith, long, all, end, eight, length-append (number ++ entries) tail, length-append number entries)
 
 -- what was laid out is taken back
 pub what_was_laid_out : (keys : List Key) (accounts : List Account) (metas : List Meta) (input : List ℕ) (program : Key) → length accounts ≡ length keys → AreInRange (length accounts) metas → AreKeys keys → HaveWidths accounts

@@ -4,12 +4,12 @@ use Rattle.std.specs.List.{enumerate_from, find, filter, slice_index_or}
 use Rattle.sol_base.specs.declared.account.Account.{Account}
 use Rattle.sol_base.specs.declared.lock.Meta.{Meta}
 use Rattle.sol_base.specs.Metas.{is_listed, is_first_listing}
-use Rattle.abi_input.specs.Region.{account_at, data_len_at, entry_start, first_place}
+use Rattle.abi_input.specs.Region.{account_at, data_len_at, first_entry_start}
 
 -- where the entry of an account starts, if it is among the first so many metas
 abbrev pub entry_among : List Account → List Meta → ℕ → ℕ → Option ℕ
 entry_among start metas count index =
-    if is_listed (take count metas) index then Some (entry_start start metas (first_place metas index)) else None
+    if is_listed (take count metas) index then Some (first_entry_start start metas index) else None
 
 -- so it stands in a table for each account
 abbrev pub AreEntries : List Account → List Meta → ℕ → List (Option ℕ) → Type 0

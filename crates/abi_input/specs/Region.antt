@@ -1,5 +1,5 @@
 -- The input region of a frame, in Solana's aligned layout: what a program finds of its accounts, its instruction and its own key, and what it writes of them.
-use Rattle.std.specs.Prelude.{◌≡◌, ℕ, ◌+◌, ◌-◌, ◌%◌, ◌^◌, ◌≤◌, ◌==◌, ◌||◌, Bool, List, [], ◌∷◌, ◌++◌, length, map, take, drop, replicate, sum_by, slice_get, nat_lt, unwrap_or, Option, Some, None, Result, Ok, Err, if◌then◌else◌}
+use Rattle.std.specs.Prelude.{ℕ, ◌+◌, ◌-◌, ◌%◌, ◌^◌, ◌≤◌, ◌==◌, ◌||◌, Bool, List, [], ◌∷◌, ◌++◌, length, map, take, drop, replicate, sum_by, slice_get, nat_lt, unwrap_or, Option, Some, None, Result, Ok, Err, if◌then◌else◌}
 use Rattle.std.specs.List.{enumerate_from, find, flat_map, position_or_len}
 use Rattle.std.specs.Int.{w64, to_le_bytes, from_bool}
 use Rattle.spec_base.specs.Bytes.{number_from}
@@ -78,9 +78,17 @@ entry_size start metas item = if is_first_listing metas item then first_size (ac
 unfoldable pub entry_start : List Account → List Meta → ℕ → ℕ
 entry_start start metas place = 8 + sum_by (entry_size start metas) (take place (enumerate_from 0 metas))
 
+-- where the entry of an account starts that is listed
+abbrev pub first_entry_start : List Account → List Meta → ℕ → ℕ
+first_entry_start start metas index = entry_start start metas (first_place metas index)
+
 -- a list of bytes that is long enough for the entries of these accounts
 abbrev pub IsRegionOf : List Account → List Meta → List ℕ → Type 0
 IsRegionOf start metas region = entry_start start metas (length metas) ≤ length region
+
+-- the lamports of an account, as they stand in its entry
+abbrev pub lamports_at : List ℕ → ℕ → ℕ
+lamports_at region entry = number_from region (entry + 72)
 
 -- the length of an account's data, as it stands in its entry
 abbrev pub data_len_at : List ℕ → ℕ → ℕ
@@ -90,7 +98,7 @@ data_len_at region entry = number_from region (entry + 80)
 unfoldable pub account_at : List ℕ → ℕ → Account → Account
 account_at region entry account = record account {
   owner = record { 0 = take 32 (drop (entry + 40) region) };
-  lamports = number_from region (entry + 72);
+  lamports = lamports_at region entry;
   bytes = take (data_len_at region entry) (drop (entry + 88) region);
 }
 
@@ -108,7 +116,7 @@ is_too_long region start metas item =
 abbrev pub account_back : List ℕ → List Account → List Meta → ℕ × Account → Account
 account_back region start metas item =
     if is_listed metas item.0
-    then account_at region (entry_start start metas (first_place metas item.0)) item.1
+    then account_at region (first_entry_start start metas item.0) item.1
     else item.1
 
 -- a value, unless there is a meta that must not be: then its place in the list

@@ -1,5 +1,5 @@
 -- Accounts and keys whose parts have the widths of their types.
-use Rattle.std.specs.Prelude.{ℕ, ◌<◌, ◌^◌, List, All}
+use Rattle.std.specs.Prelude.{◌<◌, ◌^◌, List, All}
 use Rattle.sol_base.specs.declared.key.Key.{Key}
 use Rattle.sol_base.specs.declared.account.Account.{Account}
 use Rattle.sol_base.specs.Keys.{IsKey}

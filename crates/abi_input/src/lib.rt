@@ -14,7 +14,10 @@ mod taking;
 mod tests;
 
 pub use fault::{BackFault, PatchFault};
-pub use laws::{what_is_laid_out_is_taken_back, what_is_patched_in_is_taken_back};
+pub use laws::{
+    what_is_laid_out_is_taken_back, what_is_patched_in_is_taken_back,
+    what_is_taken_back_stands_in_the_region,
+};
 pub use laying::lay_out;
 pub use patching::patch;
 pub use taking::{TakenBack, take_back};

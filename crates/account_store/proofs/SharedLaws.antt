@@ -35,6 +35,9 @@ ascend-seen es h = subst (IsStrictlySortedBy key_cmp) (sym (keys-seen es)) h
 pub entries-state_seen : (es : List (Key × Shared)) → Ascend es → entries (state_seen es) ≡ seen es
 entries-state_seen es h = entries-from_entries key_cmp_total key_cmp_exact (seen es) (ascend-seen es h)
 
+pub walked : (es walk : List (Key × Shared)) (s : State) → walk ≡ es → Ascend es → state_seen es ≡ s → seen walk ≡ entries s
+walked es walk s is h e = ap seen is ∙ sym (entries-state_seen es h) ∙ ap (λ (s : State). entries s) e
+
 pub seen-insert_entry : (es : List (Key × Shared)) (k : Key) (v : Shared) → seen (insert_entry key_cmp es k v) ≡ insert_entry key_cmp (seen es) k (arc_value v)
 seen-insert_entry [] k v = refl
 seen-insert_entry (e ∷ es) k v = elim (key_cmp k e.0) as (λ o. seen (match_ordering o ((k, v) ∷ e ∷ es) ((e.0, v) ∷ es) (e ∷ insert_entry key_cmp es k v)) ≡ match_ordering o ((k, arc_value v) ∷ seen (e ∷ es)) ((e.0, arc_value v) ∷ seen es) ((e.0, arc_value e.1) ∷ insert_entry key_cmp (seen es) k (arc_value v))) [

@@ -172,6 +172,7 @@ impl Accounts {
 
     /// The accounts with their keys, the keys ascending. To go over all of them takes time by their
     /// number.
+    #[tactic(auto, using(crate::proofs::SharedLaws::walked))]
     pub fn iter(&self) -> Iter<'_, Key, Arc<Account>>
         ensures entries { seen result ≡ state.entries self.now }
         ensures state { IsState self.now }

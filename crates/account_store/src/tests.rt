@@ -91,6 +91,7 @@ fn a_store_keeps_what_is_written(rt: HostRuntime) -> Result<(), Fail> {
         accounts.get(&high).map(|account| account.bytes.as_slice()),
         Some(DATA.as_slice())
     );
+    assert!(rt; accounts.iter().map(|entry| *entry.0).eq([high]));
     assert_eq!(rt; accounts.next_after(None).map(|entry| *entry.0), Some(high));
     assert_eq!(rt;
         accounts.next_after(Some(&low)).map(|entry| *entry.0),

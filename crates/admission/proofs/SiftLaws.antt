@@ -1,5 +1,5 @@
 -- The early causes of a batch, one position after the other.
-use Rattle.std.proofs.Common.{◌≡◌, ℕ, ◌+◌, Bool, true, false, ◌||◌, not, cond, List, [], ◌∷◌, ◌++◌, length, take, map, refl, sym, ap, ◌∙◌, append_assoc, arith, Option, Some, None, Result, Ok, Err, is_ok, subst, OnOk}
+use Rattle.std.proofs.Common.{◌≡◌, ℕ, ◌+◌, Bool, true, false, ◌||◌, cond, List, [], ◌∷◌, ◌++◌, length, take, map, refl, sym, ap, ◌∙◌, append_assoc, arith, Option, Some, None, Result, Ok, Err, is_ok, subst, OnOk}
 use Rattle.std.specs.Prelude.{if◌then◌else◌}
 use Rattle.std.specs.Result.{result_ok}
 use Rattle.std.specs.List.{filter_map, cons_option, enumerate_from}
@@ -26,8 +26,8 @@ use Rattle.message_codec.specs.declared.parsed.Parsed.TheVariants.{Good, Bad}
 use Rattle.status_cache.specs.Recent.{has_hash}
 use Rattle.admission.specs.declared.chosen.Chosen.{Chosen}
 use Rattle.admission.specs.declared.refusal.Refusal.{Refusal}
-use Rattle.admission.specs.declared.refusal.Refusal.TheVariants.{RepeatedInBatch, Wire}
-use Rattle.admission.specs.Admission.{Start, budgeted, early, has_name, is_name, refusal_in, sifted, sifted_in, standing_name, standing_names, stands}
+use Rattle.admission.specs.declared.refusal.Refusal.TheVariants.{Wire}
+use Rattle.admission.specs.Admission.{Start, budgeted_once, early, has_name, is_name, refusal_in, sifted, sifted_in, standing_name, standing_names, stands}
 
 -- ---- names
 -- the order and the test of two hashes agree on which are one
@@ -69,19 +69,10 @@ one_name_more start done x q =
     ∙ ap (λ b. has_hash (standing_names start done) q || b) (any_name (standing_name start x) q)
 
 -- ---- one position
--- a name that is not added was there
-pub was_there : (added there : Bool) → added ≡ not there → added ≡ false → there ≡ true
-was_there added true e n = refl
-was_there added false e n = absurd (cc)
-
-pub was_not_there : (added there : Bool) → added ≡ not there → added ≡ true → there ≡ false
-was_not_there added true e n = absurd (cc)
-was_not_there added false e n = refl
-
--- what holds anyway holds of the answer
-pub on_ok : {A E : Type 0} (P : Type 0) (r : Result A E) → P → OnOk r P
-on_ok P (Ok x) p = p
-on_ok P (Err e) p = tt
+-- what follows from what holds of the answer
+pub on_ok : {A E : Type 0} (P Q : Type 0) (r : Result A E) → (P → Q) → OnOk r P → OnOk r Q
+on_ok P Q (Ok x) f p = f p
+on_ok P Q (Err e) f p = tt
 
 pub sifted_bad : (start : Start) (is_before : Hash32 → Bool) (position : ℕ) (fault : WireFault) → sifted start is_before position (Bad fault) ≡ Err (Wire fault)
 unfolding sifted
@@ -91,13 +82,9 @@ pub sifted_stopped : (start : Start) (is_before : Hash32 → Bool) (position : �
 unfolding sifted
 sifted_stopped start is_before position tx name cause e = rw e refl
 
-pub sifted_again : (start : Start) (is_before : Hash32 → Bool) (position : ℕ) (tx : Tx) (name : Hash32) (loaded : Loaded) → stands start tx name ≡ Ok loaded → is_before name ≡ true → sifted start is_before position (Good tx name) ≡ Err RepeatedInBatch
+pub sifted_once : (start : Start) (is_before : Hash32 → Bool) (position : ℕ) (tx : Tx) (name : Hash32) (loaded : Loaded) → stands start tx name ≡ Ok loaded → sifted start is_before position (Good tx name) ≡ budgeted_once (is_before name) position tx name loaded
 unfolding sifted
-sifted_again start is_before position tx name loaded e before = rw (e, before) refl
-
-pub sifted_fresh : (start : Start) (is_before : Hash32 → Bool) (position : ℕ) (tx : Tx) (name : Hash32) (loaded : Loaded) → stands start tx name ≡ Ok loaded → is_before name ≡ false → sifted start is_before position (Good tx name) ≡ budgeted position tx name loaded
-unfolding sifted
-sifted_fresh start is_before position tx name loaded e before = rw (e, before) refl
+sifted_once start is_before position tx name loaded e = rw e refl
 
 -- ---- all positions
 pub enumerate-append : {X : Type 0} (n : ℕ) (xs ys : List X) → enumerate_from n (xs ++ ys) ≡ enumerate_from n xs ++ enumerate_from (n + length xs) ys

@@ -78,13 +78,16 @@ chosen_with position tx name loaded budget = record {
 abbrev pub budgeted : ℕ → Tx → Hash32 → Loaded → Result Chosen Refusal
 budgeted position tx name loaded = as_cause no_budget (budget_in tx.message) >>= λ budget. Ok (chosen_with position tx name loaded budget)
 
+-- the same of a transaction, told whether its message stands before it
+abbrev pub budgeted_once : Bool → ℕ → Tx → Hash32 → Loaded → Result Chosen Refusal
+budgeted_once is_before position tx name loaded = if is_before then Err RepeatedInBatch else budgeted position tx name loaded
+
 -- the transaction of a position or the first of the seven early causes, told which messages stand
 -- before it without one of the first five
 unfoldable pub sifted : Start → (Hash32 → Bool) → ℕ → Parsed → Result Chosen Refusal
 sifted start is_before position (Bad fault) = Err (no_wire fault)
 sifted start is_before position (Good tx name) =
-    stands start tx name >>= λ loaded.
-    if is_before name then Err RepeatedInBatch else budgeted position tx name loaded
+    stands start tx name >>= λ loaded. budgeted_once (is_before name) position tx name loaded
 
 -- the same in a batch
 abbrev pub sifted_in : Start → List Parsed → ℕ × Parsed → Result Chosen Refusal

@@ -1,13 +1,14 @@
-ghost use Rattle.std.specs.Prelude.{◌≡◌, ◌<◌, ◌^◌, ◌||◌, All, IfOk, OnOk, length, map};
+ghost use Rattle.std.specs.Prelude.{◌≡◌, ◌<◌, ◌≤◌, ◌^◌, ◌||◌, not, All, IfOk, OnOk, length, map};
 ghost use Rattle.std.specs.List.{enumerate_from};
 ghost use Rattle.sol_base.specs.declared.key.Hash32.{Hash32 as HashValue};
-ghost use Rattle.admission.specs.Admission.{IsSound, early, has_name, is_name, sifted, sifted_out, standing_name, start_of};
+ghost use Rattle.sol_base.specs.Keys.{same_hash};
+ghost use Rattle.admission.specs.Admission.{IsSound, budgeted_once, early, has_name, is_name, sifted, sifted_out, standing_name, start_of};
 
 use crate::chosen::Chosen;
 use crate::refusal::Refusal;
 use crate::standing::{budgeted, stands};
 use account_store::Accounts;
-use message_codec::Parsed;
+use message_codec::{Loaded, Parsed, Tx};
 use sol_base::{Hash32, Items, Limits, OutOfMemory};
 use status_cache::Recent;
 use std::alloc::Global;
@@ -81,8 +82,37 @@ fn sift_one(
         Ok(loaded) => loaded,
         Err(cause) => return Ok(Err(cause)),
     };
-    if !names.insert(name)? {
+    budgeted_once(alloc, names, position, tx, name, loaded)
+}
+
+/// The transaction with all that it runs with, or `RepeatedInBatch` or `Budget`, told the names of
+/// the messages before it. Its own is added to them, whatever the answer.
+fn budgeted_once(
+    alloc: Global,
+    names: &mut BTreeSet<Hash32>,
+    position: u32,
+    tx: Tx,
+    name: Hash32,
+    loaded: Loaded,
+) -> Result<Result<Chosen, Refusal>, OutOfMemory>
+    requires programs { All (λ i. i.program < length tx.message.keys) tx.message.instructions }
+    requires most { length tx.message.instructions ≤ 65535 }
+    ensures found { IfOk result (λ found.
+        found ≡ budgeted_once (has_name names.old name) position tx name loaded) }
+    ensures names { OnOk result ((other : HashValue) →
+        has_name names.new other ≡ (has_name names.old other || same_hash name other)) }
+{
+    if !add_name(names, name)? {
         return Ok(Err(Refusal::RepeatedInBatch));
     }
     budgeted(alloc, position, tx, name, loaded)
+}
+
+/// Adds a name. True where it was not there.
+fn add_name(names: &mut BTreeSet<Hash32>, name: Hash32) -> Result<bool, OutOfMemory>
+    ensures added { IfOk result (λ added. added ≡ not (has_name names.old name)) }
+    ensures names { OnOk result ((other : HashValue) →
+        has_name names.new other ≡ (has_name names.old other || same_hash name other)) }
+{
+    Ok(names.insert(name)?)
 }

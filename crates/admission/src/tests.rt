@@ -5,7 +5,7 @@ ghost use Rattle.status_cache.specs.Recent.{Ascends};
 
 use super::*;
 use account_store::{Accounts, KeyedAccount};
-use fee_rules::BudgetFault;
+use fee_rules::{BudgetFault, priority};
 use itoa::Buffer;
 use message_codec::{Parsed, SanitizeFault, WireFault, parse};
 use sol_base::{
@@ -35,6 +35,18 @@ const PRICED: (u8, &[u8]) = (
         3, 0, 5, 2, 0xc2, 1, 0, 0, 3, 0, 9, 3, 0x40, 0x42, 0x0f, 0, 0, 0, 0, 0,
     ],
 );
+
+// A limit of 1,400,000 units and a price of 10,000; this limit alone; and one of 400,000 units.
+const MOST_PRICED: (u8, &[u8]) = (
+    3,
+    &[
+        3, 0, 5, 2, 0xc0, 0x5c, 0x15, 0, 3, 0, 9, 3, 0x10, 0x27, 0, 0, 0, 0, 0, 0,
+    ],
+);
+
+const MOST: (u8, &[u8]) = (2, &[3, 0, 5, 2, 0xc0, 0x5c, 0x15, 0]);
+
+const LESS: (u8, &[u8]) = (2, &[3, 0, 5, 2, 0x80, 0x1a, 6, 0]);
 
 // No such instruction.
 const UNKNOWN: (u8, &[u8]) = (2, &[3, 0, 1, 9]);
@@ -78,9 +90,20 @@ fn transfer(
     alloc: Global,
     accounts: (u8, u8),
     blockhash: Hash32,
-    (count, budget): (u8, &[u8]),
+    budget: (u8, &[u8]),
 ) -> Result<Blob, OutOfMemory> {
-    let transfer = [2, 2, 0, 1, 12, 2, 0, 0, 0, 1, 0, 0, 0, 0, 0, 0, 0];
+    paying(alloc, accounts, blockhash, budget, 1)
+}
+
+/// A transfer of so many lamports.
+fn paying(
+    alloc: Global,
+    accounts: (u8, u8),
+    blockhash: Hash32,
+    (count, budget): (u8, &[u8]),
+    lamports: u8,
+) -> Result<Blob, OutOfMemory> {
+    let transfer = [2, 2, 0, 1, 12, 2, 0, 0, 0, lamports, 0, 0, 0, 0, 0, 0, 0];
     spelled(alloc, accounts, blockhash, count, (budget, &transfer))
 }
 
@@ -196,6 +219,67 @@ fn units_are_limited(rt: HostRuntime) -> Result<(), Fail> {
         let found = admit(alloc, &wires, &recent, &accounts, &limits)?;
         assert_eq!(rt; told(alloc, &found)?.as_slice(), answer);
     }
+    Ok(())
+}
+
+/// 36 transfers with payers and destinations of their own: 35 with the most units and a price, and
+/// one with fewer units and none.
+fn many_payers(alloc: Global) -> Result<Items<Blob>, OutOfMemory> {
+    let mut wires = Items::new(alloc);
+    for payer in 1..36 {
+        wires.push(transfer(alloc, (payer, payer + 100), BLOCKHASH, MOST_PRICED)?)?;
+    }
+    wires.push(transfer(alloc, (36, 136), BLOCKHASH, LESS)?)?;
+    Ok(wires)
+}
+
+// The 35th passes the units of a block, and the last just reaches them.
+#[test]
+fn a_block_is_filled_to_its_units(rt: HostRuntime) -> Result<(), Fail> {
+    let alloc = rt.alloc();
+    let recent = chain(alloc, Items::new(alloc))?;
+    let wires = many_payers(alloc)?;
+    assert_eq!(rt; wires.len(), 36);
+    let answer = admit(alloc, &wires, &recent, &Accounts::new(alloc), &LIMITS)?;
+    assert_eq!(rt;
+        told(alloc, &answer)?.as_slice(),
+        b"0 1 2 3 4 5 6 7 8 9 10 11 12 13 14 15 16 17 18 19 20 21 22 23 24 25 26 27 28 29 30 31 \
+          32 33 35 refused 34: BlockUnits "
+            .as_slice()
+    );
+    let order = answer.order.as_slice();
+    assert_eq!(rt;
+        order.first().map(|one| priority(&one.fee, &one.budget)),
+        Some(11_785)
+    );
+    assert_eq!(rt;
+        order.last().map(|one| priority(&one.fee, &one.budget)),
+        Some(6_249)
+    );
+    Ok(())
+}
+
+/// Nine transfers of one payer, each of another amount and with the most units.
+fn one_payer(alloc: Global) -> Result<Items<Blob>, OutOfMemory> {
+    let mut wires = Items::new(alloc);
+    for lamports in 1..10 {
+        wires.push(paying(alloc, (1, 0x11), BLOCKHASH, MOST, lamports)?)?;
+    }
+    Ok(wires)
+}
+
+// The ninth passes the units of its payer's key.
+#[test]
+fn a_key_is_written_for_its_units(rt: HostRuntime) -> Result<(), Fail> {
+    let alloc = rt.alloc();
+    let recent = chain(alloc, Items::new(alloc))?;
+    let wires = one_payer(alloc)?;
+    assert_eq!(rt; wires.len(), 9);
+    let answer = admit(alloc, &wires, &recent, &Accounts::new(alloc), &LIMITS)?;
+    assert_eq!(rt;
+        told(alloc, &answer)?.as_slice(),
+        b"0 1 2 3 4 5 6 7 refused 8: KeyUnits ".as_slice()
+    );
     Ok(())
 }
 

@@ -1,4 +1,4 @@
-use Rattle.std.proofs.Common.{◌≡◌, ap, ◌∙◌, ◌++◌, List, ℕ}
+use Rattle.std.proofs.Common.{ap, ◌∙◌, ◌++◌, List, ℕ}
 use Rattle.sol_base.specs.Parts.{bytes_of}
 use Rattle.abi_input.proofs.Drafts.{closed}
 use Rattle.abi_input.proofs.draft.close.Goals as goal

@@ -1,7 +1,6 @@
-use Rattle.std.proofs.Common.{◌≡◌, ◌++◌, ◌+◌, ℕ, List, length, sym, ap, ◌∙◌, refl, subst, arith}
+use Rattle.std.proofs.Common.{◌++◌, ◌+◌, ℕ, List, length, sym, ap, ◌∙◌, refl, subst, arith}
 use Rattle.std.specs.Arc.{arc_value}
 use Rattle.std.specs.Prelude.{Option, unwrap_or}
-use Rattle.std.proofs.lemmas.List.{length-map}
 use Rattle.sol_base.specs.declared.account.Account.{Account}
 use Rattle.sol_base.specs.Accounts.{accounts_of, IsShort}
 use Rattle.abi_input.specs.declared.listing.Listing.{Listing}

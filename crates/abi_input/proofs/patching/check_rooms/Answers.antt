@@ -1,4 +1,3 @@
-use Rattle.std.proofs.Common.{slice_get}
 use Rattle.std.proofs.lemmas.Option.{slice_get-get_or}
 use Rattle.sol_base.specs.Accounts.{accounts_of}
 use Rattle.abi_input.specs.Region.{is_outgrown}

@@ -1,4 +1,4 @@
-use Rattle.std.proofs.Common.{arith, length, take}
+use Rattle.std.proofs.Common.{arith}
 use Rattle.std.proofs.lemmas.List.{length-take}
 use Rattle.abi_input.proofs.Drafts.{copied_more}
 use Rattle.abi_input.proofs.patching.copy.Goals as goal

@@ -1,5 +1,4 @@
 use Rattle.std.proofs.Common.{◌≡◌, true, sym, ◌∙◌, arith, length}
-use Rattle.std.specs.Prelude.{not}
 use Rattle.sol_base.specs.Accounts.{accounts_of}
 use Rattle.sol_base.specs.Metas.{is_first_listing, AreInRange}
 use Rattle.abi_input.proofs.Entries.{account_of_meta, first_fits, outgrown_is}

@@ -1,4 +1,3 @@
-use Rattle.std.proofs.Common.{ap}
 use Rattle.std.proofs.lemmas.Result.{err_from_is_err_and}
 use Rattle.sol_base.specs.Accounts.{accounts_of}
 use Rattle.abi_input.proofs.PatchLaws.{patch_refused}

@@ -2,7 +2,7 @@ use Rattle.std.proofs.Common.{◌≡◌, ◌≤◌, ◌++◌, ◌+◌, ℕ, List
 use Rattle.std.specs.Arc.{arc_value}
 use Rattle.sol_base.specs.Accounts.{accounts_of}
 use Rattle.sol_base.specs.Metas.{is_first_listing, AreInRange}
-use Rattle.abi_input.specs.Region.{entry_size, entry_start, is_outgrown}
+use Rattle.abi_input.specs.Region.{entry_start, is_outgrown}
 use Rattle.abi_input.proofs.Entries.{account_of_meta, first_fits, not_outgrown, patched_first, size_again, size_first, start_within}
 use Rattle.abi_input.proofs.Finding.{none_passes}
 use Rattle.abi_input.proofs.patching.patch_entry.Goals as goal

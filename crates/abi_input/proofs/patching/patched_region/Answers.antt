@@ -1,4 +1,4 @@
-use Rattle.std.proofs.Common.{◌≡◌, ◌≤◌, ◌-◌, ℕ, List, Result, Ok, length, sym, ap, ◌∙◌, arith}
+use Rattle.std.proofs.Common.{◌≤◌, ◌-◌, ℕ, List, Result, Ok, length, sym, ap, ◌∙◌, arith}
 use Rattle.sol_base.specs.Accounts.{accounts_of}
 use Rattle.sol_base.specs.Parts.{Content}
 use Rattle.abi_input.specs.Region.{entry_start}

@@ -1,4 +1,4 @@
-use Rattle.std.proofs.Common.{◌≡◌, ap, sym, ◌∙◌, length, arith}
+use Rattle.std.proofs.Common.{◌≡◌, ap, ◌∙◌, length, arith}
 use Rattle.sol_base.specs.Parts.{bytes_of, unprepared}
 use Rattle.abi_input.proofs.Drafts.{closed, if_ok}
 use Rattle.abi_input.proofs.draft.Draft.finish.Goals as goal

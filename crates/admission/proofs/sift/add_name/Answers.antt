@@ -1,0 +1,5 @@
+use Rattle.admission.proofs.SiftLaws.{name_added}
+use Rattle.admission.proofs.sift.add_name.Goals as goal
+
+pub returns-clause-names : goal.returns-clause-names
+returns-clause-names c = name_added c.args.names.now c.insert.new.self c.args.name c.in_ok-insert.ensures.updates.0
