@@ -16,17 +16,13 @@ use Rattle.sbpf_asm.specs.declared.fault.AsmFault.TheVariants as asm
 use Rattle.sbpf_asm.specs.declared.fault.ListFault.{ListFault}
 use Rattle.sbpf_asm.specs.declared.fault.ListFault.TheVariants as image
 use Rattle.admission.specs.declared.refusal.Refused.{Refused}
-use Rattle.admission.specs.Refusals.{text_of}
+use Rattle.admission.specs.Refusals.{placed, text_of}
 use Rattle.block_replay.specs.Verdict.{name_of, of_block}
 use Rattle.block_replay.specs.declared.verdict.Field.{Field}
 
 -- a text and a line feed
 abbrev pub line : List ℕ → List ℕ
 line text = text ++ 10 ∷ []
-
--- a name and the place after it
-abbrev pub placed : List ℕ → ℕ → List ℕ
-placed name place = name ++ codes " at " ++ decimal place
 
 -- ---- refusals of the input; places count from the first byte of the part
 

@@ -3,10 +3,10 @@ ghost use Rattle.std.specs.Prelude.{◌≡◌, ◌≤◌, ◌<◌, ◌++◌, len
 ghost use Rattle.std.specs.List.{AllByRecursion};
 ghost use Rattle.spec_base.specs.Bytes.{IsBytes};
 ghost use Rattle.spec_base.specs.Reading.{Gives};
-ghost use Rattle.block_record.specs.Record.{IsCounted};
+ghost use Rattle.block_record.specs.Record.{IsCounted, bytes_of_record};
 ghost use Rattle.snapshot_codec.specs.Batch.{IsBatch};
 ghost use Rattle.snapshot_codec.specs.BatchReading.{batch_of, is_batch_memory};
-ghost use Rattle.snapshot_codec.specs.Snapshot.{IsReadable, IsWritable};
+ghost use Rattle.snapshot_codec.specs.Snapshot.{IsReadable, IsWritable, snapshot_bytes as bytes_of_snapshot};
 ghost use Rattle.block_run.specs.Blocks.{block_result};
 ghost use Rattle.bank_cli.specs.Answer.{produced as produced_of, ran};
 ghost use Rattle.bank_cli.specs.Texts.{refused_line, refused_lines};
@@ -15,14 +15,14 @@ use crate::answer::Answer;
 use crate::texts::{append_number, refuse_batch, refuse_snapshot};
 use admission::{Refused, refusal_text};
 use bank_lanes::Gate;
-use block_record::record_bytes;
+use block_record::{Block, output_bytes, record_bytes};
 use block_run::{BlockResult, run_parsed};
 use intake::{SendGate, gather};
 use snapshot_codec::{Batch, BatchFault, Snapshot, read_batch, read_snapshot, snapshot_bytes};
 use sol_base::{Blob, OutOfMemory};
 use std::alloc::Global;
 use std::sync::Wait;
-use std::thread::Threads;
+use std::thread::{Threads, join};
 
 /// The answer to `produce`: a snapshot and a batch after it.
 pub(crate) fn produced<G: Gate, H: SendGate, R: Threads + Wait + Sync>(
@@ -83,23 +83,64 @@ fn produce_block<G: Gate, H: SendGate, R: Threads + Wait + Sync>(
 {
     let gathered = gather(rt, alloc, &batch.wires, senders, send)?;
     let block = run_parsed(rt, alloc, snapshot, batch, gathered.parsed, lanes, gate)?;
-    write_block(alloc, &block)
+    write_block(rt, alloc, lanes, block)
 }
 
 /// The record, then the snapshot; and the transactions that did not run.
-fn write_block(alloc: Global, block: &BlockResult) -> Result<Answer, OutOfMemory>
-    requires counted { IsCounted block.now.block }
-    requires writable { IsWritable block.now.after }
-    ensures { IfOk result (λ told. told ≡ ran block.now) }
+fn write_block<R: Threads + Sync>(
+    rt: &R,
+    alloc: Global,
+    lanes: u32,
+    block: BlockResult,
+) -> Result<Answer, OutOfMemory>
+    requires counted { IsCounted block.block }
+    requires writable { IsWritable block.after }
+    ensures { IfOk result (λ told. told ≡ ran block) }
 {
-    let mut output = record_bytes(alloc, &block.block)?;
-    output.append(snapshot_bytes(alloc, &block.after)?.as_slice())?;
-    let notes = refused_notes(alloc, block.refused.as_slice())?;
+    let BlockResult {
+        block,
+        after,
+        refused,
+    } = block;
+    let output = output_of(rt, alloc, lanes, block, after)?;
+    let notes = refused_notes(alloc, refused.as_slice())?;
     Ok(Answer {
         status: 0,
         output,
         notes,
     })
+}
+
+/// The record and the snapshot: in one buffer on one lane, and on several each beside the other, which
+/// gives its memory back at once.
+fn output_of<R: Threads + Sync>(
+    rt: &R,
+    alloc: Global,
+    lanes: u32,
+    block: Block,
+    after: Snapshot,
+) -> Result<Blob, OutOfMemory>
+    requires counted { IsCounted block }
+    requires writable { IsWritable after }
+    ensures { IfOk result (λ output. output ≡ bytes_of_record block ++ bytes_of_snapshot after) }
+{
+    if lanes == 1 {
+        return output_bytes(alloc, &block, &after);
+    }
+    let (record, snapshot) = join(
+        rt,
+        move || -> Result<Blob, OutOfMemory>
+            requires { IsCounted block }
+            ensures { IfOk result (λ bytes. bytes ≡ bytes_of_record block) }
+        { record_bytes(alloc, &block) },
+        move || -> Result<Blob, OutOfMemory>
+            requires { IsWritable after }
+            ensures { IfOk result (λ bytes. bytes ≡ bytes_of_snapshot after) }
+        { snapshot_bytes(alloc, &after) },
+    );
+    let mut output = record?;
+    output.append(snapshot?.as_slice())?;
+    Ok(output)
 }
 
 /// A line for each transaction that did not run.

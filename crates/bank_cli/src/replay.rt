@@ -10,16 +10,13 @@ use crate::texts::{append_hash, append_number, refuse_record, refuse_snapshot, t
 use crate::top::REPLAY_DIFFERS;
 use bank_lanes::Gate;
 use block_record::{Block, read_record};
-use block_replay::{Field, Verdict, compare};
+use block_replay::{Field, OF_BLOCK, Verdict, compare};
 use block_run::run_listed;
 use snapshot_codec::{Snapshot, read_snapshot};
 use sol_base::{Blob, Hash32, OutOfMemory};
 use std::alloc::Global;
 use std::sync::Wait;
 use std::thread::Threads;
-
-/// What stands in the place of an entry where the block's own fields differ.
-const OF_BLOCK: u32 = u32::MAX;
 
 /// The answer to `replay`: a snapshot and a record after it.
 pub(crate) fn replayed<G: Gate, R: Threads + Wait + Sync>(

@@ -7,8 +7,9 @@ ghost use Rattle.snapshot_codec.specs.BatchReading.{is_batch_memory};
 ghost use Rattle.block_record.specs.RecordReading.{is_record_memory};
 ghost use Rattle.sbpf_asm.specs.Assembly.{is_asm_memory};
 ghost use Rattle.sbpf_asm.specs.Listing.{is_list_memory};
+ghost use Rattle.admission.specs.Refusals.{placed};
 ghost use Rattle.bank_cli.specs.Answer.{refused, written};
-ghost use Rattle.bank_cli.specs.Texts.{asm_text, batch_text, line, list_text, placed, record_text, snapshot_text, verify_text};
+ghost use Rattle.bank_cli.specs.Texts.{asm_text, batch_text, line, list_text, record_text, snapshot_text, verify_text};
 
 use crate::answer::Answer;
 use crate::top::INPUT_REFUSED;

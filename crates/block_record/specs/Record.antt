@@ -24,11 +24,16 @@ entry_bytes entry =
 abbrev pub entries_bytes : List Entry → List ℕ
 entries_bytes entries = to_le_bytes w32 (length entries) ++ flat_map entry_bytes entries
 
+-- a block up to the end of its entries
+abbrev pub front_bytes : Block → List ℕ
+front_bytes block =
+    codes "SOLBLCK1" ++ to_le_bytes w64 block.slot ++ key_bytes block.collector ++ hash_bytes block.previous
+    ++ entries_bytes block.entries
+
 -- all that the block hash is of
 abbrev pub block_bytes : Block → List ℕ
 block_bytes block =
-    codes "SOLBLCK1" ++ to_le_bytes w64 block.slot ++ key_bytes block.collector ++ hash_bytes block.previous
-    ++ entries_bytes block.entries ++ to_le_bytes w64 block.burned ++ to_le_bytes w64 block.collected ++ hash_bytes block.state
+    front_bytes block ++ to_le_bytes w64 block.burned ++ to_le_bytes w64 block.collected ++ hash_bytes block.state
 
 abbrev pub hash_of_block : Block → Hash32
 hash_of_block block = record { 0 = sha256 (block_bytes block) }

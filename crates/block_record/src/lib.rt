@@ -13,7 +13,7 @@ pub use block::{Block, Entry, Listed};
 pub use fault::RecordFault;
 pub use laws::written_records_are_read;
 pub use reading::read_record;
-pub use writing::{block_hash, lines_bytes, record_bytes};
+pub use writing::{begin_hash, block_hash, end_hash, lines_bytes, output_bytes, record_bytes};
 
 #[cfg(test)]
 mod tests;

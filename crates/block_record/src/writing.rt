@@ -1,15 +1,17 @@
-ghost use Rattle.std.specs.Prelude.{◌≡◌, ◌≤◌, length, All, OnOk, IfOk};
+ghost use Rattle.std.specs.Prelude.{◌≡◌, ◌≤◌, ◌++◌, length, All, OnOk, IfOk};
 ghost use Rattle.std.specs.List.{flat_map};
+ghost use Rattle.sha2.specs.Hashers.{Holds256};
 ghost use Rattle.spec_base.specs.Bytes.{sized_bytes};
 ghost use Rattle.message_codec.specs.Wire.{IsCountable, max_wire_len};
 ghost use Rattle.snapshot_codec.specs.Output.{Adds};
-ghost use Rattle.block_record.specs.Record.{AreCountable, IsCounted, bytes_of_lines, entry_bytes, entries_bytes, block_bytes, hash_of_block, bytes_of_record};
+ghost use Rattle.snapshot_codec.specs.Snapshot.{IsWritable, snapshot_bytes};
+ghost use Rattle.block_record.specs.Record.{AreCountable, IsCounted, bytes_of_lines, entry_bytes, entries_bytes, front_bytes, block_bytes, hash_of_block, bytes_of_record};
 
 use crate::block::{Block, Entry};
 use crate::entries::ENTRY_LEN;
 use crate::lines::LENGTH_LEN;
 use sha2::{Digest, Sha256};
-use snapshot_codec::Output;
+use snapshot_codec::{Output, Snapshot, append_snapshot, room_before};
 use sol_base::{Blob, Hash32, Items, OutOfMemory};
 use std::alloc::Global;
 use tx_report::status_bytes;
@@ -81,16 +83,24 @@ fn write_entries<O: Output>(out: &mut O, entries: &[Entry]) -> Result<(), OutOfM
     write_each_entry(out, entries)
 }
 
-/// Writes all of a record but the block hash.
-fn write_block<O: Output>(out: &mut O, block: &Block) -> Result<(), OutOfMemory>
+/// Writes a record up to the end of its entries.
+fn write_front<O: Output>(out: &mut O, block: &Block) -> Result<(), OutOfMemory>
     requires { IsCounted block.now }
-    ensures { OnOk result (Adds O.holds out.old out.new (block_bytes block.now)) }
+    ensures { OnOk result (Adds O.holds out.old out.new (front_bytes block.now)) }
 {
     out.append(&MAGIC)?;
     out.append(&block.slot.to_le_bytes())?;
     out.append(&block.collector.0)?;
     out.append(&block.previous.0)?;
-    write_entries(out, block.entries.as_slice())?;
+    write_entries(out, block.entries.as_slice())
+}
+
+/// Writes all of a record but the block hash.
+fn write_block<O: Output>(out: &mut O, block: &Block) -> Result<(), OutOfMemory>
+    requires { IsCounted block.now }
+    ensures { OnOk result (Adds O.holds out.old out.new (block_bytes block.now)) }
+{
+    write_front(out, block)?;
     out.append(&block.burned.to_le_bytes())?;
     out.append(&block.collected.to_le_bytes())?;
     out.append(&block.state.0)
@@ -116,25 +126,67 @@ fn record_len(entries: &[Entry]) -> usize {
     sum
 }
 
-/// The record of the block (the project's own format). The hash that stands in it is the block's own.
+/// Adds the record of the block (the project's own format). The hash that stands in it is the block's
+/// own.
+fn append_record(out: &mut Blob, block: &Block) -> Result<(), OutOfMemory>
+    requires { IsCounted block.now }
+    ensures { OnOk result (out.new ≡ out.old ++ bytes_of_record block.now) }
+{
+    write_block(out, block)?;
+    out.append(&block.hash.0)
+}
+
+/// The record of the block. The hash that stands in it is the block's own.
 pub fn record_bytes(alloc: Global, block: &Block) -> Result<Blob, OutOfMemory>
     requires { IsCounted block.now }
     ensures { IfOk result (λ bytes. bytes ≡ bytes_of_record block.now) }
 {
     let mut out = Blob::with_capacity(alloc, record_len(block.entries.as_slice()))?;
-    write_block(&mut out, block)?;
-    out.append(&block.hash.0)?;
+    append_record(&mut out, block)?;
     Ok(out)
 }
 
-/// The SHA-256 of all that stands before the block hash in the block's record. No copy of it is made.
+/// The record of the block and the snapshot after it, in one buffer.
+pub fn output_bytes(alloc: Global, block: &Block, after: &Snapshot) -> Result<Blob, OutOfMemory>
+    requires counted { IsCounted block.now }
+    requires writable { IsWritable after.now }
+    ensures { IfOk result (λ bytes.
+        bytes ≡ bytes_of_record block.now ++ snapshot_bytes after.now) }
+{
+    let mut out = room_before(alloc, record_len(block.entries.as_slice()), after)?;
+    append_record(&mut out, block)?;
+    append_snapshot(&mut out, after)?;
+    Ok(out)
+}
+
+/// A hash that has taken the block's record up to the end of its entries: the block may be known no
+/// further. No copy of the record is made.
+pub fn begin_hash(block: &Block) -> Result<Sha256, OutOfMemory>
+    requires { IsCounted block.now }
+    ensures { IfOk result (λ hasher. Holds256 hasher (front_bytes block.now)) }
+{
+    let mut hasher = Sha256::new();
+    write_front(&mut hasher, block)?;
+    Ok(hasher)
+}
+
+/// The SHA-256 of all that stands before the block hash in the block's record.
+pub fn end_hash(mut hasher: Sha256, block: &Block) -> Hash32
+    requires { Holds256 hasher (front_bytes block.now) }
+    ensures { result ≡ hash_of_block block.now }
+{
+    hasher.update(&block.burned.to_le_bytes());
+    hasher.update(&block.collected.to_le_bytes());
+    hasher.update(&block.state.0);
+    Hash32(hasher.finalize())
+}
+
+/// The same at once.
 pub fn block_hash(_alloc: Global, block: &Block) -> Result<Hash32, OutOfMemory>
     requires { IsCounted block.now }
     ensures { IfOk result (λ hash. hash ≡ hash_of_block block.now) }
 {
-    let mut hasher = Sha256::new();
-    write_block(&mut hasher, block)?;
-    Ok(Hash32(hasher.finalize()))
+    Ok(end_hash(begin_hash(block)?, block))
 }
 
 /// The number of lines and the lines, as they stand in an entry.

@@ -11,7 +11,7 @@ use std::alloc::Global;
 use tx_report::status_bytes;
 
 /// What stands in the place of an entry where the block's own fields differ.
-const OF_BLOCK: u32 = u32::MAX;
+pub const OF_BLOCK: u32 = u32::MAX;
 
 /// Compares a record with what its entries give when they run again, over a snapshot of this slot
 /// whose newest block has this hash. The answer is the first difference in the order of the record;

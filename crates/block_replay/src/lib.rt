@@ -5,7 +5,7 @@
 mod comparing;
 mod verdict;
 
-pub use comparing::compare;
+pub use comparing::{OF_BLOCK, compare};
 pub use verdict::{Field, Verdict};
 
 #[cfg(test)]

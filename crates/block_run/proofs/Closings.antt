@@ -15,11 +15,13 @@ use Rattle.sol_base.specs.declared.limits.Limits.{Limits}
 use Rattle.sol_base.specs.Keys.{hash_cmp}
 use Rattle.message_codec.specs.Wire.{IsCountable}
 use Rattle.fee_rules.specs.declared.split.FeeSplit.{FeeSplit}
+use Rattle.fee_rules.specs.Fees.{split_of}
 use Rattle.status_cache.specs.declared.recent.Mark.{Mark}
-use Rattle.status_cache.specs.Recent.{max_marks}
+use Rattle.status_cache.specs.Recent.{max_marks, newest_of}
 use Rattle.tx_report.specs.declared.outcome.Outcome.{Outcome}
 use Rattle.account_store.specs.State.{State, at, len, put}
-use Rattle.snapshot_codec.specs.Snapshot.{AreAllowed, IsWritable}
+use Rattle.snapshot_codec.specs.declared.snapshot.Snapshot.{Snapshot}
+use Rattle.snapshot_codec.specs.Snapshot.{hash_of_state}
 use Rattle.block_record.specs.declared.block.Block.{Block}
 use Rattle.block_record.specs.declared.block.Entry.{Entry}
 use Rattle.block_record.specs.Record.{AreCountable, IsCounted}
@@ -27,8 +29,10 @@ use Rattle.admission.specs.declared.chosen.Chosen.{Chosen}
 use Rattle.admission.specs.Batches.{IsOf}
 use Rattle.tx_exec.specs.TransactionLaws.{IsSmallOutcome}
 use Rattle.block_run.specs.SerialRun.{Ran}
-use Rattle.block_run.specs.BlockEnd.{Shares, activate_all, may_collect, more, share, share_fees}
-use Rattle.block_run.specs.Blocks.{ascending, entries_of, entry_of, placed, processed_by, processed_in}
+use Rattle.block_run.specs.BlockEnd.{Shares, activate_all, base_fees, may_collect, more, priority_fees, settled, share, share_fees}
+use Rattle.block_run.specs.declared.block.Closed.{Closed}
+use Rattle.block_run.specs.declared.block.Head.{Head}
+use Rattle.block_run.specs.Blocks.{ascending, closed_with, entered, entries_of, entry_of, placed, processed_by, processed_in, sealed}
 use Rattle.block_run.specs.Ending.{AreOf, MayEnd}
 use Rattle.block_run.proofs.Runs.{len-put}
 use Rattle.block_run.proofs.Activating.{len-activate_all}
@@ -45,14 +49,10 @@ len-share s collector split =
     either_few _ (len s + 1) (record { accounts = put s collector paid; burned = split.burned; collected = split.rest }) (record { accounts = s; burned = split.burned + split.rest; collected = 0 })
     (len-put s collector paid) (omega arith)
 
-pub len-share_fees : (s : State) (collector : Key) (outcomes : List Outcome) → len (share_fees s collector outcomes).accounts ≤ len s + 1
-unfolding share_fees
-len-share_fees s collector outcomes = len-share s collector _
-
-pub accounts_few : (s : State) (collector : Key) (outcomes : List Outcome) → len s + 1 < 2 ^ 32 → len (activate_all (share_fees s collector outcomes).accounts) < 2 ^ 32
-accounts_few s collector outcomes room =
-    let a = len-share_fees s collector outcomes in
-    let b = len-activate_all (share_fees s collector outcomes).accounts in
+pub settled_few : (s : State) (collector : Key) (split : FeeSplit) → len s + 1 < 2 ^ 32 → len (settled s collector split).accounts < 2 ^ 32
+settled_few s collector split room =
+    let a = len-share s collector split in
+    let b = len-activate_all (share s collector split).accounts in
     omega (arith, a, b, room)
 
 -- ---- the entries
@@ -141,3 +141,14 @@ pub marks_few : (mark : Mark) (recent : List Mark) → length mark.messages ≤ 
 marks_few mark recent one all =
     All-weaker (λ (m : Mark). length m.messages ≤ 16384) (λ (m : Mark). length m.messages < 2 ^ 32) (λ m h. omega (arith, h)) (take max_marks (mark ∷ recent))
     (All-take (λ (m : Mark). length m.messages ≤ 16384) max_marks (mark ∷ recent) (All-cons (λ (m : Mark). length m.messages ≤ 16384) mark recent one all))
+
+-- ---- the end
+-- a block and the snapshot after it, from their parts
+pub closed_is : (s : Snapshot) (head : Head) (wires : List (List ℕ)) (order : List Chosen) (ran : Ran) (split : FeeSplit) (previous : Hash32) (shares : Shares) (state : Hash32) (known block : Block) (names : List Hash32) (recent : List Mark)
+    → split ≡ split_of (base_fees ran.outcomes) (priority_fees ran.outcomes) → previous ≡ newest_of s.recent
+    → shares ≡ settled ran.accounts head.collector split → state ≡ hash_of_state shares.accounts
+    → known ≡ entered head previous wires order ran.outcomes → block ≡ sealed (record known { burned = shares.burned; collected = shares.collected; state = state })
+    → names ≡ ascending (processed_in order ran.outcomes) → recent ≡ take max_marks (record { hash = block.hash; messages = names } ∷ s.recent)
+    → (let end : Closed = record { block = block; after = record { slot = head.slot; limits = s.limits; recent = recent; accounts = shares.accounts } } in end) ≡ closed_with s head wires order ran
+unfolding share_fees
+closed_is s head wires order ran split previous shares state known block names recent e0 e1 e2 e3 e4 e5 e6 e7 = rw (e7, e6, e5, e4, e3, e2, e1, e0) refl

@@ -1,16 +1,27 @@
--- Activation, one account after another.
-use Rattle.std.specs.Prelude.{◌≡◌, false, Option, Some, None, option_map}
+-- Activation: the programs that become executable, and the accounts while they are put.
+use Rattle.std.specs.Prelude.{◌≡◌, ℕ, List, Option, Some, false, option_map}
+use Rattle.std.specs.List.{AllByRecursion, filter_map}
 use Rattle.sol_base.specs.declared.key.Key.{Key}
 use Rattle.sol_base.specs.declared.account.Account.{Account}
-use Rattle.account_store.specs.State.{State, entries_after, get, is_above, put}
-use Rattle.loader_prog.specs.Loader.{active}
+use Rattle.sol_base.specs.Keys.{same_key}
+use Rattle.account_store.specs.declared.sorted.KeyedAccount.{KeyedAccount}
+use Rattle.account_store.specs.State.{State, IsState, entries, get}
+use Rattle.loader_prog.specs.Loader.{activated, active}
 
--- the state, where one account of it is activated
-abbrev pub activated_at : State → Option (Key × Account) → State
-activated_at state None = state
-activated_at state (Some e) = put state e.0 (active e.1)
+abbrev pub keyed : Key → Account → KeyedAccount
+keyed key account = record { key = key; account = account }
 
--- all accounts up to a key are activated, and those after it are as they were
-pub record IsHalfway (start : State) (last : Option Key) (now : State) : Type 0 where
-  pub behind : (q : Key) → is_above last q ≡ false → get now q ≡ option_map active (get start q)
-  pub ahead : entries_after now last ≡ entries_after start last
+-- an account as it is to be, if it becomes executable
+abbrev pub activated_entry : Key × Account → Option KeyedAccount
+activated_entry e = option_map (keyed e.0) (activated e.1)
+
+-- those that become executable, with their keys
+abbrev pub activated_in : State → List KeyedAccount
+activated_in state = filter_map activated_entry (entries state)
+
+-- some of these are still to be put, and all others are as they are to be
+pub record IsPartly (start now : State) (left : List KeyedAccount) : Type 0 where
+  pub state : IsState now
+  pub same : (q : Key) → option_map active (get now q) ≡ option_map active (get start q)
+  pub ahead : AllByRecursion (λ e. option_map active (get start e.key) ≡ Some e.account) left
+  pub others : (q : Key) → AllByRecursion (λ e. same_key q e.key ≡ false) left → option_map active (get now q) ≡ get now q

@@ -50,3 +50,7 @@ share_fees state collector outcomes = share state collector (split_of (base_fees
 -- every account as the loader leaves it at the end of a block
 unfoldable pub activate_all : State → State
 activate_all state = from_entries (map (λ e. (e.0, active e.1)) (entries state))
+
+-- the accounts at the end of a block, which has so many fees to share, and the lamports burned and paid
+abbrev pub settled : State → Key → FeeSplit → Shares
+settled state collector split = let shares = share state collector split in record shares { accounts = activate_all shares.accounts }

@@ -69,6 +69,19 @@ mark_of hash order outcomes = record { hash = hash; messages = ascending (proces
 abbrev pub no_hash : Hash32
 no_hash = record { 0 = replicate 32 0 }
 
+-- a block as far as it is known by its entries
+abbrev pub entered : Head → Hash32 → List (List ℕ) → List Chosen → List Outcome → Block
+entered head previous wires order outcomes = record {
+  slot = head.slot;
+  collector = head.collector;
+  previous = previous;
+  entries = entries_of wires order outcomes;
+  burned = 0;
+  collected = 0;
+  state = no_hash;
+  hash = no_hash;
+}
+
 -- a block with the hash of all that stands before it in the record
 abbrev pub sealed : Block → Block
 sealed block = record block { hash = hash_of_block block }

@@ -1,47 +1,38 @@
 //! Programs that became final in a block are executable from its end on.
-ghost use Rattle.std.specs.Prelude.{◌≡◌, IfOk, OnOk, option_map};
-ghost use Rattle.std.specs.Option.{option_copied};
-ghost use Rattle.account_store.specs.State as state;
+ghost use Rattle.std.specs.Prelude.{◌≡◌, IfOk, OnOk};
 ghost use Rattle.account_store.specs.State.{IsState};
-ghost use Rattle.block_run.specs.Activation.{activated_at};
+ghost use Rattle.block_run.specs.Activation.{activated_in};
 ghost use Rattle.block_run.specs.BlockEnd.{activate_all};
 
-use account_store::Accounts;
+use account_store::{Accounts, KeyedAccount};
 use loader_prog::activate_one;
-use sol_base::{Key, OutOfMemory};
+use sol_base::OutOfMemory;
 use std::alloc::Global;
 use std::sync::Arc;
 
-/// Activates the account after the given key, if it is to be, and tells its key. No other is touched.
-fn activate_next(
-    alloc: Global,
-    accounts: &mut Accounts,
-    last: Option<&Key>,
-) -> Result<Option<Key>, OutOfMemory>
-    ensures state { OnOk result (IsState accounts.old) }
-    ensures next { IfOk result (λ key. key
-        ≡ option_map (λ e. e.0) (state.next_after accounts.old (option_copied last.entry))) }
-    ensures put { OnOk result (accounts.new
-        ≡ activated_at accounts.old (state.next_after accounts.old (option_copied last.entry))) }
+/// The programs that become executable, with their keys. The accounts are walked once.
+fn activated_in(alloc: Global, accounts: &Accounts) -> Result<Vec<KeyedAccount>, OutOfMemory>
+    ensures found { IfOk result (λ found. found.items ≡ activated_in accounts.now) }
+    ensures state { OnOk result (IsState accounts.now) }
 {
-    let Some((key, account)) = accounts.next_after(last) else {
-        return Ok(None);
-    };
-    let key = *key;
-    if let Some(active) = activate_one(alloc, account)? {
-        accounts.put(key, Arc::new(alloc, active)?)?;
+    let mut found = Vec::new(alloc);
+    let mut rest = accounts.iter();
+    while let Some((key, account)) = rest.next() {
+        if let Some(account) = activate_one(alloc, account)? {
+            found.push(KeyedAccount { key: *key, account })?;
+        }
     }
-    Ok(Some(key))
+    Ok(found)
 }
 
-/// Every account as the loader leaves it at the end of a block. The accounts are walked once, and
-/// only those that become executable are put back.
+/// Every account as the loader leaves it at the end of a block. Only those that become executable are
+/// put back.
 pub(crate) fn activate_all(alloc: Global, mut accounts: Accounts) -> Result<Accounts, OutOfMemory>
     ensures { IfOk result (λ after. after ≡ activate_all accounts) }
 {
-    let mut last = None;
-    while let Some(key) = activate_next(alloc, &mut accounts, last.as_ref())? {
-        last = Some(key);
+    for found in activated_in(alloc, &accounts)? {
+        let KeyedAccount { key, account } = found;
+        accounts.put(key, Arc::new(alloc, account)?)?;
     }
     Ok(accounts)
 }

@@ -1,38 +1,191 @@
 //! The end of a block: its record, and the snapshot after it.
-ghost use Rattle.std.specs.Prelude.{◌≡◌, ◌≤◌, All, IfOk, length};
-ghost use Rattle.block_record.specs.Record.{IsCounted};
-ghost use Rattle.snapshot_codec.specs.Snapshot.{AreAllowed, IsWritable};
-ghost use Rattle.block_run.specs.Blocks.{closed_with, sealed};
-ghost use Rattle.block_run.specs.Ending.{MayEnd, ran_of};
+ghost use Rattle.std.specs.Prelude.{◌≡◌, ◌+◌, ◌<◌, ◌≤◌, ◌^◌, All, IfOk, length};
+ghost use Rattle.sha2.specs.Hashers.{Holds256};
+ghost use Rattle.account_store.specs.State.{len, sum};
+ghost use Rattle.tx_exec.specs.TransactionLaws.{IsSmallOutcome};
+ghost use Rattle.block_record.specs.Record.{IsCounted, front_bytes};
+ghost use Rattle.snapshot_codec.specs.Snapshot.{AreAllowed, IsWritable, hash_of_state};
+ghost use Rattle.block_run.specs.BlockEnd.{settled};
+ghost use Rattle.block_run.specs.Blocks.{closed_with, entered, sealed};
+ghost use Rattle.block_run.specs.Ending.{AreOf, MayEnd, ran_of};
 
 use crate::activation::activate_all;
 use crate::block::{Closed, Head};
 use crate::entries::entries_of;
-use crate::fees::{Shared, share_fees};
+use crate::fees::{Shared, share_split, split_paid};
 use crate::names::processed_names;
+use crate::threads::call_both;
+use account_store::Accounts;
 use admission::Chosen;
 use bank_core::Sealed;
-use block_record::{Block, block_hash};
+use block_record::{Block, begin_hash, end_hash};
+use fee_rules::FeeSplit;
+use sha2::Sha256;
 use snapshot_codec::{Snapshot, state_hash};
-use sol_base::{Blob, Hash32, Items, Limits, OutOfMemory};
+use sol_base::{Blob, Hash32, Items, Key, Limits, OutOfMemory};
 use status_cache::{Mark, Recent};
 use std::alloc::Global;
+use std::thread::Threads;
+use tx_report::Outcome;
 
-/// The block with its hash.
-fn seal(alloc: Global, block: Block) -> Result<Block, OutOfMemory>
-    requires { IsCounted block }
-    ensures exact { IfOk result (λ answer. answer ≡ sealed block) }
-    ensures counted { IfOk result IsCounted }
+/// The accounts after a block with their hash, and the lamports burned and paid.
+#[derive(Drop)]
+struct Settled {
+    accounts: Accounts,
+    burned: u64,
+    collected: u64,
+    state: Hash32,
+}
+
+/// Shares the fees; then programs become executable, and the state hash is of these accounts.
+fn settle(
+    alloc: Global,
+    accounts: Accounts,
+    collector: &Key,
+    split: FeeSplit,
+) -> Result<Settled, OutOfMemory>
+    requires supply { sum accounts + split.burned + split.rest < 2 ^ 64 }
+    requires room { len accounts + 1 < 2 ^ 32 }
+    ensures shares { IfOk result (λ end. (record {
+      accounts = end.accounts;
+      burned = end.burned;
+      collected = end.collected;
+    })
+        ≡ settled accounts collector.now split) }
+    ensures state { IfOk result (λ end. end.state ≡ hash_of_state end.accounts) }
 {
-    let mut block = block;
-    block.hash = block_hash(alloc, &block)?;
-    Ok(block)
+    let Shared {
+        accounts,
+        burned,
+        collected,
+    } = share_split(alloc, accounts, collector, split)?;
+    let accounts = activate_all(alloc, accounts)?;
+    let state = state_hash(alloc, &accounts)?;
+    Ok(Settled {
+        accounts,
+        burned,
+        collected,
+        state,
+    })
+}
+
+/// A block as far as it is known by its entries, and its hash so far.
+#[derive(Drop)]
+struct Entered {
+    block: Block,
+    hasher: Sha256,
+}
+
+/// Lists the entries, and hashes the record up to their end.
+fn enter(
+    alloc: Global,
+    head: &Head,
+    previous: Hash32,
+    wires: &Items<Blob>,
+    order: &[Chosen],
+    outcomes: Items<Outcome>,
+) -> Result<Entered, OutOfMemory>
+    requires of { AreOf wires.now order.now }
+    requires one_each { length outcomes ≡ length order.now }
+    requires small { All IsSmallOutcome outcomes }
+    ensures block { IfOk result (λ e.
+        e.block ≡ entered head.now previous wires.now order.now outcomes) }
+    ensures counted { IfOk result (λ e. IsCounted e.block) }
+    ensures hasher { IfOk result (λ e. Holds256 e.hasher (front_bytes e.block)) }
+{
+    let block = Block {
+        slot: head.slot,
+        collector: head.collector,
+        previous,
+        entries: entries_of(alloc, wires.as_slice(), order, outcomes)?,
+        burned: 0,
+        collected: 0,
+        state: Hash32([0; 32]),
+        hash: Hash32([0; 32]),
+    };
+    let hasher = begin_hash(&block)?;
+    Ok(Entered { block, hasher })
+}
+
+/// The accounts are settled beside the entries, where there are several lanes.
+fn end_run<R: Threads + Sync>(
+    rt: &R,
+    alloc: Global,
+    lanes: u32,
+    head: &Head,
+    previous: Hash32,
+    wires: &Items<Blob>,
+    order: &[Chosen],
+    split: FeeSplit,
+    run: Sealed,
+) -> Result<(Settled, Entered), OutOfMemory>
+    requires supply { sum run.accounts + split.burned + split.rest < 2 ^ 64 }
+    requires room { len run.accounts + 1 < 2 ^ 32 }
+    requires of { AreOf wires.now order.now }
+    requires one_each { length run.outcomes ≡ length order.now }
+    requires small { All IsSmallOutcome run.outcomes }
+    ensures shares { IfOk result (λ end. (record {
+      accounts = end.0.accounts;
+      burned = end.0.burned;
+      collected = end.0.collected;
+    })
+        ≡ settled run.accounts head.now.collector split) }
+    ensures state { IfOk result (λ end. end.0.state ≡ hash_of_state end.0.accounts) }
+    ensures block { IfOk result (λ end.
+        end.1.block ≡ entered head.now previous wires.now order.now run.outcomes) }
+    ensures counted { IfOk result (λ end. IsCounted end.1.block) }
+    ensures hasher { IfOk result (λ end. Holds256 end.1.hasher (front_bytes end.1.block)) }
+{
+    let Sealed { accounts, outcomes } = run;
+    let (settled, entered) = call_both(
+        rt,
+        lanes,
+        move || -> Result<Settled, OutOfMemory>
+            requires { (sum accounts + split.burned + split.rest < 2 ^ 64) × (len accounts + 1 < 2 ^ 32) }
+            ensures shares { IfOk result (λ end. (record {
+              accounts = end.accounts;
+              burned = end.burned;
+              collected = end.collected;
+            })
+                ≡ settled accounts head.entry.now.collector split) }
+            ensures state { IfOk result (λ end. end.state ≡ hash_of_state end.accounts) }
+        { settle(alloc, accounts, &head.collector, split) },
+        move || -> Result<Entered, OutOfMemory>
+            requires { AreOf wires.now order.now × (length outcomes ≡ length order.now) × All IsSmallOutcome outcomes }
+            ensures block { IfOk result (λ e.
+                e.block ≡ entered head.entry.now previous wires.entry.now order.entry.now outcomes) }
+            ensures counted { IfOk result (λ e. IsCounted e.block) }
+            ensures hasher { IfOk result (λ e. Holds256 e.hasher (front_bytes e.block)) }
+        { enter(alloc, head, previous, wires, order, outcomes) },
+    );
+    Ok((settled?, entered?))
+}
+
+/// The block with the accounts' hash, the lamports burned and paid, and its own hash.
+fn seal(entered: Entered, burned: u64, collected: u64, state: Hash32) -> Block
+    requires counted { IsCounted entered.block }
+    requires hasher { Holds256 entered.hasher (front_bytes entered.block) }
+    ensures exact { result ≡ sealed (record entered.block {
+      burned = burned;
+      collected = collected;
+      state = state;
+    }) }
+    ensures counted { IsCounted result }
+{
+    let Entered { mut block, hasher } = entered;
+    block.burned = burned;
+    block.collected = collected;
+    block.state = state;
+    block.hash = end_hash(hasher, &block);
+    block
 }
 
 /// The record of a run, and the snapshot after it: the fees are shared, then programs become
 /// executable, and the state hash is of these accounts.
-pub(crate) fn close(
+pub(crate) fn close<R: Threads + Sync>(
+    rt: &R,
     alloc: Global,
+    lanes: u32,
     limits: Limits,
     recent: Recent,
     head: &Head,
@@ -49,27 +202,17 @@ pub(crate) fn close(
     ensures counted { IfOk result (λ end. IsCounted end.block) }
     ensures writable { IfOk result (λ end. IsWritable end.after) }
 {
-    let Sealed { accounts, outcomes } = run;
-    let names = processed_names(alloc, order, outcomes.as_slice())?;
-    let Shared {
+    let names = processed_names(alloc, order, run.outcomes.as_slice())?;
+    let split = split_paid(run.outcomes.as_slice());
+    let previous = recent.newest();
+    let (settled, entered) = end_run(rt, alloc, lanes, head, previous, wires, order, split, run)?;
+    let Settled {
         accounts,
         burned,
         collected,
-    } = share_fees(alloc, accounts, &head.collector, outcomes.as_slice())?;
-    let accounts = activate_all(alloc, accounts)?;
-    let block = seal(
-        alloc,
-        Block {
-            slot: head.slot,
-            collector: head.collector,
-            previous: recent.newest(),
-            entries: entries_of(alloc, wires.as_slice(), order, outcomes)?,
-            burned,
-            collected,
-            state: state_hash(alloc, &accounts)?,
-            hash: Hash32([0; 32]),
-        },
-    )?;
+        state,
+    } = settled;
+    let block = seal(entered, burned, collected, state);
     let mut recent = recent;
     recent.advance(Mark {
         hash: block.hash,

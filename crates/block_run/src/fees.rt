@@ -2,7 +2,7 @@
 ghost use Rattle.std.specs.Prelude.{◌≡◌, ◌+◌, ◌-◌, ◌^◌, ◌<◌, ◌≤◌, IfOk, Some, None, if◌then◌else◌};
 ghost use Rattle.account_store.specs.State.{at, sum};
 ghost use Rattle.fee_rules.specs.Fees.{split_of};
-ghost use Rattle.block_run.specs.BlockEnd.{base_fees, priority_fees, may_collect, more, share, share_fees};
+ghost use Rattle.block_run.specs.BlockEnd.{base_fees, priority_fees, may_collect, more, share};
 
 use account_store::Accounts;
 use fee_rules::{FeeSplit, split_fees};
@@ -21,8 +21,8 @@ pub(crate) struct Shared {
     pub(crate) collected: u64,
 }
 
-/// The fees that were paid, split. They are summed once.
-fn split_paid(outcomes: &[Outcome]) -> FeeSplit
+/// The fees that were paid, split (Solana; the rounding is the project's own). They are summed once.
+pub(crate) fn split_paid(outcomes: &[Outcome]) -> FeeSplit
     requires { base_fees outcomes.now + priority_fees outcomes.now < 2 ^ 64 }
     ensures { result ≡ split_of (base_fees outcomes.now) (priority_fees outcomes.now) }
 {
@@ -86,7 +86,7 @@ fn paid_account(
 }
 
 /// Pays the collector what is left of the fees, where it may have it; else that is burned too.
-fn share(
+pub(crate) fn share_split(
     alloc: Global,
     accounts: Accounts,
     collector: &Key,
@@ -117,23 +117,4 @@ fn share(
         burned: burned + rest,
         collected: 0,
     })
-}
-
-/// Burns and pays the fees of a block (Solana; the rounding is the project's own).
-#[tactic(auto, unfolding(crate::specs::BlockEnd::share_fees))]
-pub(crate) fn share_fees(
-    alloc: Global,
-    accounts: Accounts,
-    collector: &Key,
-    outcomes: &[Outcome],
-) -> Result<Shared, OutOfMemory>
-    requires { sum accounts + base_fees outcomes.now + priority_fees outcomes.now < 2 ^ 64 }
-    ensures { IfOk result (λ shared. (record {
-      accounts = shared.accounts;
-      burned = shared.burned;
-      collected = shared.collected;
-    })
-        ≡ share_fees accounts collector.now outcomes.now) }
-{
-    share(alloc, accounts, collector, split_paid(outcomes))
 }

@@ -49,7 +49,17 @@ fn run_order<G: Gate, R: Threads + Wait + Sync>(
         accounts,
     } = snapshot;
     let run = run_work(rt, alloc, accounts, &work, lanes, gate)?;
-    close(alloc, limits, recent, head, wires, work.chosen(), run)
+    close(
+        rt,
+        alloc,
+        lanes,
+        limits,
+        recent,
+        head,
+        wires,
+        work.chosen(),
+        run,
+    )
 }
 
 /// Runs the transactions of a batch that are admitted.

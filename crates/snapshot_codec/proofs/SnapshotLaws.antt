@@ -209,14 +209,3 @@ readable_written s is = record {
   messages = λ k d lt. let few = is.messages k d lt in omega arith;
   accounts = let few = is.accounts in omega arith;
 }
-
--- the parts of a snapshot, each written after those before it
-pub written : (s : Snapshot) (marks : List Mark) (none magic slot limits recent all : List ℕ) → none ≡ [] → magic ≡ none ++ codes "SOLSNAP2" → slot ≡ magic ++ to_le_bytes w64 s.slot → limits ≡ slot ++ limits_bytes s.limits
-    → marks ≡ s.recent → recent ≡ limits ++ marks_bytes marks → all ≡ recent ++ state_bytes s.accounts → all ≡ snapshot_bytes s
-written s marks none magic slot limits recent all e0 e1 e2 e3 same e4 e5 =
-    let a : magic ≡ codes "SOLSNAP2" = rw (e1, e0) refl in
-    let b : slot ≡ codes "SOLSNAP2" ++ to_le_bytes w64 s.slot = e2 ∙ ap (λ (l : List ℕ). l ++ to_le_bytes w64 s.slot) a in
-    let c : limits ≡ codes "SOLSNAP2" ++ to_le_bytes w64 s.slot ++ limits_bytes s.limits = e3 ∙ ap (λ (l : List ℕ). l ++ limits_bytes s.limits) b in
-    let d : recent ≡ codes "SOLSNAP2" ++ to_le_bytes w64 s.slot ++ limits_bytes s.limits ++ marks_bytes s.recent =
-    e4 ∙ ap (λ (l : List ℕ). l ++ marks_bytes marks) c ∙ ap (λ (ms : List Mark). codes "SOLSNAP2" ++ to_le_bytes w64 s.slot ++ limits_bytes s.limits ++ marks_bytes ms) same in
-    e5 ∙ ap (λ (l : List ℕ). l ++ state_bytes s.accounts) d

@@ -21,7 +21,7 @@ pub use laws::{
 pub use output::Output;
 pub use reading::read_snapshot;
 pub use snapshot::{Prefix, Snapshot};
-pub use writing::{snapshot_bytes, state_hash};
+pub use writing::{append_snapshot, room_before, snapshot_bytes, state_hash};
 
 #[cfg(test)]
 mod tests;

@@ -5,8 +5,7 @@ use Rattle.block_record.proofs.writing.write_block.Goals as goal
 
 pub returns : goal.returns
 returns g c =
-    on_ok_weaker c.append-7.result
-    (λ last. Adds-as
-    (Adds-then (Adds-then (Adds-then (Adds-then (Adds-then (Adds-then (Adds-then c.in_ok-append.ensures c.in_ok-append-2.ensures) c.in_ok-append-3.ensures) c.in_ok-append-4.ensures) c.in_ok-write_entries.ensures) c.in_ok-append-5.ensures) c.in_ok-append-6.ensures) last)
-    (rw (c.to_le_bytes.ensures, c.as_slice.ensures, c.to_le_bytes-2.ensures, c.to_le_bytes-3.ensures) refl))
-    c.append-7.ensures
+    on_ok_weaker c.append-3.result
+    (λ last. Adds-as (Adds-then (Adds-then (Adds-then c.in_ok-write_front.ensures c.in_ok-append.ensures) c.in_ok-append-2.ensures) last)
+    (rw (c.to_le_bytes.ensures, c.to_le_bytes-2.ensures) refl))
+    c.append-3.ensures

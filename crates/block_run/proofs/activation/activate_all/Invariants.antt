@@ -1,12 +1,7 @@
-use Rattle.std.proofs.Common.{length}
-use Rattle.account_store.specs.State.{entries_after}
-use Rattle.block_run.specs.Activation.{IsHalfway}
+use Rattle.std.specs.Vec.Iter.{into_iter_items}
+use Rattle.block_run.specs.Activation.{IsPartly}
 use Rattle.block_run.proofs.activation.activate_all.Given as goal
 
--- the accounts up to the last one are activated
-abbrev pub invariant-loop-accounts : goal.invariant-loop-accounts
-invariant-loop-accounts l = IsHalfway l.fn.accounts l.last l.accounts
-
--- those that are left
-abbrev pub decreases-loop-accounts : goal.decreases-loop-accounts
-decreases-loop-accounts l = length (entries_after l.accounts l.last)
+-- those that are left are still to be put
+abbrev pub invariant-loop-found : goal.invariant-loop-found
+invariant-loop-found l = IsPartly l.fn.accounts l.accounts (into_iter_items l.found-iterator)

@@ -20,7 +20,7 @@ run_work-requires-clause-room g c κs within =
     subst (λ (t : Told). locks_before (job_of t) (length t.chosen) < 2 ^ 32) (sym c.in_ok-work.ensures) b
 
 pub close-requires-clause-run : goal.close-requires-clause-run
-close-requires-clause-run g c =
+close-requires-clause-run g c κs within =
     let s = c.args.snapshot in
     let order = c.args.order in
     let same = same_run s c.args.head.now.slot order c.in_ok-work.work.told c.in_ok-run.run' c.in_ok-work.ensures c.in_ok-run.ensures.accounts c.in_ok-run.ensures.outcomes in

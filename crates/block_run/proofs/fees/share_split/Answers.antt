@@ -4,7 +4,7 @@ use Rattle.sol_base.specs.declared.account.Account.{Account}
 use Rattle.account_store.specs.State.{at, put, sum}
 use Rattle.account_store.proofs.StateLaws.{lamports-at-le, sum-put}
 use Rattle.block_run.specs.BlockEnd.{may_collect, more}
-use Rattle.block_run.proofs.fees.share.Goals as goal
+use Rattle.block_run.proofs.fees.share_split.Goals as goal
 
 pub paid_account-requires : goal.paid_account-requires
 paid_account-requires c = let a = lamports-at-le c.args.accounts c.args.collector.now in omega (arith, a, c.requires)
