@@ -169,29 +169,19 @@ fn load_of(alloc: Global, count: u16, bytes: usize) -> std::result::Result<Load,
     })
 }
 
-// The microseconds of a run over a shared desk.
-fn time_of_lanes<R: Threads + Wait + Sync + Clock>(
-    rt: &R,
-    alloc: Global,
-    work: &Load,
-    lanes: u32,
-) -> Result<u128>
-    requires some { 1 ≤ lanes }
-    requires most { lanes ≤ 64 }
-{
-    let accounts = Accounts::new(alloc);
-    let start = Instant::now(rt)?;
-    let end = end_by_lanes(rt, alloc, accounts, lanes, work, &OpenGate)?;
-    let time = start.elapsed(rt)?;
-    ensure!(!end.outcomes.is_empty(), "no outcome");
-    Ok(time.as_micros())
+// How lanes are run.
+#[derive(Clone, Copy, Debug)]
+enum Way {
+    Desk,
+    Waves,
 }
 
-// The microseconds of a run by waves.
-fn time_of_waves<R: Threads + Wait + Sync + Clock>(
+// The microseconds of a run.
+fn time_of<R: Threads + Wait + Sync + Clock>(
     rt: &R,
     alloc: Global,
     work: &Load,
+    way: Way,
     lanes: u32,
 ) -> Result<u128>
     requires some { 1 ≤ lanes }
@@ -199,7 +189,10 @@ fn time_of_waves<R: Threads + Wait + Sync + Clock>(
 {
     let accounts = Accounts::new(alloc);
     let start = Instant::now(rt)?;
-    let end = end_by_waves(rt, alloc, accounts, lanes, work, &OpenGate)?;
+    let end = match way {
+        Way::Desk => end_by_lanes(rt, alloc, accounts, lanes, work, &OpenGate)?,
+        Way::Waves => end_by_waves(rt, alloc, accounts, lanes, work, &OpenGate)?,
+    };
     let time = start.elapsed(rt)?;
     ensure!(!end.outcomes.is_empty(), "no outcome");
     Ok(time.as_micros())
@@ -208,15 +201,11 @@ fn time_of_waves<R: Threads + Wait + Sync + Clock>(
 fn main(rt: HostRuntime) -> Result<()> {
     for (name, count, bytes) in [("100 microseconds", 2_000, 22_000), ("nothing", 16_384, 0)] {
         let work = load_of(rt.alloc(), count, bytes)?;
-        for _ in 0..3u32 {
-            let one = time_of_lanes(&rt, rt.alloc(), &work, 1)?;
-            let two = time_of_lanes(&rt, rt.alloc(), &work, 2)?;
-            let four = time_of_lanes(&rt, rt.alloc(), &work, 4)?;
-            println!(rt; "{name}, lanes: 1 {one}, 2 {two}, 4 {four}")?;
-            let one = time_of_waves(&rt, rt.alloc(), &work, 1)?;
-            let two = time_of_waves(&rt, rt.alloc(), &work, 2)?;
-            let four = time_of_waves(&rt, rt.alloc(), &work, 4)?;
-            println!(rt; "{name}, waves: 1 {one}, 2 {two}, 4 {four}")?;
+        for way in [Way::Desk, Way::Waves, Way::Desk, Way::Waves, Way::Desk, Way::Waves] {
+            let one = time_of(&rt, rt.alloc(), &work, way, 1)?;
+            let two = time_of(&rt, rt.alloc(), &work, way, 2)?;
+            let four = time_of(&rt, rt.alloc(), &work, way, 4)?;
+            println!(rt; "{name}, {way:?}: 1 {one}, 2 {two}, 4 {four}")?;
         }
     }
     Ok(())
