@@ -30,17 +30,17 @@ const SETTING: Setting = Setting {
 };
 
 /// Instructions without accounts and data: the program, the units, how many were started before, and
-/// then the units left, how many are started, the cause if there is one, and how many lines.
-const CALLS: [(Key, u64, u8, u64, u8, Option<Cause>, usize); 7] = [
-    (COMPUTE_BUDGET_PROGRAM, 150, 0, 0, 1, None, 2),
-    (COMPUTE_BUDGET_PROGRAM, 200, 63, 50, 64, None, 2),
+/// then the units left, how many are started, how it ends, and how many lines.
+const CALLS: [(Key, u64, u8, u64, u8, Result<usize, (Cause, u8)>, usize); 7] = [
+    (COMPUTE_BUDGET_PROGRAM, 150, 0, 0, 1, Ok(4), 2),
+    (COMPUTE_BUDGET_PROGRAM, 200, 63, 50, 64, Ok(4), 2),
     (
         COMPUTE_BUDGET_PROGRAM,
         149,
         0,
         0,
         1,
-        Some(Cause::UnitsSpent),
+        Err((Cause::UnitsSpent, 1)),
         2,
     ),
     (
@@ -49,7 +49,7 @@ const CALLS: [(Key, u64, u8, u64, u8, Option<Cause>, usize); 7] = [
         0,
         0,
         1,
-        Some(Cause::InvalidInstruction),
+        Err((Cause::InvalidInstruction, 1)),
         2,
     ),
     (
@@ -58,59 +58,93 @@ const CALLS: [(Key, u64, u8, u64, u8, Option<Cause>, usize); 7] = [
         5,
         1,
         6,
-        Some(Cause::InvalidInstruction),
+        Err((Cause::InvalidInstruction, 1)),
         2,
     ),
-    (Key([0x77; 32]), 9, 0, 9, 1, Some(Cause::UnknownProgram), 2),
+    (
+        Key([0x77; 32]),
+        9,
+        0,
+        9,
+        1,
+        Err((Cause::UnknownProgram, 1)),
+        2,
+    ),
     (
         COMPUTE_BUDGET_PROGRAM,
         150,
         64,
         150,
         64,
-        Some(Cause::TraceTooLong),
+        Err((Cause::TraceTooLong, 1)),
         0,
     ),
 ];
 
+/// Runs an instruction of program 0 without data: what came of it, and how many lines. The tests need
+/// nothing of its contract.
+fn run(
+    alloc: Global,
+    programs: &Programs,
+    setting: &Setting,
+    keys: [Key; 4],
+    accounts: Items<Arc<Account>>,
+    metas: Items<Meta>,
+    units: u64,
+    trace: u8,
+) -> Result<(Ran, usize), OutOfMemory>
+    requires height { (1 ≤ setting.now.height) × (setting.now.height ≤ 9) }
+    requires accounts { AreGiven 4 (accounts_of accounts) }
+    requires metas { AreInRange 4 metas }
+{
+    let call = Call {
+        program: 0,
+        metas,
+        input: Blob::new(alloc),
+    };
+    let mut logs = Logs::new(alloc);
+    let ran = run_instruction(
+        alloc,
+        programs,
+        setting,
+        &keys,
+        accounts.as_slice(),
+        &call,
+        units,
+        trace,
+        &mut logs,
+    )?;
+    Ok((ran, logs.lines().len()))
+}
+
+/// How many accounts it ends with, or its cause with the height.
+fn ending(ended: &Ended) -> Result<usize, (Cause, u8)> {
+    match ended {
+        Ended::Good(after) => Ok(after.len()),
+        Ended::Failed(error) => Err((error.cause, error.height)),
+    }
+}
+
+/// Runs an instruction where no program is kept and no account is there.
+fn run_alone(alloc: Global, program: Key, units: u64, trace: u8) -> Result<(Ran, usize), Fail> {
+    let keys = [program, PROGRAM, OTHER, VAULT];
+    let asked = Items::from_vec(Vec::from_slice(alloc, &keys)?);
+    let programs = Programs::from_accounts(alloc, &Accounts::new(alloc), &asked)?;
+    let accounts = four_accounts(alloc, Account::empty(alloc), Account::empty(alloc))?;
+    let none = Items::new(alloc);
+    Ok(run(
+        alloc, &programs, &SETTING, keys, accounts, none, units, trace,
+    )?)
+}
+
 #[test]
 fn instructions_of_one_program_each(rt: HostRuntime) -> Result<(), Fail> {
-    for (program, units, trace, left, started, cause, lines) in CALLS {
-        let alloc = rt.alloc();
-        let keys = [program, PROGRAM, OTHER, VAULT];
-        let asked = Items::from_vec(Vec::from_slice(alloc, &keys)?);
-        let programs = Programs::from_accounts(alloc, &Accounts::new(alloc), &asked)?;
-        let accounts = four_accounts(alloc, Account::empty(alloc), Account::empty(alloc))?;
-        let call = Call {
-            program: 0,
-            metas: Items::new(alloc),
-            input: Blob::new(alloc),
-        };
-        let mut logs = Logs::new(alloc);
-        let ran = run_instruction(
-            alloc,
-            &programs,
-            &SETTING,
-            &keys,
-            accounts.as_slice(),
-            &call,
-            units,
-            trace,
-            &mut logs,
-        )?;
-        assert_eq!(rt; ran.units, left);
-        assert_eq!(rt; ran.trace, started);
-        assert_eq!(rt; logs.lines().len(), lines);
-        match &ran.ended {
-            Ended::Good(after) => {
-                assert_eq!(rt; cause, None);
-                assert_eq!(rt; after.len(), 4);
-            }
-            Ended::Failed(error) => {
-                assert_eq!(rt; cause, Some(error.cause));
-                assert_eq!(rt; error.height, 1);
-            }
-        }
+    for (program, units, trace, left, started, ended, lines) in CALLS {
+        let (ran, logged) = run_alone(rt.alloc(), program, units, trace)?;
+        assert_eq!(rt;
+            (ran.units, ran.trace, ending(&ran.ended), logged),
+            (left, started, ended, lines)
+        );
     }
     Ok(())
 }
@@ -147,8 +181,8 @@ enum Second {
 
 /// Instructions with the writable accounts of the second key and of one that is absent, the program
 /// and the system program: what the program does, the second account, the greatest height and the
-/// units; and then the units used, how many instructions are started, the cause with the height if
-/// there is one, how many lines, and the lamports and the first byte that the second account has.
+/// units; and then the units used, how many instructions are started, how it ends, how many lines, and
+/// the lamports and the first byte that the second account has.
 const EXAMPLES: [(
     Text,
     Second,
@@ -156,7 +190,7 @@ const EXAMPLES: [(
     u64,
     u64,
     u8,
-    Option<(Cause, u8)>,
+    Result<usize, (Cause, u8)>,
     usize,
     (u64, Option<u8>),
 ); 13] = [
@@ -167,7 +201,7 @@ const EXAMPLES: [(
         200_000,
         2_012,
         2,
-        Some((Cause::Reentrancy, 2)),
+        Err((Cause::Reentrancy, 2)),
         6,
         (1_000, Some(b'S')),
     ),
@@ -178,7 +212,7 @@ const EXAMPLES: [(
         200_000,
         4_544,
         5,
-        None,
+        Ok(4),
         15,
         (1_000, Some(0)),
     ),
@@ -189,7 +223,7 @@ const EXAMPLES: [(
         200_000,
         5_540,
         5,
-        Some((Cause::StackHeight, 5)),
+        Err((Cause::StackHeight, 5)),
         15,
         (1_000, Some(0)),
     ),
@@ -200,7 +234,7 @@ const EXAMPLES: [(
         200_000,
         0,
         1,
-        Some((Cause::UnknownProgram, 1)),
+        Err((Cause::UnknownProgram, 1)),
         2,
         (1_000, Some(0)),
     ),
@@ -211,7 +245,7 @@ const EXAMPLES: [(
         200_000,
         8_984,
         9,
-        None,
+        Ok(4),
         27,
         (1_000, Some(0)),
     ),
@@ -222,7 +256,7 @@ const EXAMPLES: [(
         200_000,
         9_972,
         9,
-        Some((Cause::StackHeight, 9)),
+        Err((Cause::StackHeight, 9)),
         27,
         (1_000, Some(0)),
     ),
@@ -233,7 +267,7 @@ const EXAMPLES: [(
         200_000,
         1_108,
         1,
-        Some((Cause::StackHeight, 1)),
+        Err((Cause::StackHeight, 1)),
         3,
         (1_000, Some(0)),
     ),
@@ -244,7 +278,7 @@ const EXAMPLES: [(
         200_000,
         3,
         1,
-        Some((Cause::ForeignData, 1)),
+        Err((Cause::ForeignData, 1)),
         3,
         (1_000, Some(0)),
     ),
@@ -255,7 +289,7 @@ const EXAMPLES: [(
         200_000,
         3,
         1,
-        None,
+        Ok(4),
         3,
         (1_000, Some(7)),
     ),
@@ -266,7 +300,7 @@ const EXAMPLES: [(
         200_000,
         1_007,
         1,
-        Some((Cause::ForeignData, 1)),
+        Err((Cause::ForeignData, 1)),
         3,
         (1_000, Some(0)),
     ),
@@ -277,7 +311,7 @@ const EXAMPLES: [(
         200_000,
         1_006,
         1,
-        Some((Cause::PrivilegeEscalation, 1)),
+        Err((Cause::PrivilegeEscalation, 1)),
         3,
         (2_000_000, None),
     ),
@@ -288,7 +322,7 @@ const EXAMPLES: [(
         200_000,
         1_158,
         2,
-        None,
+        Ok(4),
         5,
         (1_000_000, None),
     ),
@@ -299,7 +333,7 @@ const EXAMPLES: [(
         850,
         850,
         1,
-        Some((Cause::UnitsSpent, 1)),
+        Err((Cause::UnitsSpent, 1)),
         3,
         (1_000, Some(0)),
     ),
@@ -410,53 +444,58 @@ fn programs_of(alloc: Global, program: &Account, other: &Account) -> Result<Prog
     Ok(Programs::from_accounts(alloc, &state, &keys)?)
 }
 
+/// Runs the instruction of a row.
+fn example(
+    alloc: Global,
+    text: Text,
+    other: Second,
+    height: u8,
+    units: u64,
+) -> Result<(Ran, usize), Fail>
+    requires { (1 ≤ height) × (height ≤ 9) }
+{
+    let first = program(alloc, text)?;
+    let (key, second) = second_account(alloc, other)?;
+    let (_, back) = second_account(alloc, Second::Program)?;
+    if first.bytes.len() > MAX_DATA_LEN
+        || second.bytes.len() > MAX_DATA_LEN
+        || back.bytes.len() > MAX_DATA_LEN
+        || first.lamports > 1_000_000
+        || second.lamports > 10_000_000
+    {
+        return Err(Fail::from("an account is too large"));
+    }
+    let programs = programs_of(alloc, &first, &back)?;
+    let keys = [PROGRAM, key, Key([0x11; 32]), SYSTEM_PROGRAM];
+    let accounts = four_accounts(alloc, first, second)?;
+    let setting = Setting { height, ..SETTING };
+    let metas = metas(alloc)?;
+    Ok(run(alloc, &programs, &setting, keys, accounts, metas, units, 0)?)
+}
+
+/// The lamports and the first byte that the second account is left with.
+fn second_left(ended: &Ended) -> Option<(u64, Option<u8>)> {
+    let Ended::Good(after) = ended else {
+        return None;
+    };
+    let left = after.as_slice().get(1)?;
+    Some((left.lamports, left.bytes.as_slice().first().copied()))
+}
+
 #[test]
 fn examples_of_programs(rt: HostRuntime) -> Result<(), Fail> {
     for row in 0..13usize {
-        let alloc = rt.alloc();
-        let (text, other, height, units, used, trace, cause, lines, (lamports, byte)) =
-            EXAMPLES[row];
-        let first = program(alloc, text)?;
-        let (key, second) = second_account(alloc, other)?;
-        assert!(rt; first.bytes.len() <= MAX_DATA_LEN && second.bytes.len() <= MAX_DATA_LEN);
-        assert!(rt; first.lamports <= 1_000_000 && second.lamports <= 10_000_000);
+        let (text, other, height, units, used, trace, ended, lines, second) = EXAMPLES[row];
         assert!(rt; 1 <= height && height <= 9);
-        let (_, back) = second_account(alloc, Second::Program)?;
-        assert!(rt; back.bytes.len() <= MAX_DATA_LEN);
-        let programs = programs_of(alloc, &first, &back)?;
-        let keys = [PROGRAM, key, Key([0x11; 32]), SYSTEM_PROGRAM];
-        let accounts = four_accounts(alloc, first, second)?;
-        let call = Call {
-            program: 0,
-            metas: metas(alloc)?,
-            input: Blob::new(alloc),
-        };
-        let mut logs = Logs::new(alloc);
-        let ran = run_instruction(
-            alloc,
-            &programs,
-            &Setting { height, ..SETTING },
-            &keys,
-            accounts.as_slice(),
-            &call,
-            units,
-            0,
-            &mut logs,
-        )?;
-        assert_eq!(rt; units.checked_sub(ran.units), Some(used), "row {row}");
-        assert_eq!(rt; ran.trace, trace, "row {row}");
-        assert_eq!(rt; logs.lines().len(), lines, "row {row}");
-        match &ran.ended {
-            Ended::Good(after) => {
-                assert_eq!(rt; cause, None, "row {row}");
-                assert!(rt; after.len() == 4, "row {row}");
-                let left = &after.as_slice()[1];
-                assert_eq!(rt; left.lamports, lamports, "row {row}");
-                assert_eq!(rt; left.bytes.as_slice().first().copied(), byte, "row {row}");
-            }
-            Ended::Failed(error) => {
-                assert_eq!(rt; cause, Some((error.cause, error.height)), "row {row}");
-            }
+        let (ran, logged) = example(rt.alloc(), text, other, height, units)?;
+        let spent = units.checked_sub(ran.units);
+        assert_eq!(rt;
+            (spent, ran.trace, ending(&ran.ended), logged),
+            (Some(used), trace, ended, lines),
+            "row {row}"
+        );
+        if ended.is_ok() {
+            assert_eq!(rt; second_left(&ran.ended), Some(second), "row {row}");
         }
     }
     Ok(())

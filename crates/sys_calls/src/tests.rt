@@ -1,8 +1,9 @@
 //! Each system call once, its cost, and its refusals.
-ghost use Rattle.std.specs.Prelude.{◌≤◌};
+ghost use Rattle.std.specs.Prelude.{◌≤◌, ◌^◌, length};
+ghost use Rattle.sys_calls.specs.Costs.{IsServed};
 
 use crate::{Env, SysFault, serve};
-use sbpf_memory::Memory;
+use sbpf_memory::{AccessViolation, Memory};
 use sol_base::{Blob, Items, Key, OutOfMemory, Parts, program_key};
 use std::alloc::Global;
 use std::sync::Arc;
@@ -13,12 +14,22 @@ const PROGRAM: u64 = 0x1_0000_0000;
 
 const HEAP: u64 = 0x3_0000_0000;
 
-/// A memory whose program is five letters and a byte that is no text, with 8,192 bytes of heap.
 #[tactic(auto, unfolding(sol_base::specs::Parts::bytes_of))]
+fn no_input(alloc: Global) -> Result<Parts, OutOfMemory> {
+    Parts::from_items(alloc, Items::new(alloc))
+}
+
+/// A memory of an image and a heap, without input.
+fn memory_of(alloc: Global, image: &[u8], heap: u32) -> Result<Memory, OutOfMemory>
+    requires { length image.now ≤ 2 ^ 32 }
+{
+    let image = Arc::new(alloc, Blob::from_slice(alloc, image)?)?;
+    Memory::new(alloc, image, heap, no_input(alloc)?)
+}
+
+/// A memory whose program is five letters and a byte that is no text, with 8,192 bytes of heap.
 fn small_memory(alloc: Global) -> Result<Memory, OutOfMemory> {
-    let image = Arc::new(alloc, Blob::from_slice(alloc, b"hello\xff")?)?;
-    let input = Parts::from_items(alloc, Items::new(alloc))?;
-    Memory::new(alloc, image, 8192, input)
+    memory_of(alloc, b"hello\xff", 8192)
 }
 
 /// Surroundings with so many units, in which three bytes were returned.
@@ -32,6 +43,50 @@ fn env_with(alloc: Global, units: u64) -> Result<Env, OutOfMemory> {
         returned_by: Key([9; 32]),
         logs: Logs::new(alloc),
     })
+}
+
+/// What a call answers; the tests need nothing of its contract.
+fn call(
+    alloc: Global,
+    number: u32,
+    arguments: [u64; 5],
+    memory: &mut Memory,
+    env: &mut Env,
+) -> Result<u64, SysFault>
+    requires { IsServed number }
+{
+    serve(alloc, number, arguments, memory, env)
+}
+
+/// What a call answers, and the surroundings with so many units as it leaves them.
+fn call_with(
+    alloc: Global,
+    number: u32,
+    arguments: [u64; 5],
+    memory: &mut Memory,
+    units: u64,
+) -> Result<(Result<u64, SysFault>, Env), OutOfMemory>
+    requires { IsServed number }
+{
+    let mut env = env_with(alloc, units)?;
+    let answer = call(alloc, number, arguments, memory, &mut env);
+    Ok((answer, env))
+}
+
+/// What a call answers and leaves of what it costs, and then of one unit less.
+fn at_edge(
+    alloc: Global,
+    number: u32,
+    arguments: [u64; 5],
+    cost: u64,
+) -> Result<[(Result<u64, SysFault>, u64); 2], OutOfMemory>
+    requires { IsServed number }
+{
+    let mut memory = small_memory(alloc)?;
+    let (enough, env) = call_with(alloc, number, arguments, &mut memory, cost)?;
+    let less = cost.saturating_sub(1);
+    let (poor, poor_env) = call_with(alloc, number, arguments, &mut memory, less)?;
+    Ok([(enough, env.units), (poor, poor_env.units)])
 }
 
 /// Each call at the edge of what it allows: its number and arguments, what it costs in all, and its
@@ -107,15 +162,9 @@ const EDGES: [(u32, [u64; 5], u64, Result<u64, SysFault>); 27] = [
 fn calls_take_their_cost(rt: HostRuntime) -> Result<(), Fail> {
     for (number, arguments, cost, answer) in EDGES {
         assert!(rt; 1 <= number && number <= 16);
-        let mut memory = small_memory(rt.alloc())?;
-        let mut env = env_with(rt.alloc(), cost)?;
-        let served = serve(rt.alloc(), number, arguments, &mut memory, &mut env);
-        assert_eq!(rt; served, answer, "call {number}");
-        assert_eq!(rt; env.units, 0, "call {number}");
-        let mut poor = env_with(rt.alloc(), cost.saturating_sub(1))?;
-        let served = serve(rt.alloc(), number, arguments, &mut memory, &mut poor);
-        assert_eq!(rt; served, Err(SysFault::UnitsSpent), "call {number}");
-        assert_eq!(rt; poor.units, 0, "call {number}");
+        let answers = at_edge(rt.alloc(), number, arguments, cost)?;
+        let wanted = [(answer, 0), (Err(SysFault::UnitsSpent), 0)];
+        assert_eq!(rt; answers, wanted, "call {number}");
     }
     Ok(())
 }
@@ -137,20 +186,22 @@ const LINES: [(u32, [u64; 5], &str); 5] = [
     (2, [PROGRAM, 0, 0, 0, 0], "Program log: "),
 ];
 
+/// The line, where there is one alone.
+fn only_line(logs: &Logs) -> Option<&[u8]> {
+    match logs.lines() {
+        [line] => Some(line.as_slice()),
+        _ => None,
+    }
+}
+
 #[test]
 fn lines_are_logged(rt: HostRuntime) -> Result<(), Fail> {
     let mut memory = small_memory(rt.alloc())?;
     for (number, arguments, line) in LINES {
         assert!(rt; 1 <= number && number <= 16);
-        let mut env = env_with(rt.alloc(), 1000)?;
-        assert_eq!(rt;
-            serve(rt.alloc(), number, arguments, &mut memory, &mut env),
-            Ok(0)
-        );
-        assert_eq!(rt; env.logs.lines().len(), 1);
-        for logged in env.logs.lines() {
-            assert_eq!(rt; logged.as_slice(), line.as_bytes());
-        }
+        let (answer, env) = call_with(rt.alloc(), number, arguments, &mut memory, 1000)?;
+        assert_eq!(rt; answer, Ok(0));
+        assert_eq!(rt; only_line(&env.logs), Some(line.as_bytes()));
     }
     Ok(())
 }
@@ -178,19 +229,22 @@ const WRITTEN: [(u32, [u64; 5], &[u8]); 6] = [
     ),
 ];
 
+/// The byte at a place of the heap.
+fn heap_byte(memory: &Memory, place: usize) -> Result<u64, AccessViolation> {
+    memory.load(HEAP.wrapping_add(place as u64), 1)
+}
+
 #[test]
 fn bytes_are_written(rt: HostRuntime) -> Result<(), Fail> {
     for (number, arguments, written) in WRITTEN {
         assert!(rt; 1 <= number && number <= 16);
         let mut memory = small_memory(rt.alloc())?;
-        let mut env = env_with(rt.alloc(), 2000)?;
-        assert_eq!(rt;
-            serve(rt.alloc(), number, arguments, &mut memory, &mut env),
-            Ok(0)
-        );
-        let mut bytes = vec![in rt.alloc(); 0; written.len()]?;
-        memory.read(HEAP, bytes.as_mut_slice())?;
-        assert_eq!(rt; bytes.as_slice(), written, "call {number}");
+        let (answer, _) = call_with(rt.alloc(), number, arguments, &mut memory, 2000)?;
+        assert_eq!(rt; answer, Ok(0));
+        for (place, byte) in written.iter().enumerate() {
+            let found = heap_byte(&memory, place);
+            assert_eq!(rt; found, Ok(u64::from(*byte)), "call {number} at {place}");
+        }
     }
     Ok(())
 }
@@ -220,25 +274,37 @@ fn a_key_is_derived_from_seeds(rt: HostRuntime) -> Result<(), Fail> {
     Ok(())
 }
 
+/// The first four bytes of the heap, as a number.
+fn heap_word(memory: &Memory) -> Result<u64, AccessViolation> {
+    memory.load(HEAP, 4)
+}
+
 #[test]
-fn returned_bytes_are_kept_and_handed_out(rt: HostRuntime) -> Result<(), Fail> {
+fn returned_bytes_are_handed_out(rt: HostRuntime) -> Result<(), Fail> {
     let mut memory = small_memory(rt.alloc())?;
     let mut env = env_with(rt.alloc(), 1000)?;
     // nothing is written where either range is refused
     let arguments = [HEAP, 3, PROGRAM, 0, 0];
-    let refused = serve(rt.alloc(), 15, arguments, &mut memory, &mut env);
+    let refused = call(rt.alloc(), 15, arguments, &mut memory, &mut env);
     assert_eq!(rt; refused, Err(SysFault::AccessViolation));
-    assert_eq!(rt; memory.load(HEAP, 4), Ok(0));
+    assert_eq!(rt; heap_word(&memory), Ok(0));
     // with no room for bytes the key is written
     let arguments = [0, 0, HEAP, 0, 0];
     assert_eq!(rt;
-        serve(rt.alloc(), 15, arguments, &mut memory, &mut env),
+        call(rt.alloc(), 15, arguments, &mut memory, &mut env),
         Ok(3)
     );
-    assert_eq!(rt; memory.load(HEAP, 4), Ok(0x0909_0909));
+    assert_eq!(rt; heap_word(&memory), Ok(0x0909_0909));
+    Ok(())
+}
+
+#[test]
+fn returned_bytes_are_kept(rt: HostRuntime) -> Result<(), Fail> {
+    let mut memory = small_memory(rt.alloc())?;
+    let mut env = env_with(rt.alloc(), 1000)?;
     let arguments = [PROGRAM, 2, 0, 0, 0];
     assert_eq!(rt;
-        serve(rt.alloc(), 14, arguments, &mut memory, &mut env),
+        call(rt.alloc(), 14, arguments, &mut memory, &mut env),
         Ok(0)
     );
     assert_eq!(rt; env.returned.as_slice(), b"he".as_slice());
