@@ -13,11 +13,13 @@ entry_among start metas count index =
 
 -- so it stands in a table for each account
 abbrev pub AreEntries : List Account → List Meta → ℕ → List (Option ℕ) → Type 0
-AreEntries start metas count entries = (index : ℕ) → slice_index_or entries index None ≡ entry_among start metas count index
+AreEntries start metas count entries =
+    (index : ℕ) → slice_index_or entries index None ≡ entry_among start metas count index
 
 -- the first of so many metas that is a first listing and passes the test
 abbrev pub found_among : (ℕ × Meta → Bool) → List Meta → ℕ → Option (ℕ × Meta)
-found_among test metas count = find test (filter (is_first_listing metas) (take count (enumerate_from 0 metas)))
+found_among test metas count =
+    find test (filter (is_first_listing metas) (take count (enumerate_from 0 metas)))
 
 -- an account as it stands in its entry, if it has one
 abbrev pub account_by : List ℕ → Option ℕ → Account → Account

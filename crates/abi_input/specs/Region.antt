@@ -1,4 +1,5 @@
--- The input region of a frame, in Solana's aligned layout: what a program finds of its accounts, its instruction and its own key, and what it writes of them.
+-- The input region of a frame, in Solana's aligned layout: what a program finds of its accounts,
+-- its instruction and its own key, and what it writes of them.
 use Rattle.std.specs.Prelude.{ℕ, ◌+◌, ◌-◌, ◌%◌, ◌^◌, ◌≤◌, ◌==◌, ◌||◌, Bool, List, [], ◌∷◌, ◌++◌, length, map, take, drop, replicate, sum_by, slice_get, nat_lt, unwrap_or, Option, Some, None, Result, Ok, Err, if◌then◌else◌}
 use Rattle.std.specs.List.{enumerate_from, find, flat_map, position_or_len}
 use Rattle.std.specs.Int.{w64, to_le_bytes, from_bool}
@@ -32,7 +33,8 @@ first_place metas index = position_or_len (λ meta. meta.index == index) metas
 abbrev pub number_bytes : ℕ → List ℕ
 number_bytes number = to_le_bytes w64 number
 
--- what a program may change of an account: its owner, lamports, length and data, and zeros as far as the data may grow
+-- what a program may change of an account: its owner, lamports, length and data, and zeros as far
+-- as the data may grow
 unfoldable pub state_bytes : ℕ → Account → List ℕ
 state_bytes room account =
     account.owner.0 ++ number_bytes account.lamports ++ number_bytes (length account.bytes)
@@ -57,7 +59,8 @@ repeated_entry place = place ∷ replicate 7 0
 abbrev pub entry_of : List Key → List Account → List Meta → ℕ × Meta → List ℕ
 entry_of keys accounts metas item = let index = item.1.index in
     if is_first_listing metas item
-    then first_entry (is_listed_signer metas index) (is_listed_writable metas index) (key_in keys index) (account_in accounts index)
+    then first_entry (is_listed_signer metas index) (is_listed_writable metas index)
+    (key_in keys index) (account_in accounts index)
     else repeated_entry (first_place metas index)
 
 -- the bytes of the region: the accounts of the list, the instruction's data and the program's key
@@ -72,11 +75,14 @@ first_size account = 88 + room_of account + padding (length account.bytes) + 8
 
 -- how many bytes the region has of one meta
 abbrev pub entry_size : List Account → List Meta → ℕ × Meta → ℕ
-entry_size start metas item = if is_first_listing metas item then first_size (account_in start item.1.index) else 8
+entry_size start metas item =
+    if is_first_listing metas item then first_size (account_in start item.1.index) else 8
 
--- where the entry of the meta at a place of the list starts; for the place after the last, where the entries end
+-- where the entry of the meta at a place of the list starts; for the place after the last, where
+-- the entries end
 unfoldable pub entry_start : List Account → List Meta → ℕ → ℕ
-entry_start start metas place = 8 + sum_by (entry_size start metas) (take place (enumerate_from 0 metas))
+entry_start start metas place =
+    8 + sum_by (entry_size start metas) (take place (enumerate_from 0 metas))
 
 -- where the entry of an account starts that is listed
 abbrev pub first_entry_start : List Account → List Meta → ℕ → ℕ
@@ -139,13 +145,16 @@ abbrev pub patched_entry : List ℕ → List Account → List Account → List M
 patched_entry region start now metas item =
     let index = item.1.index in
     let entry = take (entry_size start metas item) (drop (entry_start start metas item.0) region) in
-    if is_first_listing metas item then over_entry (account_in start index) (account_in now index) entry else entry
+    if is_first_listing metas item
+    then over_entry (account_in start index) (account_in now index) entry else entry
 
 -- the account of a meta has outgrown its place in the region
 abbrev pub is_outgrown : List Account → List Account → ℕ × Meta → Bool
-is_outgrown start now item = has_outgrown (account_in start item.1.index) (length (account_in now item.1.index).bytes)
+is_outgrown start now item =
+    has_outgrown (account_in start item.1.index) (length (account_in now item.1.index).bytes)
 
--- the region with the states of the accounts written over it, or the place in the list of the first that has outgrown it
+-- the region with the states of the accounts written over it, or the place in the list of the first
+-- that has outgrown it
 unfoldable pub patched : List ℕ → List Account → List Account → List Meta → Result (List ℕ) ℕ
 patched region start now metas =
     unless_found (find (is_outgrown start now) (first_listings metas))

@@ -5,7 +5,8 @@ use Rattle.sol_base.specs.declared.account.Account.{Account}
 use Rattle.sol_base.specs.Keys.{IsKey}
 use Rattle.sol_base.specs.Accounts.{IsShort}
 
--- an account that can stand in a region: its owner is a key, its lamports fit in 64 bits, and its data are of a length that is allowed
+-- an account that can stand in a region: its owner is a key, its lamports fit in 64 bits, and its
+-- data are of a length that is allowed
 pub record HasWidths (account : Account) : Type 0 where
   pub owner_is_key : IsKey account.owner
   pub lamports_fit : account.lamports < 2 ^ 64

@@ -76,11 +76,14 @@ chosen_with position tx name loaded budget = record {
 }
 
 abbrev pub budgeted : ℕ → Tx → Hash32 → Loaded → Result Chosen Refusal
-budgeted position tx name loaded = as_cause no_budget (budget_in tx.message) >>= λ budget. Ok (chosen_with position tx name loaded budget)
+budgeted position tx name loaded =
+    as_cause no_budget (budget_in tx.message) >>=
+    λ budget. Ok (chosen_with position tx name loaded budget)
 
 -- the same of a transaction, told whether its message stands before it
 abbrev pub budgeted_once : Bool → ℕ → Tx → Hash32 → Loaded → Result Chosen Refusal
-budgeted_once is_before position tx name loaded = if is_before then Err RepeatedInBatch else budgeted position tx name loaded
+budgeted_once is_before position tx name loaded =
+    if is_before then Err RepeatedInBatch else budgeted position tx name loaded
 
 -- the transaction of a position or the first of the seven early causes, told which messages stand
 -- before it without one of the first five
@@ -91,7 +94,8 @@ sifted start is_before position (Good tx name) =
 
 -- the same in a batch
 abbrev pub sifted_in : Start → List Parsed → ℕ × Parsed → Result Chosen Refusal
-sifted_in start batch (position, parsed) = sifted start (has_hash (standing_names start (take position batch))) position parsed
+sifted_in start batch (position, parsed) =
+    sifted start (has_hash (standing_names start (take position batch))) position parsed
 
 abbrev pub refusal_in : {X : Type 0} → Result X Refusal → Option Refusal
 refusal_in (Ok _) = None
@@ -103,7 +107,8 @@ early start batch entry = refusal_in (sifted_in start batch entry)
 
 -- the transactions without an early cause, by their positions
 abbrev pub sifted_out : Start → List Parsed → List Chosen
-sifted_out start batch = filter_map (λ entry. result_ok (sifted_in start batch entry)) (enumerate_from 0 batch)
+sifted_out start batch =
+    filter_map (λ entry. result_ok (sifted_in start batch entry)) (enumerate_from 0 batch)
 
 -- ---- the line
 
@@ -113,7 +118,9 @@ priority chosen = priority_of chosen.fee chosen.budget
 -- a transaction behind all of its priority or a higher one
 abbrev pub with_next : List Chosen → Chosen → List Chosen
 with_next [] one = one ∷ []
-with_next (other ∷ others) one = if nat_lt (priority other) (priority one) then one ∷ other ∷ others else other ∷ with_next others one
+with_next (other ∷ others) one =
+    if nat_lt (priority other) (priority one) then one ∷ other ∷ others
+    else other ∷ with_next others one
 
 -- the line: higher priority first, and then lower position first, since positions come ascending
 abbrev pub line : List Chosen → List Chosen
@@ -139,7 +146,9 @@ units_on key order = units_of (filter (writes key) order)
 
 -- one of its writable keys would get more units than a key may
 abbrev pub passes_key_units : Limits → List Chosen → Chosen → Bool
-passes_key_units limits order one = list_any (λ lock. lock.write && nat_lt limits.key_units (units_on lock.key order + one.budget.limit)) one.locks
+passes_key_units limits order one =
+    list_any (λ lock. lock.write
+    && nat_lt limits.key_units (units_on lock.key order + one.budget.limit)) one.locks
 
 -- why a transaction does not run behind those that do
 abbrev pub late : Limits → List Chosen → Chosen → Option Refusal
@@ -155,18 +164,22 @@ pub record Walk : Type 0 where
 
 abbrev pub walk_with : Walk → Chosen → Option Refusal → Walk
 walk_with walk one None = record walk { order = walk.order ++ one ∷ [] }
-walk_with walk one (Some cause) = record walk { refused = record { position = one.position; cause = cause } ∷ walk.refused }
+walk_with walk one (Some cause) =
+    record walk { refused = record { position = one.position; cause = cause } ∷ walk.refused }
 
 -- the walk: each transaction of a line runs, unless a unit limit refuses it behind those that do
 abbrev pub walk : Limits → List Chosen → Walk
-walk limits standing = fold (λ before one. walk_with before one (late limits before.order one)) (record { order = []; refused = [] }) standing
+walk limits standing =
+    fold (λ before one. walk_with before one (late limits before.order one))
+    (record { order = []; refused = [] }) standing
 
 -- ---- the answer
 
 -- the cause of a position among those that were refused in the walk
 abbrev pub late_cause : List Refused → ℕ → Option Refusal
 late_cause [] position = None
-late_cause (refused ∷ others) position = if refused.position == position then Some refused.cause else late_cause others position
+late_cause (refused ∷ others) position =
+    if refused.position == position then Some refused.cause else late_cause others position
 
 abbrev pub or_else : {X : Type 0} → Option X → Option X → Option X
 or_else (Some x) other = Some x
@@ -178,10 +191,13 @@ refusal start batch refused entry = or_else (late_cause refused entry.0) (early 
 
 -- the positions that have one, ascending
 abbrev pub refused_in : Start → List Parsed → List Refused → List Refused
-refused_in start batch refused = filter_map (λ entry. option_map (λ cause. record { position = entry.0; cause = cause }) (refusal start batch refused entry)) (enumerate_from 0 batch)
+refused_in start batch refused =
+    filter_map (λ entry. option_map (λ cause. record { position = entry.0; cause = cause })
+    (refusal start batch refused entry)) (enumerate_from 0 batch)
 
 abbrev pub answer_of : Start → List Parsed → Walk → Admitted
-answer_of start batch walk = record { order = walk.order; refused = refused_in start batch walk.refused }
+answer_of start batch walk =
+    record { order = walk.order; refused = refused_in start batch walk.refused }
 
 -- what becomes of a batch whose transactions stand in a line by their priorities
 unfoldable pub admitted : Start → List (List ℕ) → Admitted
@@ -207,7 +223,8 @@ AreParsed (wire ∷ wires) (parsed ∷ others) = IsParsed wire parsed × ArePars
 -- what holds of every wire that was read: its lists are short, its name is that of its message, and
 -- its fault is of the bytes
 abbrev pub IsSound : Parsed → Type 0
-IsSound (Good tx name) = HasShortLists tx.message × IsCountable tx.signatures × (name ≡ message_name tx.message)
+IsSound (Good tx name) =
+    HasShortLists tx.message × IsCountable tx.signatures × (name ≡ message_name tx.message)
 IsSound (Bad fault) = is_wire_memory fault ≡ false
 
 -- the set has the name

@@ -37,7 +37,8 @@ pub(crate) fn sift(
         s.standing.items ≡ sifted_out (start_of recent.now accounts.now limits.now) wires) }
     ensures causes { IfOk result (λ s.
         s.causes.items
-        ≡ map (early (start_of recent.now accounts.now limits.now) wires) (enumerate_from 0 wires)) }
+        ≡ map (early (start_of recent.now accounts.now limits.now) wires)
+        (enumerate_from 0 wires)) }
 {
     let mut names = BTreeSet::new(alloc);
     let mut standing = Vec::new(alloc);
@@ -68,7 +69,8 @@ fn sift_one(
 ) -> Result<Result<Chosen, Refusal>, OutOfMemory>
     requires { IsSound wire }
     ensures found { IfOk result (λ found.
-        found ≡ sifted (start_of recent.now accounts.now limits.now) (has_name names.old) position wire) }
+        found ≡ sifted (start_of recent.now accounts.now limits.now) (has_name names.old) position
+        wire) }
     ensures names { OnOk result ((name : HashValue) →
         has_name names.new name
         ≡ (has_name names.old name

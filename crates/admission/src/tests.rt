@@ -186,8 +186,8 @@ fn higher_priority_comes_first(rt: HostRuntime) -> Result<(), Fail> {
     Ok(())
 }
 
-// The limits of a key and of the block for two transfers of 200,000 units each, and the account that
-// the later pays. Limits that are just reached refuse none.
+// The limits of a key and of the block for two transfers of 200,000 units each, and the account
+// that the later pays. Limits that are just reached refuse none.
 const UNITS: [(u64, u64, u8, &[u8]); 5] = [
     (200_000, 400_000, 0x12, b"0 1 "),
     (200_000, 399_999, 0x12, b"0 refused 1: BlockUnits "),
@@ -283,7 +283,8 @@ fn a_key_is_written_for_its_units(rt: HostRuntime) -> Result<(), Fail> {
     Ok(())
 }
 
-/// The answer for one wire, which was read before, over a chain whose block processed these messages.
+/// The answer for one wire, which was read before, over a chain whose block processed these
+/// messages.
 fn admit_one(
     alloc: Global,
     wire: Blob,

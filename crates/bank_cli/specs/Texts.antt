@@ -85,7 +85,8 @@ list_text image.OutOfMemory = []
 
 -- a transaction that did not run, and why
 abbrev pub refused_line : Refused → List ℕ
-refused_line refused = line (codes "refused " ++ decimal refused.position ++ codes ": " ++ text_of refused.cause)
+refused_line refused =
+    line (codes "refused " ++ decimal refused.position ++ codes ": " ++ text_of refused.cause)
 
 abbrev pub refused_lines : List Refused → List ℕ
 refused_lines refused = flat_map refused_line refused

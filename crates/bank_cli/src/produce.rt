@@ -111,8 +111,8 @@ fn write_block<R: Threads + Sync>(
     })
 }
 
-/// The record and the snapshot: in one buffer on one lane, and on several each beside the other, which
-/// gives its memory back at once.
+/// The record and the snapshot: in one buffer on one lane, and on several each beside the other,
+/// which gives its memory back at once.
 fn output_of<R: Threads + Sync>(
     rt: &R,
     alloc: Global,

@@ -18,7 +18,8 @@ bytes_of_lines lines = to_le_bytes w16 (length lines) ++ flat_map sized_bytes li
 -- a transaction, how it ended, and what it used, paid and said
 abbrev pub entry_bytes : Entry → List ℕ
 entry_bytes entry =
-    sized_bytes entry.wire ++ status_bytes_of entry.status ++ to_le_bytes w64 entry.units ++ to_le_bytes w64 entry.fee
+    sized_bytes entry.wire ++ status_bytes_of entry.status ++ to_le_bytes w64 entry.units
+    ++ to_le_bytes w64 entry.fee
     ++ bytes_of_lines entry.lines
 
 abbrev pub entries_bytes : List Entry → List ℕ
@@ -27,13 +28,15 @@ entries_bytes entries = to_le_bytes w32 (length entries) ++ flat_map entry_bytes
 -- a block up to the end of its entries
 abbrev pub front_bytes : Block → List ℕ
 front_bytes block =
-    codes "SOLBLCK1" ++ to_le_bytes w64 block.slot ++ key_bytes block.collector ++ hash_bytes block.previous
+    codes "SOLBLCK1" ++ to_le_bytes w64 block.slot ++ key_bytes block.collector
+    ++ hash_bytes block.previous
     ++ entries_bytes block.entries
 
 -- all that the block hash is of
 abbrev pub block_bytes : Block → List ℕ
 block_bytes block =
-    front_bytes block ++ to_le_bytes w64 block.burned ++ to_le_bytes w64 block.collected ++ hash_bytes block.state
+    front_bytes block ++ to_le_bytes w64 block.burned ++ to_le_bytes w64 block.collected
+    ++ hash_bytes block.state
 
 abbrev pub hash_of_block : Block → Hash32
 hash_of_block block = record { 0 = sha256 (block_bytes block) }

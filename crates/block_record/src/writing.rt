@@ -126,8 +126,8 @@ fn record_len(entries: &[Entry]) -> usize {
     sum
 }
 
-/// Adds the record of the block (the project's own format). The hash that stands in it is the block's
-/// own.
+/// Adds the record of the block (the project's own format). The hash that stands in it is the
+/// block's own.
 fn append_record(out: &mut Blob, block: &Block) -> Result<(), OutOfMemory>
     requires { IsCounted block.now }
     ensures { OnOk result (out.new ≡ out.old ++ bytes_of_record block.now) }

@@ -43,7 +43,8 @@ fn first_difference(
     requires given { IsCounted given.now }
     requires replayed { IsCounted replayed.now }
     requires cut { length replayed.now.entries ≤ length given.now.entries }
-    ensures { IfOk result (λ answer. answer ≡ slice_get (differences slot newest.now given.now replayed.now) 0) }
+    ensures { IfOk result
+        (λ answer. answer ≡ slice_get (differences slot newest.now given.now replayed.now) 0) }
 {
     if let Some(difference) = compare_heads(alloc, slot, newest, given)? {
         return Ok(Some(difference));
@@ -66,7 +67,8 @@ fn compare_heads(
     newest: &Hash32,
     given: &Block,
 ) -> Result<Option<Verdict>, OutOfMemory>
-    ensures { IfOk result (λ answer. answer ≡ slice_get (head_differences slot newest.now given.now) 0) }
+    ensures { IfOk result
+        (λ answer. answer ≡ slice_get (head_differences slot newest.now given.now) 0) }
 {
     if given.slot <= slot {
         let (expected, found) = (slot.to_le_bytes(), given.slot.to_le_bytes());
@@ -85,7 +87,8 @@ fn compare_entries(
     requires cut { length replayed.now ≤ length given.now }
     requires given { All (λ entry. AreCountable entry.lines) given.now }
     requires replayed { All (λ entry. AreCountable entry.lines) replayed.now }
-    ensures { IfOk result (λ answer. answer ≡ slice_get (entries_differences given.now replayed.now) 0) }
+    ensures { IfOk result
+        (λ answer. answer ≡ slice_get (entries_differences given.now replayed.now) 0) }
 {
     for place in 0..replayed.len() {
         let entry = place as u32;
@@ -104,7 +107,8 @@ fn compare_entry(
 ) -> Result<Option<Verdict>, OutOfMemory>
     requires given { AreCountable given.now.lines }
     requires replayed { AreCountable replayed.now.lines }
-    ensures { IfOk result (λ answer. answer ≡ slice_get (entry_differences (place, (given.now, replayed.now))) 0) }
+    ensures { IfOk result
+        (λ answer. answer ≡ slice_get (entry_differences (place, (given.now, replayed.now))) 0) }
 {
     if let Some(difference) = compare_statuses(alloc, place, given, replayed)? {
         return Ok(Some(difference));
@@ -126,7 +130,8 @@ fn find_refused(
     given: &[Entry],
 ) -> Result<Option<Verdict>, OutOfMemory>
     requires few { length given.now ≤ 16384 }
-    ensures { IfOk result (λ answer. answer ≡ slice_get (refused_entry place (drop place given.now)) 0) }
+    ensures { IfOk result
+        (λ answer. answer ≡ slice_get (refused_entry place (drop place given.now)) 0) }
 {
     match given.get(place) {
         None => Ok(None),
@@ -149,7 +154,8 @@ fn compare_tails(
     given: &Block,
     replayed: &Block,
 ) -> Result<Option<Verdict>, OutOfMemory>
-    ensures { IfOk result (λ answer. answer ≡ slice_get (tail_differences given.now replayed.now) 0) }
+    ensures { IfOk result
+        (λ answer. answer ≡ slice_get (tail_differences given.now replayed.now) 0) }
 {
     let burned = (replayed.burned, given.burned);
     if let Some(difference) = compare_numbers(alloc, OF_BLOCK, Field::Burned, burned.0, burned.1)? {
@@ -171,7 +177,8 @@ fn compare_statuses(
     given: &Entry,
     replayed: &Entry,
 ) -> Result<Option<Verdict>, OutOfMemory>
-    ensures { IfOk result (λ answer. answer ≡ slice_get (in_status place given.now replayed.now) 0) }
+    ensures { IfOk result
+        (λ answer. answer ≡ slice_get (in_status place given.now replayed.now) 0) }
 {
     let expected = status_bytes(&replayed.status);
     let found = status_bytes(&given.status);
@@ -246,7 +253,8 @@ fn compare_hashes(
     expected: &Hash32,
     found: &Hash32,
 ) -> Result<Option<Verdict>, OutOfMemory>
-    ensures { IfOk result (λ answer. answer ≡ slice_get (in_hash 4294967295 field expected.now found.now) 0) }
+    ensures { IfOk result
+        (λ answer. answer ≡ slice_get (in_hash 4294967295 field expected.now found.now) 0) }
 {
     if expected == found {
         return Ok(None);

@@ -24,4 +24,5 @@ pub record IsPartly (start now : State) (left : List KeyedAccount) : Type 0 wher
   pub state : IsState now
   pub same : (q : Key) → option_map active (get now q) ≡ option_map active (get start q)
   pub ahead : AllByRecursion (λ e. option_map active (get start e.key) ≡ Some e.account) left
-  pub others : (q : Key) → AllByRecursion (λ e. same_key q e.key ≡ false) left → option_map active (get now q) ≡ get now q
+  pub others : (q : Key) → AllByRecursion (λ e. same_key q e.key ≡ false) left
+      → option_map active (get now q) ≡ get now q

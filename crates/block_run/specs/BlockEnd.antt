@@ -1,4 +1,5 @@
--- The end of a block: the fees are burned and paid, and final programs become executable (Solana for
+-- The end of a block: the fees are burned and paid, and final programs become executable (Solana
+-- for
 -- the fees; the rounding, and programs that transactions write, are the project's own).
 use Rattle.std.specs.Prelude.{ℕ, ◌+◌, ◌==◌, ◌&&◌, not, nat_le, Bool, List, length, map, sum_by, if◌then◌else◌}
 use Rattle.std.specs.FinMap.{from_entries}
@@ -24,10 +25,12 @@ priority_fees outcomes = sum_by (λ outcome. outcome.priority_paid) outcomes
 abbrev pub more : Account → ℕ → Account
 more account lamports = record account { lamports = account.lamports + lamports }
 
--- the collector may have that account: its key is not reserved, and it is a wallet that rent exempts
+-- the collector may have that account: its key is not reserved, and it is a wallet that rent
+-- exempts
 abbrev pub may_collect : Key → Account → Bool
 may_collect collector account =
-    not (is_reserved collector) && is_wallet account && nat_le (minimum_of (length account.bytes)) account.lamports
+    not (is_reserved collector) && is_wallet account
+    && nat_le (minimum_of (length account.bytes)) account.lamports
 
 -- how fees were shared: the accounts then, and the lamports that were burned and paid
 pub record Shares : Type 0 where
@@ -35,22 +38,31 @@ pub record Shares : Type 0 where
   pub burned : ℕ
   pub collected : ℕ
 
--- what is left of the fees is paid to the collector, where there is any and it may have it; else it is burned too
+-- what is left of the fees is paid to the collector, where there is any and it may have it; else it
+-- is burned too
 abbrev pub share : State → Key → FeeSplit → Shares
 share state collector split =
     let paid = more (at state collector) split.rest in
     if not (split.rest == 0) && may_collect collector paid
-    then record { accounts = put state collector paid; burned = split.burned; collected = split.rest }
+    then record {
+      accounts = put state collector paid;
+      burned = split.burned;
+      collected = split.rest;
+    }
     else record { accounts = state; burned = split.burned + split.rest; collected = 0 }
 
 -- half of the base fees is burned, and the rest of all fees is left
 unfoldable pub share_fees : State → Key → List Outcome → Shares
-share_fees state collector outcomes = share state collector (split_of (base_fees outcomes) (priority_fees outcomes))
+share_fees state collector outcomes =
+    share state collector (split_of (base_fees outcomes) (priority_fees outcomes))
 
 -- every account as the loader leaves it at the end of a block
 unfoldable pub activate_all : State → State
 activate_all state = from_entries (map (λ e. (e.0, active e.1)) (entries state))
 
--- the accounts at the end of a block, which has so many fees to share, and the lamports burned and paid
+-- the accounts at the end of a block, which has so many fees to share, and the lamports burned and
+-- paid
 abbrev pub settled : State → Key → FeeSplit → Shares
-settled state collector split = let shares = share state collector split in record shares { accounts = activate_all shares.accounts }
+settled state collector split =
+    let shares = share state collector split in
+    record shares { accounts = activate_all shares.accounts }

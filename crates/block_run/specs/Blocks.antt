@@ -1,4 +1,5 @@
--- One block: the record of a serial run, and the snapshot after it (Solana; the formats are the project's own).
+-- One block: the record of a serial run, and the snapshot after it (Solana; the formats are the
+-- project's own).
 use Rattle.std.specs.Prelude.{ℕ, ◌+◌, Bool, true, false, List, [], ◌∷◌, map, replicate, take, Option, Some, None}
 use Rattle.std.specs.List.{filter_map, zip}
 use Rattle.std.specs.FinMap.Entries.{by_order}
@@ -50,7 +51,8 @@ processed_by name (Failed _ _ _) = Some name
 processed_by name (Dropped _) = None
 
 abbrev pub processed_in : List Chosen → List Outcome → List Hash32
-processed_in order outcomes = filter_map (λ e. processed_by e.0.name e.1.status) (zip order outcomes)
+processed_in order outcomes =
+    filter_map (λ e. processed_by e.0.name e.1.status) (zip order outcomes)
 
 -- a name in its place among names that ascend
 abbrev pub placed : Hash32 → List Hash32 → List Hash32
@@ -63,7 +65,8 @@ ascending [] = []
 ascending (n ∷ ns) = placed n (ascending ns)
 
 abbrev pub mark_of : Hash32 → List Chosen → List Outcome → Mark
-mark_of hash order outcomes = record { hash = hash; messages = ascending (processed_in order outcomes) }
+mark_of hash order outcomes =
+    record { hash = hash; messages = ascending (processed_in order outcomes) }
 
 -- ---- the block
 abbrev pub no_hash : Hash32
@@ -113,7 +116,10 @@ closed_with s head wires order ran =
     let shares = share_fees ran.accounts head.collector ran.outcomes in
     let accounts = activate_all shares.accounts in
     let block = block_of s head (entries_of wires order ran.outcomes) shares accounts in
-    record { block = block; after = snapshot_of s head (mark_of block.hash order ran.outcomes) accounts }
+    record {
+      block = block;
+      after = snapshot_of s head (mark_of block.hash order ran.outcomes) accounts;
+    }
 
 -- what these transactions come to, in their order
 unfoldable pub closed : Snapshot → Head → List (List ℕ) → List Chosen → Closed
@@ -150,5 +156,6 @@ unfoldable pub listed_result : Snapshot → Block → Listed
 listed_result s given =
     let wires = wires_of given in
     let a = listed (start_in s) wires in
-    let end = closed s (record { slot = given.slot; collector = given.collector }) wires (before_refused a.refused a.order) in
+    let end = closed s (record { slot = given.slot; collector = given.collector }) wires
+    (before_refused a.refused a.order) in
     record { block = end.block; halted = is_halted a.refused }

@@ -25,8 +25,8 @@ fn activated_in(alloc: Global, accounts: &Accounts) -> Result<Vec<KeyedAccount>,
     Ok(found)
 }
 
-/// Every account as the loader leaves it at the end of a block. Only those that become executable are
-/// put back.
+/// Every account as the loader leaves it at the end of a block. Only those that become executable
+/// are put back.
 pub(crate) fn activate_all(alloc: Global, mut accounts: Accounts) -> Result<Accounts, OutOfMemory>
     ensures { IfOk result (λ after. after ≡ activate_all accounts) }
 {

@@ -141,7 +141,8 @@ fn end_run<R: Threads + Sync>(
         rt,
         lanes,
         move || -> Result<Settled, OutOfMemory>
-            requires { (sum accounts + split.burned + split.rest < 2 ^ 64) × (len accounts + 1 < 2 ^ 32) }
+            requires { (sum accounts + split.burned + split.rest < 2 ^ 64)
+                × (len accounts + 1 < 2 ^ 32) }
             ensures shares { IfOk result (λ end. (record {
               accounts = end.accounts;
               burned = end.burned;
@@ -151,9 +152,11 @@ fn end_run<R: Threads + Sync>(
             ensures state { IfOk result (λ end. end.state ≡ hash_of_state end.accounts) }
         { settle(alloc, accounts, &head.collector, split) },
         move || -> Result<Entered, OutOfMemory>
-            requires { AreOf wires.now order.now × (length outcomes ≡ length order.now) × All IsSmallOutcome outcomes }
+            requires { AreOf wires.now order.now × (length outcomes ≡ length order.now)
+                × All IsSmallOutcome outcomes }
             ensures block { IfOk result (λ e.
-                e.block ≡ entered head.entry.now previous wires.entry.now order.entry.now outcomes) }
+                e.block ≡ entered head.entry.now previous wires.entry.now order.entry.now
+                outcomes) }
             ensures counted { IfOk result (λ e. IsCounted e.block) }
             ensures hasher { IfOk result (λ e. Holds256 e.hasher (front_bytes e.block)) }
         { enter(alloc, head, previous, wires, order, outcomes) },

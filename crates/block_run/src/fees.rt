@@ -21,7 +21,8 @@ pub(crate) struct Shared {
     pub(crate) collected: u64,
 }
 
-/// The fees that were paid, split (Solana; the rounding is the project's own). They are summed once.
+/// The fees that were paid, split (Solana; the rounding is the project's own). They are summed
+/// once.
 pub(crate) fn split_paid(outcomes: &[Outcome]) -> FeeSplit
     requires { base_fees outcomes.now + priority_fees outcomes.now < 2 ^ 64 }
     ensures { result ≡ split_of (base_fees outcomes.now) (priority_fees outcomes.now) }
@@ -76,7 +77,8 @@ fn paid_account(
     lamports: u64,
 ) -> Result<Option<Account>, OutOfMemory>
     requires { (at accounts.now collector.now).lamports + lamports < 2 ^ 64 }
-    ensures { IfOk result (λ paid. paid ≡ (let account = more (at accounts.now collector.now) lamports in
+    ensures { IfOk result
+        (λ paid. paid ≡ (let account = more (at accounts.now collector.now) lamports in
         if may_collect collector.now account then Some account else None)) }
 {
     match accounts.get(collector) {

@@ -1,5 +1,5 @@
-//! One block: which of its transactions run, what they come to on 1 to 64 lanes, how the block ends,
-//! and its record and the snapshot after it.
+//! One block: which of its transactions run, what they come to on 1 to 64 lanes, how the block
+//! ends, and its record and the snapshot after it.
 #![tactic(auto)]
 
 mod activation;

@@ -29,8 +29,8 @@ const SETTING: Setting = Setting {
     height: 5,
 };
 
-/// Instructions without accounts and data: the program, the units, how many were started before, and
-/// then the units left, how many are started, how it ends, and how many lines.
+/// Instructions without accounts and data: the program, the units, how many were started before,
+/// and then the units left, how many are started, how it ends, and how many lines.
 const CALLS: [(Key, u64, u8, u64, u8, Result<usize, (Cause, u8)>, usize); 7] = [
     (COMPUTE_BUDGET_PROGRAM, 150, 0, 0, 1, Ok(4), 2),
     (COMPUTE_BUDGET_PROGRAM, 200, 63, 50, 64, Ok(4), 2),
@@ -81,8 +81,8 @@ const CALLS: [(Key, u64, u8, u64, u8, Result<usize, (Cause, u8)>, usize); 7] = [
     ),
 ];
 
-/// Runs an instruction of program 0 without data: what came of it, and how many lines. The tests need
-/// nothing of its contract.
+/// Runs an instruction of program 0 without data: what came of it, and how many lines. The tests
+/// need nothing of its contract.
 fn run(
     alloc: Global,
     programs: &Programs,
@@ -181,8 +181,8 @@ enum Second {
 
 /// Instructions with the writable accounts of the second key and of one that is absent, the program
 /// and the system program: what the program does, the second account, the greatest height and the
-/// units; and then the units used, how many instructions are started, how it ends, how many lines, and
-/// the lamports and the first byte that the second account has.
+/// units; and then the units used, how many instructions are started, how it ends, how many lines,
+/// and the lamports and the first byte that the second account has.
 const EXAMPLES: [(
     Text,
     Second,

@@ -14,9 +14,11 @@ use Rattle.sbpf_machine.specs.declared.instruction.Flow.TheVariants.{Next, Jump,
 
 -- the operands that an entry holds
 abbrev pub operands_of : Entry → Operands
-operands_of e = record { dst = e.dst; src = e.src; target = e.target; offset = e.offset; imm = e.imm }
+operands_of e =
+    record { dst = e.dst; src = e.src; target = e.target; offset = e.offset; imm = e.imm }
 
--- where an answer leads: to the next place, to the target, to another, or to a stop; without memory, where the row will lead when it is tried again
+-- where an answer leads: to the next place, to the target, to another, or to a stop; without
+-- memory, where the row will lead when it is tried again
 abbrev pub after : Row → ℕ → ℕ → Context → Flow → Row
 after row target place new Next = Go (place + 1) new
 after row target place new Jump = Go target new
@@ -28,17 +30,20 @@ after row target place new NoMemory = row
 abbrev pub Follows : Row → ℕ → ℕ → Context → Flow → Type 0
 Follows row target place new flow = after row target place new flow ≡ row
 
--- where it goes on, an instruction starts there, and after a system call, which has its number, at the place behind it
+-- where it goes on, an instruction starts there, and after a system call, which has its number, at
+-- the place behind it
 abbrev pub LandsOn : List ℕ → ℕ → ℕ → Flow → Type 0
 LandsOn text target place Next = is_start text (place + 1) ≡ true
 LandsOn text target place Jump = is_start text target ≡ true
 LandsOn text target place (To other) = is_start text other ≡ true
-LandsOn text target place (Off (Helper number)) = (is_start text (place + 1) ≡ true) × IsHelperNumber number
+LandsOn text target place (Off (Helper number)) =
+    (is_start text (place + 1) ≡ true) × IsHelperNumber number
 LandsOn text target place (Off (Exit r0)) = Unit {0}
 LandsOn text target place (Off (Fault fault)) = Unit {0}
 LandsOn text target place NoMemory = Unit {0}
 
--- memory is wanted only by an instruction that may want it and would go on, and then nothing has changed
+-- memory is wanted only by an instruction that may want it and would go on, and then nothing has
+-- changed
 abbrev pub WantsOnlyAt : OpKind → Operands → Row → Context → Context → Flow → Type 0
 WantsOnlyAt kind o row old new NoMemory = MayWant kind o old × GoesOn row × (new ≡ old)
 WantsOnlyAt kind o row old new _ = Unit {0}
@@ -49,11 +54,13 @@ IsNext Next = Unit {0}
 IsNext (Off (Fault fault)) = Unit {0}
 IsNext _ = ⊥
 
--- the same, or it wants memory at an address that is not prepared, would go on, and has changed nothing
+-- the same, or it wants memory at an address that is not prepared, would go on, and has changed
+-- nothing
 abbrev pub IsNextOrWant : ℕ → ℕ → Row → Context → Context → Flow → Type 0
 IsNextOrWant addr width row old new Next = Unit {0}
 IsNextOrWant addr width row old new (Off (Fault fault)) = Unit {0}
-IsNextOrWant addr width row old new NoMemory = (¬ IsPrepared old.memory addr width) × GoesOn row × (new ≡ old)
+IsNextOrWant addr width row old new NoMemory =
+    (¬ IsPrepared old.memory addr width) × GoesOn row × (new ≡ old)
 IsNextOrWant addr width row old new _ = ⊥
 
 -- it goes to this place, if anywhere, and wants no memory
@@ -77,4 +84,5 @@ IsCalling _ = ⊥
 
 -- each frame that waits goes back to where an instruction starts
 abbrev pub GoBack : List ℕ → List Kept → Type 0
-GoBack text frames = (k : ℕ) (frame : Kept) → slice_get frames k ≡ Some frame → is_start text frame.back ≡ true
+GoBack text frames =
+    (k : ℕ) (frame : Kept) → slice_get frames k ≡ Some frame → is_start text frame.back ≡ true

@@ -16,8 +16,10 @@ IsNumbered (Helper number) = IsHelperNumber number
 IsNumbered (Exit r0) = Unit {0}
 IsNumbered (Fault fault) = Unit {0}
 
--- in a verified text, where an instruction starts, to which each frame that waits goes back too, and after a system call the place behind it
-pub record StandsAtStart (text : List ℕ) (place : ℕ) (context : Context) (stop : Option Stop) : Type 0 where
+-- in a verified text, where an instruction starts, to which each frame that waits goes back too,
+-- and after a system call the place behind it
+pub record StandsAtStart (text : List ℕ) (place : ℕ) (context : Context)
+    (stop : Option Stop) : Type 0 where
   pub verified : IsVerified text
   pub start : is_start text place ≡ true
   pub backs : GoBack text context.frames

@@ -1,4 +1,5 @@
--- The steps of a machine: one row for each family of instructions (RFC 9669 and sBPF, in this project's profile).
+-- The steps of a machine: one row for each family of instructions (RFC 9669 and sBPF, in this
+-- project's profile).
 use Rattle.std.specs.Prelude.{◌≡◌, ◌<◌, ℕ, zero, suc, ◌+◌, ◌-◌, ◌*◌, ◌/◌, ◌%◌, ◌^◌, ◌==◌, ◌&&◌, List, [], ◌∷◌, ◌++◌, length, take, drop, slice_index, slice_get, slice_set, nat_le, Option, Some, None, unwrap_or, Result, Ok, Err, ℤ, pos, negsuc, if◌then◌else◌}
 use Rattle.std.specs.Int.{w32, w64, cast_unsigned}
 use Rattle.sbpf_isa.specs.Slots.{slot_of}
@@ -22,13 +23,15 @@ use Rattle.sbpf_machine.specs.declared.stop.Fault.TheVariants.{UnitsSpent, Divid
 use Rattle.sbpf_machine.specs.declared.stop.Stop.{Stop}
 use Rattle.sbpf_machine.specs.declared.stop.Stop.TheVariants.{Exit as exited, Helper, Fault as faulted}
 
--- what an instruction leads to: a place and what it changed, a stop, or nothing where its opcode has no row
+-- what an instruction leads to: a place and what it changed, a stop, or nothing where its opcode
+-- has no row
 pub data Next : Type 0 where
   Go : ℕ → Context → Next
   Halt : Stop → Context → Next
   Stuck : Next
 
--- the operands of an instruction: its registers, the place that it leads to, its offset and its immediate in 64 bits
+-- the operands of an instruction: its registers, the place that it leads to, its offset and its
+-- immediate in 64 bits
 pub record Operands : Type 0 where
   pub dst : ℕ
   pub src : ℕ
@@ -68,19 +71,33 @@ fault f c = Halt (faulted f) c
 -- class 7 works on 64 bits, class 4 on the low 32, with an upper half of 0; a divisor 0 is a fault
 abbrev pub binary64 : Operation → ℕ → ℕ → ℕ → Context → Next
 binary64 op r s p c =
-    if divides op && (s == 0) then fault DivideByZero c else Go (p + 1) (put r (value_of op w64 (register c r) s) c)
+    if divides op && (s == 0) then fault DivideByZero c
+    else Go (p + 1) (put r (value_of op w64 (register c r) s) c)
 
 abbrev pub binary32 : Operation → ℕ → ℕ → ℕ → Context → Next
 binary32 op r s p c =
     if divides op && (s % 2 ^ 32 == 0) then fault DivideByZero c else
     Go (p + 1) (put r (value_of op w32 (register c r % 2 ^ 32) (s % 2 ^ 32)) c)
 
--- a call into the program keeps the place after it and r6 to r10, and adds 8,192 to r10; 64 frames may be active
+-- a call into the program keeps the place after it and r6 to r10, and adds 8,192 to r10; 64 frames
+-- may be active
 abbrev pub frame_kept : ℕ → Context → Kept
-frame_kept p c = record { back = p + 1; r6 = register c 6; r7 = register c 7; r8 = register c 8; r9 = register c 9; r10 = register c 10 }
+frame_kept p c =
+    record {
+      back = p + 1;
+      r6 = register c 6;
+      r7 = register c 7;
+      r8 = register c 8;
+      r9 = register c 9;
+      r10 = register c 10;
+    }
 
 abbrev pub new_frame : ℕ → Context → Context
-new_frame p c = record c { registers = slice_set c.registers 10 ((register c 10 + 8192) % 2 ^ 64); frames = c.frames ++ frame_kept p c ∷ [] }
+new_frame p c =
+    record c {
+      registers = slice_set c.registers 10 ((register c 10 + 8192) % 2 ^ 64);
+      frames = c.frames ++ frame_kept p c ∷ [];
+    }
 
 abbrev pub enter : ℕ → ℕ → Context → Next
 enter to p c = if nat_le 64 (length c.frames + 1) then fault CallDepth c else Go to (new_frame p c)
@@ -89,7 +106,13 @@ enter to p c = if nat_le 64 (length c.frames + 1) then fault CallDepth c else Go
 abbrev pub leave : Option Kept → Context → Next
 leave None c = Halt (exited (register c 0)) c
 leave (Some k) c =
-    Go k.back (record c { registers = slice_set (slice_set (slice_set (slice_set (slice_set c.registers 6 k.r6) 7 k.r7) 8 k.r8) 9 k.r9) 10 k.r10; frames = take (length c.frames - 1) c.frames })
+    Go k.back (record
+    c {
+      registers = slice_set
+          (slice_set (slice_set (slice_set (slice_set c.registers 6 k.r6) 7 k.r7) 8 k.r8) 9 k.r9)
+          10 k.r10;
+      frames = take (length c.frames - 1) c.frames;
+    })
 
 abbrev pub last_kept : Context → Option Kept
 last_kept c = slice_get c.frames (length c.frames - 1)
@@ -142,12 +165,15 @@ act (Negate Bits32) text o p c = Go (p + 1) (put o.dst (negative w32 (register c
 act LittleEndian text o p c = Go (p + 1) (put o.dst (low_bits o.imm (register c o.dst)) c)
 act BigEndian text o p c = Go (p + 1) (put o.dst (swapped_bits o.imm (register c o.dst)) c)
 act Jump text o p c = Go o.target c
-act (JumpIf when form) text o p c = Go (if holds when (register c o.dst) (source form o c) then o.target else p + 1) c
+act (JumpIf when form) text o p c =
+    Go (if holds when (register c o.dst) (source form o c) then o.target else p + 1) c
 act Call text o p c = call o p c
-act CallRegister text o p c = let value = register c o.imm in enter_at value p c (start_at_address text value)
+act CallRegister text o p c =
+    let value = register c o.imm in enter_at value p c (start_at_address text value)
 act Exit text o p c = leave (last_kept c) c
 act (Load size) text o p c = load o.dst p c (load_from c.memory (address o.src o c) (bytes_in size))
-act (Store size form) text o p c = store p c (store_to c.memory (address o.dst o c) (bytes_in size) (source form o c))
+act (Store size form) text o p c =
+    store p c (store_to c.memory (address o.dst o c) (bytes_in size) (source form o c))
 act LoadWide text o p c = Go (p + 2) (put o.dst o.imm c)
 
 -- one instruction: the row of what stands at the place
@@ -158,7 +184,8 @@ row_of text place context (Some kind) = act kind text (operands_at text place ki
 unfoldable pub step : List ℕ → ℕ → Context → Next
 step text place context = row_of text place context (instruction_at text place)
 
--- A machine: its text, which no step changes, the place in it, registers, frames and memory, the units left, and the stop that it stands at, if it does.
+-- A machine: its text, which no step changes, the place in it, registers, frames and memory, the
+-- units left, and the stop that it stands at, if it does.
 pub record State : Type 0 where
   pub text : List ℕ
   pub place : ℕ
@@ -167,10 +194,12 @@ pub record State : Type 0 where
   pub stop : Option Stop
 
 abbrev pub going : List ℕ → ℕ → Context → ℕ → State
-going text place context units = record { text = text; place = place; context = context; units = units; stop = None }
+going text place context units =
+    record { text = text; place = place; context = context; units = units; stop = None }
 
 abbrev pub halted : List ℕ → ℕ → Context → ℕ → Stop → State
-halted text place context units stop = record { text = text; place = place; context = context; units = units; stop = Some stop }
+halted text place context units stop =
+    record { text = text; place = place; context = context; units = units; stop = Some stop }
 
 -- what follows an instruction, with the units then left
 abbrev pub follow : List ℕ → ℕ → ℕ → (ℕ → Context → Option State) → Next → Option State
@@ -178,10 +207,12 @@ follow text place units on (Go to context) = on to context
 follow text place units on (Halt stop context) = Some (halted text place context units stop)
 follow text place units on Stuck = None
 
--- the machine at its first stop, each instruction taking a unit before it acts; None where an opcode without a row is met
+-- the machine at its first stop, each instruction taking a unit before it acts; None where an
+-- opcode without a row is met
 unfoldable pub first_stop : List ℕ → ℕ → ℕ → Context → Option State
 first_stop text zero place context = Some (halted text place context 0 (faulted UnitsSpent))
-first_stop text (suc units) place context = follow text place units (first_stop text units) (step text place context)
+first_stop text (suc units) place context =
+    follow text place units (first_stop text units) (step text place context)
 
 -- the machine at its first stop: where it stands at one, that is it
 abbrev pub steps_by : State → Option Stop → Option State
@@ -194,7 +225,9 @@ steps x = steps_by x x.stop
 -- the machines that one comes to by whole instructions, without a stop
 pub data Reaches (x : State) : State → Type 0 where
   here : Reaches x x
-  on : {place next units : ℕ} {context context' : Context} → Reaches x (going x.text place context (suc units)) → step x.text place context ≡ Go next context' → Reaches x (going x.text next context' units)
+  on : {place next units : ℕ} {context context' : Context}
+      → Reaches x (going x.text place context (suc units))
+      → step x.text place context ≡ Go next context' → Reaches x (going x.text next context' units)
 
 -- an instruction that may take memory: a store into the input at places that are not all prepared
 abbrev pub MayWant : OpKind → Operands → Context → Type 0
@@ -211,7 +244,8 @@ GoesOn (Go place c) = Unit {0}
 GoesOn (Halt stop c) = ⊥
 GoesOn Stuck = ⊥
 
--- what want of memory leaves: the machine as it was before the store that met it and that would go on, at no stop and with a unit for it
+-- what want of memory leaves: the machine as it was before the store that met it and that would go
+-- on, at no stop and with a unit for it
 pub record StandsBeforeStore (old new : State) : Type 0 where
   pub reached : Reaches old new
   pub next : MayWantAt new.text new.place new.context (instruction_at new.text new.place)
@@ -224,7 +258,8 @@ abbrev pub first_registers : List ℕ
 first_registers = 0 ∷ 0x4_0000_0000 ∷ 0 ∷ 0 ∷ 0 ∷ 0 ∷ 0 ∷ 0 ∷ 0 ∷ 0 ∷ 0x2_0000_1000 ∷ []
 
 abbrev pub first_state : List ℕ → Ranges → ℕ → State
-first_state text memory units = going text 0 (record { registers = first_registers; frames = []; memory = memory }) units
+first_state text memory units =
+    going text 0 (record { registers = first_registers; frames = []; memory = memory }) units
 
 -- a machine that stands at a system call, and goes on with its answer in r0
 abbrev pub IsHelper : Option Stop → Type 0

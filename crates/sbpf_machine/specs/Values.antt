@@ -15,7 +15,8 @@ abbrev pub bits_of : Bits → ℕ
 bits_of w64 = 64
 bits_of _ = 32
 
--- what an operation computes of the destination and the source operand, both below the size; a divisor is not 0
+-- what an operation computes of the destination and the source operand, both below the size; a
+-- divisor is not 0
 abbrev pub value_of : Operation → Bits → ℕ → ℕ → ℕ
 value_of Add w d s = (d + s) % size_of w
 value_of Sub w d s = (d + (size_of w - s)) % size_of w
@@ -60,4 +61,6 @@ low_bits n d = if n == 16 then d % 2 ^ 16 else if n == 32 then d % 2 ^ 32 else d
 
 -- their bytes in the other order
 abbrev pub swapped_bits : ℕ → ℕ → ℕ
-swapped_bits n d = if n == 16 then swap_bytes w16 (d % 2 ^ 16) else if n == 32 then swap_bytes w32 (d % 2 ^ 32) else swap_bytes w64 d
+swapped_bits n d =
+    if n == 16 then swap_bytes w16 (d % 2 ^ 16) else if n == 32 then swap_bytes w32 (d % 2 ^ 32)
+    else swap_bytes w64 d

@@ -16,7 +16,8 @@ with_heap m heap = record m { heap = heap }
 
 -- with other bytes in the input from a place on
 abbrev pub with_input_bytes : Ranges → ℕ → List ℕ → Ranges
-with_input_bytes m at bytes = with_input m (record { bytes = with_bytes m.input.bytes at bytes; prepared = m.input.prepared })
+with_input_bytes m at bytes =
+    with_input m (record { bytes = with_bytes m.input.bytes at bytes; prepared = m.input.prepared })
 
 -- len bytes from a place on
 abbrev pub bytes_of_place : Ranges → Place → ℕ → List ℕ

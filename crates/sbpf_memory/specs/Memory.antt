@@ -33,7 +33,8 @@ frame_size = 4096
 abbrev pub frame_step : ℕ
 frame_step = 8192
 
--- The bytes of a memory, range by range. The program is the text and then the constants; the frames of the stack stand one after another, without the gaps between them.
+-- The bytes of a memory, range by range. The program is the text and then the constants; the frames
+-- of the stack stand one after another, without the gaps between them.
 pub record Ranges : Type 0 where
   pub program : List ℕ
   pub stack : List ℕ
@@ -49,7 +50,13 @@ pub record IsMemory (m : Ranges) : Type 0 where
 
 -- a memory at the start: stack and heap are zero
 abbrev pub fresh : List ℕ → ℕ → Content → Ranges
-fresh image heap input = record { program = image; stack = replicate (frame_count * frame_size) 0; heap = replicate heap 0; input = input }
+fresh image heap input =
+    record {
+      program = image;
+      stack = replicate (frame_count * frame_size) 0;
+      heap = replicate heap 0;
+      input = input;
+    }
 
 -- len bytes at an address lie within size bytes from start on
 abbrev pub lies_in : ℕ → ℕ → ℕ → ℕ → Bool
@@ -63,7 +70,8 @@ abbrev pub frame_start : ℕ → ℕ
 frame_start frame = stack_start + frame_step * frame
 
 abbrev pub lies_in_frame : ℕ → ℕ → Bool
-lies_in_frame addr len = nat_lt (frame_of addr) frame_count && lies_in (frame_start (frame_of addr)) frame_size addr len
+lies_in_frame addr len =
+    nat_lt (frame_of addr) frame_count && lies_in (frame_start (frame_of addr)) frame_size addr len
 
 -- a place in the bytes of a range
 abbrev pub at_place : Region → ℕ → Option Place
@@ -72,10 +80,13 @@ at_place region at = Some (record { region = region; at = at })
 -- where an access of len bytes lies, at least one, or None where it lies in no range
 unfoldable pub place_of : Ranges → ℕ → ℕ → Option Place
 place_of m addr len =
-    if lies_in program_start (length m.program) addr len then at_place Program (addr - program_start) else
-    if lies_in_frame addr len then at_place Stack (frame_size * frame_of addr + (addr - frame_start (frame_of addr))) else
+    if lies_in program_start (length m.program) addr len
+    then at_place Program (addr - program_start) else
+    if lies_in_frame addr len
+    then at_place Stack (frame_size * frame_of addr + (addr - frame_start (frame_of addr))) else
     if lies_in heap_start (length m.heap) addr len then at_place Heap (addr - heap_start) else
-    if lies_in input_start (length m.input.bytes) addr len then at_place Input (addr - input_start) else
+    if lies_in input_start (length m.input.bytes) addr len then at_place Input (addr - input_start)
+    else
     None
 
 -- the bytes of a range
@@ -102,7 +113,13 @@ abbrev pub with_bytes_in : Ranges → ℕ → List ℕ → ℕ → Region → Re
 with_bytes_in m addr bytes at Program = Err (violation_of addr (length bytes) true)
 with_bytes_in m addr bytes at Stack = Ok (record m { stack = with_bytes m.stack at bytes })
 with_bytes_in m addr bytes at Heap = Ok (record m { heap = with_bytes m.heap at bytes })
-with_bytes_in m addr bytes at Input = Ok (record m { input = record { bytes = with_bytes m.input.bytes at bytes; prepared = m.input.prepared } })
+with_bytes_in m addr bytes at Input =
+    Ok (record m {
+      input = record {
+        bytes = with_bytes m.input.bytes at bytes;
+        prepared = m.input.prepared;
+      };
+    })
 
 abbrev pub with_bytes_at : Ranges → ℕ → List ℕ → Option Place → Result Ranges AccessViolation
 with_bytes_at m addr bytes None = Err (violation_of addr (length bytes) true)
@@ -110,14 +127,16 @@ with_bytes_at m addr bytes (Some place) = with_bytes_in m addr bytes place.at pl
 
 -- the memory after a write; one of no bytes is never refused
 unfoldable pub write_to : Ranges → ℕ → List ℕ → Result Ranges AccessViolation
-write_to m addr bytes = if length bytes == 0 then Ok m else with_bytes_at m addr bytes (place_of m addr (length bytes))
+write_to m addr bytes =
+    if length bytes == 0 then Ok m else with_bytes_at m addr bytes (place_of m addr (length bytes))
 
 -- a load and a store move 1, 2, 4 or 8 bytes
 abbrev pub IsWidth : ℕ → Type 0
 IsWidth width = (width ≡ 1) ⊎ ((width ≡ 2) ⊎ ((width ≡ 4) ⊎ (width ≡ 8)))
 
 abbrev pub width_of : ℕ → Width
-width_of width = if width == 1 then w8 else if width == 2 then w16 else if width == 4 then w32 else w64
+width_of width =
+    if width == 1 then w8 else if width == 2 then w16 else if width == 4 then w32 else w64
 
 abbrev pub number_in : ℕ → Result (List ℕ) AccessViolation → Result ℕ AccessViolation
 number_in width (Ok bytes) = Ok (from_le_bytes (width_of width) bytes)
@@ -146,9 +165,11 @@ abbrev pub copy_of : Ranges → ℕ → Bool → Result (List ℕ) AccessViolati
 copy_of m to overlap (Err v) = Err (refusal_of v)
 copy_of m to overlap (Ok bytes) = or_overlap overlap (write_to m to bytes)
 
--- the memory after a copy: the read is tested first, then the write, and then, where they must stand apart, whether the two ranges meet
+-- the memory after a copy: the read is tested first, then the write, and then, where they must
+-- stand apart, whether the two ranges meet
 unfoldable pub copy_to : Ranges → ℕ → ℕ → ℕ → Bool → Result Ranges MemFault
-copy_to m to from len apart = copy_of m to (apart && nat_lt 0 len && meet to from len) (read_from m from len)
+copy_to m to from len apart =
+    copy_of m to (apart && nat_lt 0 len && meet to from len) (read_from m from len)
 
 -- the refusal of a write of len bytes, if it is refused
 abbrev pub refused_in : ℕ → ℕ → Region → Option AccessViolation
@@ -174,7 +195,9 @@ PreparedAt m len (Some place) = PreparedIn m len place.at place.region
 unfoldable pub IsPrepared : Ranges → ℕ → ℕ → Type 0
 IsPrepared m addr len = PreparedAt m len (place_of m addr len)
 
--- What a call that writes answers, by what the definition gives: the memory, or the refusal, or want of memory. Either refusal leaves the memory as it was, and want of memory comes only where nothing else is to refuse.
+-- What a call that writes answers, by what the definition gives: the memory, or the refusal, or
+-- want of memory. Either refusal leaves the memory as it was, and want of memory comes only where
+-- nothing else is to refuse.
 abbrev pub Answers : Result Ranges MemFault → Ranges → Ranges → Result (Unit {0}) MemFault → Type 0
 Answers wanted old new (Ok _) = wanted ≡ Ok new
 Answers wanted old new (Err no_memory) = (new ≡ old) × IsOk wanted
@@ -184,15 +207,18 @@ abbrev pub or_refusal : Result Ranges AccessViolation → Result Ranges MemFault
 or_refusal (Ok m) = Ok m
 or_refusal (Err v) = Err (refusal_of v)
 
--- What a preparation answers: whether the write would be refused; the bytes stay, and no prepared place is lost.
+-- What a preparation answers: whether the write would be refused; the bytes stay, and no prepared
+-- place is lost.
 abbrev pub PreparesIn : Option AccessViolation → Type 0 → Result (Unit {0}) MemFault → Type 0
 PreparesIn refusal ready (Ok _) = (refusal ≡ None) × ready
 PreparesIn refusal ready (Err no_memory) = refusal ≡ None
 PreparesIn refusal ready (Err Overlap) = ⊥
-PreparesIn refusal ready (Err (violation a n w)) = refusal ≡ Some (record { addr = a; len = n; write = w })
+PreparesIn refusal ready (Err (violation a n w)) =
+    refusal ≡ Some (record { addr = a; len = n; write = w })
 
 abbrev pub Prepares : Ranges → ℕ → ℕ → Ranges → Result (Unit {0}) MemFault → Type 0
-Prepares old addr len new result = PreparesIn (write_refusal old addr len) (IsPrepared new addr len) result
+Prepares old addr len new result =
+    PreparesIn (write_refusal old addr len) (IsPrepared new addr len) result
 
 -- a refusal leaves the memory as it was
 abbrev pub StaysIfRefused : Ranges → Ranges → Result (Unit {0}) MemFault → Type 0
@@ -223,11 +249,14 @@ abbrev pub range : ℕ → List ℕ → Bool → Range
 range start bytes writable = record { start = start; bytes = bytes; writable = writable }
 
 abbrev pub frame_range : List ℕ → ℕ → Range
-frame_range stack frame = range (frame_start frame) (slice_range stack (frame_size * frame) (frame_size * frame + frame_size)) true
+frame_range stack frame =
+    range (frame_start frame)
+    (slice_range stack (frame_size * frame) (frame_size * frame + frame_size)) true
 
 unfoldable pub ranges : Ranges → List Range
 ranges m =
-    (range program_start m.program false ∷ []) ++ map (frame_range m.stack) (range_with_len 0 frame_count) ++
+    (range program_start m.program false ∷ [])
+    ++ map (frame_range m.stack) (range_with_len 0 frame_count) ++
     (range heap_start m.heap true ∷ range input_start m.input.bytes true ∷ [])
 
 -- an access lies in a range
@@ -240,7 +269,8 @@ Holds m addr len r = Contains (ranges m) r × LiesIn r addr len
 
 -- the bytes of an access stand in such a range
 abbrev pub ReadsIn : Ranges → ℕ → ℕ → List ℕ → Type 0
-ReadsIn m addr len bytes = (r : Range) × Holds m addr len r × (bytes ≡ take len (drop (addr - r.start) r.bytes))
+ReadsIn m addr len bytes =
+    (r : Range) × Holds m addr len r × (bytes ≡ take len (drop (addr - r.start) r.bytes))
 
 -- such a range is written
 abbrev pub WritesIn : Ranges → ℕ → ℕ → Type 0

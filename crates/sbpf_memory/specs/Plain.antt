@@ -1,4 +1,5 @@
--- Memories without the note which places are prepared: no definition of what programs do looks at it.
+-- Memories without the note which places are prepared: no definition of what programs do looks at
+-- it.
 use Rattle.std.specs.Prelude.{[], Result, Ok, Err}
 use Rattle.sol_base.specs.Parts.{Content}
 use Rattle.sbpf_memory.specs.Memory.{Ranges}

@@ -81,7 +81,8 @@ impl Memory {
     pub fn read(&self, addr: u64, into: &mut [u8]) -> Result<(), AccessViolation>
         ensures { MatchResult result
             (λ _. read_from self.now addr (length into.old) ≡ Ok into.new)
-            (λ violation. (read_from self.now addr (length into.old) ≡ Err violation) × (into.new ≡ into.old)) }
+            (λ violation. (read_from self.now addr (length into.old) ≡ Err violation)
+            × (into.new ≡ into.old)) }
     {
         if into.is_empty() {
             return Ok(());

@@ -141,8 +141,8 @@ fn write_snapshot<O: Output>(out: &mut O, snapshot: &Snapshot) -> Result<(), Out
     write_state(out, &snapshot.accounts)
 }
 
-/// No bytes, with room for so many and for those of the snapshot behind them. No clause speaks of the
-/// room: it saves time alone.
+/// No bytes, with room for so many and for those of the snapshot behind them. No clause speaks of
+/// the room: it saves time alone.
 pub fn room_before(alloc: Global, front: usize, snapshot: &Snapshot) -> Result<Blob, OutOfMemory>
     ensures { IfOk result (λ b. b ≡ []) }
 {

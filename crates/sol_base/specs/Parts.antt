@@ -35,15 +35,18 @@ with_bytes list at bytes = take at list ++ bytes ++ drop (at + length bytes) lis
 -- the data of an account stand in a list from a place on
 abbrev pub DataStandAt : Account → List ℕ → ℕ → Type 0
 DataStandAt account list at =
-    (at + length account.bytes ≤ length list) × (take (length account.bytes) (drop at list) ≡ account.bytes)
+    (at + length account.bytes ≤ length list)
+    × (take (length account.bytes) (drop at list) ≡ account.bytes)
 
 -- each place of a range is prepared
 abbrev pub ArePrepared : List Bool → ℕ → ℕ → Type 0
-ArePrepared prepared at len = (place : ℕ) → place < len → slice_get prepared (at + place) ≡ Some true
+ArePrepared prepared at len =
+    (place : ℕ) → place < len → slice_get prepared (at + place) ≡ Some true
 
 -- each place that was prepared still is
 abbrev pub StayPrepared : List Bool → List Bool → Type 0
-StayPrepared before after = (place : ℕ) → slice_get before place ≡ Some true → slice_get after place ≡ Some true
+StayPrepared before after =
+    (place : ℕ) → slice_get before place ≡ Some true → slice_get after place ≡ Some true
 
 -- the bytes that stand behind a piece
 abbrev pub backing_bytes : Backing → List ℕ
@@ -88,7 +91,8 @@ piece_bytes piece = backing_bytes piece.backing
 
 -- N bytes are those of a piece from a place of the list on
 abbrev pub ArrayStandsAt : Piece → ℕ → ℕ → List ℕ → Type 0
-ArrayStandsAt piece at N found = (piece.start ≤ at) × ArrayStandsIn (piece_bytes piece) (at - piece.start) N found
+ArrayStandsAt piece at N found =
+    (piece.start ≤ at) × ArrayStandsIn (piece_bytes piece) (at - piece.start) N found
 
 -- what stands in the place of a piece that is kept apart
 abbrev pub blank_of : Piece → Piece
@@ -121,7 +125,8 @@ AreInOrder pieces = map (λ (piece : Piece). piece.start) pieces ≡ starts_from
 
 -- a list has the bytes of a range that stand before a place, and is else as it was
 abbrev pub IsWrittenUpTo : List ℕ → List ℕ → ℕ → List ℕ → ℕ → Type 0
-IsWrittenUpTo was now at bytes place = now ≡ with_bytes was at (take (min (length bytes) (place - at)) bytes)
+IsWrittenUpTo was now at bytes place =
+    now ≡ with_bytes was at (take (min (length bytes) (place - at)) bytes)
 
 -- the places of a range that stand before a place are prepared
 abbrev pub ArePreparedUpTo : List Bool → ℕ → ℕ → ℕ → Type 0
