@@ -1,7 +1,7 @@
 -- Pieces of which one stands apart, and leaves a blank one of as many bytes in its place.
-use Rattle.std.proofs.Common.{◌≡◌, ℕ, zero, suc, ◌+◌, ◌-◌, ◌<◌, ◌≤◌, Bool, true, false, List, [], ◌∷◌, ◌++◌, length, get_or, set, take, drop, replicate, min, ◌≢◌, refl, ap, sym, ◌∙◌, subst, inl, inr, rules, arith, length-append, length-drop}
+use Rattle.std.proofs.Common.{◌≡◌, ℕ, zero, suc, ◌+◌, ◌-◌, ◌<◌, ◌≤◌, Bool, true, List, [], ◌∷◌, ◌++◌, length, get_or, set, take, drop, min, ◌≢◌, refl, ap, sym, ◌∙◌, subst, inl, inr, rules, arith, length-append, length-drop}
 use Rattle.std.specs.List.{flat_map}
-use Rattle.std.proofs.lemmas.List.{places, same_lists, take-append-drop, take-take, length-take, length-replicate, get_or-set_same, get_or-set_other, set_past, set-get_or, length-set}
+use Rattle.std.proofs.lemmas.List.{places, same_lists, take-append-drop, take-take, length-take, length-replicate, get_or-set_same, get_or-set_other, set_past, length-set}
 use Rattle.std.proofs.lemmas.Bool.{cases_lt}
 use Rattle.sol_base.specs.declared.parts.piece.Piece.{Piece}
 use Rattle.sol_base.specs.declared.parts.piece.Backing.{Backing}

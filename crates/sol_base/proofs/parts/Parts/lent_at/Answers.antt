@@ -1,4 +1,4 @@
-use Rattle.std.proofs.Common.{◌≡◌, ◌∙◌, true, ap, sym, subst, List, ℕ, Some, slice_get}
+use Rattle.std.proofs.Common.{◌≡◌, ◌∙◌, true, ap, subst, List, ℕ, Some, slice_get}
 use Rattle.std.proofs.lemmas.Option.{IfSome_then}
 use Rattle.std.specs.Arc.{arc_value}
 use Rattle.sol_base.specs.Parts.{tests_in, bytes_in, is_prepared, Content, DataStandAt}

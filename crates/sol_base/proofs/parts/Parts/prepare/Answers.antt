@@ -1,6 +1,6 @@
 use Rattle.std.proofs.Common.{◌≡◌, ◌∙◌, ap, sym, subst, List, rules}
 use Rattle.std.proofs.lemmas.List.{with_items_is, places}
-use Rattle.std.specs.Prelude.{OnOk, IsOk}
+use Rattle.std.specs.Prelude.{OnOk}
 use Rattle.std.specs.Vec.{with_items}
 use Rattle.sol_base.specs.declared.parts.piece.Piece.{Piece}
 use Rattle.sol_base.specs.Parts.{tests_in, is_prepared, Content, ArePrepared}

@@ -1,6 +1,6 @@
 use Rattle.std.proofs.Common.{◌≡◌, ◌∙◌, ap, sym, refl, List, ℕ, Bool, length}
 use Rattle.sol_base.specs.declared.parts.piece.Piece.{Piece}
-use Rattle.sol_base.specs.Parts.{Content, bytes_in, tests_in, is_prepared}
+use Rattle.sol_base.specs.Parts.{Content, bytes_in, is_prepared}
 use Rattle.sol_base.proofs.PartLaws.{tests_length}
 use Rattle.sol_base.proofs.parts.Parts.put_near.Goals as goal
 

@@ -1,6 +1,6 @@
-use Rattle.std.proofs.Common.{◌≡◌, ◌≤◌, ap, sym, length, get_or, arith}
+use Rattle.std.proofs.Common.{◌≡◌, ap, sym, length, get_or, arith}
 use Rattle.sol_base.specs.declared.parts.piece.Piece.{Piece}
-use Rattle.sol_base.specs.Parts.{piece_bytes, bytes_in}
+use Rattle.sol_base.specs.Parts.{piece_bytes}
 use Rattle.sol_base.proofs.PieceLaws.{piece_bound}
 use Rattle.sol_base.proofs.parts.pieces.take_at.Goals as goal
 

@@ -4,7 +4,7 @@ use Rattle.std.proofs.lemmas.List.{length-set}
 use Rattle.std.proofs.lemmas.Bool.{cases_lt}
 use Rattle.std.proofs.lemmas.Option.{IfSome_then}
 use Rattle.sol_base.specs.declared.parts.piece.Piece.{Piece}
-use Rattle.sol_base.specs.Parts.{bytes_in, before, is_blank, piece_bytes, AreInOrder, ArrayStandsAt}
+use Rattle.sol_base.specs.Parts.{bytes_in, before, is_blank, AreInOrder, ArrayStandsAt}
 use Rattle.sol_base.proofs.PartLaws.{item_start, read_there}
 use Rattle.sol_base.proofs.PieceLaws.{in_list, apart_is}
 use Rattle.sol_base.proofs.parts.pieces.Pieces.array.Goals as goal

@@ -1,4 +1,4 @@
-use Rattle.std.proofs.Common.{◌≡◌, ◌∙◌, ◌≤◌, ap, sym, subst, length, List, get_or, set, rules, arith, true}
+use Rattle.std.proofs.Common.{◌≡◌, ◌∙◌, ◌≤◌, ap, sym, subst, length, List, set, rules, arith, true}
 use Rattle.std.proofs.lemmas.List.{with_items_is, places, set-get_or, length-set}
 use Rattle.std.specs.Vec.{with_items}
 use Rattle.sol_base.specs.declared.parts.piece.Piece.{Piece}

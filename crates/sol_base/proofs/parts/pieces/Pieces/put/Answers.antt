@@ -1,4 +1,4 @@
-use Rattle.std.proofs.Common.{◌≡◌, ◌∙◌, ap, sym, subst, length, List, inl, inr, arith}
+use Rattle.std.proofs.Common.{◌∙◌, ap, sym, subst, length, List, inl, inr}
 use Rattle.std.proofs.lemmas.Bool.{cases_lt}
 use Rattle.sol_base.specs.declared.parts.piece.Piece.{Piece}
 use Rattle.sol_base.specs.Parts.{bytes_in, tests_in, is_prepared, with_bytes, AreInOrder}

@@ -1,4 +1,4 @@
-use Rattle.std.proofs.Common.{◌≡◌, ◌∙◌, ◌≤◌, ◌<◌, ◌+◌, ◌-◌, ◌++◌, ap, sym, subst, set, length, List, ℕ, take, drop, arith, length-drop}
+use Rattle.std.proofs.Common.{◌≡◌, ◌∙◌, ◌<◌, ◌+◌, ◌-◌, ◌++◌, ap, sym, subst, set, length, List, ℕ, take, drop, arith, length-drop}
 use Rattle.std.proofs.lemmas.List.{length-take}
 use Rattle.sol_base.specs.declared.parts.piece.Piece.{Piece}
 use Rattle.sol_base.specs.Parts.{bytes_in, before, piece_bytes, AreInOrder}
