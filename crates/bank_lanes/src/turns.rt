@@ -9,6 +9,14 @@ use crate::gate::Gate;
 use bank_core::{Desk, Loan, Take, Work};
 use std::sync::Wait;
 use std::thread;
+use std::thread::Parker;
+use std::time::Duration;
+
+/// How often a lane that finds nothing ready yields, before it parks.
+const YIELDS: u32 = 32;
+
+/// How many microseconds it parks at most, before it looks again.
+const PARKED: u64 = 100;
 
 /// How the loop of a lane ended: all positions are done, a share was refused, or the work found no
 /// memory and the loan went back.
@@ -19,8 +27,20 @@ pub(crate) enum LaneEnd {
     GaveBack,
 }
 
+/// Waits a little, where a lane has yielded so often since its last loan, and counts on. Nobody wakes a
+/// lane that parks, so it parks for a bounded time.
+fn wait<R: Wait>(rt: &R, yields: u32) -> u32 {
+    if yields < YIELDS {
+        thread::yield_now();
+        yields + 1
+    } else {
+        Parker::new().park_timeout(rt, Duration::from_micros(PARKED));
+        yields
+    }
+}
+
 /// Takes, passes the gate, performs outside the turn and commits, until all positions are done. Where
-/// nothing is ready it yields, and tries again.
+/// nothing is ready it waits, and tries again.
 pub(crate) fn run_lane<W: Work, D: Desk<W, Loan = Loan<W>>, G: Gate, R: Wait>(
     rt: &R,
     desk: &D,
@@ -37,9 +57,11 @@ pub(crate) fn run_lane<W: Work, D: Desk<W, Loan = Loan<W>>, G: Gate, R: Wait>(
     ensures once { result ≢ GaveBack → returns (D.view pass.new).mine ≡ 0 }
     ensures done { result ≡ Finished → AllDoneAfter W.job (D.origin desk.now) (D.view pass.new).seen }
 {
+    let mut yields = 0;
     'turns: for _ in rt.forever() {
         match desk.take(rt, pass) {
             Take::Loan(loan) => {
+                yields = 0;
                 gate.pass(loan.lane(), loan.position());
                 match work.perform(loan.position(), loan.values()) {
                     Ok(effects) => desk.commit(rt, pass, loan, effects),
@@ -49,7 +71,7 @@ pub(crate) fn run_lane<W: Work, D: Desk<W, Loan = Loan<W>>, G: Gate, R: Wait>(
                     }
                 }
             }
-            Take::NotNow { held: _ } => thread::yield_now(),
+            Take::NotNow { held: _ } => yields = wait(rt, yields),
             Take::Finished => return LaneEnd::Finished,
             Take::OutOfMemory => return LaneEnd::NoShare,
         }

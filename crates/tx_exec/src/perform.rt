@@ -1,12 +1,13 @@
 //! A transaction on the values of its keys.
-ghost use Rattle.std.specs.Prelude.{◌≡◌, ◌≤◌, [], Ok, length, IfOk};
+ghost use Rattle.std.specs.Prelude.{◌≡◌, ◌<◌, ◌≤◌, [], None, length, IfOk, IfSome};
 ghost use Rattle.sol_base.specs.Accounts.{accounts_of};
 ghost use Rattle.bank_core.specs.Effects.{effects_seen};
 ghost use Rattle.bank_law.specs.Lawful.{Fits};
 ghost use Rattle.admission.specs.Chosen.{IsChosen};
-ghost use Rattle.tx_exec.specs.Executing.{fixed_for};
+ghost use Rattle.tx_exec.specs.Executing.{fixed_for, locks};
 ghost use Rattle.tx_report.specs.declared.status.Status.TheVariants.{Dropped};
-ghost use Rattle.tx_exec.specs.Transaction.{came_to, effects, effects_as, failing, finished, no_fee, paid};
+ghost use Rattle.tx_exec.specs.Payer.{charged, dropped, total_fee};
+ghost use Rattle.tx_exec.specs.Transaction.{came_to, effects, effects_as, failing, finishing, no_fee, paid, rent_broken};
 ghost use Rattle.tx_exec.specs.Told.{block_of};
 
 use crate::ending::{data_of, find_broken_rent, written_of};
@@ -41,26 +42,58 @@ pub fn perform_one(
     ensures { IfOk result (λ e. effects_seen e
         ≡ effects (block_of told.now) chosen.now (accounts_of values.now)) }
 {
-    let fee = total(&chosen.fee);
-    match why_dropped(values, fee) {
+    match why_dropped(values, total(&chosen.fee)) {
         Some(cause) => drop_it(alloc, chosen, values, cause),
-        None => perform_paid(alloc, told, chosen, charge(alloc, values, fee)?.as_slice()),
+        None => perform_paid(alloc, told, chosen, values),
     }
 }
 
-/// Performs a transaction that has paid: these are its accounts then.
+/// The accounts once the fee is taken.
+fn pay(
+    alloc: Global,
+    chosen: &Chosen,
+    values: &[Arc<Account>],
+) -> Result<Items<Arc<Account>>, OutOfMemory>
+    requires fits { Fits chosen.now.locks (accounts_of values.now) }
+    requires pays { dropped (accounts_of values.now) (total_fee chosen.now) ≡ None }
+    ensures exact { IfOk result (λ base.
+        accounts_of base ≡ charged (accounts_of values.now) (total_fee chosen.now)) }
+    ensures fits { IfOk result (λ base. Fits chosen.now.locks (accounts_of base)) }
+{
+    let fee = total(&chosen.fee);
+    let base = charge(alloc, values, fee)?;
+    Ok(base)
+}
+
+/// The place of the first key whose rent does not allow what became of its account.
+fn broken_rent(chosen: &Chosen, before: &[Arc<Account>], after: &[Arc<Account>]) -> Option<usize>
+    requires chosen { IsChosen chosen.now }
+    requires before { Fits chosen.now.locks (accounts_of before.now) }
+    requires after { Fits chosen.now.locks (accounts_of after.now) }
+    ensures exact { result
+        ≡ rent_broken (locks chosen.now) (accounts_of before.now) (accounts_of after.now) }
+    ensures within { IfSome result (λ place. place < length chosen.now.locks) }
+{
+    find_broken_rent(chosen.locks.as_slice(), before, after)
+}
+
+/// Takes the fee, and performs the transaction.
 fn perform_paid(
     alloc: Global,
     told: &Told,
     chosen: &Chosen,
-    base: &[Arc<Account>],
+    values: &[Arc<Account>],
 ) -> Result<Effects, OutOfMemory>
     requires height { (1 ≤ told.now.height) × (told.now.height ≤ 9) }
     requires chosen { IsChosen chosen.now }
-    requires fits { Fits chosen.now.locks (accounts_of base.now) }
+    requires fits { Fits chosen.now.locks (accounts_of values.now) }
+    requires pays { dropped (accounts_of values.now) (total_fee chosen.now) ≡ None }
     ensures { IfOk result (λ e. effects_seen e ≡ effects_as chosen.now
-        (paid (fixed_for (block_of told.now) chosen.now) chosen.now (accounts_of base.now))) }
+        (paid (fixed_for (block_of told.now) chosen.now) chosen.now
+        (charged (accounts_of values.now) (total_fee chosen.now)))) }
 {
+    let accounts = pay(alloc, chosen, values)?;
+    let base = accounts.as_slice();
     if data_of(base) > u128::from(chosen.budget.loaded) {
         let failure = Failure {
             index: OF_ALL,
@@ -78,7 +111,11 @@ fn perform_paid(
     let lines = logs.into_lines();
     match result {
         Err(failure) => fail(alloc, chosen, base, failure, units, lines),
-        Ok(after) => finish(alloc, chosen, base, after.as_slice(), units, lines),
+        Ok(after) => {
+            let after = after.as_slice();
+            let broken = broken_rent(chosen, base, after);
+            finish(alloc, chosen, base, after, broken, units, lines)
+        }
     }
 }
 
@@ -133,22 +170,24 @@ fn fail(
     leave(alloc, chosen, base, status, units, lines)
 }
 
-/// All instructions ended well; the rent decides.
+/// All instructions ended well; the rent decides, which may be broken at a place.
 fn finish(
     alloc: Global,
     chosen: &Chosen,
     base: &[Arc<Account>],
     after: &[Arc<Account>],
+    broken: Option<usize>,
     units: u64,
     lines: Items<Blob>,
 ) -> Result<Effects, OutOfMemory>
     requires chosen { IsChosen chosen.now }
-    requires base { Fits chosen.now.locks (accounts_of base.now) }
-    requires after { Fits chosen.now.locks (accounts_of after.now) }
+    requires base { length (accounts_of base.now) ≡ length chosen.now.locks }
+    requires after { length (accounts_of after.now) ≡ length chosen.now.locks }
+    requires within { IfSome broken (λ place. place < length chosen.now.locks) }
     ensures { IfOk result (λ e. effects_seen e ≡ effects_as chosen.now
-        (finished chosen.now (accounts_of base.now) units lines (Ok (accounts_of after.now)))) }
+        (finishing chosen.now (accounts_of base.now) units lines (accounts_of after.now) broken)) }
 {
-    match find_broken_rent(chosen.locks.as_slice(), base, after) {
+    match broken {
         None => leave(alloc, chosen, after, Status::Good, units, lines),
         Some(place) => {
             let failure = Failure {
