@@ -21,4 +21,9 @@ pub record WentOn (v w : PassView) : Type 0 where
 module _ {W T : Type 0} {G : _} where
   abbrev pub SeesLoans : (Loan W T G → LoanView T) → Type 0
   SeesLoans seen =
-      (l : Loan W T G) → seen l ≡ record { position = l.position; lane = l.lane; origin = l.origin.value; values = accounts_of l.values.items }
+      (l : Loan W T G) → seen l ≡ record {
+        position = l.position;
+        lane = l.lane;
+        origin = l.origin.value;
+        values = accounts_of l.values.items;
+      }

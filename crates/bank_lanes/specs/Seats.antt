@@ -19,9 +19,11 @@ module _ {W T : Type 0} {G : _} where
   abbrev pub IsEmptySeat : Seat W T G → Type 0
   IsEmptySeat seat = seat.loan ≡ None
 
-  -- The seat of a lane: it has what the lane holds by the journal, and the lane has given something back only
+  -- The seat of a lane: it has what the lane holds by the journal, and the lane has given something
+  -- back only
   -- where the seat says so. Then it is empty.
-  pub record IsSeatOf (seat : Seat W T G) (origin : Origin T) (journal : List Event) (lane : ℕ) : Type 0 where
+  pub record IsSeatOf (seat : Seat W T G) (origin : Origin T) (journal : List Event)
+      (lane : ℕ) : Type 0 where
     pub loan : HasLoanOf seat.loan origin journal lane
     pub once : seat.gave_back ≡ false → returns (own journal lane) ≡ 0
     pub out : seat.gave_back ≡ true → IsEmptySeat seat
@@ -29,7 +31,8 @@ module _ {W T : Type 0} {G : _} where
   -- each lane has its seat
   abbrev pub AreSeats : List (Seat W T G) → Origin T → List Event → Type 0
   AreSeats seats origin journal =
-      (lane : ℕ) (d : Seat W T G) → lane < length seats → IsSeatOf (slice_index_or seats lane d) origin journal lane
+      (lane : ℕ) (d : Seat W T G) → lane < length seats
+      → IsSeatOf (slice_index_or seats lane d) origin journal lane
 
   -- what is lent to the seats, and which of them gave something back
   abbrev pub sitting : List (Seat W T G) → List (Option (Loan W T G) × Bool)

@@ -81,7 +81,8 @@ fn run_each<W: Work + Sync, D: Desk<W, Loan = Loan<W>>, G: Gate, R: Threads + Wa
         passes,
         threads,
         &|_at: usize, pass: &mut D::Pass|
-            requires { SeesLoans D.loan × ((D.origin desk.now).told ≡ W.told work.now) × D.is_of desk.now pass.old × IsIdle (D.view pass.old) }
+            requires { SeesLoans D.loan × ((D.origin desk.now).told ≡ W.told work.now)
+                × D.is_of desk.now pass.old × IsIdle (D.view pass.old) }
             ensures desk { D.is_of desk.entry.now pass.new }
             ensures free { holds (D.view pass.new).mine ≡ None }
         {
@@ -112,11 +113,14 @@ fn run_all<W: Work + Sync, D: Desk<W, Loan = Loan<W>>, G: Gate, R: Threads + Wai
     let ((), end) = join_mut(
         rt,
         &mut ||
-            requires { SeesLoans D.loan × ((D.origin desk.now).told ≡ W.told work.now) × All (λ p. D.is_of desk.now p × IsIdle (D.view p)) passes.now }
-            ensures { All (λ p. D.is_of desk.entry.now p × (holds (D.view p).mine ≡ None)) passes.exit.now }
+            requires { SeesLoans D.loan × ((D.origin desk.now).told ≡ W.told work.now)
+                × All (λ p. D.is_of desk.now p × IsIdle (D.view p)) passes.now }
+            ensures { All (λ p. D.is_of desk.entry.now p × (holds (D.view p).mine ≡ None))
+                passes.exit.now }
         { run_each(rt, desk, passes, work, gate) },
         &mut || -> LaneEnd
-            requires { SeesLoans D.loan × ((D.origin desk.now).told ≡ W.told work.now) × D.is_of desk.now pass.now × IsIdle (D.view pass.now) }
+            requires { SeesLoans D.loan × ((D.origin desk.now).told ≡ W.told work.now)
+                × D.is_of desk.now pass.now × IsIdle (D.view pass.now) }
             ensures desk { D.is_of desk.entry.now pass.exit.now }
             ensures on { WentOn (D.view pass.entry.now) (D.view pass.exit.now) }
             ensures once { result ≢ GaveBack → returns (D.view pass.exit.now).mine ≡ 0 }
@@ -140,10 +144,10 @@ fn join_all<W: Work, D: Desk<W>>(desk: &D, pass: &mut D::Pass, mut passes: Vec<D
     passes.destroy_empty();
 }
 
-/// Runs a desk's lanes without barriers: a pass is split for each further lane, each lane's loop runs
-/// beside the others, and the passes are joined, none of which holds anything. A lane that finds no
-/// memory gives its loan back and ends. The caller's lane then finishes what is left, or gives back
-/// once and ends the run.
+/// Runs a desk's lanes without barriers: a pass is split for each further lane, each lane's loop
+/// runs beside the others, and the passes are joined, none of which holds anything. A lane that
+/// finds no memory gives its loan back and ends. The caller's lane then finishes what is left, or
+/// gives back once and ends the run.
 pub fn run_lanes<W: Work + Sync, D: Desk<W, Loan = Loan<W>>, G: Gate, R: Threads + Wait + Sync>(
     rt: &R,
     alloc: Global,

@@ -57,7 +57,8 @@ impl<W: Work> Seat<W> {
 /// An empty seat for each lane.
 pub(crate) fn seats_of<W: Work>(alloc: Global, lanes: u32) -> Result<Vec<Seat<W>>, OutOfMemory>
     ensures long { IfOk result (λ seats. length seats.items ≡ lanes) }
-    ensures fresh { IfOk result (λ seats. All (λ seat. IsEmptySeat seat × (seat.gave_back ≡ false)) seats.items) }
+    ensures fresh { IfOk result
+        (λ seats. All (λ seat. IsEmptySeat seat × (seat.gave_back ≡ false)) seats.items) }
 {
     let mut seats = Vec::with_capacity(alloc, lanes as usize)?;
     for _ in 0..lanes {

@@ -27,8 +27,8 @@ pub(crate) enum LaneEnd {
     GaveBack,
 }
 
-/// Waits a little, where a lane has yielded so often since its last loan, and counts on. Nobody wakes a
-/// lane that parks, so it parks for a bounded time.
+/// Waits a little, where a lane has yielded so often since its last loan, and counts on. Nobody
+/// wakes a lane that parks, so it parks for a bounded time.
 fn wait<R: Wait>(rt: &R, yields: u32) -> u32 {
     if yields < YIELDS {
         thread::yield_now();
@@ -39,8 +39,8 @@ fn wait<R: Wait>(rt: &R, yields: u32) -> u32 {
     }
 }
 
-/// Takes, passes the gate, performs outside the turn and commits, until all positions are done. Where
-/// nothing is ready it waits, and tries again.
+/// Takes, passes the gate, performs outside the turn and commits, until all positions are done.
+/// Where nothing is ready it waits, and tries again.
 pub(crate) fn run_lane<W: Work, D: Desk<W, Loan = Loan<W>>, G: Gate, R: Wait>(
     rt: &R,
     desk: &D,
@@ -55,7 +55,8 @@ pub(crate) fn run_lane<W: Work, D: Desk<W, Loan = Loan<W>>, G: Gate, R: Wait>(
     ensures desk { D.is_of desk.now pass.new }
     ensures on { WentOn (D.view pass.old) (D.view pass.new) }
     ensures once { result ≢ GaveBack → returns (D.view pass.new).mine ≡ 0 }
-    ensures done { result ≡ Finished → AllDoneAfter W.job (D.origin desk.now) (D.view pass.new).seen }
+    ensures done { result ≡ Finished
+        → AllDoneAfter W.job (D.origin desk.now) (D.view pass.new).seen }
 {
     let mut yields = 0;
     'turns: for _ in rt.forever() {

@@ -200,9 +200,10 @@ fn run_seats<W: Work + Sync, G: Gate, R: Threads + Sync>(
     }
 }
 
-/// Runs a core's lanes wave by wave: each lane is lent a position, all are performed beside each other,
-/// and the effects are committed in the order of the lanes. A lane that finds no memory gives its loan
-/// back and is not used again; the run goes on with the others, as long as lane 0 does.
+/// Runs a core's lanes wave by wave: each lane is lent a position, all are performed beside each
+/// other, and the effects are committed in the order of the lanes. A lane that finds no memory
+/// gives its loan back and is not used again; the run goes on with the others, as long as lane 0
+/// does.
 pub fn run_waves<W: Work + Sync, G: Gate, R: Threads + Sync>(
     rt: &R,
     alloc: Global,

@@ -20,7 +20,8 @@ pub enum Turn {
 /// Performs a loan, again where memory was short.
 fn performed<W: Work, R: Wait>(rt: &R, work: &W, loan: &Loan<W>) -> Effects
     requires { loan.now.origin.value.told ≡ W.told work.now }
-    ensures { effects_seen result ≡ (W.job (W.told work.now)).effects loan.now.position (accounts_of loan.now.values.items) }
+    ensures { effects_seen result
+        ≡ (W.job (W.told work.now)).effects loan.now.position (accounts_of loan.now.values.items) }
 {
     for _ in rt.forever() {
         if let Ok(effects) = work.perform(loan.position(), loan.values()) {

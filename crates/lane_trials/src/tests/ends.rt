@@ -24,8 +24,11 @@ pub fn end_by_waves<W: Work + Sync, G: Gate, R: Threads + Sync>(
 ) -> Result<Sealed, OutOfMemory>
     requires some { 1 ≤ lanes }
     requires most { lanes ≤ 64 }
-    requires room { locks_before (W.job (W.told work.now)) (W.job (W.told work.now)).count < 2 ^ 32 }
-    ensures { IfOk result (λ end. end.outcomes ≡ outcomes_at_end W.job (record { start = accounts; told = W.told work.now })) }
+    requires room { locks_before (W.job (W.told work.now)) (W.job (W.told work.now)).count
+        < 2 ^ 32 }
+    ensures { IfOk result
+        (λ end. end.outcomes
+        ≡ outcomes_at_end W.job (record { start = accounts; told = W.told work.now })) }
 {
     let mut core = Core::new(alloc, accounts, work, lanes)?;
     run_waves(rt, alloc, &mut core, work, gate)?;
@@ -44,7 +47,8 @@ pub fn end_of_desk<W: Work + Sync, G: Gate, R: Threads + Wait + Sync>(
     requires desk { ⟦<SharedDesk<W> as Desk<W>>⟧.is_of desk pass }
     requires told { (⟦<SharedDesk<W> as Desk<W>>⟧.origin desk).told ≡ W.told work.now }
     requires idle { IsIdle (⟦<SharedDesk<W> as Desk<W>>⟧.view pass) }
-    ensures { IfOk result (λ end. end.outcomes ≡ outcomes_at_end W.job (⟦<SharedDesk<W> as Desk<W>>⟧.origin desk)) }
+    ensures { IfOk result
+        (λ end. end.outcomes ≡ outcomes_at_end W.job (⟦<SharedDesk<W> as Desk<W>>⟧.origin desk)) }
 {
     let end = run_lanes::<W, SharedDesk<W>, G, R>(rt, alloc, &desk, &mut pass, work, gate);
     let core = desk.close(rt, pass);
@@ -63,8 +67,11 @@ pub fn end_by_lanes<W: Work + Sync, G: Gate, R: Threads + Wait + Sync>(
 ) -> Result<Sealed, OutOfMemory>
     requires some { 1 ≤ lanes }
     requires most { lanes ≤ 64 }
-    requires room { locks_before (W.job (W.told work.now)) (W.job (W.told work.now)).count < 2 ^ 32 }
-    ensures { IfOk result (λ end. end.outcomes ≡ outcomes_at_end W.job (record { start = accounts; told = W.told work.now })) }
+    requires room { locks_before (W.job (W.told work.now)) (W.job (W.told work.now)).count
+        < 2 ^ 32 }
+    ensures { IfOk result
+        (λ end. end.outcomes
+        ≡ outcomes_at_end W.job (record { start = accounts; told = W.told work.now })) }
 {
     let core = Core::new(alloc, accounts, work, lanes)?;
     let (desk, pass) = SharedDesk::new(alloc, core)?;

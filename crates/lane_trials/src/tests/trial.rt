@@ -89,7 +89,8 @@ fn write_locks(
     values: &[Arc<Account>],
 ) -> Result<Items<Arc<Account>>, OutOfMemory>
     requires { length values.now ≡ length locks.now }
-    ensures { IfOk result (λ w. accounts_of w ≡ map spent (lent_for_writing locks.now (accounts_of values.now))) }
+    ensures { IfOk result
+        (λ w. accounts_of w ≡ map spent (lent_for_writing locks.now (accounts_of values.now))) }
 {
     let mut written = Items::new(alloc);
     for (i, lock) in locks.iter().enumerate() {
