@@ -223,23 +223,6 @@ pub partly_ends : (start now : State) (left : List KeyedAccount) → IsPartly st
 partly_ends start now left h none = same_state now (activate_all start) (λ q.
     sym (h.others q (subst (AllByRecursion (λ (d : KeyedAccount). same_key q d.key ≡ false)) (sym none) tt)) ∙ h.same q ∙ sym (get-activate_all start q))
 
--- ---- the walk
--- one account more was looked at
-pub found_more : (found : List KeyedAccount) (e : Key × Account) (es all : List (Key × Account)) → found ++ filter_map activated_entry (e ∷ es) ≡ filter_map activated_entry all
-    → (b : Account) → activated e.1 ≡ Some b → (found ++ keyed e.0 b ∷ []) ++ filter_map activated_entry es ≡ filter_map activated_entry all
-found_more found e es all so_far b some =
-    append_assoc found (keyed e.0 b ∷ []) (filter_map activated_entry es)
-    ∙ ap (λ (o : Option Account). found ++ cons_option (option_map (keyed e.0) o) (filter_map activated_entry es)) (sym some) ∙ so_far
-
-pub found_none : (found : List KeyedAccount) (e : Key × Account) (es all : List (Key × Account)) → found ++ filter_map activated_entry (e ∷ es) ≡ filter_map activated_entry all
-    → activated e.1 ≡ None → found ++ filter_map activated_entry es ≡ filter_map activated_entry all
-found_none found e es all so_far none =
-    ap (λ (o : Option Account). found ++ cons_option (option_map (keyed e.0) o) (filter_map activated_entry es)) (sym none) ∙ so_far
-
-pub no_value : (o : Option Account) → ((a : Account) → o ≡ Some a → ⊥) → o ≡ None
-no_value None not = refl
-no_value (Some a) not = absurd (not a refl)
-
 -- ---- how many there are
 one_more : (b : Bool) (n : ℕ) → cond b n (n + 1) ≤ n + 1
 one_more true n = omega arith

@@ -9,7 +9,6 @@ use Rattle.account_store.specs.Shared.{seen}
 use Rattle.loader_prog.specs.Loader.{activated}
 use Rattle.snapshot_codec.proofs.Walk.{none_left}
 use Rattle.block_run.specs.Activation.{activated_entry, activated_in, keyed}
-use Rattle.block_run.proofs.Activating.{found_more, found_none, no_value}
 use Rattle.block_run.proofs.activation.activated_in.Goals as goal
 
 pub loop-key-init : goal.loop-key-init
