@@ -18,7 +18,7 @@ use Rattle.sol_base.specs.Keys.{IsKey}
 use Rattle.sol_base.specs.Accounts.{empty_account, max_data_len}
 use Rattle.sol_base.specs.Metas.{is_listed, is_first_listing, is_listed_signer, is_listed_writable, AreInRange, first_listings}
 use Rattle.abi_input.specs.Entries.{found_among}
-use Rattle.abi_input.specs.Region.{account_at, account_back, account_in, back, data_len_at, entry_of, entry_size, entry_start, first_entry, first_place, first_size, growth, has_outgrown, input_of, is_outgrown, is_too_long, IsRegionOf, over_entry, patched, patched_entry, unless_found, key_in, number_bytes, padding, repeated_entry, room_of, state_bytes, number_at}
+use Rattle.abi_input.specs.Region.{account_at, account_back, account_in, back, data_len_at, entry_of, entry_size, entry_start, first_entry, first_place, first_size, growth, has_outgrown, input_of, is_outgrown, is_too_long, IsRegionOf, over_entry, patched, patched_entry, unless_found, key_in, number_bytes, padding, repeated_entry, room_of, state_bytes}
 use Rattle.abi_input.specs.Widths.{AreKeys, HasWidths, HaveWidths}
 use Rattle.abi_input.proofs.Entries.{flat_more, all_items, start_zero, start_more, start_within, start_least, key_there, index_in}
 use Rattle.abi_input.proofs.Finding.{none_more, none_passes, found_all}
