@@ -34,8 +34,7 @@ impl Model for Graph {
 
     ghost view = { λ g. record { sets = g.sets; marks = g.marks.items } };
 
-    ghost invariant =
-        { λ g. IsGraph g.sets g.marks.items g.waits.items g.later.items g.ready.items };
+    ghost invariant = { λ g. IsGraph g.sets g.marks.items g.waits.items g.later.items g.ready.items };
 }
 
 impl Graph {
