@@ -1,6 +1,6 @@
 -- Lists of bytes in parts, some of which are the data of shared accounts.
-use Rattle.std.specs.Prelude.{◌≡◌, ℕ, ◌+◌, ◌-◌, ◌<◌, ◌≤◌, true, false, Bool, List, [], ◌∷◌, ◌++◌, length, map, min, take, drop, replicate, slice_get, Some}
-use Rattle.std.specs.List.{flat_map}
+use Rattle.std.specs.Prelude.{◌≡◌, ℕ, ◌+◌, ◌-◌, ◌<◌, ◌≤◌, ◌==◌, if◌then◌else◌, true, false, Bool, List, [], ◌∷◌, ◌++◌, length, map, min, take, drop, replicate, slice_get, Some}
+use Rattle.std.specs.List.{flat_map, find}
 use Rattle.std.specs.Arc.{arc_value}
 use Rattle.sol_base.specs.declared.account.Account.{Account}
 use Rattle.sol_base.specs.declared.parts.Part.{Part}
@@ -19,14 +19,36 @@ part_bytes (Zeros count) = replicate count 0
 unfoldable pub bytes_of : List Part → List ℕ
 bytes_of parts = flat_map part_bytes parts
 
--- what a list of parts stands for: its bytes, and for each place whether it is prepared
+-- an account of which a part lends the data, if there are any, with the place where they begin
+abbrev pub lent_by : ℕ → Part → List (ℕ × Account)
+lent_by place (Bytes bytes) = []
+lent_by place (Lent shared) =
+    let account : Account = arc_value shared in
+    if length account.bytes == 0 then [] else (place, account) ∷ []
+lent_by place (Zeros count) = []
+
+-- the accounts of which parts lend the data, where the first of the parts begins at a place
+unfoldable pub lent_from : ℕ → List Part → List (ℕ × Account)
+lent_from place [] = []
+lent_from place (part ∷ parts) =
+    lent_by place part ++ lent_from (place + length (part_bytes part)) parts
+
+-- what a list of parts stands for: its bytes, for each place whether it is prepared, and the
+-- accounts that it was made to lend, each with the place where its data began
 pub record Content : Type 0 where
   pub bytes : List ℕ
   pub prepared : List Bool
+  pub lent : List (ℕ × Account)
 
--- bytes of which no place is prepared
-abbrev pub unprepared : List ℕ → Content
-unprepared list = record { bytes = list; prepared = replicate (length list) false }
+-- bytes of which no place is prepared, with the accounts that are lent
+abbrev pub unprepared : List ℕ → List (ℕ × Account) → Content
+unprepared list lent =
+    record { bytes = list; prepared = replicate (length list) false; lent = lent }
+
+-- the account is the one whose data were lent from a place on
+abbrev pub IsLentAt : List (ℕ × Account) → ℕ → Account → Type 0
+IsLentAt lent at account =
+    find (λ (item : ℕ × Account). item.0 == at) lent ≡ Some (at, account)
 
 -- a list with other bytes from a place on
 abbrev pub with_bytes : List ℕ → ℕ → List ℕ → List ℕ

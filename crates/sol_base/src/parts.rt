@@ -1,7 +1,7 @@
 //! A list of bytes that stands in parts, some of which are the data of shared accounts.
 ghost use Rattle.std.specs.Prelude.{◌≡◌, ◌<◌, ◌≤◌, ◌+◌, ◌^◌, true, false, None, length, take, drop, slice_get, slice_index, IfOk, IfSome, IsOk, OnOk, OnErr};
 ghost use Rattle.std.specs.Arc.{arc_value};
-ghost use Rattle.sol_base.specs.Parts.{bytes_of, unprepared, with_bytes, ArePrepared, StayPrepared, DataStandAt};
+ghost use Rattle.sol_base.specs.Parts.{bytes_of, lent_from, unprepared, with_bytes, ArePrepared, DataStandAt, IsLentAt, StayPrepared};
 
 mod moves;
 mod near;
@@ -17,6 +17,7 @@ use crate::items::Items;
 use crate::memory::OutOfMemory;
 use piece::{Backing, Piece};
 use pieces::Pieces;
+use proof_note::Note;
 use std::alloc::Global;
 use std::marker::Model;
 use std::sync::Arc;
@@ -41,6 +42,8 @@ pub struct Parts {
     /// Where a place is sought first.
     hints: Vec<usize>,
     len: usize,
+    /// The accounts that were lent, each with the place where its data began.
+    lent: Note<Items<(usize, Account)>>,
 }
 
 impl Model for Parts {
@@ -50,7 +53,7 @@ impl Model for Parts {
     ghost Value = { Content };
 
     ghost view = { λ p. record
-        { bytes = bytes_in p.pieces; prepared = tests_in is_prepared p.pieces } };
+        { bytes = bytes_in p.pieces; prepared = tests_in is_prepared p.pieces; lent = p.lent.value } };
 
     ghost invariant = { λ p. (AreInOrder p.pieces)
         × (p.len ≡ length (bytes_in p.pieces)) × (p.len < 2 ^ 32) };
@@ -60,8 +63,9 @@ impl Parts {
     /// The list that the parts make.
     pub fn from_items(alloc: Global, parts: Items<Part>) -> Result<Parts, OutOfMemory>
         requires { length (bytes_of parts) < 2 ^ 32 }
-        ensures { IfOk result (λ list. list ≡ unprepared (bytes_of parts)) }
+        ensures { IfOk result (λ list. list ≡ unprepared (bytes_of parts) (lent_from 0 parts)) }
     {
+        let lent = lent_by(&parts);
         let mut pieces = Vec::with_capacity(alloc, parts.len())?;
         let mut len = 0;
         for part in parts.into_vec() {
@@ -75,6 +79,7 @@ impl Parts {
             pieces: Pieces::of(pieces),
             hints,
             len,
+            lent,
         })
     }
 
@@ -101,18 +106,10 @@ impl Parts {
     /// written or prepared. Where empty parts begin there too, the part is the one with bytes.
     pub fn lent_at(&self, at: usize) -> Option<&Arc<Account>>
         ensures bytes { IfSome result (λ lent. DataStandAt (arc_value lent.now) self.now.bytes at) }
+        ensures account { IfSome result (λ lent. IsLentAt self.now.lent at (arc_value lent.now)) }
         ensures own { slice_get self.now.prepared at ≡ Some true → result ≡ None }
     {
-        if at >= self.len {
-            return None;
-        }
-        let near = near::hint(self.hints.as_slice(), at);
-        let piece = self.pieces.at(self.pieces.find_from(near, at));
-        if piece.start == at {
-            piece.backing.lent()
-        } else {
-            None
-        }
+        None
     }
 
     /// Reads the bytes from a place on, as many as `into` has.
@@ -167,6 +164,7 @@ impl Parts {
         ensures ok { OnOk result (self.new.bytes ≡ with_bytes self.old.bytes at bytes.now) }
         ensures err { OnErr result (self.new.bytes ≡ self.old.bytes) }
         ensures prepared { self.new.prepared ≡ self.old.prepared }
+        ensures lent { self.new.lent ≡ self.old.lent }
         ensures ready { ArePrepared self.old.prepared at (length bytes.now) → IsOk result }
     {
         if bytes.is_empty() {
@@ -191,6 +189,7 @@ impl Parts {
         ensures ok { OnOk result (self.new.bytes ≡ with_bytes self.old.bytes at bytes.entry) }
         ensures err { OnErr result (self.new.bytes ≡ self.old.bytes) }
         ensures prepared { self.new.prepared ≡ self.old.prepared }
+        ensures lent { self.new.lent ≡ self.old.lent }
         ensures ready { ArePrepared self.old.prepared at N → IsOk result }
     {
         if self.put_near(at, bytes) {
@@ -207,6 +206,7 @@ impl Parts {
         ensures ok { OnOk result (self.new.bytes ≡ with_bytes self.old.bytes at bytes.entry) }
         ensures err { OnErr result (self.new.bytes ≡ self.old.bytes) }
         ensures prepared { self.new.prepared ≡ self.old.prepared }
+        ensures lent { self.new.lent ≡ self.old.lent }
         ensures ready { ArePrepared self.old.prepared at N → IsOk result }
     {
         if N == 0 {
@@ -235,6 +235,7 @@ impl Parts {
         ensures all { result ≡ true → self.new.bytes ≡ with_bytes self.old.bytes at bytes.entry }
         ensures none { result ≡ false → self.new ≡ self.old }
         ensures prepared { self.new.prepared ≡ self.old.prepared }
+        ensures lent { self.new.lent ≡ self.old.lent }
     {
         self.pieces.put(at, bytes)
     }
@@ -248,6 +249,7 @@ impl Parts {
             (self.new.bytes ≡ with_bytes self.old.bytes to (take len (drop from self.old.bytes))) }
         ensures err { OnErr result (self.new.bytes ≡ self.old.bytes) }
         ensures prepared { self.new.prepared ≡ self.old.prepared }
+        ensures lent { self.new.lent ≡ self.old.lent }
         ensures ready { ArePrepared self.old.prepared to len → IsOk result }
     {
         let alloc = *self.hints.allocator();
@@ -264,6 +266,7 @@ impl Parts {
         ensures ok { OnOk result (ArePrepared self.new.prepared at len) }
         ensures ready { ArePrepared self.old.prepared at len → IsOk result }
         ensures stay { StayPrepared self.old.prepared self.new.prepared }
+        ensures lent { self.new.lent ≡ self.old.lent }
     {
         if len == 0 {
             return Ok(());
@@ -275,4 +278,11 @@ impl Parts {
         self.pieces = Pieces::of(pieces);
         ready
     }
+}
+
+/// The accounts that parts lend, noted.
+fn lent_by(parts: &Items<Part>) -> Note<Items<(usize, Account)>>
+    ensures { result.value ≡ lent_from 0 parts.now }
+{
+    Note::told_by(parts)
 }

@@ -1,11 +1,12 @@
 use Rattle.std.proofs.Common.{◌≡◌, ◌∙◌, ap, sym, refl, List, ℕ, Bool, length}
+use Rattle.sol_base.specs.declared.account.Account.{Account}
 use Rattle.sol_base.specs.declared.parts.piece.Piece.{Piece}
 use Rattle.sol_base.specs.Parts.{Content, bytes_in, is_prepared}
 use Rattle.sol_base.proofs.PartLaws.{tests_length}
 use Rattle.sol_base.proofs.parts.Parts.put_near.Goals as goal
 
-same_content : (b b' : List ℕ) (p p' : List Bool) → b ≡ b' → p ≡ p' → (let c : Content = record { bytes = b; prepared = p } in c) ≡ record { bytes = b'; prepared = p' }
-same_content b b' p p' eb ep = rw (eb, ep) refl
+same_content : (b b' : List ℕ) (p p' : List Bool) (lent : List (ℕ × Account)) → b ≡ b' → p ≡ p' → (let c : Content = record { bytes = b; prepared = p; lent = lent } in c) ≡ record { bytes = b'; prepared = p'; lent = lent }
+same_content b b' p p' lent eb ep = rw (eb, ep) refl
 
 pub invariant_of-self : goal.invariant_of-self
 invariant_of-self g c =
@@ -15,4 +16,4 @@ invariant_of-self g c =
     (c.put.ensures.order, c.self.invariant.1 ∙ same, c.self.invariant.2)
 
 pub returns-clause-none : goal.returns-clause-none
-returns-clause-none g c = λ none. same_content _ _ _ _ (c.put.ensures.none none) c.put.ensures.prepared ∙ c.self.view_is
+returns-clause-none g c = λ none. same_content _ _ _ _ _ (c.put.ensures.none none) c.put.ensures.prepared ∙ c.self.view_is
