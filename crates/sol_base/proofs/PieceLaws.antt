@@ -5,8 +5,8 @@ use Rattle.std.proofs.lemmas.List.{places, same_lists, take-append-drop, take-ta
 use Rattle.std.proofs.lemmas.Bool.{cases_lt}
 use Rattle.sol_base.specs.declared.parts.piece.Piece.{Piece}
 use Rattle.sol_base.specs.declared.parts.piece.Backing.{Backing}
-use Rattle.sol_base.specs.Parts.{piece_bytes, bytes_in, tests_in, before, blank_of, is_blank, with_bytes, AreInOrder}
-use Rattle.sol_base.proofs.PartLaws.{order_set, start_at, before_all, before_more, bytes_at, bytes_set, tests_kept, bytes_kept, write_there, read_step}
+use Rattle.sol_base.specs.Parts.{piece_bytes, bytes_in, tests_in, before, blank_of, is_blank, with_bytes, AreInOrder, AreLentBy, StayLent, StaysShared}
+use Rattle.sol_base.proofs.PartLaws.{order_set, lent_set, start_at, before_all, before_more, bytes_at, bytes_set, tests_kept, bytes_kept, write_there, read_step}
 
 -- of two items that are set in one place, the second stands there
 pub set_twice : {A : Type 0} (xs : List A) (i : ℕ) (x y : A) → set (set xs i x) i y ≡ set xs i y
@@ -90,6 +90,14 @@ apart_bytes list place piece y kept =
       | inl h ↦ let same : get_or (set list place piece) place piece ≡ piece = get_or-set_same list place piece piece h in
           ap bytes_in (sym (set_twice list place piece y)) ∙ bytes_kept (set list place piece) place piece y (rw length-set h) (kept ∙ ap piece_bytes (sym same))
       | inr h ↦ ap bytes_in (set_past list place y h ∙ sym (set_past list place piece h))
+    ]
+
+pub apart_lent : (list : List Piece) (place : ℕ) (piece y : Piece) → y.start ≡ piece.start → StaysShared piece.backing y.backing → StayLent (set list place piece) (set list place y)
+apart_lent list place piece y start stays lent all =
+    elim (cases_lt place (length list)) [
+      | inl h ↦ let same : get_or (set list place piece) place piece ≡ piece = get_or-set_same list place piece piece h in
+          subst (AreLentBy lent) (set_twice list place piece y) (lent_set (set list place piece) place piece y (rw length-set h) (start ∙ ap (λ (p : Piece). p.start) (sym same)) (subst (λ (p : Piece). StaysShared p.backing y.backing) (sym same) stays) lent all)
+      | inr h ↦ subst (AreLentBy lent) (set_past list place piece h ∙ sym (set_past list place y h)) all
     ]
 
 -- a write into the piece that stands apart is one into the list

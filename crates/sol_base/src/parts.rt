@@ -48,14 +48,14 @@ pub struct Parts {
 
 impl Model for Parts {
     ghost use Rattle.std.specs.Prelude.{◌≡◌, ◌<◌, ◌^◌, length};
-    ghost use Rattle.sol_base.specs.Parts.{Content, bytes_in, tests_in, is_prepared, AreInOrder};
+    ghost use Rattle.sol_base.specs.Parts.{Content, bytes_in, tests_in, is_prepared, AreInOrder, AreLentBy};
 
     ghost Value = { Content };
 
     ghost view = { λ p. record
         { bytes = bytes_in p.pieces; prepared = tests_in is_prepared p.pieces; lent = p.lent.value } };
 
-    ghost invariant = { λ p. (AreInOrder p.pieces)
+    ghost invariant = { λ p. (AreInOrder p.pieces) × (AreLentBy p.lent.value p.pieces)
         × (p.len ≡ length (bytes_in p.pieces)) × (p.len < 2 ^ 32) };
 }
 
@@ -109,7 +109,16 @@ impl Parts {
         ensures account { IfSome result (λ lent. IsLentAt self.now.lent at (arc_value lent.now)) }
         ensures own { slice_get self.now.prepared at ≡ Some true → result ≡ None }
     {
-        None
+        if at >= self.len {
+            return None;
+        }
+        let near = near::hint(self.hints.as_slice(), at);
+        let piece = self.pieces.at(self.pieces.find_from(near, at));
+        if piece.start == at {
+            piece.backing.lent()
+        } else {
+            None
+        }
     }
 
     /// Reads the bytes from a place on, as many as `into` has.

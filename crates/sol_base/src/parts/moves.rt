@@ -1,6 +1,6 @@
 //! Moves of bytes from one range of places to another, through a small buffer.
 ghost use Rattle.std.specs.Prelude.{◌≡◌, ◌<◌, ◌≤◌, ◌+◌, ◌^◌, length, take, drop, OnOk, OnErr, IsOk};
-ghost use Rattle.sol_base.specs.Parts.{bytes_in, tests_in, is_own, is_prepared, with_bytes, AreInOrder, ArePrepared};
+ghost use Rattle.sol_base.specs.Parts.{bytes_in, tests_in, is_own, is_prepared, with_bytes, AreInOrder, ArePrepared, StayLent};
 
 use crate::memory::OutOfMemory;
 use crate::parts::piece::Piece;
@@ -24,6 +24,7 @@ pub fn copy_range(
     requires from { from + len ≤ length (bytes_in pieces.old) }
     requires most { length (bytes_in pieces.old) < 2 ^ 32 }
     ensures order { AreInOrder pieces.new }
+    ensures lent { StayLent pieces.old pieces.new }
     ensures ok { OnOk result (bytes_in pieces.new
         ≡ with_bytes (bytes_in pieces.old) to (take len (drop from (bytes_in pieces.old)))) }
     ensures err { OnErr result (bytes_in pieces.new ≡ bytes_in pieces.old) }
@@ -48,6 +49,7 @@ fn move_range(pieces: &mut [Piece], to: usize, from: usize, len: usize)
     requires most { length (bytes_in pieces.old) < 2 ^ 32 }
     requires own { ArePrepared (tests_in is_own pieces.old) to len }
     ensures order { AreInOrder pieces.new }
+    ensures lent { StayLent pieces.old pieces.new }
     ensures bytes { bytes_in pieces.new
         ≡ with_bytes (bytes_in pieces.old) to (take len (drop from (bytes_in pieces.old))) }
     ensures prepared { tests_in is_prepared pieces.new ≡ tests_in is_prepared pieces.old }
@@ -67,6 +69,7 @@ fn move_forward(pieces: &mut [Piece], to: usize, from: usize, len: usize)
     requires most { length (bytes_in pieces.old) < 2 ^ 32 }
     requires own { ArePrepared (tests_in is_own pieces.old) to len }
     ensures order { AreInOrder pieces.new }
+    ensures lent { StayLent pieces.old pieces.new }
     ensures bytes { bytes_in pieces.new
         ≡ with_bytes (bytes_in pieces.old) to (take len (drop from (bytes_in pieces.old))) }
     ensures prepared { tests_in is_prepared pieces.new ≡ tests_in is_prepared pieces.old }
@@ -87,6 +90,7 @@ fn move_backward(pieces: &mut [Piece], to: usize, from: usize, len: usize)
     requires most { length (bytes_in pieces.old) < 2 ^ 32 }
     requires own { ArePrepared (tests_in is_own pieces.old) to len }
     ensures order { AreInOrder pieces.new }
+    ensures lent { StayLent pieces.old pieces.new }
     ensures bytes { bytes_in pieces.new
         ≡ with_bytes (bytes_in pieces.old) to (take len (drop from (bytes_in pieces.old))) }
     ensures prepared { tests_in is_prepared pieces.new ≡ tests_in is_prepared pieces.old }
@@ -108,6 +112,7 @@ fn move_chunk(pieces: &mut [Piece], to: usize, from: usize, len: usize)
     requires most { length (bytes_in pieces.old) < 2 ^ 32 }
     requires own { ArePrepared (tests_in is_own pieces.old) to len }
     ensures order { AreInOrder pieces.new }
+    ensures lent { StayLent pieces.old pieces.new }
     ensures bytes { bytes_in pieces.new
         ≡ with_bytes (bytes_in pieces.old) to (take len (drop from (bytes_in pieces.old))) }
     ensures own { tests_in is_own pieces.new ≡ tests_in is_own pieces.old }

@@ -1,6 +1,6 @@
 //! The pieces of a list of bytes, of which the one that was written last stands apart.
 ghost use Rattle.std.specs.Prelude.{◌≡◌, ◌<◌, ◌≤◌, ◌+◌, ◌^◌, true, false, length, take, drop, IfSome, slice_index_or, slice_set};
-ghost use Rattle.sol_base.specs.Parts.{bytes_in, tests_in, before, blank_of, is_prepared, with_bytes, AreInOrder};
+ghost use Rattle.sol_base.specs.Parts.{bytes_in, tests_in, before, blank_of, is_prepared, with_bytes, AreInOrder, StayLent};
 
 use crate::parts::near;
 use crate::parts::piece::Piece;
@@ -132,6 +132,7 @@ impl Pieces {
         ensures all { result ≡ true
             → bytes_in self.new ≡ with_bytes (bytes_in self.old) at put.entry }
         ensures none { result ≡ false → bytes_in self.new ≡ bytes_in self.old }
+        ensures lent { StayLent self.old self.new }
     {
         self.opened.put(at, put)
     }
