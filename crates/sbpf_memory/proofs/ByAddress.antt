@@ -9,7 +9,7 @@ use Rattle.sol_base.specs.Parts.{with_bytes}
 use Rattle.sbpf_memory.specs.declared.place.Place.{Place}
 use Rattle.sbpf_memory.specs.declared.place.Region.{Region}
 use Rattle.sbpf_memory.specs.declared.place.Region.TheVariants.{Program, Stack, Heap, Input}
-use Rattle.sbpf_memory.specs.Memory.{Ranges, IsMemory, place_of, range_bytes, bytes_at, read_from, frame_count, frame_size, frame_start, frame_range, stack_start, program_start, heap_start, input_start, range, ranges, bounds_of, byte_of, byte_at, with_bytes_in, with_bytes_at, write_to}
+use Rattle.sbpf_memory.specs.Memory.{Ranges, IsMemory, place_of, range_bytes, bytes_at, read_from, frame_count, frame_size, frame_start, frame_range, stack_start, program_start, heap_start, input_start, range, ranges, bounds_of, byte_of, byte_at, with_stack, with_heap, with_input_bytes, with_bytes_in, with_bytes_at, write_to}
 use Rattle.sbpf_memory.proofs.Places.{place-stack}
 use Rattle.sbpf_memory.proofs.Addresses.{address_in, RoomIn, StandsAt, stands-from_place, place-from_stands}
 use Rattle.sbpf_memory.proofs.Reading.{read-some, read-length, room-fits}
@@ -112,9 +112,9 @@ Others m after region = (other : Region) → (other ≡ region) ⊎ (range_bytes
 
 others_in : (m : Ranges) (addr : ℕ) (bytes : List ℕ) (at : ℕ) (region : Region) → IfOk (with_bytes_in m addr bytes at region) (λ after. Others m after region)
 others_in m addr bytes at Program = tt
-others_in m addr bytes at Stack = λ other. elim other as (λ o. (o ≡ Stack) ⊎ (range_bytes (record m { stack = with_bytes m.stack at bytes }) o ≡ range_bytes m o)) [ Program ↦ inr refl | Stack ↦ inl refl | Heap ↦ inr refl | Input ↦ inr refl ]
-others_in m addr bytes at Heap = λ other. elim other as (λ o. (o ≡ Heap) ⊎ (range_bytes (record m { heap = with_bytes m.heap at bytes }) o ≡ range_bytes m o)) [ Program ↦ inr refl | Stack ↦ inr refl | Heap ↦ inl refl | Input ↦ inr refl ]
-others_in m addr bytes at Input = λ other. elim other as (λ o. (o ≡ Input) ⊎ (range_bytes (record m { input = record { bytes = with_bytes m.input.bytes at bytes; prepared = m.input.prepared } }) o ≡ range_bytes m o)) [ Program ↦ inr refl | Stack ↦ inr refl | Heap ↦ inr refl | Input ↦ inl refl ]
+others_in m addr bytes at Stack = λ other. elim other as (λ o. (o ≡ Stack) ⊎ (range_bytes (with_stack m (with_bytes m.stack at bytes)) o ≡ range_bytes m o)) [ Program ↦ inr refl | Stack ↦ inl refl | Heap ↦ inr refl | Input ↦ inr refl ]
+others_in m addr bytes at Heap = λ other. elim other as (λ o. (o ≡ Heap) ⊎ (range_bytes (with_heap m (with_bytes m.heap at bytes)) o ≡ range_bytes m o)) [ Program ↦ inr refl | Stack ↦ inr refl | Heap ↦ inl refl | Input ↦ inr refl ]
+others_in m addr bytes at Input = λ other. elim other as (λ o. (o ≡ Input) ⊎ (range_bytes (with_input_bytes m at bytes) o ≡ range_bytes m o)) [ Program ↦ inr refl | Stack ↦ inr refl | Heap ↦ inr refl | Input ↦ inl refl ]
 
 pub record Written (m after : Ranges) (addr : ℕ) (bytes : List ℕ) : Type 0 where
   pub place : Place
@@ -227,24 +227,25 @@ pub write-memory : (m after : Ranges) (addr : ℕ) (bytes : List ℕ) → IsMemo
 write-memory m after addr [] is_memory write = subst (λ x. IsMemory x) (nothing-kept m after addr write) is_memory
 write-memory m after addr (b ∷ bs) is_memory write = sizes-memory m after (written m after addr (b ∷ bs) is_memory (omega arith) write).sizes is_memory
 
--- what a write keeps of each memory: the program, the note of what is prepared, and how long the input is
+-- what a write keeps of each memory: the program, the notes of what is prepared and what was lent, and how long the input is
 pub record Kept (m after : Ranges) : Type 0 where
   pub program : after.program ≡ m.program
   pub prepared : after.input.prepared ≡ m.input.prepared
+  pub lent : after.input.lent ≡ m.input.lent
   pub input : length after.input.bytes ≡ length m.input.bytes
 
 kept_in : (m : Ranges) (addr : ℕ) (bytes : List ℕ) (at : ℕ) (region : Region) → RoomIn m (length bytes) at region → IfOk (with_bytes_in m addr bytes at region) (λ after. Kept m after)
 kept_in m addr bytes at Program room = tt
-kept_in m addr bytes at Stack room = record { program = refl; prepared = refl; input = refl }
-kept_in m addr bytes at Heap room = record { program = refl; prepared = refl; input = refl }
-kept_in m addr bytes at Input room = record { program = refl; prepared = refl; input = with_bytes-length m.input.bytes at bytes room }
+kept_in m addr bytes at Stack room = record { program = refl; prepared = refl; lent = refl; input = refl }
+kept_in m addr bytes at Heap room = record { program = refl; prepared = refl; lent = refl; input = refl }
+kept_in m addr bytes at Input room = record { program = refl; prepared = refl; lent = refl; input = with_bytes-length m.input.bytes at bytes room }
 
 written_kept : (m : Ranges) (addr : ℕ) (bytes : List ℕ) (place : Option Place) → 1 ≤ length bytes → place_of m addr (length bytes) ≡ place → IfOk (with_bytes_at m addr bytes place) (λ after. Kept m after)
 written_kept m addr bytes None some found = tt
 written_kept m addr bytes (Some place) some found = kept_in m addr bytes place.at place.region (stands-from_place m addr (length bytes) place some found).room
 
 pub write-kept : (m after : Ranges) (addr : ℕ) (bytes : List ℕ) → write_to m addr bytes ≡ Ok after → Kept m after
-write-kept m after addr [] write = subst (λ x. Kept m x) (nothing-kept m after addr write) (record { program = refl; prepared = refl; input = refl })
+write-kept m after addr [] write = subst (λ x. Kept m x) (nothing-kept m after addr write) (record { program = refl; prepared = refl; lent = refl; input = refl })
 write-kept m after addr (b ∷ bs) write =
     let bytes = b ∷ bs in
     let place = place_of m addr (length bytes) in

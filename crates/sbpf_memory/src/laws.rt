@@ -49,7 +49,7 @@ pub fn memory_is_a_map()
         → byte_at m (frame_start frame + at) ≡ None }
 {}
 
-/// A law: no access looks at what is prepared, and none changes it.
+/// A law: no access looks at what is prepared or at what was lent, and none changes it.
 pub fn preparation_is_not_seen()
     ensures read { (m : Ranges) (addr len : ℕ)
         → read_from (plain_memory m) addr len ≡ read_from m addr len }
@@ -63,4 +63,6 @@ pub fn preparation_is_not_seen()
         → copy_to (plain_memory m) to from len apart ≡ plain_copied (copy_to m to from len apart) }
     ensures kept { (m after : Ranges) (addr : ℕ) (bytes : List ℕ)
         → write_to m addr bytes ≡ Ok after → after.input.prepared ≡ m.input.prepared }
+    ensures lent { (m after : Ranges) (addr : ℕ) (bytes : List ℕ)
+        → write_to m addr bytes ≡ Ok after → after.input.lent ≡ m.input.lent }
 {}

@@ -19,3 +19,6 @@ returns-clause-copied c = copy-plain
 
 pub returns-clause-kept : goal.returns-clause-kept
 returns-clause-kept c = λ m after addr bytes write. (write-kept m after addr bytes write).prepared
+
+pub returns-clause-lent : goal.returns-clause-lent
+returns-clause-lent c = λ m after addr bytes write. (write-kept m after addr bytes write).lent
