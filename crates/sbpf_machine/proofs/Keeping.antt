@@ -21,12 +21,13 @@ use Rattle.sbpf_machine.specs.Keeping.{Keeps, KeepsRanges}
 use Rattle.sbpf_machine.specs.Steps.{Next, Go, Halt, Stuck, Operands, State, Reaches, here, on, going, follow, first_stop, steps, steps_by, step, row_of, act, operands_at, address, binary32, binary64, bytes_in, fault, new_frame, put, source, enter, enter_at, leave, last_kept, load, store, register, start_at_address}
 
 same_ranges : (m : Ranges) → KeepsRanges m m
-same_ranges m = record { program = refl; prepared = refl; input = refl; memory = λ h. h; bounds = λ _. refl }
+same_ranges m = record { program = refl; prepared = refl; lent = refl; input = refl; memory = λ h. h; bounds = λ _. refl }
 
 then_ranges : (a b c : Ranges) → KeepsRanges a b → KeepsRanges b c → KeepsRanges a c
 then_ranges a b c one two = record {
   program = two.program ∙ one.program;
   prepared = two.prepared ∙ one.prepared;
+  lent = two.lent ∙ one.lent;
   input = two.input ∙ one.input;
   memory = λ h. two.memory (one.memory h);
   bounds = λ h. two.bounds (one.memory h) ∙ one.bounds h;
@@ -38,6 +39,7 @@ write_keeps m n addr bytes h =
     record {
       program = kept.program;
       prepared = kept.prepared;
+      lent = kept.lent;
       input = kept.input;
       memory = λ is_memory. write-memory m n addr bytes is_memory h;
       bounds = λ is_memory. write-bounds m n addr bytes is_memory h;
