@@ -14,7 +14,7 @@ use Rattle.sbpf_isa.specs.declared.rows.Width.TheVariants.{Bits64, Bits32}
 use Rattle.sbpf_verify.specs.Places.{instruction_at}
 use Rattle.sbpf_verify.specs.Verified.{IsVerified, writes_frame}
 use Rattle.sbpf_verify.proofs.Starts.{instruction_there, no_row_applies}
-use Rattle.sbpf_memory.specs.Memory.{Ranges}
+use Rattle.sbpf_memory.specs.Memory.{Ranges, frame_count, frame_step}
 use Rattle.sbpf_memory.specs.declared.fault.AccessViolation.{AccessViolation}
 use Rattle.sbpf_machine.specs.declared.context.Context.{Context}
 use Rattle.sbpf_machine.specs.declared.frames.Kept.{Kept}
@@ -22,10 +22,10 @@ use Rattle.sbpf_machine.specs.declared.stop.Fault.TheVariants.{DivideByZero, Cal
 use Rattle.sbpf_machine.specs.declared.stop.Stop.{Stop}
 use Rattle.sbpf_machine.specs.declared.stop.Stop.TheVariants.{Helper}
 use Rattle.sbpf_machine.specs.Values.{divides, value_of}
-use Rattle.sbpf_machine.specs.FramePointer.{PointsToFrame, frame_end}
+use Rattle.sbpf_machine.specs.FramePointer.{PointsToFrame}
 use Rattle.sbpf_machine.proofs.Landing.{of_front}
 use Rattle.sbpf_machine.proofs.Paths.{either}
-use Rattle.sbpf_machine.specs.Steps.{Next, Go, Halt, Stuck, Operands, State, Reaches, here, on, going, first_state, resumed, follow, first_stop, steps, steps_by, step, row_of, act, operands_at, binary32, binary64, fault, frame_kept, new_frame, put, enter, enter_at, leave, last_kept, load, store, register}
+use Rattle.sbpf_machine.specs.Steps.{Next, Go, Halt, Stuck, Operands, State, Reaches, here, on, going, first_state, resumed, follow, first_stop, steps, steps_by, step, row_of, act, operands_at, binary32, binary64, fault, frame_end, frame_kept, new_frame, put, enter, enter_at, leave, last_kept, load, store, register}
 
 -- the instructions that write their destination register
 abbrev writes : OpKind → Bool
@@ -104,14 +104,14 @@ one_more (y ∷ frames) frame x (suc k) h = ⊎_elim
 count_more : (frames : List Kept) (frame : Kept) → length (frames ++ frame ∷ []) ≡ length frames + 1
 count_more frames frame = length-append frames (frame ∷ [])
 
-next_end : (n pointer : ℕ) → n < 64 → pointer ≡ frame_end n → (pointer + 8192) % 2 ^ 64 ≡ frame_end (n + 1)
+next_end : (n pointer : ℕ) → n < frame_count → pointer ≡ frame_end n → (pointer + frame_step) % 2 ^ 64 ≡ frame_end (n + 1)
 next_end n pointer few is = omega arith
 
-new_frame_points : (p : ℕ) (c : Context) → length c.frames + 1 < 64 → PointsToFrame c → PointsToFrame (new_frame p c)
+new_frame_points : (p : ℕ) (c : Context) → length c.frames + 1 < frame_count → PointsToFrame c → PointsToFrame (new_frame p c)
 new_frame_points p c room h = record {
-  registers = length-set c.registers 10 ((register c 10 + 8192) % 2 ^ 64) ∙ h.registers;
+  registers = length-set c.registers 10 ((register c 10 + frame_step) % 2 ^ 64) ∙ h.registers;
   frames = rw (count_more c.frames (frame_kept p c)) room;
-  active = get_or-set_same c.registers 10 ((register c 10 + 8192) % 2 ^ 64) 0 (omega (arith, h.registers)) ∙ next_end (length c.frames) (register c 10) h.frames h.active ∙ ap frame_end (sym (count_more c.frames (frame_kept p c)));
+  active = get_or-set_same c.registers 10 ((register c 10 + frame_step) % 2 ^ 64) 0 (omega (arith, h.registers)) ∙ next_end (length c.frames) (register c 10) h.frames h.active ∙ ap frame_end (sym (count_more c.frames (frame_kept p c)));
   kept = λ k frame there. ⊎_elim
       (λ (old : slice_get c.frames k ≡ Some frame). h.kept k frame old)
       (λ (new : (frame ≡ frame_kept p c) × (k ≡ length c.frames)). ap (λ (f : Kept). f.r10) new.0 ∙ h.active ∙ ap frame_end (sym new.1))
@@ -124,13 +124,13 @@ RowPoints (Go to c) = PointsToFrame c
 RowPoints (Halt stop c) = PointsToFrame c
 RowPoints Stuck = Unit {0}
 
-below : (n : ℕ) → nat_le 64 n ≡ false → n < 64
+below : (n : ℕ) → nat_le frame_count n ≡ false → n < frame_count
 below n h = grind (arith, nat_tests)
 
 enter_points : (to p : ℕ) (c : Context) → PointsToFrame c → RowPoints (enter to p c)
-enter_points to p c h = by_room (nat_le 64 (length c.frames + 1)) refl
+enter_points to p c h = by_room (nat_le frame_count (length c.frames + 1)) refl
   where
-    by_room : (b : Bool) → nat_le 64 (length c.frames + 1) ≡ b → RowPoints (if b then fault CallDepth c else Go to (new_frame p c))
+    by_room : (b : Bool) → nat_le frame_count (length c.frames + 1) ≡ b → RowPoints (if b then fault CallDepth c else Go to (new_frame p c))
     by_room true is = h
     by_room false is = new_frame_points p c (below (length c.frames + 1) is) h
 

@@ -7,7 +7,7 @@ use Rattle.sbpf_isa.specs.declared.rows.OpKind.{OpKind}
 use Rattle.sbpf_isa.specs.declared.rows.OpKind.TheVariants.{Binary, Negate, LittleEndian, BigEndian, Jump, JumpIf, Call, CallRegister, Exit, Load, Store, LoadWide}
 use Rattle.sbpf_isa.specs.declared.rows.Width.TheVariants.{Bits64, Bits32}
 use Rattle.sbpf_verify.specs.Places.{instruction_at}
-use Rattle.sbpf_memory.specs.Memory.{Ranges, store_to, write_to, width_of, load_from}
+use Rattle.sbpf_memory.specs.Memory.{Ranges, frame_count, store_to, write_to, width_of, load_from}
 use Rattle.sbpf_memory.specs.declared.fault.AccessViolation.{AccessViolation}
 use Rattle.sbpf_memory.proofs.ByAddress.{write-bounds, write-kept, write-memory}
 use Rattle.sbpf_machine.specs.declared.context.Context.{Context}
@@ -65,7 +65,7 @@ leave_keeps c (Some kept) = same_ranges c.memory
 
 enter_keeps : (to p : ℕ) (c : Context) → RowKeeps c.memory (enter to p c)
 enter_keeps to p c =
-    either (RowKeeps c.memory) (nat_le 64 (length c.frames + 1)) (fault CallDepth c) (Go to (new_frame p c)) (same_ranges c.memory) (same_ranges c.memory)
+    either (RowKeeps c.memory) (nat_le frame_count (length c.frames + 1)) (fault CallDepth c) (Go to (new_frame p c)) (same_ranges c.memory) (same_ranges c.memory)
 
 enter_at_keeps : (value p : ℕ) (c : Context) (to : Option ℕ) → RowKeeps c.memory (enter_at value p c to)
 enter_at_keeps value p c None = same_ranges c.memory

@@ -10,7 +10,7 @@ use Rattle.sbpf_isa.specs.declared.rows.Width.TheVariants.{Bits64, Bits32}
 use Rattle.sbpf_verify.specs.Places.{is_start, is_start_at, instruction_at, leads_to}
 use Rattle.sbpf_verify.specs.Verified.{IsVerified}
 use Rattle.sbpf_verify.proofs.Starts.{start_instruction, target_start, next_start}
-use Rattle.sbpf_memory.specs.Memory.{Ranges, program_start}
+use Rattle.sbpf_memory.specs.Memory.{Ranges, frame_count, program_start}
 use Rattle.sbpf_memory.specs.declared.fault.AccessViolation.{AccessViolation}
 use Rattle.sbpf_machine.specs.declared.context.Context.{Context}
 use Rattle.sbpf_machine.specs.declared.frames.Kept.{Kept}
@@ -57,7 +57,7 @@ of_front (suc n) (y ∷ frames) x (suc k) h = of_front n frames x k h
 
 enter_lands : (text : List ℕ) (to p : ℕ) (c : Context) → is_start text to ≡ true → is_start text (p + 1) ≡ true → GoBack text c.frames → RowLands text (enter to p c)
 enter_lands text to p c start next backs =
-    either (RowLands text) (nat_le 64 (length c.frames + 1)) (fault CallDepth c) (Go to (new_frame p c)) tt (start, back_with text c.frames (frame_kept p c) backs next)
+    either (RowLands text) (nat_le frame_count (length c.frames + 1)) (fault CallDepth c) (Go to (new_frame p c)) tt (start, back_with text c.frames (frame_kept p c) backs next)
 
 call_lands : (text : List ℕ) (p src number : ℕ) (z : ℤ) (c : Context) (b : Bool) → (b ≡ true → is_start text (natural z) ≡ true) → is_start text (p + 1) ≡ true → GoBack text c.frames →
     RowLands text (if b then enter (natural (unwrap_or (if b then Some z else None) (pos 0))) p c else Halt (Helper number) c)

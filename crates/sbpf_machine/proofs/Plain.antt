@@ -7,7 +7,7 @@ use Rattle.sbpf_isa.specs.declared.rows.Width.TheVariants.{Bits64, Bits32}
 use Rattle.sbpf_isa.specs.declared.rows.Operand.{Operand}
 use Rattle.sbpf_isa.specs.declared.rows.Operand.TheVariants.{Immediate, Register}
 use Rattle.sbpf_verify.specs.Places.{instruction_at}
-use Rattle.sbpf_memory.specs.Memory.{Ranges}
+use Rattle.sbpf_memory.specs.Memory.{Ranges, frame_count}
 use Rattle.sbpf_memory.specs.Plain.{plain_written}
 use Rattle.sbpf_memory.specs.declared.fault.AccessViolation.{AccessViolation}
 use Rattle.sbpf_memory.proofs.Plain.{load-plain, store-plain}
@@ -42,7 +42,7 @@ leaves c None = refl
 leaves c (Some kept) = refl
 
 enters : (to p : ℕ) (c : Context) → enter to p (plain_context c) ≡ plain_next (enter to p c)
-enters to p c = choose (nat_le 64 (length c.frames + 1)) (fault CallDepth c) (Go to (new_frame p c)) _ _ refl refl
+enters to p c = choose (nat_le frame_count (length c.frames + 1)) (fault CallDepth c) (Go to (new_frame p c)) _ _ refl refl
 
 enters_at : (value p : ℕ) (c : Context) (to : Option ℕ) → enter_at value p (plain_context c) to ≡ plain_next (enter_at value p c to)
 enters_at value p c None = refl

@@ -9,7 +9,7 @@ use Rattle.sol_base.specs.Parts.{with_bytes}
 use Rattle.sbpf_memory.specs.declared.place.Place.{Place}
 use Rattle.sbpf_memory.specs.declared.place.Region.{Region}
 use Rattle.sbpf_memory.specs.declared.place.Region.TheVariants.{Program, Stack, Heap, Input}
-use Rattle.sbpf_memory.specs.Memory.{Ranges, IsMemory, place_of, range_bytes, bytes_at, read_from, frame_count, frame_size, frame_start, frame_range, stack_start, program_start, heap_start, input_start, range, ranges, bounds_of, byte_of, byte_at, with_stack, with_heap, with_input_bytes, with_bytes_in, with_bytes_at, write_to}
+use Rattle.sbpf_memory.specs.Memory.{Ranges, IsMemory, place_of, range_bytes, bytes_at, read_from, frame_count, frame_size, frame_start, frame_range, stack_start, program_start, heap_start, input_start, range, ranges, bounds_of, byte_of, byte_at, with_stack, with_heap, with_input_bytes, with_bytes_in, with_bytes_at, write_to, frame_step}
 use Rattle.sbpf_memory.proofs.Places.{place-stack}
 use Rattle.sbpf_memory.proofs.Addresses.{address_in, RoomIn, StandsAt, stands-from_place, place-from_stands}
 use Rattle.sbpf_memory.proofs.Reading.{read-some, read-length, room-fits}
@@ -41,8 +41,8 @@ byte_at-stands m addr place is_memory stands = byte_at-place m addr (Some place)
 inner-address : (m : Ranges) (at len i : ℕ) (region : Region) → RoomIn m len at region → i < len → address_in at region + i ≡ address_in (at + i) region
 inner-address m at len i Program room below = omega arith
 inner-address m at len i Stack room below =
-    let frame : (at + i) / 4096 ≡ at / 4096 = omega (arith, room.0) in
-    let rest : (at + i) % 4096 ≡ at % 4096 + i = omega (arith, room.0) in
+    let frame : (at + i) / frame_size ≡ at / frame_size = omega (arith, room.0) in
+    let rest : (at + i) % frame_size ≡ at % frame_size + i = omega (arith, room.0) in
     omega arith
 inner-address m at len i Heap room below = omega arith
 inner-address m at len i Input room below = omega arith
@@ -289,10 +289,10 @@ write-bounds m after addr [] is_memory write = ap (λ x. map bounds_of (ranges x
 write-bounds m after addr (b ∷ bs) is_memory write = sizes-bounds m after (written m after addr (b ∷ bs) is_memory (omega arith) write).sizes
 
 -- no byte stands between two frames
-pub no-byte-in_gap : (m : Ranges) (frame at : ℕ) → IsMemory m → frame < 64 → 4096 ≤ at → at < 8192 → byte_at m (frame_start frame + at) ≡ None
+pub no-byte-in_gap : (m : Ranges) (frame at : ℕ) → IsMemory m → frame < frame_count → frame_size ≤ at → at < frame_step → byte_at m (frame_start frame + at) ≡ None
 no-byte-in_gap m frame at is_memory below from to =
     let addr = frame_start frame + at in
-    let whole : (addr - stack_start) / 8192 ≡ frame = omega arith in
-    let rest : (addr - stack_start) % 8192 ≡ at = omega arith in
+    let whole : (addr - stack_start) / frame_step ≡ frame = omega arith in
+    let rest : (addr - stack_start) % frame_step ≡ at = omega arith in
     let found = place-stack m addr 1 is_memory.program (omega arith) (omega arith) (omega arith) in
     byte_at-place m addr None (grind (arith, nat_tests))
