@@ -1,3 +1,4 @@
+//! Laws over memories.
 ghost use Rattle.std.specs.Prelude.{◌≡◌, ◌↔◌, ℕ, ◌+◌, ◌<◌, ◌≤◌, true, false, Bool, List, [], length, map, Some, None, Ok, Err, IsOk, ◌⊎◌, slice_get};
 ghost use Rattle.sbpf_memory.specs.declared.fault.AccessViolation.{AccessViolation};
 ghost use Rattle.sbpf_memory.specs.Memory.{Ranges, IsMemory, ReadsIn, WritesIn, Holds, Range, ranges, bounds_of, byte_at, frame_count, frame_size, frame_start, frame_step, copy_to, load_from, read_from, store_to, violation_of, write_refusal, write_to};

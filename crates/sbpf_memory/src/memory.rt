@@ -1,3 +1,4 @@
+//! The memory of one frame of a program, read and written by address.
 ghost use Rattle.std.specs.Prelude.{◌≡◌, ◌<◌, ◌≤◌, ◌+◌, ◌^◌, ◌≢◌, length, IfOk, MatchOption, MatchResult, IfSome, Some, Ok, true, take, drop, IsOk, OnOk, OnErr};
 ghost use Rattle.std.specs.Arc.{arc_value};
 ghost use Rattle.std.specs.Borrow.{sem};

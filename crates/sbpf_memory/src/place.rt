@@ -1,3 +1,4 @@
+//! Where an access lies: its range, and the place in the bytes of it.
 ghost use Rattle.std.specs.Prelude.{◌≡◌, ◌≤◌, ◌+◌, ◌*◌, ◌/◌, ◌%◌, ◌^◌, ◌&&◌, nat_le, nat_lt, None, if◌then◌else◌};
 ghost use Rattle.sbpf_memory.specs.Memory.{at_place, frame_count, frame_size, frame_step, meet as ranges_meet};
 ghost use Rattle.sbpf_memory.specs.declared.place.Region.TheVariants.{Stack};
