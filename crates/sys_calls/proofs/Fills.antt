@@ -9,9 +9,9 @@ use Rattle.sbpf_memory.specs.declared.fault.MemFault.{MemFault}
 use Rattle.sbpf_memory.specs.declared.place.Place.{Place}
 use Rattle.sbpf_memory.specs.declared.place.Region.{Region}
 use Rattle.sbpf_memory.specs.declared.place.Region.TheVariants.{Program, Stack, Heap, Input}
-use Rattle.sbpf_memory.specs.Copies.{with_stack, with_heap, written_in}
+use Rattle.sbpf_memory.specs.Copies.{written_in}
 use Rattle.sbpf_memory.specs.Lending.{with_input}
-use Rattle.sbpf_memory.specs.Memory.{Ranges, IsMemory, place_of, range_bytes, with_bytes_in, write_to, write_refusal, refused_at, refused_in, or_refusal, Answers, HasMemory, IsPrepared, PreparedAt, PreparedIn, KeepsBytes}
+use Rattle.sbpf_memory.specs.Memory.{Ranges, IsMemory, place_of, range_bytes, with_stack, with_heap, with_bytes_in, write_to, write_refusal, refused_at, refused_in, or_refusal, Answers, HasMemory, IsPrepared, PreparedAt, PreparedIn, KeepsBytes}
 use Rattle.sbpf_memory.specs.Plain.{plain_memory, plain_written}
 use Rattle.sbpf_memory.proofs.Addresses.{stands-from_place}
 use Rattle.sbpf_memory.proofs.Reading.{room-fits}
@@ -27,13 +27,13 @@ written-more : (m : Ranges) (xs ys : List ℕ) (at : ℕ) (region : Region) → 
 written-more m xs ys at Program fits = refl
 written-more m xs ys at Stack fits = ap (with_stack m) (with_more m.stack xs ys at fits)
 written-more m xs ys at Heap fits = ap (with_heap m) (with_more m.heap xs ys at fits)
-written-more m xs ys at Input fits = ap (λ (l : List ℕ). with_input m (record { bytes = l; prepared = m.input.prepared })) (with_more m.input.bytes xs ys at fits)
+written-more m xs ys at Input fits = ap (λ (l : List ℕ). with_input m (record m.input { bytes = l })) (with_more m.input.bytes xs ys at fits)
 
 written-none : (m : Ranges) (at : ℕ) (region : Region) → written_in m [] at region ≡ m
 written-none m at Program = refl
 written-none m at Stack = ap (with_stack m) (with_none m.stack at)
 written-none m at Heap = ap (with_heap m) (with_none m.heap at)
-written-none m at Input = ap (λ (l : List ℕ). with_input m (record { bytes = l; prepared = m.input.prepared })) (with_none m.input.bytes at)
+written-none m at Input = ap (λ (l : List ℕ). with_input m (record m.input { bytes = l })) (with_none m.input.bytes at)
 
 -- the program is not written
 abbrev Free : Region → Type 0

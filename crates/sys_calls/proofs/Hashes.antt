@@ -44,17 +44,17 @@ pub slice-refused : (old new : Ranges) (env : Env) (slices count result units : 
 slice-refused old new env slices count result units list e few read refused left same =
     let g = gathered (plain_memory old) env.units list in
     rw (hashed-row (plain_memory old) env slices count result list (few-slices count few) read)
-    (told (is_memory e) (refused-answer (plain_memory old) env result g e (sym refused)), λ input. sym left, block env units, rw left (gathered-units (plain_memory old) env.units list), (ap plain_memory same, refl))
+    (told (is_memory e) (refused-answer (plain_memory old) env result g e (sym refused)), λ input. sym left, block env units, rw left (gathered-units (plain_memory old) env.units list), (ap plain_memory same, refl), ap (λ (m : Ranges). m.input.lent) same)
 
 -- the hash is not written
 pub hash-refused : (old new : Ranges) (env : Env) (slices count result units : ℕ) (list : List Slice) (hash : List ℕ) (e : SysFault) → count ≤ 20000 → slices_read (plain_memory old) slices count ≡ Ok list
     → (let r : Result (List ℕ) SysFault = Ok hash in r) ≡ hash_of (gathered (plain_memory old) env.units list).bytes → units ≡ (gathered (plain_memory old) env.units list).units
-    → MatchBool (is_memory e) (Unit {0}) (bytes_written (plain_memory old) result hash ≡ Err e) → plain_memory new ≡ plain_memory old
+    → MatchBool (is_memory e) (Unit {0}) (bytes_written (plain_memory old) result hash ≡ Err e) → plain_memory new ≡ plain_memory old → new.input.lent ≡ old.input.lent
     → Does (hashed (plain_memory old) env slices count result) old new env (record env { units = units }) (Err e)
-hash-refused old new env slices count result units list hash e few read given left stopped same =
+hash-refused old new env slices count result units list hash e few read given left stopped same lent =
     let g = gathered (plain_memory old) env.units list in
     rw (hashed-row (plain_memory old) env slices count result list (few-slices count few) read)
-    (stops (is_memory e) (write-answer (plain_memory old) env result g hash e (sym given)) stopped, λ input. sym left, block env units, rw left (gathered-units (plain_memory old) env.units list), (same, refl))
+    (stops (is_memory e) (write-answer (plain_memory old) env result g hash e (sym given)) stopped, λ input. sym left, block env units, rw left (gathered-units (plain_memory old) env.units list), (same, refl), lent)
 
 written-answer : (m after : Ranges) (env : Env) (result units : ℕ) (g : Gathered) (hash : List ℕ) → hash_of g.bytes ≡ Ok hash → bytes_written m result hash ≡ Ok after → units ≡ g.units
     → (hash_written m env result g).answer ≡ Ok (record { r0 = 0; memory = after; log = env.logs; returned = env.returned; keeper = env.returned_by })
@@ -63,9 +63,9 @@ written-answer m after env result units g hash h k left = rw (h, k) refl
 -- the hash is written
 pub hash-written : (old new : Ranges) (env : Env) (slices count result units : ℕ) (list : List Slice) (hash : List ℕ) → count ≤ 20000 → slices_read (plain_memory old) slices count ≡ Ok list
     → (let r : Result (List ℕ) SysFault = Ok hash in r) ≡ hash_of (gathered (plain_memory old) env.units list).bytes → units ≡ (gathered (plain_memory old) env.units list).units
-    → bytes_written (plain_memory old) result hash ≡ Ok (plain_memory new)
+    → bytes_written (plain_memory old) result hash ≡ Ok (plain_memory new) → new.input.lent ≡ old.input.lent
     → Does (hashed (plain_memory old) env slices count result) old new env (record env { units = units }) (Ok 0)
-hash-written old new env slices count result units list hash few read given left wrote =
+hash-written old new env slices count result units list hash few read given left wrote lent =
     let g = gathered (plain_memory old) env.units list in
     rw (hashed-row (plain_memory old) env slices count result list (few-slices count few) read)
-    (written-answer (plain_memory old) (plain_memory new) env result units g hash (sym given) wrote left, sym left, block env units, rw left (gathered-units (plain_memory old) env.units list), tt)
+    (written-answer (plain_memory old) (plain_memory new) env result units g hash (sym given) wrote left, sym left, block env units, rw left (gathered-units (plain_memory old) env.units list), tt, lent)

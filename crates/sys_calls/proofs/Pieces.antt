@@ -114,6 +114,9 @@ held-plain m addr len = rw (read-plain m addr len) refl
 pub memory-plain : (m : Ranges) → IsMemory m → IsMemory (plain_memory m)
 memory-plain m is = record { program = is.program; stack = is.stack; heap = is.heap; input = is.input }
 
+pub memory-bare : (m : Ranges) → IsMemory (plain_memory m) → IsMemory m
+memory-bare m is = record { program = is.program; stack = is.stack; heap = is.heap; input = is.input }
+
 -- what may be read gives the bytes that are held
 pub bytes_read-held : (m : Ranges) (addr len : ℕ) → IsReadable m addr len → bytes_read m addr len ≡ Ok (held m addr len)
 bytes_read-held m addr len ok = rw (read-held m addr len ok) refl

@@ -30,7 +30,7 @@ checked-refuses m addr len bytes e size h = refused m addr bytes e (write_refusa
 pub plain-kept : (old new : Ranges) → KeepsBytes old new → plain_memory new ≡ plain_memory old
 plain-kept old new kept = cc (kept.program, kept.stack, kept.heap, kept.input)
 
-ok-of : (m : Ranges) (r : Result Ranges AccessViolation) → or_refusal r ≡ Ok m → r ≡ Ok m
+pub ok-of : (m : Ranges) (r : Result Ranges AccessViolation) → or_refusal r ≡ Ok m → r ≡ Ok m
 ok-of m (Ok n) h = cc
 ok-of m (Err v) h = absurd (cc)
 

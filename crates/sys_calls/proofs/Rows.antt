@@ -9,7 +9,7 @@ use Rattle.sol_base.specs.DerivedKeys.{program_key_of}
 use Rattle.sbpf_memory.specs.Memory.{Ranges, IsMemory, read_from, write_to, or_overlap, copy_of, copy_to}
 use Rattle.sbpf_memory.specs.declared.fault.AccessViolation.{AccessViolation as Violation}
 use Rattle.sbpf_memory.specs.declared.fault.MemFault.{MemFault}
-use Rattle.sbpf_memory.proofs.ByAddress.{write-memory}
+use Rattle.sbpf_memory.proofs.ByAddress.{write-kept, write-memory}
 use Rattle.sys_calls.specs.declared.env.Env.{Env}
 use Rattle.sys_calls.specs.declared.slices.Slice.{Slice}
 use Rattle.sys_calls.specs.declared.table.SystemCall.{SystemCall}
@@ -20,10 +20,14 @@ use Rattle.sys_calls.specs.Access.{or_violation, or_fault, bytes_read, bytes_wri
 use Rattle.sys_calls.specs.Slices.{Gathered, slices_read, has_long_slice, all_read, gathered, hash_of, after_read, slice_cost}
 use Rattle.sys_calls.specs.Costs.{call_numbered, cost_of}
 use Rattle.sys_calls.specs.SysCalls.{Service, SysAnswer, IsServedMemory, service, logged, answered, wrote, compared, first_difference, key_derived, key_written, key_or_one, hash_written, hashed, slices_hashed, at_cost, return_set, both_written, return_got, effect_of, after_cost, sys_row}
-use Rattle.sys_calls.proofs.Sizes.{write-input}
 
-same : (m : Ranges) → IsServedMemory m m
-same m = record { memory = λ is. is; input = refl }
+pub same : (m : Ranges) → IsServedMemory m m
+same m = record { memory = λ is. is; input = refl; lent = refl }
+
+pub written : (m after : Ranges) (addr : ℕ) (bytes : List ℕ) → write_to m addr bytes ≡ Ok after → IsServedMemory m after
+written m after addr bytes h =
+    let kept = write-kept m after addr bytes h in
+    record { memory = λ is. write-memory m after addr bytes is h; input = kept.input; lent = kept.lent }
 
 abbrev Kept : Ranges → Result Ranges SysFault → Type 0
 Kept m (Ok after) = IsServedMemory m after
@@ -41,15 +45,15 @@ written-kept : (m : Ranges) (addr : ℕ) (bytes : List ℕ) → Kept m (bytes_wr
 written-kept m addr bytes = by_case (write_to m addr bytes) refl
   where
     by_case : (r : Result Ranges Violation) → write_to m addr bytes ≡ r → Kept m (or_violation r)
-    by_case (Ok after) h = record { memory = λ is. write-memory m after addr bytes is h; input = write-input m after addr bytes h }
+    by_case (Ok after) h = written m after addr bytes h
     by_case (Err v) h = tt
 
 overlap-kept : (m : Ranges) (addr : ℕ) (bytes : List ℕ) (b : Bool) (r : Result Ranges Violation) → write_to m addr bytes ≡ r → Kept m (or_fault (or_overlap b r))
 overlap-kept m addr bytes true (Ok after) h = tt
-overlap-kept m addr bytes false (Ok after) h = record { memory = λ is. write-memory m after addr bytes is h; input = write-input m after addr bytes h }
+overlap-kept m addr bytes false (Ok after) h = written m after addr bytes h
 overlap-kept m addr bytes b (Err v) h = tt
 
-copied-kept : (m : Ranges) (to from len : ℕ) (apart : Bool) → Kept m (bytes_copied m to from len apart)
+pub copied-kept : (m : Ranges) (to from len : ℕ) (apart : Bool) → Kept m (bytes_copied m to from len apart)
 unfolding copy_to
 copied-kept m to from len apart = by_case _ (read_from m from len)
   where
@@ -98,7 +102,7 @@ then-kept m other second (Err e) kept = tt
 then-kept m other second (Ok after) kept = by_case (bytes_written after other second) (written-kept after other second)
   where
     by_case : (r : Result Ranges SysFault) → Kept after r → Kept m r
-    by_case (Ok last) k = record { memory = λ is. k.memory (kept.memory is); input = k.input ∙ kept.input }
+    by_case (Ok last) k = record { memory = λ is. k.memory (kept.memory is); input = k.input ∙ kept.input; lent = k.lent ∙ kept.lent }
     by_case (Err e) k = tt
 
 both-kept : (m : Ranges) (to : ℕ) (first : List ℕ) (other : ℕ) (second : List ℕ) → Kept m (both_written m to first other second)
@@ -177,7 +181,7 @@ by_answer : (m : Ranges) (r : Result Service SysFault) (s : Service) → KeptBy 
 by_answer m (Ok t) s kept h = let e : t ≡ s = cc in subst (λ (x : Service). IsServedMemory m x.memory) e kept
 by_answer m (Err e) s kept h = absurd (cc)
 
--- a served call keeps the sizes
+-- what a served call keeps of the memory
 pub sys_row-memory : (number : ℕ) (arguments : List ℕ) (m : Ranges) (env : Env) (s : Service) → (sys_row number arguments m env).answer ≡ Ok s → IsServedMemory m s.memory
 sys_row-memory number arguments m env s h = by_answer m (sys_row number arguments m env).answer s (row-kept number arguments m env) h
 

@@ -207,10 +207,6 @@ pub record KeepsBlock (env env' : Env) : Type 0 where
   pub program : env'.program ≡ env.program
   pub height : env'.height ≡ env.height
 
--- a memory with the same sizes
-pub record KeepsSizes (old new : Ranges) : Type 0 where
-  pub input : length new.input.bytes ≡ length old.input.bytes
-
 -- What the function of a call answers once its cost is taken: what the row gives, or memory ran
 -- out.
 abbrev pub Does : SysAnswer → Ranges → Ranges → Env → Env → Result ℕ SysFault → Type 0
@@ -221,8 +217,11 @@ Does row old new env env' result =
     × (env'.units ≤ env.units)
     × OnErr result ((plain_memory new ≡ plain_memory old)
     × (env' ≡ record env { units = env'.units }))
+    × (new.input.lent ≡ old.input.lent)
 
--- a served call leaves a memory with as many bytes in each range
+-- a served call leaves a memory with as many bytes in its input, which was made to lend the same
+-- accounts
 pub record IsServedMemory (old new : Ranges) : Type 0 where
   pub memory : IsMemory old → IsMemory new
   pub input : length new.input.bytes ≡ length old.input.bytes
+  pub lent : new.input.lent ≡ old.input.lent

@@ -60,6 +60,7 @@ pub(crate) fn write(memory: &mut Memory, addr: u64, bytes: &[u8]) -> Result<(), 
     ensures answer { Gives is_memory (λ _. plain_memory memory.new) result
         (bytes_written (plain_memory memory.old) addr bytes.now) }
     ensures refused { OnErr result (plain_memory memory.new ≡ plain_memory memory.old) }
+    ensures lent { memory.new.input.lent ≡ memory.old.input.lent }
 {
     memory.write(addr, bytes)?;
     Ok(())

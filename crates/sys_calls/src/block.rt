@@ -20,6 +20,7 @@ pub(crate) fn get_slot(result_at: u64, slot: u64, memory: &mut Memory) -> Result
     ensures answer { Gives is_memory (λ _. plain_memory memory.new) result
         (bytes_written (plain_memory memory.old) result_at (to_le_bytes w64 slot)) }
     ensures refused { OnErr result (plain_memory memory.new ≡ plain_memory memory.old) }
+    ensures lent { memory.new.input.lent ≡ memory.old.input.lent }
 {
     write(memory, result_at, &slot.to_le_bytes())
 }
@@ -30,6 +31,7 @@ pub(crate) fn get_rent(result_at: u64, memory: &mut Memory) -> Result<(), SysFau
         (bytes_written (plain_memory memory.old) result_at
         (to_le_bytes w64 3480 ++ to_le_bytes w64 2)) }
     ensures refused { OnErr result (plain_memory memory.new ≡ plain_memory memory.old) }
+    ensures lent { memory.new.input.lent ≡ memory.old.input.lent }
 {
     write(memory, result_at, &rent_bytes())
 }
