@@ -1,8 +1,7 @@
 -- A range that is filled piece by piece.
-use Rattle.std.proofs.Common.{◌≡◌, ℕ, zero, suc, ◌+◌, ◌≤◌, ◌<◌, ◌^◌, true, List, [], ◌++◌, length, take, drop, replicate, get_or, Option, Some, None, Result, Ok, Err, IsOk, refl, sym, ap, subst, ◌∙◌, rules, add-zero, arith}
+use Rattle.std.proofs.Common.{◌≡◌, ℕ, zero, suc, ◌+◌, ◌≤◌, ◌<◌, ◌^◌, true, List, [], ◌++◌, length, replicate, Option, Some, None, Result, Ok, IsOk, refl, sym, ap, subst, ◌∙◌, arith}
 use Rattle.std.specs.Prelude.{slice_get}
-use Rattle.std.proofs.lemmas.List.{places, same_lists, take-append-drop, append-nil, length-replicate, replicate-append-replicate}
-use Rattle.sol_base.specs.Parts.{with_bytes, ArePrepared}
+use Rattle.std.proofs.lemmas.List.{length-replicate, replicate-append-replicate}
 use Rattle.sol_base.proofs.PartLaws.{with_more, with_none}
 use Rattle.sbpf_memory.specs.declared.fault.AccessViolation.{AccessViolation}
 use Rattle.sbpf_memory.specs.declared.fault.MemFault.{MemFault}
@@ -12,12 +11,12 @@ use Rattle.sbpf_memory.specs.declared.place.Region.TheVariants.{Program, Stack, 
 use Rattle.sbpf_memory.specs.Copies.{written_in}
 use Rattle.sbpf_memory.specs.Lending.{with_input}
 use Rattle.sbpf_memory.specs.Memory.{Ranges, IsMemory, place_of, range_bytes, with_stack, with_heap, with_bytes_in, write_to, write_refusal, refused_at, refused_in, or_refusal, Answers, HasMemory, IsPrepared, PreparedAt, PreparedIn, KeepsBytes}
-use Rattle.sbpf_memory.specs.Plain.{plain_memory, plain_written}
+use Rattle.sbpf_memory.specs.Plain.{plain_memory}
 use Rattle.sbpf_memory.proofs.Addresses.{stands-from_place}
 use Rattle.sbpf_memory.proofs.Reading.{room-fits}
 use Rattle.sbpf_memory.proofs.Writing.{write-some, write-nothing}
 use Rattle.sbpf_memory.proofs.Prepared.{write_refusal-some}
-use Rattle.sys_calls.specs.Access.{bytes_written, or_violation}
+use Rattle.sys_calls.specs.Access.{bytes_written}
 use Rattle.sys_calls.proofs.Plain.{write-plain}
 use Rattle.sys_calls.proofs.Pieces.{place-part, place-low}
 use Rattle.sys_calls.proofs.Prepares.{done, plain-kept}

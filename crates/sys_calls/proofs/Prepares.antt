@@ -1,5 +1,5 @@
 -- Writes that were prepared for.
-use Rattle.std.proofs.Common.{◌≡◌, ℕ, List, length, replicate, Option, Some, None, Result, Ok, Err, IsOk, refl, sym, ◌∙◌, ap}
+use Rattle.std.proofs.Common.{◌≡◌, ℕ, List, length, Option, Some, None, Result, Ok, Err, IsOk, refl, sym, ◌∙◌, ap}
 use Rattle.std.proofs.lemmas.List.{length-replicate}
 use Rattle.spec_base.specs.Reading.{◌>>=◌}
 use Rattle.sbpf_memory.specs.declared.fault.AccessViolation.{AccessViolation}

@@ -1,14 +1,13 @@
 -- What rows keep: sizes of memories; and they gain no units.
-use Rattle.std.proofs.Common.{◌≡◌, ℕ, ◌+◌, ◌-◌, ◌≤◌, Bool, true, false, List, [], ◌∷◌, ◌++◌, length, take, Result, Ok, Err, refl, subst, ◌∙◌, arith}
+use Rattle.std.proofs.Common.{◌≡◌, ℕ, ◌-◌, ◌≤◌, Bool, true, false, List, [], ◌∷◌, length, take, Result, Ok, Err, refl, subst, ◌∙◌, arith}
 use Rattle.std.specs.Prelude.{nat_lt, min, ◌==◌, if◌then◌else◌}
-use Rattle.std.specs.Int.{w32, w64, to_le_bytes}
+use Rattle.std.specs.Int.{w32, to_le_bytes}
 use Rattle.spec_base.specs.Reading.{◌>>=◌}
 use Rattle.sol_base.specs.declared.key.Key.{Key}
 use Rattle.sol_base.specs.declared.derived.SeedsFault.{SeedsFault}
-use Rattle.sol_base.specs.DerivedKeys.{program_key_of}
-use Rattle.sbpf_memory.specs.Memory.{Ranges, IsMemory, read_from, write_to, or_overlap, copy_of, copy_to}
+use Rattle.sol_base.specs.DerivedKeys.{max_seeds, program_key_of}
+use Rattle.sbpf_memory.specs.Memory.{Ranges, read_from, write_to, or_overlap, copy_of, copy_to}
 use Rattle.sbpf_memory.specs.declared.fault.AccessViolation.{AccessViolation as Violation}
-use Rattle.sbpf_memory.specs.declared.fault.MemFault.{MemFault}
 use Rattle.sbpf_memory.proofs.ByAddress.{write-kept, write-memory}
 use Rattle.sys_calls.specs.declared.env.Env.{Env}
 use Rattle.sys_calls.specs.declared.slices.Slice.{Slice}
@@ -18,8 +17,8 @@ use Rattle.sys_calls.specs.declared.fault.SysFault.{SysFault}
 use Rattle.sys_calls.specs.declared.fault.SysFault.TheVariants.{UnitsSpent, TooManySeeds, TooManySlices, ReturnTooLong}
 use Rattle.sys_calls.specs.Access.{or_violation, or_fault, bytes_read, bytes_written, bytes_copied}
 use Rattle.sys_calls.specs.Slices.{Gathered, slices_read, has_long_slice, all_read, gathered, hash_of, after_read, slice_cost}
-use Rattle.sys_calls.specs.Costs.{call_numbered, cost_of}
-use Rattle.sys_calls.specs.SysCalls.{Service, SysAnswer, IsServedMemory, service, logged, answered, wrote, compared, first_difference, key_derived, key_written, key_or_one, hash_written, hashed, slices_hashed, at_cost, return_set, both_written, return_got, effect_of, after_cost, sys_row}
+use Rattle.sys_calls.specs.Costs.{call_numbered, cost_of, max_returned, max_slices}
+use Rattle.sys_calls.specs.SysCalls.{Service, SysAnswer, IsServedMemory, service, logged, answered, wrote, compared, first_difference, key_derived, key_written, key_or_one, hashed, slices_hashed, at_cost, return_set, both_written, return_got, effect_of, sys_row}
 
 pub same : (m : Ranges) → IsServedMemory m m
 same m = record { memory = λ is. is; input = refl; lent = refl }
@@ -90,7 +89,7 @@ key_written-kept m program result slices = by_case (has_long_slice slices) (all_
 
 key_derived-kept : (m : Ranges) (seeds count program result : ℕ) → KeptWith m (key_derived m seeds count program result)
 unfolding key_derived
-key_derived-kept m seeds count program result = by_case (nat_lt 16 count) (slices_read m seeds count)
+key_derived-kept m seeds count program result = by_case (nat_lt max_seeds count) (slices_read m seeds count)
   where
     by_case : (many : Bool) (slices : Result (List Slice) SysFault) → KeptWith m (if many then Err TooManySeeds else slices >>= (λ s. key_written m program result s))
     by_case true slices = tt
@@ -135,7 +134,7 @@ hash_written-kept m env result units (Ok hash) = wrote-kept m (record env { unit
 
 hashed-kept : (m : Ranges) (env : Env) (slices count result : ℕ) → KeptBy m (hashed m env slices count result).answer
 unfolding hashed
-hashed-kept m env slices count result = by_case (nat_lt 20000 count) (slices_read m slices count)
+hashed-kept m env slices count result = by_case (nat_lt max_slices count) (slices_read m slices count)
   where
     by_case : (many : Bool) (r : Result (List Slice) SysFault) → KeptBy m (if many then at_cost env (Err TooManySlices) else slices_hashed m env result r).answer
     by_case true r = tt
@@ -144,7 +143,7 @@ hashed-kept m env slices count result = by_case (nat_lt 20000 count) (slices_rea
 
 set-kept : (m : Ranges) (env : Env) (addr len : ℕ) → KeptBy m (return_set m env addr len)
 unfolding return_set
-set-kept m env addr len = by_case (nat_lt 1024 len) (bytes_read m addr len)
+set-kept m env addr len = by_case (nat_lt max_returned len) (bytes_read m addr len)
   where
     by_case : (long : Bool) (r : Result (List ℕ) SysFault) → KeptBy m (if long then Err ReturnTooLong else r >>= (λ bytes. Ok (service 0 m (record env { returned = bytes; returned_by = env.program }))))
     by_case true r = tt
@@ -201,7 +200,7 @@ gathered-units m units (slice ∷ slices) =
 
 hashed-units : (m : Ranges) (env : Env) (slices count result : ℕ) → (hashed m env slices count result).units ≤ env.units
 unfolding hashed
-hashed-units m env slices count result = by_case (nat_lt 20000 count) (slices_read m slices count)
+hashed-units m env slices count result = by_case (nat_lt max_slices count) (slices_read m slices count)
   where
     by_case : (many : Bool) (r : Result (List Slice) SysFault) → (if many then at_cost env (Err TooManySlices) else slices_hashed m env result r).units ≤ env.units
     by_case true r = omega arith

@@ -1,17 +1,16 @@
 -- Writes keep the sizes of a memory.
-use Rattle.std.proofs.Common.{◌≡◌, ℕ, ◌+◌, ◌≤◌, List, [], ◌∷◌, length, Option, Some, None, Result, Ok, Err, refl, sym, subst, ◌∙◌, arith}
+use Rattle.std.proofs.Common.{◌≡◌, ℕ, ◌+◌, ◌≤◌, List, [], ◌∷◌, length, Option, Some, None, Result, Ok, refl, sym, subst, ◌∙◌, arith}
 use Rattle.sol_base.proofs.PartLaws.{length_with}
-use Rattle.sol_base.specs.Parts.{with_bytes, ArePrepared, StayPrepared}
+use Rattle.sol_base.specs.Parts.{with_bytes, ArePrepared}
 use Rattle.std.specs.Prelude.{Bool}
 use Rattle.sbpf_memory.specs.declared.fault.AccessViolation.{AccessViolation}
 use Rattle.sbpf_memory.specs.declared.place.Place.{Place}
 use Rattle.sbpf_memory.specs.declared.place.Region.{Region}
 use Rattle.sbpf_memory.specs.declared.place.Region.TheVariants.{Program, Stack, Heap, Input}
-use Rattle.sbpf_memory.specs.Memory.{Ranges, IsMemory, place_of, range_bytes, with_input_bytes, with_bytes_in, with_bytes_at, write_to, write_refusal, refused_at, IsPrepared, PreparedAt, PreparedIn, KeepsBytes}
-use Rattle.sbpf_memory.proofs.Addresses.{RoomIn, stands-from_place}
+use Rattle.sbpf_memory.specs.Memory.{Ranges, IsMemory, place_of, range_bytes, with_input_bytes, with_bytes_in, with_bytes_at, write_to, write_refusal, IsPrepared, PreparedAt, PreparedIn}
+use Rattle.sbpf_memory.proofs.Addresses.{stands-from_place}
 use Rattle.sbpf_memory.proofs.Reading.{room-fits}
 use Rattle.sbpf_memory.proofs.Writing.{write-some, write-nothing}
-use Rattle.sbpf_memory.proofs.Prepared.{place-kept}
 
 -- a memory with the same sizes and the same prepared places
 pub record SameSizes (m after : Ranges) : Type 0 where

@@ -120,9 +120,9 @@ pub(crate) fn read_piece<'a>(
 ) -> &'a [u8]
     requires place { at < len }
     requires readable { IsReadable (plain_memory memory.now) addr len }
-    ensures bytes { result.now ≡ take (min 1024 (len - at))
+    ensures bytes { result.now ≡ take (min PIECE (len - at))
         (drop at (held (plain_memory memory.now) addr len)) }
-    ensures count { length result.now ≡ min 1024 (len - at) }
+    ensures count { length result.now ≡ min PIECE (len - at) }
 {
     memory.is_memory();
     let count = (len - at).min(PIECE as u64) as usize;

@@ -1,4 +1,4 @@
-use Rattle.std.proofs.Common.{◌≡◌, ◌%◌, replicate, ◌∙◌}
+use Rattle.std.proofs.Common.{◌%◌, replicate, ◌∙◌}
 use Rattle.sbpf_memory.proofs.ByAddress.{write-kept}
 use Rattle.sys_calls.proofs.Fills.{fill-done}
 use Rattle.sys_calls.proofs.Prepares.{refusal-kept}

@@ -1,4 +1,4 @@
-use Rattle.std.proofs.Common.{◌≡◌, arith}
+use Rattle.std.proofs.Common.{arith}
 use Rattle.std.proofs.lemmas.Result.{err_from_is_err_and}
 use Rattle.sys_calls.proofs.Hashes.{slice-refused, hash-refused, hash-written}
 use Rattle.sys_calls.proofs.sha256.sha256.Goals as goal
