@@ -1,5 +1,5 @@
 -- What requests and grants keep.
-use Rattle.std.proofs.Common.{◌≡◌, ℕ, zero, suc, ◌+◌, ◌-◌, ◌/◌, ◌≤◌, ◌<◌, Bool, true, false, List, [], ◌∷◌, length, take, drop, Option, Some, None, Result, Ok, Err, refl, sym, ap, subst, ◌∙◌, if◌then◌else◌, arith, length-take}
+use Rattle.std.proofs.Common.{◌≡◌, ℕ, ◌-◌, ◌/◌, ◌≤◌, Bool, true, false, List, [], length, drop, Option, Some, None, Result, Ok, Err, refl, subst, if◌then◌else◌, arith, length-take}
 use Rattle.std.specs.Prelude.{◌==◌, nat_lt, slice_index}
 use Rattle.std.specs.List.{range_with_len}
 use Rattle.std.proofs.lemmas.Bool.Decides.{nat_tests}
@@ -14,9 +14,9 @@ use Rattle.cpi_calls.specs.declared.request.Call.{Call}
 use Rattle.cpi_calls.specs.declared.request.KeyMeta.{KeyMeta}
 use Rattle.cpi_calls.specs.declared.request.CallRequest.{CallRequest}
 use Rattle.cpi_calls.specs.declared.fault.CallFault.{CallFault}
-use Rattle.cpi_calls.specs.declared.fault.CallFault.TheVariants.{UnitsSpent, TooManyAccounts, DataTooLong, TooManySigners}
+use Rattle.cpi_calls.specs.declared.fault.CallFault.TheVariants.{UnitsSpent, TooManyAccounts, DataTooLong}
 use Rattle.cpi_calls.specs.Limits.{max_metas, max_call_data, call_cost, bytes_of_unit}
-use Rattle.cpi_calls.specs.Reads.{or_violation, bytes_read, items_read, metas_read, meta_read, signers_read, signer_read}
+use Rattle.cpi_calls.specs.Reads.{or_violation, bytes_read, metas_read, signers_read}
 use Rattle.cpi_calls.specs.Calls.{Requested, IsSmallRequest, refused, after_cost, header_read, lists_read, limited, by_header, request_of}
 
 -- a refusal, or a request of a size that is allowed
