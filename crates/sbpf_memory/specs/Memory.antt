@@ -33,6 +33,10 @@ frame_size = 4096
 abbrev pub frame_step : ℕ
 frame_step = 8192
 
+-- the bytes of all frames
+abbrev pub stack_size : ℕ
+stack_size = frame_count * frame_size
+
 -- The bytes of a memory, range by range. The program is the text and then the constants; the frames
 -- of the stack stand one after another, without the gaps between them.
 pub record Ranges : Type 0 where
@@ -44,7 +48,7 @@ pub record Ranges : Type 0 where
 -- what holds of each memory
 pub record IsMemory (m : Ranges) : Type 0 where
   pub program : length m.program ≤ 2 ^ 32
-  pub stack : length m.stack ≡ frame_count * frame_size
+  pub stack : length m.stack ≡ stack_size
   pub heap : length m.heap < 2 ^ 32
   pub input : length m.input.bytes < 2 ^ 32
 
@@ -53,7 +57,7 @@ abbrev pub fresh : List ℕ → ℕ → Content → Ranges
 fresh image heap input =
     record {
       program = image;
-      stack = replicate (frame_count * frame_size) 0;
+      stack = replicate stack_size 0;
       heap = replicate heap 0;
       input = input;
     }

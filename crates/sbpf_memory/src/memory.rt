@@ -1,3 +1,4 @@
+//! The memory of one frame of a program, read and written by address.
 ghost use Rattle.std.specs.Prelude.{◌≡◌, ◌<◌, ◌≤◌, ◌+◌, ◌^◌, ◌≢◌, length, IfOk, MatchOption, MatchResult, IfSome, Some, Ok, true, take, drop, IsOk, OnOk, OnErr};
 ghost use Rattle.std.specs.Arc.{arc_value};
 ghost use Rattle.std.specs.Borrow.{sem};
@@ -29,9 +30,9 @@ pub struct Memory {
 }
 
 impl Model for Memory {
-    ghost use Rattle.std.specs.Prelude.{◌≡◌, ◌*◌, ◌<◌, ◌≤◌, ◌^◌, length};
+    ghost use Rattle.std.specs.Prelude.{◌≡◌, ◌<◌, ◌≤◌, ◌^◌, length};
     ghost use Rattle.std.specs.Arc.{arc_value};
-    ghost use Rattle.sbpf_memory.specs.Memory.{Ranges, frame_count, frame_size};
+    ghost use Rattle.sbpf_memory.specs.Memory.{Ranges, stack_size};
 
     ghost Value = { Ranges };
 
@@ -39,7 +40,7 @@ impl Model for Memory {
         { program = arc_value m.program; stack = m.stack; heap = m.heap; input = m.input } };
 
     ghost invariant = { λ m. (length (arc_value m.program) ≤ 2 ^ 32)
-        × (length m.stack ≡ frame_count * frame_size) × (length m.heap < 2 ^ 32) };
+        × (length m.stack ≡ stack_size) × (length m.heap < 2 ^ 32) };
 }
 
 impl Memory {

@@ -1,4 +1,4 @@
-use Rattle.sbpf_memory.proofs.ByAddress.{write-kept}
+use Rattle.sbpf_memory.proofs.Keeping.{write-kept}
 use Rattle.sbpf_memory.proofs.Plain.{read-plain, load-plain, write-plain, store-plain, copy-plain}
 use Rattle.sbpf_memory.proofs.laws.preparation_is_not_seen.Goals as goal
 
