@@ -1,6 +1,5 @@
 -- Lists of bytes that grow.
-use Rattle.std.proofs.Common.{◌≡◌, ◌≤◌, ◌+◌, ◌-◌, ◌^◌, ℕ, Bool, List, [], ◌∷◌, ◌++◌, length, take, drop, replicate, Result, Ok, Err, sym, ap, ◌∙◌, append_assoc, length-append, arith}
-use Rattle.std.specs.Prelude.{OnOk, IfOk}
+use Rattle.std.proofs.Common.{◌≡◌, ◌≤◌, ◌+◌, ◌-◌, ◌^◌, ℕ, Bool, List, [], ◌∷◌, ◌++◌, length, take, drop, replicate, sym, ap, ◌∙◌, append_assoc, length-append, arith}
 use Rattle.std.specs.Int.{from_bool}
 use Rattle.std.specs.List.{enumerate_from, flat_map}
 use Rattle.std.proofs.lemmas.List.{append-nil, drop-drop, drop-take, take-take}
@@ -10,34 +9,53 @@ use Rattle.sol_base.specs.declared.key.Key.{Key}
 use Rattle.sol_base.specs.declared.lock.Meta.{Meta}
 use Rattle.sol_base.specs.declared.parts.Part.{Part}
 use Rattle.sol_base.specs.declared.parts.Part.TheVariants.{Bytes}
-use Rattle.sol_base.specs.Parts.{bytes_of, with_bytes}
+use Rattle.sol_base.specs.Parts.{bytes_of, lent_by, lent_from, part_bytes, with_bytes}
 use Rattle.sol_base.proofs.PartLaws.{parts_push, no_parts}
-use Rattle.abi_input.specs.Region.{entry_of, first_entry, first_size, input_of, number_bytes, over_entry, padding, room_of, state_bytes}
+use Rattle.abi_input.specs.Region.{entry_of, first_entry, first_size, input_of, not_listed_before, number_bytes, over_entry, padding, room_of, state_bytes}
 
--- what follows from what is so of a good answer
-pub on_ok : {T E : Type 0} {P Q : Type 0} (r : Result T E) → (P → Q) → OnOk r P → OnOk r Q
-on_ok (Ok x) f h = f h
-on_ok (Err e) f h = tt
-
-pub if_ok : {T E : Type 0} {P Q : T → Type 0} (r : Result T E) → ((x : T) → P x → Q x) → IfOk r P → IfOk r Q
-if_ok (Ok x) f h = f x h
-if_ok (Err e) f h = tt
-
+-- a draft with nothing
 pub empty_draft : (done : List Part) (last : List ℕ) → done ≡ [] → last ≡ [] → bytes_of done ++ last ≡ []
 empty_draft done last no_done no_last = ap (λ (l : List Part). bytes_of l ++ last) no_done ∙ ap (λ (l : List ℕ). l ++ last) no_parts ∙ no_last
+
+pub empty_lent : (done : List Part) → done ≡ [] → lent_from 0 done ≡ []
+unfolding lent_from
+empty_lent done no_done = ap (λ (l : List Part). lent_from 0 l) no_done
+
+-- what parts lend, one more
+lent_push : (place : ℕ) (parts : List Part) (part : Part) → lent_from place (parts ++ part ∷ []) ≡ lent_from place parts ++ lent_by (place + length (bytes_of parts)) part
+unfolding lent_from bytes_of
+lent_push place [] part =
+    let here : place ≡ place + 0 = omega arith in
+    append-nil (lent_by place part) ∙ ap (λ n. lent_by n part) here
+lent_push place (first ∷ parts) part =
+    let own : List (ℕ × Account) = lent_by place first in
+    let next : ℕ = place + length (part_bytes first) in
+    let rest : List ℕ = flat_map part_bytes parts in
+    let behind : next + length rest ≡ place + length (part_bytes first ++ rest) = omega (arith, length-append (part_bytes first) rest) in
+    ap (λ (l : List (ℕ × Account)). own ++ l) (lent_push next parts part) ∙ sym (append_assoc own (lent_from next parts) (lent_by (next + length rest) part))
+    ∙ ap (λ n. (own ++ lent_from next parts) ++ lent_by n part) behind
 
 -- the last bytes become a part
 pub closed : (done new : List Part) (last : List ℕ) → new ≡ done ++ Bytes last ∷ [] → bytes_of new ≡ bytes_of done ++ last
 closed done new last e = ap bytes_of e ∙ parts_push done (Bytes last)
+
+pub closed_lent : (done new : List Part) (last : List ℕ) → new ≡ done ++ Bytes last ∷ [] → lent_from 0 new ≡ lent_from 0 done
+closed_lent done new last e = ap (λ (l : List Part). lent_from 0 l) e ∙ lent_push 0 done (Bytes last) ∙ append-nil (lent_from 0 done)
 
 -- a part behind all bytes
 pub added : (done closed new : List Part) (last none : List ℕ) (part : Part) (bytes : List ℕ) → bytes_of closed ≡ bytes_of done ++ last → none ≡ [] → bytes_of (closed ++ part ∷ []) ≡ bytes_of closed ++ bytes → new ≡ closed ++ part ∷ [] → bytes_of new ++ none ≡ (bytes_of done ++ last) ++ bytes
 added done closed new last none part bytes whole empty pushed e =
     ap (λ (l : List ℕ). bytes_of new ++ l) empty ∙ append-nil (bytes_of new) ∙ ap bytes_of e ∙ pushed ∙ ap (λ (l : List ℕ). l ++ bytes) whole
 
+pub added_lent : (done closed new : List Part) (last : List ℕ) (part : Part) → bytes_of closed ≡ bytes_of done ++ last → lent_from 0 closed ≡ lent_from 0 done → new ≡ closed ++ part ∷ [] → lent_from 0 new ≡ lent_from 0 done ++ lent_by (length (bytes_of done ++ last)) part
+added_lent done closed new last part whole same e =
+    let behind : 0 + length (bytes_of closed) ≡ length (bytes_of done ++ last) = omega (arith, ap length whole) in
+    ap (λ (l : List Part). lent_from 0 l) e ∙ lent_push 0 closed part ∙ ap (λ (l : List (ℕ × Account)). l ++ lent_by (0 + length (bytes_of closed)) part) same
+    ∙ ap (λ n. lent_from 0 done ++ lent_by n part) behind
+
 -- one piece, and then others
-pub then_more : (d d1 d2 a b : List ℕ) → d1 ≡ d ++ a → d2 ≡ d1 ++ b → d2 ≡ d ++ (a ++ b)
-then_more d d1 d2 a b one two = two ∙ ap (λ (l : List ℕ). l ++ b) one ∙ append_assoc d a b
+pub then_more : {A : Type 0} (d d1 d2 a b : List A) → d1 ≡ d ++ a → d2 ≡ d1 ++ b → d2 ≡ d ++ (a ++ b)
+then_more {A = A} d d1 d2 a b one two = two ∙ ap (λ (l : List A). l ++ b) one ∙ append_assoc d a b
 
 -- the state of an account, piece by piece
 pub state_added : (room len : ℕ) (v a : Account) (d d1 d2 d3 d4 d5 lamports_bytes len_bytes : List ℕ) → v ≡ a → len ≡ length v.bytes → lamports_bytes ≡ number_bytes v.lamports → len_bytes ≡ number_bytes len
@@ -59,12 +77,12 @@ state_added room len v a d d1 d2 d3 d4 d5 lb nb same is_len is_lamports is_numbe
 
 -- the first entry of an account, piece by piece
 pub first_added : (signer writable : Bool) (s w x room : ℕ) (v a : Account) (key : Key) (d d1 d2 d3 d4 d5 d6 zeros last : List ℕ) → s ≡ from_bool signer → w ≡ from_bool writable → x ≡ from_bool v.executable → v ≡ a → room ≡ room_of v
-    → d1 ≡ d ++ (255 ∷ s ∷ w ∷ x ∷ []) → d2 ≡ d1 ++ replicate 4 0 → d3 ≡ d2 ++ key.0 → d4 ≡ d3 ++ state_bytes room a → d5 ≡ d4 ++ zeros → d6 ≡ d5 ++ last
+    → d1 ≡ d ++ (not_listed_before ∷ s ∷ w ∷ x ∷ []) → d2 ≡ d1 ++ replicate 4 0 → d3 ≡ d2 ++ key.0 → d4 ≡ d3 ++ state_bytes room a → d5 ≡ d4 ++ zeros → d6 ≡ d5 ++ last
     → zeros ≡ replicate (padding (length v.bytes)) 0 → last ≡ number_bytes (2 ^ 64 - 1) → d6 ≡ d ++ first_entry signer writable key a
 unfolding first_entry
 first_added signer writable s w x room v a key d d1 d2 d3 d4 d5 d6 zeros last is_signer is_writable is_executable same is_room one two three four five six is_zeros is_last =
-    let flags : List ℕ = 255 ∷ from_bool signer ∷ from_bool writable ∷ from_bool a.executable ∷ [] in
-    let e1 : d1 ≡ d ++ flags = one ∙ ap (λ n. d ++ (255 ∷ n ∷ w ∷ x ∷ [])) is_signer ∙ ap (λ n. d ++ (255 ∷ from_bool signer ∷ n ∷ x ∷ [])) is_writable ∙ ap (λ n. d ++ (255 ∷ from_bool signer ∷ from_bool writable ∷ n ∷ [])) (is_executable ∙ ap (λ (y : Account). from_bool y.executable) same) in
+    let flags : List ℕ = not_listed_before ∷ from_bool signer ∷ from_bool writable ∷ from_bool a.executable ∷ [] in
+    let e1 : d1 ≡ d ++ flags = one ∙ ap (λ n. d ++ (not_listed_before ∷ n ∷ w ∷ x ∷ [])) is_signer ∙ ap (λ n. d ++ (not_listed_before ∷ from_bool signer ∷ n ∷ x ∷ [])) is_writable ∙ ap (λ n. d ++ (not_listed_before ∷ from_bool signer ∷ from_bool writable ∷ n ∷ [])) (is_executable ∙ ap (λ (y : Account). from_bool y.executable) same) in
     let state : List ℕ = state_bytes (room_of a) a in
     let e4 : d4 ≡ d3 ++ state = four ∙ ap (λ n. d3 ++ state_bytes n a) (is_room ∙ ap (λ (y : Account). room_of y) same) in
     let pad : List ℕ = replicate (padding (length a.bytes)) 0 in

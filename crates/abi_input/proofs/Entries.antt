@@ -19,7 +19,7 @@ use Rattle.sol_base.specs.Accounts.{accounts_of, empty_account, max_data_len, Is
 use Rattle.sol_base.specs.Metas.{is_first_listing, is_listed_signer, is_listed_writable, AreInRange}
 use Rattle.abi_input.specs.declared.listing.Listing.{Listing}
 use Rattle.abi_input.specs.Listing.{listing_in}
-use Rattle.abi_input.specs.Region.{data_len_at, has_outgrown, is_outgrown, is_too_long, over_entry, patched_entry, account_in, key_in, first_place, first_entry, repeated_entry, entry_of, first_size, entry_size, entry_start, room_of}
+use Rattle.abi_input.specs.Region.{data_len_at, has_outgrown, is_outgrown, is_too_long, over_entry, patched_entry, account_in, key_in, first_place, first_entry, repeated_entry, entry_of, first_size, entry_size, entry_start, max_metas, room_of}
 
 -- a meta with its place, among all of them
 pub item_at : (metas : List Meta) (k : ℕ) (meta : Meta) → slice_get metas k ≡ Some meta → get_or (enumerate_from 0 metas) k (k, meta) ≡ (k, meta)
@@ -33,12 +33,12 @@ pub item_within : (metas : List Meta) (k : ℕ) (meta : Meta) → slice_get meta
 item_within metas k meta e = rw length-enumerate_from (slice_get_within metas k meta e)
 
 -- what stands for the metas, one more
-pub flat_more : (f : ℕ × Meta → List ℕ) (metas : List Meta) (k : ℕ) (meta : Meta) → slice_get metas k ≡ Some meta → flat_map f (take (k + 1) (enumerate_from 0 metas)) ≡ flat_map f (take k (enumerate_from 0 metas)) ++ f (k, meta)
-flat_more f metas k meta e =
+pub flat_more : {X : Type 0} (f : ℕ × Meta → List X) (metas : List Meta) (k : ℕ) (meta : Meta) → slice_get metas k ≡ Some meta → flat_map f (take (k + 1) (enumerate_from 0 metas)) ≡ flat_map f (take k (enumerate_from 0 metas)) ++ f (k, meta)
+flat_more {X = X} f metas k meta e =
     let items : List (ℕ × Meta) = enumerate_from 0 metas in
     ap (λ (l : List (ℕ × Meta)). flat_map f l) (take_more items k (k, meta) (item_within metas k meta e))
     ∙ flat_map-append f (take k items) (get_or items k (k, meta) ∷ [])
-    ∙ ap (λ (l : List ℕ). flat_map f (take k items) ++ l) (append-nil (f (get_or items k (k, meta))))
+    ∙ ap (λ (l : List X). flat_map f (take k items) ++ l) (append-nil (f (get_or items k (k, meta))))
     ∙ ap (λ (x : ℕ × Meta). flat_map f (take k items) ++ f x) (item_at metas k meta e)
 
 -- all of them
@@ -101,7 +101,7 @@ account_of_meta shares metas k meta i x a range e is there same =
     let below : meta.index < length (accounts_of shares) = index_in (length (accounts_of shares)) metas k meta range e in
     ap (λ n. account_in (accounts_of shares) n) (sym is) ∙ account_there shares i x (omega arith) there ∙ sym same
 
-cond_true : {X : Type 0} (b : Bool) (x y : X) → b ≡ true → cond b x y ≡ x
+pub cond_true : {X : Type 0} (b : Bool) (x y : X) → b ≡ true → cond b x y ≡ x
 cond_true true x y e = refl
 cond_true false x y e = absurd (cc)
 
@@ -140,7 +140,7 @@ size_most accounts metas item short = by_case (is_first_listing metas item) (acc
     by_case false account h = omega arith
 
 -- all entries of short accounts are not many bytes
-pub start_most : (accounts : List Account) (metas : List Meta) → AreShort accounts → length metas ≤ 255 → entry_start accounts metas (length metas) ≤ 8 + 255 * 10496103
+pub start_most : (accounts : List Account) (metas : List Meta) → AreShort accounts → length metas ≤ max_metas → entry_start accounts metas (length metas) ≤ 8 + max_metas * 10496103
 unfolding entry_start
 start_most accounts metas short most =
     let items : List (ℕ × Meta) = enumerate_from 0 metas in
@@ -176,7 +176,7 @@ starts_at_end start metas k past =
     let all : take k items ≡ take (length metas) items = take_all k items (rw length-enumerate_from past) ∙ sym (all_items metas) in
     ap (λ (l : List (ℕ × Meta)). 8 + sum_by size l) all
 
-pub flat_all : (f : ℕ × Meta → List ℕ) (metas : List Meta) (k : ℕ) → length metas ≤ k → flat_map f (take k (enumerate_from 0 metas)) ≡ flat_map f (enumerate_from 0 metas)
+pub flat_all : {X : Type 0} (f : ℕ × Meta → List X) (metas : List Meta) (k : ℕ) → length metas ≤ k → flat_map f (take k (enumerate_from 0 metas)) ≡ flat_map f (enumerate_from 0 metas)
 flat_all f metas k past = ap (λ (l : List (ℕ × Meta)). flat_map f l) (take_all k (enumerate_from 0 metas) (rw length-enumerate_from past))
 
 -- whether an account has outgrown its place, as the code finds it

@@ -6,3 +6,4 @@ pub mod PatchLaws
 pub mod TakeLaws
 pub mod RoundTrips
 pub mod RegionLaws
+pub mod Lent

@@ -9,7 +9,7 @@ use Rattle.std.proofs.lemmas.Bool.{ltb-false}
 use Rattle.std.proofs.lemmas.List.Elements.{All-get_or}
 use Rattle.std.proofs.lemmas.List.Concat.{flat_map-append}
 use Rattle.std.proofs.lemmas.Nat.{from_le_bytes-to_le_bytes_8}
-use Rattle.std.proofs.lemmas.Option.{slice_get-get_or, slice_get_within, get_or_from_slice_get}
+use Rattle.std.proofs.lemmas.Option.{slice_get-get_or, slice_get_within}
 use Rattle.spec_base.specs.Bytes.{number_from}
 use Rattle.sol_base.specs.declared.key.Key.{Key}
 use Rattle.sol_base.specs.declared.account.Account.{Account}
@@ -18,7 +18,7 @@ use Rattle.sol_base.specs.Keys.{IsKey}
 use Rattle.sol_base.specs.Accounts.{empty_account, max_data_len}
 use Rattle.sol_base.specs.Metas.{is_listed, is_first_listing, is_listed_signer, is_listed_writable, AreInRange, first_listings}
 use Rattle.abi_input.specs.Entries.{found_among}
-use Rattle.abi_input.specs.Region.{account_at, account_back, account_in, back, data_len_at, entry_of, entry_size, entry_start, first_entry, first_place, first_size, growth, has_outgrown, input_of, is_outgrown, is_too_long, IsRegionOf, over_entry, patched, patched_entry, unless_found, key_in, number_bytes, padding, repeated_entry, room_of, state_bytes}
+use Rattle.abi_input.specs.Region.{account_at, account_back, account_in, back, data_len_at, entry_of, entry_size, entry_start, first_entry, first_place, first_size, has_outgrown, input_of, is_outgrown, is_too_long, key_in, not_listed_before, number_bytes, over_entry, padding, patched, patched_entry, repeated_entry, room_of, state_bytes, unless_found, IsRegionOf}
 use Rattle.abi_input.specs.Widths.{AreKeys, HasWidths, HaveWidths}
 use Rattle.abi_input.proofs.Entries.{flat_more, all_items, start_zero, start_more, start_within, start_least, key_there, index_in}
 use Rattle.abi_input.proofs.Finding.{none_more, none_passes, found_all}
@@ -94,7 +94,7 @@ record FirstParts (first : List ℕ) (account : Account) (behind : List ℕ) : T
 first_parts : (signer writable : Bool) (key : Key) (account : Account) (behind : List ℕ) → IsKey key → FirstParts (first_entry signer writable key account) account behind
 unfolding first_entry
 first_parts signer writable key account behind is_key =
-    let flags : List ℕ = (255 ∷ from_bool signer ∷ from_bool writable ∷ from_bool account.executable ∷ []) ++ replicate 4 0 in
+    let flags : List ℕ = (not_listed_before ∷ from_bool signer ∷ from_bool writable ∷ from_bool account.executable ∷ []) ++ replicate 4 0 in
     let state : List ℕ = state_bytes (room_of account) account in
     let p : List ℕ = replicate (padding (length account.bytes)) 0 in
     let q : List ℕ = number_bytes (2 ^ 64 - 1) in

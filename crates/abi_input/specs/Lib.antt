@@ -3,3 +3,4 @@ pub mod Region
 pub mod Entries
 pub mod Answers
 pub mod Widths
+pub mod Drafts

@@ -15,6 +15,18 @@ use Rattle.sol_base.specs.Parts.{with_bytes}
 abbrev pub growth : ℕ
 growth = 10240
 
+-- the most accounts that a frame lists (Solana)
+abbrev pub max_metas : ℕ
+max_metas = 255
+
+-- the most bytes of an instruction's data: as many as have a compact length (Solana)
+abbrev pub max_input_len : ℕ
+max_input_len = 65535
+
+-- the byte before the entry of an account that was not listed before (Solana)
+abbrev pub not_listed_before : ℕ
+not_listed_before = 255
+
 -- zero bytes up to a multiple of 8
 abbrev pub padding : ℕ → ℕ
 padding len = (8 - len % 8) % 8
@@ -47,8 +59,8 @@ room_of account = length account.bytes + growth
 -- an account where it is listed first
 unfoldable pub first_entry : Bool → Bool → Key → Account → List ℕ
 first_entry signer writable key account =
-    (255 ∷ from_bool signer ∷ from_bool writable ∷ from_bool account.executable ∷ replicate 4 0)
-    ++ key.0 ++ state_bytes (room_of account) account
+    (not_listed_before ∷ from_bool signer ∷ from_bool writable ∷ from_bool account.executable
+    ∷ replicate 4 0) ++ key.0 ++ state_bytes (room_of account) account
     ++ replicate (padding (length account.bytes)) 0 ++ number_bytes (2 ^ 64 - 1)
 
 -- an account that was listed before: its first place in the list
@@ -87,6 +99,21 @@ entry_start start metas place =
 -- where the entry of an account starts that is listed
 abbrev pub first_entry_start : List Account → List Meta → ℕ → ℕ
 first_entry_start start metas index = entry_start start metas (first_place metas index)
+
+-- the account with the place where its data begin, if it has any
+abbrev pub lent_of : ℕ → Account → List (ℕ × Account)
+lent_of place account = if length account.bytes == 0 then [] else (place, account) ∷ []
+
+-- what the region lends for one meta
+abbrev pub lent_entry : List Account → List Account → List Meta → ℕ × Meta → List (ℕ × Account)
+lent_entry start now metas item =
+    if is_first_listing metas item
+    then lent_of (entry_start start metas item.0 + 88) (account_in now item.1.index) else []
+
+-- the accounts, as they are now, whose data a region lends that was laid out from those at the
+-- start, each with the place where its data begin
+unfoldable pub lent_in : List Account → List Account → List Meta → List (ℕ × Account)
+lent_in start now metas = flat_map (lent_entry start now metas) (enumerate_from 0 metas)
 
 -- a list of bytes that is long enough for the entries of these accounts
 abbrev pub IsRegionOf : List Account → List Meta → List ℕ → Type 0

@@ -1,7 +1,9 @@
+//! The bytes of a region while it is made.
 ghost use Rattle.std.specs.Prelude.{◌≡◌, ◌++◌, ◌<◌, ◌^◌, [], length, replicate, IfOk, OnOk};
 ghost use Rattle.std.specs.Arc.{arc_value};
 ghost use Rattle.sol_base.specs.declared.account.Account.{Account as AccountValue};
-ghost use Rattle.sol_base.specs.Parts.{bytes_of, part_bytes, unprepared};
+ghost use Rattle.sol_base.specs.Parts.{bytes_of, lent_by, lent_from, part_bytes, unprepared};
+ghost use Rattle.abi_input.specs.Region.{lent_of};
 
 use sol_base::{Account, Blob, Items, OutOfMemory, Part, Parts};
 use std::alloc::Global;
@@ -20,18 +22,20 @@ pub struct Draft {
 }
 
 impl Model for Draft {
-    ghost use Rattle.std.specs.Prelude.{◌++◌, List, ℕ};
-    ghost use Rattle.sol_base.specs.Parts.{bytes_of};
+    ghost use Rattle.std.specs.Prelude.{◌++◌};
+    ghost use Rattle.sol_base.specs.Parts.{bytes_of, lent_from};
+    ghost use Rattle.abi_input.specs.Drafts.{Drafted};
 
-    ghost Value = { List ℕ };
+    ghost Value = { Drafted };
 
-    ghost view = { λ d. bytes_of d.done ++ d.last };
+    ghost view = { λ d. record { bytes = bytes_of d.done ++ d.last; lent = lent_from 0 d.done } };
 }
 
 impl Draft {
     /// No bytes, with room for so many parts.
     pub fn new(alloc: Global, parts: usize) -> Result<Draft, OutOfMemory>
-        ensures { IfOk result (λ draft. draft ≡ []) }
+        ensures bytes { IfOk result (λ draft. draft.bytes ≡ []) }
+        ensures lent { IfOk result (λ draft. draft.lent ≡ []) }
     {
         Ok(Draft {
             done: Items::with_capacity(alloc, parts)?,
@@ -40,29 +44,36 @@ impl Draft {
     }
 
     pub fn append(&mut self, bytes: &[u8]) -> Result<(), OutOfMemory>
-        ensures { OnOk result (self.new ≡ self.old ++ bytes.now) }
+        ensures bytes { OnOk result (self.new.bytes ≡ self.old.bytes ++ bytes.now) }
+        ensures lent { self.new.lent ≡ self.old.lent }
     {
         self.last.append(bytes)
     }
 
     /// Adds the data of an account, which are lent.
     pub fn lend(&mut self, alloc: Global, account: &Arc<Account>) -> Result<(), OutOfMemory>
-        ensures { OnOk result
-            (let lent : AccountValue = arc_value account.now in self.new ≡ self.old ++ lent.bytes) }
+        ensures bytes { OnOk result
+            (let value : AccountValue = arc_value account.now in
+            self.new.bytes ≡ self.old.bytes ++ value.bytes) }
+        ensures lent { OnOk result (self.new.lent
+            ≡ self.old.lent ++ lent_of (length self.old.bytes) (arc_value account.now)) }
     {
         self.add(alloc, Part::Lent(Arc::try_clone(account)?))
     }
 
     /// Adds so many zeros, which stand nowhere yet.
     pub fn zeros(&mut self, alloc: Global, count: u32) -> Result<(), OutOfMemory>
-        ensures { OnOk result (self.new ≡ self.old ++ replicate count 0) }
+        ensures bytes { OnOk result (self.new.bytes ≡ self.old.bytes ++ replicate count 0) }
+        ensures lent { OnOk result (self.new.lent ≡ self.old.lent) }
     {
         self.add(alloc, Part::Zeros(count))
     }
 
     /// Adds a part behind the bytes that came so far.
     fn add(&mut self, alloc: Global, part: Part) -> Result<(), OutOfMemory>
-        ensures { OnOk result (self.new ≡ self.old ++ part_bytes part) }
+        ensures bytes { OnOk result (self.new.bytes ≡ self.old.bytes ++ part_bytes part) }
+        ensures lent { OnOk result
+            (self.new.lent ≡ self.old.lent ++ lent_by (length self.old.bytes) part) }
     {
         close(alloc, &mut self.done, &mut self.last)?;
         self.done.push(part)?;
@@ -71,8 +82,8 @@ impl Draft {
 
     /// The list of the parts.
     pub fn finish(self, alloc: Global) -> Result<Parts, OutOfMemory>
-        requires { length self < 2 ^ 32 }
-        ensures { IfOk result (λ region. region ≡ unprepared self) }
+        requires { length self.bytes < 2 ^ 32 }
+        ensures { IfOk result (λ region. region ≡ unprepared self.bytes self.lent) }
     {
         let Draft { mut done, last } = self;
         done.push(Part::Bytes(last))?;
@@ -83,6 +94,7 @@ impl Draft {
 /// Makes the last bytes a part that is done.
 fn close(alloc: Global, done: &mut Items<Part>, last: &mut Blob) -> Result<(), OutOfMemory>
     ensures done { OnOk result (bytes_of done.new ≡ bytes_of done.old ++ last.old) }
+    ensures lent { OnOk result (lent_from 0 done.new ≡ lent_from 0 done.old) }
     ensures last { OnOk result (last.new ≡ []) }
 {
     if last.is_empty() {

@@ -1,3 +1,4 @@
+//! What the region has of one account.
 ghost use Rattle.std.specs.Prelude.{◌≡◌, ◌+◌, ◌<◌, ◌≤◌, ◌++◌, ◌^◌, length, slice_get, take, drop, OnOk, Some};
 ghost use Rattle.std.specs.Arc.{arc_value};
 ghost use Rattle.spec_base.specs.Bytes.{number_from};
@@ -5,7 +6,7 @@ ghost use Rattle.sol_base.specs.declared.account.Account.{Account as AccountValu
 ghost use Rattle.sol_base.specs.Accounts.{accounts_of, IsShort};
 ghost use Rattle.sol_base.specs.Metas.{AreInRange};
 ghost use Rattle.abi_input.specs.Listing.{IsTableOf};
-ghost use Rattle.abi_input.specs.Region.{entry_size, entry_start, first_entry, first_size, padding, repeated_entry, room_of, state_bytes};
+ghost use Rattle.abi_input.specs.Region.{entry_size, entry_start, first_entry, first_size, lent_of, padding, repeated_entry, room_of, state_bytes};
 
 use crate::draft::Draft;
 use crate::listing::{Listing, PLACES, is_first};
@@ -70,9 +71,11 @@ pub fn add_state(
 ) -> Result<(), OutOfMemory>
     requires room { room < 2 ^ 32 }
     requires fits { let value : AccountValue = arc_value account.now in length value.bytes ≤ room }
-    ensures bytes { OnOk result (draft.new
-        ≡ draft.old ++ state_bytes room (arc_value account.now)) }
-    ensures size { OnOk result (length draft.new ≡ length draft.old + 48 + room) }
+    ensures bytes { OnOk result (draft.new.bytes
+        ≡ draft.old.bytes ++ state_bytes room (arc_value account.now)) }
+    ensures lent { OnOk result (draft.new.lent
+        ≡ draft.old.lent ++ lent_of (length draft.old.bytes + 48) (arc_value account.now)) }
+    ensures size { OnOk result (length draft.new.bytes ≡ length draft.old.bytes + 48 + room) }
 {
     let value: &Account = account;
     let len = value.bytes.len();
@@ -94,10 +97,12 @@ pub fn add_first(
     account: &Arc<Account>,
 ) -> Result<(), OutOfMemory>
     requires { IsShort (arc_value account.now) }
-    ensures bytes { OnOk result (draft.new
-        ≡ draft.old ++ first_entry signer writable key.now (arc_value account.now)) }
-    ensures size { OnOk result (length draft.new
-        ≡ length draft.old + first_size (arc_value account.now)) }
+    ensures bytes { OnOk result (draft.new.bytes
+        ≡ draft.old.bytes ++ first_entry signer writable key.now (arc_value account.now)) }
+    ensures lent { OnOk result (draft.new.lent
+        ≡ draft.old.lent ++ lent_of (length draft.old.bytes + 88) (arc_value account.now)) }
+    ensures size { OnOk result (length draft.new.bytes
+        ≡ length draft.old.bytes + first_size (arc_value account.now)) }
 {
     let value: &Account = account;
     let flags = [
@@ -138,14 +143,15 @@ pub fn entry_len(
 
 /// Adds the entry of an account that was listed before, first at this place.
 pub fn add_repeated(draft: &mut Draft, place: u8) -> Result<(), OutOfMemory>
-    ensures bytes { OnOk result (draft.new ≡ draft.old ++ repeated_entry place) }
-    ensures size { OnOk result (length draft.new ≡ length draft.old + 8) }
+    ensures bytes { OnOk result (draft.new.bytes ≡ draft.old.bytes ++ repeated_entry place) }
+    ensures lent { draft.new.lent ≡ draft.old.lent }
+    ensures size { OnOk result (length draft.new.bytes ≡ length draft.old.bytes + 8) }
 {
     draft.append(&[place, 0, 0, 0, 0, 0, 0, 0])
 }
 
 /// The number at a place of a region.
-pub fn number_in(region: &Parts, place: usize) -> u64
+pub fn number_at(region: &Parts, place: usize) -> u64
     requires { place + 8 ≤ length region.now.bytes }
     ensures { result ≡ number_from region.now.bytes place }
 {

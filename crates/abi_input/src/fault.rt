@@ -1,3 +1,5 @@
+//! Why accounts are not taken back, and why a region is not patched.
+
 use sol_base::OutOfMemory;
 use thiserror::Error;
 

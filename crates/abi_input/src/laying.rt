@@ -1,10 +1,11 @@
+//! A region is laid out.
 ghost use Rattle.std.specs.Prelude.{◌≡◌, ◌+◌, ◌≤◌, ◌++◌, length, slice_get, IfOk, OnOk, Some};
 ghost use Rattle.std.specs.List.{enumerate_from, flat_map};
 ghost use Rattle.sol_base.specs.Accounts.{accounts_of, AreShort};
 ghost use Rattle.sol_base.specs.Metas.{AreInRange};
 ghost use Rattle.sol_base.specs.Parts.{unprepared};
 ghost use Rattle.abi_input.specs.Listing.{IsTableOf};
-ghost use Rattle.abi_input.specs.Region.{entry_of, entry_size, entry_start, input_of, IsRegionOf};
+ghost use Rattle.abi_input.specs.Region.{entry_of, entry_size, entry_start, input_of, lent_entry, lent_in, max_input_len, max_metas, IsRegionOf};
 
 use crate::draft::Draft;
 use crate::entry::{add_first, add_repeated};
@@ -24,14 +25,15 @@ pub fn lay_out(
     program: &Key,
 ) -> Result<Parts, OutOfMemory>
     requires count { length (accounts_of accounts.now) ≡ length keys.now }
-    requires most { length metas.now ≤ 255 }
+    requires most { length metas.now ≤ max_metas }
     requires range { AreInRange (length (accounts_of accounts.now)) metas.now }
     requires short { AreShort (accounts_of accounts.now) }
-    requires input { length input.now ≤ 65535 }
+    requires input { length input.now ≤ max_input_len }
     ensures value { IfOk result
         (λ region. region
-        ≡ unprepared (input_of keys.now (accounts_of accounts.now) metas.now input.now
-        program.now)) }
+        ≡ unprepared
+        (input_of keys.now (accounts_of accounts.now) metas.now input.now program.now)
+        (lent_in (accounts_of accounts.now) (accounts_of accounts.now) metas.now)) }
     ensures size { IfOk result
         (λ region. IsRegionOf (accounts_of accounts.now) metas.now region.bytes) }
 {
@@ -58,14 +60,18 @@ fn add_entries(
     metas: &[Meta],
 ) -> Result<(), OutOfMemory>
     requires count { length (accounts_of accounts.now) ≡ length keys.now }
-    requires most { length metas.now ≤ 255 }
+    requires most { length metas.now ≤ max_metas }
     requires range { AreInRange (length (accounts_of accounts.now)) metas.now }
     requires short { AreShort (accounts_of accounts.now) }
-    ensures bytes { OnOk result (draft.new
-        ≡ draft.old ++ flat_map (entry_of keys.now (accounts_of accounts.now) metas.now)
+    requires start { length draft.old.bytes ≡ 8 }
+    ensures bytes { OnOk result (draft.new.bytes
+        ≡ draft.old.bytes ++ flat_map (entry_of keys.now (accounts_of accounts.now) metas.now)
         (enumerate_from 0 metas.now)) }
-    ensures size { OnOk result (length draft.new + 8
-        ≡ length draft.old + entry_start (accounts_of accounts.now) metas.now (length metas.now)) }
+    ensures lent { OnOk result (draft.new.lent
+        ≡ draft.old.lent
+        ++ lent_in (accounts_of accounts.now) (accounts_of accounts.now) metas.now) }
+    ensures size { OnOk result (length draft.new.bytes
+        ≡ entry_start (accounts_of accounts.now) metas.now (length metas.now)) }
 {
     let table = listings(metas);
     for (place, meta) in metas.iter().enumerate() {
@@ -90,10 +96,18 @@ fn add_entry(
     requires short { AreShort (accounts_of accounts.now) }
     requires table { IsTableOf metas.now table.now }
     requires there { slice_get metas.now place ≡ Some meta.now }
-    ensures bytes { OnOk result (draft.new
-        ≡ draft.old ++ entry_of keys.now (accounts_of accounts.now) metas.now (place, meta.now)) }
-    ensures size { OnOk result (length draft.new
-        ≡ length draft.old + entry_size (accounts_of accounts.now) metas.now (place, meta.now)) }
+    requires start { length draft.old.bytes
+        ≡ entry_start (accounts_of accounts.now) metas.now place }
+    ensures bytes { OnOk result (draft.new.bytes
+        ≡ draft.old.bytes
+        ++ entry_of keys.now (accounts_of accounts.now) metas.now (place, meta.now)) }
+    ensures lent { OnOk result (draft.new.lent
+        ≡ draft.old.lent
+        ++ lent_entry (accounts_of accounts.now) (accounts_of accounts.now) metas.now
+        (place, meta.now)) }
+    ensures size { OnOk result (length draft.new.bytes
+        ≡ length draft.old.bytes
+        + entry_size (accounts_of accounts.now) metas.now (place, meta.now)) }
 {
     let index = usize::from(meta.index);
     let listing = listing_of(metas, table, meta);

@@ -1,6 +1,8 @@
+//! How a list of metas lists each account.
 ghost use Rattle.std.specs.Prelude.{◌≡◌, ◌<◌, ◌≤◌, length, slice_get, Some};
 ghost use Rattle.sol_base.specs.Metas.{is_first_listing};
 ghost use Rattle.abi_input.specs.Listing.{IsTableOf, listed_again, listing_in};
+ghost use Rattle.abi_input.specs.Region.{max_metas};
 
 use sol_base::Meta;
 
@@ -31,7 +33,7 @@ impl Listing {
 
 /// How the list lists each account, by its place among the transaction's keys.
 pub fn listings(metas: &[Meta]) -> [Listing; PLACES]
-    requires { length metas.now ≤ 255 }
+    requires { length metas.now ≤ max_metas }
     ensures { IsTableOf metas.now result }
 {
     let mut table = [Listing {

@@ -1,11 +1,12 @@
-ghost use Rattle.std.specs.Prelude.{◌≡◌, ◌+◌, ◌<◌, ◌≤◌, ◌++◌, ◌&&◌, ◌^◌, length, slice_get, take, drop, IfErr, IfOk, OnOk, Ok, Some, None};
+//! The accounts are written over a region.
+ghost use Rattle.std.specs.Prelude.{◌≡◌, ◌+◌, ◌<◌, ◌≤◌, ◌++◌, ◌&&◌, ◌^◌, length, slice_get, take, drop, IfErr, IfOk, OnErr, OnOk, Ok, Some, None};
 ghost use Rattle.std.specs.Arc.{arc_value};
 ghost use Rattle.std.specs.List.{enumerate_from, flat_map};
 ghost use Rattle.sol_base.specs.declared.account.Account.{Account as AccountValue};
 ghost use Rattle.sol_base.specs.Accounts.{accounts_of};
 ghost use Rattle.sol_base.specs.Metas.{AreInRange, is_first_listing};
 ghost use Rattle.abi_input.specs.Listing.{IsTableOf};
-ghost use Rattle.abi_input.specs.Region.{entry_size, entry_start, first_size, is_outgrown, over_entry, patched, patched_entry, room_of, IsRegionOf};
+ghost use Rattle.abi_input.specs.Region.{entry_size, entry_start, first_size, is_outgrown, lent_entry, lent_in, lent_of, max_metas, over_entry, patched, patched_entry, room_of, IsRegionOf};
 ghost use Rattle.abi_input.specs.Entries.{found_among};
 ghost use Rattle.abi_input.specs.Answers.{Patches, RefusesPatch};
 
@@ -34,12 +35,15 @@ pub fn patch(
     metas: &[Meta],
 ) -> Result<(), PatchFault>
     requires count { length (accounts_of now.now) ≡ length (accounts_of start.now) }
-    requires most { length metas.now ≤ 255 }
+    requires most { length metas.now ≤ max_metas }
     requires range { AreInRange (length (accounts_of start.now)) metas.now }
     requires region { IsRegionOf (accounts_of start.now) metas.now region.old.bytes }
     ensures answer { Patches
         (patched region.old.bytes (accounts_of start.now) (accounts_of now.now) metas.now)
         region.old.bytes region.new.bytes result }
+    ensures lent { OnOk result
+        (region.new.lent ≡ lent_in (accounts_of start.now) (accounts_of now.now) metas.now) }
+    ensures kept { OnErr result (region.new.lent ≡ region.old.lent) }
     ensures size { length region.new.bytes ≡ length region.old.bytes }
 {
     let _len = region.len();
@@ -58,7 +62,7 @@ fn check_rooms(
     table: &[Listing; PLACES],
 ) -> Result<(), PatchFault>
     requires count { length (accounts_of now.now) ≡ length (accounts_of start.now) }
-    requires most { length metas.now ≤ 255 }
+    requires most { length metas.now ≤ max_metas }
     requires range { AreInRange (length (accounts_of start.now)) metas.now }
     requires table { IsTableOf metas.now table.now }
     requires sizes { entry_start (accounts_of start.now) metas.now (length metas.now) < 2 ^ 32 }
@@ -113,7 +117,7 @@ fn patched_region(
     table: &[Listing; PLACES],
 ) -> Result<Parts, OutOfMemory>
     requires count { length (accounts_of now.now) ≡ length (accounts_of start.now) }
-    requires most { length metas.now ≤ 255 }
+    requires most { length metas.now ≤ max_metas }
     requires range { AreInRange (length (accounts_of start.now)) metas.now }
     requires region { IsRegionOf (accounts_of start.now) metas.now region.now.bytes }
     requires most_bytes { length region.now.bytes < 2 ^ 32 }
@@ -123,6 +127,8 @@ fn patched_region(
     ensures bytes { IfOk result
         (λ next. patched region.now.bytes (accounts_of start.now) (accounts_of now.now) metas.now
         ≡ Ok next.bytes) }
+    ensures lent { IfOk result
+        (λ next. next.lent ≡ lent_in (accounts_of start.now) (accounts_of now.now) metas.now) }
     ensures size { IfOk result (λ next. length next.bytes ≡ length region.now.bytes) }
 {
     let mut draft = Draft::new(alloc, parts_for(metas))?;
@@ -143,19 +149,23 @@ fn patch_entries(
     table: &[Listing; PLACES],
 ) -> Result<usize, OutOfMemory>
     requires count { length (accounts_of now.now) ≡ length (accounts_of start.now) }
-    requires most { length metas.now ≤ 255 }
+    requires most { length metas.now ≤ max_metas }
     requires range { AreInRange (length (accounts_of start.now)) metas.now }
     requires region { IsRegionOf (accounts_of start.now) metas.now region.now.bytes }
     requires most_bytes { length region.now.bytes < 2 ^ 32 }
     requires table { IsTableOf metas.now table.now }
     requires rooms { found_among (is_outgrown (accounts_of start.now) (accounts_of now.now))
         metas.now (length metas.now) ≡ None }
-    ensures bytes { OnOk result (draft.new
-        ≡ draft.old ++ flat_map
+    requires start { length draft.old.bytes ≡ 8 }
+    ensures bytes { OnOk result (draft.new.bytes
+        ≡ draft.old.bytes ++ flat_map
         (patched_entry region.now.bytes (accounts_of start.now) (accounts_of now.now) metas.now)
         (enumerate_from 0 metas.now)) }
-    ensures size { OnOk result (length draft.new + 8
-        ≡ length draft.old + entry_start (accounts_of start.now) metas.now (length metas.now)) }
+    ensures lent { OnOk result (draft.new.lent
+        ≡ draft.old.lent
+        ++ lent_in (accounts_of start.now) (accounts_of now.now) metas.now) }
+    ensures size { OnOk result (length draft.new.bytes
+        ≡ entry_start (accounts_of start.now) metas.now (length metas.now)) }
     ensures end { IfOk result
         (λ end. end ≡ entry_start (accounts_of start.now) metas.now (length metas.now)) }
 {
@@ -192,11 +202,17 @@ fn patch_entry(
     requires rooms { found_among (is_outgrown (accounts_of start.now) (accounts_of now.now))
         metas.now (length metas.now) ≡ None }
     requires entry { entry ≡ entry_start (accounts_of start.now) metas.now place }
-    ensures bytes { OnOk result (draft.new
-        ≡ draft.old ++ patched_entry region.now.bytes (accounts_of start.now) (accounts_of now.now)
+    requires start { length draft.old.bytes ≡ entry }
+    ensures bytes { OnOk result (draft.new.bytes
+        ≡ draft.old.bytes
+        ++ patched_entry region.now.bytes (accounts_of start.now) (accounts_of now.now)
         metas.now (place, meta.now)) }
-    ensures size { OnOk result (length draft.new
-        ≡ length draft.old + entry_size (accounts_of start.now) metas.now (place, meta.now)) }
+    ensures lent { OnOk result (draft.new.lent
+        ≡ draft.old.lent
+        ++ lent_entry (accounts_of start.now) (accounts_of now.now) metas.now (place, meta.now)) }
+    ensures size { OnOk result (length draft.new.bytes
+        ≡ length draft.old.bytes
+        + entry_size (accounts_of start.now) metas.now (place, meta.now)) }
 {
     if is_first(metas, table, place, meta) {
         let index = usize::from(meta.index);
@@ -221,10 +237,13 @@ fn patch_first(
     requires most { length region.now.bytes < 2 ^ 32 }
     requires room { let value : AccountValue = arc_value now.now in
         length value.bytes ≤ room_of start.now }
-    ensures bytes { OnOk result (draft.new
-        ≡ draft.old ++ over_entry start.now (arc_value now.now)
+    ensures bytes { OnOk result (draft.new.bytes
+        ≡ draft.old.bytes ++ over_entry start.now (arc_value now.now)
         (take (first_size start.now) (drop entry region.now.bytes))) }
-    ensures size { OnOk result (length draft.new ≡ length draft.old + first_size start.now) }
+    ensures lent { OnOk result (draft.new.lent
+        ≡ draft.old.lent ++ lent_of (length draft.old.bytes + 88) (arc_value now.now)) }
+    ensures size { OnOk result (length draft.new.bytes
+        ≡ length draft.old.bytes + first_size start.now) }
 {
     let room = room_for(start);
     copy(draft, region, entry, OWNER_AT)?;
@@ -241,8 +260,10 @@ fn patch_first(
 fn copy(draft: &mut Draft, region: &Parts, at: usize, len: usize) -> Result<(), OutOfMemory>
     requires within { at + len ≤ length region.now.bytes }
     requires most { length region.now.bytes < 2 ^ 32 }
-    ensures bytes { OnOk result (draft.new ≡ draft.old ++ take len (drop at region.now.bytes)) }
-    ensures size { OnOk result (length draft.new ≡ length draft.old + len) }
+    ensures bytes { OnOk result (draft.new.bytes
+        ≡ draft.old.bytes ++ take len (drop at region.now.bytes)) }
+    ensures lent { draft.new.lent ≡ draft.old.lent }
+    ensures size { OnOk result (length draft.new.bytes ≡ length draft.old.bytes + len) }
 {
     let mut piece = [0; PIECE_LEN];
     let mut done = 0;

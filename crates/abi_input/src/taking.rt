@@ -1,3 +1,4 @@
+//! The accounts are taken back from a region.
 ghost use Rattle.std.specs.Prelude.{◌≡◌, ◌↔◌, ◌+◌, ◌<◌, ◌≤◌, ◌||◌, ◌&&◌, ◌^◌, length, slice_get, take, drop, map, nat_lt, false, true, IfErr, IfOk, IsTrue, Some, None};
 ghost use Rattle.std.specs.Option.{ForSome};
 ghost use Rattle.std.specs.Arc.{arc_value};
@@ -6,12 +7,12 @@ ghost use Rattle.sol_base.specs.declared.account.Account.{Account as AccountValu
 ghost use Rattle.sol_base.specs.Accounts.{accounts_of, max_data_len, SameUnlessTouched};
 ghost use Rattle.sol_base.specs.Metas.{AreInRange, is_first_listing};
 ghost use Rattle.abi_input.specs.Listing.{IsTableOf};
-ghost use Rattle.abi_input.specs.Region.{account_at, account_back, back, data_len_at, entry_start, has_outgrown, is_too_long, room_of, IsRegionOf};
-ghost use Rattle.abi_input.specs.Entries.{account_by, found_among, AreEntries, IsEntryOf};
+ghost use Rattle.abi_input.specs.Region.{account_at, account_back, back, data_len_at, entry_start, has_outgrown, is_too_long, lent_in, max_metas, room_of, IsRegionOf};
+ghost use Rattle.abi_input.specs.Entries.{account_by, found_among, AreEntries, AreLent, IsEntryOf};
 ghost use Rattle.abi_input.specs.Answers.{RefusesBack, TakesBack};
 
 use crate::entry::{
-    DATA_AT, DATA_LEN_AT, FIRST_ENTRY, LAMPORTS_AT, OWNER_AT, entry_len, key_in_region, number_in,
+    DATA_AT, DATA_LEN_AT, FIRST_ENTRY, LAMPORTS_AT, OWNER_AT, entry_len, key_in_region, number_at,
     room_for,
 };
 use crate::fault::BackFault;
@@ -39,7 +40,8 @@ struct Taken {
 }
 
 /// The accounts `now`, with owner, lamports and data of the listed ones as they stand in the region
-/// that was laid out from `start`. An account whose data are still lent is not copied.
+/// that was laid out from `start` and has the data of `now` lent. An account of which nothing
+/// changed, and whose data are still lent, is shared: its data are neither copied nor read.
 pub fn take_back(
     alloc: Global,
     region: &Parts,
@@ -48,9 +50,11 @@ pub fn take_back(
     metas: &[Meta],
 ) -> Result<TakenBack, BackFault>
     requires count { length (accounts_of now.now) ≡ length (accounts_of start.now) }
-    requires most { length metas.now ≤ 255 }
+    requires most { length metas.now ≤ max_metas }
     requires range { AreInRange (length (accounts_of start.now)) metas.now }
     requires region { IsRegionOf (accounts_of start.now) metas.now region.now.bytes }
+    requires lent { region.now.lent
+        ≡ lent_in (accounts_of start.now) (accounts_of now.now) metas.now }
     ensures answer { TakesBack
         (back region.now.bytes (accounts_of start.now) (accounts_of now.now) metas.now) result }
     ensures flags { IfOk result (λ taken. length taken.touched ≡ length (accounts_of now.now)) }
@@ -70,7 +74,7 @@ fn checked_entries(
     start: &[Arc<Account>],
     metas: &[Meta],
 ) -> Result<[Option<usize>; PLACES], BackFault>
-    requires most { length metas.now ≤ 255 }
+    requires most { length metas.now ≤ max_metas }
     requires range { AreInRange (length (accounts_of start.now)) metas.now }
     requires region { IsRegionOf (accounts_of start.now) metas.now region.now.bytes }
     requires bytes { length region.now.bytes < 2 ^ 32 }
@@ -131,7 +135,7 @@ fn has_long_data(region: &Parts, entry: usize, start: &Account) -> bool
     ensures { result ≡ (has_outgrown start.now (data_len_at region.now.bytes entry)
         || nat_lt max_data_len (data_len_at region.now.bytes entry)) }
 {
-    let len = number_in(region, entry + DATA_LEN_AT);
+    let len = number_at(region, entry + DATA_LEN_AT);
     len > room_for(start) as u64 || len > MAX_DATA_LEN as u64
 }
 
@@ -151,6 +155,8 @@ fn taken_by(
     requires entries { AreEntries (accounts_of start.now) metas.now (length metas.now) entries.now }
     requires lengths { found_among (is_too_long region.now.bytes (accounts_of start.now) metas.now)
         metas.now (length metas.now) ≡ None }
+    requires lent { region.now.lent
+        ≡ lent_in (accounts_of start.now) (accounts_of now.now) metas.now }
     ensures accounts { IfOk result
         (λ taken. accounts_of taken.accounts
         ≡ map (account_back region.now.bytes (accounts_of start.now) metas.now)
@@ -185,6 +191,8 @@ fn take_one(
     account: &Arc<Account>,
 ) -> Result<Taken, OutOfMemory>
     requires entry { ForSome entry (IsEntryOf region.now.bytes) }
+    requires lent { ForSome entry
+        (λ place. AreLent region.now.lent (place + 88) (arc_value account.now)) }
     requires most { length region.now.bytes < 2 ^ 32 }
     ensures value { IfOk result
         (λ taken. arc_value taken.account
@@ -219,10 +227,11 @@ fn untouched(account: &Arc<Account>) -> Result<Taken, OutOfMemory>
 /// The account stands in its entry as it was before, and its data are still lent.
 fn is_unchanged(region: &Parts, entry: usize, account: &Account) -> bool
     requires entry { IsEntryOf region.now.bytes entry }
+    requires lent { AreLent region.now.lent (entry + 88) account.now }
     requires most { length region.now.bytes < 2 ^ 32 }
     ensures { result ≡ true → account_at region.now.bytes entry account.now ≡ account.now }
 {
-    let lamports = number_in(region, entry + LAMPORTS_AT);
+    let lamports = number_at(region, entry + LAMPORTS_AT);
     if lamports != account.lamports {
         return false;
     }
@@ -230,7 +239,7 @@ fn is_unchanged(region: &Parts, entry: usize, account: &Account) -> bool
     if !is_same_key(&owner, &account.owner) {
         return false;
     }
-    let len = number_in(region, entry + DATA_LEN_AT);
+    let len = number_at(region, entry + DATA_LEN_AT);
     if len != account.bytes.len() as u64 {
         return false;
     }
@@ -243,18 +252,13 @@ fn is_same_key(key: &Key, other: &Key) -> bool
     key == other
 }
 
-/// The data of the account stand at a place, and are lent or empty.
+/// The data of the account stand at a place: they are lent there, or empty.
 fn has_data(region: &Parts, at: usize, account: &Account) -> bool
+    requires { AreLent region.now.lent at account.now }
     ensures { result ≡ true → take (length account.now.bytes) (drop at region.now.bytes)
         ≡ account.now.bytes }
 {
-    if account.bytes.is_empty() {
-        return true;
-    }
-    match region.lent_at(at) {
-        Some(lent) => lent.bytes.as_slice() == account.bytes.as_slice(),
-        None => false,
-    }
+    account.bytes.is_empty() || region.lent_at(at).is_some()
 }
 
 /// The account as it stands in its entry, in memory of its own.
@@ -268,9 +272,9 @@ fn account_in_region(
     requires most { length region.now.bytes < 2 ^ 32 }
     ensures { IfOk result (λ taken. taken ≡ account_at region.now.bytes entry account.now) }
 {
-    let len = number_in(region, entry + DATA_LEN_AT) as usize;
+    let len = number_at(region, entry + DATA_LEN_AT) as usize;
     Ok(Account {
-        lamports: number_in(region, entry + LAMPORTS_AT),
+        lamports: number_at(region, entry + LAMPORTS_AT),
         owner: key_in_region(region, entry + OWNER_AT),
         executable: account.executable,
         bytes: bytes_in_region(alloc, region, entry + DATA_AT, len)?,

@@ -1,8 +1,8 @@
 -- What is granted, account by account.
-use Rattle.std.proofs.Common.{◌≡◌, ℕ, ◌+◌, ◌<◌, ◌≤◌, Bool, true, false, List, [], ◌∷◌, ◌++◌, length, map, take, drop, get_or, Option, Some, None, refl, sym, ap, ◌∙◌, arith, cond}
+use Rattle.std.proofs.Common.{◌≡◌, ℕ, ◌+◌, ◌<◌, ◌≤◌, Bool, true, false, List, [], ◌∷◌, ◌++◌, length, map, take, drop, get_or, Option, Some, None, refl, sym, ap, ◌∙◌}
 use Rattle.std.specs.Prelude.{unwrap_or}
 use Rattle.std.specs.List.{position_from, zip}
-use Rattle.std.proofs.lemmas.List.{drop_more, drop_all, take_all, map_more}
+use Rattle.std.proofs.lemmas.List.{drop_more, drop_all, map_more}
 use Rattle.sol_base.specs.declared.key.Key.{Key}
 use Rattle.sol_base.specs.declared.lock.Meta.{Meta}
 use Rattle.cpi_calls.specs.declared.request.KeyMeta.{KeyMeta}

@@ -1,5 +1,5 @@
 -- What requests and grants keep.
-use Rattle.std.proofs.Common.{◌≡◌, ℕ, zero, suc, ◌+◌, ◌-◌, ◌/◌, ◌≤◌, ◌<◌, Bool, true, false, List, [], ◌∷◌, length, take, drop, Option, Some, None, Result, Ok, Err, refl, sym, ap, subst, ◌∙◌, if◌then◌else◌, arith, length-take}
+use Rattle.std.proofs.Common.{◌≡◌, ℕ, ◌-◌, ◌/◌, ◌≤◌, Bool, true, false, List, [], length, drop, Option, Some, None, Result, Ok, Err, refl, subst, if◌then◌else◌, arith, length-take}
 use Rattle.std.specs.Prelude.{◌==◌, nat_lt, slice_index}
 use Rattle.std.specs.List.{range_with_len}
 use Rattle.std.proofs.lemmas.Bool.Decides.{nat_tests}
@@ -14,8 +14,9 @@ use Rattle.cpi_calls.specs.declared.request.Call.{Call}
 use Rattle.cpi_calls.specs.declared.request.KeyMeta.{KeyMeta}
 use Rattle.cpi_calls.specs.declared.request.CallRequest.{CallRequest}
 use Rattle.cpi_calls.specs.declared.fault.CallFault.{CallFault}
-use Rattle.cpi_calls.specs.declared.fault.CallFault.TheVariants.{UnitsSpent, TooManyAccounts, DataTooLong, TooManySigners}
-use Rattle.cpi_calls.specs.Reads.{or_violation, bytes_read, items_read, metas_read, meta_read, signers_read, signer_read}
+use Rattle.cpi_calls.specs.declared.fault.CallFault.TheVariants.{UnitsSpent, TooManyAccounts, DataTooLong}
+use Rattle.cpi_calls.specs.Limits.{max_metas, max_call_data, call_cost, bytes_of_unit}
+use Rattle.cpi_calls.specs.Reads.{or_violation, bytes_read, metas_read, signers_read}
 use Rattle.cpi_calls.specs.Calls.{Requested, IsSmallRequest, refused, after_cost, header_read, lists_read, limited, by_header, request_of}
 
 -- a refusal, or a request of a size that is allowed
@@ -43,14 +44,14 @@ bytes-most : (m : Ranges) (addr len : ℕ) → AtMost len (bytes_read m addr len
 unfolding read_from
 bytes-most m addr len = none-most len (len == 0) (bytes_at m addr len (place_of m addr len)) (place-most m addr len (place_of m addr len))
 
-lists-of : (program : Key) (count len : ℕ) (metas : Result (List KeyMeta) CallFault) (input : Result (List ℕ) CallFault) (signers : Result (List Key) CallFault) → Counts count metas → AtMost len input → count ≤ 255 → len ≤ 10240
+lists-of : (program : Key) (count len : ℕ) (metas : Result (List KeyMeta) CallFault) (input : Result (List ℕ) CallFault) (signers : Result (List Key) CallFault) → Counts count metas → AtMost len input → count ≤ max_metas → len ≤ max_call_data
     → Sized (metas >>= (λ ms. input >>= (λ bytes. signers >>= (λ keys. Ok (record { program = program; metas = ms; input = bytes; signers = keys })))))
 lists-of program count len (Ok ms) (Ok bytes) (Ok keys) counts most few short = record { metas = omega (arith, counts); input = omega (arith, most) }
 lists-of program count len (Ok ms) (Ok bytes) (Err e) counts most few short = tt
 lists-of program count len (Ok ms) (Err e) signers counts most few short = tt
 lists-of program count len (Err e) input signers counts most few short = tt
 
-lists-sized : (m : Ranges) (caller : Key) (arguments : List ℕ) (program : Key) (call : Call) → call.meta_count ≤ 255 → call.data_len ≤ 10240 → Sized (lists_read m caller arguments program call)
+lists-sized : (m : Ranges) (caller : Key) (arguments : List ℕ) (program : Key) (call : Call) → call.meta_count ≤ max_metas → call.data_len ≤ max_call_data → Sized (lists_read m caller arguments program call)
 unfolding lists_read
 lists-sized m caller arguments program call few short =
     lists-of program call.meta_count call.data_len (metas_read m call.metas call.meta_count) (bytes_read m call.data_at call.data_len) (signers_read m caller (slice_index arguments 3) (slice_index arguments 4))
@@ -75,18 +76,18 @@ cost-fits cost units rest fits = by_case (nat_lt units cost)
     by_case false = fits-more (units - cost) units (rest (units - cost)) (omega arith) fits
 
 limited-fits : (m : Ranges) (caller : Key) (arguments : List ℕ) (units : ℕ) (header : Call × Key) → Fits units (limited m caller arguments units header)
-limited-fits m caller arguments units header = many (nat_lt 255 header.0.meta_count) refl
+limited-fits m caller arguments units header = many (nat_lt max_metas header.0.meta_count) refl
   where
-    rest : header.0.meta_count ≤ 255 → header.0.data_len ≤ 10240 → Fits units (after_cost (header.0.data_len / 250) units (λ left. record { units = left; answer = lists_read m caller arguments header.1 header.0 }))
-    rest few short = cost-fits (header.0.data_len / 250) units (λ left. record { units = left; answer = lists_read m caller arguments header.1 header.0 }) (record { left = omega arith; sized = lists-sized m caller arguments header.1 header.0 few short })
+    rest : header.0.meta_count ≤ max_metas → header.0.data_len ≤ max_call_data → Fits units (after_cost (header.0.data_len / bytes_of_unit) units (λ left. record { units = left; answer = lists_read m caller arguments header.1 header.0 }))
+    rest few short = cost-fits (header.0.data_len / bytes_of_unit) units (λ left. record { units = left; answer = lists_read m caller arguments header.1 header.0 }) (record { left = omega arith; sized = lists-sized m caller arguments header.1 header.0 few short })
 
-    long : (b : Bool) → nat_lt 10240 header.0.data_len ≡ b → header.0.meta_count ≤ 255 → Fits units (if b then refused units DataTooLong else after_cost (header.0.data_len / 250) units (λ left. record { units = left; answer = lists_read m caller arguments header.1 header.0 }))
+    long : (b : Bool) → nat_lt max_call_data header.0.data_len ≡ b → header.0.meta_count ≤ max_metas → Fits units (if b then refused units DataTooLong else after_cost (header.0.data_len / bytes_of_unit) units (λ left. record { units = left; answer = lists_read m caller arguments header.1 header.0 }))
     long true h few = refused-fits units DataTooLong
     long false h few = rest few (grind (arith, nat_tests))
 
-    many : (b : Bool) → nat_lt 255 header.0.meta_count ≡ b → Fits units (if b then refused units TooManyAccounts else if nat_lt 10240 header.0.data_len then refused units DataTooLong else after_cost (header.0.data_len / 250) units (λ left. record { units = left; answer = lists_read m caller arguments header.1 header.0 }))
+    many : (b : Bool) → nat_lt max_metas header.0.meta_count ≡ b → Fits units (if b then refused units TooManyAccounts else if nat_lt max_call_data header.0.data_len then refused units DataTooLong else after_cost (header.0.data_len / bytes_of_unit) units (λ left. record { units = left; answer = lists_read m caller arguments header.1 header.0 }))
     many true h = refused-fits units TooManyAccounts
-    many false h = long (nat_lt 10240 header.0.data_len) refl (grind (arith, nat_tests))
+    many false h = long (nat_lt max_call_data header.0.data_len) refl (grind (arith, nat_tests))
 
 header-fits : (m : Ranges) (caller : Key) (arguments : List ℕ) (units : ℕ) (header : Result (Call × Key) CallFault) → Fits units (by_header m caller arguments units header)
 header-fits m caller arguments units (Ok header) = limited-fits m caller arguments units header
@@ -95,7 +96,7 @@ header-fits m caller arguments units (Err fault) = refused-fits units fault
 request-fits : (arguments : List ℕ) (m : Ranges) (caller : Key) (units : ℕ) → Fits units (request_of arguments m caller units)
 unfolding request_of
 request-fits arguments m caller units =
-    cost-fits 1000 units (λ left. by_header m caller arguments left (header_read m (slice_index arguments 0))) (header-fits m caller arguments (units - 1000) (header_read m (slice_index arguments 0)))
+    cost-fits call_cost units (λ left. by_header m caller arguments left (header_read m (slice_index arguments 0))) (header-fits m caller arguments (units - call_cost) (header_read m (slice_index arguments 0)))
 
 -- no request gains units
 pub request-units : (arguments : List ℕ) (m : Ranges) (caller : Key) (units : ℕ) → (request_of arguments m caller units).units ≤ units

@@ -1,8 +1,7 @@
 -- What is granted is within what the caller has.
-use Rattle.std.proofs.Common.{◌≡◌, ℕ, ◌+◌, ◌≤◌, ◌<◌, ◌⊎◌, inl, inr, Bool, true, false, not, List, [], ◌∷◌, length, map, All, get_or, Option, Some, None, Result, Ok, Err, refl, sym, ap, subst, ◌∙◌, cond, if◌then◌else◌, arith}
+use Rattle.std.proofs.Common.{◌≡◌, ℕ, ◌+◌, ◌<◌, ◌⊎◌, inl, inr, Bool, true, false, not, List, [], ◌∷◌, length, map, Option, Some, None, Ok, refl, subst, cond, if◌then◌else◌}
 use Rattle.std.specs.Prelude.{◌==◌, ◌&&◌, ◌||◌, position, is_none, unwrap_or}
 use Rattle.std.specs.List.{list_any, position_from}
-use Rattle.std.proofs.lemmas.Bool.Decides.{nat_tests}
 use Rattle.std.proofs.lemmas.List.{length-map}
 use Rattle.std.proofs.lemmas.List.Elements.{All-nil, All-cons}
 use Rattle.std.proofs.lemmas.List.Quantifiers.{position-Some}
@@ -15,8 +14,7 @@ use Rattle.sol_base.specs.Metas.{is_listed, is_listed_signer, is_listed_writable
 use Rattle.cpi_calls.specs.declared.request.KeyMeta.{KeyMeta}
 use Rattle.cpi_calls.specs.declared.request.CallRequest.{CallRequest}
 use Rattle.cpi_calls.specs.declared.grant.Granted.{Granted}
-use Rattle.cpi_calls.specs.declared.fault.RightsFault.{RightsFault}
-use Rattle.cpi_calls.specs.Rights.{if_listed, place_of, is_missing, meta_of, may_sign, exceeds_at, exceeds, or_missing, or_escalation, metas_found, program_found, rights_of, IsGiven, IsWithin}
+use Rattle.cpi_calls.specs.Rights.{if_listed, place_of, is_missing, meta_of, may_sign, exceeds, or_missing, or_escalation, program_found, rights_of, IsGiven, IsWithin}
 
 -- a place that was found is one of the keys, and the caller lists it
 listed-place : (keys : List Key) (caller : List Meta) (key : Key) (o : Option ℕ) (place : ℕ) → position (λ other. same_key other key) keys ≡ o → if_listed caller o ≡ Some place → place < length keys

@@ -7,7 +7,8 @@ use Rattle.cpi_calls.specs.declared.request.Call.{Call}
 use Rattle.cpi_calls.specs.declared.request.CallRequest.{CallRequest}
 use Rattle.cpi_calls.specs.declared.fault.CallFault.{CallFault}
 use Rattle.cpi_calls.specs.declared.fault.CallFault.TheVariants.{TooManyAccounts, DataTooLong, UnitsSpent, OutOfMemory as no_memory}
-use Rattle.cpi_calls.specs.Reads.{bytes_read, call_in, metas_read, signers_read}
+use Rattle.cpi_calls.specs.Limits.{max_metas, max_call_data, call_cost, bytes_of_unit}
+use Rattle.cpi_calls.specs.Reads.{bytes_read, call_in, call_len, metas_read, signers_read}
 
 -- the units then left, and the request or the first refusal
 pub record Requested : Type 0 where
@@ -25,7 +26,7 @@ after_cost cost units rest = if nat_lt units cost then refused 0 UnitsSpent else
 -- a call and the key of its program
 unfoldable pub header_read : Ranges → ℕ → Result (Call × Key) CallFault
 header_read m addr = do
-  bytes ← bytes_read m addr 40
+  bytes ← bytes_read m addr call_len
   key ← bytes_read m (call_in bytes).program 32
   Ok (call_in bytes, record { 0 = key })
 
@@ -40,9 +41,9 @@ lists_read m caller arguments program call = do
 abbrev pub limited : Ranges → Key → List ℕ → ℕ → Call × Key → Requested
 limited m caller arguments units header =
     let call = header.0 in
-    if nat_lt 255 call.meta_count then refused units TooManyAccounts else
-    if nat_lt 10240 call.data_len then refused units DataTooLong else
-    after_cost (call.data_len / 250) units
+    if nat_lt max_metas call.meta_count then refused units TooManyAccounts else
+    if nat_lt max_call_data call.data_len then refused units DataTooLong else
+    after_cost (call.data_len / bytes_of_unit) units
     (λ left. record { units = left; answer = lists_read m caller arguments header.1 call })
 
 abbrev pub by_header : Ranges → Key → List ℕ → ℕ → Result (Call × Key) CallFault → Requested
@@ -52,7 +53,7 @@ by_header m caller arguments units (Err fault) = refused units fault
 -- The request of a call, by its arguments r1, r4 and r5: of the memory it looks at the bytes alone.
 unfoldable pub request_of : List ℕ → Ranges → Key → ℕ → Requested
 request_of arguments m caller units =
-    after_cost 1000 units
+    after_cost call_cost units
     (λ left. by_header m caller arguments left (header_read m (slice_index arguments 0)))
 
 -- what a call answers, by the request that is asked for
@@ -63,5 +64,5 @@ Reads wanted units (Err fault) = (wanted.answer ≡ Err fault) × (wanted.units 
 
 -- what holds of each request
 pub record IsSmallRequest (request : CallRequest) : Type 0 where
-  pub metas : length request.metas ≤ 255
-  pub input : length request.input ≤ 10240
+  pub metas : length request.metas ≤ max_metas
+  pub input : length request.input ≤ max_call_data

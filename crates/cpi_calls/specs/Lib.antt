@@ -1,3 +1,4 @@
+pub mod Limits
 pub mod Reads
 pub mod Rights
 pub mod Calls

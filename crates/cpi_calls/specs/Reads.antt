@@ -5,9 +5,10 @@ use Rattle.spec_base.specs.Reading.{◌>>=◌, each}
 use Rattle.spec_base.specs.Bytes.{number_from}
 use Rattle.sol_base.specs.declared.key.Key.{Key}
 use Rattle.sol_base.specs.declared.derived.SeedsFault.{SeedsFault}
-use Rattle.sol_base.specs.DerivedKeys.{program_key_of}
+use Rattle.sol_base.specs.DerivedKeys.{max_seed_len, max_seeds, program_key_of}
 use Rattle.sbpf_memory.specs.Memory.{Ranges, read_from}
 use Rattle.sbpf_memory.specs.declared.fault.AccessViolation.{AccessViolation as Violation}
+use Rattle.cpi_calls.specs.Limits.{max_signers}
 use Rattle.cpi_calls.specs.declared.request.KeyMeta.{KeyMeta}
 use Rattle.cpi_calls.specs.declared.request.Call.{Call}
 use Rattle.cpi_calls.specs.declared.fault.CallFault.{CallFault}
@@ -26,9 +27,16 @@ or_violation (Err v) = Err AccessViolation
 abbrev pub bytes_read : Ranges → ℕ → ℕ → Result (List ℕ) CallFault
 bytes_read m addr len = or_violation (read_from m addr len)
 
--- The address of an item of a list, 16 bytes each. Addresses wrap, as those of a program do.
+-- the bytes of a call, and of each item of a list
+abbrev pub call_len : ℕ
+call_len = 40
+
+abbrev pub item_len : ℕ
+item_len = 16
+
+-- The address of an item of a list. Addresses wrap, as those of a program do.
 abbrev pub item_at : ℕ → ℕ → ℕ
-item_at list index = (list + 16 * index) % 2 ^ 64
+item_at list index = (list + item_len * index) % 2 ^ 64
 
 -- the items of a list, read by their addresses
 abbrev pub items_read : {Y : Type 0} → (ℕ → Result Y CallFault) → ℕ → ℕ → Result (List Y) CallFault
@@ -52,7 +60,7 @@ flag byte = if byte == 0 then Ok false else if byte == 1 then Ok true else Err B
 -- a meta: its flags are tested before its key is read
 unfoldable pub meta_read : Ranges → ℕ → Result KeyMeta CallFault
 meta_read m addr = do
-  bytes ← bytes_read m addr 16
+  bytes ← bytes_read m addr item_len
   writable ← flag (slice_index bytes 8)
   signer ← flag (slice_index bytes 9)
   key ← bytes_read m (number_from bytes 0) 32
@@ -64,8 +72,8 @@ metas_read m list count = items_read (meta_read m) list count
 -- a seed: its length is tested before its bytes are read
 unfoldable pub seed_read : Ranges → ℕ → Result (List ℕ) CallFault
 seed_read m addr = do
-  bytes ← bytes_read m addr 16
-  if nat_lt 32 (number_from bytes 8) then Err BadSeeds
+  bytes ← bytes_read m addr item_len
+  if nat_lt max_seed_len (number_from bytes 8) then Err BadSeeds
       else bytes_read m (number_from bytes 0) (number_from bytes 8)
 
 abbrev pub or_bad_seeds : Result Key SeedsFault → Result Key CallFault
@@ -74,15 +82,16 @@ or_bad_seeds (Err fault) = Err BadSeeds
 
 abbrev pub seeds_read : Ranges → ℕ → ℕ → Result (List (List ℕ)) CallFault
 seeds_read m list count =
-    if nat_lt 16 count then Err BadSeeds else items_read (seed_read m) list count
+    if nat_lt max_seeds count then Err BadSeeds else items_read (seed_read m) list count
 
 -- a signer: the program key of its seeds and the caller
 unfoldable pub signer_read : Ranges → Key → ℕ → Result Key CallFault
 signer_read m caller addr = do
-  bytes ← bytes_read m addr 16
+  bytes ← bytes_read m addr item_len
   seeds ← seeds_read m (number_from bytes 0) (number_from bytes 8)
   or_bad_seeds (program_key_of seeds caller)
 
 abbrev pub signers_read : Ranges → Key → ℕ → ℕ → Result (List Key) CallFault
 signers_read m caller list count =
-    if nat_lt 16 count then Err TooManySigners else items_read (signer_read m caller) list count
+    if nat_lt max_signers count then Err TooManySigners
+    else items_read (signer_read m caller) list count

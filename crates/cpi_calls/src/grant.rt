@@ -4,6 +4,7 @@ ghost use Rattle.std.specs.List.{list_any, position_from, zip};
 ghost use Rattle.spec_base.specs.Reading.{Gives};
 ghost use Rattle.sol_base.specs.Keys.{same_key};
 ghost use Rattle.sol_base.specs.Metas.{is_listed as is_listed_at, is_listed_signer, is_listed_writable};
+ghost use Rattle.cpi_calls.specs.Limits.{max_keys, max_metas};
 ghost use Rattle.cpi_calls.specs.Rights.{rights_of, metas_found, place_of, exceeds_at, exceeds_with, or_escalation, is_memory, Grants};
 
 use crate::fault::RightsFault;
@@ -28,8 +29,8 @@ pub fn grant_rights(
     keys: &[Key],
     caller: &[Meta],
 ) -> Result<Granted, RightsFault>
-    requires keys { length keys.now ≤ 255 }
-    requires metas { length request.now.metas ≤ 255 }
+    requires keys { length keys.now ≤ max_keys }
+    requires metas { length request.now.metas ≤ max_metas }
     ensures { Grants (rights_of request.now keys.now caller.now) result }
 {
     let asked = request.metas.as_slice();
@@ -50,8 +51,8 @@ fn find_accounts(
     keys: &[Key],
     caller: &[Meta],
 ) -> Result<Items<Meta>, RightsFault>
-    requires keys { length keys.now ≤ 255 }
-    requires metas { length asked.now ≤ 255 }
+    requires keys { length keys.now ≤ max_keys }
+    requires metas { length asked.now ≤ max_metas }
     ensures { Gives is_memory (λ metas. metas) result (metas_found keys.now caller.now asked.now) }
 {
     let mut metas = Items::with_capacity(alloc, asked.len())?;
@@ -70,7 +71,7 @@ fn find_accounts(
 
 /// The place of a key, if the caller lists it.
 fn find_account(key: &Key, keys: &[Key], caller: &[Meta]) -> Option<u8>
-    requires { length keys.now ≤ 255 }
+    requires { length keys.now ≤ max_keys }
     ensures { result ≡ place_of keys.now caller.now key.now }
 {
     match find_key(key, keys) {
@@ -128,7 +129,7 @@ fn check_rights(
     caller: &[Meta],
 ) -> Result<(), RightsFault>
     requires metas { length metas.now ≡ length asked.now }
-    requires most { length asked.now ≤ 255 }
+    requires most { length asked.now ≤ max_metas }
     ensures { result ≡ or_escalation
         (position_from (exceeds_with signers.now caller.now) 0 (zip asked.now metas.now)) }
 {

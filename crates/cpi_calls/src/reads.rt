@@ -9,8 +9,8 @@ use sbpf_memory::Memory;
 use sol_base::Blob;
 use std::alloc::Global;
 
-/// How far apart the items of a list stand: each has 16 bytes.
-const ITEM_LEN: u64 = 16;
+/// The bytes of each item of a list.
+pub(crate) const ITEM_LEN: usize = 16;
 
 /// The `N` bytes at an address.
 #[tactic(auto, using(crate::proofs::Plain::plain))]
@@ -51,5 +51,5 @@ fn read_bytes(alloc: Global, memory: &Memory, addr: u64, len: u64) -> Result<Vec
 pub(crate) fn item_addr(list: u64, index: u8) -> u64
     ensures { result ≡ item_at list index }
 {
-    list.wrapping_add(ITEM_LEN * u64::from(index))
+    list.wrapping_add(ITEM_LEN as u64 * u64::from(index))
 }

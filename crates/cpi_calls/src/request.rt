@@ -2,11 +2,12 @@
 ghost use Rattle.std.specs.Prelude.{◌≡◌, ◌-◌, ◌≤◌, nat_lt, length, if◌then◌else◌};
 ghost use Rattle.spec_base.specs.Reading.{Gives};
 ghost use Rattle.sbpf_memory.specs.Plain.{plain_memory};
-ghost use Rattle.cpi_calls.specs.Reads.{is_memory, call_in as call_of, flag as flag_of, meta_read, metas_read};
+ghost use Rattle.cpi_calls.specs.Limits.{max_metas};
+ghost use Rattle.cpi_calls.specs.Reads.{is_memory, call_in as call_of, call_len, flag as flag_of, meta_read, metas_read};
 ghost use Rattle.cpi_calls.specs.Calls.{Reads, header_read, lists_read, request_of};
 
 use crate::fault::CallFault;
-use crate::reads::{item_addr, read_array, read_blob};
+use crate::reads::{ITEM_LEN, item_addr, read_array, read_blob};
 use crate::signers::read_signers;
 use sbpf_memory::Memory;
 use sol_base::{Blob, Items, Key};
@@ -41,15 +42,20 @@ struct Call {
     data_len: u64,
 }
 
-/// What a request costs before anything of it is read.
+/// What a call costs before anything of it is read.
 const CALL_COST: u64 = 1_000;
 
-/// The bytes of a unit of instruction data.
+/// The bytes of data that cost one unit.
 const BYTES_OF_UNIT: u64 = 250;
 
+/// The most metas of a call.
 const MAX_METAS: u64 = 255;
 
-const MAX_DATA_LEN: u64 = 10_240;
+/// The most bytes of a call's data.
+const MAX_CALL_DATA: u64 = 10_240;
+
+/// The bytes of a call.
+const CALL_LEN: usize = 40;
 
 /// The request of a cross-program call, by the five arguments of the system call. Units are taken
 /// from those given, and are gone after a refusal too.
@@ -70,7 +76,7 @@ pub fn read_call(
     if call.meta_count > MAX_METAS {
         return Err(CallFault::TooManyAccounts);
     }
-    if call.data_len > MAX_DATA_LEN {
+    if call.data_len > MAX_CALL_DATA {
         return Err(CallFault::DataTooLong);
     }
     charge(units, call.data_len / BYTES_OF_UNIT)?;
@@ -95,15 +101,15 @@ fn charge(units: &mut u64, cost: u64) -> Result<(), CallFault>
 fn read_header(memory: &Memory, addr: u64) -> Result<(Call, Key), CallFault>
     ensures { result ≡ header_read (plain_memory memory.now) addr }
 {
-    let bytes = read_array::<40>(memory, addr)?;
+    let bytes = read_array::<CALL_LEN>(memory, addr)?;
     let call = call_in(&bytes);
     let program = Key(read_array::<32>(memory, call.program)?);
     Ok((call, program))
 }
 
-/// The call that stands in 40 bytes.
+/// The call that stands in its bytes.
 fn call_in(bytes: &[u8]) -> Call
-    requires { length bytes.now ≡ 40 }
+    requires { length bytes.now ≡ call_len }
     ensures { result ≡ call_of bytes.now }
 {
     Call {
@@ -125,7 +131,7 @@ fn read_lists(
     program: Key,
     call: Call,
 ) -> Result<CallRequest, CallFault>
-    requires { call.meta_count ≤ 255 }
+    requires { call.meta_count ≤ max_metas }
     ensures { Gives is_memory (λ request. request) result
         (lists_read (plain_memory memory.now) caller.now arguments program call) }
 {
@@ -163,7 +169,7 @@ fn read_metas(
 fn read_meta(memory: &Memory, addr: u64) -> Result<KeyMeta, CallFault>
     ensures { Gives is_memory (λ meta. meta) result (meta_read (plain_memory memory.now) addr) }
 {
-    let bytes = read_array::<16>(memory, addr)?;
+    let bytes = read_array::<ITEM_LEN>(memory, addr)?;
     let writable = flag(bytes[8])?;
     let signer = flag(bytes[9])?;
     let key = Key(read_array::<32>(memory, number_in(&bytes, 0))?);

@@ -5,12 +5,13 @@ ghost use Rattle.sbpf_memory.specs.Plain.{plain_memory};
 ghost use Rattle.cpi_calls.specs.Reads.{is_memory, items_read, seed_read, seeds_read, signer_read, signers_read};
 
 use crate::fault::CallFault;
-use crate::reads::{item_addr, read_array, read_blob};
+use crate::reads::{ITEM_LEN, item_addr, read_array, read_blob};
 use sbpf_memory::Memory;
 use sol_base::{Blob, Items, Key, MAX_SEED_LEN, MAX_SEEDS, program_key};
 use spec_base::number_in;
 use std::alloc::Global;
 
+/// The most signers of a call.
 const MAX_SIGNERS: u64 = 16;
 
 /// The keys of a list of signers, which `caller` signs for.
@@ -55,7 +56,7 @@ fn read_signer(alloc: Global, memory: &Memory, addr: u64, caller: &Key) -> Resul
     ensures { Gives is_memory (λ key. key) result
         (signer_read (plain_memory memory.now) caller.now addr) }
 {
-    let bytes = read_array::<16>(memory, addr)?;
+    let bytes = read_array::<ITEM_LEN>(memory, addr)?;
     let seeds = read_seeds(alloc, memory, number_in(&bytes, 0), number_in(&bytes, 8))?;
     match program_key(&seeds, caller) {
         Ok(key) => Ok(key),
@@ -101,7 +102,7 @@ fn read_each_seed(
 fn read_seed(alloc: Global, memory: &Memory, addr: u64) -> Result<Blob, CallFault>
     ensures { Gives is_memory (λ seed. seed) result (seed_read (plain_memory memory.now) addr) }
 {
-    let bytes = read_array::<16>(memory, addr)?;
+    let bytes = read_array::<ITEM_LEN>(memory, addr)?;
     let len = number_in(&bytes, 8);
     if len > MAX_SEED_LEN as u64 {
         return Err(CallFault::BadSeeds);

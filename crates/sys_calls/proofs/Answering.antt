@@ -8,10 +8,11 @@ use Rattle.sys_calls.specs.declared.env.Env.{Env}
 use Rattle.sys_calls.specs.declared.fault.SysFault.{SysFault}
 use Rattle.sys_calls.specs.declared.fault.SysFault.TheVariants.{Abort, AccessViolation, Overlap, UnitsSpent, TooManySeeds, ReturnTooLong, BadText, TooManySlices, OutOfMemory as no_memory}
 use Rattle.sys_calls.specs.Costs.{call_numbered, cost_of}
-use Rattle.sys_calls.specs.SysCalls.{SysAnswer, Serves, Does, KeepsSizes, service, logged, at_cost, effect_of, sys_row}
+use Rattle.sys_calls.specs.SysCalls.{SysAnswer, Serves, Does, IsServedMemory, service, logged, at_cost, effect_of, sys_row}
 use Rattle.sys_calls.specs.declared.table.SystemCall.{SystemCall}
 use Rattle.sys_calls.proofs.Loops.{charge-paid}
-use Rattle.sys_calls.proofs.Rows.{sys_row-memory}
+use Rattle.sys_calls.proofs.Pieces.{memory-plain, memory-bare}
+use Rattle.sys_calls.proofs.Rows.{same, sys_row-memory}
 
 -- a refusal of the row, after which all but the units is as before
 refused : (row : SysAnswer) (old new : Ranges) (env env' : Env) (units : ℕ) (fault : SysFault) → row.answer ≡ Err fault → row.units ≡ env'.units → (plain_memory new ≡ plain_memory old) × (env' ≡ record (record env { units = units }) { units = env'.units })
@@ -63,28 +64,36 @@ served number arguments old new env env' units cost kept call result call_is kep
     subst (λ (row : SysAnswer). Serves row old new env env' result) (sym (row-paid number arguments (plain_memory old) env paid))
     (does-serves (effect_of (call_numbered number) arguments (plain_memory old) (record env { units = env.units - all })) old new env env' (env.units - all) result by_units)
 
-kept-sizes : (old new : Ranges) → plain_memory new ≡ plain_memory old → KeepsSizes old new
-kept-sizes old new kept = record { input = ap (λ (m : Ranges). length m.input.bytes) kept }
+-- what a memory without its notes keeps it keeps with them
+plain-served : (old new : Ranges) → new.input.lent ≡ old.input.lent → IsServedMemory (plain_memory old) (plain_memory new) → IsServedMemory old new
+plain-served old new lent served = record {
+  memory = λ is. memory-bare new (served.memory (memory-plain old is));
+  input = served.input;
+  lent = lent;
+}
 
--- a served call keeps the sizes
-pub serves-sizes : (number : ℕ) (arguments : List ℕ) (old new : Ranges) (env env' : Env) (result : Result ℕ SysFault) → Serves (sys_row number arguments (plain_memory old) env) old new env env' result → KeepsSizes old new
-serves-sizes number arguments old new env env' (Ok r0) serves = record { input = (sys_row-memory number arguments (plain_memory old) env (service r0 (plain_memory new) env') serves.0).input }
-serves-sizes number arguments old new env env' (Err no_memory) serves = kept-sizes old new serves.0
-serves-sizes number arguments old new env env' (Err Abort) serves = kept-sizes old new serves.2
-serves-sizes number arguments old new env env' (Err AccessViolation) serves = kept-sizes old new serves.2
-serves-sizes number arguments old new env env' (Err Overlap) serves = kept-sizes old new serves.2
-serves-sizes number arguments old new env env' (Err UnitsSpent) serves = kept-sizes old new serves.2
-serves-sizes number arguments old new env env' (Err TooManySeeds) serves = kept-sizes old new serves.2
-serves-sizes number arguments old new env env' (Err ReturnTooLong) serves = kept-sizes old new serves.2
-serves-sizes number arguments old new env env' (Err BadText) serves = kept-sizes old new serves.2
-serves-sizes number arguments old new env env' (Err TooManySlices) serves = kept-sizes old new serves.2
+stays-served : (old new : Ranges) → new.input.lent ≡ old.input.lent → plain_memory new ≡ plain_memory old → IsServedMemory old new
+stays-served old new lent kept = plain-served old new lent (subst (IsServedMemory (plain_memory old)) (sym kept) (same (plain_memory old)))
+
+-- what a served call keeps of the memory
+pub serves-memory : (number : ℕ) (arguments : List ℕ) (old new : Ranges) (env env' : Env) (result : Result ℕ SysFault) → new.input.lent ≡ old.input.lent → Serves (sys_row number arguments (plain_memory old) env) old new env env' result → IsServedMemory old new
+serves-memory number arguments old new env env' (Ok r0) lent serves = plain-served old new lent (sys_row-memory number arguments (plain_memory old) env (service r0 (plain_memory new) env') serves.0)
+serves-memory number arguments old new env env' (Err no_memory) lent serves = stays-served old new lent serves.0
+serves-memory number arguments old new env env' (Err Abort) lent serves = stays-served old new lent serves.2
+serves-memory number arguments old new env env' (Err AccessViolation) lent serves = stays-served old new lent serves.2
+serves-memory number arguments old new env env' (Err Overlap) lent serves = stays-served old new lent serves.2
+serves-memory number arguments old new env env' (Err UnitsSpent) lent serves = stays-served old new lent serves.2
+serves-memory number arguments old new env env' (Err TooManySeeds) lent serves = stays-served old new lent serves.2
+serves-memory number arguments old new env env' (Err ReturnTooLong) lent serves = stays-served old new lent serves.2
+serves-memory number arguments old new env env' (Err BadText) lent serves = stays-served old new lent serves.2
+serves-memory number arguments old new env env' (Err TooManySlices) lent serves = stays-served old new lent serves.2
 
 -- a line is added
 pub line-done : (row : SysAnswer) (old : Ranges) (env env' : Env) (line text : List ℕ) (r0 : ℕ) → row ≡ at_cost env (logged (plain_memory old) env (Ok line)) → text ≡ line → env' ≡ record env { logs = with_line env.logs text } → r0 ≡ 0
     → Does row old old env env' (Ok r0)
 line-done row old env env' line text r0 is same added zero =
     let after : List ℕ → Env = λ l. record env { logs = with_line env.logs l } in
-    let all : Does (at_cost env (logged (plain_memory old) env (Ok line))) old old env (after line) (Ok 0) = (refl, refl, record { slot = refl; program = refl; height = refl }, omega arith, tt) in
+    let all : Does (at_cost env (logged (plain_memory old) env (Ok line))) old old env (after line) (Ok 0) = (refl, refl, record { slot = refl; program = refl; height = refl }, omega arith, tt, refl) in
     let by_r0 : Does (at_cost env (logged (plain_memory old) env (Ok line))) old old env (after line) (Ok r0) = subst (λ (n : ℕ). Does (at_cost env (logged (plain_memory old) env (Ok line))) old old env (after line) (Ok n)) (sym zero) all in
     let by_env : Does (at_cost env (logged (plain_memory old) env (Ok line))) old old env env' (Ok r0) = subst (λ (e : Env). Does (at_cost env (logged (plain_memory old) env (Ok line))) old old env e (Ok r0)) (ap after (sym same) ∙ sym added) by_r0 in
     subst (λ (a : SysAnswer). Does a old old env env' (Ok r0)) (sym is) by_env

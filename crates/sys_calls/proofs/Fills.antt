@@ -1,23 +1,22 @@
 -- A range that is filled piece by piece.
-use Rattle.std.proofs.Common.{◌≡◌, ℕ, zero, suc, ◌+◌, ◌≤◌, ◌<◌, ◌^◌, true, List, [], ◌++◌, length, take, drop, replicate, get_or, Option, Some, None, Result, Ok, Err, IsOk, refl, sym, ap, subst, ◌∙◌, rules, add-zero, arith}
+use Rattle.std.proofs.Common.{◌≡◌, ℕ, zero, suc, ◌+◌, ◌≤◌, ◌<◌, ◌^◌, true, List, [], ◌++◌, length, replicate, Option, Some, None, Result, Ok, IsOk, refl, sym, ap, subst, ◌∙◌, arith}
 use Rattle.std.specs.Prelude.{slice_get}
-use Rattle.std.proofs.lemmas.List.{places, same_lists, take-append-drop, append-nil, length-replicate, replicate-append-replicate}
-use Rattle.sol_base.specs.Parts.{with_bytes, ArePrepared}
+use Rattle.std.proofs.lemmas.List.{length-replicate, replicate-append-replicate}
 use Rattle.sol_base.proofs.PartLaws.{with_more, with_none}
 use Rattle.sbpf_memory.specs.declared.fault.AccessViolation.{AccessViolation}
 use Rattle.sbpf_memory.specs.declared.fault.MemFault.{MemFault}
 use Rattle.sbpf_memory.specs.declared.place.Place.{Place}
 use Rattle.sbpf_memory.specs.declared.place.Region.{Region}
 use Rattle.sbpf_memory.specs.declared.place.Region.TheVariants.{Program, Stack, Heap, Input}
-use Rattle.sbpf_memory.specs.Copies.{with_stack, with_heap, written_in}
+use Rattle.sbpf_memory.specs.Copies.{written_in}
 use Rattle.sbpf_memory.specs.Lending.{with_input}
-use Rattle.sbpf_memory.specs.Memory.{Ranges, IsMemory, place_of, range_bytes, with_bytes_in, write_to, write_refusal, refused_at, refused_in, or_refusal, Answers, HasMemory, IsPrepared, PreparedAt, PreparedIn, KeepsBytes}
-use Rattle.sbpf_memory.specs.Plain.{plain_memory, plain_written}
+use Rattle.sbpf_memory.specs.Memory.{Ranges, IsMemory, place_of, range_bytes, with_stack, with_heap, with_bytes_in, write_to, write_refusal, refused_at, refused_in, or_refusal, Answers, HasMemory, IsPrepared, PreparedAt, PreparedIn, KeepsBytes}
+use Rattle.sbpf_memory.specs.Plain.{plain_memory}
 use Rattle.sbpf_memory.proofs.Addresses.{stands-from_place}
 use Rattle.sbpf_memory.proofs.Reading.{room-fits}
 use Rattle.sbpf_memory.proofs.Writing.{write-some, write-nothing}
 use Rattle.sbpf_memory.proofs.Prepared.{write_refusal-some}
-use Rattle.sys_calls.specs.Access.{bytes_written, or_violation}
+use Rattle.sys_calls.specs.Access.{bytes_written}
 use Rattle.sys_calls.proofs.Plain.{write-plain}
 use Rattle.sys_calls.proofs.Pieces.{place-part, place-low}
 use Rattle.sys_calls.proofs.Prepares.{done, plain-kept}
@@ -27,13 +26,13 @@ written-more : (m : Ranges) (xs ys : List ℕ) (at : ℕ) (region : Region) → 
 written-more m xs ys at Program fits = refl
 written-more m xs ys at Stack fits = ap (with_stack m) (with_more m.stack xs ys at fits)
 written-more m xs ys at Heap fits = ap (with_heap m) (with_more m.heap xs ys at fits)
-written-more m xs ys at Input fits = ap (λ (l : List ℕ). with_input m (record { bytes = l; prepared = m.input.prepared })) (with_more m.input.bytes xs ys at fits)
+written-more m xs ys at Input fits = ap (λ (l : List ℕ). with_input m (record m.input { bytes = l })) (with_more m.input.bytes xs ys at fits)
 
 written-none : (m : Ranges) (at : ℕ) (region : Region) → written_in m [] at region ≡ m
 written-none m at Program = refl
 written-none m at Stack = ap (with_stack m) (with_none m.stack at)
 written-none m at Heap = ap (with_heap m) (with_none m.heap at)
-written-none m at Input = ap (λ (l : List ℕ). with_input m (record { bytes = l; prepared = m.input.prepared })) (with_none m.input.bytes at)
+written-none m at Input = ap (λ (l : List ℕ). with_input m (record m.input { bytes = l })) (with_none m.input.bytes at)
 
 -- the program is not written
 abbrev Free : Region → Type 0

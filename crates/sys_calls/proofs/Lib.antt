@@ -5,6 +5,7 @@ pub mod Sizes
 pub mod Loops
 pub mod Answering
 pub mod Rows
+pub mod Lent
 pub mod Differences
 pub mod Prepares
 pub mod Hashes

@@ -1,16 +1,15 @@
 -- Slices gathered one after the other, as a loop does them.
-use Rattle.std.proofs.Common.{◌≡◌, ℕ, ◌+◌, ◌-◌, ◌<◌, ◌≤◌, List, [], ◌∷◌, ◌++◌, length, drop, get_or, Result, Ok, Err, Bool, true, false, refl, sym, ap, ◌∙◌, append_assoc, append-nil, arith}
+use Rattle.std.proofs.Common.{◌≡◌, ℕ, ◌+◌, ◌-◌, ◌<◌, ◌≤◌, List, [], ◌++◌, length, drop, get_or, Result, Ok, Err, Bool, true, false, refl, sym, ap, append_assoc, append-nil, arith}
 use Rattle.std.specs.Prelude.{nat_lt, if◌then◌else◌}
 use Rattle.std.proofs.lemmas.List.{drop_more, drop_all}
 use Rattle.std.proofs.lemmas.List.FromFn.{map-range_with_len_more}
 use Rattle.std.proofs.lemmas.Bool.Decides.{nat_tests}
-use Rattle.spec_base.specs.Reading.{◌>>=◌}
 use Rattle.sbpf_memory.specs.Memory.{Ranges}
 use Rattle.sys_calls.specs.declared.slices.Slice.{Slice}
 use Rattle.sys_calls.specs.declared.fault.SysFault.{SysFault}
 use Rattle.sys_calls.specs.declared.fault.SysFault.TheVariants.{UnitsSpent}
 use Rattle.sys_calls.specs.Access.{bytes_read}
-use Rattle.sys_calls.specs.Slices.{Gathered, gathered, before, after_read, slice_cost, hash_of}
+use Rattle.sys_calls.specs.Slices.{Gathered, gathered, before, slice_cost}
 
 before-before : (done bytes : List ℕ) (g : Gathered) → before done (before bytes g) ≡ before (done ++ bytes) g
 before-before done bytes g = by_case g.units g.bytes

@@ -1,13 +1,13 @@
 -- A part of a range that may be read.
-use Rattle.std.proofs.Common.{◌≡◌, ℕ, ◌+◌, ◌-◌, ◌*◌, ◌/◌, ◌%◌, ◌^◌, ◌≤◌, ◌<◌, List, [], ◌++◌, length, take, drop, Option, Some, None, Result, Ok, Err, IsOk, IfOk, MatchResult, refl, sym, ap, ◌∙◌, arith, length-take, length-drop}
+use Rattle.std.proofs.Common.{◌≡◌, ℕ, ◌+◌, ◌-◌, ◌^◌, ◌≤◌, ◌<◌, List, [], length, take, drop, Option, Some, None, Result, Ok, Err, IsOk, IfOk, MatchResult, refl, sym, ap, ◌∙◌, arith}
 use Rattle.std.proofs.lemmas.List.{drop-take, take-take, drop-drop}
 use Rattle.std.specs.Result.{result_unwrap_or}
 use Rattle.sbpf_memory.specs.declared.fault.AccessViolation.{AccessViolation}
 use Rattle.sbpf_memory.specs.declared.place.Place.{Place}
 use Rattle.sbpf_memory.specs.declared.place.Region.{Region}
 use Rattle.sbpf_memory.specs.declared.place.Region.TheVariants.{Program, Stack, Heap, Input}
-use Rattle.sbpf_memory.specs.Memory.{Ranges, IsMemory, place_of, range_bytes, bytes_at, read_from, program_start, stack_start, heap_start, input_start}
-use Rattle.sbpf_memory.proofs.Addresses.{address_in, RoomIn, StandsAt, stands-from_place, place-from_stands}
+use Rattle.sbpf_memory.specs.Memory.{Ranges, IsMemory, place_of, range_bytes, bytes_at, read_from}
+use Rattle.sbpf_memory.proofs.Addresses.{address_in, RoomIn, stands-from_place, place-from_stands}
 use Rattle.sbpf_memory.proofs.Reading.{read-some, read-length}
 use Rattle.sbpf_memory.specs.Plain.{plain_memory}
 use Rattle.sys_calls.specs.Access.{held, IsReadable, bytes_read}
@@ -113,6 +113,9 @@ held-plain m addr len = rw (read-plain m addr len) refl
 
 pub memory-plain : (m : Ranges) → IsMemory m → IsMemory (plain_memory m)
 memory-plain m is = record { program = is.program; stack = is.stack; heap = is.heap; input = is.input }
+
+pub memory-bare : (m : Ranges) → IsMemory (plain_memory m) → IsMemory m
+memory-bare m is = record { program = is.program; stack = is.stack; heap = is.heap; input = is.input }
 
 -- what may be read gives the bytes that are held
 pub bytes_read-held : (m : Ranges) (addr len : ℕ) → IsReadable m addr len → bytes_read m addr len ≡ Ok (held m addr len)

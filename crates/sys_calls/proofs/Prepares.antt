@@ -1,5 +1,5 @@
 -- Writes that were prepared for.
-use Rattle.std.proofs.Common.{◌≡◌, ℕ, List, length, replicate, Option, Some, None, Result, Ok, Err, IsOk, refl, sym, ◌∙◌, ap}
+use Rattle.std.proofs.Common.{◌≡◌, ℕ, List, length, Option, Some, None, Result, Ok, Err, IsOk, refl, sym, ◌∙◌, ap}
 use Rattle.std.proofs.lemmas.List.{length-replicate}
 use Rattle.spec_base.specs.Reading.{◌>>=◌}
 use Rattle.sbpf_memory.specs.declared.fault.AccessViolation.{AccessViolation}
@@ -30,7 +30,7 @@ checked-refuses m addr len bytes e size h = refused m addr bytes e (write_refusa
 pub plain-kept : (old new : Ranges) → KeepsBytes old new → plain_memory new ≡ plain_memory old
 plain-kept old new kept = cc (kept.program, kept.stack, kept.heap, kept.input)
 
-ok-of : (m : Ranges) (r : Result Ranges AccessViolation) → or_refusal r ≡ Ok m → r ≡ Ok m
+pub ok-of : (m : Ranges) (r : Result Ranges AccessViolation) → or_refusal r ≡ Ok m → r ≡ Ok m
 ok-of m (Ok n) h = cc
 ok-of m (Err v) h = absurd (cc)
 

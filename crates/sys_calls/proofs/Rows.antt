@@ -1,15 +1,14 @@
 -- What rows keep: sizes of memories; and they gain no units.
-use Rattle.std.proofs.Common.{◌≡◌, ℕ, ◌+◌, ◌-◌, ◌≤◌, Bool, true, false, List, [], ◌∷◌, ◌++◌, length, take, Result, Ok, Err, refl, subst, ◌∙◌, arith}
+use Rattle.std.proofs.Common.{◌≡◌, ℕ, ◌-◌, ◌≤◌, Bool, true, false, List, [], ◌∷◌, length, take, Result, Ok, Err, refl, subst, ◌∙◌, arith}
 use Rattle.std.specs.Prelude.{nat_lt, min, ◌==◌, if◌then◌else◌}
-use Rattle.std.specs.Int.{w32, w64, to_le_bytes}
+use Rattle.std.specs.Int.{w32, to_le_bytes}
 use Rattle.spec_base.specs.Reading.{◌>>=◌}
 use Rattle.sol_base.specs.declared.key.Key.{Key}
 use Rattle.sol_base.specs.declared.derived.SeedsFault.{SeedsFault}
-use Rattle.sol_base.specs.DerivedKeys.{program_key_of}
-use Rattle.sbpf_memory.specs.Memory.{Ranges, IsMemory, read_from, write_to, or_overlap, copy_of, copy_to}
+use Rattle.sol_base.specs.DerivedKeys.{max_seeds, program_key_of}
+use Rattle.sbpf_memory.specs.Memory.{Ranges, read_from, write_to, or_overlap, copy_of, copy_to}
 use Rattle.sbpf_memory.specs.declared.fault.AccessViolation.{AccessViolation as Violation}
-use Rattle.sbpf_memory.specs.declared.fault.MemFault.{MemFault}
-use Rattle.sbpf_memory.proofs.ByAddress.{write-memory}
+use Rattle.sbpf_memory.proofs.ByAddress.{write-kept, write-memory}
 use Rattle.sys_calls.specs.declared.env.Env.{Env}
 use Rattle.sys_calls.specs.declared.slices.Slice.{Slice}
 use Rattle.sys_calls.specs.declared.table.SystemCall.{SystemCall}
@@ -18,12 +17,16 @@ use Rattle.sys_calls.specs.declared.fault.SysFault.{SysFault}
 use Rattle.sys_calls.specs.declared.fault.SysFault.TheVariants.{UnitsSpent, TooManySeeds, TooManySlices, ReturnTooLong}
 use Rattle.sys_calls.specs.Access.{or_violation, or_fault, bytes_read, bytes_written, bytes_copied}
 use Rattle.sys_calls.specs.Slices.{Gathered, slices_read, has_long_slice, all_read, gathered, hash_of, after_read, slice_cost}
-use Rattle.sys_calls.specs.Costs.{call_numbered, cost_of}
-use Rattle.sys_calls.specs.SysCalls.{Service, SysAnswer, IsServedMemory, service, logged, answered, wrote, compared, first_difference, key_derived, key_written, key_or_one, hash_written, hashed, slices_hashed, at_cost, return_set, both_written, return_got, effect_of, after_cost, sys_row}
-use Rattle.sys_calls.proofs.Sizes.{write-input}
+use Rattle.sys_calls.specs.Costs.{call_numbered, cost_of, max_returned, max_slices}
+use Rattle.sys_calls.specs.SysCalls.{Service, SysAnswer, IsServedMemory, service, logged, answered, wrote, compared, first_difference, key_derived, key_written, key_or_one, hashed, slices_hashed, at_cost, return_set, both_written, return_got, effect_of, sys_row}
 
-same : (m : Ranges) → IsServedMemory m m
-same m = record { memory = λ is. is; input = refl }
+pub same : (m : Ranges) → IsServedMemory m m
+same m = record { memory = λ is. is; input = refl; lent = refl }
+
+pub written : (m after : Ranges) (addr : ℕ) (bytes : List ℕ) → write_to m addr bytes ≡ Ok after → IsServedMemory m after
+written m after addr bytes h =
+    let kept = write-kept m after addr bytes h in
+    record { memory = λ is. write-memory m after addr bytes is h; input = kept.input; lent = kept.lent }
 
 abbrev Kept : Ranges → Result Ranges SysFault → Type 0
 Kept m (Ok after) = IsServedMemory m after
@@ -41,15 +44,15 @@ written-kept : (m : Ranges) (addr : ℕ) (bytes : List ℕ) → Kept m (bytes_wr
 written-kept m addr bytes = by_case (write_to m addr bytes) refl
   where
     by_case : (r : Result Ranges Violation) → write_to m addr bytes ≡ r → Kept m (or_violation r)
-    by_case (Ok after) h = record { memory = λ is. write-memory m after addr bytes is h; input = write-input m after addr bytes h }
+    by_case (Ok after) h = written m after addr bytes h
     by_case (Err v) h = tt
 
 overlap-kept : (m : Ranges) (addr : ℕ) (bytes : List ℕ) (b : Bool) (r : Result Ranges Violation) → write_to m addr bytes ≡ r → Kept m (or_fault (or_overlap b r))
 overlap-kept m addr bytes true (Ok after) h = tt
-overlap-kept m addr bytes false (Ok after) h = record { memory = λ is. write-memory m after addr bytes is h; input = write-input m after addr bytes h }
+overlap-kept m addr bytes false (Ok after) h = written m after addr bytes h
 overlap-kept m addr bytes b (Err v) h = tt
 
-copied-kept : (m : Ranges) (to from len : ℕ) (apart : Bool) → Kept m (bytes_copied m to from len apart)
+pub copied-kept : (m : Ranges) (to from len : ℕ) (apart : Bool) → Kept m (bytes_copied m to from len apart)
 unfolding copy_to
 copied-kept m to from len apart = by_case _ (read_from m from len)
   where
@@ -86,7 +89,7 @@ key_written-kept m program result slices = by_case (has_long_slice slices) (all_
 
 key_derived-kept : (m : Ranges) (seeds count program result : ℕ) → KeptWith m (key_derived m seeds count program result)
 unfolding key_derived
-key_derived-kept m seeds count program result = by_case (nat_lt 16 count) (slices_read m seeds count)
+key_derived-kept m seeds count program result = by_case (nat_lt max_seeds count) (slices_read m seeds count)
   where
     by_case : (many : Bool) (slices : Result (List Slice) SysFault) → KeptWith m (if many then Err TooManySeeds else slices >>= (λ s. key_written m program result s))
     by_case true slices = tt
@@ -98,7 +101,7 @@ then-kept m other second (Err e) kept = tt
 then-kept m other second (Ok after) kept = by_case (bytes_written after other second) (written-kept after other second)
   where
     by_case : (r : Result Ranges SysFault) → Kept after r → Kept m r
-    by_case (Ok last) k = record { memory = λ is. k.memory (kept.memory is); input = k.input ∙ kept.input }
+    by_case (Ok last) k = record { memory = λ is. k.memory (kept.memory is); input = k.input ∙ kept.input; lent = k.lent ∙ kept.lent }
     by_case (Err e) k = tt
 
 both-kept : (m : Ranges) (to : ℕ) (first : List ℕ) (other : ℕ) (second : List ℕ) → Kept m (both_written m to first other second)
@@ -131,7 +134,7 @@ hash_written-kept m env result units (Ok hash) = wrote-kept m (record env { unit
 
 hashed-kept : (m : Ranges) (env : Env) (slices count result : ℕ) → KeptBy m (hashed m env slices count result).answer
 unfolding hashed
-hashed-kept m env slices count result = by_case (nat_lt 20000 count) (slices_read m slices count)
+hashed-kept m env slices count result = by_case (nat_lt max_slices count) (slices_read m slices count)
   where
     by_case : (many : Bool) (r : Result (List Slice) SysFault) → KeptBy m (if many then at_cost env (Err TooManySlices) else slices_hashed m env result r).answer
     by_case true r = tt
@@ -140,7 +143,7 @@ hashed-kept m env slices count result = by_case (nat_lt 20000 count) (slices_rea
 
 set-kept : (m : Ranges) (env : Env) (addr len : ℕ) → KeptBy m (return_set m env addr len)
 unfolding return_set
-set-kept m env addr len = by_case (nat_lt 1024 len) (bytes_read m addr len)
+set-kept m env addr len = by_case (nat_lt max_returned len) (bytes_read m addr len)
   where
     by_case : (long : Bool) (r : Result (List ℕ) SysFault) → KeptBy m (if long then Err ReturnTooLong else r >>= (λ bytes. Ok (service 0 m (record env { returned = bytes; returned_by = env.program }))))
     by_case true r = tt
@@ -177,7 +180,7 @@ by_answer : (m : Ranges) (r : Result Service SysFault) (s : Service) → KeptBy 
 by_answer m (Ok t) s kept h = let e : t ≡ s = cc in subst (λ (x : Service). IsServedMemory m x.memory) e kept
 by_answer m (Err e) s kept h = absurd (cc)
 
--- a served call keeps the sizes
+-- what a served call keeps of the memory
 pub sys_row-memory : (number : ℕ) (arguments : List ℕ) (m : Ranges) (env : Env) (s : Service) → (sys_row number arguments m env).answer ≡ Ok s → IsServedMemory m s.memory
 sys_row-memory number arguments m env s h = by_answer m (sys_row number arguments m env).answer s (row-kept number arguments m env) h
 
@@ -197,7 +200,7 @@ gathered-units m units (slice ∷ slices) =
 
 hashed-units : (m : Ranges) (env : Env) (slices count result : ℕ) → (hashed m env slices count result).units ≤ env.units
 unfolding hashed
-hashed-units m env slices count result = by_case (nat_lt 20000 count) (slices_read m slices count)
+hashed-units m env slices count result = by_case (nat_lt max_slices count) (slices_read m slices count)
   where
     by_case : (many : Bool) (r : Result (List Slice) SysFault) → (if many then at_cost env (Err TooManySlices) else slices_hashed m env result r).units ≤ env.units
     by_case true r = omega arith

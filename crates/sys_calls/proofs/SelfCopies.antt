@@ -1,15 +1,15 @@
 -- A copy of a range onto itself that is to stand apart tells whether the range may be read.
-use Rattle.std.proofs.Common.{◌≡◌, ℕ, ◌+◌, ◌<◌, ◌≤◌, ◌&&◌, Bool, true, false, List, length, Result, Ok, Err, IsOk, MatchResult, nat_lt, refl, ap, ◌∙◌, arith}
+use Rattle.std.proofs.Common.{◌≡◌, ℕ, ◌≤◌, ◌&&◌, Bool, true, false, List, Result, Ok, Err, IsOk, MatchResult, nat_lt, refl, ap, arith}
 use Rattle.std.proofs.lemmas.Bool.Decides.{nat_tests}
 use Rattle.sbpf_memory.specs.declared.fault.AccessViolation.{AccessViolation}
 use Rattle.sbpf_memory.specs.declared.fault.MemFault.{MemFault}
 use Rattle.sbpf_memory.specs.declared.fault.MemFault.TheVariants.{AccessViolation as violation, Overlap, OutOfMemory as no_memory}
-use Rattle.sbpf_memory.specs.Memory.{Ranges, read_from, write_to, copy_of, copy_to, or_overlap, refusal_of, meet, violation_of, Answers}
+use Rattle.sbpf_memory.specs.Memory.{Ranges, read_from, write_to, copy_of, copy_to, or_overlap, meet, Answers}
 use Rattle.sbpf_memory.specs.Plain.{plain_memory}
 use Rattle.sbpf_memory.proofs.Reading.{read-refused}
 use Rattle.sbpf_memory.proofs.Writing.{write-refused}
 use Rattle.sys_calls.specs.declared.fault.SysFault.TheVariants as Sys
-use Rattle.sys_calls.specs.Access.{IsReadable, bytes_read, refused_read, or_violation}
+use Rattle.sys_calls.specs.Access.{IsReadable, bytes_read, refused_read}
 use Rattle.sys_calls.proofs.Plain.{read-plain}
 
 -- ranges of at least one byte that begin at one address meet

@@ -1,17 +1,16 @@
 -- Writes keep the sizes of a memory.
-use Rattle.std.proofs.Common.{◌≡◌, ℕ, ◌+◌, ◌≤◌, List, [], ◌∷◌, length, Option, Some, None, Result, Ok, Err, refl, sym, subst, ◌∙◌, arith}
+use Rattle.std.proofs.Common.{◌≡◌, ℕ, ◌+◌, ◌≤◌, List, [], ◌∷◌, length, Option, Some, None, Result, Ok, refl, sym, subst, ◌∙◌, arith}
 use Rattle.sol_base.proofs.PartLaws.{length_with}
-use Rattle.sol_base.specs.Parts.{with_bytes, ArePrepared, StayPrepared}
+use Rattle.sol_base.specs.Parts.{with_bytes, ArePrepared}
 use Rattle.std.specs.Prelude.{Bool}
 use Rattle.sbpf_memory.specs.declared.fault.AccessViolation.{AccessViolation}
 use Rattle.sbpf_memory.specs.declared.place.Place.{Place}
 use Rattle.sbpf_memory.specs.declared.place.Region.{Region}
 use Rattle.sbpf_memory.specs.declared.place.Region.TheVariants.{Program, Stack, Heap, Input}
-use Rattle.sbpf_memory.specs.Memory.{Ranges, IsMemory, place_of, range_bytes, with_bytes_in, with_bytes_at, write_to, write_refusal, refused_at, IsPrepared, PreparedAt, PreparedIn, KeepsBytes}
-use Rattle.sbpf_memory.proofs.Addresses.{RoomIn, stands-from_place}
+use Rattle.sbpf_memory.specs.Memory.{Ranges, IsMemory, place_of, range_bytes, with_input_bytes, with_bytes_in, with_bytes_at, write_to, write_refusal, IsPrepared, PreparedAt, PreparedIn}
+use Rattle.sbpf_memory.proofs.Addresses.{stands-from_place}
 use Rattle.sbpf_memory.proofs.Reading.{room-fits}
 use Rattle.sbpf_memory.proofs.Writing.{write-some, write-nothing}
-use Rattle.sbpf_memory.proofs.Prepared.{place-kept}
 
 -- a memory with the same sizes and the same prepared places
 pub record SameSizes (m after : Ranges) : Type 0 where
@@ -32,7 +31,7 @@ sizes_in m after addr bytes at Heap h fits =
     let e : record m { heap = with_bytes m.heap at bytes } ≡ after = cc in
     subst (SameSizes m) e (record { program = refl; heap = length_with m.heap bytes at fits; input = refl; prepared = refl })
 sizes_in m after addr bytes at Input h fits =
-    let e : record m { input = record { bytes = with_bytes m.input.bytes at bytes; prepared = m.input.prepared } } ≡ after = cc in
+    let e : with_input_bytes m at bytes ≡ after = cc in
     subst (SameSizes m) e (record { program = refl; heap = refl; input = length_with m.input.bytes bytes at fits; prepared = refl })
 
 sizes_at : (m after : Ranges) (addr : ℕ) (bytes : List ℕ) (p : Option Place) → IsMemory m → 1 ≤ length bytes → place_of m addr (length bytes) ≡ p → with_bytes_at m addr bytes p ≡ Ok after → SameSizes m after
@@ -75,29 +74,3 @@ prepared_at m after len (Some place) s h = in_region place.region h
 pub prepared-sizes : (m after : Ranges) (addr len : ℕ) → SameSizes m after → IsPrepared m addr len → IsPrepared after addr len
 unfolding IsPrepared
 prepared-sizes m after addr len s h = subst (PreparedAt after len) (sym (place-sizes m after addr len s)) (prepared_at m after len (place_of m addr len) s h)
-
-input_in : (m after : Ranges) (addr : ℕ) (bytes : List ℕ) (at : ℕ) (region : Region) → with_bytes_in m addr bytes at region ≡ Ok after → RoomIn m (length bytes) at region → length after.input.bytes ≡ length m.input.bytes
-input_in m after addr bytes at Program h room = absurd (cc)
-input_in m after addr bytes at Stack h room =
-    let e : record m { stack = with_bytes m.stack at bytes } ≡ after = cc in
-    subst (λ (n : Ranges). length n.input.bytes ≡ length m.input.bytes) e refl
-input_in m after addr bytes at Heap h room =
-    let e : record m { heap = with_bytes m.heap at bytes } ≡ after = cc in
-    subst (λ (n : Ranges). length n.input.bytes ≡ length m.input.bytes) e refl
-input_in m after addr bytes at Input h room =
-    let e : record m { input = record { bytes = with_bytes m.input.bytes at bytes; prepared = m.input.prepared } } ≡ after = cc in
-    subst (λ (n : Ranges). length n.input.bytes ≡ length m.input.bytes) e (length_with m.input.bytes bytes at room)
-
-input_at : (m after : Ranges) (addr : ℕ) (bytes : List ℕ) (p : Option Place) → 1 ≤ length bytes → place_of m addr (length bytes) ≡ p → with_bytes_at m addr bytes p ≡ Ok after → length after.input.bytes ≡ length m.input.bytes
-input_at m after addr bytes None some found h = absurd (cc)
-input_at m after addr bytes (Some place) some found h = input_in m after addr bytes place.at place.region h (stands-from_place m addr (length bytes) place some found).room
-
--- a write keeps the size of the input, in any memory
-pub write-input : (m after : Ranges) (addr : ℕ) (bytes : List ℕ) → write_to m addr bytes ≡ Ok after → length after.input.bytes ≡ length m.input.bytes
-write-input m after addr [] h =
-    let n : (let r : Result Ranges AccessViolation = Ok m in r) ≡ Ok after = sym (write-nothing m addr) ∙ h in
-    let k : m ≡ after = cc in
-    subst (λ (n : Ranges). length n.input.bytes ≡ length m.input.bytes) k refl
-write-input m after addr (b ∷ bs) h =
-    let some : 1 ≤ length (b ∷ bs) = omega arith in
-    input_at m after addr (b ∷ bs) (place_of m addr (length (b ∷ bs))) some refl (sym (write-some m addr (b ∷ bs) (place_of m addr (length (b ∷ bs))) some refl) ∙ h)

@@ -1,5 +1,5 @@
 -- Served calls and the log: one that is small stays small, since each line that they write has a byte at least.
-use Rattle.std.proofs.Common.{◌≡◌, ℕ, ◌+◌, ◌-◌, ◌≤◌, Bool, true, false, List, [], ◌∷◌, ◌++◌, length, Result, Ok, Err, subst, lit≤, arith}
+use Rattle.std.proofs.Common.{◌≡◌, ℕ, ◌-◌, ◌≤◌, Bool, true, false, List, [], ◌∷◌, ◌++◌, length, Result, Ok, Err, subst, lit≤, arith}
 use Rattle.std.specs.Prelude.{nat_lt, codes, decimal, if◌then◌else◌}
 use Rattle.std.specs.List.{flat_map}
 use Rattle.std.specs.Str.{is_utf8}
@@ -18,7 +18,7 @@ use Rattle.sys_calls.specs.declared.fault.SysFault.TheVariants.{BadText, UnitsSp
 use Rattle.sys_calls.specs.Access.{bytes_read, bytes_written}
 use Rattle.sys_calls.specs.Slices.{slices_read, gathered, hash_of}
 use Rattle.sys_calls.specs.Lines.{program_log, number_text, log_line, log_64_line, log_key_line, log_units_line}
-use Rattle.sys_calls.specs.Costs.{call_numbered, cost_of, r1, r2, r3, r4, r5}
+use Rattle.sys_calls.specs.Costs.{call_numbered, cost_of, max_returned, max_slices, r1, r2, r3, r4, r5}
 use Rattle.sys_calls.specs.SysCalls.{Service, SysAnswer, service, logged, answered, wrote, hashed, slices_hashed, at_cost, return_set, effect_of, sys_row}
 
 -- words with more behind them
@@ -78,7 +78,7 @@ hash_written-small m env result units (Ok hash) small = wrote-small (record env 
 
 hashed-small : (m : Ranges) (env : Env) (slices count result : ℕ) → IsSmall env.logs → Small (hashed m env slices count result).answer
 unfolding hashed
-hashed-small m env slices count result small = by_case (nat_lt 20000 count) (slices_read m slices count)
+hashed-small m env slices count result small = by_case (nat_lt max_slices count) (slices_read m slices count)
   where
     by_case : (many : Bool) (r : Result (List Slice) SysFault) → Small (if many then at_cost env (Err TooManySlices) else slices_hashed m env result r).answer
     by_case true r = tt
@@ -87,7 +87,7 @@ hashed-small m env slices count result small = by_case (nat_lt 20000 count) (sli
 
 set-small : (m : Ranges) (env : Env) (addr len : ℕ) → IsSmall env.logs → Small (return_set m env addr len)
 unfolding return_set
-set-small m env addr len small = by_case (nat_lt 1024 len) (bytes_read m addr len)
+set-small m env addr len small = by_case (nat_lt max_returned len) (bytes_read m addr len)
   where
     by_case : (long : Bool) (r : Result (List ℕ) SysFault) → Small (if long then Err ReturnTooLong else r >>= (λ bytes. Ok (service 0 m (record env { returned = bytes; returned_by = env.program }))))
     by_case true r = tt

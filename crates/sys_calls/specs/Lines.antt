@@ -1,5 +1,5 @@
 -- The log lines of the calls that write one.
-use Rattle.std.specs.Prelude.{ℕ, false, List, ◌++◌, codes, decimal, Result, Ok, Err, if◌then◌else◌}
+use Rattle.std.specs.Prelude.{ℕ, false, List, ◌++◌, codes, decimal, Result, Ok}
 use Rattle.std.specs.List.{flat_map}
 use Rattle.std.specs.Fmt.{digits}
 use Rattle.std.specs.Str.{is_utf8}

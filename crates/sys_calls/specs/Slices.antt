@@ -4,26 +4,32 @@ use Rattle.std.specs.List.{range_with_len, list_any}
 use Rattle.sha2.specs.Sha256.{sha256}
 use Rattle.spec_base.specs.Reading.{◌>>=◌, each}
 use Rattle.spec_base.specs.Bytes.{number_from}
+use Rattle.sol_base.specs.DerivedKeys.{max_seed_len}
 use Rattle.sbpf_memory.specs.Memory.{Ranges}
 use Rattle.sys_calls.specs.declared.slices.Slice.{Slice}
 use Rattle.sys_calls.specs.declared.fault.SysFault.{SysFault}
 use Rattle.sys_calls.specs.declared.fault.SysFault.TheVariants.{UnitsSpent}
 use Rattle.sys_calls.specs.Access.{bytes_read}
 
--- the slice that stands at an index, 16 bytes each
+-- the bytes of a slice in a list
+abbrev pub slice_len : ℕ
+slice_len = 16
+
+-- the slice that stands at an index
 abbrev pub slice_at : List ℕ → ℕ → Slice
 slice_at bytes index =
-    record { addr = number_from bytes (16 * index); len = number_from bytes (16 * index + 8) }
+    let at = slice_len * index in
+    record { addr = number_from bytes at; len = number_from bytes (at + 8) }
 
 -- the slices of a list of count, which is read whole
 unfoldable pub slices_read : Ranges → ℕ → ℕ → Result (List Slice) SysFault
 slices_read m at count = do
-  bytes ← bytes_read m at (16 * count)
+  bytes ← bytes_read m at (slice_len * count)
   Ok (map (slice_at bytes) (range_with_len 0 count))
 
--- a slice has more than 32 bytes
+-- a slice has more bytes than a seed may have
 abbrev pub has_long_slice : List Slice → Bool
-has_long_slice slices = list_any (λ slice. nat_lt 32 slice.len) slices
+has_long_slice slices = list_any (λ slice. nat_lt max_seed_len slice.len) slices
 
 -- the bytes of each slice, read in order
 abbrev pub all_read : Ranges → List Slice → Result (List (List ℕ)) SysFault

@@ -1,10 +1,10 @@
 -- The system calls other than the cross-program call, with numbers and costs of the project's own.
-use Rattle.std.specs.Prelude.{◌≡◌, ◌≢◌, ℕ, ◌+◌, ◌-◌, ◌*◌, ◌%◌, ◌^◌, ◌≤◌, ◌==◌, not, nat_lt, true, false, List, [], ◌∷◌, ◌++◌, length, take, replicate, min, Option, Some, None, unwrap_or, Result, Ok, Err, OnErr, MatchBool, if◌then◌else◌}
+use Rattle.std.specs.Prelude.{◌≡◌, ℕ, ◌+◌, ◌-◌, ◌%◌, ◌^◌, ◌≤◌, ◌==◌, nat_lt, true, false, List, [], ◌∷◌, ◌++◌, length, take, replicate, min, Option, Some, None, unwrap_or, Result, Ok, Err, OnErr, if◌then◌else◌}
 use Rattle.std.specs.Option.{option_map}
 use Rattle.std.specs.Int.{w32, w64, to_le_bytes}
 use Rattle.spec_base.specs.Reading.{◌>>=◌, Gives}
 use Rattle.sol_base.specs.declared.key.Key.{Key}
-use Rattle.sol_base.specs.DerivedKeys.{program_key_of}
+use Rattle.sol_base.specs.DerivedKeys.{max_seeds, program_key_of}
 use Rattle.sol_base.specs.declared.derived.SeedsFault.{SeedsFault}
 use Rattle.sbpf_memory.specs.Memory.{Ranges, IsMemory}
 use Rattle.sbpf_memory.specs.Plain.{plain_memory}
@@ -18,7 +18,7 @@ use Rattle.sys_calls.specs.declared.fault.SysFault.TheVariants.{Abort, UnitsSpen
 use Rattle.sys_calls.specs.Access.{is_memory, bytes_read, bytes_written, bytes_copied}
 use Rattle.sys_calls.specs.Slices.{Gathered, slices_read, has_long_slice, all_read, gathered, hash_of}
 use Rattle.sys_calls.specs.Lines.{log_line, log_64_line, log_key_line, log_units_line}
-use Rattle.sys_calls.specs.Costs.{call_numbered, cost_of, r1, r2, r3, r4, r5}
+use Rattle.sys_calls.specs.Costs.{call_numbered, cost_of, max_returned, max_slices, r1, r2, r3, r4, r5}
 
 -- what a served call gives: r0, the new memory, the log, and the returned bytes with their keeper
 pub record Service : Type 0 where
@@ -100,7 +100,7 @@ key_written m program result slices =
 -- more is read or written.
 unfoldable pub key_derived : Ranges → ℕ → ℕ → ℕ → ℕ → Result (ℕ × Ranges) SysFault
 key_derived m seeds count program result =
-    if nat_lt 16 count then Err TooManySeeds else
+    if nat_lt max_seeds count then Err TooManySeeds else
     do
       slices ← slices_read m seeds count
       key_written m program result slices
@@ -124,12 +124,24 @@ slices_hashed m env result (Err fault) = at_cost env (Err fault)
 
 unfoldable pub hashed : Ranges → Env → ℕ → ℕ → ℕ → SysAnswer
 hashed m env slices count result =
-    if nat_lt 20000 count then at_cost env (Err TooManySlices)
+    if nat_lt max_slices count then at_cost env (Err TooManySlices)
     else slices_hashed m env result (slices_read m slices count)
+
+-- what a byte costs each year, in lamports, and the years that an account pays for at once to be
+-- exempt (Solana)
+abbrev pub lamports_per_byte_year : ℕ
+lamports_per_byte_year = 3480
+
+abbrev pub exempt_years : ℕ
+exempt_years = 2
+
+-- the numbers of the rent
+abbrev pub rent_bytes : List ℕ
+rent_bytes = to_le_bytes w64 lamports_per_byte_year ++ to_le_bytes w64 exempt_years
 
 unfoldable pub return_set : Ranges → Env → ℕ → ℕ → Result Service SysFault
 return_set m env addr len =
-    if nat_lt 1024 len then Err ReturnTooLong else
+    if nat_lt max_returned len then Err ReturnTooLong else
     do
       bytes ← bytes_read m addr len
       Ok (service 0 m (record env { returned = bytes; returned_by = env.program }))
@@ -165,8 +177,7 @@ effect_of Call.ProgramKey r m env =
     at_cost env (answered env (key_derived m (r1 r) (r2 r) (r3 r) (r4 r)))
 effect_of Call.GetSlot r m env =
     at_cost env (wrote env (bytes_written m (r1 r) (to_le_bytes w64 env.slot)))
-effect_of Call.GetRent r m env =
-    at_cost env (wrote env (bytes_written m (r1 r) (to_le_bytes w64 3480 ++ to_le_bytes w64 2)))
+effect_of Call.GetRent r m env = at_cost env (wrote env (bytes_written m (r1 r) rent_bytes))
 effect_of Call.SetReturn r m env = at_cost env (return_set m env (r1 r) (r2 r))
 effect_of Call.GetReturn r m env =
     at_cost env (answered env (return_got m env.returned env.returned_by (r1 r) (r2 r) (r3 r)))
@@ -207,10 +218,6 @@ pub record KeepsBlock (env env' : Env) : Type 0 where
   pub program : env'.program ≡ env.program
   pub height : env'.height ≡ env.height
 
--- a memory with the same sizes
-pub record KeepsSizes (old new : Ranges) : Type 0 where
-  pub input : length new.input.bytes ≡ length old.input.bytes
-
 -- What the function of a call answers once its cost is taken: what the row gives, or memory ran
 -- out.
 abbrev pub Does : SysAnswer → Ranges → Ranges → Env → Env → Result ℕ SysFault → Type 0
@@ -221,8 +228,11 @@ Does row old new env env' result =
     × (env'.units ≤ env.units)
     × OnErr result ((plain_memory new ≡ plain_memory old)
     × (env' ≡ record env { units = env'.units }))
+    × (new.input.lent ≡ old.input.lent)
 
--- a served call leaves a memory with as many bytes in each range
+-- a served call leaves a memory with as many bytes in its input, which was made to lend the same
+-- accounts
 pub record IsServedMemory (old new : Ranges) : Type 0 where
   pub memory : IsMemory old → IsMemory new
   pub input : length new.input.bytes ≡ length old.input.bytes
+  pub lent : new.input.lent ≡ old.input.lent

@@ -60,6 +60,7 @@ pub(crate) fn write(memory: &mut Memory, addr: u64, bytes: &[u8]) -> Result<(), 
     ensures answer { Gives is_memory (λ _. plain_memory memory.new) result
         (bytes_written (plain_memory memory.old) addr bytes.now) }
     ensures refused { OnErr result (plain_memory memory.new ≡ plain_memory memory.old) }
+    ensures lent { memory.new.input.lent ≡ memory.old.input.lent }
 {
     memory.write(addr, bytes)?;
     Ok(())
@@ -119,9 +120,9 @@ pub(crate) fn read_piece<'a>(
 ) -> &'a [u8]
     requires place { at < len }
     requires readable { IsReadable (plain_memory memory.now) addr len }
-    ensures bytes { result.now ≡ take (min 1024 (len - at))
+    ensures bytes { result.now ≡ take (min PIECE (len - at))
         (drop at (held (plain_memory memory.now) addr len)) }
-    ensures count { length result.now ≡ min 1024 (len - at) }
+    ensures count { length result.now ≡ min PIECE (len - at) }
 {
     memory.is_memory();
     let count = (len - at).min(PIECE as u64) as usize;

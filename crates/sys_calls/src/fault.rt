@@ -1,3 +1,4 @@
+//! The refusals of system calls.
 use sbpf_memory::{AccessViolation, MemFault};
 use sol_base::OutOfMemory;
 use std::alloc::AllocError;

@@ -17,6 +17,7 @@ pub(crate) fn memcpy(to: u64, from: u64, count: u64, memory: &mut Memory) -> Res
     ensures answer { Gives is_memory (λ _. plain_memory memory.new) result
         (bytes_copied (plain_memory memory.old) to from count true) }
     ensures refused { OnErr result (plain_memory memory.new ≡ plain_memory memory.old) }
+    ensures lent { memory.new.input.lent ≡ memory.old.input.lent }
 {
     memory.copy(to, from, count, true)?;
     Ok(())
@@ -28,6 +29,7 @@ pub(crate) fn memmove(to: u64, from: u64, count: u64, memory: &mut Memory) -> Re
     ensures answer { Gives is_memory (λ _. plain_memory memory.new) result
         (bytes_copied (plain_memory memory.old) to from count false) }
     ensures refused { OnErr result (plain_memory memory.new ≡ plain_memory memory.old) }
+    ensures lent { memory.new.input.lent ≡ memory.old.input.lent }
 {
     memory.copy(to, from, count, false)?;
     Ok(())
@@ -45,6 +47,7 @@ pub(crate) fn memcmp(
     ensures answer { Gives is_memory (λ _. plain_memory memory.new) result
         (compared (plain_memory memory.old) one other count result_at) }
     ensures refused { OnErr result (plain_memory memory.new ≡ plain_memory memory.old) }
+    ensures lent { memory.new.input.lent ≡ memory.old.input.lent }
 {
     check_read(memory, one, count)?;
     check_read(memory, other, count)?;
@@ -96,6 +99,7 @@ pub(crate) fn memset(to: u64, byte: u64, count: u64, memory: &mut Memory) -> Res
     ensures answer { Gives is_memory (λ _. plain_memory memory.new) result
         (filled (plain_memory memory.old) to byte count) }
     ensures refused { OnErr result (plain_memory memory.new ≡ plain_memory memory.old) }
+    ensures lent { memory.new.input.lent ≡ memory.old.input.lent }
 {
     prepare(memory, to, count)?;
     fill(memory, to, count, (byte % 256) as u8);

@@ -27,6 +27,7 @@ pub(crate) fn program_key(
     ensures answer { Gives is_memory (λ r0. (r0, plain_memory memory.new)) result
         (key_derived (plain_memory memory.old) seeds count program result_at) }
     ensures refused { OnErr result (plain_memory memory.new ≡ plain_memory memory.old) }
+    ensures lent { memory.new.input.lent ≡ memory.old.input.lent }
 {
     if count > MAX_SEEDS as u64 {
         return Err(SysFault::TooManySeeds);
@@ -47,6 +48,7 @@ fn write_key(
     ensures answer { Gives is_memory (λ r0. (r0, plain_memory memory.new)) result
         (key_written (plain_memory memory.old) program result_at slices.now) }
     ensures refused { OnErr result (plain_memory memory.new ≡ plain_memory memory.old) }
+    ensures lent { memory.new.input.lent ≡ memory.old.input.lent }
 {
     if has_long_slice(slices) {
         return Ok(1);

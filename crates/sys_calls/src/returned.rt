@@ -49,6 +49,7 @@ pub(crate) fn get_return(
     ensures answer { Gives is_memory (λ r0. (r0, plain_memory memory.new)) result
         (return_got (plain_memory memory.old) returned.now keeper.now to len program) }
     ensures refused { OnErr result (plain_memory memory.new ≡ plain_memory memory.old) }
+    ensures lent { memory.new.input.lent ≡ memory.old.input.lent }
 {
     if returned.is_empty() {
         return Ok(0);
@@ -70,6 +71,7 @@ fn write_both(
     ensures answer { Gives is_memory (λ _. plain_memory memory.new) result
         (both_written (plain_memory memory.old) to first.now other second.now) }
     ensures refused { OnErr result (plain_memory memory.new ≡ plain_memory memory.old) }
+    ensures lent { memory.new.input.lent ≡ memory.old.input.lent }
 {
     memory.is_memory();
     prepare(memory, to, first.len() as u64)?;

@@ -3,7 +3,7 @@ ghost use Rattle.std.specs.Prelude.{◌≡◌, ◌≤◌, OnOk, OnErr, IfOk, IfE
 ghost use Rattle.tx_report.specs.LogLines.{with_line};
 ghost use Rattle.sbpf_memory.specs.Plain.{plain_memory};
 ghost use Rattle.sys_calls.specs.Costs.{IsServed};
-ghost use Rattle.sys_calls.specs.SysCalls.{Serves, KeepsBlock, KeepsSizes, Does, sys_row, effect_of};
+ghost use Rattle.sys_calls.specs.SysCalls.{Serves, KeepsBlock, IsServedMemory, Does, sys_row, effect_of};
 
 use crate::block::{get_rent, get_slot};
 use crate::env::{Env, charge};
@@ -30,7 +30,7 @@ pub fn serve(
     ensures answer { Serves (sys_row number arguments (plain_memory memory.old) env.old)
         memory.old memory.new env.old env.new result }
     ensures block { KeepsBlock env.old env.new }
-    ensures sizes { KeepsSizes memory.old memory.new }
+    ensures memory { IsServedMemory memory.old memory.new }
     ensures units { env.new.units ≤ env.old.units }
 {
     let call = SystemCall::numbered(number);

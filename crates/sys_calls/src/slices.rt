@@ -4,7 +4,8 @@ ghost use Rattle.std.specs.List.{range_with_len};
 ghost use Rattle.spec_base.specs.Reading.{Gives};
 ghost use Rattle.sbpf_memory.specs.Plain.{plain_memory};
 ghost use Rattle.sys_calls.specs.Access.{is_memory};
-ghost use Rattle.sys_calls.specs.Slices.{slice_at, slices_read};
+ghost use Rattle.sys_calls.specs.Costs.{max_slices};
+ghost use Rattle.sys_calls.specs.Slices.{slice_at, slice_len, slices_read};
 
 use crate::access::read_bytes;
 use crate::fault::SysFault;
@@ -31,7 +32,7 @@ pub(crate) fn read_slices(
     at: u64,
     count: u64,
 ) -> Result<Items<Slice>, SysFault>
-    requires { count ≤ 20000 }
+    requires { count ≤ max_slices }
     ensures { Gives is_memory (λ slices. slices) result
         (slices_read (plain_memory memory.now) at count) }
 {
@@ -42,7 +43,7 @@ pub(crate) fn read_slices(
 /// The slices that stand in bytes.
 #[tactic(auto, using(crate::proofs::Loops::ranges))]
 fn slices_in(alloc: Global, bytes: &[u8], count: usize) -> Result<Items<Slice>, OutOfMemory>
-    requires { 16 * count ≤ length bytes.now }
+    requires { slice_len * count ≤ length bytes.now }
     ensures { IfOk result (λ slices. slices ≡ map (slice_at bytes.now) (range_with_len 0 count)) }
 {
     let mut slices = Items::with_capacity(alloc, count)?;
@@ -54,7 +55,7 @@ fn slices_in(alloc: Global, bytes: &[u8], count: usize) -> Result<Items<Slice>, 
 
 /// The slice at an index.
 fn slice_in(bytes: &[u8], index: usize) -> Slice
-    requires { 16 * index + 16 ≤ length bytes.now }
+    requires { slice_len * index + slice_len ≤ length bytes.now }
     ensures { result ≡ slice_at bytes.now index }
 {
     let at = SLICE_LEN * index;

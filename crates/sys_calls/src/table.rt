@@ -23,6 +23,12 @@ pub enum SystemCall {
     GetHeight,
 }
 
+/// What most calls cost.
+const BASE_COST: u64 = 100;
+
+/// The bytes that cost one unit.
+const BYTES_OF_UNIT: u64 = 250;
+
 impl SystemCall {
     /// The call of a number.
     pub(crate) fn numbered(number: u32) -> SystemCall
@@ -60,16 +66,16 @@ impl SystemCall {
             | SystemCall::Log64
             | SystemCall::LogKey
             | SystemCall::LogUnits
-            | SystemCall::GetHeight => 100,
-            SystemCall::Log => second.max(100),
+            | SystemCall::GetHeight => BASE_COST,
+            SystemCall::Log => second.max(BASE_COST),
             SystemCall::Sha256 => 85,
             SystemCall::Memcpy | SystemCall::Memmove | SystemCall::Memcmp | SystemCall::Memset =>
-                (third / 250).max(10),
+                (third / BYTES_OF_UNIT).max(10),
             SystemCall::ProgramKey => 1_500,
             SystemCall::GetSlot => 108,
             SystemCall::GetRent => 116,
-            SystemCall::SetReturn => 100 + second / 250,
-            SystemCall::GetReturn => 100 + second.min(kept) / 250,
+            SystemCall::SetReturn => BASE_COST + second / BYTES_OF_UNIT,
+            SystemCall::GetReturn => BASE_COST + second.min(kept) / BYTES_OF_UNIT,
         }
     }
 }

@@ -4,12 +4,20 @@ use Rattle.std.proofs.lemmas.List.{length-append, length-map}
 use Rattle.sol_base.specs.declared.account.Account.{Account}
 use Rattle.sol_base.specs.Accounts.{accounts_of, SameUnlessTouched}
 use Rattle.abi_input.specs.Region.{account_back}
+use Rattle.abi_input.proofs.Entries.{account_there}
+use Rattle.abi_input.proofs.Lent.{lent_at_entry}
 use Rattle.abi_input.proofs.TakeLaws.{account_by_is, all_taken, entry_holds, pushed, shared_at, taken_more, untouched_more}
 use Rattle.abi_input.proofs.taking.taken_by.Goals as goal
 
 pub take_one-requires-clause-entry : goal.take_one-requires-clause-entry
 take_one-requires-clause-entry c =
     λ entry has. entry_holds c.args.region.now.bytes (accounts_of c.args.start.now) c.args.metas.now c.loop-index.index c.entry_at.result entry c.requires.region c.requires.lengths (c.entry_at.ensures ∙ c.requires.entries c.loop-index.index) has
+
+pub take_one-requires-clause-lent : goal.take_one-requires-clause-lent
+take_one-requires-clause-lent c =
+    let x = c.index-now-index.result in
+    λ entry has. lent_at_entry (accounts_of c.args.start.now) (accounts_of c.args.now.now) c.args.metas.now c.args.region.now.lent c.loop-index.index c.entry_at.result entry (arc_value x) c.requires.lent (c.entry_at.ensures ∙ c.requires.entries c.loop-index.index) has
+    (account_there c.args.now.now c.loop-index.index x c.loop-index-test.true c.index-now-index.is)
 
 pub loop-index-preserved : goal.loop-index-preserved
 loop-index-preserved c =

@@ -1,4 +1,4 @@
-use Rattle.std.proofs.Common.{◌≡◌, ◌<◌, length, sym, ◌∙◌, refl, arith}
+use Rattle.std.proofs.Common.{◌<◌, length, sym, ◌∙◌, refl, arith}
 use Rattle.cpi_calls.specs.Rights.{exceeds_with}
 use Rattle.cpi_calls.proofs.Grants.{pair-more, pair-found, pair-none}
 use Rattle.cpi_calls.proofs.grant.check_rights.Goals as goal

@@ -1,6 +1,6 @@
-use Rattle.std.proofs.Common.{◌≡◌, map, sym, ap, ◌∙◌, refl}
+use Rattle.std.proofs.Common.{◌∙◌, refl}
 use Rattle.std.proofs.lemmas.List.{take_all}
-use Rattle.cpi_calls.specs.Rights.{is_missing, meta_of}
+use Rattle.cpi_calls.specs.Rights.{is_missing}
 use Rattle.cpi_calls.proofs.Grants.{position-none, found-more, missing-at, present-at}
 use Rattle.cpi_calls.proofs.grant.find_accounts.Goals as goal
 

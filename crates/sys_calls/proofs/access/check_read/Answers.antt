@@ -1,4 +1,4 @@
-use Rattle.std.proofs.Common.{◌≤◌, refl, subst, sym, arith}
+use Rattle.std.proofs.Common.{refl, arith}
 use Rattle.sbpf_memory.proofs.Reading.{read-nothing}
 use Rattle.sbpf_memory.specs.Plain.{plain_memory}
 use Rattle.sys_calls.proofs.SelfCopies.{told}

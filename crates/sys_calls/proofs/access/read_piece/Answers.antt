@@ -1,7 +1,7 @@
-use Rattle.std.proofs.Common.{◌≡◌, ◌≤◌, ◌<◌, ◌+◌, ◌-◌, ◌^◌, min, length, take, drop, Ok, IsOk, refl, sym, ap, ◌∙◌, arith}
+use Rattle.std.proofs.Common.{◌≡◌, ◌<◌, ◌+◌, ◌-◌, ◌^◌, min, length, take, IsOk, arith}
 use Rattle.std.proofs.lemmas.Grind.{common_steps}
 use Rattle.sbpf_memory.specs.Memory.{read_from}
-use Rattle.sys_calls.specs.Access.{held}
+use Rattle.sys_calls.specs.declared.access.TheConstants.{PIECE}
 use Rattle.sys_calls.proofs.Plain.{read-plain}
 use Rattle.sys_calls.proofs.Pieces.{part, given, held-plain}
 use Rattle.sys_calls.proofs.access.read_piece.Goals as goal
@@ -17,6 +17,6 @@ overflow_add-addr c =
 pub returns-clause-bytes : goal.returns-clause-bytes
 returns-clause-bytes c =
     let ok : IsOk (read_from c.args.memory.now c.args.addr c.args.len) = rw (read-plain c.args.memory.now c.args.addr c.args.len) at c.requires.readable in
-    let p = part c.args.memory.now c.args.addr c.args.len c.args.at (min 1024 (c.args.len - c.args.at)) c.is_memory.ensures ok (omega (arith, c.requires.place)) (omega (arith, c.requires.place)) in
-    let size : length (take c.min-count.result c.args.buffer.now) ≡ min 1024 (c.args.len - c.args.at) = grind (arith, common_steps) in
+    let p = part c.args.memory.now c.args.addr c.args.len c.args.at (min PIECE (c.args.len - c.args.at)) c.is_memory.ensures ok (omega (arith, c.requires.place)) (omega (arith, c.requires.place)) in
+    let size : length (take c.min-count.result c.args.buffer.now) ≡ min PIECE (c.args.len - c.args.at) = grind (arith, common_steps) in
     rw (held-plain c.args.memory.now c.args.addr c.args.len) (given c.read.result _ _ _ _ c.read.ensures (rw size p.bytes))

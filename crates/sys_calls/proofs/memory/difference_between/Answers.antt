@@ -1,8 +1,8 @@
-use Rattle.std.proofs.Common.{◌≡◌, ◌≤◌, ◌+◌, ◌-◌, min, length, drop, refl, sym, ap, ◌∙◌, arith}
+use Rattle.std.proofs.Common.{◌≡◌, ◌≤◌, ◌-◌, min, length, refl, arith}
 use Rattle.std.proofs.lemmas.List.{drop_all}
 use Rattle.sbpf_memory.specs.Plain.{plain_memory}
+use Rattle.sys_calls.specs.declared.access.TheConstants.{PIECE}
 use Rattle.sys_calls.specs.Access.{held}
-use Rattle.sys_calls.specs.SysCalls.{differing}
 use Rattle.sys_calls.proofs.Differences.{piece-found, piece-passed}
 use Rattle.sys_calls.proofs.Pieces.{memory-plain, length-held}
 use Rattle.sys_calls.proofs.memory.difference_between.Goals as goal
@@ -10,11 +10,11 @@ use Rattle.sys_calls.proofs.memory.difference_between.Goals as goal
 pub returns-in-Some : goal.returns-in-Some
 returns-in-Some c =
     piece-found (held (plain_memory c.args.memory.now) c.args.one c.args.count) (held (plain_memory c.args.memory.now) c.args.other c.args.count) c.read_piece-a.result.now c.read_piece-b.result.now
-    c.loop-at.at (min 1024 (c.args.count - c.loop-at.at)) c.in-Some.difference c.read_piece-a.ensures.bytes c.read_piece-b.ensures.bytes c.in-Some.ensures c.loop-at.invariant.same
+    c.loop-at.at (min PIECE (c.args.count - c.loop-at.at)) c.in-Some.difference c.read_piece-a.ensures.bytes c.read_piece-b.ensures.bytes c.in-Some.ensures c.loop-at.invariant.same
 
 pub loop-at-preserved : goal.loop-at-preserved
 loop-at-preserved c =
-    let size : length c.read_piece-a.result.now ≡ min 1024 (c.args.count - c.loop-at.at) = c.read_piece-a.ensures.count in
+    let size : length c.read_piece-a.result.now ≡ min PIECE (c.args.count - c.loop-at.at) = c.read_piece-a.ensures.count in
     record {
       within = omega arith;
       same =

@@ -1,7 +1,7 @@
-use Rattle.std.proofs.Common.{◌≡◌, ◌≤◌, ◌<◌, ◌+◌, ◌-◌, ◌^◌, ℕ, List, min, replicate, take, length, Ok, sym, ap, subst, ◌∙◌, refl, arith}
+use Rattle.std.proofs.Common.{◌≡◌, ◌≤◌, ◌<◌, ◌+◌, ◌-◌, ◌^◌, min, replicate, take, arith}
 use Rattle.std.proofs.lemmas.List.{take-replicate}
-use Rattle.sbpf_memory.specs.Memory.{write_to, Answers, or_refusal, HasMemory, IsPrepared}
 use Rattle.sbpf_memory.proofs.Writing.{write-nothing}
+use Rattle.sys_calls.specs.declared.access.TheConstants.{PIECE}
 use Rattle.sys_calls.proofs.Fills.{fill-more, fill-low}
 use Rattle.sys_calls.proofs.memory.fill.Goals as goal
 
@@ -15,9 +15,9 @@ overflow_add-to c =
 
 pub loop-at-preserved : goal.loop-at-preserved
 loop-at-preserved c =
-    let len : c.min-len.result ≡ min (c.args.count - c.loop-at.at) 1024 = c.min-len.ensures in
-    let short : c.min-len.result ≤ 1024 = omega (arith, len) in
-    let piece : take c.min-len.result (replicate 1024 c.args.byte) ≡ replicate c.min-len.result c.args.byte = take-replicate c.min-len.result 1024 c.args.byte short in
+    let len : c.min-len.result ≡ min (c.args.count - c.loop-at.at) PIECE = c.min-len.ensures in
+    let short : c.min-len.result ≤ PIECE = omega (arith, len) in
+    let piece : take c.min-len.result (replicate PIECE c.args.byte) ≡ replicate c.min-len.result c.args.byte = take-replicate c.min-len.result PIECE c.args.byte short in
     record {
       within = omega arith;
       filled = fill-more c.args.memory.now c.loop-at.memory c.write.new.self c.args.to c.loop-at.at c.min-len.result c.args.count c.args.byte c.write.result c.is_memory.ensures c.requires.free c.requires.ready (omega arith) (omega arith)

@@ -1,9 +1,9 @@
-use Rattle.std.proofs.Common.{◌≡◌, ◌∙◌}
+use Rattle.std.proofs.Common.{◌∙◌}
 use Rattle.std.specs.Prelude.{nat_lt}
 use Rattle.std.proofs.lemmas.Result.{err_from_is_err_and}
 use Rattle.sbpf_memory.specs.Plain.{plain_memory}
 use Rattle.sys_calls.proofs.Loops.{charge-refused, spent-none}
-use Rattle.sys_calls.proofs.Answering.{served, row-spent, spent-serves, serves-sizes}
+use Rattle.sys_calls.proofs.Answering.{served, row-spent, spent-serves, serves-memory}
 use Rattle.sys_calls.proofs.serving.serve.Goals as goal
 
 pub returns-in_err-charge-clause-answer : goal.returns-in_err-charge-clause-answer
@@ -18,8 +18,8 @@ returns-clause-answer c =
     served c.args.number c.args.arguments c.args.memory.now c.take_effect.new.memory c.args.env.now c.take_effect.new.env c.charge.new.units c.cost.result c.len.result c.numbered-call.result c.take_effect.result
     c.numbered-call.ensures c.len.ensures c.cost.ensures c.in_ok-charge.ensures.answer c.in_ok-charge.ensures.left c.take_effect.ensures
 
-pub returns-clause-sizes : goal.returns-clause-sizes
-returns-clause-sizes c =
-    serves-sizes c.args.number c.args.arguments c.args.memory.now c.take_effect.new.memory c.args.env.now c.take_effect.new.env c.take_effect.result
+pub returns-clause-memory : goal.returns-clause-memory
+returns-clause-memory c =
+    serves-memory c.args.number c.args.arguments c.args.memory.now c.take_effect.new.memory c.args.env.now c.take_effect.new.env c.take_effect.result c.take_effect.ensures.5
     (served c.args.number c.args.arguments c.args.memory.now c.take_effect.new.memory c.args.env.now c.take_effect.new.env c.charge.new.units c.cost.result c.len.result c.numbered-call.result c.take_effect.result
     c.numbered-call.ensures c.len.ensures c.cost.ensures c.in_ok-charge.ensures.answer c.in_ok-charge.ensures.left c.take_effect.ensures)

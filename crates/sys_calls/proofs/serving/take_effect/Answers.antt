@@ -1,4 +1,4 @@
-use Rattle.std.proofs.Common.{◌≡◌, [], ◌∷◌, sym, ap, ◌∙◌}
+use Rattle.std.proofs.Common.{[], ◌∷◌, ap, ◌∙◌}
 use Rattle.sbpf_memory.specs.Plain.{plain_memory}
 use Rattle.sys_calls.specs.declared.table.SystemCall.{SystemCall}
 use Rattle.sys_calls.specs.Costs.{r1, r2, r3, r4, r5}

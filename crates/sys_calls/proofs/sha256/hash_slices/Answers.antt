@@ -1,10 +1,7 @@
-use Rattle.std.proofs.Common.{◌≡◌, ℕ, ◌-◌, ◌++◌, max, Ok, Err, refl, sym, ap, ◌∙◌}
+use Rattle.std.proofs.Common.{ℕ, ◌-◌, ◌++◌, Ok, refl, sym, ap, ◌∙◌}
 use Rattle.std.specs.Prelude.{nat_lt}
 use Rattle.std.proofs.lemmas.Result.{err_from_is_err_and}
 use Rattle.sbpf_memory.specs.Plain.{plain_memory}
-use Rattle.sys_calls.specs.declared.fault.SysFault.TheVariants.{UnitsSpent}
-use Rattle.sys_calls.specs.Access.{held}
-use Rattle.sys_calls.specs.Slices.{gathered}
 use Rattle.sys_calls.proofs.Loops.{no_slice, charge-refused, charge-paid, gather-spent, gather-refused, gather-more, gather-done, spent-none}
 use Rattle.sys_calls.proofs.sha256.hash_slices.Goals as goal
 

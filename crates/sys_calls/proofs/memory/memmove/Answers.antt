@@ -1,0 +1,6 @@
+use Rattle.std.proofs.Common.{false}
+use Rattle.sys_calls.proofs.Lent.{copy-lent}
+use Rattle.sys_calls.proofs.memory.memmove.Goals as goal
+
+pub returns-clause-lent : goal.returns-clause-lent
+returns-clause-lent c = copy-lent c.args.memory.now c.copy.new.self c.args.to c.args.from c.args.count false c.in_ok-copy.ensures.answer
