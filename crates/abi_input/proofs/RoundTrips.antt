@@ -158,11 +158,11 @@ module _ (start : List Account) (metas : List Meta) (entry : ℕ × Meta → Lis
 module _ (start now : List Account) (metas : List Meta) (region : List ℕ)
     (stand : (k : ℕ) (meta : Meta) → slice_get metas k ≡ Some meta → is_first_listing metas (k, meta) ≡ true → Stands region (entry_start start metas k) (account_in now meta.index))
     (short : (k : ℕ) (meta : Meta) → slice_get metas k ≡ Some meta → is_first_listing metas (k, meta) ≡ true → (length (account_in now meta.index).bytes ≤ room_of (account_in start meta.index)) × (length (account_in now meta.index).bytes ≤ max_data_len)) where
-  neither : (room len most : ℕ) → len ≤ room → len ≤ most → (nat_lt room len || nat_lt most len) ≡ false
-  neither room len most r m = grind (arith, nat_tests)
+  no_more_than : (room len most : ℕ) → len ≤ room → len ≤ most → (nat_lt room len || nat_lt most len) ≡ false
+  no_more_than room len most r m = grind (arith, nat_tests)
 
   fits : (first : Account) (number len : ℕ) → number ≡ len → len ≤ room_of first → len ≤ max_data_len → (has_outgrown first number || nat_lt max_data_len number) ≡ false
-  fits first number len e r m = neither (room_of first) number max_data_len (omega (arith, e, r)) (omega (arith, e, m))
+  fits first number len e r m = no_more_than (room_of first) number max_data_len (omega (arith, e, r)) (omega (arith, e, m))
 
   not_too_long : (k : ℕ) (meta : Meta) → slice_get metas k ≡ Some meta → (b : Bool) → is_first_listing metas (k, meta) ≡ b → (b && is_too_long region start metas (k, meta)) ≡ false
   not_too_long k meta e true first =

@@ -9,7 +9,7 @@ ghost use Rattle.abi_input.specs.Widths.{AreKeys, HaveWidths};
 
 /// A law: what is laid out is taken back as it was, where nothing is written in between.
 pub fn what_is_laid_out_is_taken_back()
-    ensures { (keys : List KeyValue) (accounts : List AccountValue) (metas : List MetaValue)
+    ensures accounts { (keys : List KeyValue) (accounts : List AccountValue) (metas : List MetaValue)
         (input : List ℕ) (program : KeyValue)
         → length accounts ≡ length keys → AreInRange (length accounts) metas
         → AreKeys keys → HaveWidths accounts
@@ -18,7 +18,7 @@ pub fn what_is_laid_out_is_taken_back()
 
 /// A law: what is patched in is taken back, where nothing is written in between.
 pub fn what_is_patched_in_is_taken_back()
-    ensures { (region after : List ℕ) (start now : List AccountValue) (metas : List MetaValue)
+    ensures accounts { (region after : List ℕ) (start now : List AccountValue) (metas : List MetaValue)
         → length now ≡ length start → AreInRange (length start) metas → HaveWidths now
         → IsRegionOf start metas region → patched region start now metas ≡ Ok after
         → back after start now metas ≡ Ok now }

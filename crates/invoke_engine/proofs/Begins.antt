@@ -1,6 +1,6 @@
 -- Frames at their starts.
-use Rattle.std.proofs.Common.{◌≡◌, ◌≤◌, ℕ, length, Bool, true, false, List, Result, Ok, Err, refl, ap, ◌∙◌, ◌-◌, arith}
-use Rattle.std.specs.Prelude.{nat_lt, cond, not, ◌&&◌}
+use Rattle.std.proofs.Common.{◌≡◌, ◌≤◌, ℕ, length, false, List, Result, Ok, Err, refl, ap, ◌∙◌, ◌-◌, arith}
+use Rattle.std.specs.Prelude.{nat_lt, not, ◌&&◌}
 use Rattle.std.proofs.lemmas.Bool.Decides.{nat_tests}
 use Rattle.std.proofs.lemmas.Bool.{cond-false}
 use Rattle.sol_base.specs.declared.key.Key.{Key}
@@ -9,6 +9,7 @@ use Rattle.tx_report.specs.declared.status.InstructionError.{InstructionError}
 use Rattle.sol_base.specs.Metas.{AreInRange, is_listed_writable}
 use Rattle.program_cache.specs.Ready.{ReadyImage}
 use Rattle.program_cache.specs.Programs.{Sought, IsReady, IsAbsent, IsNoProgram, IsBad, IsUnverified}
+use Rattle.abi_input.specs.Region.{max_metas}
 use Rattle.invoke_engine.specs.declared.call.Call.{Call}
 use Rattle.invoke_engine.specs.declared.stopped.Stopped.{Stopped}
 use Rattle.invoke_engine.specs.Frames.{Fixed, Carried, Running, Ending, Next, Runs, Ends, height}
@@ -21,10 +22,10 @@ use Rattle.invoke_engine.specs.Given.{AreGiven}
 use Rattle.invoke_engine.proofs.Fuel.{either}
 use Rattle.invoke_engine.proofs.Keeping.{kept_given, native_row_keeps}
 
-pub entering_ready : (s : Fixed) (outer : List Key) (key : Key) (call : Call) (accounts : List Account) (units : ℕ) (c : Carried) (image : ReadyImage) → length call.metas ≤ 255 → is_native key ≡ false → s.programs key ≡ IsReady image → entering s outer key call accounts units c ≡ Runs (first_running s.setting s.keys key image call accounts units) c
+pub entering_ready : (s : Fixed) (outer : List Key) (key : Key) (call : Call) (accounts : List Account) (units : ℕ) (c : Carried) (image : ReadyImage) → length call.metas ≤ max_metas → is_native key ≡ false → s.programs key ≡ IsReady image → entering s outer key call accounts units c ≡ Runs (first_running s.setting s.keys key image call accounts units) c
 unfolding entering
 entering_ready s outer key call accounts units c image h k l =
-    cond-false (nat_lt 255 (length call.metas)) _ _ (grind (arith, nat_tests)) ∙ cond-false (is_native key) _ _ k ∙ ap (entered s.setting s.keys outer key call accounts units c) l
+    cond-false (nat_lt max_metas (length call.metas)) _ _ (grind (arith, nat_tests)) ∙ cond-false (is_native key) _ _ k ∙ ap (entered s.setting s.keys outer key call accounts units c) l
 
 or_error_fits : (n units : ℕ) (c : Carried) (height : ℕ) (result : Result (List Account) Stopped) → ((after : List Account) → result ≡ Ok after → AreGiven n after) → (let e : Ending = record { units = units; carried = c; result = or_error height result } in EndFits n e)
 or_error_fits n units c height (Ok after) k = k after refl
@@ -54,7 +55,7 @@ entered_fits n s outer key call accounts units c (IsUnverified fault) = tt
 entering_fits : (n : ℕ) (s : Fixed) (outer : List Key) (key : Key) (call : Call) (accounts : List Account) (units : ℕ) (c : Carried) → AreInRange n call.metas → AreGiven n accounts → EndsFit n (entering s outer key call accounts units c)
 unfolding entering
 entering_fits n s outer key call accounts units c range g =
-    either (EndsFit n) (nat_lt 255 (length call.metas)) _ _ (crowded_fits n s key outer units c)
+    either (EndsFit n) (nat_lt max_metas (length call.metas)) _ _ (crowded_fits n s key outer units c)
     (either (EndsFit n) (is_native key) _ _ (native_fits n key outer s.keys call accounts units c range g)
     (entered_fits n s outer key call accounts units c (s.programs key)))
 

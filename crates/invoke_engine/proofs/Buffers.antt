@@ -8,6 +8,7 @@ use Rattle.sol_base.specs.declared.lock.Meta.{Meta}
 use Rattle.loader_prog.specs.Laws.{OnlyTheAuthorityWrites}
 use Rattle.loader_prog.specs.Loader.{loader_row}
 use Rattle.loader_prog.proofs.Authority.{only_the_authority}
+use Rattle.abi_input.specs.Region.{max_metas}
 use Rattle.invoke_engine.specs.declared.call.Call.{Call}
 use Rattle.invoke_engine.specs.declared.stopped.Stopped.{Stopped}
 use Rattle.invoke_engine.specs.Reasons.{refuse, by_loader}
@@ -49,7 +50,7 @@ crowded_writes keys accounts metas s key outer units c = either (Writes keys acc
 entering_writes : (s : Fixed) (outer : List Key) (call : Call) (accounts : List Account) (units : ℕ) (c : Carried) → AreListed (length s.keys) call.metas accounts → NextWrites s.keys accounts call.metas (entering s outer LOADER_PROGRAM call accounts units c)
 unfolding entering
 entering_writes s outer call accounts units c listed =
-    either (NextWrites s.keys accounts call.metas) (nat_lt 255 (length call.metas)) _ _
+    either (NextWrites s.keys accounts call.metas) (nat_lt max_metas (length call.metas)) _ _
     (crowded_writes s.keys accounts call.metas s LOADER_PROGRAM outer units c)
     (native_writes outer s.keys call accounts units c listed)
 

@@ -6,6 +6,7 @@ use Rattle.sol_base.specs.declared.key.TheConstants.{SYSTEM_PROGRAM}
 use Rattle.sol_base.specs.declared.account.Account.{Account}
 use Rattle.tx_report.specs.LogLines.{Log}
 use Rattle.program_cache.specs.Programs.{Sought}
+use Rattle.abi_input.specs.Region.{max_metas}
 use Rattle.invoke_engine.specs.declared.call.Call.{Call}
 use Rattle.invoke_engine.specs.declared.call.Setting.{Setting}
 use Rattle.invoke_engine.specs.Frames.{Carried, Running, Ending, Next, Runs, Ends, Turn, GoesOn, Calls, Leaves, height}
@@ -48,7 +49,7 @@ module _ (one other : Key → Sought) (setting : Setting) (keys : List Key) (sam
       entering (fixed one setting keys) outer (key_at keys place) call accounts units c ≡ entering (fixed other setting keys) outer (key_at keys place) call accounts units c
   unfolding entering
   same_entering place outer call accounts units c =
-      by_test (nat_lt 255 (length call.metas)) _ _ _ _ (ap Ends (same_crowded place outer units c))
+      by_test (nat_lt max_metas (length call.metas)) _ _ _ _ (ap Ends (same_crowded place outer units c))
       (λ few. by_test (is_native (key_at keys place)) _ _ _ _ refl (λ native. ap (entered setting keys outer (key_at keys place) call accounts units c) (same_at place native)))
 
   same_begun : (outer : List Key) (call : Call) (accounts : List Account) (units : ℕ) (c : Carried) → begun (fixed one setting keys) outer call accounts units c ≡ begun (fixed other setting keys) outer call accounts units c

@@ -14,6 +14,7 @@ use Rattle.sys_calls.proofs.Rows.{sys_row-units}
 use Rattle.cpi_calls.proofs.Requests.{request-units}
 use Rattle.sbpf_machine.proofs.Taking.{steps_take}
 use Rattle.sbpf_machine.specs.Keeping.{TakesUnits}
+use Rattle.abi_input.specs.Region.{max_metas}
 use Rattle.invoke_engine.specs.declared.call.Call.{Call}
 use Rattle.invoke_engine.specs.declared.call.Setting.{Setting}
 use Rattle.invoke_engine.specs.declared.stopped.Stopped.{Stopped}
@@ -98,7 +99,7 @@ crowded_takes programs key outer units c = either (λ (e : Ending). e.units ≤ 
 entering_takes : (s : Fixed) (outer : List Key) (key : Key) (call : Call) (accounts : List Account) (units : ℕ) (c : Carried) → NextTakes units (entering s outer key call accounts units c)
 unfolding entering
 entering_takes s outer key call accounts units c =
-    either (NextTakes units) (nat_lt 255 (length call.metas)) _ _
+    either (NextTakes units) (nat_lt max_metas (length call.metas)) _ _
     (crowded_takes s.programs key outer units c)
     (either (NextTakes units) (is_native key) _ _ (native_takes key outer s.keys call accounts units c)
     (entered_takes s.setting s.keys outer key call accounts units c (s.programs key)))

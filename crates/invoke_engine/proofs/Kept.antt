@@ -17,6 +17,7 @@ use Rattle.sys_calls.specs.declared.fault.SysFault.{SysFault}
 use Rattle.cpi_calls.specs.Rights.{IsWithin}
 use Rattle.cpi_calls.proofs.Within.{rights-within}
 use Rattle.program_cache.specs.Programs.{Sought, IsReady, IsAbsent, IsNoProgram, IsBad, IsUnverified}
+use Rattle.abi_input.specs.Region.{max_metas}
 use Rattle.invoke_engine.specs.declared.call.Call.{Call}
 use Rattle.invoke_engine.specs.declared.call.Setting.{Setting}
 use Rattle.invoke_engine.specs.declared.stopped.Stopped.{Stopped}
@@ -137,7 +138,7 @@ crowded_keeps metas accounts s key outer units c = either (EndKeeps metas accoun
 entering_keeps : (n : ℕ) (s : Fixed) (outer : List Key) (key : Key) (call : Call) (accounts : List Account) (units : ℕ) (c : Carried) → AreListed n call.metas accounts → NextKeeps call.metas accounts (entering s outer key call accounts units c)
 unfolding entering
 entering_keeps n s outer key call accounts units c listed =
-    either (NextKeeps call.metas accounts) (nat_lt 255 (length call.metas)) _ _ (crowded_keeps call.metas accounts s key outer units c)
+    either (NextKeeps call.metas accounts) (nat_lt max_metas (length call.metas)) _ _ (crowded_keeps call.metas accounts s key outer units c)
     (either (NextKeeps call.metas accounts) (is_native key) _ _ (native_keeps n key outer s.keys call accounts units c listed)
     (entered_keeps s outer key call accounts units c (s.programs key)))
 
@@ -255,7 +256,7 @@ entered_starts s outer key call accounts units c (IsUnverified fault) = tt
 entering_starts : (s : Fixed) (outer : List Key) (key : Key) (call : Call) (accounts : List Account) (units : ℕ) (c : Carried) → StartsWith accounts (entering s outer key call accounts units c)
 unfolding entering
 entering_starts s outer key call accounts units c =
-    either (StartsWith accounts) (nat_lt 255 (length call.metas)) _ _ tt (either (StartsWith accounts) (is_native key) _ _ tt (entered_starts s outer key call accounts units c (s.programs key)))
+    either (StartsWith accounts) (nat_lt max_metas (length call.metas)) _ _ tt (either (StartsWith accounts) (is_native key) _ _ tt (entered_starts s outer key call accounts units c (s.programs key)))
 
 begun_starts : (s : Fixed) (outer : List Key) (call : Call) (accounts : List Account) (units : ℕ) (c : Carried) → StartsWith accounts (begun s outer call accounts units c)
 unfolding begun

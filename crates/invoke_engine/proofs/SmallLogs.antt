@@ -13,7 +13,7 @@ use Rattle.sbpf_machine.specs.Steps.{State, arguments_in, steps}
 use Rattle.sbpf_machine.specs.declared.stop.Stop.{Stop}
 use Rattle.sbpf_machine.specs.declared.stop.Stop.TheVariants.{Exit, Helper, Fault as Faulted}
 use Rattle.sbpf_verify.specs.Faults.{fault_number}
-use Rattle.abi_input.specs.Region.{patched}
+use Rattle.abi_input.specs.Region.{max_metas, patched}
 use Rattle.program_cache.specs.Programs.{Sought, IsReady, IsAbsent, IsNoProgram, IsBad, IsUnverified}
 use Rattle.sys_calls.specs.SysCalls.{Service}
 use Rattle.sys_calls.specs.declared.fault.SysFault.{SysFault}
@@ -134,7 +134,7 @@ crowded-small programs key outer units c small =
 entering-small : (s : Fixed) (outer : List Key) (key : Key) (call : Call) (accounts : List Account) (units : ℕ) (c : Carried) → IsSmall c.log → NextSmall (entering s outer key call accounts units c)
 unfolding entering
 entering-small s outer key call accounts units c small =
-    either NextSmall (nat_lt 255 (length call.metas)) _ _
+    either NextSmall (nat_lt max_metas (length call.metas)) _ _
     (crowded-small s.programs key outer units c small)
     (either NextSmall (is_native key) _ _ (native-small key outer s.keys call accounts units c small)
     (entered-small s.setting s.keys outer key call accounts units c (s.programs key) small))

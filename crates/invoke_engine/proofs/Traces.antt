@@ -12,6 +12,7 @@ use Rattle.sbpf_machine.specs.declared.stop.Stop.TheVariants.{Exit, Helper, Faul
 use Rattle.program_cache.specs.Programs.{Sought, IsReady, IsAbsent, IsNoProgram, IsBad, IsUnverified}
 use Rattle.sys_calls.specs.SysCalls.{Service}
 use Rattle.sys_calls.specs.declared.fault.SysFault.{SysFault}
+use Rattle.abi_input.specs.Region.{max_metas}
 use Rattle.invoke_engine.specs.declared.call.Call.{Call}
 use Rattle.invoke_engine.specs.declared.call.Setting.{Setting}
 use Rattle.invoke_engine.specs.declared.stopped.Stopped.{Stopped}
@@ -94,7 +95,7 @@ crowded_counts programs key outer units c =
 entering_counts : (s : Fixed) (outer : List Key) (key : Key) (call : Call) (accounts : List Account) (units : ℕ) (c : Carried) → NextCounts c.trace (entering s outer key call accounts units c)
 unfolding entering
 entering_counts s outer key call accounts units c =
-    either (NextCounts c.trace) (nat_lt 255 (length call.metas)) _ _
+    either (NextCounts c.trace) (nat_lt max_metas (length call.metas)) _ _
     (crowded_counts s.programs key outer units c)
     (either (NextCounts c.trace) (is_native key) _ _ (native_counts key outer s.keys call accounts units c)
     (entered_counts s.setting s.keys outer key call accounts units c (s.programs key)))

@@ -1,10 +1,10 @@
 -- Turns by the stops that they come to.
 use Rattle.std.proofs.Common.{◌≡◌, ◌==◌, ℕ, Bool, true, false, List, Some, Result, Ok, Err, refl, ap, sym, subst, ◌∙◌, arith}
 use Rattle.std.proofs.lemmas.Bool.Decides.{nat_tests}
-use Rattle.std.specs.Prelude.{IfOk, cond}
+use Rattle.std.specs.Prelude.{IfErr, IfOk, cond}
 use Rattle.sol_base.specs.declared.key.Key.{Key}
 use Rattle.sol_base.specs.declared.memory.OutOfMemory.{OutOfMemory}
-use Rattle.sbpf_machine.specs.Steps.{State, steps}
+use Rattle.sbpf_machine.specs.Steps.{State, StandsBeforeStore, steps}
 use Rattle.sbpf_machine.specs.declared.stop.Stop.{Stop}
 use Rattle.sbpf_machine.specs.declared.stop.Stop.TheVariants.{Helper}
 use Rattle.sbpf_machine.specs.Plain.{plain}
@@ -14,18 +14,19 @@ use Rattle.invoke_engine.specs.Calling.{call_turn}
 use Rattle.invoke_engine.specs.Serving.{serve_turn}
 use Rattle.invoke_engine.specs.Turns.{turn, at_stop, run_to}
 use Rattle.invoke_engine.specs.Given.{IsFrame}
+use Rattle.sbpf_machine.proofs.Keeping.{steps_keep, ways_keep}
 use Rattle.sbpf_machine.proofs.Plain.{steps_plain}
 use Rattle.invoke_engine.proofs.Keeping.{run_keeps}
-
--- where one follows from the other
-pub if_ok : {A E : Type 0} (r : Result A E) (P Q : A → Type 0) → ((a : A) → P a → Q a) → IfOk r P → IfOk r Q
-if_ok (Ok a) P Q h k = h a k
-if_ok (Err e) P Q h k = k
 
 -- a machine's run, without the note of what is prepared
 pub plain_run : (x y m : State) (result : Result Stop OutOfMemory) → plain x ≡ m → IfOk result (λ stop. (steps x ≡ Some y) × (y.stop ≡ Some stop)) → IfOk result (λ stop. (steps m ≡ Some (plain y)) × (y.stop ≡ Some stop))
 plain_run x y m (Ok stop) e h = (ap steps (sym e) ∙ steps_plain x y h.0, h.1)
 plain_run x y m (Err short) e h = tt
+
+-- a run keeps what was lent, whether it comes to a stop or finds no memory
+pub run_lent : (x y : State) (result : Result Stop OutOfMemory) → IfOk result (λ stop. (steps x ≡ Some y) × (y.stop ≡ Some stop)) → IfErr result (λ _. StandsBeforeStore x y) → y.context.memory.input.lent ≡ x.context.memory.input.lent
+run_lent x y (Ok stop) stops short = (steps_keep x y stops.0).ranges.lent
+run_lent x y (Err none) stops short = (ways_keep x y short.reached).ranges.lent
 
 -- a frame whose machine ran to a stop
 pub record Ran (f g : Running) (at : Stop) : Type 0 where

@@ -62,3 +62,7 @@ pub data Turn : Type 0 where
 -- the height of the frame that has the frames of these programs around it, the innermost first
 abbrev pub height : List Key → ℕ
 height outer = length outer + 1
+
+-- the greatest height of a frame: an error has it in one byte
+abbrev pub max_height : ℕ
+max_height = 255

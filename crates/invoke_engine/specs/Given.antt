@@ -4,7 +4,7 @@ use Rattle.sol_base.specs.declared.account.Account.{Account}
 use Rattle.sol_base.specs.Accounts.{AreShort, lamports_in}
 use Rattle.sol_base.specs.Metas.{AreInRange}
 use Rattle.sbpf_machine.specs.Steps.{IsHelper}
-use Rattle.abi_input.specs.Region.{IsRegionOf}
+use Rattle.abi_input.specs.Region.{max_input_len, max_metas, IsRegionOf}
 use Rattle.invoke_engine.specs.declared.call.Call.{Call}
 use Rattle.invoke_engine.specs.Frame.{Running}
 
@@ -18,12 +18,12 @@ pub record AreGiven (n : ℕ) (accounts : List Account) : Type 0 where
 pub record IsCall (count : ℕ) (call : Call) : Type 0 where
   pub program : call.program < count
   pub range : AreInRange count call.metas
-  pub input : length call.input ≤ 65535
+  pub input : length call.input ≤ max_input_len
 
 -- a frame in its middle: its list and accounts are there, and its region was laid out from the
 -- accounts at its start
 pub record IsFrame (count : ℕ) (f : Running) : Type 0 where
-  pub most : length f.metas ≤ 255
+  pub most : length f.metas ≤ max_metas
   pub range : AreInRange count f.metas
   pub start : length f.start ≡ count
   pub before : AreGiven count f.before

@@ -9,7 +9,7 @@ use Rattle.tx_report.specs.declared.cause.Cause.TheVariants.{UnknownProgram, Bad
 use Rattle.sbpf_verify.specs.Faults.{fault_number}
 use Rattle.sbpf_memory.specs.Memory.{fresh}
 use Rattle.sbpf_machine.specs.Steps.{State, first_state}
-use Rattle.abi_input.specs.Region.{input_of}
+use Rattle.abi_input.specs.Region.{input_of, max_metas}
 use Rattle.program_cache.specs.Ready.{ReadyImage}
 use Rattle.program_cache.specs.Programs.{Sought, IsReady, IsAbsent, IsNoProgram, IsBad, IsUnverified}
 use Rattle.invoke_engine.specs.declared.call.Call.{Call}
@@ -30,7 +30,11 @@ abbrev pub first_machine : Setting → List Key → Key → ReadyImage → Call 
 first_machine setting keys key image call accounts units =
     first_state image.text
     (fresh image.bytes setting.heap
-    (record { bytes = input_of keys accounts call.metas call.input key; prepared = [] }))
+    (record {
+      bytes = input_of keys accounts call.metas call.input key;
+      prepared = [];
+      lent = [];
+    }))
     units
 
 -- the frame of a program at its start
@@ -70,7 +74,7 @@ abbrev pub is_ready : Sought → Bool
 is_ready (IsReady image) = true
 is_ready _ = false
 
--- a list of more than 255 accounts is refused before any unit is taken; where the program is ready,
+-- a list of more accounts than a frame may list is refused before any unit is taken; where the program is ready,
 -- the line of the units stands too
 unfoldable pub crowded : (Key → Sought) → Key → List Key → ℕ → Carried → Ending
 crowded programs key outer units c =
@@ -81,7 +85,7 @@ crowded programs key outer units c =
 -- a frame after its first line
 unfoldable pub entering : Fixed → List Key → Key → Call → List Account → ℕ → Carried → Next
 entering s outer key call accounts units c =
-    if nat_lt 255 (length call.metas) then Ends (crowded s.programs key outer units c) else
+    if nat_lt max_metas (length call.metas) then Ends (crowded s.programs key outer units c) else
     if is_native key then Ends (native key outer s.keys call accounts units c) else
     entered s.setting s.keys outer key call accounts units c (s.programs key)
 

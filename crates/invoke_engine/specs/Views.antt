@@ -83,14 +83,18 @@ ServesAs row memory env env' (Err no_memory) = Unit {0}
 ServesAs row memory env env' (Err (Refused reason)) =
     (refuse by_sys row.answer ≡ Err (Refused reason)) × (env' ≡ record env { units = row.units })
 
--- the caller's region was patched, or it stopped as the definition says
-abbrev pub PatchesAs : Result (List ℕ) ℕ → Running → Running → Result (Unit {0}) Stopped → Type 0
-PatchesAs wanted f g (Ok _) =
-    (wanted ≡ Ok g.machine.context.memory.input.bytes)
-    × (g ≡ record f { machine = with_memory f.machine g.machine.context.memory }) ×
-    (g.machine.context.memory ≡ record f.machine.context.memory { input = record f.machine.context.memory.input { bytes = g.machine.context.memory.input.bytes } })
-PatchesAs wanted f g (Err no_memory) = Unit {0}
-PatchesAs wanted f g (Err (Refused reason)) =
+-- the caller's region was patched with the accounts, which it has now, or it stopped as the
+-- definition says
+abbrev pub PatchesAs : Result (List ℕ) ℕ → List Account → Running → Running
+    → Result (Unit {0}) Stopped → Type 0
+PatchesAs wanted accounts f g (Ok _) =
+    let old = f.machine.context.memory in
+    let new = g.machine.context.memory in
+    (wanted ≡ Ok new.input.bytes)
+    × (g ≡ record f { before = accounts; machine = with_memory f.machine new })
+    × (new ≡ record old { input = record old.input { bytes = new.input.bytes } })
+PatchesAs wanted accounts f g (Err no_memory) = Unit {0}
+PatchesAs wanted accounts f g (Err (Refused reason)) =
     (refuse by_length wanted ≡ Err (Refused reason)) × (g.program ≡ f.program) × (g.had ≡ f.had)
 
 -- what an instruction did is the ending, with its log

@@ -2,9 +2,10 @@
 ghost use Rattle.std.specs.Prelude.{◌≡◌, ◌<◌, ◌≤◌, Ok, Err, MatchResult, length, IfOk, OnOk};
 ghost use Rattle.sol_base.specs.Accounts.{accounts_of};
 ghost use Rattle.sbpf_verify.specs.Faults.{fault_number};
+ghost use Rattle.abi_input.specs.Region.{max_metas};
 ghost use Rattle.program_cache.specs.Programs.{sought};
 ghost use Rattle.invoke_engine.specs.Ends.{ended, error_of};
-ghost use Rattle.invoke_engine.specs.Frames.{height};
+ghost use Rattle.invoke_engine.specs.Frames.{height, max_height};
 ghost use Rattle.invoke_engine.specs.Given.{AreGiven, IsCall, IsFrame};
 ghost use Rattle.invoke_engine.specs.Native as Native;
 ghost use Rattle.invoke_engine.specs.Reasons.{StopsBy};
@@ -35,10 +36,10 @@ use std::sync::Arc;
 use system_prog::run_system;
 use tx_report::{Cause, InstructionError};
 
-/// The units of a frame of a native program.
+/// The units of a frame of a native program (the project's own).
 const NATIVE_UNITS: u64 = 150;
 
-/// The most accounts that a frame lists.
+/// The most accounts that a frame lists (Solana).
 const MAX_METAS: usize = 255;
 
 /// A frame that runs, or has ended.
@@ -83,7 +84,7 @@ fn run_native(
     accounts: Items<Arc<Account>>,
 ) -> Result<Items<Arc<Account>>, Stopped>
     requires call { IsCall (length keys.now) call.now }
-    requires metas { length call.now.metas ≤ 255 }
+    requires metas { length call.now.metas ≤ max_metas }
     requires accounts { AreGiven (length keys.now) (accounts_of accounts) }
     ensures { MatchResult result
         (λ after. Native.native_row key.now keys.now (accounts_of accounts) call.now
@@ -110,7 +111,7 @@ fn refuse(
     carrier: &mut Carrier,
     reason: Reason,
 ) -> Result<End, OutOfMemory>
-    requires { length outer.now < 255 }
+    requires { length outer.now < max_height }
     ensures { IfOk result (λ e. ending_as e carrier.new ≡ ended key.now units carrier.old
         (Err (error_of (height (programs_of outer.now)) (Refused reason)))) }
 {
@@ -133,9 +134,9 @@ fn native(
     units: u64,
     carrier: &mut Carrier,
 ) -> Result<End, OutOfMemory>
-    requires outer { length outer.now < 255 }
+    requires outer { length outer.now < max_height }
     requires call { IsCall (length keys.now) call.now }
-    requires metas { length call.now.metas ≤ 255 }
+    requires metas { length call.now.metas ≤ max_metas }
     requires accounts { AreGiven (length keys.now) (accounts_of accounts) }
     ensures { IfOk result (λ e. ending_as e carrier.new
         ≡ Native.native key.now (programs_of outer.now) keys.now call.now (accounts_of accounts)
@@ -189,7 +190,7 @@ fn first_frame(
     units: u64,
 ) -> Result<Frame, OutOfMemory>
     requires call { IsCall (length keys.now) call.now }
-    requires metas { length call.now.metas ≤ 255 }
+    requires metas { length call.now.metas ≤ max_metas }
     requires accounts { AreGiven (length keys.now) (accounts_of accounts) }
     ensures value { IfOk result (λ frame. frame
         ≡ Starting.first_running setting keys.now key image.now call.now (accounts_of accounts)
@@ -237,7 +238,7 @@ fn crowded(
     units: u64,
     carrier: &mut Carrier,
 ) -> Result<End, OutOfMemory>
-    requires { length outer.now < 255 }
+    requires { length outer.now < max_height }
     ensures { IfOk result (λ e. ending_as e carrier.new
         ≡ Starting.crowded (sought programs.now) key.now (programs_of outer.now) units
         carrier.old) }
@@ -271,7 +272,7 @@ fn enter(
     units: u64,
     carrier: &mut Carrier,
 ) -> Result<Next, OutOfMemory>
-    requires outer { length outer.now < 255 }
+    requires outer { length outer.now < max_height }
     requires call { IsCall (length keys.now) call.now }
     requires accounts { AreGiven (length keys.now) (accounts_of accounts) }
     ensures next { IfOk result (λ next.
@@ -320,7 +321,7 @@ fn key_at(keys: &[Key], place: u8) -> Key
 
 /// One more instruction is started.
 fn start(alloc: Global, key: &Key, outer: &Stack, carrier: &mut Carrier) -> Result<(), OutOfMemory>
-    requires outer { length outer.now < 255 }
+    requires outer { length outer.now < max_height }
     requires trace { carrier.old.trace < 64 }
     ensures { OnOk result (carrier.new
         ≡ Starting.started key.now (height (programs_of outer.now)) carrier.old) }
@@ -343,7 +344,7 @@ pub(crate) fn begin(
     units: u64,
     carrier: &mut Carrier,
 ) -> Result<Next, OutOfMemory>
-    requires outer { length outer.now < 255 }
+    requires outer { length outer.now < max_height }
     requires call { IsCall (length keys.now) call.now }
     requires accounts { AreGiven (length keys.now) (accounts_of accounts) }
     requires trace { carrier.old.trace < 64 }

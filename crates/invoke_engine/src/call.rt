@@ -1,3 +1,5 @@
+//! A call of a program, and what comes of it.
+
 use sol_base::{Account, Blob, Items, Meta};
 use std::sync::Arc;
 use tx_report::InstructionError;

@@ -1,3 +1,5 @@
+//! How a frame ends, and what it calls.
+
 use crate::call::{Call, Ended};
 use sol_base::{Account, Items};
 use std::sync::Arc;

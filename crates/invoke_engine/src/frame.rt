@@ -10,6 +10,7 @@ use std::alloc::Global;
 use std::marker::Model;
 use std::sync::Arc;
 
+/// A frame. The region of its machine lends the data of the accounts `before`.
 #[derive(Drop)]
 pub struct Frame {
     pub program: Key,
@@ -23,7 +24,9 @@ pub struct Frame {
 }
 
 impl Model for Frame {
+    ghost use Rattle.std.specs.Prelude.{◌≡◌};
     ghost use Rattle.sol_base.specs.Accounts.{accounts_of};
+    ghost use Rattle.abi_input.specs.Region.{lent_in};
     ghost use Rattle.sbpf_machine.specs.Plain.{plain};
     ghost use Rattle.invoke_engine.specs.Frame.{Running};
 
@@ -37,6 +40,9 @@ impl Model for Frame {
       had = f.had;
       machine = plain f.machine.value;
     } };
+
+    ghost invariant = { λ f. f.machine.value.context.memory.input.lent
+        ≡ lent_in (accounts_of f.start) (accounts_of f.before) f.metas };
 }
 
 impl Frame {

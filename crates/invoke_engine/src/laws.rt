@@ -47,7 +47,7 @@ pub fn turns_keep_the_ending()
 /// lamports, lengths that are allowed, all that the list does not let it write, and each executable
 /// account and flag.
 pub fn frames_keep_accounts()
-    ensures { (s : Fixed) (outer : List KeyValue) (call : CallValue) (accounts : List AccountValue)
+    ensures kept { (s : Fixed) (outer : List KeyValue) (call : CallValue) (accounts : List AccountValue)
         (units : ℕ) (c : Carried) → AreListed (length s.keys) call.metas accounts →
         EndKeeps call.metas accounts (frame s outer call accounts units c) }
 {}
@@ -75,7 +75,7 @@ pub fn stretches_keep_the_rules()
 
 /// A law: of the programs, an instruction looks at those under the transaction's keys alone.
 pub fn instructions_look_at_their_keys()
-    ensures { (one other : KeyValue → Sought) (setting : SettingValue) (keys : List KeyValue)
+    ensures same { (one other : KeyValue → Sought) (setting : SettingValue) (keys : List KeyValue)
         (call : CallValue) (accounts : List AccountValue) (units trace : ℕ) (log : Log) →
         SameFound keys one other →
         instruction (fixed one setting keys) call accounts units trace log
@@ -84,7 +84,7 @@ pub fn instructions_look_at_their_keys()
 
 /// A law: an instruction that is started counts at least one.
 pub fn instructions_are_counted()
-    ensures { (s : Fixed) (call : CallValue) (accounts : List AccountValue) (units trace : ℕ)
+    ensures counted { (s : Fixed) (call : CallValue) (accounts : List AccountValue) (units trace : ℕ)
         (log : Log) → trace < 64 →
         trace + 1 ≤ (instruction s call accounts units trace log).carried.trace }
 {}
@@ -92,7 +92,7 @@ pub fn instructions_are_counted()
 /// A law: where a frame of the loader ends well and an account's data differ, either nothing stood
 /// where the magic of a buffer goes and the account signs, or the authority of the buffer signs.
 pub fn loader_frames_keep_buffers()
-    ensures { (s : Fixed) (outer : List KeyValue) (call : CallValue) (accounts : List AccountValue)
+    ensures authority { (s : Fixed) (outer : List KeyValue) (call : CallValue) (accounts : List AccountValue)
         (units : ℕ) (c : Carried) → AreListed (length s.keys) call.metas accounts →
         key_at s.keys call.program ≡ LOADER_PROGRAM →
         IfOk (frame s outer call accounts units c).result
@@ -101,7 +101,7 @@ pub fn loader_frames_keep_buffers()
 
 /// A law: a log that is small stays small, since each line of a frame has a byte at least.
 pub fn logs_stay_small()
-    ensures { (s : Fixed) (call : CallValue) (accounts : List AccountValue) (units trace : ℕ)
+    ensures small { (s : Fixed) (call : CallValue) (accounts : List AccountValue) (units trace : ℕ)
         (log : Log) → IsSmall log
         → IsSmall (instruction s call accounts units trace log).carried.log }
 {}

@@ -3,6 +3,7 @@ ghost use Rattle.std.specs.Prelude.{◌≡◌, ◌<◌, ◌≤◌, Ok, Err, leng
 ghost use Rattle.sol_base.specs.Accounts.{accounts_of};
 ghost use Rattle.abi_input.specs.Region.{patched};
 ghost use Rattle.invoke_engine.specs.Fits.{EndFits};
+ghost use Rattle.invoke_engine.specs.Frames.{max_height};
 ghost use Rattle.invoke_engine.specs.Given.{AreGiven, IsFrame, IsSuspended};
 ghost use Rattle.invoke_engine.specs.Returning.{returned};
 ghost use Rattle.invoke_engine.specs.Suspended.{programs_of};
@@ -17,34 +18,36 @@ use crate::lines::close;
 use crate::stopped::Stopped;
 use crate::turn::fail;
 use abi_input::patch;
-use sol_base::{Account, Key, OutOfMemory};
+use sol_base::{Account, Items, Key, OutOfMemory};
 use std::alloc::Global;
 use std::sync::Arc;
 
-/// Writes the accounts over the frame's region.
+/// Writes the accounts over the frame's region, and makes them the frame's.
 fn write_over(
     alloc: Global,
     frame: &mut Frame,
     keys: &[Key],
-    accounts: &[Arc<Account>],
+    accounts: Items<Arc<Account>>,
 ) -> Result<(), Stopped>
     requires frame { IsFrame (length keys.now) frame.old }
-    requires accounts { AreGiven (length keys.now) (accounts_of accounts.now) }
+    requires accounts { AreGiven (length keys.now) (accounts_of accounts) }
     ensures answer { PatchesAs
         (patched frame.old.machine.context.memory.input.bytes frame.old.start
-        (accounts_of accounts.now) frame.old.metas)
-        frame.old frame.new result }
+        (accounts_of accounts) frame.old.metas)
+        (accounts_of accounts) frame.old frame.new result }
     ensures size { length frame.new.machine.context.memory.input.bytes
         ≡ length frame.old.machine.context.memory.input.bytes }
 {
     let _keys = keys;
-    Ok(patch(
+    patch(
         alloc,
         frame.machine.memory_mut().input_mut(),
         frame.start.as_slice(),
-        accounts,
+        accounts.as_slice(),
         frame.metas.as_slice(),
-    )?)
+    )?;
+    frame.before = accounts;
+    Ok(())
 }
 
 /// The caller goes on where its callee ended well, and fails with it where it failed.
@@ -57,7 +60,7 @@ pub(crate) fn resume(
     end: End,
     carrier: &mut Carrier,
 ) -> Result<Next, OutOfMemory>
-    requires outer { length outer.now < 255 }
+    requires outer { length outer.now < max_height }
     requires frame { IsSuspended (length keys.now) frame }
     requires end { EndFits (length keys.now) (ending_as end carrier.old) }
     requires units { end.units ≤ frame.machine.units }
@@ -77,11 +80,10 @@ pub(crate) fn resume(
             carrier,
             Ended::Failed(error),
         )?)),
-        Ended::Good(accounts) => match write_over(alloc, &mut frame, keys, accounts.as_slice()) {
+        Ended::Good(accounts) => match write_over(alloc, &mut frame, keys, accounts) {
             Ok(()) => {
                 frame.machine.set_units(units);
                 frame.machine.resume(0);
-                frame.before = accounts;
                 Ok(Next::Runs(frame))
             }
             Err(Stopped::Refused(reason)) => Ok(Next::Ends(fail(

@@ -1,10 +1,12 @@
 //! Instructions: the loop over the frames.
 ghost use Rattle.std.specs.Prelude.{◌≡◌, ◌<◌, ◌≤◌, None, [], length, IfOk};
 ghost use Rattle.sol_base.specs.Accounts.{accounts_of};
+ghost use Rattle.cpi_calls.specs.Limits.{max_keys};
 ghost use Rattle.program_cache.specs.Programs.{sought};
 ghost use Rattle.invoke_engine.specs.Fits.{Works, Stands, Steps, ending_in};
 ghost use Rattle.invoke_engine.specs.Frame as Spec;
 ghost use Rattle.invoke_engine.specs.Frame.{Carried};
+ghost use Rattle.invoke_engine.specs.Frames.{max_height};
 ghost use Rattle.invoke_engine.specs.Given.{AreGiven, IsCall, IsFrame};
 ghost use Rattle.invoke_engine.specs.Suspended.{programs_of};
 ghost use Rattle.invoke_engine.specs.Views.{fixed, ending_as, next_as, work_as, IsRun};
@@ -43,8 +45,8 @@ fn work_on(
     frame: &mut Frame,
     carrier: &mut Carrier,
 ) -> Result<Work, OutOfMemory>
-    requires keys { length keys.now ≤ 255 }
-    requires outer { length outer.now < 255 }
+    requires keys { length keys.now ≤ max_keys }
+    requires outer { length outer.now < max_height }
     requires frame { IsFrame (length keys.now) frame.old }
     requires going { frame.old.machine.stop ≡ None }
     ensures { IfOk result (λ w. Works (fixed (sought programs.now) setting keys.now)
@@ -70,7 +72,7 @@ fn advance(
     frame: Frame,
     carrier: &mut Carrier,
 ) -> Result<Next, OutOfMemory>
-    requires keys { length keys.now ≤ 255 }
+    requires keys { length keys.now ≤ max_keys }
     requires most { setting.height ≤ 9 }
     requires stands { Stands (fixed (sought programs.now) setting keys.now) stack.old
         (Spec.Runs frame carrier.old) }
@@ -100,7 +102,7 @@ fn drive(
     first: Next,
     carrier: &mut Carrier,
 ) -> Result<End, OutOfMemory>
-    requires keys { length keys.now ≤ 255 }
+    requires keys { length keys.now ≤ max_keys }
     requires most { setting.height ≤ 9 }
     requires stands { Stands (fixed (sought programs.now) setting keys.now) stack.old
         (next_as first carrier.old) }
@@ -131,7 +133,7 @@ fn run_frame(
     units: u64,
     carrier: &mut Carrier,
 ) -> Result<End, OutOfMemory>
-    requires keys { length keys.now ≤ 255 }
+    requires keys { length keys.now ≤ max_keys }
     requires height { (1 ≤ setting.height) × (setting.height ≤ 9) }
     requires call { IsCall (length keys.now) call.now }
     requires accounts { AreGiven (length keys.now) (accounts_of accounts) }
@@ -171,7 +173,7 @@ fn run_started(
     trace: u8,
     logs: &mut Logs,
 ) -> Result<Ran, OutOfMemory>
-    requires keys { length keys.now ≤ 255 }
+    requires keys { length keys.now ≤ max_keys }
     requires height { (1 ≤ setting.height) × (setting.height ≤ 9) }
     requires call { IsCall (length keys.now) call.now }
     requires accounts { AreGiven (length keys.now) (accounts_of accounts) }
@@ -223,7 +225,7 @@ pub fn run_instruction(
     trace: u8,
     logs: &mut Logs,
 ) -> Result<Ran, OutOfMemory>
-    requires keys { length keys.now ≤ 255 }
+    requires keys { length keys.now ≤ max_keys }
     requires height { (1 ≤ setting.now.height) × (setting.now.height ≤ 9) }
     requires call { IsCall (length keys.now) call.now }
     requires accounts { AreGiven (length keys.now) (accounts_of accounts.now) }

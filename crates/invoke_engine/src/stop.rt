@@ -1,9 +1,11 @@
 //! What a frame does at a stop of its machine.
 ghost use Rattle.std.specs.Prelude.{◌≡◌, ◌<◌, ◌≤◌, Ok, Err, MatchResult, length};
 ghost use Rattle.sol_base.specs.Accounts.{accounts_of};
+ghost use Rattle.cpi_calls.specs.Limits.{max_keys, max_metas};
 ghost use Rattle.cpi_calls.specs.Rights.{rights_of};
 ghost use Rattle.invoke_engine.specs.Calling as Calling;
 ghost use Rattle.invoke_engine.specs.Leaving as Leaving;
+ghost use Rattle.invoke_engine.specs.Frames.{max_height};
 ghost use Rattle.invoke_engine.specs.Given.{IsFrame};
 ghost use Rattle.invoke_engine.specs.Reasons.{StopsBy, refuse, by_rights};
 ghost use Rattle.invoke_engine.specs.Suspended.{programs_of};
@@ -21,7 +23,7 @@ use std::alloc::Global;
 use std::sync::Arc;
 use tx_report::Cause;
 
-/// The most instructions that a transaction starts.
+/// The most instructions that a transaction starts (Solana).
 pub(crate) const MAX_TRACE: u8 = 64;
 
 /// The accounts as the frame leaves them, where it breaks no rule.
@@ -94,7 +96,7 @@ fn may_start(
     trace: u8,
     program: &Key,
 ) -> Result<(), Stopped>
-    requires { length outer.now < 255 }
+    requires { length outer.now < max_height }
     ensures { result
         ≡ Calling.may_start setting.height (programs_of outer.now) frame.now trace program.now }
 {
@@ -131,8 +133,8 @@ fn grant(
     frame: &Frame,
     request: &CallRequest,
 ) -> Result<Granted, Stopped>
-    requires keys { length keys.now ≤ 255 }
-    requires metas { length request.now.metas ≤ 255 }
+    requires keys { length keys.now ≤ max_keys }
+    requires metas { length request.now.metas ≤ max_metas }
     ensures { MatchResult result
         (λ granted. rights_of request.now keys.now frame.now.metas ≡ Ok granted)
         (λ e. StopsBy e (refuse by_rights (rights_of request.now keys.now frame.now.metas))) }
@@ -152,9 +154,9 @@ pub(crate) fn called(
     trace: u8,
     units: &mut u64,
 ) -> Result<Callee, Stopped>
-    requires keys { length keys.now ≤ 255 }
+    requires keys { length keys.now ≤ max_keys }
     requires frame { IsFrame (length keys.now) frame.now }
-    requires outer { length outer.now < 255 }
+    requires outer { length outer.now < max_height }
     requires units { units.old ≡ frame.now.machine.units }
     ensures { Comes
         (Calling.called setting.height keys.now (programs_of outer.now) frame.now trace

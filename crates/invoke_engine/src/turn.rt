@@ -1,5 +1,6 @@
 //! One turn of a frame: to the next stop of its machine, and what the stop asks for.
 ghost use Rattle.std.specs.Prelude.{◌≡◌, ◌<◌, ◌≤◌, Ok, Err, Some, length, IfOk};
+ghost use Rattle.cpi_calls.specs.Limits.{max_keys};
 ghost use Rattle.sbpf_machine.specs.Runs.{IsNumbered};
 ghost use Rattle.sbpf_machine.specs.Steps.{IsHelper, arguments_in, steps};
 ghost use Rattle.sbpf_machine.specs.Lending.{with_memory};
@@ -7,7 +8,7 @@ ghost use Rattle.sys_calls.specs.Costs.{IsServed};
 ghost use Rattle.sys_calls.specs.SysCalls.{sys_row};
 ghost use Rattle.invoke_engine.specs.Calling as Calling;
 ghost use Rattle.invoke_engine.specs.Ends.{closes};
-ghost use Rattle.invoke_engine.specs.Frames.{height};
+ghost use Rattle.invoke_engine.specs.Frames.{height, max_height};
 ghost use Rattle.invoke_engine.specs.Given.{IsFrame};
 ghost use Rattle.invoke_engine.specs.Leaving as Leaving;
 ghost use Rattle.invoke_engine.specs.Reasons.{by_fault};
@@ -44,7 +45,7 @@ pub(crate) enum Turn {
 
 /// The height of the frame that has these around it.
 pub(crate) fn height_in(outer: &Stack) -> u8
-    requires { length outer.now < 255 }
+    requires { length outer.now < max_height }
     ensures { result ≡ height (programs_of outer.now) }
 {
     outer.len() as u8 + 1
@@ -59,7 +60,7 @@ pub(crate) fn fail(
     carrier: &mut Carrier,
     reason: Reason,
 ) -> Result<End, OutOfMemory>
-    requires { length outer.now < 255 }
+    requires { length outer.now < max_height }
     ensures { IfOk result (λ e. ending_as e carrier.new
         ≡ closes (programs_of outer.now) frame.now units carrier.old (Err (Refused reason))) }
 {
@@ -87,7 +88,7 @@ fn leave(
     r0: u64,
     carrier: &mut Carrier,
 ) -> Result<End, OutOfMemory>
-    requires outer { length outer.now < 255 }
+    requires outer { length outer.now < max_height }
     requires frame { IsFrame (length keys.now) frame.now }
     ensures { IfOk result (λ e. ending_as e carrier.new
         ≡ closes (programs_of outer.now) frame.now frame.now.machine.units carrier.old
@@ -146,7 +147,7 @@ fn serve_turn(
     carrier: &mut Carrier,
     number: u32,
 ) -> Result<Turn, OutOfMemory>
-    requires outer { length outer.now < 255 }
+    requires outer { length outer.now < max_height }
     requires helper { IsHelper frame.old.machine.stop }
     requires number { IsServed number }
     ensures { IfOk result (λ t.
@@ -179,8 +180,8 @@ fn call_turn(
     frame: &Frame,
     carrier: &mut Carrier,
 ) -> Result<Turn, OutOfMemory>
-    requires keys { length keys.now ≤ 255 }
-    requires outer { length outer.now < 255 }
+    requires keys { length keys.now ≤ max_keys }
+    requires outer { length outer.now < max_height }
     requires frame { IsFrame (length keys.now) frame.now }
     ensures { IfOk result (λ t.
         Calling.call_turn setting keys.now (programs_of outer.now) frame.now carrier.old
@@ -213,8 +214,8 @@ pub(crate) fn take_turn(
     frame: &mut Frame,
     carrier: &mut Carrier,
 ) -> Result<Turn, OutOfMemory>
-    requires keys { length keys.now ≤ 255 }
-    requires outer { length outer.now < 255 }
+    requires keys { length keys.now ≤ max_keys }
+    requires outer { length outer.now < max_height }
     requires frame { IsFrame (length keys.now) frame.old }
     ensures { IfOk result (λ t.
         Turns.turn setting keys.now (programs_of outer.now) frame.old carrier.old

@@ -1,4 +1,5 @@
 use Rattle.std.proofs.Common.{◌≡◌, ◌∙◌, length, ap, sym, Some}
+use Rattle.std.proofs.lemmas.Result.{IfOk-weaker}
 use Rattle.sbpf_machine.specs.Plain.{plain}
 use Rattle.sbpf_machine.specs.Steps.{State}
 use Rattle.sbpf_machine.specs.declared.stop.Stop.TheVariants.{Exit, Helper, Fault as Faulted}
@@ -8,7 +9,7 @@ use Rattle.invoke_engine.specs.Ends.{closes}
 use Rattle.invoke_engine.specs.Suspended.{programs_of}
 use Rattle.invoke_engine.specs.declared.stopped.Stopped.{Stopped}
 use Rattle.std.proofs.Common.{Err}
-use Rattle.invoke_engine.proofs.Turns.{if_ok, Ran, ran_keeps, turn_at, turn_calls, turn_serves}
+use Rattle.invoke_engine.proofs.Turns.{Ran, ran_keeps, turn_at, turn_calls, turn_serves}
 use Rattle.invoke_engine.proofs.turn.take_turn.Goals as goal
 
 pub leave-requires-clause-frame : goal.leave-requires-clause-frame
@@ -39,9 +40,9 @@ returns-in_ok-fail-in-Fault c =
 pub returns-then-number-eq-INVOKE : goal.returns-then-number-eq-INVOKE
 returns-then-number-eq-INVOKE c =
     let r : Ran c.args.frame.now c.run.new.frame (Helper c.in-Helper.number) = record { steps = c.in_ok-r0.ensures.steps.0; rest = c.run.ensures.rest; stop = c.in_ok-r0.ensures.steps.1 ∙ ap Some c.in-Helper.is } in
-    if_ok c.call_turn.result _ _ (λ t h. turn_calls c.args.setting c.args.keys.now (programs_of c.args.outer.now) c.args.frame.now c.run.new.frame c.args.carrier.now c.in-Helper.number r c.if-number-eq-INVOKE.true ∙ h) c.call_turn.ensures
+    IfOk-weaker c.call_turn.result _ _ (λ t h. turn_calls c.args.setting c.args.keys.now (programs_of c.args.outer.now) c.args.frame.now c.run.new.frame c.args.carrier.now c.in-Helper.number r c.if-number-eq-INVOKE.true ∙ h) c.call_turn.ensures
 
 pub returns-else-number-eq-INVOKE : goal.returns-else-number-eq-INVOKE
 returns-else-number-eq-INVOKE c =
     let r : Ran c.args.frame.now c.run.new.frame (Helper c.in-Helper.number) = record { steps = c.in_ok-r0.ensures.steps.0; rest = c.run.ensures.rest; stop = c.in_ok-r0.ensures.steps.1 ∙ ap Some c.in-Helper.is } in
-    if_ok c.serve_turn.result _ _ (λ t h. turn_serves c.args.setting c.args.keys.now (programs_of c.args.outer.now) c.args.frame.now c.run.new.frame c.args.carrier.now c.in-Helper.number r c.if-number-eq-INVOKE.false ∙ h) c.serve_turn.ensures
+    IfOk-weaker c.serve_turn.result _ _ (λ t h. turn_serves c.args.setting c.args.keys.now (programs_of c.args.outer.now) c.args.frame.now c.run.new.frame c.args.carrier.now c.in-Helper.number r c.if-number-eq-INVOKE.false ∙ h) c.serve_turn.ensures
