@@ -519,7 +519,7 @@ pub item_lent : (lent : List (ℕ × Account)) (pieces : List Piece) (i : ℕ) (
 unfolding AreLentBy
 item_lent lent pieces i x all h is = subst (IsLentBy lent) (sym is) (All-get_or (IsLentBy lent) pieces i x h all)
 
--- what was lent still is, where a piece gets another backing, and no account by that
+-- what was lent still is, where a piece gets a backing that brings no account
 pub lent_set : (pieces : List Piece) (i : ℕ) (d y : Piece) → i < length pieces → y.start ≡ (get_or pieces i d).start → StaysShared (get_or pieces i d).backing y.backing → StayLent pieces (set pieces i y)
 unfolding AreLentBy
 lent_set pieces i d y h start stays lent all =
@@ -534,7 +534,7 @@ lent_set pieces i d y h start stays lent all =
 find_kept : {X : Type 0} (test : X → Bool) (xs ys : List X) (x : X) → find test xs ≡ Some x → find test (xs ++ ys) ≡ Some x
 find_kept test xs ys x found = find-append test xs ys ∙ ap (λ (o : Option _). option_or o (find test ys)) found
 
--- what is in no list is in none of both
+-- what is found in neither of two lists is not found in both together
 find_none : {X : Type 0} (test : X → Bool) (xs ys : List X) → find test xs ≡ None → find test ys ≡ None → find test (xs ++ ys) ≡ None
 find_none test xs ys none empty = find-append test xs ys ∙ ap (λ (o : Option _). option_or o (find test ys)) none ∙ empty
 

@@ -1,10 +1,8 @@
 //! A piece of a list of bytes: where it starts, and what its bytes stand in.
 ghost use Rattle.std.specs.Prelude.{◌≡◌, ◌<◌, ◌≤◌, ◌+◌, ◌-◌, ◌^◌, true, false, min, length, take, drop, slice_index, None, IfSome, OnOk, IsOk};
-ghost use Rattle.std.specs.Arc.{arc_value};
-ghost use Rattle.sol_base.specs.declared.account.Account.{Account};
+ghost use Rattle.sol_base.specs.declared.parts.Part.TheVariants.{Lent};
 ghost use Rattle.sol_base.specs.declared.parts.piece.Backing.TheVariants.{Shared, Blank};
 ghost use Rattle.sol_base.specs.Parts.{part_bytes, backing_bytes, piece_bytes, is_own, is_prepared, is_blank, test_of, with_bytes, ArrayStandsIn, ArrayStandsAt, HasPut, StaysShared};
-ghost use Rattle.sol_base.specs.declared.parts.Part.TheVariants.{Lent};
 
 use crate::account::Account;
 use crate::memory::OutOfMemory;
