@@ -1,3 +1,4 @@
+//! The table of instructions: what each opcode means.
 ghost use Rattle.std.specs.Prelude.{◌≡◌, Some};
 ghost use Rattle.std.specs.List.{AllByRecursion};
 ghost use Rattle.sbpf_isa.specs.Rows.{kind_at, rows};
