@@ -1,6 +1,7 @@
 -- What is known of the instructions of a verified text.
 use Rattle.std.proofs.Common.{◌≡◌, ◌≢◌, ◌<◌, ◌≤◌, ◌-◌, ◌+◌, ◌==◌, ◌&&◌, ◌||◌, not, ℕ, Bool, true, false, cond, List, length, Option, Some, None, refl, ap, ◌∙◌, sym, arith, add-one, ◌⊎◌, inl, inr, ⊎_elim, ◌%◌, ◌/◌}
 use Rattle.std.specs.Prelude.{nat_lt, is_none, ℤ, pos, negsuc, ◌≤ℤ◌, int_lt, slice_get, unwrap_or}
+use Rattle.std.proofs.lemmas.Bool.{or_parts}
 use Rattle.std.proofs.lemmas.Bool.Decides.{nat_tests}
 use Rattle.std.specs.Int.{w64, cast_unsigned}
 use Rattle.std.specs.Ordering.{int_eq}
@@ -14,7 +15,7 @@ use Rattle.sbpf_verify.specs.declared.entry.Entry.{Entry}
 use Rattle.sbpf_verify.specs.Opcodes.{meaning}
 use Rattle.sbpf_verify.specs.Entries.{Decodes, IsDecoded, Fits, IsHelperNumber, immediate_of}
 use Rattle.sbpf_verify.specs.Instructions.{HasRegisters, HasValues}
-use Rattle.sbpf_verify.specs.Places.{slot_count, is_start, is_start_at, instruction_at, leads_to, goes_on, slots_taken, Reached, first, after, jumped, called}
+use Rattle.sbpf_verify.specs.Places.{slot_count, max_slots, is_start, is_start_at, instruction_at, leads_to, goes_on, slots_taken, Reached, first, after, jumped, called}
 use Rattle.sbpf_verify.specs.Verified.{rows_of, lacks_row, follows_wide, is_astray, is_outside, calls_bad_register, is_no_width, has_bad_value, has_stray_field, used, calls_no_helper, instruction_rows, slot_rows, NoneApplies, IsVerified}
 
 within_from_test : (n k : ℕ) (x : Option OpKind) (kind : OpKind) → cond (nat_lt n k) x None ≡ Some kind → (n < k) × (x ≡ Some kind)
@@ -140,7 +141,8 @@ wide_or_one : (kind : OpKind) → (kind ≡ LoadWide) ⊎ ((slots_taken kind ≡
 wide_or_one LoadWide = inl refl
 wide_or_one _ = inr (refl, λ h. cc)
 
-follows_one : (text : List ℕ) (place : ℕ) → ((slot_of text place).opcode == 0x18) ≡ false → follows_wide text (place + 1) ≡ false
+-- after a slot that is not `lddw`
+pub follows_one : (text : List ℕ) (place : ℕ) → ((slot_of text place).opcode == 0x18) ≡ false → follows_wide text (place + 1) ≡ false
 follows_one text place h = rw add-one h
 
 -- the place after an instruction of one slot that goes on
@@ -180,15 +182,15 @@ half_no_start text place v h = zero_no_start (nat_lt (place + 1) (slot_count tex
     zero_no_start : (b : Bool) (o : ℕ) → o ≡ 0 → (b && not (o == 0)) ≡ false
     zero_no_start b o h = grind (arith, nat_tests)
 
-some_slots : (n : ℕ) → ((n == 0) || not (n % 8 == 0) || nat_lt 65536 (n / 8)) ≡ false → (0 < n / 8) × (n / 8 ≤ 65536)
+some_slots : (n : ℕ) → ((n == 0) || not (n % 8 == 0) || nat_lt max_slots (n / 8)) ≡ false → (0 < n / 8) × (n / 8 ≤ max_slots)
 some_slots n h = (grind (arith, nat_tests), grind (arith, nat_tests))
 
--- a verified text has a slot, and at most 65,536
-pub slots_there : (text : List ℕ) → IsVerified text → (0 < slot_count text) × (slot_count text ≤ 65536)
+-- a verified text has a slot, and no more than a text may have
+pub slots_there : (text : List ℕ) → IsVerified text → (0 < slot_count text) × (slot_count text ≤ max_slots)
 slots_there text v = some_slots (length text) v.len
 
 -- a start is below the most slots that a text has
-pub start_below : (text : List ℕ) (place : ℕ) → IsVerified text → is_start text place ≡ true → place < 65536
+pub start_below : (text : List ℕ) (place : ℕ) → IsVerified text → is_start text place ≡ true → place < max_slots
 start_below text place v h = omega (arith, (start_there text place h).0, (slots_there text v).1)
 
 -- the first slot is a start
@@ -202,22 +204,18 @@ reached_start text place v (after r h g) = next_start text _ _ v h g
 reached_start text place v (jumped r h e) = target_start text _ _ (pos place) v h e
 reached_start text place v (called r h s) = s
 
-either_false : (a b : Bool) → (a || b) ≡ false → (a ≡ false) × (b ≡ false)
-either_false true b h = absurd (cc)
-either_false false b h = (refl, h)
-
 at_most_ten : (n : ℕ) → nat_lt 10 n ≡ false → n ≤ 10
 at_most_ten n h = grind (arith, nat_tests)
 
 within : (low high z : ℤ) → is_outside low high z ≡ false → (low ≤ℤ z) × (z ≤ℤ high)
-within low high z h = let both : (int_lt z low ≡ false) × (int_lt high z ≡ false) = either_false _ _ h in (grind (arith, ints), grind (arith, ints))
+within low high z h = let both : (int_lt z low ≡ false) × (int_lt high z ≡ false) = or_parts _ _ h in (grind (arith, ints), grind (arith, ints))
 
 -- the registers of an instruction of a verified text
 pub has_registers : (text : List ℕ) (place : ℕ) (kind : OpKind) → IsVerified text → instruction_at text place ≡ Some kind → HasRegisters (slot_of text place) kind
 has_registers text place kind v h =
     let none : (nat_lt 10 (slot_of text place).dst || nat_lt 10 (slot_of text place).src || calls_bad_register (slot_of text place) kind) ≡ false = (no_row_applies text place kind v h).1.0 in
-    let three : ((nat_lt 10 (slot_of text place).dst || nat_lt 10 (slot_of text place).src) ≡ false) × (calls_bad_register (slot_of text place) kind ≡ false) = either_false _ _ none in
-    let two : (nat_lt 10 (slot_of text place).dst ≡ false) × (nat_lt 10 (slot_of text place).src ≡ false) = either_false _ _ three.0 in
+    let three : ((nat_lt 10 (slot_of text place).dst || nat_lt 10 (slot_of text place).src) ≡ false) × (calls_bad_register (slot_of text place) kind ≡ false) = or_parts _ _ none in
+    let two : (nat_lt 10 (slot_of text place).dst ≡ false) × (nat_lt 10 (slot_of text place).src ≡ false) = or_parts _ _ three.0 in
     record {
       dst = at_most_ten _ two.0;
       src = at_most_ten _ two.1;
@@ -233,7 +231,7 @@ natural text (pos n) h = (n, (refl, h))
 natural text (negsuc n) h = absurd (cc)
 
 -- the place that a jump leads to, as a number
-pub natural_target : (text : List ℕ) (place : ℕ) (kind : OpKind) (target : ℤ) → IsVerified text → instruction_at text place ≡ Some kind → leads_to kind (slot_of text place) place ≡ Some target → (n : ℕ) × ((target ≡ pos n) × (n < 65536))
+pub natural_target : (text : List ℕ) (place : ℕ) (kind : OpKind) (target : ℤ) → IsVerified text → instruction_at text place ≡ Some kind → leads_to kind (slot_of text place) place ≡ Some target → (n : ℕ) × ((target ≡ pos n) × (n < max_slots))
 natural_target text place kind target v h e =
     let found : (n : ℕ) × ((target ≡ pos n) × (is_start text n ≡ true)) = natural text target (target_start text place kind target v h e) in
     (found.0, (found.1.0, omega (arith, (start_there text found.0 found.1.1).0, (slots_there text v).1)))
@@ -247,7 +245,8 @@ one_of_three false false false h = absurd (cc)
 same_number : (z w : ℤ) → int_eq z w ≡ true → z ≡ w
 same_number z w h = grind (arith, ints)
 
-is_width : (z : ℤ) → is_no_width z ≡ false → (z ≡ pos 16) ⊎ ((z ≡ pos 32) ⊎ (z ≡ pos 64))
+-- the widths of `le` and `be`
+pub is_width : (z : ℤ) → is_no_width z ≡ false → (z ≡ pos 16) ⊎ ((z ≡ pos 32) ⊎ (z ≡ pos 64))
 is_width z h = ⊎_elim
     (λ a. inl (same_number z (pos 16) a))
     (λ r. ⊎_elim (λ b. inr (inl (same_number z (pos 32) b))) (λ c. inr (inr (same_number z (pos 64) c))) r)
@@ -267,7 +266,7 @@ helper_there slot h e = both (slot.src == 0) (is_outside (pos 1) (pos 17) slot.i
 pub has_values : (text : List ℕ) (place : ℕ) (kind : OpKind) → IsVerified text → instruction_at text place ≡ Some kind → HasValues (slot_of text place) kind
 has_values text place kind v h =
     let slot : Slot = slot_of text place in
-    let field : has_bad_value slot kind ≡ false = (either_false (has_stray_field slot (used kind)) (has_bad_value slot kind) (no_row_applies text place kind v h).1.1.1.0).1 in
+    let field : has_bad_value slot kind ≡ false = (or_parts (has_stray_field slot (used kind)) (has_bad_value slot kind) (no_row_applies text place kind v h).1.1.1.0).1 in
     let helper : calls_no_helper slot kind ≡ false = (no_row_applies text place kind v h).1.1.1.1.1.1.1.0 in
     record {
       little = λ e. is_width slot.imm (ap (has_bad_value slot) (sym e) ∙ field);
