@@ -1,7 +1,7 @@
 -- What is known of the instructions of a verified text.
 use Rattle.std.proofs.Common.{◌≡◌, ◌≢◌, ◌<◌, ◌≤◌, ◌-◌, ◌+◌, ◌==◌, ◌&&◌, ◌||◌, not, ℕ, Bool, true, false, cond, List, length, Option, Some, None, refl, ap, ◌∙◌, sym, arith, add-one, ◌⊎◌, inl, inr, ⊎_elim, ◌%◌, ◌/◌}
 use Rattle.std.specs.Prelude.{nat_lt, is_none, ℤ, pos, negsuc, ◌≤ℤ◌, int_lt, slice_get, unwrap_or}
-use Rattle.std.proofs.lemmas.Bool.{or_parts}
+use Rattle.std.proofs.lemmas.Bool.{or_parts, not-false, eq-eqb, ne_eqb, ltb-false}
 use Rattle.std.proofs.lemmas.Bool.Decides.{nat_tests}
 use Rattle.std.specs.Int.{w64, cast_unsigned}
 use Rattle.std.specs.Ordering.{int_eq}
@@ -80,14 +80,10 @@ start_instruction text place v h =
     let found : (kind : OpKind) × (kind_at (slot_of text place).opcode ≡ Some kind) = some_row (kind_at (slot_of text place).opcode) ((slot_of text place).opcode == 0) (follows_wide text place) (rows_at text place v there.0).0 there.1 in
     (found.0, there_instruction text place there.0 ∙ found.1)
 
-not_false : (b : Bool) → not b ≡ false → b ≡ true
-not_false true h = refl
-not_false false h = absurd (cc)
-
 -- a jump, or a call into the program, leads to a start
 pub target_start : (text : List ℕ) (place : ℕ) (kind : OpKind) (target : ℤ) → IsVerified text → instruction_at text place ≡ Some kind → leads_to kind (slot_of text place) place ≡ Some target → is_start_at text target ≡ true
 target_start text place kind target v h e =
-    not_false (is_start_at text target) (ap (is_astray text) (sym e) ∙ (no_row_applies text place kind v h).1.1.1.1.1.1.0)
+    not-false (is_start_at text target) (ap (is_astray text) (sym e) ∙ (no_row_applies text place kind v h).1.1.1.1.1.1.0)
 
 zero_has_no_row : kind_at 0 ≡ None
 unfolding kind_at
@@ -99,11 +95,8 @@ refused None true false h n e f = absurd (cc)
 refused None false w h n e f = absurd (cc)
 refused (Some k) z w h n e f = absurd (cc)
 
-zero_test : (o : ℕ) → o ≡ 0 → (o == 0) ≡ true
-zero_test o h = grind (arith, nat_tests)
-
 opcode_not_zero : (o : ℕ) (w : Bool) → (is_none (kind_at o) && not ((o == 0) && w)) ≡ false → w ≡ false → o ≢ 0
-opcode_not_zero o w h e = λ (z : o ≡ 0). refused (kind_at o) (o == 0) w h (ap kind_at z ∙ zero_has_no_row) (zero_test o z) e
+opcode_not_zero o w h e = λ (z : o ≡ 0). refused (kind_at o) (o == 0) w h (ap kind_at z ∙ zero_has_no_row) (eq-eqb o 0 z) e
 
 -- a slot that is there and does not follow `lddw` is a start
 start_unless_after_wide : (text : List ℕ) (place : ℕ) → IsVerified text → place < slot_count text → follows_wide text place ≡ false → is_start text place ≡ true
@@ -132,10 +125,7 @@ not_exit o kind h g = (
 
 not_wide : (o : ℕ) (kind : OpKind) → kind_at o ≡ Some kind → kind ≢ LoadWide → (o == 0x18) ≡ false
 unfolding kind_at
-not_wide o kind h n = other_number o (λ (e : o ≡ 0x18). let k : kind_at 0x18 ≡ Some kind = ap kind_at (sym e) ∙ h in n (cc))
-  where
-    other_number : (o : ℕ) → o ≢ 0x18 → (o == 0x18) ≡ false
-    other_number o h = grind (arith, nat_tests)
+not_wide o kind h n = ne_eqb o 0x18 (λ (e : o ≡ 0x18). let k : kind_at 0x18 ≡ Some kind = ap kind_at (sym e) ∙ h in n (cc))
 
 wide_or_one : (kind : OpKind) → (kind ≡ LoadWide) ⊎ ((slots_taken kind ≡ 1) × (kind ≢ LoadWide))
 wide_or_one LoadWide = inl refl
@@ -204,9 +194,6 @@ reached_start text place v (after r h g) = next_start text _ _ v h g
 reached_start text place v (jumped r h e) = target_start text _ _ (pos place) v h e
 reached_start text place v (called r h s) = s
 
-at_most_ten : (n : ℕ) → nat_lt 10 n ≡ false → n ≤ 10
-at_most_ten n h = grind (arith, nat_tests)
-
 within : (low high z : ℤ) → is_outside low high z ≡ false → (low ≤ℤ z) × (z ≤ℤ high)
 within low high z h = let both : (int_lt z low ≡ false) × (int_lt high z ≡ false) = or_parts _ _ h in (grind (arith, ints), grind (arith, ints))
 
@@ -217,8 +204,8 @@ has_registers text place kind v h =
     let three : ((nat_lt 10 (slot_of text place).dst || nat_lt 10 (slot_of text place).src) ≡ false) × (calls_bad_register (slot_of text place) kind ≡ false) = or_parts _ _ none in
     let two : (nat_lt 10 (slot_of text place).dst ≡ false) × (nat_lt 10 (slot_of text place).src ≡ false) = or_parts _ _ three.0 in
     record {
-      dst = at_most_ten _ two.0;
-      src = at_most_ten _ two.1;
+      dst = ltb-false 10 _ two.0;
+      src = ltb-false 10 _ two.1;
       called = λ e. within (pos 0) (pos 9) (slot_of text place).imm (ap (calls_bad_register (slot_of text place)) (sym e) ∙ three.1);
     }
 
@@ -252,11 +239,8 @@ is_width z h = ⊎_elim
     (λ r. ⊎_elim (λ b. inr (inl (same_number z (pos 32) b))) (λ c. inr (inr (same_number z (pos 64) c))) r)
     (one_of_three (int_eq z (pos 16)) (int_eq z (pos 32)) (int_eq z (pos 64)) h)
 
-at_most_one : (n : ℕ) → nat_lt 1 n ≡ false → n ≤ 1
-at_most_one n h = grind (arith, nat_tests)
-
 helper_there : (slot : Slot) → ((slot.src == 0) && is_outside (pos 1) (pos 17) slot.imm) ≡ false → slot.src ≡ 0 → is_outside (pos 1) (pos 17) slot.imm ≡ false
-helper_there slot h e = both (slot.src == 0) (is_outside (pos 1) (pos 17) slot.imm) h (zero_test slot.src e)
+helper_there slot h e = both (slot.src == 0) (is_outside (pos 1) (pos 17) slot.imm) h (eq-eqb slot.src 0 e)
   where
     both : (a b : Bool) → (a && b) ≡ false → a ≡ true → b ≡ false
     both true b h e = h
@@ -271,7 +255,7 @@ has_values text place kind v h =
     record {
       little = λ e. is_width slot.imm (ap (has_bad_value slot) (sym e) ∙ field);
       big = λ e. is_width slot.imm (ap (has_bad_value slot) (sym e) ∙ field);
-      source = λ e. at_most_one slot.src (ap (has_bad_value slot) (sym e) ∙ field);
+      source = λ e. ltb-false 1 slot.src (ap (has_bad_value slot) (sym e) ∙ field);
       helper = λ e zero. within (pos 1) (pos 17) slot.imm (helper_there slot (ap (calls_no_helper slot) (sym e) ∙ helper) zero);
     }
 
