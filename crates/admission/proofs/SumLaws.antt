@@ -3,6 +3,7 @@ use Rattle.std.proofs.Common.{◌≡◌, ℕ, zero, suc, ◌+◌, ◌<◌, ◌�
 use Rattle.std.specs.Prelude.{if◌then◌else◌, nat_lt}
 use Rattle.std.specs.List.{list_any, AllByRecursion, IsDistinct}
 use Rattle.std.specs.BTreeMap.{BTreeMap, get, is_at}
+use Rattle.std.proofs.Math.Bool.{or-false, or-true}
 use Rattle.std.proofs.lemmas.Bool.{both_ways}
 use Rattle.std.proofs.lemmas.List.{take_more}
 use Rattle.std.proofs.lemmas.List.Elements.{filter-append}
@@ -58,11 +59,7 @@ passes_by_sums limits order one units sums has (lock ∷ locks) =
 
 -- ---- the locks of one transaction, one after the other
 one_lock : (lock : Lock) (key : Key) → locks_write (lock ∷ []) key ≡ (lock.write && same_key lock.key key)
-one_lock lock key = go (lock.write && same_key lock.key key)
-  where
-    go : (b : Bool) → (b || false) ≡ b
-    go true = refl
-    go false = refl
+one_lock lock key = or-false (lock.write && same_key lock.key key)
 
 -- the keys before a place are none of those from there on
 apart_at : (locks : List Lock) (i : ℕ) (x : Lock) → i < length locks → x ≡ get_or locks i x → IsDistinct same_key (lock_keys locks) → locks_write (take i locks) x.key ≡ false
@@ -91,11 +88,7 @@ module _ (locks : List Lock) (i : ℕ) (x : Lock) (l : i < length locks) (is_x :
   -- a lock that only reads adds nothing
   pub read_adds_none : (limit : ℕ) (first sums : Key → ℕ) → x.write ≡ false → ((key : Key) → sums key ≡ first key + (if locks_write (take i locks) key then limit else 0)) → (key : Key) → sums key ≡ first key + (if locks_write (take (i + 1) locks) key then limit else 0)
   read_adds_none limit first sums none so_far key =
-      so_far key ∙ ap (λ b. first key + (if b then limit else 0)) (sym (writes_more key ∙ ap (λ w. locks_write (take i locks) key || (w && same_key x.key key)) none ∙ or_none (locks_write (take i locks) key)))
-    where
-      or_none : (b : Bool) → (b || false) ≡ b
-      or_none true = refl
-      or_none false = refl
+      so_far key ∙ ap (λ b. first key + (if b then limit else 0)) (sym (writes_more key ∙ ap (λ w. locks_write (take i locks) key || (w && same_key x.key key)) none ∙ or-false (locks_write (take i locks) key)))
 
   -- a key that is first written now has its first sum
   pub first_sum : (limit : ℕ) (first sums : Key → ℕ) → IsDistinct same_key (lock_keys locks) → ((key : Key) → sums key ≡ first key + (if locks_write (take i locks) key then limit else 0)) → sums x.key ≡ first x.key
@@ -122,15 +115,7 @@ module _ (locks : List Lock) (i : ℕ) (x : Lock) (l : i < length locks) (is_x :
           let same : x.key ≡ key = same_key-true x.key key e in
           now ∙ ap (λ b. cond b (sum + limit) (sum_at sums key)) e
           ∙ ap (λ n. n + limit) (is_sum ∙ first_sum limit first (sum_at sums) d so_far ∙ ap first same)
-          ∙ ap (λ b. first key + (if b then limit else 0)) (sym (more ∙ ap (λ b. locks_write (take i locks) key || b) e ∙ or_all (locks_write (take i locks) key)))
-        where
-          or_all : (b : Bool) → (b || true) ≡ true
-          or_all true = refl
-          or_all false = refl
+          ∙ ap (λ b. first key + (if b then limit else 0)) (sym (more ∙ ap (λ b. locks_write (take i locks) key || b) e ∙ or-true (locks_write (take i locks) key)))
       go false e =
           now ∙ ap (λ b. cond b (sum + limit) (sum_at sums key)) e ∙ so_far key
-          ∙ ap (λ b. first key + (if b then limit else 0)) (sym (more ∙ ap (λ b. locks_write (take i locks) key || b) e ∙ or_none (locks_write (take i locks) key)))
-        where
-          or_none : (b : Bool) → (b || false) ≡ b
-          or_none true = refl
-          or_none false = refl
+          ∙ ap (λ b. first key + (if b then limit else 0)) (sym (more ∙ ap (λ b. locks_write (take i locks) key || b) e ∙ or-false (locks_write (take i locks) key)))

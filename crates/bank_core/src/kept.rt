@@ -1,3 +1,4 @@
+//! The core: it lends the values of positions, and takes the effects back.
 ghost use Rattle.std.specs.Prelude.{⊤, ◌≡◌, ◌<◌, ◌≤◌, Some, None, OnOk, OnErr, IfOk, vec_len, vec_capacity};
 ghost use Rattle.account_store.specs.State.{at};
 ghost use Rattle.bank_law.specs.Machine.{Run, held_count, with_event};
@@ -42,6 +43,7 @@ pub struct Core<W: Work> {
     pub(crate) held: u32,
     pub(crate) journal: Vec<Event>,
     pub(crate) alloc: Global,
+    ghost some: { 1 ≤ lanes },
     ghost lawful: { IsLawful (W.job origin.value.told) } by { IsLawful-prop (W.job origin.value.told) },
     ghost runs: { Keeps (W.job origin.value.told) (at origin.value.start) table graph slots.items
         outcomes.items journal.items } by { Keeps-prop (W.job origin.value.told)

@@ -1,3 +1,4 @@
+//! Loans: the values of a position, lent to a lane.
 ghost use Rattle.std.specs.Prelude.{◌≡◌, ◌<◌, ◌≤◌, ℕ, map, length, vec_capacity};
 ghost use Rattle.std.proofs.Props.{props};
 ghost use Rattle.bank_law.specs.Job.{keys};

@@ -1,3 +1,4 @@
+//! What a core is made from: the locks, the graph and the slots.
 ghost use Rattle.std.specs.Prelude.{◌≡◌, ℕ, ◌+◌, ◌*◌, ◌^◌, ◌<◌, ◌≤◌, [], ⊤, Some, None, IfOk, OnOk, length, replicate, vec_len, vec_capacity, slice_index_or, if◌then◌else◌};
 ghost use Rattle.std.specs.List.{IsDistinct};
 ghost use Rattle.std.specs.declared.vec.Vec.{Vec as VecValue};

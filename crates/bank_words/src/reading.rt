@@ -1,3 +1,4 @@
+//! From words to a command.
 ghost use Rattle.std.specs.Prelude.{◌≡◌, IfOk, MatchResult, Some, option_map, map};
 ghost use Rattle.std.specs.List.{list_all};
 ghost use Rattle.clap.specs.Matches.{found_of};

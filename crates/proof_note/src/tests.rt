@@ -1,3 +1,4 @@
+//! A note, and one that another thread looks at.
 ghost use Rattle.std.specs.Prelude.{◌≡◌};
 
 use crate::Note;

@@ -1,3 +1,4 @@
+//! From an image to its listing.
 ghost use Rattle.std.specs.Prelude.{◌≡◌, ◌++◌, ◌*◌, ◌<◌, ◌≤◌, OnOk, codes, find, length, map, option_map};
 ghost use Rattle.std.specs.Fork.{slice_chunk};
 ghost use Rattle.spec_base.specs.Reading.{Gives};

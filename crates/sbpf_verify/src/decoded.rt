@@ -1,3 +1,4 @@
+//! Verified texts with their decoded instructions.
 ghost use Rattle.std.specs.Prelude.{◌≡◌, IfOk};
 ghost use Rattle.std.specs.Arc.{arc_value};
 ghost use Rattle.sbpf_verify.specs.Entries.{IsDecoded};

@@ -1,3 +1,4 @@
+//! Laws of verified texts and of program images. Their calls do nothing.
 ghost use Rattle.std.specs.Prelude.{◌≡◌, ◌↔◌, ℕ, ◌+◌, ◌<◌, ◌≤◌, true, false, List, slice_get, Some, None, ℤ};
 ghost use Rattle.sbpf_isa.specs.Slots.{slot_of};
 ghost use Rattle.sbpf_isa.specs.declared.rows.OpKind.{OpKind};
@@ -6,7 +7,7 @@ ghost use Rattle.sbpf_verify.specs.declared.entry.Entry.{Entry};
 ghost use Rattle.sbpf_verify.specs.Entries.{IsDecoded, Fits};
 ghost use Rattle.sbpf_verify.specs.Images.{ImageParts, IsWritable, image_bytes, image_in};
 ghost use Rattle.sbpf_verify.specs.Instructions.{HasRegisters, HasValues};
-ghost use Rattle.sbpf_verify.specs.Places.{slot_count, is_start, is_start_at, instruction_at, leads_to, goes_on, slots_taken, Reached};
+ghost use Rattle.sbpf_verify.specs.Places.{slot_count, max_slots, is_start, is_start_at, instruction_at, leads_to, goes_on, slots_taken, Reached};
 ghost use Rattle.sbpf_verify.specs.Verified.{IsVerified, unfit};
 
 /// A law: the verified texts are those without a refusal.
@@ -14,11 +15,11 @@ pub fn verified_is_without_refusal()
     ensures { (text : List ℕ) → IsVerified text ↔ (unfit text ≡ None) }
 {}
 
-/// A law: the first slot of a verified text is a start, and no start is beyond 65,536 slots.
+/// A law: the first slot of a verified text is a start, and no start is beyond the most slots.
 pub fn first_slot_is_a_start()
     ensures first { (text : List ℕ) → IsVerified text → is_start text 0 ≡ true }
     ensures below { (text : List ℕ) (place : ℕ) → IsVerified text → is_start text place ≡ true
-        → place < 65536 }
+        → place < max_slots }
 {}
 
 /// A law: each start of a verified text has an instruction, and an instruction stands at no other

@@ -19,4 +19,5 @@ pub use entry::Entry;
 pub use fault::VerifyFault;
 pub use image::{ImageSlices, read_image};
 pub use opcode::Opcode;
+pub use table::MAX_SLOTS;
 pub use verified::{Unfit, Verified, first_refusal, verify};

@@ -1,5 +1,5 @@
 -- Reading a snapshot from left to right, with the first refusal that is met.
-use Rattle.std.specs.Prelude.{ℕ, ◌+◌, ◌-◌, ◌^◌, List, [], ◌∷◌, length, codes, bytes_eq, Bool, true, false, ◌==◌, nat_le, ◌&&◌, if◌then◌else◌, Option, option_map, unwrap_or, slice_get, Result, Ok, Err}
+use Rattle.std.specs.Prelude.{ℕ, ◌+◌, ◌-◌, ◌^◌, List, [], length, codes, bytes_eq, Bool, true, false, ◌==◌, nat_le, ◌&&◌, if◌then◌else◌, option_map, unwrap_or, slice_get, Result, Ok, Err}
 use Rattle.std.specs.Int.{Width, w16, w32, w64}
 use Rattle.std.specs.Ordering.{is_lt}
 use Rattle.std.specs.FinMap as map

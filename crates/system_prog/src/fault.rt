@@ -1,3 +1,4 @@
+//! Why the system program refuses an instruction.
 use account_rules::RuleFault;
 use sol_base::OutOfMemory;
 use spec_base::Refusal;

@@ -5,12 +5,13 @@ use Rattle.std.specs.List.{enumerate_from}
 use Rattle.std.specs.Option.{option_map_or}
 use Rattle.std.proofs.lemmas.List.{length-map}
 use Rattle.std.proofs.lemmas.List.Elements.{All-head, All-tail, All-cons, All-nil}
+use Rattle.std.proofs.lemmas.Bool.{cond_both}
 use Rattle.std.proofs.lemmas.Bool.Decides.{nat_tests}
 use Rattle.sol_base.specs.declared.key.Key.{Key}
 use Rattle.sol_base.specs.declared.account.Account.{Account}
 use Rattle.sol_base.specs.declared.lock.Lock.{Lock}
 use Rattle.sol_base.specs.declared.lock.Meta.{Meta}
-use Rattle.sol_base.specs.Accounts.{AreShort, IsShort, lamports_in}
+use Rattle.sol_base.specs.Accounts.{AreShort, IsShort, lamports_in, max_data_len}
 use Rattle.sol_base.specs.Metas.{AreInRange, is_listed_writable}
 use Rattle.account_store.specs.State.{settled}
 use Rattle.account_rules.specs.KeptAccounts.{AreKeptBy}
@@ -26,18 +27,18 @@ use Rattle.tx_report.specs.declared.status.Status.{Status}
 use Rattle.tx_report.specs.declared.status.Status.TheVariants.{Dropped}
 use Rattle.bank_law.specs.Lawful.{lent_for_writing}
 use Rattle.bank_law.proofs.States.{lamports_in-cons}
+use Rattle.bank_law.proofs.Supply.{lent_for_writing-length, lent_for_writing-short}
 use Rattle.admission.specs.declared.chosen.Chosen.{Chosen}
 use Rattle.admission.specs.Chosen.{IsChosen}
 use Rattle.invoke_engine.specs.Fits.{AreListed}
 use Rattle.invoke_engine.specs.Frame.{Ending, frame, instruction, nothing_returned}
-use Rattle.invoke_engine.proofs.Fuel.{either}
 use Rattle.invoke_engine.proofs.Kept.{frame_keeps}
 use Rattle.tx_exec.specs.Payer.{charged, drop_cause, dropped, is_wallet, less, total_fee}
 use Rattle.tx_exec.specs.Executing.{Executed, Failure, InBlock, call_of, executed, fixed_for, following, locks, meta_of, performed, writes}
 use Rattle.tx_exec.specs.Transaction.{Transacted, by_drop, came_to, data_in, finished, finishing, no_fee, rent_broken, transaction}
 use Rattle.tx_exec.specs.TransactionLaws.{Keeps, WritesFit}
 use Rattle.tx_exec.proofs.Settled.{all_settled, all_settled_lamports, all_settled_short}
-use Rattle.tx_exec.proofs.Lent.{lent_count, lent_lamports, lent_short}
+use Rattle.tx_exec.proofs.Lent.{lent_lamports}
 
 -- ---- the rights of an instruction
 
@@ -94,8 +95,8 @@ of_end t i a (Err error) k = tt
 pub instruction_keeps : (block : InBlock) (t : Chosen) (i : Instruction) (a : List Account) (units trace : ℕ) (log : Log) → IsThere t i → length a ≡ length (all_keys t.tx.message t.loaded) → GoodKeeps t a (instruction (fixed_for block t) (call_of t i) a units trace log).result
 instruction_keeps block t i a units trace log there count =
     let listed : AreListed (length (all_keys t.tx.message t.loaded)) (call_of t i).metas a = record { count = count; range = metas_there t (length (all_keys t.tx.message t.loaded)) i.accounts there } in
-    either (λ (e : Ending). GoodKeeps t a e.result) (nat_le 64 trace) _ _ tt
-    (of_end t i a (frame (fixed_for block t) [] (call_of t i) a units (nothing_returned trace log)).result (frame_keeps (fixed_for block t) [] (call_of t i) a units (nothing_returned trace log) listed))
+    cond_both (nat_le 64 trace) _ _ (λ (e : Ending). GoodKeeps t a e.result) (λ _. tt)
+    (λ _. of_end t i a (frame (fixed_for block t) [] (call_of t i) a units (nothing_returned trace log)).result (frame_keeps (fixed_for block t) [] (call_of t i) a units (nothing_returned trace log) listed))
 
 follow_keeps : (t : Chosen) (index : ℕ) (on : List Account → ℕ → ℕ → Log → Executed) (a : List Account) (result : Result (List Account) InstructionError) (e : Ending) →
     ((b : List Account) (units trace : ℕ) (log : Log) → length b ≡ length a → GoodKeeps t b (on b units trace log).result) → GoodKeeps t a result → GoodKeeps t a (following index on result e).result
@@ -153,7 +154,7 @@ other_program payer less others p (suc place) account h e = h
 
 pub short_less : (payer less : Account) (others : List Account) → less.bytes ≡ payer.bytes → AreShort (payer ∷ others) → AreShort (less ∷ others)
 short_less payer less others e h =
-    All-cons IsShort less others (subst (λ (b : List ℕ). length b ≤ 10485760) (sym e) (All-head IsShort payer others h)) (All-tail IsShort payer others h)
+    All-cons IsShort less others (subst (λ (b : List ℕ). length b ≤ max_data_len) (sym e) (All-head IsShort payer others h)) (All-tail IsShort payer others h)
 
 fee_taken : (t : Chosen) (values : List Account) → writes t 0 ≡ true → dropped values (total_fee t) ≡ None → IsCharged t values (charged values (total_fee t))
 fee_taken t [] w h = absurd (cc)
@@ -211,8 +212,8 @@ transaction_keeps block t values is count = by_cause (dropped values (total_fee 
     by_cause None h =
         let base : List Account = charged values (total_fee t) in
         let k : IsCharged t values base = fee_taken t values (payer_is_writable t.tx 128 t.loaded is.sane) h in
-        either (Keeps t values) (nat_lt t.budget.loaded (data_in base)) _ _ (base_keeps t values base _ 0 [] k)
-        (finished_keeps t values base _ _ (performed (fixed_for block t) t base).result k
+        cond_both (nat_lt t.budget.loaded (data_in base)) _ _ (Keeps t values) (λ _. base_keeps t values base _ 0 [] k)
+        (λ _. finished_keeps t values base _ _ (performed (fixed_for block t) t base).result k
         (executed_keeps block t 0 t.tx.message.instructions base t.budget.limit 0 no_lines (all_there t is) (k.count ∙ count)))
 
 -- what is written fits what was lent, where the values are kept
@@ -223,9 +224,9 @@ fits_kept t values x h k =
     let same = lent_lamports (locks t) values x.values h (k.count ∙ h) (λ place lock there reads. k.read place (lock_writes t place lock there ∙ reads)) in
     let sum = k.lamports in
     record {
-      one_each = one ∙ lent_count (locks t) x.values (k.count ∙ h);
+      one_each = one ∙ lent_for_writing-length (locks t) x.values (k.count ∙ h);
       lamports = omega (arith, two, same, sum);
-      short = λ s. all_settled_short (lent_for_writing (locks t) x.values) (lent_short (locks t) x.values (k.short s));
+      short = λ s. all_settled_short (lent_for_writing (locks t) x.values) (lent_for_writing-short (locks t) x.values (k.short s));
       settled = all_settled (lent_for_writing (locks t) x.values);
     }
 

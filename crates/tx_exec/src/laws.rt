@@ -1,3 +1,4 @@
+//! Laws of transactions and of what they keep. Their calls do nothing.
 ghost use Rattle.std.specs.Prelude.{◌≡◌, All, List, length};
 ghost use Rattle.sol_base.specs.declared.account.Account.{Account as AccountValue};
 ghost use Rattle.message_codec.specs.Roles.{all_keys};

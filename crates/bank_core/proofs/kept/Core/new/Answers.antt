@@ -1,4 +1,4 @@
-use Rattle.std.proofs.Common.{ℕ, None, replicate, ◌≡◌, ◌+◌, ◌*◌, ◌<◌, ◌≤◌, ◌^◌, [], length, arith, refl, sym, subst, ◌∙◌, ap, vec_capacity}
+use Rattle.std.proofs.Common.{ℕ, None, replicate, ◌≡◌, ◌<◌, ◌≤◌, length, arith, refl, sym, subst, ◌∙◌, ap, vec_capacity}
 use Rattle.account_store.specs.State.{at}
 use Rattle.bank_law.specs.Lawful.{IsLawful}
 use Rattle.bank_law.specs.Machine.{Run, held_count}
@@ -17,6 +17,7 @@ new-requires g c =
 
 pub invariant_of-result : goal.invariant_of-result
 invariant_of-result g c = record {
+  some = c.requires.some;
   lawful = subst (λ o. IsLawful (g.W.Work.job o.told)) (sym c.origin_of-origin.ensures) (g.W.Work.lawful c.args.work.now);
   runs = (let job = g.W.Work.job (g.W.Work.told c.args.work.now) in
       let sets = c.in_ok-sets.ensures in
