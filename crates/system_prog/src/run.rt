@@ -76,7 +76,7 @@ fn run_counted(
     Ok(draft.finish(alloc)?)
 }
 
-// The account rules, where an instruction ended well.
+/// The account rules, where an instruction ended well.
 #[tactic(auto, unfolding(crate::specs::SystemProgram::rules_kept))]
 fn check_rules(
     alloc: Global,
@@ -103,7 +103,7 @@ fn check_rules(
     Ok(())
 }
 
-// Of each account whether the instruction may have changed it.
+/// Of each account whether the instruction may have changed it.
 fn touched_by(
     alloc: Global,
     frame: &Frame<'_>,

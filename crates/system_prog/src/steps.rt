@@ -208,7 +208,7 @@ fn has_data(account: &Account) -> bool
     account.bytes.len() != 0
 }
 
-// Whether an account has data or an owner, so that no one may allocate it.
+/// Whether an account has data or an owner, so that no one may allocate it.
 fn is_taken(account: &Account) -> bool
     ensures { result ≡ is_taken account.now }
 {
