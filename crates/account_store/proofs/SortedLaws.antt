@@ -1,20 +1,20 @@
 -- States from lists of entries whose keys ascend.
-use Rattle.std.proofs.Common.{◌≡◌, ◌+◌, ◌-◌, ◌^◌, ◌≤◌, ◌<◌, ℕ, zero, suc, List, [], ◌∷◌, ◌++◌, length, take, Option, Some, None, Bool, true, false, not, inl, inr, Result, Ok, Err, lit≤, refl, sym, ap, subst, ◌∙◌, append_assoc, arith}
+use Rattle.std.proofs.Common.{◌≡◌, ◌+◌, ◌-◌, ◌^◌, ◌≤◌, ◌<◌, ℕ, suc, List, [], ◌∷◌, ◌++◌, length, take, Option, Some, None, Bool, true, false, not, inl, inr, Result, Ok, Err, lit≤, refl, sym, ap, subst, ◌∙◌, append_assoc, arith}
 use Rattle.std.specs.Prelude.{map as each, slice_get, nat_eq, nat_lt, option_map, All, MatchBool}
 use Rattle.std.specs.List.{AllByRecursion, enumerate_from, filter_map, cons_option}
 use Rattle.std.specs.List.Sorted.{IsStrictlySortedBy}
-use Rattle.std.specs.Arc.{arc_value}
 use Rattle.std.specs.Map.{keys_of}
 use Rattle.std.specs.FinMap.{from_entries, len-entries}
 use Rattle.std.specs.BTreeMap.{insert_entry}
 use Rattle.std.specs.Ordering.{is_lt, match_ordering, ordering_reverse}
 use Rattle.std.specs.declared.cmp.Ordering.{Ordering}
-use Rattle.std.specs.declared.cmp.Ordering.TheVariants.{Less, Equal, Greater}
+use Rattle.std.specs.declared.cmp.Ordering.TheVariants.{Less, Greater}
 use Rattle.std.proofs.Math.ListN.{get_or}
 use Rattle.std.proofs.Math.Seq.{get_or-append_seam}
-use Rattle.std.proofs.lemmas.Bool.{both_ways, false_from_ne_true, not-false}
+use Rattle.std.proofs.lemmas.Bool.{both_ways, false_from_ne_true, not-false, not-true}
 use Rattle.std.proofs.lemmas.Bool.Decides.{nat_tests}
-use Rattle.std.proofs.lemmas.List.Sums.{sum_by-cons, sum_by_push, sum_by-append}
+use Rattle.std.proofs.lemmas.Option.{same_Some}
+use Rattle.std.proofs.lemmas.List.Sums.{sum_by_push, sum_by-append}
 use Rattle.std.proofs.lemmas.List.Elements.{All-from_recursion, recursion_from_All, All-push}
 use Rattle.std.proofs.lemmas.List.{append-nil, length-append, length-map, map-append}
 use Rattle.spec_base.proofs.Binding.{chosen}
@@ -26,19 +26,12 @@ use Rattle.sol_base.proofs.KeyLaws.{key_cmp_exact, key_cmp_total}
 use Rattle.account_store.specs.declared.sorted.KeyedAccount.{KeyedAccount}
 use Rattle.account_store.specs.declared.sorted.StoreFault.{StoreFault}
 use Rattle.account_store.specs.declared.sorted.StoreFault.TheVariants.{OutOfOrder, Empty, SupplyTooLarge, OutOfMemory}
-use Rattle.account_store.specs.State.{State, is_above, entries, len, lamports_of, sum, IsHeld, IsState}
-use Rattle.account_store.specs.Sorted.{is_store_memory, IsFaultOr, entry_of, entries_of, keyed, Ascend, AreOfState, IsWrongAfter, IsRefused, last_key, entry_fault, entry_faults, first_fault, unless, state_of}
+use Rattle.account_store.specs.State.{State, is_above, entries, len, lamports_of, IsHeld, IsState}
+use Rattle.account_store.specs.Sorted.{is_store_memory, IsFaultOr, entry_of, entries_of, keyed, Ascend, AreOfState, IsWrongAfter, IsRefused, last_key, entry_fault, first_fault, unless, state_of}
 use Rattle.account_store.proofs.EntryLists.{sorted-entries, entries-from_entries, from_entries-entries}
 
 abbrev pub Entry : Type 0
 Entry = Key × Account
-
-not_true : (b : Bool) → not b ≡ true → b ≡ false
-not_true true g = absurd (cc)
-not_true false g = refl
-
-same_some : {X : Type 0} (x y : X) → (let o : Option X = Some x in o) ≡ Some y → x ≡ y
-same_some x y e = cc
 
 some_is_not_none : {X : Type 0} (x : X) → (let o : Option X = Some x in o) ≡ None → ⊥
 some_is_not_none x e = absurd (cc)
@@ -234,13 +227,13 @@ none-from_state es are = first_fault-is es ∙ ap (fault_after []) (sym (append-
 wrong-from_fault : (before : List Entry) (e : Entry) (fault : StoreFault) → AreOfState before → entry_fault before e ≡ Some fault → IsWrongAfter before e fault
 wrong-from_fault before e fault are h =
     elim (chosen (not (is_above (last_key before) e.0)) (Some (OutOfOrder (length before))) _ (Some fault) h) [
-      | inl p ↦ subst (IsWrongAfter before e) (same_some _ fault p.1) (refl, λ ascend. both_ways _ (not_true (is_above (last_key before) e.0) p.0) (above-from_Ascend before e ascend))
+      | inl p ↦ subst (IsWrongAfter before e) (same_Some _ fault p.1) (refl, λ ascend. both_ways _ (not-true (is_above (last_key before) e.0) p.0) (above-from_Ascend before e ascend))
       | inr p ↦
           let ascend = Ascend-above before e are.ascend (not-false (is_above (last_key before) e.0) p.0) in
           elim (chosen (nat_eq e.1.lamports 0) (Some (Empty (length before))) _ (Some fault) p.1) [
-            | inl q ↦ subst (IsWrongAfter before e) (same_some _ fault q.1) (refl, ascend, (let t = q.0 in grind (arith, nat_tests)))
+            | inl q ↦ subst (IsWrongAfter before e) (same_Some _ fault q.1) (refl, ascend, (let t = q.0 in grind (arith, nat_tests)))
             | inr q ↦ elim (chosen (nat_lt (2 ^ 64 - 1) (lamports_of before + e.1.lamports)) (Some SupplyTooLarge) None (Some fault) q.1) [
-              | inl r ↦ subst (IsWrongAfter before e) (same_some _ fault r.1) (ascend, (let t = q.0 in grind (arith, nat_tests)), rw (sum_by_push (λ (d : Entry). d.1.lamports) before e) (let t = r.0 in grind (arith, nat_tests)))
+              | inl r ↦ subst (IsWrongAfter before e) (same_Some _ fault r.1) (ascend, (let t = q.0 in grind (arith, nat_tests)), rw (sum_by_push (λ (d : Entry). d.1.lamports) before e) (let t = r.0 in grind (arith, nat_tests)))
               | inr r ↦ absurd (some_is_not_none _ (sym r.1))
             ]
           ]

@@ -1,5 +1,5 @@
 -- A state from a list of entries, whose keys ascend.
-use Rattle.std.specs.Prelude.{◌≡◌, ℕ, ◌+◌, ◌-◌, ◌^◌, ◌≤◌, ◌==◌, List, [], ◌∷◌, ◌++◌, length, take, map, slice_get, nat_lt, not, if◌then◌else◌, Bool, true, false, Option, Some, None, Result, Ok, Err, option_map, All, MatchBool}
+use Rattle.std.specs.Prelude.{◌≡◌, ◌+◌, ◌-◌, ◌^◌, ◌≤◌, ◌==◌, List, [], ◌∷◌, ◌++◌, length, take, map, slice_get, nat_lt, not, if◌then◌else◌, Bool, true, false, Option, Some, None, Result, Ok, Err, option_map, All, MatchBool}
 use Rattle.std.specs.List.{enumerate_from, filter_map}
 use Rattle.std.specs.List.Sorted.{IsStrictlySortedBy}
 use Rattle.std.specs.Map.{keys_of}
