@@ -16,25 +16,25 @@ use Rattle.sol_base.specs.Keys.{key_cmp, same_key}
 use Rattle.sol_base.proofs.KeyLaws.{same_cmp, same_key-true}
 use Rattle.sol_base.specs.Locks.{lock_keys}
 use Rattle.admission.specs.declared.chosen.Chosen.{Chosen}
-use Rattle.admission.specs.Admission.{units_of, units_on, writes, locks_write}
+use Rattle.admission.specs.Admission.{units_of, units_on, may_write_key, locks_write}
 use Rattle.admission.specs.Sums.{HasSums, passes, sum_at}
 
 -- a key has no more units than all together
 pub part_of_all : (key : Key) (order : List Chosen) → units_on key order ≤ units_of order
 part_of_all key [] = omega arith
 part_of_all key (one ∷ others) =
-    let part : units_on key (one ∷ others) ≤ one.budget.limit + units_of others = go (writes key one) (part_of_all key others) in
+    let part : units_on key (one ∷ others) ≤ one.budget.limit + units_of others = go (may_write_key key one) (part_of_all key others) in
     subst (λ n. units_on key (one ∷ others) ≤ n) (sym (sum_by-cons (λ (chosen : Chosen). chosen.budget.limit) one others)) part
   where
-    go : (b : Bool) → units_of (filter (writes key) others) ≤ units_of others → units_of (cond b (one ∷ filter (writes key) others) (filter (writes key) others)) ≤ one.budget.limit + units_of others
-    go true more = subst (λ n. n ≤ one.budget.limit + units_of others) (sym (sum_by-cons (λ (chosen : Chosen). chosen.budget.limit) one (filter (writes key) others))) (omega (arith, more))
+    go : (b : Bool) → units_of (filter (may_write_key key) others) ≤ units_of others → units_of (cond b (one ∷ filter (may_write_key key) others) (filter (may_write_key key) others)) ≤ one.budget.limit + units_of others
+    go true more = subst (λ n. n ≤ one.budget.limit + units_of others) (sym (sum_by-cons (λ (chosen : Chosen). chosen.budget.limit) one (filter (may_write_key key) others))) (omega (arith, more))
     go false more = omega (arith, more)
 
 pub units_more : (order : List Chosen) (one : Chosen) → units_of (order ++ one ∷ []) ≡ units_of order + one.budget.limit
 units_more order one = sum_by_push (λ (chosen : Chosen). chosen.budget.limit) order one
 
 pub units_on_more : (key : Key) (order : List Chosen) (one : Chosen) → units_on key (order ++ one ∷ []) ≡ units_on key order + (if locks_write one.locks key then one.budget.limit else 0)
-units_on_more key order one = ap units_of (filter-append (writes key) order (one ∷ [])) ∙ sum_by-append (λ (chosen : Chosen). chosen.budget.limit) (filter (writes key) order) (filter (writes key) (one ∷ [])) ∙ ap (λ n. units_on key order + n) (go (writes key one))
+units_on_more key order one = ap units_of (filter-append (may_write_key key) order (one ∷ [])) ∙ sum_by-append (λ (chosen : Chosen). chosen.budget.limit) (filter (may_write_key key) order) (filter (may_write_key key) (one ∷ [])) ∙ ap (λ n. units_on key order + n) (go (may_write_key key one))
   where
     go : (b : Bool) → units_of (cond b (one ∷ []) []) ≡ (if b then one.budget.limit else 0)
     go true = zero-add one.budget.limit

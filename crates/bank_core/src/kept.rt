@@ -48,11 +48,12 @@ pub struct Core<W: Work> {
     ghost runs: { Keeps (W.job origin.value.told) (at origin.value.start) table graph slots.items
         outcomes.items journal.items } by { Keeps-prop (W.job origin.value.told)
             (at origin.value.start) table graph slots.items outcomes.items journal.items },
-    ghost apart: { IsApart origin.value.start rest table } by { IsApart-prop origin.value.start rest table },
+    ghost apart: { IsApart origin.value.start rest table } by { IsApart-prop _ _ _ },
     ghost room: { HasRoom (W.job origin.value.told).count lanes (vec_capacity journal)
         journal.items } by { HasRoom-prop (W.job origin.value.told).count lanes
             (vec_capacity journal) journal.items },
-    ghost buffered: { HasBuffers (W.job origin.value.told) lanes journal.items buffers.items } by { HasBuffers-prop (W.job origin.value.told) lanes journal.items buffers.items },
+    ghost buffered: { HasBuffers (W.job origin.value.told) lanes journal.items
+        buffers.items } by { HasBuffers-prop _ _ _ _ },
     ghost counted: { held
         ≡ held_count (W.job origin.value.told)
         (Run (W.job origin.value.told) (at origin.value.start) journal.items) },

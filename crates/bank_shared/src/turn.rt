@@ -13,7 +13,7 @@ use bank_law::Event;
 use std::sync::Wait;
 
 impl<W: Work> SharedDesk<W> {
-    // Takes the turn and the core, if the word is as expected.
+    /// Takes the turn and the core, if the word is as expected.
     fn try_lock(
         &self,
         seat: &mut Seat<Option<Kept<W>>, View<DeskOrigin<W::Told>>>,
@@ -42,7 +42,7 @@ impl<W: Work> SharedDesk<W> {
         self.table.shared.exchange(seat, 0, None)
     }
 
-    // Waits for the turn, and takes the core out.
+    /// Waits for the turn, and takes the core out.
     pub(crate) fn lock<R: Wait>(
         &self,
         rt: &R,
@@ -72,7 +72,7 @@ impl<W: Work> SharedDesk<W> {
         unreachable!()
     }
 
-    // Gives the turn up, with no event.
+    /// Gives the turn up, with no event.
     pub(crate) fn release(
         &self,
         seat: &mut Seat<Option<Kept<W>>, View<DeskOrigin<W::Told>>>,
@@ -94,7 +94,7 @@ impl<W: Work> SharedDesk<W> {
         self.table.shared.wake_one(0);
     }
 
-    // Gives the turn up, with one event.
+    /// Gives the turn up, with one event.
     pub(crate) fn release_more(
         &self,
         seat: &mut Seat<Option<Kept<W>>, View<DeskOrigin<W::Told>>>,
@@ -120,7 +120,7 @@ impl<W: Work> SharedDesk<W> {
         self.table.shared.wake_one(0);
     }
 
-    // Gives the turn up, with a lane drawn.
+    /// Gives the turn up, with a lane drawn.
     pub(crate) fn draw(
         &self,
         seat: &mut Seat<Option<Kept<W>>, View<DeskOrigin<W::Told>>>,
@@ -145,7 +145,7 @@ impl<W: Work> SharedDesk<W> {
         self.table.shared.wake_one(0);
     }
 
-    // Joins a seat into a pass, and looks.
+    /// Joins a seat into a pass, and looks.
     pub(crate) fn fold(
         &self,
         pass: &mut Pass<W>,

@@ -62,7 +62,7 @@ fn are_plain(words: &[&str]) -> bool
     words.iter().all(|word| is_plain(word))
 }
 
-// Whether clap reads the word as an option or as a value. It takes `-`, `--` and `-x` otherwise.
+/// Whether clap reads the word as an option or as a value. It takes `-`, `--` and `-x` otherwise.
 fn is_plain(word: &str) -> bool
     ensures { result ≡ is_plain word.now }
 {

@@ -9,11 +9,11 @@ ghost use Rattle.sbpf_asm.specs.Texts.{IsAssembly};
 
 /// A law: the lines of a text that is assembled stand for items, and the image has what they have.
 pub fn assembled_texts_are_lines_of_items()
-    ensures { (text image : List ℕ) → Assembled text image → IsAssembly text image }
+    ensures items { (text image : List ℕ) → Assembled text image → IsAssembly text image }
 {}
 
 /// A law: the listing of an image that an account can hold assembles to that image again.
 pub fn listings_assemble_again()
-    ensures { (image text : List ℕ) → IsBytes image → length image ≤ max_data_len
+    ensures again { (image text : List ℕ) → IsBytes image → length image ≤ max_data_len
         → Listed image text → Assembled text image }
 {}

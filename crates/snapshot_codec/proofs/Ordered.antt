@@ -54,6 +54,7 @@ module _ {X K : Type 0} (key : X → K) {cmp : K → K → Ordering} (total : Is
   last_below (y ∷ []) x below = ap is_lt below.0
   last_below (y ∷ z ∷ xs) x below = last_passes-cons (λ last. is_lt (cmp (key last) (key x))) y z xs ∙ last_below (z ∷ xs) x below.1
 
+  -- by recursion, as what is sorted has it; std's `All-push` speaks of places
   all_push : (P : K → Type 0) (xs : List X) (x : X) → AllByRecursion P (map key xs) → P (key x) → AllByRecursion P (map key (xs ++ x ∷ []))
   all_push P [] x all one = (one, tt)
   all_push P (y ∷ xs) x all one = (all.0, all_push P xs x all.1 one)

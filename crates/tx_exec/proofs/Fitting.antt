@@ -21,7 +21,7 @@ use Rattle.admission.specs.declared.chosen.Chosen.{Chosen}
 use Rattle.admission.specs.Chosen.{IsChosen}
 use Rattle.invoke_engine.specs.Given.{AreGiven, IsCall}
 use Rattle.tx_exec.specs.Payer.{charged, less}
-use Rattle.tx_exec.specs.Executing.{call_of, meta_of, writes}
+use Rattle.tx_exec.specs.Executing.{call_of, meta_of, lets_write}
 use Rattle.tx_exec.specs.Tables.{IsTableOf, IsTableTo}
 use Rattle.tx_exec.proofs.Keeping.{lock_writes, metas_there, short_less}
 
@@ -96,7 +96,7 @@ table_more t n table meta is same = record {
 }
 
 -- the rights that a lock and the signers give
-pub right_at : (t : Chosen) → IsChosen t → (items : List Lock) → items ≡ t.locks → (place : ℕ) (d : Lock) → place < length items → (get_or items place d).write ≡ writes t place
+pub right_at : (t : Chosen) → IsChosen t → (items : List Lock) → items ≡ t.locks → (place : ℕ) (d : Lock) → place < length items → (get_or items place d).write ≡ lets_write t place
 right_at t is items same place d below =
     sym (lock_writes t place (get_or items place d) (subst (λ (ls : List Lock). slice_get ls place ≡ Some (get_or items place d)) (same ∙ is.locked) (slice_get-get_or items place d below)))
 

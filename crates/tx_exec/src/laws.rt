@@ -28,5 +28,5 @@ pub fn transactions_keep_accounts()
 
 /// A law: the transactions of a block, a position for each, are a lawful work.
 pub fn transactions_are_lawful_works()
-    ensures { (told : ToldValue) → All IsChosen told.chosen → IsLawful (job_of told) }
+    ensures lawful { (told : ToldValue) → All IsChosen told.chosen → IsLawful (job_of told) }
 {}
