@@ -61,7 +61,8 @@ trial_lawful lists distinct = record {
   distinct = λ i l. distinct i [] l;
   one_each = λ i vs l F. length-map (lent_for_writing ((trial_job lists).locks i) vs) spent
       ∙ lent_for_writing-length ((trial_job lists).locks i) vs F.one_each
-      ∙ sym (length-map (filter (λ lock. lock.write) ((trial_job lists).locks i)) (λ lock. lock.key));
+      ∙ sym (length-map (filter (λ lock. lock.write) ((trial_job lists).locks i))
+      (λ lock. lock.key));
   no_more = λ i vs l F. all_spent-le (lent_for_writing ((trial_job lists).locks i) vs);
   short = λ i vs l F. all_spent-short (lent_for_writing ((trial_job lists).locks i) vs)
       (lent_for_writing-short ((trial_job lists).locks i) vs F.short);

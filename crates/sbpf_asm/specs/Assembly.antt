@@ -112,7 +112,8 @@ with_lines number s (text ∷ texts) =
 -- ---- round two: how much there is
 
 abbrev pub is_too_long : Source → Bool
-is_too_long s = nat_lt max_slots s.slots || nat_lt max_data_len (16 + 8 * s.slots + length s.constants)
+is_too_long s =
+    nat_lt max_slots s.slots || nat_lt max_data_len (16 + 8 * s.slots + length s.constants)
 
 -- ---- round three: labels put in
 
