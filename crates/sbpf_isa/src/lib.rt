@@ -2,9 +2,11 @@
 //! which opcodes there are (RFC 9669).
 #![tactic(auto)]
 
+mod laws;
 mod rows;
 mod slot;
 
+pub use laws::rows_have_their_own_opcodes;
 pub use rows::{Condition, OpKind, Operand, Operation, Size, Width, kind_of};
 pub use slot::{Slot, slot_at};
 

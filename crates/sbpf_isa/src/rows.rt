@@ -1,6 +1,5 @@
-ghost use Rattle.std.specs.Prelude.{◌≡◌, Some};
-ghost use Rattle.std.specs.List.{AllByRecursion};
-ghost use Rattle.sbpf_isa.specs.Rows.{kind_at, rows};
+ghost use Rattle.std.specs.Prelude.{◌≡◌};
+ghost use Rattle.sbpf_isa.specs.Rows.{kind_at};
 
 /// What an instruction with two operands computes, of the destination register and its source
 /// operand.
@@ -191,9 +190,3 @@ pub fn kind_of(opcode: u8) -> Option<OpKind>
     };
     Some(kind)
 }
-
-/// A law: each row of the table is what its opcode leads to, so that no opcode stands in two rows.
-#[tactic(auto, unfolding(crate::specs::Rows::kind_at))]
-pub fn rows_have_their_own_opcodes()
-    ensures { AllByRecursion (λ r. kind_at r.opcode ≡ Some r.kind) rows }
-{}

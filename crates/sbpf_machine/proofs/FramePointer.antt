@@ -1,8 +1,8 @@
 -- r10 is always the end of the active frame.
-use Rattle.std.proofs.Common.{◌≡◌, ◌≢◌, ◌<◌, ◌+◌, ◌-◌, ◌%◌, ◌^◌, ◌==◌, ◌&&◌, ◌||◌, ◌⊎◌, inl, inr, ⊎_elim, not, ℕ, zero, suc, Bool, true, false, List, [], ◌∷◌, ◌++◌, length, take, set, Option, Some, None, Result, Ok, Err, refl, ap, sym, ◌∙◌, subst, arith, if◌then◌else◌, length-append}
+use Rattle.std.proofs.Common.{◌≡◌, ◌≢◌, ◌<◌, ◌+◌, ◌-◌, ◌%◌, ◌^◌, ◌==◌, ◌&&◌, ◌||◌, ⊎_elim, not, ℕ, Bool, true, false, List, [], ◌∷◌, length, take, set, Option, Some, None, Result, Ok, Err, refl, ap, sym, ◌∙◌, arith, if◌then◌else◌}
 use Rattle.std.specs.Prelude.{nat_le, slice_get}
 use Rattle.std.specs.Int.{w32, w64}
-use Rattle.std.proofs.lemmas.Bool.{and_parts}
+use Rattle.std.proofs.lemmas.Bool.{and_parts, eqb-true}
 use Rattle.std.proofs.lemmas.Bool.Decides.{nat_tests}
 use Rattle.std.proofs.lemmas.List.{length-set, length-take-le, get_or-set_same, get_or-set_other}
 use Rattle.sbpf_isa.specs.Rows.{Row, kind_at, kind_in, rows}
@@ -14,18 +14,18 @@ use Rattle.sbpf_isa.specs.declared.rows.Width.TheVariants.{Bits64, Bits32}
 use Rattle.sbpf_verify.specs.Places.{instruction_at}
 use Rattle.sbpf_verify.specs.Verified.{IsVerified, writes_frame}
 use Rattle.sbpf_verify.proofs.Starts.{instruction_there, no_row_applies}
-use Rattle.sbpf_memory.specs.Memory.{Ranges}
+use Rattle.sbpf_memory.specs.Memory.{Ranges, frame_count, frame_step}
 use Rattle.sbpf_memory.specs.declared.fault.AccessViolation.{AccessViolation}
 use Rattle.sbpf_machine.specs.declared.context.Context.{Context}
 use Rattle.sbpf_machine.specs.declared.frames.Kept.{Kept}
 use Rattle.sbpf_machine.specs.declared.stop.Fault.TheVariants.{DivideByZero, CallDepth}
-use Rattle.sbpf_machine.specs.declared.stop.Stop.{Stop}
 use Rattle.sbpf_machine.specs.declared.stop.Stop.TheVariants.{Helper}
 use Rattle.sbpf_machine.specs.Values.{divides, value_of}
-use Rattle.sbpf_machine.specs.FramePointer.{PointsToFrame, frame_end}
-use Rattle.sbpf_machine.proofs.Landing.{of_front}
+use Rattle.sbpf_machine.specs.FramePointer.{PointsToFrame}
+use Rattle.sbpf_machine.proofs.Holding.{RowHolds, steps_hold, ways_hold}
 use Rattle.sbpf_machine.proofs.Paths.{either}
-use Rattle.sbpf_machine.specs.Steps.{Next, Go, Halt, Stuck, Operands, State, Reaches, here, on, going, first_state, resumed, follow, first_stop, steps, steps_by, step, row_of, act, operands_at, binary32, binary64, fault, frame_kept, new_frame, put, enter, enter_at, leave, last_kept, load, store, register}
+use Rattle.sbpf_machine.proofs.Waiting.{count_more, of_front, one_more, there_below}
+use Rattle.sbpf_machine.specs.Steps.{Next, Go, Halt, Operands, State, Reaches, first_state, resumed, steps, step, row_of, act, operands_at, binary32, binary64, fault, frame_end, frame_kept, new_frame, put, enter, enter_at, leave, last_kept, load, store, register}
 
 -- the instructions that write their destination register
 abbrev writes : OpKind → Bool
@@ -54,13 +54,10 @@ unless : (a b : Bool) → (not a || b) ≡ true → a ≡ true → b ≡ true
 unless true b h w = h
 unless false b h w = absurd (cc)
 
-same_opcode : (n k : ℕ) → (n == k) ≡ true → n ≡ k
-same_opcode n k h = grind (arith, nat_tests)
-
 class_here : (n : ℕ) (kind : OpKind) (r : Row) (rest : Option OpKind) (b : Bool) → (not (writes r.kind) || has_class r.opcode) ≡ true → (rest ≡ Some kind → writes kind ≡ true → has_class n ≡ true) → (n == r.opcode) ≡ b → (if b then Some r.kind else rest) ≡ Some kind → writes kind ≡ true → has_class n ≡ true
 class_here n kind r rest true ok onward is h w =
     let same : r.kind ≡ kind = cc in
-    ap has_class (same_opcode n r.opcode is) ∙ unless (writes r.kind) (has_class r.opcode) ok (ap writes same ∙ w)
+    ap has_class (eqb-true n r.opcode is) ∙ unless (writes r.kind) (has_class r.opcode) ok (ap writes same ∙ w)
 class_here n kind r rest false ok onward is h w = onward h w
 
 class_in : (n : ℕ) (kind : OpKind) (rs : List Row) → have_class rs ≡ true → kind_in n rs ≡ Some kind → writes kind ≡ true → has_class n ≡ true
@@ -91,27 +88,14 @@ put_points r value c other h = record {
   kept = h.kept;
 }
 
--- the frames that wait, with one more
-one_more : (frames : List Kept) (frame x : Kept) (k : ℕ) → slice_get (frames ++ frame ∷ []) k ≡ Some x → (slice_get frames k ≡ Some x) ⊎ ((x ≡ frame) × (k ≡ length frames))
-one_more [] frame x zero h = inr (cc, refl)
-one_more [] frame x (suc k) h = absurd (cc)
-one_more (y ∷ frames) frame x zero h = inl h
-one_more (y ∷ frames) frame x (suc k) h = ⊎_elim
-    (λ (old : slice_get frames k ≡ Some x). inl old)
-    (λ (new : (x ≡ frame) × (k ≡ length frames)). inr (new.0, omega (arith, new.1)))
-    (one_more frames frame x k h)
-
-count_more : (frames : List Kept) (frame : Kept) → length (frames ++ frame ∷ []) ≡ length frames + 1
-count_more frames frame = length-append frames (frame ∷ [])
-
-next_end : (n pointer : ℕ) → n < 64 → pointer ≡ frame_end n → (pointer + 8192) % 2 ^ 64 ≡ frame_end (n + 1)
+next_end : (n pointer : ℕ) → n < frame_count → pointer ≡ frame_end n → (pointer + frame_step) % 2 ^ 64 ≡ frame_end (n + 1)
 next_end n pointer few is = omega arith
 
-new_frame_points : (p : ℕ) (c : Context) → length c.frames + 1 < 64 → PointsToFrame c → PointsToFrame (new_frame p c)
+new_frame_points : (p : ℕ) (c : Context) → length c.frames + 1 < frame_count → PointsToFrame c → PointsToFrame (new_frame p c)
 new_frame_points p c room h = record {
-  registers = length-set c.registers 10 ((register c 10 + 8192) % 2 ^ 64) ∙ h.registers;
+  registers = length-set c.registers 10 ((register c 10 + frame_step) % 2 ^ 64) ∙ h.registers;
   frames = rw (count_more c.frames (frame_kept p c)) room;
-  active = get_or-set_same c.registers 10 ((register c 10 + 8192) % 2 ^ 64) 0 (omega (arith, h.registers)) ∙ next_end (length c.frames) (register c 10) h.frames h.active ∙ ap frame_end (sym (count_more c.frames (frame_kept p c)));
+  active = get_or-set_same c.registers 10 ((register c 10 + frame_step) % 2 ^ 64) 0 (omega (arith, h.registers)) ∙ next_end (length c.frames) (register c 10) h.frames h.active ∙ ap frame_end (sym (count_more c.frames (frame_kept p c)));
   kept = λ k frame there. ⊎_elim
       (λ (old : slice_get c.frames k ≡ Some frame). h.kept k frame old)
       (λ (new : (frame ≡ frame_kept p c) × (k ≡ length c.frames)). ap (λ (f : Kept). f.r10) new.0 ∙ h.active ∙ ap frame_end (sym new.1))
@@ -120,28 +104,21 @@ new_frame_points p c room h = record {
 
 -- what a row leads to points to its frame
 abbrev RowPoints : Next → Type 0
-RowPoints (Go to c) = PointsToFrame c
-RowPoints (Halt stop c) = PointsToFrame c
-RowPoints Stuck = Unit {0}
+RowPoints = RowHolds PointsToFrame
 
-below : (n : ℕ) → nat_le 64 n ≡ false → n < 64
+below : (n : ℕ) → nat_le frame_count n ≡ false → n < frame_count
 below n h = grind (arith, nat_tests)
 
 enter_points : (to p : ℕ) (c : Context) → PointsToFrame c → RowPoints (enter to p c)
-enter_points to p c h = by_room (nat_le 64 (length c.frames + 1)) refl
+enter_points to p c h = by_room (nat_le frame_count (length c.frames + 1)) refl
   where
-    by_room : (b : Bool) → nat_le 64 (length c.frames + 1) ≡ b → RowPoints (if b then fault CallDepth c else Go to (new_frame p c))
+    by_room : (b : Bool) → nat_le frame_count (length c.frames + 1) ≡ b → RowPoints (if b then fault CallDepth c else Go to (new_frame p c))
     by_room true is = h
     by_room false is = new_frame_points p c (below (length c.frames + 1) is) h
 
 enter_at_points : (value p : ℕ) (c : Context) (to : Option ℕ) → PointsToFrame c → RowPoints (enter_at value p c to)
 enter_at_points value p c None h = h
 enter_at_points value p c (Some to) h = enter_points to p c h
-
-there_below : (frames : List Kept) (k : ℕ) (x : Kept) → slice_get frames k ≡ Some x → k < length frames
-there_below [] k x h = absurd (cc)
-there_below (y ∷ frames) zero x h = omega arith
-there_below (y ∷ frames) (suc k) x h = omega (arith, there_below frames k x h)
 
 abbrev five : List ℕ → Kept → List ℕ
 five rs k = set (set (set (set rs 6 k.r6) 7 k.r7) 8 k.r8) 9 k.r9
@@ -206,34 +183,12 @@ step_points : (text : List ℕ) (p : ℕ) (c : Context) → IsVerified text → 
 unfolding step
 step_points text p c v h = row_points text p c (instruction_at text p) v refl h
 
--- what a run comes to
-abbrev RunPoints : Option State → Type 0
-RunPoints None = Unit {0}
-RunPoints (Some x) = PointsToFrame x.context
-
-followed : (text : List ℕ) (p units : ℕ) (next : Next) → ((to : ℕ) (d : Context) → PointsToFrame d → RunPoints (first_stop text units to d)) → RowPoints next → RunPoints (follow text p units (first_stop text units) next)
-followed text p units (Go to d) onward h = onward to d h
-followed text p units (Halt stop d) onward h = h
-followed text p units Stuck onward h = tt
-
-run_points : (text : List ℕ) (units p : ℕ) (c : Context) → IsVerified text → PointsToFrame c → RunPoints (first_stop text units p c)
-unfolding first_stop
-run_points text zero p c v h = h
-run_points text (suc units) p c v h = followed text p units (step text p c) (λ to d k. run_points text units to d v k) (step_points text p c v h)
-
-steps_point_by : (x : State) (stop : Option Stop) → IsVerified x.text → PointsToFrame x.context → RunPoints (steps_by x stop)
-steps_point_by x (Some stop) v h = h
-steps_point_by x None v h = run_points x.text x.units x.place x.context v h
-
+-- what a run comes to points to its frame
 pub steps_point : (x y : State) → IsVerified x.text → steps x ≡ Some y → PointsToFrame x.context → PointsToFrame y.context
-unfolding steps
-steps_point x y v s h = subst RunPoints s (steps_point_by x x.stop v h)
+steps_point x y v s h = (steps_hold PointsToFrame x y (λ p c k. step_points x.text p c v k) s h).1
 
 pub ways_point : (x y : State) → IsVerified x.text → Reaches x y → PointsToFrame x.context → PointsToFrame y.context
-ways_point x y v here h = h
-ways_point x y v (on {place} {next} {units} {context} {context'} way s) h =
-    let before : PointsToFrame context = ways_point x (going x.text place context (suc units)) v way h in
-    subst RowPoints s (step_points x.text place context v before)
+ways_point x y v way h = (ways_hold PointsToFrame x y (λ p c k. step_points x.text p c v k) way h).1
 
 pub first_points : (text : List ℕ) (memory : Ranges) (units : ℕ) → PointsToFrame (first_state text memory units).context
 first_points text memory units = record { registers = refl; frames = omega arith; active = refl; kept = λ k frame there. absurd (cc) }

@@ -1,5 +1,5 @@
 -- A run keeps the text and the ranges of the memory.
-use Rattle.std.proofs.Common.{◌≡◌, ◌+◌, ◌%◌, ◌^◌, ℕ, zero, suc, length, ◌==◌, ◌&&◌, List, Option, Some, None, Result, Ok, Err, refl, ◌∙◌, subst}
+use Rattle.std.proofs.Common.{◌≡◌, ◌+◌, ◌%◌, ◌^◌, ℕ, length, ◌==◌, ◌&&◌, List, Option, Some, None, Result, Ok, Err, refl, ◌∙◌}
 use Rattle.std.specs.Prelude.{nat_le}
 use Rattle.std.specs.Int.{to_le_bytes, w32, w64}
 use Rattle.sbpf_isa.specs.declared.rows.Operation.{Operation}
@@ -7,26 +7,28 @@ use Rattle.sbpf_isa.specs.declared.rows.OpKind.{OpKind}
 use Rattle.sbpf_isa.specs.declared.rows.OpKind.TheVariants.{Binary, Negate, LittleEndian, BigEndian, Jump, JumpIf, Call, CallRegister, Exit, Load, Store, LoadWide}
 use Rattle.sbpf_isa.specs.declared.rows.Width.TheVariants.{Bits64, Bits32}
 use Rattle.sbpf_verify.specs.Places.{instruction_at}
-use Rattle.sbpf_memory.specs.Memory.{Ranges, store_to, write_to, width_of, load_from}
+use Rattle.sbpf_memory.specs.Memory.{Ranges, frame_count, store_to, write_to, width_of, load_from}
 use Rattle.sbpf_memory.specs.declared.fault.AccessViolation.{AccessViolation}
-use Rattle.sbpf_memory.proofs.ByAddress.{write-bounds, write-kept, write-memory}
+use Rattle.sbpf_memory.proofs.ByAddress.{write-bounds, write-memory}
+use Rattle.sbpf_memory.proofs.Keeping.{write-kept}
 use Rattle.sbpf_machine.specs.declared.context.Context.{Context}
 use Rattle.sbpf_machine.specs.declared.frames.Kept.{Kept}
 use Rattle.sbpf_machine.specs.declared.stop.Fault.TheVariants.{DivideByZero, CallDepth}
-use Rattle.sbpf_machine.specs.declared.stop.Stop.{Stop}
 use Rattle.sbpf_machine.specs.declared.stop.Stop.TheVariants.{Helper}
 use Rattle.sbpf_machine.specs.Values.{divides, value_of}
+use Rattle.sbpf_machine.proofs.Holding.{RowHolds, RowsKeep, steps_hold, ways_hold}
 use Rattle.sbpf_machine.proofs.Paths.{either}
 use Rattle.sbpf_machine.specs.Keeping.{Keeps, KeepsRanges}
-use Rattle.sbpf_machine.specs.Steps.{Next, Go, Halt, Stuck, Operands, State, Reaches, here, on, going, follow, first_stop, steps, steps_by, step, row_of, act, operands_at, address, binary32, binary64, bytes_in, fault, new_frame, put, source, enter, enter_at, leave, last_kept, load, store, register, start_at_address}
+use Rattle.sbpf_machine.specs.Steps.{Next, Go, Halt, Stuck, Operands, State, Reaches, steps, step, row_of, act, operands_at, address, binary32, binary64, bytes_in, fault, new_frame, put, source, enter, enter_at, leave, last_kept, load, store, register, start_at_address}
 
 same_ranges : (m : Ranges) → KeepsRanges m m
-same_ranges m = record { program = refl; prepared = refl; input = refl; memory = λ h. h; bounds = λ _. refl }
+same_ranges m = record { program = refl; prepared = refl; lent = refl; input = refl; memory = λ h. h; bounds = λ _. refl }
 
 then_ranges : (a b c : Ranges) → KeepsRanges a b → KeepsRanges b c → KeepsRanges a c
 then_ranges a b c one two = record {
   program = two.program ∙ one.program;
   prepared = two.prepared ∙ one.prepared;
+  lent = two.lent ∙ one.lent;
   input = two.input ∙ one.input;
   memory = λ h. two.memory (one.memory h);
   bounds = λ h. two.bounds (one.memory h) ∙ one.bounds h;
@@ -38,6 +40,7 @@ write_keeps m n addr bytes h =
     record {
       program = kept.program;
       prepared = kept.prepared;
+      lent = kept.lent;
       input = kept.input;
       memory = λ is_memory. write-memory m n addr bytes is_memory h;
       bounds = λ is_memory. write-bounds m n addr bytes is_memory h;
@@ -45,9 +48,7 @@ write_keeps m n addr bytes h =
 
 -- what a row leads to has the same ranges
 abbrev RowKeeps : Ranges → Next → Type 0
-RowKeeps m (Go to c) = KeepsRanges m c.memory
-RowKeeps m (Halt stop c) = KeepsRanges m c.memory
-RowKeeps m Stuck = Unit {0}
+RowKeeps m = RowHolds (λ c. KeepsRanges m c.memory)
 
 binary64_keeps : (op : Operation) (r s p : ℕ) (c : Context) → RowKeeps c.memory (binary64 op r s p c)
 binary64_keeps op r s p c =
@@ -63,7 +64,7 @@ leave_keeps c (Some kept) = same_ranges c.memory
 
 enter_keeps : (to p : ℕ) (c : Context) → RowKeeps c.memory (enter to p c)
 enter_keeps to p c =
-    either (RowKeeps c.memory) (nat_le 64 (length c.frames + 1)) (fault CallDepth c) (Go to (new_frame p c)) (same_ranges c.memory) (same_ranges c.memory)
+    either (RowKeeps c.memory) (nat_le frame_count (length c.frames + 1)) (fault CallDepth c) (Go to (new_frame p c)) (same_ranges c.memory) (same_ranges c.memory)
 
 enter_at_keeps : (value p : ℕ) (c : Context) (to : Option ℕ) → RowKeeps c.memory (enter_at value p c to)
 enter_at_keeps value p c None = same_ranges c.memory
@@ -105,39 +106,22 @@ step_keeps : (text : List ℕ) (p : ℕ) (c : Context) → RowKeeps c.memory (st
 unfolding step
 step_keeps text p c = row_keeps text p c (instruction_at text p)
 
--- what a run comes to has the same ranges and the text
-abbrev ComesKept : List ℕ → Ranges → Option State → Type 0
-ComesKept text m None = Unit {0}
-ComesKept text m (Some x) = (x.text ≡ text) × KeepsRanges m x.context.memory
+then_row : (m : Ranges) (c : Context) (next : Next) → KeepsRanges m c.memory → RowKeeps c.memory next → RowKeeps m next
+then_row m c (Go to d) k h = then_ranges m c.memory d.memory k h
+then_row m c (Halt stop d) k h = then_ranges m c.memory d.memory k h
+then_row m c Stuck k h = tt
 
-later : (text : List ℕ) (m n : Ranges) (o : Option State) → KeepsRanges m n → ComesKept text n o → ComesKept text m o
-later text m n None k h = tt
-later text m n (Some x) k h = (h.0, then_ranges m n x.context.memory k h.1)
-
-followed : (text : List ℕ) (p units : ℕ) (m : Ranges) (next : Next) (onward : (to : ℕ) (d : Context) → ComesKept text d.memory (first_stop text units to d)) → RowKeeps m next → ComesKept text m (follow text p units (first_stop text units) next)
-followed text p units m (Go to d) onward k = later text m d.memory _ k (onward to d)
-followed text p units m (Halt stop d) onward k = (refl, k)
-followed text p units m Stuck onward k = tt
-
-run_keeps : (text : List ℕ) (units p : ℕ) (c : Context) → ComesKept text c.memory (first_stop text units p c)
-unfolding first_stop
-run_keeps text zero p c = (refl, same_ranges c.memory)
-run_keeps text (suc units) p c = followed text p units c.memory (step text p c) (λ to d. run_keeps text units to d) (step_keeps text p c)
-
-steps_keep_by : (x : State) (stop : Option Stop) → ComesKept x.text x.context.memory (steps_by x stop)
-steps_keep_by x (Some stop) = (refl, same_ranges x.context.memory)
-steps_keep_by x None = run_keeps x.text x.units x.place x.context
+rows_keep : (text : List ℕ) (m : Ranges) → RowsKeep text (λ c. KeepsRanges m c.memory)
+rows_keep text m p c k = then_row m c (step text p c) k (step_keeps text p c)
 
 -- what a run comes to has the same text and ranges
 pub steps_keep : (x y : State) → steps x ≡ Some y → Keeps x y
-unfolding steps
 steps_keep x y s =
-    let k = subst (ComesKept x.text x.context.memory) s (steps_keep_by x x.stop) in record { text = k.0; ranges = k.1 }
+    let m = x.context.memory in
+    let k = steps_hold (λ c. KeepsRanges m c.memory) x y (rows_keep x.text m) s (same_ranges m) in record { text = k.0; ranges = k.1 }
 
 -- so has what stands on the way
 pub ways_keep : (x y : State) → Reaches x y → Keeps x y
-ways_keep x y here = record { text = refl; ranges = same_ranges x.context.memory }
-ways_keep x y (on {place} {next} {units} {context} {context'} way s) =
-    let k = ways_keep x (going x.text place context (suc units)) way in
-    let more : KeepsRanges context.memory context'.memory = subst (RowKeeps context.memory) s (step_keeps x.text place context) in
-    record { text = refl; ranges = then_ranges x.context.memory context.memory context'.memory k.ranges more }
+ways_keep x y way =
+    let m = x.context.memory in
+    let k = ways_hold (λ c. KeepsRanges m c.memory) x y (rows_keep x.text m) way (same_ranges m) in record { text = k.0; ranges = k.1 }

@@ -1,5 +1,5 @@
 -- A verified text never leaves its rows: each instruction leads to where one starts.
-use Rattle.std.proofs.Common.{◌≡◌, ◌+◌, ◌*◌, ◌%◌, ◌^◌, ◌==◌, ◌&&◌, ◌⊎◌, inl, inr, ⊎_elim, ℕ, zero, suc, Bool, true, false, List, [], ◌∷◌, ◌++◌, length, take, Option, Some, None, Result, Ok, Err, refl, ap, sym, ◌∙◌, subst, if◌then◌else◌, ℤ, pos, negsuc, ◌+ℤ◌}
+use Rattle.std.proofs.Common.{◌≡◌, ◌+◌, ◌*◌, ◌%◌, ◌^◌, ◌==◌, ◌&&◌, ⊎_elim, ℕ, suc, Bool, true, false, List, [], ◌∷◌, ◌++◌, length, Option, Some, None, Result, Ok, Err, refl, ap, sym, ◌∙◌, subst, if◌then◌else◌, ℤ, pos, negsuc, ◌+ℤ◌}
 use Rattle.std.specs.Prelude.{nat_le, slice_get, unwrap_or}
 use Rattle.std.specs.Int.{w32, w64}
 use Rattle.sbpf_isa.specs.Slots.{slot_of}
@@ -10,13 +10,14 @@ use Rattle.sbpf_isa.specs.declared.rows.Width.TheVariants.{Bits64, Bits32}
 use Rattle.sbpf_verify.specs.Places.{is_start, is_start_at, instruction_at, leads_to}
 use Rattle.sbpf_verify.specs.Verified.{IsVerified}
 use Rattle.sbpf_verify.proofs.Starts.{start_instruction, target_start, next_start}
-use Rattle.sbpf_memory.specs.Memory.{Ranges, program_start}
+use Rattle.sbpf_memory.specs.Memory.{Ranges, frame_count, program_start}
 use Rattle.sbpf_memory.specs.declared.fault.AccessViolation.{AccessViolation}
 use Rattle.sbpf_machine.specs.declared.context.Context.{Context}
 use Rattle.sbpf_machine.specs.declared.frames.Kept.{Kept}
 use Rattle.sbpf_machine.specs.declared.stop.Fault.TheVariants.{DivideByZero, CallDepth}
 use Rattle.sbpf_machine.specs.declared.stop.Stop.TheVariants.{Helper}
 use Rattle.sbpf_machine.proofs.Paths.{either}
+use Rattle.sbpf_machine.proofs.Waiting.{of_front, one_more}
 use Rattle.sbpf_machine.specs.Flows.{GoBack}
 use Rattle.sbpf_machine.specs.Runs.{StandsAtStart}
 use Rattle.sbpf_machine.specs.Values.{divides, value_of}
@@ -36,28 +37,16 @@ natural_start text (negsuc n) h = absurd (cc)
 jump_start : (text : List ℕ) (p : ℕ) (kind : OpKind) (z : ℤ) → IsVerified text → instruction_at text p ≡ Some kind → leads_to kind (slot_of text p) p ≡ Some z → is_start text (natural z) ≡ true
 jump_start text p kind z verified there leads = natural_start text z (target_start text p kind z verified there leads)
 
--- the frames that wait, with one more or one fewer
-one_more : (frames : List Kept) (frame x : Kept) (k : ℕ) → slice_get (frames ++ frame ∷ []) k ≡ Some x → (slice_get frames k ≡ Some x) ⊎ (x ≡ frame)
-one_more [] frame x zero h = inr (cc)
-one_more [] frame x (suc k) h = absurd (cc)
-one_more (y ∷ frames) frame x zero h = inl h
-one_more (y ∷ frames) frame x (suc k) h = one_more frames frame x k h
-
+-- the frames that wait, with one more
 back_with : (text : List ℕ) (frames : List Kept) (frame : Kept) → GoBack text frames → is_start text frame.back ≡ true → GoBack text (frames ++ frame ∷ [])
 back_with text frames frame backs start = λ k x h. ⊎_elim
     (λ (old : slice_get frames k ≡ Some x). backs k x old)
-    (λ (same : x ≡ frame). ap (λ (f : Kept). is_start text f.back) same ∙ start)
+    (λ (new : (x ≡ frame) × (k ≡ length frames)). ap (λ (f : Kept). is_start text f.back) new.0 ∙ start)
     (one_more frames frame x k h)
-
-pub of_front : (n : ℕ) (frames : List Kept) (x : Kept) (k : ℕ) → slice_get (take n frames) k ≡ Some x → slice_get frames k ≡ Some x
-of_front zero frames x k h = absurd (cc)
-of_front (suc n) [] x k h = h
-of_front (suc n) (y ∷ frames) x zero h = h
-of_front (suc n) (y ∷ frames) x (suc k) h = of_front n frames x k h
 
 enter_lands : (text : List ℕ) (to p : ℕ) (c : Context) → is_start text to ≡ true → is_start text (p + 1) ≡ true → GoBack text c.frames → RowLands text (enter to p c)
 enter_lands text to p c start next backs =
-    either (RowLands text) (nat_le 64 (length c.frames + 1)) (fault CallDepth c) (Go to (new_frame p c)) tt (start, back_with text c.frames (frame_kept p c) backs next)
+    either (RowLands text) (nat_le frame_count (length c.frames + 1)) (fault CallDepth c) (Go to (new_frame p c)) tt (start, back_with text c.frames (frame_kept p c) backs next)
 
 call_lands : (text : List ℕ) (p src number : ℕ) (z : ℤ) (c : Context) (b : Bool) → (b ≡ true → is_start text (natural z) ≡ true) → is_start text (p + 1) ≡ true → GoBack text c.frames →
     RowLands text (if b then enter (natural (unwrap_or (if b then Some z else None) (pos 0))) p c else Halt (Helper number) c)

@@ -1,6 +1,8 @@
 pub mod FramePointer
+mod Holding
 pub mod Keeping
 pub mod Landing
 mod Paths
 pub mod Plain
 pub mod Taking
+mod Waiting

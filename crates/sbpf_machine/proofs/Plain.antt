@@ -1,4 +1,4 @@
--- A run does not look at what is prepared.
+-- A run does not look at what is prepared or at what was lent.
 use Rattle.std.proofs.Common.{◌≡◌, ◌+◌, ◌%◌, ◌^◌, ℕ, zero, suc, length, ◌==◌, Bool, true, false, List, Option, Some, None, Result, Ok, Err, refl, ap, ◌∙◌, if◌then◌else◌}
 use Rattle.std.specs.Prelude.{nat_le}
 use Rattle.sbpf_isa.specs.declared.rows.OpKind.{OpKind}
@@ -7,7 +7,7 @@ use Rattle.sbpf_isa.specs.declared.rows.Width.TheVariants.{Bits64, Bits32}
 use Rattle.sbpf_isa.specs.declared.rows.Operand.{Operand}
 use Rattle.sbpf_isa.specs.declared.rows.Operand.TheVariants.{Immediate, Register}
 use Rattle.sbpf_verify.specs.Places.{instruction_at}
-use Rattle.sbpf_memory.specs.Memory.{Ranges}
+use Rattle.sbpf_memory.specs.Memory.{Ranges, frame_count}
 use Rattle.sbpf_memory.specs.Plain.{plain_written}
 use Rattle.sbpf_memory.specs.declared.fault.AccessViolation.{AccessViolation}
 use Rattle.sbpf_memory.proofs.Plain.{load-plain, store-plain}
@@ -19,7 +19,7 @@ use Rattle.sbpf_machine.specs.declared.stop.Stop.TheVariants.{Helper}
 use Rattle.sbpf_machine.specs.Plain.{plain_context, plain, plain_stopped}
 use Rattle.sbpf_machine.specs.Steps.{Next, Go, Halt, Stuck, Operands, State, follow, first_stop, steps, steps_by, step, row_of, act, operands_at, address, binary32, binary64, bytes_in, fault, new_frame, source, enter, enter_at, leave, last_kept, load, store, register, start_at_address}
 
--- what is led to, without the note of what is prepared
+-- what is led to, without the notes
 abbrev plain_next : Next → Next
 plain_next (Go p c) = Go p (plain_context c)
 plain_next (Halt stop c) = Halt stop (plain_context c)
@@ -42,7 +42,7 @@ leaves c None = refl
 leaves c (Some kept) = refl
 
 enters : (to p : ℕ) (c : Context) → enter to p (plain_context c) ≡ plain_next (enter to p c)
-enters to p c = choose (nat_le 64 (length c.frames + 1)) (fault CallDepth c) (Go to (new_frame p c)) _ _ refl refl
+enters to p c = choose (nat_le frame_count (length c.frames + 1)) (fault CallDepth c) (Go to (new_frame p c)) _ _ refl refl
 
 enters_at : (value p : ℕ) (c : Context) (to : Option ℕ) → enter_at value p (plain_context c) to ≡ plain_next (enter_at value p c to)
 enters_at value p c None = refl
@@ -100,7 +100,7 @@ steps_by_plain : (x : State) (stop : Option Stop) → steps_by (plain x) stop �
 steps_by_plain x (Some stop) = refl
 steps_by_plain x None = run_plain x.text x.units x.place x.context
 
--- a run does not look at what is prepared
+-- a run does not look at them
 pub run-plain : (x : State) → steps (plain x) ≡ plain_stopped (steps x)
 unfolding steps
 run-plain x = steps_by_plain x x.stop

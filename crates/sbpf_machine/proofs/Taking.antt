@@ -7,7 +7,7 @@ use Rattle.sbpf_machine.specs.Runs.{ComesTo, ComesToBy}
 use Rattle.sbpf_machine.specs.Steps.{Next, Go, Halt, Stuck, State, Reaches, here, on, IsHelper, follow, first_stop, going, steps, steps_by, step}
 
 -- a stop at a system call has taken a unit
-abbrev TookOne : ℕ → ℕ → Option Stop → Type 0
+abbrev pub TookOne : ℕ → ℕ → Option Stop → Type 0
 TookOne units left stop = IsHelper stop → left < units
 
 abbrev Takes : ℕ → Option State → Type 0

@@ -1,13 +1,9 @@
 -- Where the frame pointer points (sBPF).
-use Rattle.std.specs.Prelude.{◌≡◌, ◌+◌, ◌<◌, ℕ, length, slice_get, Some}
-use Rattle.sbpf_memory.specs.Memory.{frame_count, frame_size, frame_start}
+use Rattle.std.specs.Prelude.{◌≡◌, ◌<◌, ℕ, length, slice_get, Some}
+use Rattle.sbpf_memory.specs.Memory.{frame_count}
 use Rattle.sbpf_machine.specs.declared.context.Context.{Context}
 use Rattle.sbpf_machine.specs.declared.frames.Kept.{Kept}
-use Rattle.sbpf_machine.specs.Steps.{register}
-
--- the end of a frame of the stack, the first of which is frame 0
-abbrev pub frame_end : ℕ → ℕ
-frame_end frame = frame_start frame + frame_size
+use Rattle.sbpf_machine.specs.Steps.{frame_end, register}
 
 -- r10 is the end of the active frame, and each frame that waits has kept the end of its own
 pub record PointsToFrame (c : Context) : Type 0 where

@@ -1,4 +1,4 @@
--- Machines without the note which places of their input are prepared.
+-- Machines without the notes which places of their input are prepared and which accounts were lent.
 use Rattle.std.specs.Prelude.{Option, Some, None}
 use Rattle.sbpf_memory.specs.Plain.{plain_memory}
 use Rattle.sbpf_machine.specs.declared.context.Context.{Context}

@@ -13,7 +13,7 @@ use Rattle.sbpf_isa.specs.declared.rows.OpKind.{OpKind}
 use Rattle.sbpf_isa.specs.declared.rows.OpKind.TheVariants.{Binary, Negate, LittleEndian, BigEndian, Jump, JumpIf, Call, CallRegister, Exit, Load, Store, LoadWide}
 use Rattle.sbpf_verify.specs.Entries.{immediate_of}
 use Rattle.sbpf_verify.specs.Places.{is_start, instruction_at, leads_to}
-use Rattle.sbpf_memory.specs.Memory.{Ranges, IsPrepared, load_from, store_to, program_start}
+use Rattle.sbpf_memory.specs.Memory.{Ranges, IsPrepared, frame_count, frame_size, frame_start, frame_step, input_start, load_from, store_to, program_start}
 use Rattle.sbpf_memory.specs.declared.fault.AccessViolation.{AccessViolation}
 use Rattle.sbpf_machine.specs.Values.{value_of, divides, holds, negative, low_bits, swapped_bits}
 use Rattle.sbpf_machine.specs.declared.frames.Kept.{Kept}
@@ -79,8 +79,8 @@ binary32 op r s p c =
     if divides op && (s % 2 ^ 32 == 0) then fault DivideByZero c else
     Go (p + 1) (put r (value_of op w32 (register c r % 2 ^ 32) (s % 2 ^ 32)) c)
 
--- a call into the program keeps the place after it and r6 to r10, and adds 8,192 to r10; 64 frames
--- may be active
+-- a call into the program keeps the place after it and r6 to r10, and moves r10 on to the next
+-- frame of the stack; as many may be active as the stack has
 abbrev pub frame_kept : ℕ → Context → Kept
 frame_kept p c =
     record {
@@ -95,12 +95,13 @@ frame_kept p c =
 abbrev pub new_frame : ℕ → Context → Context
 new_frame p c =
     record c {
-      registers = slice_set c.registers 10 ((register c 10 + 8192) % 2 ^ 64);
+      registers = slice_set c.registers 10 ((register c 10 + frame_step) % 2 ^ 64);
       frames = c.frames ++ frame_kept p c ∷ [];
     }
 
 abbrev pub enter : ℕ → ℕ → Context → Next
-enter to p c = if nat_le 64 (length c.frames + 1) then fault CallDepth c else Go to (new_frame p c)
+enter to p c =
+    if nat_le frame_count (length c.frames + 1) then fault CallDepth c else Go to (new_frame p c)
 
 -- the way back to the frame that was kept last, or out of the first
 abbrev pub leave : Option Kept → Context → Next
@@ -253,9 +254,14 @@ pub record StandsBeforeStore (old new : State) : Type 0 where
   pub going : new.stop ≡ None
   pub units : 0 < new.units
 
--- registers, frames and memory of a machine at its start
+-- the end of a frame of the stack, the first of which is frame 0
+abbrev pub frame_end : ℕ → ℕ
+frame_end frame = frame_start frame + frame_size
+
+-- registers, frames and memory of a machine at its start: r1 is where the input begins, and r10 the
+-- end of the first frame
 abbrev pub first_registers : List ℕ
-first_registers = 0 ∷ 0x4_0000_0000 ∷ 0 ∷ 0 ∷ 0 ∷ 0 ∷ 0 ∷ 0 ∷ 0 ∷ 0 ∷ 0x2_0000_1000 ∷ []
+first_registers = 0 ∷ input_start ∷ 0 ∷ 0 ∷ 0 ∷ 0 ∷ 0 ∷ 0 ∷ 0 ∷ 0 ∷ frame_end 0 ∷ []
 
 abbrev pub first_state : List ℕ → Ranges → ℕ → State
 first_state text memory units =

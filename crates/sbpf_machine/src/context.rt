@@ -1,3 +1,4 @@
+//! The context of a run: the registers, the frames that wait, and the memory.
 use crate::frames::Frames;
 use sbpf_memory::Memory;
 

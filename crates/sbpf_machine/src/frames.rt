@@ -1,11 +1,13 @@
 //! The frames that wait for a function that they called.
 ghost use Rattle.std.specs.Prelude.{◌≡◌, ◌<◌, ◌-◌, ◌++◌, ◌∷◌, [], length, take, slice_get};
+ghost use Rattle.sbpf_memory.specs.Memory.{frame_count};
 
 use arrayvec::ArrayVec;
+use sbpf_memory::FRAME_COUNT;
 use std::marker::Model;
 
 /// The most frames of a machine, with the one that runs.
-pub const MAX_FRAMES: usize = 64;
+pub const MAX_FRAMES: usize = FRAME_COUNT as usize;
 
 /// A frame that waits: where it goes on, and its own registers.
 #[derive(Clone, Copy, Debug, Default, PartialEq, Eq)]
@@ -21,7 +23,7 @@ pub struct Kept {
 /// The frames that wait, the first of them first.
 #[derive(Drop)]
 pub struct Frames {
-    kept: ArrayVec<Kept, 64>,
+    kept: ArrayVec<Kept, MAX_FRAMES>,
 }
 
 impl Model for Frames {
@@ -51,7 +53,7 @@ impl Frames {
 
     #[inline(always)]
     pub fn push(&mut self, frame: Kept)
-        requires { length self.old < 64 }
+        requires { length self.old < frame_count }
         ensures { self.new ≡ self.old ++ frame ∷ [] }
     {
         self.kept.push(frame);

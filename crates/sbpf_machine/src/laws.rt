@@ -19,7 +19,7 @@ pub fn runs_take_units()
     ensures { (old new : State) → steps old ≡ Some new → TakesUnits old new }
 {}
 
-/// A law: a run does not look at what is prepared.
+/// A law: a run does not look at what is prepared or at what was lent.
 pub fn runs_do_not_see_preparation()
     ensures { (x : State) → steps (plain x) ≡ plain_stopped (steps x) }
 {}

@@ -1,3 +1,4 @@
+//! The stops of a machine, and its faults.
 ghost use Rattle.std.specs.Prelude.{◌≡◌};
 ghost use Rattle.sbpf_machine.specs.Faults.{fault_number};
 

@@ -4,20 +4,20 @@ use Rattle.std.proofs.lemmas.Bool.Decides.{nat_tests}
 use Rattle.sbpf_memory.specs.declared.place.Place.{Place}
 use Rattle.sbpf_memory.specs.declared.place.Region.{Region}
 use Rattle.sbpf_memory.specs.declared.place.Region.TheVariants.{Program, Stack, Heap, Input}
-use Rattle.sbpf_memory.specs.Memory.{Ranges, IsMemory, lies_in, lies_in_frame, at_place, place_of, frame_of, frame_start, frame_size, program_start, stack_start, heap_start, input_start}
+use Rattle.sbpf_memory.specs.Memory.{Ranges, IsMemory, lies_in, lies_in_frame, at_place, place_of, frame_of, frame_start, frame_size, program_start, stack_start, heap_start, input_start, frame_step, frame_count, stack_size}
 use Rattle.sbpf_memory.proofs.Places.{place-program, place-stack, place-heap, place-input}
 
 -- the address of a place
 abbrev pub address_in : ℕ → Region → ℕ
 address_in at Program = program_start + at
-address_in at Stack = stack_start + 8192 * (at / 4096) + at % 4096
+address_in at Stack = stack_start + frame_step * (at / frame_size) + at % frame_size
 address_in at Heap = heap_start + at
 address_in at Input = input_start + at
 
 -- len bytes lie at a place
 abbrev pub RoomIn : Ranges → ℕ → ℕ → Region → Type 0
 RoomIn m len at Program = at + len ≤ length m.program
-RoomIn m len at Stack = (at % 4096 + len ≤ 4096) × (at < 262144)
+RoomIn m len at Stack = (at % frame_size + len ≤ frame_size) × (at < stack_size)
 RoomIn m len at Heap = at + len ≤ length m.heap
 RoomIn m len at Input = at + len ≤ length m.input.bytes
 
@@ -92,13 +92,13 @@ at_input m at len is_memory some room =
     ∙ some_place (nat_le (input_start + at - input_start + len) (length m.input.bytes)) (at_place Input (input_start + at - input_start)) (at_place Input at)
     (grind (arith, nat_tests)) (ap (at_place Input) same)
 
-at_stack : (m : Ranges) (addr at len : ℕ) → IsMemory m → 1 ≤ len → addr ≡ address_in at Stack → at % 4096 + len ≤ 4096 → at < 262144 → place_of m addr len ≡ at_place Stack at
+at_stack : (m : Ranges) (addr at len : ℕ) → IsMemory m → 1 ≤ len → addr ≡ address_in at Stack → at % frame_size + len ≤ frame_size → at < stack_size → place_of m addr len ≡ at_place Stack at
 at_stack m addr at len is_memory some address inside below =
-    let frame : (addr - stack_start) / 8192 ≡ at / 4096 = omega arith in
-    let rest : (addr - stack_start) % 8192 ≡ at % 4096 = omega arith in
-    let same : 4096 * ((addr - stack_start) / 8192) + (addr - stack_start) % 8192 ≡ at = omega arith in
+    let frame : (addr - stack_start) / frame_step ≡ at / frame_size = omega arith in
+    let rest : (addr - stack_start) % frame_step ≡ at % frame_size = omega arith in
+    let same : frame_size * ((addr - stack_start) / frame_step) + (addr - stack_start) % frame_step ≡ at = omega arith in
     place-stack m addr len is_memory.program some (omega arith) (omega arith)
-    ∙ some_place (nat_lt ((addr - stack_start) / 8192) 64 && nat_le ((addr - stack_start) % 8192 + len) 4096) (at_place Stack (4096 * ((addr - stack_start) / 8192) + (addr - stack_start) % 8192)) (at_place Stack at)
+    ∙ some_place (nat_lt ((addr - stack_start) / frame_step) frame_count && nat_le ((addr - stack_start) % frame_step + len) frame_size) (at_place Stack (frame_size * ((addr - stack_start) / frame_step) + (addr - stack_start) % frame_step)) (at_place Stack at)
     (grind (arith, nat_tests)) (ap (at_place Stack) same)
 
 at_region : (m : Ranges) (addr len at : ℕ) (region : Region) → IsMemory m → 1 ≤ len → addr ≡ address_in at region → RoomIn m len at region → place_of m addr len ≡ at_place region at

@@ -1,19 +1,21 @@
 -- A memory as a map from addresses to bytes.
-use Rattle.std.proofs.Common.{◌≡◌, ℕ, suc, zero, ◌+◌, ◌-◌, ◌*◌, ◌/◌, ◌%◌, ◌≤◌, ◌<◌, ◌⊎◌, inl, inr, Bool, true, false, List, [], ◌∷◌, ◌++◌, length, take, drop, map, slice_range, slice_get, slice_index_or, Option, Some, None, Ok, IfOk, refl, sym, ap, ◌∙◌, subst, arith, length-take, length-drop, length-append}
+use Rattle.std.proofs.Common.{◌≡◌, ℕ, suc, zero, ◌+◌, ◌-◌, ◌*◌, ◌/◌, ◌%◌, ◌≤◌, ◌<◌, ◌⊎◌, inl, inr, Bool, true, false, List, [], ◌∷◌, ◌++◌, length, take, drop, map, slice_range, slice_get, slice_index_or, Option, Some, None, Ok, IfOk, refl, sym, ap, ◌∙◌, subst, arith, length-take, length-drop}
 use Rattle.std.specs.List.{range_with_len}
 use Rattle.std.proofs.lemmas.Bool.Decides.{nat_tests}
 use Rattle.std.proofs.lemmas.Grind.{elements}
 use Rattle.std.proofs.lemmas.Option.{slice_get-get_or}
 use Rattle.std.proofs.lemmas.List.{map-append}
 use Rattle.sol_base.specs.Parts.{with_bytes}
+use Rattle.sol_base.proofs.PartLaws.{length_with}
 use Rattle.sbpf_memory.specs.declared.place.Place.{Place}
 use Rattle.sbpf_memory.specs.declared.place.Region.{Region}
 use Rattle.sbpf_memory.specs.declared.place.Region.TheVariants.{Program, Stack, Heap, Input}
-use Rattle.sbpf_memory.specs.Memory.{Ranges, IsMemory, place_of, range_bytes, bytes_at, read_from, frame_count, frame_size, frame_start, frame_range, stack_start, program_start, heap_start, input_start, range, ranges, bounds_of, byte_of, byte_at, with_bytes_in, with_bytes_at, write_to}
+use Rattle.sbpf_memory.specs.Memory.{Ranges, IsMemory, place_of, range_bytes, bytes_at, read_from, frame_count, frame_size, frame_start, frame_range, stack_start, program_start, heap_start, input_start, range, ranges, bounds_of, byte_of, byte_at, with_stack, with_heap, with_input_bytes, with_bytes_in, with_bytes_at, write_to, frame_step}
 use Rattle.sbpf_memory.proofs.Places.{place-stack}
 use Rattle.sbpf_memory.proofs.Addresses.{address_in, RoomIn, StandsAt, stands-from_place, place-from_stands}
+use Rattle.sbpf_memory.proofs.Keeping.{Kept, kept-place, nothing-kept, write-kept}
 use Rattle.sbpf_memory.proofs.Reading.{read-some, read-length, room-fits}
-use Rattle.sbpf_memory.proofs.Writing.{write-some, write-nothing}
+use Rattle.sbpf_memory.proofs.Writing.{write-some}
 
 -- the byte at a place
 abbrev byte_in : Ranges → Option Place → Option ℕ
@@ -41,8 +43,8 @@ byte_at-stands m addr place is_memory stands = byte_at-place m addr (Some place)
 inner-address : (m : Ranges) (at len i : ℕ) (region : Region) → RoomIn m len at region → i < len → address_in at region + i ≡ address_in (at + i) region
 inner-address m at len i Program room below = omega arith
 inner-address m at len i Stack room below =
-    let frame : (at + i) / 4096 ≡ at / 4096 = omega (arith, room.0) in
-    let rest : (at + i) % 4096 ≡ at % 4096 + i = omega (arith, room.0) in
+    let frame : (at + i) / frame_size ≡ at / frame_size = omega (arith, room.0) in
+    let rest : (at + i) % frame_size ≡ at % frame_size + i = omega (arith, room.0) in
     omega arith
 inner-address m at len i Heap room below = omega arith
 inner-address m at len i Input room below = omega arith
@@ -85,20 +87,11 @@ pub read-count : (m : Ranges) (addr len : ℕ) (bytes : List ℕ) → IsMemory m
 read-count m addr len bytes is_memory read = rw read at (read-length m addr len is_memory.stack)
 
 -- what a write changes
-pub record Sizes (m after : Ranges) : Type 0 where
-  pub program : length after.program ≡ length m.program
-  pub stack : length after.stack ≡ length m.stack
-  pub heap : length after.heap ≡ length m.heap
-  pub input : length after.input.bytes ≡ length m.input.bytes
-
-with_bytes-length : (xs : List ℕ) (at : ℕ) (bytes : List ℕ) → at + length bytes ≤ length xs → length (with_bytes xs at bytes) ≡ length xs
-with_bytes-length xs at bytes fits = simp (length-append, length-take, length-drop) (omega arith)
-
-sizes_in : (m : Ranges) (addr : ℕ) (bytes : List ℕ) (at : ℕ) (region : Region) → at + length bytes ≤ length (range_bytes m region) → IfOk (with_bytes_in m addr bytes at region) (λ after. Sizes m after)
-sizes_in m addr bytes at Program fits = tt
-sizes_in m addr bytes at Stack fits = record { program = refl; stack = with_bytes-length m.stack at bytes fits; heap = refl; input = refl }
-sizes_in m addr bytes at Heap fits = record { program = refl; stack = refl; heap = with_bytes-length m.heap at bytes fits; input = refl }
-sizes_in m addr bytes at Input fits = record { program = refl; stack = refl; heap = refl; input = with_bytes-length m.input.bytes at bytes fits }
+stack_in : (m : Ranges) (addr : ℕ) (bytes : List ℕ) (at : ℕ) (region : Region) → at + length bytes ≤ length (range_bytes m region) → IfOk (with_bytes_in m addr bytes at region) (λ after. length after.stack ≡ length m.stack)
+stack_in m addr bytes at Program fits = tt
+stack_in m addr bytes at Stack fits = length_with m.stack bytes at fits
+stack_in m addr bytes at Heap fits = refl
+stack_in m addr bytes at Input fits = refl
 
 here_in : (m : Ranges) (addr : ℕ) (bytes : List ℕ) (at : ℕ) (region : Region) → IfOk (with_bytes_in m addr bytes at region) (λ after. range_bytes after region ≡ with_bytes (range_bytes m region) at bytes)
 here_in m addr bytes at Program = tt
@@ -112,14 +105,14 @@ Others m after region = (other : Region) → (other ≡ region) ⊎ (range_bytes
 
 others_in : (m : Ranges) (addr : ℕ) (bytes : List ℕ) (at : ℕ) (region : Region) → IfOk (with_bytes_in m addr bytes at region) (λ after. Others m after region)
 others_in m addr bytes at Program = tt
-others_in m addr bytes at Stack = λ other. elim other as (λ o. (o ≡ Stack) ⊎ (range_bytes (record m { stack = with_bytes m.stack at bytes }) o ≡ range_bytes m o)) [ Program ↦ inr refl | Stack ↦ inl refl | Heap ↦ inr refl | Input ↦ inr refl ]
-others_in m addr bytes at Heap = λ other. elim other as (λ o. (o ≡ Heap) ⊎ (range_bytes (record m { heap = with_bytes m.heap at bytes }) o ≡ range_bytes m o)) [ Program ↦ inr refl | Stack ↦ inr refl | Heap ↦ inl refl | Input ↦ inr refl ]
-others_in m addr bytes at Input = λ other. elim other as (λ o. (o ≡ Input) ⊎ (range_bytes (record m { input = record { bytes = with_bytes m.input.bytes at bytes; prepared = m.input.prepared } }) o ≡ range_bytes m o)) [ Program ↦ inr refl | Stack ↦ inr refl | Heap ↦ inr refl | Input ↦ inl refl ]
+others_in m addr bytes at Stack = λ other. elim other as (λ o. (o ≡ Stack) ⊎ (range_bytes (with_stack m (with_bytes m.stack at bytes)) o ≡ range_bytes m o)) [ Program ↦ inr refl | Stack ↦ inl refl | Heap ↦ inr refl | Input ↦ inr refl ]
+others_in m addr bytes at Heap = λ other. elim other as (λ o. (o ≡ Heap) ⊎ (range_bytes (with_heap m (with_bytes m.heap at bytes)) o ≡ range_bytes m o)) [ Program ↦ inr refl | Stack ↦ inr refl | Heap ↦ inl refl | Input ↦ inr refl ]
+others_in m addr bytes at Input = λ other. elim other as (λ o. (o ≡ Input) ⊎ (range_bytes (with_input_bytes m at bytes) o ≡ range_bytes m o)) [ Program ↦ inr refl | Stack ↦ inr refl | Heap ↦ inr refl | Input ↦ inl refl ]
 
 pub record Written (m after : Ranges) (addr : ℕ) (bytes : List ℕ) : Type 0 where
   pub place : Place
   pub stands : StandsAt m addr (length bytes) place
-  pub sizes : Sizes m after
+  pub stack : length after.stack ≡ length m.stack
   pub here : range_bytes after place.region ≡ with_bytes (range_bytes m place.region) place.at bytes
   pub others : Others m after place.region
 
@@ -131,7 +124,7 @@ written_at m after addr bytes (Some place) is_memory some found write =
     record {
       place = place;
       stands = stands;
-      sizes = rw write at (sizes_in m addr bytes place.at place.region fits);
+      stack = rw write at (stack_in m addr bytes place.at place.region fits);
       here = rw write at (here_in m addr bytes place.at place.region);
       others = rw write at (others_in m addr bytes place.at place.region);
     }
@@ -140,28 +133,15 @@ written : (m after : Ranges) (addr : ℕ) (bytes : List ℕ) → IsMemory m → 
 written m after addr bytes is_memory some write =
     written_at m after addr bytes (place_of m addr (length bytes)) is_memory some refl (sym (write-some m addr bytes (place_of m addr (length bytes)) some refl) ∙ write)
 
--- ranges of the same sizes have the same places
-sizes-memory : (m after : Ranges) → Sizes m after → IsMemory m → IsMemory after
-sizes-memory m after sizes is_memory = record {
-  program = omega (arith, sizes.program, is_memory.program);
-  stack = sizes.stack ∙ is_memory.stack;
-  heap = omega (arith, sizes.heap, is_memory.heap);
-  input = omega (arith, sizes.input, is_memory.input);
-}
-
-sizes-place : (m after : Ranges) (addr len : ℕ) → Sizes m after → place_of after addr len ≡ place_of m addr len
-unfolding place_of
-sizes-place m after addr len sizes = rw (sizes.program, sizes.heap, sizes.input)
-
 set-within : (xs : List ℕ) (at : ℕ) (bytes : List ℕ) (i : ℕ) → at + length bytes ≤ length xs → i < length bytes → slice_get (with_bytes xs at bytes) (at + i) ≡ slice_get bytes i
 set-within xs at bytes i fits below =
-    let size = with_bytes-length xs at bytes fits in
+    let size = length_with xs bytes at fits in
     let same : slice_index_or (with_bytes xs at bytes) (at + i) 0 ≡ slice_index_or bytes i 0 = grind (arith, elements) in
     slice_get-get_or (with_bytes xs at bytes) (at + i) 0 (omega arith) ∙ ap Some same ∙ sym (slice_get-get_or bytes i 0 below)
 
 set-apart : (xs : List ℕ) (at : ℕ) (bytes : List ℕ) (k : ℕ) → at + length bytes ≤ length xs → k < length xs → (k < at) ⊎ (at + length bytes ≤ k) → slice_get (with_bytes xs at bytes) k ≡ slice_get xs k
 set-apart xs at bytes k fits below apart =
-    let size = with_bytes-length xs at bytes fits in
+    let size = length_with xs bytes at fits in
     let same : slice_index_or (with_bytes xs at bytes) k 0 ≡ slice_index_or xs k 0 = grind (arith, elements) in
     slice_get-get_or (with_bytes xs at bytes) k 0 (omega arith) ∙ ap Some same ∙ sym (slice_get-get_or xs k 0 below)
 
@@ -170,7 +150,7 @@ write-bytes m after addr bytes i is_memory write below =
     let w = written m after addr bytes is_memory (omega arith) write in
     let inner = inner-stands m addr (length bytes) i w.place w.stands below in
     let found = place-from_stands m (addr + i) 1 (further w.place i) is_memory (omega arith) inner in
-    byte_at-place after (addr + i) (Some (further w.place i)) (sizes-place m after (addr + i) 1 w.sizes ∙ found)
+    byte_at-place after (addr + i) (Some (further w.place i)) (kept-place m after (addr + i) 1 (write-kept m after addr bytes write) ∙ found)
     ∙ ap (λ xs. slice_get xs (w.place.at + i)) w.here
     ∙ set-within (range_bytes m w.place.region) w.place.at bytes i (room-fits m (length bytes) w.place.at w.place.region is_memory.stack w.stands.room) below
 
@@ -210,46 +190,27 @@ kept_at m after addr bytes other None is_memory w found apart = refl
 kept_at m after addr bytes other (Some q) is_memory w found apart =
     kept_there m after addr bytes other q is_memory w (stands-from_place m other 1 q (omega arith) found) apart
 
-kept_some : (m after : Ranges) (addr : ℕ) (bytes : List ℕ) (other : ℕ) → IsMemory m → Written m after addr bytes → (other < addr) ⊎ (addr + length bytes ≤ other) → byte_at after other ≡ byte_at m other
-kept_some m after addr bytes other is_memory w apart =
-    byte_at-place after other (place_of m other 1) (sizes-place m after other 1 w.sizes)
+kept_some : (m after : Ranges) (addr : ℕ) (bytes : List ℕ) (other : ℕ) → IsMemory m → Kept m after → Written m after addr bytes → (other < addr) ⊎ (addr + length bytes ≤ other) → byte_at after other ≡ byte_at m other
+kept_some m after addr bytes other is_memory kept w apart =
+    byte_at-place after other (place_of m other 1) (kept-place m after other 1 kept)
     ∙ kept_at m after addr bytes other (place_of m other 1) is_memory w refl apart
     ∙ sym (byte_at-place m other (place_of m other 1) refl)
 
-nothing-kept : (m after : Ranges) (addr : ℕ) → write_to m addr [] ≡ Ok after → m ≡ after
-nothing-kept m after addr write = let done = sym (write-nothing m addr) ∙ write in cc
-
 pub write-keeps : (m after : Ranges) (addr : ℕ) (bytes : List ℕ) (other : ℕ) → IsMemory m → write_to m addr bytes ≡ Ok after → (other < addr) ⊎ (addr + length bytes ≤ other) → byte_at after other ≡ byte_at m other
 write-keeps m after addr [] other is_memory write apart = ap (λ x. byte_at x other) (sym (nothing-kept m after addr write))
-write-keeps m after addr (b ∷ bs) other is_memory write apart = kept_some m after addr (b ∷ bs) other is_memory (written m after addr (b ∷ bs) is_memory (omega arith) write) apart
+write-keeps m after addr (b ∷ bs) other is_memory write apart = kept_some m after addr (b ∷ bs) other is_memory (write-kept m after addr (b ∷ bs) write) (written m after addr (b ∷ bs) is_memory (omega arith) write) apart
+
+still_memory : (m after : Ranges) → Kept m after → length after.stack ≡ length m.stack → IsMemory m → IsMemory after
+still_memory m after kept stack is_memory = record {
+  program = omega (arith, ap length kept.program, is_memory.program);
+  stack = stack ∙ is_memory.stack;
+  heap = omega (arith, kept.heap, is_memory.heap);
+  input = omega (arith, kept.input, is_memory.input);
+}
 
 pub write-memory : (m after : Ranges) (addr : ℕ) (bytes : List ℕ) → IsMemory m → write_to m addr bytes ≡ Ok after → IsMemory after
 write-memory m after addr [] is_memory write = subst (λ x. IsMemory x) (nothing-kept m after addr write) is_memory
-write-memory m after addr (b ∷ bs) is_memory write = sizes-memory m after (written m after addr (b ∷ bs) is_memory (omega arith) write).sizes is_memory
-
--- what a write keeps of each memory: the program, the note of what is prepared, and how long the input is
-pub record Kept (m after : Ranges) : Type 0 where
-  pub program : after.program ≡ m.program
-  pub prepared : after.input.prepared ≡ m.input.prepared
-  pub input : length after.input.bytes ≡ length m.input.bytes
-
-kept_in : (m : Ranges) (addr : ℕ) (bytes : List ℕ) (at : ℕ) (region : Region) → RoomIn m (length bytes) at region → IfOk (with_bytes_in m addr bytes at region) (λ after. Kept m after)
-kept_in m addr bytes at Program room = tt
-kept_in m addr bytes at Stack room = record { program = refl; prepared = refl; input = refl }
-kept_in m addr bytes at Heap room = record { program = refl; prepared = refl; input = refl }
-kept_in m addr bytes at Input room = record { program = refl; prepared = refl; input = with_bytes-length m.input.bytes at bytes room }
-
-written_kept : (m : Ranges) (addr : ℕ) (bytes : List ℕ) (place : Option Place) → 1 ≤ length bytes → place_of m addr (length bytes) ≡ place → IfOk (with_bytes_at m addr bytes place) (λ after. Kept m after)
-written_kept m addr bytes None some found = tt
-written_kept m addr bytes (Some place) some found = kept_in m addr bytes place.at place.region (stands-from_place m addr (length bytes) place some found).room
-
-pub write-kept : (m after : Ranges) (addr : ℕ) (bytes : List ℕ) → write_to m addr bytes ≡ Ok after → Kept m after
-write-kept m after addr [] write = subst (λ x. Kept m x) (nothing-kept m after addr write) (record { program = refl; prepared = refl; input = refl })
-write-kept m after addr (b ∷ bs) write =
-    let bytes = b ∷ bs in
-    let place = place_of m addr (length bytes) in
-    let done : with_bytes_at m addr bytes place ≡ Ok after = sym (write-some m addr bytes place (omega arith) refl) ∙ write in
-    subst (λ r. IfOk r (λ x. Kept m x)) done (written_kept m addr bytes place (omega arith) refl)
+write-memory m after addr (b ∷ bs) is_memory write = still_memory m after (write-kept m after addr (b ∷ bs) write) (written m after addr (b ∷ bs) is_memory (omega arith) write).stack is_memory
 
 -- ranges of the same sizes have the same bounds
 part_size : (xs ys : List ℕ) (from to : ℕ) → length xs ≡ length ys → length (slice_range xs from to) ≡ length (slice_range ys from to)
@@ -274,24 +235,24 @@ bounds-by_size m =
     let frames = map (frame_range m.stack) (range_with_len 0 frame_count) in
     ap (λ rest. (program_start, length m.program, false) ∷ rest) (map-append bounds_of frames (range heap_start m.heap true ∷ range input_start m.input.bytes true ∷ []))
 
-sizes-bounds : (m after : Ranges) → Sizes m after → map bounds_of (ranges after) ≡ map bounds_of (ranges m)
-sizes-bounds m after sizes =
+kept-bounds : (m after : Ranges) → Kept m after → length after.stack ≡ length m.stack → map bounds_of (ranges after) ≡ map bounds_of (ranges m)
+kept-bounds m after kept stack =
     bounds-by_size after
-    ∙ ap (λ n. bounds_list n (frames_in after.stack) (length after.heap) (length after.input.bytes)) sizes.program
-    ∙ ap (λ fs. bounds_list (length m.program) fs (length after.heap) (length after.input.bytes)) (frames-bounds after.stack m.stack (range_with_len 0 frame_count) sizes.stack)
-    ∙ ap (λ n. bounds_list (length m.program) (frames_in m.stack) n (length after.input.bytes)) sizes.heap
-    ∙ ap (λ n. bounds_list (length m.program) (frames_in m.stack) (length m.heap) n) sizes.input
+    ∙ ap (λ l. bounds_list (length l) (frames_in after.stack) (length after.heap) (length after.input.bytes)) kept.program
+    ∙ ap (λ fs. bounds_list (length m.program) fs (length after.heap) (length after.input.bytes)) (frames-bounds after.stack m.stack (range_with_len 0 frame_count) stack)
+    ∙ ap (λ n. bounds_list (length m.program) (frames_in m.stack) n (length after.input.bytes)) kept.heap
+    ∙ ap (λ n. bounds_list (length m.program) (frames_in m.stack) (length m.heap) n) kept.input
     ∙ sym (bounds-by_size m)
 
 pub write-bounds : (m after : Ranges) (addr : ℕ) (bytes : List ℕ) → IsMemory m → write_to m addr bytes ≡ Ok after → map bounds_of (ranges after) ≡ map bounds_of (ranges m)
 write-bounds m after addr [] is_memory write = ap (λ x. map bounds_of (ranges x)) (sym (nothing-kept m after addr write))
-write-bounds m after addr (b ∷ bs) is_memory write = sizes-bounds m after (written m after addr (b ∷ bs) is_memory (omega arith) write).sizes
+write-bounds m after addr (b ∷ bs) is_memory write = kept-bounds m after (write-kept m after addr (b ∷ bs) write) (written m after addr (b ∷ bs) is_memory (omega arith) write).stack
 
 -- no byte stands between two frames
-pub no-byte-in_gap : (m : Ranges) (frame at : ℕ) → IsMemory m → frame < 64 → 4096 ≤ at → at < 8192 → byte_at m (frame_start frame + at) ≡ None
+pub no-byte-in_gap : (m : Ranges) (frame at : ℕ) → IsMemory m → frame < frame_count → frame_size ≤ at → at < frame_step → byte_at m (frame_start frame + at) ≡ None
 no-byte-in_gap m frame at is_memory below from to =
     let addr = frame_start frame + at in
-    let whole : (addr - stack_start) / 8192 ≡ frame = omega arith in
-    let rest : (addr - stack_start) % 8192 ≡ at = omega arith in
+    let whole : (addr - stack_start) / frame_step ≡ frame = omega arith in
+    let rest : (addr - stack_start) % frame_step ≡ at = omega arith in
     let found = place-stack m addr 1 is_memory.program (omega arith) (omega arith) (omega arith) in
     byte_at-place m addr None (grind (arith, nat_tests))

@@ -16,7 +16,7 @@ use Rattle.sbpf_memory.proofs.Writing.{write-some}
 -- the range of a place
 abbrev pub range_in : Ranges → ℕ → Region → Range
 range_in m at Program = range program_start m.program false
-range_in m at Stack = frame_range m.stack (at / 4096)
+range_in m at Stack = frame_range m.stack (at / frame_size)
 range_in m at Heap = range heap_start m.heap true
 range_in m at Input = range input_start m.input.bytes true
 
@@ -45,8 +45,8 @@ has_range m at len Stack room =
     let one = range program_start m.program false in
     let frames = map (frame_range m.stack) (range_with_len 0 frame_count) in
     let others = range heap_start m.heap true ∷ range input_start m.input.bytes true ∷ [] in
-    let this = frame_range m.stack (at / 4096) in
-    Contains-append_left ((one ∷ []) ++ frames) others this (Contains-append_right (one ∷ []) frames this (has_frame m.stack frame_count (at / 4096) (omega (arith, room.1))))
+    let this = frame_range m.stack (at / frame_size) in
+    Contains-append_left ((one ∷ []) ++ frames) others this (Contains-append_right (one ∷ []) frames this (has_frame m.stack frame_count (at / frame_size) (omega (arith, room.1))))
 has_range m at len Heap room =
     let one = range program_start m.program false in
     let frames = map (frame_range m.stack) (range_with_len 0 frame_count) in
@@ -73,7 +73,7 @@ part-bytes xs from to at len fits =
 part-length : (xs : List ℕ) (from to : ℕ) → from ≤ to → to ≤ length xs → length (slice_range xs from to) ≡ to - from
 part-length xs from to order fits = simp (length-take, length-drop) (omega arith)
 
-frame-length : (m : Ranges) (frame : ℕ) → IsMemory m → frame < 64 → length (slice_range m.stack (frame_size * frame) (frame_size * frame + frame_size)) ≡ 4096
+frame-length : (m : Ranges) (frame : ℕ) → IsMemory m → frame < frame_count → length (slice_range m.stack (frame_size * frame) (frame_size * frame + frame_size)) ≡ frame_size
 frame-length m frame is_memory below =
     part-length m.stack (frame_size * frame) (frame_size * frame + frame_size) (omega arith) (omega (arith, is_memory.stack)) ∙ omega arith
 
@@ -81,7 +81,7 @@ frame-length m frame is_memory below =
 lies_in_range : (m : Ranges) (at len : ℕ) (region : Region) → IsMemory m → RoomIn m len at region → LiesIn (range_in m at region) (address_in at region) len
 lies_in_range m at len Program is_memory room = (omega arith, omega arith)
 lies_in_range m at len Stack is_memory room =
-    let size = frame-length m (at / 4096) is_memory (omega (arith, room.1)) in
+    let size = frame-length m (at / frame_size) is_memory (omega (arith, room.1)) in
     (omega arith, omega (arith, size, room.0))
 lies_in_range m at len Heap is_memory room = (omega arith, omega arith)
 lies_in_range m at len Input is_memory room = (omega arith, omega arith)
@@ -92,10 +92,10 @@ same_bytes : (m : Ranges) (at len : ℕ) (region : Region) → RoomIn m len at r
 same_bytes m at len Program room =
     let same : program_start + at - program_start ≡ at = omega arith in ap (λ n. take len (drop n m.program)) same
 same_bytes m at len Stack room =
-    let inside : address_in at Stack - frame_start (at / 4096) ≡ at % 4096 = omega arith in
-    let whole : frame_size * (at / 4096) + at % 4096 ≡ at = omega arith in
-    ap (λ n. take len (drop n (slice_range m.stack (frame_size * (at / 4096)) (frame_size * (at / 4096) + frame_size)))) inside
-    ∙ part-bytes m.stack (frame_size * (at / 4096)) (frame_size * (at / 4096) + frame_size) (at % 4096) len (omega (arith, room.0))
+    let inside : address_in at Stack - frame_start (at / frame_size) ≡ at % frame_size = omega arith in
+    let whole : frame_size * (at / frame_size) + at % frame_size ≡ at = omega arith in
+    ap (λ n. take len (drop n (slice_range m.stack (frame_size * (at / frame_size)) (frame_size * (at / frame_size) + frame_size)))) inside
+    ∙ part-bytes m.stack (frame_size * (at / frame_size)) (frame_size * (at / frame_size) + frame_size) (at % frame_size) len (omega (arith, room.0))
     ∙ ap (λ n. take len (drop n m.stack)) whole
 same_bytes m at len Heap room =
     let same : heap_start + at - heap_start ≡ at = omega arith in ap (λ n. take len (drop n m.heap)) same
@@ -128,13 +128,13 @@ in_input : (m : Ranges) (addr len : ℕ) → LiesIn (range input_start m.input.b
 in_input m addr len lies =
     (record { region = Input; at = addr - input_start }, record { address = omega (arith, lies.0); room = omega (arith, lies.0, lies.1) }, refl)
 
-in_frame : (m : Ranges) (addr len frame : ℕ) → IsMemory m → 1 ≤ len → frame < 64 → LiesIn (frame_range m.stack frame) addr len → HasPlace m addr len (frame_range m.stack frame)
+in_frame : (m : Ranges) (addr len frame : ℕ) → IsMemory m → 1 ≤ len → frame < frame_count → LiesIn (frame_range m.stack frame) addr len → HasPlace m addr len (frame_range m.stack frame)
 in_frame m addr len frame is_memory some below lies =
-    let at = 4096 * frame + (addr - frame_start frame) in
+    let at = frame_size * frame + (addr - frame_start frame) in
     let size = frame-length m frame is_memory below in
-    let inside : addr - frame_start frame + len ≤ 4096 = omega (arith, size, lies.0, lies.1) in
-    let whole : at / 4096 ≡ frame = omega arith in
-    let rest : at % 4096 ≡ addr - frame_start frame = omega arith in
+    let inside : addr - frame_start frame + len ≤ frame_size = omega (arith, size, lies.0, lies.1) in
+    let whole : at / frame_size ≡ frame = omega arith in
+    let rest : at % frame_size ≡ addr - frame_start frame = omega arith in
     (record { region = Stack; at = at }, record { address = omega (arith, lies.0); room = (omega arith, omega arith) }, ap (frame_range m.stack) whole)
 
 pub place-from_holds : (m : Ranges) (addr len : ℕ) (r : Range) → IsMemory m → 1 ≤ len → Holds m addr len r → HasPlace m addr len r

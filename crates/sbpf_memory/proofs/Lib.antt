@@ -7,5 +7,6 @@ pub mod Copying
 pub mod Addresses
 pub mod InRanges
 pub mod Buffers
+pub mod Keeping
 pub mod ByAddress
 pub mod Plain

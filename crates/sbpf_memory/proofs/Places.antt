@@ -2,7 +2,7 @@
 use Rattle.std.proofs.Common.{◌≡◌, ℕ, ◌+◌, ◌-◌, ◌*◌, ◌/◌, ◌%◌, ◌^◌, ◌≤◌, ◌<◌, ◌&&◌, false, nat_le, nat_lt, length, None, if◌then◌else◌, arith}
 use Rattle.std.proofs.lemmas.Bool.Decides.{nat_tests}
 use Rattle.sbpf_memory.specs.declared.place.Region.TheVariants.{Program, Stack, Heap, Input}
-use Rattle.sbpf_memory.specs.Memory.{Ranges, place_of, at_place, lies_in, lies_in_frame, program_start, stack_start, heap_start, input_start}
+use Rattle.sbpf_memory.specs.Memory.{Ranges, place_of, at_place, lies_in, lies_in_frame, program_start, stack_start, heap_start, input_start, frame_size, frame_step, frame_count}
 
 -- an address lies in no range that ends before it
 outside : (start size addr len : ℕ) → start + size ≤ addr → 1 ≤ len → lies_in start size addr len ≡ false
@@ -12,7 +12,7 @@ outside_frames : (addr len : ℕ) → heap_start ≤ addr → lies_in_frame addr
 outside_frames addr len after = grind (arith, nat_tests)
 
 -- the place within the stack of an address of it
-in_stack : (addr len : ℕ) → stack_start ≤ addr → 1 ≤ len → lies_in_frame addr len ≡ (nat_lt ((addr - stack_start) / 8192) 64 && nat_le ((addr - stack_start) % 8192 + len) 4096)
+in_stack : (addr len : ℕ) → stack_start ≤ addr → 1 ≤ len → lies_in_frame addr len ≡ (nat_lt ((addr - stack_start) / frame_step) frame_count && nat_le ((addr - stack_start) % frame_step + len) frame_size)
 in_stack addr len after some = grind (arith, nat_tests)
 
 pub place-program : (m : Ranges) (addr len : ℕ) → length m.program ≤ 2 ^ 32 → 1 ≤ len → program_start ≤ addr → addr < stack_start
@@ -21,7 +21,7 @@ unfolding place_of
 place-program m addr len program some after before = grind (arith, nat_tests)
 
 pub place-stack : (m : Ranges) (addr len : ℕ) → length m.program ≤ 2 ^ 32 → 1 ≤ len → stack_start ≤ addr → addr < heap_start
-    → place_of m addr len ≡ (if nat_lt ((addr - stack_start) / 8192) 64 && nat_le ((addr - stack_start) % 8192 + len) 4096 then at_place Stack (4096 * ((addr - stack_start) / 8192) + (addr - stack_start) % 8192) else None)
+    → place_of m addr len ≡ (if nat_lt ((addr - stack_start) / frame_step) frame_count && nat_le ((addr - stack_start) % frame_step + len) frame_size then at_place Stack (frame_size * ((addr - stack_start) / frame_step) + (addr - stack_start) % frame_step) else None)
 unfolding place_of
 place-stack m addr len program some after before = grind (arith, nat_tests, outside, in_stack)
 

@@ -1,4 +1,4 @@
--- No access looks at what is prepared.
+-- No access looks at what is prepared or at what was lent.
 use Rattle.std.proofs.Common.{◌≡◌, ℕ, ◌==◌, ◌&&◌, Bool, true, false, List, [], length, nat_lt, Option, Some, None, Result, Ok, Err, refl, ap, ◌∙◌, if◌then◌else◌}
 use Rattle.std.specs.Int.{to_le_bytes}
 use Rattle.sbpf_memory.specs.declared.fault.AccessViolation.{AccessViolation}

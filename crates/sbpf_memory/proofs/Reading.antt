@@ -1,21 +1,21 @@
 -- What a read gives.
-use Rattle.std.proofs.Common.{◌≡◌, ℕ, ◌+◌, ◌≤◌, ◌*◌, ◌==◌, Bool, true, false, List, [], length, Option, Some, None, Result, Ok, Err, IfOk, if◌then◌else◌, refl, sym, arith, length-take, length-drop}
+use Rattle.std.proofs.Common.{◌≡◌, ℕ, ◌+◌, ◌≤◌, ◌==◌, Bool, true, false, List, [], length, Option, Some, None, Result, Ok, Err, IfOk, if◌then◌else◌, refl, sym, arith, length-take, length-drop}
 use Rattle.std.proofs.lemmas.Bool.Decides.{nat_tests}
 use Rattle.sbpf_memory.specs.declared.fault.AccessViolation.{AccessViolation}
 use Rattle.sbpf_memory.specs.declared.place.Place.{Place}
 use Rattle.sbpf_memory.specs.declared.place.Region.{Region}
 use Rattle.sbpf_memory.specs.declared.place.Region.TheVariants.{Program, Stack, Heap, Input}
-use Rattle.sbpf_memory.specs.Memory.{Ranges, place_of, range_bytes, bytes_at, read_from, frame_count, frame_size, violation_of}
+use Rattle.sbpf_memory.specs.Memory.{Ranges, place_of, range_bytes, bytes_at, read_from, stack_size, violation_of}
 use Rattle.sbpf_memory.proofs.Addresses.{RoomIn, stands-from_place}
 
 -- a range has the bytes of each place of it
-pub room-fits : (m : Ranges) (len at : ℕ) (region : Region) → length m.stack ≡ frame_count * frame_size → RoomIn m len at region → at + len ≤ length (range_bytes m region)
+pub room-fits : (m : Ranges) (len at : ℕ) (region : Region) → length m.stack ≡ stack_size → RoomIn m len at region → at + len ≤ length (range_bytes m region)
 room-fits m len at Program stack room = room
 room-fits m len at Stack stack room = omega arith
 room-fits m len at Heap stack room = room
 room-fits m len at Input stack room = room
 
-bytes_at-length : (m : Ranges) (addr len : ℕ) (p : Option Place) → length m.stack ≡ frame_count * frame_size → 1 ≤ len → place_of m addr len ≡ p → IfOk (bytes_at m addr len p) (λ bytes. length bytes ≡ len)
+bytes_at-length : (m : Ranges) (addr len : ℕ) (p : Option Place) → length m.stack ≡ stack_size → 1 ≤ len → place_of m addr len ≡ p → IfOk (bytes_at m addr len p) (λ bytes. length bytes ≡ len)
 bytes_at-length m addr len None stack some found = tt
 bytes_at-length m addr len (Some place) stack some found =
     let fits = room-fits m len place.at place.region stack (stands-from_place m addr len place some found).room in
@@ -26,7 +26,7 @@ no_bytes true len result none some = sym (none refl)
 no_bytes false len result none some = some refl
 
 -- a read gives as many bytes as it was asked for
-pub read-length : (m : Ranges) (addr len : ℕ) → length m.stack ≡ frame_count * frame_size → IfOk (read_from m addr len) (λ bytes. length bytes ≡ len)
+pub read-length : (m : Ranges) (addr len : ℕ) → length m.stack ≡ stack_size → IfOk (read_from m addr len) (λ bytes. length bytes ≡ len)
 unfolding read_from
 read-length m addr len stack =
     no_bytes (len == 0) len (bytes_at m addr len (place_of m addr len)) (λ none. grind (arith, nat_tests)) (λ some. bytes_at-length m addr len (place_of m addr len) stack (grind (arith, nat_tests)) refl)

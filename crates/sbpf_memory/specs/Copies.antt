@@ -4,20 +4,7 @@ use Rattle.sol_base.specs.Parts.{with_bytes}
 use Rattle.sbpf_memory.specs.declared.place.Region.{Region}
 use Rattle.sbpf_memory.specs.declared.place.Region.TheVariants.{Program, Stack, Heap, Input}
 use Rattle.sbpf_memory.specs.declared.place.Place.{Place}
-use Rattle.sbpf_memory.specs.Lending.{with_input}
-use Rattle.sbpf_memory.specs.Memory.{Ranges, place_of, range_bytes}
-
--- with another stack, and with another heap
-abbrev pub with_stack : Ranges → List ℕ → Ranges
-with_stack m stack = record m { stack = stack }
-
-abbrev pub with_heap : Ranges → List ℕ → Ranges
-with_heap m heap = record m { heap = heap }
-
--- with other bytes in the input from a place on
-abbrev pub with_input_bytes : Ranges → ℕ → List ℕ → Ranges
-with_input_bytes m at bytes =
-    with_input m (record { bytes = with_bytes m.input.bytes at bytes; prepared = m.input.prepared })
+use Rattle.sbpf_memory.specs.Memory.{Ranges, place_of, range_bytes, with_stack, with_heap, with_input_bytes}
 
 -- len bytes from a place on
 abbrev pub bytes_of_place : Ranges → Place → ℕ → List ℕ

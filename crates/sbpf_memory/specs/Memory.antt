@@ -33,6 +33,10 @@ frame_size = 4096
 abbrev pub frame_step : ℕ
 frame_step = 8192
 
+-- the bytes of all frames
+abbrev pub stack_size : ℕ
+stack_size = frame_count * frame_size
+
 -- The bytes of a memory, range by range. The program is the text and then the constants; the frames
 -- of the stack stand one after another, without the gaps between them.
 pub record Ranges : Type 0 where
@@ -44,7 +48,7 @@ pub record Ranges : Type 0 where
 -- what holds of each memory
 pub record IsMemory (m : Ranges) : Type 0 where
   pub program : length m.program ≤ 2 ^ 32
-  pub stack : length m.stack ≡ frame_count * frame_size
+  pub stack : length m.stack ≡ stack_size
   pub heap : length m.heap < 2 ^ 32
   pub input : length m.input.bytes < 2 ^ 32
 
@@ -53,7 +57,7 @@ abbrev pub fresh : List ℕ → ℕ → Content → Ranges
 fresh image heap input =
     record {
       program = image;
-      stack = replicate (frame_count * frame_size) 0;
+      stack = replicate stack_size 0;
       heap = replicate heap 0;
       input = input;
     }
@@ -108,18 +112,24 @@ bytes_at m addr len (Some place) = Ok (take len (drop place.at (range_bytes m pl
 unfoldable pub read_from : Ranges → ℕ → ℕ → Result (List ℕ) AccessViolation
 read_from m addr len = if len == 0 then Ok [] else bytes_at m addr len (place_of m addr len)
 
+-- with another stack, and with another heap
+abbrev pub with_stack : Ranges → List ℕ → Ranges
+with_stack m stack = record m { stack = stack }
+
+abbrev pub with_heap : Ranges → List ℕ → Ranges
+with_heap m heap = record m { heap = heap }
+
+-- with other bytes in the input from a place on; what is prepared and what was lent stay
+abbrev pub with_input_bytes : Ranges → ℕ → List ℕ → Ranges
+with_input_bytes m at bytes =
+    record m { input = record m.input { bytes = with_bytes m.input.bytes at bytes } }
+
 -- with other bytes at a place of a range; the program is not written
 abbrev pub with_bytes_in : Ranges → ℕ → List ℕ → ℕ → Region → Result Ranges AccessViolation
 with_bytes_in m addr bytes at Program = Err (violation_of addr (length bytes) true)
-with_bytes_in m addr bytes at Stack = Ok (record m { stack = with_bytes m.stack at bytes })
-with_bytes_in m addr bytes at Heap = Ok (record m { heap = with_bytes m.heap at bytes })
-with_bytes_in m addr bytes at Input =
-    Ok (record m {
-      input = record {
-        bytes = with_bytes m.input.bytes at bytes;
-        prepared = m.input.prepared;
-      };
-    })
+with_bytes_in m addr bytes at Stack = Ok (with_stack m (with_bytes m.stack at bytes))
+with_bytes_in m addr bytes at Heap = Ok (with_heap m (with_bytes m.heap at bytes))
+with_bytes_in m addr bytes at Input = Ok (with_input_bytes m at bytes)
 
 abbrev pub with_bytes_at : Ranges → ℕ → List ℕ → Option Place → Result Ranges AccessViolation
 with_bytes_at m addr bytes None = Err (violation_of addr (length bytes) true)
@@ -207,8 +217,7 @@ abbrev pub or_refusal : Result Ranges AccessViolation → Result Ranges MemFault
 or_refusal (Ok m) = Ok m
 or_refusal (Err v) = Err (refusal_of v)
 
--- What a preparation answers: whether the write would be refused; the bytes stay, and no prepared
--- place is lost.
+-- What a preparation answers: whether the write would be refused.
 abbrev pub PreparesIn : Option AccessViolation → Type 0 → Result (Unit {0}) MemFault → Type 0
 PreparesIn refusal ready (Ok _) = (refusal ≡ None) × ready
 PreparesIn refusal ready (Err no_memory) = refusal ≡ None
@@ -227,12 +236,14 @@ StaysIfRefused old new (Err Overlap) = new ≡ old
 StaysIfRefused old new (Err no_memory) = Unit {0}
 StaysIfRefused old new (Ok _) = Unit {0}
 
+-- the bytes stay, no prepared place is lost, and what was lent stays too
 pub record KeepsBytes (old new : Ranges) : Type 0 where
   pub program : new.program ≡ old.program
   pub stack : new.stack ≡ old.stack
   pub heap : new.heap ≡ old.heap
   pub input : new.input.bytes ≡ old.input.bytes
   pub prepared : StayPrepared old.input.prepared new.input.prepared
+  pub lent : new.input.lent ≡ old.input.lent
 
 -- an answer that is not want of memory
 abbrev pub HasMemory : Result (Unit {0}) MemFault → Type 0

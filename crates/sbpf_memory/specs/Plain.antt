@@ -1,5 +1,5 @@
--- Memories without the note which places are prepared: no definition of what programs do looks at
--- it.
+-- Memories without the notes which places are prepared and which accounts were lent: no definition
+-- of what programs do looks at them.
 use Rattle.std.specs.Prelude.{[], Result, Ok, Err}
 use Rattle.sol_base.specs.Parts.{Content}
 use Rattle.sbpf_memory.specs.Memory.{Ranges}
@@ -7,7 +7,7 @@ use Rattle.sbpf_memory.specs.declared.fault.AccessViolation.{AccessViolation}
 use Rattle.sbpf_memory.specs.declared.fault.MemFault.{MemFault}
 
 abbrev pub plain_content : Content → Content
-plain_content input = record { bytes = input.bytes; prepared = [] }
+plain_content input = record { bytes = input.bytes; prepared = []; lent = [] }
 
 abbrev pub plain_memory : Ranges → Ranges
 plain_memory memory = record memory { input = plain_content memory.input }

@@ -145,6 +145,7 @@ impl Buffer {
             (parts.new.bytes ≡ with_bytes parts.old.bytes to (take len (drop from self.old))) }
         ensures err { OnErr result (parts.new.bytes ≡ parts.old.bytes) }
         ensures prepared { parts.new.prepared ≡ parts.old.prepared }
+        ensures lent { parts.new.lent ≡ parts.old.lent }
         ensures ready { ArePrepared parts.old.prepared to len → IsOk result }
     {
         write_down(&mut self.bytes, self.size, from + len);

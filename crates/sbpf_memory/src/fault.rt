@@ -1,3 +1,4 @@
+//! Why an access is refused.
 ghost use Rattle.std.specs.Prelude.{◌≡◌};
 ghost use Rattle.sbpf_memory.specs.Faults.{fault_number};
 ghost use Rattle.sbpf_memory.specs.Memory.{violation_of};

@@ -1,6 +1,7 @@
+//! Laws over memories.
 ghost use Rattle.std.specs.Prelude.{◌≡◌, ◌↔◌, ℕ, ◌+◌, ◌<◌, ◌≤◌, true, false, Bool, List, [], length, map, Some, None, Ok, Err, IsOk, ◌⊎◌, slice_get};
 ghost use Rattle.sbpf_memory.specs.declared.fault.AccessViolation.{AccessViolation};
-ghost use Rattle.sbpf_memory.specs.Memory.{Ranges, IsMemory, ReadsIn, WritesIn, Holds, Range, ranges, bounds_of, byte_at, frame_start, copy_to, load_from, read_from, store_to, violation_of, write_refusal, write_to};
+ghost use Rattle.sbpf_memory.specs.Memory.{Ranges, IsMemory, ReadsIn, WritesIn, Holds, Range, ranges, bounds_of, byte_at, frame_count, frame_size, frame_start, frame_step, copy_to, load_from, read_from, store_to, violation_of, write_refusal, write_to};
 ghost use Rattle.sbpf_memory.specs.Plain.{plain_copied, plain_memory, plain_written};
 
 /// A law: a read of at least one byte is answered exactly where it lies in a range, of which there
@@ -45,11 +46,11 @@ pub fn memory_is_a_map()
         → map bounds_of (ranges after) ≡ map bounds_of (ranges m) }
     ensures memory { (m after : Ranges) (addr : ℕ) (bytes : List ℕ) → IsMemory m
         → write_to m addr bytes ≡ Ok after → IsMemory after }
-    ensures gaps { (m : Ranges) (frame at : ℕ) → IsMemory m → frame < 64 → 4096 ≤ at → at < 8192
-        → byte_at m (frame_start frame + at) ≡ None }
+    ensures gaps { (m : Ranges) (frame at : ℕ) → IsMemory m → frame < frame_count
+        → frame_size ≤ at → at < frame_step → byte_at m (frame_start frame + at) ≡ None }
 {}
 
-/// A law: no access looks at what is prepared, and none changes it.
+/// A law: no access looks at what is prepared or at what was lent, and none changes it.
 pub fn preparation_is_not_seen()
     ensures read { (m : Ranges) (addr len : ℕ)
         → read_from (plain_memory m) addr len ≡ read_from m addr len }
@@ -63,4 +64,6 @@ pub fn preparation_is_not_seen()
         → copy_to (plain_memory m) to from len apart ≡ plain_copied (copy_to m to from len apart) }
     ensures kept { (m after : Ranges) (addr : ℕ) (bytes : List ℕ)
         → write_to m addr bytes ≡ Ok after → after.input.prepared ≡ m.input.prepared }
+    ensures lent { (m after : Ranges) (addr : ℕ) (bytes : List ℕ)
+        → write_to m addr bytes ≡ Ok after → after.input.lent ≡ m.input.lent }
 {}

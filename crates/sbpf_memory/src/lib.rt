@@ -16,4 +16,4 @@ pub use laws::{
     writes_lie_in_a_writable_range,
 };
 pub use memory::Memory;
-pub use place::{FRAME_SIZE, FRAME_STEP, INPUT_START, PROGRAM_START, STACK_START};
+pub use place::{FRAME_COUNT, FRAME_SIZE, FRAME_STEP, INPUT_START, PROGRAM_START, STACK_START};

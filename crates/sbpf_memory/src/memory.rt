@@ -1,10 +1,11 @@
+//! The memory of one frame of a program, read and written by address.
 ghost use Rattle.std.specs.Prelude.{◌≡◌, ◌<◌, ◌≤◌, ◌+◌, ◌^◌, ◌≢◌, length, IfOk, MatchOption, MatchResult, IfSome, Some, Ok, true, take, drop, IsOk, OnOk, OnErr};
 ghost use Rattle.std.specs.Arc.{arc_value};
 ghost use Rattle.std.specs.Borrow.{sem};
 ghost use Rattle.sol_base.specs.Parts.{with_bytes, ArePrepared};
-ghost use Rattle.sbpf_memory.specs.Lending.{LendsInput, with_input};
-ghost use Rattle.sbpf_memory.specs.Memory.{IsMemory, IsWidth, IsPrepared, HasMemory, Answers, Prepares, KeepsBytes, fresh, load_from, read_from, store_to, write_to, copy_to, or_refusal, place_of, range_bytes, with_bytes_in, PreparedIn, refused_in, violation_of, write_refusal, PreparesIn, StaysIfRefused};
-ghost use Rattle.sbpf_memory.specs.Copies.{bytes_of_place, copied_in, with_heap, with_stack, IsTarget};
+ghost use Rattle.sbpf_memory.specs.Lending.{LendsInput};
+ghost use Rattle.sbpf_memory.specs.Memory.{IsMemory, IsWidth, IsPrepared, HasMemory, Answers, Prepares, KeepsBytes, fresh, load_from, read_from, store_to, write_to, copy_to, or_refusal, place_of, range_bytes, with_bytes_in, with_heap, with_input_bytes, with_stack, PreparedIn, refused_in, violation_of, write_refusal, PreparesIn, StaysIfRefused};
+ghost use Rattle.sbpf_memory.specs.Copies.{bytes_of_place, copied_in, IsTarget};
 ghost use Rattle.sbpf_memory.specs.declared.place.Region.TheVariants.{Program};
 
 use crate::buffer::Buffer;
@@ -29,9 +30,9 @@ pub struct Memory {
 }
 
 impl Model for Memory {
-    ghost use Rattle.std.specs.Prelude.{◌≡◌, ◌*◌, ◌<◌, ◌≤◌, ◌^◌, length};
+    ghost use Rattle.std.specs.Prelude.{◌≡◌, ◌<◌, ◌≤◌, ◌^◌, length};
     ghost use Rattle.std.specs.Arc.{arc_value};
-    ghost use Rattle.sbpf_memory.specs.Memory.{Ranges, frame_count, frame_size};
+    ghost use Rattle.sbpf_memory.specs.Memory.{Ranges, stack_size};
 
     ghost Value = { Ranges };
 
@@ -39,7 +40,7 @@ impl Model for Memory {
         { program = arc_value m.program; stack = m.stack; heap = m.heap; input = m.input } };
 
     ghost invariant = { λ m. (length (arc_value m.program) ≤ 2 ^ 32)
-        × (length m.stack ≡ frame_count * frame_size) × (length m.heap < 2 ^ 32) };
+        × (length m.stack ≡ stack_size) × (length m.heap < 2 ^ 32) };
 }
 
 impl Memory {
@@ -321,10 +322,7 @@ impl Memory {
         requires to { to + len ≤ length self.old.input.bytes }
         requires from { from.at + len ≤ length (range_bytes self.old from.region) }
         ensures ok { OnOk result
-            (self.new
-            ≡ with_input self.old
-            (record
-            { bytes = with_bytes self.old.input.bytes to (bytes_of_place self.old from len); prepared = self.old.input.prepared })) }
+            (self.new ≡ with_input_bytes self.old to (bytes_of_place self.old from len)) }
         ensures err { OnErr result (self.new ≡ self.old) }
         ensures ready { ArePrepared self.old.input.prepared to len → IsOk result }
     {
@@ -455,10 +453,7 @@ impl Memory {
     fn put_input<const N: usize>(&mut self, at: usize, bytes: [u8; N]) -> Result<(), OutOfMemory>
         requires { at + N ≤ length self.old.input.bytes }
         ensures ok { OnOk result
-            (self.new
-            ≡ with_input self.old
-            (record
-            { bytes = with_bytes self.old.input.bytes at bytes.entry; prepared = self.old.input.prepared })) }
+            (self.new ≡ with_input_bytes self.old at bytes.entry) }
         ensures err { OnErr result (self.new ≡ self.old) }
         ensures ready { ArePrepared self.old.input.prepared at N → IsOk result }
     {

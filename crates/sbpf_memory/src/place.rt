@@ -1,5 +1,6 @@
+//! Where an access lies: its range, and the place in the bytes of it.
 ghost use Rattle.std.specs.Prelude.{◌≡◌, ◌≤◌, ◌+◌, ◌*◌, ◌/◌, ◌%◌, ◌^◌, ◌&&◌, nat_le, nat_lt, None, if◌then◌else◌};
-ghost use Rattle.sbpf_memory.specs.Memory.{at_place, meet as ranges_meet};
+ghost use Rattle.sbpf_memory.specs.Memory.{at_place, frame_count, frame_size, frame_step, meet as ranges_meet};
 ghost use Rattle.sbpf_memory.specs.declared.place.Region.TheVariants.{Stack};
 
 /// A range of addresses.
@@ -32,7 +33,7 @@ pub const FRAME_SIZE: u64 = 4096;
 
 pub const FRAME_STEP: u64 = 8192;
 
-const FRAME_COUNT: u64 = 64;
+pub const FRAME_COUNT: u64 = 64;
 
 /// The bytes of all frames of the stack.
 pub(crate) const STACK_SIZE: usize = (FRAME_SIZE * FRAME_COUNT) as usize;
@@ -54,8 +55,8 @@ pub(crate) fn within(region: Region, at: u64, len: u64, size: u64) -> Option<Pla
 #[inline(always)]
 pub(crate) fn within_frame(at: u64, len: u64) -> Option<Place>
     ensures { result
-        ≡ (if nat_lt (at / 8192) 64 && nat_le (at % 8192 + len) 4096 then at_place Stack
-        (4096 * (at / 8192) + at % 8192) else None) }
+        ≡ (if nat_lt (at / frame_step) frame_count && nat_le (at % frame_step + len) frame_size
+        then at_place Stack (frame_size * (at / frame_step) + at % frame_step) else None) }
 {
     let frame = at / FRAME_STEP;
     let inside = at % FRAME_STEP;

@@ -1,3 +1,4 @@
+//! Accesses at the edges of the ranges, numbers, and copies.
 ghost use Rattle.std.specs.Prelude.{◌≡◌, ◌+◌, ◌<◌, ◌≤◌, ◌^◌, length};
 
 use crate::{AccessViolation, MemFault, Memory};

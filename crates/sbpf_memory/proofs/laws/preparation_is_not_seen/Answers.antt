@@ -1,4 +1,4 @@
-use Rattle.sbpf_memory.proofs.ByAddress.{write-kept}
+use Rattle.sbpf_memory.proofs.Keeping.{write-kept}
 use Rattle.sbpf_memory.proofs.Plain.{read-plain, load-plain, write-plain, store-plain, copy-plain}
 use Rattle.sbpf_memory.proofs.laws.preparation_is_not_seen.Goals as goal
 
@@ -19,3 +19,6 @@ returns-clause-copied c = copy-plain
 
 pub returns-clause-kept : goal.returns-clause-kept
 returns-clause-kept c = λ m after addr bytes write. (write-kept m after addr bytes write).prepared
+
+pub returns-clause-lent : goal.returns-clause-lent
+returns-clause-lent c = λ m after addr bytes write. (write-kept m after addr bytes write).lent

@@ -1,0 +1,10 @@
+//! Laws of the table of instructions.
+ghost use Rattle.std.specs.Prelude.{◌≡◌, Some};
+ghost use Rattle.std.specs.List.{AllByRecursion};
+ghost use Rattle.sbpf_isa.specs.Rows.{kind_at, rows};
+
+/// A law: each row of the table is what its opcode leads to, so that no opcode stands in two rows.
+#[tactic(auto, unfolding(crate::specs::Rows::kind_at))]
+pub fn rows_have_their_own_opcodes()
+    ensures { AllByRecursion (λ r. kind_at r.opcode ≡ Some r.kind) rows }
+{}
