@@ -28,6 +28,9 @@ pub(crate) const HEAP_START: u64 = 0x3_0000_0000;
 
 pub const INPUT_START: u64 = 0x4_0000_0000;
 
+/// The first addresses are this far apart.
+pub(crate) const RANGE_STEP: u64 = 0x1_0000_0000;
+
 /// The bytes of a frame of the stack, how far apart frames begin, and how many there are.
 pub const FRAME_SIZE: u64 = 4096;
 

@@ -52,8 +52,11 @@ impl Model for Parts {
 
     ghost Value = { Content };
 
-    ghost view = { λ p. record
-        { bytes = bytes_in p.pieces; prepared = tests_in is_prepared p.pieces; lent = p.lent.value } };
+    ghost view = { λ p. record {
+      bytes = bytes_in p.pieces;
+      prepared = tests_in is_prepared p.pieces;
+      lent = p.lent.value;
+    } };
 
     ghost invariant = { λ p. (AreInOrder p.pieces) × (AreLentBy p.lent.value p.pieces)
         × (p.len ≡ length (bytes_in p.pieces)) × (p.len < 2 ^ 32) };
@@ -201,6 +204,9 @@ impl Parts {
         ensures lent { self.new.lent ≡ self.old.lent }
         ensures ready { ArePrepared self.old.prepared at N → IsOk result }
     {
+        if self.put_open(at, bytes) {
+            return Ok(());
+        }
         if self.put_near(at, bytes) {
             return Ok(());
         }
@@ -222,7 +228,7 @@ impl Parts {
             return Ok(());
         }
         self.open_at(at);
-        if self.put_near(at, bytes) {
+        if self.put_open(at, bytes) {
             return Ok(());
         }
         self.write(at, &bytes)
@@ -239,7 +245,7 @@ impl Parts {
 
     /// Puts `N` bytes at a place, if the open part has them as the list's own.
     #[inline(always)]
-    fn put_near<const N: usize>(&mut self, at: usize, bytes: [u8; N]) -> bool
+    fn put_open<const N: usize>(&mut self, at: usize, bytes: [u8; N]) -> bool
         requires { at + N ≤ length self.old.bytes }
         ensures all { result ≡ true → self.new.bytes ≡ with_bytes self.old.bytes at bytes.entry }
         ensures none { result ≡ false → self.new ≡ self.old }
@@ -247,6 +253,19 @@ impl Parts {
         ensures lent { self.new.lent ≡ self.old.lent }
     {
         self.pieces.put(at, bytes)
+    }
+
+    /// Puts `N` bytes at a place, if the part that the hint names has them as the list's own.
+    #[inline(always)]
+    fn put_near<const N: usize>(&mut self, at: usize, bytes: [u8; N]) -> bool
+        requires { at + N ≤ length self.old.bytes }
+        ensures all { result ≡ true → self.new.bytes ≡ with_bytes self.old.bytes at bytes.entry }
+        ensures none { result ≡ false → self.new ≡ self.old }
+        ensures prepared { self.new.prepared ≡ self.old.prepared }
+        ensures lent { self.new.lent ≡ self.old.lent }
+    {
+        let near = near::hint(self.hints.as_slice(), at);
+        self.pieces.put_at(near, at, bytes)
     }
 
     /// Copies `len` bytes from one place to another, whole or not at all. Where the two ranges

@@ -140,6 +140,7 @@ impl Backing {
         ensures prepared { is_prepared self.new ≡ is_prepared self.old }
         ensures blank { is_blank self.new ≡ is_blank self.old }
         ensures never { is_blank self.old ≡ true → result ≡ false }
+        ensures kept { is_blank self.old ≡ true → self.new ≡ self.old }
         ensures shared { StaysShared self.old self.new }
     {
         match self {
@@ -161,6 +162,23 @@ impl Backing {
         if let Backing::Own { bytes: own, .. } = self {
             let end = at + bytes.len();
             own[at..end].copy_from_slice(bytes);
+        }
+    }
+
+    /// Copies `len` bytes of the list's own from one place to another. Where the two ranges meet,
+    /// the bytes that stood there before are copied.
+    pub fn copy_within(&mut self, to: usize, from: usize, len: usize)
+        requires own { is_own self.old ≡ true }
+        requires to { to + len ≤ length (backing_bytes self.old) }
+        requires from { from + len ≤ length (backing_bytes self.old) }
+        ensures bytes { backing_bytes self.new
+            ≡ with_bytes (backing_bytes self.old) to (take len (drop from (backing_bytes self.old))) }
+        ensures own { is_own self.new ≡ is_own self.old }
+        ensures prepared { is_prepared self.new ≡ is_prepared self.old }
+        ensures shared { StaysShared self.old self.new }
+    {
+        if let Backing::Own { bytes, .. } = self {
+            copy_in(bytes.as_mut_slice(), to, from, len);
         }
     }
 
@@ -230,6 +248,7 @@ impl Piece {
         ensures prepared { is_prepared self.new.backing ≡ is_prepared self.old.backing }
         ensures blank { is_blank self.new.backing ≡ is_blank self.old.backing }
         ensures never { is_blank self.old.backing ≡ true → result ≡ false }
+        ensures kept { is_blank self.old.backing ≡ true → self.new ≡ self.old }
         ensures shared { StaysShared self.old.backing self.new.backing }
     {
         if at < self.start {
@@ -297,4 +316,13 @@ fn put_over<const N: usize>(list: &mut [u8], put: [u8; N])
     if let Some(chunk) = list.first_chunk_mut::<N>() {
         *chunk = put;
     }
+}
+
+/// Copies `len` bytes of a list within it.
+fn copy_in(list: &mut [u8], to: usize, from: usize, len: usize)
+    requires to { to + len ≤ length list.old }
+    requires from { from + len ≤ length list.old }
+    ensures { list.new ≡ with_bytes list.old to (take len (drop from list.old)) }
+{
+    list.copy_within(from..from + len, to);
 }
