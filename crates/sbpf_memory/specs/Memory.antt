@@ -264,11 +264,20 @@ frame_range stack frame =
     range (frame_start frame)
     (slice_range stack (frame_size * frame) (frame_size * frame + frame_size)) true
 
+abbrev pub program_range : Ranges → Range
+program_range m = range program_start m.program false
+
+abbrev pub frame_ranges : Ranges → List Range
+frame_ranges m = map (frame_range m.stack) (range_with_len 0 frame_count)
+
+abbrev pub heap_range : Ranges → Range
+heap_range m = range heap_start m.heap true
+
+abbrev pub input_range : Ranges → Range
+input_range m = range input_start m.input.bytes true
+
 unfoldable pub ranges : Ranges → List Range
-ranges m =
-    (range program_start m.program false ∷ [])
-    ++ map (frame_range m.stack) (range_with_len 0 frame_count) ++
-    (range heap_start m.heap true ∷ range input_start m.input.bytes true ∷ [])
+ranges m = (program_range m ∷ []) ++ frame_ranges m ++ (heap_range m ∷ input_range m ∷ [])
 
 -- an access lies in a range
 abbrev pub LiesIn : Range → ℕ → ℕ → Type 0
