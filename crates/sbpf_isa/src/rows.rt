@@ -1,3 +1,4 @@
+//! The families of instructions, and which opcode has which.
 ghost use Rattle.std.specs.Prelude.{◌≡◌};
 ghost use Rattle.sbpf_isa.specs.Rows.{kind_at};
 

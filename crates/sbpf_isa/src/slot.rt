@@ -1,3 +1,4 @@
+//! The slots of a text.
 ghost use Rattle.std.specs.Prelude.{◌≡◌, ◌≤◌, ◌+◌, ◌*◌, length};
 ghost use Rattle.sbpf_isa.specs.Slots.{slot_of};
 

@@ -10,7 +10,7 @@ use Rattle.sbpf_memory.specs.declared.fault.AccessViolation.{AccessViolation}
 use Rattle.sbpf_memory.specs.declared.fault.MemFault.{MemFault}
 use Rattle.sbpf_memory.specs.declared.fault.MemFault.TheVariants.{AccessViolation as violation, Overlap, OutOfMemory as no_memory}
 
--- the first addresses of the ranges
+-- the first addresses of the ranges (this project's own)
 abbrev pub program_start : ℕ
 program_start = 0x1_0000_0000
 
@@ -23,7 +23,8 @@ heap_start = 0x3_0000_0000
 abbrev pub input_start : ℕ
 input_start = 0x4_0000_0000
 
--- the stack: 64 frames of 4,096 bytes, of which one begins every 8,192 addresses
+-- the stack: 64 frames of 4,096 bytes, of which one begins every 8,192 addresses (this project's
+-- own)
 abbrev pub frame_count : ℕ
 frame_count = 64
 

@@ -14,7 +14,7 @@ use Rattle.sbpf_verify.specs.declared.entry.Entry.{Entry}
 use Rattle.sbpf_verify.specs.Opcodes.{meaning}
 use Rattle.sbpf_verify.specs.Entries.{Decodes, IsDecoded, Fits, IsHelperNumber, immediate_of}
 use Rattle.sbpf_verify.specs.Instructions.{HasRegisters, HasValues}
-use Rattle.sbpf_verify.specs.Places.{slot_count, is_start, is_start_at, instruction_at, leads_to, goes_on, slots_taken, Reached, first, after, jumped, called}
+use Rattle.sbpf_verify.specs.Places.{slot_count, is_start, is_start_at, instruction_at, leads_to, goes_on, slots_taken, Reached, first, after, jumped, called, max_slots}
 use Rattle.sbpf_verify.specs.Verified.{rows_of, lacks_row, follows_wide, is_astray, is_outside, calls_bad_register, is_no_width, has_bad_value, has_stray_field, used, calls_no_helper, instruction_rows, slot_rows, NoneApplies, IsVerified}
 
 within_from_test : (n k : ℕ) (x : Option OpKind) (kind : OpKind) → cond (nat_lt n k) x None ≡ Some kind → (n < k) × (x ≡ Some kind)
@@ -180,15 +180,15 @@ half_no_start text place v h = zero_no_start (nat_lt (place + 1) (slot_count tex
     zero_no_start : (b : Bool) (o : ℕ) → o ≡ 0 → (b && not (o == 0)) ≡ false
     zero_no_start b o h = grind (arith, nat_tests)
 
-some_slots : (n : ℕ) → ((n == 0) || not (n % 8 == 0) || nat_lt 65536 (n / 8)) ≡ false → (0 < n / 8) × (n / 8 ≤ 65536)
+some_slots : (n : ℕ) → ((n == 0) || not (n % 8 == 0) || nat_lt max_slots (n / 8)) ≡ false → (0 < n / 8) × (n / 8 ≤ max_slots)
 some_slots n h = (grind (arith, nat_tests), grind (arith, nat_tests))
 
 -- a verified text has a slot, and at most 65,536
-pub slots_there : (text : List ℕ) → IsVerified text → (0 < slot_count text) × (slot_count text ≤ 65536)
+pub slots_there : (text : List ℕ) → IsVerified text → (0 < slot_count text) × (slot_count text ≤ max_slots)
 slots_there text v = some_slots (length text) v.len
 
 -- a start is below the most slots that a text has
-pub start_below : (text : List ℕ) (place : ℕ) → IsVerified text → is_start text place ≡ true → place < 65536
+pub start_below : (text : List ℕ) (place : ℕ) → IsVerified text → is_start text place ≡ true → place < max_slots
 start_below text place v h = omega (arith, (start_there text place h).0, (slots_there text v).1)
 
 -- the first slot is a start
@@ -233,7 +233,7 @@ natural text (pos n) h = (n, (refl, h))
 natural text (negsuc n) h = absurd (cc)
 
 -- the place that a jump leads to, as a number
-pub natural_target : (text : List ℕ) (place : ℕ) (kind : OpKind) (target : ℤ) → IsVerified text → instruction_at text place ≡ Some kind → leads_to kind (slot_of text place) place ≡ Some target → (n : ℕ) × ((target ≡ pos n) × (n < 65536))
+pub natural_target : (text : List ℕ) (place : ℕ) (kind : OpKind) (target : ℤ) → IsVerified text → instruction_at text place ≡ Some kind → leads_to kind (slot_of text place) place ≡ Some target → (n : ℕ) × ((target ≡ pos n) × (n < max_slots))
 natural_target text place kind target v h e =
     let found : (n : ℕ) × ((target ≡ pos n) × (is_start text n ≡ true)) = natural text target (target_start text place kind target v h e) in
     (found.0, (found.1.0, omega (arith, (start_there text found.0 found.1.1).0, (slots_there text v).1)))

@@ -1,3 +1,4 @@
+//! The opcodes of decoded instructions.
 ghost use Rattle.std.specs.Prelude.{◌≡◌};
 ghost use Rattle.sbpf_verify.specs.Opcodes.{meaning};
 

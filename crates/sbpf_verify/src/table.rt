@@ -1,3 +1,4 @@
+//! The rows of the table of refusals.
 ghost use Rattle.std.specs.Prelude.{◌≡◌, ◌<◌, ◌≤◌, ◌^◌, length};
 ghost use Rattle.sbpf_verify.specs.Places.{slot_count};
 ghost use Rattle.sbpf_verify.specs.Verified as Table;
@@ -5,7 +6,7 @@ ghost use Rattle.sbpf_verify.specs.Verified as Table;
 use crate::places::{is_start_at, leads_to};
 use sbpf_isa::{OpKind, Operand, Operation, Slot, Width, slot_at};
 
-/// The most slots of a text.
+/// The most slots of a text (the project's own).
 const MAX_SLOTS: usize = 65_536;
 
 /// The opcodes of `lddw`, `exit` and `ja`.

@@ -1,3 +1,4 @@
+//! Texts for each refusal, entries, and images.
 use super::*;
 use sol_base::{Blob, OutOfMemory};
 use std::alloc::Global;

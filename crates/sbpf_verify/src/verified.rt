@@ -1,3 +1,4 @@
+//! Texts that the verifier lets pass.
 ghost use Rattle.std.specs.Prelude.{◌≡◌, MatchResult, Some};
 ghost use Rattle.sbpf_verify.specs.Places.{is_start};
 ghost use Rattle.sbpf_verify.specs.Verified.{IsVerified, unfit};
