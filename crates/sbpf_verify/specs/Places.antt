@@ -9,7 +9,7 @@ use Rattle.sbpf_isa.specs.declared.rows.OpKind.TheVariants.{Jump, JumpIf, Call, 
 abbrev pub slot_count : List ℕ → ℕ
 slot_count text = length text / 8
 
--- the most slots of a text (this project's profile)
+-- the most slots of a text (the project's own)
 abbrev pub max_slots : ℕ
 max_slots = 65536
 

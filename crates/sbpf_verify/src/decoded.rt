@@ -29,7 +29,8 @@ impl Model for Decoded {
 
     ghost view = { λ d. arc_value d.program };
 
-    ghost invariant = { λ d. IsVerified (arc_value d.program) × IsDecoded (arc_value d.program) d.entries };
+    ghost invariant = { λ d. IsVerified (arc_value d.program)
+        × IsDecoded (arc_value d.program) d.entries };
 }
 
 impl Decoded {

@@ -6,7 +6,7 @@ ghost use Rattle.sbpf_verify.specs.Verified as Table;
 use crate::places::{is_start_at, leads_to};
 use sbpf_isa::{OpKind, Operand, Operation, Slot, Width, slot_at};
 
-/// The most slots of a text.
+/// The most slots of a text (the project's own).
 pub const MAX_SLOTS: usize = 65_536;
 
 /// The opcodes of `lddw`, `exit` and `ja`.
