@@ -62,18 +62,6 @@ fn read_rest(alloc: Global, bytes: &[u8], before: u64) -> Result<Batch, BatchFau
     read_batch(alloc, bytes, before)
 }
 
-/// The most senders.
-const MOST_SENDERS: u32 = 8;
-
-/// How many senders decode: as many as are asked for, and at least one for each lane as far as
-/// there may be so many.
-fn senders_on(lanes: u32, senders: u32) -> u32
-    requires { (1 ≤ senders) × (senders ≤ 8) }
-    ensures { (1 ≤ result) × (result ≤ 8) }
-{
-    senders.max(lanes.min(MOST_SENDERS))
-}
-
 /// Senders decode the batch, each transaction once, and it is run as they hand it over.
 fn produce_block<G: Gate, H: SendGate, R: Threads + Wait + Sync>(
     rt: &R,
@@ -93,7 +81,6 @@ fn produce_block<G: Gate, H: SendGate, R: Threads + Wait + Sync>(
     requires bytes { AllByRecursion IsBytes batch.now.wires }
     ensures { IfOk result (λ told. told ≡ ran (block_result snapshot batch.now)) }
 {
-    let senders = senders_on(lanes, senders);
     let gathered = gather(rt, alloc, &batch.wires, senders, send)?;
     let block = run_parsed(rt, alloc, snapshot, batch, gathered.parsed, lanes, gate)?;
     write_block(rt, alloc, lanes, block)
