@@ -1,3 +1,4 @@
+//! What is left of a core at its end.
 ghost use Rattle.std.specs.Prelude.{◌≡◌, IfOk};
 ghost use Rattle.bank_core.specs.Ends.{HasSerialAccounts, state_at_end};
 ghost use Rattle.bank_core.specs.Keeping.{AreEnds};

@@ -1,3 +1,4 @@
+//! Positions by their locks alone.
 ghost use Rattle.std.specs.Prelude.{◌≡◌, ◌<◌};
 ghost use Rattle.bank_law.specs.Job.{Job};
 
