@@ -255,8 +255,9 @@ impl Parts {
         self.pieces.put(at, bytes)
     }
 
-    /// Puts `N` bytes at a place, if the part that the hint names has them as the list's own.
-    #[inline(always)]
+    /// Puts `N` bytes at a place, if the part that the hint names has them as the list's own. It is
+    /// called, so that the first try alone stands where a caller's registers are scarce.
+    #[inline(never)]
     fn put_near<const N: usize>(&mut self, at: usize, bytes: [u8; N]) -> bool
         requires { at + N ≤ length self.old.bytes }
         ensures all { result ≡ true → self.new.bytes ≡ with_bytes self.old.bytes at bytes.entry }

@@ -147,3 +147,32 @@ fn reads_and_writes_arrays(rt: HostRuntime) -> Result<(), Fail> {
     assert_eq!(rt; lent.bytes.as_slice(), [3, 4].as_slice());
     Ok(())
 }
+
+/// Copies in their order, and the bytes that the list then has: to, from, length.
+const COPIES: [(usize, usize, usize, [u8; 5]); 5] = [
+    // out of one part into another, which is lent until then
+    (2, 0, 2, [1, 2, 1, 2, 0]),
+    // within one part of the list's own, where the ranges meet
+    (3, 2, 1, [1, 2, 1, 1, 0]),
+    (0, 1, 1, [2, 2, 1, 1, 0]),
+    // over several parts, to lower and to higher places
+    (0, 1, 4, [2, 1, 1, 0, 0]),
+    (1, 0, 4, [2, 2, 1, 1, 0]),
+];
+
+#[test]
+fn copies_within_and_over_parts(rt: HostRuntime) -> Result<(), Fail> {
+    let alloc = rt.alloc();
+    let lent = account_with(alloc, &[3, 4])?;
+    assert_eq!(rt; lent.bytes.len(), 2);
+    let mut list = region(alloc, &lent)?;
+    for (to, from, len, all) in COPIES {
+        assert_eq!(rt; list.len(), 5);
+        assert!(rt; to <= 5 && from <= 5 && len <= 5 - to && len <= 5 - from);
+        list.copy_within(to, from, len)?;
+        assert_eq!(rt; list.len(), 5);
+        assert_eq!(rt; list.read_array::<5>(0), all, "to {to} from {from}");
+    }
+    assert_eq!(rt; lent.bytes.as_slice(), [3, 4].as_slice());
+    Ok(())
+}
