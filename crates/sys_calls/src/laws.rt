@@ -14,5 +14,6 @@ pub fn calls_gain_no_units()
 /// same accounts, and what held of each memory holds still.
 pub fn calls_keep_sizes()
     ensures memory { (number : ℕ) (arguments : List ℕ) (m : Ranges) (env : Env)
-        (service : Service) → (sys_row number arguments m env).answer ≡ Ok service → IsServedMemory m service.memory }
+        (service : Service) → (sys_row number arguments m env).answer ≡ Ok service →
+        IsServedMemory m service.memory }
 {}
