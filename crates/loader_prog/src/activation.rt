@@ -1,4 +1,4 @@
-//! What becomes of a final buffer at the end of a block.
+//! Final buffers made executable.
 ghost use Rattle.std.specs.Prelude.{◌≡◌, IfOk};
 ghost use Rattle.loader_prog.specs.Loader.{activated};
 
