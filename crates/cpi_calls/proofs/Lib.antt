@@ -1,4 +1,3 @@
-pub mod Plain
 pub mod Loops
 pub mod Grants
 pub mod Requests

@@ -6,8 +6,8 @@ use Rattle.spec_base.specs.Bytes.{number_from}
 use Rattle.sol_base.specs.declared.key.Key.{Key}
 use Rattle.sol_base.specs.declared.derived.SeedsFault.{SeedsFault}
 use Rattle.sol_base.specs.DerivedKeys.{max_seed_len, max_seeds, program_key_of}
-use Rattle.sbpf_memory.specs.Memory.{Ranges, read_from}
-use Rattle.sbpf_memory.specs.declared.fault.AccessViolation.{AccessViolation as Violation}
+use Rattle.sbpf_memory.specs.Memory.{Ranges}
+use Rattle.sbpf_memory.specs.Reads.{bytes_or}
 use Rattle.cpi_calls.specs.Limits.{max_signers}
 use Rattle.cpi_calls.specs.declared.request.KeyMeta.{KeyMeta}
 use Rattle.cpi_calls.specs.declared.request.Call.{Call}
@@ -15,17 +15,13 @@ use Rattle.cpi_calls.specs.declared.fault.CallFault.{CallFault}
 use Rattle.cpi_calls.specs.declared.fault.CallFault.TheVariants.{AccessViolation, BadFlag, BadSeeds, TooManySigners, OutOfMemory as no_memory}
 
 -- want of memory, which no input shows
-abbrev pub is_memory : CallFault → Bool
-is_memory no_memory = true
-is_memory _ = false
-
-abbrev pub or_violation : Result (List ℕ) Violation → Result (List ℕ) CallFault
-or_violation (Ok bytes) = Ok bytes
-or_violation (Err v) = Err AccessViolation
+abbrev pub is_call_memory : CallFault → Bool
+is_call_memory no_memory = true
+is_call_memory _ = false
 
 -- the bytes of a range of addresses
 abbrev pub bytes_read : Ranges → ℕ → ℕ → Result (List ℕ) CallFault
-bytes_read m addr len = or_violation (read_from m addr len)
+bytes_read m addr len = bytes_or AccessViolation m addr len
 
 -- the bytes of a call, and of each item of a list
 abbrev pub call_len : ℕ

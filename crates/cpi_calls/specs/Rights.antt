@@ -77,9 +77,9 @@ rights_of request keys caller = do
   Ok (record { program = program; metas = metas })
 
 -- want of memory, which no input shows
-abbrev pub is_memory : RightsFault → Bool
-is_memory no_room = true
-is_memory _ = false
+abbrev pub is_rights_memory : RightsFault → Bool
+is_rights_memory no_room = true
+is_rights_memory _ = false
 
 -- a meta asks for a right that the caller cannot give, by the place that was found
 abbrev pub exceeds_with : List Key → List Meta → KeyMeta × Meta → Bool

@@ -1,5 +1,5 @@
 //! The refusals of requests and of rights.
-use sbpf_memory::AccessViolation;
+use sbpf_memory::ReadFault;
 use sol_base::OutOfMemory;
 use std::alloc::AllocError;
 use thiserror::Error;
@@ -47,14 +47,20 @@ impl From<AllocError> for CallFault {
     }
 }
 
-impl From<AccessViolation> for CallFault {
-    ghost use Rattle.std.specs.Prelude.{◌≡◌};
-    ghost use Rattle.cpi_calls.specs.declared.fault.CallFault.TheVariants.{AccessViolation as violation};
+impl ReadFault for CallFault {
+    ghost use Rattle.cpi_calls.specs.declared.fault.CallFault.TheVariants.{AccessViolation as refused};
+    ghost use Rattle.cpi_calls.specs.Reads.{is_call_memory};
 
-    ghost from_gives = { λ _ e. e ≡ violation };
+    ghost violation = { refused };
 
-    fn from(_e: AccessViolation) -> CallFault {
+    ghost is_memory = { is_call_memory };
+
+    fn access_violation() -> CallFault {
         CallFault::AccessViolation
+    }
+
+    fn out_of_memory() -> CallFault {
+        CallFault::OutOfMemory
     }
 }
 

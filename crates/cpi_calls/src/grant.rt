@@ -5,7 +5,7 @@ ghost use Rattle.spec_base.specs.Reading.{Gives};
 ghost use Rattle.sol_base.specs.Keys.{same_key};
 ghost use Rattle.sol_base.specs.Metas.{is_listed as is_listed_at, is_listed_signer, is_listed_writable};
 ghost use Rattle.cpi_calls.specs.Limits.{max_keys, max_metas};
-ghost use Rattle.cpi_calls.specs.Rights.{rights_of, metas_found, place_of, exceeds_at, exceeds_with, or_escalation, is_memory, Grants};
+ghost use Rattle.cpi_calls.specs.Rights.{rights_of, metas_found, place_of, exceeds_at, exceeds_with, or_escalation, is_rights_memory, Grants};
 
 use crate::fault::RightsFault;
 use crate::request::{CallRequest, KeyMeta};
@@ -53,7 +53,8 @@ fn find_accounts(
 ) -> Result<Items<Meta>, RightsFault>
     requires keys { length keys.now ≤ max_keys }
     requires metas { length asked.now ≤ max_metas }
-    ensures { Gives is_memory (λ metas. metas) result (metas_found keys.now caller.now asked.now) }
+    ensures { Gives is_rights_memory (λ metas. metas) result
+        (metas_found keys.now caller.now asked.now) }
 {
     let mut metas = Items::with_capacity(alloc, asked.len())?;
     for (i, meta) in asked.iter().enumerate() {

@@ -20,6 +20,6 @@ pub fn requests_are_small()
 /// A law: what is granted names keys that are there, is as long as what is asked for, and gives no
 /// write that the caller's list has not, and no signature that neither that list nor a signer has.
 pub fn grants_are_within_the_caller()
-    ensures { (request : CallRequest) (keys : List Key) (caller : List Meta) (granted : Granted) →
-        rights_of request keys caller ≡ Ok granted → IsWithin request keys caller granted }
+    ensures within { (request : CallRequest) (keys : List Key) (caller : List Meta)
+        (granted : Granted) → rights_of request keys caller ≡ Ok granted → IsWithin request keys caller granted }
 {}

@@ -3,13 +3,13 @@ ghost use Rattle.std.specs.Prelude.{◌≡◌, ◌-◌, ◌≤◌, nat_lt, lengt
 ghost use Rattle.spec_base.specs.Reading.{Gives};
 ghost use Rattle.sbpf_memory.specs.Plain.{plain_memory};
 ghost use Rattle.cpi_calls.specs.Limits.{max_metas};
-ghost use Rattle.cpi_calls.specs.Reads.{is_memory, call_in as call_of, call_len, flag as flag_of, meta_read, metas_read};
+ghost use Rattle.cpi_calls.specs.Reads.{is_call_memory, call_in as call_of, call_len, flag as flag_of, meta_read, metas_read};
 ghost use Rattle.cpi_calls.specs.Calls.{Reads, header_read, lists_read, request_of};
 
 use crate::fault::CallFault;
-use crate::reads::{ITEM_LEN, item_addr, read_array, read_blob};
+use crate::reads::{ITEM_LEN, item_addr};
 use crate::signers::read_signers;
-use sbpf_memory::Memory;
+use sbpf_memory::{Memory, read_array, read_blob};
 use sol_base::{Blob, Items, Key};
 use spec_base::number_in;
 use std::alloc::Global;
@@ -42,19 +42,19 @@ struct Call {
     data_len: u64,
 }
 
-/// What a call costs before anything of it is read.
+/// What a call costs before anything of it is read (the project's own).
 const CALL_COST: u64 = 1_000;
 
-/// The bytes of data that cost one unit.
+/// The bytes of data that cost one unit (the project's own).
 const BYTES_OF_UNIT: u64 = 250;
 
-/// The most metas of a call.
+/// The most metas of a call (the project's own).
 const MAX_METAS: u64 = 255;
 
-/// The most bytes of a call's data.
+/// The most bytes of a call's data (the project's own).
 const MAX_CALL_DATA: u64 = 10_240;
 
-/// The bytes of a call.
+/// The bytes of a call (the C interface).
 const CALL_LEN: usize = 40;
 
 /// The request of a cross-program call, by the five arguments of the system call. Units are taken
@@ -101,9 +101,9 @@ fn charge(units: &mut u64, cost: u64) -> Result<(), CallFault>
 fn read_header(memory: &Memory, addr: u64) -> Result<(Call, Key), CallFault>
     ensures { result ≡ header_read (plain_memory memory.now) addr }
 {
-    let bytes = read_array::<CALL_LEN>(memory, addr)?;
+    let bytes = read_array::<CallFault, CALL_LEN>(memory, addr)?;
     let call = call_in(&bytes);
-    let program = Key(read_array::<32>(memory, call.program)?);
+    let program = Key(read_array::<CallFault, 32>(memory, call.program)?);
     Ok((call, program))
 }
 
@@ -132,11 +132,11 @@ fn read_lists(
     call: Call,
 ) -> Result<CallRequest, CallFault>
     requires { call.meta_count ≤ max_metas }
-    ensures { Gives is_memory (λ request. request) result
+    ensures { Gives is_call_memory (λ request. request) result
         (lists_read (plain_memory memory.now) caller.now arguments program call) }
 {
     let metas = read_metas(alloc, memory, call.metas, call.meta_count as u8)?;
-    let input = read_blob(alloc, memory, call.data_at, call.data_len)?;
+    let input = read_blob::<CallFault>(alloc, memory, call.data_at, call.data_len)?;
     let signers = read_signers(alloc, memory, arguments[3], arguments[4], caller)?;
     Ok(CallRequest {
         program,
@@ -152,7 +152,7 @@ fn read_metas(
     list: u64,
     count: u8,
 ) -> Result<Items<KeyMeta>, CallFault>
-    ensures { Gives is_memory (λ metas. metas) result
+    ensures { Gives is_call_memory (λ metas. metas) result
         (metas_read (plain_memory memory.now) list count) }
 {
     let mut metas = Items::with_capacity(alloc, count as usize)?;
@@ -167,12 +167,13 @@ fn read_metas(
 /// A meta: its flags are tested before its key is read.
 #[tactic(auto, unfolding(crate::specs::Reads::meta_read))]
 fn read_meta(memory: &Memory, addr: u64) -> Result<KeyMeta, CallFault>
-    ensures { Gives is_memory (λ meta. meta) result (meta_read (plain_memory memory.now) addr) }
+    ensures { Gives is_call_memory (λ meta. meta) result
+        (meta_read (plain_memory memory.now) addr) }
 {
-    let bytes = read_array::<ITEM_LEN>(memory, addr)?;
+    let bytes = read_array::<CallFault, ITEM_LEN>(memory, addr)?;
     let writable = flag(bytes[8])?;
     let signer = flag(bytes[9])?;
-    let key = Key(read_array::<32>(memory, number_in(&bytes, 0))?);
+    let key = Key(read_array::<CallFault, 32>(memory, number_in(&bytes, 0))?);
     Ok(KeyMeta {
         key,
         signer,

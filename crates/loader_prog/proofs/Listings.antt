@@ -13,7 +13,7 @@ use Rattle.sol_base.specs.Parts.{with_bytes}
 use Rattle.account_rules.specs.Listings.{SameListing}
 use Rattle.account_rules.proofs.SameListings.{same_length, same_places, same_rules}
 use Rattle.loader_prog.specs.declared.fault.LoaderFault.TheVariants.{Custom, MissingSignature, NotEnoughAccounts}
-use Rattle.loader_prog.specs.Buffers.{authority_in, candidate_in, final_magic, is_blank, is_buffer, rest_in}
+use Rattle.loader_prog.specs.Buffers.{authority_at, authority_in, candidate_in, final_magic, image_at, is_blank, is_buffer, rest_in}
 use Rattle.loader_prog.specs.Loader.{account_in, data_row, finalize_row, head_of, holding, if_verified, init_row, key_in, loader_row, or_rule, owned, place_in, ruled, set_authority_row, signs, unless, with_data, write_row}
 use Rattle.loader_prog.specs.Requests.{Finalize, Init, Request, SetAuthority, Write, accounts_needed, request_in}
 
@@ -44,12 +44,12 @@ module _ (keys : List Key) (accounts : List Account) (some others : List Meta) (
   same_data (Init authority) = λ i.
       unless (not (same_key (same_account 0 i).owner LOADER_PROGRAM)) (Custom 1) (
       unless (not (same_signs 0 i)) (MissingSignature 0) (
-      unless (nat_lt (length (same_account 0 i).bytes) 40) (Custom 2) (
+      unless (nat_lt (length (same_account 0 i).bytes) image_at) (Custom 2) (
       unless (not (is_blank (same_account 0 i).bytes)) (Custom 3) (
       Ok (with_bytes (same_account 0 i).bytes 0 (head_of authority))))))
-  same_data (Write offset bytes) = λ i. same_owned i >>= (λ buffer. unless (nat_lt (length buffer) (offset + length bytes + 40)) (Custom 6) (Ok (with_bytes buffer (40 + offset) bytes)))
+  same_data (Write offset bytes) = λ i. same_owned i >>= (λ buffer. unless (nat_lt (length buffer) (offset + length bytes + image_at)) (Custom 6) (Ok (with_bytes buffer (image_at + offset) bytes)))
   same_data Finalize = λ i. same_owned i >>= (λ buffer. if_verified (candidate_in (rest_in buffer)) (with_bytes buffer 0 final_magic))
-  same_data (SetAuthority authority) = λ i. same_owned i >>= (λ buffer. Ok (with_bytes buffer 8 authority.0))
+  same_data (SetAuthority authority) = λ i. same_owned i >>= (λ buffer. Ok (with_bytes buffer authority_at authority.0))
 
   same_written : (bytes : List ℕ) → with_data accounts some bytes ≡ with_data accounts others bytes
   same_written bytes = λ i. set accounts (places 0 i) (holding (same_account 0 i) bytes)

@@ -15,9 +15,16 @@ buffer_magic = codes "SBPFBUF1"
 abbrev pub final_magic : List ℕ
 final_magic = codes "SBPFFIN1"
 
+-- where the key of the authority stands, and where the image begins
+abbrev pub authority_at : ℕ
+authority_at = 8
+
+abbrev pub image_at : ℕ
+image_at = 40
+
 -- data with room for a magic and an authority, that begin with the magic
 abbrev pub begins_with : List ℕ → List ℕ → Bool
-begins_with magic bytes = nat_le 40 (length bytes) && starts_with nat_eq bytes magic
+begins_with magic bytes = nat_le image_at (length bytes) && starts_with nat_eq bytes magic
 
 abbrev pub is_buffer : List ℕ → Bool
 is_buffer bytes = begins_with buffer_magic bytes
@@ -30,15 +37,15 @@ has_byte bytes = list_any (λ byte. not (byte == 0)) bytes
 
 -- no byte is set where the magic stands
 abbrev pub is_blank : List ℕ → Bool
-is_blank bytes = not (has_byte (take 8 bytes))
+is_blank bytes = not (has_byte (take authority_at bytes))
 
 -- the authority of a buffer
 abbrev pub authority_in : List ℕ → Key
-authority_in bytes = record { 0 = take 32 (drop 8 bytes) }
+authority_in bytes = record { 0 = take 32 (drop authority_at bytes) }
 
 -- the image of a buffer
 abbrev pub rest_in : List ℕ → List ℕ
-rest_in bytes = drop 40 bytes
+rest_in bytes = drop image_at bytes
 
 abbrev pub by_image : Option ImageParts → Candidate
 by_image None = NoImage

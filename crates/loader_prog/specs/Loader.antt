@@ -20,7 +20,7 @@ use Rattle.loader_prog.specs.declared.fault.LoaderFault.TheVariants.{NotEnoughAc
 use Rattle.loader_prog.specs.declared.image.Candidate.{Candidate}
 use Rattle.loader_prog.specs.declared.image.Candidate.TheVariants.{NoImage, Unverified, Verified}
 use Rattle.loader_prog.specs.Requests.{Request, Init, Write, Finalize, SetAuthority, accounts_needed, request_in}
-use Rattle.loader_prog.specs.Buffers.{authority_in, buffer_magic, candidate_in, final_magic, is_blank, is_buffer, is_final, is_verified, rest_in}
+use Rattle.loader_prog.specs.Buffers.{authority_at, authority_in, buffer_magic, candidate_in, final_magic, image_at, is_blank, is_buffer, is_final, is_verified, rest_in}
 
 -- ---- the accounts that an instruction lists, by their places in its list
 
@@ -75,7 +75,7 @@ init_row accounts metas authority =
     let buffer = account_in accounts metas 0 in
     unless (not (same_key buffer.owner LOADER_PROGRAM)) (Custom 1) (
     unless (not (signs metas 0)) (MissingSignature 0) (
-    unless (nat_lt (length buffer.bytes) 40) (Custom 2) (
+    unless (nat_lt (length buffer.bytes) image_at) (Custom 2) (
     unless (not (is_blank buffer.bytes)) (Custom 3) (
     Ok (with_bytes buffer.bytes 0 (head_of authority))))))
 
@@ -83,8 +83,8 @@ unfoldable pub write_row : List Key → List Account → List Meta → ℕ → L
     → Result (List ℕ) LoaderFault
 write_row keys accounts metas offset bytes = do
   buffer ← owned keys accounts metas
-  unless (nat_lt (length buffer) (offset + length bytes + 40)) (Custom 6)
-      (Ok (with_bytes buffer (40 + offset) bytes))
+  unless (nat_lt (length buffer) (offset + length bytes + image_at)) (Custom 6)
+      (Ok (with_bytes buffer (image_at + offset) bytes))
 
 -- the value, where the image has a verified text
 abbrev pub if_verified : {X : Type 0} → Candidate → X → Result X LoaderFault
@@ -101,7 +101,7 @@ unfoldable pub set_authority_row : List Key → List Account → List Meta → K
     → Result (List ℕ) LoaderFault
 set_authority_row keys accounts metas authority = do
   buffer ← owned keys accounts metas
-  Ok (with_bytes buffer 8 authority.0)
+  Ok (with_bytes buffer authority_at authority.0)
 
 -- the data of the first account after a request, or the first refusal
 abbrev pub data_row : List Key → List Account → List Meta → Request → Result (List ℕ) LoaderFault

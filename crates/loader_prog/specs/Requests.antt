@@ -10,9 +10,9 @@ use Rattle.loader_prog.specs.declared.instruction.Instruction.{Instruction}
 use Rattle.loader_prog.specs.declared.instruction.Instruction.TheVariants.{Init as AsInit, Write as AsWrite, Finalize as AsFinalize, SetAuthority as AsSetAuthority}
 
 -- want of memory, which no input shows
-abbrev pub is_memory : LoaderFault → Bool
-is_memory no_memory = true
-is_memory _ = false
+abbrev pub is_loader_memory : LoaderFault → Bool
+is_loader_memory no_memory = true
+is_loader_memory _ = false
 
 pub data Request : Type 0 where
   -- a blank account becomes a buffer of the authority

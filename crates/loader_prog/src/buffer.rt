@@ -2,7 +2,7 @@
 ghost use Rattle.std.specs.Prelude.{◌≡◌, ◌+◌, ◌≤◌, length, unwrap_or, IfOk};
 ghost use Rattle.sol_base.specs.Keys.{same_key};
 ghost use Rattle.sol_base.specs.Parts.{with_bytes};
-ghost use Rattle.loader_prog.specs.Buffers.{authority_in, has_byte, is_blank, is_buffer, is_final, rest_in};
+ghost use Rattle.loader_prog.specs.Buffers.{authority_in, has_byte, image_at, is_blank, is_buffer, is_final, rest_in};
 ghost use Rattle.loader_prog.specs.Loader.{head_of};
 
 use sol_base::{Blob, Key, OutOfMemory};
@@ -36,7 +36,7 @@ pub(crate) fn holds_final(bytes: &[u8]) -> bool
 
 /// Whether nothing stands where the magic of a buffer goes.
 pub(crate) fn holds_nothing(bytes: &[u8]) -> bool
-    requires { 40 ≤ length bytes.now }
+    requires { image_at ≤ length bytes.now }
     ensures { result ≡ is_blank bytes.now }
 {
     !has_byte_set(&bytes[..AUTHORITY_AT])
@@ -50,7 +50,7 @@ fn has_byte_set(bytes: &[u8]) -> bool
 
 /// Whether the key is the authority of the buffer.
 pub(crate) fn has_authority(bytes: &[u8], key: &Key) -> bool
-    requires { 40 ≤ length bytes.now }
+    requires { image_at ≤ length bytes.now }
     ensures { result ≡ same_key key.now (authority_in bytes.now) }
 {
     key.0.as_slice() == &bytes[AUTHORITY_AT..IMAGE_AT]
@@ -58,7 +58,7 @@ pub(crate) fn has_authority(bytes: &[u8], key: &Key) -> bool
 
 /// The image of a buffer.
 pub(crate) fn image_of(bytes: &[u8]) -> &[u8]
-    requires { 40 ≤ length bytes.now }
+    requires { image_at ≤ length bytes.now }
     ensures { result.now ≡ rest_in bytes.now }
 {
     &bytes[IMAGE_AT..]
@@ -67,7 +67,7 @@ pub(crate) fn image_of(bytes: &[u8]) -> &[u8]
 /// What a buffer of that authority begins with.
 pub(crate) fn head(alloc: Global, authority: &Key) -> Result<Blob, OutOfMemory>
     ensures value { IfOk result (λ bytes. bytes ≡ head_of authority.now) }
-    ensures len { IfOk result (λ bytes. length bytes ≡ 40) }
+    ensures len { IfOk result (λ bytes. length bytes ≡ image_at) }
 {
     let mut bytes = Blob::from_slice(alloc, &BUFFER_MAGIC)?;
     bytes.append(&authority.0)?;

@@ -82,7 +82,7 @@ impl From<AllocError> for LoaderFault {
 }
 
 impl Refusal for LoaderFault {
-    ghost use Rattle.loader_prog.specs.Requests.{cut, is_memory as is_loader_memory};
+    ghost use Rattle.loader_prog.specs.Requests.{cut, is_loader_memory};
 
     ghost cut_at = { cut };
 

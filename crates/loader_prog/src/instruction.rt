@@ -1,7 +1,7 @@
 //! The instructions of the loader.
 ghost use Rattle.std.specs.Prelude.{◌≡◌};
 ghost use Rattle.spec_base.specs.Reading.{Gives};
-ghost use Rattle.loader_prog.specs.Requests.{accounts_needed, fields_at, init_at, is_memory, request_as, request_in, set_authority_at, write_at};
+ghost use Rattle.loader_prog.specs.Requests.{accounts_needed, fields_at, init_at, is_loader_memory, request_as, request_in, set_authority_at, write_at};
 
 use crate::fault::LoaderFault;
 use sol_base::{Key, key_field};
@@ -35,7 +35,7 @@ impl Instruction<'_> {
 /// The instruction that the data spell: a tag and its fields. What follows them is ignored.
 #[tactic(auto, unfolding(crate::specs::Requests::request_in))]
 pub(crate) fn read_instruction(input: &[u8]) -> Result<Instruction<'_>, LoaderFault>
-    ensures { Gives is_memory request_as result (request_in input.now) }
+    ensures { Gives is_loader_memory request_as result (request_in input.now) }
 {
     let total = input.len();
     let (tag, rest) = u32_field::<LoaderFault>(total, input)?;
@@ -43,7 +43,7 @@ pub(crate) fn read_instruction(input: &[u8]) -> Result<Instruction<'_>, LoaderFa
 }
 
 fn read_fields(tag: u32, total: usize, bytes: &[u8]) -> Result<Instruction<'_>, LoaderFault>
-    ensures { Gives is_memory request_as result (fields_at tag total bytes.now) }
+    ensures { Gives is_loader_memory request_as result (fields_at tag total bytes.now) }
 {
     match tag {
         0 => read_init(total, bytes),
@@ -56,7 +56,7 @@ fn read_fields(tag: u32, total: usize, bytes: &[u8]) -> Result<Instruction<'_>, 
 
 #[tactic(auto, unfolding(crate::specs::Requests::init_at))]
 fn read_init(total: usize, bytes: &[u8]) -> Result<Instruction<'_>, LoaderFault>
-    ensures { Gives is_memory request_as result (init_at total bytes.now) }
+    ensures { Gives is_loader_memory request_as result (init_at total bytes.now) }
 {
     let (authority, _) = key_field::<LoaderFault>(total, bytes)?;
     Ok(Instruction::Init { authority })
@@ -64,7 +64,7 @@ fn read_init(total: usize, bytes: &[u8]) -> Result<Instruction<'_>, LoaderFault>
 
 #[tactic(auto, unfolding(crate::specs::Requests::write_at))]
 fn read_write(total: usize, bytes: &[u8]) -> Result<Instruction<'_>, LoaderFault>
-    ensures { Gives is_memory request_as result (write_at total bytes.now) }
+    ensures { Gives is_loader_memory request_as result (write_at total bytes.now) }
 {
     let (offset, rest) = u32_field::<LoaderFault>(total, bytes)?;
     let (len, rest) = u64_field::<LoaderFault>(total, rest)?;
@@ -77,7 +77,7 @@ fn read_write(total: usize, bytes: &[u8]) -> Result<Instruction<'_>, LoaderFault
 
 #[tactic(auto, unfolding(crate::specs::Requests::set_authority_at))]
 fn read_set_authority(total: usize, bytes: &[u8]) -> Result<Instruction<'_>, LoaderFault>
-    ensures { Gives is_memory request_as result (set_authority_at total bytes.now) }
+    ensures { Gives is_loader_memory request_as result (set_authority_at total bytes.now) }
 {
     let (authority, _) = key_field::<LoaderFault>(total, bytes)?;
     Ok(Instruction::SetAuthority { authority })

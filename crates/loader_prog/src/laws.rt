@@ -12,7 +12,7 @@ ghost use Rattle.loader_prog.specs.Laws.{IsActivated, OnlyTheAuthorityWrites};
 /// A law: an instruction that ends well keeps the number and the lamports of the accounts, the
 /// executable ones and those that its list may not write.
 pub fn calls_keep_accounts()
-    ensures { (keys : List Key) (accounts : List Account) (metas : List Meta) (input : List ℕ)
+    ensures kept { (keys : List Key) (accounts : List Account) (metas : List Meta) (input : List ℕ)
         (after : List Account) → AreInRange (length accounts) metas →
         loader_row keys accounts metas input ≡ Ok after →
         AreKeptBy (is_listed_writable metas) accounts after }
@@ -22,7 +22,7 @@ pub fn calls_keep_accounts()
 /// stood where the magic of a buffer goes and the account signs, or it was a buffer whose authority
 /// signs.
 pub fn only_the_authority_changes_a_buffer()
-    ensures { (keys : List Key) (accounts : List Account) (metas : List Meta) (input : List ℕ)
+    ensures authority { (keys : List Key) (accounts : List Account) (metas : List Meta) (input : List ℕ)
         (after : List Account) → length accounts ≡ length keys →
         AreInRange (length accounts) metas → loader_row keys accounts metas input ≡ Ok after →
         OnlyTheAuthorityWrites keys accounts metas after }
@@ -32,7 +32,7 @@ pub fn only_the_authority_changes_a_buffer()
 /// together. So lists that have the same accounts in the same order, and give each the same rights,
 /// have the same answer.
 pub fn accounts_listed_twice_act_as_one()
-    ensures { (keys : List Key) (accounts : List Account) (metas others : List Meta)
+    ensures same { (keys : List Key) (accounts : List Account) (metas others : List Meta)
         (input : List ℕ) → SameListing metas others →
         loader_row keys accounts metas input ≡ loader_row keys accounts others input }
 {}

@@ -4,7 +4,7 @@ ghost use Rattle.std.specs.List.{slice_index_or};
 ghost use Rattle.spec_base.specs.Reading.{Gives};
 ghost use Rattle.sol_base.specs.Accounts.{accounts_of, empty_account, lamports_in};
 ghost use Rattle.sol_base.specs.Metas.{AreInRange};
-ghost use Rattle.loader_prog.specs.Requests.{is_memory};
+ghost use Rattle.loader_prog.specs.Requests.{is_loader_memory};
 ghost use Rattle.loader_prog.specs.Loader.{AnswersLoader, holding, loader_row, ruled, with_data};
 ghost use Rattle.loader_prog.specs.Written.{IsReplaced, data_by};
 
@@ -48,7 +48,7 @@ fn run_steps(
     requires count { length (accounts_of accounts.now) ≡ length keys.now }
     requires most { length metas.now ≤ 255 }
     requires range { AreInRange (length (accounts_of accounts.now)) metas.now }
-    ensures { Gives is_memory accounts_of result
+    ensures { Gives is_loader_memory accounts_of result
         (loader_row keys.now (accounts_of accounts.now) metas.now input.now) }
 {
     let instruction = read_instruction(input)?;
@@ -69,7 +69,7 @@ fn checked(
     requires there { 0 < length metas.now }
     requires most { length metas.now ≤ 255 }
     requires range { AreInRange (length (accounts_of accounts.now)) metas.now }
-    ensures { Gives is_memory accounts_of result (ruled metas.now (accounts_of accounts.now)
+    ensures { Gives is_loader_memory accounts_of result (ruled metas.now (accounts_of accounts.now)
         (with_data (accounts_of accounts.now) metas.now
         (data_by (accounts_of accounts.now) metas.now written))) }
 {

@@ -3,7 +3,8 @@ ghost use Rattle.std.specs.Prelude.{◌≡◌, ◌<◌, ◌≤◌, IfOk, length}
 ghost use Rattle.spec_base.specs.Reading.{Gives};
 ghost use Rattle.sol_base.specs.Accounts.{accounts_of};
 ghost use Rattle.sol_base.specs.Metas.{AreInRange};
-ghost use Rattle.loader_prog.specs.Requests.{accounts_needed, is_memory, request_as};
+ghost use Rattle.loader_prog.specs.Buffers.{image_at};
+ghost use Rattle.loader_prog.specs.Requests.{accounts_needed, is_loader_memory, request_as};
 ghost use Rattle.loader_prog.specs.Written.{data_by};
 ghost use Rattle.loader_prog.specs.Loader.{data_in, data_row, finalize_row, init_row, owned as owned_data, set_authority_row, write_row};
 
@@ -33,7 +34,7 @@ pub(crate) fn data_after(
     requires count { length (accounts_of accounts.now) ≡ length keys.now }
     requires range { AreInRange (length (accounts_of accounts.now)) metas.now }
     requires enough { accounts_needed (request_as instruction.now) ≤ length metas.now }
-    ensures { Gives is_memory (data_by (accounts_of accounts.now) metas.now) result
+    ensures { Gives is_loader_memory (data_by (accounts_of accounts.now) metas.now) result
         (data_row keys.now (accounts_of accounts.now) metas.now (request_as instruction.now)) }
 {
     match instruction {
@@ -56,9 +57,9 @@ fn owned<'a>(
     requires count { length (accounts_of accounts.now) ≡ length keys.now }
     requires range { AreInRange (length (accounts_of accounts.now)) metas.now }
     requires two { 2 ≤ length metas.now }
-    ensures gives { Gives is_memory (λ bytes. bytes.now) result
+    ensures gives { Gives is_loader_memory (λ bytes. bytes.now) result
         (owned_data keys.now (accounts_of accounts.now) metas.now) }
-    ensures room { IfOk result (λ bytes. 40 ≤ length bytes.now) }
+    ensures room { IfOk result (λ bytes. image_at ≤ length bytes.now) }
     ensures data { IfOk result (λ bytes. bytes.now ≡ data_in (accounts_of accounts.now) metas.now) }
 {
     let buffer = account_of(accounts, metas, BUFFER);
@@ -87,7 +88,7 @@ fn init(
 ) -> Result<Option<Blob>, LoaderFault>
     requires range { AreInRange (length (accounts_of accounts.now)) metas.now }
     requires one { 1 ≤ length metas.now }
-    ensures { Gives is_memory (data_by (accounts_of accounts.now) metas.now) result
+    ensures { Gives is_loader_memory (data_by (accounts_of accounts.now) metas.now) result
         (init_row (accounts_of accounts.now) metas.now authority.now) }
 {
     let buffer = account_of(accounts, metas, BUFFER);
@@ -120,7 +121,7 @@ fn write(
     requires count { length (accounts_of accounts.now) ≡ length keys.now }
     requires range { AreInRange (length (accounts_of accounts.now)) metas.now }
     requires two { 2 ≤ length metas.now }
-    ensures { Gives is_memory (data_by (accounts_of accounts.now) metas.now) result
+    ensures { Gives is_loader_memory (data_by (accounts_of accounts.now) metas.now) result
         (write_row keys.now (accounts_of accounts.now) metas.now offset piece.now) }
 {
     let bytes = owned(keys, accounts, metas)?;
@@ -141,7 +142,7 @@ fn finalize(
     requires count { length (accounts_of accounts.now) ≡ length keys.now }
     requires range { AreInRange (length (accounts_of accounts.now)) metas.now }
     requires two { 2 ≤ length metas.now }
-    ensures { Gives is_memory (data_by (accounts_of accounts.now) metas.now) result
+    ensures { Gives is_loader_memory (data_by (accounts_of accounts.now) metas.now) result
         (finalize_row keys.now (accounts_of accounts.now) metas.now) }
 {
     let bytes = owned(keys, accounts, metas)?;
@@ -163,7 +164,7 @@ fn set_authority(
     requires count { length (accounts_of accounts.now) ≡ length keys.now }
     requires range { AreInRange (length (accounts_of accounts.now)) metas.now }
     requires two { 2 ≤ length metas.now }
-    ensures { Gives is_memory (data_by (accounts_of accounts.now) metas.now) result
+    ensures { Gives is_loader_memory (data_by (accounts_of accounts.now) metas.now) result
         (set_authority_row keys.now (accounts_of accounts.now) metas.now authority.now) }
 {
     let bytes = owned(keys, accounts, metas)?;

@@ -39,8 +39,8 @@ byte_at-place m addr p found = ap byte_of (read-some m addr 1 p (omega arith) fo
 byte_at-stands : (m : Ranges) (addr : ℕ) (place : Place) → IsMemory m → StandsAt m addr 1 place → byte_at m addr ≡ slice_get (range_bytes m place.region) place.at
 byte_at-stands m addr place is_memory stands = byte_at-place m addr (Some place) (place-from_stands m addr 1 place is_memory (omega arith) stands)
 
--- a byte of an access stands beside its first
-inner-address : (m : Ranges) (at len i : ℕ) (region : Region) → RoomIn m len at region → i < len → address_in at region + i ≡ address_in (at + i) region
+-- a part of an access stands beside its first byte
+pub inner-address : (m : Ranges) (at len i : ℕ) (region : Region) → RoomIn m len at region → i < len → address_in at region + i ≡ address_in (at + i) region
 inner-address m at len i Program room below = omega arith
 inner-address m at len i Stack room below =
     let frame : (at + i) / frame_size ≡ at / frame_size = omega (arith, room.0) in
@@ -49,19 +49,19 @@ inner-address m at len i Stack room below =
 inner-address m at len i Heap room below = omega arith
 inner-address m at len i Input room below = omega arith
 
-inner-room : (m : Ranges) (at len i : ℕ) (region : Region) → RoomIn m len at region → i < len → RoomIn m 1 (at + i) region
-inner-room m at len i Program room below = omega arith
-inner-room m at len i Stack room below = (omega (arith, room.0, room.1), omega (arith, room.0, room.1))
-inner-room m at len i Heap room below = omega arith
-inner-room m at len i Input room below = omega arith
+inner-room : (m : Ranges) (at len i count : ℕ) (region : Region) → RoomIn m len at region → 1 ≤ count → i + count ≤ len → RoomIn m count (at + i) region
+inner-room m at len i count Program room some fits = omega arith
+inner-room m at len i count Stack room some fits = (omega (arith, room.0, room.1), omega (arith, room.0, room.1))
+inner-room m at len i count Heap room some fits = omega arith
+inner-room m at len i count Input room some fits = omega arith
 
-abbrev further : Place → ℕ → Place
+abbrev pub further : Place → ℕ → Place
 further place i = record { region = place.region; at = place.at + i }
 
-inner-stands : (m : Ranges) (addr len i : ℕ) (place : Place) → StandsAt m addr len place → i < len → StandsAt m (addr + i) 1 (further place i)
-inner-stands m addr len i place stands below = record {
-  address = ap (λ a. a + i) stands.address ∙ inner-address m place.at len i place.region stands.room below;
-  room = inner-room m place.at len i place.region stands.room below;
+pub inner-stands : (m : Ranges) (addr len i count : ℕ) (place : Place) → StandsAt m addr len place → 1 ≤ count → i + count ≤ len → StandsAt m (addr + i) count (further place i)
+inner-stands m addr len i count place stands some fits = record {
+  address = ap (λ a. a + i) stands.address ∙ inner-address m place.at len i place.region stands.room (omega arith);
+  room = inner-room m place.at len i count place.region stands.room some fits;
 }
 
 part-get : (xs : List ℕ) (at len i : ℕ) → at + len ≤ length xs → i < len → slice_get (take len (drop at xs)) i ≡ slice_get xs (at + i)
@@ -75,7 +75,7 @@ read_at m addr len bytes i None is_memory below found read = cc
 read_at m addr len bytes i (Some place) is_memory below found read =
     let stands = stands-from_place m addr len place (omega arith) found in
     let same : take len (drop place.at (range_bytes m place.region)) ≡ bytes = cc in
-    byte_at-stands m (addr + i) (further place i) is_memory (inner-stands m addr len i place stands below)
+    byte_at-stands m (addr + i) (further place i) is_memory (inner-stands m addr len i 1 place stands (omega arith) (omega arith))
     ∙ sym (part-get (range_bytes m place.region) place.at len i (room-fits m len place.at place.region is_memory.stack stands.room) below)
     ∙ ap (λ xs. slice_get xs i) same
 
@@ -148,7 +148,7 @@ set-apart xs at bytes k fits below apart =
 pub write-bytes : (m after : Ranges) (addr : ℕ) (bytes : List ℕ) (i : ℕ) → IsMemory m → write_to m addr bytes ≡ Ok after → i < length bytes → byte_at after (addr + i) ≡ slice_get bytes i
 write-bytes m after addr bytes i is_memory write below =
     let w = written m after addr bytes is_memory (omega arith) write in
-    let inner = inner-stands m addr (length bytes) i w.place w.stands below in
+    let inner = inner-stands m addr (length bytes) i 1 w.place w.stands (omega arith) (omega arith) in
     let found = place-from_stands m (addr + i) 1 (further w.place i) is_memory (omega arith) inner in
     byte_at-place after (addr + i) (Some (further w.place i)) (kept-place m after (addr + i) 1 (write-kept m after addr bytes write) ∙ found)
     ∙ ap (λ xs. slice_get xs (w.place.at + i)) w.here

@@ -75,3 +75,5 @@ copy-plain m to from len apart =
 pub write_refusal-plain : (m : Ranges) (addr len : ℕ) → write_refusal (plain_memory m) addr len ≡ write_refusal m addr len
 unfolding write_refusal place_of
 write_refusal-plain m addr len = refl
+
+pub ruleset plain = (read-plain, write-plain, copy-plain)

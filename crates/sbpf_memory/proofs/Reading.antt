@@ -1,6 +1,7 @@
 -- What a read gives.
-use Rattle.std.proofs.Common.{◌≡◌, ℕ, ◌+◌, ◌≤◌, ◌==◌, Bool, true, false, List, [], length, Option, Some, None, Result, Ok, Err, IfOk, if◌then◌else◌, refl, sym, arith, length-take, length-drop}
+use Rattle.std.proofs.Common.{◌≡◌, ℕ, ◌+◌, ◌≤◌, ◌==◌, Bool, true, false, List, [], ◌++◌, length, take, Option, Some, None, Result, Ok, Err, IfOk, if◌then◌else◌, refl, sym, arith, length-take, length-drop}
 use Rattle.std.proofs.lemmas.Bool.Decides.{nat_tests}
+use Rattle.std.proofs.Math.Seq.{take-append_seam}
 use Rattle.sbpf_memory.specs.declared.fault.AccessViolation.{AccessViolation}
 use Rattle.sbpf_memory.specs.declared.place.Place.{Place}
 use Rattle.sbpf_memory.specs.declared.place.Region.{Region}
@@ -54,3 +55,9 @@ read-refused m addr len v refused = refused_or m addr len v (len == 0) (place_of
 pub read-nothing : (m : Ranges) (addr : ℕ) → read_from m addr 0 ≡ Ok []
 unfolding read_from
 read-nothing m addr = refl
+
+-- a list that was written over from its front
+pub take-filled : (n : ℕ) (xs ys : List ℕ) → n ≡ length xs → take n (xs ++ ys) ≡ xs
+take-filled n xs ys same = rw same (take-append_seam xs ys)
+
+pub ruleset filled = take-filled

@@ -4,3 +4,4 @@ pub mod Faults
 pub mod Lending
 pub mod Memory
 pub mod Plain
+pub mod Reads

@@ -7,6 +7,7 @@ mod fault;
 mod laws;
 mod memory;
 mod place;
+mod reads;
 #[cfg(test)]
 mod tests;
 
@@ -17,3 +18,4 @@ pub use laws::{
 };
 pub use memory::Memory;
 pub use place::{FRAME_COUNT, FRAME_SIZE, FRAME_STEP, INPUT_START, PROGRAM_START, STACK_START};
+pub use reads::{ReadFault, read_array, read_blob, read_bytes};

@@ -13,14 +13,14 @@ use Rattle.sbpf_memory.specs.Lending.{with_input}
 use Rattle.sbpf_memory.specs.Memory.{Ranges, IsMemory, place_of, range_bytes, with_stack, with_heap, with_bytes_in, write_to, write_refusal, refused_at, refused_in, or_refusal, Answers, HasMemory, IsPrepared, PreparedAt, PreparedIn, KeepsBytes}
 use Rattle.sbpf_memory.specs.Plain.{plain_memory}
 use Rattle.sbpf_memory.proofs.Addresses.{stands-from_place}
+use Rattle.sbpf_memory.proofs.Keeping.{kept-place, write-kept}
 use Rattle.sbpf_memory.proofs.Reading.{room-fits}
 use Rattle.sbpf_memory.proofs.Writing.{write-some, write-nothing}
 use Rattle.sbpf_memory.proofs.Prepared.{write_refusal-some}
 use Rattle.sys_calls.specs.Access.{bytes_written}
-use Rattle.sys_calls.proofs.Plain.{write-plain}
+use Rattle.sbpf_memory.proofs.Plain.{write-plain}
 use Rattle.sys_calls.proofs.Pieces.{place-part, place-low}
-use Rattle.sys_calls.proofs.Prepares.{done, plain-kept}
-use Rattle.sys_calls.proofs.Sizes.{write-sizes, place-sizes, prepared-sizes}
+use Rattle.sys_calls.proofs.Prepares.{done, plain-kept, prepared-written}
 
 written-more : (m : Ranges) (xs ys : List ℕ) (at : ℕ) (region : Region) → at + length xs + length ys ≤ length (range_bytes m region) → written_in (written_in m xs at region) ys (at + length xs) region ≡ written_in m (xs ++ ys) at region
 written-more m xs ys at Program fits = refl
@@ -107,12 +107,12 @@ filled-is m0 m to (suc at) count b place is found free fits wrote =
 fill_at : (m0 m after : Ranges) (to at n count b : ℕ) (place : Place) (result : Result (Unit {0}) MemFault) → IsMemory m0 → place_of m0 to count ≡ Some place → Free place.region → IsPrepared m0 to count → 1 ≤ n → at + n ≤ count
     → write_to m0 to (replicate at b) ≡ Ok m → Answers (or_refusal (write_to m (to + at) (replicate n b))) m after result → (IsPrepared m (to + at) (length (replicate n b)) → HasMemory result) → write_to m0 to (replicate (at + n) b) ≡ Ok after
 fill_at m0 m after to at n count b place result is found free prepared some fits wrote answer ready =
-    let sizes = write-sizes m0 m to (replicate at b) is wrote in
+    let kept = write-kept m0 m to (replicate at b) wrote in
     let size : length (replicate n b) ≡ n = length-replicate n b in
-    let place_it : place_of m (to + at) n ≡ Some (record { region = place.region; at = place.at + at }) = place-sizes m0 m (to + at) n sizes ∙ place-part m0 to count at n place is found some fits in
+    let place_it : place_of m (to + at) n ≡ Some (record { region = place.region; at = place.at + at }) = kept-place m0 m (to + at) n kept ∙ place-part m0 to count at n place is found some fits in
     let next : write_to m (to + at) (replicate n b) ≡ Ok (written_in m (replicate n b) (place.at + at) place.region) =
     write-at m (to + at) n (replicate n b) (record { region = place.region; at = place.at + at }) some size place_it free in
-    let has : HasMemory result = ready (subst (IsPrepared m (to + at)) (sym size) (prepared-sizes m0 m (to + at) n sizes (prepared-part m0 to count at n place is found some fits prepared))) in
+    let has : HasMemory result = ready (subst (IsPrepared m (to + at)) (sym size) (prepared-written m0 m (to + at) n kept (prepared-part m0 to count at n place is found some fits prepared))) in
     let ok : IsOk (write_to m (to + at) (replicate n b)) = rw next refl in
     let wrote_it : write_to m (to + at) (replicate n b) ≡ Ok after = done m after (write_to m (to + at) (replicate n b)) result ok has answer in
     let last : written_in m (replicate n b) (place.at + at) place.region ≡ after = ok_is _ _ (sym next ∙ wrote_it) in

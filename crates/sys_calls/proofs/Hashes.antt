@@ -7,7 +7,7 @@ use Rattle.sbpf_memory.specs.Plain.{plain_memory}
 use Rattle.sys_calls.specs.declared.env.Env.{Env}
 use Rattle.sys_calls.specs.declared.slices.Slice.{Slice}
 use Rattle.sys_calls.specs.declared.fault.SysFault.{SysFault}
-use Rattle.sys_calls.specs.Access.{is_memory, bytes_written}
+use Rattle.sys_calls.specs.Access.{is_sys_memory, bytes_written}
 use Rattle.sys_calls.specs.Costs.{max_slices}
 use Rattle.sys_calls.specs.Slices.{Gathered, slices_read, gathered, hash_of}
 use Rattle.sys_calls.specs.SysCalls.{Does, KeepsBlock, hashed, hash_written}
@@ -45,17 +45,17 @@ pub slice-refused : (old new : Ranges) (env : Env) (slices count result units : 
 slice-refused old new env slices count result units list e few read refused left same =
     let g = gathered (plain_memory old) env.units list in
     rw (hashed-row (plain_memory old) env slices count result list (few-slices count few) read)
-    (told (is_memory e) (refused-answer (plain_memory old) env result g e (sym refused)), λ input. sym left, block env units, rw left (gathered-units (plain_memory old) env.units list), (ap plain_memory same, refl), ap (λ (m : Ranges). m.input.lent) same)
+    (told (is_sys_memory e) (refused-answer (plain_memory old) env result g e (sym refused)), λ input. sym left, block env units, rw left (gathered-units (plain_memory old) env.units list), (ap plain_memory same, refl), ap (λ (m : Ranges). m.input.lent) same)
 
 -- the hash is not written
 pub hash-refused : (old new : Ranges) (env : Env) (slices count result units : ℕ) (list : List Slice) (hash : List ℕ) (e : SysFault) → count ≤ max_slices → slices_read (plain_memory old) slices count ≡ Ok list
     → (let r : Result (List ℕ) SysFault = Ok hash in r) ≡ hash_of (gathered (plain_memory old) env.units list).bytes → units ≡ (gathered (plain_memory old) env.units list).units
-    → MatchBool (is_memory e) (Unit {0}) (bytes_written (plain_memory old) result hash ≡ Err e) → plain_memory new ≡ plain_memory old → new.input.lent ≡ old.input.lent
+    → MatchBool (is_sys_memory e) (Unit {0}) (bytes_written (plain_memory old) result hash ≡ Err e) → plain_memory new ≡ plain_memory old → new.input.lent ≡ old.input.lent
     → Does (hashed (plain_memory old) env slices count result) old new env (record env { units = units }) (Err e)
 hash-refused old new env slices count result units list hash e few read given left stopped same lent =
     let g = gathered (plain_memory old) env.units list in
     rw (hashed-row (plain_memory old) env slices count result list (few-slices count few) read)
-    (stops (is_memory e) (write-answer (plain_memory old) env result g hash e (sym given)) stopped, λ input. sym left, block env units, rw left (gathered-units (plain_memory old) env.units list), (same, refl), lent)
+    (stops (is_sys_memory e) (write-answer (plain_memory old) env result g hash e (sym given)) stopped, λ input. sym left, block env units, rw left (gathered-units (plain_memory old) env.units list), (same, refl), lent)
 
 written-answer : (m after : Ranges) (env : Env) (result units : ℕ) (g : Gathered) (hash : List ℕ) → hash_of g.bytes ≡ Ok hash → bytes_written m result hash ≡ Ok after → units ≡ g.units
     → (hash_written m env result g).answer ≡ Ok (record { r0 = 0; memory = after; log = env.logs; returned = env.returned; keeper = env.returned_by })

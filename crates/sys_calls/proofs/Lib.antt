@@ -1,7 +1,5 @@
-pub mod Plain
 pub mod SelfCopies
 pub mod Pieces
-pub mod Sizes
 pub mod Loops
 pub mod Answering
 pub mod Rows

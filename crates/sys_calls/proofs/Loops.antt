@@ -8,8 +8,7 @@ use Rattle.sbpf_memory.specs.Memory.{Ranges}
 use Rattle.sys_calls.specs.declared.slices.Slice.{Slice}
 use Rattle.sys_calls.specs.declared.fault.SysFault.{SysFault}
 use Rattle.sys_calls.specs.declared.fault.SysFault.TheVariants.{UnitsSpent}
-use Rattle.sys_calls.specs.Access.{bytes_read}
-use Rattle.sys_calls.specs.Slices.{Gathered, gathered, before, slice_cost}
+use Rattle.sys_calls.specs.Slices.{Gathered, gathered, before, slice_cost, slice_read}
 
 before-before : (done bytes : List ℕ) (g : Gathered) → before done (before bytes g) ≡ before (done ++ bytes) g
 before-before done bytes g = by_case g.units g.bytes
@@ -26,25 +25,18 @@ gather-none g = by_case g.units g.bytes
     by_case units (Ok more) = refl
     by_case units (Err e) = refl
 
--- too few units are left for the next slice
-pub gather-spent : (m : Ranges) (units : ℕ) (done : List ℕ) (xs : List Slice) (i : ℕ) (d : Slice) → i < length xs → (let x : Slice = get_or xs i d in nat_lt units (slice_cost x.len)) ≡ true → before done (gathered m units (drop i xs)) ≡ record { units = 0; bytes = Err UnitsSpent }
-unfolding gathered
-gather-spent m units done xs i d below spent = rw (drop_more xs i d below, spent) refl
-
 -- the next slice is refused
-pub gather-refused : (m : Ranges) (units : ℕ) (done : List ℕ) (xs : List Slice) (i : ℕ) (d : Slice) (e : SysFault) → i < length xs → (let x : Slice = get_or xs i d in nat_lt units (slice_cost x.len)) ≡ false
-    → (let x : Slice = get_or xs i d in bytes_read m x.addr x.len) ≡ Err e
+pub gather-stops : (m : Ranges) (units : ℕ) (done : List ℕ) (xs : List Slice) (i : ℕ) (d : Slice) (e : SysFault) → i < length xs → (let x : Slice = get_or xs i d in slice_read m units x) ≡ Err e
     → before done (gathered m units (drop i xs)) ≡ (let x : Slice = get_or xs i d in record { units = units - slice_cost x.len; bytes = Err e })
 unfolding gathered
-gather-refused m units done xs i d e below enough stopped = rw (drop_more xs i d below, enough, stopped) refl
+gather-stops m units done xs i d e below stopped = rw (drop_more xs i d below, stopped) refl
 
 -- the next slice is read
-pub gather-more : (m : Ranges) (units : ℕ) (done : List ℕ) (xs : List Slice) (i : ℕ) (d : Slice) (bytes : List ℕ) → i < length xs → (let x : Slice = get_or xs i d in nat_lt units (slice_cost x.len)) ≡ false
-    → (let x : Slice = get_or xs i d in bytes_read m x.addr x.len) ≡ Ok bytes
+pub gather-more : (m : Ranges) (units : ℕ) (done : List ℕ) (xs : List Slice) (i : ℕ) (d : Slice) (bytes : List ℕ) → i < length xs → (let x : Slice = get_or xs i d in slice_read m units x) ≡ Ok bytes
     → before done (gathered m units (drop i xs)) ≡ (let x : Slice = get_or xs i d in before (done ++ bytes) (gathered m (units - slice_cost x.len) (drop (i + 1) xs)))
 unfolding gathered
-gather-more m units done xs i d bytes below enough read =
-    rw (drop_more xs i d below, enough, read) (before-before done bytes (let x : Slice = get_or xs i d in gathered m (units - slice_cost x.len) (drop (i + 1) xs)))
+gather-more m units done xs i d bytes below read =
+    rw (drop_more xs i d below, read) (before-before done bytes (let x : Slice = get_or xs i d in gathered m (units - slice_cost x.len) (drop (i + 1) xs)))
 
 -- all slices are read
 pub gather-done : (m : Ranges) (units : ℕ) (done : List ℕ) (xs : List Slice) (i : ℕ) → length xs ≤ i → before done (gathered m units (drop i xs)) ≡ record { units = units; bytes = Ok done }

@@ -1,5 +1,5 @@
 -- A part of a range that may be read.
-use Rattle.std.proofs.Common.{◌≡◌, ℕ, ◌+◌, ◌-◌, ◌^◌, ◌≤◌, ◌<◌, List, [], length, take, drop, Option, Some, None, Result, Ok, Err, IsOk, IfOk, MatchResult, refl, sym, ap, ◌∙◌, arith}
+use Rattle.std.proofs.Common.{◌≡◌, ℕ, ◌+◌, ◌-◌, ◌^◌, ◌≤◌, ◌<◌, List, [], length, take, drop, Option, Some, None, Result, Ok, Err, IsOk, MatchResult, refl, sym, ap, ◌∙◌, arith}
 use Rattle.std.proofs.lemmas.List.{drop-take, take-take, drop-drop}
 use Rattle.std.specs.Result.{result_unwrap_or}
 use Rattle.sbpf_memory.specs.declared.fault.AccessViolation.{AccessViolation}
@@ -8,22 +8,11 @@ use Rattle.sbpf_memory.specs.declared.place.Region.{Region}
 use Rattle.sbpf_memory.specs.declared.place.Region.TheVariants.{Program, Stack, Heap, Input}
 use Rattle.sbpf_memory.specs.Memory.{Ranges, IsMemory, place_of, range_bytes, bytes_at, read_from}
 use Rattle.sbpf_memory.proofs.Addresses.{address_in, RoomIn, stands-from_place, place-from_stands}
-use Rattle.sbpf_memory.proofs.Reading.{read-some, read-length}
+use Rattle.sbpf_memory.proofs.ByAddress.{further, inner-stands, read-count}
+use Rattle.sbpf_memory.proofs.Reading.{read-some}
 use Rattle.sbpf_memory.specs.Plain.{plain_memory}
 use Rattle.sys_calls.specs.Access.{held, IsReadable, bytes_read}
-use Rattle.sys_calls.proofs.Plain.{read-plain}
-
-address-part : (m : Ranges) (at len more : ℕ) (region : Region) → RoomIn m len at region → more < len → address_in at region + more ≡ address_in (at + more) region
-address-part m at len more Program room below = omega arith
-address-part m at len more Stack room below = omega (arith, room.0)
-address-part m at len more Heap room below = omega arith
-address-part m at len more Input room below = omega arith
-
-room-part : (m : Ranges) (at len more count : ℕ) (region : Region) → RoomIn m len at region → 1 ≤ count → more + count ≤ len → RoomIn m count (at + more) region
-room-part m at len more count Program room some fits = omega (arith, room)
-room-part m at len more count Stack room some fits = (omega (arith, room.0), omega (arith, room.0, room.1))
-room-part m at len more count Heap room some fits = omega (arith, room)
-room-part m at len more count Input room some fits = omega (arith, room)
+use Rattle.sbpf_memory.proofs.Plain.{read-plain}
 
 low : (m : Ranges) (at len : ℕ) (region : Region) → IsMemory m → RoomIn m len at region → address_in at region + len < 2 ^ 35
 low m at len Program is room = omega (arith, room, is.program)
@@ -34,11 +23,8 @@ low m at len Input is room = omega (arith, room, is.input)
 -- the place of a part
 pub place-part : (m : Ranges) (addr len more count : ℕ) (place : Place) → IsMemory m → place_of m addr len ≡ Some place → 1 ≤ count → more + count ≤ len → place_of m (addr + more) count ≡ Some (record { region = place.region; at = place.at + more })
 place-part m addr len more count place is found some fits =
-    let whole : 1 ≤ len = omega arith in
-    let below : more < len = omega arith in
-    let stands = stands-from_place m addr len place whole found in
-    place-from_stands m (addr + more) count (record { region = place.region; at = place.at + more }) is some
-    (record { address = ap (λ n. n + more) stands.address ∙ address-part m place.at len more place.region stands.room below; room = room-part m place.at len more count place.region stands.room some fits })
+    let stands = stands-from_place m addr len place (omega arith) found in
+    place-from_stands m (addr + more) count (further place more) is some (inner-stands m addr len more count place stands some fits)
 
 -- a place has a small address
 pub place-low : (m : Ranges) (addr len : ℕ) (place : Place) → IsMemory m → 1 ≤ len → place_of m addr len ≡ Some place → addr + len < 2 ^ 35
@@ -85,15 +71,6 @@ part m addr len more count is ok some fits =
     let whole : 1 ≤ len = omega arith in
     part_at m addr len more count (place_of m addr len) is refl (rw (read-some m addr len (place_of m addr len) whole refl) at ok) some fits
 
-count_of : (len : ℕ) (r : Result (List ℕ) AccessViolation) → IsOk r → IfOk r (λ bytes. length bytes ≡ len) → length (result_unwrap_or r []) ≡ len
-count_of len (Ok bytes) ok counts = counts
-count_of len (Err v) ok counts = absurd (cc)
-
--- a range that may be read has as many bytes as were asked for
-pub length-held : (m : Ranges) (addr len : ℕ) → IsMemory m → IsOk (read_from m addr len) → length (held m addr len) ≡ len
-unfolding held
-length-held m addr len is ok = count_of len (read_from m addr len) ok (read-length m addr len is.stack)
-
 is_held : (r : Result (List ℕ) AccessViolation) → IsOk r → r ≡ Ok (result_unwrap_or r [])
 is_held (Ok bytes) ok = refl
 is_held (Err v) ok = absurd (cc)
@@ -101,6 +78,10 @@ is_held (Err v) ok = absurd (cc)
 pub read-held : (m : Ranges) (addr len : ℕ) → IsOk (read_from m addr len) → read_from m addr len ≡ Ok (held m addr len)
 unfolding held
 read-held m addr len ok = is_held (read_from m addr len) ok
+
+-- a range that may be read has as many bytes as were asked for
+pub length-held : (m : Ranges) (addr len : ℕ) → IsMemory m → IsOk (read_from m addr len) → length (held m addr len) ≡ len
+length-held m addr len is ok = read-count m addr len (held m addr len) is (read-held m addr len ok)
 
 -- what a read of a part gave
 pub given : (result : Result (Unit {0}) AccessViolation) (r : Result (List ℕ) AccessViolation) (old new bytes : List ℕ) → MatchResult result (λ _. r ≡ Ok new) (λ v. (r ≡ Err v) × (new ≡ old)) → r ≡ Ok bytes → new ≡ bytes

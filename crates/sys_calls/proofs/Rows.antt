@@ -8,7 +8,8 @@ use Rattle.sol_base.specs.declared.derived.SeedsFault.{SeedsFault}
 use Rattle.sol_base.specs.DerivedKeys.{max_seeds, program_key_of}
 use Rattle.sbpf_memory.specs.Memory.{Ranges, read_from, write_to, or_overlap, copy_of, copy_to}
 use Rattle.sbpf_memory.specs.declared.fault.AccessViolation.{AccessViolation as Violation}
-use Rattle.sbpf_memory.proofs.ByAddress.{write-kept, write-memory}
+use Rattle.sbpf_memory.proofs.ByAddress.{write-memory}
+use Rattle.sbpf_memory.proofs.Keeping.{write-kept}
 use Rattle.sys_calls.specs.declared.env.Env.{Env}
 use Rattle.sys_calls.specs.declared.slices.Slice.{Slice}
 use Rattle.sys_calls.specs.declared.table.SystemCall.{SystemCall}
@@ -16,7 +17,7 @@ use Rattle.sys_calls.specs.declared.table.SystemCall.TheVariants as Call
 use Rattle.sys_calls.specs.declared.fault.SysFault.{SysFault}
 use Rattle.sys_calls.specs.declared.fault.SysFault.TheVariants.{UnitsSpent, TooManySeeds, TooManySlices, ReturnTooLong}
 use Rattle.sys_calls.specs.Access.{or_violation, or_fault, bytes_read, bytes_written, bytes_copied}
-use Rattle.sys_calls.specs.Slices.{Gathered, slices_read, has_long_slice, all_read, gathered, hash_of, after_read, slice_cost}
+use Rattle.sys_calls.specs.Slices.{Gathered, slices_read, has_long_slice, all_read, gathered, hash_of, after_read, slice_cost, slice_read}
 use Rattle.sys_calls.specs.Costs.{call_numbered, cost_of, max_returned, max_slices}
 use Rattle.sys_calls.specs.SysCalls.{Service, SysAnswer, IsServedMemory, service, logged, answered, wrote, compared, first_difference, key_derived, key_written, key_or_one, hashed, slices_hashed, at_cost, return_set, both_written, return_got, effect_of, sys_row}
 
@@ -188,15 +189,13 @@ after-units : (units : ℕ) (r : Result (List ℕ) SysFault) (g : Gathered) → 
 after-units units (Ok bytes) g h = h
 after-units units (Err e) g h = omega arith
 
-left-units : (units cost : ℕ) (spent : Bool) (r : Result (List ℕ) SysFault) (g : Gathered) → g.units ≤ units - cost → (if spent then (let none : Gathered = record { units = 0; bytes = Err UnitsSpent } in none) else after_read (units - cost) r g).units ≤ units
-left-units units cost true r g h = omega arith
-left-units units cost false r g h = let k = after-units (units - cost) r g h in omega (arith, k)
-
 pub gathered-units : (m : Ranges) (units : ℕ) (slices : List Slice) → (gathered m units slices).units ≤ units
 unfolding gathered
 gathered-units m units [] = omega arith
 gathered-units m units (slice ∷ slices) =
-    left-units units (slice_cost slice.len) (nat_lt units (slice_cost slice.len)) (bytes_read m slice.addr slice.len) (gathered m (units - slice_cost slice.len) slices) (gathered-units m (units - slice_cost slice.len) slices)
+    let left = units - slice_cost slice.len in
+    let k = after-units left (slice_read m units slice) (gathered m left slices) (gathered-units m left slices) in
+    omega (arith, k)
 
 hashed-units : (m : Ranges) (env : Env) (slices count result : ℕ) → (hashed m env slices count result).units ≤ env.units
 unfolding hashed

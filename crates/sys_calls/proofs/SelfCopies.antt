@@ -10,7 +10,7 @@ use Rattle.sbpf_memory.proofs.Reading.{read-refused}
 use Rattle.sbpf_memory.proofs.Writing.{write-refused}
 use Rattle.sys_calls.specs.declared.fault.SysFault.TheVariants as Sys
 use Rattle.sys_calls.specs.Access.{IsReadable, bytes_read, refused_read}
-use Rattle.sys_calls.proofs.Plain.{read-plain}
+use Rattle.sbpf_memory.proofs.Plain.{read-plain}
 
 -- ranges of at least one byte that begin at one address meet
 meets : (addr len : ℕ) → 1 ≤ len → (true && nat_lt 0 len && meet addr addr len) ≡ true

@@ -2,6 +2,7 @@
 use Rattle.std.specs.Prelude.{ℕ, List, [], Bool, true, false, Option, Some, None, Result, Ok, Err, IsOk}
 use Rattle.std.specs.Result.{result_unwrap_or}
 use Rattle.sbpf_memory.specs.Memory.{Ranges, read_from, write_to, write_refusal, copy_to}
+use Rattle.sbpf_memory.specs.Reads.{refused_as, bytes_or}
 use Rattle.sbpf_memory.specs.declared.fault.AccessViolation.{AccessViolation as Violation}
 use Rattle.sbpf_memory.specs.declared.fault.MemFault.{MemFault}
 use Rattle.sbpf_memory.specs.declared.fault.MemFault.TheVariants as Memory
@@ -9,14 +10,13 @@ use Rattle.sys_calls.specs.declared.fault.SysFault.{SysFault}
 use Rattle.sys_calls.specs.declared.fault.SysFault.TheVariants.{AccessViolation, Overlap, OutOfMemory as no_memory}
 
 -- want of memory, which no input shows
-abbrev pub is_memory : SysFault → Bool
-is_memory no_memory = true
-is_memory _ = false
+abbrev pub is_sys_memory : SysFault → Bool
+is_sys_memory no_memory = true
+is_sys_memory _ = false
 
 -- an access that is refused, whichever it is
 abbrev pub or_violation : {A : Type 0} → Result A Violation → Result A SysFault
-or_violation (Ok x) = Ok x
-or_violation (Err v) = Err AccessViolation
+or_violation result = refused_as AccessViolation result
 
 abbrev pub fault_of : MemFault → SysFault
 fault_of (Memory.AccessViolation addr len write) = AccessViolation
@@ -29,7 +29,7 @@ or_fault (Err fault) = Err (fault_of fault)
 
 -- the bytes of a range of addresses
 abbrev pub bytes_read : Ranges → ℕ → ℕ → Result (List ℕ) SysFault
-bytes_read m addr len = or_violation (read_from m addr len)
+bytes_read m addr len = bytes_or AccessViolation m addr len
 
 -- a range of addresses may be read
 abbrev pub IsReadable : Ranges → ℕ → ℕ → Type 0

@@ -51,13 +51,18 @@ abbrev pub after_read : ℕ → Result (List ℕ) SysFault → Gathered → Gath
 after_read units (Ok bytes) rest = before bytes rest
 after_read units (Err fault) rest = record { units = units; bytes = Err fault }
 
--- each slice is charged and read in order
+-- a slice is charged and then read
+abbrev pub slice_read : Ranges → ℕ → Slice → Result (List ℕ) SysFault
+slice_read m units slice =
+    if nat_lt units (slice_cost slice.len) then Err UnitsSpent
+    else bytes_read m slice.addr slice.len
+
+-- each slice is charged and read in order; where fewer units are left than one costs, they become 0
 unfoldable pub gathered : Ranges → ℕ → List Slice → Gathered
 gathered m units [] = record { units = units; bytes = Ok [] }
 gathered m units (slice ∷ slices) =
     let left = units - slice_cost slice.len in
-    if nat_lt units (slice_cost slice.len) then record { units = 0; bytes = Err UnitsSpent } else
-    after_read left (bytes_read m slice.addr slice.len) (gathered m left slices)
+    after_read left (slice_read m units slice) (gathered m left slices)
 
 -- the hash of what was gathered (FIPS 180-4)
 abbrev pub hash_of : Result (List ℕ) SysFault → Result (List ℕ) SysFault

@@ -15,7 +15,7 @@ use Rattle.sys_calls.specs.declared.table.SystemCall.{SystemCall}
 use Rattle.sys_calls.specs.declared.table.SystemCall.TheVariants as Call
 use Rattle.sys_calls.specs.declared.fault.SysFault.{SysFault}
 use Rattle.sys_calls.specs.declared.fault.SysFault.TheVariants.{Abort, UnitsSpent, TooManySeeds, ReturnTooLong, TooManySlices, OutOfMemory as no_memory}
-use Rattle.sys_calls.specs.Access.{is_memory, bytes_read, bytes_written, bytes_copied}
+use Rattle.sys_calls.specs.Access.{is_sys_memory, bytes_read, bytes_written, bytes_copied}
 use Rattle.sys_calls.specs.Slices.{Gathered, slices_read, has_long_slice, all_read, gathered, hash_of}
 use Rattle.sys_calls.specs.Lines.{log_line, log_64_line, log_key_line, log_units_line}
 use Rattle.sys_calls.specs.Costs.{call_numbered, cost_of, max_returned, max_slices, r1, r2, r3, r4, r5}
@@ -199,7 +199,7 @@ sys_row number arguments m env =
 -- the units that are left, but after want of memory
 abbrev pub HasUnits : ℕ → ℕ → Result ℕ SysFault → Type 0
 HasUnits wanted units (Ok r0) = wanted ≡ units
-HasUnits wanted units (Err fault) = is_memory fault ≡ false → wanted ≡ units
+HasUnits wanted units (Err fault) = is_sys_memory fault ≡ false → wanted ≡ units
 
 -- What a call says of the row: after Ok the rest of the surroundings stays, after a refusal all but
 -- the units, and after want of memory too.
@@ -222,7 +222,7 @@ pub record KeepsBlock (env env' : Env) : Type 0 where
 -- out.
 abbrev pub Does : SysAnswer → Ranges → Ranges → Env → Env → Result ℕ SysFault → Type 0
 Does row old new env env' result =
-    Gives is_memory (λ r0. service r0 (plain_memory new) env') result row.answer
+    Gives is_sys_memory (λ r0. service r0 (plain_memory new) env') result row.answer
     × HasUnits row.units env'.units result
     × KeepsBlock env env'
     × (env'.units ≤ env.units)

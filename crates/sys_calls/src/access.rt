@@ -3,61 +3,18 @@ ghost use Rattle.std.specs.Prelude.{◌≡◌, ◌-◌, ◌<◌, min, length, ta
 ghost use Rattle.spec_base.specs.Reading.{Gives};
 ghost use Rattle.sbpf_memory.specs.Memory.{KeepsBytes, IsPrepared, write_refusal};
 ghost use Rattle.sbpf_memory.specs.Plain.{plain_memory};
-ghost use Rattle.sys_calls.specs.Access.{is_memory, bytes_read, bytes_written, IsReadable, held, refused_read, write_checked};
+ghost use Rattle.sys_calls.specs.Access.{is_sys_memory, bytes_read, bytes_written, IsReadable, held, refused_read, write_checked};
 
 use crate::fault::SysFault;
 use sbpf_memory::{MemFault, Memory};
-use sol_base::Blob;
-use std::alloc::Global;
 
 /// The bytes of a piece, in which long ranges are read and written.
 pub(crate) const PIECE: usize = 1024;
 
-/// The `N` bytes at an address.
-#[tactic(auto, using(crate::proofs::Plain::plain))]
-pub(crate) fn read_array<const N: usize>(memory: &Memory, addr: u64) -> Result<[u8; N], SysFault>
-    ensures { result ≡ bytes_read (plain_memory memory.now) addr N }
-{
-    let mut bytes = [0; N];
-    memory.read(addr, &mut bytes)?;
-    Ok(bytes)
-}
-
-/// The bytes of a range of addresses.
-#[tactic(auto, using(crate::proofs::Plain::plain, crate::proofs::Plain::filled))]
-pub(crate) fn read_bytes(
-    alloc: Global,
-    memory: &Memory,
-    addr: u64,
-    len: u64,
-) -> Result<Vec<u8>, SysFault>
-    ensures bytes { Gives is_memory (λ bytes. bytes.items) result
-        (bytes_read (plain_memory memory.now) addr len) }
-    ensures count { IfOk result (λ bytes. length bytes.items ≡ len) }
-{
-    let mut bytes = vec![in alloc; 0; len as usize]?;
-    memory.read(addr, bytes.as_mut_slice())?;
-    Ok(bytes)
-}
-
-/// The bytes of a range of addresses, as a list of its own.
-pub(crate) fn read_blob(
-    alloc: Global,
-    memory: &Memory,
-    addr: u64,
-    len: u64,
-) -> Result<Blob, SysFault>
-    ensures { Gives is_memory (λ bytes. bytes) result
-        (bytes_read (plain_memory memory.now) addr len) }
-{
-    let bytes = read_bytes(alloc, memory, addr, len)?;
-    Ok(Blob::from_slice(alloc, bytes.as_slice())?)
-}
-
 /// Writes the bytes at an address.
-#[tactic(auto, using(crate::proofs::Plain::plain))]
+#[tactic(auto, using(sbpf_memory::proofs::Plain::plain))]
 pub(crate) fn write(memory: &mut Memory, addr: u64, bytes: &[u8]) -> Result<(), SysFault>
-    ensures answer { Gives is_memory (λ _. plain_memory memory.new) result
+    ensures answer { Gives is_sys_memory (λ _. plain_memory memory.new) result
         (bytes_written (plain_memory memory.old) addr bytes.now) }
     ensures refused { OnErr result (plain_memory memory.new ≡ plain_memory memory.old) }
     ensures lent { memory.new.input.lent ≡ memory.old.input.lent }
@@ -70,7 +27,7 @@ pub(crate) fn write(memory: &mut Memory, addr: u64, bytes: &[u8]) -> Result<(), 
 pub(crate) fn prepare(memory: &mut Memory, addr: u64, len: u64) -> Result<(), SysFault>
     ensures free { OnOk result
         ((write_refusal memory.old addr len ≡ None) × IsPrepared memory.new addr len) }
-    ensures refused { Gives is_memory (λ _. tt) result (write_checked memory.old addr len) }
+    ensures refused { Gives is_sys_memory (λ _. tt) result (write_checked memory.old addr len) }
     ensures bytes { KeepsBytes memory.old memory.new }
 {
     memory.prepare(addr, len)?;
@@ -79,7 +36,7 @@ pub(crate) fn prepare(memory: &mut Memory, addr: u64, len: u64) -> Result<(), Sy
 
 /// Whether a read is refused. A copy of a range onto itself that is to stand apart is refused in
 /// any case, and its refusal tells whether the read is.
-#[tactic(auto, using(crate::proofs::Plain::plain))]
+#[tactic(auto, using(sbpf_memory::proofs::Plain::plain))]
 pub(crate) fn check_read(memory: &mut Memory, addr: u64, len: u64) -> Result<(), SysFault>
     ensures answer { MatchResult result
         (λ _. IsReadable (plain_memory memory.old) addr len)
@@ -110,7 +67,7 @@ fn read_refusal(copied: Result<(), MemFault>) -> Result<(), SysFault>
 }
 
 /// The piece from a place on of a range that may be read.
-#[tactic(auto, using(crate::proofs::Plain::plain))]
+#[tactic(auto, using(sbpf_memory::proofs::Plain::plain))]
 pub(crate) fn read_piece<'a>(
     memory: &Memory,
     addr: u64,

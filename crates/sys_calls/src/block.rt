@@ -3,7 +3,7 @@ ghost use Rattle.std.specs.Prelude.{◌≡◌, OnErr};
 ghost use Rattle.std.specs.Int.{w64, to_le_bytes};
 ghost use Rattle.spec_base.specs.Reading.{Gives};
 ghost use Rattle.sbpf_memory.specs.Plain.{plain_memory};
-ghost use Rattle.sys_calls.specs.Access.{is_memory, bytes_written};
+ghost use Rattle.sys_calls.specs.Access.{is_sys_memory, bytes_written};
 ghost use Rattle.sys_calls.specs.SysCalls.{rent_bytes as bytes_of_rent};
 
 use crate::access::write;
@@ -18,7 +18,7 @@ const EXEMPT_YEARS: u64 = 2;
 
 /// Writes the block's slot.
 pub(crate) fn get_slot(result_at: u64, slot: u64, memory: &mut Memory) -> Result<(), SysFault>
-    ensures answer { Gives is_memory (λ _. plain_memory memory.new) result
+    ensures answer { Gives is_sys_memory (λ _. plain_memory memory.new) result
         (bytes_written (plain_memory memory.old) result_at (to_le_bytes w64 slot)) }
     ensures refused { OnErr result (plain_memory memory.new ≡ plain_memory memory.old) }
     ensures lent { memory.new.input.lent ≡ memory.old.input.lent }
@@ -28,7 +28,7 @@ pub(crate) fn get_slot(result_at: u64, slot: u64, memory: &mut Memory) -> Result
 
 /// Writes the numbers of the rent.
 pub(crate) fn get_rent(result_at: u64, memory: &mut Memory) -> Result<(), SysFault>
-    ensures answer { Gives is_memory (λ _. plain_memory memory.new) result
+    ensures answer { Gives is_sys_memory (λ _. plain_memory memory.new) result
         (bytes_written (plain_memory memory.old) result_at bytes_of_rent) }
     ensures refused { OnErr result (plain_memory memory.new ≡ plain_memory memory.old) }
     ensures lent { memory.new.input.lent ≡ memory.old.input.lent }

@@ -1,5 +1,5 @@
 //! The refusals of system calls.
-use sbpf_memory::{AccessViolation, MemFault};
+use sbpf_memory::{MemFault, ReadFault};
 use sol_base::OutOfMemory;
 use std::alloc::AllocError;
 use thiserror::Error;
@@ -49,14 +49,20 @@ impl From<AllocError> for SysFault {
     }
 }
 
-impl From<AccessViolation> for SysFault {
-    ghost use Rattle.std.specs.Prelude.{◌≡◌};
-    ghost use Rattle.sys_calls.specs.declared.fault.SysFault.TheVariants.{AccessViolation as violation};
+impl ReadFault for SysFault {
+    ghost use Rattle.sys_calls.specs.declared.fault.SysFault.TheVariants.{AccessViolation as refused};
+    ghost use Rattle.sys_calls.specs.Access.{is_sys_memory};
 
-    ghost from_gives = { λ _ e. e ≡ violation };
+    ghost violation = { refused };
 
-    fn from(_e: AccessViolation) -> SysFault {
+    ghost is_memory = { is_sys_memory };
+
+    fn access_violation() -> SysFault {
         SysFault::AccessViolation
+    }
+
+    fn out_of_memory() -> SysFault {
+        SysFault::OutOfMemory
     }
 }
 

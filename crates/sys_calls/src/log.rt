@@ -3,12 +3,11 @@ ghost use Rattle.std.specs.Prelude.{◌≡◌, ◌++◌, codes, OnOk};
 ghost use Rattle.std.specs.List.{flat_map};
 ghost use Rattle.sbpf_memory.specs.Plain.{plain_memory};
 ghost use Rattle.spec_base.specs.Reading.{Gives};
-ghost use Rattle.sys_calls.specs.Access.{is_memory};
+ghost use Rattle.sys_calls.specs.Access.{is_sys_memory};
 ghost use Rattle.sys_calls.specs.Lines.{number_text, log_line, log_64_line, log_key_line, log_units_line};
 
-use crate::access::{read_array, read_bytes};
 use crate::fault::SysFault;
-use sbpf_memory::Memory;
+use sbpf_memory::{Memory, read_array, read_bytes};
 use sol_base::{Key, OutOfMemory, is_text, key_text};
 use std::alloc::Global;
 
@@ -18,10 +17,10 @@ const PROGRAM_LOG: [u8; 13] = *b"Program log: ";
 /// The line of a text.
 #[tactic(auto, unfolding(crate::specs::Lines::log_line))]
 pub(crate) fn log(alloc: Global, text: u64, len: u64, memory: &Memory) -> Result<Vec<u8>, SysFault>
-    ensures { Gives is_memory (λ line. line.items) result
+    ensures { Gives is_sys_memory (λ line. line.items) result
         (log_line (plain_memory memory.now) text len) }
 {
-    let bytes = read_bytes(alloc, memory, text, len)?;
+    let bytes = read_bytes::<SysFault>(alloc, memory, text, len)?;
     if !is_text(bytes.as_slice()) {
         return Err(SysFault::BadText);
     }
@@ -32,7 +31,7 @@ pub(crate) fn log(alloc: Global, text: u64, len: u64, memory: &Memory) -> Result
 
 /// The line of five numbers.
 pub(crate) fn log_64(alloc: Global, first: u64, others: [u64; 4]) -> Result<Vec<u8>, SysFault>
-    ensures { Gives is_memory (λ line. line.items) result (Ok (log_64_line first others)) }
+    ensures { Gives is_sys_memory (λ line. line.items) result (Ok (log_64_line first others)) }
 {
     let mut line = Vec::from_slice(alloc, &PROGRAM_LOG)?;
     append_number(alloc, &mut line, first)?;
@@ -63,10 +62,10 @@ fn append_number(alloc: Global, line: &mut Vec<u8>, number: u64) -> Result<(), O
 /// The line of a key.
 #[tactic(auto, unfolding(crate::specs::Lines::log_key_line))]
 pub(crate) fn log_key(alloc: Global, key: u64, memory: &Memory) -> Result<Vec<u8>, SysFault>
-    ensures { Gives is_memory (λ line. line.items) result
+    ensures { Gives is_sys_memory (λ line. line.items) result
         (log_key_line (plain_memory memory.now) key) }
 {
-    let key = Key(read_array::<32>(memory, key)?);
+    let key = Key(read_array::<SysFault, 32>(memory, key)?);
     let mut line = Vec::from_slice(alloc, &PROGRAM_LOG)?;
     line.extend_from_slice(&key_text(&key))?;
     Ok(line)
@@ -74,7 +73,7 @@ pub(crate) fn log_key(alloc: Global, key: u64, memory: &Memory) -> Result<Vec<u8
 
 /// The line of the units that are left.
 pub(crate) fn log_units(alloc: Global, units: u64) -> Result<Vec<u8>, SysFault>
-    ensures { Gives is_memory (λ line. line.items) result (Ok (log_units_line units)) }
+    ensures { Gives is_sys_memory (λ line. line.items) result (Ok (log_units_line units)) }
 {
     let line = format!(in alloc; "Program consumption: {units} units remaining")?;
     Ok(line.into_bytes())

@@ -4,7 +4,7 @@ ghost use Rattle.std.specs.Option.{option_map};
 ghost use Rattle.spec_base.specs.Reading.{Gives};
 ghost use Rattle.sbpf_memory.specs.Memory.{IsPrepared, write_refusal, write_to};
 ghost use Rattle.sbpf_memory.specs.Plain.{plain_memory};
-ghost use Rattle.sys_calls.specs.Access.{is_memory, bytes_copied, IsReadable, held};
+ghost use Rattle.sys_calls.specs.Access.{is_sys_memory, bytes_copied, IsReadable, held};
 ghost use Rattle.sys_calls.specs.SysCalls.{compared, filled, first_difference as difference_in, differing, difference};
 
 use crate::access::{PIECE, check_read, prepare, read_piece, write};
@@ -12,9 +12,9 @@ use crate::fault::SysFault;
 use sbpf_memory::Memory;
 
 /// Copies bytes between ranges that do not meet.
-#[tactic(auto, using(crate::proofs::Plain::plain))]
+#[tactic(auto, using(sbpf_memory::proofs::Plain::plain))]
 pub(crate) fn memcpy(to: u64, from: u64, count: u64, memory: &mut Memory) -> Result<(), SysFault>
-    ensures answer { Gives is_memory (λ _. plain_memory memory.new) result
+    ensures answer { Gives is_sys_memory (λ _. plain_memory memory.new) result
         (bytes_copied (plain_memory memory.old) to from count true) }
     ensures refused { OnErr result (plain_memory memory.new ≡ plain_memory memory.old) }
     ensures lent { memory.new.input.lent ≡ memory.old.input.lent }
@@ -24,9 +24,9 @@ pub(crate) fn memcpy(to: u64, from: u64, count: u64, memory: &mut Memory) -> Res
 }
 
 /// Copies bytes.
-#[tactic(auto, using(crate::proofs::Plain::plain))]
+#[tactic(auto, using(sbpf_memory::proofs::Plain::plain))]
 pub(crate) fn memmove(to: u64, from: u64, count: u64, memory: &mut Memory) -> Result<(), SysFault>
-    ensures answer { Gives is_memory (λ _. plain_memory memory.new) result
+    ensures answer { Gives is_sys_memory (λ _. plain_memory memory.new) result
         (bytes_copied (plain_memory memory.old) to from count false) }
     ensures refused { OnErr result (plain_memory memory.new ≡ plain_memory memory.old) }
     ensures lent { memory.new.input.lent ≡ memory.old.input.lent }
@@ -44,7 +44,7 @@ pub(crate) fn memcmp(
     result_at: u64,
     memory: &mut Memory,
 ) -> Result<(), SysFault>
-    ensures answer { Gives is_memory (λ _. plain_memory memory.new) result
+    ensures answer { Gives is_sys_memory (λ _. plain_memory memory.new) result
         (compared (plain_memory memory.old) one other count result_at) }
     ensures refused { OnErr result (plain_memory memory.new ≡ plain_memory memory.old) }
     ensures lent { memory.new.input.lent ≡ memory.old.input.lent }
@@ -96,7 +96,7 @@ fn first_difference(one: &[u8], other: &[u8]) -> Option<u32>
 /// Fills a range with the low byte of a number.
 #[tactic(auto, using(crate::proofs::Prepares::refusals))]
 pub(crate) fn memset(to: u64, byte: u64, count: u64, memory: &mut Memory) -> Result<(), SysFault>
-    ensures answer { Gives is_memory (λ _. plain_memory memory.new) result
+    ensures answer { Gives is_sys_memory (λ _. plain_memory memory.new) result
         (filled (plain_memory memory.old) to byte count) }
     ensures refused { OnErr result (plain_memory memory.new ≡ plain_memory memory.old) }
     ensures lent { memory.new.input.lent ≡ memory.old.input.lent }

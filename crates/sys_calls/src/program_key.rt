@@ -2,14 +2,14 @@
 ghost use Rattle.std.specs.Prelude.{◌≡◌, OnErr};
 ghost use Rattle.spec_base.specs.Reading.{Gives};
 ghost use Rattle.sbpf_memory.specs.Plain.{plain_memory};
-ghost use Rattle.sys_calls.specs.Access.{is_memory};
+ghost use Rattle.sys_calls.specs.Access.{is_sys_memory};
 ghost use Rattle.sys_calls.specs.Slices.{all_read, has_long_slice as has_long};
 ghost use Rattle.sys_calls.specs.SysCalls.{key_derived, key_written};
 
-use crate::access::{read_array, read_blob, write};
+use crate::access::write;
 use crate::fault::SysFault;
 use crate::slices::{Slice, read_slices};
-use sbpf_memory::Memory;
+use sbpf_memory::{Memory, read_array, read_blob};
 use sol_base::{Blob, Items, Key, MAX_SEED_LEN, MAX_SEEDS};
 use std::alloc::Global;
 
@@ -24,7 +24,7 @@ pub(crate) fn program_key(
     result_at: u64,
     memory: &mut Memory,
 ) -> Result<u64, SysFault>
-    ensures answer { Gives is_memory (λ r0. (r0, plain_memory memory.new)) result
+    ensures answer { Gives is_sys_memory (λ r0. (r0, plain_memory memory.new)) result
         (key_derived (plain_memory memory.old) seeds count program result_at) }
     ensures refused { OnErr result (plain_memory memory.new ≡ plain_memory memory.old) }
     ensures lent { memory.new.input.lent ≡ memory.old.input.lent }
@@ -45,7 +45,7 @@ fn write_key(
     result_at: u64,
     memory: &mut Memory,
 ) -> Result<u64, SysFault>
-    ensures answer { Gives is_memory (λ r0. (r0, plain_memory memory.new)) result
+    ensures answer { Gives is_sys_memory (λ r0. (r0, plain_memory memory.new)) result
         (key_written (plain_memory memory.old) program result_at slices.now) }
     ensures refused { OnErr result (plain_memory memory.new ≡ plain_memory memory.old) }
     ensures lent { memory.new.input.lent ≡ memory.old.input.lent }
@@ -54,7 +54,7 @@ fn write_key(
         return Ok(1);
     }
     let seeds = read_seeds(alloc, slices, memory)?;
-    let program = Key(read_array::<32>(memory, program)?);
+    let program = Key(read_array::<SysFault, 32>(memory, program)?);
     match sol_base::program_key(&seeds, &program) {
         Err(_) => Ok(1),
         Ok(key) => {
@@ -72,12 +72,12 @@ fn has_long_slice(slices: &[Slice]) -> bool
 
 /// The bytes of the slices, read in order.
 fn read_seeds(alloc: Global, slices: &[Slice], memory: &Memory) -> Result<Items<Blob>, SysFault>
-    ensures { Gives is_memory (λ seeds. seeds) result
+    ensures { Gives is_sys_memory (λ seeds. seeds) result
         (all_read (plain_memory memory.now) slices.now) }
 {
     let mut seeds = Items::with_capacity(alloc, slices.len())?;
     for slice in slices {
-        let seed = read_blob(alloc, memory, slice.addr, slice.len)?;
+        let seed = read_blob::<SysFault>(alloc, memory, slice.addr, slice.len)?;
         seeds.push(seed)?;
     }
     Ok(seeds)

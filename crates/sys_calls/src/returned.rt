@@ -2,13 +2,13 @@
 ghost use Rattle.std.specs.Prelude.{◌≡◌, OnErr};
 ghost use Rattle.spec_base.specs.Reading.{Gives};
 ghost use Rattle.sbpf_memory.specs.Plain.{plain_memory};
-ghost use Rattle.sys_calls.specs.Access.{is_memory};
+ghost use Rattle.sys_calls.specs.Access.{is_sys_memory};
 ghost use Rattle.sys_calls.specs.SysCalls.{Does, at_cost, return_set, return_got, both_written};
 
-use crate::access::{prepare, read_blob};
+use crate::access::prepare;
 use crate::env::Env;
 use crate::fault::SysFault;
-use sbpf_memory::Memory;
+use sbpf_memory::{Memory, read_blob};
 use sol_base::Key;
 use std::alloc::Global;
 
@@ -30,7 +30,7 @@ pub(crate) fn set_return(
     if len > MAX_RETURNED {
         return Err(SysFault::ReturnTooLong);
     }
-    env.returned = read_blob(alloc, memory, addr, len)?;
+    env.returned = read_blob::<SysFault>(alloc, memory, addr, len)?;
     env.returned_by = env.program;
     Ok(0)
 }
@@ -46,7 +46,7 @@ pub(crate) fn get_return(
     keeper: &Key,
     memory: &mut Memory,
 ) -> Result<u64, SysFault>
-    ensures answer { Gives is_memory (λ r0. (r0, plain_memory memory.new)) result
+    ensures answer { Gives is_sys_memory (λ r0. (r0, plain_memory memory.new)) result
         (return_got (plain_memory memory.old) returned.now keeper.now to len program) }
     ensures refused { OnErr result (plain_memory memory.new ≡ plain_memory memory.old) }
     ensures lent { memory.new.input.lent ≡ memory.old.input.lent }
@@ -60,7 +60,7 @@ pub(crate) fn get_return(
 }
 
 /// Writes the bytes of both ranges, or of neither.
-#[tactic(auto, using(crate::proofs::Prepares::both, crate::proofs::Plain::plain), unfolding(crate::specs::SysCalls::both_written))]
+#[tactic(auto, using(crate::proofs::Prepares::both, sbpf_memory::proofs::Plain::plain), unfolding(crate::specs::SysCalls::both_written))]
 fn write_both(
     memory: &mut Memory,
     to: u64,
@@ -68,12 +68,11 @@ fn write_both(
     other: u64,
     second: &[u8],
 ) -> Result<(), SysFault>
-    ensures answer { Gives is_memory (λ _. plain_memory memory.new) result
+    ensures answer { Gives is_sys_memory (λ _. plain_memory memory.new) result
         (both_written (plain_memory memory.old) to first.now other second.now) }
     ensures refused { OnErr result (plain_memory memory.new ≡ plain_memory memory.old) }
     ensures lent { memory.new.input.lent ≡ memory.old.input.lent }
 {
-    memory.is_memory();
     prepare(memory, to, first.len() as u64)?;
     prepare(memory, other, second.len() as u64)?;
     memory.write(to, first)?;

@@ -1,9 +1,9 @@
 //! The call that hashes slices.
-ghost use Rattle.std.specs.Prelude.{◌≡◌, ◌++◌, List, ℕ, MatchResult, OnOk};
+ghost use Rattle.std.specs.Prelude.{◌≡◌, ◌-◌, ◌++◌, List, ℕ, MatchResult, OnOk};
 ghost use Rattle.sha2.specs.Hashers.{Holds256};
 ghost use Rattle.sbpf_memory.specs.Plain.{plain_memory};
-ghost use Rattle.sys_calls.specs.Access.{bytes_read, held, IsReadable};
-ghost use Rattle.sys_calls.specs.Slices.{gathered, hash_of};
+ghost use Rattle.sys_calls.specs.Access.{held, IsReadable};
+ghost use Rattle.sys_calls.specs.Slices.{gathered, hash_of, slice_cost, slice_read};
 ghost use Rattle.sys_calls.specs.SysCalls.{Does, hashed};
 
 use crate::access::{PIECE, check_read, read_piece, write};
@@ -39,7 +39,7 @@ pub(crate) fn sha256(
     Ok(0)
 }
 
-/// The hash of the slices. Each is charged and read in order.
+/// The hash of the slices. Each is charged and read before the next.
 fn hash_slices(slices: &[Slice], memory: &mut Memory, units: &mut u64) -> Result<[u8; 32], SysFault>
     ensures answer { result ≡ hash_of
         (gathered (plain_memory memory.old) units.old slices.now).bytes }
@@ -48,24 +48,30 @@ fn hash_slices(slices: &[Slice], memory: &mut Memory, units: &mut u64) -> Result
 {
     let mut hasher = Sha256::new();
     for slice in slices {
-        charge(units, (slice.len / 2).max(10))?;
-        hash_slice(*slice, memory, &mut hasher)?;
+        hash_slice(*slice, memory, units, &mut hasher)?;
     }
     Ok(hasher.finalize())
 }
 
-/// Adds the bytes of a slice to what is hashed.
+/// Charges a slice, and adds its bytes to what is hashed.
 #[tactic(auto, using(crate::proofs::Pieces::readable))]
-fn hash_slice(slice: Slice, memory: &mut Memory, hasher: &mut Sha256) -> Result<(), SysFault>
+fn hash_slice(
+    slice: Slice,
+    memory: &mut Memory,
+    units: &mut u64,
+    hasher: &mut Sha256,
+) -> Result<(), SysFault>
     ensures answer { MatchResult result
-        (λ _. bytes_read (plain_memory memory.old) slice.addr slice.len
+        (λ _. slice_read (plain_memory memory.old) units.old slice
         ≡ Ok (held (plain_memory memory.old) slice.addr slice.len))
-        (λ fault. bytes_read (plain_memory memory.old) slice.addr slice.len ≡ Err fault) }
+        (λ fault. slice_read (plain_memory memory.old) units.old slice ≡ Err fault) }
+    ensures units { units.new ≡ units.old - slice_cost slice.len }
     ensures hasher { OnOk result
         ((hashed : List ℕ) → Holds256 hasher.old hashed → Holds256 hasher.new
         (hashed ++ held (plain_memory memory.old) slice.addr slice.len)) }
     ensures memory { memory.new ≡ memory.old }
 {
+    charge(units, (slice.len / 2).max(10))?;
     check_read(memory, slice.addr, slice.len)?;
     hash_pieces(slice, memory, hasher);
     Ok(())

@@ -3,13 +3,12 @@ ghost use Rattle.std.specs.Prelude.{◌≡◌, ◌+◌, ◌*◌, ◌≤◌, ◌<
 ghost use Rattle.std.specs.List.{range_with_len};
 ghost use Rattle.spec_base.specs.Reading.{Gives};
 ghost use Rattle.sbpf_memory.specs.Plain.{plain_memory};
-ghost use Rattle.sys_calls.specs.Access.{is_memory};
+ghost use Rattle.sys_calls.specs.Access.{is_sys_memory};
 ghost use Rattle.sys_calls.specs.Costs.{max_slices};
 ghost use Rattle.sys_calls.specs.Slices.{slice_at, slice_len, slices_read};
 
-use crate::access::read_bytes;
 use crate::fault::SysFault;
-use sbpf_memory::Memory;
+use sbpf_memory::{Memory, read_bytes};
 use sol_base::{Items, OutOfMemory};
 use spec_base::number_in;
 use std::alloc::Global;
@@ -33,10 +32,10 @@ pub(crate) fn read_slices(
     count: u64,
 ) -> Result<Items<Slice>, SysFault>
     requires { count ≤ max_slices }
-    ensures { Gives is_memory (λ slices. slices) result
+    ensures { Gives is_sys_memory (λ slices. slices) result
         (slices_read (plain_memory memory.now) at count) }
 {
-    let bytes = read_bytes(alloc, memory, at, count * SLICE_LEN as u64)?;
+    let bytes = read_bytes::<SysFault>(alloc, memory, at, count * SLICE_LEN as u64)?;
     Ok(slices_in(alloc, bytes.as_slice(), count as usize)?)
 }
 

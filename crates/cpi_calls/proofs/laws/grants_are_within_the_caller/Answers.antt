@@ -2,4 +2,4 @@ use Rattle.cpi_calls.proofs.Within.{rights-within}
 use Rattle.cpi_calls.proofs.laws.grants_are_within_the_caller.Goals as goal
 
 pub returns : goal.returns
-returns c = rights-within
+returns c = record { within = rights-within }

@@ -2,7 +2,7 @@ use Rattle.std.proofs.Common.{◌≡◌, ◌<◌, ◌+◌, ◌-◌, ◌^◌, min
 use Rattle.std.proofs.lemmas.Grind.{common_steps}
 use Rattle.sbpf_memory.specs.Memory.{read_from}
 use Rattle.sys_calls.specs.declared.access.TheConstants.{PIECE}
-use Rattle.sys_calls.proofs.Plain.{read-plain}
+use Rattle.sbpf_memory.proofs.Plain.{read-plain}
 use Rattle.sys_calls.proofs.Pieces.{part, given, held-plain}
 use Rattle.sys_calls.proofs.access.read_piece.Goals as goal
 

@@ -2,4 +2,4 @@ use Rattle.sys_calls.proofs.Rows.{sys_row-units}
 use Rattle.sys_calls.proofs.laws.calls_gain_no_units.Goals as goal
 
 pub returns : goal.returns
-returns c = sys_row-units
+returns c = record { units = sys_row-units }

@@ -2,4 +2,4 @@ use Rattle.sys_calls.proofs.Rows.{sys_row-memory}
 use Rattle.sys_calls.proofs.laws.calls_keep_sizes.Goals as goal
 
 pub returns : goal.returns
-returns c = sys_row-memory
+returns c = record { memory = sys_row-memory }

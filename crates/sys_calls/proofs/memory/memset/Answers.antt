@@ -1,5 +1,5 @@
 use Rattle.std.proofs.Common.{◌%◌, replicate, ◌∙◌}
-use Rattle.sbpf_memory.proofs.ByAddress.{write-kept}
+use Rattle.sbpf_memory.proofs.Keeping.{write-kept}
 use Rattle.sys_calls.proofs.Fills.{fill-done}
 use Rattle.sys_calls.proofs.Prepares.{refusal-kept}
 use Rattle.sys_calls.proofs.memory.memset.Goals as goal

@@ -6,7 +6,7 @@ use Rattle.sys_calls.proofs.returned.write_both.Goals as goal
 pub returns-clause-answer : goal.returns-clause-answer
 returns-clause-answer c =
     both-done c.args.memory.now c.prepare.new.memory c.prepare-2.new.memory c.write.new.self c.write-2.new.self c.args.to c.args.first.now c.args.other c.args.second.now c.write-2.result
-    c.is_memory.ensures c.in_ok-prepare.ensures.bytes c.in_ok-prepare-2.ensures.bytes c.in_ok-prepare-2.ensures.free.0 c.in_ok-prepare-2.ensures.free.1 c.in_ok-write.ensures.answer
+    c.in_ok-prepare.ensures.bytes c.in_ok-prepare-2.ensures.bytes c.in_ok-prepare-2.ensures.free.0 c.in_ok-prepare-2.ensures.free.1 c.in_ok-write.ensures.answer
     c.write-2.ensures.answer c.write-2.ensures.ready
 
 pub returns-clause-lent : goal.returns-clause-lent

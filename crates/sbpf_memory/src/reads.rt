@@ -1,0 +1,78 @@
+//! Bytes of a memory, read with the refusals of the caller.
+ghost use Rattle.std.specs.Prelude.{◌≡◌, length, IfOk};
+ghost use Rattle.spec_base.specs.Reading.{Gives};
+ghost use Rattle.sbpf_memory.specs.Plain.{plain_memory};
+ghost use Rattle.sbpf_memory.specs.Reads.{bytes_or};
+
+use crate::memory::Memory;
+use sol_base::Blob;
+use std::alloc::Global;
+
+/// The refusals of calls that read a memory: each has one for accesses that are refused, and one
+/// for want of memory.
+pub trait ReadFault {
+    ghost use Rattle.std.specs.Prelude.{◌≡◌, Bool, true, false};
+
+    /// The refusal of an access, whichever it is.
+    ghost violation: { Self };
+
+    /// Whether it is want of memory, which no input shows.
+    ghost is_memory: { Self → Bool };
+
+    fn access_violation() -> Self
+        ensures value { result ≡ violation }
+        ensures by_input { is_memory result ≡ false };
+
+    fn out_of_memory() -> Self
+        ensures { is_memory result ≡ true };
+}
+
+/// The `N` bytes at an address.
+#[tactic(auto, using(crate::proofs::Plain::plain))]
+pub fn read_array<E: ReadFault, const N: usize>(memory: &Memory, addr: u64) -> Result<[u8; N], E>
+    ensures { result ≡ bytes_or E.violation (plain_memory memory.now) addr N }
+{
+    let mut bytes = [0; N];
+    match memory.read(addr, &mut bytes) {
+        Ok(()) => Ok(bytes),
+        Err(_) => Err(E::access_violation()),
+    }
+}
+
+/// The bytes of a range of addresses.
+#[tactic(auto, using(crate::proofs::Plain::plain, crate::proofs::Reading::filled))]
+pub fn read_bytes<E: ReadFault>(
+    alloc: Global,
+    memory: &Memory,
+    addr: u64,
+    len: u64,
+) -> Result<Vec<u8>, E>
+    ensures bytes { Gives E.is_memory (λ bytes. bytes.items) result
+        (bytes_or E.violation (plain_memory memory.now) addr len) }
+    ensures count { IfOk result (λ bytes. length bytes.items ≡ len) }
+{
+    let Ok(mut bytes) = vec![in alloc; 0; len as usize] else {
+        return Err(E::out_of_memory());
+    };
+    match memory.read(addr, bytes.as_mut_slice()) {
+        Ok(()) => Ok(bytes),
+        Err(_) => Err(E::access_violation()),
+    }
+}
+
+/// The bytes of a range of addresses, as a list of its own.
+pub fn read_blob<E: ReadFault>(
+    alloc: Global,
+    memory: &Memory,
+    addr: u64,
+    len: u64,
+) -> Result<Blob, E>
+    ensures { Gives E.is_memory (λ bytes. bytes) result
+        (bytes_or E.violation (plain_memory memory.now) addr len) }
+{
+    let bytes = read_bytes::<E>(alloc, memory, addr, len)?;
+    match Blob::from_slice(alloc, bytes.as_slice()) {
+        Ok(blob) => Ok(blob),
+        Err(_) => Err(E::out_of_memory()),
+    }
+}
