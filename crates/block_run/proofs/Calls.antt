@@ -1,16 +1,15 @@
 -- From what was admitted to what the calls answer.
-use Rattle.std.proofs.Common.{◌≡◌, ◌≤◌, ◌<◌, ◌+◌, ◌∷◌, [], ℕ, Bool, true, false, List, length, map, take, All, Result, Ok, Err, refl, sym, ap, ap₂, subst, ◌∙◌, arith}
-use Rattle.std.specs.Prelude.{IfOk, MatchBool, min}
+use Rattle.std.proofs.Common.{◌≡◌, ◌≤◌, ◌<◌, ◌+◌, ◌∷◌, [], ℕ, Bool, List, length, All, Result, Ok, Err, sym, ap, ap₂, subst, ◌∙◌, arith}
+use Rattle.std.specs.Prelude.{IfOk, MatchBool}
 use Rattle.std.specs.List.{zip}
 use Rattle.std.proofs.lemmas.List.{length-map}
 use Rattle.std.proofs.lemmas.List.Elements.{All-head}
 use Rattle.std.proofs.lemmas.List.FromFn.{length-map-range_with_len}
 use Rattle.std.proofs.lemmas.Slice.Zip.{length-zip}
 use Rattle.sol_base.specs.declared.memory.OutOfMemory.{OutOfMemory}
-use Rattle.account_store.specs.State.{State, at}
+use Rattle.account_store.specs.State.{at}
 use Rattle.tx_report.specs.declared.outcome.Outcome.{Outcome}
 use Rattle.bank_law.specs.Serial.{result}
-use Rattle.bank_law.specs.SerialState.{serial_state}
 use Rattle.bank_core.specs.Ends.{serial_outcomes}
 use Rattle.bank_core.specs.declared.origin.Origin.{Origin}
 use Rattle.snapshot_codec.specs.declared.batch.Batch.{Batch}
@@ -30,7 +29,7 @@ use Rattle.block_run.specs.declared.block.BlockResult.{BlockResult}
 use Rattle.block_run.specs.declared.block.Closed.{Closed}
 use Rattle.block_run.specs.declared.block.Head.{Head}
 use Rattle.block_run.specs.SerialRun.{Ran, ran, serial_run, told_in}
-use Rattle.block_run.specs.Blocks.{before_refused, block_result, closed, closed_with, entries_of, entry_of, head_of, is_halted, listed_result, start_in, wires_of}
+use Rattle.block_run.specs.Blocks.{before_refused, block_result, closed, closed_with, entry_of, head_of, is_halted, listed_result, start_in, wires_of}
 use Rattle.block_run.specs.Ending.{AreOf, joined_of, ran_of}
 use Rattle.admission.proofs.PartLaws.{admitted_batches_are_parted, listed_batches_are_parted}
 use Rattle.block_run.proofs.Orders.{length-take-least, parted_are_of}

@@ -1,14 +1,14 @@
 -- What holds of each position of the transactions of a block.
-use Rattle.std.proofs.Common.{◌≡◌, ◌≤◌, ◌<◌, ◌+◌, ◌*◌, ◌^◌, ◌∷◌, [], ◌++◌, ℕ, zero, suc, Bool, true, false, cond, List, length, map, filter, Option, Some, None, All, refl, sym, ap, subst, ◌∙◌, arith, length-append}
+use Rattle.std.proofs.Common.{◌≡◌, ◌≤◌, ◌<◌, ◌+◌, ◌*◌, ◌∷◌, [], ◌++◌, ℕ, zero, suc, Bool, true, false, cond, List, length, filter, Option, Some, All, sym, ap, subst, ◌∙◌, arith, length-append}
 use Rattle.std.specs.Prelude.{slice_get, sum_by}
 use Rattle.std.proofs.lemmas.List.{length-map}
 use Rattle.sol_base.specs.declared.key.Key.{Key}
 use Rattle.sol_base.specs.declared.account.Account.{Account}
 use Rattle.sol_base.specs.declared.lock.Lock.{Lock}
 use Rattle.sol_base.specs.Accounts.{lamports_in}
-use Rattle.message_codec.specs.Roles.{all_keys, load_count, locks_of}
+use Rattle.message_codec.specs.Roles.{all_keys, load_count}
 use Rattle.message_codec.proofs.RoleLaws.{lock_count}
-use Rattle.bank_law.specs.Job.{Job, JobEffects, keys, lock_keys, write_keys}
+use Rattle.bank_law.specs.Job.{Job, JobEffects, write_keys}
 use Rattle.bank_law.specs.Lawful.{lent_for_writing}
 use Rattle.bank_core.specs.Counts.{locks_before}
 use Rattle.bank_core.specs.Openings.{AreNumbered}
@@ -18,7 +18,6 @@ use Rattle.admission.specs.declared.chosen.Chosen.{Chosen}
 use Rattle.admission.specs.Chosen.{IsChosen}
 use Rattle.tx_exec.specs.declared.told.Told.{Told}
 use Rattle.tx_exec.specs.Told.{block_of, effects_at, job_of, locks_at}
-use Rattle.tx_exec.specs.Transaction.{transaction}
 use Rattle.tx_exec.specs.TransactionLaws.{IsSmallOutcome}
 use Rattle.tx_exec.proofs.Keeping.{transaction_fits}
 use Rattle.tx_exec.proofs.Small.{transaction_small}

@@ -1,4 +1,4 @@
-use Rattle.std.proofs.Common.{◌≡◌, ◌<◌, ◌≤◌, ◌^◌, List, length, All, sym, ap, subst, ◌∙◌}
+use Rattle.std.proofs.Common.{◌<◌, ◌≤◌, ◌^◌, List, length, All, sym, ap, subst, ◌∙◌}
 use Rattle.sol_base.specs.declared.key.Hash32.{Hash32}
 use Rattle.fee_rules.specs.Fees.{split_of}
 use Rattle.status_cache.specs.declared.recent.Mark.{Mark}

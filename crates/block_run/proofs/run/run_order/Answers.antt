@@ -1,12 +1,9 @@
-use Rattle.std.proofs.Common.{◌≡◌, ◌<◌, ◌≤◌, ◌*◌, ◌^◌, List, length, sym, ap, subst, ◌∙◌, arith}
-use Rattle.bank_core.specs.Counts.{locks_before}
+use Rattle.std.proofs.Common.{List, sym, ap, subst, ◌∙◌}
 use Rattle.admission.specs.declared.chosen.Chosen.{Chosen}
 use Rattle.tx_exec.specs.declared.told.Told.{Told}
-use Rattle.tx_exec.specs.Told.{job_of}
-use Rattle.block_run.specs.SerialRun.{Ran, told_in}
+use Rattle.block_run.specs.SerialRun.{Ran}
 use Rattle.block_run.specs.Ending.{MayEnd, ran_of}
 use Rattle.block_run.proofs.Calls.{same_end, same_run}
-use Rattle.block_run.proofs.Positions.{locks_few}
 use Rattle.block_run.proofs.Runs.{run_may_end}
 use Rattle.block_run.proofs.run.run_order.Goals as goal
 
