@@ -4,7 +4,7 @@ use Rattle.std.proofs.lemmas.Bool.Decides.{nat_tests}
 use Rattle.std.proofs.lemmas.List.{get_or-replicate, length-replicate, length-set}
 use Rattle.std.proofs.lemmas.Option.{get_or_from_slice_get, slice_get-get_or, slice_get_within}
 use Rattle.std.proofs.lemmas.List.Folds.{list_any_more}
-use Rattle.std.proofs.Math.Bool.{or-false, or-true}
+use Rattle.std.proofs.Math.Bool.{or-false, or-true, and-true, and-false}
 use Rattle.sol_base.specs.declared.lock.Meta.{Meta}
 use Rattle.sol_base.specs.Metas.{is_listed, is_listed_writable}
 use Rattle.account_rules.specs.AccountRules.{AreFlagsOf}
@@ -75,15 +75,7 @@ pub writable_more : (metas : List Meta) (n : ℕ) (d : Meta) (place : ℕ) → n
 writable_more metas n d place below = list_any_more (λ (meta : Meta). meta.index == place && meta.writable) metas n d below
 
 pub writable_yes : (metas : List Meta) (n : ℕ) (d : Meta) (place : ℕ) → n < length metas → (get_or metas n d).writable ≡ true → is_listed_writable (take (n + 1) metas) place ≡ (is_listed_writable (take n metas) place || nat_eq (get_or metas n d).index place)
-writable_yes metas n d place below holds = writable_more metas n d place below ∙ ap (λ t. is_listed_writable (take n metas) place || (nat_eq (get_or metas n d).index place && t)) holds ∙ ap (λ t. is_listed_writable (take n metas) place || t) (and_true (nat_eq (get_or metas n d).index place))
-  where
-    and_true : (t : Bool) → (t && true) ≡ t
-    and_true true = refl
-    and_true false = refl
+writable_yes metas n d place below holds = writable_more metas n d place below ∙ ap (λ t. is_listed_writable (take n metas) place || (nat_eq (get_or metas n d).index place && t)) holds ∙ ap (λ t. is_listed_writable (take n metas) place || t) (and-true (nat_eq (get_or metas n d).index place))
 
 pub writable_no : (metas : List Meta) (n : ℕ) (d : Meta) (place : ℕ) → n < length metas → (get_or metas n d).writable ≡ false → is_listed_writable (take (n + 1) metas) place ≡ is_listed_writable (take n metas) place
-writable_no metas n d place below holds = writable_more metas n d place below ∙ ap (λ t. is_listed_writable (take n metas) place || (nat_eq (get_or metas n d).index place && t)) holds ∙ ap (λ t. is_listed_writable (take n metas) place || t) (and_false (nat_eq (get_or metas n d).index place)) ∙ or-false (is_listed_writable (take n metas) place)
-  where
-    and_false : (t : Bool) → (t && false) ≡ false
-    and_false true = refl
-    and_false false = refl
+writable_no metas n d place below holds = writable_more metas n d place below ∙ ap (λ t. is_listed_writable (take n metas) place || (nat_eq (get_or metas n d).index place && t)) holds ∙ ap (λ t. is_listed_writable (take n metas) place || t) (and-false (nat_eq (get_or metas n d).index place)) ∙ or-false (is_listed_writable (take n metas) place)

@@ -1,5 +1,5 @@
 -- What accounts keep that break no rule.
-use Rattle.std.proofs.Common.{zero, suc, ◌≡◌, ◌≤◌, ℕ, Bool, true, false, not, ◌&&◌, ◌||◌, List, [], ◌∷◌, ◌++◌, length, get_or, refl, sym, ap, inl, inr, nat_eq, nat_lt, Option, Some, None, Ok, arith, if◌then◌else◌, All, ◌∙◌}
+use Rattle.std.proofs.Common.{zero, suc, ◌≡◌, ℕ, Bool, true, false, not, ◌&&◌, ◌||◌, List, [], ◌∷◌, ◌++◌, length, get_or, refl, sym, ap, inl, inr, nat_eq, nat_lt, Option, Some, None, Ok, arith, if◌then◌else◌, All, ◌∙◌}
 use Rattle.std.specs.List.{list_any, filter_map, cons_option}
 use Rattle.std.specs.Cmp.Lexicographic.{bytes_decides}
 use Rattle.std.proofs.lemmas.Bool.{and_cases, and_parts, or_parts, not-false, false_from_ne_true, ltb-false, eqb-true}

@@ -6,7 +6,8 @@ ghost use Rattle.account_rules.specs.declared.rules.RuleFault.TheVariants.{TooLa
 use crate::rules::RuleFault;
 use sol_base::{Account, Key, MAX_DATA_LEN};
 
-// The first rule that one account breaks. Where it is known to be the same, only its length counts.
+/// The first rule that one account breaks. Where it is known to be the same, its length alone
+/// counts.
 pub(crate) fn broken_at(
     program: &Key,
     writable: bool,
@@ -25,8 +26,8 @@ pub(crate) fn broken_at(
     }
 }
 
-// The first rule that one account breaks. Its data are compared only where it matters whether they
-// differ, and once.
+/// The first rule that one account breaks. Its data are compared only where it matters whether they
+/// differ, and once.
 fn first_broken(
     program: &Key,
     writable: bool,

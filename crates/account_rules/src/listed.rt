@@ -44,7 +44,7 @@ pub fn check_listed(
     Ok(())
 }
 
-// The first rule that a single account breaks. `seen` marks the accounts of the metas so far.
+/// The first rule that a single account breaks. `seen` marks the accounts of the metas so far.
 fn first_fault(
     program: &Key,
     metas: &[Meta],
@@ -84,7 +84,7 @@ fn first_fault(
     None
 }
 
-// Of each place whether the account there is writable.
+/// Of each place whether the account there is writable.
 fn writable_flags(metas: &[Meta]) -> [bool; 256]
     ensures { AreFlagsOf (is_listed_writable metas.now) result }
 {

@@ -74,7 +74,7 @@ pub fn check_touched(
     check_each(program, writable, Some(touched), before, after)
 }
 
-// Account by account, and then the sums. Where no flags are given, each account counts as touched.
+/// Account by account, and then the sums. Where no flags are given, each account counts as touched.
 fn check_each(
     program: &Key,
     writable: &[bool],

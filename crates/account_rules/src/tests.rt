@@ -19,7 +19,7 @@ fn with_byte(alloc: Global, owner: u8, byte: u8) -> Result<Arc<Account>, OutOfMe
     Ok(Arc::new(alloc, account)?)
 }
 
-// The program writes the byte of an account that it owns, and of one that it does not.
+/// The program writes the byte of an account that it owns, and of one that it does not.
 #[test]
 fn a_byte_changed(rt: HostRuntime) -> Result<(), Fail> {
     for (owner, want) in [(0x77, Ok(())), (0x55, Err(RuleFault::ForeignData { i: 0 }))] {
@@ -34,7 +34,7 @@ fn a_byte_changed(rt: HostRuntime) -> Result<(), Fail> {
     Ok(())
 }
 
-// The same beside an account of another program that nothing has touched.
+/// The same beside an account of another program that nothing has touched.
 #[test]
 fn a_byte_changed_beside_an_untouched_account(rt: HostRuntime) -> Result<(), Fail> {
     for (owner, want) in [(0x77, Ok(())), (0x55, Err(RuleFault::ForeignData { i: 1 }))] {
@@ -60,7 +60,7 @@ fn meta_of(index: u8, writable: bool) -> Meta
     }
 }
 
-// The same where the account is the last of three: one is not listed, and one is not touched.
+/// The same where the account is the last of three: one is not listed, and one is not touched.
 fn listed_answer(
     alloc: Global,
     owner: u8,

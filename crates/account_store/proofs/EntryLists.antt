@@ -1,9 +1,9 @@
 -- Lists of entries whose keys ascend, as ordered maps have them and as finite maps have them.
-use Rattle.std.proofs.Common.{◌≡◌, ℕ, ◌+◌, List, [], ◌∷◌, Option, Some, None, Bool, true, false, cond, ◌&&◌, T, refl, sym, ap, subst, ◌∙◌}
+use Rattle.std.proofs.Common.{◌≡◌, ℕ, ◌+◌, List, [], ◌∷◌, Some, None, Bool, true, false, cond, ◌&&◌, T, refl, sym, ap, subst, ◌∙◌}
 use Rattle.std.specs.Prelude.{sum_by}
 use Rattle.std.specs.List.{AllByRecursion}
 use Rattle.std.specs.List.Sorted.{IsStrictlySortedBy}
-use Rattle.std.specs.Cmp.{IsTotalOrder, eq_by_cmp_equiv}
+use Rattle.std.specs.Cmp.{IsTotalOrder, eq_by_cmp_equiv, Equal-is}
 use Rattle.std.specs.Map.{lookup, keys_of, values_of, remove_entry}
 use Rattle.std.specs.BTreeMap.{is_at, insert_entry}
 use Rattle.std.specs.Ordering.{eq_by_cmp, is_lt, is_eq, match_ordering}
@@ -13,6 +13,7 @@ use Rattle.std.specs.FinMap.{FinMap, find, put, is_sorted, entries, entries_sort
 use Rattle.std.specs.FinMap.Entries.{below_all, by_order}
 use Rattle.std.proofs.lemmas.List.Sums.{sum_by-cons}
 use Rattle.std.proofs.lemmas.Map.{lookup-remove_entry}
+use Rattle.std.proofs.lemmas.Option.{same_Some}
 use Rattle.std.proofs.lemmas.Map.Keys.{IsDistinct-from_sorted}
 
 both : (a b : Bool) → T a → T b → T (a && b)
@@ -34,14 +35,6 @@ less : (o : Ordering) → T (is_lt o) → o ≡ Less
 less Less p = refl
 less Equal p = absurd p
 less Greater p = absurd p
-
-equal : (o : Ordering) → is_eq o ≡ true → o ≡ Equal
-equal Less e = absurd (cc)
-equal Equal e = refl
-equal Greater e = absurd (cc)
-
-same_some : {X : Type 0} (x y : X) → (let o : Option X = Some x in o) ≡ Some y → x ≡ y
-same_some x y e = cc
 
 module _ {K X : Type 0} (R : K → K → Ordering) where
   -- the same search under two names
@@ -83,7 +76,7 @@ module _ {K X : Type 0} (R : K → K → Ordering) where
   sorted-entries m = sorted-from_is_sorted (entries m) (entries_sorted m)
 
 tied_tests : {K : Type 0} {R : K → K → Ordering} → IsTotalOrder R → (k x y : K) → is_at (R k) x ≡ true → is_at (R k) y ≡ eq_by_cmp R x y
-tied_tests o k x y t = ap is_eq (o.congr k x y (equal _ t))
+tied_tests o k x y t = ap is_eq (o.congr k x y ((Equal-is _).0 t))
 
 -- a sum over entries that looks at their values is a sum over the values
 pub sum_by-values : {K X : Type 0} (f : X → ℕ) (es : List (K × X)) → sum_by (λ e. f e.1) es ≡ sum_by f (values_of es)
@@ -108,7 +101,7 @@ all-remove_entry P test (e ∷ es) all = elim (test e.0) as (λ b. AllByRecursio
 pub all-find : {K X : Type 0} (R : K → K → Ordering) (P : X → Type 0) (q : K) (es : List (K × X)) (v : X) → AllByRecursion (λ e. P e.1) es → find R q es ≡ Some v → P v
 all-find R P q [] v all found = absurd (cc)
 all-find R P q (e ∷ es) v all found = elim (eq_by_cmp R q e.0) as (λ b. cond b (Some e.1) (find R q es) ≡ Some v → P v) [
-  | true ↦ λ f. subst P (same_some e.1 v f) all.0
+  | true ↦ λ f. subst P (same_Some e.1 v f) all.0
   | false ↦ λ f. all-find R P q es v all.1 f
 ] found
 

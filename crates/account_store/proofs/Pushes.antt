@@ -14,13 +14,13 @@ use Rattle.sol_base.specs.Keys.{key_cmp}
 use Rattle.sol_base.specs.Accounts.{IsShort}
 use Rattle.sol_base.proofs.KeyLaws.{key_cmp_total}
 use Rattle.account_store.specs.declared.sorted.KeyedAccount.{KeyedAccount}
-use Rattle.account_store.specs.State.{State, entries, lamports_of, sum, is_above, IsState}
+use Rattle.account_store.specs.State.{State, entries, lamports_of, sum, IsState}
 use Rattle.account_store.specs.Shared.{Shared, seen, state_seen, IsKept}
 use Rattle.account_store.specs.Sorted.{entry_of, last_key, entry_fault}
 use Rattle.account_store.proofs.EntryLists.{sorted-entries, entries-insert_entry}
 use Rattle.account_store.proofs.StateLaws.{IsState-insert}
 use Rattle.account_store.proofs.SharedLaws.{state_seen-insert_entry, entries-state_seen, length-seen}
-use Rattle.account_store.proofs.SortedLaws.{Entry, IsFine, IsFine-from_none, below_last, insert_entry-last}
+use Rattle.account_store.proofs.SortedLaws.{Entry, IsFine-from_none, below_last, insert_entry-last}
 
 -- what the last entry of a map shows
 pub last-shown : (r : Option (Bor Key × Bor Shared)) (es : List (Key × Shared)) → (IsSome r ↔ (0 < length es)) → IfSome r (λ p. slice_get es (length es - 1) ≡ Some (p.0.now, p.1.now))

@@ -1,22 +1,23 @@
 -- States from lists of entries whose keys ascend.
-use Rattle.std.proofs.Common.{◌≡◌, ◌+◌, ◌-◌, ◌^◌, ◌≤◌, ◌<◌, ℕ, zero, suc, List, [], ◌∷◌, ◌++◌, length, take, Option, Some, None, Bool, true, false, not, inl, inr, Result, Ok, Err, lit≤, refl, sym, ap, subst, ◌∙◌, append_assoc, arith}
+use Rattle.std.proofs.Common.{◌≡◌, ◌+◌, ◌-◌, ◌^◌, ◌≤◌, ◌<◌, ℕ, suc, List, [], ◌∷◌, ◌++◌, length, take, Option, Some, None, Bool, true, false, not, inl, inr, Result, Ok, Err, lit≤, refl, sym, ap, subst, ◌∙◌, append_assoc, arith}
 use Rattle.std.specs.Prelude.{map as each, slice_get, nat_eq, nat_lt, option_map, All, MatchBool}
 use Rattle.std.specs.List.{AllByRecursion, enumerate_from, filter_map, cons_option}
 use Rattle.std.specs.List.Sorted.{IsStrictlySortedBy}
-use Rattle.std.specs.Arc.{arc_value}
 use Rattle.std.specs.Map.{keys_of}
 use Rattle.std.specs.FinMap.{from_entries, len-entries}
 use Rattle.std.specs.BTreeMap.{insert_entry}
 use Rattle.std.specs.Ordering.{is_lt, match_ordering, ordering_reverse}
 use Rattle.std.specs.declared.cmp.Ordering.{Ordering}
-use Rattle.std.specs.declared.cmp.Ordering.TheVariants.{Less, Equal, Greater}
+use Rattle.std.specs.declared.cmp.Ordering.TheVariants.{Less, Greater}
 use Rattle.std.proofs.Math.ListN.{get_or}
 use Rattle.std.proofs.Math.Seq.{get_or-append_seam}
-use Rattle.std.proofs.lemmas.Bool.{both_ways, false_from_ne_true, not-false}
+use Rattle.std.proofs.lemmas.Bool.{both_ways, false_from_ne_true, not-false, not-true}
 use Rattle.std.proofs.lemmas.Bool.Decides.{nat_tests}
-use Rattle.std.proofs.lemmas.List.Sums.{sum_by-cons, sum_by_push, sum_by-append}
+use Rattle.std.proofs.lemmas.Option.{same_Some}
+use Rattle.std.proofs.lemmas.List.Sums.{sum_by_push, sum_by-append}
 use Rattle.std.proofs.lemmas.List.Elements.{All-from_recursion, recursion_from_All, All-push}
 use Rattle.std.proofs.lemmas.List.{append-nil, length-append, length-map, map-append}
+use Rattle.spec_base.specs.Reading.{first_or}
 use Rattle.spec_base.proofs.Binding.{chosen}
 use Rattle.spec_base.proofs.Orders.{less}
 use Rattle.sol_base.specs.declared.key.Key.{Key}
@@ -26,19 +27,12 @@ use Rattle.sol_base.proofs.KeyLaws.{key_cmp_exact, key_cmp_total}
 use Rattle.account_store.specs.declared.sorted.KeyedAccount.{KeyedAccount}
 use Rattle.account_store.specs.declared.sorted.StoreFault.{StoreFault}
 use Rattle.account_store.specs.declared.sorted.StoreFault.TheVariants.{OutOfOrder, Empty, SupplyTooLarge, OutOfMemory}
-use Rattle.account_store.specs.State.{State, is_above, entries, len, lamports_of, sum, IsHeld, IsState}
-use Rattle.account_store.specs.Sorted.{is_store_memory, IsFaultOr, entry_of, entries_of, keyed, Ascend, AreOfState, IsWrongAfter, IsRefused, last_key, entry_fault, entry_faults, first_fault, unless, state_of}
+use Rattle.account_store.specs.State.{State, is_above, entries, len, lamports_of, IsHeld, IsState}
+use Rattle.account_store.specs.Sorted.{is_store_memory, IsFaultOr, entry_of, entries_of, keyed, Ascend, AreOfState, IsWrongAfter, IsRefused, last_key, entry_fault, entry_faults, state_of}
 use Rattle.account_store.proofs.EntryLists.{sorted-entries, entries-from_entries, from_entries-entries}
 
 abbrev pub Entry : Type 0
 Entry = Key × Account
-
-not_true : (b : Bool) → not b ≡ true → b ≡ false
-not_true true g = absurd (cc)
-not_true false g = refl
-
-same_some : {X : Type 0} (x y : X) → (let o : Option X = Some x in o) ≡ Some y → x ≡ y
-same_some x y e = cc
 
 some_is_not_none : {X : Type 0} (x : X) → (let o : Option X = Some x in o) ≡ None → ⊥
 some_is_not_none x e = absurd (cc)
@@ -152,6 +146,9 @@ first_fault-from before (e ∷ es) whole n is at =
     ∙ ap (λ (l : List Entry). first_of (entry_fault l e) (slice_get (faults_from whole (n + 1) es) 0)) here
     ∙ ap (first_of (entry_fault before e)) later
 
+abbrev pub first_fault : List Entry → Option StoreFault
+first_fault es = slice_get (entry_faults es) 0
+
 pub first_fault-is : (es : List Entry) → first_fault es ≡ fault_after [] es
 first_fault-is es = first_fault-from [] es es 0 refl refl
 
@@ -234,13 +231,13 @@ none-from_state es are = first_fault-is es ∙ ap (fault_after []) (sym (append-
 wrong-from_fault : (before : List Entry) (e : Entry) (fault : StoreFault) → AreOfState before → entry_fault before e ≡ Some fault → IsWrongAfter before e fault
 wrong-from_fault before e fault are h =
     elim (chosen (not (is_above (last_key before) e.0)) (Some (OutOfOrder (length before))) _ (Some fault) h) [
-      | inl p ↦ subst (IsWrongAfter before e) (same_some _ fault p.1) (refl, λ ascend. both_ways _ (not_true (is_above (last_key before) e.0) p.0) (above-from_Ascend before e ascend))
+      | inl p ↦ subst (IsWrongAfter before e) (same_Some _ fault p.1) (refl, λ ascend. both_ways _ (not-true (is_above (last_key before) e.0) p.0) (above-from_Ascend before e ascend))
       | inr p ↦
           let ascend = Ascend-above before e are.ascend (not-false (is_above (last_key before) e.0) p.0) in
           elim (chosen (nat_eq e.1.lamports 0) (Some (Empty (length before))) _ (Some fault) p.1) [
-            | inl q ↦ subst (IsWrongAfter before e) (same_some _ fault q.1) (refl, ascend, (let t = q.0 in grind (arith, nat_tests)))
+            | inl q ↦ subst (IsWrongAfter before e) (same_Some _ fault q.1) (refl, ascend, (let t = q.0 in grind (arith, nat_tests)))
             | inr q ↦ elim (chosen (nat_lt (2 ^ 64 - 1) (lamports_of before + e.1.lamports)) (Some SupplyTooLarge) None (Some fault) q.1) [
-              | inl r ↦ subst (IsWrongAfter before e) (same_some _ fault r.1) (ascend, (let t = q.0 in grind (arith, nat_tests)), rw (sum_by_push (λ (d : Entry). d.1.lamports) before e) (let t = r.0 in grind (arith, nat_tests)))
+              | inl r ↦ subst (IsWrongAfter before e) (same_Some _ fault r.1) (ascend, (let t = q.0 in grind (arith, nat_tests)), rw (sum_by_push (λ (d : Entry). d.1.lamports) before e) (let t = r.0 in grind (arith, nat_tests)))
               | inr r ↦ absurd (some_is_not_none _ (sym r.1))
             ]
           ]
@@ -280,25 +277,34 @@ fault-from_refused es fault r =
     first_fault-is es ∙ ap (fault_after []) r.split ∙ fault_after-on [] r.before (r.entry ∷ r.after) r.fine
     ∙ ap (λ (o : Option StoreFault). first_of o (fault_after (r.before ++ r.entry ∷ []) r.after)) (fault-from_wrong r.before r.entry fault r.fine r.wrong)
 
-unless_ok : {A : Type 0} (o : Option StoreFault) (x y : A) → unless o x ≡ Ok y → (o ≡ None) × (x ≡ y)
-unless_ok None x y h = (refl, cc)
-unless_ok (Some fault) x y h = absurd (cc)
+-- the first of the faults is the answer, and the value where there is none
+first_or-none : {A : Type 0} (faults : List StoreFault) (answer : Result A StoreFault) → slice_get faults 0 ≡ None → first_or faults answer ≡ answer
+first_or-none [] answer none = refl
+first_or-none (fault ∷ faults) answer none = absurd (some_is_not_none fault none)
 
-unless_err : {A : Type 0} (o : Option StoreFault) (x : A) (fault : StoreFault) → unless o x ≡ Err fault → o ≡ Some fault
-unless_err None x fault h = absurd (cc)
-unless_err (Some found) x fault h = cc
+first_or-some : {A : Type 0} (faults : List StoreFault) (answer : Result A StoreFault) (fault : StoreFault) → slice_get faults 0 ≡ Some fault → first_or faults answer ≡ Err fault
+first_or-some [] answer fault some = absurd (some_is_not_none fault (sym some))
+first_or-some {A = A} (found ∷ faults) answer fault some = ap (λ (f : StoreFault). let r : Result A StoreFault = Err f in r) (same_Some found fault some)
+
+first_or-ok : {A : Type 0} (faults : List StoreFault) (x y : A) → first_or faults (Ok x) ≡ Ok y → (slice_get faults 0 ≡ None) × (x ≡ y)
+first_or-ok [] x y h = (refl, cc)
+first_or-ok (found ∷ faults) x y h = absurd (cc)
+
+first_or-err : {A : Type 0} (faults : List StoreFault) (x : A) (fault : StoreFault) → first_or faults (Ok x) ≡ Err fault → slice_get faults 0 ≡ Some fault
+first_or-err [] x fault h = absurd (cc)
+first_or-err (found ∷ faults) x fault h = cc
 
 -- which state a list gives: that of its entries
 pub state_of-ok : (list : List KeyedAccount) (s : State) → state_of list ≡ Ok s → AreOfState (entries_of list) × (entries s ≡ entries_of list)
 state_of-ok list s h =
     let es = entries_of list in
-    let u = unless_ok (first_fault es) (from_entries {R = key_cmp} es) s h in
+    let u = first_or-ok (entry_faults es) (from_entries {R = key_cmp} es) s h in
     let are = AreOfState-from_none es u.0 in
     (are, ap entries (sym u.1) ∙ entries-from_entries key_cmp_total key_cmp_exact es are.ascend)
 
 pub state_of-none : (list : List KeyedAccount) (s : State) → first_fault (entries_of list) ≡ None → entries s ≡ entries_of list → state_of list ≡ Ok s
 state_of-none list s none same =
-    ap (λ (o : Option StoreFault). unless o (from_entries {R = key_cmp} (entries_of list))) none
+    first_or-none (entry_faults (entries_of list)) (Ok (from_entries {R = key_cmp} (entries_of list))) none
     ∙ ap (λ (l : List Entry). let r : Result State StoreFault = Ok (from_entries l) in r) (sym same)
     ∙ ap (λ (t : State). let r : Result State StoreFault = Ok t in r) (from_entries-entries key_cmp_total key_cmp_exact s)
 
@@ -307,10 +313,10 @@ state_of-is list s are same = state_of-none list s (none-from_state (entries_of 
 
 -- and which refusal
 pub state_of-err : (list : List KeyedAccount) (fault : StoreFault) → state_of list ≡ Err fault → IsRefused (entries_of list) fault
-state_of-err list fault h = refused-from_fault (entries_of list) fault (unless_err (first_fault (entries_of list)) (from_entries {R = key_cmp} (entries_of list)) fault h)
+state_of-err list fault h = refused-from_fault (entries_of list) fault (first_or-err (entry_faults (entries_of list)) (from_entries {R = key_cmp} (entries_of list)) fault h)
 
 pub state_of-refused : (list : List KeyedAccount) (fault : StoreFault) → IsRefused (entries_of list) fault → state_of list ≡ Err fault
-state_of-refused list fault r = ap (λ (o : Option StoreFault). unless o (from_entries {R = key_cmp} (entries_of list))) (fault-from_refused (entries_of list) fault r)
+state_of-refused list fault r = first_or-some (entry_faults (entries_of list)) (Ok (from_entries {R = key_cmp} (entries_of list))) fault (fault-from_refused (entries_of list) fault r)
 
 entries_of-keyed : (es : List Entry) → entries_of (each keyed es) ≡ es
 entries_of-keyed [] = refl
@@ -356,7 +362,7 @@ refused-at list so_far left e s fault has all h = by_case (is_store_memory fault
   where
     by_case : (b : Bool) → MatchBool b (Unit {0}) (entry_fault (entries s) (entry_of e) ≡ Some fault) → MatchBool b (Unit {0}) (state_of list ≡ Err fault)
     by_case true g = tt
-    by_case false g = ap (λ (o : Option StoreFault). unless o (from_entries {R = key_cmp} (entries_of list))) (first_fault-is (entries_of list) ∙ all
+    by_case false g = first_or-some (entry_faults (entries_of list)) (Ok (from_entries {R = key_cmp} (entries_of list))) fault (first_fault-is (entries_of list) ∙ all
         ∙ ap (λ (o : Option StoreFault). first_of o (fault_after (entries_of so_far ++ entry_of e ∷ []) (entries_of left))) (ap (λ (l : List Entry). entry_fault l (entry_of e)) (sym has) ∙ g))
 
 -- with one more entry with which nothing is wrong

@@ -14,7 +14,7 @@ use Rattle.std.proofs.lemmas.Map.Entries.{sum_by-insert_entry, sum_by-remove_ent
 use Rattle.sol_base.specs.declared.key.Key.{Key}
 use Rattle.sol_base.specs.declared.account.Account.{Account}
 use Rattle.sol_base.specs.Keys.{key_cmp, same_key}
-use Rattle.sol_base.specs.Accounts.{empty_account}
+use Rattle.sol_base.specs.Accounts.{empty_account, max_data_len}
 use Rattle.sol_base.proofs.KeyLaws.{key_cmp_exact, key_cmp_total, same_cmp}
 use Rattle.account_store.specs.State.{State, empty, get, at, remove, put, kept, settled, entries, lamports_of, sum, IsHeld, IsState}
 use Rattle.account_store.proofs.EntryLists.{find-lookup, sorted-entries, entries-from_entries, entries-insert_entry, entries-remove_entry, sum_by-values, all-insert_entry, all-remove_entry, all-find}
@@ -106,7 +106,7 @@ IsState-remove s k is = record {
   fits = omega (arith, sum-remove s k, is.fits);
 }
 
-pub IsState-put : (s : State) (k : Key) (a : Account) → IsState s → length a.bytes ≤ 10485760 → sum (put s k a) ≤ 2 ^ 64 - 1 → IsState (put s k a)
+pub IsState-put : (s : State) (k : Key) (a : Account) → IsState s → length a.bytes ≤ max_data_len → sum (put s k a) ≤ 2 ^ 64 - 1 → IsState (put s k a)
 IsState-put s k a is short fits = elim (zero_or_more a) [
   | inl z ↦ subst IsState (sym (put-zero s k a z.1)) (IsState-remove s k is)
   | inr m ↦ let e = put-more s k a m.1 in subst IsState (sym e) (IsState-insert s k a is (m.1, short) (subst (λ (t : State). sum t ≤ 2 ^ 64 - 1) e fits))

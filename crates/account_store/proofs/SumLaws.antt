@@ -1,6 +1,5 @@
 -- The lamports under keys, and the sums of states.
 use Rattle.std.proofs.Common.{◌≡◌, ◌+◌, ◌≤◌, Bool, true, false, cond, List, [], ◌∷◌, refl, sym, ◌∙◌, ap, subst, arith}
-use Rattle.std.specs.Prelude.{sum_by}
 use Rattle.std.specs.List.{IsDistinct, AllByRecursion}
 use Rattle.std.proofs.lemmas.Bool.{both_ways, false_from_ne_true, cond-false, or_from, or_left, or_right}
 use Rattle.std.proofs.lemmas.List.Sums.{sum_by-cons}
@@ -13,18 +12,20 @@ use Rattle.sol_base.proofs.KeyLaws.{same_key-true, same_key-self}
 use Rattle.account_store.specs.State.{State, at, remove, sum, lamports_under, AgreeElsewhere, IsState}
 use Rattle.account_store.proofs.StateLaws.{same_at, at-remove, sum-remove, IsState-remove}
 
-among_first : (k : Key) (ks : List Key) → has_key k (k ∷ ks) ≡ true
-among_first k ks = or_left _ _ (same_key-self k)
+pub has_key-first : (k : Key) (ks : List Key) → has_key k (k ∷ ks) ≡ true
+has_key-first k ks = or_left _ _ (same_key-self k)
 
-among_rest : (q k : Key) (ks : List Key) → has_key q ks ≡ true → has_key q (k ∷ ks) ≡ true
-among_rest q k ks h = or_right (same_key q k) _ h
+-- a key that stands behind another
+pub has_key-rest : (q k : Key) (ks : List Key) → has_key q ks ≡ true → has_key q (k ∷ ks) ≡ true
+has_key-rest q k ks h = or_right (same_key q k) _ h
 
-not_among : (q : Key) (ks : List Key) → AllByRecursion (λ k. same_key q k ≡ false) ks → has_key q ks ≡ false
-not_among q [] apart = refl
-not_among q (k ∷ ks) apart = or_from (same_key q k) (has_key q ks) apart.0 (not_among q ks apart.1)
+-- a key that is none of them
+pub has_key-none : (q : Key) (ks : List Key) → AllByRecursion (λ k. same_key q k ≡ false) ks → has_key q ks ≡ false
+has_key-none q [] apart = refl
+has_key-none q (k ∷ ks) apart = or_from (same_key q k) (has_key q ks) apart.0 (has_key-none q ks apart.1)
 
 first_apart : (k : Key) (ks : List Key) → IsDistinct same_key (k ∷ ks) → has_key k ks ≡ false
-first_apart k ks d = not_among k ks (IsDistinct-head same_key k ks d)
+first_apart k ks d = has_key-none k ks (IsDistinct-head same_key k ks d)
 
 pub under-cons : (f : Key → Account) (k : Key) (ks : List Key) → lamports_under f (k ∷ ks) ≡ (f k).lamports + lamports_under f ks
 under-cons f k ks = sum_by-cons (λ (key : Key). (f key).lamports) k ks
@@ -33,8 +34,8 @@ under-cons f k ks = sum_by-cons (λ (key : Key). (f key).lamports) k ks
 pub under-same : (f g : Key → Account) (ks : List Key) → ((key : Key) → has_key key ks ≡ true → f key ≡ g key) → lamports_under f ks ≡ lamports_under g ks
 under-same f g [] same = refl
 under-same f g (k ∷ ks) same =
-    let here = ap (λ (a : Account). a.lamports) (same k (among_first k ks)) in
-    let rest = under-same f g ks (λ key m. same key (among_rest key k ks m)) in
+    let here = ap (λ (a : Account). a.lamports) (same k (has_key-first k ks)) in
+    let rest = under-same f g ks (λ key m. same key (has_key-rest key k ks m)) in
     let a = under-cons f k ks in
     let b = under-cons g k ks in
     omega (arith, here, rest, a, b)

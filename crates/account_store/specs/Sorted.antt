@@ -1,9 +1,10 @@
 -- A state from a list of entries, whose keys ascend.
-use Rattle.std.specs.Prelude.{◌≡◌, ℕ, ◌+◌, ◌-◌, ◌^◌, ◌≤◌, ◌==◌, List, [], ◌∷◌, ◌++◌, length, take, map, slice_get, nat_lt, not, if◌then◌else◌, Bool, true, false, Option, Some, None, Result, Ok, Err, option_map, All, MatchBool}
+use Rattle.std.specs.Prelude.{◌≡◌, ◌+◌, ◌-◌, ◌^◌, ◌≤◌, ◌==◌, List, [], ◌∷◌, ◌++◌, length, take, map, slice_get, nat_lt, not, if◌then◌else◌, Bool, true, false, Option, Some, None, Result, Ok, option_map, All, MatchBool}
 use Rattle.std.specs.List.{enumerate_from, filter_map}
 use Rattle.std.specs.List.Sorted.{IsStrictlySortedBy}
 use Rattle.std.specs.Map.{keys_of}
 use Rattle.std.specs.FinMap.{from_entries}
+use Rattle.spec_base.specs.Reading.{first_or}
 use Rattle.sol_base.specs.declared.key.Key.{Key}
 use Rattle.sol_base.specs.declared.account.Account.{Account}
 use Rattle.sol_base.specs.Keys.{key_cmp}
@@ -62,21 +63,14 @@ entry_fault before e =
     if nat_lt (2 ^ 64 - 1) (lamports_of before + e.1.lamports) then Some SupplyTooLarge else
     None
 
--- the faults of all entries, and the first of them
+-- the faults of all entries, in their order
 abbrev pub entry_faults : List (Key × Account) → List StoreFault
 entry_faults es = filter_map (λ (at, e). entry_fault (take at es) e) (enumerate_from 0 es)
 
-abbrev pub first_fault : List (Key × Account) → Option StoreFault
-first_fault es = slice_get (entry_faults es) 0
-
--- the refusal, or the value where there is none
-abbrev pub unless : {A : Type 0} → Option StoreFault → A → Result A StoreFault
-unless None x = Ok x
-unless (Some fault) x = Err fault
-
 -- the state of the entries, or what is wrong first
 abbrev pub state_of : List KeyedAccount → Result State StoreFault
-state_of list = unless (first_fault (entries_of list)) (from_entries (entries_of list))
+state_of list =
+    first_or (entry_faults (entries_of list)) (Ok (from_entries (entries_of list)))
 
 -- want of memory, which no input shows
 abbrev pub is_store_memory : StoreFault → Bool

@@ -29,23 +29,23 @@ use Rattle.admission.specs.declared.refusal.Refusal.TheVariants.{Sanitize as not
 use Rattle.admission.specs.declared.refusal.Refused.{Refused}
 use Rattle.admission.specs.Admission.{Start, Walk, admitted, as_cause, budgeted, late, late_cause, line, listed, or_else, passes_key_units, refusal, refusal_in, refused_in, sifted, sifted_in, sifted_out, standing_names, stands, units_of, walk, walk_with}
 use Rattle.admission.specs.Lookups.{is_beyond, is_lookup_memory, is_table, load, loaded_in, lookup_fault, lookup_faults, table_fault}
-use Rattle.admission.specs.Refusals.{is_memory}
+use Rattle.admission.specs.Refusals.{is_refusal_memory}
 
 -- the answer is no refusal for want of memory
 abbrev IsPlain : {X : Type 0} → Result X Refusal → Type 0
 IsPlain (Ok x) = Unit {0}
-IsPlain (Err cause) = is_memory cause ≡ false
+IsPlain (Err cause) = is_refusal_memory cause ≡ false
 
 -- and no cause says it
 abbrev NoneOfMemory : Option Refusal → Type 0
 NoneOfMemory None = Unit {0}
-NoneOfMemory (Some cause) = is_memory cause ≡ false
+NoneOfMemory (Some cause) = is_refusal_memory cause ≡ false
 
 onward : {X Y : Type 0} (r : Result X Refusal) (f : X → Result Y Refusal) → IsPlain r → ((x : X) → IsPlain (f x)) → IsPlain (r >>= f)
 onward (Ok x) f plain later = later x
 onward (Err cause) f plain later = plain
 
-by_cause : {X E : Type 0} (cause : E → Refusal) (r : Result X E) → ((fault : E) → r ≡ Err fault → is_memory (cause fault) ≡ false) → IsPlain (as_cause cause r)
+by_cause : {X E : Type 0} (cause : E → Refusal) (r : Result X E) → ((fault : E) → r ≡ Err fault → is_refusal_memory (cause fault) ≡ false) → IsPlain (as_cause cause r)
 by_cause cause (Ok x) plain = tt
 by_cause cause (Err fault) plain = plain fault refl
 
@@ -115,17 +115,17 @@ late_plain limits order one = go (nat_lt limits.block_units (units_of order + on
     go false true = refl
     go false false = tt
 
-walked_plain : (limits : Limits) (before : Walk) (left : List Chosen) → AllByRecursion (λ refused. is_memory refused.cause ≡ false) before.refused
-    → AllByRecursion (λ refused. is_memory refused.cause ≡ false) (fold (λ before one. walk_with before one (late limits before.order one)) before left).refused
+walked_plain : (limits : Limits) (before : Walk) (left : List Chosen) → AllByRecursion (λ refused. is_refusal_memory refused.cause ≡ false) before.refused
+    → AllByRecursion (λ refused. is_refusal_memory refused.cause ≡ false) (fold (λ before one. walk_with before one (late limits before.order one)) before left).refused
 walked_plain limits before [] all = all
 walked_plain limits before (one ∷ left) all = walked_plain limits (walk_with before one (late limits before.order one)) left (go (late limits before.order one) (late_plain limits before.order one))
   where
-    go : (o : Option Refusal) → NoneOfMemory o → AllByRecursion (λ refused. is_memory refused.cause ≡ false) (walk_with before one o).refused
+    go : (o : Option Refusal) → NoneOfMemory o → AllByRecursion (λ refused. is_refusal_memory refused.cause ≡ false) (walk_with before one o).refused
     go None plain = all
     go (Some cause) plain = (plain, all)
 
 -- ---- a batch
-late_cause_plain : (refused : List Refused) (position : ℕ) → AllByRecursion (λ refused. is_memory refused.cause ≡ false) refused → NoneOfMemory (late_cause refused position)
+late_cause_plain : (refused : List Refused) (position : ℕ) → AllByRecursion (λ refused. is_refusal_memory refused.cause ≡ false) refused → NoneOfMemory (late_cause refused position)
 late_cause_plain [] position all = tt
 late_cause_plain (one ∷ refused) position all = go (one.position == position) (late_cause_plain refused position all.1)
   where
@@ -133,8 +133,8 @@ late_cause_plain (one ∷ refused) position all = go (one.position == position) 
     go true more = all.0
     go false more = more
 
-causes_plain : (start : Start) (batch : List Parsed) (refused : List Refused) → AllByRecursion (λ refused. is_memory refused.cause ≡ false) refused → (n : ℕ) (wires : List (List ℕ))
-    → AllByRecursion (λ refused. is_memory refused.cause ≡ false) (filter_map (λ entry. option_map (λ (cause : Refusal). let one : Refused = record { position = entry.0; cause = cause } in one) (refusal start batch refused entry)) (enumerate_from n (map parsed_of wires)))
+causes_plain : (start : Start) (batch : List Parsed) (refused : List Refused) → AllByRecursion (λ refused. is_refusal_memory refused.cause ≡ false) refused → (n : ℕ) (wires : List (List ℕ))
+    → AllByRecursion (λ refused. is_refusal_memory refused.cause ≡ false) (filter_map (λ entry. option_map (λ (cause : Refusal). let one : Refused = record { position = entry.0; cause = cause } in one) (refusal start batch refused entry)) (enumerate_from n (map parsed_of wires)))
 causes_plain start batch refused all n [] = tt
 causes_plain start batch refused all n (wire ∷ wires) =
     go (late_cause refused n) (late_cause_plain refused n all) (sifted_in start batch (n, parsed_of wire)) (sifted_plain start (has_hash (standing_names start (take n batch))) n wire) (causes_plain start batch refused all (n + 1) wires)
@@ -142,22 +142,22 @@ causes_plain start batch refused all n (wire ∷ wires) =
     rest : List Refused
     rest = filter_map (λ entry. option_map (λ (cause : Refusal). let one : Refused = record { position = entry.0; cause = cause } in one) (refusal start batch refused entry)) (enumerate_from (n + 1) (map parsed_of wires))
 
-    go : (o : Option Refusal) → NoneOfMemory o → (r : Result Chosen Refusal) → IsPlain r → AllByRecursion (λ refused. is_memory refused.cause ≡ false) rest
-        → AllByRecursion (λ refused. is_memory refused.cause ≡ false) (cons_option (option_map (λ (cause : Refusal). let one : Refused = record { position = n; cause = cause } in one) (or_else o (refusal_in r))) rest)
+    go : (o : Option Refusal) → NoneOfMemory o → (r : Result Chosen Refusal) → IsPlain r → AllByRecursion (λ refused. is_refusal_memory refused.cause ≡ false) rest
+        → AllByRecursion (λ refused. is_refusal_memory refused.cause ≡ false) (cons_option (option_map (λ (cause : Refusal). let one : Refused = record { position = n; cause = cause } in one) (or_else o (refusal_in r))) rest)
     go (Some cause) plain r early more = (plain, more)
     go None plain (Ok chosen) early more = more
     go None plain (Err cause) early more = (early, more)
 
 module _ (start : Start) (wires : List (List ℕ)) where
-  plain : (standing : List Chosen) → All (λ refused. is_memory refused.cause ≡ false) (refused_in start (map parsed_of wires) (walk start.limits standing).refused)
+  plain : (standing : List Chosen) → All (λ refused. is_refusal_memory refused.cause ≡ false) (refused_in start (map parsed_of wires) (walk start.limits standing).refused)
   plain standing =
       let late = walked_plain start.limits (record { order = []; refused = [] }) standing tt in
-      All-from_recursion (λ (refused : Refused). is_memory refused.cause ≡ false) (refused_in start (map parsed_of wires) (walk start.limits standing).refused) (causes_plain start (map parsed_of wires) (walk start.limits standing).refused late 0 wires)
+      All-from_recursion (λ (refused : Refused). is_refusal_memory refused.cause ≡ false) (refused_in start (map parsed_of wires) (walk start.limits standing).refused) (causes_plain start (map parsed_of wires) (walk start.limits standing).refused late 0 wires)
 
-  pub refusals_by_priority_are_of_the_input : All (λ refused. is_memory refused.cause ≡ false) (admitted start wires).refused
+  pub refusals_by_priority_are_of_the_input : All (λ refused. is_refusal_memory refused.cause ≡ false) (admitted start wires).refused
   unfolding admitted
   refusals_by_priority_are_of_the_input = plain (line (sifted_out start (map parsed_of wires)))
 
-  pub refusals_by_position_are_of_the_input : All (λ refused. is_memory refused.cause ≡ false) (listed start wires).refused
+  pub refusals_by_position_are_of_the_input : All (λ refused. is_refusal_memory refused.cause ≡ false) (listed start wires).refused
   unfolding listed
   refusals_by_position_are_of_the_input = plain (sifted_out start (map parsed_of wires))

@@ -1,9 +1,9 @@
 -- What lookups pick from their tables, and keys that are given again.
 use Rattle.std.proofs.Common.{◌≡◌, ℕ, ◌+◌, ◌<◌, Bool, true, false, List, [], ◌∷◌, ◌++◌, length, take, map, get_or, refl, sym, ap, ◌∙◌, append_assoc, append-nil, length-append, arith, Some, None, Result, Ok, Err, sum_by, zero-add}
 use Rattle.std.specs.Prelude.{nat_le, MatchBool, if◌then◌else◌}
-use Rattle.std.specs.List.{list_any, filter_map, flat_map, enumerate_from, IsDistinct, AllByRecursion}
+use Rattle.std.specs.List.{list_any, filter_map, flat_map, enumerate_from, IsDistinct}
 use Rattle.std.proofs.Math.Seq.{take-length}
-use Rattle.std.proofs.lemmas.Bool.{both_ways, or_from, or_parts}
+use Rattle.std.proofs.lemmas.Bool.{both_ways}
 use Rattle.std.proofs.lemmas.Bool.Decides.{nat_tests}
 use Rattle.std.proofs.lemmas.List.{map_more, take_more, length-map}
 use Rattle.std.proofs.lemmas.List.Concat.{flat_map-append}
@@ -14,7 +14,6 @@ use Rattle.spec_base.proofs.Filters.{nothing_more, first_found}
 use Rattle.spec_base.specs.Reading.{first_or}
 use Rattle.sol_base.specs.declared.key.Key.{Key}
 use Rattle.sol_base.specs.Keys.{same_key}
-use Rattle.sol_base.proofs.KeyLaws.{same_key-sym}
 use Rattle.message_codec.specs.declared.message.Loaded.{Loaded}
 use Rattle.message_codec.specs.declared.message.Lookup.{Lookup}
 use Rattle.message_codec.specs.declared.message.Message.{Message}

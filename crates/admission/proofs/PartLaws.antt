@@ -1,5 +1,5 @@
 -- How a batch is parted into the transactions that run and those that do not.
-use Rattle.std.proofs.Common.{◌≡◌, ℕ, zero, suc, ◌+◌, ◌<◌, ◌≤◌, Bool, true, false, ◌||◌, List, [], ◌∷◌, ◌++◌, length, map, take, get_or, set, fold, refl, sym, ap, ◌∙◌, append_assoc, append-nil, length-append, zero-add, arith, subst, Option, Some, None, Result, Ok, Err, All, nat_lt, ne_eqb}
+use Rattle.std.proofs.Common.{◌≡◌, ℕ, zero, suc, ◌+◌, ◌<◌, ◌≤◌, Bool, true, false, List, [], ◌∷◌, ◌++◌, length, map, take, get_or, set, fold, refl, sym, ap, ◌∙◌, append_assoc, append-nil, length-append, zero-add, arith, subst, Option, Some, None, Result, Ok, Err, All, nat_lt, ne_eqb}
 use Rattle.std.specs.Prelude.{AllPairs, if◌then◌else◌, nat_eq}
 use Rattle.std.specs.Result.{result_ok}
 use Rattle.std.specs.List.{AllByRecursion, IsDistinct, cons_option, enumerate_from, filter_map}
@@ -23,6 +23,7 @@ use Rattle.message_codec.specs.declared.message.Tx.{Tx}
 use Rattle.message_codec.specs.declared.parsed.Parsed.{Parsed}
 use Rattle.message_codec.specs.declared.parsed.Parsed.TheVariants.{Good, Bad}
 use Rattle.message_codec.specs.Parsing.{parsed_by, parsed_of}
+use Rattle.message_codec.specs.Wire.{max_wire_len}
 use Rattle.message_codec.specs.WireReading.{wire_of}
 use Rattle.fee_rules.specs.declared.budget.Budget.{Budget}
 use Rattle.fee_rules.specs.declared.budget.BudgetFault.{BudgetFault}
@@ -64,11 +65,11 @@ comes_from start is_before position (Good tx name) chosen e = go (stands start t
         subst (ComesFrom start is_before position (Good tx name)) same (record { place = refl; read = refl; fresh = eb; named = name_stands start tx name loaded ea })
 
 -- a wire that holds a transaction has at most 1,232 bytes
-pub read_wires_are_short : (wire : List ℕ) (tx : Tx) (name : Hash32) → parsed_of wire ≡ Good tx name → length wire ≤ 1232
+pub read_wires_are_short : (wire : List ℕ) (tx : Tx) (name : Hash32) → parsed_of wire ≡ Good tx name → length wire ≤ max_wire_len
 unfolding wire_of
-read_wires_are_short wire tx name e = go (nat_lt 1232 (length wire)) refl _ e
+read_wires_are_short wire tx name e = go (nat_lt max_wire_len (length wire)) refl _ e
   where
-    go : (b : Bool) → nat_lt 1232 (length wire) ≡ b → (r : Result Tx WireFault) → parsed_by (if b then Err TooLong else r) ≡ Good tx name → length wire ≤ 1232
+    go : (b : Bool) → nat_lt max_wire_len (length wire) ≡ b → (r : Result Tx WireFault) → parsed_by (if b then Err TooLong else r) ≡ Good tx name → length wire ≤ max_wire_len
     go true l r e = absurd (cc)
     go false l r e = grind (arith, nat_tests)
 

@@ -5,9 +5,7 @@ use Rattle.std.specs.Result.{result_ok}
 use Rattle.std.specs.List.{filter_map, cons_option, enumerate_from}
 use Rattle.std.specs.BTreeMap.{is_at}
 use Rattle.std.specs.BTreeSet.{BTreeSet, contains}
-use Rattle.std.specs.Ordering.{is_eq}
-use Rattle.std.specs.declared.cmp.Ordering.{Ordering}
-use Rattle.std.specs.declared.cmp.Ordering.TheVariants.{Less, Equal, Greater}
+use Rattle.std.specs.Cmp.{Equal-is}
 use Rattle.std.proofs.lemmas.Bool.{false_from_ne_true, both_ways}
 use Rattle.std.proofs.lemmas.Cmp.{eq_by_cmp_equiv}
 use Rattle.std.proofs.lemmas.List.{map-append, length-map, take_at}
@@ -34,14 +32,9 @@ use Rattle.admission.specs.Admission.{Start, budgeted_once, early, has_name, is_
 same_name : (name other : Hash32) → is_at (hash_cmp name) other ≡ same_hash name other
 same_name name other = by_test (same_hash name other) refl
   where
-    equal : (o : Ordering) → is_eq o ≡ true → o ≡ Equal
-    equal Less e = absurd (cc)
-    equal Equal e = refl
-    equal Greater e = absurd (cc)
-
     by_test : (t : Bool) → same_hash name other ≡ t → is_at (hash_cmp name) other ≡ t
     by_test true same = subst (λ (hash : Hash32). is_at (hash_cmp name) hash ≡ true) ((same_hash-Decides name other).0 same) ((eq_by_cmp_equiv hash_cmp_total).refl name)
-    by_test false differ = false_from_ne_true (is_at (hash_cmp name) other) (λ e. both_ways (same_hash name other) differ ((same_hash-Decides name other).1 (hash_cmp_exact name other (equal (hash_cmp name other) e))))
+    by_test false differ = false_from_ne_true (is_at (hash_cmp name) other) (λ e. both_ways (same_hash name other) differ ((same_hash-Decides name other).1 (hash_cmp_exact name other ((Equal-is (hash_cmp name other)).0 e))))
 
 -- a name more
 pub name_added : (old new : BTreeSet Hash32) (name : Hash32) → ((q : Hash32) → contains hash_cmp new q ≡ cond (is_at (hash_cmp name) q) true (contains hash_cmp old q)) → (q : Hash32) → has_name new q ≡ (has_name old q || same_hash name q)

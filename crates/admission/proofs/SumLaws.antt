@@ -3,6 +3,7 @@ use Rattle.std.proofs.Common.{◌≡◌, ℕ, zero, suc, ◌+◌, ◌<◌, ◌�
 use Rattle.std.specs.Prelude.{if◌then◌else◌, nat_lt}
 use Rattle.std.specs.List.{list_any, AllByRecursion, IsDistinct}
 use Rattle.std.specs.BTreeMap.{BTreeMap, get, is_at}
+use Rattle.std.proofs.Math.Bool.{or-false, or-true}
 use Rattle.std.proofs.lemmas.Bool.{both_ways}
 use Rattle.std.proofs.lemmas.List.{take_more}
 use Rattle.std.proofs.lemmas.List.Elements.{filter-append}
@@ -15,25 +16,25 @@ use Rattle.sol_base.specs.Keys.{key_cmp, same_key}
 use Rattle.sol_base.proofs.KeyLaws.{same_cmp, same_key-true}
 use Rattle.sol_base.specs.Locks.{lock_keys}
 use Rattle.admission.specs.declared.chosen.Chosen.{Chosen}
-use Rattle.admission.specs.Admission.{units_of, units_on, writes, locks_write}
+use Rattle.admission.specs.Admission.{units_of, units_on, may_write_key, locks_write}
 use Rattle.admission.specs.Sums.{HasSums, passes, sum_at}
 
 -- a key has no more units than all together
 pub part_of_all : (key : Key) (order : List Chosen) → units_on key order ≤ units_of order
 part_of_all key [] = omega arith
 part_of_all key (one ∷ others) =
-    let part : units_on key (one ∷ others) ≤ one.budget.limit + units_of others = go (writes key one) (part_of_all key others) in
+    let part : units_on key (one ∷ others) ≤ one.budget.limit + units_of others = go (may_write_key key one) (part_of_all key others) in
     subst (λ n. units_on key (one ∷ others) ≤ n) (sym (sum_by-cons (λ (chosen : Chosen). chosen.budget.limit) one others)) part
   where
-    go : (b : Bool) → units_of (filter (writes key) others) ≤ units_of others → units_of (cond b (one ∷ filter (writes key) others) (filter (writes key) others)) ≤ one.budget.limit + units_of others
-    go true more = subst (λ n. n ≤ one.budget.limit + units_of others) (sym (sum_by-cons (λ (chosen : Chosen). chosen.budget.limit) one (filter (writes key) others))) (omega (arith, more))
+    go : (b : Bool) → units_of (filter (may_write_key key) others) ≤ units_of others → units_of (cond b (one ∷ filter (may_write_key key) others) (filter (may_write_key key) others)) ≤ one.budget.limit + units_of others
+    go true more = subst (λ n. n ≤ one.budget.limit + units_of others) (sym (sum_by-cons (λ (chosen : Chosen). chosen.budget.limit) one (filter (may_write_key key) others))) (omega (arith, more))
     go false more = omega (arith, more)
 
 pub units_more : (order : List Chosen) (one : Chosen) → units_of (order ++ one ∷ []) ≡ units_of order + one.budget.limit
 units_more order one = sum_by_push (λ (chosen : Chosen). chosen.budget.limit) order one
 
 pub units_on_more : (key : Key) (order : List Chosen) (one : Chosen) → units_on key (order ++ one ∷ []) ≡ units_on key order + (if locks_write one.locks key then one.budget.limit else 0)
-units_on_more key order one = ap units_of (filter-append (writes key) order (one ∷ [])) ∙ sum_by-append (λ (chosen : Chosen). chosen.budget.limit) (filter (writes key) order) (filter (writes key) (one ∷ [])) ∙ ap (λ n. units_on key order + n) (go (writes key one))
+units_on_more key order one = ap units_of (filter-append (may_write_key key) order (one ∷ [])) ∙ sum_by-append (λ (chosen : Chosen). chosen.budget.limit) (filter (may_write_key key) order) (filter (may_write_key key) (one ∷ [])) ∙ ap (λ n. units_on key order + n) (go (may_write_key key one))
   where
     go : (b : Bool) → units_of (cond b (one ∷ []) []) ≡ (if b then one.budget.limit else 0)
     go true = zero-add one.budget.limit
@@ -58,11 +59,7 @@ passes_by_sums limits order one units sums has (lock ∷ locks) =
 
 -- ---- the locks of one transaction, one after the other
 one_lock : (lock : Lock) (key : Key) → locks_write (lock ∷ []) key ≡ (lock.write && same_key lock.key key)
-one_lock lock key = go (lock.write && same_key lock.key key)
-  where
-    go : (b : Bool) → (b || false) ≡ b
-    go true = refl
-    go false = refl
+one_lock lock key = or-false (lock.write && same_key lock.key key)
 
 -- the keys before a place are none of those from there on
 apart_at : (locks : List Lock) (i : ℕ) (x : Lock) → i < length locks → x ≡ get_or locks i x → IsDistinct same_key (lock_keys locks) → locks_write (take i locks) x.key ≡ false
@@ -91,11 +88,7 @@ module _ (locks : List Lock) (i : ℕ) (x : Lock) (l : i < length locks) (is_x :
   -- a lock that only reads adds nothing
   pub read_adds_none : (limit : ℕ) (first sums : Key → ℕ) → x.write ≡ false → ((key : Key) → sums key ≡ first key + (if locks_write (take i locks) key then limit else 0)) → (key : Key) → sums key ≡ first key + (if locks_write (take (i + 1) locks) key then limit else 0)
   read_adds_none limit first sums none so_far key =
-      so_far key ∙ ap (λ b. first key + (if b then limit else 0)) (sym (writes_more key ∙ ap (λ w. locks_write (take i locks) key || (w && same_key x.key key)) none ∙ or_none (locks_write (take i locks) key)))
-    where
-      or_none : (b : Bool) → (b || false) ≡ b
-      or_none true = refl
-      or_none false = refl
+      so_far key ∙ ap (λ b. first key + (if b then limit else 0)) (sym (writes_more key ∙ ap (λ w. locks_write (take i locks) key || (w && same_key x.key key)) none ∙ or-false (locks_write (take i locks) key)))
 
   -- a key that is first written now has its first sum
   pub first_sum : (limit : ℕ) (first sums : Key → ℕ) → IsDistinct same_key (lock_keys locks) → ((key : Key) → sums key ≡ first key + (if locks_write (take i locks) key then limit else 0)) → sums x.key ≡ first x.key
@@ -122,15 +115,7 @@ module _ (locks : List Lock) (i : ℕ) (x : Lock) (l : i < length locks) (is_x :
           let same : x.key ≡ key = same_key-true x.key key e in
           now ∙ ap (λ b. cond b (sum + limit) (sum_at sums key)) e
           ∙ ap (λ n. n + limit) (is_sum ∙ first_sum limit first (sum_at sums) d so_far ∙ ap first same)
-          ∙ ap (λ b. first key + (if b then limit else 0)) (sym (more ∙ ap (λ b. locks_write (take i locks) key || b) e ∙ or_all (locks_write (take i locks) key)))
-        where
-          or_all : (b : Bool) → (b || true) ≡ true
-          or_all true = refl
-          or_all false = refl
+          ∙ ap (λ b. first key + (if b then limit else 0)) (sym (more ∙ ap (λ b. locks_write (take i locks) key || b) e ∙ or-true (locks_write (take i locks) key)))
       go false e =
           now ∙ ap (λ b. cond b (sum + limit) (sum_at sums key)) e ∙ so_far key
-          ∙ ap (λ b. first key + (if b then limit else 0)) (sym (more ∙ ap (λ b. locks_write (take i locks) key || b) e ∙ or_none (locks_write (take i locks) key)))
-        where
-          or_none : (b : Bool) → (b || false) ≡ b
-          or_none true = refl
-          or_none false = refl
+          ∙ ap (λ b. first key + (if b then limit else 0)) (sym (more ∙ ap (λ b. locks_write (take i locks) key || b) e ∙ or-false (locks_write (take i locks) key)))

@@ -137,12 +137,12 @@ abbrev pub locks_write : List Lock → Key → Bool
 locks_write locks key = list_any (λ lock. lock.write && same_key lock.key key) locks
 
 -- a transaction may write a key
-abbrev pub writes : Key → Chosen → Bool
-writes key chosen = locks_write chosen.locks key
+abbrev pub may_write_key : Key → Chosen → Bool
+may_write_key key chosen = locks_write chosen.locks key
 
 -- the units of those that may write it
 abbrev pub units_on : Key → List Chosen → ℕ
-units_on key order = units_of (filter (writes key) order)
+units_on key order = units_of (filter (may_write_key key) order)
 
 -- one of its writable keys would get more units than a key may
 abbrev pub passes_key_units : Limits → List Chosen → Chosen → Bool

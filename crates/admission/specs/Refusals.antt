@@ -14,16 +14,16 @@ use Rattle.admission.specs.declared.refusal.Refusal.{Refusal}
 use Rattle.admission.specs.declared.refusal.Refusal.TheVariants.{Wire, Sanitize, Lookup, UnknownBlockhash, AlreadyProcessed, RepeatedInBatch, Budget, BlockUnits, KeyUnits}
 
 -- the fault within is want of memory, which no input shows
-abbrev pub is_memory : Refusal → Bool
-is_memory (Wire fault) = is_wire_memory fault
-is_memory (Sanitize fault) = false
-is_memory (Lookup fault) = is_lookup_memory fault
-is_memory UnknownBlockhash = false
-is_memory AlreadyProcessed = false
-is_memory RepeatedInBatch = false
-is_memory (Budget fault) = false
-is_memory BlockUnits = false
-is_memory KeyUnits = false
+abbrev pub is_refusal_memory : Refusal → Bool
+is_refusal_memory (Wire fault) = is_wire_memory fault
+is_refusal_memory (Sanitize fault) = false
+is_refusal_memory (Lookup fault) = is_lookup_memory fault
+is_refusal_memory UnknownBlockhash = false
+is_refusal_memory AlreadyProcessed = false
+is_refusal_memory RepeatedInBatch = false
+is_refusal_memory (Budget fault) = false
+is_refusal_memory BlockUnits = false
+is_refusal_memory KeyUnits = false
 
 -- a name and the number after it
 abbrev pub numbered : List ℕ → ℕ → List ℕ

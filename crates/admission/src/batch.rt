@@ -1,3 +1,4 @@
+//! Which transactions of a batch run, and in which order.
 ghost use Rattle.std.specs.Prelude.{◌≡◌, ◌<◌, ◌≤◌, ◌^◌, All, IfOk, length};
 ghost use Rattle.std.specs.List.{IsDistinct};
 ghost use Rattle.sol_base.specs.Keys.{same_key};

@@ -1,3 +1,4 @@
+//! Transactions that run.
 use crate::refusal::Refused;
 use fee_rules::{Budget, Fee};
 use message_codec::{Loaded, Tx};

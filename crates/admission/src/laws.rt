@@ -4,7 +4,7 @@ ghost use Rattle.message_codec.specs.declared.parsed.Parsed.{Parsed as ParsedVal
 ghost use Rattle.admission.specs.Admission.{Start, admitted, line, listed, sifted_out};
 ghost use Rattle.admission.specs.Batches.{IsParted};
 ghost use Rattle.admission.specs.Lines.{IsLineOf, StandsBefore};
-ghost use Rattle.admission.specs.Refusals.{is_memory};
+ghost use Rattle.admission.specs.Refusals.{is_refusal_memory};
 
 /// A law: each transaction of a batch runs or is refused. Those that run are what the wires at
 /// their positions spell, and no two of them have one name.
@@ -27,7 +27,7 @@ pub fn lines_are_by_priority()
 /// A law: no refusal of a batch says want of memory.
 pub fn refusals_are_of_the_input()
     ensures by_priority { (start : Start) (wires : List (List ℕ)) →
-        All (λ refused. is_memory refused.cause ≡ false) (admitted start wires).refused }
+        All (λ refused. is_refusal_memory refused.cause ≡ false) (admitted start wires).refused }
     ensures by_position { (start : Start) (wires : List (List ℕ)) →
-        All (λ refused. is_memory refused.cause ≡ false) (listed start wires).refused }
+        All (λ refused. is_refusal_memory refused.cause ≡ false) (listed start wires).refused }
 {}

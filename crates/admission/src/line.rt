@@ -1,3 +1,4 @@
+//! The order in which transactions stand in line.
 ghost use Rattle.std.specs.Prelude.{◌≡◌, IfOk, map};
 ghost use Rattle.admission.specs.Admission.{line};
 ghost use Rattle.admission.specs.Lines.{PositionsAscend, rank, with_rank};

@@ -1,3 +1,4 @@
+//! Why a transaction of a batch does not run.
 use crate::lookups::LookupFault;
 use fee_rules::BudgetFault;
 use message_codec::{SanitizeFault, WireFault};

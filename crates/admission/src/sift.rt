@@ -1,7 +1,9 @@
-ghost use Rattle.std.specs.Prelude.{◌≡◌, ◌<◌, ◌≤◌, ◌^◌, ◌||◌, not, All, IfOk, OnOk, length, map};
+//! The early causes: those that the starting snapshot and the batch before a position show.
+ghost use Rattle.std.specs.Prelude.{◌≡◌, ◌<◌, ◌^◌, ◌||◌, not, All, IfOk, OnOk, length, map};
 ghost use Rattle.std.specs.List.{enumerate_from};
 ghost use Rattle.sol_base.specs.declared.key.Hash32.{Hash32 as HashValue};
 ghost use Rattle.sol_base.specs.Keys.{same_hash};
+ghost use Rattle.message_codec.specs.Wire.{IsCountable};
 ghost use Rattle.admission.specs.Admission.{IsSound, budgeted_once, early, has_name, is_name, sifted, sifted_out, standing_name, start_of};
 
 use crate::chosen::Chosen;
@@ -98,7 +100,7 @@ fn budgeted_once(
     loaded: Loaded,
 ) -> Result<Result<Chosen, Refusal>, OutOfMemory>
     requires programs { All (λ i. i.program < length tx.message.keys) tx.message.instructions }
-    requires most { length tx.message.instructions ≤ 65535 }
+    requires most { IsCountable tx.message.instructions }
     ensures found { IfOk result (λ found.
         found ≡ budgeted_once (has_name names.old name) position tx name loaded) }
     ensures names { OnOk result ((other : HashValue) →

@@ -1,3 +1,4 @@
+//! The causes that the starting snapshot shows.
 ghost use Rattle.std.specs.Prelude.{◌≡◌, ◌<◌, ◌≤◌, All, IfOk, length};
 ghost use Rattle.message_codec.specs.Wire.{HasShortLists, IsCountable};
 ghost use Rattle.admission.specs.Admission.{budgeted, stands, start_of};

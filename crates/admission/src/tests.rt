@@ -25,10 +25,10 @@ const LIMITS: Limits = Limits {
     block_units: 48_000_000,
 };
 
-// How many instructions a transfer has with those of the compute budget program, and these.
+/// How many instructions a transfer has with those of the compute budget program, and these.
 const PLAIN: (u8, &[u8]) = (1, &[]);
 
-// A limit of 450 units and a price of 1,000,000.
+/// A limit of 450 units and a price of 1,000,000.
 const PRICED: (u8, &[u8]) = (
     3,
     &[
@@ -36,7 +36,7 @@ const PRICED: (u8, &[u8]) = (
     ],
 );
 
-// A limit of 1,400,000 units and a price of 10,000; this limit alone; and one of 400,000 units.
+/// A limit of 1,400,000 units and a price of 10,000; this limit alone; and one of 400,000 units.
 const MOST_PRICED: (u8, &[u8]) = (
     3,
     &[
@@ -48,7 +48,7 @@ const MOST: (u8, &[u8]) = (2, &[3, 0, 5, 2, 0xc0, 0x5c, 0x15, 0]);
 
 const LESS: (u8, &[u8]) = (2, &[3, 0, 5, 2, 0x80, 0x1a, 6, 0]);
 
-// No such instruction.
+/// No such instruction.
 const UNKNOWN: (u8, &[u8]) = (2, &[3, 0, 1, 9]);
 
 fn joined(alloc: Global, pieces: &[&[u8]]) -> Result<Blob, OutOfMemory> {
@@ -164,8 +164,8 @@ fn told(alloc: Global, answer: &Admitted) -> Result<Blob, OutOfMemory> {
     Ok(text)
 }
 
-// The priced transfer comes first. The others have one priority, and stand by their positions and
-// not by the keys of their payers.
+/// The priced transfer comes first. The others have one priority, and stand by their positions and
+/// not by the keys of their payers.
 #[test]
 fn higher_priority_comes_first(rt: HostRuntime) -> Result<(), Fail> {
     let alloc = rt.alloc();
@@ -186,8 +186,8 @@ fn higher_priority_comes_first(rt: HostRuntime) -> Result<(), Fail> {
     Ok(())
 }
 
-// The limits of a key and of the block for two transfers of 200,000 units each, and the account
-// that the later pays. Limits that are just reached refuse none.
+/// The limits of a key and of the block for two transfers of 200,000 units each, and the account
+/// that the later pays. Limits that are just reached refuse none.
 const UNITS: [(u64, u64, u8, &[u8]); 5] = [
     (200_000, 400_000, 0x12, b"0 1 "),
     (200_000, 399_999, 0x12, b"0 refused 1: BlockUnits "),
@@ -233,7 +233,7 @@ fn many_payers(alloc: Global) -> Result<Items<Blob>, OutOfMemory> {
     Ok(wires)
 }
 
-// The 35th passes the units of a block, and the last just reaches them.
+/// The 35th passes the units of a block, and the last just reaches them.
 #[test]
 fn a_block_is_filled_to_its_units(rt: HostRuntime) -> Result<(), Fail> {
     let alloc = rt.alloc();
@@ -268,7 +268,7 @@ fn one_payer(alloc: Global) -> Result<Items<Blob>, OutOfMemory> {
     Ok(wires)
 }
 
-// The ninth passes the units of its payer's key.
+/// The ninth passes the units of its payer's key.
 #[test]
 fn a_key_is_written_for_its_units(rt: HostRuntime) -> Result<(), Fail> {
     let alloc = rt.alloc();
@@ -299,7 +299,7 @@ fn admit_one(
     admit_parsed(alloc, &wires, parsed, &recent, accounts, &LIMITS)
 }
 
-// A wire that is none, a message twice, one whose block is not known, and one without a budget.
+/// A wire that is none, a message twice, one whose block is not known, and one without a budget.
 #[test]
 fn causes_are_told_by_their_positions(rt: HostRuntime) -> Result<(), Fail> {
     let alloc = rt.alloc();
@@ -327,7 +327,7 @@ fn causes_are_told_by_their_positions(rt: HostRuntime) -> Result<(), Fail> {
     Ok(())
 }
 
-// A transfer with data of 996 and of 997 bytes, which has 1,232 and 1,233, and the answer.
+/// A transfer with data of 996 and of 997 bytes, which has 1,232 and 1,233, and the answer.
 const LARGEST: [(u8, &[u8], &[u8]); 2] = [
     (0xe4, &[0; 984], b"0 "),
     (0xe5, &[0; 985], b"refused 0: Wire TooLong "),
@@ -392,8 +392,8 @@ fn table(alloc: Global) -> Result<Items<KeyedAccount>, OutOfMemory>
     Ok(Items::from_vec(Vec::from_array(alloc, [entry])?))
 }
 
-// The version byte, the index of the account that gets the lamports, the table, the index arrays of
-// the lookup, and the answer.
+/// The version byte, the index of the account that gets the lamports, the table, the index arrays
+/// of the lookup, and the answer.
 const LOOKUPS: [(u8, u8, u8, &[u8], &[u8]); 6] = [
     (128, 2, 0x70, &[1, 0, 0], b"0 "),
     (128, 2, 0x70, &[1, 1, 0], b"refused 0: Lookup BadIndex 0 "),

@@ -1,3 +1,4 @@
+//! The texts of refusals.
 ghost use Rattle.std.specs.Prelude.{◌≡◌, ◌++◌, IfOk, OnOk};
 ghost use Rattle.admission.specs.Refusals.{budget_text, lookup_text, numbered, sanitize_text, text_of, wire_text};
 

@@ -1,3 +1,4 @@
+//! The late causes: those that the transactions before in the line show.
 ghost use Rattle.std.specs.Prelude.{◌≡◌, ◌<◌, ◌^◌, All, IfOk, OnOk, length};
 ghost use Rattle.std.specs.List.{IsDistinct};
 ghost use Rattle.sol_base.specs.Keys.{same_key};

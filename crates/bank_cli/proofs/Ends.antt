@@ -18,14 +18,14 @@ use Rattle.block_run.specs.Blocks.{listed_result}
 use Rattle.block_replay.specs.Verdict.{verdict}
 use Rattle.block_replay.specs.declared.verdict.Verdict.{Verdict}
 use Rattle.block_replay.specs.declared.verdict.Verdict.TheVariants.{Match, Differ}
-use Rattle.sbpf_asm.specs.Assembly.{assembled as assembled_of}
-use Rattle.sbpf_asm.specs.Listing.{listed as listed_of}
+use Rattle.sbpf_asm.specs.Assembly.{assembled}
+use Rattle.sbpf_asm.specs.Listing.{listed}
 use Rattle.bank_words.specs.Commands.{command_in}
 use Rattle.bank_words.specs.declared.command.Command.{Command}
 use Rattle.bank_words.specs.declared.command.Command.TheVariants.{Produce, Replay, Show, Make, Assemble, List as list_image}
 use Rattle.bank_cli.specs.declared.answer.Answer.{Answer}
 use Rattle.bank_cli.specs.Texts.{snapshot_text, batch_text, record_text, asm_text, list_text}
-use Rattle.bank_cli.specs.Answer.{refused, unless_refused, after_snapshot, produced, produced_after, judged, replayed, replayed_over, replayed_after, shown, made, assembled, listed, within, input_limit, answer_to, answer_for, answer, takes_input, reads_input, read_failed}
+use Rattle.bank_cli.specs.Answer.{refused, unless_refused, after_snapshot, produced, produced_after, judged, replayed, replayed_over, replayed_after, shown, made_answer, assembled_answer, listed_answer, within, input_limit, answer_to, answer_for, answer, takes_input, reads_input, read_failed}
 use Rattle.bank_cli.specs.Ending.{Writes, Begins, TellsAnswer, TellsFault, Stops, EndsEarly, FailsEarly}
 
 -- ---- answers that do not look at the input
@@ -64,8 +64,8 @@ long_answer (Produce lanes senders) bytes looks long = long_refused (produced by
 long_answer (Replay lanes) bytes looks long = long_refused (replayed bytes) bytes long
 long_answer Show bytes looks long = long_refused (shown bytes) bytes long
 long_answer (Make number count run lanes) bytes looks long = absurd (cc)
-long_answer Assemble bytes looks long = long_refused (assembled bytes) bytes long
-long_answer list_image bytes looks long = long_refused (listed bytes) bytes long
+long_answer Assemble bytes looks long = long_refused (assembled_answer bytes) bytes long
+long_answer list_image bytes looks long = long_refused (listed_answer bytes) bytes long
 
 some_long : (n : ℕ) → (bytes : List ℕ) × (length bytes ≡ n)
 some_long n = (replicate n 0, length-replicate n 0)
@@ -99,7 +99,7 @@ judged_no_fault : (given : Block) (found : Verdict) → IsNoFault (judged given 
 judged_no_fault given Match = omega arith
 judged_no_fault given (Differ entry field expected found) = omega arith
 
-made_no_fault : (number count : ℕ) (run : Bool) → IsNoFault (made number count run)
+made_no_fault : (number count : ℕ) (run : Bool) → IsNoFault (made_answer number count run)
 made_no_fault number count true = omega arith
 made_no_fault number count false = omega arith
 
@@ -118,8 +118,8 @@ command_no_fault (Produce lanes senders) bytes = within_no_fault bytes (produced
 command_no_fault (Replay lanes) bytes = within_no_fault bytes (replayed bytes) (snapshot_no_fault replayed_after bytes replayed_no_fault)
 command_no_fault Show bytes = within_no_fault bytes (shown bytes) (part_no_fault record_text _ (record_of bytes) (λ block. omega arith))
 command_no_fault (Make number count run lanes) bytes = made_no_fault number count run
-command_no_fault Assemble bytes = within_no_fault bytes (assembled bytes) (part_no_fault asm_text _ (assembled_of bytes) (λ image. omega arith))
-command_no_fault list_image bytes = within_no_fault bytes (listed bytes) (part_no_fault list_text _ (listed_of bytes) (λ text. omega arith))
+command_no_fault Assemble bytes = within_no_fault bytes (assembled_answer bytes) (part_no_fault asm_text _ (assembled bytes) (λ image. omega arith))
+command_no_fault list_image bytes = within_no_fault bytes (listed_answer bytes) (part_no_fault list_text _ (listed bytes) (λ text. omega arith))
 
 answer_no_fault : (words : List (List ℕ)) (bytes : List ℕ) → IsNoFault (answer words bytes)
 answer_no_fault words bytes = by_command (command_in words)

@@ -14,7 +14,7 @@ use Rattle.block_record.specs.declared.block.Entry.{Entry}
 use Rattle.block_record.specs.Record.{bytes_of_record}
 use Rattle.block_record.specs.RecordReading.{record_of}
 use Rattle.status_cache.specs.Recent.{newest_of}
-use Rattle.admission.specs.Admission.{admitted as admitted_of}
+use Rattle.admission.specs.Admission.{admitted}
 use Rattle.block_run.specs.declared.block.BlockResult.{BlockResult}
 use Rattle.block_run.specs.Blocks.{block_result, listed_result, start_in}
 use Rattle.block_replay.specs.Verdict.{verdict}
@@ -22,9 +22,9 @@ use Rattle.block_replay.specs.declared.verdict.Field.{Field}
 use Rattle.block_replay.specs.declared.verdict.Verdict.{Verdict}
 use Rattle.block_replay.specs.declared.verdict.Verdict.TheVariants.{Match, Differ}
 use Rattle.batch_gen.specs.declared.made.Made.{Made}
-use Rattle.batch_gen.specs.Generator.{made as made_of}
-use Rattle.sbpf_asm.specs.Assembly.{assembled as assembled_of}
-use Rattle.sbpf_asm.specs.Listing.{listed as listed_of}
+use Rattle.batch_gen.specs.Generator.{made}
+use Rattle.sbpf_asm.specs.Assembly.{assembled}
+use Rattle.sbpf_asm.specs.Listing.{listed}
 use Rattle.bank_show.specs.Show.{text_of_block}
 use Rattle.bank_words.specs.Commands.{command_in}
 use Rattle.bank_words.specs.declared.command.Command.{Command}
@@ -119,8 +119,8 @@ abbrev pub count_of : (Status → Bool) → List Entry → ℕ
 count_of test entries = length (filter (λ entry. test entry.status) entries)
 
 -- how many transactions of a made input run
-abbrev pub admitted : Made → ℕ
-admitted m = length (admitted_of (start_in m.snapshot) m.batch.wires).order
+abbrev pub admitted_count : Made → ℕ
+admitted_count m = length (admitted (start_in m.snapshot) m.batch.wires).order
 
 abbrev pub counts_text : ℕ → ℕ → List Entry → List ℕ
 counts_text count order entries =
@@ -138,20 +138,20 @@ abbrev pub input_bytes : Made → List ℕ
 input_bytes m = snapshot_bytes m.snapshot ++ batch_bytes m.batch
 
 abbrev pub made_run : ℕ → Made → Answer
-made_run count m = written (run_line count (admitted m) (block_result m.snapshot m.batch).block)
+made_run count m = written (run_line count (admitted_count m) (block_result m.snapshot m.batch).block)
 
-abbrev pub made : ℕ → ℕ → Bool → Answer
-made number count run =
-    if run then made_run count (made_of number count)
-    else written (input_bytes (made_of number count))
+abbrev pub made_answer : ℕ → ℕ → Bool → Answer
+made_answer number count run =
+    if run then made_run count (made number count)
+    else written (input_bytes (made number count))
 
 -- ---- asm and list: the image of a text, and the text of an image
 
-abbrev pub assembled : List ℕ → Answer
-assembled bytes = unless_refused asm_text written (assembled_of bytes)
+abbrev pub assembled_answer : List ℕ → Answer
+assembled_answer bytes = unless_refused asm_text written (assembled bytes)
 
-abbrev pub listed : List ℕ → Answer
-listed bytes = unless_refused list_text written (listed_of bytes)
+abbrev pub listed_answer : List ℕ → Answer
+listed_answer bytes = unless_refused list_text written (listed bytes)
 
 -- ---- the answer
 
@@ -168,9 +168,9 @@ abbrev pub answer_to : Command → List ℕ → Answer
 answer_to (Produce lanes senders) bytes = within bytes (produced bytes)
 answer_to (Replay lanes) bytes = within bytes (replayed bytes)
 answer_to Show bytes = within bytes (shown bytes)
-answer_to (Make number count run lanes) bytes = made number count run
-answer_to Assemble bytes = within bytes (assembled bytes)
-answer_to list_image bytes = within bytes (listed bytes)
+answer_to (Make number count run lanes) bytes = made_answer number count run
+answer_to Assemble bytes = within bytes (assembled_answer bytes)
+answer_to list_image bytes = within bytes (listed_answer bytes)
 
 abbrev pub answer_for : Option Command → List ℕ → Answer
 answer_for (Some command) bytes = answer_to command bytes

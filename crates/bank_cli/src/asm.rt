@@ -1,6 +1,6 @@
 //! The commands `asm` and `list`: the image of a text, and the text of an image.
 ghost use Rattle.std.specs.Prelude.{◌≡◌, ◌≤◌, length, IfOk};
-ghost use Rattle.bank_cli.specs.Answer.{assembled as assembled_of, input_limit, listed as listed_of};
+ghost use Rattle.bank_cli.specs.Answer.{assembled_answer, input_limit, listed_answer};
 
 use crate::answer::Answer;
 use crate::texts::{refuse_asm, refuse_list, tell};
@@ -11,7 +11,7 @@ use std::alloc::Global;
 /// The answer to `asm`: a text.
 pub(crate) fn assembled(alloc: Global, input: Blob) -> Result<Answer, OutOfMemory>
     requires { length input ≤ input_limit }
-    ensures { IfOk result (λ told. told ≡ assembled_of input) }
+    ensures { IfOk result (λ told. told ≡ assembled_answer input) }
 {
     match assemble(alloc, input.as_slice()) {
         Ok(image) => Ok(tell(alloc, image)),
@@ -21,7 +21,7 @@ pub(crate) fn assembled(alloc: Global, input: Blob) -> Result<Answer, OutOfMemor
 
 /// The answer to `list`: an image.
 pub(crate) fn listed(alloc: Global, input: Blob) -> Result<Answer, OutOfMemory>
-    ensures { IfOk result (λ told. told ≡ listed_of input) }
+    ensures { IfOk result (λ told. told ≡ listed_answer input) }
 {
     match list(alloc, input.as_slice()) {
         Ok(text) => Ok(tell(alloc, text)),

@@ -1,10 +1,10 @@
 //! The command `make`: an input that a number draws, or what it comes to.
 ghost use Rattle.std.specs.Prelude.{◌≡◌, ◌≤◌, ◌++◌, ◌<◌, length, All, IfOk, OnOk};
 ghost use Rattle.block_run.specs.Blocks.{block_result};
-ghost use Rattle.batch_gen.specs.Generator.{made as made_of};
+ghost use Rattle.batch_gen.specs.Generator.{made};
 ghost use Rattle.snapshot_codec.specs.Batch.{IsShortWire};
 ghost use Rattle.snapshot_codec.specs.Snapshot.{IsReadable};
-ghost use Rattle.bank_cli.specs.Answer.{count_of, counts_text, input_bytes, is_dropped, is_failed, is_good, made as made_answer, made_run, run_line, written};
+ghost use Rattle.bank_cli.specs.Answer.{count_of, counts_text, input_bytes, is_dropped, is_failed, is_good, made_answer, made_run, run_line, written};
 
 use crate::answer::Answer;
 use crate::texts::{append_hash, append_number, tell};

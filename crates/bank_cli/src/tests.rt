@@ -17,6 +17,9 @@ use std::test::Fail;
 use std::thread;
 use std::thread::Threads;
 
+/// A call that no run here makes.
+const NEVER: u32 = u32::MAX;
+
 /// A gate that keeps position 0 until another position has passed, for at most 10,000,000 turns.
 #[derive(Drop)]
 struct Until {
@@ -221,6 +224,34 @@ fn failing(alloc: Global, call: u32) -> Result<Items<u32>, Fail> {
     Ok(calls)
 }
 
+/// What `produce` answers where one call of the source, of the output and of the notes fails.
+fn ask_failing<R: Threads + Wait + Sync>(
+    rt: &R,
+    alloc: Global,
+    input: Blob,
+    calls: (u32, u32, u32),
+) -> Result<Answer, Fail> {
+    let words = words_of(alloc, "produce")?;
+    let mut source = MemSource::new(input, failing(alloc, calls.0)?);
+    let mut out = MemSink::new(alloc, failing(alloc, calls.1)?);
+    let mut notes = MemSink::new(alloc, failing(alloc, calls.2)?);
+    let status = bank_main(
+        rt,
+        alloc,
+        &words,
+        &mut source,
+        &mut out,
+        &mut notes,
+        &OpenGate,
+        &OpenSend,
+    );
+    Ok(Answer {
+        status,
+        output: Blob::from_slice(alloc, out.held())?,
+        notes: Blob::from_slice(alloc, notes.held())?,
+    })
+}
+
 /// What is answered to the input of example "two transfers".
 fn ask_two<G: Gate, H: SendGate, R: Threads + Wait + Sync>(
     rt: &R,
@@ -403,6 +434,19 @@ fn a_made_input_is_produced(rt: HostRuntime) -> Result<(), Fail> {
     Ok(())
 }
 
+/// Neither the number of lanes nor how the number is spelled changes what is made.
+#[test]
+fn a_made_input_is_the_same(rt: HostRuntime) -> Result<(), Fail> {
+    let alloc = rt.alloc();
+    let line = "make --number 1 --count 1";
+    let made = ask(&rt, alloc, line, &[], &OpenGate, &OpenSend)?;
+    let line = "make --lanes 2 --number 01 --count 1";
+    let told = ask(&rt, alloc, line, &[], &OpenGate, &OpenSend)?;
+    assert_eq!(rt; (told.status, told.notes.len()), (0, 0));
+    assert_eq!(rt; told.output.as_slice(), made.output.as_slice());
+    Ok(())
+}
+
 #[test]
 fn three_lines_are_assembled_and_listed(rt: HostRuntime) -> Result<(), Fail> {
     let alloc = rt.alloc();
@@ -447,50 +491,45 @@ fn no_input_is_refused(rt: HostRuntime) -> Result<(), Fail> {
     Ok(())
 }
 
+/// The run makes two reads.
 #[test]
-fn a_failing_second_read(rt: HostRuntime) -> Result<(), Fail> {
+fn every_failing_read(rt: HostRuntime) -> Result<(), Fail> {
     let alloc = rt.alloc();
-    let words = words_of(alloc, "produce")?;
-    let mut source = MemSource::new(two_transfers(alloc)?, failing(alloc, 1)?);
-    let mut out = NeverSink::new(alloc);
-    let mut notes = NeverSink::new(alloc);
-    let status = bank_main(
-        &rt,
-        alloc,
-        &words,
-        &mut source,
-        &mut out,
-        &mut notes,
-        &OpenGate,
-        &OpenSend,
-    );
-    assert_eq!(rt; status, 4);
-    assert!(rt; out.held().is_empty());
-    assert_eq!(rt; notes.held(), b"read failed\n".as_slice());
+    let said = b"read failed\n".as_slice();
+    let calls = [
+        (0, 4, 0, said),
+        (1, 4, 0, said),
+        (2, 0, 1548, b"".as_slice()),
+    ];
+    for (call, status, output, notes) in calls {
+        let told = ask_failing(&rt, alloc, two_transfers(alloc)?, (call, NEVER, NEVER))?;
+        assert_eq!(rt; (told.status, told.output.len()), (status, output));
+        assert_eq!(rt; told.notes.as_slice(), notes);
+    }
     Ok(())
 }
 
-/// A failing first write of the output leaves the notes as they are, which would not be empty.
+/// The run makes one write of the output.
 #[test]
-fn a_failing_first_write(rt: HostRuntime) -> Result<(), Fail> {
+fn every_failing_write(rt: HostRuntime) -> Result<(), Fail> {
     let alloc = rt.alloc();
-    let words = words_of(alloc, "produce")?;
-    let mut source = NeverSource::new(repeated(alloc)?);
-    let mut out = MemSink::new(alloc, failing(alloc, 0)?);
-    let mut notes = NeverSink::new(alloc);
-    let status = bank_main(
-        &rt,
-        alloc,
-        &words,
-        &mut source,
-        &mut out,
-        &mut notes,
-        &OpenGate,
-        &OpenSend,
+    for (call, status, output) in [(0, 5, 0), (1, 0, 1548)] {
+        let told = ask_failing(&rt, alloc, two_transfers(alloc)?, (NEVER, call, NEVER))?;
+        assert_eq!(rt; (told.status, told.output.len()), (status, output));
+        assert!(rt; told.notes.is_empty());
+    }
+    Ok(())
+}
+
+/// A failing write of the output leaves the notes as they are, which would not be empty.
+#[test]
+fn no_note_after_a_failing_write(rt: HostRuntime) -> Result<(), Fail> {
+    let alloc = rt.alloc();
+    let told = ask_failing(&rt, alloc, repeated(alloc)?, (NEVER, 0, NEVER))?;
+    assert_eq!(rt;
+        (told.status, told.output.len(), told.notes.len()),
+        (5, 0, 0)
     );
-    assert_eq!(rt; status, 5);
-    assert!(rt; out.held().is_empty());
-    assert!(rt; notes.held().is_empty());
     Ok(())
 }
 
@@ -514,26 +553,28 @@ fn a_repeated_transaction_is_noted(rt: HostRuntime) -> Result<(), Fail> {
     Ok(())
 }
 
-/// A failing first write of the notes comes after the whole output.
+/// The run makes one write of the notes, after the whole output.
 #[test]
-fn a_failing_note(rt: HostRuntime) -> Result<(), Fail> {
+fn every_failing_note(rt: HostRuntime) -> Result<(), Fail> {
     let alloc = rt.alloc();
-    let words = words_of(alloc, "produce")?;
-    let mut source = NeverSource::new(repeated(alloc)?);
-    let mut out = NeverSink::new(alloc);
-    let mut notes = MemSink::new(alloc, failing(alloc, 0)?);
-    let status = bank_main(
-        &rt,
-        alloc,
-        &words,
-        &mut source,
-        &mut out,
-        &mut notes,
-        &OpenGate,
-        &OpenSend,
+    let said = b"refused 1: RepeatedInBatch\n".as_slice();
+    for (call, status, notes) in [(0, 5, b"".as_slice()), (1, 0, said)] {
+        let told = ask_failing(&rt, alloc, repeated(alloc)?, (NEVER, NEVER, call))?;
+        assert_eq!(rt; (told.status, told.output.len()), (status, 1029));
+        assert_eq!(rt; told.notes.as_slice(), notes);
+    }
+    Ok(())
+}
+
+/// A read fails, and then the note that says so.
+#[test]
+fn a_failing_read_and_note(rt: HostRuntime) -> Result<(), Fail> {
+    let alloc = rt.alloc();
+    let told = ask_failing(&rt, alloc, two_transfers(alloc)?, (0, NEVER, 0))?;
+    assert_eq!(rt;
+        (told.status, told.output.len(), told.notes.len()),
+        (5, 0, 0)
     );
-    assert_eq!(rt; (status, out.held().len()), (5, 1029));
-    assert!(rt; notes.held().is_empty());
     Ok(())
 }
 

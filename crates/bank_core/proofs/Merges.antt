@@ -1,19 +1,17 @@
 -- Slots merged back into accounts.
-use Rattle.std.proofs.Common.{◌≡◌, ℕ, zero, suc, ◌+◌, ◌-◌, ◌^◌, ◌<◌, ◌≤◌, ◌==◌, Bool, true, false, ◌||◌, cond, inl, inr, ◌⊎◌, List, [], ◌∷◌, ◌++◌, map, length, get_or, set, take, drop, All, Option, Some, None, refl, sym, ◌∙◌, ap, ap₂, subst, arith, get_or-set_same, get_or-set_other, ne_eqb, eq-eqb}
-use Rattle.std.specs.Prelude.{sum_by, unwrap_or, option_to_list, nat_eq, IfSome, IfNone}
+use Rattle.std.proofs.Common.{◌≡◌, ℕ, zero, suc, ◌+◌, ◌-◌, ◌^◌, ◌<◌, ◌≤◌, Bool, true, false, ◌||◌, cond, inl, inr, ◌⊎◌, List, [], ◌∷◌, ◌++◌, map, length, get_or, set, take, Option, Some, None, refl, sym, ◌∙◌, ap, ap₂, subst, arith, get_or-set_other, ne_eqb}
+use Rattle.std.specs.Prelude.{option_to_list}
 use Rattle.std.specs.List.{IsDistinct, AllByRecursion, flat_map, range_with_len}
 use Rattle.std.specs.Option.{option_map}
-use Rattle.std.proofs.lemmas.Bool.{cases_eq, cases_lt, both_ways, or_from, or_left, or_right, cond-true, cond-false, false_from_ne_true}
-use Rattle.std.proofs.lemmas.Bool.Decides.{nat_tests}
-use Rattle.std.proofs.lemmas.List.{take_more, get_or_default, length-map}
+use Rattle.std.proofs.lemmas.Bool.{cases_eq, or_from, cond-true, cond-false}
+use Rattle.std.proofs.lemmas.List.{take_more}
 use Rattle.std.proofs.lemmas.List.Folds.{list_any-append}
-use Rattle.std.proofs.lemmas.List.Sums.{sum_by_more, sum_by_more_le, sum_by-cons}
+use Rattle.std.proofs.lemmas.List.Sums.{sum_by_more, sum_by_more_le}
 use Rattle.std.proofs.lemmas.Map.Keys.{IsDistinct-head, IsDistinct-tail}
 use Rattle.sol_base.specs.declared.key.Key.{Key}
 use Rattle.sol_base.specs.declared.account.Account.{Account}
-use Rattle.sol_base.specs.Keys.{key_cmp}
 use Rattle.sol_base.specs.Accounts.{empty_account}
-use Rattle.sol_base.proofs.KeyLaws.{same_key-true, same_key-self}
+use Rattle.sol_base.proofs.KeyLaws.{same_key-self}
 use Rattle.account_store.specs.State.{State, at, put, sum, IsState}
 use Rattle.account_store.proofs.StateLaws.{sum-put, IsState-put}
 use Rattle.bank_law.specs.Job.{same_key, has_key}

@@ -1,10 +1,10 @@
 -- What an event does to what a core keeps.
-use Rattle.std.proofs.Common.{◌≡◌, ℕ, zero, suc, ◌+◌, ◌*◌, ◌<◌, ◌≤◌, ◌==◌, Bool, true, false, cond, inl, inr, ◌⊎◌, List, [], ◌∷◌, ◌++◌, map, length, get_or, set, All, Option, Some, None, IsSome, refl, sym, ◌∙◌, ap, ap₂, subst, arith, get_or-set_same, get_or-set_other, length-set, eq-eqb}
+use Rattle.std.proofs.Common.{◌≡◌, ℕ, zero, suc, ◌+◌, ◌<◌, ◌≤◌, ◌==◌, Bool, true, false, inl, inr, ◌⊎◌, List, [], ◌∷◌, ◌++◌, map, length, get_or, set, Option, Some, None, IsSome, refl, sym, ◌∙◌, ap, subst, arith, get_or-set_same, get_or-set_other, length-set, eq-eqb}
 use Rattle.std.specs.Prelude.{not, ◌||◌, unwrap_or, vec_len, vec_capacity}
-use Rattle.std.specs.List.{IsDistinct, list_any}
+use Rattle.std.specs.List.{list_any}
 use Rattle.std.specs.declared.vec.Vec.{Vec}
 use Rattle.std.specs.declared.alloc.Global.{Global}
-use Rattle.std.proofs.lemmas.List.{get_or_past, length-map, length_push}
+use Rattle.std.proofs.lemmas.List.{length-map, length_push}
 use Rattle.std.proofs.lemmas.List.Elements.{All-push}
 use Rattle.std.proofs.lemmas.Bool.{or_left, or_right, cases_lt, cases_eq, false_from_ne_true}
 use Rattle.sol_base.specs.declared.key.Key.{Key}
@@ -15,10 +15,10 @@ use Rattle.tx_report.specs.declared.outcome.Outcome.{Outcome}
 use Rattle.bank_law.specs.declared.event.Event.{Event}
 use Rattle.bank_law.specs.declared.event.EventKind.{EventKind}
 use Rattle.bank_law.specs.declared.event.EventKind.TheVariants.{Grant, Commit, Return}
-use Rattle.bank_law.specs.Job.{Job, JobEffects, same_key, has_key, keys, write_keys, declares}
+use Rattle.bank_law.specs.Job.{Job, JobEffects, has_key, keys, write_keys, declares}
 use Rattle.bank_law.specs.Serial.{serial}
-use Rattle.bank_law.specs.Lawful.{Fits, IsLawful}
-use Rattle.bank_law.specs.Machine.{Stage, waiting, held, done, State, is_waiting, is_held_by, loan, opening, grant, commit, return, at_stage, Ready, HoldsNone, Run, IsLegal, MayCome, held_count, is_held, with_event}
+use Rattle.bank_law.specs.Lawful.{IsLawful}
+use Rattle.bank_law.specs.Machine.{Stage, waiting, held, done, State, is_waiting, is_held_by, loan, opening, grant, commit, return, at_stage, Ready, HoldsNone, Run, IsLegal, held_count, is_held, with_event}
 use Rattle.bank_law.specs.Sound.{Sound, Agrees}
 use Rattle.bank_law.specs.History.{own, holds}
 use Rattle.bank_law.specs.History.{returns, is_return}
@@ -38,7 +38,7 @@ use Rattle.prio_graph.proofs.Moves.{inside}
 use Rattle.prio_graph.proofs.MachineLaws.{is-waits}
 use Rattle.bank_core.specs.Slots.{Shared, account_at, value_of, has, numbers, write_numbers, put_at, taken_at, put_back_at, AllThere, AreDistinct, ReadsAny, found}
 use Rattle.bank_core.specs.Keeping.{Keeps, HasRoom, HasBuffers, IsWide, outcome_of}
-use Rattle.bank_core.proofs.Numbers.{has_is, keys_is, numbers_within, as_many_locks, as_many_written, found_is, taken_is, written_is, returned_is}
+use Rattle.bank_core.proofs.Numbers.{has_is, keys_is, numbers_within, as_many_locks, found_is, taken_is, written_is, returned_is}
 use Rattle.bank_law.proofs.Histories.{own_same, own_other, own_none, holds_push, returns_push, returns_few}
 use Rattle.bank_law.proofs.Held.{some_passes}
 use Rattle.bank_core.specs.Takes.{SomeLaneHolds}

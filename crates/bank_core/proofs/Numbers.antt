@@ -1,17 +1,16 @@
 -- Keys by their numbers, and slots by keys.
-use Rattle.std.proofs.Common.{◌≡◌, ℕ, ◌<◌, ◌==◌, Bool, true, false, ◌||◌, ◌&&◌, cond, inl, inr, List, [], ◌∷◌, map, filter, length, get_or, All, Option, Some, None, refl, sym, ◌∙◌, ap, ap₂, subst, arith, ne_eqb, eq-eqb, eqb-true}
+use Rattle.std.proofs.Common.{◌≡◌, ℕ, ◌<◌, ◌==◌, Bool, true, false, ◌||◌, ◌&&◌, cond, List, [], ◌∷◌, map, filter, length, All, Option, Some, None, refl, sym, ◌∙◌, ap, ap₂, subst, arith, eqb-true}
 use Rattle.std.specs.Prelude.{unwrap_or}
 use Rattle.std.specs.List.{IsDistinct, AllByRecursion}
-use Rattle.std.proofs.lemmas.Bool.{cases_order, both_ways, false_from_ne_true, or_from}
+use Rattle.std.proofs.lemmas.Bool.{both_ways, false_from_ne_true, or_from}
 use Rattle.std.proofs.lemmas.List.{length-map}
 use Rattle.std.proofs.lemmas.List.Elements.{All-head, All-tail, All-map, All-filter}
-use Rattle.std.proofs.lemmas.Map.Keys.{apart_from_distinct, IsDistinct-head, IsDistinct-tail}
+use Rattle.std.proofs.lemmas.Map.Keys.{IsDistinct-head, IsDistinct-tail}
 use Rattle.sol_base.specs.declared.key.Key.{Key}
 use Rattle.sol_base.specs.declared.account.Account.{Account}
 use Rattle.sol_base.specs.Accounts.{empty_account}
 use Rattle.bank_law.specs.Job.{Job, same_key, has_key, lock_keys, keys, write_keys, beside}
 use Rattle.bank_law.specs.Machine.{put_in, taken_out}
-use Rattle.bank_law.proofs.Keys.{same_key-self, same_key-sym}
 use Rattle.lock_table.specs.declared.locks.NumberedLock.{NumberedLock}
 use Rattle.lock_table.specs.Numbers.{Numbers, keyed_lock, numbered_key}
 use Rattle.lock_table.proofs.Tables.{equal_numbers}

@@ -1,31 +1,28 @@
 -- What a core begins with.
-use Rattle.std.proofs.Common.{◌≡◌, ℕ, zero, suc, ◌+◌, ◌*◌, ◌^◌, ◌<◌, ◌≤◌, Bool, true, false, ◌||◌, cond, inl, inr, ◌⊎◌, List, [], ◌∷◌, ◌++◌, map, length, get_or, take, replicate, All, Option, Some, None, refl, sym, ◌∙◌, ap, subst, arith, take_all}
+use Rattle.std.proofs.Common.{◌≡◌, ℕ, zero, suc, ◌+◌, ◌*◌, ◌^◌, ◌<◌, ◌≤◌, Bool, true, false, ◌||◌, cond, inl, inr, ◌⊎◌, List, [], ◌∷◌, ◌++◌, length, get_or, take, replicate, Option, Some, None, refl, sym, ◌∙◌, ap, subst, arith, take_all}
 use Rattle.std.specs.Prelude.{unwrap_or, vec_len, vec_capacity}
 use Rattle.std.specs.List.{IsDistinct}
 use Rattle.std.specs.Option.{option_map}
 use Rattle.std.specs.declared.vec.Vec.{Vec}
 use Rattle.std.specs.declared.alloc.Global.{Global}
-use Rattle.std.proofs.lemmas.Bool.{cases_eq, cases_lt, cond_both, cond-true, cond-false}
+use Rattle.std.proofs.lemmas.Bool.{cases_eq, cond-false}
 use Rattle.std.proofs.lemmas.List.{get_or-replicate, length-replicate, length_push, get_or_push, get_or_append_left, take_more, length-map}
 use Rattle.std.proofs.lemmas.List.Folds.{list_any-append}
-use Rattle.std.proofs.lemmas.Map.Keys.{IsDistinct-push}
 use Rattle.sol_base.specs.declared.key.Key.{Key}
 use Rattle.sol_base.specs.declared.account.Account.{Account}
 use Rattle.sol_base.specs.declared.lock.Lock.{Lock}
 use Rattle.sol_base.specs.Accounts.{empty_account}
-use Rattle.sol_base.proofs.KeyLaws.{same_key-equiv}
 use Rattle.tx_report.specs.declared.outcome.Outcome.{Outcome}
 use Rattle.account_store.specs.State.{State, get, at, remove, IsState}
 use Rattle.account_store.proofs.StateLaws.{at-remove, IsState-remove}
 use Rattle.bank_law.specs.declared.event.Event.{Event}
 use Rattle.bank_law.specs.Job.{Job, same_key, has_key, lock_keys}
-use Rattle.bank_law.specs.Lawful.{IsLawful}
-use Rattle.bank_law.specs.Machine.{opening, waiting, is_held, Run, held_count, count_below}
+use Rattle.bank_law.specs.Machine.{waiting, is_held, Run, held_count, count_below}
 use Rattle.lock_table.specs.declared.locks.NumberedLock.{NumberedLock}
-use Rattle.lock_table.specs.Numbers.{Numbers, with_key, with_keys, numbered_key}
-use Rattle.lock_table.proofs.Numbering.{Numbers-extends, with_keys-extends, length-with_key-le}
+use Rattle.lock_table.specs.Numbers.{Numbers, with_keys, numbered_key}
+use Rattle.lock_table.proofs.Numbering.{Numbers-extends, with_keys-extends}
 use Rattle.prio_graph.specs.declared.mark.Mark.TheVariants.{Waiting, Done}
-use Rattle.prio_graph.specs.Ready.{Positions, set_at}
+use Rattle.prio_graph.specs.Ready.{set_at}
 use Rattle.bank_core.specs.Slots.{Shared, value_of, account_at}
 use Rattle.bank_core.specs.Counts.{locks_before}
 use Rattle.bank_core.specs.Keeping.{Keeps, IsApart, HasRoom, HasBuffers}

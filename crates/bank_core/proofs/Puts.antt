@@ -1,6 +1,6 @@
 -- Accounts put into slots, one after another from the back.
 use Rattle.std.proofs.Common.{◌≡◌, ℕ, ◌+◌, ◌-◌, ◌<◌, ◌≤◌, ◌==◌, Bool, true, false, ◌||◌, ◌&&◌, cond, inl, inr, List, [], ◌∷◌, ◌++◌, length, get_or, set, take, drop, All, Option, Some, None, refl, sym, ◌∙◌, ap, ap₂, subst, arith, take-take, take_at, take_all, length-take-le, get_or-take, get_or-set_same, get_or-set_other, eq-eqb, ne_eqb, filter, length-append}
-use Rattle.std.proofs.lemmas.List.{drop_all, get_or_default, drop_more, take_more, get_or_at, length_push, length-map, map-append}
+use Rattle.std.proofs.lemmas.List.{drop_all, get_or_default, drop_more, take_more, get_or_at, length_push}
 use Rattle.std.proofs.lemmas.Bool.{cases_eq, cond-true, cond-false}
 use Rattle.std.specs.Prelude.{IfSome, IfNone}
 use Rattle.std.specs.Option.{option_map}

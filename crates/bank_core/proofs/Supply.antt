@@ -1,28 +1,19 @@
 -- The lamports of states, and what fits of loans.
-use Rattle.std.proofs.Common.{◌≡◌, ℕ, zero, suc, ◌+◌, ◌-◌, ◌^◌, ◌<◌, ◌≤◌, Bool, true, false, cond, inl, inr, List, [], ◌∷◌, map, All, length, Option, Some, None, refl, sym, ◌∙◌, ap, ap₂, subst, arith}
-use Rattle.std.specs.Prelude.{sum_by, unwrap_or}
-use Rattle.std.specs.List.{IsDistinct, AllByRecursion}
-use Rattle.std.specs.Ordering.{eq_by_cmp, is_eq}
-use Rattle.std.specs.declared.cmp.Ordering.{Ordering}
-use Rattle.std.specs.declared.cmp.Ordering.TheVariants.{Less, Equal, Greater}
-use Rattle.std.proofs.lemmas.Cmp.{eq_by_cmp_equiv}
-use Rattle.std.proofs.lemmas.Bool.{both_ways, false_from_ne_true, cond-true, cond-false, or_cases, or_from, cond_both}
-use Rattle.std.proofs.lemmas.List.Sums.{sum_by-cons}
-use Rattle.std.proofs.lemmas.Map.Keys.{IsDistinct-head, IsDistinct-tail}
+use Rattle.std.proofs.Common.{◌≡◌, ℕ, zero, suc, ◌+◌, ◌<◌, true, inl, inr, List, [], ◌∷◌, map, All, length, Option, refl, sym, ◌∙◌, ap, subst, arith}
+use Rattle.std.specs.List.{IsDistinct}
+use Rattle.std.proofs.lemmas.Bool.{cond-true, cond-false, or_cases}
 use Rattle.sol_base.specs.declared.key.Key.{Key}
 use Rattle.sol_base.specs.declared.account.Account.{Account}
-use Rattle.sol_base.specs.Keys.{key_cmp}
 use Rattle.sol_base.specs.Accounts.{empty_account}
-use Rattle.sol_base.proofs.KeyLaws.{key_cmp_exact, key_cmp_total, same_key-true, same_key-self, same_key-false}
-use Rattle.account_store.specs.State.{State, get, at, remove, sum, IsHeld, IsState}
-use Rattle.account_store.proofs.StateLaws.{same_at, at-remove, sum-remove, IsState-remove, IsHeld-get}
+use Rattle.sol_base.proofs.KeyLaws.{same_key-true}
+use Rattle.account_store.specs.State.{State, at, sum}
 use Rattle.std.proofs.lemmas.List.Elements.{All-head, All-tail}
 use Rattle.tx_report.specs.declared.outcome.Outcome.{Outcome}
 use Rattle.bank_law.specs.declared.event.Event.{Event}
 use Rattle.prio_graph.specs.Ready.{Positions, set_at}
-use Rattle.bank_law.specs.Job.{Job, same_key, has_key, keys}
+use Rattle.bank_law.specs.Job.{Job, same_key, has_key}
 use Rattle.bank_law.proofs.Keys.{has_key-first, has_key-rest}
-use Rattle.bank_law.specs.Lawful.{lamports_under, IsLawful, IsShort, IsSettled, IsStart}
+use Rattle.bank_law.specs.Lawful.{lamports_under, IsStart}
 use Rattle.account_store.proofs.SumLaws.{sums_differ, under-cons}
 use Rattle.bank_law.proofs.States.{at_fits}
 use Rattle.bank_core.specs.Slots.{Shared, numbers}

@@ -1,5 +1,5 @@
 -- What the serial run ends with.
-use Rattle.std.specs.Prelude.{◌≡◌, ℕ, List, map}
+use Rattle.std.specs.Prelude.{◌≡◌, List, map}
 use Rattle.std.specs.List.{range_with_len}
 use Rattle.sol_base.specs.declared.key.Key.{Key}
 use Rattle.sol_base.specs.declared.account.Account.{Account}

@@ -11,10 +11,10 @@ use Rattle.account_store.specs.State.{State}
 use Rattle.bank_law.specs.declared.event.Event.{Event}
 use Rattle.bank_law.specs.Job.{Job}
 use Rattle.bank_law.specs.Lawful.{IsLawful}
-use Rattle.bank_law.proofs.Props.{IsLegalFrom-prop}
+use Rattle.bank_law.proofs.Props.{IsLawful-prop, IsLegalFrom-prop}
 use Rattle.prio_graph.specs.Ready.{Positions}
 use Rattle.bank_core.specs.Slots.{Shared}
-use Rattle.bank_core.specs.Keeping.{Keeps, IsApart, HasRoom, HasBuffers}
+use Rattle.bank_core.specs.Keeping.{Keeps, IsApart, AreEnds, HasRoom, HasBuffers}
 
 pub Keeps-prop : (job : Job) (start : Key → Account) (ks : List Key) (p : Positions)
     (slots : List (Option Shared)) (outcomes : List (Option Outcome)) (journal : List Event)
@@ -31,3 +31,7 @@ HasRoom-prop count lanes capacity journal = hlevel props
 pub HasBuffers-prop : (job : Job) (lanes : ℕ) (journal : List Event)
     (buffers : List (Vec Shared Global)) → IsProp (HasBuffers job lanes journal buffers)
 HasBuffers-prop job lanes journal buffers = hlevel props
+
+pub AreEnds-prop : (job : Job) (start rest : State) (ks : List Key)
+    (slots : List (Option Shared)) → IsProp (AreEnds job start rest ks slots)
+AreEnds-prop job start rest ks slots = hlevel (props, IsLawful-prop, IsDistinct-prop)

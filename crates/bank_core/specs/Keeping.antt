@@ -11,12 +11,14 @@ use Rattle.account_store.specs.State.{State, at, IsState}
 use Rattle.bank_law.specs.declared.event.Event.{Event}
 use Rattle.bank_law.specs.Job.{Job, same_key, has_key}
 use Rattle.lock_table.specs.Numbers.{numbered_key}
+use Rattle.bank_law.specs.Lawful.{IsLawful, IsStart}
+use Rattle.bank_law.specs.Serial.{serial}
 use Rattle.bank_law.specs.Machine.{Stage, waiting, held, done, IsLegal, Run}
 use Rattle.bank_law.specs.History.{own, holds}
 use Rattle.bank_law.specs.History.{returns}
 use Rattle.prio_graph.specs.Ready.{Positions}
 use Rattle.prio_graph.specs.Laws.{IsOf}
-use Rattle.bank_core.specs.Slots.{Shared, account_at}
+use Rattle.bank_core.specs.Slots.{Shared, account_at, in_slot}
 
 -- the outcome of a position, once it is done
 abbrev pub outcome_of : Stage → Option Outcome
@@ -64,3 +66,14 @@ pub record HasBuffers (job : Job) (lanes : ℕ) (journal : List Event)
   pub free : (lane : ℕ) (d : Vec Shared Global) → lane < lanes → holds (own journal lane) ≡ None
       → (vec_len (slice_index_or buffers lane d) ≡ 0)
       × IsWide job (vec_capacity (slice_index_or buffers lane d))
+
+-- once all positions are done, each key has the account that the serial run ends with, and the
+-- accounts of other keys stand apart
+pub record AreEnds (job : Job) (start rest : State) (ks : List Key)
+    (slots : List (Option Shared)) : Type 0 where
+  pub lawful : IsLawful job
+  pub starts : IsStart job (at start) ks
+  pub apart : IsApart start rest ks
+  pub slots_length : length slots ≡ length ks
+  pub stored : (n : ℕ) → n < length ks
+      → in_slot (account_at slots n) ≡ serial job (at start) job.count (numbered_key ks n)

@@ -9,3 +9,4 @@ pub mod Ends
 pub mod Desks
 pub mod Trial
 pub mod TrialLaws
+pub mod Openings

@@ -1,5 +1,5 @@
 -- Accounts in slots by number.
-use Rattle.std.specs.Prelude.{◌≡◌, ℕ, ◌<◌, ◌==◌, Bool, true, not, ◌&&◌, if◌then◌else◌, List, [], ◌∷◌, map, filter, slice_index_or, All, Option, Some, None, IsSome, option_map, sum_by}
+use Rattle.std.specs.Prelude.{◌≡◌, ℕ, ◌==◌, Bool, true, not, ◌&&◌, if◌then◌else◌, List, [], ◌∷◌, map, filter, slice_index_or, All, Option, Some, None, IsSome, option_map, sum_by}
 use Rattle.std.specs.List.{list_any, IsDistinct}
 use Rattle.std.specs.Arc.{arc_value}
 use Rattle.sol_base.specs.Accounts.{empty_account}

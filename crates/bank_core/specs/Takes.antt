@@ -1,5 +1,4 @@
 -- What a take may answer.
-use Rattle.sol_base.specs.declared.lock.Lock.{Lock}
 use Rattle.std.specs.Prelude.{◌≡◌, ℕ, ◌<◌, ◌≤◌, List, true, not, Option, Some, None}
 use Rattle.std.specs.List.{list_any}
 use Rattle.bank_law.specs.declared.event.Event.{Event}

@@ -1,5 +1,5 @@
 -- The small work for trials is lawful.
-use Rattle.std.proofs.Common.{◌≡◌, ℕ, suc, ◌-◌, ◌<◌, ◌≤◌, Bool, true, false, cond, List, [], ◌∷◌, map, filter, length, All, refl, sym, ◌∙◌, ap, arith}
+use Rattle.std.proofs.Common.{◌≡◌, ◌-◌, ◌<◌, ◌≤◌, Bool, true, false, cond, List, [], ◌∷◌, map, filter, refl, sym, ◌∙◌, arith}
 use Rattle.std.specs.Prelude.{nat_lt}
 use Rattle.std.proofs.lemmas.Bool.Decides.{nat_tests}
 use Rattle.std.proofs.lemmas.List.{length-map}
@@ -7,9 +7,9 @@ use Rattle.std.proofs.lemmas.List.Elements.{All-head, All-tail, All-cons, All-ni
 use Rattle.sol_base.specs.declared.account.Account.{Account}
 use Rattle.sol_base.specs.declared.lock.Lock.{Lock}
 use Rattle.sol_base.specs.Accounts.{empty_account}
-use Rattle.bank_law.specs.Job.{lock_keys}
 use Rattle.bank_law.specs.Lawful.{IsShort, AreShort, IsSettled, AreSettled, lamports_in, lent_for_writing, IsLawful}
 use Rattle.bank_law.proofs.States.{lamports_in-cons}
+use Rattle.bank_law.proofs.Supply.{lent_for_writing-length, lent_for_writing-short}
 use Rattle.bank_core.specs.Trial.{spent, trial_job, AreDistinctLists}
 
 spent-le : (a : Account) → (spent a).lamports ≤ a.lamports
@@ -56,39 +56,15 @@ all_spent-settled [] = All-nil IsSettled
 all_spent-settled (v ∷ vs) =
     All-cons IsSettled (spent v) (map spent vs) (spent-settled v) (all_spent-settled vs)
 
--- what is lent for writing
-lent-length : (locks : List Lock) (vs : List Account) → length vs ≡ length locks
-    → length (lent_for_writing locks vs) ≡ length (lock_keys (filter (λ lock. lock.write) locks))
-lent-length [] vs e = refl
-lent-length (x ∷ xs) [] e = absurd (omega (arith, e))
-lent-length (x ∷ xs) (v ∷ vs) e = by_case x.write (lent-length xs vs (omega (arith, e)))
-  where
-    by_case : (b : Bool) → length (lent_for_writing xs vs)
-        ≡ length (lock_keys (filter (λ lock. lock.write) xs))
-        → length (cond b (v ∷ lent_for_writing xs vs) (lent_for_writing xs vs))
-        ≡ length (lock_keys
-        (cond b (x ∷ filter (λ lock. lock.write) xs) (filter (λ lock. lock.write) xs)))
-    by_case true rest = ap suc rest
-    by_case false rest = rest
-
-lent-short : (locks : List Lock) (vs : List Account) → AreShort vs
-    → AreShort (lent_for_writing locks vs)
-lent-short [] vs s = All-nil IsShort
-lent-short (x ∷ xs) [] s = All-nil IsShort
-lent-short (x ∷ xs) (v ∷ vs) s = by_case x.write (lent-short xs vs (All-tail IsShort v vs s))
-  where
-    by_case : (b : Bool) → AreShort (lent_for_writing xs vs)
-        → AreShort (cond b (v ∷ lent_for_writing xs vs) (lent_for_writing xs vs))
-    by_case true rest = All-cons IsShort v (lent_for_writing xs vs) (All-head IsShort v vs s) rest
-    by_case false rest = rest
-
 pub trial_lawful : (lists : List (List Lock)) → AreDistinctLists lists → IsLawful (trial_job lists)
 trial_lawful lists distinct = record {
   distinct = λ i l. distinct i [] l;
   one_each = λ i vs l F. length-map (lent_for_writing ((trial_job lists).locks i) vs) spent
-      ∙ lent-length ((trial_job lists).locks i) vs F.one_each;
+      ∙ lent_for_writing-length ((trial_job lists).locks i) vs F.one_each
+      ∙ sym (length-map (filter (λ lock. lock.write) ((trial_job lists).locks i))
+      (λ lock. lock.key));
   no_more = λ i vs l F. all_spent-le (lent_for_writing ((trial_job lists).locks i) vs);
   short = λ i vs l F. all_spent-short (lent_for_writing ((trial_job lists).locks i) vs)
-      (lent-short ((trial_job lists).locks i) vs F.short);
+      (lent_for_writing-short ((trial_job lists).locks i) vs F.short);
   settled = λ i vs l F s. all_spent-settled (lent_for_writing ((trial_job lists).locks i) vs);
 }

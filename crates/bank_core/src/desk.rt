@@ -1,3 +1,4 @@
+//! Desks: cores that lanes share.
 ghost use Rattle.std.specs.Prelude.{◌≡◌, ℕ, ◌<◌, Some, None};
 ghost use Rattle.bank_core.specs.Origins.{IsLegalFor, AllDoneAfter};
 ghost use Rattle.bank_law.specs.History.{PassView, holds, returns};

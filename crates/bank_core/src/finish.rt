@@ -1,3 +1,4 @@
+//! What a core ends with.
 ghost use Rattle.std.specs.Prelude.{◌≡◌, ℕ, ◌+◌, ◌-◌, ◌^◌, ◌<◌, ◌≤◌, true, false, IfOk, OnOk, length, option_to_list};
 ghost use Rattle.std.specs.List.{IsDistinct, flat_map};
 ghost use Rattle.sol_base.specs.declared.key.Key.{Key as KeyValue};

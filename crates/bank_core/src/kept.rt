@@ -1,3 +1,4 @@
+//! The core: it lends the values of positions, and takes the effects back.
 ghost use Rattle.std.specs.Prelude.{⊤, ◌≡◌, ◌<◌, ◌≤◌, Some, None, OnOk, OnErr, IfOk, vec_len, vec_capacity};
 ghost use Rattle.account_store.specs.State.{at};
 ghost use Rattle.bank_law.specs.Machine.{Run, held_count, with_event};
@@ -13,7 +14,8 @@ ghost use Rattle.bank_core.specs.Takes.{IsNotNowAfter, ReadsLeastAfter, SomeLane
 ghost use Rattle.bank_core.specs.Facts.{Keeps-prop, IsApart-prop, HasRoom-prop, HasBuffers-prop};
 ghost use Rattle.bank_law.proofs.Props.{IsLawful-prop};
 
-use crate::finish::{Sealed, all_outcomes, put_all};
+use crate::ended::Ended;
+use crate::finish::{Sealed, all_outcomes};
 use crate::loan::{Loan, Take};
 use crate::origin::Origin;
 use crate::room::{push_with_room, take_at, write_at};
@@ -24,7 +26,7 @@ use bank_law::{Event, EventKind};
 use lock_table::KeyTable;
 use prio_graph::Graph;
 use proof_note::Note;
-use sol_base::{Account, OutOfMemory};
+use sol_base::{Account, Items, OutOfMemory};
 use std::alloc::Global;
 use std::sync::Arc;
 use tx_report::Outcome;
@@ -42,15 +44,17 @@ pub struct Core<W: Work> {
     pub(crate) held: u32,
     pub(crate) journal: Vec<Event>,
     pub(crate) alloc: Global,
+    ghost some: { 1 ≤ lanes },
     ghost lawful: { IsLawful (W.job origin.value.told) } by { IsLawful-prop (W.job origin.value.told) },
     ghost runs: { Keeps (W.job origin.value.told) (at origin.value.start) table graph slots.items
         outcomes.items journal.items } by { Keeps-prop (W.job origin.value.told)
             (at origin.value.start) table graph slots.items outcomes.items journal.items },
-    ghost apart: { IsApart origin.value.start rest table } by { IsApart-prop origin.value.start rest table },
+    ghost apart: { IsApart origin.value.start rest table } by { IsApart-prop _ _ _ },
     ghost room: { HasRoom (W.job origin.value.told).count lanes (vec_capacity journal)
         journal.items } by { HasRoom-prop (W.job origin.value.told).count lanes
             (vec_capacity journal) journal.items },
-    ghost buffered: { HasBuffers (W.job origin.value.told) lanes journal.items buffers.items } by { HasBuffers-prop (W.job origin.value.told) lanes journal.items buffers.items },
+    ghost buffered: { HasBuffers (W.job origin.value.told) lanes journal.items
+        buffers.items } by { HasBuffers-prop _ _ _ _ },
     ghost counted: { held
         ≡ held_count (W.job origin.value.told)
         (Run (W.job origin.value.told) (at origin.value.start) journal.items) },
@@ -230,7 +234,37 @@ impl<W: Work> Core<W> {
         })
     }
 
-    /// Ends a core whose positions are all done.
+    /// Ends a core whose positions are all done: its accounts, which stand apart yet, and the
+    /// outcomes.
+    pub fn part(self) -> Result<(Ended<W>, Items<Outcome>), OutOfMemory>
+        requires { AllDoneAfter W.job self.origin.value self.journal.items }
+        ensures origin { IfOk result (λ end. end.0.origin.value ≡ self.origin.value) }
+        ensures outcomes { IfOk result (λ end. end.1 ≡ outcomes_at_end W.job self.origin.value) }
+    {
+        let Core {
+            origin,
+            lanes: _,
+            table,
+            graph: _,
+            slots,
+            rest,
+            outcomes,
+            buffers: _,
+            held: _,
+            journal: _,
+            alloc,
+        } = self;
+        let outcomes = all_outcomes(alloc, outcomes)?;
+        let ended = Ended {
+            origin,
+            table,
+            slots,
+            rest,
+        };
+        Ok((ended, outcomes))
+    }
+
+    /// The same with all accounts together.
     pub fn finish(self) -> Result<Sealed, OutOfMemory>
         requires { AllDoneAfter W.job self.origin.value self.journal.items }
         ensures accounts { IfOk result
@@ -239,24 +273,8 @@ impl<W: Work> Core<W> {
         ensures outcomes { IfOk result
             (λ end. end.outcomes ≡ outcomes_at_end W.job self.origin.value) }
     {
-        let Core {
-            origin: _,
-            lanes: _,
-            table,
-            graph: _,
-            mut slots,
-            mut rest,
-            outcomes,
-            buffers: _,
-            held: _,
-            journal: _,
-            alloc,
-        } = self;
-        put_all(&mut rest, &table, &mut slots)?;
-        let outcomes = all_outcomes(alloc, outcomes)?;
-        Ok(Sealed {
-            accounts: rest,
-            outcomes,
-        })
+        let (ended, outcomes) = self.part()?;
+        let accounts = ended.joined()?;
+        Ok(Sealed { accounts, outcomes })
     }
 }

@@ -1,3 +1,4 @@
+//! Loans: the values of a position, lent to a lane.
 ghost use Rattle.std.specs.Prelude.{◌≡◌, ◌<◌, ◌≤◌, ℕ, map, length, vec_capacity};
 ghost use Rattle.std.proofs.Props.{props};
 ghost use Rattle.bank_law.specs.Job.{keys};
@@ -23,7 +24,8 @@ pub struct Loan<W: Work> {
     ghost lent: { accounts_of values.items
         ≡ map (serial (W.job origin.value.told) (at origin.value.start) position)
         (keys (W.job origin.value.told) position) } by { Prim.hlevel props },
-    ghost fits: { Fits ((W.job origin.value.told).locks position) (accounts_of values.items) } by { Fits-prop ((W.job origin.value.told).locks position) (accounts_of values.items) },
+    ghost fits: { Fits ((W.job origin.value.told).locks position)
+        (accounts_of values.items) } by { Fits-prop _ _ },
     ghost room: { (i : ℕ) → i < (W.job origin.value.told).count
         → length ((W.job origin.value.told).locks i) ≤ vec_capacity values },
 }

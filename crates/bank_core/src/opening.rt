@@ -1,3 +1,4 @@
+//! What a core is made from: the locks, the graph and the slots.
 ghost use Rattle.std.specs.Prelude.{◌≡◌, ℕ, ◌+◌, ◌*◌, ◌^◌, ◌<◌, ◌≤◌, [], ⊤, Some, None, IfOk, OnOk, length, replicate, vec_len, vec_capacity, slice_index_or, if◌then◌else◌};
 ghost use Rattle.std.specs.List.{IsDistinct};
 ghost use Rattle.std.specs.declared.vec.Vec.{Vec as VecValue};
@@ -5,14 +6,16 @@ ghost use Rattle.std.specs.declared.alloc.Global.{Global as GlobalValue};
 ghost use Rattle.sol_base.specs.declared.key.Key.{Key as KeyValue};
 ghost use Rattle.sol_base.specs.Accounts.{empty_account};
 ghost use Rattle.account_store.specs.State.{at, IsState};
-ghost use Rattle.bank_law.specs.Job.{same_key, has_key};
+ghost use Rattle.bank_law.specs.Job.{same_key, has_key, keys};
 ghost use Rattle.lock_table.specs.Numbers.{Numbers, numbered_key};
 ghost use Rattle.prio_graph.specs.Ready.{set_at};
 ghost use Rattle.bank_core.specs.Slots.{Shared, account_at};
 ghost use Rattle.bank_core.specs.Keeping.{IsApart};
+ghost use Rattle.bank_core.specs.Openings.{AreNumbered};
 ghost use Rattle.bank_core.specs.Counts.{locks_before};
 
 use crate::kept::Core;
+use crate::locked::{Locked, OfWork};
 use crate::origin::Origin;
 use crate::work::Work;
 use account_store::Accounts;
@@ -33,22 +36,23 @@ fn origin_of<W: Work>(work: &W, accounts: &Accounts) -> Note<Origin<W::Told>>
 }
 
 /// The locks of each position, over the numbers of their keys.
-fn sets_of<W: Work>(
+fn sets_of<L: Locked>(
     alloc: Global,
-    work: &W,
+    locked: &L,
     table: &mut KeyTable,
 ) -> Result<Items<LockSet>, OutOfMemory>
     requires empty { table.old ≡ [] }
-    requires room { locks_before (W.job (W.told work.now)) (W.job (W.told work.now)).count
-        < 2 ^ 32 }
-    ensures long { IfOk result (λ sets. length sets ≡ (W.job (W.told work.now)).count) }
-    ensures numbered { IfOk result (λ sets. (i : ℕ) → i < (W.job (W.told work.now)).count
-        → Numbers table.new ((W.job (W.told work.now)).locks i) (set_at sets i)) }
+    requires apart { (i : ℕ) → i < (L.job locked.now).count
+        → IsDistinct same_key (keys (L.job locked.now) i) }
+    requires room { locks_before (L.job locked.now) (L.job locked.now).count < 2 ^ 32 }
+    ensures long { IfOk result (λ sets. length sets ≡ (L.job locked.now).count) }
+    ensures numbered { IfOk result (λ sets. (i : ℕ) → i < (L.job locked.now).count
+        → Numbers table.new ((L.job locked.now).locks i) (set_at sets i)) }
     ensures distinct { OnOk result (IsDistinct same_key table.new) }
 {
     let mut sets = Items::new(alloc);
-    for position in 0..work.count() {
-        sets.push(set_of(alloc, table, work.locks(position))?)?;
+    for position in 0..locked.count() {
+        sets.push(set_of(alloc, table, locked.locks(position))?)?;
     }
     Ok(sets)
 }
@@ -62,6 +66,29 @@ fn most_locks(sets: &[LockSet]) -> usize
         most = most.max(set.items().len());
     }
     most
+}
+
+/// The keys of locks as numbers, and the graph of the positions whose locks they are.
+#[derive(Drop)]
+pub struct Numbered {
+    pub(crate) table: KeyTable,
+    pub(crate) graph: Graph,
+    pub(crate) room: usize,
+}
+
+/// Numbers the keys that positions lock, and makes the graph of the positions.
+pub fn number<L: Locked>(alloc: Global, locked: &L) -> Result<Numbered, OutOfMemory>
+    requires apart { (i : ℕ) → i < (L.job locked.now).count
+        → IsDistinct same_key (keys (L.job locked.now) i) }
+    requires room { locks_before (L.job locked.now) (L.job locked.now).count < 2 ^ 32 }
+    ensures { IfOk result (λ n. AreNumbered (L.job locked.now) n.table n.graph n.room) }
+{
+    let _count = locked.count();
+    let mut table = KeyTable::new(alloc);
+    let sets = sets_of(alloc, locked, &mut table)?;
+    let room = most_locks(sets.as_slice());
+    let graph = Graph::new(alloc, sets)?;
+    Ok(Numbered { table, graph, room })
 }
 
 /// The accounts of the table's keys, which leave the others. An absent one is the empty account.
@@ -136,13 +163,31 @@ impl<W: Work> Core<W> {
         ensures lanes { IfOk result (λ core. core.lanes ≡ lanes) }
         ensures journal { IfOk result (λ core. core.journal.items ≡ []) }
     {
+        let numbered = number(alloc, &OfWork { work })?;
+        Core::over(alloc, accounts, work, lanes, numbered)
+    }
+
+    /// The same where the keys of the work's locks were numbered before.
+    pub fn over(
+        alloc: Global,
+        accounts: Accounts,
+        work: &W,
+        lanes: u32,
+        numbered: Numbered,
+    ) -> Result<Core<W>, OutOfMemory>
+        requires some { 1 ≤ lanes }
+        requires most { lanes ≤ 64 }
+        requires numbered { AreNumbered (W.job (W.told work.now)) numbered.table numbered.graph
+            numbered.room }
+        ensures origin { IfOk result
+            (λ core. core.origin.value ≡ record { start = accounts; told = W.told work.now }) }
+        ensures lanes { IfOk result (λ core. core.lanes ≡ lanes) }
+        ensures journal { IfOk result (λ core. core.journal.items ≡ []) }
+    {
+        let Numbered { table, graph, room } = numbered;
         let count = work.count() as usize;
         let origin = origin_of(work, &accounts);
         let mut rest = accounts;
-        let mut table = KeyTable::new(alloc);
-        let sets = sets_of(alloc, work, &mut table)?;
-        let room = most_locks(sets.as_slice());
-        let graph = Graph::new(alloc, sets)?;
         let slots = slots_of(alloc, &mut rest, &table)?;
         let outcomes = no_outcomes(alloc, count)?;
         let buffers = buffers_of(alloc, lanes as usize, room)?;

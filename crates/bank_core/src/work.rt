@@ -1,3 +1,4 @@
+//! Work: many positions, each performed on the values of its locks.
 ghost use Rattle.std.specs.Prelude.{◌≡◌, ◌<◌, IfOk};
 ghost use Rattle.bank_law.specs.Job.{Job};
 ghost use Rattle.bank_law.specs.Lawful.{IsLawful, Fits};

@@ -16,7 +16,7 @@ use std::sync::Wait;
 use std::thread;
 use std::thread::{Threads, join_mut};
 
-// Splits a pass for each lane that is left, as far as there is memory for them.
+/// Splits a pass for each lane that is left, as far as there is memory for them.
 fn make_passes<W: Work, D: Desk<W>, R: Wait>(
     rt: &R,
     desk: &D,
@@ -46,7 +46,7 @@ fn make_passes<W: Work, D: Desk<W>, R: Wait>(
     unreachable!()
 }
 
-// Joins a pass that holds nothing.
+/// Joins a pass that holds nothing.
 fn join_idle<W: Work, D: Desk<W>>(desk: &D, pass: &mut D::Pass, other: D::Pass)
     requires desk { D.is_of desk.now pass.old }
     requires other { D.is_of desk.now other }
@@ -59,7 +59,7 @@ fn join_idle<W: Work, D: Desk<W>>(desk: &D, pass: &mut D::Pass, other: D::Pass)
     desk.join(pass, other);
 }
 
-// Runs a loop over each pass, beside each other.
+/// Runs a loop over each pass, beside each other.
 fn run_each<W: Work + Sync, D: Desk<W, Loan = Loan<W>>, G: Gate, R: Threads + Wait + Sync>(
     rt: &R,
     desk: &D,
@@ -91,7 +91,7 @@ fn run_each<W: Work + Sync, D: Desk<W, Loan = Loan<W>>, G: Gate, R: Threads + Wa
     );
 }
 
-// Runs the caller's loop beside the others.
+/// Runs the caller's loop beside the others.
 fn run_all<W: Work + Sync, D: Desk<W, Loan = Loan<W>>, G: Gate, R: Threads + Wait + Sync>(
     rt: &R,
     desk: &D,
@@ -129,7 +129,7 @@ fn run_all<W: Work + Sync, D: Desk<W, Loan = Loan<W>>, G: Gate, R: Threads + Wai
     end
 }
 
-// Joins the passes, none of which holds anything.
+/// Joins the passes, none of which holds anything.
 fn join_all<W: Work, D: Desk<W>>(desk: &D, pass: &mut D::Pass, mut passes: Vec<D::Pass>)
     requires desk { D.is_of desk.now pass.old }
     requires free { holds (D.view pass.old).mine ≡ None }

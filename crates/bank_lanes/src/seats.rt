@@ -26,7 +26,7 @@ impl<W: Work> Seat<W> {
         }
     }
 
-    // Takes a loan into the seat.
+    /// Takes a loan into the seat.
     pub(crate) fn hold(&mut self, loan: Loan<W>)
         requires { self.old.loan ≡ None }
         ensures { self.new ≡ record self.old { loan = Some loan } }
@@ -37,7 +37,7 @@ impl<W: Work> Seat<W> {
         }
     }
 
-    // Passes the gate and performs the loan, if there is one.
+    /// Passes the gate and performs the loan, if there is one.
     pub(crate) fn perform<G: Gate>(&mut self, work: &W, gate: &G)
         requires { IsLoanOfWork (W.told work.now) self.old }
         ensures loan { self.new.loan ≡ self.old.loan }

@@ -16,7 +16,7 @@ use std::alloc::Global;
 use std::thread;
 use std::thread::{Threads, join_mut};
 
-// Lends the least ready position to a lane, and says whether one was lent.
+/// Lends the least ready position to a lane, and says whether one was lent.
 fn lend_to<W: Work>(core: &mut Core<W>, lane: u32, seat: &mut Seat<W>) -> bool
     requires lane { lane < core.old.lanes }
     requires empty { IsEmptySeat seat.old }
@@ -38,7 +38,7 @@ fn lend_to<W: Work>(core: &mut Core<W>, lane: u32, seat: &mut Seat<W>) -> bool
     }
 }
 
-// Lends to the further lanes, in ascending order, until nothing is lent.
+/// Lends to the further lanes, in ascending order, until nothing is lent.
 fn lend_to_others<W: Work>(core: &mut Core<W>, seats: &mut [Seat<W>])
     requires long { length seats.old ≡ core.old.lanes }
     requires empty { AllWithin IsEmptySeat seats.old 1 (length seats.old) }
@@ -56,7 +56,7 @@ fn lend_to_others<W: Work>(core: &mut Core<W>, seats: &mut [Seat<W>])
     }
 }
 
-// Performs each seat's loan, beside each other.
+/// Performs each seat's loan, beside each other.
 fn perform_each<W: Work + Sync, G: Gate, R: Threads + Sync>(
     rt: &R,
     work: &W,
@@ -87,7 +87,7 @@ fn perform_each<W: Work + Sync, G: Gate, R: Threads + Sync>(
     );
 }
 
-// Performs the loan of the one seat, where the caller sits.
+/// Performs the loan of the one seat, where the caller sits.
 fn perform_own<W: Work, G: Gate>(work: &W, gate: &G, seats: &mut [Seat<W>])
     requires one { length seats.old ≡ 1 }
     requires loans { All (IsLoanOfWork (W.told work.now)) seats.old }
@@ -97,7 +97,7 @@ fn perform_own<W: Work, G: Gate>(work: &W, gate: &G, seats: &mut [Seat<W>])
     seats[0].perform(work, gate);
 }
 
-// The same, of lane 0 by the caller and of each other lane by a thread of its own.
+/// The same, of lane 0 by the caller and of each other lane by a thread of its own.
 fn perform_all<W: Work + Sync, G: Gate, R: Threads + Sync>(
     rt: &R,
     work: &W,
@@ -125,7 +125,7 @@ fn perform_all<W: Work + Sync, G: Gate, R: Threads + Sync>(
     );
 }
 
-// Commits the effects of a seat's loan, or gives the loan back where there are none.
+/// Commits the effects of a seat's loan, or gives the loan back where there are none.
 fn settle<W: Work>(core: &mut Core<W>, lane: u32, seat: &mut Seat<W>)
     requires seat { IsSeatOf seat.old core.old.origin.value core.old.journal.items lane }
     requires done { IsPerformed (W.job core.old.origin.value.told) seat.old }
@@ -147,7 +147,7 @@ fn settle<W: Work>(core: &mut Core<W>, lane: u32, seat: &mut Seat<W>)
     }
 }
 
-// The same of each seat, in the order of the lanes.
+/// The same of each seat, in the order of the lanes.
 fn settle_all<W: Work>(core: &mut Core<W>, seats: &mut [Seat<W>])
     requires long { length seats.old ≡ core.old.lanes }
     requires seats { AreSeats seats.old core.old.origin.value core.old.journal.items }
@@ -163,7 +163,7 @@ fn settle_all<W: Work>(core: &mut Core<W>, seats: &mut [Seat<W>])
     }
 }
 
-// Runs wave after wave.
+/// Runs wave after wave.
 fn run_seats<W: Work + Sync, G: Gate, R: Threads + Sync>(
     rt: &R,
     core: &mut Core<W>,

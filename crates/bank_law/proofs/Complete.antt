@@ -1,7 +1,6 @@
 -- A legal history to the end of each job: each position is granted and committed in its turn.
 use Rattle.std.proofs.Common.{◌≡◌, ℕ, zero, suc, ◌<◌, ◌≤◌, true, false, inl, inr, List, [], refl, sym, ◌∙◌, ap, subst, arith}
 use Rattle.std.specs.Prelude.{unwrap_or, map}
-use Rattle.std.proofs.lemmas.Bool.{cases_eq}
 use Rattle.sol_base.specs.declared.key.Key.{Key}
 use Rattle.sol_base.specs.declared.account.Account.{Account}
 use Rattle.sol_base.specs.Accounts.{empty_account}

@@ -6,18 +6,12 @@ use Rattle.sol_base.specs.declared.key.Key.{Key}
 use Rattle.sol_base.specs.declared.account.Account.{Account}
 use Rattle.sol_base.specs.declared.lock.Lock.{Lock}
 pub use Rattle.sol_base.proofs.KeyLaws.{same_key-true, same_key-self, same_key-sym, same_key-equiv}
+pub use Rattle.account_store.proofs.SumLaws.{has_key-first, has_key-rest, has_key-none}
 use Rattle.bank_law.specs.Job.{same_key, has_key, lock_keys, beside, written_keys}
 use Rattle.bank_law.specs.Machine.{meet, clash}
 
 both_same : (a b key : Key) → same_key key a ≡ true → same_key key b ≡ true → same_key a b ≡ true
 both_same a b key e f = subst (λ k. same_key k b ≡ true) (same_key-true key a e) f
-
-pub has_key-first : (key : Key) (ks : List Key) → has_key key (key ∷ ks) ≡ true
-has_key-first key ks = or_left _ _ (same_key-self key)
-
--- a key that stands behind another
-pub has_key-rest : (key k : Key) (ks : List Key) → has_key key ks ≡ true → has_key key (k ∷ ks) ≡ true
-has_key-rest key k ks h = or_right (same_key key k) _ h
 
 pub beside-map : (accounts : Key → Account) (key : Key) (ks : List Key) → has_key key ks ≡ true → beside key ks (map accounts ks) ≡ accounts key
 beside-map accounts key [] h = absurd (false≢true h)

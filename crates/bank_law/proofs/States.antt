@@ -1,14 +1,9 @@
 -- The serial run as a state.
 use Rattle.std.proofs.Common.{◌≡◌, ◌==◌, ℕ, zero, suc, ◌+◌, ◌<◌, ◌≤◌, Bool, true, false, cond, inl, inr, List, [], ◌∷◌, map, length, Option, Some, None, refl, sym, ◌∙◌, ap, ap₂, subst, arith}
-use Rattle.std.specs.Prelude.{unwrap_or, nat_eq, ◌||◌}
+use Rattle.std.specs.Prelude.{unwrap_or, ◌||◌}
 use Rattle.std.specs.List.{AllByRecursion}
 use Rattle.std.specs.BTreeMap.{is_at}
-use Rattle.std.specs.Ordering.{eq_by_cmp, is_eq}
-use Rattle.std.specs.declared.cmp.Ordering.{Ordering}
-use Rattle.std.specs.declared.cmp.Ordering.TheVariants.{Less, Equal, Greater}
-use Rattle.std.proofs.lemmas.Cmp.{eq_by_cmp_equiv}
 use Rattle.std.proofs.lemmas.Bool.{eqb-true, both_ways, cases_eq, cond-false, false_from_ne_true}
-use Rattle.std.proofs.lemmas.Bool.Decides.{nat_tests}
 use Rattle.std.proofs.lemmas.List.{length-map}
 use Rattle.std.proofs.lemmas.List.Elements.{All-head, All-tail, All-map}
 use Rattle.std.proofs.lemmas.List.Sums.{sum_by-cons}
@@ -17,8 +12,8 @@ use Rattle.sol_base.specs.declared.account.Account.{Account}
 use Rattle.sol_base.specs.declared.lock.Lock.{Lock}
 use Rattle.sol_base.specs.Keys.{key_cmp}
 use Rattle.sol_base.specs.Accounts.{empty_account}
-use Rattle.sol_base.proofs.KeyLaws.{key_cmp_exact, key_cmp_total, same_key-true, same_key-self}
-use Rattle.account_store.specs.State.{State, get, at, put, remove, entries, sum, IsHeld, IsState}
+use Rattle.sol_base.proofs.KeyLaws.{key_cmp_exact, key_cmp_total, same_key-true}
+use Rattle.account_store.specs.State.{State, get, at, put, entries, sum, IsHeld, IsState}
 use Rattle.account_store.proofs.EntryLists.{entries-insert_entry, entries-remove_entry, all-insert_entry, all-remove_entry}
 use Rattle.account_store.proofs.StateLaws.{IsHeld-get, at-put, sum-put, put-zero, put-more}
 use Rattle.account_store.proofs.SumLaws.{under-same, under-le, under-cons}
@@ -27,7 +22,7 @@ use Rattle.bank_law.specs.Serial.{serial, performed}
 use Rattle.bank_law.specs.SerialState.{put_each, next_state, serial_state}
 use Rattle.bank_law.specs.Lawful.{IsShort, AreShort, IsSettled, AreSettled, lamports_in, lamports_under, lent_for_writing, Fits, IsLawful}
 use Rattle.bank_law.specs.Laws.{StatesRunSerially, SerialStatesAreStates, SumsMove}
-use Rattle.bank_law.proofs.Keys.{map-same, has_key-first, has_key-rest}
+use Rattle.bank_law.proofs.Keys.{map-same}
 use Rattle.bank_law.proofs.Supply.{AreApart, apart_if, written_apart, lent_for_writing-map}
 
 -- what is at each key after an account that is settled is put

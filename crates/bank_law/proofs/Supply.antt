@@ -1,11 +1,12 @@
 -- The lamports and the data of a lawful work.
 use Rattle.std.proofs.Common.{◌≡◌, ℕ, zero, suc, ◌+◌, ◌^◌, ◌<◌, ◌≤◌, Bool, true, false, ◌||◌, cond, inl, inr, List, [], ◌∷◌, map, filter, length, All, refl, sym, ◌∙◌, ap, ap₂, subst, arith}
 use Rattle.std.specs.Prelude.{sum_by}
-use Rattle.std.specs.List.{IsDistinct, AllByRecursion}
-use Rattle.std.proofs.lemmas.Bool.{both_ways, or_from, or_cases, false≢true, cond_both, cond-true, cond-false, false_from_ne_true}
+use Rattle.std.specs.List.{IsDistinct}
+use Rattle.std.proofs.lemmas.Bool.{both_ways, or_cases, false≢true, cond_both, cond-true, cond-false, false_from_ne_true}
 use Rattle.std.proofs.lemmas.List.{length-map}
-use Rattle.std.proofs.lemmas.List.Elements.{All-map, All-head, All-tail}
+use Rattle.std.proofs.lemmas.List.Elements.{All-map, All-cons, All-head, All-nil, All-tail}
 use Rattle.std.proofs.lemmas.List.Sums.{sum_by-cons}
+use Rattle.spec_base.specs.Sums.{total}
 use Rattle.sol_base.specs.declared.key.Key.{Key}
 use Rattle.sol_base.specs.declared.account.Account.{Account}
 use Rattle.sol_base.specs.declared.lock.Lock.{Lock}
@@ -14,9 +15,9 @@ use Rattle.bank_law.specs.Job.{Job, same_key, has_key, lock_keys, keys, write_ke
 use Rattle.bank_law.specs.Serial.{serial, performed}
 use Rattle.bank_law.specs.Machine.{is_waiting, Run}
 use Rattle.bank_law.specs.Sound.{Agrees, Sound}
-use Rattle.bank_law.specs.Lawful.{IsShort, IsSettled, AreSettled, lamports_in, lamports_under, lent_for_writing, Fits, IsLawful, IsStart}
+use Rattle.bank_law.specs.Lawful.{IsShort, AreShort, IsSettled, AreSettled, lamports_in, lamports_under, lent_for_writing, Fits, IsLawful, IsStart}
 use Rattle.bank_law.specs.Laws.{SerialRunsFit, SerialRunsHaveNoMore, LoansFit, LoansHaveNoMore, LamportsMove, UnwrittenStays}
-use Rattle.bank_law.proofs.Keys.{same_key-true, same_key-self, same_key-sym, has_key-first, has_key-rest, written_declared}
+use Rattle.bank_law.proofs.Keys.{same_key-true, same_key-self, same_key-sym, has_key-first, has_key-rest, has_key-none, written_declared}
 use Rattle.bank_law.proofs.Events.{run_sound}
 
 -- no key stands twice
@@ -24,28 +25,16 @@ abbrev pub AreApart : List Key → Type 0
 AreApart [] = Unit {0}
 AreApart (key ∷ ks) = (has_key key ks ≡ false) × AreApart ks
 
-not_among : (key : Key) (ks : List Key) → AllByRecursion (λ k. same_key key k ≡ false) ks → has_key key ks ≡ false
-not_among key [] a = refl
-not_among key (k ∷ ks) a =
-    or_from (same_key key k) (has_key key ks) a.0 (not_among key ks a.1)
-
 pub apart_if : (ks : List Key) → IsDistinct same_key ks → AreApart ks
 unfolding IsDistinct
 apart_if [] a = tt
-apart_if (k ∷ ks) a = (not_among k ks a.0, apart_if ks a.1)
-
--- f of each, added up from the front
-total : {X : Type 0} → (X → ℕ) → List X → ℕ
-total f [] = 0
-total f (x ∷ xs) = f x + total f xs
+apart_if (k ∷ ks) a = (has_key-none k ks a.0, apart_if ks a.1)
 
 sum_by-total : {X : Type 0} (f : X → ℕ) (xs : List X) → sum_by f xs ≡ total f xs
-unfolding total
 sum_by-total f [] = refl
 sum_by-total f (x ∷ xs) = let first = sum_by-cons f x xs in let rest = sum_by-total f xs in omega (arith, first, rest)
 
 total-map : {X Y : Type 0} (f : Y → ℕ) (g : X → Y) (xs : List X) → total f (map g xs) ≡ total (λ x. f (g x)) xs
-unfolding total
 total-map f g [] = refl
 total-map f g (x ∷ xs) = ap (λ n. f (g x) + n) (total-map f g xs)
 
@@ -54,7 +43,6 @@ abbrev where_true : Bool → ℕ → ℕ
 where_true b n = cond b n 0
 
 total-none : (ks : List Key) (test : Key → Bool) (f : Key → ℕ) → ((key : Key) → has_key key ks ≡ true → test key ≡ false) → total (λ key. where_true (test key) (f key)) ks ≡ 0
-unfolding total
 total-none [] test f h = refl
 total-none (k ∷ ks) test f h =
     let here = cond-false (test k) (f k) 0 (h k (has_key-first k ks)) in
@@ -63,7 +51,6 @@ total-none (k ∷ ks) test f h =
 
 -- one key of those that are apart
 total-one : (ks : List Key) (f : Key → ℕ) (key : Key) → AreApart ks → has_key key ks ≡ true → total (λ k. where_true (same_key k key) (f k)) ks ≡ f key
-unfolding total
 total-one [] f key a h = absurd (false≢true h)
 total-one (x ∷ xs) f key a h = by_case (same_key key x) refl (total-one xs f key a.1)
   where
@@ -83,7 +70,6 @@ total-one (x ∷ xs) f key a h = by_case (same_key key x) refl (total-one xs f k
 -- keys that are apart, among others
 total-some : (ks : List Key) (f : Key → ℕ) (some : List Key) → AreApart ks → AreApart some → ((key : Key) → has_key key some ≡ true → has_key key ks ≡ true)
     → total (λ key. where_true (has_key key some) (f key)) ks ≡ total f some
-unfolding total
 total-some ks f [] a b h = total-none ks (λ key. false) f (λ key m. refl)
 total-some ks f (x ∷ xs) a b h =
     let one = total-one ks f x a (h x (has_key-first x xs)) in
@@ -105,7 +91,6 @@ total-some ks f (x ∷ xs) a b h =
 
 -- values beside keys that are apart
 total-beside : (ks : List Key) (vs : List Account) → AreApart ks → length vs ≡ length ks → total (λ key. (beside key ks vs).lamports) ks ≡ total (λ v. v.lamports) vs
-unfolding total
 total-beside [] [] a l = refl
 total-beside [] (v ∷ vs) a l = absurd (omega (arith, l))
 total-beside (x ∷ xs) [] a l = absurd (omega (arith, l))
@@ -121,7 +106,6 @@ total-beside (x ∷ xs) (v ∷ vs) a l =
 
 -- a part of what is added up
 total-part : (test : Key → Bool) (f : Key → ℕ) (ks : List Key) → total (λ key. where_true (test key) (f key)) ks ≤ total f ks
-unfolding total
 total-part test f [] = omega arith
 total-part test f (k ∷ ks) = let rest = total-part test f ks in let one = at_one (test k) in omega (arith, rest, one)
   where
@@ -147,6 +131,24 @@ lent_for_writing-map accounts (x ∷ xs) = by_case x.write (lent_for_writing-map
         ≡ map accounts (lock_keys (cond b (x ∷ filter (λ lock. lock.write) xs) (filter (λ lock. lock.write) xs)))
     by_case true rest = ap (λ vs. accounts x.key ∷ vs) rest
     by_case false rest = rest
+
+pub lent_for_writing-length : (locks : List Lock) (vs : List Account) → length vs ≡ length locks → length (lent_for_writing locks vs) ≡ length (filter (λ lock. lock.write) locks)
+lent_for_writing-length [] vs e = refl
+lent_for_writing-length (x ∷ xs) [] e = absurd (omega (arith, e))
+lent_for_writing-length (x ∷ xs) (v ∷ vs) e = by_case x.write (lent_for_writing-length xs vs (omega (arith, e)))
+  where
+    by_case : (b : Bool) → length (lent_for_writing xs vs) ≡ length (filter (λ lock. lock.write) xs)
+        → length (cond b (v ∷ lent_for_writing xs vs) (lent_for_writing xs vs)) ≡ length (cond b (x ∷ filter (λ lock. lock.write) xs) (filter (λ lock. lock.write) xs))
+    by_case true rest = ap suc rest
+    by_case false rest = rest
+
+pub lent_for_writing-short : (locks : List Lock) (vs : List Account) → AreShort vs → AreShort (lent_for_writing locks vs)
+lent_for_writing-short [] vs s = All-nil IsShort
+lent_for_writing-short (x ∷ xs) [] s = All-nil IsShort
+lent_for_writing-short (x ∷ xs) (v ∷ vs) s =
+    let rest = lent_for_writing-short xs vs (All-tail IsShort v vs s) in
+    cond_both x.write (v ∷ lent_for_writing xs vs) (lent_for_writing xs vs) AreShort
+    (λ t. All-cons IsShort v (lent_for_writing xs vs) (All-head IsShort v vs s) rest) (λ f. rest)
 
 -- what holds of the empty account and of all values holds of the one beside a key
 beside-all : (P : Account → Type 0) (key : Key) (ks : List Key) (vs : List Account) → P empty_account → All P vs → P (beside key ks vs)
@@ -212,7 +214,6 @@ module _ (job : Job) (start : Key → Account) (ks : List Key) (W : IsLawful job
     -- the accounts written stand in for those that were there
     swapped : (ls : List Key) → total (balance (serial job start (suc n))) ls + total (λ key. where_true (writes job n key) (balance accounts key)) ls
         ≡ total (balance accounts) ls + total (λ key. where_true (writes job n key) (beside key (write_keys job n) given).lamports) ls
-    unfolding total
     swapped [] = refl
     swapped (k ∷ ls) = let rest = swapped ls in let one = at_one (writes job n k) in omega (arith, rest, one)
       where

@@ -1,6 +1,7 @@
 -- Each step keeps the rule of the desk.
 use Rattle.std.proofs.Common.{◌≡◌, ◌≢◌, ℕ, zero, suc, pred, ◌+◌, ◌*◌, ◌%◌, ◌<◌, ◌≤◌, List, [], ◌∷◌, ◌++◌, length, set, Option, Some, None, Bool, cond, eqb, eq-eqb, ne_eqb, refl, sym, ap, ◌∙◌, subst, ⊎_elim, arith, All, IfSome, IfNone, MatchBool, append-nil}
 use Rattle.std.specs.Prelude.{slice_index, option_to_list}
+use Rattle.std.proofs.lemmas.Option.{IfSome_then}
 use Rattle.std.proofs.lemmas.List.Elements.{filter-append, All-append, All-cons, All-head, All-tail, All-push, All-weaker}
 use mathlib.Core.Option.{some, none, some-ne-none, some-injective}
 use mathlib.Core.List.{IsPrefix}
@@ -11,10 +12,11 @@ use lib.Seq.{set-get_or}
 use prog.Atomic.{either}
 use Rattle.atomic_table.specs.Table.{State, Me, Step, rest, Act, Valid, step, keeps, takes, gives, stepped, carried_after, Allows, Splits, Joins, opening}
 use Rattle.atomic_table.proofs.Lists.{at_set, at_snoc, set_again}
+use Rattle.spec_base.specs.Sums.{total}
 use Rattle.bank_law.specs.declared.event.Event.{Event}
 use Rattle.bank_shared.specs.declared.view.View.{View}
 use Rattle.bank_shared.specs.History.{own, own_if}
-use Rattle.bank_shared.specs.Rule.{total, stands, first_view, spent_view, new_view, joined_view, Knows, Placed, IsRuled}
+use Rattle.bank_shared.specs.Rule.{stands, first_view, spent_view, new_view, joined_view, Knows, Placed, IsRuled}
 use Rattle.bank_shared.specs.Plays.{holding, done, seated, caught_up, looked, Gets, Taken, took, released, drew}
 use Rattle.bank_shared.specs.Passes.{Adds, Sees, Keeps, Begins}
 use base.Growing.{prefix_refl, prefix_trans}
@@ -23,10 +25,6 @@ use Rattle.bank_shared.proofs.Sums.{sum_set, sum_append, term_le, terms_le}
 -- a list with one item more begins with what the list begins with
 prefix_more : {A : Type 0} (xs ys zs : List A) → IsPrefix xs ys → IsPrefix xs (ys ++ zs)
 prefix_more xs ys zs p = prefix_trans xs ys (ys ++ zs) p (zs, refl)
-
-if_some_map : {A : Type 0} {P Q : A → Type 0} (x : Option A) → ((a : A) → P a → Q a) → IfSome x P → IfSome x Q
-if_some_map None f p = tt
-if_some_map (Some a) f p = f a p
 
 -- the events of another lane stay
 own_other : (l : Option ℕ) (h : List Event) (e : Event) → l ≢ Some e.lane → own_if (h ++ e ∷ []) l ≡ own_if h l
@@ -77,7 +75,7 @@ module _ {C O : Type 0} (origin : C → O) (journal : C → List Event) (drawn :
     placed = placed;
     turn = λ j u e. ⊎_elim
         (λ (t : (j ≡ id) × (w ≡ u)). subst (λ (x : ℕ × View O). IfSome x.1.turn (λ p. (holder ≡ Some x.0) × (p ≡ (h, d)))) (λ i. (sym t.0 i, t.1 i)) turn)
-        (λ (t : (j ≢ id) × (get_elem? s.views j ≡ some u)). if_some_map u.turn (λ p q. (others j t.0 q.0, q.1 ∙ λ i. (same_h i, same_d i))) (r.turn j u t.1))
+        (λ (t : (j ≢ id) × (get_elem? s.views j ≡ some u)). IfSome_then u.turn (r.turn j u t.1) (λ p q. (others j t.0 q.0, q.1 ∙ λ i. (same_h i, same_d i))))
         (at_set s.views id j w u e);
     knows = λ j u e. ⊎_elim
         (λ (t : (j ≡ id) × (w ≡ u)). subst (Knows o h d) t.1 mine)
@@ -208,7 +206,7 @@ module _ {C O : Type 0} (origin : C → O) (journal : C → List Event) (drawn :
           placed = (c, is_o, refl, refl, ap (λ (l : List ℕ). set l 0 new) p.0 ∙ ap (λ (n : ℕ). n ∷ []) is_new, ap (λ (hs : Homes). set hs 0 (some (Some c))) p.1);
           turn = λ j u there. ⊎_elim
               (λ (m : (j ≡ id) × (w ≡ u)). subst (λ (x : View O). IfSome x.turn (λ p. (None ≡ Some j) × (p ≡ (journal c, drawn c)))) m.1 tt)
-              (λ (m : (j ≢ id) × (get_elem? s.views j ≡ some u)). if_some_map u.turn (λ p q. absurd (m.0 (cc (q.0, t.0)))) (r.turn j u m.1))
+              (λ (m : (j ≢ id) × (get_elem? s.views j ≡ some u)). IfSome_then u.turn (r.turn j u m.1) (λ p q. absurd (m.0 (cc (q.0, t.0)))))
               (at_set s.views id j w u there);
           knows = λ j u there. ⊎_elim
               (λ (m : (j ≡ id) × (w ≡ u)). subst (Knows o (journal c) (drawn c)) m.1 (record { desk = k.desk; seen = prefix_refl (journal c); olds = λ i d lt. absurd (omega arith); mine = refl; drawn = omega arith }))
@@ -247,7 +245,7 @@ module _ {C O : Type 0} (origin : C → O) (journal : C → List Event) (drawn :
           placed = (c, is_o, refl, refl, ap (λ (l : List ℕ). set l 0 new) p.0 ∙ ap (λ (n : ℕ). n ∷ []) is_new, ap (λ (hs : Homes). set hs 0 (some (Some c))) p.1);
           turn = λ j u there. ⊎_elim
               (λ (m : (j ≡ id) × (w ≡ u)). subst (λ (x : View O). IfSome x.turn (λ p. (None ≡ Some j) × (p ≡ (journal c, drawn c)))) m.1 tt)
-              (λ (m : (j ≢ id) × (get_elem? s.views j ≡ some u)). if_some_map u.turn (λ p q. absurd (m.0 (cc (q.0, t.0)))) (r.turn j u m.1))
+              (λ (m : (j ≢ id) × (get_elem? s.views j ≡ some u)). IfSome_then u.turn (r.turn j u m.1) (λ p q. absurd (m.0 (cc (q.0, t.0)))))
               (at_set s.views id j w u there);
           knows = λ j u there. ⊎_elim
               (λ (m : (j ≡ id) × (w ≡ u)). subst (Knows o (journal c) (drawn c)) m.1

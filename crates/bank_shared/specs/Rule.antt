@@ -4,14 +4,10 @@ use mathlib.Core.Option.{some, none}
 use mathlib.Core.List.{IsPrefix}
 use lib.ListN.{get_elem?}
 use Rattle.atomic_table.specs.Table.{State}
+use Rattle.spec_base.specs.Sums.{total}
 use Rattle.bank_law.specs.declared.event.Event.{Event}
 use Rattle.bank_shared.specs.declared.view.View.{View}
 use Rattle.bank_shared.specs.History.{own_if}
-
--- f of each, added up
-abbrev pub total : {A : Type 0} → (A → ℕ) → List A → ℕ
-total f [] = 0
-total f (x ∷ xs) = f x + total f xs
 
 module _ {O : Type 0} where
   -- how often a lane stands in a view

@@ -46,7 +46,6 @@ impl<W: Work> SharedDesk<W> {
     /// A desk over a core of which nothing happened yet, and the pass of lane 0. The core is
     /// dropped where memory runs out.
     pub fn new(alloc: Global, core: Core<W>) -> Result<(SharedDesk<W>, Pass<W>), OutOfMemory>
-        requires some { 1 ≤ core.lanes }
         requires journal { core.journal.items ≡ [] }
         ensures origin { IfOk result (λ made. made.0.table.shared.key.value
             ≡ record { origin = core.origin.value; lanes = core.lanes }) }

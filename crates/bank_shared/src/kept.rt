@@ -1,3 +1,4 @@
+//! What stands in the slot of a desk.
 ghost use Rattle.std.specs.Prelude.{◌≡◌, ◌≤◌};
 
 use bank_core::{Core, Origin, Work};

@@ -1,3 +1,4 @@
+//! The shared desk as a desk.
 use crate::desk::{Pass, SharedDesk};
 use bank_core::{Desk, Effects, Loan, Split, Take, Work};
 use std::sync::Wait;

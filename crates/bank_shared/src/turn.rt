@@ -10,10 +10,14 @@ use crate::view::View;
 use atomic_table::Seat;
 use bank_core::Work;
 use bank_law::Event;
+use std::hint;
 use std::sync::Wait;
 
+/// How often a thread that finds the turn taken looks again, before it parks.
+const SPINS: u32 = 100;
+
 impl<W: Work> SharedDesk<W> {
-    // Takes the turn and the core, if the word is as expected.
+    /// Takes the turn and the core, if the word is as expected.
     fn try_lock(
         &self,
         seat: &mut Seat<Option<Kept<W>>, View<DeskOrigin<W::Told>>>,
@@ -42,7 +46,8 @@ impl<W: Work> SharedDesk<W> {
         self.table.shared.exchange(seat, 0, None)
     }
 
-    // Waits for the turn, and takes the core out.
+    /// Waits for the turn, and takes the core out. A turn is short, so the word is looked at some
+    /// times before the thread parks.
     pub(crate) fn lock<R: Wait>(
         &self,
         rt: &R,
@@ -59,12 +64,16 @@ impl<W: Work> SharedDesk<W> {
             (record { origin = result.1.core.origin.value; lanes = result.1.core.lanes })
             result.1.core.journal.items result.1.drawn seat.old.me.0 result.0 }
     {
+        let mut spins = 0;
         for _ in rt.forever() {
             let word = self.table.shared.peek(0);
             if word % 2 == 0 && word < u64::MAX - 2 {
                 if let Some(kept) = self.try_lock(seat, word) {
                     return (word, kept);
                 }
+            } else if spins < SPINS {
+                spins += 1;
+                hint::spin_loop();
             } else {
                 self.table.shared.park(rt, 0, (word & 0xffff_ffff) as u32);
             }
@@ -72,7 +81,7 @@ impl<W: Work> SharedDesk<W> {
         unreachable!()
     }
 
-    // Gives the turn up, with no event.
+    /// Gives the turn up, with no event.
     pub(crate) fn release(
         &self,
         seat: &mut Seat<Option<Kept<W>>, View<DeskOrigin<W::Told>>>,
@@ -94,7 +103,7 @@ impl<W: Work> SharedDesk<W> {
         self.table.shared.wake_one(0);
     }
 
-    // Gives the turn up, with one event.
+    /// Gives the turn up, with one event.
     pub(crate) fn release_more(
         &self,
         seat: &mut Seat<Option<Kept<W>>, View<DeskOrigin<W::Told>>>,
@@ -120,7 +129,7 @@ impl<W: Work> SharedDesk<W> {
         self.table.shared.wake_one(0);
     }
 
-    // Gives the turn up, with a lane drawn.
+    /// Gives the turn up, with a lane drawn.
     pub(crate) fn draw(
         &self,
         seat: &mut Seat<Option<Kept<W>>, View<DeskOrigin<W::Told>>>,
@@ -145,7 +154,7 @@ impl<W: Work> SharedDesk<W> {
         self.table.shared.wake_one(0);
     }
 
-    // Joins a seat into a pass, and looks.
+    /// Joins a seat into a pass, and looks.
     pub(crate) fn fold(
         &self,
         pass: &mut Pass<W>,

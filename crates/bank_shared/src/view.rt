@@ -1,3 +1,4 @@
+//! What a seat of a desk knows.
 use bank_law::Event;
 use std::collections::LinkedList;
 

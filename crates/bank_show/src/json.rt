@@ -1,3 +1,4 @@
+//! Records as JSON.
 ghost use Rattle.std.specs.Prelude.{◌≡◌, All, IfOk, IsUtf8};
 ghost use Rattle.serde_json.specs.Data.{string};
 ghost use Rattle.serde_json.specs.View.{view};
@@ -91,7 +92,7 @@ fn status_value(alloc: Global, status: Status) -> Result<Value, AllocError>
     }
 }
 
-// The bytes as they are: the condition leaves no other case.
+/// The bytes as they are: the condition leaves no other case.
 fn text_value(alloc: Global, text: &[u8]) -> Result<Value, AllocError>
     requires { IsUtf8 text.now }
     ensures { IfOk result (λ v. view v ≡ string text.now) }

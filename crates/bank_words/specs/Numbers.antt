@@ -3,6 +3,7 @@ use Rattle.std.specs.Prelude.{ℕ, ◌^◌, ◌-◌, ◌&&◌, Bool, length, nat
 use Rattle.std.specs.List.{list_all}
 use Rattle.std.specs.Char.{is_ascii_digit}
 use Rattle.std.specs.Str.Parse.{digits_value}
+use Rattle.sol_base.specs.Limits.{max_transactions}
 use Rattle.bank_words.specs.Options.{Text}
 
 -- the text is a number: 1 to 20 decimal digits
@@ -32,4 +33,4 @@ abbrev pub seed_in : Option Text → Option ℕ
 seed_in = or_default None (number_in 0 (2 ^ 64 - 1))
 
 abbrev pub count_in : Option Text → Option ℕ
-count_in = or_default None (number_in 1 16384)
+count_in = or_default None (number_in 1 max_transactions)

@@ -1,3 +1,4 @@
+//! The commands.
 use std::alloc::AllocError;
 
 /// A command with its numbers.

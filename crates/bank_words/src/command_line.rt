@@ -1,3 +1,4 @@
+//! The commands as the command line parser knows them.
 ghost use Rattle.std.specs.Prelude.{◌≡◌, IfOk, false};
 ghost use Rattle.clap.specs.Simple.{app_of, with_rule};
 ghost use Rattle.clap.specs.declared.Command.TheViews.{out-Command as fields_of};

@@ -1,3 +1,4 @@
+//! Laws of the words of commands. Their calls do nothing.
 ghost use Rattle.std.specs.Prelude.{◌≡◌, List, Some};
 ghost use Rattle.bank_words.specs.Options.{Text};
 ghost use Rattle.bank_words.specs.Commands.{command_in};

@@ -1,3 +1,4 @@
+//! From words to a command.
 ghost use Rattle.std.specs.Prelude.{◌≡◌, IfOk, MatchResult, Some, option_map, map};
 ghost use Rattle.std.specs.List.{list_all};
 ghost use Rattle.clap.specs.Matches.{found_of};
@@ -61,7 +62,7 @@ fn are_plain(words: &[&str]) -> bool
     words.iter().all(|word| is_plain(word))
 }
 
-// Whether clap reads the word as an option or as a value. It takes `-`, `--` and `-x` otherwise.
+/// Whether clap reads the word as an option or as a value. It takes `-`, `--` and `-x` otherwise.
 fn is_plain(word: &str) -> bool
     ensures { result ≡ is_plain word.now }
 {

@@ -1,3 +1,4 @@
+//! Numbers drawn one after another.
 ghost use Rattle.std.specs.Prelude.{◌≡◌};
 ghost use Rattle.batch_gen.specs.Generator.{next_state, draw};
 

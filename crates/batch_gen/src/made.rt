@@ -1,3 +1,4 @@
+//! A chain at its start, and a block for it.
 ghost use Rattle.std.specs.Prelude.{◌≡◌, ◌≤◌, ◌<◌, length, All, IfOk, map};
 ghost use Rattle.std.specs.List.{range_with_len};
 ghost use Rattle.snapshot_codec.specs.Batch.{IsShortWire};

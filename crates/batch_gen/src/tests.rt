@@ -1,3 +1,4 @@
+//! Draws as published, and one transaction.
 use crate::draws::Draws;
 use crate::make;
 use crate::start::user_key;

@@ -1,15 +1,16 @@
 -- Records: what is spelled is read again, and what is read is spelled so.
-use Rattle.std.proofs.Common.{◌≡◌, ◌<◌, ◌≤◌, ◌^◌, ℕ, List, [], ◌∷◌, ◌++◌, length, Result, Ok, Err, true, refl, sym, ap, subst, ◌∙◌, append_assoc, lit<, All, arith}
+use Rattle.std.proofs.Common.{◌≡◌, ◌<◌, ◌≤◌, ◌^◌, ℕ, List, [], ◌++◌, length, Result, Ok, Err, true, refl, sym, ap, subst, ◌∙◌, append_assoc, lit<, All, arith}
 use Rattle.std.specs.Prelude.{IfOk, IsUtf8, codes, bytes_eq, nat_le}
 use Rattle.std.specs.Int.{w16, w32, w64, to_le_bytes}
 use Rattle.std.specs.Str.{is_utf8}
-use Rattle.std.specs.List.{flat_map, AllByRecursion}
+use Rattle.std.specs.List.{AllByRecursion}
 use Rattle.std.specs.Cmp.Lexicographic.{bytes_decides}
 use Rattle.std.proofs.lemmas.Bool.Decides.{nat_tests}
 use Rattle.std.proofs.lemmas.List.{append-nil}
 use Rattle.std.proofs.lemmas.List.Elements.{All-from_recursion, recursion_from_All}
 use Rattle.std.proofs.lemmas.Str.{IsUtf8-from_is_utf8, is_utf8-from_IsUtf8}
 use Rattle.spec_base.specs.Bytes.{IsBytes, sized_bytes}
+use Rattle.message_codec.specs.Wire.{max_wire_len}
 use Rattle.spec_base.specs.Reading.{Gives}
 use Rattle.spec_base.proofs.Binding.{bind_ok, ok_parts, whole_ok, onward, follows}
 use Rattle.spec_base.proofs.Formats.{Reads, by_taking, field_reads, u16_reads, u32_reads, u64_reads, read_if_reads, many_reads}
@@ -22,18 +23,18 @@ use Rattle.block_record.specs.declared.fault.RecordFault.{RecordFault}
 use Rattle.block_record.specs.declared.fault.RecordFault.TheVariants.{Truncated, BadField, Trailing}
 use Rattle.block_record.specs.declared.block.Entry.{Entry}
 use Rattle.block_record.specs.declared.block.Block.{Block}
-use Rattle.block_record.specs.Record.{bytes_of_lines, entry_bytes, entries_bytes, block_bytes, bytes_of_record, AreCountable, IsCounted, HasTexts, HasWidths, IsRecord}
+use Rattle.block_record.specs.Record.{bytes_of_lines, entry_bytes, entries_bytes, bytes_of_record, AreCountable, IsCounted, HasTexts, HasWidths, IsRecord}
 use Rattle.block_record.specs.RecordReading.{Read, is_record_memory, magic_at, wire_len_at, wire_at, text_at, line_at, lines_at, entry_at, entry_count_at, entries_at, block_at, record_of}
 use Rattle.block_record.specs.Laws.{RoundTrip}
 
 -- transactions and lines
 
 abbrev WireLenFits : ℕ → Type 0
-WireLenFits n = (n < 2 ^ 16) × (nat_le n 1232 ≡ true)
+WireLenFits n = (n < 2 ^ 16) × (nat_le n max_wire_len ≡ true)
 
 wire_len_reads : (total : ℕ) → Reads (wire_len_at total) (to_le_bytes w16) WireLenFits
 unfolding wire_len_at
-wire_len_reads total = read_if_reads BadField (λ n. nat_le n 1232) total (u16_reads Truncated total)
+wire_len_reads total = read_if_reads BadField (λ n. nat_le n max_wire_len) total (u16_reads Truncated total)
 
 wire_reads : (total : ℕ) → Reads (wire_at total) sized_bytes (λ wire. WireLenFits (length wire) × Unit {0})
 unfolding wire_at
@@ -223,7 +224,7 @@ fits_reading b counted texts has = record {
   hash = has.hash;
 }
   where
-    wire_fits : (n : ℕ) → n ≤ 1232 → WireLenFits n
+    wire_fits : (n : ℕ) → n ≤ max_wire_len → WireLenFits n
     wire_fits n le = (omega arith, grind (arith, nat_tests))
 
 short_lines : (lines : List (List ℕ)) → LinesFit lines → AreCountable lines
@@ -236,7 +237,7 @@ counted b fits =
     let each = All-from_recursion EntryFits b.entries fits.entries.1 in
     record { entries = count_le 16384 (length b.entries) fits.entries.0; wires = λ k d lt. wire_len _ (each k d lt).wire; lines = λ k d lt. short_lines _ (each k d lt).lines }
   where
-    wire_len : (n : ℕ) → WireLenFits n → n ≤ 1232
+    wire_len : (n : ℕ) → WireLenFits n → n ≤ max_wire_len
     wire_len n h = let t = h.1 in grind (arith, nat_tests)
 
 texts : (b : Block) → BlockFits b → HasTexts b

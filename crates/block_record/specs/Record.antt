@@ -5,6 +5,7 @@ use Rattle.std.specs.List.{flat_map}
 use Rattle.sha2.specs.Sha256.{sha256}
 use Rattle.spec_base.specs.Bytes.{sized_bytes}
 use Rattle.sol_base.specs.Keys.{IsKey, IsHash, key_bytes, hash_bytes}
+use Rattle.sol_base.specs.Limits.{max_transactions}
 use Rattle.sol_base.specs.declared.key.Hash32.{Hash32}
 use Rattle.message_codec.specs.Wire.{IsCountable, max_wire_len}
 use Rattle.tx_report.specs.Statuses.{IsStatus, status_bytes_of}
@@ -52,7 +53,7 @@ pub record AreCountable (lines : List (List ℕ)) : Type 0 where
 
 -- a block whose counts fit the format
 pub record IsCounted (block : Block) : Type 0 where
-  pub entries : length block.entries ≤ 16384
+  pub entries : length block.entries ≤ max_transactions
   pub wires : All (λ entry. length entry.wire ≤ max_wire_len) block.entries
   pub lines : All (λ entry. AreCountable entry.lines) block.entries
 

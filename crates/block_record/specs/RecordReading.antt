@@ -4,6 +4,7 @@ use Rattle.std.specs.Int.{w16, w32, w64}
 use Rattle.std.specs.Str.{is_utf8}
 use Rattle.spec_base.specs.Reading.{◌>>=◌, field_at, number_at, read_if, many, whole}
 use Rattle.sol_base.specs.Keys.{key_at, hash_at}
+use Rattle.sol_base.specs.Limits.{max_transactions}
 use Rattle.message_codec.specs.Wire.{max_wire_len}
 use Rattle.tx_report.specs.Statuses.{status_at}
 use Rattle.block_record.specs.declared.fault.RecordFault.{RecordFault}
@@ -71,7 +72,7 @@ entry_at total bytes = do
 
 unfoldable pub entry_count_at : ℕ → List ℕ → Read ℕ
 entry_count_at total bytes =
-    read_if BadField (λ n. nat_le n 16384) (number_at Truncated w32 total) total bytes
+    read_if BadField (λ n. nat_le n max_transactions) (number_at Truncated w32 total) total bytes
 
 unfoldable pub entries_at : ℕ → List ℕ → Read (List Entry)
 entries_at total bytes = do

@@ -1,3 +1,4 @@
+//! Blocks and their entries.
 use sol_base::{Blob, Hash32, Items, Key};
 use tx_report::Status;
 

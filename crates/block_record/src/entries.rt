@@ -6,10 +6,10 @@ ghost use Rattle.block_record.specs.RecordReading.{is_record_memory, wire_len_at
 
 use crate::block::Entry;
 use crate::fault::RecordFault;
-use crate::lines::{place, read_lines};
+use crate::lines::read_lines;
 use message_codec::MAX_WIRE_LEN;
 use sol_base::{Blob, Items};
-use spec_base::{array_field, bytes_field, u16_field, u32_field, u64_field};
+use spec_base::{array_field, bytes_field, place, u16_field, u32_field, u64_field};
 use std::alloc::Global;
 use tx_report::{Status, status_of};
 

@@ -1,3 +1,4 @@
+//! Why bytes are no record.
 ghost use Rattle.std.specs.Prelude.{◌≡◌};
 
 use sol_base::OutOfMemory;

@@ -3,5 +3,5 @@ ghost use Rattle.block_record.specs.Laws.{RoundTrip};
 
 /// What `record_bytes` writes is read again, where its lines are texts.
 pub fn written_records_are_read()
-    ensures { RoundTrip }
+    ensures read { RoundTrip }
 {}

@@ -1,22 +1,15 @@
 //! The log lines of an entry.
 ghost use Rattle.std.specs.Prelude.{◌≡◌};
-ghost use Rattle.spec_base.specs.Reading.{Gives, many, place as place_of};
+ghost use Rattle.spec_base.specs.Reading.{Gives, many};
 ghost use Rattle.block_record.specs.RecordReading.{is_record_memory, text_at, line_at, lines_at};
 
 use crate::fault::RecordFault;
 use sol_base::{Blob, Items, is_text};
-use spec_base::{bytes_field, u16_field};
+use spec_base::{bytes_field, place, u16_field};
 use std::alloc::Global;
 
 /// The bytes of a length, and of the number of lines.
 pub(crate) const LENGTH_LEN: usize = 2;
-
-/// The place of the first byte that is left.
-pub(crate) fn place(total: usize, bytes: &[u8]) -> usize
-    ensures { result ≡ place_of total bytes.now }
-{
-    total.saturating_sub(bytes.len())
-}
 
 /// A text of so many bytes.
 #[tactic(auto, unfolding(crate::specs::RecordReading::text_at, spec_base::specs::Reading::read_if))]

@@ -1,3 +1,4 @@
+//! From bytes to a block.
 ghost use Rattle.std.specs.Prelude.{Ok, IfOk};
 ghost use Rattle.spec_base.specs.Reading.{Gives};
 ghost use Rattle.block_record.specs.declared.block.Block.{Block as BlockValue};
@@ -7,10 +8,9 @@ ghost use Rattle.block_record.specs.RecordReading.{is_record_memory, magic_at, b
 use crate::block::Block;
 use crate::entries::read_entries;
 use crate::fault::RecordFault;
-use crate::lines::place;
 use crate::writing::MAGIC;
 use sol_base::{hash_field, key_field};
-use spec_base::{array_field, u64_field};
+use spec_base::{array_field, place, u64_field};
 use std::alloc::Global;
 
 #[tactic(auto, unfolding(crate::specs::RecordReading::magic_at, spec_base::specs::Reading::read_if))]

@@ -106,7 +106,7 @@ const CHANGES: [(u32, &str, usize, usize, &[u8]); 11] = [
     (u32::MAX, "previous", 48, 80, &[0xab]),
 ];
 
-// The changes add up. Each stands before those made so far, so that it is the first difference.
+/// The changes add up. Each stands before those made so far, so that it is the first difference.
 #[test]
 fn differences(rt: HostRuntime) -> Result<(), Fail> {
     let alloc = rt.alloc();

@@ -12,7 +12,7 @@ use Rattle.tx_report.specs.declared.outcome.Outcome.{Outcome}
 use Rattle.bank_law.specs.Serial.{result}
 use Rattle.bank_law.specs.SerialState.{serial_state}
 use Rattle.bank_core.specs.Ends.{serial_outcomes}
-use Rattle.bank_core.specs.declared.finish.Sealed.{Sealed}
+use Rattle.bank_core.specs.declared.origin.Origin.{Origin}
 use Rattle.snapshot_codec.specs.declared.batch.Batch.{Batch}
 use Rattle.snapshot_codec.specs.declared.snapshot.Snapshot.{Snapshot}
 use Rattle.snapshot_codec.specs.Snapshot.{IsReadable}
@@ -31,26 +31,24 @@ use Rattle.block_run.specs.declared.block.Closed.{Closed}
 use Rattle.block_run.specs.declared.block.Head.{Head}
 use Rattle.block_run.specs.SerialRun.{Ran, ran, serial_run, told_in}
 use Rattle.block_run.specs.Blocks.{before_refused, block_result, closed, closed_with, entries_of, entry_of, head_of, is_halted, listed_result, start_in, wires_of}
-use Rattle.block_run.specs.Ending.{AreOf, ran_of}
+use Rattle.block_run.specs.Ending.{AreOf, joined_of, ran_of}
 use Rattle.admission.proofs.PartLaws.{admitted_batches_are_parted, listed_batches_are_parted}
 use Rattle.block_run.proofs.Orders.{length-take-least, parted_are_of}
 
 -- ---- one run
 -- what a core ends with is the serial run
-pub same_run : (s : Snapshot) (slot : ℕ) (order : List Chosen) (told : Told) (run : Sealed) → told ≡ told_in s slot order
-    → run.accounts ≡ serial_state (job_of told) s.accounts (job_of told).count → run.outcomes ≡ serial_outcomes (job_of told) (at s.accounts) → ran_of run ≡ serial_run s slot order
+pub same_run : (s : Snapshot) (slot : ℕ) (order : List Chosen) (told : Told) (origin : Origin Told) (outcomes : List Outcome) → told ≡ told_in s slot order
+    → origin ≡ record { start = s.accounts; told = told } → outcomes ≡ serial_outcomes (job_of told) (at s.accounts) → ran_of origin outcomes ≡ serial_run s slot order
 unfolding serial_run
-same_run s slot order told run is accounts outcomes =
-    ap₂ (λ (a : State) (os : List Outcome). let r : Ran = record { accounts = a; outcomes = os } in r) accounts outcomes
-    ∙ ap (λ (t : Told). ran (job_of t) s.accounts) is
+same_run s slot order told origin outcomes is began ended = ap₂ ran_of began ended ∙ ap (λ (t : Told). ran (job_of t) s.accounts) is
 
 -- and the block is that of the order
-pub same_end : (s : Snapshot) (head : Head) (wires : List (List ℕ)) (order chosen : List Chosen) (run : Sealed) (answer : Result Closed OutOfMemory) → chosen ≡ order → ran_of run ≡ serial_run s head.slot order
-    → IfOk answer (λ end. end ≡ closed_with (record { slot = 0; limits = s.limits; recent = s.recent; accounts = run.accounts }) head wires chosen (ran_of run))
+pub same_end : (s : Snapshot) (head : Head) (wires : List (List ℕ)) (order chosen : List Chosen) (origin : Origin Told) (outcomes : List Outcome) (answer : Result Closed OutOfMemory) → chosen ≡ order → ran_of origin outcomes ≡ serial_run s head.slot order
+    → IfOk answer (λ end. end ≡ closed_with (record { slot = 0; limits = s.limits; recent = s.recent; accounts = joined_of origin }) head wires chosen (ran_of origin outcomes))
     → IfOk answer (λ end. end ≡ closed s head wires order)
 unfolding closed
-same_end s head wires order chosen run (Ok end) same ran_is is = is ∙ ap₂ (λ (o : List Chosen) (r : Ran). closed_with s head wires o r) same ran_is
-same_end s head wires order chosen run (Err e) same ran_is is = tt
+same_end s head wires order chosen origin outcomes (Ok end) same ran_is is = is ∙ ap₂ (λ (o : List Chosen) (r : Ran). closed_with s head wires o r) same ran_is
+same_end s head wires order chosen origin outcomes (Err e) same ran_is is = tt
 
 -- it has an entry for each transaction
 pub entry_each : (s : Snapshot) (head : Head) (wires : List (List ℕ)) (order : List Chosen) → length (closed s head wires order).block.entries ≡ length order

@@ -11,6 +11,9 @@ use Rattle.message_codec.proofs.RoleLaws.{lock_count}
 use Rattle.bank_law.specs.Job.{Job, JobEffects, keys, lock_keys, write_keys}
 use Rattle.bank_law.specs.Lawful.{lent_for_writing}
 use Rattle.bank_core.specs.Counts.{locks_before}
+use Rattle.bank_core.specs.Openings.{AreNumbered}
+use Rattle.prio_graph.specs.Ready.{Positions}
+use Rattle.block_run.specs.SerialRun.{locked_in}
 use Rattle.admission.specs.declared.chosen.Chosen.{Chosen}
 use Rattle.admission.specs.Chosen.{IsChosen}
 use Rattle.tx_exec.specs.declared.told.Told.{Told}
@@ -79,3 +82,9 @@ written_keys_few job i =
     let a = length-map (filter (λ (lock : Lock). lock.write) (job.locks i)) (λ lock. lock.key) in
     let b = length-filter-le (λ (lock : Lock). lock.write) (job.locks i) in
     omega (arith, a, b)
+
+-- the keys that transactions lock are numbered alike in every work of them
+pub numbered_alike : (told : Told) (order : List Chosen) (ks : List Key) (p : Positions) (room : ℕ) → told.chosen ≡ order → AreNumbered (job_of (locked_in order)) ks p room → AreNumbered (job_of told) ks p room
+numbered_alike told order ks p room same are =
+    let n = subst (λ (o : List Chosen). AreNumbered (job_of (locked_in o)) ks p room) (sym same) are in
+    record { distinct = n.distinct; waiting = n.waiting; long = n.long; numbered = n.numbered; wide = n.wide }

@@ -1,16 +1,24 @@
 -- What the end of a block rests on.
 use Rattle.std.specs.Prelude.{◌≡◌, ℕ, ◌+◌, ◌<◌, ◌≤◌, ◌^◌, List, length, All}
-use Rattle.account_store.specs.State.{IsState, len, sum}
+use Rattle.account_store.specs.State.{State, IsState, len, sum}
 use Rattle.admission.specs.declared.chosen.Chosen.{Chosen}
 use Rattle.admission.specs.Batches.{IsOf}
-use Rattle.bank_core.specs.declared.finish.Sealed.{Sealed}
+use Rattle.bank_core.specs.declared.origin.Origin.{Origin}
+use Rattle.bank_core.specs.Ends.{state_at_end}
+use Rattle.tx_report.specs.declared.outcome.Outcome.{Outcome}
+use Rattle.tx_exec.specs.declared.told.Told.{Told}
+use Rattle.tx_exec.specs.Told.{job_of}
 use Rattle.tx_exec.specs.TransactionLaws.{IsSmallOutcome}
 use Rattle.block_run.specs.SerialRun.{Ran}
 use Rattle.block_run.specs.BlockEnd.{base_fees, priority_fees}
 
--- what a core ended with, as what a run leaves
-abbrev pub ran_of : Sealed → Ran
-ran_of run = record { accounts = run.accounts; outcomes = run.outcomes }
+-- the accounts that a core with this origin ends with
+abbrev pub joined_of : Origin Told → State
+joined_of origin = state_at_end job_of origin
+
+-- with the outcomes of its positions, what a run leaves
+abbrev pub ran_of : Origin Told → List Outcome → Ran
+ran_of origin outcomes = record { accounts = joined_of origin; outcomes = outcomes }
 
 -- transactions of these wires, no more than a block may have
 pub record AreOf (wires : List (List ℕ)) (order : List Chosen) : Type 0 where

@@ -1,6 +1,6 @@
 -- The serial run of a block (Solana): its transactions one after another, in their order, over the
 -- accounts of a snapshot.
-use Rattle.std.specs.Prelude.{ℕ, List}
+use Rattle.std.specs.Prelude.{ℕ, List, []}
 use Rattle.std.specs.List.{flat_map}
 use Rattle.sol_base.specs.declared.key.Key.{Key}
 use Rattle.message_codec.specs.Roles.{all_keys}
@@ -26,6 +26,15 @@ told_in s slot order = record {
   programs = programs_of s.accounts (keys_in order);
   slot = slot;
   height = s.limits.height;
+}
+
+-- the same as far as their locks are asked for
+abbrev pub locked_in : List Chosen → Told
+locked_in order = record {
+  chosen = order;
+  programs = [];
+  slot = 0;
+  height = 0;
 }
 
 -- what a run leaves: the accounts, and the outcome of each transaction

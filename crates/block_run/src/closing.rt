@@ -6,18 +6,19 @@ ghost use Rattle.tx_exec.specs.TransactionLaws.{IsSmallOutcome};
 ghost use Rattle.block_record.specs.Record.{IsCounted, front_bytes};
 ghost use Rattle.snapshot_codec.specs.Snapshot.{AreAllowed, IsWritable, hash_of_state};
 ghost use Rattle.block_run.specs.BlockEnd.{settled};
-ghost use Rattle.block_run.specs.Blocks.{closed_with, entered, sealed};
-ghost use Rattle.block_run.specs.Ending.{AreOf, MayEnd, ran_of};
+ghost use Rattle.status_cache.specs.Recent.{Ascends};
+ghost use Rattle.block_run.specs.Blocks.{ascending, closed_with, entered, sealed};
+ghost use Rattle.block_run.specs.Ending.{AreOf, MayEnd, joined_of, ran_of};
 
 use crate::activation::activate_all;
 use crate::block::{Closed, Head};
 use crate::entries::entries_of;
 use crate::fees::{Shared, share_split, split_paid};
-use crate::names::processed_names;
+use crate::names::{ascending, processed_in};
 use crate::threads::call_both;
 use account_store::Accounts;
 use admission::Chosen;
-use bank_core::Sealed;
+use bank_core::Ended;
 use block_record::{Block, begin_hash, end_hash};
 use fee_rules::FeeSplit;
 use sha2::Sha256;
@@ -26,6 +27,7 @@ use sol_base::{Blob, Hash32, Items, Key, Limits, OutOfMemory};
 use status_cache::{Mark, Recent};
 use std::alloc::Global;
 use std::thread::Threads;
+use tx_exec::TxWork;
 use tx_report::Outcome;
 
 /// The accounts after a block with their hash, and the lamports burned and paid.
@@ -69,6 +71,31 @@ fn settle(
     })
 }
 
+/// Joins the accounts of a run and settles them; and sorts the names.
+fn settle_run(
+    alloc: Global,
+    ended: Ended<TxWork>,
+    collector: &Key,
+    split: FeeSplit,
+    names: Vec<Hash32>,
+) -> Result<(Settled, Items<Hash32>), OutOfMemory>
+    requires supply { sum (joined_of ended.origin.value) + split.burned + split.rest < 2 ^ 64 }
+    requires room { len (joined_of ended.origin.value) + 1 < 2 ^ 32 }
+    ensures shares { IfOk result (λ end. (record {
+      accounts = end.0.accounts;
+      burned = end.0.burned;
+      collected = end.0.collected;
+    })
+        ≡ settled (joined_of ended.origin.value) collector.now split) }
+    ensures state { IfOk result (λ end. end.0.state ≡ hash_of_state end.0.accounts) }
+    ensures names { IfOk result (λ end. end.1 ≡ ascending names.items) }
+    ensures ascends { IfOk result (λ end. Ascends end.1) }
+{
+    let accounts = ended.joined()?;
+    let settled = settle(alloc, accounts, collector, split)?;
+    Ok((settled, ascending(alloc, names)?))
+}
+
 /// A block as far as it is known by its entries, and its hash so far.
 #[derive(Drop)]
 struct Entered {
@@ -107,7 +134,7 @@ fn enter(
     Ok(Entered { block, hasher })
 }
 
-/// The accounts are settled beside the entries, where there are several lanes.
+/// The accounts are settled and the names sorted beside the entries, where there are several lanes.
 fn end_run<R: Threads + Sync>(
     rt: &R,
     alloc: Global,
@@ -117,40 +144,45 @@ fn end_run<R: Threads + Sync>(
     wires: &Items<Blob>,
     order: &[Chosen],
     split: FeeSplit,
-    run: Sealed,
-) -> Result<(Settled, Entered), OutOfMemory>
-    requires supply { sum run.accounts + split.burned + split.rest < 2 ^ 64 }
-    requires room { len run.accounts + 1 < 2 ^ 32 }
+    names: Vec<Hash32>,
+    ended: Ended<TxWork>,
+    outcomes: Items<Outcome>,
+) -> Result<((Settled, Items<Hash32>), Entered), OutOfMemory>
+    requires supply { sum (joined_of ended.origin.value) + split.burned + split.rest < 2 ^ 64 }
+    requires room { len (joined_of ended.origin.value) + 1 < 2 ^ 32 }
     requires of { AreOf wires.now order.now }
-    requires one_each { length run.outcomes ≡ length order.now }
-    requires small { All IsSmallOutcome run.outcomes }
+    requires one_each { length outcomes ≡ length order.now }
+    requires small { All IsSmallOutcome outcomes }
     ensures shares { IfOk result (λ end. (record {
-      accounts = end.0.accounts;
-      burned = end.0.burned;
-      collected = end.0.collected;
+      accounts = end.0.0.accounts;
+      burned = end.0.0.burned;
+      collected = end.0.0.collected;
     })
-        ≡ settled run.accounts head.now.collector split) }
-    ensures state { IfOk result (λ end. end.0.state ≡ hash_of_state end.0.accounts) }
+        ≡ settled (joined_of ended.origin.value) head.now.collector split) }
+    ensures state { IfOk result (λ end. end.0.0.state ≡ hash_of_state end.0.0.accounts) }
+    ensures names { IfOk result (λ end. end.0.1 ≡ ascending names.items) }
+    ensures ascends { IfOk result (λ end. Ascends end.0.1) }
     ensures block { IfOk result (λ end.
-        end.1.block ≡ entered head.now previous wires.now order.now run.outcomes) }
+        end.1.block ≡ entered head.now previous wires.now order.now outcomes) }
     ensures counted { IfOk result (λ end. IsCounted end.1.block) }
     ensures hasher { IfOk result (λ end. Holds256 end.1.hasher (front_bytes end.1.block)) }
 {
-    let Sealed { accounts, outcomes } = run;
     let (settled, entered) = call_both(
         rt,
         lanes,
-        move || -> Result<Settled, OutOfMemory>
-            requires { (sum accounts + split.burned + split.rest < 2 ^ 64)
-                × (len accounts + 1 < 2 ^ 32) }
+        move || -> Result<(Settled, Items<Hash32>), OutOfMemory>
+            requires { (sum (joined_of ended.origin.value) + split.burned + split.rest < 2 ^ 64)
+                × (len (joined_of ended.origin.value) + 1 < 2 ^ 32) }
             ensures shares { IfOk result (λ end. (record {
-              accounts = end.accounts;
-              burned = end.burned;
-              collected = end.collected;
+              accounts = end.0.accounts;
+              burned = end.0.burned;
+              collected = end.0.collected;
             })
-                ≡ settled accounts head.entry.now.collector split) }
-            ensures state { IfOk result (λ end. end.state ≡ hash_of_state end.accounts) }
-        { settle(alloc, accounts, &head.collector, split) },
+                ≡ settled (joined_of ended.origin.value) head.entry.now.collector split) }
+            ensures state { IfOk result (λ end. end.0.state ≡ hash_of_state end.0.accounts) }
+            ensures names { IfOk result (λ end. end.1 ≡ ascending names.items) }
+            ensures ascends { IfOk result (λ end. Ascends end.1) }
+        { settle_run(alloc, ended, &head.collector, split, names) },
         move || -> Result<Entered, OutOfMemory>
             requires { AreOf wires.now order.now × (length outcomes ≡ length order.now)
                 × All IsSmallOutcome outcomes }
@@ -194,21 +226,28 @@ pub(crate) fn close<R: Threads + Sync>(
     head: &Head,
     wires: &Items<Blob>,
     order: &[Chosen],
-    run: Sealed,
+    ended: Ended<TxWork>,
+    outcomes: Items<Outcome>,
 ) -> Result<Closed, OutOfMemory>
     requires limits { AreAllowed limits }
     requires messages { All (λ mark. length mark.messages ≤ 16384) recent }
-    requires run { MayEnd wires.now order.now (ran_of run) }
-    ensures exact { IfOk result (λ end. end ≡ closed_with
-        (record { slot = 0; limits = limits; recent = recent; accounts = run.accounts })
-        head.now wires.now order.now (ran_of run)) }
+    requires run { MayEnd wires.now order.now (ran_of ended.origin.value outcomes) }
+    ensures exact { IfOk result (λ end. end ≡ closed_with (record {
+      slot = 0;
+      limits = limits;
+      recent = recent;
+      accounts = joined_of ended.origin.value;
+    })
+        head.now wires.now order.now (ran_of ended.origin.value outcomes)) }
     ensures counted { IfOk result (λ end. IsCounted end.block) }
     ensures writable { IfOk result (λ end. IsWritable end.after) }
 {
-    let names = processed_names(alloc, order, run.outcomes.as_slice())?;
-    let split = split_paid(run.outcomes.as_slice());
+    let names = processed_in(alloc, order, outcomes.as_slice())?;
+    let split = split_paid(outcomes.as_slice());
     let previous = recent.newest();
-    let (settled, entered) = end_run(rt, alloc, lanes, head, previous, wires, order, split, run)?;
+    let ((settled, sorted), entered) = end_run(
+        rt, alloc, lanes, head, previous, wires, order, split, names, ended, outcomes,
+    )?;
     let Settled {
         accounts,
         burned,
@@ -219,7 +258,7 @@ pub(crate) fn close<R: Threads + Sync>(
     let mut recent = recent;
     recent.advance(Mark {
         hash: block.hash,
-        messages: names,
+        messages: sorted,
     })?;
     Ok(Closed {
         after: Snapshot {

@@ -1,19 +1,19 @@
 //! A work on its lanes: alone in order, or beside each other over a shared desk.
-ghost use Rattle.std.specs.Prelude.{◌≡◌, ◌<◌, ◌≤◌, ◌^◌, [], IfOk, OnOk};
+ghost use Rattle.std.specs.Prelude.{◌≡◌, ◌<◌, ◌≤◌, [], IfOk, OnOk};
 ghost use Rattle.account_store.specs.State.{at};
-ghost use Rattle.bank_law.specs.SerialState.{serial_state};
-ghost use Rattle.bank_core.specs.Counts.{locks_before};
 ghost use Rattle.bank_core.specs.Ends.{serial_outcomes};
+ghost use Rattle.bank_core.specs.Openings.{AreNumbered};
 ghost use Rattle.bank_core.specs.Origins.{AllDoneAfter};
 
 use account_store::Accounts;
-use bank_core::{Core, Sealed, Take, Work};
+use bank_core::{Core, Ended, Numbered, Take, Work};
 use bank_lanes::{Gate, run_lanes};
 use bank_shared::SharedDesk;
-use sol_base::OutOfMemory;
+use sol_base::{Items, OutOfMemory};
 use std::alloc::Global;
 use std::sync::Wait;
 use std::thread::Threads;
+use tx_report::Outcome;
 
 /// Takes, passes the gate, performs and commits on the one lane of a core, until all positions are
 /// done. Where the work finds no memory the loan goes back, and the run ends.
@@ -63,30 +63,32 @@ fn run_shared<W: Work + Sync, G: Gate, R: Threads + Wait + Sync>(
     Ok(desk.close(rt, pass))
 }
 
-/// Runs a work on so many lanes over these accounts. It ends as the serial run does. With one lane
+/// Runs a work on so many lanes over these accounts. It ends as the serial run does; its accounts
+/// stand apart yet. With one lane
 /// no thread is started.
 pub(crate) fn run_work<W: Work + Sync, G: Gate, R: Threads + Wait + Sync>(
     rt: &R,
     alloc: Global,
     accounts: Accounts,
     work: &W,
+    numbered: Numbered,
     lanes: u32,
     gate: &G,
-) -> Result<Sealed, OutOfMemory>
+) -> Result<(Ended<W>, Items<Outcome>), OutOfMemory>
     requires some { 1 ≤ lanes }
     requires most { lanes ≤ 64 }
-    requires room { locks_before (W.job (W.told work.now)) (W.job (W.told work.now)).count
-        < 2 ^ 32 }
-    ensures accounts { IfOk result (λ end. let job = W.job (W.told work.now) in
-        end.accounts ≡ serial_state job accounts job.count) }
+    requires numbered { AreNumbered (W.job (W.told work.now)) numbered.table numbered.graph
+        numbered.room }
+    ensures origin { IfOk result (λ end.
+        end.0.origin.value ≡ record { start = accounts; told = W.told work.now }) }
     ensures outcomes { IfOk result (λ end. let job = W.job (W.told work.now) in
-        end.outcomes ≡ serial_outcomes job (at accounts)) }
+        end.1 ≡ serial_outcomes job (at accounts)) }
 {
-    let mut core = Core::new(alloc, accounts, work, lanes)?;
+    let mut core = Core::over(alloc, accounts, work, lanes, numbered)?;
     if lanes == 1 {
         run_alone(&mut core, work, gate)?;
-        core.finish()
+        core.part()
     } else {
-        run_shared(rt, alloc, core, work, gate)?.finish()
+        run_shared(rt, alloc, core, work, gate)?.part()
     }
 }

@@ -11,11 +11,11 @@ pub fn lamports_are_conserved()
 /// A law: while the transactions of a block run, no account becomes executable, and none that is
 /// changes.
 pub fn executable_accounts_stay()
-    ensures { ExecutableAccountsStay }
+    ensures stay { ExecutableAccountsStay }
 {}
 
 /// A law: an account that became executable in a block holds an image with a verified text, and is
 /// found as a program that is ready.
 pub fn activated_programs_are_ready()
-    ensures { ActivatedProgramsAreReady }
+    ensures ready { ActivatedProgramsAreReady }
 {}

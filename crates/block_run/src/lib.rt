@@ -17,7 +17,6 @@ mod threads;
 pub use block::{BlockResult, Closed, Head};
 pub use laws::{activated_programs_are_ready, executable_accounts_stay, lamports_are_conserved};
 pub use run::{run_block, run_listed, run_parsed};
-pub use threads::call_both;
 
 #[cfg(test)]
 mod tests;

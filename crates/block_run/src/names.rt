@@ -20,7 +20,7 @@ fn processed_by(name: Hash32, status: &Status) -> Option<Hash32>
 }
 
 /// The names of those that were not dropped, in their order.
-fn processed_in(
+pub(crate) fn processed_in(
     alloc: Global,
     order: &[Chosen],
     outcomes: &[Outcome],
@@ -38,7 +38,7 @@ fn processed_in(
 }
 
 /// The names in ascending order.
-fn ascending(alloc: Global, mut names: Vec<Hash32>) -> Result<Items<Hash32>, OutOfMemory>
+pub(crate) fn ascending(alloc: Global, mut names: Vec<Hash32>) -> Result<Items<Hash32>, OutOfMemory>
     ensures exact { IfOk result (λ sorted. sorted ≡ ascending names.items) }
     ensures ascends { IfOk result Ascends }
 {
@@ -47,17 +47,4 @@ fn ascending(alloc: Global, mut names: Vec<Hash32>) -> Result<Items<Hash32>, Out
         set.insert(name)?;
     }
     Ok(Items::from_vec(set.into_iter().collect(alloc)?))
-}
-
-/// The names of the messages whose transactions were not dropped, ascending.
-pub(crate) fn processed_names(
-    alloc: Global,
-    order: &[Chosen],
-    outcomes: &[Outcome],
-) -> Result<Items<Hash32>, OutOfMemory>
-    requires { length outcomes.now ≡ length order.now }
-    ensures exact { IfOk result (λ names. names ≡ ascending (processed_in order.now outcomes.now)) }
-    ensures ascends { IfOk result Ascends }
-{
-    ascending(alloc, processed_in(alloc, order, outcomes)?)
 }

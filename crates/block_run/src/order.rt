@@ -1,16 +1,23 @@
 //! Transactions in their order, as a work with the programs that they may call.
-ghost use Rattle.std.specs.Prelude.{◌≡◌, ◌≤◌, ◌++◌, All, IfOk, OnOk, length};
+ghost use Rattle.std.specs.Prelude.{◌≡◌, ◌<◌, ◌≤◌, ◌++◌, All, IfOk, OnOk, length, slice_get};
 ghost use Rattle.message_codec.specs.Roles.{all_keys};
 ghost use Rattle.snapshot_codec.specs.Snapshot.{IsUpTo};
 ghost use Rattle.admission.specs.Chosen.{IsChosen};
-ghost use Rattle.block_run.specs.SerialRun.{keys_in, told_in};
+ghost use Rattle.program_cache.specs.Programs.{programs_of};
+ghost use Rattle.bank_core.specs.Openings.{AreNumbered};
+ghost use Rattle.tx_exec.specs.Told.{job_of, locks_at};
+ghost use Rattle.block_run.specs.SerialRun.{keys_in, locked_in, told_in};
 
+use crate::threads::call_both;
+use account_store::Accounts;
 use admission::Chosen;
+use bank_core::{Locked, Numbered, number};
 use message_codec::{Loaded, Message};
 use program_cache::Programs;
 use snapshot_codec::Snapshot;
-use sol_base::{Items, Key, OutOfMemory};
+use sol_base::{Items, Key, LockList, OutOfMemory};
 use std::alloc::Global;
+use std::thread::Threads;
 use tx_exec::TxWork;
 
 /// Adds all keys of a message.
@@ -34,19 +41,108 @@ fn keys_in(alloc: Global, order: &[Chosen]) -> Result<Items<Key>, OutOfMemory>
     Ok(Items::from_vec(keys))
 }
 
-/// The transactions as a work, with the programs that the snapshot has under their keys.
-pub(crate) fn work_of(
+/// Transactions in their order, by their locks alone.
+#[derive(Drop)]
+struct InOrder<'a> {
+    order: &'a [Chosen],
+    ghost few: { length order.now ≤ 16384 },
+}
+
+impl<'a> Locked for InOrder<'a> {
+    ghost use Rattle.block_run.specs.SerialRun.{locked_in};
+    ghost use Rattle.tx_exec.specs.Told.{job_of};
+
+    ghost job = { λ locked. job_of (locked_in locked.order.now) };
+
+    fn count(&self) -> u32 {
+        self.order.len() as u32
+    }
+
+    fn locks(&self, position: u32) -> &LockList {
+        locks_at(self.order, position)
+    }
+}
+
+/// The locks of a transaction.
+fn locks_at(order: &[Chosen], position: u32) -> &LockList
+    requires { position < length order.now }
+    ensures { result.now ≡ locks_at (slice_get order.now position) }
+{
+    &order[position as usize].locks
+}
+
+/// The programs that the accounts have under the keys of the transactions.
+fn programs_in(
     alloc: Global,
+    accounts: &Accounts,
+    order: &[Chosen],
+) -> Result<Programs, OutOfMemory>
+    ensures { IfOk result (λ programs. programs ≡ programs_of accounts.now (keys_in order.now)) }
+{
+    let keys = keys_in(alloc, order)?;
+    Programs::from_accounts(alloc, accounts, &keys)
+}
+
+/// The keys that the transactions lock, as numbers.
+fn numbered_in(alloc: Global, order: &[Chosen]) -> Result<Numbered, OutOfMemory>
+    requires few { length order.now ≤ 16384 }
+    requires chosen { All IsChosen order.now }
+    ensures { IfOk result (λ n.
+        AreNumbered (job_of (locked_in order.now)) n.table n.graph n.room) }
+{
+    number(alloc, &InOrder { order })
+}
+
+/// The programs among the keys of the transactions, and the keys that they lock as numbers. Where
+/// there are several lanes, one is made beside the other.
+fn prepare<R: Threads + Sync>(
+    rt: &R,
+    alloc: Global,
+    lanes: u32,
+    accounts: &Accounts,
+    order: &[Chosen],
+) -> Result<(Programs, Numbered), OutOfMemory>
+    requires few { length order.now ≤ 16384 }
+    requires chosen { All IsChosen order.now }
+    ensures programs { IfOk result (λ made.
+        made.0 ≡ programs_of accounts.now (keys_in order.now)) }
+    ensures numbered { IfOk result (λ made.
+        AreNumbered (job_of (locked_in order.now)) made.1.table made.1.graph made.1.room) }
+{
+    let (programs, numbered) = call_both(
+        rt,
+        lanes,
+        || -> Result<Programs, OutOfMemory>
+            ensures { IfOk result (λ programs.
+                programs ≡ programs_of accounts.entry.now (keys_in order.entry.now)) }
+        { programs_in(alloc, accounts, order) },
+        || -> Result<Numbered, OutOfMemory>
+            requires { (length order.now ≤ 16384) × All IsChosen order.now }
+            ensures { IfOk result (λ n.
+                AreNumbered (job_of (locked_in order.entry.now)) n.table n.graph n.room) }
+        { numbered_in(alloc, order) },
+    );
+    Ok((programs?, numbered?))
+}
+
+/// The transactions as a work, with the programs that the snapshot has under their keys; and the
+/// keys that they lock, as numbers.
+pub(crate) fn work_of<R: Threads + Sync>(
+    rt: &R,
+    alloc: Global,
+    lanes: u32,
     snapshot: &Snapshot,
     slot: u64,
     order: Items<Chosen>,
-) -> Result<TxWork, OutOfMemory>
+) -> Result<(TxWork, Numbered), OutOfMemory>
     requires few { length order ≤ 16384 }
     requires height { IsUpTo 9 snapshot.now.limits.height }
     requires chosen { All IsChosen order }
-    ensures { IfOk result (λ work. work.told ≡ told_in snapshot.now slot order) }
+    ensures told { IfOk result (λ work. work.0.told ≡ told_in snapshot.now slot order) }
+    ensures numbered { IfOk result (λ work.
+        AreNumbered (job_of work.0.told) work.1.table work.1.graph work.1.room) }
 {
-    let keys = keys_in(alloc, order.as_slice())?;
-    let programs = Programs::from_accounts(alloc, &snapshot.accounts, &keys)?;
-    TxWork::new(alloc, order, programs, slot, snapshot.limits.height)
+    let (programs, numbered) = prepare(rt, alloc, lanes, &snapshot.accounts, order.as_slice())?;
+    let work = TxWork::new(alloc, order, programs, slot, snapshot.limits.height)?;
+    Ok((work, numbered))
 }

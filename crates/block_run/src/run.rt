@@ -41,14 +41,14 @@ fn run_order<G: Gate, R: Threads + Wait + Sync>(
     ensures counted { IfOk result (λ end. IsCounted end.block) }
     ensures writable { IfOk result (λ end. IsWritable end.after) }
 {
-    let work = work_of(alloc, &snapshot, head.slot, order)?;
+    let (work, numbered) = work_of(rt, alloc, lanes, &snapshot, head.slot, order)?;
     let Snapshot {
         slot: _,
         limits,
         recent,
         accounts,
     } = snapshot;
-    let run = run_work(rt, alloc, accounts, &work, lanes, gate)?;
+    let (ended, outcomes) = run_work(rt, alloc, accounts, &work, numbered, lanes, gate)?;
     close(
         rt,
         alloc,
@@ -58,7 +58,8 @@ fn run_order<G: Gate, R: Threads + Wait + Sync>(
         head,
         wires,
         work.chosen(),
-        run,
+        ended,
+        outcomes,
     )
 }
 

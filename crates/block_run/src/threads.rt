@@ -2,7 +2,7 @@ use std::thread::{Threads, join};
 
 /// Calls both: the first in a thread of its own, unless there is one lane alone. Then the second is
 /// called after the first, and no thread is started.
-pub fn call_both<R: Threads, F: FnOnce() -> A + Send, G: FnOnce() -> B, A: Send, B>(
+pub(crate) fn call_both<R: Threads, F: FnOnce() -> A + Send, G: FnOnce() -> B, A: Send, B>(
     rt: &R,
     lanes: u32,
     first: F,

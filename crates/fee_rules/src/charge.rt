@@ -1,3 +1,4 @@
+//! Fees, in their two parts.
 use std::marker::Model;
 
 /// What a transaction pays, in lamports. The sum fits in a u64.

@@ -7,8 +7,8 @@ use sol_base::{Blob, COMPUTE_BUDGET_PROGRAM, Hash32, Items, Key, OutOfMemory, SY
 use std::alloc::Global;
 use std::test::Fail;
 
-// A message with so many signatures and one instruction for each input, of the compute budget
-// program where it says so, and else of the system program.
+/// A message with so many signatures and one instruction for each input, of the compute budget
+/// program where it says so, and else of the system program.
 fn message(alloc: Global, required: u8, inputs: &[(bool, &[u8])]) -> Result<Message, OutOfMemory> {
     let mut keys = Items::new(alloc);
     keys.push(Key([1; 32]))?;
@@ -48,8 +48,8 @@ fn has_programs(message: &Message) -> bool
         .all(|instruction| (instruction.program as usize) < keys)
 }
 
-// Budget instructions and what they ask for: none, no data, 450 units at 1,000,000 each before a
-// transfer, more units than there can be, a heap, and bad and repeated ones.
+/// Budget instructions and what they ask for: none, no data, 450 units at 1,000,000 each before a
+/// transfer, more units than there can be, a heap, and bad and repeated ones.
 #[test]
 fn budgets(rt: HostRuntime) -> Result<(), Fail> {
     let plain = Budget {
@@ -104,7 +104,7 @@ fn budgets(rt: HostRuntime) -> Result<(), Fail> {
     Ok(())
 }
 
-// Signatures, price and limit, and the two parts of the fee and the priority.
+/// Signatures, price and limit, and the two parts of the fee and the priority.
 #[test]
 fn fees(rt: HostRuntime) -> Result<(), Fail> {
     let cases: [(u8, u64, u32, u64, u64, Option<u128>); 7] = [

@@ -1,5 +1,5 @@
 -- What the tickets of all senders carry, and where it comes to lie.
-use Rattle.std.proofs.Common.{◌≡◌, ◌≢◌, ◌⊎◌, ℕ, zero, suc, ◌+◌, ◌%◌, ◌<◌, ◌≤◌, List, [], ◌∷◌, ◌++◌, length, map, set, get_or, filter, Option, Some, None, IsSome, Bool, true, false, cond, eqb, eq-eqb, ne_eqb, refl, sym, ap, ◌∙◌, subst, inl, inr, ⊎_elim, arith, All, IfOk, Ok, Err, Result, append-nil, append_assoc}
+use Rattle.std.proofs.Common.{◌≡◌, ◌≢◌, ◌⊎◌, ℕ, zero, suc, ◌+◌, ◌%◌, ◌<◌, ◌≤◌, List, [], ◌∷◌, ◌++◌, length, map, set, get_or, filter, Option, Some, None, IsSome, Bool, true, false, cond, eqb, eq-eqb, ne_eqb, refl, sym, ap, ◌∙◌, subst, inl, inr, ⊎_elim, arith, All, IfOk, Ok, Result, append-nil, append_assoc}
 use Rattle.std.specs.List.{range_with_len}
 use Rattle.std.proofs.lemmas.List.{get_or-map, length-map, length-set, map-append}
 use Rattle.std.proofs.lemmas.List.Elements.{All-cons, All-head, All-map, All-nil, All-tail, filter-append}
@@ -313,7 +313,3 @@ pub left_carries : (intake : Intake) (wires : List (List ℕ)) (senders made : �
     → CarriesShares wires senders left
 left_carries intake wires senders made seats done sent taken left some numbered all long each none is closed others =
     carries_shares intake wires senders done taken left some (done_length seats done sent senders numbered all long) none (shares_sent intake wires senders seats done sent numbered all long each) closed (λ s le. others s (omega (arith, is, le)))
-
-pub if_ok_also : {A E : Type 0} {P Q : A → Type 0} (r : Result A E) → ((x : A) → P x → Q x) → IfOk r P → IfOk r Q
-if_ok_also (Ok x) f p = f x p
-if_ok_also (Err e) f p = tt

@@ -2,6 +2,7 @@
 use Rattle.std.proofs.Common.{◌≡◌, ◌≢◌, ◌⊎◌, ℕ, zero, suc, ◌+◌, ◌<◌, ◌≤◌, List, [], ◌∷◌, ◌++◌, length, set, Option, Some, None, Bool, true, cond, eqb, eq-eqb, ne_eqb, refl, sym, ap, ◌∙◌, subst, inl, inr, ⊎_elim, arith, All, IfSome, append-nil, append_assoc, map}
 use Rattle.std.proofs.lemmas.List.Elements.{filter-append, All-append, All-cons, All-head, All-nil, All-tail, All-weaker}
 use Rattle.std.proofs.lemmas.List.{map-append}
+use Rattle.std.proofs.lemmas.Option.{IfSome_then}
 use mathlib.Core.Option.{some, some-ne-none, some-injective}
 use mathlib.Core.Logic.{dite}
 use native.Mathlib.Decide.{ℕ_discrete, dec_le}
@@ -47,10 +48,6 @@ at_end [] a b (suc j) e = absurd (some-ne-none b (sym e))
 at_end (x ∷ xs) a b zero e = inl e
 at_end (x ∷ xs) a b (suc j) e = ⊎_elim (λ h. inl h) (λ (h : (j ≡ length xs) × (a ≡ b)). inr (ap suc h.0, h.1)) (at_end xs a b j e)
 
-if_some_also : {A : Type 0} {P Q : A → Type 0} (x : Option A) → ((a : A) → P a → Q a) → IfSome x P → IfSome x Q
-if_some_also None f p = tt
-if_some_also (Some a) f p = f a p
-
 seated_apart : (a : Option ℕ) (p q : ℕ) → a ≡ Some p → a ≡ Some q → p ≡ q
 seated_apart a p q x y = let e : Some p ≡ Some q = sym x ∙ y in cc (e)
 
@@ -94,7 +91,7 @@ pushes n pass v x own place items views room r at =
     let q = r.fits j u there in
     record {
       taker = q.taker;
-      sends = if_some_also u.sender (λ z h. (h.0, of_other l x z (λ is. ne (seated_apart (r.seat s) j pass (ap r.seat is ∙ h.0) mine.0)) ∙ h.1)) q.sends;
+      sends = IfSome_then u.sender q.sends (λ z h. (h.0, of_other l x z (λ is. ne (seated_apart (r.seat s) j pass (ap r.seat is ∙ h.0) mine.0)) ∙ h.1));
       joined = joined u q.joined;
     }) in (
       w,
@@ -163,7 +160,7 @@ forks pass v takes items views r at =
     let new : seat r.made ≡ Some next = ap (λ (b : Bool). cond b (Some next) (r.seat r.made)) (eq-eqb r.made r.made refl) in
     let was_none = r.unmade r.made (omega arith) in
     let F : ℕ → PassView → Type 0 = Fits r.reader (suc r.made) r.taken l seat in
-    let sends : (j : ℕ) (u : PassView) → IfSome u.sender (λ z. (r.seat z ≡ Some j) × (of l z ≡ u.sent)) → IfSome u.sender (λ z. (seat z ≡ Some j) × (of l z ≡ u.sent)) = λ j u. if_some_also u.sender (λ z h. (before z (λ is. seat_is_made (r.seat z) j h.0 (ap r.seat is ∙ was_none.0)) ∙ h.0, h.1)) in
+    let sends : (j : ℕ) (u : PassView) → IfSome u.sender (λ z. (r.seat z ≡ Some j) × (of l z ≡ u.sent)) → IfSome u.sender (λ z. (seat z ≡ Some j) × (of l z ≡ u.sent)) = λ j u sends. IfSome_then u.sender sends (λ z h. (before z (λ is. seat_is_made (r.seat z) j h.0 (ap r.seat is ∙ was_none.0)) ∙ h.0, h.1)) in
     let joined : (u : PassView) → All (λ (y : ℕ × List Ticket). (r.seat y.0 ≡ None) × (y.0 < r.made) × (of l y.0 ≡ y.1)) u.joined → All (λ (y : ℕ × List Ticket). (seat y.0 ≡ None) × (y.0 < suc r.made) × (of l y.0 ≡ y.1)) u.joined = λ u. All-weaker (λ (y : ℕ × List Ticket). (r.seat y.0 ≡ None) × (y.0 < r.made) × (of l y.0 ≡ y.1)) (λ (y : ℕ × List Ticket). (seat y.0 ≡ None) × (y.0 < suc r.made) × (of l y.0 ≡ y.1))
     (λ y h. (before y.0 (λ is. omega (arith, h.1, is)) ∙ h.0, omega (arith, h.1), h.2)) u.joined in
     let old : (j : ℕ) (u : PassView) → get_elem? vs j ≡ some u → F j u = each_after_set F views pass (with_seat_made v)
@@ -195,7 +192,7 @@ merges pass v other w s own items views r at apart there =
     let still : (z : ℕ) → r.seat z ≡ None → seat z ≡ None = λ z none. before z (λ is. seat_is_made (r.seat s) other mine.0 (ap r.seat (sym is) ∙ none)) ∙ none in
     let F : ℕ → PassView → Type 0 = Fits r.reader r.made r.taken l seat in
     let P : ℕ × List Ticket → Type 0 = λ y. (seat y.0 ≡ None) × (y.0 < r.made) × (of l y.0 ≡ y.1) in
-    let sends : (j : ℕ) (u : PassView) → j ≢ other → IfSome u.sender (λ z. (r.seat z ≡ Some j) × (of l z ≡ u.sent)) → IfSome u.sender (λ z. (seat z ≡ Some j) × (of l z ≡ u.sent)) = λ j u ne. if_some_also u.sender (λ z h. (before z (λ is. ne (seated_apart (r.seat z) j other h.0 (ap r.seat is ∙ mine.0))) ∙ h.0, h.1)) in
+    let sends : (j : ℕ) (u : PassView) → j ≢ other → IfSome u.sender (λ z. (r.seat z ≡ Some j) × (of l z ≡ u.sent)) → IfSome u.sender (λ z. (seat z ≡ Some j) × (of l z ≡ u.sent)) = λ j u ne sends. IfSome_then u.sender sends (λ z h. (before z (λ is. ne (seated_apart (r.seat z) j other h.0 (ap r.seat is ∙ mine.0))) ∙ h.0, h.1)) in
     let joined : (u : PassView) → All (λ (y : ℕ × List Ticket). (r.seat y.0 ≡ None) × (y.0 < r.made) × (of l y.0 ≡ y.1)) u.joined → All P u.joined = λ u. All-weaker (λ (y : ℕ × List Ticket). (r.seat y.0 ≡ None) × (y.0 < r.made) × (of l y.0 ≡ y.1)) P (λ y h. (still y.0 h.0, h.1, h.2)) u.joined in
     let one : All P (sender_with w.sender w.sent) = subst (λ (y : Option ℕ). All P (sender_with y w.sent)) (sym own) (All-cons P (s, w.sent) [] (gone, below, mine.1) (All-nil P)) in
     let mid : (j : ℕ) (u : PassView) → j ≢ other → get_elem? vs j ≡ some u → F j u = λ j u away e.

@@ -65,7 +65,7 @@ pub fn gather<R: Threads + Wait + Sync, G: SendGate>(
     laid_out(alloc, wires, senders, tickets)
 }
 
-// The senders at work, and their seats once all are done.
+/// The senders at work, and their seats once all are done.
 fn send_all<R: Threads + Wait + Sync, G: SendGate>(
     rt: &R,
     alloc: Global,
@@ -94,7 +94,7 @@ fn send_all<R: Threads + Wait + Sync, G: SendGate>(
     Ok(sent)
 }
 
-// One sender at work, until it is done or finds no memory.
+/// One sender at work, until it is done or finds no memory.
 fn send_share<R: Wait, G: SendGate>(
     rt: &R,
     alloc: Global,
@@ -121,7 +121,7 @@ fn send_share<R: Wait, G: SendGate>(
     Ok(seat)
 }
 
-// Offers the ticket until there is room for it.
+/// Offers the ticket until there is room for it.
 fn send<R: Wait>(rt: &R, intake: &Intake, seat: &mut SendSeat, position: u32, parsed: Parsed)
     requires seat { IsSendSeatOf intake.now seat.old }
     requires room { length (sent_by seat.old) < 2 ^ 32 - 1 }
@@ -142,7 +142,7 @@ fn send<R: Wait>(rt: &R, intake: &Intake, seat: &mut SendSeat, position: u32, pa
     unreachable!()
 }
 
-// The seats of all senders, if each is done.
+/// The seats of all senders, if each is done.
 fn all_seats(
     alloc: Global,
     sent: Vec<Result<SendSeat, OutOfMemory>>,
@@ -156,7 +156,7 @@ fn all_seats(
     Ok(seats)
 }
 
-// What the tickets carry, by position, and their arrivals in the order of the tickets.
+/// What the tickets carry, by position, and their arrivals in the order of the tickets.
 fn laid_out(
     alloc: Global,
     wires: &[Blob],
@@ -173,14 +173,14 @@ fn laid_out(
     Ok(Gathered { parsed, arrivals })
 }
 
-// An empty slot for each wire.
+/// An empty slot for each wire.
 fn no_slots(alloc: Global, wires: &[Blob]) -> Result<Vec<Option<Parsed>>, OutOfMemory>
     ensures { IfOk result (λ slots. slots.items ≡ map (λ _. None) wires.now) }
 {
     Ok(wires.iter().map(|_| None).collect(alloc)?)
 }
 
-// Each ticket laid into the slot of its position.
+/// Each ticket laid into the slot of its position.
 fn laid_in(
     alloc: Global,
     mut slots: Vec<Option<Parsed>>,
@@ -211,7 +211,7 @@ fn lay(slots: &mut Vec<Option<Parsed>>, position: usize, parsed: Parsed)
     slots[position] = Some(parsed);
 }
 
-// What lies in the slots, where none is empty.
+/// What lies in the slots, where none is empty.
 fn in_order(alloc: Global, slots: Vec<Option<Parsed>>) -> Result<Items<Parsed>, OutOfMemory>
     requires { All IsSome slots.items }
     ensures { IfOk result (λ parsed. map (λ x. Some x) parsed ≡ slots.items) }

@@ -140,7 +140,7 @@ impl Intake {
         Err(OutOfMemory)
     }
 
-    // The taker's pass, with those of the senders joined to it.
+    /// The taker's pass, with those of the senders joined to it.
     fn joined(&self, mut seats: Items<SendSeat>, taker: TakeSeat) -> Pass<Ticket, PassView>
         requires seats { All (IsSendSeatOf self.now) seats }
         requires taker { IsTakeSeatOf self.now taker }

@@ -1,3 +1,4 @@
+//! Senders and a taker, in one thread and in several.
 ghost use Rattle.std.specs.Prelude.{◌≡◌, ℕ, ◌+◌, ◌≤◌, ◌<◌, [], length, All, IfErr, IfSome};
 ghost use Rattle.intake.specs.Seats.{IsSendSeatOf, IsTakeSeatOf, sent_by};
 

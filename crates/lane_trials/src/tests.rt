@@ -1,3 +1,4 @@
+//! Lanes over both desks, on a small work.
 mod desk;
 mod ends;
 mod gates;

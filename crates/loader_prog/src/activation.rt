@@ -1,3 +1,4 @@
+//! Final buffers made executable.
 ghost use Rattle.std.specs.Prelude.{◌≡◌, IfOk};
 ghost use Rattle.loader_prog.specs.Loader.{activated};
 

@@ -375,7 +375,7 @@ fn an_account_of_another_program_is_refused(rt: HostRuntime) -> Result<(), Fail>
     Ok(())
 }
 
-// The instructions that write a program, and what becomes of it at the end of the block.
+/// The instructions that write a program, and what becomes of it at the end of the block.
 #[test]
 fn a_program_is_deployed(rt: HostRuntime) -> Result<(), Fail> {
     let mut bytes = joined(rt.alloc(), &[&[0; 80]])?;

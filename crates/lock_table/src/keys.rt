@@ -91,7 +91,7 @@ impl KeyTable {
         }
     }
 
-    // Takes the last key out.
+    /// Takes the last key out.
     fn pop(&mut self)
         requires { 0 < length self.old }
         ensures { self.new ≡ take (length self.old - 1) self.old }

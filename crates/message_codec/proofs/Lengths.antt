@@ -8,7 +8,7 @@ use Rattle.spec_base.proofs.Binding.{chosen, not_refused, ok_parts}
 use Rattle.spec_base.proofs.Formats.{Reads}
 use Rattle.message_codec.specs.declared.fault.WireFault.{WireFault}
 use Rattle.message_codec.specs.declared.fault.WireFault.TheVariants.{Truncated, BadLength}
-use Rattle.message_codec.specs.Compact.{compact, digits_value, AreLaterDigits, AreDigits, BeginsWithLength, IsCutLength}
+use Rattle.message_codec.specs.Compact.{compact, max_count, digits_value, AreLaterDigits, AreDigits, BeginsWithLength, IsCutLength}
 use Rattle.message_codec.specs.WireReading.{Read, compact_at, second_at, third_at}
 
 pub one_digit : (v : ℕ) → v < 128 → compact v ≡ v ∷ []
@@ -34,7 +34,7 @@ digits v = go (nat_lt v 128) (nat_lt v 16384) refl refl
 
 -- the digits of a number
 
-are_digits : (v : ℕ) → v ≤ 65535 → AreDigits (compact v) × (digits_value (compact v) ≡ v)
+are_digits : (v : ℕ) → v ≤ max_count → AreDigits (compact v) × (digits_value (compact v) ≡ v)
 are_digits v le = elim (digits v) [
   | inl small ↦ rw (one_digit v small) (small, omega arith)
   | inr (inl two) ↦ rw (two_digits v two.0 two.1) ((omega arith, omega arith, (omega arith, omega arith)), of_two v two.0 two.1)
@@ -47,7 +47,7 @@ are_digits v le = elim (digits v) [
         let b : v / 128 % 128 ≡ v / 128 = omega arith in
         omega (arith, a, b)
 
-    of_three : (v : ℕ) → 16384 ≤ v → v ≤ 65535 → digits_value ((v % 128 + 128) ∷ (v / 128 % 128 + 128) ∷ (v / 16384) ∷ []) ≡ v
+    of_three : (v : ℕ) → 16384 ≤ v → v ≤ max_count → digits_value ((v % 128 + 128) ∷ (v / 128 % 128 + 128) ∷ (v / 16384) ∷ []) ≡ v
     of_three v g h =
         let a : (v % 128 + 128) % 128 ≡ v % 128 = omega arith in
         let b : (v / 128 % 128 + 128) % 128 ≡ v / 128 % 128 = omega arith in
@@ -60,7 +60,7 @@ later_value [] h = absurd h
 later_value (a ∷ []) h = let above = h.0 in let below = h.1 in omega arith
 later_value (a ∷ b ∷ bs) h = let later : 1 ≤ digits_value (b ∷ bs) = later_value (b ∷ bs) h.2 in omega arith
 
-from_digits : (v : ℕ) (bytes : List ℕ) → v ≤ 65535 → AreDigits bytes → digits_value bytes ≡ v → bytes ≡ compact v
+from_digits : (v : ℕ) (bytes : List ℕ) → v ≤ max_count → AreDigits bytes → digits_value bytes ≡ v → bytes ≡ compact v
 from_digits v [] le h e = absurd h
 from_digits v (a ∷ []) le h e =
     let small : v < 128 = omega arith in
@@ -89,10 +89,10 @@ from_digits v (a ∷ b ∷ c ∷ d ∷ ds) le h e =
     let later : 1 ≤ digits_value (d ∷ ds) = later_value (d ∷ ds) h.2.2.2 in
     absurd (omega arith)
 
-pub one_spelling : (v : ℕ) (bytes : List ℕ) → v ≤ 65535 → (bytes ≡ compact v) ↔ (AreDigits bytes × (digits_value bytes ≡ v))
+pub one_spelling : (v : ℕ) (bytes : List ℕ) → v ≤ max_count → (bytes ≡ compact v) ↔ (AreDigits bytes × (digits_value bytes ≡ v))
 one_spelling v bytes le = (λ e. subst (λ (l : List ℕ). AreDigits l × (digits_value l ≡ v)) (sym e) (are_digits v le), λ h. from_digits v bytes le h.0 h.1)
 
-again : (total v : ℕ) (rest : List ℕ) → v ≤ 65535 → compact_at total (compact v ++ rest) ≡ Ok (v, rest)
+again : (total v : ℕ) (rest : List ℕ) → v ≤ max_count → compact_at total (compact v ++ rest) ≡ Ok (v, rest)
 unfolding compact_at
 again total v rest h = elim (digits v) [
   | inl small ↦ rw (one_digit v small) (grind (arith, nat_tests))
@@ -113,7 +113,7 @@ third_takes at low (c ∷ bs) v rest h =
     in_range c e = grind (arith, nat_tests)
 
 second_takes : (at low : ℕ) (bytes : List ℕ) (v : ℕ) (rest : List ℕ) → low < 128 → IsBytes bytes → second_at at low bytes ≡ Ok (v, rest)
-    → (v ≤ 65535) × ((low + 128) ∷ bytes ≡ compact v ++ rest)
+    → (v ≤ max_count) × ((low + 128) ∷ bytes ≡ compact v ++ rest)
 second_takes at low [] v rest lt are h = absurd (not_refused h)
 second_takes at low (b ∷ bs) v rest lt are h =
     elim (chosen (nat_lt b 128) _ _ _ h) [
@@ -127,7 +127,7 @@ second_takes at low (b ∷ bs) v rest lt are h =
     over : (b : ℕ) → nat_lt b 128 ≡ false → 128 ≤ b
     over b e = grind (arith, nat_tests)
 
-    two : (b : ℕ) → nat_lt b 128 ≡ true → nat_eq b 0 ≡ false → low + 128 * b ≡ v → bs ≡ rest → (v ≤ 65535) × ((low + 128) ∷ b ∷ bs ≡ compact v ++ rest)
+    two : (b : ℕ) → nat_lt b 128 ≡ true → nat_eq b 0 ≡ false → low + 128 * b ≡ v → bs ≡ rest → (v ≤ max_count) × ((low + 128) ∷ b ∷ bs ≡ compact v ++ rest)
     two b p q e f =
         let less : b < 128 = grind (arith, nat_tests) in
         let more : 0 < b = grind (arith, nat_tests) in
@@ -135,14 +135,14 @@ second_takes at low (b ∷ bs) v rest lt are h =
         let d : v / 128 ≡ b = omega arith in
         (omega arith, rw (two_digits v (omega arith) (omega arith), m, d, f) refl)
 
-    three : (b c : ℕ) → 128 ≤ b → b < 256 → bs ≡ c ∷ rest → 0 < c → c ≤ 3 → v ≡ low + 128 * (b - 128) + 16384 * c → (v ≤ 65535) × ((low + 128) ∷ b ∷ bs ≡ compact v ++ rest)
+    three : (b c : ℕ) → 128 ≤ b → b < 256 → bs ≡ c ∷ rest → 0 < c → c ≤ 3 → v ≡ low + 128 * (b - 128) + 16384 * c → (v ≤ max_count) × ((low + 128) ∷ b ∷ bs ≡ compact v ++ rest)
     three b c over byte f more few e =
         let m : v % 128 ≡ low = omega arith in
         let d : v / 128 % 128 + 128 ≡ b = omega arith in
         let t : v / 16384 ≡ c = omega arith in
         (omega arith, rw (three_digits v (omega arith), m, d, t, f) refl)
 
-takes : (total : ℕ) (bytes : List ℕ) (v : ℕ) (rest : List ℕ) → IsBytes bytes → compact_at total bytes ≡ Ok (v, rest) → (v ≤ 65535) × (bytes ≡ compact v ++ rest)
+takes : (total : ℕ) (bytes : List ℕ) (v : ℕ) (rest : List ℕ) → IsBytes bytes → compact_at total bytes ≡ Ok (v, rest) → (v ≤ max_count) × (bytes ≡ compact v ++ rest)
 unfolding compact_at
 takes total [] v rest are h = absurd (not_refused h)
 takes total (a ∷ bs) v rest are h =
@@ -159,12 +159,12 @@ takes total (a ∷ bs) v rest are h =
     big : (a : ℕ) → nat_lt a 128 ≡ false → 128 ≤ a
     big a e = grind (arith, nat_tests)
 
-    one : (a : ℕ) → nat_lt a 128 ≡ true → a ≡ v → bs ≡ rest → (v ≤ 65535) × (a ∷ bs ≡ compact v ++ rest)
+    one : (a : ℕ) → nat_lt a 128 ≡ true → a ≡ v → bs ≡ rest → (v ≤ max_count) × (a ∷ bs ≡ compact v ++ rest)
     one a p e f =
         let small : v < 128 = grind (arith, nat_tests) in
         (omega arith, rw (one_digit v small, ← e, f) refl)
 
-pub length_reads : (total : ℕ) → Reads (compact_at total) compact (λ v. v ≤ 65535)
+pub length_reads : (total : ℕ) → Reads (compact_at total) compact (λ v. v ≤ max_count)
 length_reads total = record { again = again total; takes = takes total }
 
 -- which answer comes where
@@ -309,7 +309,7 @@ truncated_is_cut total (a ∷ rest) are h = elim (chosen (nat_lt a 128) _ _ _ h)
 
 -- the law
 
-spelled_is_read : (total : ℕ) (bytes : List ℕ) (v : ℕ) (rest : List ℕ) → (v ≤ 65535) × (bytes ≡ compact v ++ rest) → compact_at total bytes ≡ Ok (v, rest)
+spelled_is_read : (total : ℕ) (bytes : List ℕ) (v : ℕ) (rest : List ℕ) → (v ≤ max_count) × (bytes ≡ compact v ++ rest) → compact_at total bytes ≡ Ok (v, rest)
 spelled_is_read total bytes v rest h = subst (λ (l : List ℕ). compact_at total l ≡ Ok (v, rest)) (sym h.1) (again total v rest h.0)
 
 bad_is_neither : (total : ℕ) (bytes : List ℕ) → compact_at total bytes ≡ Err (BadLength (place total bytes)) → (¬ BeginsWithLength bytes) × (¬ IsCutLength bytes)
@@ -325,7 +325,7 @@ neither_is_bad total bytes are h = go (compact_at total bytes) refl (answers tot
     go (Err fault) e (inr bad) = ap (λ (f : WireFault). Err f) bad
 
 -- which answer comes of a compact length
-pub length_value : (total : ℕ) (bytes : List ℕ) → IsBytes bytes → (v : ℕ) (rest : List ℕ) → (compact_at total bytes ≡ Ok (v, rest)) ↔ ((v ≤ 65535) × (bytes ≡ compact v ++ rest))
+pub length_value : (total : ℕ) (bytes : List ℕ) → IsBytes bytes → (v : ℕ) (rest : List ℕ) → (compact_at total bytes ≡ Ok (v, rest)) ↔ ((v ≤ max_count) × (bytes ≡ compact v ++ rest))
 length_value total bytes are v rest = (takes total bytes v rest are, spelled_is_read total bytes v rest)
 
 pub length_cut : (total : ℕ) (bytes : List ℕ) → IsBytes bytes → (compact_at total bytes ≡ Err (Truncated (place total bytes))) ↔ IsCutLength bytes

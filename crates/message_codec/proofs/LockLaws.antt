@@ -2,6 +2,7 @@
 use Rattle.std.proofs.Common.{◌≡◌, ◌≢◌, ◌<◌, ◌+◌, ℕ, zero, suc, List, [], ◌∷◌, ◌++◌, length, map, take, replicate, Bool, true, false, ◌||◌, refl, sym, ap, ◌∙◌, append_assoc, arith}
 use Rattle.std.specs.Prelude.{nat_eq}
 use Rattle.std.specs.List.{enumerate_from, slice_index_or, slice_set}
+use Rattle.std.proofs.Math.Bool.{or-false, or-true}
 use Rattle.std.proofs.lemmas.Bool.Decides.{nat_tests}
 use Rattle.std.proofs.lemmas.List.{take_more, length-take, length-append, get_or-set_same, get_or-set_other}
 use Rattle.std.proofs.lemmas.List.Folds.{list_any_more}
@@ -55,15 +56,7 @@ one_marked marks instructions k x place i lt e same_place fits so_far =
     by_case : (b : Bool) → nat_eq x.program i ≡ b → slice_index_or (slice_set marks place true) i false ≡ (slice_index_or marks i false || nat_eq x.program i)
     by_case true same =
         let at : place ≡ i = grind (arith, nat_tests) in
-        rw (same, ← at, get_or-set_same marks place true false fits) (sym (either_true (slice_index_or marks place false)))
-      where
-        either_true : (b : Bool) → (b || true) ≡ true
-        either_true true = refl
-        either_true false = refl
+        rw (same, ← at, get_or-set_same marks place true false fits) (sym (or-true (slice_index_or marks place false)))
     by_case false other =
         let apart : i ≢ place = λ e. absurd (grind (arith, nat_tests)) in
-        rw (other, get_or-set_other marks place i true false apart) (sym (or_none (slice_index_or marks i false)))
-      where
-        or_none : (b : Bool) → (b || false) ≡ b
-        or_none true = refl
-        or_none false = refl
+        rw (other, get_or-set_other marks place i true false apart) (sym (or-false (slice_index_or marks i false)))

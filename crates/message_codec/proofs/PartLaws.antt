@@ -12,7 +12,7 @@ use Rattle.message_codec.specs.declared.message.Signature.{Signature}
 use Rattle.message_codec.specs.declared.message.Header.{Header}
 use Rattle.message_codec.specs.declared.message.Instruction.{Instruction}
 use Rattle.message_codec.specs.declared.message.Lookup.{Lookup}
-use Rattle.message_codec.specs.Compact.{compact}
+use Rattle.message_codec.specs.Compact.{compact, max_count}
 use Rattle.message_codec.specs.Wire.{array_bytes, blob_bytes, signature_bytes, header_bytes, instruction_bytes, lookup_bytes, IsCountable}
 use Rattle.message_codec.specs.WireReading.{Read, array_at, blob_at, signature_at, header_at, instruction_at, lookup_at}
 use Rattle.message_codec.proofs.Lengths.{length_reads}
@@ -29,7 +29,7 @@ unfolding blob_at
 blob_takes total bytes blob rest are h =
     let t = taken (length_reads total) _ bytes (blob, rest) are h in
     let f = (field_reads Truncated total t.value).takes t.rest blob rest t.are_bytes t.goes_on in
-    (subst (λ n. n ≤ 65535) (sym f.0) t.fits, t.spelled ∙ rw (f.1, ← f.0) (sym (append_assoc (compact (length blob)) blob rest)))
+    (subst (λ n. n ≤ max_count) (sym f.0) t.fits, t.spelled ∙ rw (f.1, ← f.0) (sym (append_assoc (compact (length blob)) blob rest)))
 
 pub blob_reads : (total : ℕ) → Reads (blob_at total) blob_bytes IsCountable
 blob_reads total = record { again = blob_again total; takes = blob_takes total }
@@ -46,7 +46,7 @@ unfolding array_at
 array_takes one {spell = spell} total reads bytes xs rest are h =
     let t = taken (length_reads total) _ bytes (xs, rest) are h in
     let f = (many_reads reads t.value).takes t.rest xs rest t.are_bytes t.goes_on in
-    ((subst (λ n. n ≤ 65535) (sym f.0.0) t.fits, f.0.1), t.spelled ∙ rw (f.1, ← f.0.0) (sym (append_assoc (compact (length xs)) (flat_map spell xs) rest)))
+    ((subst (λ n. n ≤ max_count) (sym f.0.0) t.fits, f.0.1), t.spelled ∙ rw (f.1, ← f.0.0) (sym (append_assoc (compact (length xs)) (flat_map spell xs) rest)))
 
 pub array_reads : {X : Type 0} (one : ℕ → List ℕ → Read X) {spell : X → List ℕ} {Fits : X → Type 0} (total : ℕ) → Reads (one total) spell Fits
     → Reads (array_at one total) (array_bytes spell) (λ xs. IsCountable xs × AllByRecursion Fits xs)

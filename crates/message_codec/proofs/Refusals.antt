@@ -1,14 +1,15 @@
 -- No bytes make reading answer want of memory.
 use Rattle.std.proofs.Common.{◌≡◌, ℕ, zero, suc, List, [], ◌∷◌, ◌++◌, length, Result, Ok, Err, Bool, true, false, cond, ◌||◌, refl, subst, ◌+◌, ◌*◌, ◌-◌, nat_lt}
 use Rattle.std.specs.Prelude.{nat_eq}
-use Rattle.spec_base.specs.Reading.{◌>>=◌, place, ok_if, field_at, byte_at, read_as, many_after, many, whole}
+use Rattle.spec_base.specs.Reading.{◌>>=◌, place, field_at, byte_at, read_as, many_after}
 use Rattle.sol_base.specs.Keys.{key_at, hash_at}
 use Rattle.message_codec.specs.declared.fault.WireFault.{WireFault}
-use Rattle.message_codec.specs.declared.fault.WireFault.TheVariants.{TooLong, Truncated, BadLength, Version, Trailing}
+use Rattle.message_codec.specs.declared.fault.WireFault.TheVariants.{Truncated}
 use Rattle.message_codec.specs.declared.message.MessageKind.{MessageKind}
 use Rattle.message_codec.specs.declared.message.MessageKind.TheVariants.{Legacy, Zero}
 use Rattle.message_codec.specs.declared.message.Tx.{Tx}
-use Rattle.message_codec.specs.WireReading.{Read, is_wire_memory, third_at, second_at, first_at, compact_at, array_at, blob_at, signature_at, header_at, instruction_at, lookup_at, kind_at, lookups_at, message_at, tx_at, wire_of}
+use Rattle.message_codec.specs.Wire.{max_wire_len}
+use Rattle.message_codec.specs.WireReading.{Read, is_wire_memory, third_at, second_at, compact_at, array_at, blob_at, signature_at, header_at, instruction_at, lookup_at, kind_at, lookups_at, message_at, tx_at, wire_of}
 
 -- the answer is no want of memory
 abbrev IsPlain : {X : Type 0} → Result X WireFault → Type 0
@@ -114,7 +115,7 @@ tx_plain total bytes =
 
 wire_plain : (bytes : List ℕ) → IsPlain (wire_of bytes)
 unfolding wire_of
-wire_plain bytes = either (nat_lt 1232 (length bytes)) _ _ refl
+wire_plain bytes = either (nat_lt max_wire_len (length bytes)) _ _ refl
     (onward (tx_at (length bytes) bytes) _ (tx_plain (length bytes) bytes) (λ tx. either (nat_eq (length tx.1) 0) _ _ tt refl))
 
 -- a refusal is of the bytes

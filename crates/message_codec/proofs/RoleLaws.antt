@@ -1,7 +1,7 @@
 -- What the keys of a sane transaction may do, and what its instructions name.
-use Rattle.std.proofs.Common.{append_assoc, zero-add, ◌≡◌, ◌<◌, ◌≤◌, ◌+◌, ◌-◌, ℕ, zero, suc, List, [], ◌∷◌, ◌++◌, length, map, Option, Some, None, Bool, true, false, not, ◌||◌, ◌&&◌, refl, sym, ap, subst, ◌∙◌, All, arith}
-use Rattle.std.specs.Prelude.{nat_eq, nat_lt, nat_le, slice_get, option_map}
-use Rattle.std.specs.List.{enumerate_from, list_any, AllByRecursion}
+use Rattle.std.proofs.Common.{append_assoc, zero-add, ◌≡◌, ◌<◌, ◌≤◌, ◌+◌, ◌-◌, ℕ, zero, suc, List, [], ◌∷◌, ◌++◌, length, map, Option, Some, None, true, false, refl, sym, ap, subst, ◌∙◌, All, arith}
+use Rattle.std.specs.Prelude.{nat_eq, nat_lt, slice_get, option_map}
+use Rattle.std.specs.List.{enumerate_from, AllByRecursion}
 use Rattle.std.specs.Option.{option_map_or}
 use Rattle.std.proofs.lemmas.Bool.Decides.{nat_tests}
 use Rattle.std.proofs.lemmas.List.{length-append, length-map}
@@ -10,12 +10,11 @@ use Rattle.std.proofs.lemmas.List.Folds.{list_any_none}
 use Rattle.std.proofs.lemmas.Option.{slice_get-map}
 use Rattle.sol_base.specs.declared.key.Key.{Key}
 use Rattle.sol_base.specs.declared.lock.Lock.{Lock}
-use Rattle.message_codec.specs.declared.message.Header.{Header}
 use Rattle.message_codec.specs.declared.message.Instruction.{Instruction}
 use Rattle.message_codec.specs.declared.message.Message.{Message}
 use Rattle.message_codec.specs.declared.message.Loaded.{Loaded}
 use Rattle.message_codec.specs.declared.message.Tx.{Tx}
-use Rattle.message_codec.specs.Roles.{IsSane, HasAllLoaded, AreNamed, is_signer_at, is_writable_static, is_writable_loaded, has_writable_place, may_write, is_writable_at, is_program, is_reserved, has_reserved_payer, all_keys, key_count, load_count, lock_of, locks_of}
+use Rattle.message_codec.specs.Roles.{IsSane, HasAllLoaded, AreNamed, is_signer_at, is_writable_static, may_write, is_writable_at, is_program, is_reserved, has_reserved_payer, all_keys, key_count, lock_of, locks_of}
 
 pub payer_signs : (tx : Tx) (most : ℕ) → IsSane tx most → is_signer_at tx.message 0 ≡ true
 payer_signs tx most is = let t = is.payer in grind (arith, nat_tests)

@@ -22,7 +22,7 @@ use Rattle.message_codec.specs.declared.message.MessageKind.{MessageKind}
 use Rattle.message_codec.specs.declared.message.MessageKind.TheVariants.{Legacy, Zero}
 use Rattle.message_codec.specs.declared.message.Message.{Message}
 use Rattle.message_codec.specs.declared.message.Tx.{Tx}
-use Rattle.message_codec.specs.Wire.{array_bytes, signature_bytes, header_bytes, instruction_bytes, kind_bytes, lookups_bytes, message_bytes, message_name, tx_bytes, IsOneWire, IsCountable, HasShortLists, HasWidths, AllowsLookups, BeginsAsItsKind, Wire}
+use Rattle.message_codec.specs.Wire.{array_bytes, signature_bytes, header_bytes, instruction_bytes, kind_bytes, lookups_bytes, message_bytes, message_name, tx_bytes, IsOneWire, IsCountable, HasShortLists, HasWidths, AllowsLookups, BeginsAsItsKind, Wire, max_wire_len}
 use Rattle.message_codec.specs.WireReading.{Read, is_wire_memory, array_at, signature_at, instruction_at, lookup_at, kind_at, lookups_at, message_at, tx_at, wire_of}
 use Rattle.message_codec.proofs.PartLaws.{array_reads, signature_reads, InstructionFits, instruction_reads, LookupFits, lookup_reads, HeaderFits, header_reads}
 
@@ -246,19 +246,19 @@ widths_of tx fits =
 pub wire_again : (bytes : List ℕ) (tx : Tx) → Wire bytes tx → wire_of bytes ≡ Ok tx
 unfolding wire_of
 wire_again bytes tx wire =
-    let short : nat_lt 1232 (length bytes) ≡ false = let h = wire.short in grind (arith, nat_tests) in
+    let short : nat_lt max_wire_len (length bytes) ≡ false = let h = wire.short in grind (arith, nat_tests) in
     let read : tx_at (length bytes) (tx_bytes tx ++ []) ≡ Ok (tx, []) = tx_again (length bytes) tx [] (fits_reading tx wire.begins wire.allows wire.signatures wire.lists wire.widths) in
     let here : tx_at (length bytes) bytes ≡ Ok (tx, []) = subst (λ (l : List ℕ). tx_at (length bytes) l ≡ Ok (tx, [])) (append-nil (tx_bytes tx) ∙ sym wire.spelled) read in
     then short here
   where
-    then : nat_lt 1232 (length bytes) ≡ false → tx_at (length bytes) bytes ≡ Ok (tx, []) → wire_of bytes ≡ Ok tx
+    then : nat_lt max_wire_len (length bytes) ≡ false → tx_at (length bytes) bytes ≡ Ok (tx, []) → wire_of bytes ≡ Ok tx
     then short here = rw (short, here) refl
 
 -- what is read is spelled so
 pub wire_takes : (bytes : List ℕ) (tx : Tx) → IsBytes bytes → wire_of bytes ≡ Ok tx → Wire bytes tx
 unfolding wire_of
 wire_takes bytes tx are h =
-    elim (chosen (nat_lt 1232 (length bytes)) _ _ _ h) [
+    elim (chosen (nat_lt max_wire_len (length bytes)) _ _ _ h) [
       | inl p ↦ absurd (let e : (let l : Result Tx WireFault = Err TooLong in l) ≡ Ok tx = p.1 in cc)
       | inr q ↦
           let a = bind_ok (tx_at (length bytes) bytes) _ tx q.1 in
@@ -279,7 +279,7 @@ wire_takes bytes tx are h =
     same : (x : Tx) (rest : List ℕ) → rest ≡ [] → x ≡ tx → (let l : Read Tx = Ok (x, rest) in l) ≡ Ok (tx, [])
     same x rest e f = cc
 
-    below : nat_lt 1232 (length bytes) ≡ false → length bytes ≤ 1232
+    below : nat_lt max_wire_len (length bytes) ≡ false → length bytes ≤ max_wire_len
     below e = grind (arith, nat_tests)
 
 pub is_found : (bytes : List ℕ) (result : Result Tx WireFault) → IsBytes bytes → Gives is_wire_memory (λ v. v) result (wire_of bytes) → IfOk result (λ tx. Wire bytes tx)

@@ -1,9 +1,6 @@
 -- Compact lengths (Solana): the 7-bit digits of a number up to 65,535, low digit first.
-use Rattle.std.specs.Prelude.{◌≡◌, ◌≢◌, ◌↔◌, ℕ, ◌+◌, ◌*◌, ◌/◌, ◌%◌, ◌<◌, ◌≤◌, nat_lt, List, [], ◌∷◌, ◌++◌, if◌then◌else◌}
-
--- the greatest number that has a compact length (Solana)
-abbrev pub max_count : ℕ
-max_count = 65535
+use Rattle.std.specs.Prelude.{◌≡◌, ◌≢◌, ℕ, ◌+◌, ◌*◌, ◌/◌, ◌%◌, ◌<◌, ◌≤◌, nat_lt, List, [], ◌∷◌, ◌++◌, if◌then◌else◌}
+pub use Rattle.spec_base.specs.Bytes.{max_count}
 
 -- as few digits as hold the number, and at least one; each but the last has 128 added
 unfoldable pub compact : ℕ → List ℕ

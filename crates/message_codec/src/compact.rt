@@ -6,6 +6,7 @@ ghost use Rattle.message_codec.specs.WireReading.{is_wire_memory, compact_at, se
 
 use crate::fault::WireFault;
 use sol_base::{Blob, OutOfMemory};
+use spec_base::place;
 
 /// The length at the front of the bytes, and the bytes after it. `total` is the length of the whole
 /// text.
@@ -13,7 +14,7 @@ use sol_base::{Blob, OutOfMemory};
 pub(crate) fn read_length(total: usize, bytes: &[u8]) -> Result<(usize, &[u8]), WireFault>
     ensures { Gives is_wire_memory (λ x. (x.0, x.1.now)) result (compact_at total bytes.now) }
 {
-    let at = total.saturating_sub(bytes.len());
+    let at = place(total, bytes);
     match bytes {
         [] => Err(WireFault::Truncated { at }),
         [first, rest @ ..] if *first < 128 => Ok((usize::from(*first), rest)),

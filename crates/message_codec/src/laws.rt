@@ -16,7 +16,7 @@ ghost use Rattle.message_codec.specs.Roles.{IsSane, HasAllLoaded, AreNamed, is_s
 /// A law: the spelling of a compact length is the one list of its 7-bit digits, low digit first,
 /// 128 added to each but the last, and the last not 0 unless it stands alone.
 pub fn lengths_have_one_spelling()
-    ensures { (v : ℕ) (bytes : List ℕ) → v ≤ max_count
+    ensures spelling { (v : ℕ) (bytes : List ℕ) → v ≤ max_count
         → (bytes ≡ compact v) ↔ (AreDigits bytes × (digits_value bytes ≡ v)) }
 {}
 
@@ -45,7 +45,7 @@ pub fn wires_are_read_as_they_are_spelled()
 
 /// A law: what is written is read again, where it may be a wire: `read_wire(write_wire(tx)) = tx`.
 pub fn written_wires_are_read_again()
-    ensures { (tx : Tx) → IsOneWire tx → wire_of (tx_bytes tx) ≡ Ok tx }
+    ensures again { (tx : Tx) → IsOneWire tx → wire_of (tx_bytes tx) ≡ Ok tx }
 {}
 
 /// A law: the fee payer of a sane transaction, its key 0, signs it and may be written.

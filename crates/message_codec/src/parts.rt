@@ -58,7 +58,8 @@ impl Item for Instruction {
 
     ghost item_bytes = { instruction_bytes };
 
-    ghost CanSpell = { λ instruction. IsCountable instruction.accounts × IsCountable instruction.input };
+    ghost CanSpell = { λ instruction. IsCountable instruction.accounts
+        × IsCountable instruction.input };
 
     #[tactic(auto, unfolding(crate::specs::WireReading::instruction_at))]
     fn read(alloc: Global, total: usize, bytes: &[u8]) -> Result<(Instruction, &[u8]), WireFault> {

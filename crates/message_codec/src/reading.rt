@@ -9,7 +9,7 @@ use crate::array::read_array;
 use crate::fault::WireFault;
 use crate::message::{Header, Lookup, Message, MessageKind, Tx};
 use sol_base::{Items, hash_field};
-use spec_base::array_field;
+use spec_base::{array_field, place};
 use std::alloc::Global;
 
 /// The most bytes of a transaction (Solana).
@@ -90,7 +90,7 @@ pub(crate) fn read_signed(alloc: Global, bytes: &[u8]) -> Result<(Tx, &[u8]), Wi
     let (message, rest) = read_message(alloc, total, signed)?;
     if !rest.is_empty() {
         return Err(WireFault::Trailing {
-            at: total.saturating_sub(rest.len()),
+            at: place(total, rest),
         });
     }
     let tx = Tx {

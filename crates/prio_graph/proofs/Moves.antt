@@ -7,7 +7,7 @@ use Rattle.lock_table.specs.declared.locks.NumberedLock.{NumberedLock}
 use Rattle.lock_table.specs.Numbers.{conflicts}
 use Rattle.prio_graph.specs.declared.mark.Mark.{Mark}
 use Rattle.prio_graph.specs.declared.mark.Mark.TheVariants.{Waiting, Started, Done}
-use Rattle.prio_graph.specs.Ready.{Positions, set_at, mark_at, EarlierDone, IsReady, IsLeastReady}
+use Rattle.prio_graph.specs.Ready.{Positions, set_at, mark_at, EarlierDone, IsReady, IsLeastOfReady}
 use Rattle.prio_graph.specs.Chains.{edges_into, is_done_mark, counter, StartedInOrder}
 use Rattle.prio_graph.specs.Trees.{IsTree, leaf}
 use Rattle.prio_graph.specs.Kept.{times, none, is_waiting_mark, shown, IsGraph}
@@ -67,7 +67,7 @@ module _ (sets : List (List NumberedLock)) (marks : List Mark) (waits : List ℕ
       ]
 
   -- what the least leaf says
-  pub least_is : (v : ℕ) → ((i : ℕ) → i < length sets → v ≤ leaf tree (length sets) i) → (v ≡ none) ⊎ ((i : ℕ) × (i < length sets) × (leaf tree (length sets) i ≡ v)) → (v ≡ none → ⊥) → IsLeastReady now v
+  pub least_is : (v : ℕ) → ((i : ℕ) → i < length sets → v ≤ leaf tree (length sets) i) → (v ≡ none) ⊎ ((i : ℕ) × (i < length sets) × (leaf tree (length sets) i ≡ v)) → (v ≡ none → ⊥) → IsLeastOfReady now v
   least_is v least (inl e) d = absurd (d e)
   least_is v least (inr (i, l, e)) d =
       let here = shown_ready i v l e d in

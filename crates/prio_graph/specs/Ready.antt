@@ -32,6 +32,6 @@ pub record IsReady (p : Positions) (i : ℕ) : Type 0 where
   pub earlier : EarlierDone p.sets p.marks i
 
 -- it is ready, and none before it is
-pub record IsLeastReady (p : Positions) (i : ℕ) : Type 0 where
+pub record IsLeastOfReady (p : Positions) (i : ℕ) : Type 0 where
   pub ready : IsReady p i
   pub least : (j : ℕ) → j < i → IsReady p j → ⊥

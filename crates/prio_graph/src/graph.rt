@@ -1,7 +1,7 @@
 //! The graph of positions: which are ready, and the least of them.
 ghost use Rattle.std.specs.Prelude.{◌≡◌, ℕ, ◌+◌, ◌*◌, ◌^◌, ◌<◌, ◌≤◌, All, IfOk, IfSome, IfNone, length, slice_index, slice_set};
 ghost use Rattle.prio_graph.specs.Trees.{IsTree};
-ghost use Rattle.prio_graph.specs.Ready.{all_waiting, IsReady, IsLeastReady, mark_at, set_at};
+ghost use Rattle.prio_graph.specs.Ready.{all_waiting, IsReady, IsLeastOfReady, mark_at, set_at};
 ghost use Rattle.prio_graph.specs.Kept.{times, ShowsFree, ShowsReleased};
 ghost use Rattle.prio_graph.specs.declared.mark.Mark.TheVariants.{Waiting, Started, Done};
 
@@ -67,7 +67,7 @@ impl Graph {
 
     /// The least position that is ready: it is waiting, and every earlier conflicting one is done.
     pub fn least_ready(&self) -> Option<u32>
-        ensures least { IfSome result (IsLeastReady self.now) }
+        ensures least { IfSome result (IsLeastOfReady self.now) }
         ensures none { IfNone result ((i : ℕ) → IsReady self.now i → ⊥) }
     {
         let least = least_leaf(self.ready.as_slice(), self.sets.len());

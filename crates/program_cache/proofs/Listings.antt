@@ -1,7 +1,6 @@
 -- What is kept for keys, and what is found among it.
 use Rattle.std.proofs.Common.{◌≡◌, ◌<◌, ◌+◌, ℕ, length, take, get_or, List, [], ◌∷◌, ◌++◌, Option, Some, None, Bool, true, false, cond, ◌||◌, refl, sym, ap, subst, ◌∙◌}
 use Rattle.std.specs.Prelude.{map as each, is_some, unwrap_or, option_map, if◌then◌else◌}
-use Rattle.std.specs.List.{list_any}
 use Rattle.std.proofs.lemmas.List.{nil_from_length, take_more}
 use Rattle.std.specs.Map.{lookup}
 use Rattle.std.specs.BTreeMap.{is_at, insert_entry}
@@ -13,7 +12,7 @@ use Rattle.sol_base.specs.declared.key.Key.{Key}
 use Rattle.sol_base.specs.Keys.{key_cmp, same_key, has_key}
 use Rattle.sol_base.proofs.KeyLaws.{key_cmp_exact, key_cmp_total, same_cmp, same_key-true}
 use Rattle.account_store.specs.State.{State}
-use Rattle.account_store.proofs.EntryLists.{find-lookup, entries-insert_entry}
+use Rattle.account_store.proofs.EntryLists.{entries-insert_entry}
 use Rattle.program_cache.specs.Programs.{Sought, Listing, IsAbsent, sought_in, programs_of, sought}
 use Rattle.program_cache.specs.declared.kept.Kept.{Kept}
 use Rattle.program_cache.specs.Kept.{kept_as, listing, with_key}

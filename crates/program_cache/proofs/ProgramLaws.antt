@@ -1,5 +1,5 @@
 -- What an account is as a program.
-use Rattle.std.proofs.Common.{◌≡◌, ℕ, ◌+◌, ◌≤◌, List, Option, Some, None, Bool, true, false, refl, sym, ap, subst, ◌∙◌, arith}
+use Rattle.std.proofs.Common.{◌≡◌, ℕ, ◌+◌, ◌≤◌, List, Option, Some, None, Bool, true, false, refl, sym, ap, ◌∙◌, arith}
 use Rattle.std.specs.Prelude.{length, if◌then◌else◌}
 use Rattle.std.specs.Option.{option_map_or}
 use Rattle.sol_base.specs.declared.key.Key.{Key}

@@ -1,3 +1,4 @@
+//! What is found under a key.
 use crate::image::Image;
 use sbpf_verify::VerifyFault;
 

@@ -1,3 +1,4 @@
+//! Programs that are ready to run.
 ghost use Rattle.std.specs.Prelude.{◌≡◌, ◌+◌, ◌≤◌, ◌++◌, length, IfOk};
 ghost use Rattle.std.specs.Arc.{arc_value};
 ghost use Rattle.sol_base.specs.Accounts.{max_data_len};

@@ -1,3 +1,4 @@
+//! What is kept for a key.
 ghost use Rattle.std.specs.Prelude.{◌≡◌, ◌+◌, ◌≤◌, length, IfOk};
 ghost use Rattle.sol_base.specs.Accounts.{IsShort, max_data_len};
 ghost use Rattle.sbpf_verify.specs.Verified.{unfit};

@@ -1,3 +1,4 @@
+//! The programs under some keys.
 ghost use Rattle.std.specs.Prelude.{◌≡◌, IfOk, OnOk};
 ghost use Rattle.program_cache.specs.Programs.{found_as, sought_in, programs_of, sought};
 ghost use Rattle.program_cache.specs.Kept.{listing, with_key};

@@ -24,7 +24,7 @@ impl<T> Model for Note<T> {
 }
 
 impl<T> Note<T> {
-    // Notes any value. That nothing has to be done for it is shown by hand.
+    /// Notes any value. That nothing has to be done for it is shown by hand.
     fn make() -> Note<T>
         ghost noted: { T }
         ensures { result.value ≡ noted }

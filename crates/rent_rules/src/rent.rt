@@ -67,7 +67,7 @@ pub fn may_move(before: &RentState, after: &RentState) -> bool
 mod tests {
     use super::*;
 
-    // Published minimums of Solana: an account without data, a token account, the longest account.
+    /// Published minimums of Solana: an account without data, a token account, the longest account.
     #[test]
     fn minimums(rt: HostRuntime) {
         for (len, lamports) in [(0, 890_880), (165, 2_039_280), (10_485_760, 72_981_780_480)] {
@@ -76,7 +76,7 @@ mod tests {
         }
     }
 
-    // What may be left of 1,005,001 lamports in an account without data.
+    /// What may be left of 1,005,001 lamports in an account without data.
     #[test]
     fn payers(rt: HostRuntime) {
         let before = rent_state(1_005_001, 0);

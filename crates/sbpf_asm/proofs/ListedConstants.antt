@@ -6,11 +6,11 @@ use Rattle.std.specs.Fork.{slice_chunk}
 use Rattle.std.proofs.Math.Seq.{take-add}
 use Rattle.std.proofs.lemmas.Bool.{and_from, lt-ltb}
 use Rattle.std.proofs.lemmas.Bool.Decides.{nat_tests}
-use Rattle.std.proofs.lemmas.List.{length-take-le, take-append-drop, take_all}
+use Rattle.std.proofs.lemmas.List.{length-take-le, take_all}
 use Rattle.hex.specs.Hex.{lower_digits, encode_with, encode_lower, decode_of}
 use Rattle.hex.proofs.HexLemmas.{length-encode_with, decode_of-encode_lower}
 use Rattle.spec_base.specs.Bytes.{IsBytes}
-use Rattle.spec_base.proofs.Binding.{after_bytes, before_bytes}
+use Rattle.spec_base.proofs.Binding.{part_bytes}
 use Rattle.sbpf_asm.specs.Words.{Text, is_hex_digit, trim}
 use Rattle.sbpf_asm.specs.Lines.{constants, decoded, are_digits, constants_item, parts_item, item_of, lines_of}
 use Rattle.sbpf_asm.specs.Assembly.{Source, is_text, with_line, with_lines}
@@ -74,12 +74,6 @@ line_count bytes = (length bytes + 31) / 32
 
 abbrev pub constants_from : List ℕ → ℕ → Text
 constants_from bytes j = flat_map (constant_line bytes) (range_with_len j (line_count bytes - j))
-
--- the bytes of a part
-pub part_bytes : (n k : ℕ) (bytes : List ℕ) → IsBytes bytes → IsBytes (take n (drop k bytes))
-part_bytes n k bytes are =
-    before_bytes (take n (drop k bytes)) (drop n (drop k bytes))
-    (subst IsBytes (sym (take-append-drop n (drop k bytes))) (after_bytes bytes (take k bytes) (drop k bytes) are (sym (take-append-drop k bytes))))
 
 some_left : (bytes : List ℕ) (j : ℕ) → j < line_count bytes → 0 < length (slice_chunk bytes 32 j)
 some_left bytes j h = go (nat_lt (length (drop (j * 32) bytes)) 32) refl

@@ -8,7 +8,7 @@ use Rattle.std.proofs.lemmas.Bool.Decides.{Decides-int_eq}
 use Rattle.sbpf_asm.specs.declared.instruction.Instruction.{Instruction}
 use Rattle.sbpf_asm.specs.declared.row.Operand.TheVariants.{RegisterNumber}
 use Rattle.sbpf_asm.specs.Words.{Text}
-use Rattle.sbpf_asm.specs.Rows.{Row, row, rows, row_text, same_instruction, writes, written}
+use Rattle.sbpf_asm.specs.Rows.{Row, row, rows, row_text, same_instruction, is_row_of, written}
 use Rattle.sbpf_asm.specs.Lines.{instruction, item_of}
 use Rattle.sbpf_asm.specs.Listing.{instruction_text}
 use Rattle.sbpf_asm.specs.Assembly.{is_text}
@@ -35,7 +35,7 @@ find_row P test (r ∷ rs) all h = go (find_row P test rs all.1) (test r) refl
 
 -- the immediate of `callx` is a register's number
 abbrev Numbers : Row → Type 0
-Numbers r = (i : Instruction) → (i.opcode ≡ 0x8d → IsNumbered i RegisterNumber) → writes i r ≡ true → AllByRecursion (IsNumbered i) r.operands
+Numbers r = (i : Instruction) → (i.opcode ≡ 0x8d → IsNumbered i RegisterNumber) → is_row_of i r ≡ true → AllByRecursion (IsNumbered i) r.operands
 
 same_opcode : (a b : Instruction) → same_instruction a b ≡ true → a.opcode ≡ b.opcode
 same_opcode a b h = eqb-true a.opcode b.opcode (and_parts (a.opcode == b.opcode) _ h).0
@@ -74,7 +74,7 @@ pub record Reads (line : Text) (i : Instruction) : Type 0 where
   pub text : is_text line ≡ true
   pub item : item_of line ≡ Some (instruction (record { instruction = i; target = None }))
 
-reads_row : (i : Instruction) → IsWide i → (i.opcode ≡ 0x8d → IsNumbered i RegisterNumber) → (f : Found IsUsable (writes i) rows) → Reads (row_text f.row i) i
+reads_row : (i : Instruction) → IsWide i → (i.opcode ≡ 0x8d → IsNumbered i RegisterNumber) → (f : Found IsUsable (is_row_of i) rows) → Reads (row_text f.row i) i
 reads_row i w n f = record {
   text = row_is_text f.row i f.holds.0 w;
   item = row_back f.row i f.holds.0 w (f.holds.1 i n f.passes) ∙ ap (λ (j : Instruction). Some (instruction (record { instruction = j; target = None }))) (same_instructions (written f.row i) i f.passes);
@@ -83,5 +83,5 @@ reads_row i w n f = record {
 -- the line of an instruction that has a row is read as it
 pub instruction_back : (i : Instruction) → HasRow i → IsWide i → (i.opcode ≡ 0x8d → IsNumbered i RegisterNumber) → Reads (instruction_text i) i
 instruction_back i h w n =
-    let f = find_row IsUsable (writes i) rows (both rows all_rows all_numbers) h in
+    let f = find_row IsUsable (is_row_of i) rows (both rows all_rows all_numbers) h in
     rw f.is (reads_row i w n f)

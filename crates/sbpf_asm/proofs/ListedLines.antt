@@ -13,6 +13,7 @@ use Rattle.sbpf_asm.specs.Lines.{instruction, code_item, parts_item, word_item, 
 use Rattle.sbpf_asm.specs.Assembly.{is_text_byte, is_text}
 use Rattle.sbpf_asm.proofs.Pieces.{cut_none, cut_here, split_none, split_here, trim_framed, all_append}
 use Rattle.sbpf_asm.proofs.Clean.{Clean, is_plain, weaker, plain_not_blank, plain_no_comma, plain_no_semicolon, plain_no_colon, Ends, ends_after, ends_append, clean_ends, framed, clean_framed}
+use Rattle.sbpf_asm.proofs.Sources.{no_empty}
 use Rattle.sbpf_asm.proofs.Operands.{IsWide, IsNumbered, operand_clean, operands_back, ends_push}
 
 -- ---- operands parted by commas
@@ -40,9 +41,6 @@ trim_clean t h = trim_framed t (clean_framed t h)
 trim_all : (texts : List Text) → AllClean texts → map trim (map (λ (u : Text). 32 ∷ u) texts) ≡ texts
 trim_all [] all = refl
 trim_all (u ∷ texts) all = ap₂ (λ (t : Text) (ts : List Text). t ∷ ts) (trim_clean u all.0) (trim_all texts all.1)
-
-no_empty : (n : ℕ) → 0 < n → (n == 0) ≡ false
-no_empty n h = grind (arith, nat_tests)
 
 operands_some : (text : Text) → 0 < length text → operands_of text ≡ map trim (slice_split is_comma text)
 operands_some text h = rw (no_empty (length text) h) refl

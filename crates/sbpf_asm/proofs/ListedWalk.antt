@@ -1,5 +1,5 @@
 -- The lines of the instructions of a verified text, read one after another.
-use Rattle.std.proofs.Common.{◌≡◌, ◌<◌, ◌≤◌, ◌+◌, ◌*◌, ◌/◌, ◌-◌, ℕ, zero, suc, ◌==◌, ◌&&◌, not, Bool, true, false, List, [], ◌∷◌, ◌++◌, take, length, Some, None, is_none, Result, Ok, refl, sym, ap, subst, ◌∙◌, arith, append_assoc, add-one, length-append, codes}
+use Rattle.std.proofs.Common.{◌≡◌, ◌<◌, ◌≤◌, ◌+◌, ◌*◌, ◌/◌, ◌-◌, ℕ, zero, suc, ◌==◌, ◌&&◌, not, Bool, true, false, List, [], ◌∷◌, ◌++◌, take, length, Some, None, is_none, Result, Ok, refl, sym, ap, subst, ◌∙◌, arith, append_assoc, length-append, codes}
 use Rattle.std.specs.Prelude.{pos, nat_lt, if◌then◌else◌}
 use Rattle.std.specs.List.{flat_map, range_with_len}
 use Rattle.std.proofs.lemmas.Bool.{and_parts, eqb-true, not-false}
@@ -13,7 +13,7 @@ use Rattle.sbpf_isa.specs.declared.rows.OpKind.{OpKind}
 use Rattle.sbpf_isa.specs.declared.rows.OpKind.TheVariants.{LoadWide}
 use Rattle.sbpf_verify.specs.Places.{slot_count, is_start, instruction_at}
 use Rattle.sbpf_verify.specs.Verified.{IsVerified, follows_wide, is_second_half, lacks_row, slot_rows}
-use Rattle.sbpf_verify.proofs.Starts.{instruction_there, no_row_applies, start_instruction}
+use Rattle.sbpf_verify.proofs.Starts.{follows_one, instruction_there, no_row_applies, start_instruction}
 use Rattle.sbpf_asm.specs.declared.fault.AsmFault.{AsmFault}
 use Rattle.sbpf_asm.specs.declared.instruction.Instruction.{Instruction}
 use Rattle.sbpf_asm.specs.Words.{Text, is_line_feed}
@@ -59,12 +59,9 @@ row_at : (text : List ℕ) (p : ℕ) → IsVerified text → p < slot_count text
 unfolding slot_rows
 row_at text p v l = (v.slots p l).0
 
-after_narrow : (text : List ℕ) (p : ℕ) → ((slot_of text p).opcode == 0x18) ≡ false → follows_wide text (p + 1) ≡ false
-after_narrow text p h = rw add-one h
-
 -- the slot after one that is not `lddw`
 next_opcode : (text : List ℕ) (p : ℕ) → IsVerified text → ((slot_of text p).opcode == 0x18) ≡ false → p + 1 < slot_count text → ((slot_of text (p + 1)).opcode == 0) ≡ false
-next_opcode text p v h l = opcode_there (slot_of text (p + 1)).opcode (follows_wide text (p + 1)) (row_at text (p + 1) v l) (after_narrow text p h)
+next_opcode text p v h l = opcode_there (slot_of text (p + 1)).opcode (follows_wide text (p + 1)) (row_at text (p + 1) v l) (follows_one text p h)
 
 line_one : (text : List ℕ) (p : ℕ) → p < slot_count text → lines_from text p ≡ slot_line text p ++ lines_from text (p + 1)
 line_one text p l = let e : slot_count text - p ≡ suc (slot_count text - (p + 1)) = omega arith in ap (λ (k : ℕ). flat_map (slot_line text) (range_with_len p k)) e

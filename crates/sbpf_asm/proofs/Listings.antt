@@ -6,9 +6,10 @@ use Rattle.std.proofs.lemmas.Bool.Decides.{nat_tests}
 use Rattle.std.proofs.lemmas.List.{take_all}
 use Rattle.spec_base.specs.Bytes.{IsBytes}
 use Rattle.spec_base.specs.Reading.{◌>>=◌}
-use Rattle.spec_base.proofs.Binding.{ok_same}
+use Rattle.spec_base.proofs.Binding.{ok_same, part_bytes}
+use Rattle.sol_base.specs.Accounts.{max_data_len}
 use Rattle.sbpf_verify.specs.Images.{ImageParts, image_bytes, image_in, slots_named, constants_named}
-use Rattle.sbpf_verify.specs.Places.{slot_count}
+use Rattle.sbpf_verify.specs.Places.{slot_count, max_slots}
 use Rattle.sbpf_verify.specs.Verified.{IsVerified, unfit}
 use Rattle.sbpf_verify.specs.declared.fault.VerifyFault.{VerifyFault}
 use Rattle.sbpf_verify.proofs.ImageLaws.{parts_of_image, parts_within, written}
@@ -21,7 +22,7 @@ use Rattle.sbpf_asm.specs.Lines.{lines_of}
 use Rattle.sbpf_asm.specs.Assembly.{Source, empty, is_too_long, slots_after, verified_image, if_fit, image_of, with_lines, assembled, Assembled}
 use Rattle.sbpf_asm.specs.Listing.{Listed, listed, listed_parts, listing_if_fit, listing, slot_line, constant_line, constant_lines}
 use Rattle.sbpf_asm.proofs.ListedWalk.{Holds, walked}
-use Rattle.sbpf_asm.proofs.ListedConstants.{Read, part_bytes, read}
+use Rattle.sbpf_asm.proofs.ListedConstants.{Read, read}
 
 text_bytes : (bytes : List ℕ) (image : ImageParts) → IsBytes bytes → image_in bytes ≡ Some image → IsBytes image.text
 text_bytes bytes image are h = subst (λ (p : ImageParts). IsBytes p.text) (parts_of_image bytes image h) (part_bytes (8 * slots_named bytes) 16 bytes are)
@@ -48,18 +49,18 @@ all_read image v text constants =
           ∙ r.same;
     }
 
-whole_slots : (n : ℕ) → ((n == 0) || not (n % 8 == 0) || nat_lt 65536 (n / 8)) ≡ false → n ≤ 8 * (n / 8)
+whole_slots : (n : ℕ) → ((n == 0) || not (n % 8 == 0) || nat_lt max_slots (n / 8)) ≡ false → n ≤ 8 * (n / 8)
 whole_slots n h = let m : n % 8 ≡ 0 = grind (arith, nat_tests) in omega arith
 
-within : (n m : ℕ) → n ≤ 65536 → 16 + 8 * n + m ≤ 10485760 → (nat_lt 65536 n || nat_lt 10485760 (16 + 8 * n + m)) ≡ false
+within : (n m : ℕ) → n ≤ max_slots → 16 + 8 * n + m ≤ max_data_len → (nat_lt max_slots n || nat_lt max_data_len (16 + 8 * n + m)) ≡ false
 within n m h k = grind (arith, nat_tests)
 
 -- the image of what has been read
-image_again : (image : ImageParts) (s : Source) → IsVerified image.text → unfit image.text ≡ None → 16 + 8 * slot_count image.text + length image.constants ≤ 10485760 → Holds image.text (slot_count image.text) image.constants s
+image_again : (image : ImageParts) (s : Source) → IsVerified image.text → unfit image.text ≡ None → 16 + 8 * slot_count image.text + length image.constants ≤ max_data_len → Holds image.text (slot_count image.text) image.constants s
     → image_of s ≡ Ok (image_bytes image)
 image_again image s v fit few h =
-    let short : is_too_long s ≡ false = ap (λ (n : ℕ). nat_lt 65536 n || nat_lt 10485760 (16 + 8 * n + length s.constants)) h.slots
-    ∙ ap (λ (c : List ℕ). nat_lt 65536 (slot_count image.text) || nat_lt 10485760 (16 + 8 * slot_count image.text + length c)) h.constants
+    let short : is_too_long s ≡ false = ap (λ (n : ℕ). nat_lt max_slots n || nat_lt max_data_len (16 + 8 * n + length s.constants)) h.slots
+    ∙ ap (λ (c : List ℕ). nat_lt max_slots (slot_count image.text) || nat_lt max_data_len (16 + 8 * slot_count image.text + length c)) h.constants
     ∙ within (slot_count image.text) (length image.constants) (slots_there image.text v).1 few in
     let text : slots_after s.labels [] s.instructions ≡ Ok image.text = h.settles ∙ ap (λ (t : List ℕ). Ok t) (take_all (8 * slot_count image.text) image.text (whole_slots (length image.text) v.len)) in
     ap (λ (b : Bool). if b then Err TooLong else slots_after s.labels [] s.instructions >>= (λ t. verified_image t s.constants)) short
@@ -67,7 +68,7 @@ image_again image s v fit few h =
     ∙ ap (verified_image image.text) h.constants
     ∙ ap (λ (o : Option VerifyFault). if_fit o (image_bytes image)) fit
 
-listing_again : (bytes : List ℕ) (image : ImageParts) → IsBytes bytes → length bytes ≤ 10485760 → image_in bytes ≡ Some image → unfit image.text ≡ None → Assembled (listing image) bytes
+listing_again : (bytes : List ℕ) (image : ImageParts) → IsBytes bytes → length bytes ≤ max_data_len → image_in bytes ≡ Some image → unfit image.text ≡ None → Assembled (listing image) bytes
 unfolding assembled
 listing_again bytes image are few h fit =
     let v = verified_from_none image.text fit in
@@ -78,7 +79,7 @@ listing_again bytes image are few h fit =
     ∙ ap (λ (b : List ℕ). Ok b) (sym (written bytes image h))
 
 -- what is listed assembles again
-pub listed_again : (bytes text : List ℕ) → IsBytes bytes → length bytes ≤ 10485760 → Listed bytes text → Assembled text bytes
+pub listed_again : (bytes text : List ℕ) → IsBytes bytes → length bytes ≤ max_data_len → Listed bytes text → Assembled text bytes
 unfolding listed
 listed_again bytes text are few h = by_image (image_in bytes) refl h
   where

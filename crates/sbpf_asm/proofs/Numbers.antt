@@ -1,5 +1,5 @@
 -- Numbers and registers that are written are read again.
-use Rattle.std.proofs.Common.{◌≡◌, ◌<◌, ◌≤◌, ◌^◌, ℕ, zero, suc, ◌==◌, ◌&&◌, Bool, true, false, [], ◌∷◌, length, Some, refl, arith, rules}
+use Rattle.std.proofs.Common.{◌≡◌, ◌<◌, ◌≤◌, ◌^◌, ℕ, zero, suc, ◌==◌, ◌&&◌, true, false, [], ◌∷◌, length, Some, refl, arith, rules}
 use Rattle.std.specs.Prelude.{ℤ, pos, negsuc}
 use Rattle.std.specs.List.{list_all}
 use Rattle.std.specs.Char.{is_ascii_digit}
@@ -7,7 +7,7 @@ use Rattle.std.specs.Fmt.{decimal, signed_decimal, digits}
 use Rattle.std.specs.Str.Parse.{digits_value}
 use Rattle.std.proofs.lemmas.Str.Parse.{IsNumeralModel, numerals_by_value}
 use Rattle.std.proofs.lemmas.Fmt.{decimal_is_IsNumeral, length-decimal-le}
-use Rattle.std.proofs.lemmas.Bool.{and_parts, lt-ltb, le-leb}
+use Rattle.std.proofs.lemmas.Bool.{and_parts, and_right, lt-ltb, le-leb}
 use Rattle.std.proofs.lemmas.Bool.Decides.{nat_tests}
 use Rattle.sbpf_asm.specs.Words.{Text, decimal_of, unsigned_of, number_of}
 use Rattle.sbpf_asm.specs.Operands.{register_of, register_text}
@@ -41,16 +41,12 @@ digit_no_x c h = grind (arith, nat_tests)
 digit_no_minus : (c : ℕ) → is_ascii_digit c ≡ true → (45 == c) ≡ false
 digit_no_minus c h = grind (arith, nat_tests)
 
-no_hex : (a b : Bool) → b ≡ false → (a && b) ≡ false
-no_hex true b h = h
-no_hex false b h = refl
-
 pub unsigned_back : (n : ℕ) (text : Text) → IsNumber n text → unsigned_of text ≡ Some n
 unsigned_back n [] h = absurd (omega (arith, h.some))
-unsigned_back n (b ∷ []) h = rw (no_hex (48 == b) false refl) (decimal_back n (b ∷ []) h)
+unsigned_back n (b ∷ []) h = rw (and_right (48 == b) false refl) (decimal_back n (b ∷ []) h)
 unsigned_back n (b ∷ c ∷ text) h =
     let second = and_parts (is_ascii_digit c) (list_all is_ascii_digit text) (and_parts (is_ascii_digit b) (list_all is_ascii_digit (c ∷ text)) h.all).1 in
-    rw (no_hex (48 == b) ((120 == c) && true) (rw (digit_no_x c second.0) refl)) (decimal_back n (b ∷ c ∷ text) h)
+    rw (and_right (48 == b) ((120 == c) && true) (rw (digit_no_x c second.0) refl)) (decimal_back n (b ∷ c ∷ text) h)
 
 number_back_pos : (n : ℕ) (text : Text) → IsNumber n text → number_of text ≡ Some (pos n)
 number_back_pos n [] h = absurd (omega (arith, h.some))

@@ -5,7 +5,7 @@ use Rattle.std.specs.Ordering.{int_eq}
 use Rattle.std.specs.List.{list_any}
 use Rattle.std.proofs.lemmas.Bool.Decides.{Decides-int_eq}
 use Rattle.sbpf_asm.specs.declared.instruction.Instruction.{Instruction}
-use Rattle.sbpf_asm.specs.Rows.{rows, writes}
+use Rattle.sbpf_asm.specs.Rows.{rows, is_row_of}
 
 same_nat : (n : ℕ) → (n == n) ≡ true
 same_nat n = search rules
@@ -15,7 +15,7 @@ same_int z = (Decides-int_eq z z).1 refl
 
 -- the instruction has a row
 abbrev pub HasRow : Instruction → Type 0
-HasRow i = list_any (writes i) rows ≡ true
+HasRow i = list_any (is_row_of i) rows ≡ true
 
 -- one lemma for each opcode of the table, by what an instruction has of its own
 

@@ -39,7 +39,7 @@ behind_shorter at (b ∷ bs) h = go (behind_within at bs) (at b) refl
     go more true e = rw e (omega arith)
     go more false e = rw e (omega arith)
 
-no_empty : (n : ℕ) → 0 < n → (n == 0) ≡ false
+pub no_empty : (n : ℕ) → 0 < n → (n == 0) ≡ false
 no_empty n h = grind (arith, nat_tests)
 
 -- the first line of a text, and the lines of what follows

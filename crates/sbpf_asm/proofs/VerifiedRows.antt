@@ -1,10 +1,11 @@
 -- Each instruction that the verifier lets pass has its row among those of the assembler.
-use Rattle.std.proofs.Common.{◌≡◌, ℕ, zero, suc, ◌==◌, ◌&&◌, not, Bool, true, false, List, [], ◌∷◌, ◌++◌, Option, Some, None, refl, sym, ap, arith, subst, inl, inr, ◌⊎◌}
+use Rattle.std.proofs.Common.{◌≡◌, ℕ, zero, suc, ◌==◌, ◌&&◌, not, Bool, true, false, List, [], ◌∷◌, ◌++◌, Some, refl, sym, arith, subst, inl, inr, ◌⊎◌}
 use Rattle.std.specs.Prelude.{ℤ, pos, nat_lt}
 use Rattle.std.specs.Ordering.{int_eq}
 use Rattle.std.specs.List.{AllByRecursion}
 use Rattle.std.proofs.lemmas.Bool.{or_parts, not-false, eqb-true}
 use Rattle.std.proofs.lemmas.Bool.Decides.{Decides-int_eq, nat_tests}
+use Rattle.std.proofs.lemmas.Option.{same_Some}
 use Rattle.sbpf_isa.specs.declared.slot.Slot.{Slot}
 use Rattle.sbpf_isa.specs.declared.rows.OpKind.{OpKind}
 use Rattle.sbpf_isa.specs.declared.rows.Operand.TheVariants.{Immediate, Register}
@@ -17,7 +18,8 @@ use Rattle.sbpf_isa.specs.declared.rows.Condition.TheVariants.{Equal, NotEqual, 
 use Rattle.sbpf_isa.specs.declared.rows.Size.{Size}
 use Rattle.sbpf_isa.specs.declared.rows.Size.TheVariants.{Four, Two, One, Eight}
 use Rattle.sbpf_isa.specs.Rows as isa
-use Rattle.sbpf_verify.specs.Verified.{has_bad_field, has_stray_field, Fields, fields, used, is_no_width}
+use Rattle.sbpf_verify.specs.Verified.{has_bad_field, has_stray_field, Fields, fields, used}
+use Rattle.sbpf_verify.proofs.Starts.{is_width}
 use Rattle.sbpf_asm.proofs.OpcodeRows.{HasRow, row_04, row_05, row_07, row_0c, row_0f, row_14, row_15, row_17, row_18, row_1c, row_1d, row_1f, row_24, row_25, row_27, row_2c, row_2d, row_2f, row_34, row_35, row_37, row_3c, row_3d, row_3f, row_44, row_45, row_47, row_4c, row_4d, row_4f, row_54, row_55, row_57, row_5c, row_5d, row_5f, row_61, row_62, row_63, row_64, row_65, row_67, row_69, row_6a, row_6b, row_6c, row_6d, row_6f, row_71, row_72, row_73, row_74, row_75, row_77, row_79, row_7a, row_7b, row_7c, row_7d, row_7f, row_84, row_85_0, row_85_1, row_87, row_8d, row_94, row_95, row_97, row_9c, row_9f, row_a4, row_a5, row_a7, row_ac, row_ad, row_af, row_b4, row_b5, row_b7, row_bc, row_bd, row_bf, row_c4, row_c5, row_c7, row_cc, row_cd, row_cf, row_d4_16, row_d4_32, row_d4_64, row_d5, row_dc_16, row_dc_32, row_dc_64, row_dd}
 
 -- a slot by its fields
@@ -93,25 +95,17 @@ d_o_i k n f row s e h = let u = of_fields s k _ f h in subst SlotHasRow (slot_is
 d_s_o : (k : OpKind) (n : ℕ) → used k ≡ fields true true true false → ((d c : ℕ) (o : ℤ) → SlotHasRow (slot n d c o (pos 0))) → Covered n k
 d_s_o k n f row s e h = let u = of_fields s k _ f h in subst SlotHasRow (slot_is s n s.dst s.src s.offset (pos 0) e refl refl refl (u.imm refl)) (row s.dst s.src s.offset)
 
--- the widths of `le` and `be`
-a_width : (z : ℤ) → is_no_width z ≡ false → (z ≡ pos 16) ⊎ ((z ≡ pos 32) ⊎ (z ≡ pos 64))
-a_width z h = go (int_eq z (pos 16)) refl (int_eq z (pos 32)) refl
-  where
-    go : (a : Bool) → int_eq z (pos 16) ≡ a → (b : Bool) → int_eq z (pos 32) ≡ b → (z ≡ pos 16) ⊎ ((z ≡ pos 32) ⊎ (z ≡ pos 64))
-    go true a b e = inl ((Decides-int_eq z (pos 16)).0 a)
-    go false a true b = inr (inl ((Decides-int_eq z (pos 32)).0 b))
-    go false a false b = inr (inr ((Decides-int_eq z (pos 64)).0 (not-false (int_eq z (pos 64)) (rw (a, b) at h))))
-
+-- at the widths of `le` and `be`
 of_width : (s : Slot) (n : ℕ) → ((d : ℕ) → SlotHasRow (slot n d 0 (pos 0) (pos 16))) → ((d : ℕ) → SlotHasRow (slot n d 0 (pos 0) (pos 32))) → ((d : ℕ) → SlotHasRow (slot n d 0 (pos 0) (pos 64))) → s.opcode ≡ n → s.src ≡ 0 → s.offset ≡ pos 0 → (s.imm ≡ pos 16) ⊎ ((s.imm ≡ pos 32) ⊎ (s.imm ≡ pos 64)) → SlotHasRow s
 of_width s n a b c e f g (inl h) = subst SlotHasRow (slot_is s n s.dst 0 (pos 0) (pos 16) e refl f g h) (a s.dst)
 of_width s n a b c e f g (inr (inl h)) = subst SlotHasRow (slot_is s n s.dst 0 (pos 0) (pos 32) e refl f g h) (b s.dst)
 of_width s n a b c e f g (inr (inr h)) = subst SlotHasRow (slot_is s n s.dst 0 (pos 0) (pos 64) e refl f g h) (c s.dst)
 
 little : Covered 0xd4 LittleEndian
-little s e h = let u = of_fields s LittleEndian _ refl h in of_width s 0xd4 row_d4_16 row_d4_32 row_d4_64 e (u.src refl) (u.offset refl) (a_width s.imm (or_parts _ _ h).1)
+little s e h = let u = of_fields s LittleEndian _ refl h in of_width s 0xd4 row_d4_16 row_d4_32 row_d4_64 e (u.src refl) (u.offset refl) (is_width s.imm (or_parts _ _ h).1)
 
 big : Covered 0xdc BigEndian
-big s e h = let u = of_fields s BigEndian _ refl h in of_width s 0xdc row_dc_16 row_dc_32 row_dc_64 e (u.src refl) (u.offset refl) (a_width s.imm (or_parts _ _ h).1)
+big s e h = let u = of_fields s BigEndian _ refl h in of_width s 0xdc row_dc_16 row_dc_32 row_dc_64 e (u.src refl) (u.offset refl) (is_width s.imm (or_parts _ _ h).1)
 
 below_two : (n : ℕ) → nat_lt 1 n ≡ false → (n ≡ 0) ⊎ (n ≡ 1)
 below_two zero h = inl refl
@@ -198,13 +192,6 @@ all_covered =
     all_moves Eight 0x79 0x7a 0x7b row_79 row_7a row_7b ⊕
     load_wide
 
-some_same : (a b : OpKind) → Some a ≡ Some b → a ≡ b
-some_same a b e = ap (λ (o : Option OpKind). or_exit o) e
-  where
-    or_exit : Option OpKind → OpKind
-    or_exit None = Exit
-    or_exit (Some x) = x
-
 -- the row of an opcode
 found : (P : ℕ → OpKind → Type 0) (n : ℕ) (k : OpKind) (rs : List isa.Row) → AllByRecursion (λ (r : isa.Row). P r.opcode r.kind) rs → isa.kind_in n rs ≡ Some k → P n k
 found P n k [] all e = absurd (cc)
@@ -213,7 +200,7 @@ found P n k (r ∷ rs) all e = go (found P n k rs all.1) (n == r.opcode) refl
     go : (isa.kind_in n rs ≡ Some k → P n k) → (b : Bool) → (n == r.opcode) ≡ b → P n k
     go rest true f =
         let same : r.opcode ≡ n = sym (eqb-true n r.opcode f) in
-        let kind : r.kind ≡ k = some_same r.kind k (rw f at e) in
+        let kind : r.kind ≡ k = same_Some r.kind k (rw f at e) in
         subst (λ (x : ℕ). P x k) same (subst (P r.opcode) kind all.0)
     go rest false f = rest (rw f at e)
 

@@ -4,7 +4,9 @@ use Rattle.std.specs.List.{list_all}
 use Rattle.std.specs.Str.{bytes_eq}
 use Rattle.std.specs.Int.{w64, w128, cast_unsigned, to_le_bytes}
 use Rattle.spec_base.specs.Reading.{◌>>=◌, ok_if}
+use Rattle.sol_base.specs.Accounts.{max_data_len}
 use Rattle.sbpf_verify.specs.Images.{image_bytes}
+use Rattle.sbpf_verify.specs.Places.{max_slots}
 use Rattle.sbpf_verify.specs.Verified.{unfit}
 use Rattle.sbpf_verify.specs.declared.fault.VerifyFault.{VerifyFault}
 use Rattle.sbpf_asm.specs.declared.fault.AsmFault.{AsmFault}
@@ -110,7 +112,8 @@ with_lines number s (text ∷ texts) =
 -- ---- round two: how much there is
 
 abbrev pub is_too_long : Source → Bool
-is_too_long s = nat_lt 65536 s.slots || nat_lt 10485760 (16 + 8 * s.slots + length s.constants)
+is_too_long s =
+    nat_lt max_slots s.slots || nat_lt max_data_len (16 + 8 * s.slots + length s.constants)
 
 -- ---- round three: labels put in
 

@@ -247,9 +247,9 @@ same_instruction a b =
     && ((a.dst == b.dst) && ((a.src == b.src) && (int_eq a.offset b.offset && int_eq a.imm b.imm)))
 
 -- the row, written with the operands that an instruction has, is that instruction
-abbrev pub writes : Instruction → Row → Bool
-writes i r = same_instruction (written r i) i
+abbrev pub is_row_of : Instruction → Row → Bool
+is_row_of i r = same_instruction (written r i) i
 
 -- the row of an instruction: the first that writes all of it
 abbrev pub row_for : Instruction → Option Row
-row_for i = find (writes i) rows
+row_for i = find (is_row_of i) rows

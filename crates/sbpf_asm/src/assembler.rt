@@ -1,30 +1,28 @@
+//! From an assembler text to an image.
 ghost use Rattle.std.specs.Prelude.{◌≡◌, ◌++◌, ◌<◌, ◌≤◌, ◌*◌, ◌+◌, ◌^◌, [], IfOk, OnOk, length, pos, ◌-ℤ◌};
 ghost use Rattle.spec_base.specs.Reading.{Gives};
 ghost use Rattle.sbpf_asm.specs.Assembly.{assembled, image_of, instruction_bytes, is_asm_memory, is_too_long, settled, slots_after, verified_image};
 ghost use Rattle.sbpf_asm.specs.Rows.{leading};
 ghost use Rattle.sbpf_asm.specs.Views.{labels_view, placed_view, source_view};
+ghost use Rattle.sol_base.specs.Accounts.{max_data_len};
 ghost use Rattle.sbpf_verify.specs.Images.{image_bytes};
+ghost use Rattle.sbpf_verify.specs.Places.{max_slots};
 
 use crate::draft::leading;
 use crate::fault::AsmFault;
 use crate::instruction::{Instruction, LOAD_WIDE};
 use crate::source::{Placed, Source, is_in_range};
 use indexmap::IndexMap;
-use sbpf_verify::first_refusal;
-use sol_base::{Blob, OutOfMemory};
+use sbpf_verify::{MAX_SLOTS, first_refusal};
+use sol_base::{Blob, MAX_DATA_LEN, OutOfMemory};
 use std::alloc::Global;
 
-/// The most slots of a text.
-const MAX_SLOTS: u64 = 65_536;
-
-/// The most bytes of an image.
-const MAX_IMAGE_LEN: u64 = 10_485_760;
-
+/// Whether it has more slots than a text may have, or more bytes than an account can hold.
 fn is_too_long(source: &Source<'_>) -> bool
     ensures { result ≡ is_too_long (source_view source.now) }
 {
-    source.slots > MAX_SLOTS
-        || source.constants.len() as u64 > MAX_IMAGE_LEN - 16 - 8 * source.slots
+    source.slots > MAX_SLOTS as u64
+        || source.constants.len() as u64 > MAX_DATA_LEN as u64 - 16 - 8 * source.slots
 }
 
 /// How many slots on from the next a place is.
@@ -77,7 +75,7 @@ fn append_instruction(out: &mut Blob, i: Instruction) -> Result<(), OutOfMemory>
 
 /// The slots of the instructions.
 fn text_of(alloc: Global, source: &Source<'_>) -> Result<Blob, AsmFault>
-    requires { source.now.slots ≤ 65536 }
+    requires { source.now.slots ≤ max_slots }
     ensures { let s = source_view source.now
         in Gives is_asm_memory (λ b. b) result (slots_after s.labels [] s.instructions) }
 {
@@ -89,8 +87,8 @@ fn text_of(alloc: Global, source: &Source<'_>) -> Result<Blob, AsmFault>
 }
 
 fn write_image(alloc: Global, text: &[u8], constants: &[u8]) -> Result<Blob, OutOfMemory>
-    requires slots { length text.now ≤ 8 * 65536 }
-    requires bytes { length constants.now ≤ 10485760 }
+    requires slots { length text.now ≤ 8 * max_slots }
+    requires bytes { length constants.now ≤ max_data_len }
     ensures { IfOk result
         (λ image. image ≡ image_bytes (record { text = text.now; constants = constants.now })) }
 {
@@ -105,7 +103,7 @@ fn write_image(alloc: Global, text: &[u8], constants: &[u8]) -> Result<Blob, Out
 
 /// The image of a text and its constants, if the text is verified.
 fn verified_image(alloc: Global, text: &[u8], constants: &[u8]) -> Result<Blob, AsmFault>
-    requires { length constants.now ≤ 10485760 }
+    requires { length constants.now ≤ max_data_len }
     ensures { Gives is_asm_memory (λ b. b) result (verified_image text.now constants.now) }
 {
     match first_refusal(text) {

@@ -1,3 +1,4 @@
+//! Instructions whose labels are still to be put in.
 ghost use Rattle.std.specs.Prelude.{◌≡◌, option_map, Some};
 ghost use Rattle.sbpf_asm.specs.Rows.{draft_of, finished, leading, start, with_fields, with_operand, with_target};
 ghost use Rattle.sbpf_asm.specs.Lines.{operands_of};

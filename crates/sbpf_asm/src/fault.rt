@@ -1,3 +1,4 @@
+//! Why a text is not assembled, and why an image is not listed.
 use sbpf_verify::VerifyFault;
 use sol_base::OutOfMemory;
 use std::alloc::AllocError;

@@ -1,3 +1,4 @@
+//! Instructions with their numbers as lines write them.
 /// An instruction with its numbers as a line writes them, which are not yet known to be in range.
 /// The immediate of `lddw` is its whole number.
 #[derive(Clone, Copy, Debug, PartialEq, Eq)]

@@ -5,7 +5,7 @@ mod assembler;
 mod draft;
 mod fault;
 mod instruction;
-pub mod laws;
+mod laws;
 mod line;
 mod lister;
 mod number;
@@ -18,4 +18,5 @@ mod tests;
 
 pub use assembler::assemble;
 pub use fault::{AsmFault, ListFault};
+pub use laws::{assembled_texts_are_lines_of_items, listings_assemble_again};
 pub use lister::list;

@@ -1,3 +1,4 @@
+//! What one line stands for.
 ghost use Rattle.std.specs.Prelude.{◌≡◌, option_and_then};
 ghost use Rattle.sbpf_asm.specs.Lines.{after_word, code_item, constants_item, item_of, label_item, word_item};
 ghost use Rattle.sbpf_asm.specs.Views.{item_view, rest_view};

@@ -1,10 +1,11 @@
+//! From an image to its listing.
 ghost use Rattle.std.specs.Prelude.{◌≡◌, ◌++◌, ◌*◌, ◌<◌, ◌≤◌, OnOk, codes, find, length, map, option_map};
 ghost use Rattle.std.specs.Fork.{slice_chunk};
 ghost use Rattle.spec_base.specs.Reading.{Gives};
 ghost use Rattle.std.specs.Fmt.{signed_decimal};
 ghost use Rattle.sbpf_verify.specs.Places.{slot_count};
 ghost use Rattle.sbpf_verify.specs.Verified.{IsVerified};
-ghost use Rattle.sbpf_asm.specs.Rows.{distance, operand_text, row_for, row_text, written, writes, taken};
+ghost use Rattle.sbpf_asm.specs.Rows.{distance, operand_text, row_for, row_text, written, is_row_of, taken};
 ghost use Rattle.sbpf_asm.specs.Operands.{register_text, signed_text, place_text};
 ghost use Rattle.sbpf_asm.specs.Listing.{constant_line, constant_lines, instruction_lines, instruction_of, instruction_text, is_list_memory, listed, slot_line};
 ghost use Rattle.sbpf_asm.specs.Views.{row_view};
@@ -139,7 +140,7 @@ fn written(row: Row, i: Instruction) -> Instruction
 }
 
 fn row_in(rows: &[Row], i: Instruction) -> Option<Row>
-    ensures { option_map row_view result ≡ find (writes i) (map row_view rows.now) }
+    ensures { option_map row_view result ≡ find (is_row_of i) (map row_view rows.now) }
 {
     for row in rows {
         if written(*row, i) == i {

@@ -1,3 +1,4 @@
+//! Operands: registers, places in memory and targets.
 ghost use Rattle.std.specs.Prelude.{◌≡◌, option_map};
 ghost use Rattle.std.specs.List.{list_all};
 ghost use Rattle.sbpf_asm.specs.Words.{Text};

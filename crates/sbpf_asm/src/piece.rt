@@ -1,3 +1,4 @@
+//! Texts cut into pieces, and blanks around them.
 ghost use Rattle.std.specs.Prelude.{◌≡◌};
 ghost use Rattle.sbpf_asm.specs.Words.{cut, trim, is_blank, without_first_blanks, without_last_blanks};
 ghost use Rattle.sbpf_asm.specs.Views.{cut_view, is_mark};

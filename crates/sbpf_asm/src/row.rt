@@ -1,3 +1,4 @@
+//! The table of spellings: each mnemonic with its operands.
 ghost use Rattle.std.specs.Prelude.{◌≡◌, find, map, option_map};
 ghost use Rattle.std.specs.Str.{bytes_eq};
 ghost use Rattle.sbpf_asm.specs.Rows.{row_of, rows};

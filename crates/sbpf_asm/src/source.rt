@@ -1,3 +1,4 @@
+//! What the lines of a text have together.
 ghost use Rattle.std.specs.Prelude.{◌≡◌, ◌+◌, ◌*◌, ◌<◌, ◌≤◌, ◌^◌, ◌∷◌, Some, length};
 ghost use Rattle.std.specs.List.{list_all};
 ghost use Rattle.spec_base.specs.Reading.{Gives, ok_if};

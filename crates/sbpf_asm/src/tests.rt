@@ -1,3 +1,4 @@
+//! Texts and their images, each refusal, and each call once.
 use super::*;
 use sbpf_verify::VerifyFault;
 use sol_base::Blob;

@@ -6,5 +6,5 @@ ghost use Rattle.sbpf_isa.specs.Rows.{kind_at, rows};
 /// A law: each row of the table is what its opcode leads to, so that no opcode stands in two rows.
 #[tactic(auto, unfolding(crate::specs::Rows::kind_at))]
 pub fn rows_have_their_own_opcodes()
-    ensures { AllByRecursion (λ r. kind_at r.opcode ≡ Some r.kind) rows }
+    ensures opcodes { AllByRecursion (λ r. kind_at r.opcode ≡ Some r.kind) rows }
 {}

@@ -1,3 +1,4 @@
+//! The table of instructions: what each opcode means.
 ghost use Rattle.std.specs.Prelude.{◌≡◌};
 ghost use Rattle.sbpf_isa.specs.Rows.{kind_at};
 

@@ -1,3 +1,4 @@
+//! Slots, and how one is read from a text.
 ghost use Rattle.std.specs.Prelude.{◌≡◌, ◌≤◌, ◌+◌, ◌*◌, length};
 ghost use Rattle.sbpf_isa.specs.Slots.{slot_of};
 

@@ -11,7 +11,7 @@ use Rattle.sbpf_machine.specs.declared.stop.Stop.{Stop}
 use Rattle.sbpf_machine.specs.declared.stop.Stop.TheVariants.{Fault as faulted}
 use Rattle.sbpf_machine.specs.Flows.{operands_of}
 use Rattle.sbpf_machine.specs.Runs.{EndsBy, ComesToBy}
-use Rattle.sbpf_machine.specs.Steps.{Go, Halt, Operands, State, Reaches, here, on, going, halted, follow, first_stop, steps, steps_by, step, act, row_of, natural, operands_at, MayWant, MayWantAt}
+use Rattle.sbpf_machine.specs.Steps.{Go, Halt, Operands, State, Reaches, here, on, state, going, halted, follow, first_stop, steps, steps_by, step, act, row_of, natural, operands_at, MayWant, MayWantAt}
 
 -- what holds of both holds of the one that is chosen
 pub either : {A : Type 0} (P : A → Type 0) (b : Bool) (one other : A) → P one → P other → P (if b then one else other)
@@ -80,7 +80,7 @@ steps_at_stop x stop h = ap (steps_by x) h
 
 -- what a run of the loop has come to
 pub comes_to : (text : List ℕ) (place units : ℕ) (old new : Context) (to left : ℕ) (stop : Option Stop) → EndsBy text place units old (record { stop = stop; place = to; units = left }) new stop →
-    ComesToBy (going text place old units) (record { text = text; place = to; context = new; units = left; stop = stop }) stop
+    ComesToBy (going text place old units) (state text to new left stop) stop
 unfolding steps
 comes_to text place units old new to left (Some stop) ends = ends
 comes_to text place units old new to left None ends = ends

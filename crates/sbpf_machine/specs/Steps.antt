@@ -194,13 +194,15 @@ pub record State : Type 0 where
   pub units : ℕ
   pub stop : Option Stop
 
+abbrev pub state : List ℕ → ℕ → Context → ℕ → Option Stop → State
+state text place context units stop =
+    record { text = text; place = place; context = context; units = units; stop = stop }
+
 abbrev pub going : List ℕ → ℕ → Context → ℕ → State
-going text place context units =
-    record { text = text; place = place; context = context; units = units; stop = None }
+going text place context units = state text place context units None
 
 abbrev pub halted : List ℕ → ℕ → Context → ℕ → Stop → State
-halted text place context units stop =
-    record { text = text; place = place; context = context; units = units; stop = Some stop }
+halted text place context units stop = state text place context units (Some stop)
 
 -- what follows an instruction, with the units then left
 abbrev pub follow : List ℕ → ℕ → ℕ → (ℕ → Context → Option State) → Next → Option State

@@ -8,7 +8,7 @@ ghost use Rattle.sbpf_machine.specs.Values.{divides, holds};
 ghost use Rattle.sbpf_machine.specs.declared.instruction.Flow.TheVariants.{Next as next_one, Jump as jumps};
 ghost use Rattle.sbpf_verify.specs.Entries.{Fits, IsHelperNumber};
 ghost use Rattle.sbpf_verify.specs.Opcodes.{meaning};
-ghost use Rattle.sbpf_verify.specs.Places.{is_start};
+ghost use Rattle.sbpf_verify.specs.Places.{is_start, max_slots};
 ghost use Rattle.sbpf_verify.specs.Verified.{IsVerified};
 
 use crate::context::Context;
@@ -180,7 +180,7 @@ fn jump(when: Condition, d: u64, s: u64) -> Flow
 
 /// A call into the program.
 fn enter(program: &Verified, to: u32, place: u32, context: &mut Context) -> Flow
-    requires room { place < 65536 }
+    requires room { place < max_slots }
     requires next { is_start program.now (place + 1) ≡ true }
     requires backs { GoBack program.now context.old.frames }
     ensures way { IsTo to result }
@@ -252,7 +252,7 @@ fn start_at_address(program: &Verified, value: u64) -> Option<u32>
 
 /// `callx`.
 fn callx(program: &Verified, value: u64, place: u32, context: &mut Context) -> Flow
-    requires room { place < 65536 }
+    requires room { place < max_slots }
     requires verified { IsVerified program.now }
     requires next { is_start program.now (place + 1) ≡ true }
     requires backs { GoBack program.now context.old.frames }
@@ -272,7 +272,7 @@ fn callx(program: &Verified, value: u64, place: u32, context: &mut Context) -> F
 /// `call`.
 #[inline(always)]
 fn call(program: &Verified, entry: Entry, place: u32, context: &mut Context) -> Flow
-    requires room { place < 65536 }
+    requires room { place < max_slots }
     requires next { is_start program.now (place + 1) ≡ true }
     requires to { is_start program.now entry.target ≡ true }
     requires helper { entry.src ≢ 1 → IsHelperNumber entry.imm }
@@ -297,7 +297,7 @@ fn call(program: &Verified, entry: Entry, place: u32, context: &mut Context) -> 
 #[inline(always)]
 pub fn step(program: &Verified, entry: Entry, place: u32, context: &mut Context) -> Flow
     requires verified { IsVerified program.now }
-    requires room { place < 65536 }
+    requires room { place < max_slots }
     requires fits { Fits program.now place entry }
     requires backs { GoBack program.now context.old.frames }
     ensures lands { LandsOn program.now entry.target place result }
@@ -313,104 +313,100 @@ pub fn step(program: &Verified, entry: Entry, place: u32, context: &mut Context)
     let src = entry.src as usize;
     let d = context.registers[dst];
     let s = context.registers[src];
-    let imm = entry.imm;
+    let i = entry.imm;
     match entry.opcode {
-        Opcode::Add64Immediate => binary64(Operation::Add, place, dst, imm, context),
+        Opcode::Add64Immediate => binary64(Operation::Add, place, dst, i, context),
         Opcode::Add64Register => binary64(Operation::Add, place, dst, s, context),
-        Opcode::Add32Immediate => binary32(Operation::Add, place, dst, imm, context),
+        Opcode::Add32Immediate => binary32(Operation::Add, place, dst, i, context),
         Opcode::Add32Register => binary32(Operation::Add, place, dst, s, context),
-        Opcode::Sub64Immediate => binary64(Operation::Sub, place, dst, imm, context),
+        Opcode::Sub64Immediate => binary64(Operation::Sub, place, dst, i, context),
         Opcode::Sub64Register => binary64(Operation::Sub, place, dst, s, context),
-        Opcode::Sub32Immediate => binary32(Operation::Sub, place, dst, imm, context),
+        Opcode::Sub32Immediate => binary32(Operation::Sub, place, dst, i, context),
         Opcode::Sub32Register => binary32(Operation::Sub, place, dst, s, context),
-        Opcode::Mul64Immediate => binary64(Operation::Mul, place, dst, imm, context),
+        Opcode::Mul64Immediate => binary64(Operation::Mul, place, dst, i, context),
         Opcode::Mul64Register => binary64(Operation::Mul, place, dst, s, context),
-        Opcode::Mul32Immediate => binary32(Operation::Mul, place, dst, imm, context),
+        Opcode::Mul32Immediate => binary32(Operation::Mul, place, dst, i, context),
         Opcode::Mul32Register => binary32(Operation::Mul, place, dst, s, context),
-        Opcode::Or64Immediate => binary64(Operation::Or, place, dst, imm, context),
+        Opcode::Or64Immediate => binary64(Operation::Or, place, dst, i, context),
         Opcode::Or64Register => binary64(Operation::Or, place, dst, s, context),
-        Opcode::Or32Immediate => binary32(Operation::Or, place, dst, imm, context),
+        Opcode::Or32Immediate => binary32(Operation::Or, place, dst, i, context),
         Opcode::Or32Register => binary32(Operation::Or, place, dst, s, context),
-        Opcode::And64Immediate => binary64(Operation::And, place, dst, imm, context),
+        Opcode::And64Immediate => binary64(Operation::And, place, dst, i, context),
         Opcode::And64Register => binary64(Operation::And, place, dst, s, context),
-        Opcode::And32Immediate => binary32(Operation::And, place, dst, imm, context),
+        Opcode::And32Immediate => binary32(Operation::And, place, dst, i, context),
         Opcode::And32Register => binary32(Operation::And, place, dst, s, context),
-        Opcode::Lsh64Immediate => binary64(Operation::Lsh, place, dst, imm, context),
+        Opcode::Lsh64Immediate => binary64(Operation::Lsh, place, dst, i, context),
         Opcode::Lsh64Register => binary64(Operation::Lsh, place, dst, s, context),
-        Opcode::Lsh32Immediate => binary32(Operation::Lsh, place, dst, imm, context),
+        Opcode::Lsh32Immediate => binary32(Operation::Lsh, place, dst, i, context),
         Opcode::Lsh32Register => binary32(Operation::Lsh, place, dst, s, context),
-        Opcode::Rsh64Immediate => binary64(Operation::Rsh, place, dst, imm, context),
+        Opcode::Rsh64Immediate => binary64(Operation::Rsh, place, dst, i, context),
         Opcode::Rsh64Register => binary64(Operation::Rsh, place, dst, s, context),
-        Opcode::Rsh32Immediate => binary32(Operation::Rsh, place, dst, imm, context),
+        Opcode::Rsh32Immediate => binary32(Operation::Rsh, place, dst, i, context),
         Opcode::Rsh32Register => binary32(Operation::Rsh, place, dst, s, context),
-        Opcode::Xor64Immediate => binary64(Operation::Xor, place, dst, imm, context),
+        Opcode::Xor64Immediate => binary64(Operation::Xor, place, dst, i, context),
         Opcode::Xor64Register => binary64(Operation::Xor, place, dst, s, context),
-        Opcode::Xor32Immediate => binary32(Operation::Xor, place, dst, imm, context),
+        Opcode::Xor32Immediate => binary32(Operation::Xor, place, dst, i, context),
         Opcode::Xor32Register => binary32(Operation::Xor, place, dst, s, context),
-        Opcode::Mov64Immediate => binary64(Operation::Mov, place, dst, imm, context),
+        Opcode::Mov64Immediate => binary64(Operation::Mov, place, dst, i, context),
         Opcode::Mov64Register => binary64(Operation::Mov, place, dst, s, context),
-        Opcode::Mov32Immediate => binary32(Operation::Mov, place, dst, imm, context),
+        Opcode::Mov32Immediate => binary32(Operation::Mov, place, dst, i, context),
         Opcode::Mov32Register => binary32(Operation::Mov, place, dst, s, context),
-        Opcode::Arsh64Immediate => binary64(Operation::Arsh, place, dst, imm, context),
+        Opcode::Arsh64Immediate => binary64(Operation::Arsh, place, dst, i, context),
         Opcode::Arsh64Register => binary64(Operation::Arsh, place, dst, s, context),
-        Opcode::Arsh32Immediate => binary32(Operation::Arsh, place, dst, imm, context),
+        Opcode::Arsh32Immediate => binary32(Operation::Arsh, place, dst, i, context),
         Opcode::Arsh32Register => binary32(Operation::Arsh, place, dst, s, context),
-        Opcode::Div64Immediate => divide64(Operation::Div, place, dst, imm, context),
+        Opcode::Div64Immediate => divide64(Operation::Div, place, dst, i, context),
         Opcode::Div64Register => divide64(Operation::Div, place, dst, s, context),
-        Opcode::Div32Immediate => divide32(Operation::Div, place, dst, imm, context),
+        Opcode::Div32Immediate => divide32(Operation::Div, place, dst, i, context),
         Opcode::Div32Register => divide32(Operation::Div, place, dst, s, context),
-        Opcode::Mod64Immediate => divide64(Operation::Mod, place, dst, imm, context),
+        Opcode::Mod64Immediate => divide64(Operation::Mod, place, dst, i, context),
         Opcode::Mod64Register => divide64(Operation::Mod, place, dst, s, context),
-        Opcode::Mod32Immediate => divide32(Operation::Mod, place, dst, imm, context),
+        Opcode::Mod32Immediate => divide32(Operation::Mod, place, dst, i, context),
         Opcode::Mod32Register => divide32(Operation::Mod, place, dst, s, context),
-        Opcode::JumpIfEqualImmediate => jump(Condition::Equal, d, imm),
+        Opcode::JumpIfEqualImmediate => jump(Condition::Equal, d, i),
         Opcode::JumpIfEqualRegister => jump(Condition::Equal, d, s),
-        Opcode::JumpIfNotEqualImmediate => jump(Condition::NotEqual, d, imm),
+        Opcode::JumpIfNotEqualImmediate => jump(Condition::NotEqual, d, i),
         Opcode::JumpIfNotEqualRegister => jump(Condition::NotEqual, d, s),
-        Opcode::JumpIfGreaterImmediate => jump(Condition::Greater, d, imm),
+        Opcode::JumpIfGreaterImmediate => jump(Condition::Greater, d, i),
         Opcode::JumpIfGreaterRegister => jump(Condition::Greater, d, s),
-        Opcode::JumpIfGreaterOrEqualImmediate => jump(Condition::GreaterOrEqual, d, imm),
+        Opcode::JumpIfGreaterOrEqualImmediate => jump(Condition::GreaterOrEqual, d, i),
         Opcode::JumpIfGreaterOrEqualRegister => jump(Condition::GreaterOrEqual, d, s),
-        Opcode::JumpIfLessImmediate => jump(Condition::Less, d, imm),
+        Opcode::JumpIfLessImmediate => jump(Condition::Less, d, i),
         Opcode::JumpIfLessRegister => jump(Condition::Less, d, s),
-        Opcode::JumpIfLessOrEqualImmediate => jump(Condition::LessOrEqual, d, imm),
+        Opcode::JumpIfLessOrEqualImmediate => jump(Condition::LessOrEqual, d, i),
         Opcode::JumpIfLessOrEqualRegister => jump(Condition::LessOrEqual, d, s),
-        Opcode::JumpIfSetImmediate => jump(Condition::Set, d, imm),
+        Opcode::JumpIfSetImmediate => jump(Condition::Set, d, i),
         Opcode::JumpIfSetRegister => jump(Condition::Set, d, s),
-        Opcode::JumpIfSignedGreaterImmediate => jump(Condition::SignedGreater, d, imm),
+        Opcode::JumpIfSignedGreaterImmediate => jump(Condition::SignedGreater, d, i),
         Opcode::JumpIfSignedGreaterRegister => jump(Condition::SignedGreater, d, s),
-        Opcode::JumpIfSignedGreaterOrEqualImmediate => jump(
-            Condition::SignedGreaterOrEqual,
-            d,
-            imm,
-        ),
+        Opcode::JumpIfSignedGreaterOrEqualImmediate => jump(Condition::SignedGreaterOrEqual, d, i),
         Opcode::JumpIfSignedGreaterOrEqualRegister => jump(Condition::SignedGreaterOrEqual, d, s),
-        Opcode::JumpIfSignedLessImmediate => jump(Condition::SignedLess, d, imm),
+        Opcode::JumpIfSignedLessImmediate => jump(Condition::SignedLess, d, i),
         Opcode::JumpIfSignedLessRegister => jump(Condition::SignedLess, d, s),
-        Opcode::JumpIfSignedLessOrEqualImmediate => jump(Condition::SignedLessOrEqual, d, imm),
+        Opcode::JumpIfSignedLessOrEqualImmediate => jump(Condition::SignedLessOrEqual, d, i),
         Opcode::JumpIfSignedLessOrEqualRegister => jump(Condition::SignedLessOrEqual, d, s),
         Opcode::LoadOne => load(1, place, dst, address(entry, src, context), context),
-        Opcode::StoreOneImmediate => store(1, place, address(entry, dst, context), imm, context),
+        Opcode::StoreOneImmediate => store(1, place, address(entry, dst, context), i, context),
         Opcode::StoreOneRegister => store(1, place, address(entry, dst, context), s, context),
         Opcode::LoadTwo => load(2, place, dst, address(entry, src, context), context),
-        Opcode::StoreTwoImmediate => store(2, place, address(entry, dst, context), imm, context),
+        Opcode::StoreTwoImmediate => store(2, place, address(entry, dst, context), i, context),
         Opcode::StoreTwoRegister => store(2, place, address(entry, dst, context), s, context),
         Opcode::LoadFour => load(4, place, dst, address(entry, src, context), context),
-        Opcode::StoreFourImmediate => store(4, place, address(entry, dst, context), imm, context),
+        Opcode::StoreFourImmediate => store(4, place, address(entry, dst, context), i, context),
         Opcode::StoreFourRegister => store(4, place, address(entry, dst, context), s, context),
         Opcode::LoadEight => load(8, place, dst, address(entry, src, context), context),
-        Opcode::StoreEightImmediate => store(8, place, address(entry, dst, context), imm, context),
+        Opcode::StoreEightImmediate => store(8, place, address(entry, dst, context), i, context),
         Opcode::StoreEightRegister => store(8, place, address(entry, dst, context), s, context),
         Opcode::Negate64 => set(dst, negative64(d), context),
         Opcode::Negate32 => set(dst, u64::from(negative32(low(d))), context),
-        Opcode::LittleEndian => set(dst, low_bits(imm, d), context),
-        Opcode::BigEndian => set(dst, swapped_bits(imm, d), context),
+        Opcode::LittleEndian => set(dst, low_bits(i, d), context),
+        Opcode::BigEndian => set(dst, swapped_bits(i, d), context),
         Opcode::Jump => Flow::Jump,
         Opcode::Call => call(program, entry, place, context),
-        Opcode::CallRegister => callx(program, context.registers[imm as usize], place, context),
+        Opcode::CallRegister => callx(program, context.registers[i as usize], place, context),
         Opcode::Exit => leave(program, context),
         Opcode::LoadWide => {
-            context.registers[dst] = imm;
+            context.registers[dst] = i;
             Flow::To(place + 2)
         }
     }

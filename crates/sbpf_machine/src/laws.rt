@@ -16,12 +16,12 @@ pub fn runs_keep_text_and_ranges()
 
 /// A law: a run gains no unit, and has fewer where it has come to a system call.
 pub fn runs_take_units()
-    ensures { (old new : State) → steps old ≡ Some new → TakesUnits old new }
+    ensures stopped { (old new : State) → steps old ≡ Some new → TakesUnits old new }
 {}
 
 /// A law: a run does not look at what is prepared or at what was lent.
 pub fn runs_do_not_see_preparation()
-    ensures { (x : State) → steps (plain x) ≡ plain_stopped (steps x) }
+    ensures same { (x : State) → steps (plain x) ≡ plain_stopped (steps x) }
 {}
 
 /// A law: r10 is always the end of the active frame.

@@ -4,7 +4,7 @@
 mod context;
 mod frames;
 mod instruction;
-pub mod laws;
+mod laws;
 mod machine;
 mod run;
 mod stop;
@@ -12,5 +12,9 @@ mod stop;
 mod tests;
 mod values;
 
+pub use laws::{
+    r10_is_the_end_of_the_active_frame, runs_do_not_see_preparation, runs_keep_text_and_ranges,
+    runs_take_units, verified_texts_never_leave_their_rows,
+};
 pub use machine::Machine;
 pub use stop::{Fault, Stop};

@@ -36,12 +36,11 @@ pub struct Machine {
 impl Model for Machine {
     ghost use Rattle.std.specs.Arc.{arc_value};
     ghost use Rattle.sbpf_machine.specs.Runs.{StandsAtStart};
-    ghost use Rattle.sbpf_machine.specs.Steps.{State};
+    ghost use Rattle.sbpf_machine.specs.Steps.{State, state};
 
     ghost Value = { State };
 
-    ghost view = { λ m. record
-        { text = arc_value m.code; place = m.place; context = m.context; units = m.units; stop = m.stop } };
+    ghost view = { λ m. state (arc_value m.code) m.place m.context m.units m.stop };
 
     ghost invariant = { λ m. StandsAtStart (arc_value m.code) m.place m.context m.stop };
 }

@@ -10,7 +10,7 @@ use Rattle.sol_base.proofs.PartLaws.{length_with}
 use Rattle.sbpf_memory.specs.declared.place.Place.{Place}
 use Rattle.sbpf_memory.specs.declared.place.Region.{Region}
 use Rattle.sbpf_memory.specs.declared.place.Region.TheVariants.{Program, Stack, Heap, Input}
-use Rattle.sbpf_memory.specs.Memory.{Ranges, IsMemory, place_of, range_bytes, bytes_at, read_from, frame_count, frame_size, frame_start, frame_range, stack_start, program_start, heap_start, input_start, range, ranges, bounds_of, byte_of, byte_at, with_stack, with_heap, with_input_bytes, with_bytes_in, with_bytes_at, write_to, frame_step}
+use Rattle.sbpf_memory.specs.Memory.{Ranges, IsMemory, place_of, range_bytes, bytes_at, read_from, frame_count, frame_size, frame_start, frame_range, frame_ranges, heap_range, input_range, stack_start, program_start, heap_start, input_start, ranges, bounds_of, byte_of, byte_at, with_stack, with_heap, with_input_bytes, with_bytes_in, with_bytes_at, write_to, frame_step}
 use Rattle.sbpf_memory.proofs.Places.{place-stack}
 use Rattle.sbpf_memory.proofs.Addresses.{address_in, RoomIn, StandsAt, stands-from_place, place-from_stands}
 use Rattle.sbpf_memory.proofs.Keeping.{Kept, kept-place, nothing-kept, write-kept}
@@ -226,22 +226,21 @@ frames-bounds xs ys (frame ∷ frames) same =
 abbrev bounds_list : ℕ → List (ℕ × ℕ × Bool) → ℕ → ℕ → List (ℕ × ℕ × Bool)
 bounds_list program frames heap input = (program_start, program, false) ∷ (frames ++ ((heap_start, heap, true) ∷ (input_start, input, true) ∷ []))
 
-abbrev frames_in : List ℕ → List (ℕ × ℕ × Bool)
-frames_in stack = map bounds_of (map (frame_range stack) (range_with_len 0 frame_count))
+abbrev frames_in : Ranges → List (ℕ × ℕ × Bool)
+frames_in m = map bounds_of (frame_ranges m)
 
-bounds-by_size : (m : Ranges) → map bounds_of (ranges m) ≡ bounds_list (length m.program) (frames_in m.stack) (length m.heap) (length m.input.bytes)
+bounds-by_size : (m : Ranges) → map bounds_of (ranges m) ≡ bounds_list (length m.program) (frames_in m) (length m.heap) (length m.input.bytes)
 unfolding ranges
 bounds-by_size m =
-    let frames = map (frame_range m.stack) (range_with_len 0 frame_count) in
-    ap (λ rest. (program_start, length m.program, false) ∷ rest) (map-append bounds_of frames (range heap_start m.heap true ∷ range input_start m.input.bytes true ∷ []))
+    ap (λ rest. (program_start, length m.program, false) ∷ rest) (map-append bounds_of (frame_ranges m) (heap_range m ∷ input_range m ∷ []))
 
 kept-bounds : (m after : Ranges) → Kept m after → length after.stack ≡ length m.stack → map bounds_of (ranges after) ≡ map bounds_of (ranges m)
 kept-bounds m after kept stack =
     bounds-by_size after
-    ∙ ap (λ l. bounds_list (length l) (frames_in after.stack) (length after.heap) (length after.input.bytes)) kept.program
+    ∙ ap (λ l. bounds_list (length l) (frames_in after) (length after.heap) (length after.input.bytes)) kept.program
     ∙ ap (λ fs. bounds_list (length m.program) fs (length after.heap) (length after.input.bytes)) (frames-bounds after.stack m.stack (range_with_len 0 frame_count) stack)
-    ∙ ap (λ n. bounds_list (length m.program) (frames_in m.stack) n (length after.input.bytes)) kept.heap
-    ∙ ap (λ n. bounds_list (length m.program) (frames_in m.stack) (length m.heap) n) kept.input
+    ∙ ap (λ n. bounds_list (length m.program) (frames_in m) n (length after.input.bytes)) kept.heap
+    ∙ ap (λ n. bounds_list (length m.program) (frames_in m) (length m.heap) n) kept.input
     ∙ sym (bounds-by_size m)
 
 pub write-bounds : (m after : Ranges) (addr : ℕ) (bytes : List ℕ) → IsMemory m → write_to m addr bytes ≡ Ok after → map bounds_of (ranges after) ≡ map bounds_of (ranges m)

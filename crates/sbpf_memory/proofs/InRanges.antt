@@ -1,5 +1,5 @@
 -- Places and the ranges that they lie in.
-use Rattle.std.proofs.Common.{◌≡◌, ℕ, ◌+◌, ◌-◌, ◌*◌, ◌/◌, ◌%◌, ◌≤◌, ◌<◌, inl, inr, true, false, List, [], ◌∷◌, ◌++◌, length, take, drop, map, slice_range, Option, Some, None, Result, Ok, IsOk, refl, sym, ap, ◌∙◌, subst, arith, length-take, length-drop}
+use Rattle.std.proofs.Common.{◌≡◌, ℕ, ◌+◌, ◌-◌, ◌*◌, ◌/◌, ◌%◌, ◌≤◌, ◌<◌, inl, inr, true, List, [], ◌∷◌, ◌++◌, length, take, drop, map, slice_range, Option, Some, None, Result, Ok, IsOk, refl, sym, ap, ◌∙◌, subst, arith, length-take, length-drop}
 use Rattle.std.specs.List.{Contains, range_with_len}
 use Rattle.std.proofs.lemmas.List.{drop-take, take-take, drop-drop}
 use Rattle.std.proofs.lemmas.List.Elements.{Contains-append_left, Contains-append_right, Contains-append_cases, Contains-push, Contains-push_cases}
@@ -8,17 +8,17 @@ use Rattle.sbpf_memory.specs.declared.fault.AccessViolation.{AccessViolation}
 use Rattle.sbpf_memory.specs.declared.place.Place.{Place}
 use Rattle.sbpf_memory.specs.declared.place.Region.{Region}
 use Rattle.sbpf_memory.specs.declared.place.Region.TheVariants.{Program, Stack, Heap, Input}
-use Rattle.sbpf_memory.specs.Memory.{Ranges, IsMemory, place_of, range_bytes, bytes_at, read_from, frame_count, frame_size, frame_start, frame_range, program_start, heap_start, input_start, Range, range, ranges, LiesIn, Holds, ReadsIn, WritesIn, with_bytes_in, with_bytes_at, write_to}
+use Rattle.sbpf_memory.specs.Memory.{Ranges, IsMemory, place_of, range_bytes, bytes_at, read_from, frame_count, frame_size, frame_start, frame_range, program_start, heap_start, input_start, Range, program_range, frame_ranges, heap_range, input_range, ranges, LiesIn, Holds, ReadsIn, WritesIn, with_bytes_in, with_bytes_at, write_to}
 use Rattle.sbpf_memory.proofs.Addresses.{address_in, RoomIn, StandsAt, stands-from_place, place-from_stands}
 use Rattle.sbpf_memory.proofs.Reading.{read-some}
 use Rattle.sbpf_memory.proofs.Writing.{write-some}
 
 -- the range of a place
 abbrev pub range_in : Ranges → ℕ → Region → Range
-range_in m at Program = range program_start m.program false
+range_in m at Program = program_range m
 range_in m at Stack = frame_range m.stack (at / frame_size)
-range_in m at Heap = range heap_start m.heap true
-range_in m at Input = range input_start m.input.bytes true
+range_in m at Heap = heap_range m
+range_in m at Input = input_range m
 
 -- the frames among the ranges
 has_frame : (stack : List ℕ) (count frame : ℕ) → frame < count → Contains (map (frame_range stack) (range_with_len 0 count)) (frame_range stack frame)
@@ -37,28 +37,17 @@ is_alone one r has = elim (Contains-push_cases [] one r has) [ inl none ↦ absu
 has_range : (m : Ranges) (at len : ℕ) (region : Region) → RoomIn m len at region → Contains (ranges m) (range_in m at region)
 unfolding ranges
 has_range m at len Program room =
-    let one = range program_start m.program false in
-    let frames = map (frame_range m.stack) (range_with_len 0 frame_count) in
-    let others = range heap_start m.heap true ∷ range input_start m.input.bytes true ∷ [] in
-    Contains-append_left ((one ∷ []) ++ frames) others one (Contains-append_left (one ∷ []) frames one (Contains-push [] one))
+    Contains-append_left ((program_range m ∷ []) ++ frame_ranges m) (heap_range m ∷ input_range m ∷ []) (program_range m)
+    (Contains-append_left (program_range m ∷ []) (frame_ranges m) (program_range m) (Contains-push [] (program_range m)))
 has_range m at len Stack room =
-    let one = range program_start m.program false in
-    let frames = map (frame_range m.stack) (range_with_len 0 frame_count) in
-    let others = range heap_start m.heap true ∷ range input_start m.input.bytes true ∷ [] in
     let this = frame_range m.stack (at / frame_size) in
-    Contains-append_left ((one ∷ []) ++ frames) others this (Contains-append_right (one ∷ []) frames this (has_frame m.stack frame_count (at / frame_size) (omega (arith, room.1))))
+    Contains-append_left ((program_range m ∷ []) ++ frame_ranges m) (heap_range m ∷ input_range m ∷ []) this
+    (Contains-append_right (program_range m ∷ []) (frame_ranges m) this (has_frame m.stack frame_count (at / frame_size) (omega (arith, room.1))))
 has_range m at len Heap room =
-    let one = range program_start m.program false in
-    let frames = map (frame_range m.stack) (range_with_len 0 frame_count) in
-    let this = range heap_start m.heap true in
-    let last = range input_start m.input.bytes true in
-    Contains-append_right ((one ∷ []) ++ frames) (this ∷ last ∷ []) this (Contains-append_left (this ∷ []) (last ∷ []) this (Contains-push [] this))
+    Contains-append_right ((program_range m ∷ []) ++ frame_ranges m) (heap_range m ∷ input_range m ∷ []) (heap_range m)
+    (Contains-append_left (heap_range m ∷ []) (input_range m ∷ []) (heap_range m) (Contains-push [] (heap_range m)))
 has_range m at len Input room =
-    let one = range program_start m.program false in
-    let frames = map (frame_range m.stack) (range_with_len 0 frame_count) in
-    let other = range heap_start m.heap true in
-    let this = range input_start m.input.bytes true in
-    Contains-append_right ((one ∷ []) ++ frames) (other ∷ this ∷ []) this (Contains-push (other ∷ []) this)
+    Contains-append_right ((program_range m ∷ []) ++ frame_ranges m) (heap_range m ∷ input_range m ∷ []) (input_range m) (Contains-push (heap_range m ∷ []) (input_range m))
 
 -- the bytes of an access within a part of a list
 part-bytes : (xs : List ℕ) (from to at len : ℕ) → from + at + len ≤ to → take len (drop at (slice_range xs from to)) ≡ take len (drop (from + at) xs)
@@ -116,15 +105,15 @@ bytes-from_stands m addr len place stands =
 abbrev pub HasPlace : Ranges → ℕ → ℕ → Range → Type 0
 HasPlace m addr len r = (place : Place) × StandsAt m addr len place × (range_in m place.at place.region ≡ r)
 
-in_program : (m : Ranges) (addr len : ℕ) → LiesIn (range program_start m.program false) addr len → HasPlace m addr len (range program_start m.program false)
+in_program : (m : Ranges) (addr len : ℕ) → LiesIn (program_range m) addr len → HasPlace m addr len (program_range m)
 in_program m addr len lies =
     (record { region = Program; at = addr - program_start }, record { address = omega (arith, lies.0); room = omega (arith, lies.0, lies.1) }, refl)
 
-in_heap : (m : Ranges) (addr len : ℕ) → LiesIn (range heap_start m.heap true) addr len → HasPlace m addr len (range heap_start m.heap true)
+in_heap : (m : Ranges) (addr len : ℕ) → LiesIn (heap_range m) addr len → HasPlace m addr len (heap_range m)
 in_heap m addr len lies =
     (record { region = Heap; at = addr - heap_start }, record { address = omega (arith, lies.0); room = omega (arith, lies.0, lies.1) }, refl)
 
-in_input : (m : Ranges) (addr len : ℕ) → LiesIn (range input_start m.input.bytes true) addr len → HasPlace m addr len (range input_start m.input.bytes true)
+in_input : (m : Ranges) (addr len : ℕ) → LiesIn (input_range m) addr len → HasPlace m addr len (input_range m)
 in_input m addr len lies =
     (record { region = Input; at = addr - input_start }, record { address = omega (arith, lies.0); room = omega (arith, lies.0, lies.1) }, refl)
 
@@ -141,18 +130,14 @@ pub place-from_holds : (m : Ranges) (addr len : ℕ) (r : Range) → IsMemory m 
 unfolding ranges
 place-from_holds m addr len r is_memory some holds =
     let P : Range → Type 0 = λ x. LiesIn x addr len → HasPlace m addr len x in
-    let one = range program_start m.program false in
-    let frames = map (frame_range m.stack) (range_with_len 0 frame_count) in
-    let heap = range heap_start m.heap true in
-    let last = range input_start m.input.bytes true in
-    elim (Contains-append_cases ((one ∷ []) ++ frames) (heap ∷ last ∷ []) r holds.0) [
-      | inl front ↦ elim (Contains-append_cases (one ∷ []) frames r front) [
-        | inl has ↦ subst P (is_alone one r has) (in_program m addr len) holds.1
+    elim (Contains-append_cases ((program_range m ∷ []) ++ frame_ranges m) (heap_range m ∷ input_range m ∷ []) r holds.0) [
+      | inl front ↦ elim (Contains-append_cases (program_range m ∷ []) (frame_ranges m) r front) [
+        | inl has ↦ subst P (is_alone (program_range m) r has) (in_program m addr len) holds.1
         | inr has ↦ let w = is_frame m.stack frame_count r has in subst P w.2 (in_frame m addr len w.0 is_memory some w.1) holds.1
       ]
-      | inr back ↦ elim (Contains-append_cases (heap ∷ []) (last ∷ []) r back) [
-        | inl has ↦ subst P (is_alone heap r has) (in_heap m addr len) holds.1
-        | inr has ↦ subst P (is_alone last r has) (in_input m addr len) holds.1
+      | inr back ↦ elim (Contains-append_cases (heap_range m ∷ []) (input_range m ∷ []) r back) [
+        | inl has ↦ subst P (is_alone (heap_range m) r has) (in_heap m addr len) holds.1
+        | inr has ↦ subst P (is_alone (input_range m) r has) (in_input m addr len) holds.1
       ]
     ]
 

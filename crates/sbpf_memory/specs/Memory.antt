@@ -10,7 +10,7 @@ use Rattle.sbpf_memory.specs.declared.fault.AccessViolation.{AccessViolation}
 use Rattle.sbpf_memory.specs.declared.fault.MemFault.{MemFault}
 use Rattle.sbpf_memory.specs.declared.fault.MemFault.TheVariants.{AccessViolation as violation, Overlap, OutOfMemory as no_memory}
 
--- the first addresses of the ranges
+-- the first addresses of the ranges (this project's own)
 abbrev pub program_start : ℕ
 program_start = 0x1_0000_0000
 
@@ -23,7 +23,8 @@ heap_start = 0x3_0000_0000
 abbrev pub input_start : ℕ
 input_start = 0x4_0000_0000
 
--- the stack: 64 frames of 4,096 bytes, of which one begins every 8,192 addresses
+-- the stack: 64 frames of 4,096 bytes, of which one begins every 8,192 addresses (this project's
+-- own)
 abbrev pub frame_count : ℕ
 frame_count = 64
 
@@ -264,11 +265,20 @@ frame_range stack frame =
     range (frame_start frame)
     (slice_range stack (frame_size * frame) (frame_size * frame + frame_size)) true
 
+abbrev pub program_range : Ranges → Range
+program_range m = range program_start m.program false
+
+abbrev pub frame_ranges : Ranges → List Range
+frame_ranges m = map (frame_range m.stack) (range_with_len 0 frame_count)
+
+abbrev pub heap_range : Ranges → Range
+heap_range m = range heap_start m.heap true
+
+abbrev pub input_range : Ranges → Range
+input_range m = range input_start m.input.bytes true
+
 unfoldable pub ranges : Ranges → List Range
-ranges m =
-    (range program_start m.program false ∷ [])
-    ++ map (frame_range m.stack) (range_with_len 0 frame_count) ++
-    (range heap_start m.heap true ∷ range input_start m.input.bytes true ∷ [])
+ranges m = (program_range m ∷ []) ++ frame_ranges m ++ (heap_range m ∷ input_range m ∷ [])
 
 -- an access lies in a range
 abbrev pub LiesIn : Range → ℕ → ℕ → Type 0

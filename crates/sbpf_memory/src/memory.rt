@@ -12,8 +12,8 @@ use crate::buffer::Buffer;
 use crate::bytes::{array_from, read_into};
 use crate::fault::{AccessViolation, MemFault, violation};
 use crate::place::{
-    HEAP_START, INPUT_START, PROGRAM_START, Place, Region, STACK_SIZE, STACK_START, overlaps,
-    within, within_frame,
+    HEAP_START, INPUT_START, PROGRAM_START, Place, RANGE_STEP, Region, STACK_SIZE, STACK_START,
+    overlaps, within, within_frame,
 };
 use sol_base::{Blob, OutOfMemory, Parts};
 use std::alloc::Global;
@@ -236,16 +236,11 @@ impl Memory {
         if addr >= INPUT_START {
             within(Region::Input, addr - INPUT_START, len, self.input_size())
         } else if addr >= HEAP_START {
-            within(Region::Heap, addr - HEAP_START, len, self.heap_size())
+            within(Region::Heap, addr % RANGE_STEP, len, self.heap_size())
         } else if addr >= STACK_START {
-            within_frame(addr - STACK_START, len)
+            within_frame(addr % RANGE_STEP, len)
         } else if addr >= PROGRAM_START {
-            within(
-                Region::Program,
-                addr - PROGRAM_START,
-                len,
-                self.program_size(),
-            )
+            within(Region::Program, addr % RANGE_STEP, len, self.program_size())
         } else {
             None
         }

@@ -19,20 +19,28 @@ pub struct Place {
     pub at: u64,
 }
 
-/// The first addresses of the ranges.
+/// The first address of the program (the project's own).
 pub const PROGRAM_START: u64 = 0x1_0000_0000;
 
+/// The first address of the stack (the project's own).
 pub const STACK_START: u64 = 0x2_0000_0000;
 
+/// The first address of the heap (the project's own).
 pub(crate) const HEAP_START: u64 = 0x3_0000_0000;
 
+/// The first address of the input (the project's own).
 pub const INPUT_START: u64 = 0x4_0000_0000;
 
-/// The bytes of a frame of the stack, how far apart frames begin, and how many there are.
+/// The first addresses are this far apart (the project's own).
+pub(crate) const RANGE_STEP: u64 = 0x1_0000_0000;
+
+/// The bytes of a frame of the stack (the project's own).
 pub const FRAME_SIZE: u64 = 4096;
 
+/// How far apart frames of the stack begin (the project's own).
 pub const FRAME_STEP: u64 = 8192;
 
+/// The frames of the stack (the project's own).
 pub const FRAME_COUNT: u64 = 64;
 
 /// The bytes of all frames of the stack.

@@ -1,5 +1,5 @@
 -- Program images: the parts that are written are read again, and what is read is written so.
-use Rattle.std.proofs.Common.{◌≡◌, ℕ, ◌+◌, ◌*◌, ◌/◌, ◌^◌, ◌<◌, ◌≤◌, List, ◌++◌, length, take, drop, Option, Some, None, Bool, inl, inr, refl, sym, ap, subst, ◌∙◌, min, arith}
+use Rattle.std.proofs.Common.{◌≡◌, ℕ, ◌+◌, ◌*◌, ◌/◌, ◌≤◌, List, ◌++◌, length, take, drop, Option, Some, None, Bool, inl, inr, refl, sym, ap, ◌∙◌, min, arith}
 use Rattle.std.specs.Prelude.{codes, bytes_eq, if◌then◌else◌}
 use Rattle.std.specs.Int.{w32, from_le_bytes, to_le_bytes}
 use Rattle.std.proofs.lemmas.List.{take-append-drop, length-take, length-take-le, length-drop, length-append, take_at, drop_at, take_all}
@@ -7,7 +7,8 @@ use Rattle.std.proofs.lemmas.Nat.{from_le_bytes-to_le_bytes_4, le_bytes_4}
 use Rattle.std.proofs.lemmas.Slice.Eq.{bytes_eq-Decides}
 use lib.Seq.{drop-drop}
 use Rattle.spec_base.specs.Bytes.{IsBytes}
-use Rattle.spec_base.proofs.Binding.{chosen, before_bytes, after_bytes, follows}
+use Rattle.spec_base.proofs.Binding.{chosen, part_bytes, follows}
+use Rattle.spec_base.proofs.Formats.{u32_below}
 use Rattle.sbpf_verify.specs.Images.{ImageParts, IsWritable, image_bytes, slots_named, constants_named, parts_named, image_in}
 
 same_parts : (a b : ImageParts) → (let o : Option ImageParts = Some a in o) ≡ Some b → a ≡ b
@@ -59,16 +60,8 @@ read_again image is =
     (from_le_bytes-to_le_bytes_4 _ is.slots_fit) (from_le_bytes-to_le_bytes_4 _ is.constants_fit) whole refl in
     read (image_bytes image) (ap image_bytes (sym same)) ∙ ap (λ (parts : ImageParts). Some parts) same
 
-part_bytes : (n k : ℕ) (bytes : List ℕ) → IsBytes bytes → IsBytes (take n (drop k bytes))
-part_bytes n k bytes are =
-    before_bytes (take n (drop k bytes)) (drop n (drop k bytes))
-    (subst IsBytes (sym (take-append-drop n (drop k bytes))) (after_bytes bytes (take k bytes) (drop k bytes) are (sym (take-append-drop k bytes))))
-
 part_length : (n k : ℕ) (bytes : List ℕ) → k + n ≤ length bytes → length (take n (drop k bytes)) ≡ n
 part_length n k bytes h = length-take-le n (drop k bytes) (omega (arith, h, length-drop k bytes))
-
-number_below : (field : List ℕ) → IsBytes field → from_le_bytes w32 field < 2 ^ 32
-number_below field are = omega (arith, are 0, are 1, are 2, are 3)
 
 -- the field of a number, with the number that is counted
 counted : (n k : ℕ) (bytes : List ℕ) → IsBytes bytes → k + 4 ≤ length bytes → n ≡ from_le_bytes w32 (take 4 (drop k bytes)) → take 4 (drop k bytes) ≡ to_le_bytes w32 n
@@ -109,7 +102,7 @@ image_there bytes are magic len =
 
 -- a number that is at least what its field was written from is it
 number_is : (n k : ℕ) (bytes : List ℕ) → IsBytes bytes → from_le_bytes w32 (take 4 (drop k bytes)) ≡ from_le_bytes w32 (to_le_bytes w32 n) → n ≤ from_le_bytes w32 (take 4 (drop k bytes)) → from_le_bytes w32 (take 4 (drop k bytes)) ≡ n
-number_is n k bytes are e h = e ∙ from_le_bytes-to_le_bytes_4 n (omega (arith, h, number_below (take 4 (drop k bytes)) (part_bytes 4 k bytes are)))
+number_is n k bytes are e h = e ∙ from_le_bytes-to_le_bytes_4 n (omega (arith, h, u32_below (take 4 (drop k bytes)) (part_bytes 4 k bytes are)))
 
 image_length : (image : ImageParts) → length (image_bytes image) ≡ 16 + (length image.text + length image.constants)
 image_length image = omega (arith, length-append image.text image.constants)

@@ -1,6 +1,7 @@
 -- What is known of the instructions of a verified text.
 use Rattle.std.proofs.Common.{◌≡◌, ◌≢◌, ◌<◌, ◌≤◌, ◌-◌, ◌+◌, ◌==◌, ◌&&◌, ◌||◌, not, ℕ, Bool, true, false, cond, List, length, Option, Some, None, refl, ap, ◌∙◌, sym, arith, add-one, ◌⊎◌, inl, inr, ⊎_elim, ◌%◌, ◌/◌}
 use Rattle.std.specs.Prelude.{nat_lt, is_none, ℤ, pos, negsuc, ◌≤ℤ◌, int_lt, slice_get, unwrap_or}
+use Rattle.std.proofs.lemmas.Bool.{or_parts, not-false, eq-eqb, ne_eqb, ltb-false}
 use Rattle.std.proofs.lemmas.Bool.Decides.{nat_tests}
 use Rattle.std.specs.Int.{w64, cast_unsigned}
 use Rattle.std.specs.Ordering.{int_eq}
@@ -14,7 +15,7 @@ use Rattle.sbpf_verify.specs.declared.entry.Entry.{Entry}
 use Rattle.sbpf_verify.specs.Opcodes.{meaning}
 use Rattle.sbpf_verify.specs.Entries.{Decodes, IsDecoded, Fits, IsHelperNumber, immediate_of}
 use Rattle.sbpf_verify.specs.Instructions.{HasRegisters, HasValues}
-use Rattle.sbpf_verify.specs.Places.{slot_count, is_start, is_start_at, instruction_at, leads_to, goes_on, slots_taken, Reached, first, after, jumped, called}
+use Rattle.sbpf_verify.specs.Places.{slot_count, max_slots, is_start, is_start_at, instruction_at, leads_to, goes_on, slots_taken, Reached, first, after, jumped, called}
 use Rattle.sbpf_verify.specs.Verified.{rows_of, lacks_row, follows_wide, is_astray, is_outside, calls_bad_register, is_no_width, has_bad_value, has_stray_field, used, calls_no_helper, instruction_rows, slot_rows, NoneApplies, IsVerified}
 
 within_from_test : (n k : ℕ) (x : Option OpKind) (kind : OpKind) → cond (nat_lt n k) x None ≡ Some kind → (n < k) × (x ≡ Some kind)
@@ -79,14 +80,10 @@ start_instruction text place v h =
     let found : (kind : OpKind) × (kind_at (slot_of text place).opcode ≡ Some kind) = some_row (kind_at (slot_of text place).opcode) ((slot_of text place).opcode == 0) (follows_wide text place) (rows_at text place v there.0).0 there.1 in
     (found.0, there_instruction text place there.0 ∙ found.1)
 
-not_false : (b : Bool) → not b ≡ false → b ≡ true
-not_false true h = refl
-not_false false h = absurd (cc)
-
 -- a jump, or a call into the program, leads to a start
 pub target_start : (text : List ℕ) (place : ℕ) (kind : OpKind) (target : ℤ) → IsVerified text → instruction_at text place ≡ Some kind → leads_to kind (slot_of text place) place ≡ Some target → is_start_at text target ≡ true
 target_start text place kind target v h e =
-    not_false (is_start_at text target) (ap (is_astray text) (sym e) ∙ (no_row_applies text place kind v h).1.1.1.1.1.1.0)
+    not-false (is_start_at text target) (ap (is_astray text) (sym e) ∙ (no_row_applies text place kind v h).1.1.1.1.1.1.0)
 
 zero_has_no_row : kind_at 0 ≡ None
 unfolding kind_at
@@ -98,11 +95,8 @@ refused None true false h n e f = absurd (cc)
 refused None false w h n e f = absurd (cc)
 refused (Some k) z w h n e f = absurd (cc)
 
-zero_test : (o : ℕ) → o ≡ 0 → (o == 0) ≡ true
-zero_test o h = grind (arith, nat_tests)
-
 opcode_not_zero : (o : ℕ) (w : Bool) → (is_none (kind_at o) && not ((o == 0) && w)) ≡ false → w ≡ false → o ≢ 0
-opcode_not_zero o w h e = λ (z : o ≡ 0). refused (kind_at o) (o == 0) w h (ap kind_at z ∙ zero_has_no_row) (zero_test o z) e
+opcode_not_zero o w h e = λ (z : o ≡ 0). refused (kind_at o) (o == 0) w h (ap kind_at z ∙ zero_has_no_row) (eq-eqb o 0 z) e
 
 -- a slot that is there and does not follow `lddw` is a start
 start_unless_after_wide : (text : List ℕ) (place : ℕ) → IsVerified text → place < slot_count text → follows_wide text place ≡ false → is_start text place ≡ true
@@ -131,16 +125,14 @@ not_exit o kind h g = (
 
 not_wide : (o : ℕ) (kind : OpKind) → kind_at o ≡ Some kind → kind ≢ LoadWide → (o == 0x18) ≡ false
 unfolding kind_at
-not_wide o kind h n = other_number o (λ (e : o ≡ 0x18). let k : kind_at 0x18 ≡ Some kind = ap kind_at (sym e) ∙ h in n (cc))
-  where
-    other_number : (o : ℕ) → o ≢ 0x18 → (o == 0x18) ≡ false
-    other_number o h = grind (arith, nat_tests)
+not_wide o kind h n = ne_eqb o 0x18 (λ (e : o ≡ 0x18). let k : kind_at 0x18 ≡ Some kind = ap kind_at (sym e) ∙ h in n (cc))
 
 wide_or_one : (kind : OpKind) → (kind ≡ LoadWide) ⊎ ((slots_taken kind ≡ 1) × (kind ≢ LoadWide))
 wide_or_one LoadWide = inl refl
 wide_or_one _ = inr (refl, λ h. cc)
 
-follows_one : (text : List ℕ) (place : ℕ) → ((slot_of text place).opcode == 0x18) ≡ false → follows_wide text (place + 1) ≡ false
+-- after a slot that is not `lddw`
+pub follows_one : (text : List ℕ) (place : ℕ) → ((slot_of text place).opcode == 0x18) ≡ false → follows_wide text (place + 1) ≡ false
 follows_one text place h = rw add-one h
 
 -- the place after an instruction of one slot that goes on
@@ -180,15 +172,15 @@ half_no_start text place v h = zero_no_start (nat_lt (place + 1) (slot_count tex
     zero_no_start : (b : Bool) (o : ℕ) → o ≡ 0 → (b && not (o == 0)) ≡ false
     zero_no_start b o h = grind (arith, nat_tests)
 
-some_slots : (n : ℕ) → ((n == 0) || not (n % 8 == 0) || nat_lt 65536 (n / 8)) ≡ false → (0 < n / 8) × (n / 8 ≤ 65536)
+some_slots : (n : ℕ) → ((n == 0) || not (n % 8 == 0) || nat_lt max_slots (n / 8)) ≡ false → (0 < n / 8) × (n / 8 ≤ max_slots)
 some_slots n h = (grind (arith, nat_tests), grind (arith, nat_tests))
 
--- a verified text has a slot, and at most 65,536
-pub slots_there : (text : List ℕ) → IsVerified text → (0 < slot_count text) × (slot_count text ≤ 65536)
+-- a verified text has a slot, and no more than a text may have
+pub slots_there : (text : List ℕ) → IsVerified text → (0 < slot_count text) × (slot_count text ≤ max_slots)
 slots_there text v = some_slots (length text) v.len
 
 -- a start is below the most slots that a text has
-pub start_below : (text : List ℕ) (place : ℕ) → IsVerified text → is_start text place ≡ true → place < 65536
+pub start_below : (text : List ℕ) (place : ℕ) → IsVerified text → is_start text place ≡ true → place < max_slots
 start_below text place v h = omega (arith, (start_there text place h).0, (slots_there text v).1)
 
 -- the first slot is a start
@@ -202,25 +194,18 @@ reached_start text place v (after r h g) = next_start text _ _ v h g
 reached_start text place v (jumped r h e) = target_start text _ _ (pos place) v h e
 reached_start text place v (called r h s) = s
 
-either_false : (a b : Bool) → (a || b) ≡ false → (a ≡ false) × (b ≡ false)
-either_false true b h = absurd (cc)
-either_false false b h = (refl, h)
-
-at_most_ten : (n : ℕ) → nat_lt 10 n ≡ false → n ≤ 10
-at_most_ten n h = grind (arith, nat_tests)
-
 within : (low high z : ℤ) → is_outside low high z ≡ false → (low ≤ℤ z) × (z ≤ℤ high)
-within low high z h = let both : (int_lt z low ≡ false) × (int_lt high z ≡ false) = either_false _ _ h in (grind (arith, ints), grind (arith, ints))
+within low high z h = let both : (int_lt z low ≡ false) × (int_lt high z ≡ false) = or_parts _ _ h in (grind (arith, ints), grind (arith, ints))
 
 -- the registers of an instruction of a verified text
 pub has_registers : (text : List ℕ) (place : ℕ) (kind : OpKind) → IsVerified text → instruction_at text place ≡ Some kind → HasRegisters (slot_of text place) kind
 has_registers text place kind v h =
     let none : (nat_lt 10 (slot_of text place).dst || nat_lt 10 (slot_of text place).src || calls_bad_register (slot_of text place) kind) ≡ false = (no_row_applies text place kind v h).1.0 in
-    let three : ((nat_lt 10 (slot_of text place).dst || nat_lt 10 (slot_of text place).src) ≡ false) × (calls_bad_register (slot_of text place) kind ≡ false) = either_false _ _ none in
-    let two : (nat_lt 10 (slot_of text place).dst ≡ false) × (nat_lt 10 (slot_of text place).src ≡ false) = either_false _ _ three.0 in
+    let three : ((nat_lt 10 (slot_of text place).dst || nat_lt 10 (slot_of text place).src) ≡ false) × (calls_bad_register (slot_of text place) kind ≡ false) = or_parts _ _ none in
+    let two : (nat_lt 10 (slot_of text place).dst ≡ false) × (nat_lt 10 (slot_of text place).src ≡ false) = or_parts _ _ three.0 in
     record {
-      dst = at_most_ten _ two.0;
-      src = at_most_ten _ two.1;
+      dst = ltb-false 10 _ two.0;
+      src = ltb-false 10 _ two.1;
       called = λ e. within (pos 0) (pos 9) (slot_of text place).imm (ap (calls_bad_register (slot_of text place)) (sym e) ∙ three.1);
     }
 
@@ -233,7 +218,7 @@ natural text (pos n) h = (n, (refl, h))
 natural text (negsuc n) h = absurd (cc)
 
 -- the place that a jump leads to, as a number
-pub natural_target : (text : List ℕ) (place : ℕ) (kind : OpKind) (target : ℤ) → IsVerified text → instruction_at text place ≡ Some kind → leads_to kind (slot_of text place) place ≡ Some target → (n : ℕ) × ((target ≡ pos n) × (n < 65536))
+pub natural_target : (text : List ℕ) (place : ℕ) (kind : OpKind) (target : ℤ) → IsVerified text → instruction_at text place ≡ Some kind → leads_to kind (slot_of text place) place ≡ Some target → (n : ℕ) × ((target ≡ pos n) × (n < max_slots))
 natural_target text place kind target v h e =
     let found : (n : ℕ) × ((target ≡ pos n) × (is_start text n ≡ true)) = natural text target (target_start text place kind target v h e) in
     (found.0, (found.1.0, omega (arith, (start_there text found.0 found.1.1).0, (slots_there text v).1)))
@@ -247,17 +232,15 @@ one_of_three false false false h = absurd (cc)
 same_number : (z w : ℤ) → int_eq z w ≡ true → z ≡ w
 same_number z w h = grind (arith, ints)
 
-is_width : (z : ℤ) → is_no_width z ≡ false → (z ≡ pos 16) ⊎ ((z ≡ pos 32) ⊎ (z ≡ pos 64))
+-- the widths of `le` and `be`
+pub is_width : (z : ℤ) → is_no_width z ≡ false → (z ≡ pos 16) ⊎ ((z ≡ pos 32) ⊎ (z ≡ pos 64))
 is_width z h = ⊎_elim
     (λ a. inl (same_number z (pos 16) a))
     (λ r. ⊎_elim (λ b. inr (inl (same_number z (pos 32) b))) (λ c. inr (inr (same_number z (pos 64) c))) r)
     (one_of_three (int_eq z (pos 16)) (int_eq z (pos 32)) (int_eq z (pos 64)) h)
 
-at_most_one : (n : ℕ) → nat_lt 1 n ≡ false → n ≤ 1
-at_most_one n h = grind (arith, nat_tests)
-
 helper_there : (slot : Slot) → ((slot.src == 0) && is_outside (pos 1) (pos 17) slot.imm) ≡ false → slot.src ≡ 0 → is_outside (pos 1) (pos 17) slot.imm ≡ false
-helper_there slot h e = both (slot.src == 0) (is_outside (pos 1) (pos 17) slot.imm) h (zero_test slot.src e)
+helper_there slot h e = both (slot.src == 0) (is_outside (pos 1) (pos 17) slot.imm) h (eq-eqb slot.src 0 e)
   where
     both : (a b : Bool) → (a && b) ≡ false → a ≡ true → b ≡ false
     both true b h e = h
@@ -267,12 +250,12 @@ helper_there slot h e = both (slot.src == 0) (is_outside (pos 1) (pos 17) slot.i
 pub has_values : (text : List ℕ) (place : ℕ) (kind : OpKind) → IsVerified text → instruction_at text place ≡ Some kind → HasValues (slot_of text place) kind
 has_values text place kind v h =
     let slot : Slot = slot_of text place in
-    let field : has_bad_value slot kind ≡ false = (either_false (has_stray_field slot (used kind)) (has_bad_value slot kind) (no_row_applies text place kind v h).1.1.1.0).1 in
+    let field : has_bad_value slot kind ≡ false = (or_parts (has_stray_field slot (used kind)) (has_bad_value slot kind) (no_row_applies text place kind v h).1.1.1.0).1 in
     let helper : calls_no_helper slot kind ≡ false = (no_row_applies text place kind v h).1.1.1.1.1.1.1.0 in
     record {
       little = λ e. is_width slot.imm (ap (has_bad_value slot) (sym e) ∙ field);
       big = λ e. is_width slot.imm (ap (has_bad_value slot) (sym e) ∙ field);
-      source = λ e. at_most_one slot.src (ap (has_bad_value slot) (sym e) ∙ field);
+      source = λ e. ltb-false 1 slot.src (ap (has_bad_value slot) (sym e) ∙ field);
       helper = λ e zero. within (pos 1) (pos 17) slot.imm (helper_there slot (ap (calls_no_helper slot) (sym e) ∙ helper) zero);
     }
 

@@ -9,6 +9,10 @@ use Rattle.sbpf_isa.specs.declared.rows.OpKind.TheVariants.{Jump, JumpIf, Call, 
 abbrev pub slot_count : List ℕ → ℕ
 slot_count text = length text / 8
 
+-- the most slots of a text (the project's own)
+abbrev pub max_slots : ℕ
+max_slots = 65536
+
 -- a start: a slot is there whose opcode is not 0
 unfoldable pub is_start : List ℕ → ℕ → Bool
 is_start text place = nat_lt place (slot_count text) && not ((slot_of text place).opcode == 0)

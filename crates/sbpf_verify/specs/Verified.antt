@@ -12,7 +12,7 @@ use Rattle.sbpf_isa.specs.declared.rows.Width.TheVariants.{Bits64, Bits32}
 use Rattle.sbpf_isa.specs.declared.rows.Operand.TheVariants.{Immediate, Register as RegisterOperand}
 use Rattle.sbpf_isa.specs.declared.rows.OpKind.{OpKind}
 use Rattle.sbpf_isa.specs.declared.rows.OpKind.TheVariants.{Binary, Negate, LittleEndian, BigEndian, Jump as JumpKind, JumpIf, Call, CallRegister, Exit, Load, Store, LoadWide}
-use Rattle.sbpf_verify.specs.Places.{slot_count, is_start_at, leads_to}
+use Rattle.sbpf_verify.specs.Places.{slot_count, max_slots, is_start_at, leads_to}
 use Rattle.sbpf_verify.specs.declared.fault.VerifyFault.{VerifyFault}
 use Rattle.sbpf_verify.specs.declared.fault.VerifyFault.TheVariants.{Length, Opcode, Register, WritesFrame, ZeroDivisor, Shift, HalfWide, Jump, Helper, OpenEnd, Field}
 
@@ -20,10 +20,10 @@ use Rattle.sbpf_verify.specs.declared.fault.VerifyFault.TheVariants.{Length, Opc
 abbrev pub is_outside : ℤ → ℤ → ℤ → Bool
 is_outside low high number = int_lt number low || int_lt high number
 
--- Length: the length is 0, no multiple of 8, or above 65,536 slots
+-- Length: the length is 0, no multiple of 8, or above the most slots
 abbrev pub has_bad_length : List ℕ → Bool
 has_bad_length text =
-    (length text == 0) || not (length text % 8 == 0) || nat_lt 65536 (slot_count text)
+    (length text == 0) || not (length text % 8 == 0) || nat_lt max_slots (slot_count text)
 
 -- the slot before is `lddw`
 abbrev pub follows_wide : List ℕ → ℕ → Bool

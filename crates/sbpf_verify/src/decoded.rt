@@ -1,3 +1,4 @@
+//! Verified texts with their decoded instructions.
 ghost use Rattle.std.specs.Prelude.{◌≡◌, IfOk};
 ghost use Rattle.std.specs.Arc.{arc_value};
 ghost use Rattle.sbpf_verify.specs.Entries.{IsDecoded};
@@ -28,7 +29,8 @@ impl Model for Decoded {
 
     ghost view = { λ d. arc_value d.program };
 
-    ghost invariant = { λ d. IsVerified (arc_value d.program) × IsDecoded (arc_value d.program) d.entries };
+    ghost invariant = { λ d. IsVerified (arc_value d.program)
+        × IsDecoded (arc_value d.program) d.entries };
 }
 
 impl Decoded {

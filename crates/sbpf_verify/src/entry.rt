@@ -1,3 +1,4 @@
+//! Decoded instructions.
 ghost use Rattle.std.specs.Prelude.{◌≡◌, ◌<◌, ◌+◌, ◌*◌, ◌^◌, true, unwrap_or, IfOk, Some, pos};
 ghost use Rattle.std.specs.Int.{w32, w64, cast_unsigned};
 ghost use Rattle.sbpf_isa.specs.Slots.{slot_of};

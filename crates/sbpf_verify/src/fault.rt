@@ -1,3 +1,4 @@
+//! Why the verifier refuses a text.
 ghost use Rattle.std.specs.Prelude.{◌≡◌};
 ghost use Rattle.sbpf_verify.specs.Faults.{fault_number};
 

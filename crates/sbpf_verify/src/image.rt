@@ -1,3 +1,4 @@
+//! Program images, and their parts.
 ghost use Rattle.std.specs.Prelude.{◌≡◌, ◌<◌, ◌^◌, length, option_map};
 ghost use Rattle.std.specs.Int.{w32, from_le_bytes};
 ghost use Rattle.sbpf_verify.specs.Images.{image_in};

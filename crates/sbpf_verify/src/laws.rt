@@ -1,3 +1,4 @@
+//! Laws of verified texts and of program images. Their calls do nothing.
 ghost use Rattle.std.specs.Prelude.{◌≡◌, ◌↔◌, ℕ, ◌+◌, ◌<◌, ◌≤◌, true, false, List, slice_get, Some, None, ℤ};
 ghost use Rattle.sbpf_isa.specs.Slots.{slot_of};
 ghost use Rattle.sbpf_isa.specs.declared.rows.OpKind.{OpKind};
@@ -6,19 +7,19 @@ ghost use Rattle.sbpf_verify.specs.declared.entry.Entry.{Entry};
 ghost use Rattle.sbpf_verify.specs.Entries.{IsDecoded, Fits};
 ghost use Rattle.sbpf_verify.specs.Images.{ImageParts, IsWritable, image_bytes, image_in};
 ghost use Rattle.sbpf_verify.specs.Instructions.{HasRegisters, HasValues};
-ghost use Rattle.sbpf_verify.specs.Places.{slot_count, is_start, is_start_at, instruction_at, leads_to, goes_on, slots_taken, Reached};
+ghost use Rattle.sbpf_verify.specs.Places.{slot_count, max_slots, is_start, is_start_at, instruction_at, leads_to, goes_on, slots_taken, Reached};
 ghost use Rattle.sbpf_verify.specs.Verified.{IsVerified, unfit};
 
 /// A law: the verified texts are those without a refusal.
 pub fn verified_is_without_refusal()
-    ensures { (text : List ℕ) → IsVerified text ↔ (unfit text ≡ None) }
+    ensures verified { (text : List ℕ) → IsVerified text ↔ (unfit text ≡ None) }
 {}
 
-/// A law: the first slot of a verified text is a start, and no start is beyond 65,536 slots.
+/// A law: the first slot of a verified text is a start, and no start is beyond the most slots.
 pub fn first_slot_is_a_start()
     ensures first { (text : List ℕ) → IsVerified text → is_start text 0 ≡ true }
     ensures below { (text : List ℕ) (place : ℕ) → IsVerified text → is_start text place ≡ true
-        → place < 65536 }
+        → place < max_slots }
 {}
 
 /// A law: each start of a verified text has an instruction, and an instruction stands at no other
@@ -32,7 +33,7 @@ pub fn starts_have_instructions()
 
 /// A law: a jump of a verified text, or a call into it, leads to a start.
 pub fn jumps_lead_to_starts()
-    ensures { (text : List ℕ) (place : ℕ) (kind : OpKind) (target : ℤ)
+    ensures target { (text : List ℕ) (place : ℕ) (kind : OpKind) (target : ℤ)
         → IsVerified text → instruction_at text place ≡ Some kind
         → leads_to kind (slot_of text place) place ≡ Some target
         → is_start_at text target ≡ true }
@@ -40,38 +41,38 @@ pub fn jumps_lead_to_starts()
 
 /// A law: the place after an instruction of a verified text that goes on is a start.
 pub fn what_follows_is_a_start()
-    ensures { (text : List ℕ) (place : ℕ) (kind : OpKind)
+    ensures next { (text : List ℕ) (place : ℕ) (kind : OpKind)
         → IsVerified text → instruction_at text place ≡ Some kind → goes_on kind ≡ true
         → is_start text (place + slots_taken kind) ≡ true }
 {}
 
 /// A law: each place of a verified text that is reached is a start.
 pub fn reached_places_are_starts()
-    ensures { (text : List ℕ) (place : ℕ) → IsVerified text → Reached text place
+    ensures reached { (text : List ℕ) (place : ℕ) → IsVerified text → Reached text place
         → is_start text place ≡ true }
 {}
 
 /// A law: the second half of `lddw` is never reached in a verified text.
 pub fn second_halves_are_never_reached()
-    ensures { (text : List ℕ) (place : ℕ) → IsVerified text
+    ensures half { (text : List ℕ) (place : ℕ) → IsVerified text
         → instruction_at text place ≡ Some LoadWide → Reached text (place + 1) → ⊥ }
 {}
 
 /// A law: no register above 10 is named in a verified text.
 pub fn registers_are_there()
-    ensures { (text : List ℕ) (place : ℕ) (kind : OpKind) → IsVerified text
+    ensures registers { (text : List ℕ) (place : ℕ) (kind : OpKind) → IsVerified text
         → instruction_at text place ≡ Some kind → HasRegisters (slot_of text place) kind }
 {}
 
 /// A law: `le`, `be` and `call` have values in a verified text that mean something.
 pub fn values_are_allowed()
-    ensures { (text : List ℕ) (place : ℕ) (kind : OpKind) → IsVerified text
+    ensures values { (text : List ℕ) (place : ℕ) (kind : OpKind) → IsVerified text
         → instruction_at text place ≡ Some kind → HasValues (slot_of text place) kind }
 {}
 
 /// A law: the entry of a start names registers that are there, and leads to starts.
 pub fn entries_fit()
-    ensures { (text : List ℕ) (entries : List Entry) (place : ℕ) (entry : Entry)
+    ensures fits { (text : List ℕ) (entries : List Entry) (place : ℕ) (entry : Entry)
         → IsVerified text → IsDecoded text entries
         → slice_get entries place ≡ Some entry → is_start text place ≡ true
         → Fits text place entry }
@@ -79,11 +80,11 @@ pub fn entries_fit()
 
 /// A law: an image that is written is read again.
 pub fn images_are_read_again()
-    ensures { (image : ImageParts) → IsWritable image → image_in (image_bytes image) ≡ Some image }
+    ensures again { (image : ImageParts) → IsWritable image → image_in (image_bytes image) ≡ Some image }
 {}
 
 /// A law: what is read as an image is written so, and no other bytes are read as that image.
 pub fn images_are_written_as_they_are_read()
-    ensures { (bytes : List ℕ) (image : ImageParts) → image_in bytes ≡ Some image
+    ensures written { (bytes : List ℕ) (image : ImageParts) → image_in bytes ≡ Some image
         → bytes ≡ image_bytes image }
 {}

@@ -1,3 +1,4 @@
+//! The opcodes as a type: one for each row of the table of instructions.
 ghost use Rattle.std.specs.Prelude.{◌≡◌};
 ghost use Rattle.sbpf_verify.specs.Opcodes.{meaning};
 

@@ -1,3 +1,4 @@
+//! The first refusal of a text.
 ghost use Rattle.std.specs.Prelude.{◌≡◌, ◌<◌, ◌≤◌, ◌^◌, Some, length};
 ghost use Rattle.sbpf_isa.specs.Rows.{kind_at};
 ghost use Rattle.sbpf_isa.specs.Slots.{slot_of};

@@ -1,3 +1,4 @@
+//! The rows of the table of refusals, each by itself.
 ghost use Rattle.std.specs.Prelude.{◌≡◌, ◌<◌, ◌≤◌, ◌^◌, length};
 ghost use Rattle.sbpf_verify.specs.Places.{slot_count};
 ghost use Rattle.sbpf_verify.specs.Verified as Table;
@@ -5,8 +6,8 @@ ghost use Rattle.sbpf_verify.specs.Verified as Table;
 use crate::places::{is_start_at, leads_to};
 use sbpf_isa::{OpKind, Operand, Operation, Slot, Width, slot_at};
 
-/// The most slots of a text.
-const MAX_SLOTS: usize = 65_536;
+/// The most slots of a text (the project's own).
+pub const MAX_SLOTS: usize = 65_536;
 
 /// The opcodes of `lddw`, `exit` and `ja`.
 const LOAD_WIDE: u8 = 0x18;

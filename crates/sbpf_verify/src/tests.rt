@@ -1,3 +1,4 @@
+//! Each refusal, the order in which they come, and each call once.
 use super::*;
 use sol_base::{Blob, OutOfMemory};
 use std::alloc::Global;

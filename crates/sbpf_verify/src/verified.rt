@@ -1,3 +1,4 @@
+//! Verified texts.
 ghost use Rattle.std.specs.Prelude.{◌≡◌, MatchResult, Some};
 ghost use Rattle.sbpf_verify.specs.Places.{is_start};
 ghost use Rattle.sbpf_verify.specs.Verified.{IsVerified, unfit};

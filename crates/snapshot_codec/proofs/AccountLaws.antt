@@ -1,5 +1,5 @@
 -- Accounts and states: what is spelled is read again, and what is read is spelled so.
-use Rattle.std.proofs.Common.{◌≡◌, ◌<◌, ◌≤◌, ◌+◌, ◌-◌, ◌^◌, ℕ, zero, suc, List, [], ◌∷◌, ◌++◌, length, map, Result, Ok, Bool, true, false, refl, sym, ap, subst, ◌∙◌, append_assoc, All, lit<, lit≤, arith}
+use Rattle.std.proofs.Common.{◌≡◌, ◌<◌, ◌≤◌, ◌+◌, ◌-◌, ◌^◌, ℕ, zero, suc, List, [], ◌∷◌, ◌++◌, length, map, Ok, Bool, true, false, refl, sym, ap, subst, ◌∙◌, append_assoc, All, lit<, lit≤, arith}
 use Rattle.std.specs.Prelude.{◌==◌, nat_le}
 use Rattle.std.specs.Int.{w32, w64, to_le_bytes}
 use Rattle.std.specs.List.{flat_map, AllByRecursion}
@@ -9,11 +9,11 @@ use Rattle.std.specs.FinMap.{from_entries}
 use Rattle.std.proofs.lemmas.Bool.Decides.{nat_tests}
 use Rattle.std.proofs.lemmas.List.{map-append, append-nil, length-map}
 use Rattle.std.proofs.lemmas.List.Elements.{All-from_recursion}
-use Rattle.std.proofs.lemmas.List.Sums.{sum_by_push, sum_by-append, sum_by-cons}
+use Rattle.std.proofs.lemmas.List.Sums.{sum_by_push, sum_by-append}
 use Rattle.spec_base.specs.Bytes.{IsBytes}
-use Rattle.spec_base.specs.Reading.{◌>>=◌, field_at, byte_at, read_if, read_as, many_after, AllAfter}
+use Rattle.spec_base.specs.Reading.{byte_at, read_if, read_as, AllAfter}
 use Rattle.spec_base.proofs.Binding.{ok_parts, ok_same, onward, follows}
-use Rattle.spec_base.proofs.Formats.{Reads, by_taking, field_reads, byte_reads, u64_reads, read_if_reads, many_after_reads, AllAfter-all, all-AllAfter}
+use Rattle.spec_base.proofs.Formats.{Reads, by_taking, byte_reads, u64_reads, read_if_reads, many_after_reads, AllAfter-all, all-AllAfter}
 use Rattle.sol_base.specs.declared.key.Key.{Key}
 use Rattle.sol_base.specs.declared.account.Account.{Account}
 use Rattle.sol_base.specs.Keys.{IsKey, key_bytes, key_cmp}
@@ -26,7 +26,7 @@ use Rattle.account_store.proofs.EntryLists.{sorted-entries, entries-from_entries
 use Rattle.account_store.proofs.SortedLaws.{state_of-is}
 use Rattle.snapshot_codec.specs.declared.fault.SnapshotFault.TheVariants.{Truncated, BadField, OutOfOrder, Empty, SupplyTooLarge, TooManyAccounts, DataTooLong}
 use Rattle.snapshot_codec.specs.Snapshot.{flag, account_bytes, accounts_bytes, state_bytes}
-use Rattle.snapshot_codec.specs.SnapshotReading.{Read, count_at, key_after, lamports_after, flag_at, data_at, account_after, entries_at, state_at}
+use Rattle.snapshot_codec.specs.SnapshotReading.{Read, key_after, lamports_after, flag_at, data_at, account_after, entries_at, state_at}
 use Rattle.snapshot_codec.proofs.Sized.{sized_reads, sized_field_reads, IsCount, count_fits, count_le}
 use Rattle.snapshot_codec.proofs.Ordered.{IsNext, AllAfter-weaker, AllAfter-both, sorted-from_next, next-from_sorted}
 use Rattle.snapshot_codec.proofs.MarkLaws.{count_reads}

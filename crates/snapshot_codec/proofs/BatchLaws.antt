@@ -1,14 +1,14 @@
 -- Batches: what is spelled is read again, and what is read is spelled so.
-use Rattle.std.proofs.Common.{◌≡◌, ◌<◌, ◌≤◌, ◌^◌, ℕ, List, [], ◌∷◌, ◌++◌, length, Result, Ok, Err, true, refl, sym, ap, subst, ◌∙◌, append_assoc, lit<, nat_lt, arith}
+use Rattle.std.proofs.Common.{◌≡◌, ◌<◌, ◌^◌, ℕ, List, [], ◌++◌, length, Result, Ok, Err, true, refl, sym, ap, subst, ◌∙◌, append_assoc, lit<, nat_lt, arith}
 use Rattle.std.specs.Prelude.{IfOk, codes, bytes_eq, nat_le}
-use Rattle.std.specs.Int.{w16, w32, w64, to_le_bytes}
+use Rattle.std.specs.Int.{w32, w64, to_le_bytes}
 use Rattle.std.specs.List.{flat_map, AllByRecursion}
 use Rattle.std.specs.Cmp.Lexicographic.{bytes_decides}
 use Rattle.std.proofs.lemmas.Bool.Decides.{nat_tests}
 use Rattle.std.proofs.lemmas.List.{append-nil}
 use Rattle.std.proofs.lemmas.List.Elements.{All-from_recursion, recursion_from_All}
 use Rattle.spec_base.specs.Bytes.{IsBytes, sized_bytes}
-use Rattle.spec_base.specs.Reading.{Gives, field_at, many}
+use Rattle.spec_base.specs.Reading.{Gives}
 use Rattle.spec_base.proofs.Binding.{bind_ok, ok_parts, whole_ok, onward, follows}
 use Rattle.spec_base.proofs.Formats.{Reads, by_taking, field_reads, u16_reads, u32_reads, u64_reads, read_if_reads, many_reads}
 use Rattle.sol_base.specs.Keys.{IsKey, key_bytes}
@@ -16,7 +16,7 @@ use Rattle.sol_base.proofs.KeyLaws.{key_reads}
 use Rattle.snapshot_codec.specs.declared.fault.BatchFault.{BatchFault}
 use Rattle.snapshot_codec.specs.declared.fault.BatchFault.TheVariants.{Magic, Truncated, TooMany, Trailing, SlotNotLater}
 use Rattle.snapshot_codec.specs.declared.batch.Batch.{Batch}
-use Rattle.snapshot_codec.specs.Batch.{batch_bytes, IsShortWire, IsBatch}
+use Rattle.snapshot_codec.specs.Batch.{batch_bytes, IsBatch}
 use Rattle.snapshot_codec.specs.BatchReading.{Read, is_batch_memory, magic_at, slot_at, count_at, wire_at, batch_at, batch_of}
 use Rattle.snapshot_codec.specs.Laws.{BatchRoundTrip}
 use Rattle.snapshot_codec.proofs.Sized.{sized_reads, sized_field_reads, IsCount, count_fits, count_le}

@@ -1,5 +1,5 @@
 -- Marks: what is spelled is read again, and what is read is spelled so.
-use Rattle.std.proofs.Common.{◌≡◌, ◌<◌, ◌≤◌, ◌^◌, ℕ, List, [], ◌∷◌, ◌++◌, length, map, take, Ok, Option, Some, None, Bool, true, refl, sym, ap, subst, ◌∙◌, append_assoc, All, lit<, arith}
+use Rattle.std.proofs.Common.{◌≡◌, ◌<◌, ◌≤◌, ℕ, List, [], ◌∷◌, ◌++◌, length, map, take, Ok, Option, Some, None, refl, sym, ap, subst, ◌∙◌, append_assoc, All, lit<, arith}
 use Rattle.std.specs.Prelude.{nat_le, IfNone}
 use Rattle.std.specs.Int.{w32, to_le_bytes}
 use Rattle.std.specs.List.{flat_map, AllByRecursion}
@@ -7,7 +7,7 @@ use Rattle.std.specs.List.Sorted.{IsStrictlySortedBy}
 use Rattle.std.proofs.lemmas.List.{length-append, take_all}
 use Rattle.std.proofs.lemmas.List.Elements.{All-from_recursion, recursion_from_All}
 use Rattle.spec_base.specs.Bytes.{IsBytes}
-use Rattle.spec_base.specs.Reading.{many_after, many, AllAfter}
+use Rattle.spec_base.specs.Reading.{AllAfter}
 use Rattle.spec_base.proofs.Binding.{ok_parts, onward, follows}
 use Rattle.spec_base.proofs.Formats.{Reads, by_taking, u32_reads, read_if_reads, many_after_reads, many_reads, AllAfter-all, all-AllAfter}
 use Rattle.sol_base.specs.declared.key.Hash32.{Hash32}

@@ -1,12 +1,12 @@
 -- Items that stand above those before them, one after the other.
-use Rattle.std.proofs.Common.{◌≡◌, ◌<◌, ◌-◌, ℕ, zero, suc, List, [], ◌∷◌, ◌++◌, length, map, Option, Some, None, Bool, true, false, refl, sym, ap, subst, ◌∙◌, append_assoc, All, arith}
+use Rattle.std.proofs.Common.{◌≡◌, ◌-◌, suc, List, [], ◌∷◌, ◌++◌, length, map, Bool, true, refl, sym, ap, subst, ◌∙◌, append_assoc, arith}
 use Rattle.std.specs.Prelude.{slice_get, option_map, unwrap_or}
 use Rattle.std.specs.List.{AllByRecursion, AllPairs}
 use Rattle.std.specs.List.Sorted.{IsStrictlySortedBy}
 use Rattle.std.specs.Cmp.{IsTotalOrder}
 use Rattle.std.specs.Ordering.{is_lt}
 use Rattle.std.specs.declared.cmp.Ordering.{Ordering}
-use Rattle.std.specs.declared.cmp.Ordering.TheVariants.{Less, Equal, Greater}
+use Rattle.std.specs.declared.cmp.Ordering.TheVariants.{Less}
 use Rattle.std.proofs.lemmas.List.{append-nil}
 use Rattle.std.proofs.lemmas.List.Elements.{All-from_recursion, recursion_from_All}
 use Rattle.std.proofs.lemmas.List.Kept.{AllPairs-cons}
@@ -54,6 +54,7 @@ module _ {X K : Type 0} (key : X → K) {cmp : K → K → Ordering} (total : Is
   last_below (y ∷ []) x below = ap is_lt below.0
   last_below (y ∷ z ∷ xs) x below = last_passes-cons (λ last. is_lt (cmp (key last) (key x))) y z xs ∙ last_below (z ∷ xs) x below.1
 
+  -- by recursion, as what is sorted has it; std's `All-push` speaks of places
   all_push : (P : K → Type 0) (xs : List X) (x : X) → AllByRecursion P (map key xs) → P (key x) → AllByRecursion P (map key (xs ++ x ∷ []))
   all_push P [] x all one = (one, tt)
   all_push P (y ∷ xs) x all one = (all.0, all_push P xs x all.1 one)

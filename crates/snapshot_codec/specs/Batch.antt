@@ -2,8 +2,9 @@
 use Rattle.std.specs.Prelude.{◌≡◌, ℕ, ◌≤◌, ◌<◌, ◌^◌, List, ◌++◌, length, All, codes}
 use Rattle.std.specs.Int.{w32, w64, to_le_bytes}
 use Rattle.std.specs.List.{flat_map}
-use Rattle.spec_base.specs.Bytes.{sized_bytes}
+use Rattle.spec_base.specs.Bytes.{max_count, sized_bytes}
 use Rattle.sol_base.specs.Keys.{IsKey, key_bytes}
+use Rattle.sol_base.specs.Limits.{max_transactions}
 use Rattle.snapshot_codec.specs.declared.batch.Batch.{Batch}
 
 -- each transaction follows its length
@@ -15,13 +16,13 @@ batch_bytes batch =
 
 -- what a length of a transaction can count
 abbrev pub IsShortWire : List ℕ → Type 0
-IsShortWire wire = length wire ≤ 65535
+IsShortWire wire = length wire ≤ max_count
 
 -- the bytes are that batch, for a slot after the given one
 pub record IsBatch (before : ℕ) (bytes : List ℕ) (batch : Batch) : Type 0 where
   pub spelled : bytes ≡ batch_bytes batch
   pub later : before < batch.slot
-  pub few : length batch.wires ≤ 16384
+  pub few : length batch.wires ≤ max_transactions
   pub short : All IsShortWire batch.wires
   pub slot : batch.slot < 2 ^ 64
   pub collector : IsKey batch.collector

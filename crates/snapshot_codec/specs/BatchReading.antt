@@ -3,6 +3,7 @@ use Rattle.std.specs.Prelude.{ℕ, List, length, codes, bytes_eq, Bool, true, fa
 use Rattle.std.specs.Int.{w16, w32, w64}
 use Rattle.spec_base.specs.Reading.{◌>>=◌, field_at, number_at, read_if, many, whole}
 use Rattle.sol_base.specs.Keys.{key_at}
+use Rattle.sol_base.specs.Limits.{max_transactions}
 use Rattle.snapshot_codec.specs.declared.fault.BatchFault.{BatchFault}
 use Rattle.snapshot_codec.specs.declared.fault.BatchFault.TheVariants.{Magic, Truncated, TooMany, Trailing, SlotNotLater, OutOfMemory}
 use Rattle.snapshot_codec.specs.declared.batch.Batch.{Batch}
@@ -32,7 +33,8 @@ slot_at before total bytes =
 
 unfoldable pub count_at : ℕ → List ℕ → Read ℕ
 count_at total bytes =
-    read_if (λ _. TooMany) (λ n. nat_le n 16384) (number_at Truncated w32 total) total bytes
+    read_if (λ _. TooMany) (λ n. nat_le n max_transactions) (number_at Truncated w32 total) total
+    bytes
 
 -- a transaction, one field after its length
 unfoldable pub wire_at : ℕ → List ℕ → Read (List ℕ)

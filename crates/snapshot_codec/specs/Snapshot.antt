@@ -9,7 +9,7 @@ use Rattle.sol_base.specs.declared.key.Hash32.{Hash32}
 use Rattle.sol_base.specs.declared.account.Account.{Account}
 use Rattle.sol_base.specs.declared.limits.Limits.{Limits}
 use Rattle.sol_base.specs.Keys.{IsKey, IsHash, key_bytes, hash_bytes}
-use Rattle.sol_base.specs.Limits.{first_limits}
+use Rattle.sol_base.specs.Limits.{first_limits, max_transactions}
 use Rattle.status_cache.specs.declared.recent.Mark.{Mark}
 use Rattle.status_cache.specs.Recent.{IsRecent}
 use Rattle.account_store.specs.State.{State, IsState, entries, len}
@@ -80,7 +80,7 @@ pub record AreAllowed (limits : Limits) : Type 0 where
 pub record IsReadable (snapshot : Snapshot) : Type 0 where
   pub limits : AreAllowed snapshot.limits
   pub recent : IsRecent snapshot.recent
-  pub messages : All (λ mark. length mark.messages ≤ 16384) snapshot.recent
+  pub messages : All (λ mark. length mark.messages ≤ max_transactions) snapshot.recent
   pub state : IsState snapshot.accounts
   pub accounts : len snapshot.accounts ≤ 4194304
 

@@ -1,5 +1,5 @@
 -- Reading a snapshot from left to right, with the first refusal that is met.
-use Rattle.std.specs.Prelude.{ℕ, ◌+◌, ◌-◌, ◌^◌, List, [], ◌∷◌, length, codes, bytes_eq, Bool, true, false, ◌==◌, nat_le, ◌&&◌, if◌then◌else◌, Option, option_map, unwrap_or, slice_get, Result, Ok, Err}
+use Rattle.std.specs.Prelude.{ℕ, ◌+◌, ◌-◌, ◌^◌, List, [], length, codes, bytes_eq, Bool, true, false, ◌==◌, nat_le, ◌&&◌, if◌then◌else◌, option_map, unwrap_or, slice_get, Result, Ok, Err}
 use Rattle.std.specs.Int.{Width, w16, w32, w64}
 use Rattle.std.specs.Ordering.{is_lt}
 use Rattle.std.specs.FinMap as map
@@ -8,7 +8,7 @@ use Rattle.sol_base.specs.declared.key.Key.{Key}
 use Rattle.sol_base.specs.declared.key.Hash32.{Hash32}
 use Rattle.sol_base.specs.declared.limits.Limits.{Limits}
 use Rattle.sol_base.specs.Keys.{key_cmp, hash_cmp, key_at, hash_at}
-use Rattle.sol_base.specs.Limits.{first_limits}
+use Rattle.sol_base.specs.Limits.{first_limits, max_transactions}
 use Rattle.sol_base.specs.Accounts.{max_data_len}
 use Rattle.status_cache.specs.declared.recent.Mark.{Mark}
 use Rattle.account_store.specs.declared.sorted.KeyedAccount.{KeyedAccount}
@@ -107,7 +107,7 @@ name_after total before bytes =
 unfoldable pub mark_at : ℕ → List ℕ → Read Mark
 mark_at total bytes = do
   hash ← hash_at Truncated total bytes
-  count ← count_at BadField 16384 total hash.1
+  count ← count_at BadField max_transactions total hash.1
   names ← many_after (name_after total) [] count.0 count.1
   Ok (record { hash = hash.0; messages = names.0 }, names.1)
 

@@ -6,10 +6,9 @@ ghost use Rattle.account_store.specs.Sorted.{entries_of};
 ghost use Rattle.snapshot_codec.specs.SnapshotReading.{is_snapshot_memory, key_after, lamports_after, flag_at, data_at, account_after, entries_at, state_at};
 
 use crate::fault::SnapshotFault;
-use crate::head::place;
 use account_store::{Accounts, KeyedAccount};
 use sol_base::{Account, Blob, Items, Key, MAX_DATA_LEN, key_field};
-use spec_base::{byte_field, bytes_field, u32_field, u64_field};
+use spec_base::{byte_field, bytes_field, place, u32_field, u64_field};
 use std::alloc::Global;
 
 /// The most accounts of a snapshot.

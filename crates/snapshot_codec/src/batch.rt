@@ -1,3 +1,4 @@
+//! Batches: what a block is to be made of, as bytes.
 ghost use Rattle.std.specs.Prelude.{◌≡◌, ◌++◌, ◌≤◌, Ok, length, All, OnOk, IfOk};
 ghost use Rattle.std.specs.List.{flat_map};
 ghost use Rattle.spec_base.specs.Reading.{Gives, many};
@@ -7,9 +8,8 @@ ghost use Rattle.snapshot_codec.specs.Batch.{IsBatch, IsShortWire, batch_bytes a
 ghost use Rattle.snapshot_codec.specs.BatchReading.{is_batch_memory, magic_at, slot_at, count_at, wire_at, batch_at, batch_of};
 
 use crate::fault::BatchFault;
-use crate::head::place;
 use sol_base::{Blob, Items, Key, OutOfMemory, key_field};
-use spec_base::{array_field, bytes_field, u16_field, u32_field, u64_field};
+use spec_base::{array_field, bytes_field, place, u16_field, u32_field, u64_field};
 use std::alloc::Global;
 
 /// What a batch begins with.

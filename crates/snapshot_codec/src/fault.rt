@@ -1,3 +1,4 @@
+//! Why bytes begin with no snapshot, and why they are no batch.
 ghost use Rattle.std.specs.Prelude.{◌≡◌};
 
 use sol_base::OutOfMemory;

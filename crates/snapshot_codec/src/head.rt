@@ -1,13 +1,13 @@
 //! What a snapshot begins with: its version, its slot and its limits.
 ghost use Rattle.std.specs.Prelude.{◌≡◌};
 ghost use Rattle.std.specs.Int.{w16, w64};
-ghost use Rattle.spec_base.specs.Reading.{Gives, place as place_of};
+ghost use Rattle.spec_base.specs.Reading.{Gives};
 ghost use Rattle.snapshot_codec.specs.SnapshotReading.{is_snapshot_memory, count_at, limit_at, height_at, limits_at, head_one_at, head_two_at, names_one, names_two, head_at};
 ghost use Rattle.snapshot_codec.specs.declared.fault.SnapshotFault.TheVariants.{BadField as bad_field};
 
 use crate::fault::SnapshotFault;
 use sol_base::Limits;
-use spec_base::{array_field, byte_field, u16_field, u32_field, u64_field};
+use spec_base::{array_field, byte_field, place, u16_field, u32_field, u64_field};
 
 /// The most keys of a transaction that limits may allow.
 const MOST_KEYS: u16 = 128;
@@ -17,13 +17,6 @@ const MOST_HEIGHT: u8 = 9;
 
 /// The most compute units, of a key or of a block, that limits may allow.
 const MOST_UNITS: u64 = 1_000_000_000_000;
-
-/// The place of the first byte that is left.
-pub(crate) fn place(total: usize, bytes: &[u8]) -> usize
-    ensures { result ≡ place_of total bytes.now }
-{
-    total.saturating_sub(bytes.len())
-}
 
 /// A number of items, at most `most`.
 #[tactic(auto, unfolding(spec_base::specs::Reading::read_if))]

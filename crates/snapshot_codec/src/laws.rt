@@ -4,20 +4,20 @@ ghost use Rattle.snapshot_codec.specs.Laws.{SnapshotRoundTrip, FirstVersionRead,
 /// What `snapshot_bytes` writes is read again, whatever follows it, where the snapshot is within
 /// the limits of its format.
 pub fn written_snapshots_are_read()
-    ensures { SnapshotRoundTrip }
+    ensures read { SnapshotRoundTrip }
 {}
 
 /// A snapshot in version 1 is read too, where it has the first limits.
 pub fn first_version_is_read()
-    ensures { FirstVersionRead }
+    ensures read { FirstVersionRead }
 {}
 
 /// A snapshot that is within the limits of its format may be written.
 pub fn readable_snapshots_are_writable()
-    ensures { ReadableWritten }
+    ensures writable { ReadableWritten }
 {}
 
 /// What `batch_bytes` writes is read again, for a block after an earlier slot.
 pub fn written_batches_are_read()
-    ensures { BatchRoundTrip }
+    ensures read { BatchRoundTrip }
 {}

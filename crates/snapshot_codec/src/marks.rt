@@ -5,8 +5,9 @@ ghost use Rattle.status_cache.specs.Recent.{IsRecent};
 ghost use Rattle.snapshot_codec.specs.SnapshotReading.{is_snapshot_memory, name_after, mark_at, marks_at};
 
 use crate::fault::SnapshotFault;
-use crate::head::{count_field, place};
+use crate::head::count_field;
 use sol_base::{Hash32, Items, OutOfMemory, hash_field};
+use spec_base::place;
 use status_cache::{Mark, Recent};
 use std::alloc::Global;
 

@@ -1,3 +1,4 @@
+//! From bytes to a snapshot.
 ghost use Rattle.std.specs.Prelude.{Ok, IfOk};
 ghost use Rattle.spec_base.specs.Reading.{Gives};
 ghost use Rattle.snapshot_codec.specs.declared.snapshot.Prefix.{Prefix as PrefixValue};
@@ -6,9 +7,10 @@ ghost use Rattle.snapshot_codec.specs.SnapshotReading.{is_snapshot_memory, snaps
 
 use crate::accounts::read_state;
 use crate::fault::SnapshotFault;
-use crate::head::{place, read_head};
+use crate::head::read_head;
 use crate::marks::read_recent;
 use crate::snapshot::{Prefix, Snapshot};
+use spec_base::place;
 use std::alloc::Global;
 
 #[tactic(auto, unfolding(crate::specs::SnapshotReading::snapshot_at))]

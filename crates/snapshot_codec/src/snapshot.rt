@@ -1,3 +1,4 @@
+//! Snapshots: what a chain is at the end of a block.
 use account_store::Accounts;
 use sol_base::Limits;
 use status_cache::Recent;

@@ -1,3 +1,4 @@
+//! From a snapshot to bytes, and the hash of a state.
 ghost use Rattle.std.specs.Prelude.{◌≡◌, ◌<◌, ◌^◌, ◌++◌, [], length, All, OnOk, IfOk};
 ghost use Rattle.std.specs.List.{flat_map};
 ghost use Rattle.account_store.specs.State.{len, entries};

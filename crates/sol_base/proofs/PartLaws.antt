@@ -1,18 +1,26 @@
 -- Lists of bytes in pieces.
-use Rattle.std.proofs.Common.{◌≡◌, ℕ, zero, suc, ◌+◌, ◌-◌, ◌<◌, ◌≤◌, Bool, true, false, List, [], ◌∷◌, ◌++◌, length, map, get_or, set, take, drop, replicate, min, Some, slice_get, refl, ap, sym, ◌∙◌, subst, inl, inr, leb, leb-true, leb-false, rules, arith, append_assoc, add-one, add-zero, length-append, length-drop}
-use Rattle.std.specs.List.{flat_map}
+use Rattle.std.proofs.Common.{◌≡◌, ℕ, zero, suc, ◌+◌, ◌-◌, ◌<◌, ◌≤◌, Bool, true, false, List, [], ◌∷◌, ◌++◌, length, map, get_or, set, take, drop, replicate, min, Some, None, Option, slice_get, refl, ap, sym, ◌∙◌, subst, inl, inr, leb, leb-true, leb-false, rules, arith, ◌==◌, append_assoc, add-one, add-zero, length-append, length-drop}
+use Rattle.std.specs.List.{All, flat_map, find}
+use Rattle.std.specs.Option.{option_or}
+use Rattle.std.specs.Arc.{arc_value}
+use Rattle.std.specs.declared.sync.Arc.{Arc}
+use Rattle.std.specs.declared.alloc.Global.{Global}
+use Rattle.std.proofs.lemmas.List.Elements.{All-nil, All-get_or, All-set, All-push}
+use Rattle.std.proofs.lemmas.Bool.Decides.{nat_tests}
+use Rattle.std.proofs.lemmas.List.Folds.{find-append}
 use Rattle.std.specs.List.Sorted.{IsNonDecreasingBy, IsPartitionPoint}
 use Rattle.std.proofs.lemmas.List.{places, same_lists, take-append-drop, drop_more, drop-set, take-set, take_more, take_all, drop_all, take-take, length-take, length-take-le, length-replicate, append-nil, replicate-append-replicate, get_or-set_same, length-set, drop-drop, take_at, drop_at, get_or-append-add, get_or_append_left, get_or-replicate}
 use Rattle.std.proofs.Math.Seq.{take-add}
 use Rattle.std.proofs.lemmas.List.Concat.{flat_map-append}
 use Rattle.std.proofs.lemmas.Option.{slice_get-get_or}
-use Rattle.std.proofs.lemmas.Bool.{cases_lt}
+use Rattle.std.proofs.lemmas.Bool.{cases_lt, cases_Bool}
 use Rattle.sol_base.specs.declared.account.Account.{Account}
 use Rattle.sol_base.specs.declared.parts.Part.{Part}
+use Rattle.sol_base.specs.declared.parts.Part.TheVariants.{Bytes, Lent, Zeros}
 use Rattle.sol_base.specs.declared.parts.piece.Piece.{Piece}
 use Rattle.sol_base.specs.declared.parts.piece.Backing.{Backing}
 use Rattle.sol_base.specs.declared.parts.piece.Backing.TheVariants.{Own, Shared, Blank}
-use Rattle.sol_base.specs.Parts.{part_bytes, bytes_of, piece_bytes, bytes_in, tests_in, for_each_byte, before, starts_from, is_own, is_prepared, with_bytes, AreInOrder, ArePrepared, StayPrepared, DataStandAt}
+use Rattle.sol_base.specs.Parts.{part_bytes, bytes_of, lent_by, lent_from, IsLentAt, IsLentBy, AreLentBy, StayLent, StaysShared, backing_bytes, piece_bytes, bytes_in, tests_in, for_each_byte, before, starts_from, is_own, is_prepared, with_bytes, AreInOrder, ArePrepared, StayPrepared, DataStandAt}
 
 -- a list in pieces, parted at one of them
 flat_map_at : {X A : Type 0} (f : X → List A) (xs : List X) (i : ℕ) (d : X) → i < length xs → flat_map f xs ≡ flat_map f (take i xs) ++ (f (get_or xs i d) ++ flat_map f (drop (i + 1) xs))
@@ -500,3 +508,82 @@ no_bytes = refl
 pub no_parts : bytes_of [] ≡ []
 unfolding bytes_of
 no_parts = refl
+
+-- no piece has the data of an account
+pub no_lent : (lent : List (ℕ × Account)) → AreLentBy lent []
+unfolding AreLentBy
+no_lent lent = All-nil (IsLentBy lent)
+
+-- a piece that was read from the list has the data that were lent there
+pub item_lent : (lent : List (ℕ × Account)) (pieces : List Piece) (i : ℕ) (x : Piece) → AreLentBy lent pieces → i < length pieces → x ≡ get_or pieces i x → IsLentBy lent x
+unfolding AreLentBy
+item_lent lent pieces i x all h is = subst (IsLentBy lent) (sym is) (All-get_or (IsLentBy lent) pieces i x h all)
+
+-- what was lent still is, where a piece gets a backing that brings no account
+pub lent_set : (pieces : List Piece) (i : ℕ) (d y : Piece) → i < length pieces → y.start ≡ (get_or pieces i d).start → StaysShared (get_or pieces i d).backing y.backing → StayLent pieces (set pieces i y)
+unfolding AreLentBy
+lent_set pieces i d y h start stays lent all =
+    let was : IsLentBy lent (get_or pieces i d) = All-get_or (IsLentBy lent) pieces i d h all in
+    let comes : IsLentBy lent y = λ shared is some.
+    let same : (get_or pieces i d).backing ≡ y.backing = stays shared is ∙ sym is in
+    let bytes : 0 < length (piece_bytes (get_or pieces i d)) = subst (λ (b : Backing). 0 < length (backing_bytes b)) (sym same) some in
+    subst (λ (place : ℕ). IsLentAt lent place (arc_value shared)) (sym start) (was shared (stays shared is) bytes) in
+    All-set (IsLentBy lent) pieces i y comes all
+
+-- the first that is found in a list is the first in a longer one
+find_kept : {X : Type 0} (test : X → Bool) (xs ys : List X) (x : X) → find test xs ≡ Some x → find test (xs ++ ys) ≡ Some x
+find_kept test xs ys x found = find-append test xs ys ∙ ap (λ (o : Option _). option_or o (find test ys)) found
+
+-- what is found in neither of two lists is not found in both together
+find_none : {X : Type 0} (test : X → Bool) (xs ys : List X) → find test xs ≡ None → find test ys ≡ None → find test (xs ++ ys) ≡ None
+find_none test xs ys none empty = find-append test xs ys ∙ ap (λ (o : Option _). option_or o (find test ys)) none ∙ empty
+
+-- a part lends no account behind its end
+none_by : (place at : ℕ) (part : Part) → place + length (part_bytes part) ≤ at → find (λ (item : ℕ × Account). item.0 == at) (lent_by place part) ≡ None
+none_by place at (Bytes bytes) past = refl
+none_by place at (Lent shared) past =
+    let account : Account = arc_value shared in
+    elim (cases_Bool (length account.bytes == 0)) [
+      | inl empty ↦ rw empty refl
+      | inr some ↦ let other : (place == at) ≡ false = grind (arith, nat_tests) in rw some (rw other refl)
+    ]
+none_by place at (Zeros count) past = refl
+
+-- parts lend no account behind their end
+none_from : (place at : ℕ) (parts : List Part) → place + length (flat_map part_bytes parts) ≤ at → find (λ (item : ℕ × Account). item.0 == at) (lent_from place parts) ≡ None
+unfolding lent_from
+none_from place at [] past = refl
+none_from place at (part ∷ parts) past =
+    let size = length-append (part_bytes part) (flat_map part_bytes parts) in
+    find_none (λ (item : ℕ × Account). item.0 == at) (lent_by place part) (lent_from (place + length (part_bytes part)) parts) (none_by place at part (omega arith)) (none_from (place + length (part_bytes part)) at parts (omega arith))
+
+-- the accounts that parts lend, where one more follows the last
+lent_more : (place : ℕ) (parts : List Part) (part : Part) → lent_from place (parts ++ part ∷ []) ≡ lent_from place parts ++ lent_by (place + length (flat_map part_bytes parts)) part
+unfolding lent_from
+lent_more place [] part = append-nil (lent_by place part) ∙ ap (λ (n : ℕ). lent_by n part) (sym (add-zero place))
+lent_more place (first ∷ parts) part =
+    let next : ℕ = place + length (part_bytes first) in
+    let size : next + length (flat_map part_bytes parts) ≡ place + length (part_bytes first ++ flat_map part_bytes parts) = omega (arith, length-append (part_bytes first) (flat_map part_bytes parts)) in
+    ap (λ (l : List _). lent_by place first ++ l) (lent_more next parts part ∙ ap (λ (n : ℕ). lent_from next parts ++ lent_by n part) size) ∙ sym (append_assoc (lent_by place first) (lent_from next parts) (lent_by (place + length (part_bytes first ++ flat_map part_bytes parts)) part))
+
+-- the account that is lent last is found where it begins
+lent_last : (lent : List (ℕ × Account)) (y : Piece) (part : Part) (shared : Arc Account Global) → find (λ (item : ℕ × Account). item.0 == y.start) lent ≡ None → part ≡ Lent shared → 0 < length (backing_bytes (Shared shared)) → IsLentAt (lent ++ lent_by y.start part) y.start (arc_value shared)
+lent_last lent y part shared none is some =
+    let test : (ℕ × Account) → Bool = λ item. item.0 == y.start in
+    let account : Account = arc_value shared in
+    let full : (length account.bytes == 0) ≡ false = grind (arith, nat_tests) in
+    let same : (y.start == y.start) ≡ true = grind (arith, nat_tests) in
+    let one : find test (lent_by y.start (Lent shared)) ≡ Some (y.start, account) = rw full (rw same refl) in
+    find-append test lent (lent_by y.start part) ∙ ap (λ (o : Option (ℕ × Account)). option_or o (find test (lent_by y.start part))) none ∙ ap (λ (p : Part). find test (lent_by y.start p)) is ∙ one
+
+-- pieces have what parts lend, where one more of each follows the last
+pub lent_push : (parts : List Part) (part : Part) (pieces : List Piece) (y : Piece) → AreLentBy (lent_from 0 parts) pieces → y.start ≡ length (bytes_of parts) → ((shared : Arc Account Global) → y.backing ≡ Shared shared → part ≡ Lent shared) → AreLentBy (lent_from 0 (parts ++ part ∷ [])) (pieces ++ y ∷ [])
+unfolding AreLentBy bytes_of
+lent_push parts part pieces y all start lends =
+    let lent : List (ℕ × Account) = lent_from 0 parts in
+    let more : List (ℕ × Account) = lent_by y.start part in
+    let place : 0 + length (flat_map part_bytes parts) ≡ y.start = omega arith in
+    let is : lent_from 0 (parts ++ part ∷ []) ≡ lent ++ more = lent_more 0 parts part ∙ ap (λ (n : ℕ). lent ++ lent_by n part) place in
+    let front : All (IsLentBy (lent ++ more)) pieces = λ k d below shared same some. find_kept _ lent more _ (all k d below shared same some) in
+    let last : IsLentBy (lent ++ more) y = λ shared same some. lent_last lent y part shared (none_from 0 y.start parts (omega arith)) (lends shared same) (subst (λ (b : Backing). 0 < length (backing_bytes b)) same some) in
+    subst (λ (l : List (ℕ × Account)). All (IsLentBy l) (pieces ++ y ∷ [])) (sym is) (All-push (IsLentBy (lent ++ more)) pieces y front last)

@@ -1,7 +1,9 @@
 -- Lists of bytes in parts, some of which are the data of shared accounts.
 use Rattle.std.specs.Prelude.{◌≡◌, ℕ, ◌+◌, ◌-◌, ◌<◌, ◌≤◌, ◌==◌, if◌then◌else◌, true, false, Bool, List, [], ◌∷◌, ◌++◌, length, map, min, take, drop, replicate, slice_get, Some}
-use Rattle.std.specs.List.{flat_map, find}
+use Rattle.std.specs.List.{All, flat_map, find}
 use Rattle.std.specs.Arc.{arc_value}
+use Rattle.std.specs.declared.sync.Arc.{Arc}
+use Rattle.std.specs.declared.alloc.Global.{Global}
 use Rattle.sol_base.specs.declared.account.Account.{Account}
 use Rattle.sol_base.specs.declared.parts.Part.{Part}
 use Rattle.sol_base.specs.declared.parts.Part.TheVariants.{Bytes, Lent, Zeros}
@@ -94,6 +96,11 @@ is_blank (Own bytes prepared) = false
 is_blank (Shared shared) = false
 is_blank (Blank count) = true
 
+-- an account that stands behind a backing stood there before
+abbrev pub StaysShared : Backing → Backing → Type 0
+StaysShared before after =
+    (shared : Arc Account Global) → after ≡ Shared shared → before ≡ Shared shared
+
 -- N bytes are those of a list from a place on
 abbrev pub ArrayStandsIn : List ℕ → ℕ → ℕ → List ℕ → Type 0
 ArrayStandsIn list from N found = (from + N ≤ length list) × (found ≡ take N (drop from list))
@@ -144,6 +151,21 @@ starts_from place (piece ∷ pieces) = place ∷ starts_from (place + length (pi
 -- each piece starts where those before it end
 unfoldable pub AreInOrder : List Piece → Type 0
 AreInOrder pieces = map (λ (piece : Piece). piece.start) pieces ≡ starts_from 0 pieces
+
+-- an account that stands behind a piece with bytes is the one that was lent where the piece starts
+abbrev pub IsLentBy : List (ℕ × Account) → Piece → Type 0
+IsLentBy lent piece =
+    (shared : Arc Account Global) → piece.backing ≡ Shared shared
+    → 0 < length (piece_bytes piece) → IsLentAt lent piece.start (arc_value shared)
+
+-- each account that stands behind a piece with bytes was lent there
+unfoldable pub AreLentBy : List (ℕ × Account) → List Piece → Type 0
+AreLentBy lent pieces = All (IsLentBy lent) pieces
+
+-- the accounts that stand behind pieces still are those that were lent there
+abbrev pub StayLent : List Piece → List Piece → Type 0
+StayLent before after =
+    (lent : List (ℕ × Account)) → AreLentBy lent before → AreLentBy lent after
 
 -- a list has the bytes of a range that stand before a place, and is else as it was
 abbrev pub IsWrittenUpTo : List ℕ → List ℕ → ℕ → List ℕ → ℕ → Type 0

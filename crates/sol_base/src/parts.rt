@@ -48,14 +48,17 @@ pub struct Parts {
 
 impl Model for Parts {
     ghost use Rattle.std.specs.Prelude.{◌≡◌, ◌<◌, ◌^◌, length};
-    ghost use Rattle.sol_base.specs.Parts.{Content, bytes_in, tests_in, is_prepared, AreInOrder};
+    ghost use Rattle.sol_base.specs.Parts.{Content, bytes_in, tests_in, is_prepared, AreInOrder, AreLentBy};
 
     ghost Value = { Content };
 
-    ghost view = { λ p. record
-        { bytes = bytes_in p.pieces; prepared = tests_in is_prepared p.pieces; lent = p.lent.value } };
+    ghost view = { λ p. record {
+      bytes = bytes_in p.pieces;
+      prepared = tests_in is_prepared p.pieces;
+      lent = p.lent.value;
+    } };
 
-    ghost invariant = { λ p. (AreInOrder p.pieces)
+    ghost invariant = { λ p. (AreInOrder p.pieces) × (AreLentBy p.lent.value p.pieces)
         × (p.len ≡ length (bytes_in p.pieces)) × (p.len < 2 ^ 32) };
 }
 
@@ -109,7 +112,16 @@ impl Parts {
         ensures account { IfSome result (λ lent. IsLentAt self.now.lent at (arc_value lent.now)) }
         ensures own { slice_get self.now.prepared at ≡ Some true → result ≡ None }
     {
-        None
+        if at >= self.len {
+            return None;
+        }
+        let near = near::hint(self.hints.as_slice(), at);
+        let piece = self.pieces.at(self.pieces.find_from(near, at));
+        if piece.start == at {
+            piece.backing.lent()
+        } else {
+            None
+        }
     }
 
     /// Reads the bytes from a place on, as many as `into` has.
@@ -192,6 +204,9 @@ impl Parts {
         ensures lent { self.new.lent ≡ self.old.lent }
         ensures ready { ArePrepared self.old.prepared at N → IsOk result }
     {
+        if self.put_open(at, bytes) {
+            return Ok(());
+        }
         if self.put_near(at, bytes) {
             return Ok(());
         }
@@ -213,7 +228,7 @@ impl Parts {
             return Ok(());
         }
         self.open_at(at);
-        if self.put_near(at, bytes) {
+        if self.put_open(at, bytes) {
             return Ok(());
         }
         self.write(at, &bytes)
@@ -230,7 +245,7 @@ impl Parts {
 
     /// Puts `N` bytes at a place, if the open part has them as the list's own.
     #[inline(always)]
-    fn put_near<const N: usize>(&mut self, at: usize, bytes: [u8; N]) -> bool
+    fn put_open<const N: usize>(&mut self, at: usize, bytes: [u8; N]) -> bool
         requires { at + N ≤ length self.old.bytes }
         ensures all { result ≡ true → self.new.bytes ≡ with_bytes self.old.bytes at bytes.entry }
         ensures none { result ≡ false → self.new ≡ self.old }
@@ -238,6 +253,19 @@ impl Parts {
         ensures lent { self.new.lent ≡ self.old.lent }
     {
         self.pieces.put(at, bytes)
+    }
+
+    /// Puts `N` bytes at a place, if the part that the hint names has them as the list's own.
+    #[inline(always)]
+    fn put_near<const N: usize>(&mut self, at: usize, bytes: [u8; N]) -> bool
+        requires { at + N ≤ length self.old.bytes }
+        ensures all { result ≡ true → self.new.bytes ≡ with_bytes self.old.bytes at bytes.entry }
+        ensures none { result ≡ false → self.new ≡ self.old }
+        ensures prepared { self.new.prepared ≡ self.old.prepared }
+        ensures lent { self.new.lent ≡ self.old.lent }
+    {
+        let near = near::hint(self.hints.as_slice(), at);
+        self.pieces.put_at(near, at, bytes)
     }
 
     /// Copies `len` bytes from one place to another, whole or not at all. Where the two ranges

@@ -94,7 +94,12 @@ impl Model for MemSink {
 
     ghost Value = { SinkState };
 
-    ghost view = { λ s. record { held = s.bytes; failing = s.failing; calls = s.calls; faults = s.faults } };
+    ghost view = { λ s. record {
+      held = s.bytes;
+      failing = s.failing;
+      calls = s.calls;
+      faults = s.faults;
+    } };
 }
 
 impl MemSink {

@@ -1,7 +1,8 @@
 -- Readings in a row, and choices between them.
-use Rattle.std.proofs.Common.{◌≡◌, ◌<◌, ℕ, zero, suc, lit<, List, [], ◌∷◌, ◌++◌, length, Result, Ok, Err, Bool, true, false, cond, ◌⊎◌, inl, inr, refl, sym, ap, subst, ◌∙◌, append_assoc, arith}
+use Rattle.std.proofs.Common.{◌≡◌, ◌<◌, ℕ, zero, suc, lit<, List, [], ◌∷◌, ◌++◌, length, take, drop, Result, Ok, Err, Bool, true, false, cond, ◌⊎◌, inl, inr, refl, sym, ap, subst, ◌∙◌, append_assoc, arith}
 use Rattle.std.specs.Prelude.{nat_eq}
 use Rattle.std.proofs.lemmas.Bool.Decides.{nat_tests}
+use Rattle.std.proofs.lemmas.List.{take-append-drop}
 use Rattle.spec_base.specs.Bytes.{IsBytes}
 use Rattle.spec_base.specs.Reading.{◌>>=◌, place, ok_if, whole}
 
@@ -58,6 +59,12 @@ first_or_later b bs h later (suc i) = later i
 pub before_bytes : (front rest : List ℕ) → IsBytes (front ++ rest) → IsBytes front
 before_bytes [] rest h = λ i. lit< tt
 before_bytes (b ∷ bs) rest h = first_or_later b bs (h 0) (before_bytes bs rest (λ j. h (suc j)))
+
+-- and so is a part of it
+pub part_bytes : (n k : ℕ) (bytes : List ℕ) → IsBytes bytes → IsBytes (take n (drop k bytes))
+part_bytes n k bytes are =
+    before_bytes (take n (drop k bytes)) (drop n (drop k bytes))
+    (subst IsBytes (sym (take-append-drop n (drop k bytes))) (after_bytes bytes (take k bytes) (drop k bytes) are (sym (take-append-drop k bytes))))
 
 -- what was read as the whole text has nothing after it
 pub whole_ok : {X E : Type 0} (trailing : ℕ → E) (total : ℕ) (x : X) (rest : List ℕ) (y : X) → whole trailing total (x, rest) ≡ Ok y → (rest ≡ []) × (x ≡ y)

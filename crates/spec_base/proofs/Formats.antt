@@ -130,7 +130,7 @@ number_reads truncated width bound is total = record {
 u16_below : (field : List ℕ) → IsBytes field → from_le_bytes w16 field < 2 ^ 16
 u16_below field are = omega (arith, are 0, are 1)
 
-u32_below : (field : List ℕ) → IsBytes field → from_le_bytes w32 field < 2 ^ 32
+pub u32_below : (field : List ℕ) → IsBytes field → from_le_bytes w32 field < 2 ^ 32
 u32_below field are = omega (arith, are 0, are 1, are 2, are 3)
 
 u64_below : (field : List ℕ) → IsBytes field → from_le_bytes w64 field < 2 ^ 64

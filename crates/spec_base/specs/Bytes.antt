@@ -10,6 +10,10 @@ IsBytes bytes = (i : ℕ) → slice_index bytes i < 256
 abbrev pub number_from : List ℕ → ℕ → ℕ
 number_from bytes at = from_le_bytes w64 (take 8 (drop at bytes))
 
+-- the greatest number of 2 bytes, which is also the greatest with a compact length (Solana)
+abbrev pub max_count : ℕ
+max_count = 65535
+
 -- a length of 2 bytes, and the bytes
 abbrev pub sized_bytes : List ℕ → List ℕ
 sized_bytes bytes = to_le_bytes w16 (length bytes) ++ bytes

@@ -1,4 +1,5 @@
 pub mod Bytes
 pub mod Reading
 pub mod Faults
+pub mod Sums
 pub use Rattle.sha2.specs.Sha256

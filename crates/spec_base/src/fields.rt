@@ -1,7 +1,7 @@
 //! The fields of a format, each read from the front of the bytes that are left.
 ghost use Rattle.std.specs.Prelude.{◌≡◌, length, IfOk};
 ghost use Rattle.std.specs.Int.{w16, w32, w64};
-ghost use Rattle.spec_base.specs.Reading.{Gives, field_at, byte_at, number_at};
+ghost use Rattle.spec_base.specs.Reading.{Gives, place as place_of, field_at, byte_at, number_at};
 
 /// The refusals of one format: each format has its own, and all have a field that is cut short.
 pub trait Refusal {
@@ -19,6 +19,13 @@ pub trait Refusal {
         ensures by_input { is_memory result ≡ false };
 }
 
+/// The place of the first byte that is left.
+pub fn place(total: usize, bytes: &[u8]) -> usize
+    ensures { result ≡ place_of total bytes.now }
+{
+    total.saturating_sub(bytes.len())
+}
+
 /// A field of `count` bytes, and the bytes after it. `total` is the length of the whole text.
 #[tactic(auto, unfolding(crate::specs::Reading::field_at))]
 pub fn bytes_field<E: Refusal>(
@@ -32,7 +39,7 @@ pub fn bytes_field<E: Refusal>(
 {
     match bytes.split_at_checked(count) {
         Some((field, rest)) => Ok((field, rest)),
-        None => Err(E::truncated(total.saturating_sub(bytes.len()))),
+        None => Err(E::truncated(place(total, bytes))),
     }
 }
 
@@ -46,7 +53,7 @@ pub fn array_field<E: Refusal, const N: usize>(
 {
     match bytes.split_first_chunk::<N>() {
         Some((field, rest)) => Ok((*field, rest)),
-        None => Err(E::truncated(total.saturating_sub(bytes.len()))),
+        None => Err(E::truncated(place(total, bytes))),
     }
 }
 

@@ -7,5 +7,7 @@ mod numbers;
 #[cfg(test)]
 mod tests;
 
-pub use fields::{Refusal, array_field, byte_field, bytes_field, u16_field, u32_field, u64_field};
+pub use fields::{
+    Refusal, array_field, byte_field, bytes_field, place, u16_field, u32_field, u64_field,
+};
 pub use numbers::number_in;

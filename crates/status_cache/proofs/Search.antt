@@ -1,9 +1,9 @@
 -- What a binary search over ascending hashes answers.
 use Rattle.std.proofs.Common.{◌≡◌, ◌≢◌, ℕ, ◌+◌, ◌<◌, Bool, true, false, List, length, inl, inr, refl, sym, ap, subst, ◌∙◌, Result, Ok, Err, is_ok, get_or, arith}
 use Rattle.std.specs.declared.cmp.Ordering.TheVariants.{Less, Equal, Greater}
-use Rattle.std.specs.Ordering.{ordering_reverse, ordering_index, is_lt}
+use Rattle.std.specs.Ordering.{ordering_reverse, is_lt}
 use Rattle.std.specs.List.{HoldsAt}
-use Rattle.std.specs.List.Sorted.{IsBinarySearchResult, IsSearchInRange, IsPartitionPoint, IsNonDecreasingBy}
+use Rattle.std.specs.List.Sorted.{IsBinarySearchResult, IsSearchInRange, IsPartitionPoint}
 use Rattle.std.proofs.lemmas.Bool.{cases_lt}
 use Rattle.std.proofs.lemmas.Cmp.{tied_itself}
 use Rattle.std.proofs.lemmas.List.Folds.{list_any_at, list_any_none}
@@ -23,10 +23,6 @@ differ : (a b : Hash32) (answer : Bool) → same_hash a b ≡ answer → hash_cm
 differ a b true same apart = absurd (apart (equal_when_same a b same))
 differ a b false same apart = refl
 
--- ascending hashes may be searched for any hash
-searchable : (hashes : List Hash32) (hash : Hash32) → Ascends hashes → IsNonDecreasingBy (λ one. ordering_index (hash_cmp one hash)) hashes
-searchable hashes hash ascends = searchable_from_sorted hash_cmp_total (λ (one : Hash32). one) hashes hash (λ k d low high. ap is_lt (hash_cmp_total.antisymm (get_or hashes (k + 1) d) (get_or hashes k d) ∙ ap ordering_reverse (ascends k (k + 1) d (omega arith) high)))
-
 found : (hashes : List Hash32) (hash : Hash32) (i : ℕ) → i < length hashes → HoldsAt (λ one. hash_cmp one hash ≡ Equal) hashes i → has_hash hashes hash ≡ true
 found hashes hash i within here = list_any_at (λ one. same_hash one hash) hashes i hash within (same_when_equal _ hash (here hash))
 
@@ -43,4 +39,6 @@ missed hashes hash i parts = list_any_none (λ one. same_hash one hash) hashes (
 -- the search finds a hash exactly where it is there
 pub search_tells : (hashes : List Hash32) (hash : Hash32) → Ascends hashes → (r : Result ℕ ℕ) → IsSearchInRange r (length hashes) → IsBinarySearchResult (λ one. hash_cmp one hash) hashes r → is_ok r ≡ has_hash hashes hash
 search_tells hashes hash ascends (Ok i) within here = sym (found hashes hash i within here)
-search_tells hashes hash ascends (Err i) within parts = sym (missed hashes hash i (parts (searchable hashes hash ascends)))
+search_tells hashes hash ascends (Err i) within parts =
+    sym (missed hashes hash i (parts (searchable_from_sorted hash_cmp_total (λ (one : Hash32). one) hashes hash (λ k d low high.
+    ap is_lt (hash_cmp_total.antisymm (get_or hashes (k + 1) d) (get_or hashes k d) ∙ ap ordering_reverse (ascends k (k + 1) d (omega arith) high))))))

@@ -95,7 +95,7 @@ impl Recent {
     }
 }
 
-// The messages ascend, so that the time goes by the logarithm of their number.
+/// The messages ascend, so that the time goes by the logarithm of their number.
 fn has_message(messages: &Items<Hash32>, message: &Hash32) -> bool
     requires { Ascends messages.now }
     ensures { result ≡ has_hash messages.now message.now }

@@ -1,8 +1,7 @@
 -- Lists of metas that list the same accounts in the same order, with the same rights of each account.
-use Rattle.std.proofs.Common.{◌≡◌, ℕ, ◌+◌, ◌-◌, replicate, set, ◌==◌, Bool, true, false, not, ◌&&◌, ◌||◌, List, [], ◌∷◌, nat_eq, nat_lt, refl, sym, ap, ◌∙◌, Ok, Err, arith, if◌then◌else◌}
+use Rattle.std.proofs.Common.{◌≡◌, ℕ, ◌+◌, ◌-◌, replicate, set, ◌==◌, Bool, true, false, not, ◌&&◌, ◌||◌, List, [], ◌∷◌, nat_eq, nat_lt, refl, sym, ap, ◌∙◌, Ok, Err, if◌then◌else◌}
 use Rattle.std.specs.List.{list_any}
-use Rattle.std.proofs.lemmas.Bool.Decides.{nat_tests}
-use Rattle.std.proofs.lemmas.Bool.{or_left, or_right, and_from, eqb-true}
+use Rattle.std.proofs.lemmas.Bool.{or_left, or_right, and_from, eqb-true, eq-eqb}
 use Rattle.spec_base.specs.Reading.{◌>>=◌}
 use Rattle.sol_base.specs.declared.key.Key.{Key}
 use Rattle.sol_base.specs.declared.account.Account.{Account}
@@ -33,9 +32,6 @@ record Found (metas : List Meta) (test : ℕ → Bool) : Type 0 where
   signs_there : is_listed_signer metas place ≡ true
   passes : test place ≡ true
 
-same_number : (n : ℕ) → nat_eq n n ≡ true
-same_number n = grind (arith, nat_tests)
-
 found : (metas : List Meta) (test : ℕ → Bool) → list_any (λ meta. meta.signer && test meta.index) metas ≡ true → Found metas test
 found [] test some = absurd (cc)
 found (meta ∷ metas) test some = by_meta meta.signer (test meta.index) refl refl some (λ later. found metas test later)
@@ -44,7 +40,7 @@ found (meta ∷ metas) test some = by_meta meta.signer (test meta.index) refl re
     before there = record { place = there.place; signs_there = or_right (nat_eq meta.index there.place && meta.signer) (is_listed_signer metas there.place) there.signs_there; passes = there.passes }
 
     by_meta : (s t : Bool) → meta.signer ≡ s → test meta.index ≡ t → ((s && t) || list_any (λ one. one.signer && test one.index) metas) ≡ true → (list_any (λ one. one.signer && test one.index) metas ≡ true → Found metas test) → Found (meta ∷ metas) test
-    by_meta true true signed passed some again = record { place = meta.index; signs_there = or_left (nat_eq meta.index meta.index && meta.signer) (is_listed_signer metas meta.index) (and_from (nat_eq meta.index meta.index) meta.signer (same_number meta.index) signed); passes = passed }
+    by_meta true true signed passed some again = record { place = meta.index; signs_there = or_left (nat_eq meta.index meta.index && meta.signer) (is_listed_signer metas meta.index) (and_from (nat_eq meta.index meta.index) meta.signer (eq-eqb meta.index meta.index refl) signed); passes = passed }
     by_meta true false signed passed some again = before (again some)
     by_meta false t signed passed some again = before (again some)
 

@@ -4,6 +4,6 @@ use Rattle.system_prog.specs.declared.fault.SystemFault.{SystemFault}
 use Rattle.system_prog.specs.declared.fault.SystemFault.TheVariants.{OutOfMemory as no_memory}
 
 -- want of memory, which no input shows
-abbrev pub is_memory : SystemFault → Bool
-is_memory no_memory = true
-is_memory _ = false
+abbrev pub is_system_memory : SystemFault → Bool
+is_system_memory no_memory = true
+is_system_memory _ = false

@@ -1,3 +1,4 @@
+//! Who signs for the accounts of an instruction.
 use sol_base::Key;
 
 /// Who signs for the accounts of an instruction.

@@ -56,7 +56,7 @@ impl Held {
         }
     }
 
-    // Copies the account where it is still shared.
+    /// Copies the account where it is still shared.
     fn change(&mut self, change: Change) -> Result<(), OutOfMemory>
         ensures { OnOk result (held_account self.new ≡ changed change (held_account self.old)) }
     {

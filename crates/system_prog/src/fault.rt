@@ -1,3 +1,4 @@
+//! Why the system program refuses an instruction.
 use account_rules::RuleFault;
 use sol_base::OutOfMemory;
 use spec_base::Refusal;
@@ -49,7 +50,7 @@ impl From<RuleFault> for SystemFault {
 
 impl Refusal for SystemFault {
     ghost use Rattle.std.specs.Prelude.{ℕ};
-    ghost use Rattle.system_prog.specs.Faults.{is_memory as is_system_memory};
+    ghost use Rattle.system_prog.specs.Faults.{is_system_memory};
     ghost use Rattle.system_prog.specs.Instructions.{invalid};
 
     ghost cut_at = { invalid };

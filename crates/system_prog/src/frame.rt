@@ -91,7 +91,7 @@ impl<'a> Frame<'a> {
         }
     }
 
-    // Whether the account at a place signs.
+    /// Whether the account at a place signs.
     fn is_signer(&self, place: usize) -> bool
         ensures { result ≡ is_listed_signer self.now.metas place }
     {
@@ -101,7 +101,7 @@ impl<'a> Frame<'a> {
     }
 }
 
-// Whether a listed account with the key signs.
+/// Whether a listed account with the key signs.
 fn is_signed_by(keys: &[Key], metas: &[Meta], key: &Key) -> bool
     requires { AreInRange (length keys.now) metas.now }
     ensures { result ≡ list_any (is_signature keys.now key.now) metas.now }
@@ -114,7 +114,7 @@ fn is_signed_by(keys: &[Key], metas: &[Meta], key: &Key) -> bool
     false
 }
 
-// Whether a meta has an account sign that has the key.
+/// Whether a meta has an account sign that has the key.
 fn is_signature(keys: &[Key], key: &Key, meta: &Meta) -> bool
     requires { meta.now.index < length keys.now }
     ensures { result ≡ is_signature keys.now key.now meta.now }

@@ -1,7 +1,7 @@
 //! The instructions of the system program, and how they are read (Solana).
 ghost use Rattle.std.specs.Prelude.{◌≡◌, length};
 ghost use Rattle.spec_base.specs.Reading.{Gives};
-ghost use Rattle.system_prog.specs.Faults.{is_memory};
+ghost use Rattle.system_prog.specs.Faults.{is_system_memory};
 ghost use Rattle.system_prog.specs.SystemProgram.{least_accounts};
 ghost use Rattle.system_prog.specs.Written.{written};
 ghost use Rattle.system_prog.specs.Instructions.{
@@ -126,7 +126,7 @@ impl Instruction<'_> {
 /// The instruction that the data spell; bytes after its fields are ignored.
 #[tactic(auto, unfolding(crate::specs::Instructions::instruction_in))]
 pub(crate) fn read_instruction(input: &[u8]) -> Result<Instruction<'_>, SystemFault>
-    ensures { Gives is_memory (λ x. x) result (instruction_in input.now) }
+    ensures { Gives is_system_memory (λ x. x) result (instruction_in input.now) }
 {
     let total = input.len();
     let (tag, rest) = u32_field::<SystemFault>(total, input)?;
@@ -135,7 +135,7 @@ pub(crate) fn read_instruction(input: &[u8]) -> Result<Instruction<'_>, SystemFa
 
 #[tactic(auto, unfolding(crate::specs::Instructions::tagged))]
 fn read_tagged(tag: u32, total: usize, bytes: &[u8]) -> Result<Instruction<'_>, SystemFault>
-    ensures { Gives is_memory (λ x. x) result (tagged tag total bytes.now) }
+    ensures { Gives is_system_memory (λ x. x) result (tagged tag total bytes.now) }
 {
     match tag {
         0 => read_create_account(total, bytes),
@@ -152,7 +152,7 @@ fn read_tagged(tag: u32, total: usize, bytes: &[u8]) -> Result<Instruction<'_>, 
 
 #[tactic(auto, unfolding(crate::specs::Instructions::text_at))]
 fn read_text(total: usize, bytes: &[u8]) -> Result<(Seed<'_>, &[u8]), SystemFault>
-    ensures { Gives is_memory (λ x. (x.0, x.1.now)) result (text_at total bytes.now) }
+    ensures { Gives is_system_memory (λ x. (x.0, x.1.now)) result (text_at total bytes.now) }
 {
     let (count, rest) = u64_field::<SystemFault>(total, bytes)?;
     let (text, rest) = bytes_field::<SystemFault>(total, count as usize, rest)?;
@@ -164,7 +164,7 @@ fn read_text(total: usize, bytes: &[u8]) -> Result<(Seed<'_>, &[u8]), SystemFaul
 
 #[tactic(auto, unfolding(crate::specs::Instructions::create_account_at))]
 fn read_create_account(total: usize, bytes: &[u8]) -> Result<Instruction<'_>, SystemFault>
-    ensures { Gives is_memory (λ x. x) result (create_account_at total bytes.now) }
+    ensures { Gives is_system_memory (λ x. x) result (create_account_at total bytes.now) }
 {
     let (lamports, rest) = u64_field::<SystemFault>(total, bytes)?;
     let (space, rest) = u64_field::<SystemFault>(total, rest)?;
@@ -178,7 +178,7 @@ fn read_create_account(total: usize, bytes: &[u8]) -> Result<Instruction<'_>, Sy
 
 #[tactic(auto, unfolding(crate::specs::Instructions::assign_at))]
 fn read_assign(total: usize, bytes: &[u8]) -> Result<Instruction<'_>, SystemFault>
-    ensures { Gives is_memory (λ x. x) result (assign_at total bytes.now) }
+    ensures { Gives is_system_memory (λ x. x) result (assign_at total bytes.now) }
 {
     let (owner, _) = key_field::<SystemFault>(total, bytes)?;
     Ok(Instruction::Assign { owner })
@@ -186,7 +186,7 @@ fn read_assign(total: usize, bytes: &[u8]) -> Result<Instruction<'_>, SystemFaul
 
 #[tactic(auto, unfolding(crate::specs::Instructions::transfer_at))]
 fn read_transfer(total: usize, bytes: &[u8]) -> Result<Instruction<'_>, SystemFault>
-    ensures { Gives is_memory (λ x. x) result (transfer_at total bytes.now) }
+    ensures { Gives is_system_memory (λ x. x) result (transfer_at total bytes.now) }
 {
     let (lamports, _) = u64_field::<SystemFault>(total, bytes)?;
     Ok(Instruction::Transfer { lamports })
@@ -194,7 +194,7 @@ fn read_transfer(total: usize, bytes: &[u8]) -> Result<Instruction<'_>, SystemFa
 
 #[tactic(auto, unfolding(crate::specs::Instructions::create_account_with_seed_at))]
 fn read_create_account_with_seed(total: usize, bytes: &[u8]) -> Result<Instruction<'_>, SystemFault>
-    ensures { Gives is_memory (λ x. x) result (create_account_with_seed_at total bytes.now) }
+    ensures { Gives is_system_memory (λ x. x) result (create_account_with_seed_at total bytes.now) }
 {
     let (base, rest) = key_field::<SystemFault>(total, bytes)?;
     let (seed, rest) = read_text(total, rest)?;
@@ -212,7 +212,7 @@ fn read_create_account_with_seed(total: usize, bytes: &[u8]) -> Result<Instructi
 
 #[tactic(auto, unfolding(crate::specs::Instructions::allocate_at))]
 fn read_allocate(total: usize, bytes: &[u8]) -> Result<Instruction<'_>, SystemFault>
-    ensures { Gives is_memory (λ x. x) result (allocate_at total bytes.now) }
+    ensures { Gives is_system_memory (λ x. x) result (allocate_at total bytes.now) }
 {
     let (space, _) = u64_field::<SystemFault>(total, bytes)?;
     Ok(Instruction::Allocate { space })
@@ -220,7 +220,7 @@ fn read_allocate(total: usize, bytes: &[u8]) -> Result<Instruction<'_>, SystemFa
 
 #[tactic(auto, unfolding(crate::specs::Instructions::allocate_with_seed_at))]
 fn read_allocate_with_seed(total: usize, bytes: &[u8]) -> Result<Instruction<'_>, SystemFault>
-    ensures { Gives is_memory (λ x. x) result (allocate_with_seed_at total bytes.now) }
+    ensures { Gives is_system_memory (λ x. x) result (allocate_with_seed_at total bytes.now) }
 {
     let (base, rest) = key_field::<SystemFault>(total, bytes)?;
     let (seed, rest) = read_text(total, rest)?;
@@ -236,7 +236,7 @@ fn read_allocate_with_seed(total: usize, bytes: &[u8]) -> Result<Instruction<'_>
 
 #[tactic(auto, unfolding(crate::specs::Instructions::assign_with_seed_at))]
 fn read_assign_with_seed(total: usize, bytes: &[u8]) -> Result<Instruction<'_>, SystemFault>
-    ensures { Gives is_memory (λ x. x) result (assign_with_seed_at total bytes.now) }
+    ensures { Gives is_system_memory (λ x. x) result (assign_with_seed_at total bytes.now) }
 {
     let (base, rest) = key_field::<SystemFault>(total, bytes)?;
     let (seed, rest) = read_text(total, rest)?;
@@ -246,7 +246,7 @@ fn read_assign_with_seed(total: usize, bytes: &[u8]) -> Result<Instruction<'_>, 
 
 #[tactic(auto, unfolding(crate::specs::Instructions::transfer_with_seed_at))]
 fn read_transfer_with_seed(total: usize, bytes: &[u8]) -> Result<Instruction<'_>, SystemFault>
-    ensures { Gives is_memory (λ x. x) result (transfer_with_seed_at total bytes.now) }
+    ensures { Gives is_system_memory (λ x. x) result (transfer_with_seed_at total bytes.now) }
 {
     let (lamports, rest) = u64_field::<SystemFault>(total, bytes)?;
     let (seed, rest) = read_text(total, rest)?;

@@ -12,7 +12,7 @@ ghost use Rattle.system_prog.specs.SystemProgram.{system_row};
 /// as they were where they are not listed as writable, and the executable ones among them too; no
 /// account becomes executable, and none too long.
 pub fn good_calls_keep_the_accounts()
-    ensures { (keys : List Key) (accounts : List Account) (metas : List Meta) (input : List ℕ)
+    ensures kept { (keys : List Key) (accounts : List Account) (metas : List Meta) (input : List ℕ)
         (after : List Account) → AreInRange (length accounts) metas →
         system_row keys accounts metas input ≡ Ok after →
         AreKeptBy (is_listed_writable metas) accounts after }
@@ -22,7 +22,7 @@ pub fn good_calls_keep_the_accounts()
 /// together. So lists that have the same accounts in the same order, and give each the same rights,
 /// have the same answer.
 pub fn accounts_listed_twice_act_as_one()
-    ensures { (keys : List Key) (accounts : List Account) (metas others : List Meta)
+    ensures same { (keys : List Key) (accounts : List Account) (metas others : List Meta)
         (input : List ℕ) → SameListing metas others →
         system_row keys accounts metas input ≡ system_row keys accounts others input }
 {}

@@ -2,7 +2,7 @@
 ghost use Rattle.std.specs.Prelude.{◌≡◌, ◌<◌, ◌≤◌, ◌^◌, length};
 ghost use Rattle.spec_base.specs.Reading.{Gives};
 ghost use Rattle.sol_base.specs.Accounts.{lamports_in};
-ghost use Rattle.system_prog.specs.Faults.{is_memory};
+ghost use Rattle.system_prog.specs.Faults.{is_system_memory};
 ghost use Rattle.system_prog.specs.SystemProgram.{
   allocate_with_seed,
   assign_with_seed,
@@ -32,7 +32,7 @@ impl Frame<'_> {
         requires roles { least_accounts instruction.now ≤ length self.now.metas }
         requires count { length draft.old ≡ length self.now.keys }
         requires supply { lamports_in draft.old < 2 ^ 64 }
-        ensures gives { Gives is_memory (λ _. draft.new) result
+        ensures gives { Gives is_system_memory (λ _. draft.new) result
             (row self.now instruction.now draft.old) }
         ensures count { length draft.new ≡ length draft.old }
     {
@@ -87,7 +87,7 @@ impl Frame<'_> {
         requires roles { 1 < length self.now.metas }
         requires count { length draft.old ≡ length self.now.keys }
         requires supply { lamports_in draft.old < 2 ^ 64 }
-        ensures gives { Gives is_memory (λ _. draft.new) result
+        ensures gives { Gives is_system_memory (λ _. draft.new) result
             (create_with_seed self.now base.now seed.now lamports space owner.now draft.old) }
         ensures count { length draft.new ≡ length draft.old }
     {
@@ -108,7 +108,7 @@ impl Frame<'_> {
     ) -> Result<(), SystemFault>
         requires roles { 0 < length self.now.metas }
         requires count { length draft.old ≡ length self.now.keys }
-        ensures gives { Gives is_memory (λ _. draft.new) result
+        ensures gives { Gives is_system_memory (λ _. draft.new) result
             (allocate_with_seed self.now base.now seed.now space owner.now draft.old) }
         ensures count { length draft.new ≡ length draft.old }
     {
@@ -128,7 +128,7 @@ impl Frame<'_> {
     ) -> Result<(), SystemFault>
         requires roles { 0 < length self.now.metas }
         requires count { length draft.old ≡ length self.now.keys }
-        ensures gives { Gives is_memory (λ _. draft.new) result
+        ensures gives { Gives is_system_memory (λ _. draft.new) result
             (assign_with_seed self.now base.now seed.now owner.now draft.old) }
         ensures count { length draft.new ≡ length draft.old }
     {
@@ -149,7 +149,7 @@ impl Frame<'_> {
         requires roles { 2 < length self.now.metas }
         requires count { length draft.old ≡ length self.now.keys }
         requires supply { lamports_in draft.old < 2 ^ 64 }
-        ensures gives { Gives is_memory (λ _. draft.new) result
+        ensures gives { Gives is_system_memory (λ _. draft.new) result
             (transfer_with_seed self.now lamports seed.now owner.now draft.old) }
         ensures count { length draft.new ≡ length draft.old }
     {

@@ -3,7 +3,7 @@ ghost use Rattle.std.specs.Prelude.{◌≡◌, ◌<◌, ◌≤◌, ◌^◌, IfOk
 ghost use Rattle.spec_base.specs.Reading.{Gives};
 ghost use Rattle.sol_base.specs.Accounts.{accounts_of, lamports_in};
 ghost use Rattle.sol_base.specs.Metas.{AreInRange};
-ghost use Rattle.system_prog.specs.Faults.{is_memory};
+ghost use Rattle.system_prog.specs.Faults.{is_system_memory};
 ghost use Rattle.system_prog.specs.SystemProgram.{AnswersSystem, counted_row, least_accounts, rules_kept, system_row};
 ghost use Rattle.system_prog.specs.Written.{flags_of, written};
 
@@ -47,7 +47,7 @@ fn answer(
     requires count { length (accounts_of accounts.now) ≡ length frame.now.keys }
     requires most { length frame.now.metas ≤ 255 }
     requires supply { lamports_in (accounts_of accounts.now) < 2 ^ 64 }
-    ensures { Gives is_memory accounts_of result
+    ensures { Gives is_system_memory accounts_of result
         (system_row frame.now.keys (accounts_of accounts.now) frame.now.metas input.now) }
 {
     let instruction = read_instruction(input)?;
@@ -65,7 +65,7 @@ fn run_counted(
 ) -> Result<Items<Arc<Account>>, SystemFault>
     requires count { length (accounts_of accounts.now) ≡ length frame.now.keys }
     requires supply { lamports_in (accounts_of accounts.now) < 2 ^ 64 }
-    ensures { Gives is_memory accounts_of result
+    ensures { Gives is_system_memory accounts_of result
         (counted_row frame.now instruction.now (accounts_of accounts.now)) }
 {
     if frame.metas().len() < instruction.least_accounts() {
@@ -76,7 +76,7 @@ fn run_counted(
     Ok(draft.finish(alloc)?)
 }
 
-// The account rules, where an instruction ended well.
+/// The account rules, where an instruction ended well.
 #[tactic(auto, unfolding(crate::specs::SystemProgram::rules_kept))]
 fn check_rules(
     alloc: Global,
@@ -89,7 +89,7 @@ fn check_rules(
     requires most { length frame.now.metas ≤ 255 }
     requires ended { counted_row frame.now instruction.now (accounts_of before.now) ≡
         Ok (accounts_of after.now) }
-    ensures { Gives is_memory (λ _. tt) result
+    ensures { Gives is_system_memory (λ _. tt) result
         (rules_kept frame.now.metas (accounts_of before.now) (accounts_of after.now)) }
 {
     let touched = touched_by(alloc, frame, instruction, before.len())?;
@@ -103,7 +103,7 @@ fn check_rules(
     Ok(())
 }
 
-// Of each account whether the instruction may have changed it.
+/// Of each account whether the instruction may have changed it.
 fn touched_by(
     alloc: Global,
     frame: &Frame<'_>,

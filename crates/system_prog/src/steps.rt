@@ -2,7 +2,7 @@
 ghost use Rattle.std.specs.Prelude.{◌≡◌, ◌<◌, ◌^◌, IsTrue, OnOk, length};
 ghost use Rattle.spec_base.specs.Reading.{Gives};
 ghost use Rattle.sol_base.specs.Accounts.{lamports_in};
-ghost use Rattle.system_prog.specs.Faults.{is_memory};
+ghost use Rattle.system_prog.specs.Faults.{is_system_memory};
 ghost use Rattle.system_prog.specs.SystemProgram.{allocate, assign, create, derived, has_data, is_taken, not_derived, pay, transfer};
 
 use crate::authority::Authority;
@@ -39,7 +39,7 @@ impl Frame<'_> {
         owner: &Key,
     ) -> Result<(), SystemFault>
         requires { role < length self.now.metas }
-        ensures { Gives is_memory (λ _. tt) result
+        ensures { Gives is_system_memory (λ _. tt) result
             (derived self.now role base.now seed.now owner.now) }
     {
         match seed_key(base, seed, owner) {
@@ -60,7 +60,7 @@ impl Frame<'_> {
     ) -> Result<(), SystemFault>
         requires role { role < length self.now.metas }
         requires count { length draft.old ≡ length self.now.keys }
-        ensures gives { Gives is_memory (λ _. draft.new) result
+        ensures gives { Gives is_system_memory (λ _. draft.new) result
             (allocate self.now authority role space draft.old) }
         ensures count { length draft.new ≡ length draft.old }
         ensures lamports { OnOk result (lamports_in draft.new ≡ lamports_in draft.old) }
@@ -90,7 +90,7 @@ impl Frame<'_> {
     ) -> Result<(), SystemFault>
         requires role { role < length self.now.metas }
         requires count { length draft.old ≡ length self.now.keys }
-        ensures gives { Gives is_memory (λ _. draft.new) result
+        ensures gives { Gives is_system_memory (λ _. draft.new) result
             (assign self.now authority role owner draft.old) }
         ensures count { length draft.new ≡ length draft.old }
         ensures lamports { OnOk result (lamports_in draft.new ≡ lamports_in draft.old) }
@@ -119,7 +119,7 @@ impl Frame<'_> {
         requires to { to < length self.now.metas }
         requires count { length draft.old ≡ length self.now.keys }
         requires supply { lamports_in draft.old < 2 ^ 64 }
-        ensures gives { Gives is_memory (λ _. draft.new) result
+        ensures gives { Gives is_system_memory (λ _. draft.new) result
             (pay self.now from to lamports draft.old) }
         ensures count { length draft.new ≡ length draft.old }
     {
@@ -156,7 +156,7 @@ impl Frame<'_> {
         requires to { to < length self.now.metas }
         requires count { length draft.old ≡ length self.now.keys }
         requires supply { lamports_in draft.old < 2 ^ 64 }
-        ensures gives { Gives is_memory (λ _. draft.new) result
+        ensures gives { Gives is_system_memory (λ _. draft.new) result
             (transfer self.now authority from to lamports draft.old) }
         ensures count { length draft.new ≡ length draft.old }
     {
@@ -180,7 +180,7 @@ impl Frame<'_> {
         requires roles { 1 < length self.now.metas }
         requires count { length draft.old ≡ length self.now.keys }
         requires supply { lamports_in draft.old < 2 ^ 64 }
-        ensures gives { Gives is_memory (λ _. draft.new) result
+        ensures gives { Gives is_system_memory (λ _. draft.new) result
             (create self.now authority lamports space owner draft.old) }
         ensures count { length draft.new ≡ length draft.old }
     {
@@ -208,7 +208,7 @@ fn has_data(account: &Account) -> bool
     account.bytes.len() != 0
 }
 
-// Whether an account has data or an owner, so that no one may allocate it.
+/// Whether an account has data or an owner, so that no one may allocate it.
 fn is_taken(account: &Account) -> bool
     ensures { result ≡ is_taken account.now }
 {

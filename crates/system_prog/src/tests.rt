@@ -122,10 +122,10 @@ fn run(
     )
 }
 
-// The payer comes first.
+/// The payer comes first.
 const FIRST: (bool, bool, bool) = (false, true, true);
 
-// The other account comes first.
+/// The other account comes first.
 const SECOND: (bool, bool, bool) = (true, true, true);
 
 const IN_USE: SystemFault = SystemFault::Custom { code: 0 };
@@ -138,7 +138,7 @@ const LONG: SystemFault = SystemFault::Custom { code: 4 };
 
 const WRONG_KEY: SystemFault = SystemFault::Custom { code: 5 };
 
-// An account is made, and then its maker is asked for more than it has left.
+/// An account is made, and then its maker is asked for more than it has left.
 #[test]
 fn a_failed_second_instruction(rt: HostRuntime) -> Result<(), Fail> {
     let keys = [Key([1; 32]), Key([0x0a; 32])];
@@ -345,7 +345,7 @@ fn each_refusal_comes(rt: HostRuntime) -> Result<(), Fail> {
     Ok(())
 }
 
-// A text that is not UTF-8, and an instruction that lists no account.
+/// A text that is not UTF-8, and an instruction that lists no account.
 #[test]
 fn data_come_before_accounts(rt: HostRuntime) -> Result<(), Fail> {
     for (byte, want) in [

@@ -1,3 +1,4 @@
+//! Bytes that are zero.
 ghost use Rattle.std.specs.Prelude.{◌≡◌, IfOk, replicate};
 
 use sol_base::{Blob, OutOfMemory};

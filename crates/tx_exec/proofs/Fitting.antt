@@ -12,6 +12,7 @@ use Rattle.sol_base.specs.declared.lock.Lock.{Lock}
 use Rattle.sol_base.specs.declared.lock.Meta.{Meta}
 use Rattle.sol_base.specs.Accounts.{AreShort, IsShort, accounts_of}
 use Rattle.message_codec.specs.declared.message.Instruction.{Instruction}
+use Rattle.message_codec.specs.Wire.{IsCountable}
 use Rattle.message_codec.specs.Roles.{AreNamed, all_keys}
 use Rattle.message_codec.proofs.RoleLaws.{all_most, are_named, lock_count}
 use Rattle.bank_law.specs.Lawful.{Fits}
@@ -20,7 +21,7 @@ use Rattle.admission.specs.declared.chosen.Chosen.{Chosen}
 use Rattle.admission.specs.Chosen.{IsChosen}
 use Rattle.invoke_engine.specs.Given.{AreGiven, IsCall}
 use Rattle.tx_exec.specs.Payer.{charged, less}
-use Rattle.tx_exec.specs.Executing.{call_of, meta_of, writes}
+use Rattle.tx_exec.specs.Executing.{call_of, meta_of, lets_write}
 use Rattle.tx_exec.specs.Tables.{IsTableOf, IsTableTo}
 use Rattle.tx_exec.proofs.Keeping.{lock_writes, metas_there, short_less}
 
@@ -64,7 +65,7 @@ all_named t is = are_named t.tx 128 t.loaded is.sane is.loaded
 pub named_at : (t : Chosen) → IsChosen t → (index : ℕ) (i : Instruction) → index < length t.tx.message.instructions → i ≡ get_or t.tx.message.instructions index i → AreNamed t.tx.message t.loaded i
 named_at t is index i below here = subst (λ (x : Instruction). AreNamed t.tx.message t.loaded x) (sym here) (all_named t is index i below)
 
-pub call_fits : (t : Chosen) (i : Instruction) → AreNamed t.tx.message t.loaded i → length i.input ≤ 65535 → IsCall (length (all_keys t.tx.message t.loaded)) (call_of t i)
+pub call_fits : (t : Chosen) (i : Instruction) → AreNamed t.tx.message t.loaded i → IsCountable i.input → IsCall (length (all_keys t.tx.message t.loaded)) (call_of t i)
 call_fits t i named short =
     let one = length-append (t.tx.message.keys ++ t.loaded.writable) t.loaded.readonly in
     let two = length-append t.tx.message.keys t.loaded.writable in
@@ -95,7 +96,7 @@ table_more t n table meta is same = record {
 }
 
 -- the rights that a lock and the signers give
-pub right_at : (t : Chosen) → IsChosen t → (items : List Lock) → items ≡ t.locks → (place : ℕ) (d : Lock) → place < length items → (get_or items place d).write ≡ writes t place
+pub right_at : (t : Chosen) → IsChosen t → (items : List Lock) → items ≡ t.locks → (place : ℕ) (d : Lock) → place < length items → (get_or items place d).write ≡ lets_write t place
 right_at t is items same place d below =
     sym (lock_writes t place (get_or items place d) (subst (λ (ls : List Lock). slice_get ls place ≡ Some (get_or items place d)) (same ∙ is.locked) (slice_get-get_or items place d below)))
 

@@ -5,12 +5,13 @@ use Rattle.std.specs.List.{enumerate_from}
 use Rattle.std.specs.Option.{option_map_or}
 use Rattle.std.proofs.lemmas.List.{length-map}
 use Rattle.std.proofs.lemmas.List.Elements.{All-head, All-tail, All-cons, All-nil}
+use Rattle.std.proofs.lemmas.Bool.{cond_both}
 use Rattle.std.proofs.lemmas.Bool.Decides.{nat_tests}
 use Rattle.sol_base.specs.declared.key.Key.{Key}
 use Rattle.sol_base.specs.declared.account.Account.{Account}
 use Rattle.sol_base.specs.declared.lock.Lock.{Lock}
 use Rattle.sol_base.specs.declared.lock.Meta.{Meta}
-use Rattle.sol_base.specs.Accounts.{AreShort, IsShort, lamports_in}
+use Rattle.sol_base.specs.Accounts.{AreShort, IsShort, lamports_in, max_data_len}
 use Rattle.sol_base.specs.Metas.{AreInRange, is_listed_writable}
 use Rattle.account_store.specs.State.{settled}
 use Rattle.account_rules.specs.KeptAccounts.{AreKeptBy}
@@ -26,18 +27,18 @@ use Rattle.tx_report.specs.declared.status.Status.{Status}
 use Rattle.tx_report.specs.declared.status.Status.TheVariants.{Dropped}
 use Rattle.bank_law.specs.Lawful.{lent_for_writing}
 use Rattle.bank_law.proofs.States.{lamports_in-cons}
+use Rattle.bank_law.proofs.Supply.{lent_for_writing-length, lent_for_writing-short}
 use Rattle.admission.specs.declared.chosen.Chosen.{Chosen}
 use Rattle.admission.specs.Chosen.{IsChosen}
 use Rattle.invoke_engine.specs.Fits.{AreListed}
 use Rattle.invoke_engine.specs.Frame.{Ending, frame, instruction, nothing_returned}
-use Rattle.invoke_engine.proofs.Fuel.{either}
 use Rattle.invoke_engine.proofs.Kept.{frame_keeps}
 use Rattle.tx_exec.specs.Payer.{charged, drop_cause, dropped, is_wallet, less, total_fee}
-use Rattle.tx_exec.specs.Executing.{Executed, Failure, InBlock, call_of, executed, fixed_for, following, locks, meta_of, performed, writes}
+use Rattle.tx_exec.specs.Executing.{Executed, Failure, InBlock, call_of, executed, fixed_for, following, locks, meta_of, performed, lets_write}
 use Rattle.tx_exec.specs.Transaction.{Transacted, by_drop, came_to, data_in, finished, finishing, no_fee, rent_broken, transaction}
 use Rattle.tx_exec.specs.TransactionLaws.{Keeps, WritesFit}
 use Rattle.tx_exec.proofs.Settled.{all_settled, all_settled_lamports, all_settled_short}
-use Rattle.tx_exec.proofs.Lent.{lent_count, lent_lamports, lent_short}
+use Rattle.tx_exec.proofs.Lent.{lent_lamports}
 
 -- ---- the rights of an instruction
 
@@ -50,7 +51,7 @@ lock_there f n (k ∷ ks) (suc place) lock h =
     let same : n + 1 + place ≡ n + suc place = omega arith in
     (there.0, there.1, subst (λ m. f (m, there.0) ≡ lock) same there.2)
 
-pub lock_writes : (t : Chosen) (place : ℕ) (lock : Lock) → slice_get (locks t) place ≡ Some lock → writes t place ≡ lock.write
+pub lock_writes : (t : Chosen) (place : ℕ) (lock : Lock) → slice_get (locks t) place ≡ Some lock → lets_write t place ≡ lock.write
 lock_writes t place lock h =
     let there = lock_there (lock_of t.tx.message t.loaded) 0 (all_keys t.tx.message t.loaded) place lock h in
     let same : place ≡ 0 + place = omega arith in
@@ -59,12 +60,12 @@ lock_writes t place lock h =
     ap (λ (l : Lock). l.write) there.2
 
 -- an instruction writes no account that its message does not
-no_right : (t : Chosen) (ps : List ℕ) (place : ℕ) → writes t place ≡ false → is_listed_writable (map (meta_of t) ps) place ≡ false
+no_right : (t : Chosen) (ps : List ℕ) (place : ℕ) → lets_write t place ≡ false → is_listed_writable (map (meta_of t) ps) place ≡ false
 no_right t [] place h = refl
 no_right t (p ∷ ps) place h = by_test (nat_eq p place) refl (no_right t ps place h)
   where
-    by_test : (b : Bool) → nat_eq p place ≡ b → is_listed_writable (map (meta_of t) ps) place ≡ false → ((b && writes t p) || is_listed_writable (map (meta_of t) ps) place) ≡ false
-    by_test true e r = let same : p ≡ place = grind (arith, nat_tests) in let none : writes t p ≡ false = ap (writes t) same ∙ h in rw none r
+    by_test : (b : Bool) → nat_eq p place ≡ b → is_listed_writable (map (meta_of t) ps) place ≡ false → ((b && lets_write t p) || is_listed_writable (map (meta_of t) ps) place) ≡ false
+    by_test true e r = let same : p ≡ place = grind (arith, nat_tests) in let none : lets_write t p ≡ false = ap (lets_write t) same ∙ h in rw none r
     by_test false e r = r
 
 -- its accounts are there
@@ -82,33 +83,33 @@ all_there t is k d l = (are_named t.tx 128 t.loaded is.sane is.loaded k d l).acc
 
 -- ---- the instructions
 abbrev pub IsKept : Chosen → List Account → List Account → Type 0
-IsKept t before after = AreKeptBy (writes t) before after
+IsKept t before after = AreKeptBy (lets_write t) before after
 
 abbrev pub GoodKeeps : {E : Type 0} → Chosen → List Account → Result (List Account) E → Type 0
 GoodKeeps t a result = MatchResult result (λ b. IsKept t a b) (λ _. Unit {0})
 
 of_end : (t : Chosen) (i : Instruction) (a : List Account) (result : Result (List Account) InstructionError) → MatchResult result (λ b. AreKeptBy (is_listed_writable (call_of t i).metas) a b) (λ _. Unit {0}) → GoodKeeps t a result
-of_end t i a (Ok b) k = AreKeptBy-weaker (is_listed_writable (call_of t i).metas) (writes t) a b (no_right t i.accounts) k
+of_end t i a (Ok b) k = AreKeptBy-weaker (is_listed_writable (call_of t i).metas) (lets_write t) a b (no_right t i.accounts) k
 of_end t i a (Err error) k = tt
 
 pub instruction_keeps : (block : InBlock) (t : Chosen) (i : Instruction) (a : List Account) (units trace : ℕ) (log : Log) → IsThere t i → length a ≡ length (all_keys t.tx.message t.loaded) → GoodKeeps t a (instruction (fixed_for block t) (call_of t i) a units trace log).result
 instruction_keeps block t i a units trace log there count =
     let listed : AreListed (length (all_keys t.tx.message t.loaded)) (call_of t i).metas a = record { count = count; range = metas_there t (length (all_keys t.tx.message t.loaded)) i.accounts there } in
-    either (λ (e : Ending). GoodKeeps t a e.result) (nat_le 64 trace) _ _ tt
-    (of_end t i a (frame (fixed_for block t) [] (call_of t i) a units (nothing_returned trace log)).result (frame_keeps (fixed_for block t) [] (call_of t i) a units (nothing_returned trace log) listed))
+    cond_both (nat_le 64 trace) _ _ (λ (e : Ending). GoodKeeps t a e.result) (λ _. tt)
+    (λ _. of_end t i a (frame (fixed_for block t) [] (call_of t i) a units (nothing_returned trace log)).result (frame_keeps (fixed_for block t) [] (call_of t i) a units (nothing_returned trace log) listed))
 
 follow_keeps : (t : Chosen) (index : ℕ) (on : List Account → ℕ → ℕ → Log → Executed) (a : List Account) (result : Result (List Account) InstructionError) (e : Ending) →
     ((b : List Account) (units trace : ℕ) (log : Log) → length b ≡ length a → GoodKeeps t b (on b units trace log).result) → GoodKeeps t a result → GoodKeeps t a (following index on result e).result
 follow_keeps t index on a (Ok b) e all k = through (on b e.units e.carried.trace e.carried.log).result (all b e.units e.carried.trace e.carried.log k.count)
   where
     through : (result : Result (List Account) Failure) → GoodKeeps t b result → GoodKeeps t a result
-    through (Ok c) l = AreKeptBy-trans (writes t) a b c k l
+    through (Ok c) l = AreKeptBy-trans (lets_write t) a b c k l
     through (Err f) l = tt
 follow_keeps t index on a (Err error) e all k = tt
 
 executed_keeps : (block : InBlock) (t : Chosen) (index : ℕ) (is : List Instruction) (a : List Account) (units trace : ℕ) (log : Log) → All (IsThere t) is → length a ≡ length (all_keys t.tx.message t.loaded) → GoodKeeps t a (executed (fixed_for block t) t index is a units trace log).result
 unfolding executed
-executed_keeps block t index [] a units trace log there count = AreKeptBy-refl (writes t) a
+executed_keeps block t index [] a units trace log there count = AreKeptBy-refl (lets_write t) a
 executed_keeps block t index (i ∷ is) a units trace log there count =
     follow_keeps t index (executed (fixed_for block t) t (index + 1) is) a _ (instruction (fixed_for block t) (call_of t i) a units trace log)
     (λ b u s l same. executed_keeps block t (index + 1) is b u s l (All-tail (IsThere t) i is there) (same ∙ count))
@@ -137,13 +138,13 @@ payer_is payer fee h = tests (payer.lamports == 0) (is_wallet payer) (nat_lt pay
 record IsCharged (t : Chosen) (before after : List Account) : Type 0 where
   pub count : length after ≡ length before
   pub lamports : lamports_in after + total_fee t ≡ lamports_in before
-  pub read : (place : ℕ) → writes t place ≡ false → slice_get after place ≡ slice_get before place
+  pub read : (place : ℕ) → lets_write t place ≡ false → slice_get after place ≡ slice_get before place
   pub programs : (place : ℕ) (account : Account) → slice_get before place ≡ Some account → account.executable ≡ true → slice_get after place ≡ Some account
   pub no_new : (place : ℕ) (account : Account) → slice_get after place ≡ Some account → account.executable ≡ true → slice_get before place ≡ Some account
   pub short : AreShort before → AreShort after
 
 -- only the first value changes
-other_read : (t : Chosen) (payer less : Account) (others : List Account) → writes t 0 ≡ true → (place : ℕ) → writes t place ≡ false → slice_get (less ∷ others) place ≡ slice_get (payer ∷ others) place
+other_read : (t : Chosen) (payer less : Account) (others : List Account) → lets_write t 0 ≡ true → (place : ℕ) → lets_write t place ≡ false → slice_get (less ∷ others) place ≡ slice_get (payer ∷ others) place
 other_read t payer less others w zero r = absurd (cc)
 other_read t payer less others w (suc place) r = refl
 
@@ -153,9 +154,9 @@ other_program payer less others p (suc place) account h e = h
 
 pub short_less : (payer less : Account) (others : List Account) → less.bytes ≡ payer.bytes → AreShort (payer ∷ others) → AreShort (less ∷ others)
 short_less payer less others e h =
-    All-cons IsShort less others (subst (λ (b : List ℕ). length b ≤ 10485760) (sym e) (All-head IsShort payer others h)) (All-tail IsShort payer others h)
+    All-cons IsShort less others (subst (λ (b : List ℕ). length b ≤ max_data_len) (sym e) (All-head IsShort payer others h)) (All-tail IsShort payer others h)
 
-fee_taken : (t : Chosen) (values : List Account) → writes t 0 ≡ true → dropped values (total_fee t) ≡ None → IsCharged t values (charged values (total_fee t))
+fee_taken : (t : Chosen) (values : List Account) → lets_write t 0 ≡ true → dropped values (total_fee t) ≡ None → IsCharged t values (charged values (total_fee t))
 fee_taken t [] w h = absurd (cc)
 fee_taken t (payer ∷ others) w h =
     let is = payer_is payer (total_fee t) h in
@@ -211,8 +212,8 @@ transaction_keeps block t values is count = by_cause (dropped values (total_fee 
     by_cause None h =
         let base : List Account = charged values (total_fee t) in
         let k : IsCharged t values base = fee_taken t values (payer_is_writable t.tx 128 t.loaded is.sane) h in
-        either (Keeps t values) (nat_lt t.budget.loaded (data_in base)) _ _ (base_keeps t values base _ 0 [] k)
-        (finished_keeps t values base _ _ (performed (fixed_for block t) t base).result k
+        cond_both (nat_lt t.budget.loaded (data_in base)) _ _ (Keeps t values) (λ _. base_keeps t values base _ 0 [] k)
+        (λ _. finished_keeps t values base _ _ (performed (fixed_for block t) t base).result k
         (executed_keeps block t 0 t.tx.message.instructions base t.budget.limit 0 no_lines (all_there t is) (k.count ∙ count)))
 
 -- what is written fits what was lent, where the values are kept
@@ -223,9 +224,9 @@ fits_kept t values x h k =
     let same = lent_lamports (locks t) values x.values h (k.count ∙ h) (λ place lock there reads. k.read place (lock_writes t place lock there ∙ reads)) in
     let sum = k.lamports in
     record {
-      one_each = one ∙ lent_count (locks t) x.values (k.count ∙ h);
+      one_each = one ∙ lent_for_writing-length (locks t) x.values (k.count ∙ h);
       lamports = omega (arith, two, same, sum);
-      short = λ s. all_settled_short (lent_for_writing (locks t) x.values) (lent_short (locks t) x.values (k.short s));
+      short = λ s. all_settled_short (lent_for_writing (locks t) x.values) (lent_for_writing-short (locks t) x.values (k.short s));
       settled = all_settled (lent_for_writing (locks t) x.values);
     }
 

@@ -1,36 +1,16 @@
 -- What is lent for writing.
 use Rattle.std.proofs.Common.{◌≡◌, ◌<◌, ◌+◌, ℕ, suc, zero, List, [], ◌∷◌, ◌++◌, length, map, take, get_or, Bool, true, false, Some, refl, sym, ap, ◌∙◌, arith, if◌then◌else◌}
-use Rattle.std.specs.Prelude.{slice_get, filter}
+use Rattle.std.specs.Prelude.{slice_get}
 use Rattle.std.specs.declared.sync.Arc.{Arc}
 use Rattle.std.specs.declared.alloc.Global.{Global}
 use Rattle.std.specs.Arc.{arc_value}
 use Rattle.std.proofs.lemmas.List.{get_or-map, length-map, map-append}
-use Rattle.std.proofs.lemmas.List.Elements.{All-cons, All-nil, All-head, All-tail}
 use Rattle.sol_base.specs.declared.account.Account.{Account}
 use Rattle.sol_base.specs.declared.lock.Lock.{Lock}
-use Rattle.sol_base.specs.Accounts.{AreShort, IsShort, accounts_of, lamports_in}
+use Rattle.sol_base.specs.Accounts.{accounts_of, lamports_in}
 use Rattle.account_store.specs.State.{settled}
 use Rattle.bank_law.specs.Lawful.{lent_for_writing}
 use Rattle.bank_law.proofs.States.{lamports_in-cons}
-use Rattle.invoke_engine.proofs.Fuel.{either}
-
-pub lent_short : (ls : List Lock) (vs : List Account) → AreShort vs → AreShort (lent_for_writing ls vs)
-lent_short [] vs h = All-nil IsShort
-lent_short (lock ∷ ls) [] h = All-nil IsShort
-lent_short (lock ∷ ls) (v ∷ vs) h =
-    let rest : AreShort (lent_for_writing ls vs) = lent_short ls vs (All-tail IsShort v vs h) in
-    either AreShort lock.write (v ∷ lent_for_writing ls vs) (lent_for_writing ls vs)
-    (All-cons IsShort v (lent_for_writing ls vs) (All-head IsShort v vs h) rest) rest
-
--- one value for each write lock
-pub lent_count : (ls : List Lock) (vs : List Account) → length vs ≡ length ls → length (lent_for_writing ls vs) ≡ length (filter (λ lock. lock.write) ls)
-lent_count [] vs h = refl
-lent_count (l ∷ ls) [] h = absurd (omega (arith, h))
-lent_count (l ∷ ls) (v ∷ vs) h = by_test l.write (lent_count ls vs (omega (arith, h)))
-  where
-    by_test : (b : Bool) → length (lent_for_writing ls vs) ≡ length (filter (λ lock. lock.write) ls) → length (if b then v ∷ lent_for_writing ls vs else lent_for_writing ls vs) ≡ length (if b then l ∷ filter (λ lock. lock.write) ls else filter (λ lock. lock.write) ls)
-    by_test true rest = omega (arith, rest)
-    by_test false rest = rest
 
 -- what is not lent for writing is the same
 abbrev pub SameRead : List Lock → List Account → List Account → Type 0

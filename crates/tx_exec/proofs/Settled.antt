@@ -1,13 +1,13 @@
 -- Accounts without lamports are written as the empty one, and with them no lamport is lost.
 use Rattle.std.proofs.Common.{◌≡◌, ◌==◌, List, [], ◌∷◌, map, Bool, true, false, refl, arith, if◌then◌else◌}
 use Rattle.std.proofs.lemmas.List.Elements.{All-cons, All-nil, All-head, All-tail}
+use Rattle.std.proofs.lemmas.Bool.{cond_both}
 use Rattle.std.proofs.lemmas.Bool.Decides.{nat_tests}
 use Rattle.sol_base.specs.declared.account.Account.{Account}
 use Rattle.sol_base.specs.Accounts.{AreShort, IsShort, empty_account, lamports_in}
 use Rattle.account_store.specs.State.{settled}
 use Rattle.bank_law.specs.Lawful.{AreSettled, IsSettled}
 use Rattle.bank_law.proofs.States.{lamports_in-cons}
-use Rattle.invoke_engine.proofs.Fuel.{either}
 
 settled_lamports : (account : Account) → (settled account).lamports ≡ account.lamports
 settled_lamports account = by_test (account.lamports == 0) refl
@@ -37,7 +37,7 @@ all_settled [] = All-nil IsSettled
 all_settled (v ∷ vs) = All-cons IsSettled (settled v) (map settled vs) (settled_is v) (all_settled vs)
 
 settled_short : (account : Account) → IsShort account → IsShort (settled account)
-settled_short account h = either IsShort (account.lamports == 0) empty_account account (omega arith) h
+settled_short account h = cond_both (account.lamports == 0) empty_account account IsShort (λ _. omega arith) (λ _. h)
 
 pub all_settled_short : (values : List Account) → AreShort values → AreShort (map settled values)
 all_settled_short [] h = All-nil IsShort

@@ -1,6 +1,7 @@
 -- The outcome of a transaction is small.
 use Rattle.std.proofs.Common.{◌≤◌, ◌<◌, ◌+◌, ◌-◌, ◌*◌, ◌/◌, ◌^◌, ℕ, List, [], ◌∷◌, length, sum_by, Option, Some, None, Result, Ok, Err, All, sym, subst, lit≤, arith, min}
 use Rattle.std.specs.Prelude.{nat_lt}
+use Rattle.std.proofs.lemmas.Bool.{cond_both}
 use Rattle.std.proofs.lemmas.List.Elements.{All-nil, All-from_recursion}
 use Rattle.sol_base.specs.declared.account.Account.{Account}
 use Rattle.message_codec.specs.declared.message.Instruction.{Instruction}
@@ -17,7 +18,6 @@ use Rattle.tx_report.specs.declared.status.Status.TheVariants.{Dropped}
 use Rattle.admission.specs.declared.chosen.Chosen.{Chosen}
 use Rattle.admission.specs.Chosen.{IsChosen}
 use Rattle.invoke_engine.specs.Frame.{Ending, Fixed, instruction}
-use Rattle.invoke_engine.proofs.Fuel.{either}
 use Rattle.invoke_engine.proofs.SmallLogs.{instruction-small}
 use Rattle.tx_exec.specs.Payer.{charged, dropped, total_fee}
 use Rattle.tx_exec.specs.Executing.{Executed, Failure, InBlock, call_of, executed, fixed_for, following, locks, performed}
@@ -88,5 +88,5 @@ transaction_small block t values is = by_cause (dropped values (total_fee t))
     by_cause None =
         let base : List Account = charged values (total_fee t) in
         let e : Executed = performed (fixed_for block t) t base in
-        either (λ (x : Transacted). IsSmallOutcome x.outcome) (nat_lt t.budget.loaded (data_in base)) _ _ (came_small t is _ 0 [] base none_small)
-        (finished_small t is base _ _ e.result (lines_small e.log (executed_small (fixed_for block t) t 0 t.tx.message.instructions base t.budget.limit 0 no_lines IsSmall-no_lines)))
+        cond_both (nat_lt t.budget.loaded (data_in base)) _ _ (λ (x : Transacted). IsSmallOutcome x.outcome) (λ _. came_small t is _ 0 [] base none_small)
+        (λ _. finished_small t is base _ _ e.result (lines_small e.log (executed_small (fixed_for block t) t 0 t.tx.message.instructions base t.budget.limit 0 no_lines IsSmall-no_lines)))

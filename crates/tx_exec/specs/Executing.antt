@@ -34,13 +34,13 @@ abbrev pub locks : Chosen → List Lock
 locks t = locks_of t.tx.message t.loaded
 
 -- the message lets the account at a place be written
-abbrev pub writes : Chosen → ℕ → Bool
-writes t place = is_writable_at t.tx.message t.loaded place
+abbrev pub lets_write : Chosen → ℕ → Bool
+lets_write t place = is_writable_at t.tx.message t.loaded place
 
 -- the rights that the message gives the accounts of an instruction
 abbrev pub meta_of : Chosen → ℕ → Meta
 meta_of t place =
-    record { index = place; signer = is_signer_at t.tx.message place; writable = writes t place }
+    record { index = place; signer = is_signer_at t.tx.message place; writable = lets_write t place }
 
 abbrev pub call_of : Chosen → Instruction → Call
 call_of t i = record { program = i.program; metas = map (meta_of t) i.accounts; input = i.input }

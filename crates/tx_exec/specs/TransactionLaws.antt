@@ -5,7 +5,7 @@ use Rattle.sol_base.specs.Accounts.{AreShort, lamports_in}
 use Rattle.tx_report.specs.declared.outcome.Outcome.{Outcome}
 use Rattle.bank_law.specs.Lawful.{AreSettled, lent_for_writing}
 use Rattle.admission.specs.declared.chosen.Chosen.{Chosen}
-use Rattle.tx_exec.specs.Executing.{locks, writes}
+use Rattle.tx_exec.specs.Executing.{locks, lets_write}
 use Rattle.tx_exec.specs.Transaction.{Transacted, written}
 
 -- The values after a transaction: as many as before; with the fees paid they have the lamports of
@@ -15,7 +15,7 @@ pub record Keeps (t : Chosen) (values : List Account) (x : Transacted) : Type 0 
   pub count : length x.values ≡ length values
   pub lamports : lamports_in x.values + x.outcome.base_paid + x.outcome.priority_paid
       ≡ lamports_in values
-  pub read : (place : ℕ) → writes t place ≡ false
+  pub read : (place : ℕ) → lets_write t place ≡ false
       → slice_get x.values place ≡ slice_get values place
   pub programs : (place : ℕ) (account : Account) → slice_get values place ≡ Some account
       → account.executable ≡ true →

@@ -2,6 +2,7 @@
 ghost use Rattle.std.specs.Prelude.{◌≡◌, ◌≤◌, length, IfOk, MatchResult};
 ghost use Rattle.sol_base.specs.Accounts.{accounts_of};
 ghost use Rattle.message_codec.specs.Roles.{AreNamed, all_keys};
+ghost use Rattle.message_codec.specs.Wire.{IsCountable};
 ghost use Rattle.admission.specs.Chosen.{IsChosen};
 ghost use Rattle.invoke_engine.specs.Frame.{instruction as run};
 ghost use Rattle.invoke_engine.specs.Given.{AreGiven};
@@ -140,7 +141,7 @@ fn run_one(
     requires accounts { AreGiven (length (all_keys chosen.now.tx.message chosen.now.loaded))
         (accounts_of accounts.now) }
     requires named { AreNamed chosen.now.tx.message chosen.now.loaded instruction.now }
-    requires short { length instruction.now.input ≤ 65535 }
+    requires short { IsCountable instruction.now.input }
     ensures { IfOk result (λ ran. IsRun
         (run (fixed_for (block_of told.now) chosen.now)
         (call_of chosen.now instruction.now) (accounts_of accounts.now) units trace logs.old)

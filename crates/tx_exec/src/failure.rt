@@ -1,3 +1,4 @@
+//! Why a transaction failed.
 use tx_report::Cause;
 
 /// Which instruction of a transaction failed, 255 for the transaction as a whole, and why.

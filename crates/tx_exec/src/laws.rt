@@ -1,3 +1,4 @@
+//! Laws of transactions and of what they keep. Their calls do nothing.
 ghost use Rattle.std.specs.Prelude.{◌≡◌, All, List, length};
 ghost use Rattle.sol_base.specs.declared.account.Account.{Account as AccountValue};
 ghost use Rattle.message_codec.specs.Roles.{all_keys};
@@ -27,5 +28,5 @@ pub fn transactions_keep_accounts()
 
 /// A law: the transactions of a block, a position for each, are a lawful work.
 pub fn transactions_are_lawful_works()
-    ensures { (told : ToldValue) → All IsChosen told.chosen → IsLawful (job_of told) }
+    ensures lawful { (told : ToldValue) → All IsChosen told.chosen → IsLawful (job_of told) }
 {}

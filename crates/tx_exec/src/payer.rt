@@ -1,7 +1,7 @@
 //! The fee payer.
 ghost use Rattle.std.specs.Prelude.{◌≡◌, ◌∷◌, ◌++◌, ◌≤◌, [], None, map, IfOk, OnOk};
 ghost use Rattle.std.specs.Arc.{arc_value};
-ghost use Rattle.sol_base.specs.Accounts.{AreShort, IsShort, accounts_of};
+ghost use Rattle.sol_base.specs.Accounts.{AreShort, IsShort, accounts_of, max_data_len};
 ghost use Rattle.rent_rules.specs.Rent.{moves, rent_state_of, rent_of};
 ghost use Rattle.tx_exec.specs.Payer.{charged, drop_cause, dropped, is_wallet, less};
 
@@ -48,7 +48,7 @@ fn is_a_wallet(account: &Account) -> bool
 /// Whether the rent lets an account come to that balance and that many data bytes.
 pub fn may_become(before: &Account, lamports: u64, len: usize) -> bool
     requires before { IsShort before.now }
-    requires after { len ≤ 10485760 }
+    requires after { len ≤ max_data_len }
     ensures { result ≡ moves (rent_of before.now) (rent_state_of lamports len) }
 {
     let old = rent_state(before.lamports, before.bytes.len() as u64);

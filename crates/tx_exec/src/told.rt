@@ -1,3 +1,4 @@
+//! What is fixed for the transactions of a block.
 use admission::Chosen;
 use program_cache::Programs;
 use sol_base::Items;

@@ -1,3 +1,4 @@
+//! The transactions of a block as the work of lanes.
 ghost use Rattle.std.specs.Prelude.{◌≡◌, ◌<◌, ◌≤◌, ◌^◌, All, length, IfOk};
 ghost use Rattle.std.proofs.Props.{props};
 ghost use Rattle.std.proofs.lemmas.Map.Keys.{IsDistinct-prop};

@@ -66,6 +66,7 @@ impl Logs {
         Ok(())
     }
 
+    /// The lines so far, with the one that says that lines are missing.
     pub fn lines(&self) -> &[Blob]
         ensures { result.now ≡ self.now.lines }
     {

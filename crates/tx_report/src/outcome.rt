@@ -1,3 +1,4 @@
+//! What one transaction tells besides its accounts.
 use crate::status::Status;
 use sol_base::{Blob, Items};
 

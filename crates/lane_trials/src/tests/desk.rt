@@ -79,8 +79,8 @@ fn second_of<W: Work, D: Desk<W>, R: Wait>(rt: &R, desk: &D, first: &mut D::Pass
     }
 }
 
-// The second lane is made, and takes in vain; the first one commits; and the second one takes and
-// commits until the end.
+/// The second lane is made, and takes in vain; the first one commits; and the second one takes and
+/// commits until the end.
 fn with_second<W: Work, D: Desk<W, Loan = Loan<W>>, R: Wait>(
     rt: &R,
     desk: &D,

@@ -42,7 +42,7 @@ impl Work for Refusing {
 }
 
 impl Refusing {
-    // One refusal fewer is left.
+    /// One refusal fewer is left.
     fn refuses(&self) -> bool {
         let left = self.left.load(Ordering::SeqCst);
         if left == 0 {

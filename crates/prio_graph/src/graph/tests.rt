@@ -1,6 +1,6 @@
 //! The graph beside the scan of its definition, in every order.
 ghost use Rattle.std.specs.Prelude.{◌≡◌, ℕ, ◌^◌, ◌<◌, ◌↔◌, IfOk, IfSome, IfNone, IsTrue, length};
-ghost use Rattle.prio_graph.specs.Ready.{IsReady, IsLeastReady, mark_at};
+ghost use Rattle.prio_graph.specs.Ready.{IsReady, IsLeastOfReady, mark_at};
 ghost use Rattle.prio_graph.specs.declared.mark.Mark.TheVariants.{Started};
 
 use crate::graph::Graph;
@@ -40,7 +40,7 @@ fn graph_of(rt: &impl Abort, alloc: Global, lists: &[&[(u8, bool)]]) -> Result<G
     Graph::new(alloc, sets)
 }
 
-// The plain program of the definition, which looks at all earlier positions.
+/// The plain program of the definition, which looks at all earlier positions.
 fn is_ready(graph: &Graph, position: usize) -> bool
     requires { position < length graph.now.sets }
     ensures { IsTrue result ↔ IsReady graph.now position }
@@ -58,7 +58,7 @@ fn is_ready(graph: &Graph, position: usize) -> bool
 }
 
 fn least_by_scan(graph: &Graph) -> Option<u32>
-    ensures least { IfSome result (IsLeastReady graph.now) }
+    ensures least { IfSome result (IsLeastOfReady graph.now) }
     ensures none { IfNone result ((i : ℕ) → IsReady graph.now i → ⊥) }
 {
     for position in 0..graph.sets.len() {

@@ -1,6 +1,8 @@
-//! Moves of bytes from one range of places to another, through a small buffer.
-ghost use Rattle.std.specs.Prelude.{◌≡◌, ◌<◌, ◌≤◌, ◌+◌, ◌^◌, length, take, drop, OnOk, OnErr, IsOk};
-ghost use Rattle.sol_base.specs.Parts.{bytes_in, tests_in, is_own, is_prepared, with_bytes, AreInOrder, ArePrepared};
+//! Moves of bytes from one range of places to another: at once within a piece, and else through a
+//! small buffer.
+ghost use Rattle.std.specs.Prelude.{◌≡◌, ◌<◌, ◌≤◌, ◌+◌, ◌^◌, true, false, length, take, drop, OnOk, OnErr, IsOk};
+ghost use Rattle.sol_base.specs.declared.parts.moves.TheConstants.{CHUNK};
+ghost use Rattle.sol_base.specs.Parts.{bytes_in, tests_in, is_own, is_prepared, before, with_bytes, AreInOrder, ArePrepared, StayLent};
 
 use crate::memory::OutOfMemory;
 use crate::parts::piece::Piece;
@@ -24,6 +26,7 @@ pub fn copy_range(
     requires from { from + len ≤ length (bytes_in pieces.old) }
     requires most { length (bytes_in pieces.old) < 2 ^ 32 }
     ensures order { AreInOrder pieces.new }
+    ensures lent { StayLent pieces.old pieces.new }
     ensures ok { OnOk result (bytes_in pieces.new
         ≡ with_bytes (bytes_in pieces.old) to (take len (drop from (bytes_in pieces.old)))) }
     ensures err { OnErr result (bytes_in pieces.new ≡ bytes_in pieces.old) }
@@ -34,9 +37,40 @@ pub fn copy_range(
         return Ok(());
     }
     let first = find(pieces, to);
+    if move_within(pieces, first, to, from, len) {
+        return Ok(());
+    }
     own_on(alloc, pieces, first, to, len, false)?;
     move_range(pieces, to, from, len);
     Ok(())
+}
+
+/// Moves a range within one piece, if its bytes are the list's own.
+fn move_within(pieces: &mut [Piece], index: usize, to: usize, from: usize, len: usize) -> bool
+    requires order { AreInOrder pieces.old }
+    requires index { index < length pieces.old }
+    requires first { before pieces.old index ≤ to }
+    requires to { to + len < 2 ^ 64 }
+    requires from { from + len < 2 ^ 64 }
+    ensures order { AreInOrder pieces.new }
+    ensures lent { StayLent pieces.old pieces.new }
+    ensures all { result ≡ true → bytes_in pieces.new
+        ≡ with_bytes (bytes_in pieces.old) to (take len (drop from (bytes_in pieces.old))) }
+    ensures none { result ≡ false → pieces.new ≡ pieces.old }
+    ensures prepared { tests_in is_prepared pieces.new ≡ tests_in is_prepared pieces.old }
+{
+    let piece = &mut pieces[index];
+    if from < piece.start || !piece.backing.is_own() {
+        return false;
+    }
+    let size = piece.backing.len();
+    let to_place = to - piece.start;
+    let from_place = from - piece.start;
+    if to_place + len > size || from_place + len > size {
+        return false;
+    }
+    piece.backing.copy_within(to_place, from_place, len);
+    true
 }
 
 /// Moves a range to places that the pieces own. Where the two meet, the bytes that stood there
@@ -48,6 +82,7 @@ fn move_range(pieces: &mut [Piece], to: usize, from: usize, len: usize)
     requires most { length (bytes_in pieces.old) < 2 ^ 32 }
     requires own { ArePrepared (tests_in is_own pieces.old) to len }
     ensures order { AreInOrder pieces.new }
+    ensures lent { StayLent pieces.old pieces.new }
     ensures bytes { bytes_in pieces.new
         ≡ with_bytes (bytes_in pieces.old) to (take len (drop from (bytes_in pieces.old))) }
     ensures prepared { tests_in is_prepared pieces.new ≡ tests_in is_prepared pieces.old }
@@ -67,6 +102,7 @@ fn move_forward(pieces: &mut [Piece], to: usize, from: usize, len: usize)
     requires most { length (bytes_in pieces.old) < 2 ^ 32 }
     requires own { ArePrepared (tests_in is_own pieces.old) to len }
     ensures order { AreInOrder pieces.new }
+    ensures lent { StayLent pieces.old pieces.new }
     ensures bytes { bytes_in pieces.new
         ≡ with_bytes (bytes_in pieces.old) to (take len (drop from (bytes_in pieces.old))) }
     ensures prepared { tests_in is_prepared pieces.new ≡ tests_in is_prepared pieces.old }
@@ -87,6 +123,7 @@ fn move_backward(pieces: &mut [Piece], to: usize, from: usize, len: usize)
     requires most { length (bytes_in pieces.old) < 2 ^ 32 }
     requires own { ArePrepared (tests_in is_own pieces.old) to len }
     ensures order { AreInOrder pieces.new }
+    ensures lent { StayLent pieces.old pieces.new }
     ensures bytes { bytes_in pieces.new
         ≡ with_bytes (bytes_in pieces.old) to (take len (drop from (bytes_in pieces.old))) }
     ensures prepared { tests_in is_prepared pieces.new ≡ tests_in is_prepared pieces.old }
@@ -101,13 +138,14 @@ fn move_backward(pieces: &mut [Piece], to: usize, from: usize, len: usize)
 
 /// Moves a range that the buffer has room for.
 fn move_chunk(pieces: &mut [Piece], to: usize, from: usize, len: usize)
-    requires some { (0 < len) × (len ≤ 512) }
+    requires some { (0 < len) × (len ≤ CHUNK) }
     requires order { AreInOrder pieces.old }
     requires to { to + len ≤ length (bytes_in pieces.old) }
     requires from { from + len ≤ length (bytes_in pieces.old) }
     requires most { length (bytes_in pieces.old) < 2 ^ 32 }
     requires own { ArePrepared (tests_in is_own pieces.old) to len }
     ensures order { AreInOrder pieces.new }
+    ensures lent { StayLent pieces.old pieces.new }
     ensures bytes { bytes_in pieces.new
         ≡ with_bytes (bytes_in pieces.old) to (take len (drop from (bytes_in pieces.old))) }
     ensures own { tests_in is_own pieces.new ≡ tests_in is_own pieces.old }

@@ -1,9 +1,8 @@
 //! A piece of a list of bytes: where it starts, and what its bytes stand in.
 ghost use Rattle.std.specs.Prelude.{◌≡◌, ◌<◌, ◌≤◌, ◌+◌, ◌-◌, ◌^◌, true, false, min, length, take, drop, slice_index, None, IfSome, OnOk, IsOk};
-ghost use Rattle.std.specs.Arc.{arc_value};
-ghost use Rattle.sol_base.specs.declared.account.Account.{Account};
-ghost use Rattle.sol_base.specs.declared.parts.piece.Backing.TheVariants.{Blank};
-ghost use Rattle.sol_base.specs.Parts.{part_bytes, backing_bytes, piece_bytes, is_own, is_prepared, is_blank, test_of, with_bytes, ArrayStandsIn, ArrayStandsAt, HasPut};
+ghost use Rattle.sol_base.specs.declared.parts.Part.TheVariants.{Lent};
+ghost use Rattle.sol_base.specs.declared.parts.piece.Backing.TheVariants.{Shared, Blank};
+ghost use Rattle.sol_base.specs.Parts.{part_bytes, backing_bytes, piece_bytes, is_own, is_prepared, is_blank, test_of, with_bytes, ArrayStandsIn, ArrayStandsAt, HasPut, StaysShared};
 
 use crate::account::Account;
 use crate::memory::OutOfMemory;
@@ -45,6 +44,8 @@ impl Backing {
     pub fn of_part(part: Part) -> Backing
         ensures bytes { backing_bytes result ≡ part_bytes part }
         ensures prepared { is_prepared result ≡ false }
+        ensures shared { (shared : Arc Account Global) → result ≡ Shared shared
+            → part ≡ Lent shared }
     {
         match part {
             Part::Bytes(bytes) => Backing::Own {
@@ -76,8 +77,7 @@ impl Backing {
 
     /// The account that others share, if the bytes stand in one.
     pub fn lent(&self) -> Option<&Arc<Account>>
-        ensures bytes { IfSome result
-            (λ lent. let a : Account = arc_value lent.now in a.bytes ≡ backing_bytes self.now) }
+        ensures shared { IfSome result (λ lent. self.now ≡ Shared lent.now) }
         ensures own { is_prepared self.now ≡ true → result ≡ None }
     {
         match self {
@@ -140,6 +140,8 @@ impl Backing {
         ensures prepared { is_prepared self.new ≡ is_prepared self.old }
         ensures blank { is_blank self.new ≡ is_blank self.old }
         ensures never { is_blank self.old ≡ true → result ≡ false }
+        ensures kept { is_blank self.old ≡ true → self.new ≡ self.old }
+        ensures shared { StaysShared self.old self.new }
     {
         match self {
             Backing::Own { bytes, .. } => put_in(bytes.as_mut_slice(), from, put),
@@ -155,10 +157,28 @@ impl Backing {
         ensures bytes { backing_bytes self.new ≡ with_bytes (backing_bytes self.old) at bytes.now }
         ensures own { is_own self.new ≡ is_own self.old }
         ensures prepared { is_prepared self.new ≡ is_prepared self.old }
+        ensures shared { StaysShared self.old self.new }
     {
         if let Backing::Own { bytes: own, .. } = self {
             let end = at + bytes.len();
             own[at..end].copy_from_slice(bytes);
+        }
+    }
+
+    /// Copies `len` bytes of the list's own from one place to another. Where the two ranges meet,
+    /// the bytes that stood there before are copied.
+    pub fn copy_within(&mut self, to: usize, from: usize, len: usize)
+        requires own { is_own self.old ≡ true }
+        requires to { to + len ≤ length (backing_bytes self.old) }
+        requires from { from + len ≤ length (backing_bytes self.old) }
+        ensures bytes { backing_bytes self.new
+            ≡ with_bytes (backing_bytes self.old) to (take len (drop from (backing_bytes self.old))) }
+        ensures own { is_own self.new ≡ is_own self.old }
+        ensures prepared { is_prepared self.new ≡ is_prepared self.old }
+        ensures shared { StaysShared self.old self.new }
+    {
+        if let Backing::Own { bytes, .. } = self {
+            copy_in(bytes.as_mut_slice(), to, from, len);
         }
     }
 
@@ -170,6 +190,7 @@ impl Backing {
         ensures plain { prepare ≡ false → is_prepared self.new ≡ is_prepared self.old }
         ensures stay { is_prepared self.old ≡ true → is_prepared self.new ≡ true }
         ensures ready { is_own self.old ≡ true → IsOk result }
+        ensures shared { StaysShared self.old self.new }
     {
         let bytes = match self {
             Backing::Own { prepared, .. } => {
@@ -227,6 +248,8 @@ impl Piece {
         ensures prepared { is_prepared self.new.backing ≡ is_prepared self.old.backing }
         ensures blank { is_blank self.new.backing ≡ is_blank self.old.backing }
         ensures never { is_blank self.old.backing ≡ true → result ≡ false }
+        ensures kept { is_blank self.old.backing ≡ true → self.new ≡ self.old }
+        ensures shared { StaysShared self.old.backing self.new.backing }
     {
         if at < self.start {
             return false;
@@ -293,4 +316,13 @@ fn put_over<const N: usize>(list: &mut [u8], put: [u8; N])
     if let Some(chunk) = list.first_chunk_mut::<N>() {
         *chunk = put;
     }
+}
+
+/// Copies `len` bytes of a list within it.
+fn copy_in(list: &mut [u8], to: usize, from: usize, len: usize)
+    requires to { to + len ≤ length list.old }
+    requires from { from + len ≤ length list.old }
+    ensures { list.new ≡ with_bytes list.old to (take len (drop from list.old)) }
+{
+    list.copy_within(from..from + len, to);
 }

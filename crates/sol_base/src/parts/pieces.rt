@@ -1,6 +1,6 @@
 //! The pieces of a list of bytes, of which the one that was written last stands apart.
 ghost use Rattle.std.specs.Prelude.{◌≡◌, ◌<◌, ◌≤◌, ◌+◌, ◌^◌, true, false, length, take, drop, IfSome, slice_index_or, slice_set};
-ghost use Rattle.sol_base.specs.Parts.{bytes_in, tests_in, before, blank_of, is_prepared, with_bytes, AreInOrder};
+ghost use Rattle.sol_base.specs.Parts.{bytes_in, tests_in, before, blank_of, is_prepared, with_bytes, AreInOrder, StayLent};
 
 use crate::parts::near;
 use crate::parts::piece::Piece;
@@ -132,8 +132,28 @@ impl Pieces {
         ensures all { result ≡ true
             → bytes_in self.new ≡ with_bytes (bytes_in self.old) at put.entry }
         ensures none { result ≡ false → bytes_in self.new ≡ bytes_in self.old }
+        ensures lent { StayLent self.old self.new }
     {
         self.opened.put(at, put)
+    }
+
+    /// Puts `N` bytes at a place, if the piece at an index has them as the list's own and is not
+    /// the open one.
+    #[inline(always)]
+    pub fn put_at<const N: usize>(&mut self, near: usize, at: usize, put: [u8; N]) -> bool
+        requires order { AreInOrder self.old }
+        requires most { at + N < 2 ^ 64 }
+        ensures order { AreInOrder self.new }
+        ensures prepared { tests_in is_prepared self.new ≡ tests_in is_prepared self.old }
+        ensures all { result ≡ true
+            → bytes_in self.new ≡ with_bytes (bytes_in self.old) at put.entry }
+        ensures none { result ≡ false → bytes_in self.new ≡ bytes_in self.old }
+        ensures lent { StayLent self.old self.new }
+    {
+        if near >= self.list.len() {
+            return false;
+        }
+        self.list[near].put(at, put)
     }
 
     /// Opens the piece at an index.

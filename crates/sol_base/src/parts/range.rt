@@ -1,6 +1,6 @@
 //! Ranges of places that may lie over several pieces.
 ghost use Rattle.std.specs.Prelude.{◌≡◌, ◌<◌, ◌≤◌, ◌+◌, ◌-◌, ◌^◌, ℕ, List, true, false, length, take, drop, slice_get, OnOk, OnErr, IsOk};
-ghost use Rattle.sol_base.specs.Parts.{piece_bytes, bytes_in, tests_in, before, is_own, is_prepared, test_of, with_bytes, AreInOrder, ArePrepared, ArePreparedUpTo, IsWrittenUpTo, StayPrepared};
+ghost use Rattle.sol_base.specs.Parts.{piece_bytes, bytes_in, tests_in, before, is_own, is_prepared, test_of, with_bytes, AreInOrder, ArePrepared, ArePreparedUpTo, IsWrittenUpTo, StayLent, StayPrepared};
 ghost use Rattle.sol_base.specs.declared.parts.piece.Piece.{Piece};
 
 use crate::memory::OutOfMemory;
@@ -47,6 +47,7 @@ pub fn write_on(pieces: &mut [Piece], first: usize, at: usize, bytes: &[u8])
     requires most { length (bytes_in pieces.old) < 2 ^ 32 }
     requires own { ArePrepared (tests_in is_own pieces.old) at (length bytes.now) }
     ensures order { AreInOrder pieces.new }
+    ensures lent { StayLent pieces.old pieces.new }
     ensures bytes { bytes_in pieces.new ≡ with_bytes (bytes_in pieces.old) at bytes.now }
     ensures own { tests_in is_own pieces.new ≡ tests_in is_own pieces.old }
     ensures prepared { tests_in is_prepared pieces.new ≡ tests_in is_prepared pieces.old }
@@ -67,6 +68,7 @@ fn write_at(pieces: &mut [Piece], index: usize, at: usize, bytes: &[u8])
     requires most { length (bytes_in pieces.old) < 2 ^ 32 }
     requires own { ArePrepared (tests_in is_own pieces.old) at (length bytes.now) }
     ensures order { AreInOrder pieces.new }
+    ensures lent { StayLent pieces.old pieces.new }
     ensures before { before pieces.new (index + 1) ≡ before pieces.old (index + 1) }
     ensures own { tests_in is_own pieces.new ≡ tests_in is_own pieces.old }
     ensures prepared { tests_in is_prepared pieces.new ≡ tests_in is_prepared pieces.old }
@@ -96,6 +98,7 @@ pub fn own_on(
     requires within { at + len ≤ length (bytes_in pieces.old) }
     requires most { length (bytes_in pieces.old) < 2 ^ 32 }
     ensures order { AreInOrder pieces.new }
+    ensures lent { StayLent pieces.old pieces.new }
     ensures bytes { bytes_in pieces.new ≡ bytes_in pieces.old }
     ensures starts { (index : ℕ) → before pieces.new index ≡ before pieces.old index }
     ensures ok { OnOk result (ArePrepared (tests_in (test_of prepare) pieces.new) at len) }
@@ -128,6 +131,7 @@ fn own_at(
     requires within { at + len ≤ length (bytes_in pieces.old) }
     requires most { length (bytes_in pieces.old) < 2 ^ 32 }
     ensures order { AreInOrder pieces.new }
+    ensures lent { StayLent pieces.old pieces.new }
     ensures bytes { bytes_in pieces.new ≡ bytes_in pieces.old }
     ensures starts { (place : ℕ) → before pieces.new place ≡ before pieces.old place }
     ensures ok { OnOk result
@@ -161,6 +165,7 @@ pub fn write_range(
     requires within { at + length bytes.now ≤ length (bytes_in pieces.old) }
     requires most { length (bytes_in pieces.old) < 2 ^ 32 }
     ensures order { AreInOrder pieces.new }
+    ensures lent { StayLent pieces.old pieces.new }
     ensures ok { OnOk result
         (bytes_in pieces.new ≡ with_bytes (bytes_in pieces.old) at bytes.now) }
     ensures err { OnErr result (bytes_in pieces.new ≡ bytes_in pieces.old) }
@@ -185,6 +190,7 @@ pub fn write_within(pieces: &mut [Piece], index: usize, at: usize, bytes: &[u8])
     requires first { before pieces.old index ≤ at }
     requires most { at + length bytes.now < 2 ^ 64 }
     ensures order { AreInOrder pieces.new }
+    ensures lent { StayLent pieces.old pieces.new }
     ensures prepared { tests_in is_prepared pieces.new ≡ tests_in is_prepared pieces.old }
     ensures all { result ≡ true
         → bytes_in pieces.new ≡ with_bytes (bytes_in pieces.old) at bytes.now }

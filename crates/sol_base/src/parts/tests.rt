@@ -1,3 +1,4 @@
+//! Tests of lists of bytes in parts.
 ghost use Rattle.std.specs.Prelude.{◌≡◌, ◌<◌, ◌^◌, ◌+◌, length, OnOk};
 ghost use Rattle.std.specs.Arc.{arc_value};
 ghost use Rattle.sol_base.specs.Parts.{bytes_of, part_bytes};

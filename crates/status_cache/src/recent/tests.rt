@@ -5,7 +5,7 @@ ghost use Rattle.status_cache.specs.Recent.{Ascends};
 use super::*;
 use std::test::Fail;
 
-// A block that processed one message.
+/// A block that processed one message.
 fn block(alloc: Global, number: u8) -> Result<Mark, OutOfMemory>
     ensures { IfOk result (λ mark. Ascends mark.messages) }
 {
@@ -17,7 +17,7 @@ fn block(alloc: Global, number: u8) -> Result<Mark, OutOfMemory>
     })
 }
 
-// A block that processed none.
+/// A block that processed none.
 fn empty_block(alloc: Global) -> Mark
     ensures { Ascends result.messages }
 {
@@ -27,7 +27,7 @@ fn empty_block(alloc: Global) -> Mark
     }
 }
 
-// A block that processed two.
+/// A block that processed two.
 fn block_of_two(alloc: Global) -> Result<Mark, OutOfMemory>
     ensures { IfOk result (λ mark. Ascends mark.messages) }
 {

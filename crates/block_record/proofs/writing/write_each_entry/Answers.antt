@@ -1,4 +1,4 @@
-use Rattle.std.proofs.Common.{List, ℕ, take, ◌++◌, ap, sym, ◌∙◌}
+use Rattle.std.proofs.Common.{take, ◌++◌, ap, sym, ◌∙◌}
 use Rattle.std.specs.List.{flat_map}
 use Rattle.std.proofs.lemmas.List.{take_all}
 use Rattle.block_record.specs.declared.block.Entry.{Entry}

@@ -2,7 +2,6 @@ use Rattle.std.proofs.Common.{List, ℕ, take, ◌++◌, ap, sym, ◌∙◌}
 use Rattle.std.specs.List.{flat_map}
 use Rattle.std.proofs.lemmas.List.{take_all}
 use Rattle.spec_base.specs.Bytes.{sized_bytes}
-use Rattle.block_record.specs.declared.block.Entry.{Entry}
 use Rattle.snapshot_codec.proofs.Adding.{Adds-none, Adds-then, Adds-as, flat_map-more}
 use Rattle.block_record.proofs.writing.write_each_line.Goals as goal
 

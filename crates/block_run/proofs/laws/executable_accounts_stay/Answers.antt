@@ -2,4 +2,4 @@ use Rattle.block_run.proofs.Conserved.{executables_stay}
 use Rattle.block_run.proofs.laws.executable_accounts_stay.Goals as goal
 
 pub returns : goal.returns
-returns c = executables_stay
+returns c = record { stay = executables_stay }

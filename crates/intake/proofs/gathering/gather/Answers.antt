@@ -1,6 +1,7 @@
 use Rattle.std.proofs.Common.{◌≡◌, ◌∙◌, ℕ, List, ap, arith, length}
 use Rattle.intake.specs.Gathering.{share_of}
-use Rattle.intake.proofs.Gathers.{arrived_ascending, arrived_once, if_ok_also, left_carries, shares_sent}
+use Rattle.std.proofs.lemmas.Result.{IfOk-weaker}
+use Rattle.intake.proofs.Gathers.{arrived_ascending, arrived_once, left_carries, shares_sent}
 use Rattle.intake.proofs.gathering.gather.Goals as goal
 
 pub close-requires-clause-seats : goal.close-requires-clause-seats
@@ -20,7 +21,7 @@ returns-clause-once g c =
     left_carries c.in_ok-intake.field-0.intake c.as_slice-wires.result.now c.args.senders _ _ c.in_ok-seats.seats _ _ c.in_ok-tickets.tickets (omega (arith, c.requires.senders.0)) c.in_ok-intake.ensures.senders c.in_ok-seats.ensures
     c.in_ok-sent.ensures.count c.in_ok-sent.ensures.each c.in_ok-intake.ensures.taker.1 c.in_ok-intake.ensures.made c.in_ok-tickets.ensures.sent c.in_ok-tickets.ensures.others
     in
-    if_ok_also c.laid_out.result (λ x is p lt. arrived_once wires c.args.senders c.in_ok-tickets.tickets x.arrivals is carries p (omega (arith, same, lt))) c.laid_out.ensures.arrivals
+    IfOk-weaker c.laid_out.result _ _ (λ x is p lt. arrived_once wires c.args.senders c.in_ok-tickets.tickets x.arrivals is carries p (omega (arith, same, lt))) c.laid_out.ensures.arrivals
 
 pub returns-clause-ascending : goal.returns-clause-ascending
 returns-clause-ascending g c =
@@ -29,4 +30,4 @@ returns-clause-ascending g c =
     left_carries c.in_ok-intake.field-0.intake c.as_slice-wires.result.now c.args.senders _ _ c.in_ok-seats.seats _ _ c.in_ok-tickets.tickets (omega (arith, c.requires.senders.0)) c.in_ok-intake.ensures.senders c.in_ok-seats.ensures
     c.in_ok-sent.ensures.count c.in_ok-sent.ensures.each c.in_ok-intake.ensures.taker.1 c.in_ok-intake.ensures.made c.in_ok-tickets.ensures.sent c.in_ok-tickets.ensures.others
     in
-    if_ok_also c.laid_out.result (λ x is s. arrived_ascending wires c.args.senders c.in_ok-tickets.tickets x.arrivals is carries s ∙ ap (λ (w : List (List ℕ)). share_of (length w) c.args.senders s) c.as_slice-wires.ensures) c.laid_out.ensures.arrivals
+    IfOk-weaker c.laid_out.result _ _ (λ x is s. arrived_ascending wires c.args.senders c.in_ok-tickets.tickets x.arrivals is carries s ∙ ap (λ (w : List (List ℕ)). share_of (length w) c.args.senders s) c.as_slice-wires.ensures) c.laid_out.ensures.arrivals

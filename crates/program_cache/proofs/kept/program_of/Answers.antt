@@ -1,7 +1,7 @@
-use Rattle.std.proofs.Common.{◌≡◌, Some, sym, subst}
+use Rattle.std.proofs.Common.{◌≡◌, sym, subst}
 use Rattle.std.specs.Prelude.{IfOk}
 use Rattle.sol_base.specs.Accounts.{max_data_len}
-use Rattle.sbpf_verify.specs.Images.{ImageParts, image_in}
+use Rattle.sbpf_verify.specs.Images.{ImageParts}
 use Rattle.program_cache.specs.Programs.{Sought}
 use Rattle.program_cache.specs.Kept.{kept_as}
 use Rattle.program_cache.proofs.ProgramLaws.{program_bad, program_image, parts_are_short}

@@ -2,4 +2,4 @@ use Rattle.sbpf_asm.proofs.Listings.{listed_again}
 use Rattle.sbpf_asm.proofs.laws.listings_assemble_again.Goals as goal
 
 pub returns : goal.returns
-returns c = listed_again
+returns c = record { again = listed_again }

@@ -1,7 +1,7 @@
 use Rattle.std.proofs.Common.{◌≡◌, ◌<◌, ◌+◌, ◌-◌, ℕ, true, List, length, sym, ◌∙◌, arith, rules, refl, get_or, subst}
 use Rattle.sbpf_verify.specs.Entries.{Decodes, IsDecoded}
 use Rattle.sbpf_verify.specs.Opcodes.{meaning}
-use Rattle.sbpf_verify.specs.Places.{is_start, slot_count}
+use Rattle.sbpf_verify.specs.Places.{is_start, slot_count, max_slots}
 use Rattle.sbpf_verify.specs.declared.entry.Entry.{Entry}
 use Rattle.sbpf_verify.specs.declared.opcode.Opcode.TheVariants.{Add64Immediate}
 use Rattle.sbpf_verify.proofs.Starts.{start_there, start_below, entry_fits}
@@ -44,7 +44,7 @@ step-requires-clause-fits c =
 
 pub overflow_add-place : goal.overflow_add-place
 overflow_add-place c =
-    let below : c.loop-units.place < 65536 = start_below c.args.program.now c.loop-units.place c.requires.verified c.loop-units.invariant.start in search rules
+    let below : c.loop-units.place < max_slots = start_below c.args.program.now c.loop-units.place c.requires.verified c.loop-units.invariant.start in search rules
 
 pub returns-in-Off-clause-ends : goal.returns-in-Off-clause-ends
 returns-in-Off-clause-ends c =

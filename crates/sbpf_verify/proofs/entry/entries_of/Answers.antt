@@ -2,7 +2,7 @@ use Rattle.std.proofs.Common.{◌≡◌, ◌≤◌, ◌⊎◌, inl, inr, ⊎_eli
 use Rattle.std.specs.Prelude.{slice_get}
 use Rattle.sbpf_verify.specs.declared.entry.Entry.{Entry}
 use Rattle.sbpf_verify.specs.Entries.{Decodes}
-use Rattle.sbpf_verify.specs.Places.{slot_count, is_start}
+use Rattle.sbpf_verify.specs.Places.{slot_count, max_slots, is_start}
 use Rattle.sbpf_verify.proofs.Starts.{slots_there}
 use Rattle.sbpf_verify.proofs.entry.entries_of.Goals as goal
 
@@ -26,7 +26,7 @@ none_yet : (text : List ℕ) (es : List Entry) → es ≡ [] → EachDecodes tex
 none_yet text es same = λ k x h start. let gone : slice_get [] k ≡ Some x = ap (λ (l : List Entry). slice_get l k) (sym same) ∙ h in absurd (cc)
 
 pub overflow_cast-place-end : goal.overflow_cast-place-end
-overflow_cast-place-end c = let few : slot_count c.args.text.now ≤ 65536 = (slots_there c.args.text.now c.requires).1 in search rules
+overflow_cast-place-end c = let few : slot_count c.args.text.now ≤ max_slots = (slots_there c.args.text.now c.requires).1 in search rules
 
 pub loop-place-init : goal.loop-place-init
 loop-place-init c = record { count = ap length c.in_ok-entries.ensures; each = none_yet c.args.text.now c.in_ok-entries.entries c.in_ok-entries.ensures }

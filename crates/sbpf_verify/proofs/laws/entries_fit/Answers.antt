@@ -2,4 +2,4 @@ use Rattle.sbpf_verify.proofs.Starts.{entry_fits}
 use Rattle.sbpf_verify.proofs.laws.entries_fit.Goals as goal
 
 pub returns : goal.returns
-returns c = entry_fits
+returns c = record { fits = entry_fits }

@@ -2,4 +2,4 @@ use Rattle.sbpf_verify.proofs.ImageLaws.{read_again}
 use Rattle.sbpf_verify.proofs.laws.images_are_read_again.Goals as goal
 
 pub returns : goal.returns
-returns c = λ image is. read_again image is
+returns c = record { again = λ image is. read_again image is }

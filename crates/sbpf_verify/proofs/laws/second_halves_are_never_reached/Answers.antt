@@ -2,4 +2,4 @@ use Rattle.sbpf_verify.proofs.Starts.{reached_half}
 use Rattle.sbpf_verify.proofs.laws.second_halves_are_never_reached.Goals as goal
 
 pub returns : goal.returns
-returns c = reached_half
+returns c = record { half = reached_half }

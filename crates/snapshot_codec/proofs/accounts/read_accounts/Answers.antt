@@ -3,8 +3,6 @@ use Rattle.std.proofs.lemmas.Grind.{common_steps}
 use Rattle.std.proofs.lemmas.Result.{err_from_is_err_and}
 use Rattle.spec_base.specs.Reading.{many_after}
 use Rattle.spec_base.proofs.Loop.{goes_on, ends, is_done}
-use Rattle.account_store.specs.State.{lamports_of}
-use Rattle.account_store.specs.Sorted.{entries_of}
 use Rattle.snapshot_codec.specs.SnapshotReading.{is_snapshot_memory, account_after}
 use Rattle.snapshot_codec.proofs.AccountLaws.{supply-more}
 use Rattle.snapshot_codec.proofs.accounts.read_accounts.Goals as goal

@@ -2,4 +2,4 @@ use Rattle.snapshot_codec.proofs.SnapshotLaws.{readable_written}
 use Rattle.snapshot_codec.proofs.laws.readable_snapshots_are_writable.Goals as goal
 
 pub returns : goal.returns
-returns c = readable_written
+returns c = record { writable = readable_written }

@@ -1,4 +1,3 @@
-use Rattle.std.proofs.Common.{◌++◌, ap, sym, ◌∙◌}
 use Rattle.std.proofs.lemmas.List.{append-nil}
 use Rattle.snapshot_codec.proofs.MarkLaws.{taken_ascends, moved, fewer, none_left}
 use Rattle.snapshot_codec.proofs.marks.recent_of.Goals as goal

@@ -1,10 +1,10 @@
-use Rattle.std.proofs.Common.{◌≡◌, ℕ, ◌++◌, ◌∷◌, [], List, sym, ap, ◌∙◌, append_assoc}
+use Rattle.std.proofs.Common.{◌≡◌, ◌++◌, ◌∷◌, [], List, sym, ap, ◌∙◌, append_assoc}
 use Rattle.std.proofs.lemmas.List.{append-nil, map-append}
 use Rattle.std.proofs.lemmas.List.{nil_from_length}
 use Rattle.sol_base.specs.Accounts.{IsShort}
 use Rattle.std.specs.Vec.Iter.{into_iter_items}
 use Rattle.account_store.specs.declared.sorted.KeyedAccount.{KeyedAccount}
-use Rattle.account_store.specs.State.{State, entries}
+use Rattle.account_store.specs.State.{entries}
 use Rattle.account_store.specs.Sorted.{entry_of, entries_of}
 use Rattle.std.proofs.lemmas.Result.{err_from_is_err_and}
 use Rattle.account_store.proofs.StateLaws.{entries-empty}

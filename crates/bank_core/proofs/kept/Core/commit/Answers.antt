@@ -1,4 +1,4 @@
-use Rattle.std.proofs.Common.{◌∷◌, [], ◌++◌, true, subst₂, vec_capacity, ◌≡◌, ◌<◌, length, map, arith, ap, ap₂, sym, subst, ◌∙◌}
+use Rattle.std.proofs.Common.{subst₂, vec_capacity, ◌≡◌, length, map, arith, ap, ap₂, sym, subst, ◌∙◌}
 use Rattle.std.proofs.lemmas.List.{with_items_is, length-map}
 use Rattle.bank_law.specs.declared.event.Event.{Event}
 use Rattle.bank_law.specs.declared.event.EventKind.TheVariants.{Commit}
@@ -15,7 +15,6 @@ use Rattle.sol_base.specs.Accounts.{accounts_of}
 use Rattle.bank_core.proofs.Numbers.{as_many_written}
 use Rattle.bank_law.proofs.Held.{committed_count}
 use Rattle.bank_core.proofs.Moves.{holder, holder_below, held_below_count, held_started_mark, commit_keeps, room_left, room_next, room_after, ended_buffers, keeps_same, wide_as}
-use Rattle.bank_core.proofs.Supply.{is_start}
 use Rattle.bank_core.proofs.kept.Core.commit.Goals as goal
 
 pub put_written-requires-clause-one_each : goal.put_written-requires-clause-one_each
@@ -65,6 +64,7 @@ push_with_room-requires g c =
 
 pub invariant_of-self : goal.invariant_of-self
 invariant_of-self g c = record {
+  some = c.args.self.now.some;
   lawful = c.args.self.now.lawful;
   runs = (let self = c.args.self.now in
       let K = self.runs in

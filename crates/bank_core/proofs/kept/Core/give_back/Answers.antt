@@ -1,22 +1,18 @@
-use Rattle.std.proofs.Common.{◌∷◌, [], ◌++◌, true, subst₂, vec_capacity, take_all, refl, ◌≡◌, ◌<◌, length, map, arith, ap, ap₂, sym, subst, ◌∙◌}
-use Rattle.std.proofs.lemmas.List.{with_items_is, length-map}
+use Rattle.std.proofs.Common.{subst₂, vec_capacity, take_all, refl, ◌≡◌, length, map, arith, ap, ap₂, sym, subst, ◌∙◌}
+use Rattle.std.proofs.lemmas.List.{with_items_is}
 use Rattle.bank_law.specs.declared.event.Event.{Event}
 use Rattle.bank_law.specs.declared.event.EventKind.TheVariants.{Return}
 use Rattle.bank_law.specs.Job.{keys}
 use Rattle.bank_law.specs.Serial.{serial}
 use Rattle.bank_law.specs.Machine.{Run, held_count}
-use Rattle.bank_law.specs.Lawful.{Fits}
 use Rattle.bank_law.proofs.Journals.{legal_push}
-use Rattle.bank_core.specs.Effects.{effects_seen}
 use Rattle.bank_core.specs.Keeping.{HasBuffers, IsWide}
 use Rattle.account_store.specs.State.{at}
-use Rattle.bank_core.specs.Slots.{value_of, account_at, put_back_at, write_numbers}
+use Rattle.bank_core.specs.Slots.{account_at, put_back_at}
 use Rattle.sol_base.specs.Accounts.{accounts_of}
-use Rattle.bank_core.proofs.Numbers.{as_many_written}
 use Rattle.bank_law.proofs.Held.{returned_count}
 use Rattle.bank_core.proofs.Moves.{holder, holder_below, held_below_count, held_started_mark, return_keeps, lent_many, room_left, room_next, room_after, ended_buffers, keeps_same, wide_as}
 use Rattle.prio_graph.specs.Ready.{set_at}
-use Rattle.bank_core.proofs.Supply.{is_start}
 use Rattle.bank_core.proofs.kept.Core.give_back.Goals as goal
 
 pub write_at-requires : goal.write_at-requires
@@ -52,6 +48,7 @@ push_with_room-requires g c =
 
 pub invariant_of-self : goal.invariant_of-self
 invariant_of-self g c = record {
+  some = c.args.self.now.some;
   lawful = c.args.self.now.lawful;
   runs = (let self = c.args.self.now in
       let K = self.runs in

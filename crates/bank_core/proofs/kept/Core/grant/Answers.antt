@@ -1,5 +1,5 @@
-use Rattle.std.proofs.Common.{◌∷◌, [], ◌++◌, true, subst₂, vec_capacity, set-set, set, refl, ◌≡◌, ◌<◌, length, map, arith, ap, ap₂, sym, subst, ◌∙◌}
-use Rattle.std.proofs.lemmas.List.{with_items_is, length-map}
+use Rattle.std.proofs.Common.{◌∷◌, [], ◌++◌, subst₂, vec_capacity, set-set, set, refl, ◌≡◌, ◌<◌, length, map, arith, ap, ap₂, sym, subst, ◌∙◌}
+use Rattle.std.proofs.lemmas.List.{with_items_is}
 use Rattle.bank_law.specs.declared.event.Event.{Event}
 use Rattle.bank_law.specs.declared.event.EventKind.TheVariants.{Grant}
 use Rattle.bank_law.specs.Job.{keys}
@@ -7,14 +7,12 @@ use Rattle.bank_law.specs.Serial.{serial}
 use Rattle.bank_law.specs.Machine.{Run, held_count}
 use Rattle.bank_law.specs.Lawful.{Fits}
 use Rattle.bank_law.proofs.Journals.{legal_push}
-use Rattle.bank_core.specs.Effects.{effects_seen}
 use Rattle.bank_core.specs.Keeping.{HasBuffers, IsWide}
 use Rattle.account_store.specs.State.{at}
-use Rattle.bank_core.specs.Slots.{value_of, account_at, taken_at, AllThere, AreDistinct, ReadsAny, found, write_numbers}
+use Rattle.bank_core.specs.Slots.{account_at, taken_at, AllThere, AreDistinct, ReadsAny, found, write_numbers}
 use Rattle.sol_base.specs.Accounts.{accounts_of}
-use Rattle.bank_core.proofs.Numbers.{as_many_written}
 use Rattle.bank_law.proofs.Held.{granted_count, few_held}
-use Rattle.bank_core.proofs.Moves.{holder, holder_below, held_below_count, held_started_mark, grant_keeps, same_slots_keep, all_there, ready_once, ready_set, lent_right, holds_none, taken_buffers, kept_buffers, free_buffer, reads_is, room_left, room_next, room_after, ended_buffers, keeps_same, wide_as}
+use Rattle.bank_core.proofs.Moves.{grant_keeps, same_slots_keep, all_there, ready_once, ready_set, lent_right, holds_none, taken_buffers, kept_buffers, free_buffer, reads_is, room_left, room_next, room_after, keeps_same, wide_as}
 use Rattle.bank_core.proofs.Supply.{is_start}
 use Rattle.bank_law.proofs.Supply.{turn_fits}
 use Rattle.prio_graph.proofs.MachineLaws.{ready_is}
@@ -34,6 +32,7 @@ lend-requires-clause-distinct g c =
 
 pub invariant_of-self : goal.invariant_of-self
 invariant_of-self g c = record {
+  some = c.args.self.now.some;
   lawful = c.args.self.now.lawful;
   runs = (let self = c.args.self.now in
       let filled = with_items_is self.slots c.lend.new.slots (c.lend.auto.slots ∙ c.deref_mut.ensures.len) in
@@ -88,6 +87,7 @@ push_with_room-requires g c =
 
 pub invariant_of-self-2 : goal.invariant_of-self-2
 invariant_of-self-2 g c = record {
+  some = c.args.self.now.some;
   lawful = c.args.self.now.lawful;
   runs = (let self = c.args.self.now in
       let K = self.runs in

@@ -1,4 +1,4 @@
-use Rattle.std.proofs.Common.{◌≡◌, ◌≤◌, arith, sym, subst, ◌∙◌}
+use Rattle.std.proofs.Common.{arith, sym, subst, ◌∙◌}
 use Rattle.account_store.specs.State.{at}
 use Rattle.bank_law.specs.Machine.{Run, IsLeastReady}
 use Rattle.prio_graph.proofs.MachineLaws.{ready_is}

@@ -1,4 +1,4 @@
-use Rattle.std.proofs.Common.{◌≡◌, ap, ◌∙◌, sym, arith}
+use Rattle.std.proofs.Common.{ap, arith}
 use Rattle.std.specs.Arc.{arc_value}
 use Rattle.sol_base.specs.declared.account.Account.{Account}
 use Rattle.account_store.proofs.StateLaws.{sum-put-le}

@@ -1,8 +1,7 @@
-use Rattle.std.proofs.Common.{rules, ◌≡◌, ◌++◌, ◌+◌, ◌*◌, [], ◌∷◌, length, ap, ap₂, sym, subst, subst₂, ◌∙◌, Some, length-append, arith, le_refl}
+use Rattle.std.proofs.Common.{◌≡◌, ◌++◌, ◌+◌, ◌*◌, [], ◌∷◌, length, ap, ap₂, sym, subst, subst₂, ◌∙◌, Some, length-append, arith, le_refl}
 use Rattle.bank_law.specs.declared.event.Event.{Event}
 use Rattle.bank_law.specs.declared.event.EventKind.TheVariants.{Commit}
 use Rattle.bank_shared.specs.History.{own, holds}
-use Rattle.bank_law.specs.History.{returns}
 use Rattle.account_store.specs.State.{at}
 use Rattle.bank_law.specs.Machine.{IsLegal}
 use Rattle.sol_base.specs.Accounts.{accounts_of}

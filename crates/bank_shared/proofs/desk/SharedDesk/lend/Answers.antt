@@ -1,9 +1,7 @@
-use Rattle.std.proofs.Common.{rules, ◌≡◌, ◌++◌, ◌+◌, ◌*◌, [], ◌∷◌, length, ap, sym, subst, IfSome, ◌<◌, ◌∙◌, Some, refl, length-append, arith, le_refl}
-use Rattle.bank_law.specs.declared.event.Event.{Event}
-use Rattle.bank_law.specs.declared.event.EventKind.TheVariants.{Grant}
+use Rattle.std.proofs.Common.{ap, sym, subst, IfSome, ◌<◌, ◌∙◌}
 use Rattle.bank_shared.specs.History.{holds}
-use Rattle.bank_shared.specs.Plays.{had, done}
-use Rattle.bank_shared.proofs.Moves.{mine_is, adds, kept}
+use Rattle.bank_shared.specs.Plays.{done}
+use Rattle.bank_shared.proofs.Moves.{mine_is, adds}
 use Rattle.bank_shared.proofs.desk.SharedDesk.lend.Goals as goal
 
 pub take-requires-clause-lane : goal.take-requires-clause-lane

@@ -1,11 +1,10 @@
-use Rattle.std.proofs.Common.{rules, ◌≡◌, ◌++◌, ◌+◌, ◌*◌, [], ◌∷◌, length, ap, ap₂, sym, subst, subst₂, ◌∙◌, Some, length-append, arith, le_refl}
+use Rattle.std.proofs.Common.{◌≡◌, ◌++◌, ◌+◌, ◌*◌, [], ◌∷◌, length, ap, ap₂, sym, subst, subst₂, ◌∙◌, Some, length-append, arith, le_refl}
 use Rattle.bank_law.specs.declared.event.Event.{Event}
 use Rattle.bank_law.specs.declared.event.EventKind.TheVariants.{Return}
 use Rattle.bank_shared.specs.History.{own, holds}
 use Rattle.bank_law.specs.History.{returns}
 use Rattle.account_store.specs.State.{at}
 use Rattle.bank_law.specs.Machine.{IsLegal}
-use Rattle.sol_base.specs.Accounts.{accounts_of}
 use Rattle.bank_shared.specs.declared.kept.DeskOrigin.{DeskOrigin}
 use Rattle.bank_shared.specs.Plays.{had, done}
 use Rattle.bank_shared.proofs.Moves.{mine_is, adds, kept}

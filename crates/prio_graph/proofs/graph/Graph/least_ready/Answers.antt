@@ -1,5 +1,5 @@
 use Rattle.std.proofs.Common.{ℕ, ◌≡◌, ◌<◌, ◌≤◌, ◌⊎◌, List, subst, subst₂}
-use Rattle.prio_graph.specs.Ready.{Positions, IsReady, IsLeastReady}
+use Rattle.prio_graph.specs.Ready.{Positions, IsReady, IsLeastOfReady}
 use Rattle.prio_graph.specs.Trees.{leaf}
 use Rattle.prio_graph.proofs.Moves.{least_is, none_is}
 use Rattle.prio_graph.proofs.graph.Graph.least_ready.Goals as goal
@@ -19,5 +19,5 @@ returns-else-least-clause-least c =
     let v = c.least_leaf-least.result in
     let least = subst₂ (Least v) c.as_slice.ensures.value c.len.ensures c.least_leaf-least.ensures.least in
     let shown = subst₂ (λ tree count. (v ≡ 4294967295) ⊎ ((i : ℕ) × (i < count) × (leaf tree count i ≡ v))) c.as_slice.ensures.value c.len.ensures c.least_leaf-least.ensures.shown in
-    subst (λ (p : Positions). IsLeastReady p v) c.self.view_is
+    subst (λ (p : Positions). IsLeastOfReady p v) c.self.view_is
     (least_is c.self.inside.sets c.self.inside.marks.items c.self.inside.waits.items c.self.inside.later.items c.self.inside.ready.items c.self.invariant v least shown c.if-least.false)

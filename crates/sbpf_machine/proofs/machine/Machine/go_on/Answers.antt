@@ -1,16 +1,12 @@
 use Rattle.std.proofs.Common.{◌≡◌, ℕ, List, Option, None, refl, sym, ◌∙◌, subst}
 use Rattle.std.specs.Arc.{arc_value}
-use Rattle.sbpf_machine.specs.declared.context.Context.{Context}
 use Rattle.sbpf_machine.specs.declared.run.Ended.{Ended}
 use Rattle.sbpf_machine.specs.declared.stop.Stop.{Stop}
 use Rattle.sbpf_machine.specs.Runs.{ComesTo, Ends}
-use Rattle.sbpf_machine.specs.Steps.{State}
+use Rattle.sbpf_machine.specs.Steps.{State, state}
 use Rattle.sbpf_machine.proofs.Paths.{comes_to, not_there, stays}
 use Rattle.sbpf_machine.proofs.Taking.{come_takes}
 use Rattle.sbpf_machine.proofs.machine.Machine.go_on.Goals as goal
-
-abbrev at_stop : List ℕ → ℕ → Context → ℕ → Option Stop → State
-at_stop text place context units stop = record { text = text; place = place; context = context; units = units; stop = stop }
 
 pub returns-then-is_some-clause-comes : goal.returns-then-is_some-clause-comes
 returns-then-is_some-clause-comes c =
@@ -23,9 +19,9 @@ returns-clause-comes c =
     let ended : Ended = c.run_from-ended.result in
     let none : c.self.inside.stop ≡ None = not_there _ (sym c.is_some.ensures ∙ c.if-is_some.false) in
     let ends = subst (λ (t : List ℕ). Ends t c.self.inside.place c.self.inside.units c.self.inside.context ended c.run_from-ended.new.context) same c.run_from-ended.ensures.ends in
-    let new : State = at_stop text ended.place c.run_from-ended.new.context ended.units ended.stop in
+    let new : State = state text ended.place c.run_from-ended.new.context ended.units ended.stop in
     subst (λ (x : State). ComesTo x new) c.self.view_is
-    (subst (λ (stop : Option Stop). ComesTo (at_stop text c.self.inside.place c.self.inside.context c.self.inside.units stop) new) (sym none)
+    (subst (λ (stop : Option Stop). ComesTo (state text c.self.inside.place c.self.inside.context c.self.inside.units stop) new) (sym none)
     (comes_to text c.self.inside.place c.self.inside.units c.self.inside.context c.run_from-ended.new.context ended.place ended.units ended.stop ends))
 
 pub returns-clause-units : goal.returns-clause-units

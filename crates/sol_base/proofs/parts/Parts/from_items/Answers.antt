@@ -2,8 +2,8 @@ use Rattle.std.proofs.Common.{◌≡◌, ◌∙◌, ◌++◌, ◌+◌, ◌≤◌
 use Rattle.std.specs.Vec.Iter.{into_iter_items}
 use Rattle.sol_base.specs.declared.parts.Part.{Part}
 use Rattle.sol_base.specs.declared.parts.piece.Piece.{Piece}
-use Rattle.sol_base.specs.Parts.{bytes_in, bytes_of, part_bytes, piece_bytes, tests_in, is_prepared, AreInOrder}
-use Rattle.sol_base.proofs.PartLaws.{order_push, bytes_push, parts_push, plain_push, parts_bound, no_order, no_tests, no_bytes, no_parts}
+use Rattle.sol_base.specs.Parts.{bytes_in, bytes_of, part_bytes, piece_bytes, tests_in, is_prepared, lent_from, AreInOrder, AreLentBy}
+use Rattle.sol_base.proofs.PartLaws.{order_push, bytes_push, parts_push, plain_push, parts_bound, no_order, no_tests, no_bytes, no_parts, no_lent, lent_push}
 use Rattle.sol_base.proofs.parts.Parts.from_items.Goals as goal
 
 pub loop-part-init : goal.loop-part-init
@@ -15,6 +15,7 @@ loop-part-init c =
       order = subst AreInOrder (sym none) no_order;
       bytes = empty ∙ sym no_parts;
       plain = ap (tests_in is_prepared) none ∙ no_tests is_prepared ∙ ap (λ (l : List _). replicate (length l) false) (sym empty);
+      lent = subst (AreLentBy (lent_from 0 [])) (sym none) (no_lent (lent_from 0 []));
       size = ap length (sym empty);
     }
 
@@ -43,5 +44,6 @@ loop-part-preserved c =
       order = subst AreInOrder (sym pushed) (order_push pieces y c.loop-part.invariant.order c.loop-part.invariant.size);
       bytes = bytes ∙ ap (λ (l : List _). l ++ piece_bytes y) c.loop-part.invariant.bytes ∙ ap (λ (l : List _). bytes_of yielded ++ l) c.of_part-backing.ensures.bytes ∙ sym (parts_push yielded c.in-Some.part);
       plain = subst (λ (ps : List Piece). tests_in is_prepared ps ≡ replicate (length (bytes_in ps)) false) (sym pushed) (plain_push pieces y c.loop-part.invariant.plain c.of_part-backing.ensures.prepared);
+      lent = subst (AreLentBy (lent_from 0 (yielded ++ c.in-Some.part ∷ []))) (sym pushed) (lent_push yielded c.in-Some.part pieces y c.loop-part.invariant.lent (c.loop-part.invariant.size ∙ ap length c.loop-part.invariant.bytes) c.of_part-backing.ensures.shared);
       size = ap (λ n. n + c.len-len.result) c.loop-part.invariant.size ∙ ap (λ n. length (bytes_in pieces) + n) c.len-len.ensures ∙ sym size;
     }

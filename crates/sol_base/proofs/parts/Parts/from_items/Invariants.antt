@@ -1,6 +1,6 @@
 use Rattle.std.proofs.Common.{length, ◌≡◌, ◌++◌, false, replicate}
 use Rattle.std.specs.Vec.Iter.{into_iter_items}
-use Rattle.sol_base.specs.Parts.{bytes_in, bytes_of, tests_in, is_prepared, AreInOrder}
+use Rattle.sol_base.specs.Parts.{bytes_in, bytes_of, lent_from, tests_in, is_prepared, AreInOrder, AreLentBy}
 use Rattle.sol_base.proofs.parts.Parts.from_items.Given as goal
 
 -- the pieces have the bytes of the parts that came so far
@@ -11,5 +11,6 @@ invariant-loop-part l =
       order : AreInOrder l.pieces.items;
       bytes : bytes_in l.pieces.items ≡ bytes_of l.yielded;
       plain : tests_in is_prepared l.pieces.items ≡ replicate (length (bytes_in l.pieces.items)) false;
+      lent : AreLentBy (lent_from 0 l.yielded) l.pieces.items;
       size : l.len ≡ length (bytes_in l.pieces.items);
     }

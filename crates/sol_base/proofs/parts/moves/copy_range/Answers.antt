@@ -1,4 +1,3 @@
-use Rattle.std.proofs.Common.{refl}
 use Rattle.std.specs.Prelude.{IsOk}
 use Rattle.sol_base.specs.Parts.{tests_in, is_prepared}
 use Rattle.sol_base.proofs.PartLaws.{prepared_are_own}
@@ -6,6 +5,6 @@ use Rattle.sol_base.proofs.parts.moves.copy_range.Goals as goal
 
 pub returns-in_err-own_on-clause-ready : goal.returns-in_err-own_on-clause-ready
 returns-in_err-own_on-clause-ready c = λ prepared.
-    let ok : IsOk c.own_on.result = c.own_on.ensures.ready (prepared_are_own c.args.pieces.now (tests_in is_prepared c.args.pieces.now) c.args.to c.args.len refl prepared) in
+    let ok : IsOk c.own_on.result = c.own_on.ensures.ready (prepared_are_own c.move_within.new.pieces (tests_in is_prepared c.args.pieces.now) c.args.to c.args.len c.move_within.ensures.prepared prepared) in
     let no = rw c.in_err-own_on.was at ok in
     absurd (cc)

@@ -29,6 +29,7 @@ loop-rest-preserved c =
     record {
       some = omega (arith, most);
       order = c.move_chunk.ensures.order;
+      lent = λ lent was. c.move_chunk.ensures.lent lent (c.loop-rest.invariant.lent lent was);
       own = c.move_chunk.ensures.own ∙ c.loop-rest.invariant.own;
       prepared = c.move_chunk.ensures.prepared ∙ c.loop-rest.invariant.prepared;
       size = size ∙ c.loop-rest.invariant.size;

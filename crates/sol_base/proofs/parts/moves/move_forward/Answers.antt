@@ -19,6 +19,7 @@ loop-done-preserved c =
     record {
       some = inside;
       order = c.move_chunk.ensures.order;
+      lent = λ lent was. c.move_chunk.ensures.lent lent (c.loop-done.invariant.lent lent was);
       own = c.move_chunk.ensures.own ∙ c.loop-done.invariant.own;
       prepared = c.move_chunk.ensures.prepared ∙ c.loop-done.invariant.prepared;
       size = size ∙ c.loop-done.invariant.size;

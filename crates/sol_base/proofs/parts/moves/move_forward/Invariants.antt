@@ -1,5 +1,5 @@
 use Rattle.std.proofs.Common.{length, ◌-◌, ◌≤◌, ◌≡◌, take, drop}
-use Rattle.sol_base.specs.Parts.{bytes_in, tests_in, is_own, is_prepared, with_bytes, AreInOrder}
+use Rattle.sol_base.specs.Parts.{bytes_in, tests_in, is_own, is_prepared, with_bytes, AreInOrder, StayLent}
 use Rattle.sol_base.proofs.parts.moves.move_forward.Given as goal
 
 -- the first bytes are moved
@@ -8,6 +8,7 @@ invariant-loop-done l =
     record {
       some : l.done ≤ l.len;
       order : AreInOrder l.pieces;
+      lent : StayLent l.initial.pieces l.pieces;
       own : tests_in is_own l.pieces ≡ tests_in is_own l.initial.pieces;
       prepared : tests_in is_prepared l.pieces ≡ tests_in is_prepared l.initial.pieces;
       size : length (bytes_in l.pieces) ≡ length (bytes_in l.initial.pieces);

@@ -3,7 +3,7 @@ use Rattle.std.proofs.lemmas.List.{set-get_or}
 use Rattle.sol_base.specs.declared.parts.piece.Piece.{Piece}
 use Rattle.std.proofs.lemmas.Result.{on_ok_weaker}
 use Rattle.sol_base.specs.Parts.{piece_bytes, backing_bytes, tests_in, is_own, is_prepared, test_of}
-use Rattle.sol_base.proofs.PartLaws.{start_at, before_more, order_set, bytes_kept, starts_kept, tests_kept, stay_set, ready_set, passes_there}
+use Rattle.sol_base.proofs.PartLaws.{start_at, before_more, order_set, lent_set, bytes_kept, starts_kept, tests_kept, stay_set, ready_set, passes_there}
 use Rattle.sol_base.proofs.parts.range.own_at.Goals as goal
 
 -- the piece keeps its length
@@ -46,3 +46,6 @@ returns-clause-ready c = λ ready.
     let same = meets.same some in
     let place = start_at c.args.pieces.now c.args.index c.index-pieces-index.result c.requires.order c.requires.index in
     c.make_own.ensures.ready (passes_there is_own c.args.pieces.now c.args.index c.args.at c.args.len meeting.from meeting.done c.index-pieces-index.result c.requires.index ready (omega arith) (omega arith) (omega arith))
+
+pub returns-clause-lent : goal.returns-clause-lent
+returns-clause-lent c = lent_set c.args.pieces.now c.args.index c.index-pieces-index.result _ c.requires.index refl c.make_own.ensures.shared

@@ -1,5 +1,5 @@
 use Rattle.std.proofs.Common.{ℕ, length, ◌-◌, ◌≡◌, false, min}
-use Rattle.sol_base.specs.Parts.{bytes_in, tests_in, before, is_own, is_prepared, test_of, AreInOrder, ArePrepared, StayPrepared}
+use Rattle.sol_base.specs.Parts.{bytes_in, tests_in, before, is_own, is_prepared, test_of, AreInOrder, ArePrepared, StayLent, StayPrepared}
 use Rattle.sol_base.proofs.parts.range.own_on.Given as goal
 
 -- the range is ready as far as the pieces before this one hold it
@@ -7,6 +7,7 @@ abbrev pub invariant-loop-index : goal.invariant-loop-index
 invariant-loop-index l =
     record {
       order : AreInOrder l.pieces;
+      lent : StayLent l.initial.pieces l.pieces;
       bytes : bytes_in l.pieces ≡ bytes_in l.initial.pieces;
       starts : (index : ℕ) → before l.pieces index ≡ before l.initial.pieces index;
       ready : ArePrepared (tests_in (test_of l.prepare) l.pieces) l.at (min l.len (before l.pieces l.index - l.at));

@@ -1,7 +1,7 @@
 use Rattle.std.proofs.Common.{◌≡◌, ◌+◌, ◌<◌, ◌≤◌, ◌-◌, List, take, drop, ◌∙◌, ap, refl, ℕ, length, get_or, arith}
 use Rattle.std.proofs.lemmas.List.{length-take}
 use Rattle.sol_base.specs.Parts.{piece_bytes, backing_bytes, is_own, is_prepared}
-use Rattle.sol_base.proofs.PartLaws.{write_step, passes_there, start_at, order_set, before_kept, tests_kept, length_with}
+use Rattle.sol_base.proofs.PartLaws.{write_step, passes_there, start_at, order_set, lent_set, before_kept, tests_kept, length_with}
 use Rattle.sol_base.proofs.parts.range.write_at.Goals as goal
 
 pub write-requires-clause-own : goal.write-requires-clause-own
@@ -39,3 +39,6 @@ returns-clause-bytes c =
     let meeting = c.meet-meeting.result in
     let meets = c.meet-meeting.ensures in
     write_step c.args.pieces.now c.args.index c.args.at meeting.from meeting.done meeting.count c.index-pieces-index.result _ c.args.bytes.now c.requires.order c.requires.index c.requires.within meets.piece meets.range meets.same meets.first meets.last c.write.ensures.bytes
+
+pub returns-clause-lent : goal.returns-clause-lent
+returns-clause-lent c = lent_set c.args.pieces.now c.args.index c.index-pieces-index.result _ c.requires.index refl c.write.ensures.shared

@@ -1,5 +1,5 @@
 use Rattle.std.proofs.Common.{length, ◌-◌, ◌≡◌, min, take}
-use Rattle.sol_base.specs.Parts.{bytes_in, tests_in, before, is_own, is_prepared, with_bytes, AreInOrder}
+use Rattle.sol_base.specs.Parts.{bytes_in, tests_in, before, is_own, is_prepared, with_bytes, AreInOrder, StayLent}
 use Rattle.sol_base.proofs.parts.range.write_on.Given as goal
 
 -- the range is written as far as the pieces before this one hold it
@@ -7,6 +7,7 @@ abbrev pub invariant-loop-index : goal.invariant-loop-index
 invariant-loop-index l =
     record {
       order : AreInOrder l.pieces;
+      lent : StayLent l.initial.pieces l.pieces;
       own : tests_in is_own l.pieces ≡ tests_in is_own l.initial.pieces;
       prepared : tests_in is_prepared l.pieces ≡ tests_in is_prepared l.initial.pieces;
       size : length (bytes_in l.pieces) ≡ length (bytes_in l.initial.pieces);

@@ -1,6 +1,6 @@
 use Rattle.std.proofs.Common.{◌≡◌, ◌≤◌, ◌+◌, ◌-◌, ◌∙◌, ap, refl, length, get_or, arith}
 use Rattle.sol_base.specs.Parts.{piece_bytes, backing_bytes, is_prepared}
-use Rattle.sol_base.proofs.PartLaws.{start_at, order_set, tests_kept, write_there, length_with}
+use Rattle.sol_base.proofs.PartLaws.{start_at, order_set, lent_set, tests_kept, write_there, length_with}
 use Rattle.sol_base.proofs.parts.range.write_within.Goals as goal
 
 pub overflow_sub-from : goal.overflow_sub-from
@@ -26,3 +26,6 @@ returns-clause-prepared c = tests_kept is_prepared c.args.pieces.now c.args.inde
 
 pub returns-clause-all : goal.returns-clause-all
 returns-clause-all c = λ all. write_there c.args.pieces.now c.args.index c.args.at c.index-pieces-index.result _ c.args.bytes.now c.requires.order c.requires.index c.requires.first (inside c) c.write.ensures.bytes
+
+pub returns-clause-lent : goal.returns-clause-lent
+returns-clause-lent c = lent_set c.args.pieces.now c.args.index c.index-pieces-index.result _ c.requires.index refl c.write.ensures.shared

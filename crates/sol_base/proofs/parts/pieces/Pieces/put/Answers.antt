@@ -1,8 +1,8 @@
 use Rattle.std.proofs.Common.{◌∙◌, ap, sym, subst, length, List, inl, inr}
 use Rattle.std.proofs.lemmas.Bool.{cases_lt}
 use Rattle.sol_base.specs.declared.parts.piece.Piece.{Piece}
-use Rattle.sol_base.specs.Parts.{bytes_in, tests_in, is_prepared, with_bytes, AreInOrder}
-use Rattle.sol_base.proofs.PieceLaws.{apart_order, apart_tests, apart_bytes, apart_write}
+use Rattle.sol_base.specs.Parts.{bytes_in, tests_in, is_prepared, with_bytes, AreInOrder, AreLentBy}
+use Rattle.sol_base.proofs.PieceLaws.{apart_order, apart_tests, apart_bytes, apart_lent, apart_write}
 use Rattle.sol_base.proofs.parts.pieces.Pieces.put.Goals as goal
 
 pub returns-clause-order : goal.returns-clause-order
@@ -24,3 +24,7 @@ returns-clause-all g c = λ all.
 pub returns-clause-none : goal.returns-clause-none
 returns-clause-none g c = λ none.
     apart_bytes c.self.inside.list.items c.self.inside.place c.self.inside.opened c.put.new.self (c.put.ensures.none none) ∙ ap bytes_in c.self.view_is
+
+pub returns-clause-lent : goal.returns-clause-lent
+returns-clause-lent g c = λ lent all.
+    apart_lent c.self.inside.list.items c.self.inside.place c.self.inside.opened c.put.new.self c.put.ensures.start c.put.ensures.shared lent (subst (AreLentBy lent) (sym c.self.view_is) all)

@@ -1,0 +1,16 @@
+-- What is made of the locks of positions before a core is opened.
+use Rattle.std.specs.Prelude.{◌≡◌, ℕ, ◌<◌, ◌≤◌, List, length}
+use Rattle.std.specs.List.{IsDistinct}
+use Rattle.sol_base.specs.declared.key.Key.{Key}
+use Rattle.bank_law.specs.Job.{Job, same_key}
+use Rattle.lock_table.specs.Numbers.{Numbers}
+use Rattle.prio_graph.specs.Ready.{Positions, all_waiting, set_at}
+
+-- the keys of a job's locks have these numbers, its positions wait, and none has more locks than
+-- there is room for
+pub record AreNumbered (job : Job) (ks : List Key) (p : Positions) (room : ℕ) : Type 0 where
+  pub distinct : IsDistinct same_key ks
+  pub waiting : p ≡ all_waiting p.sets
+  pub long : length p.sets ≡ job.count
+  pub numbered : (i : ℕ) → i < job.count → Numbers ks (job.locks i) (set_at p.sets i)
+  pub wide : (i : ℕ) → i < length p.sets → length (set_at p.sets i) ≤ room
