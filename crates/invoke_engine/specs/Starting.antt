@@ -74,8 +74,8 @@ abbrev pub is_ready : Sought → Bool
 is_ready (IsReady image) = true
 is_ready _ = false
 
--- a list of more accounts than a frame may list is refused before any unit is taken; where the program is ready,
--- the line of the units stands too
+-- a list of more accounts than a frame may list is refused before any unit is taken; where the
+-- program is ready, the line of the units stands too
 unfoldable pub crowded : (Key → Sought) → Key → List Key → ℕ → Carried → Ending
 crowded programs key outer units c =
     if not (is_native key) && is_ready (programs key)
