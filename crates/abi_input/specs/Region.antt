@@ -3,7 +3,7 @@
 use Rattle.std.specs.Prelude.{ℕ, ◌+◌, ◌-◌, ◌%◌, ◌^◌, ◌≤◌, ◌==◌, ◌||◌, Bool, List, [], ◌∷◌, ◌++◌, length, map, take, drop, replicate, sum_by, slice_get, nat_lt, unwrap_or, Option, Some, None, Result, Ok, Err, if◌then◌else◌}
 use Rattle.std.specs.List.{enumerate_from, find, flat_map, position_or_len}
 use Rattle.std.specs.Int.{w64, to_le_bytes, from_bool}
-use Rattle.spec_base.specs.Bytes.{number_from}
+use Rattle.spec_base.specs.Bytes.{max_count, number_from}
 use Rattle.sol_base.specs.declared.key.Key.{Key}
 use Rattle.sol_base.specs.declared.account.Account.{Account}
 use Rattle.sol_base.specs.declared.lock.Meta.{Meta}
@@ -21,7 +21,7 @@ max_metas = 255
 
 -- the most bytes of an instruction's data: as many as have a compact length (Solana)
 abbrev pub max_input_len : ℕ
-max_input_len = 65535
+max_input_len = max_count
 
 -- the byte before the entry of an account that was not listed before (Solana)
 abbrev pub not_listed_before : ℕ
