@@ -1,12 +1,13 @@
 //! How long it takes to lay out the input region of ten accounts of 1 MiB, to take the accounts
-//! back and to check their rules, where no byte is written and where one is; and how long it takes
-//! to copy the data of all ten.
+//! back and to check their rules, where no byte is written and where one is; the same of one
+//! account of 10 MiB of which no byte is written; and how long it takes to copy the data of all ten.
 #![tactic(auto)]
 
 ghost use Rattle.std.specs.Prelude.{◌≡◌, ◌≤◌, length, IfOk};
 ghost use Rattle.std.specs.Arc.{arc_value};
 ghost use Rattle.sol_base.specs.Accounts.{accounts_of, AreShort, IsShort};
 ghost use Rattle.sol_base.specs.Metas.{AreInRange};
+ghost use Rattle.abi_input.specs.Region.{max_metas};
 
 use abi_input::{lay_out, take_back};
 use account_rules::check_touched;
@@ -16,8 +17,11 @@ use std::alloc::Global;
 use std::sync::Arc;
 use std::time::Instant;
 
-/// How many data bytes each account has.
+/// How many data bytes each of the ten accounts has.
 const SIZE: usize = 1_048_576;
+
+/// How many data bytes the large account has.
+const LARGE: usize = 10_485_760;
 
 /// Where the data of the fifth account stand in the region.
 const AT: usize = 8 + 4 * (88 + SIZE + 10_240 + 8) + 88;
@@ -40,10 +44,10 @@ const KEYS: [Key; 10] = [
     Key([9; 32]),
 ];
 
-fn account(alloc: Global) -> std::result::Result<Arc<Account>, OutOfMemory>
+fn account(alloc: Global, size: usize) -> std::result::Result<Arc<Account>, OutOfMemory>
     ensures { IfOk result (λ share. IsShort (arc_value share)) }
 {
-    let data = vec![in alloc; 7u8; SIZE]?;
+    let data = vec![in alloc; 7u8; size]?;
     let bytes = Blob::from_slice(alloc, data.as_slice())?;
     if bytes.len() > MAX_DATA_LEN {
         return Err(OutOfMemory);
@@ -71,16 +75,20 @@ fn meta(index: u8) -> Meta
 /// were touched.
 fn turn(
     alloc: Global,
+    keys: &[Key],
+    writable: &[bool],
     accounts: &[Arc<Account>],
     metas: &[Meta],
     at: Option<usize>,
 ) -> Result<usize>
-    requires count { length (accounts_of accounts.now) ≡ 10 }
-    requires most { length metas.now ≤ 255 }
-    requires range { AreInRange 10 metas.now }
+    requires keys { length (accounts_of accounts.now) ≡ length keys.now }
+    requires marks { length writable.now ≡ length (accounts_of accounts.now) }
+    requires few { length writable.now ≤ 10 }
+    requires most { length metas.now ≤ max_metas }
+    requires range { AreInRange (length (accounts_of accounts.now)) metas.now }
     requires short { AreShort (accounts_of accounts.now) }
 {
-    let mut region = lay_out(alloc, &KEYS, accounts, metas, &[], &PROGRAM)?;
+    let mut region = lay_out(alloc, keys, accounts, metas, &[], &PROGRAM)?;
     let len = region.len();
     if let Some(at) = at {
         if at >= len {
@@ -95,7 +103,7 @@ fn turn(
     let touched = taken.touched.as_slice();
     check_touched(
         &PROGRAM,
-        &[true; 10],
+        writable,
         touched,
         accounts,
         taken.accounts.as_slice(),
@@ -115,20 +123,24 @@ fn copies(alloc: Global, accounts: &[Arc<Account>]) -> Result<usize> {
 fn turns(
     rt: &HostRuntime,
     name: &str,
+    keys: &[Key],
+    writable: &[bool],
     accounts: &[Arc<Account>],
     metas: &[Meta],
     at: Option<usize>,
 ) -> Result<()>
-    requires count { length (accounts_of accounts.now) ≡ 10 }
-    requires most { length metas.now ≤ 255 }
-    requires range { AreInRange 10 metas.now }
+    requires keys { length (accounts_of accounts.now) ≡ length keys.now }
+    requires marks { length writable.now ≡ length (accounts_of accounts.now) }
+    requires few { length writable.now ≤ 10 }
+    requires most { length metas.now ≤ max_metas }
+    requires range { AreInRange (length (accounts_of accounts.now)) metas.now }
     requires short { AreShort (accounts_of accounts.now) }
 {
     let mut least = u128::MAX;
     let mut answer = 0;
     for _ in 0..RUNS {
         let start = Instant::now(rt)?;
-        answer = turn(rt.alloc(), accounts, metas, at)?;
+        answer = turn(rt.alloc(), keys, writable, accounts, metas, at)?;
         least = least.min(start.elapsed(rt)?.as_nanos());
     }
     println!(rt; "{name} {least} ns, {answer}")?;
@@ -150,16 +162,16 @@ fn all_copied(rt: &HostRuntime, accounts: &[Arc<Account>]) -> Result<()> {
 fn main(rt: HostRuntime) -> Result<()> {
     let alloc = rt.alloc();
     let accounts = [
-        account(alloc)?,
-        account(alloc)?,
-        account(alloc)?,
-        account(alloc)?,
-        account(alloc)?,
-        account(alloc)?,
-        account(alloc)?,
-        account(alloc)?,
-        account(alloc)?,
-        account(alloc)?,
+        account(alloc, SIZE)?,
+        account(alloc, SIZE)?,
+        account(alloc, SIZE)?,
+        account(alloc, SIZE)?,
+        account(alloc, SIZE)?,
+        account(alloc, SIZE)?,
+        account(alloc, SIZE)?,
+        account(alloc, SIZE)?,
+        account(alloc, SIZE)?,
+        account(alloc, SIZE)?,
     ];
     let metas = [
         meta(0),
@@ -173,7 +185,10 @@ fn main(rt: HostRuntime) -> Result<()> {
         meta(8),
         meta(9),
     ];
-    turns(&rt, "untouched", &accounts, &metas, None)?;
-    turns(&rt, "one written", &accounts, &metas, Some(AT))?;
-    all_copied(&rt, &accounts)
+    let writable = [true; 10];
+    turns(&rt, "untouched", &KEYS, &writable, &accounts, &metas, None)?;
+    turns(&rt, "one written", &KEYS, &writable, &accounts, &metas, Some(AT))?;
+    all_copied(&rt, &accounts)?;
+    let large = [account(alloc, LARGE)?];
+    turns(&rt, "large untouched", &KEYS[..1], &writable[..1], &large, &metas[..1], None)
 }

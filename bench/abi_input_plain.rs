@@ -1,11 +1,12 @@
 // The plain side of the input region's times: a region in parts, which lends the data of accounts,
 // laid out, written, taken back and checked, without proofs. What it is compared with stands in
-// bench/abi_input.md.
+// bench/abi_input.md. Whether two shares are one is seen by their addresses.
 use std::sync::Arc;
 use std::time::{Duration, Instant};
 
 const COUNT: usize = 10;
 const SIZE: usize = 1 << 20;
+const LARGE: usize = 10 << 20;
 const RUNS: usize = 400;
 
 const GROWTH: usize = 10_240;
@@ -259,19 +260,11 @@ fn entries(region: &Parts, start: &[Arc<Account>], metas: &[Meta]) -> Option<[Op
     Some(entries)
 }
 
-// Whether two shares are one is seen by their addresses where BY_ADDRESS holds, and else by their
-// bytes, as the proved program sees it.
-fn is_unchanged<const BY_ADDRESS: bool>(region: &Parts, entry: usize, account: &Arc<Account>) -> bool {
+fn is_unchanged(region: &Parts, entry: usize, account: &Arc<Account>) -> bool {
     region.number(entry + LAMPORTS_AT) == account.lamports
         && region.key(entry + OWNER_AT) == account.owner
         && region.number(entry + DATA_LEN_AT) == account.bytes.len() as u64
-        && region.lent_at(entry + DATA_AT).is_some_and(|lent| {
-            if BY_ADDRESS {
-                Arc::ptr_eq(lent, account)
-            } else {
-                lent.bytes == account.bytes
-            }
-        })
+        && region.lent_at(entry + DATA_AT).is_some_and(|lent| Arc::ptr_eq(lent, account))
 }
 
 fn bytes_in_region(region: &Parts, at: usize, len: usize) -> Vec<u8> {
@@ -285,7 +278,7 @@ fn bytes_in_region(region: &Parts, at: usize, len: usize) -> Vec<u8> {
     bytes
 }
 
-fn take_back<const BY_ADDRESS: bool>(
+fn take_back(
     region: &Parts,
     accounts: &[Arc<Account>],
     metas: &[Meta],
@@ -295,7 +288,7 @@ fn take_back<const BY_ADDRESS: bool>(
     let mut touched = Vec::with_capacity(accounts.len());
     for (account, entry) in accounts.iter().zip(entries) {
         match entry {
-            Some(entry) if !is_unchanged::<BY_ADDRESS>(region, entry, account) => {
+            Some(entry) if !is_unchanged(region, entry, account) => {
                 let len = region.number(entry + DATA_LEN_AT) as usize;
                 touched.push(true);
                 after.push(Arc::new(Account {
@@ -344,12 +337,12 @@ struct Frame {
 
 // Lays out, writes a byte where one is asked for, takes back and checks. Answers how many accounts
 // were touched.
-fn turn<const BY_ADDRESS: bool>(frame: &Frame, at: Option<usize>) -> usize {
+fn turn(frame: &Frame, at: Option<usize>) -> usize {
     let mut region = lay_out(&frame.keys, &frame.accounts, &frame.metas, &[]);
     if let Some(at) = at {
         region.write(at, &[8]);
     }
-    let (after, touched) = take_back::<BY_ADDRESS>(&region, &frame.accounts, &frame.metas).unwrap();
+    let (after, touched) = take_back(&region, &frame.accounts, &frame.metas).unwrap();
     assert!(region.len > 0 && check(&frame.writable, &touched, &frame.accounts, &after));
     touched.iter().filter(|touched| **touched).count()
 }
@@ -369,18 +362,22 @@ fn least(name: &str, mut work: impl FnMut() -> usize) {
     println!("{name} {} ns, {answer}", least.as_nanos());
 }
 
+fn frame_of(count: usize, size: usize) -> Frame {
+    let account = || Account { lamports: 1, owner: PROGRAM, executable: false, bytes: vec![7; size] };
+    Frame {
+        keys: (0..count).map(|index| [index as u8; 32]).collect(),
+        accounts: (0..count).map(|_| Arc::new(account())).collect(),
+        metas: (0..count).map(|index| Meta { index: index as u8, signer: false, writable: true }).collect(),
+        writable: vec![true; count],
+    }
+}
+
 fn main() {
-    let account = || Account { lamports: 1, owner: PROGRAM, executable: false, bytes: vec![7; SIZE] };
-    let frame = Frame {
-        keys: (0..COUNT).map(|index| [index as u8; 32]).collect(),
-        accounts: (0..COUNT).map(|_| Arc::new(account())).collect(),
-        metas: (0..COUNT).map(|index| Meta { index: index as u8, signer: false, writable: true }).collect(),
-        writable: vec![true; COUNT],
-    };
+    let frame = frame_of(COUNT, SIZE);
     let at = 8 + 4 * first_len(&frame.accounts[0]) + DATA_AT;
-    least("untouched", || turn::<false>(&frame, None));
-    least("one written", || turn::<false>(&frame, Some(at)));
-    least("untouched, by address", || turn::<true>(&frame, None));
-    least("one written, by address", || turn::<true>(&frame, Some(at)));
+    least("untouched", || turn(&frame, None));
+    least("one written", || turn(&frame, Some(at)));
     least("all copied", || copies(&frame));
+    let large = frame_of(1, LARGE);
+    least("large untouched", || turn(&large, None));
 }
