@@ -64,16 +64,28 @@ impl Memory {
 
     /// The number of 1, 2, 4 or 8 bytes at an address, its low byte first.
     #[inline(always)]
-    #[tactic(auto, unfolding(crate::specs::Memory::load_from))]
+    #[tactic(auto, unfolding(crate::specs::Memory::load_from, crate::specs::Memory::read_from))]
     pub fn load(&self, addr: u64, width: u8) -> Result<u64, AccessViolation>
         requires { IsWidth width }
         ensures { result ≡ load_from self.now addr width }
     {
         match width {
-            1 => Ok(u64::from(u8::from_le_bytes(self.array::<1>(addr)?))),
-            2 => Ok(u64::from(u16::from_le_bytes(self.array::<2>(addr)?))),
-            4 => Ok(u64::from(u32::from_le_bytes(self.array::<4>(addr)?))),
-            _ => Ok(u64::from_le_bytes(self.array::<8>(addr)?)),
+            1 => match self.place(addr, 1) {
+                None => Err(violation(addr, 1, false)),
+                Some(place) => Ok(u64::from(u8::from_le_bytes(self.array_at::<1>(place)))),
+            },
+            2 => match self.place(addr, 2) {
+                None => Err(violation(addr, 2, false)),
+                Some(place) => Ok(u64::from(u16::from_le_bytes(self.array_at::<2>(place)))),
+            },
+            4 => match self.place(addr, 4) {
+                None => Err(violation(addr, 4, false)),
+                Some(place) => Ok(u64::from(u32::from_le_bytes(self.array_at::<4>(place)))),
+            },
+            _ => match self.place(addr, 8) {
+                None => Err(violation(addr, 8, false)),
+                Some(place) => Ok(u64::from_le_bytes(self.array_at::<8>(place))),
+            },
         }
     }
 
@@ -343,19 +355,6 @@ impl Memory {
             Region::Stack => self.stack.read(at, into),
             Region::Heap => self.heap.read(at, into),
             Region::Input => self.input.read(at, into),
-        }
-    }
-
-    /// The `N` bytes at an address.
-    #[inline(always)]
-    #[tactic(auto, unfolding(crate::specs::Memory::read_from))]
-    fn array<const N: usize>(&self, addr: u64) -> Result<[u8; N], AccessViolation>
-        requires { 1 ≤ N }
-        ensures { result ≡ read_from self.now addr N }
-    {
-        match self.place(addr, N as u64) {
-            None => Err(violation(addr, N as u64, false)),
-            Some(place) => Ok(self.array_at::<N>(place)),
         }
     }
 

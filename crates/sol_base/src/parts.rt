@@ -164,6 +164,10 @@ impl Parts {
         requires { at + N ≤ length self.now.bytes }
         ensures { result ≡ take N (drop at self.now.bytes) }
     {
+        let near = near::hint(self.hints.as_slice(), at);
+        if let Some(bytes) = self.pieces.array(near.saturating_add(1), at) {
+            return bytes;
+        }
         let mut bytes = [0; N];
         self.read(at, &mut bytes);
         bytes
@@ -227,6 +231,9 @@ impl Parts {
         if N == 0 {
             return Ok(());
         }
+        if self.put_next(at, bytes) {
+            return Ok(());
+        }
         self.open_at(at);
         if self.put_open(at, bytes) {
             return Ok(());
@@ -267,6 +274,19 @@ impl Parts {
     {
         let near = near::hint(self.hints.as_slice(), at);
         self.pieces.put_at(near, at, bytes)
+    }
+
+    /// Puts `N` bytes at a place, if the part after the one that the hint names has them as the
+    /// list's own.
+    fn put_next<const N: usize>(&mut self, at: usize, bytes: [u8; N]) -> bool
+        requires { at + N ≤ length self.old.bytes }
+        ensures all { result ≡ true → self.new.bytes ≡ with_bytes self.old.bytes at bytes.entry }
+        ensures none { result ≡ false → self.new ≡ self.old }
+        ensures prepared { self.new.prepared ≡ self.old.prepared }
+        ensures lent { self.new.lent ≡ self.old.lent }
+    {
+        let near = near::hint(self.hints.as_slice(), at);
+        self.pieces.put_at(near.saturating_add(1), at, bytes)
     }
 
     /// Copies `len` bytes from one place to another, whole or not at all. Where the two ranges
