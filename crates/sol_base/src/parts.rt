@@ -208,9 +208,6 @@ impl Parts {
         ensures lent { self.new.lent ≡ self.old.lent }
         ensures ready { ArePrepared self.old.prepared at N → IsOk result }
     {
-        if self.put_open(at, bytes) {
-            return Ok(());
-        }
         if self.put_near(at, bytes) {
             return Ok(());
         }
@@ -231,11 +228,8 @@ impl Parts {
         if N == 0 {
             return Ok(());
         }
-        if self.put_next(at, bytes) {
-            return Ok(());
-        }
         self.open_at(at);
-        if self.put_open(at, bytes) {
+        if self.put_near(at, bytes) {
             return Ok(());
         }
         self.write(at, &bytes)
@@ -252,19 +246,6 @@ impl Parts {
 
     /// Puts `N` bytes at a place, if the open part has them as the list's own.
     #[inline(always)]
-    fn put_open<const N: usize>(&mut self, at: usize, bytes: [u8; N]) -> bool
-        requires { at + N ≤ length self.old.bytes }
-        ensures all { result ≡ true → self.new.bytes ≡ with_bytes self.old.bytes at bytes.entry }
-        ensures none { result ≡ false → self.new ≡ self.old }
-        ensures prepared { self.new.prepared ≡ self.old.prepared }
-        ensures lent { self.new.lent ≡ self.old.lent }
-    {
-        self.pieces.put(at, bytes)
-    }
-
-    /// Puts `N` bytes at a place, if the part that the hint names has them as the list's own. It is
-    /// called, so that the first try alone stands where a caller's registers are scarce.
-    #[inline(never)]
     fn put_near<const N: usize>(&mut self, at: usize, bytes: [u8; N]) -> bool
         requires { at + N ≤ length self.old.bytes }
         ensures all { result ≡ true → self.new.bytes ≡ with_bytes self.old.bytes at bytes.entry }
@@ -272,21 +253,7 @@ impl Parts {
         ensures prepared { self.new.prepared ≡ self.old.prepared }
         ensures lent { self.new.lent ≡ self.old.lent }
     {
-        let near = near::hint(self.hints.as_slice(), at);
-        self.pieces.put_at(near, at, bytes)
-    }
-
-    /// Puts `N` bytes at a place, if the part after the one that the hint names has them as the
-    /// list's own.
-    fn put_next<const N: usize>(&mut self, at: usize, bytes: [u8; N]) -> bool
-        requires { at + N ≤ length self.old.bytes }
-        ensures all { result ≡ true → self.new.bytes ≡ with_bytes self.old.bytes at bytes.entry }
-        ensures none { result ≡ false → self.new ≡ self.old }
-        ensures prepared { self.new.prepared ≡ self.old.prepared }
-        ensures lent { self.new.lent ≡ self.old.lent }
-    {
-        let near = near::hint(self.hints.as_slice(), at);
-        self.pieces.put_at(near.saturating_add(1), at, bytes)
+        self.pieces.put(at, bytes)
     }
 
     /// Copies `len` bytes from one place to another, whole or not at all. Where the two ranges

@@ -137,25 +137,6 @@ impl Pieces {
         self.opened.put(at, put)
     }
 
-    /// Puts `N` bytes at a place, if the piece at an index has them as the list's own and is not
-    /// the open one.
-    #[inline(always)]
-    pub fn put_at<const N: usize>(&mut self, near: usize, at: usize, put: [u8; N]) -> bool
-        requires order { AreInOrder self.old }
-        requires most { at + N < 2 ^ 64 }
-        ensures order { AreInOrder self.new }
-        ensures prepared { tests_in is_prepared self.new ≡ tests_in is_prepared self.old }
-        ensures all { result ≡ true
-            → bytes_in self.new ≡ with_bytes (bytes_in self.old) at put.entry }
-        ensures none { result ≡ false → bytes_in self.new ≡ bytes_in self.old }
-        ensures lent { StayLent self.old self.new }
-    {
-        if near >= self.list.len() {
-            return false;
-        }
-        self.list[near].put(at, put)
-    }
-
     /// Opens the piece at an index.
     pub fn open(&mut self, index: usize)
         requires index { index < length self.old }
