@@ -20,7 +20,8 @@ pub struct Ended<W: Work> {
     pub(crate) table: KeyTable,
     pub(crate) slots: Vec<Option<Arc<Account>>>,
     pub(crate) rest: Accounts,
-    ghost ends: { AreEnds (W.job origin.value.told) origin.value.start rest table slots.items } by { AreEnds-prop (W.job origin.value.told) origin.value.start rest table slots.items },
+    ghost ends: { AreEnds (W.job origin.value.told) origin.value.start rest table
+        slots.items } by { AreEnds-prop _ _ _ _ _ },
 }
 
 impl<W: Work> Drop for Ended<W> {
