@@ -171,7 +171,6 @@ fn run_seats<W: Work + Sync, G: Gate, R: Threads + Sync>(
     gate: &G,
     seats: &mut [Seat<W>],
 ) -> Result<(), OutOfMemory>
-    requires some { 1 ≤ core.old.lanes }
     requires told { core.old.origin.value.told ≡ W.told work.now }
     requires long { length seats.old ≡ core.old.lanes }
     requires free { NothingHeld (state_after W.job core.old.origin.value core.old.journal.items) }
@@ -211,7 +210,6 @@ pub fn run_waves<W: Work + Sync, G: Gate, R: Threads + Sync>(
     work: &W,
     gate: &G,
 ) -> Result<(), OutOfMemory>
-    requires some { 1 ≤ core.old.lanes }
     requires told { core.old.origin.value.told ≡ W.told work.now }
     requires free { NothingHeld (state_after W.job core.old.origin.value core.old.journal.items) }
     requires none_back { returns core.old.journal.items ≡ 0 }

@@ -51,7 +51,6 @@ fn run_shared<W: Work + Sync, G: Gate, R: Threads + Wait + Sync>(
     work: &W,
     gate: &G,
 ) -> Result<Core<W>, OutOfMemory>
-    requires some { 1 ≤ core.lanes }
     requires told { core.origin.value.told ≡ W.told work.now }
     requires journal { core.journal.items ≡ [] }
     ensures origin { IfOk result (λ ended. ended.origin.value ≡ core.origin.value) }
