@@ -63,8 +63,7 @@ fn run_shared<W: Work + Sync, G: Gate, R: Threads + Wait + Sync>(
 }
 
 /// Runs a work on so many lanes over these accounts. It ends as the serial run does; its accounts
-/// stand apart yet. With one lane
-/// no thread is started.
+/// stand apart yet. With one lane no thread is started.
 pub(crate) fn run_work<W: Work + Sync, G: Gate, R: Threads + Wait + Sync>(
     rt: &R,
     alloc: Global,
