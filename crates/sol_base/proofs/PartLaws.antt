@@ -20,7 +20,11 @@ use Rattle.sol_base.specs.declared.parts.Part.TheVariants.{Bytes, Lent, Zeros}
 use Rattle.sol_base.specs.declared.parts.piece.Piece.{Piece}
 use Rattle.sol_base.specs.declared.parts.piece.Backing.{Backing}
 use Rattle.sol_base.specs.declared.parts.piece.Backing.TheVariants.{Own, Shared, Blank}
-use Rattle.sol_base.specs.Parts.{part_bytes, bytes_of, lent_by, lent_from, IsLentAt, IsLentBy, AreLentBy, StayLent, StaysShared, backing_bytes, piece_bytes, bytes_in, tests_in, for_each_byte, before, starts_from, is_own, is_prepared, with_bytes, AreInOrder, ArePrepared, StayPrepared, DataStandAt}
+use Rattle.sol_base.specs.Parts.{Content, part_bytes, bytes_of, lent_by, lent_from, IsLentAt, IsLentBy, AreLentBy, StayLent, StaysShared, backing_bytes, piece_bytes, bytes_in, tests_in, for_each_byte, before, starts_from, is_own, is_prepared, with_bytes, AreInOrder, ArePrepared, StayPrepared, DataStandAt}
+
+-- two contents of equal fields are one
+pub same_content : (b b' : List ℕ) (p p' : List Bool) (lent : List (ℕ × Account)) → b ≡ b' → p ≡ p' → (let c : Content = record { bytes = b; prepared = p; lent = lent } in c) ≡ record { bytes = b'; prepared = p'; lent = lent }
+same_content b b' p p' lent eb ep = rw (eb, ep) refl
 
 -- a list in pieces, parted at one of them
 flat_map_at : {X A : Type 0} (f : X → List A) (xs : List X) (i : ℕ) (d : X) → i < length xs → flat_map f xs ≡ flat_map f (take i xs) ++ (f (get_or xs i d) ++ flat_map f (drop (i + 1) xs))

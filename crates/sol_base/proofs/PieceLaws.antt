@@ -1,8 +1,8 @@
 -- Pieces of which one stands apart, and leaves a blank one of as many bytes in its place.
-use Rattle.std.proofs.Common.{◌≡◌, ℕ, zero, suc, ◌+◌, ◌-◌, ◌<◌, ◌≤◌, Bool, true, List, [], ◌∷◌, ◌++◌, length, get_or, set, take, drop, min, ◌≢◌, refl, ap, sym, ◌∙◌, subst, inl, inr, rules, arith, length-append, length-drop}
+use Rattle.std.proofs.Common.{◌≡◌, ℕ, zero, suc, ◌+◌, ◌-◌, ◌<◌, ◌≤◌, Bool, true, List, [], ◌∷◌, ◌++◌, length, get_or, set, take, drop, min, ◌≢◌, ◌⊎◌, refl, ap, sym, ◌∙◌, subst, inl, inr, rules, arith, length-append, length-drop}
 use Rattle.std.specs.List.{flat_map}
-use Rattle.std.proofs.lemmas.List.{places, same_lists, take-append-drop, take-take, length-take, length-replicate, get_or-set_same, get_or-set_other, set_past, length-set}
-use Rattle.std.proofs.lemmas.Bool.{cases_lt}
+use Rattle.std.proofs.lemmas.List.{places, same_lists, take-append-drop, take-take, length-take, length-replicate, get_or-set_same, get_or-set_other, set-get_or, set_past, length-set}
+use Rattle.std.proofs.lemmas.Bool.{cases_lt, cases_Bool}
 use Rattle.sol_base.specs.declared.parts.piece.Piece.{Piece}
 use Rattle.sol_base.specs.declared.parts.piece.Backing.{Backing}
 use Rattle.sol_base.specs.Parts.{piece_bytes, bytes_in, tests_in, before, blank_of, is_blank, with_bytes, AreInOrder, AreLentBy, StayLent, StaysShared}
@@ -152,3 +152,85 @@ read_over list place at from done count x into blank order h within inside range
     ap (λ (l : List ℕ). drop e l) was ∙ ap (λ (l : List ℕ). drop e (take len (drop at l))) holed ∙ back_same front empty (piece_bytes x) rest at len e (sym size) (λ more. omega arith) ∙ ap (λ (l : List ℕ). drop e (take len (drop at l))) (sym whole) in
     let before_it : into ≡ take d (drop at (bytes_in all)) ++ drop d into = sym (take-append-drop d into) ∙ ap (λ (l : List ℕ). l ++ drop d into) head in
     read_step all place at from done count x into into order some (sym is) within refl inside range same begin end before_it ∙ ap (λ (l : List ℕ). take e (drop at (bytes_in all)) ++ l) tail ∙ ap (λ (l : List ℕ). l ++ drop e (take len (drop at (bytes_in all)))) (sym (take-take e len (drop at (bytes_in all)) (omega arith))) ∙ take-append-drop e (take len (drop at (bytes_in all)))
+
+-- two items that are set in two places may be set in either order
+set_swap : {A : Type 0} (xs : List A) (i j : ℕ) (x y : A) → i ≢ j → set (set xs i x) j y ≡ set (set xs j y) i x
+set_swap [] i j x y other = refl
+set_swap (z ∷ zs) zero zero x y other = absurd (other refl)
+set_swap (z ∷ zs) zero (suc j) x y other = refl
+set_swap (z ∷ zs) (suc i) zero x y other = refl
+set_swap (z ∷ zs) (suc i) (suc j) x y other = ap (λ (l : List _). z ∷ l) (set_swap zs i j x y (λ same. other (ap suc same)))
+
+-- a piece that is not blank does not stand where the one does that stands apart
+is_other : (list : List Piece) (place i : ℕ) (piece x : Piece) → set list place (blank_of piece) ≡ list → i < length list → x ≡ get_or list i x → is_blank x.backing ≢ true → i ≢ place
+is_other list place i piece x blank h is full = λ same. full (ap (λ (p : Piece). is_blank p.backing) (is ∙ ap (λ (l : List Piece). get_or l i x) (sym blank) ∙ ap (λ (n : ℕ). get_or (set list place (blank_of piece)) n x) same ∙ get_or-set_same list place (blank_of piece) x (subst (λ (n : ℕ). n < length list) same h)))
+
+-- a blank piece that comes for itself changes nothing
+same_list : (list : List Piece) (i : ℕ) (x y : Piece) → x ≡ get_or list i x → y ≡ x → set list i y ≡ list
+same_list list i x y is kept = ap (λ (p : Piece). set list i p) (kept ∙ is) ∙ set-get_or list i x
+
+-- the blank piece still stands apart, where another piece changes
+pub near_kept : (list : List Piece) (place i : ℕ) (piece x y : Piece) → set list place (blank_of piece) ≡ list → i < length list → x ≡ get_or list i x → (is_blank x.backing ≡ true → y ≡ x) → set (set list i y) place (blank_of piece) ≡ set list i y
+near_kept list place i piece x y blank h is kept =
+    elim (cases_Bool (is_blank x.backing)) [
+      | inl empty ↦ let same : set list i y ≡ list = same_list list i x y is (kept empty) in
+          ap (λ (l : List Piece). set l place (blank_of piece)) same ∙ blank ∙ sym same
+      | inr full ↦ set_swap list i place y (blank_of piece) (is_other list place i piece x blank h is (λ empty. absurd (cc))) ∙ ap (λ (l : List Piece). set l i y) blank
+    ]
+
+-- where a piece changes that does not stand apart, one of all pieces does; a blank one stays
+abbrev pub Lands : List Piece → ℕ → ℕ → Piece → Piece → Piece → Type 0
+Lands list place i piece x y =
+    ((is_blank x.backing ≡ true) × (set (set list i y) place piece ≡ set list place piece))
+    ⊎ ((set (set list i y) place piece ≡ set (set list place piece) i y)
+    × (x ≡ get_or (set list place piece) i x))
+
+pub near_lands : (list : List Piece) (place i : ℕ) (piece x y : Piece) → set list place (blank_of piece) ≡ list → i < length list → x ≡ get_or list i x → (is_blank x.backing ≡ true → y ≡ x) → Lands list place i piece x y
+near_lands list place i piece x y blank h is kept =
+    elim (cases_Bool (is_blank x.backing)) [
+      | inl empty ↦ inl (empty, ap (λ (l : List Piece). set l place piece) (same_list list i x y is (kept empty)))
+      | inr full ↦ let other : is_blank x.backing ≢ true = λ empty. absurd (cc) in
+          inr (set_swap list i place y piece (is_other list place i piece x blank h is other), in_list list place i piece x blank h is other)
+    ]
+
+-- what stays, where such a piece changes
+pub lands_order : (list : List Piece) (place i : ℕ) (piece x y : Piece) → Lands list place i piece x y → i < length list → AreInOrder (set list place piece) → y.start ≡ x.start → length (piece_bytes y) ≡ length (piece_bytes x) → AreInOrder (set (set list i y) place piece)
+lands_order list place i piece x y lands h order start size =
+    elim lands [
+      | inl kept ↦ subst AreInOrder (sym kept.1) order
+      | inr is ↦ subst AreInOrder (sym is.0) (order_set (set list place piece) i x y order (rw length-set h) (start ∙ ap (λ (p : Piece). p.start) is.1) (size ∙ ap (λ (p : Piece). length (piece_bytes p)) is.1))
+    ]
+
+pub lands_tests : (test : Backing → Bool) (list : List Piece) (place i : ℕ) (piece x y : Piece) → Lands list place i piece x y → i < length list → length (piece_bytes y) ≡ length (piece_bytes x) → test y.backing ≡ test x.backing → tests_in test (set (set list i y) place piece) ≡ tests_in test (set list place piece)
+lands_tests test list place i piece x y lands h size answer =
+    elim lands [
+      | inl kept ↦ ap (tests_in test) kept.1
+      | inr is ↦ ap (tests_in test) is.0 ∙ tests_kept test (set list place piece) i x y (rw length-set h) (size ∙ ap (λ (p : Piece). length (piece_bytes p)) is.1) (answer ∙ ap (λ (p : Piece). test p.backing) is.1)
+    ]
+
+pub lands_bytes : (list : List Piece) (place i : ℕ) (piece x y : Piece) → Lands list place i piece x y → i < length list → piece_bytes y ≡ piece_bytes x → bytes_in (set (set list i y) place piece) ≡ bytes_in (set list place piece)
+lands_bytes list place i piece x y lands h same =
+    elim lands [
+      | inl kept ↦ ap bytes_in kept.1
+      | inr is ↦ ap bytes_in is.0 ∙ bytes_kept (set list place piece) i x y (rw length-set h) (same ∙ ap piece_bytes is.1)
+    ]
+
+pub lands_lent : (list : List Piece) (place i : ℕ) (piece x y : Piece) → Lands list place i piece x y → i < length list → y.start ≡ x.start → StaysShared x.backing y.backing → StayLent (set list place piece) (set (set list i y) place piece)
+lands_lent list place i piece x y lands h start stays lent all =
+    elim lands [
+      | inl kept ↦ subst (AreLentBy lent) (sym kept.1) all
+      | inr is ↦ subst (AreLentBy lent) (sym is.0) (lent_set (set list place piece) i x y (rw length-set h) (start ∙ ap (λ (p : Piece). p.start) is.1) (subst (λ (p : Piece). StaysShared p.backing y.backing) is.1 stays) lent all)
+    ]
+
+-- a write into such a piece is one into the list
+pub lands_write : (list : List Piece) (place i at : ℕ) (piece x y : Piece) (bytes : List ℕ) → Lands list place i piece x y → i < length list → is_blank x.backing ≢ true → AreInOrder (set list place piece) → x.start ≤ at → at - x.start + length bytes ≤ length (piece_bytes x) → piece_bytes y ≡ with_bytes (piece_bytes x) (at - x.start) bytes → bytes_in (set (set list i y) place piece) ≡ with_bytes (bytes_in (set list place piece)) at bytes
+lands_write list place i at piece x y bytes lands h full order first inside becomes =
+    let all : List Piece = set list place piece in
+    let some : i < length all = rw length-set h in
+    elim lands [
+      | inl kept ↦ absurd (full kept.0)
+      | inr is ↦
+          let start : (get_or all i x).start ≡ before all i = start_at all i x order some in
+          let begins : x.start ≡ (get_or all i x).start = ap (λ (p : Piece). p.start) is.1 in
+          ap bytes_in is.0 ∙ write_there all i at x y bytes order some (omega arith) (subst (λ (p : Piece). at - p.start + length bytes ≤ length (piece_bytes p)) is.1 inside) (subst (λ (p : Piece). piece_bytes y ≡ with_bytes (piece_bytes p) (at - p.start) bytes) is.1 becomes)
+    ]

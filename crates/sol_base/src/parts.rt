@@ -15,6 +15,7 @@ use crate::account::Account;
 use crate::blob::Blob;
 use crate::items::Items;
 use crate::memory::OutOfMemory;
+use near::Hint;
 use piece::{Backing, Piece};
 use pieces::Pieces;
 use proof_note::Note;
@@ -40,7 +41,7 @@ pub enum Part {
 pub struct Parts {
     pieces: Pieces,
     /// Where a place is sought first.
-    hints: Vec<usize>,
+    hints: Vec<Hint>,
     len: usize,
     /// The accounts that were lent, each with the place where its data began.
     lent: Note<Items<(usize, Account)>>,
@@ -100,7 +101,7 @@ impl Parts {
         requires { at < length self.now.bytes }
         ensures { result ≡ slice_index self.now.bytes at }
     {
-        let near = near::hint(self.hints.as_slice(), at);
+        let near = near::first(self.hints.as_slice(), at);
         let piece = self.pieces.at(self.pieces.find_from(near, at));
         piece.backing.get(at - piece.start)
     }
@@ -115,7 +116,7 @@ impl Parts {
         if at >= self.len {
             return None;
         }
-        let near = near::hint(self.hints.as_slice(), at);
+        let near = near::first(self.hints.as_slice(), at);
         let piece = self.pieces.at(self.pieces.find_from(near, at));
         if piece.start == at {
             piece.backing.lent()
@@ -133,7 +134,7 @@ impl Parts {
         if into.is_empty() {
             return;
         }
-        let near = near::hint(self.hints.as_slice(), at);
+        let near = near::first(self.hints.as_slice(), at);
         let first = self.pieces.find_from(near, at);
         let piece = self.pieces.at(first);
         let from = at - piece.start;
@@ -150,7 +151,7 @@ impl Parts {
         requires { at + N ≤ length self.now.bytes }
         ensures { result ≡ take N (drop at self.now.bytes) }
     {
-        let near = near::hint(self.hints.as_slice(), at);
+        let near = near::first(self.hints.as_slice(), at);
         match self.pieces.array(near, at) {
             Some(bytes) => bytes,
             None => self.array_over(at),
@@ -164,7 +165,7 @@ impl Parts {
         requires { at + N ≤ length self.now.bytes }
         ensures { result ≡ take N (drop at self.now.bytes) }
     {
-        let near = near::hint(self.hints.as_slice(), at);
+        let near = near::first(self.hints.as_slice(), at);
         if let Some(bytes) = self.pieces.array(near.saturating_add(1), at) {
             return bytes;
         }
@@ -187,7 +188,7 @@ impl Parts {
             return Ok(());
         }
         let alloc = *self.hints.allocator();
-        let near = near::hint(self.hints.as_slice(), at);
+        let near = near::first(self.hints.as_slice(), at);
         let mut pieces = self.pieces.take(alloc);
         let written = range::write_range(alloc, pieces.as_mut_slice(), near, at, bytes);
         self.pieces = Pieces::of(pieces);
@@ -208,6 +209,9 @@ impl Parts {
         ensures lent { self.new.lent ≡ self.old.lent }
         ensures ready { ArePrepared self.old.prepared at N → IsOk result }
     {
+        if self.put_open(at, bytes) {
+            return Ok(());
+        }
         if self.put_near(at, bytes) {
             return Ok(());
         }
@@ -229,7 +233,7 @@ impl Parts {
             return Ok(());
         }
         self.open_at(at);
-        if self.put_near(at, bytes) {
+        if self.put_open(at, bytes) {
             return Ok(());
         }
         self.write(at, &bytes)
@@ -240,13 +244,13 @@ impl Parts {
         requires { at < length self.old.bytes }
         ensures { self.new ≡ self.old }
     {
-        let near = near::hint(self.hints.as_slice(), at);
+        let near = near::first(self.hints.as_slice(), at);
         self.pieces.open(self.pieces.find_from(near, at));
     }
 
     /// Puts `N` bytes at a place, if the open part has them as the list's own.
     #[inline(always)]
-    fn put_near<const N: usize>(&mut self, at: usize, bytes: [u8; N]) -> bool
+    fn put_open<const N: usize>(&mut self, at: usize, bytes: [u8; N]) -> bool
         requires { at + N ≤ length self.old.bytes }
         ensures all { result ≡ true → self.new.bytes ≡ with_bytes self.old.bytes at bytes.entry }
         ensures none { result ≡ false → self.new ≡ self.old }
@@ -254,6 +258,20 @@ impl Parts {
         ensures lent { self.new.lent ≡ self.old.lent }
     {
         self.pieces.put(at, bytes)
+    }
+
+    /// Puts `N` bytes at a place, if the part that the hint names has them as the list's own. It is
+    /// called, so that the first try alone stands where a caller's registers are scarce.
+    #[inline(never)]
+    fn put_near<const N: usize>(&mut self, at: usize, bytes: [u8; N]) -> bool
+        requires { at + N ≤ length self.old.bytes }
+        ensures all { result ≡ true → self.new.bytes ≡ with_bytes self.old.bytes at bytes.entry }
+        ensures none { result ≡ false → self.new ≡ self.old }
+        ensures prepared { self.new.prepared ≡ self.old.prepared }
+        ensures lent { self.new.lent ≡ self.old.lent }
+    {
+        let near = near::first(self.hints.as_slice(), at);
+        self.pieces.put_near(near, at, bytes)
     }
 
     /// Copies `len` bytes from one place to another, whole or not at all. Where the two ranges

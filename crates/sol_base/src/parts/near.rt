@@ -1,5 +1,5 @@
 //! Hints at the piece that a place lies in: mostly it is the one that the hint names, or follows
-//! soon. A hint may be any number.
+//! soon. A hint is two numbers that nothing rests on.
 ghost use Rattle.std.specs.Prelude.{◌<◌, ◌≤◌, ◌+◌, length};
 ghost use Rattle.sol_base.specs.Parts.{bytes_in, before, AreInOrder};
 
@@ -14,21 +14,39 @@ const PLACES: usize = 512;
 /// From a hint on, so many pieces are passed before the others are searched.
 const STEPS: usize = 8;
 
-/// For each 512 places the piece that the first of them lies in.
-pub fn hints_of(alloc: Global, pieces: &[Piece]) -> Result<Vec<usize>, OutOfMemory> {
+/// Where the places of a block are sought first.
+#[derive(Clone, Copy)]
+pub struct Hint {
+    /// The piece that the first of them lies in.
+    piece: u32,
+    /// Where the next piece begins.
+    end: u32,
+}
+
+/// A hint for each 512 places.
+pub fn hints_of(alloc: Global, pieces: &[Piece]) -> Result<Vec<Hint>, OutOfMemory> {
     let mut hints = Vec::new(alloc);
     for (index, piece) in pieces.iter().enumerate() {
         let end = piece.start.saturating_add(piece.backing.len());
-        hints.resize(end.div_ceil(PLACES), index)?;
+        let hint = Hint {
+            piece: at_most(index),
+            end: at_most(end),
+        };
+        hints.resize(end.div_ceil(PLACES), hint)?;
     }
     Ok(hints)
 }
 
+/// A number that fits into 32 bits.
+fn at_most(number: usize) -> u32 {
+    number.min(u32::MAX as usize) as u32
+}
+
 /// The piece to look at first for a place.
 #[inline(always)]
-pub fn hint(hints: &[usize], at: usize) -> usize {
+pub fn first(hints: &[Hint], at: usize) -> usize {
     match hints.get(at / PLACES) {
-        Some(index) => *index,
+        Some(hint) => hint.piece as usize + usize::from(at >= hint.end as usize),
         None => 0,
     }
 }

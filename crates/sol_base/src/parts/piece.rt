@@ -140,6 +140,7 @@ impl Backing {
         ensures prepared { is_prepared self.new ≡ is_prepared self.old }
         ensures blank { is_blank self.new ≡ is_blank self.old }
         ensures never { is_blank self.old ≡ true → result ≡ false }
+        ensures kept { is_blank self.old ≡ true → self.new ≡ self.old }
         ensures shared { StaysShared self.old self.new }
     {
         match self {
@@ -247,6 +248,7 @@ impl Piece {
         ensures prepared { is_prepared self.new.backing ≡ is_prepared self.old.backing }
         ensures blank { is_blank self.new.backing ≡ is_blank self.old.backing }
         ensures never { is_blank self.old.backing ≡ true → result ≡ false }
+        ensures kept { is_blank self.old.backing ≡ true → self.new ≡ self.old }
         ensures shared { StaysShared self.old.backing self.new.backing }
     {
         if at < self.start {

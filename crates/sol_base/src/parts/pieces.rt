@@ -1,4 +1,4 @@
-//! The pieces of a list of bytes, of which the one that was written last stands apart.
+//! The pieces of a list of bytes, of which one that is written again and again stands apart.
 ghost use Rattle.std.specs.Prelude.{◌≡◌, ◌<◌, ◌≤◌, ◌+◌, ◌^◌, true, false, length, take, drop, IfSome, slice_index_or, slice_set};
 ghost use Rattle.sol_base.specs.Parts.{bytes_in, tests_in, before, blank_of, is_prepared, with_bytes, AreInOrder, StayLent};
 
@@ -17,6 +17,8 @@ pub struct Pieces {
     opened: Piece,
     /// The place of the open piece, and one behind the last where none is open.
     place: usize,
+    /// The piece that the last write met where the open one had not its place.
+    last: usize,
 }
 
 impl Model for Pieces {
@@ -42,6 +44,7 @@ impl Pieces {
             list,
             opened: Piece::blank(0, 0),
             place,
+            last: place,
         }
     }
 
@@ -53,6 +56,7 @@ impl Pieces {
             mut list,
             opened,
             place,
+            last: _,
         } = self;
         if place < list.len() {
             list[place] = opened;
@@ -135,6 +139,48 @@ impl Pieces {
         ensures lent { StayLent self.old self.new }
     {
         self.opened.put(at, put)
+    }
+
+    /// Puts `N` bytes at a place, if the piece at an index has them as the list's own and is not
+    /// the open one.
+    #[inline(always)]
+    pub fn put_at<const N: usize>(&mut self, near: usize, at: usize, put: [u8; N]) -> bool
+        requires order { AreInOrder self.old }
+        requires most { at + N < 2 ^ 64 }
+        ensures order { AreInOrder self.new }
+        ensures prepared { tests_in is_prepared self.new ≡ tests_in is_prepared self.old }
+        ensures all { result ≡ true
+            → bytes_in self.new ≡ with_bytes (bytes_in self.old) at put.entry }
+        ensures none { result ≡ false → bytes_in self.new ≡ bytes_in self.old }
+        ensures lent { StayLent self.old self.new }
+    {
+        if near >= self.list.len() {
+            return false;
+        }
+        self.list[near].put(at, put)
+    }
+
+    /// Puts `N` bytes at a place, if the piece at an index has them as the list's own. A piece that
+    /// is met so twice in a row is opened.
+    pub fn put_near<const N: usize>(&mut self, near: usize, at: usize, put: [u8; N]) -> bool
+        requires order { AreInOrder self.old }
+        requires most { length (bytes_in self.old) < 2 ^ 32 }
+        requires within { at + N ≤ length (bytes_in self.old) }
+        ensures order { AreInOrder self.new }
+        ensures prepared { tests_in is_prepared self.new ≡ tests_in is_prepared self.old }
+        ensures all { result ≡ true
+            → bytes_in self.new ≡ with_bytes (bytes_in self.old) at put.entry }
+        ensures none { result ≡ false → bytes_in self.new ≡ bytes_in self.old }
+        ensures lent { StayLent self.old self.new }
+    {
+        if near != self.last {
+            self.last = near;
+            return self.put_at(near, at, put);
+        }
+        if near < self.list.len() {
+            self.open(near);
+        }
+        self.put(at, put)
     }
 
     /// Opens the piece at an index.

@@ -1,19 +1,15 @@
-use Rattle.std.proofs.Common.{◌≡◌, ◌∙◌, ap, sym, refl, List, ℕ, Bool, length}
-use Rattle.sol_base.specs.declared.account.Account.{Account}
+use Rattle.std.proofs.Common.{◌≡◌, ◌∙◌, ap, sym, List, length}
 use Rattle.sol_base.specs.declared.parts.piece.Piece.{Piece}
-use Rattle.sol_base.specs.Parts.{Content, bytes_in, is_prepared}
-use Rattle.sol_base.proofs.PartLaws.{tests_length}
+use Rattle.sol_base.specs.Parts.{bytes_in, is_prepared}
+use Rattle.sol_base.proofs.PartLaws.{same_content, tests_length}
 use Rattle.sol_base.proofs.parts.Parts.put_near.Goals as goal
-
-same_content : (b b' : List ℕ) (p p' : List Bool) (lent : List (ℕ × Account)) → b ≡ b' → p ≡ p' → (let c : Content = record { bytes = b; prepared = p; lent = lent } in c) ≡ record { bytes = b'; prepared = p'; lent = lent }
-same_content b b' p p' lent eb ep = rw (eb, ep) refl
 
 pub invariant_of-self : goal.invariant_of-self
 invariant_of-self g c =
-    let pieces : List Piece = c.put.new.self in
+    let pieces : List Piece = c.put_near.new.self in
     let old : List Piece = c.self.inside.pieces in
-    let same : length (bytes_in old) ≡ length (bytes_in pieces) = sym (tests_length is_prepared old) ∙ ap length (sym c.put.ensures.prepared) ∙ tests_length is_prepared pieces in
-    (c.put.ensures.order, c.put.ensures.lent c.self.inside.lent.value c.self.invariant.1, c.self.invariant.2 ∙ same, c.self.invariant.3)
+    let same : length (bytes_in old) ≡ length (bytes_in pieces) = sym (tests_length is_prepared old) ∙ ap length (sym c.put_near.ensures.prepared) ∙ tests_length is_prepared pieces in
+    (c.put_near.ensures.order, c.put_near.ensures.lent c.self.inside.lent.value c.self.invariant.1, c.self.invariant.2 ∙ same, c.self.invariant.3)
 
 pub returns-clause-none : goal.returns-clause-none
-returns-clause-none g c = λ none. same_content _ _ _ _ _ (c.put.ensures.none none) c.put.ensures.prepared ∙ c.self.view_is
+returns-clause-none g c = λ none. same_content _ _ _ _ _ (c.put_near.ensures.none none) c.put_near.ensures.prepared ∙ c.self.view_is
