@@ -212,13 +212,12 @@ impl Parts {
         if self.put_open(at, bytes) {
             return Ok(());
         }
-        if self.put_near(at, bytes) {
-            return Ok(());
-        }
         self.write_over(at, bytes)
     }
 
-    /// Writes `N` bytes from a place on, which may lie over several parts.
+    /// Writes `N` bytes from a place on, which the open part has not, or which lie over several
+    /// parts. It is called, so that the first try alone stands where a caller's registers are
+    /// scarce.
     #[cold]
     #[inline(never)]
     fn write_over<const N: usize>(&mut self, at: usize, bytes: [u8; N]) -> Result<(), OutOfMemory>
@@ -229,7 +228,7 @@ impl Parts {
         ensures lent { self.new.lent ≡ self.old.lent }
         ensures ready { ArePrepared self.old.prepared at N → IsOk result }
     {
-        if N == 0 {
+        if N == 0 || self.put_near(at, bytes) {
             return Ok(());
         }
         self.open_at(at);
@@ -260,9 +259,8 @@ impl Parts {
         self.pieces.put(at, bytes)
     }
 
-    /// Puts `N` bytes at a place, if the part that the hint names has them as the list's own. It is
-    /// called, so that the first try alone stands where a caller's registers are scarce.
-    #[inline(never)]
+    /// Puts `N` bytes at a place, if the part that the hint names has them as the list's own.
+    #[inline(always)]
     fn put_near<const N: usize>(&mut self, at: usize, bytes: [u8; N]) -> bool
         requires { at + N ≤ length self.old.bytes }
         ensures all { result ≡ true → self.new.bytes ≡ with_bytes self.old.bytes at bytes.entry }
@@ -270,7 +268,7 @@ impl Parts {
         ensures prepared { self.new.prepared ≡ self.old.prepared }
         ensures lent { self.new.lent ≡ self.old.lent }
     {
-        let near = near::first(self.hints.as_slice(), at);
+        let near = near::nearest(self.hints.as_slice(), at);
         self.pieces.put_near(near, at, bytes)
     }
 

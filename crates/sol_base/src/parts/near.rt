@@ -42,9 +42,18 @@ fn at_most(number: usize) -> u32 {
     number.min(u32::MAX as usize) as u32
 }
 
-/// The piece to look at first for a place.
+/// The piece to look at first for a place: the one that its block begins in.
 #[inline(always)]
 pub fn first(hints: &[Hint], at: usize) -> usize {
+    match hints.get(at / PLACES) {
+        Some(hint) => hint.piece as usize,
+        None => 0,
+    }
+}
+
+/// The same, and the next one for a place behind its end.
+#[inline(always)]
+pub fn nearest(hints: &[Hint], at: usize) -> usize {
     match hints.get(at / PLACES) {
         Some(hint) => hint.piece as usize + usize::from(at >= hint.end as usize),
         None => 0,

@@ -162,6 +162,7 @@ impl Pieces {
 
     /// Puts `N` bytes at a place, if the piece at an index has them as the list's own. A piece that
     /// is met so twice in a row is opened.
+    #[inline(always)]
     pub fn put_near<const N: usize>(&mut self, near: usize, at: usize, put: [u8; N]) -> bool
         requires order { AreInOrder self.old }
         requires most { length (bytes_in self.old) < 2 ^ 32 }
