@@ -1,18 +1,28 @@
-//! A work on its lanes: alone in order, or beside each other over a shared desk.
-ghost use Rattle.std.specs.Prelude.{◌≡◌, ◌<◌, ◌≤◌, [], IfOk, OnOk};
+//! A work on its lanes: alone in order, or beside each other over a shared desk, while the front of
+//! the record is hashed.
+ghost use Rattle.std.specs.Prelude.{◌≡◌, ◌<◌, ◌≤◌, [], All, IfOk, None, OnOk, Some, length};
 ghost use Rattle.account_store.specs.State.{at};
-ghost use Rattle.bank_core.specs.Ends.{serial_outcomes};
+ghost use Rattle.bank_law.specs.History.{holds, returns};
+ghost use Rattle.bank_core.specs.Ends.{outcomes_at_end, serial_outcomes};
 ghost use Rattle.bank_core.specs.Openings.{AreNumbered};
 ghost use Rattle.bank_core.specs.Origins.{AllDoneAfter};
+ghost use Rattle.tx_exec.specs.TransactionLaws.{IsSmallOutcome};
+ghost use Rattle.block_run.specs.Ending.{AreOf};
+ghost use Rattle.block_run.specs.Front.{IsBegun};
 
+use crate::block::Head;
+use crate::front::{Begun, begin, read_front};
 use account_store::Accounts;
+use admission::Chosen;
 use bank_core::{Core, Ended, Numbered, Take, Work};
 use bank_lanes::{Gate, run_lanes};
-use bank_shared::SharedDesk;
-use sol_base::{Items, OutOfMemory};
+use bank_shared::{Pass, Reader, SharedDesk};
+use sol_base::{Blob, Hash32, Items, OutOfMemory};
 use std::alloc::Global;
 use std::sync::Wait;
-use std::thread::Threads;
+use std::sync::atomic::AtomicBool;
+use std::sync::atomic::Ordering::SeqCst;
+use std::thread::{Threads, join_mut};
 use tx_report::Outcome;
 
 /// Takes, passes the gate, performs and commits on the one lane of a core, until all positions are
@@ -43,27 +53,116 @@ fn run_alone<W: Work, G: Gate>(core: &mut Core<W>, work: &W, gate: &G) -> Result
     }
 }
 
-/// Shares the core among its lanes, each on a thread of its own, until all positions are done.
+/// Runs the lanes of a desk, and hashes the front of the record beside them.
+fn run_beside<W: Work + Sync, G: Gate, R: Threads + Wait + Sync>(
+    rt: &R,
+    alloc: Global,
+    desk: &SharedDesk<W>,
+    pass: &mut Pass<W>,
+    reader: &mut Reader<W>,
+    work: &W,
+    gate: &G,
+    head: &Head,
+    previous: Hash32,
+    wires: &[Blob],
+    order: &[Chosen],
+) -> (Result<Begun, OutOfMemory>, Result<(), OutOfMemory>)
+    requires told { desk.now.table.shared.key.value.origin.told ≡ W.told work.now }
+    requires table { (pass.old.seat.table_id ≡ desk.now.table.shared.table_id)
+        × (reader.old.seat.table_id ≡ desk.now.table.shared.table_id) }
+    requires desk { (pass.old.seat.me.0.origin ≡ Some desk.now.table.shared.key.value)
+        × (reader.old.seat.me.0.origin ≡ Some desk.now.table.shared.key.value) }
+    requires idle { (holds pass.old.seat.me.0.mine ≡ None)
+        × (returns pass.old.seat.me.0.mine ≡ 0) }
+    requires of { AreOf wires.now order.now }
+    requires one_each { length order.now
+        ≡ (W.job desk.now.table.shared.key.value.origin.told).count }
+    requires small { All IsSmallOutcome
+        (outcomes_at_end W.job desk.now.table.shared.key.value.origin) }
+    ensures table { pass.new.seat.table_id ≡ pass.old.seat.table_id }
+    ensures desk { pass.new.seat.me.0.origin ≡ pass.old.seat.me.0.origin }
+    ensures begun { IfOk result.0 (IsBegun head.now previous wires.now order.now
+        (outcomes_at_end W.job desk.now.table.shared.key.value.origin)) }
+    ensures done { OnOk result.1 (AllDoneAfter W.job desk.now.table.shared.key.value.origin
+        pass.new.seat.me.0.seen) }
+{
+    let ended = AtomicBool::new(false);
+    join_mut(
+        rt,
+        &mut || -> Result<Begun, OutOfMemory>
+            requires { (reader.now.seat.table_id ≡ desk.now.table.shared.table_id)
+                × (reader.now.seat.me.0.origin ≡ Some desk.now.table.shared.key.value)
+                × AreOf wires.now order.now
+                × (length order.now ≡ (W.job desk.now.table.shared.key.value.origin.told).count)
+                × All IsSmallOutcome (outcomes_at_end W.job
+                desk.now.table.shared.key.value.origin) }
+            ensures { IfOk result (IsBegun head.entry.now previous wires.entry.now order.entry.now
+                (outcomes_at_end W.job desk.entry.now.table.shared.key.value.origin)) }
+        { read_front(rt, alloc, desk, reader, &ended, head, previous, wires, order) },
+        &mut || -> Result<(), OutOfMemory>
+            requires { (desk.now.table.shared.key.value.origin.told ≡ W.told work.now)
+                × (pass.now.seat.table_id ≡ desk.now.table.shared.table_id)
+                × (pass.now.seat.me.0.origin ≡ Some desk.now.table.shared.key.value)
+                × (holds pass.now.seat.me.0.mine ≡ None)
+                × (returns pass.now.seat.me.0.mine ≡ 0) }
+            ensures table { pass.exit.now.seat.table_id ≡ desk.entry.now.table.shared.table_id }
+            ensures desk { pass.exit.now.seat.me.0.origin
+                ≡ Some desk.entry.now.table.shared.key.value }
+            ensures done { OnOk result (AllDoneAfter W.job
+                desk.entry.now.table.shared.key.value.origin pass.exit.now.seat.me.0.seen) }
+        {
+            let run = run_lanes(rt, alloc, desk, pass, work, gate);
+            ended.store(true, SeqCst);
+            run
+        },
+    )
+}
+/// Shares the core among its lanes, each on a thread of its own, until all positions are done. A
+/// further thread hashes the front of the record.
 fn run_shared<W: Work + Sync, G: Gate, R: Threads + Wait + Sync>(
     rt: &R,
     alloc: Global,
     core: Core<W>,
     work: &W,
     gate: &G,
-) -> Result<Core<W>, OutOfMemory>
+    head: &Head,
+    previous: Hash32,
+    wires: &[Blob],
+    order: &[Chosen],
+) -> Result<(Core<W>, Begun), OutOfMemory>
     requires told { core.origin.value.told ≡ W.told work.now }
     requires journal { core.journal.items ≡ [] }
-    ensures origin { IfOk result (λ ended. ended.origin.value ≡ core.origin.value) }
-    ensures done { IfOk result (λ ended.
-        AllDoneAfter W.job ended.origin.value ended.journal.items) }
+    requires of { AreOf wires.now order.now }
+    requires one_each { length order.now ≡ (W.job core.origin.value.told).count }
+    requires small { All IsSmallOutcome (outcomes_at_end W.job core.origin.value) }
+    ensures origin { IfOk result (λ end. end.0.origin.value ≡ core.origin.value) }
+    ensures done { IfOk result (λ end.
+        AllDoneAfter W.job end.0.origin.value end.0.journal.items) }
+    ensures begun { IfOk result (λ end. IsBegun head.now previous wires.now order.now
+        (outcomes_at_end W.job core.origin.value) end.1) }
 {
     let (desk, mut pass) = SharedDesk::new(alloc, core)?;
-    run_lanes(rt, alloc, &desk, &mut pass, work, gate)?;
-    Ok(desk.close(rt, pass))
+    let mut reader = desk.reader(&mut pass);
+    let (begun, run) = run_beside(
+        rt,
+        alloc,
+        &desk,
+        &mut pass,
+        &mut reader,
+        work,
+        gate,
+        head,
+        previous,
+        wires,
+        order,
+    );
+    run?;
+    Ok((desk.close(rt, pass), begun?))
 }
 
 /// Runs a work on so many lanes over these accounts. It ends as the serial run does; its accounts
-/// stand apart yet. With one lane no thread is started.
+/// stand apart yet, and the front of its record is hashed as far as that was known. With one lane
+/// no thread is started.
 pub(crate) fn run_work<W: Work + Sync, G: Gate, R: Threads + Wait + Sync>(
     rt: &R,
     alloc: Global,
@@ -72,21 +171,35 @@ pub(crate) fn run_work<W: Work + Sync, G: Gate, R: Threads + Wait + Sync>(
     numbered: Numbered,
     lanes: u32,
     gate: &G,
-) -> Result<(Ended<W>, Items<Outcome>), OutOfMemory>
+    head: &Head,
+    previous: Hash32,
+    wires: &[Blob],
+    order: &[Chosen],
+) -> Result<(Ended<W>, Items<Outcome>, Begun), OutOfMemory>
     requires some { 1 ≤ lanes }
     requires most { lanes ≤ 64 }
     requires numbered { AreNumbered (W.job (W.told work.now)) numbered.table numbered.graph
         numbered.room }
+    requires of { AreOf wires.now order.now }
+    requires one_each { length order.now ≡ (W.job (W.told work.now)).count }
+    requires small { All IsSmallOutcome (serial_outcomes (W.job (W.told work.now)) (at accounts)) }
     ensures origin { IfOk result (λ end.
         end.0.origin.value ≡ record { start = accounts; told = W.told work.now }) }
     ensures outcomes { IfOk result (λ end. let job = W.job (W.told work.now) in
         end.1 ≡ serial_outcomes job (at accounts)) }
+    ensures begun { IfOk result (λ end.
+        IsBegun head.now previous wires.now order.now end.1 end.2) }
 {
     let mut core = Core::over(alloc, accounts, work, lanes, numbered)?;
     if lanes == 1 {
         run_alone(&mut core, work, gate)?;
-        core.part()
+        let (ended, outcomes) = core.part()?;
+        Ok((ended, outcomes, begin(head, previous, order)?))
     } else {
-        run_shared(rt, alloc, core, work, gate)?.part()
+        let (core, begun) = run_shared(
+            rt, alloc, core, work, gate, head, previous, wires, order,
+        )?;
+        let (ended, outcomes) = core.part()?;
+        Ok((ended, outcomes, begun))
     }
 }

@@ -41,6 +41,7 @@ fn run_order<G: Gate, R: Threads + Wait + Sync>(
     ensures counted { IfOk result (λ end. IsCounted end.block) }
     ensures writable { IfOk result (λ end. IsWritable end.after) }
 {
+    let previous = snapshot.recent.newest();
     let (work, numbered) = work_of(rt, alloc, lanes, &snapshot, head.slot, order)?;
     let Snapshot {
         slot: _,
@@ -48,7 +49,19 @@ fn run_order<G: Gate, R: Threads + Wait + Sync>(
         recent,
         accounts,
     } = snapshot;
-    let (ended, outcomes) = run_work(rt, alloc, accounts, &work, numbered, lanes, gate)?;
+    let (ended, outcomes, begun) = run_work(
+        rt,
+        alloc,
+        accounts,
+        &work,
+        numbered,
+        lanes,
+        gate,
+        head,
+        previous,
+        wires.as_slice(),
+        work.chosen(),
+    )?;
     close(
         rt,
         alloc,
@@ -60,6 +73,7 @@ fn run_order<G: Gate, R: Threads + Wait + Sync>(
         work.chosen(),
         ended,
         outcomes,
+        begun,
     )
 }
 
