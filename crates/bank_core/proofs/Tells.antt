@@ -12,7 +12,9 @@ use Rattle.bank_law.specs.Serial.{result}
 use Rattle.bank_law.specs.Machine.{Stage, waiting, held, done, IsLegal, Run}
 use Rattle.bank_law.specs.Sound.{Agrees}
 use Rattle.bank_law.proofs.Events.{run_sound}
-use Rattle.bank_core.specs.Keeping.{outcome_of}
+use Rattle.prio_graph.specs.Ready.{Positions}
+use Rattle.bank_core.specs.Slots.{Shared}
+use Rattle.bank_core.specs.Keeping.{Keeps, outcome_of}
 use Rattle.bank_core.specs.Ends.{serial_outcomes}
 use Rattle.bank_core.specs.Told.{done_from, up_to_none}
 
@@ -27,7 +29,7 @@ sliced xs f from (suc most) within each =
 module _ (job : Job) (start : Key → Account) where
   -- the serial run from a position on
   serial_more : (from : ℕ) → from < job.count → drop from (serial_outcomes job start) ≡ result job start from ∷ drop (from + 1) (serial_outcomes job start)
-  serial_more from below = drop_more (serial_outcomes job start) from (result job start from) (omega (arith, below, length-map-range_with_len (result job start) 0 job.count)) ∙ ap (λ o. o ∷ drop (from + 1) (serial_outcomes job start)) (get_or-map-range_with_len (result job start) 0 job.count from from (result job start from) below refl)
+  serial_more from below = drop_more (serial_outcomes job start) from (result job start from) (omega (arith, below, length-map-range_with_len (result job start) 0 job.count)) ∙ ap (λ o. o ∷ drop (from + 1) (serial_outcomes job start)) (get_or-map-range_with_len (result job start) 0 job.count from from (result job start from) below (omega arith))
 
   one_told : (from : ℕ) (x : Stage) (later : List (Option Outcome)) → Agrees job start from x → from < job.count
       → up_to_none later ≡ take (length (up_to_none later)) (drop (from + 1) (serial_outcomes job start))
@@ -43,3 +45,13 @@ module _ (job : Job) (start : Key → Account) where
   told_serial events legal from (suc most) within =
       one_told from ((Run job start events).stage from) (map (λ i. outcome_of ((Run job start events).stage i)) (range_with_len (from + 1) most)) ((run_sound job start events legal).agrees from) (omega (arith, within))
       (told_serial events legal (from + 1) most (omega (arith, within)))
+
+  -- those of a core are copied from its list
+  pub told_is : (ks : List Key) (p : Positions) (slots : List (Option Shared)) (outcomes : List (Option Outcome)) (journal : List Event) → Keeps job start ks p slots outcomes journal
+      → (from most : ℕ) → from + most ≤ job.count → (listed : List (Option Outcome)) → listed ≡ outcomes
+      → up_to_none (take (from + most - from) (drop from listed)) ≡ done_from (Run job start journal).stage from most
+  told_is ks p slots outcomes journal K from most within listed same =
+      let long = K.outcomes_length in
+      ap (λ (os : List (Option Outcome)). up_to_none (take (from + most - from) (drop from os))) same
+      ∙ ap (λ n. up_to_none (take n (drop from outcomes))) (omega arith)
+      ∙ ap up_to_none (sliced outcomes (λ i. outcome_of ((Run job start journal).stage i)) from most (omega (arith, long, within)) (λ i l. K.kept i (omega (arith, long, l))))
