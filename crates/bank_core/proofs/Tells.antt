@@ -1,5 +1,5 @@
 -- Outcomes that are told before the end are those of the serial run.
-use Rattle.std.proofs.Common.{◌≡◌, ℕ, zero, suc, ◌+◌, ◌-◌, ◌<◌, ◌≤◌, List, [], ◌∷◌, length, map, take, drop, get_or, Option, None, refl, sym, ap, ap₂, ◌∙◌, arith}
+use Rattle.std.proofs.Common.{◌≡◌, ℕ, zero, suc, ◌+◌, ◌-◌, ◌<◌, ◌≤◌, List, [], ◌∷◌, length, map, take, drop, get_or, Option, None, Some, refl, sym, ap, ap₂, ◌∙◌, arith}
 use Rattle.std.specs.List.{range_with_len}
 use Rattle.std.proofs.lemmas.List.{drop_more}
 use Rattle.std.proofs.lemmas.List.FromFn.{get_or-map-range_with_len, length-map-range_with_len}
@@ -55,3 +55,16 @@ module _ (job : Job) (start : Key → Account) where
       ap (λ (os : List (Option Outcome)). up_to_none (take (from + most - from) (drop from os))) same
       ∙ ap (λ n. up_to_none (take n (drop from outcomes))) (omega arith)
       ∙ ap up_to_none (sliced outcomes (λ i. outcome_of ((Run job start journal).stage i)) from most (omega (arith, long, within)) (λ i l. K.kept i (omega (arith, long, l))))
+
+-- no more are told than were asked for
+up_to_none-few : (os : List (Option Outcome)) → length (up_to_none os) ≤ length os
+up_to_none-few [] = omega arith
+up_to_none-few (None ∷ os) = omega arith
+up_to_none-few (Some o ∷ os) = let rest = up_to_none-few os in omega (arith, rest)
+
+pub told_few : (stage : ℕ → Stage) (from most : ℕ) (told : List Outcome) → told ≡ done_from stage from most → length told ≤ most
+told_few stage from most told is =
+    let a = up_to_none-few (map (λ i. outcome_of (stage i)) (range_with_len from most)) in
+    let b = length-map-range_with_len (λ i. outcome_of (stage i)) from most in
+    let c = ap length is in
+    omega (arith, a, b, c)

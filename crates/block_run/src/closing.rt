@@ -126,7 +126,8 @@ fn enter(
 {
     let Begun { count, hasher } = begun;
     let entries = entries_of(alloc, wires.as_slice(), order, outcomes)?;
-    let hasher = hash_entries(hasher, &entries.as_slice()[count as usize..])?;
+    let (_, left) = entries.as_slice().split_at(count as usize);
+    let hasher = hash_entries(hasher, left)?;
     let block = Block {
         slot: head.slot,
         collector: head.collector,

@@ -81,15 +81,15 @@ pub(crate) fn read_front<W: Work, R: Wait>(
     rt: &R,
     alloc: Global,
     desk: &SharedDesk<W>,
-    reader: &mut Reader<W>,
+    mut reader: Reader<W>,
     ended: &AtomicBool,
     head: &Head,
     previous: Hash32,
     wires: &[Blob],
     order: &[Chosen],
 ) -> Result<Begun, OutOfMemory>
-    requires table { reader.old.seat.table_id ≡ desk.now.table.shared.table_id }
-    requires desk { reader.old.seat.me.0.origin ≡ Some desk.now.table.shared.key.value }
+    requires table { reader.seat.table_id ≡ desk.now.table.shared.table_id }
+    requires desk { reader.seat.me.0.origin ≡ Some desk.now.table.shared.key.value }
     requires of { AreOf wires.now order.now }
     requires one_each { length order.now
         ≡ (W.job desk.now.table.shared.key.value.origin.told).count }
@@ -104,7 +104,7 @@ pub(crate) fn read_front<W: Work, R: Wait>(
         if left == 0 || ended.load(SeqCst) {
             return Ok(begun);
         }
-        let outcomes = desk.outcomes_from(rt, reader, begun.count, left.min(MOST))?;
+        let outcomes = desk.outcomes_from(rt, &mut reader, begun.count, left.min(MOST))?;
         if outcomes.is_empty() {
             Parker::new().park_timeout(rt, Duration::from_micros(PARKED));
         } else {

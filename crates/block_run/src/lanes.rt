@@ -22,7 +22,7 @@ use std::alloc::Global;
 use std::sync::Wait;
 use std::sync::atomic::AtomicBool;
 use std::sync::atomic::Ordering::SeqCst;
-use std::thread::{Threads, join_mut};
+use std::thread::{Threads, join};
 use tx_report::Outcome;
 
 /// Takes, passes the gate, performs and commits on the one lane of a core, until all positions are
@@ -53,70 +53,88 @@ fn run_alone<W: Work, G: Gate>(core: &mut Core<W>, work: &W, gate: &G) -> Result
     }
 }
 
-/// Runs the lanes of a desk, and hashes the front of the record beside them.
+/// Runs the lanes of a desk, and hashes the front of the record beside them, until they have ended.
 fn run_beside<W: Work + Sync, G: Gate, R: Threads + Wait + Sync>(
     rt: &R,
     alloc: Global,
     desk: &SharedDesk<W>,
-    pass: &mut Pass<W>,
-    reader: &mut Reader<W>,
+    pass: Pass<W>,
+    reader: Reader<W>,
+    ended: &AtomicBool,
     work: &W,
     gate: &G,
     head: &Head,
     previous: Hash32,
     wires: &[Blob],
     order: &[Chosen],
-) -> (Result<Begun, OutOfMemory>, Result<(), OutOfMemory>)
+) -> (Result<Begun, OutOfMemory>, (Result<(), OutOfMemory>, Pass<W>))
     requires told { desk.now.table.shared.key.value.origin.told ≡ W.told work.now }
-    requires table { (pass.old.seat.table_id ≡ desk.now.table.shared.table_id)
-        × (reader.old.seat.table_id ≡ desk.now.table.shared.table_id) }
-    requires desk { (pass.old.seat.me.0.origin ≡ Some desk.now.table.shared.key.value)
-        × (reader.old.seat.me.0.origin ≡ Some desk.now.table.shared.key.value) }
-    requires idle { (holds pass.old.seat.me.0.mine ≡ None)
-        × (returns pass.old.seat.me.0.mine ≡ 0) }
+    requires table { (pass.seat.table_id ≡ desk.now.table.shared.table_id)
+        × (reader.seat.table_id ≡ desk.now.table.shared.table_id) }
+    requires desk { (pass.seat.me.0.origin ≡ Some desk.now.table.shared.key.value)
+        × (reader.seat.me.0.origin ≡ Some desk.now.table.shared.key.value) }
+    requires idle { (holds pass.seat.me.0.mine ≡ None) × (returns pass.seat.me.0.mine ≡ 0) }
     requires of { AreOf wires.now order.now }
     requires one_each { length order.now
         ≡ (W.job desk.now.table.shared.key.value.origin.told).count }
     requires small { All IsSmallOutcome
         (outcomes_at_end W.job desk.now.table.shared.key.value.origin) }
-    ensures table { pass.new.seat.table_id ≡ pass.old.seat.table_id }
-    ensures desk { pass.new.seat.me.0.origin ≡ pass.old.seat.me.0.origin }
     ensures begun { IfOk result.0 (IsBegun head.now previous wires.now order.now
         (outcomes_at_end W.job desk.now.table.shared.key.value.origin)) }
-    ensures done { OnOk result.1 (AllDoneAfter W.job desk.now.table.shared.key.value.origin
-        pass.new.seat.me.0.seen) }
+    ensures table { result.1.1.seat.table_id ≡ desk.now.table.shared.table_id }
+    ensures desk { result.1.1.seat.me.0.origin ≡ Some desk.now.table.shared.key.value }
+    ensures done { OnOk result.1.0 (AllDoneAfter W.job desk.now.table.shared.key.value.origin
+        result.1.1.seat.me.0.seen) }
 {
-    let ended = AtomicBool::new(false);
-    join_mut(
+    join(
         rt,
-        &mut || -> Result<Begun, OutOfMemory>
-            requires { (reader.now.seat.table_id ≡ desk.now.table.shared.table_id)
-                × (reader.now.seat.me.0.origin ≡ Some desk.now.table.shared.key.value)
+        move || -> Result<Begun, OutOfMemory>
+            requires { (reader.seat.table_id ≡ desk.now.table.shared.table_id)
+                × (reader.seat.me.0.origin ≡ Some desk.now.table.shared.key.value)
                 × AreOf wires.now order.now
                 × (length order.now ≡ (W.job desk.now.table.shared.key.value.origin.told).count)
                 × All IsSmallOutcome (outcomes_at_end W.job
                 desk.now.table.shared.key.value.origin) }
             ensures { IfOk result (IsBegun head.entry.now previous wires.entry.now order.entry.now
                 (outcomes_at_end W.job desk.entry.now.table.shared.key.value.origin)) }
-        { read_front(rt, alloc, desk, reader, &ended, head, previous, wires, order) },
-        &mut || -> Result<(), OutOfMemory>
+        { read_front(rt, alloc, desk, reader, ended, head, previous, wires, order) },
+        move || -> (Result<(), OutOfMemory>, Pass<W>)
             requires { (desk.now.table.shared.key.value.origin.told ≡ W.told work.now)
-                × (pass.now.seat.table_id ≡ desk.now.table.shared.table_id)
-                × (pass.now.seat.me.0.origin ≡ Some desk.now.table.shared.key.value)
-                × (holds pass.now.seat.me.0.mine ≡ None)
-                × (returns pass.now.seat.me.0.mine ≡ 0) }
-            ensures table { pass.exit.now.seat.table_id ≡ desk.entry.now.table.shared.table_id }
-            ensures desk { pass.exit.now.seat.me.0.origin
-                ≡ Some desk.entry.now.table.shared.key.value }
-            ensures done { OnOk result (AllDoneAfter W.job
-                desk.entry.now.table.shared.key.value.origin pass.exit.now.seat.me.0.seen) }
-        {
-            let run = run_lanes(rt, alloc, desk, pass, work, gate);
-            ended.store(true, SeqCst);
-            run
-        },
+                × (pass.seat.table_id ≡ desk.now.table.shared.table_id)
+                × (pass.seat.me.0.origin ≡ Some desk.now.table.shared.key.value)
+                × (holds pass.seat.me.0.mine ≡ None) × (returns pass.seat.me.0.mine ≡ 0) }
+            ensures table { result.1.seat.table_id ≡ desk.entry.now.table.shared.table_id }
+            ensures desk { result.1.seat.me.0.origin ≡ Some desk.entry.now.table.shared.key.value }
+            ensures done { OnOk result.0 (AllDoneAfter W.job
+                desk.entry.now.table.shared.key.value.origin result.1.seat.me.0.seen) }
+        { run_until(rt, alloc, desk, pass, ended, work, gate) },
     )
 }
+
+/// Runs the lanes of a desk, and says when they have ended.
+fn run_until<W: Work + Sync, G: Gate, R: Threads + Wait + Sync>(
+    rt: &R,
+    alloc: Global,
+    desk: &SharedDesk<W>,
+    mut pass: Pass<W>,
+    ended: &AtomicBool,
+    work: &W,
+    gate: &G,
+) -> (Result<(), OutOfMemory>, Pass<W>)
+    requires told { desk.now.table.shared.key.value.origin.told ≡ W.told work.now }
+    requires table { pass.seat.table_id ≡ desk.now.table.shared.table_id }
+    requires desk { pass.seat.me.0.origin ≡ Some desk.now.table.shared.key.value }
+    requires idle { (holds pass.seat.me.0.mine ≡ None) × (returns pass.seat.me.0.mine ≡ 0) }
+    ensures table { result.1.seat.table_id ≡ desk.now.table.shared.table_id }
+    ensures desk { result.1.seat.me.0.origin ≡ Some desk.now.table.shared.key.value }
+    ensures done { OnOk result.0 (AllDoneAfter W.job desk.now.table.shared.key.value.origin
+        result.1.seat.me.0.seen) }
+{
+    let run = run_lanes(rt, alloc, desk, &mut pass, work, gate);
+    ended.store(true, SeqCst);
+    (run, pass)
+}
+
 /// Shares the core among its lanes, each on a thread of its own, until all positions are done. A
 /// further thread hashes the front of the record.
 fn run_shared<W: Work + Sync, G: Gate, R: Threads + Wait + Sync>(
@@ -142,13 +160,15 @@ fn run_shared<W: Work + Sync, G: Gate, R: Threads + Wait + Sync>(
         (outcomes_at_end W.job core.origin.value) end.1) }
 {
     let (desk, mut pass) = SharedDesk::new(alloc, core)?;
-    let mut reader = desk.reader(&mut pass);
-    let (begun, run) = run_beside(
+    let reader = desk.reader(&mut pass);
+    let ended = AtomicBool::new(false);
+    let (begun, (run, pass)) = run_beside(
         rt,
         alloc,
         &desk,
-        &mut pass,
-        &mut reader,
+        pass,
+        reader,
+        &ended,
         work,
         gate,
         head,

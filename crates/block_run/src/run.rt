@@ -49,6 +49,7 @@ fn run_order<G: Gate, R: Threads + Wait + Sync>(
         recent,
         accounts,
     } = snapshot;
+    let chosen = work.chosen();
     let (ended, outcomes, begun) = run_work(
         rt,
         alloc,
@@ -60,7 +61,7 @@ fn run_order<G: Gate, R: Threads + Wait + Sync>(
         head,
         previous,
         wires.as_slice(),
-        work.chosen(),
+        chosen,
     )?;
     close(
         rt,
@@ -70,7 +71,7 @@ fn run_order<G: Gate, R: Threads + Wait + Sync>(
         recent,
         head,
         wires,
-        work.chosen(),
+        chosen,
         ended,
         outcomes,
         begun,
