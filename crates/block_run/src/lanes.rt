@@ -67,7 +67,10 @@ fn run_beside<W: Work + Sync, G: Gate, R: Threads + Wait + Sync>(
     previous: Hash32,
     wires: &[Blob],
     order: &[Chosen],
-) -> (Result<Begun, OutOfMemory>, (Result<(), OutOfMemory>, Pass<W>))
+) -> (
+    Result<Begun, OutOfMemory>,
+    (Result<(), OutOfMemory>, Pass<W>),
+)
     requires told { desk.now.table.shared.key.value.origin.told ≡ W.told work.now }
     requires table { (pass.seat.table_id ≡ desk.now.table.shared.table_id)
         × (reader.seat.table_id ≡ desk.now.table.shared.table_id) }
@@ -163,18 +166,7 @@ fn run_shared<W: Work + Sync, G: Gate, R: Threads + Wait + Sync>(
     let reader = desk.reader(&mut pass);
     let ended = AtomicBool::new(false);
     let (begun, (run, pass)) = run_beside(
-        rt,
-        alloc,
-        &desk,
-        pass,
-        reader,
-        &ended,
-        work,
-        gate,
-        head,
-        previous,
-        wires,
-        order,
+        rt, alloc, &desk, pass, reader, &ended, work, gate, head, previous, wires, order,
     );
     run?;
     Ok((desk.close(rt, pass), begun?))
@@ -216,9 +208,7 @@ pub(crate) fn run_work<W: Work + Sync, G: Gate, R: Threads + Wait + Sync>(
         let (ended, outcomes) = core.part()?;
         Ok((ended, outcomes, begin(head, previous, order)?))
     } else {
-        let (core, begun) = run_shared(
-            rt, alloc, core, work, gate, head, previous, wires, order,
-        )?;
+        let (core, begun) = run_shared(rt, alloc, core, work, gate, head, previous, wires, order)?;
         let (ended, outcomes) = core.part()?;
         Ok((ended, outcomes, begun))
     }

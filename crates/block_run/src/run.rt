@@ -64,17 +64,7 @@ fn run_order<G: Gate, R: Threads + Wait + Sync>(
         chosen,
     )?;
     close(
-        rt,
-        alloc,
-        lanes,
-        limits,
-        recent,
-        head,
-        wires,
-        chosen,
-        ended,
-        outcomes,
-        begun,
+        rt, alloc, lanes, limits, recent, head, wires, chosen, ended, outcomes, begun,
     )
 }
 

@@ -17,5 +17,5 @@ pub returns-clause-taken : goal.returns-clause-taken
 returns-clause-taken c =
     let count = c.args.begun.count in
     let same : c.as_slice.result.now ≡ entries_of c.args.wires.now (drop count c.args.order.now) c.args.outcomes =
-        c.as_slice.ensures ∙ c.in_ok-entries.ensures.each ∙ next_entries c.args.wires.now c.args.order.now c.args.outcomes count _ (let l = c.len.ensures in omega (arith, l)) in
+    c.as_slice.ensures ∙ c.in_ok-entries.ensures.each ∙ next_entries c.args.wires.now c.args.order.now c.args.outcomes count _ (let l = c.len.ensures in omega (arith, l)) in
     λ taken h. subst (λ (es : List Entry). Holds256 c.in_ok-hasher.hasher (taken ++ flat_map entry_bytes es)) same (c.in_ok-hasher.ensures taken h)
