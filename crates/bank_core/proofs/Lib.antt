@@ -8,3 +8,4 @@ pub mod Ends
 pub mod Openings
 pub mod Trials
 pub mod Seats
+pub mod Tells

@@ -10,3 +10,4 @@ pub mod Desks
 pub mod Trial
 pub mod TrialLaws
 pub mod Openings
+pub mod Told

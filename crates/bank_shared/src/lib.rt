@@ -6,6 +6,7 @@
 mod calls;
 mod desk;
 mod kept;
+mod reader;
 mod rule;
 mod shared;
 mod turn;
@@ -13,5 +14,6 @@ mod view;
 
 pub use desk::{Pass, SharedDesk};
 pub use kept::{DeskOrigin, Kept};
+pub use reader::Reader;
 pub use rule::{Draws, Folds, Looks, Parts, Releases, Takes, TurnRule};
 pub use view::View;

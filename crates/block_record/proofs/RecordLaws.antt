@@ -3,7 +3,7 @@ use Rattle.std.proofs.Common.{◌≡◌, ◌<◌, ◌≤◌, ◌^◌, ℕ, List,
 use Rattle.std.specs.Prelude.{IfOk, IsUtf8, codes, bytes_eq, nat_le}
 use Rattle.std.specs.Int.{w16, w32, w64, to_le_bytes}
 use Rattle.std.specs.Str.{is_utf8}
-use Rattle.std.specs.List.{AllByRecursion}
+use Rattle.std.specs.List.{AllByRecursion, flat_map}
 use Rattle.std.specs.Cmp.Lexicographic.{bytes_decides}
 use Rattle.std.proofs.lemmas.Bool.Decides.{nat_tests}
 use Rattle.std.proofs.lemmas.List.{append-nil}
@@ -23,7 +23,7 @@ use Rattle.block_record.specs.declared.fault.RecordFault.{RecordFault}
 use Rattle.block_record.specs.declared.fault.RecordFault.TheVariants.{Truncated, BadField, Trailing}
 use Rattle.block_record.specs.declared.block.Entry.{Entry}
 use Rattle.block_record.specs.declared.block.Block.{Block}
-use Rattle.block_record.specs.Record.{bytes_of_lines, entry_bytes, entries_bytes, bytes_of_record, AreCountable, IsCounted, HasTexts, HasWidths, IsRecord}
+use Rattle.block_record.specs.Record.{bytes_of_lines, entry_bytes, entries_bytes, heading_bytes, front_bytes, bytes_of_record, AreCountable, IsCounted, HasTexts, HasWidths, IsRecord}
 use Rattle.block_record.specs.RecordReading.{Read, is_record_memory, magic_at, wire_len_at, wire_at, text_at, line_at, lines_at, entry_at, entry_count_at, entries_at, block_at, record_of}
 use Rattle.block_record.specs.Laws.{RoundTrip}
 
@@ -289,3 +289,8 @@ is_only bytes result h b is = subst (Gives is_record_memory (λ v. v) result) (a
 
 pub round_trips : RoundTrip
 round_trips b fits are has = again (bytes_of_record b) b (record { spelled = refl; counted = fits; texts = are; widths = has })
+
+-- ---- the hash in parts
+-- the entries stand behind the heading
+pub front_is : (b : Block) → heading_bytes b.slot b.collector b.previous (length b.entries) ++ flat_map entry_bytes b.entries ≡ front_bytes b
+front_is b = append_assoc (codes "SOLBLCK1" ++ to_le_bytes w64 b.slot ++ key_bytes b.collector ++ hash_bytes b.previous) (to_le_bytes w32 (length b.entries)) (flat_map entry_bytes b.entries)

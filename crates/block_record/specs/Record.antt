@@ -6,6 +6,7 @@ use Rattle.sha2.specs.Sha256.{sha256}
 use Rattle.spec_base.specs.Bytes.{sized_bytes}
 use Rattle.sol_base.specs.Keys.{IsKey, IsHash, key_bytes, hash_bytes}
 use Rattle.sol_base.specs.Limits.{max_transactions}
+use Rattle.sol_base.specs.declared.key.Key.{Key}
 use Rattle.sol_base.specs.declared.key.Hash32.{Hash32}
 use Rattle.message_codec.specs.Wire.{IsCountable, max_wire_len}
 use Rattle.tx_report.specs.Statuses.{IsStatus, status_bytes_of}
@@ -25,6 +26,12 @@ entry_bytes entry =
 
 abbrev pub entries_bytes : List Entry → List ℕ
 entries_bytes entries = to_le_bytes w32 (length entries) ++ flat_map entry_bytes entries
+
+-- what stands before the entries, of which there are so many
+abbrev pub heading_bytes : ℕ → Key → Hash32 → ℕ → List ℕ
+heading_bytes slot collector previous count =
+    codes "SOLBLCK1" ++ to_le_bytes w64 slot ++ key_bytes collector ++ hash_bytes previous
+    ++ to_le_bytes w32 count
 
 -- a block up to the end of its entries
 abbrev pub front_bytes : Block → List ℕ

@@ -13,7 +13,9 @@ pub use block::{Block, Entry, Listed};
 pub use fault::RecordFault;
 pub use laws::written_records_are_read;
 pub use reading::read_record;
-pub use writing::{begin_hash, block_hash, end_hash, lines_bytes, output_bytes, record_bytes};
+pub use writing::{
+    begin_hash, block_hash, end_hash, hash_entries, lines_bytes, output_bytes, record_bytes,
+};
 
 #[cfg(test)]
 mod tests;

@@ -1,19 +1,19 @@
 //! From a block to the bytes of its record, and its hash.
-ghost use Rattle.std.specs.Prelude.{◌≡◌, ◌≤◌, ◌++◌, length, All, OnOk, IfOk};
+ghost use Rattle.std.specs.Prelude.{◌≡◌, ◌≤◌, ◌++◌, ℕ, List, length, All, OnOk, IfOk};
 ghost use Rattle.std.specs.List.{flat_map};
 ghost use Rattle.sha2.specs.Hashers.{Holds256};
 ghost use Rattle.spec_base.specs.Bytes.{sized_bytes};
 ghost use Rattle.message_codec.specs.Wire.{IsCountable, max_wire_len};
 ghost use Rattle.snapshot_codec.specs.Output.{Adds};
 ghost use Rattle.snapshot_codec.specs.Snapshot.{IsWritable, snapshot_bytes};
-ghost use Rattle.block_record.specs.Record.{AreCountable, IsCounted, bytes_of_lines, entry_bytes, entries_bytes, front_bytes, block_bytes, hash_of_block, bytes_of_record};
+ghost use Rattle.block_record.specs.Record.{AreCountable, IsCounted, bytes_of_lines, entry_bytes, heading_bytes, front_bytes, block_bytes, hash_of_block, bytes_of_record};
 
 use crate::block::{Block, Entry};
 use crate::entries::ENTRY_LEN;
 use crate::lines::LENGTH_LEN;
 use sha2::{Digest, Sha256};
 use snapshot_codec::{Output, Snapshot, append_snapshot, room_before};
-use sol_base::{Blob, Hash32, Items, OutOfMemory};
+use sol_base::{Blob, Hash32, Items, Key, OutOfMemory};
 use std::alloc::Global;
 use tx_report::status_bytes;
 
@@ -74,14 +74,22 @@ fn write_each_entry<O: Output>(out: &mut O, entries: &[Entry]) -> Result<(), Out
     Ok(())
 }
 
-fn write_entries<O: Output>(out: &mut O, entries: &[Entry]) -> Result<(), OutOfMemory>
-    requires few { length entries.now ≤ 16384 }
-    requires wires { All (λ entry. length entry.wire ≤ max_wire_len) entries.now }
-    requires lines { All (λ entry. AreCountable entry.lines) entries.now }
-    ensures { OnOk result (Adds O.holds out.old out.new (entries_bytes entries.now)) }
+/// Writes what stands before the entries, of which there are so many.
+fn write_heading<O: Output>(
+    out: &mut O,
+    slot: u64,
+    collector: &Key,
+    previous: &Hash32,
+    entries: u32,
+) -> Result<(), OutOfMemory>
+    ensures { OnOk result (Adds O.holds out.old out.new
+        (heading_bytes slot collector.now previous.now entries)) }
 {
-    out.append(&(entries.len() as u32).to_le_bytes())?;
-    write_each_entry(out, entries)
+    out.append(&MAGIC)?;
+    out.append(&slot.to_le_bytes())?;
+    out.append(&collector.0)?;
+    out.append(&previous.0)?;
+    out.append(&entries.to_le_bytes())
 }
 
 /// Writes a record up to the end of its entries.
@@ -89,11 +97,15 @@ fn write_front<O: Output>(out: &mut O, block: &Block) -> Result<(), OutOfMemory>
     requires { IsCounted block.now }
     ensures { OnOk result (Adds O.holds out.old out.new (front_bytes block.now)) }
 {
-    out.append(&MAGIC)?;
-    out.append(&block.slot.to_le_bytes())?;
-    out.append(&block.collector.0)?;
-    out.append(&block.previous.0)?;
-    write_entries(out, block.entries.as_slice())
+    let entries = block.entries.as_slice();
+    write_heading(
+        out,
+        block.slot,
+        &block.collector,
+        &block.previous,
+        entries.len() as u32,
+    )?;
+    write_each_entry(out, entries)
 }
 
 /// Writes all of a record but the block hash.
@@ -160,14 +172,30 @@ pub fn output_bytes(alloc: Global, block: &Block, after: &Snapshot) -> Result<Bl
     Ok(out)
 }
 
-/// A hash that has taken the block's record up to the end of its entries: the block may be known no
-/// further. No copy of the record is made.
-pub fn begin_hash(block: &Block) -> Result<Sha256, OutOfMemory>
-    requires { IsCounted block.now }
-    ensures { IfOk result (λ hasher. Holds256 hasher (front_bytes block.now)) }
+/// A hash that has taken what stands before the entries in the record of a block, which is to have
+/// so many.
+pub fn begin_hash(
+    slot: u64,
+    collector: &Key,
+    previous: &Hash32,
+    entries: u32,
+) -> Result<Sha256, OutOfMemory>
+    ensures { IfOk result (λ hasher.
+        Holds256 hasher (heading_bytes slot collector.now previous.now entries)) }
 {
     let mut hasher = Sha256::new();
-    write_front(&mut hasher, block)?;
+    write_heading(&mut hasher, slot, collector, previous, entries)?;
+    Ok(hasher)
+}
+
+/// The hash with these entries after what it has taken. No copy of their bytes is made.
+pub fn hash_entries(mut hasher: Sha256, entries: &[Entry]) -> Result<Sha256, OutOfMemory>
+    requires wires { All (λ entry. length entry.wire ≤ max_wire_len) entries.now }
+    requires lines { All (λ entry. AreCountable entry.lines) entries.now }
+    ensures { IfOk result (λ next. (taken : List ℕ) → Holds256 hasher taken
+        → Holds256 next (taken ++ flat_map entry_bytes entries.now)) }
+{
+    write_each_entry(&mut hasher, entries)?;
     Ok(hasher)
 }
 
@@ -187,7 +215,14 @@ pub fn block_hash(_alloc: Global, block: &Block) -> Result<Hash32, OutOfMemory>
     requires { IsCounted block.now }
     ensures { IfOk result (λ hash. hash ≡ hash_of_block block.now) }
 {
-    Ok(end_hash(begin_hash(block)?, block))
+    let entries = block.entries.as_slice();
+    let hasher = begin_hash(
+        block.slot,
+        &block.collector,
+        &block.previous,
+        entries.len() as u32,
+    )?;
+    Ok(end_hash(hash_entries(hasher, entries)?, block))
 }
 
 /// The number of lines and the lines, as they stand in an entry.

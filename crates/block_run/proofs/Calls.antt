@@ -25,12 +25,13 @@ use Rattle.admission.specs.Admission.{admitted, listed}
 use Rattle.admission.specs.Batches.{IsParted}
 use Rattle.tx_exec.specs.declared.told.Told.{Told}
 use Rattle.tx_exec.specs.Told.{job_of}
+use Rattle.tx_exec.specs.TransactionLaws.{IsSmallOutcome}
 use Rattle.block_run.specs.declared.block.BlockResult.{BlockResult}
 use Rattle.block_run.specs.declared.block.Closed.{Closed}
 use Rattle.block_run.specs.declared.block.Head.{Head}
 use Rattle.block_run.specs.SerialRun.{Ran, ran, serial_run, told_in}
 use Rattle.block_run.specs.Blocks.{before_refused, block_result, closed, closed_with, entry_of, head_of, is_halted, listed_result, start_in, wires_of}
-use Rattle.block_run.specs.Ending.{AreOf, joined_of, ran_of}
+use Rattle.block_run.specs.Ending.{AreOf, MayEnd, joined_of, ran_of}
 use Rattle.admission.proofs.PartLaws.{admitted_batches_are_parted, listed_batches_are_parted}
 use Rattle.block_run.proofs.Orders.{length-take-least, parted_are_of}
 
@@ -40,6 +41,11 @@ pub same_run : (s : Snapshot) (slot : ℕ) (order : List Chosen) (told : Told) (
     → origin ≡ record { start = s.accounts; told = told } → outcomes ≡ serial_outcomes (job_of told) (at s.accounts) → ran_of origin outcomes ≡ serial_run s slot order
 unfolding serial_run
 same_run s slot order told origin outcomes is began ended = ap₂ ran_of began ended ∙ ap (λ (t : Told). ran (job_of t) s.accounts) is
+
+-- its outcomes are small
+pub small_run : (s : Snapshot) (slot : ℕ) (wires : List (List ℕ)) (order : List Chosen) (told : Told) → told ≡ told_in s slot order → MayEnd wires order (serial_run s slot order) → All IsSmallOutcome (serial_outcomes (job_of told) (at s.accounts))
+unfolding serial_run
+small_run s slot wires order told is may = subst (λ (t : Told). All IsSmallOutcome (serial_outcomes (job_of t) (at s.accounts))) (sym is) may.small
 
 -- and the block is that of the order
 pub same_end : (s : Snapshot) (head : Head) (wires : List (List ℕ)) (order chosen : List Chosen) (origin : Origin Told) (outcomes : List Outcome) (answer : Result Closed OutOfMemory) → chosen ≡ order → ran_of origin outcomes ≡ serial_run s head.slot order

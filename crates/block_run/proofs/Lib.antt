@@ -5,6 +5,7 @@ pub mod Sorting
 pub mod Beside
 pub mod Orders
 pub mod Closings
+pub mod Fronts
 pub mod Executables
 pub mod Turns
 pub mod Calls

@@ -8,7 +8,7 @@ use Rattle.admission.specs.Batches.{IsOf, IsParted}
 use Rattle.block_run.specs.Blocks.{before_refused}
 use Rattle.block_run.specs.Ending.{AreOf}
 
-length-take-le : {X : Type 0} (n : ℕ) (xs : List X) → length (take n xs) ≤ length xs
+pub length-take-le : {X : Type 0} (n : ℕ) (xs : List X) → length (take n xs) ≤ length xs
 length-take-le zero xs = omega arith
 length-take-le (suc n) [] = omega arith
 length-take-le (suc n) (x ∷ xs) = let rest = length-take-le n xs in omega (arith, rest)

@@ -3,4 +3,5 @@ pub mod BlockEnd
 pub mod Blocks
 pub mod Activation
 pub mod Ending
+pub mod Front
 pub mod Laws

@@ -6,20 +6,22 @@ ghost use Rattle.tx_exec.specs.TransactionLaws.{IsSmallOutcome};
 ghost use Rattle.block_record.specs.Record.{IsCounted, front_bytes};
 ghost use Rattle.snapshot_codec.specs.Snapshot.{AreAllowed, IsWritable, hash_of_state};
 ghost use Rattle.block_run.specs.BlockEnd.{settled};
-ghost use Rattle.status_cache.specs.Recent.{Ascends};
+ghost use Rattle.status_cache.specs.Recent.{Ascends, newest_of};
 ghost use Rattle.block_run.specs.Blocks.{ascending, closed_with, entered, sealed};
 ghost use Rattle.block_run.specs.Ending.{AreOf, MayEnd, joined_of, ran_of};
+ghost use Rattle.block_run.specs.Front.{IsBegun};
 
 use crate::activation::activate_all;
 use crate::block::{Closed, Head};
 use crate::entries::entries_of;
 use crate::fees::{Shared, share_split, split_paid};
+use crate::front::Begun;
 use crate::names::{ascending, processed_in};
 use crate::threads::call_both;
 use account_store::Accounts;
 use admission::Chosen;
 use bank_core::Ended;
-use block_record::{Block, begin_hash, end_hash};
+use block_record::{Block, end_hash, hash_entries};
 use fee_rules::FeeSplit;
 use sha2::Sha256;
 use snapshot_codec::{Snapshot, state_hash};
@@ -103,7 +105,7 @@ struct Entered {
     hasher: Sha256,
 }
 
-/// Lists the entries, and hashes the record up to their end.
+/// Lists the entries, and hashes those that are not in the hash yet.
 fn enter(
     alloc: Global,
     head: &Head,
@@ -111,26 +113,31 @@ fn enter(
     wires: &Items<Blob>,
     order: &[Chosen],
     outcomes: Items<Outcome>,
+    begun: Begun,
 ) -> Result<Entered, OutOfMemory>
     requires of { AreOf wires.now order.now }
     requires one_each { length outcomes ≡ length order.now }
     requires small { All IsSmallOutcome outcomes }
+    requires begun { IsBegun head.now previous wires.now order.now outcomes begun }
     ensures block { IfOk result (λ e.
         e.block ≡ entered head.now previous wires.now order.now outcomes) }
     ensures counted { IfOk result (λ e. IsCounted e.block) }
     ensures hasher { IfOk result (λ e. Holds256 e.hasher (front_bytes e.block)) }
 {
+    let Begun { count, hasher } = begun;
+    let entries = entries_of(alloc, wires.as_slice(), order, outcomes)?;
+    let (_, left) = entries.as_slice().split_at(count as usize);
+    let hasher = hash_entries(hasher, left)?;
     let block = Block {
         slot: head.slot,
         collector: head.collector,
         previous,
-        entries: entries_of(alloc, wires.as_slice(), order, outcomes)?,
+        entries,
         burned: 0,
         collected: 0,
         state: Hash32([0; 32]),
         hash: Hash32([0; 32]),
     };
-    let hasher = begin_hash(&block)?;
     Ok(Entered { block, hasher })
 }
 
@@ -147,12 +154,14 @@ fn end_run<R: Threads + Sync>(
     names: Vec<Hash32>,
     ended: Ended<TxWork>,
     outcomes: Items<Outcome>,
+    begun: Begun,
 ) -> Result<((Settled, Items<Hash32>), Entered), OutOfMemory>
     requires supply { sum (joined_of ended.origin.value) + split.burned + split.rest < 2 ^ 64 }
     requires room { len (joined_of ended.origin.value) + 1 < 2 ^ 32 }
     requires of { AreOf wires.now order.now }
     requires one_each { length outcomes ≡ length order.now }
     requires small { All IsSmallOutcome outcomes }
+    requires begun { IsBegun head.now previous wires.now order.now outcomes begun }
     ensures shares { IfOk result (λ end. (record {
       accounts = end.0.0.accounts;
       burned = end.0.0.burned;
@@ -185,13 +194,14 @@ fn end_run<R: Threads + Sync>(
         { settle_run(alloc, ended, &head.collector, split, names) },
         move || -> Result<Entered, OutOfMemory>
             requires { AreOf wires.now order.now × (length outcomes ≡ length order.now)
-                × All IsSmallOutcome outcomes }
+                × All IsSmallOutcome outcomes
+                × IsBegun head.now previous wires.now order.now outcomes begun }
             ensures block { IfOk result (λ e.
                 e.block ≡ entered head.entry.now previous wires.entry.now order.entry.now
                 outcomes) }
             ensures counted { IfOk result (λ e. IsCounted e.block) }
             ensures hasher { IfOk result (λ e. Holds256 e.hasher (front_bytes e.block)) }
-        { enter(alloc, head, previous, wires, order, outcomes) },
+        { enter(alloc, head, previous, wires, order, outcomes, begun) },
     );
     Ok((settled?, entered?))
 }
@@ -228,10 +238,12 @@ pub(crate) fn close<R: Threads + Sync>(
     order: &[Chosen],
     ended: Ended<TxWork>,
     outcomes: Items<Outcome>,
+    begun: Begun,
 ) -> Result<Closed, OutOfMemory>
     requires limits { AreAllowed limits }
     requires messages { All (λ mark. length mark.messages ≤ 16384) recent }
     requires run { MayEnd wires.now order.now (ran_of ended.origin.value outcomes) }
+    requires begun { IsBegun head.now (newest_of recent) wires.now order.now outcomes begun }
     ensures exact { IfOk result (λ end. end ≡ closed_with (record {
       slot = 0;
       limits = limits;
@@ -246,7 +258,7 @@ pub(crate) fn close<R: Threads + Sync>(
     let split = split_paid(outcomes.as_slice());
     let previous = recent.newest();
     let ((settled, sorted), entered) = end_run(
-        rt, alloc, lanes, head, previous, wires, order, split, names, ended, outcomes,
+        rt, alloc, lanes, head, previous, wires, order, split, names, ended, outcomes, begun,
     )?;
     let Settled {
         accounts,

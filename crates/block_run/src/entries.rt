@@ -40,7 +40,8 @@ pub(crate) fn entries_of(
     requires one_each { length outcomes ≡ length order.now }
     requires below { All (λ chosen. chosen.position < length wires.now) order.now }
     requires fees { All (λ outcome. outcome.base_paid + outcome.priority_paid < 2 ^ 64) outcomes }
-    ensures { IfOk result (λ entries. entries ≡ entries_of wires.now order.now outcomes) }
+    ensures each { IfOk result (λ entries. entries ≡ entries_of wires.now order.now outcomes) }
+    ensures long { IfOk result (λ entries. length entries ≡ length order.now) }
 {
     let mut entries = Items::with_capacity(alloc, order.len())?;
     for outcome in outcomes.into_vec() {

@@ -1,18 +1,28 @@
-//! A work on its lanes: alone in order, or beside each other over a shared desk.
-ghost use Rattle.std.specs.Prelude.{◌≡◌, ◌<◌, ◌≤◌, [], IfOk, OnOk};
+//! A work on its lanes: alone in order, or beside each other over a shared desk, while the front of
+//! the record is hashed.
+ghost use Rattle.std.specs.Prelude.{◌≡◌, ◌<◌, ◌≤◌, [], All, IfOk, None, OnOk, Some, length};
 ghost use Rattle.account_store.specs.State.{at};
-ghost use Rattle.bank_core.specs.Ends.{serial_outcomes};
+ghost use Rattle.bank_law.specs.History.{holds, returns};
+ghost use Rattle.bank_core.specs.Ends.{outcomes_at_end, serial_outcomes};
 ghost use Rattle.bank_core.specs.Openings.{AreNumbered};
 ghost use Rattle.bank_core.specs.Origins.{AllDoneAfter};
+ghost use Rattle.tx_exec.specs.TransactionLaws.{IsSmallOutcome};
+ghost use Rattle.block_run.specs.Ending.{AreOf};
+ghost use Rattle.block_run.specs.Front.{IsBegun};
 
+use crate::block::Head;
+use crate::front::{Begun, begin, read_front};
 use account_store::Accounts;
+use admission::Chosen;
 use bank_core::{Core, Ended, Numbered, Take, Work};
 use bank_lanes::{Gate, run_lanes};
-use bank_shared::SharedDesk;
-use sol_base::{Items, OutOfMemory};
+use bank_shared::{Pass, Reader, SharedDesk};
+use sol_base::{Blob, Hash32, Items, OutOfMemory};
 use std::alloc::Global;
 use std::sync::Wait;
-use std::thread::Threads;
+use std::sync::atomic::AtomicBool;
+use std::sync::atomic::Ordering::SeqCst;
+use std::thread::{Threads, join};
 use tx_report::Outcome;
 
 /// Takes, passes the gate, performs and commits on the one lane of a core, until all positions are
@@ -43,27 +53,128 @@ fn run_alone<W: Work, G: Gate>(core: &mut Core<W>, work: &W, gate: &G) -> Result
     }
 }
 
-/// Shares the core among its lanes, each on a thread of its own, until all positions are done.
+/// Runs the lanes of a desk, and hashes the front of the record beside them, until they have ended.
+fn run_beside<W: Work + Sync, G: Gate, R: Threads + Wait + Sync>(
+    rt: &R,
+    alloc: Global,
+    desk: &SharedDesk<W>,
+    pass: Pass<W>,
+    reader: Reader<W>,
+    ended: &AtomicBool,
+    work: &W,
+    gate: &G,
+    head: &Head,
+    previous: Hash32,
+    wires: &[Blob],
+    order: &[Chosen],
+) -> (
+    Result<Begun, OutOfMemory>,
+    (Result<(), OutOfMemory>, Pass<W>),
+)
+    requires told { desk.now.table.shared.key.value.origin.told ≡ W.told work.now }
+    requires table { (pass.seat.table_id ≡ desk.now.table.shared.table_id)
+        × (reader.seat.table_id ≡ desk.now.table.shared.table_id) }
+    requires desk { (pass.seat.me.0.origin ≡ Some desk.now.table.shared.key.value)
+        × (reader.seat.me.0.origin ≡ Some desk.now.table.shared.key.value) }
+    requires idle { (holds pass.seat.me.0.mine ≡ None) × (returns pass.seat.me.0.mine ≡ 0) }
+    requires of { AreOf wires.now order.now }
+    requires one_each { length order.now
+        ≡ (W.job desk.now.table.shared.key.value.origin.told).count }
+    requires small { All IsSmallOutcome
+        (outcomes_at_end W.job desk.now.table.shared.key.value.origin) }
+    ensures begun { IfOk result.0 (IsBegun head.now previous wires.now order.now
+        (outcomes_at_end W.job desk.now.table.shared.key.value.origin)) }
+    ensures table { result.1.1.seat.table_id ≡ desk.now.table.shared.table_id }
+    ensures desk { result.1.1.seat.me.0.origin ≡ Some desk.now.table.shared.key.value }
+    ensures done { OnOk result.1.0 (AllDoneAfter W.job desk.now.table.shared.key.value.origin
+        result.1.1.seat.me.0.seen) }
+{
+    join(
+        rt,
+        move || -> Result<Begun, OutOfMemory>
+            requires { (reader.seat.table_id ≡ desk.now.table.shared.table_id)
+                × (reader.seat.me.0.origin ≡ Some desk.now.table.shared.key.value)
+                × AreOf wires.now order.now
+                × (length order.now ≡ (W.job desk.now.table.shared.key.value.origin.told).count)
+                × All IsSmallOutcome (outcomes_at_end W.job
+                desk.now.table.shared.key.value.origin) }
+            ensures { IfOk result (IsBegun head.entry.now previous wires.entry.now order.entry.now
+                (outcomes_at_end W.job desk.entry.now.table.shared.key.value.origin)) }
+        { read_front(rt, alloc, desk, reader, ended, head, previous, wires, order) },
+        move || -> (Result<(), OutOfMemory>, Pass<W>)
+            requires { (desk.now.table.shared.key.value.origin.told ≡ W.told work.now)
+                × (pass.seat.table_id ≡ desk.now.table.shared.table_id)
+                × (pass.seat.me.0.origin ≡ Some desk.now.table.shared.key.value)
+                × (holds pass.seat.me.0.mine ≡ None) × (returns pass.seat.me.0.mine ≡ 0) }
+            ensures table { result.1.seat.table_id ≡ desk.entry.now.table.shared.table_id }
+            ensures desk { result.1.seat.me.0.origin ≡ Some desk.entry.now.table.shared.key.value }
+            ensures done { OnOk result.0 (AllDoneAfter W.job
+                desk.entry.now.table.shared.key.value.origin result.1.seat.me.0.seen) }
+        { run_until(rt, alloc, desk, pass, ended, work, gate) },
+    )
+}
+
+/// Runs the lanes of a desk, and says when they have ended.
+fn run_until<W: Work + Sync, G: Gate, R: Threads + Wait + Sync>(
+    rt: &R,
+    alloc: Global,
+    desk: &SharedDesk<W>,
+    mut pass: Pass<W>,
+    ended: &AtomicBool,
+    work: &W,
+    gate: &G,
+) -> (Result<(), OutOfMemory>, Pass<W>)
+    requires told { desk.now.table.shared.key.value.origin.told ≡ W.told work.now }
+    requires table { pass.seat.table_id ≡ desk.now.table.shared.table_id }
+    requires desk { pass.seat.me.0.origin ≡ Some desk.now.table.shared.key.value }
+    requires idle { (holds pass.seat.me.0.mine ≡ None) × (returns pass.seat.me.0.mine ≡ 0) }
+    ensures table { result.1.seat.table_id ≡ desk.now.table.shared.table_id }
+    ensures desk { result.1.seat.me.0.origin ≡ Some desk.now.table.shared.key.value }
+    ensures done { OnOk result.0 (AllDoneAfter W.job desk.now.table.shared.key.value.origin
+        result.1.seat.me.0.seen) }
+{
+    let run = run_lanes(rt, alloc, desk, &mut pass, work, gate);
+    ended.store(true, SeqCst);
+    (run, pass)
+}
+
+/// Shares the core among its lanes, each on a thread of its own, until all positions are done. A
+/// further thread hashes the front of the record.
 fn run_shared<W: Work + Sync, G: Gate, R: Threads + Wait + Sync>(
     rt: &R,
     alloc: Global,
     core: Core<W>,
     work: &W,
     gate: &G,
-) -> Result<Core<W>, OutOfMemory>
+    head: &Head,
+    previous: Hash32,
+    wires: &[Blob],
+    order: &[Chosen],
+) -> Result<(Core<W>, Begun), OutOfMemory>
     requires told { core.origin.value.told ≡ W.told work.now }
     requires journal { core.journal.items ≡ [] }
-    ensures origin { IfOk result (λ ended. ended.origin.value ≡ core.origin.value) }
-    ensures done { IfOk result (λ ended.
-        AllDoneAfter W.job ended.origin.value ended.journal.items) }
+    requires of { AreOf wires.now order.now }
+    requires one_each { length order.now ≡ (W.job core.origin.value.told).count }
+    requires small { All IsSmallOutcome (outcomes_at_end W.job core.origin.value) }
+    ensures origin { IfOk result (λ end. end.0.origin.value ≡ core.origin.value) }
+    ensures done { IfOk result (λ end.
+        AllDoneAfter W.job end.0.origin.value end.0.journal.items) }
+    ensures begun { IfOk result (λ end. IsBegun head.now previous wires.now order.now
+        (outcomes_at_end W.job core.origin.value) end.1) }
 {
     let (desk, mut pass) = SharedDesk::new(alloc, core)?;
-    run_lanes(rt, alloc, &desk, &mut pass, work, gate)?;
-    Ok(desk.close(rt, pass))
+    let reader = desk.reader(&mut pass);
+    let ended = AtomicBool::new(false);
+    let (begun, (run, pass)) = run_beside(
+        rt, alloc, &desk, pass, reader, &ended, work, gate, head, previous, wires, order,
+    );
+    run?;
+    Ok((desk.close(rt, pass), begun?))
 }
 
 /// Runs a work on so many lanes over these accounts. It ends as the serial run does; its accounts
-/// stand apart yet. With one lane no thread is started.
+/// stand apart yet, and the front of its record is hashed as far as that was known. With one lane
+/// no thread is started.
 pub(crate) fn run_work<W: Work + Sync, G: Gate, R: Threads + Wait + Sync>(
     rt: &R,
     alloc: Global,
@@ -72,21 +183,33 @@ pub(crate) fn run_work<W: Work + Sync, G: Gate, R: Threads + Wait + Sync>(
     numbered: Numbered,
     lanes: u32,
     gate: &G,
-) -> Result<(Ended<W>, Items<Outcome>), OutOfMemory>
+    head: &Head,
+    previous: Hash32,
+    wires: &[Blob],
+    order: &[Chosen],
+) -> Result<(Ended<W>, Items<Outcome>, Begun), OutOfMemory>
     requires some { 1 ≤ lanes }
     requires most { lanes ≤ 64 }
     requires numbered { AreNumbered (W.job (W.told work.now)) numbered.table numbered.graph
         numbered.room }
+    requires of { AreOf wires.now order.now }
+    requires one_each { length order.now ≡ (W.job (W.told work.now)).count }
+    requires small { All IsSmallOutcome (serial_outcomes (W.job (W.told work.now)) (at accounts)) }
     ensures origin { IfOk result (λ end.
         end.0.origin.value ≡ record { start = accounts; told = W.told work.now }) }
     ensures outcomes { IfOk result (λ end. let job = W.job (W.told work.now) in
         end.1 ≡ serial_outcomes job (at accounts)) }
+    ensures begun { IfOk result (λ end.
+        IsBegun head.now previous wires.now order.now end.1 end.2) }
 {
     let mut core = Core::over(alloc, accounts, work, lanes, numbered)?;
     if lanes == 1 {
         run_alone(&mut core, work, gate)?;
-        core.part()
+        let (ended, outcomes) = core.part()?;
+        Ok((ended, outcomes, begin(head, previous, order)?))
     } else {
-        run_shared(rt, alloc, core, work, gate)?.part()
+        let (core, begun) = run_shared(rt, alloc, core, work, gate, head, previous, wires, order)?;
+        let (ended, outcomes) = core.part()?;
+        Ok((ended, outcomes, begun))
     }
 }

@@ -7,6 +7,7 @@ mod block;
 mod closing;
 mod entries;
 mod fees;
+mod front;
 mod lanes;
 mod laws;
 mod names;

@@ -41,6 +41,7 @@ fn run_order<G: Gate, R: Threads + Wait + Sync>(
     ensures counted { IfOk result (λ end. IsCounted end.block) }
     ensures writable { IfOk result (λ end. IsWritable end.after) }
 {
+    let previous = snapshot.recent.newest();
     let (work, numbered) = work_of(rt, alloc, lanes, &snapshot, head.slot, order)?;
     let Snapshot {
         slot: _,
@@ -48,18 +49,22 @@ fn run_order<G: Gate, R: Threads + Wait + Sync>(
         recent,
         accounts,
     } = snapshot;
-    let (ended, outcomes) = run_work(rt, alloc, accounts, &work, numbered, lanes, gate)?;
-    close(
+    let chosen = work.chosen();
+    let (ended, outcomes, begun) = run_work(
         rt,
         alloc,
+        accounts,
+        &work,
+        numbered,
         lanes,
-        limits,
-        recent,
+        gate,
         head,
-        wires,
-        work.chosen(),
-        ended,
-        outcomes,
+        previous,
+        wires.as_slice(),
+        chosen,
+    )?;
+    close(
+        rt, alloc, lanes, limits, recent, head, wires, chosen, ended, outcomes, begun,
     )
 }
 

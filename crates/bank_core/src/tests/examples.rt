@@ -7,15 +7,18 @@ use crate::kept::Core;
 use crate::loan::Take;
 use crate::tests::drives::{Answer, Seat, Step, leave, make_step};
 use crate::tests::trial::{Trial, accounts_of_ten, key_of, trial_of};
+use crate::work::Work;
 use account_store::Accounts;
 use sol_base::OutOfMemory;
 use std::alloc::Global;
 use std::test::Fail;
 
-/// What the steps answered, and what the core ended with where all positions are done.
+/// What the steps answered, how many outcomes were told after each, and what the core ended with
+/// where all positions are done.
 #[derive(Drop)]
 struct Run {
     answers: Vec<Answer>,
+    told: Vec<usize>,
     end: Option<Sealed>,
 }
 
@@ -45,6 +48,7 @@ fn drive(
 ) -> Result<Run, OutOfMemory> {
     let mut core = core_of(alloc, trial, accounts)?;
     let mut answers = Vec::with_capacity(alloc, steps.len())?;
+    let mut told = Vec::with_capacity(alloc, steps.len())?;
     let mut first = Seat::new(0);
     let mut second = Seat::new(1);
     for step in steps {
@@ -52,10 +56,21 @@ fn drive(
         first = one;
         second = other;
         let _ = answers.push(answer);
+        let _ = told.push(told_of(&core, trial));
     }
     leave(second.into_loan());
     let end = end_of(core, first)?;
-    Ok(Run { answers, end })
+    Ok(Run { answers, told, end })
+}
+
+/// How many outcomes a core tells from position 0 on.
+fn told_of(core: &Core<Trial>, trial: &Trial) -> usize
+    requires { core.now.origin.value.told ≡ trial.now.locks }
+{
+    match core.outcomes_from(0, trial.count()) {
+        Ok(told) => told.len(),
+        Err(_) => usize::MAX,
+    }
 }
 
 fn core_of(alloc: Global, trial: &Trial, accounts: Accounts) -> Result<Core<Trial>, OutOfMemory>
@@ -91,6 +106,7 @@ fn a_reader_does_not_overtake_a_waiting_writer(rt: HostRuntime) -> Result<(), Fa
     for ((step, want), answer) in cases.iter().zip(&run.answers) {
         assert_eq!(rt; *answer, *want, "at {step:?}");
     }
+    assert_eq!(rt; run.told.as_slice(), &[0, 0, 1, 1, 1, 2, 2, 3, 3][..]);
     assert!(rt; run.end.is_some());
     Ok(())
 }
@@ -117,6 +133,7 @@ fn readers_share_an_account(rt: HostRuntime) -> Result<(), Fail> {
     for ((step, want), answer) in cases.iter().zip(&run.answers) {
         assert_eq!(rt; *answer, *want, "at {step:?}");
     }
+    assert_eq!(rt; run.told.as_slice(), &[0, 0, 0, 0, 0, 0, 0, 2, 2][..]);
     Ok(())
 }
 

@@ -1,0 +1,9 @@
+use Rattle.std.proofs.Common.{◌≡◌, List, ap, subst}
+use Rattle.std.specs.Prelude.{IfOk, drop, length, take}
+use Rattle.bank_core.specs.Ends.{outcomes_at_end}
+use Rattle.tx_report.specs.declared.outcome.Outcome.{Outcome}
+use Rattle.bank_shared.proofs.desk.SharedDesk.outcomes_from.Goals as goal
+
+pub returns-clause-serial : goal.returns-clause-serial
+returns-clause-serial g c =
+    subst (λ o. IfOk c.outcomes_from-told.result (λ (told : List Outcome). told ≡ take (length told) (drop c.args.from (outcomes_at_end g.W.Work.job o)))) (ap (λ r. r.origin) c.lock-word.ensures.gets.desk) c.outcomes_from-told.ensures.serial

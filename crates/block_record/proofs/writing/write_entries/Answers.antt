@@ -1,8 +1,0 @@
-use Rattle.std.proofs.Common.{refl}
-use Rattle.std.proofs.lemmas.Result.{on_ok_weaker}
-use Rattle.snapshot_codec.proofs.Adding.{Adds-then, Adds-as}
-use Rattle.block_record.proofs.writing.write_entries.Goals as goal
-
-pub returns : goal.returns
-returns g c =
-    on_ok_weaker c.write_each_entry.result (λ last. Adds-as (Adds-then c.in_ok-append.ensures last) (rw c.to_le_bytes.ensures refl)) c.write_each_entry.ensures

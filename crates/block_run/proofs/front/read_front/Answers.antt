@@ -1,0 +1,34 @@
+use Rattle.std.proofs.Common.{◌≡◌, ◌+◌, ◌-◌, ◌≤◌, List, length, take, drop, All, ap, sym, subst, ◌∙◌, arith}
+use Rattle.std.proofs.lemmas.List.Elements.{All-drop, All-take}
+use Rattle.tx_report.specs.declared.outcome.Outcome.{Outcome}
+use Rattle.tx_exec.specs.TransactionLaws.{IsSmallOutcome}
+use Rattle.bank_core.specs.Ends.{outcomes_at_end}
+use Rattle.bank_core.proofs.Tells.{told_few}
+use Rattle.block_run.proofs.Fronts.{goes_on}
+use Rattle.block_run.proofs.front.read_front.Goals as goal
+
+pub take_in-requires-clause-within : goal.take_in-requires-clause-within
+take_in-requires-clause-within g c =
+    let few = told_few _ c.loop.begun.count c.min.result c.in_ok-outcomes.outcomes c.in_ok-outcomes.ensures.exact in
+    let least = c.min.ensures in
+    let within = c.loop.invariant.begun.within in
+    omega (arith, few, least, within)
+
+pub take_in-requires-clause-small : goal.take_in-requires-clause-small
+take_in-requires-clause-small g c =
+    let all = outcomes_at_end g.W.Work.job c.args.desk.now.table.shared.key.value.origin in
+    subst (All IsSmallOutcome) (sym c.in_ok-outcomes.ensures.serial)
+    (All-take IsSmallOutcome (length c.in_ok-outcomes.outcomes) (drop c.loop.begun.count all) (All-drop IsSmallOutcome c.loop.begun.count all c.requires.small))
+
+pub loop-preserved : goal.loop-preserved
+loop-preserved g c =
+    let few = told_few _ c.loop.begun.count c.min.result c.in_ok-outcomes.outcomes c.in_ok-outcomes.ensures.exact in
+    let least = c.min.ensures in
+    let within = c.loop.invariant.begun.within in
+    record {
+      again = (tt, tt);
+      table = c.outcomes_from.ensures.table ∙ c.loop.invariant.table;
+      desk = c.outcomes_from.ensures.desk ∙ c.loop.invariant.desk;
+      begun = goes_on c.args.head.now c.args.previous c.args.wires.now c.args.order.now (outcomes_at_end g.W.Work.job c.args.desk.now.table.shared.key.value.origin) c.in_ok-outcomes.outcomes c.loop.begun c.in_ok-begun-2.begun c.loop.invariant.begun
+          c.in_ok-outcomes.ensures.serial (omega (arith, few, least, within)) c.in_ok-begun-2.ensures.count c.in_ok-begun-2.ensures.taken;
+    }
