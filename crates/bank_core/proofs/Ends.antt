@@ -1,9 +1,9 @@
 -- What stands in the slots once all positions are done.
-use Rattle.std.proofs.Common.{◌≡◌, ℕ, zero, suc, ◌+◌, ◌-◌, ◌^◌, ◌<◌, ◌≤◌, Bool, true, false, cond, inl, inr, ◌⊎◌, List, [], ◌∷◌, map, length, get_or, Option, Some, None, refl, sym, ◌∙◌, ap, subst, arith}
-use Rattle.std.specs.Prelude.{sum_by, option_to_list}
+use Rattle.std.proofs.Common.{◌≡◌, ℕ, zero, suc, ◌+◌, ◌-◌, ◌^◌, ◌<◌, ◌≤◌, Bool, true, false, inl, inr, List, [], ◌∷◌, map, length, Option, Some, refl, sym, ◌∙◌, ap, subst, arith}
+use Rattle.std.specs.Prelude.{option_to_list}
 use Rattle.std.specs.List.{flat_map, range_with_len}
 use Rattle.std.specs.Option.{option_map}
-use Rattle.std.proofs.lemmas.Bool.{or_cases, both_ways, false_from_ne_true, cond-true, cond-false}
+use Rattle.std.proofs.lemmas.Bool.{or_cases, both_ways, false_from_ne_true, cond-false}
 use Rattle.std.proofs.lemmas.List.Sums.{sum_by-cons}
 use Rattle.sol_base.specs.declared.key.Key.{Key}
 use Rattle.sol_base.specs.declared.account.Account.{Account}
@@ -12,9 +12,9 @@ use Rattle.sol_base.proofs.KeyLaws.{same_key-true}
 use Rattle.tx_report.specs.declared.outcome.Outcome.{Outcome}
 use Rattle.account_store.specs.State.{State, at, sum, IsState}
 use Rattle.bank_law.specs.declared.event.Event.{Event}
-use Rattle.bank_law.specs.Job.{Job, has_key, writes, same_key}
+use Rattle.bank_law.specs.Job.{Job, has_key, same_key}
 use Rattle.bank_law.specs.Serial.{serial, result}
-use Rattle.bank_law.specs.Machine.{done, Run}
+use Rattle.bank_law.specs.Machine.{Run}
 use Rattle.bank_law.specs.Lawful.{IsLawful, IsShort, IsSettled, lamports_under}
 use Rattle.bank_law.specs.Machine.{AllDone}
 use Rattle.bank_law.proofs.Keys.{written_declared}

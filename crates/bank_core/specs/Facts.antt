@@ -10,7 +10,6 @@ use Rattle.tx_report.specs.declared.outcome.Outcome.{Outcome}
 use Rattle.account_store.specs.State.{State}
 use Rattle.bank_law.specs.declared.event.Event.{Event}
 use Rattle.bank_law.specs.Job.{Job}
-use Rattle.bank_law.specs.Lawful.{IsLawful}
 use Rattle.bank_law.proofs.Props.{IsLawful-prop, IsLegalFrom-prop}
 use Rattle.prio_graph.specs.Ready.{Positions}
 use Rattle.bank_core.specs.Slots.{Shared}

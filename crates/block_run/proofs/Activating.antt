@@ -1,5 +1,5 @@
 -- Activation: the programs that become executable are found, and then put.
-use Rattle.std.proofs.Common.{◌≡◌, ◌≤◌, ◌<◌, ◌+◌, ◌-◌, ◌^◌, ◌∷◌, [], ◌++◌, ℕ, T, Bool, true, false, cond, ◌&&◌, not, List, length, map, Option, Some, None, refl, sym, ap, subst, ◌∙◌, arith, length-drop, append_assoc}
+use Rattle.std.proofs.Common.{◌≡◌, ◌≤◌, ◌+◌, ◌-◌, ◌^◌, ◌∷◌, [], ℕ, T, Bool, true, false, cond, ◌&&◌, not, List, length, map, Option, Some, None, refl, sym, ap, subst, ◌∙◌, arith, length-drop}
 use Rattle.std.specs.Prelude.{option_map, unwrap_or, nat_eq}
 use Rattle.std.specs.List.{AllByRecursion, cons_option, filter_map}
 use Rattle.std.specs.Ordering.{eq_by_cmp, is_lt}
@@ -16,7 +16,7 @@ use Rattle.sol_base.specs.Keys.{key_cmp, same_key}
 use Rattle.sol_base.specs.Accounts.{IsShort, empty_account}
 use Rattle.sol_base.proofs.KeyLaws.{key_cmp_total, same_cmp, same_key-self, same_key-true}
 use Rattle.account_store.specs.declared.sorted.KeyedAccount.{KeyedAccount}
-use Rattle.account_store.specs.State.{State, IsHeld, IsState, at, entries, get, kept, len, put, sum}
+use Rattle.account_store.specs.State.{State, IsState, entries, get, kept, len, put, sum}
 use Rattle.account_store.proofs.StateLaws.{IsHeld-get, get-put_key, same_state, sum-put}
 use Rattle.loader_prog.specs.Buffers.{rest_in}
 use Rattle.loader_prog.specs.Loader.{activated, active, is_ready}

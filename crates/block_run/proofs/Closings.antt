@@ -1,6 +1,6 @@
 -- The record at the end of a block, and the snapshot after it.
-use Rattle.std.proofs.Common.{◌≡◌, ◌≤◌, ◌<◌, ◌+◌, ◌-◌, ◌^◌, ◌∷◌, [], ℕ, zero, suc, Bool, true, false, cond, List, length, take, map, Option, Some, None, All, refl, sym, ap, subst, ◌∙◌, arith}
-use Rattle.std.specs.Prelude.{min, sum_by}
+use Rattle.std.proofs.Common.{◌≡◌, ◌≤◌, ◌<◌, ◌+◌, ◌^◌, ◌∷◌, [], ℕ, suc, Bool, true, false, cond, List, length, take, Option, Some, None, All, refl, sym, subst, arith}
+use Rattle.std.specs.Prelude.{sum_by}
 use Rattle.std.specs.List.{AllByRecursion, cons_option, filter_map, zip}
 use Rattle.std.specs.FinMap.Entries.{by_order}
 use Rattle.std.specs.declared.cmp.Ordering.{Ordering}
@@ -11,7 +11,6 @@ use Rattle.std.proofs.lemmas.List.Sums.{sum_by-cons}
 use Rattle.std.proofs.lemmas.Slice.Zip.{length-zip}
 use Rattle.sol_base.specs.declared.key.Key.{Key}
 use Rattle.sol_base.specs.declared.key.Hash32.{Hash32}
-use Rattle.sol_base.specs.declared.limits.Limits.{Limits}
 use Rattle.sol_base.specs.Keys.{hash_cmp}
 use Rattle.message_codec.specs.Wire.{IsCountable}
 use Rattle.fee_rules.specs.declared.split.FeeSplit.{FeeSplit}
@@ -29,11 +28,11 @@ use Rattle.admission.specs.declared.chosen.Chosen.{Chosen}
 use Rattle.admission.specs.Batches.{IsOf}
 use Rattle.tx_exec.specs.TransactionLaws.{IsSmallOutcome}
 use Rattle.block_run.specs.SerialRun.{Ran}
-use Rattle.block_run.specs.BlockEnd.{Shares, activate_all, base_fees, may_collect, more, priority_fees, settled, share, share_fees}
+use Rattle.block_run.specs.BlockEnd.{Shares, base_fees, more, priority_fees, settled, share, share_fees}
 use Rattle.block_run.specs.declared.block.Closed.{Closed}
 use Rattle.block_run.specs.declared.block.Head.{Head}
 use Rattle.block_run.specs.Blocks.{ascending, closed_with, entered, entries_of, entry_of, placed, processed_by, processed_in, sealed}
-use Rattle.block_run.specs.Ending.{AreOf, MayEnd}
+use Rattle.block_run.specs.Ending.{AreOf}
 use Rattle.block_run.proofs.Runs.{len-put}
 use Rattle.block_run.proofs.Activating.{len-activate_all}
 

@@ -1,9 +1,8 @@
 -- The lamports of a block, and the programs at its end.
-use Rattle.std.proofs.Common.{◌≡◌, ◌≤◌, ◌<◌, ◌+◌, ◌-◌, ◌*◌, ◌/◌, ◌&&◌, ◌==◌, ◌⊎◌, inl, inr, ◌∷◌, [], ℕ, zero, suc, Bool, true, false, not, cond, List, length, map, Option, Some, None, All, refl, sym, ap, subst, ◌∙◌, arith}
-use Rattle.std.specs.Prelude.{nat_le, option_map, sum_by, unwrap_or}
+use Rattle.std.proofs.Common.{◌≡◌, ◌≤◌, ◌+◌, ◌&&◌, ◌==◌, ◌⊎◌, inl, inr, ◌∷◌, [], ℕ, Bool, true, false, not, cond, List, length, map, Option, Some, None, refl, sym, ap, subst, ◌∙◌, arith}
+use Rattle.std.specs.Prelude.{nat_le, option_map, unwrap_or}
 use Rattle.std.specs.List.Sorted.{IsStrictlySortedBy}
 use Rattle.std.specs.Map.{keys_of}
-use Rattle.std.specs.FinMap as finite
 use Rattle.std.proofs.lemmas.Bool.{and_parts}
 use Rattle.std.proofs.lemmas.List.Sums.{sum_by-cons}
 use Rattle.std.proofs.lemmas.Option.{same_Some}
@@ -11,7 +10,7 @@ use Rattle.sol_base.specs.declared.key.Key.{Key}
 use Rattle.sol_base.specs.declared.key.TheConstants.{SYSTEM_PROGRAM}
 use Rattle.sol_base.specs.declared.account.Account.{Account}
 use Rattle.sol_base.specs.Keys.{key_cmp, same_key}
-use Rattle.sol_base.proofs.KeyLaws.{key_cmp_exact, key_cmp_total, same_key-true}
+use Rattle.sol_base.proofs.KeyLaws.{key_cmp_exact, key_cmp_total}
 use Rattle.message_codec.specs.Roles.{is_reserved}
 use Rattle.fee_rules.specs.declared.split.FeeSplit.{FeeSplit}
 use Rattle.fee_rules.specs.Fees.{split_of}
@@ -20,18 +19,12 @@ use Rattle.tx_report.specs.declared.outcome.Outcome.{Outcome}
 use Rattle.account_store.specs.State.{State, at, entries, get, kept, lamports_of, put, sum}
 use Rattle.account_store.proofs.EntryLists.{entries-from_entries, sorted-entries}
 use Rattle.account_store.proofs.StateLaws.{get-put_key, sum-put}
-use Rattle.program_cache.specs.Ready.{ReadyImage}
 use Rattle.program_cache.specs.Programs.{IsProgramOf, ready_image}
 use Rattle.program_cache.proofs.ProgramLaws.{program_is_ready}
 use Rattle.loader_prog.specs.Loader.{activated, active}
 use Rattle.loader_prog.specs.Laws.{IsActivated}
 use Rattle.loader_prog.proofs.Activating.{activated-is, lamports-active}
-use Rattle.snapshot_codec.specs.declared.snapshot.Snapshot.{Snapshot}
-use Rattle.snapshot_codec.specs.Snapshot.{IsReadable}
-use Rattle.admission.specs.declared.chosen.Chosen.{Chosen}
-use Rattle.admission.specs.Chosen.{IsChosen}
 use Rattle.tx_exec.specs.Payer.{is_wallet}
-use Rattle.block_run.specs.declared.block.Head.{Head}
 use Rattle.block_run.specs.SerialRun.{serial_run, told_in}
 use Rattle.block_run.specs.BlockEnd.{Shares, activate_all, base_fees, may_collect, more, priority_fees, share, share_fees}
 use Rattle.block_run.specs.Blocks.{closed}

@@ -1,5 +1,5 @@
 -- No transaction of a block makes an executable account, or changes one.
-use Rattle.std.proofs.Common.{◌≡◌, ◌≤◌, ◌<◌, ◌+◌, ◌==◌, ◌↔◌, ◌∷◌, [], ℕ, zero, suc, Bool, true, false, cond, ◌||◌, List, length, map, filter, Option, Some, None, All, refl, sym, ap, subst, ◌∙◌, arith}
+use Rattle.std.proofs.Common.{◌≡◌, ◌≤◌, ◌<◌, ◌==◌, ◌↔◌, ◌∷◌, [], ℕ, zero, suc, Bool, true, false, cond, ◌||◌, List, length, map, filter, Option, Some, None, All, refl, sym, ap, subst, ◌∙◌, arith}
 use Rattle.std.specs.Prelude.{slice_get, unwrap_or}
 use Rattle.std.proofs.lemmas.Bool.{eqb-true}
 use Rattle.std.proofs.lemmas.List.{length-map}
@@ -11,7 +11,7 @@ use Rattle.sol_base.specs.Accounts.{empty_account}
 use Rattle.sol_base.proofs.KeyLaws.{same_key-true}
 use Rattle.message_codec.proofs.RoleLaws.{lock_count}
 use Rattle.account_store.specs.State.{State, IsState, at, get, settled}
-use Rattle.bank_law.specs.Job.{Job, beside, has_key, keys, lock_keys, same_key, write_keys, writes, written_keys}
+use Rattle.bank_law.specs.Job.{beside, has_key, lock_keys, same_key, write_keys, writes, written_keys}
 use Rattle.bank_law.specs.Lawful.{IsSettled, lent_for_writing}
 use Rattle.bank_law.specs.Serial.{performed, serial}
 use Rattle.bank_law.specs.SerialState.{serial_state}
@@ -19,9 +19,8 @@ use Rattle.bank_law.proofs.States.{at_fits, serial_states, states_run}
 use Rattle.admission.specs.declared.chosen.Chosen.{Chosen}
 use Rattle.admission.specs.Chosen.{IsChosen}
 use Rattle.tx_exec.specs.declared.told.Told.{Told}
-use Rattle.tx_exec.specs.Executing.{locks}
 use Rattle.tx_exec.specs.Told.{block_of, effects_at, job_of, locks_at}
-use Rattle.tx_exec.specs.Transaction.{transaction, written}
+use Rattle.tx_exec.specs.Transaction.{transaction}
 use Rattle.tx_exec.specs.TransactionLaws.{Keeps}
 use Rattle.tx_exec.proofs.Keeping.{transaction_keeps}
 use Rattle.tx_exec.proofs.Works.{works_are_lawful}

@@ -1,5 +1,5 @@
 -- Transactions of a batch, and the first of them.
-use Rattle.std.proofs.Common.{◌≡◌, ◌≤◌, ◌<◌, ◌+◌, ◌∷◌, [], ℕ, zero, suc, List, length, take, map, All, refl, sym, ap, subst, ◌∙◌, arith}
+use Rattle.std.proofs.Common.{◌≤◌, ◌∷◌, [], ℕ, zero, suc, List, length, take, arith}
 use Rattle.std.proofs.lemmas.List.Elements.{All-take}
 use Rattle.admission.specs.declared.chosen.Chosen.{Chosen}
 use Rattle.admission.specs.declared.chosen.Admitted.{Admitted}

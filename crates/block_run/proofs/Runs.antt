@@ -1,5 +1,5 @@
 -- The serial run of the transactions of a block: the lamports that it pays, and the accounts that it adds.
-use Rattle.std.proofs.Common.{◌≡◌, ◌≤◌, ◌<◌, ◌+◌, ◌-◌, ◌==◌, ◌*◌, ◌^◌, ◌∷◌, [], ◌++◌, ℕ, zero, suc, Bool, true, false, cond, List, length, map, Option, Some, None, All, refl, sym, ap, subst, ◌∙◌, add-one, arith}
+use Rattle.std.proofs.Common.{◌≡◌, ◌≤◌, ◌<◌, ◌+◌, ◌-◌, ◌==◌, ◌*◌, ◌∷◌, [], ℕ, zero, suc, Bool, true, false, cond, List, length, map, All, sym, subst, ◌∙◌, add-one, arith}
 use Rattle.std.specs.Prelude.{sum_by}
 use Rattle.std.specs.List.{range_with_len}
 use Rattle.std.specs.FinMap as map
@@ -8,14 +8,13 @@ use Rattle.std.proofs.lemmas.List.FromFn.{length-map-range_with_len, sum_by-map-
 use Rattle.sol_base.specs.declared.key.Key.{Key}
 use Rattle.sol_base.specs.declared.account.Account.{Account}
 use Rattle.sol_base.specs.declared.lock.Lock.{Lock}
-use Rattle.sol_base.specs.Keys.{key_cmp}
 use Rattle.sol_base.proofs.KeyLaws.{key_cmp_total}
 use Rattle.tx_report.specs.declared.outcome.Outcome.{Outcome}
 use Rattle.account_store.specs.State.{State, IsState, at, len, put, sum}
-use Rattle.bank_law.specs.Job.{Job, keys, write_keys}
+use Rattle.bank_law.specs.Job.{keys, write_keys}
 use Rattle.bank_law.specs.Lawful.{IsLawful}
 use Rattle.bank_law.specs.Serial.{performed, result, serial}
-use Rattle.bank_law.specs.SerialState.{next_state, put_each, serial_state}
+use Rattle.bank_law.specs.SerialState.{put_each, serial_state}
 use Rattle.bank_law.proofs.States.{serial_states, sums_move}
 use Rattle.bank_core.specs.Ends.{serial_outcomes}
 use Rattle.snapshot_codec.specs.declared.snapshot.Snapshot.{Snapshot}
@@ -25,11 +24,11 @@ use Rattle.admission.specs.Chosen.{IsChosen}
 use Rattle.tx_exec.specs.declared.told.Told.{Told}
 use Rattle.tx_exec.specs.Told.{job_of}
 use Rattle.tx_exec.specs.TransactionLaws.{IsSmallOutcome}
-use Rattle.block_run.specs.SerialRun.{Ran, ran, serial_run, told_in}
+use Rattle.block_run.specs.SerialRun.{serial_run, told_in}
 use Rattle.block_run.specs.BlockEnd.{base_fees, priority_fees}
 use Rattle.block_run.specs.Ending.{AreOf, MayEnd}
 use Rattle.tx_exec.proofs.Works.{works_are_lawful}
-use Rattle.block_run.proofs.Positions.{locks_most, paid_in, position_is_small, position_pays, written_keys_few}
+use Rattle.block_run.proofs.Positions.{locks_most, position_is_small, position_pays, written_keys_few}
 
 -- ---- how many accounts there are
 one_more : (b : Bool) (n : ℕ) → cond b n (n + 1) ≤ n + 1

@@ -1,9 +1,8 @@
 -- The one lane of a core, turn by turn.
-use Rattle.std.proofs.Common.{◌≡◌, ◌≤◌, ◌<◌, ◌+◌, ◌-◌, ◌*◌, ◌∷◌, [], ◌++◌, ℕ, zero, suc, List, length, Some, None, refl, sym, ap, subst, ◌∙◌, arith, length-append}
+use Rattle.std.proofs.Common.{◌≡◌, ◌<◌, ◌+◌, ◌-◌, ◌*◌, ◌∷◌, [], ℕ, List, length, Some, None, ap, ◌∙◌, arith, length-append}
 use Rattle.sol_base.specs.declared.key.Key.{Key}
 use Rattle.sol_base.specs.declared.account.Account.{Account}
 use Rattle.bank_law.specs.declared.event.Event.{Event}
-use Rattle.bank_law.specs.declared.event.EventKind.{EventKind}
 use Rattle.bank_law.specs.declared.event.EventKind.TheVariants.{Commit, Grant}
 use Rattle.bank_law.specs.Job.{Job}
 use Rattle.bank_law.specs.Machine.{IsLegal, with_event}

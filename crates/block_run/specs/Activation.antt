@@ -1,5 +1,5 @@
 -- Activation: the programs that become executable, and the accounts while they are put.
-use Rattle.std.specs.Prelude.{◌≡◌, ℕ, List, Option, Some, false, option_map}
+use Rattle.std.specs.Prelude.{◌≡◌, List, Option, Some, false, option_map}
 use Rattle.std.specs.List.{AllByRecursion, filter_map}
 use Rattle.sol_base.specs.declared.key.Key.{Key}
 use Rattle.sol_base.specs.declared.account.Account.{Account}

@@ -3,7 +3,6 @@
 use Rattle.std.specs.Prelude.{ℕ, ◌+◌, Bool, true, false, List, [], ◌∷◌, map, replicate, take, Option, Some, None}
 use Rattle.std.specs.List.{filter_map, zip}
 use Rattle.std.specs.FinMap.Entries.{by_order}
-use Rattle.sol_base.specs.declared.key.Key.{Key}
 use Rattle.sol_base.specs.declared.key.Hash32.{Hash32}
 use Rattle.sol_base.specs.Keys.{hash_cmp}
 use Rattle.status_cache.specs.declared.recent.Mark.{Mark}

@@ -1,5 +1,5 @@
 use Rattle.bank_core.specs.Slots.{Shared}
-use Rattle.std.proofs.Common.{Option, [], ◌≡◌, ◌<◌, ◌≤◌, ◌-◌, ◌^◌, ◌+◌, None, Some, length, get_or, refl, set, arith, ap, ap₂, sym, subst, ◌∙◌}
+use Rattle.std.proofs.Common.{Option, [], ◌≡◌, ◌<◌, ◌≤◌, ◌-◌, ◌^◌, ◌+◌, None, Some, length, refl, set, arith, ap, sym, subst, ◌∙◌}
 use Rattle.std.proofs.lemmas.List.{get_or_default}
 use Rattle.std.proofs.lemmas.Option.{get_or_from_slice_get}
 use Rattle.std.specs.Arc.{arc_value}

@@ -1,14 +1,11 @@
-use Rattle.std.proofs.Common.{◌≡◌, ◌++◌, ◌∷◌, [], List, length, Some, None, sym, ap, ◌∙◌, arith, append-nil}
-use Rattle.std.specs.Arc.{arc_value}
+use Rattle.std.proofs.Common.{◌++◌, List, length, sym, ap, ◌∙◌, arith, append-nil}
 use Rattle.std.specs.List.{filter_map}
 use Rattle.sol_base.specs.declared.key.Key.{Key}
 use Rattle.sol_base.specs.declared.account.Account.{Account}
 use Rattle.account_store.specs.declared.sorted.KeyedAccount.{KeyedAccount}
-use Rattle.account_store.specs.State.{entries}
 use Rattle.account_store.specs.Shared.{seen}
-use Rattle.loader_prog.specs.Loader.{activated}
 use Rattle.snapshot_codec.proofs.Walk.{none_left}
-use Rattle.block_run.specs.Activation.{activated_entry, activated_in, keyed}
+use Rattle.block_run.specs.Activation.{activated_entry}
 use Rattle.block_run.proofs.activation.activated_in.Goals as goal
 
 pub loop-key-init : goal.loop-key-init

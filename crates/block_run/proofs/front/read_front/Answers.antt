@@ -1,6 +1,5 @@
-use Rattle.std.proofs.Common.{◌≡◌, ◌+◌, ◌-◌, ◌≤◌, List, length, take, drop, All, ap, sym, subst, ◌∙◌, arith}
+use Rattle.std.proofs.Common.{length, drop, All, sym, subst, ◌∙◌, arith}
 use Rattle.std.proofs.lemmas.List.Elements.{All-drop, All-take}
-use Rattle.tx_report.specs.declared.outcome.Outcome.{Outcome}
 use Rattle.tx_exec.specs.TransactionLaws.{IsSmallOutcome}
 use Rattle.bank_core.specs.Ends.{outcomes_at_end}
 use Rattle.bank_core.proofs.Tells.{told_few}

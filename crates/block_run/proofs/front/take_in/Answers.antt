@@ -1,10 +1,10 @@
-use Rattle.std.proofs.Common.{◌≡◌, ◌+◌, ◌-◌, ◌++◌, ℕ, List, length, drop, ap, subst, ◌∙◌, arith}
+use Rattle.std.proofs.Common.{◌≡◌, ◌++◌, List, drop, subst, ◌∙◌, arith}
 use Rattle.std.specs.List.{flat_map}
 use Rattle.sha2.specs.Hashers.{Holds256}
 use Rattle.block_record.specs.declared.block.Entry.{Entry}
-use Rattle.block_record.specs.Record.{IsCounted, entry_bytes}
+use Rattle.block_record.specs.Record.{entry_bytes}
 use Rattle.block_run.specs.Blocks.{entries_of}
-use Rattle.block_run.proofs.Fronts.{next_entries, part_counted, with_entries}
+use Rattle.block_run.proofs.Fronts.{next_entries, part_counted}
 use Rattle.block_run.proofs.front.take_in.Goals as goal
 
 pub hash_entries-requires-clause-wires : goal.hash_entries-requires-clause-wires

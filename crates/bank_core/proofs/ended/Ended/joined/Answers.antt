@@ -1,4 +1,4 @@
-use Rattle.std.proofs.Common.{◌≡◌, ◌+◌, ◌-◌, ◌^◌, ◌≤◌, ◌∙◌, ap, sym, subst}
+use Rattle.std.proofs.Common.{◌+◌, ◌-◌, ◌^◌, ◌≤◌, ◌∙◌, ap, sym, subst}
 use Rattle.bank_law.specs.Lawful.{IsShort, IsSettled}
 use Rattle.account_store.specs.State.{sum}
 use Rattle.bank_core.specs.Slots.{account_at, in_slot, slot_lamports}

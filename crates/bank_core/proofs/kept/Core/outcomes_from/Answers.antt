@@ -1,4 +1,4 @@
-use Rattle.std.proofs.Common.{◌≡◌, List, ap, subst, sym, ◌∙◌}
+use Rattle.std.proofs.Common.{◌≡◌, List, subst, sym, ◌∙◌}
 use Rattle.std.specs.Prelude.{drop, length, take}
 use Rattle.std.proofs.lemmas.Result.{IfOk-weaker}
 use Rattle.tx_report.specs.declared.outcome.Outcome.{Outcome}

@@ -1,4 +1,4 @@
-use Rattle.std.proofs.Common.{ℕ, None, replicate, ◌≡◌, ◌<◌, ◌≤◌, length, arith, refl, sym, subst, ◌∙◌, ap, vec_capacity}
+use Rattle.std.proofs.Common.{None, replicate, ◌≡◌, arith, refl, sym, subst, ◌∙◌, ap, vec_capacity}
 use Rattle.account_store.specs.State.{at}
 use Rattle.bank_law.specs.Lawful.{IsLawful}
 use Rattle.bank_law.specs.Machine.{Run, held_count}
