@@ -1,12 +1,12 @@
 //! The memory of one frame of a program, read and written by address.
-ghost use Rattle.std.specs.Prelude.{◌≡◌, ◌<◌, ◌≤◌, ◌+◌, ◌^◌, ◌≢◌, length, IfOk, MatchOption, MatchResult, IfSome, Some, Ok, true, take, drop, IsOk, OnOk, OnErr};
+ghost use Rattle.std.specs.Prelude.{◌≡◌, ◌<◌, ◌≤◌, ◌+◌, ◌^◌, ◌≢◌, length, IfOk, MatchOption, MatchResult, IfSome, Some, Ok, Err, false, true, take, drop, IsOk, OnOk, OnErr};
 ghost use Rattle.std.specs.Arc.{arc_value};
 ghost use Rattle.std.specs.Borrow.{sem};
 ghost use Rattle.sol_base.specs.Parts.{with_bytes, ArePrepared};
 ghost use Rattle.sbpf_memory.specs.Lending.{LendsInput};
-ghost use Rattle.sbpf_memory.specs.Memory.{IsMemory, IsWidth, IsPrepared, HasMemory, Answers, Prepares, KeepsBytes, fresh, load_from, read_from, store_to, write_to, copy_to, or_refusal, place_of, range_bytes, with_bytes_in, with_heap, with_input_bytes, with_stack, PreparedIn, refused_in, violation_of, write_refusal, PreparesIn, StaysIfRefused};
+ghost use Rattle.sbpf_memory.specs.Memory.{IsMemory, IsWidth, IsPrepared, HasMemory, Answers, Prepares, KeepsBytes, fresh, load_from, read_from, store_to, write_to, copy_to, or_refusal, input_start, place_of, range_bytes, with_bytes_in, with_heap, with_input_bytes, with_stack, PreparedIn, refused_in, violation_of, write_refusal, PreparesIn, StaysIfRefused};
 ghost use Rattle.sbpf_memory.specs.Copies.{bytes_of_place, copied_in, IsTarget};
-ghost use Rattle.sbpf_memory.specs.declared.place.Region.TheVariants.{Program};
+ghost use Rattle.sbpf_memory.specs.declared.place.Region.TheVariants.{Program, Input};
 
 use crate::buffer::Buffer;
 use crate::bytes::{array_from, read_into};
@@ -70,21 +70,21 @@ impl Memory {
         ensures { result ≡ load_from self.now addr width }
     {
         match width {
-            1 => match self.place(addr, 1) {
+            1 => match self.array(addr) {
                 None => Err(violation(addr, 1, false)),
-                Some(place) => Ok(u64::from(u8::from_le_bytes(self.array_at::<1>(place)))),
+                Some(bytes) => Ok(u64::from(u8::from_le_bytes(bytes))),
             },
-            2 => match self.place(addr, 2) {
+            2 => match self.array(addr) {
                 None => Err(violation(addr, 2, false)),
-                Some(place) => Ok(u64::from(u16::from_le_bytes(self.array_at::<2>(place)))),
+                Some(bytes) => Ok(u64::from(u16::from_le_bytes(bytes))),
             },
-            4 => match self.place(addr, 4) {
+            4 => match self.array(addr) {
                 None => Err(violation(addr, 4, false)),
-                Some(place) => Ok(u64::from(u32::from_le_bytes(self.array_at::<4>(place)))),
+                Some(bytes) => Ok(u64::from(u32::from_le_bytes(bytes))),
             },
-            _ => match self.place(addr, 8) {
+            _ => match self.array(addr) {
                 None => Err(violation(addr, 8, false)),
-                Some(place) => Ok(u64::from_le_bytes(self.array_at::<8>(place))),
+                Some(bytes) => Ok(u64::from_le_bytes(bytes)),
             },
         }
     }
@@ -247,7 +247,24 @@ impl Memory {
         let _ = &self.program;
         if addr >= INPUT_START {
             within(Region::Input, addr - INPUT_START, len, self.input_size())
-        } else if addr >= HEAP_START {
+        } else {
+            self.place_below(addr, len)
+        }
+    }
+
+    /// The same for an address below those of the input.
+    #[inline(always)]
+    #[tactic(auto, using(std::proofs::lemmas::Bool::Decides::nat_tests, crate::proofs::Places::places), unfolding(crate::specs::Memory::place_of))]
+    fn place_below(&self, addr: u64, len: u64) -> Option<Place>
+        requires some { 1 ≤ len }
+        requires below { addr < input_start }
+        ensures value { result ≡ place_of self.now addr len }
+        ensures within { IfSome result
+            (λ place. place.at + len ≤ length (range_bytes self.now place.region)) }
+        ensures region { IfSome result (λ place. place.region ≢ Input) }
+    {
+        let _ = &self.program;
+        if addr >= HEAP_START {
             within(Region::Heap, addr % RANGE_STEP, len, self.heap_size())
         } else if addr >= STACK_START {
             within_frame(addr % RANGE_STEP, len)
@@ -358,10 +375,31 @@ impl Memory {
         }
     }
 
-    /// The `N` bytes at a place.
+    /// The `N` bytes at an address, if they lie in a range. Those of the input are looked for by the
+    /// input alone, which asks for its length only where no part at hand has them.
+    #[inline(always)]
+    #[tactic(auto, using(std::proofs::lemmas::Bool::Decides::nat_tests, crate::proofs::Places::places), unfolding(crate::specs::Memory::read_from))]
+    fn array<const N: usize>(&self, addr: u64) -> Option<[u8; N]>
+        requires some { 1 ≤ N }
+        requires few { N ≤ 8 }
+        ensures { MatchOption result
+            (read_from self.now addr N ≡ Err (violation_of addr N false))
+            (λ found. read_from self.now addr N ≡ Ok found) }
+    {
+        let _ = &self.program;
+        if addr >= INPUT_START {
+            self.input.array((addr - INPUT_START) as usize)
+        } else {
+            let place = self.place_below(addr, N as u64)?;
+            Some(self.array_at(place))
+        }
+    }
+
+    /// The `N` bytes at a place that is not of the input.
     #[inline(always)]
     fn array_at<const N: usize>(&self, place: Place) -> [u8; N]
-        requires { place.at + N ≤ length (range_bytes self.now place.region) }
+        requires within { place.at + N ≤ length (range_bytes self.now place.region) }
+        requires below { place.region ≢ Input }
         ensures { result ≡ take N (drop place.at (range_bytes self.now place.region)) }
     {
         let at = place.at as usize;
@@ -369,17 +407,8 @@ impl Memory {
             Region::Program => array_from(self.program.as_slice(), at),
             Region::Stack => self.stack.array(at),
             Region::Heap => self.heap.array(at),
-            Region::Input => self.input_array(at),
+            Region::Input => unreachable!(),
         }
-    }
-
-    /// The `N` bytes of the input from a place on.
-    #[inline(always)]
-    fn input_array<const N: usize>(&self, at: usize) -> [u8; N]
-        requires { at + N ≤ length self.now.input.bytes }
-        ensures { result ≡ take N (drop at self.now.input.bytes) }
-    {
-        self.input.read_array(at)
     }
 
     /// Writes bytes at a place, if its range is written.

@@ -6,7 +6,7 @@ use Rattle.std.proofs.lemmas.Bool.{cases_lt, cases_Bool}
 use Rattle.sol_base.specs.declared.parts.piece.Piece.{Piece}
 use Rattle.sol_base.specs.declared.parts.piece.Backing.{Backing}
 use Rattle.sol_base.specs.Parts.{piece_bytes, bytes_in, tests_in, before, blank_of, is_blank, with_bytes, AreInOrder, AreLentBy, StayLent, StaysShared}
-use Rattle.sol_base.proofs.PartLaws.{order_set, lent_set, start_at, before_all, before_more, bytes_at, bytes_set, tests_kept, bytes_kept, write_there, read_step}
+use Rattle.sol_base.proofs.PartLaws.{order_set, lent_set, start_at, item_start, before_all, before_more, bytes_at, bytes_set, tests_kept, bytes_kept, write_there, read_step}
 
 -- of two items that are set in one place, the second stands there
 pub set_twice : {A : Type 0} (xs : List A) (i : ℕ) (x y : A) → set (set xs i x) i y ≡ set xs i y
@@ -113,6 +113,16 @@ apart_write list place at piece y bytes h order first inside becomes =
 -- no piece has more bytes than all have
 pub piece_bound : (pieces : List Piece) (i : ℕ) (x : Piece) → i < length pieces → x ≡ get_or pieces i x → length (piece_bytes x) ≤ length (bytes_in pieces)
 piece_bound pieces i x h is =
+    let size : length (piece_bytes x) ≡ length (piece_bytes (get_or pieces i x)) = ap (λ (p : Piece). length (piece_bytes p)) is in
+    let all = ap length (bytes_at pieces i x h) in
+    let parts = length-append (bytes_in (take i pieces)) (piece_bytes (get_or pieces i x) ++ bytes_in (drop (i + 1) pieces)) in
+    let more = length-append (piece_bytes (get_or pieces i x)) (bytes_in (drop (i + 1) pieces)) in
+    omega arith
+
+-- what lies within a piece lies within the list
+pub piece_within : (pieces : List Piece) (i at N : ℕ) (x : Piece) → AreInOrder pieces → i < length pieces → x ≡ get_or pieces i x → x.start ≤ at → at - x.start + N ≤ length (piece_bytes x) → at + N ≤ length (bytes_in pieces)
+piece_within pieces i at N x order h is first inside =
+    let start : x.start ≡ before pieces i = item_start pieces i x order h is in
     let size : length (piece_bytes x) ≡ length (piece_bytes (get_or pieces i x)) = ap (λ (p : Piece). length (piece_bytes p)) is in
     let all = ap length (bytes_at pieces i x h) in
     let parts = length-append (bytes_in (take i pieces)) (piece_bytes (get_or pieces i x) ++ bytes_in (drop (i + 1) pieces)) in

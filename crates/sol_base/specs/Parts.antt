@@ -1,5 +1,5 @@
 -- Lists of bytes in parts, some of which are the data of shared accounts.
-use Rattle.std.specs.Prelude.{◌≡◌, ℕ, ◌+◌, ◌-◌, ◌<◌, ◌≤◌, ◌==◌, if◌then◌else◌, true, false, Bool, List, [], ◌∷◌, ◌++◌, length, map, min, take, drop, replicate, slice_get, Some}
+use Rattle.std.specs.Prelude.{◌≡◌, ℕ, ◌+◌, ◌-◌, ◌<◌, ◌≤◌, ◌==◌, if◌then◌else◌, true, false, nat_le, Bool, List, [], ◌∷◌, ◌++◌, length, map, min, take, drop, replicate, slice_get, Option, Some, None}
 use Rattle.std.specs.List.{All, flat_map, find}
 use Rattle.std.specs.Arc.{arc_value}
 use Rattle.std.specs.declared.sync.Arc.{Arc}
@@ -104,6 +104,10 @@ StaysShared before after =
 -- N bytes are those of a list from a place on
 abbrev pub ArrayStandsIn : List ℕ → ℕ → ℕ → List ℕ → Type 0
 ArrayStandsIn list from N found = (from + N ≤ length list) × (found ≡ take N (drop from list))
+
+-- N bytes of a list from a place on, or none where there are fewer
+abbrev pub array_at : List ℕ → ℕ → ℕ → Option (List ℕ)
+array_at list at N = if nat_le (at + N) (length list) then Some (take N (drop at list)) else None
 
 -- a backing has other bytes from a place on
 abbrev pub HasPut : Backing → Backing → ℕ → List ℕ → Type 0

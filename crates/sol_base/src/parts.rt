@@ -1,7 +1,7 @@
 //! A list of bytes that stands in parts, some of which are the data of shared accounts.
 ghost use Rattle.std.specs.Prelude.{◌≡◌, ◌<◌, ◌≤◌, ◌+◌, ◌^◌, true, false, None, length, take, drop, slice_get, slice_index, IfOk, IfSome, IsOk, OnOk, OnErr};
 ghost use Rattle.std.specs.Arc.{arc_value};
-ghost use Rattle.sol_base.specs.Parts.{bytes_of, lent_from, unprepared, with_bytes, ArePrepared, DataStandAt, IsLentAt, StayPrepared};
+ghost use Rattle.sol_base.specs.Parts.{bytes_of, lent_from, unprepared, with_bytes, array_at, ArePrepared, ArrayStandsIn, DataStandAt, IsLentAt, StayPrepared};
 
 mod moves;
 mod near;
@@ -145,33 +145,55 @@ impl Parts {
         }
     }
 
-    /// The `N` bytes from a place on.
+    /// The `N` bytes from a place on, if there are as many.
     #[inline(always)]
-    pub fn read_array<const N: usize>(&self, at: usize) -> [u8; N]
-        requires { at + N ≤ length self.now.bytes }
-        ensures { result ≡ take N (drop at self.now.bytes) }
+    pub fn array<const N: usize>(&self, at: usize) -> Option<[u8; N]>
+        requires { at + N < 2 ^ 64 }
+        ensures { result ≡ array_at self.now.bytes at N }
     {
-        let near = near::first(self.hints.as_slice(), at);
-        match self.pieces.array(near, at) {
-            Some(bytes) => bytes,
+        match self.array_near(at) {
+            Some(bytes) => Some(bytes),
             None => self.array_over(at),
         }
     }
 
-    /// The `N` bytes from a place on, which may lie over several parts.
+    /// The `N` bytes from a place on, if the part that the hint names has them, or the open one.
+    #[inline(always)]
+    fn array_near<const N: usize>(&self, at: usize) -> Option<[u8; N]>
+        requires { at + N < 2 ^ 64 }
+        ensures { IfSome result (ArrayStandsIn self.now.bytes at N) }
+    {
+        let near = near::hinted(self.hints.as_slice(), at)?;
+        self.pieces.array(near, at)
+    }
+
+    /// The same, which may lie over several parts. This stands apart so that room for the answer of
+    /// a call is made where there is one, and not where most reads go.
+    #[inline(always)]
+    fn array_over<const N: usize>(&self, at: usize) -> Option<[u8; N]>
+        requires { at + N < 2 ^ 64 }
+        ensures { result ≡ array_at self.now.bytes at N }
+    {
+        self.array_found(at)
+    }
+
+    /// The `N` bytes from a place on, of which no part at hand has all.
     #[cold]
     #[inline(never)]
-    fn array_over<const N: usize>(&self, at: usize) -> [u8; N]
-        requires { at + N ≤ length self.now.bytes }
-        ensures { result ≡ take N (drop at self.now.bytes) }
+    fn array_found<const N: usize>(&self, at: usize) -> Option<[u8; N]>
+        requires { at + N < 2 ^ 64 }
+        ensures { result ≡ array_at self.now.bytes at N }
     {
+        if at + N > self.len {
+            return None;
+        }
         let near = near::first(self.hints.as_slice(), at);
         if let Some(bytes) = self.pieces.array(near.saturating_add(1), at) {
-            return bytes;
+            return Some(bytes);
         }
         let mut bytes = [0; N];
         self.read(at, &mut bytes);
-        bytes
+        Some(bytes)
     }
 
     /// Writes the bytes from a place on, whole or not at all.

@@ -44,11 +44,14 @@ fn at_most(number: usize) -> u32 {
 
 /// The piece to look at first for a place: the one that its block begins in.
 #[inline(always)]
+pub fn hinted(hints: &[Hint], at: usize) -> Option<usize> {
+    Some(hints.get(at / PLACES)?.piece as usize)
+}
+
+/// The same, and the first piece for a place behind all.
+#[inline(always)]
 pub fn first(hints: &[Hint], at: usize) -> usize {
-    match hints.get(at / PLACES) {
-        Some(hint) => hint.piece as usize,
-        None => 0,
-    }
+    hinted(hints, at).unwrap_or(0)
 }
 
 /// The same, and the next one for a place behind its end.

@@ -1,6 +1,6 @@
 //! The pieces of a list of bytes, of which one that is written again and again stands apart.
 ghost use Rattle.std.specs.Prelude.{◌≡◌, ◌<◌, ◌≤◌, ◌+◌, ◌^◌, true, false, length, take, drop, IfSome, slice_index_or, slice_set};
-ghost use Rattle.sol_base.specs.Parts.{bytes_in, tests_in, before, blank_of, is_prepared, with_bytes, AreInOrder, StayLent};
+ghost use Rattle.sol_base.specs.Parts.{bytes_in, tests_in, before, blank_of, is_prepared, with_bytes, AreInOrder, ArrayStandsIn, StayLent};
 
 use crate::parts::near;
 use crate::parts::piece::Piece;
@@ -100,7 +100,7 @@ impl Pieces {
     pub fn array<const N: usize>(&self, near: usize, at: usize) -> Option<[u8; N]>
         requires order { AreInOrder self.now }
         requires most { at + N < 2 ^ 64 }
-        ensures { IfSome result (λ found. found ≡ take N (drop at (bytes_in self.now))) }
+        ensures { IfSome result (ArrayStandsIn (bytes_in self.now) at N) }
     {
         if near < self.list.len() {
             if let Some(bytes) = self.list[near].array(at) {

@@ -130,20 +130,20 @@ fn reads_and_writes_arrays(rt: HostRuntime) -> Result<(), Fail> {
     for (at, pair) in PAIRS {
         assert!(rt; at <= 3);
         assert_eq!(rt; list.len(), 5);
-        assert_eq!(rt; list.read_array::<2>(at), pair, "at {at}");
+        assert_eq!(rt; list.array::<2>(at), Some(pair), "at {at}");
     }
     assert_eq!(rt; list.len(), 5);
     list.write_array(0, [7])?;
     assert_eq!(rt; list.len(), 5);
-    assert_eq!(rt; list.read_array::<5>(0), [7, 2, 3, 4, 0]);
+    assert_eq!(rt; list.array::<5>(0), Some([7, 2, 3, 4, 0]));
     list.write_array(2, [8, 9])?;
     assert_eq!(rt; list.len(), 5);
     list.write_array(3, [1])?;
     assert_eq!(rt; list.len(), 5);
-    assert_eq!(rt; list.read_array::<5>(0), [7, 2, 8, 1, 0]);
+    assert_eq!(rt; list.array::<5>(0), Some([7, 2, 8, 1, 0]));
     list.write_array(1, [5, 6, 7])?;
     assert_eq!(rt; list.len(), 5);
-    assert_eq!(rt; list.read_array::<5>(0), [7, 5, 6, 7, 0]);
+    assert_eq!(rt; list.array::<5>(0), Some([7, 5, 6, 7, 0]));
     assert_eq!(rt; lent.bytes.as_slice(), [3, 4].as_slice());
     Ok(())
 }
@@ -171,7 +171,7 @@ fn copies_within_and_over_parts(rt: HostRuntime) -> Result<(), Fail> {
         assert!(rt; to <= 5 && from <= 5 && len <= 5 - to && len <= 5 - from);
         list.copy_within(to, from, len)?;
         assert_eq!(rt; list.len(), 5);
-        assert_eq!(rt; list.read_array::<5>(0), all, "to {to} from {from}");
+        assert_eq!(rt; list.array::<5>(0), Some(all), "to {to} from {from}");
     }
     assert_eq!(rt; lent.bytes.as_slice(), [3, 4].as_slice());
     Ok(())

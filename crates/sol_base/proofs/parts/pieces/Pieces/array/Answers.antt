@@ -1,12 +1,12 @@
-use Rattle.std.proofs.Common.{◌≡◌, ◌∙◌, ◌<◌, ◌≤◌, ap, sym, subst, length, List, ℕ, take, drop, true, ◌≢◌, get_or, inl, inr, rules, arith}
+use Rattle.std.proofs.Common.{◌≡◌, ◌∙◌, ◌<◌, ◌≤◌, ◌+◌, ap, sym, subst, length, List, ℕ, take, drop, true, ◌≢◌, get_or, inl, inr, rules, arith}
 use Rattle.std.specs.Prelude.{IfSome, Some, None, Option}
 use Rattle.std.proofs.lemmas.List.{length-set}
 use Rattle.std.proofs.lemmas.Bool.{cases_lt}
 use Rattle.std.proofs.lemmas.Option.{IfSome_then}
 use Rattle.sol_base.specs.declared.parts.piece.Piece.{Piece}
-use Rattle.sol_base.specs.Parts.{bytes_in, before, is_blank, AreInOrder, ArrayStandsAt}
+use Rattle.sol_base.specs.Parts.{bytes_in, before, is_blank, AreInOrder, ArrayStandsIn, ArrayStandsAt}
 use Rattle.sol_base.proofs.PartLaws.{item_start, read_there}
-use Rattle.sol_base.proofs.PieceLaws.{in_list, apart_is}
+use Rattle.sol_base.proofs.PieceLaws.{in_list, apart_is, piece_within}
 use Rattle.sol_base.proofs.parts.pieces.Pieces.array.Goals as goal
 
 -- an answer is not both none and some
@@ -14,12 +14,13 @@ not_both : (answer : Option (List ℕ)) (found : List ℕ) → answer ≡ Some f
 not_both answer found some none = absurd (cc)
 
 -- N bytes of a piece are those of the list
-there : (pieces all : List Piece) (i at N : ℕ) (x : Piece) (found : List ℕ) → pieces ≡ all → AreInOrder all → i < length pieces → x ≡ get_or pieces i x → ArrayStandsAt x at N found → found ≡ take N (drop at (bytes_in all))
+there : (pieces all : List Piece) (i at N : ℕ) (x : Piece) (found : List ℕ) → pieces ≡ all → AreInOrder all → i < length pieces → x ≡ get_or pieces i x → ArrayStandsAt x at N found → ArrayStandsIn (bytes_in all) at N found
 there pieces all i at N x found same order h is stands =
     let kept : AreInOrder pieces = subst AreInOrder (sym same) order in
     let start = item_start pieces i x kept h is in
     let first : before pieces i ≤ at = omega (arith, stands.0) in
-    stands.1.1 ∙ read_there pieces i at N x kept h is first stands.1.0 ∙ ap (λ (l : List Piece). take N (drop at (bytes_in l))) same
+    let within : at + N ≤ length (bytes_in all) = subst (λ (l : List Piece). at + N ≤ length (bytes_in l)) same (piece_within pieces i at N x kept h is stands.0 stands.1.0) in
+    (within, stands.1.1 ∙ read_there pieces i at N x kept h is first stands.1.0 ∙ ap (λ (l : List Piece). take N (drop at (bytes_in l))) same)
 
 pub returns-in-Some : goal.returns-in-Some
 returns-in-Some g c =
@@ -36,5 +37,5 @@ returns g c =
     elim (cases_lt c.self.inside.place (length list)) [
       | inl h ↦ IfSome_then c.array-2.result c.array-2.ensures.bytes (λ found stands.
           there _ c.args.self.now c.self.inside.place c.args.at g.row.N c.self.inside.opened found c.self.view_is c.requires.order (rw length-set h) (apart_is list c.self.inside.place c.self.inside.opened h) stands)
-      | inr h ↦ subst (λ (answer : Option (List ℕ)). IfSome answer (λ found. found ≡ take g.row.N (drop c.args.at (bytes_in c.args.self.now)))) (sym (c.array-2.ensures.blank (c.self.invariant.1 h))) (search rules)
+      | inr h ↦ subst (λ (answer : Option (List ℕ)). IfSome answer (ArrayStandsIn (bytes_in c.args.self.now) c.args.at g.row.N)) (sym (c.array-2.ensures.blank (c.self.invariant.1 h))) (search rules)
     ]
