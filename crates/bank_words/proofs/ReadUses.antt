@@ -43,19 +43,12 @@ none_back : (text : Text) → has_byte 61 text ≡ false → no_equals text ≡ 
 none_back [] h = refl
 none_back (x ∷ xs) h = let parts = or_parts (x == 61) (has_byte 61 xs) h in rw (parts.0, none_back xs parts.1) refl
 
-abbrev name_in : Text × Option Text → Text
-name_in p = p.0
-
 text_back : (text : Text) → text ≡ spelled (name_and_value text).0 (name_and_value text).1
 text_back text = go (has_byte 61 text) refl
   where
     go : (b : Bool) → has_byte 61 text ≡ b → text ≡ spelled (name_and_value text).0 (name_and_value text).1
     go true f = rw f (cut_back text f)
     go false f = rw f (sym (rw (len_none text (none_back text f)) (take_all (length text) text (omega arith))))
-
-pair_of : Option (Text × Option Text) → Text × Option Text
-pair_of None = ([], None)
-pair_of (Some p) = p
 
 rest_back : (t : Text) (p : Text × Option Text) → long_of_rest t ≡ Some p → t ≡ spelled p.0 p.1
 rest_back [] p e = absurd (cc)

@@ -25,9 +25,6 @@ names = names_of (built bank_app)
 abbrev by_walk : Kinds → Walk → Kinds
 by_walk faults w = or_else faults (or_else (entered_fault (built bank_app) w.stopped) (or_else (settle_fault [] false w.held) (or_else (defaults_fault (settled [] w.held).rows []) (check_fault top (finished [] w.held) (is_some (entered (built bank_app) w.stopped))))))
 
-faults_by_walk : (words : List Text) → fault_of bank_app words ≡ by_walk (walk_fault top names (walk_from nothing_held) words) (walk [] names nothing_held words)
-faults_by_walk words = refl
-
 -- the name of a subcommand
 pub record Enters (name : Text) (o : Options) : Type 0 where
   pub met : subcommand_met names idle name ≡ Some name

@@ -93,9 +93,6 @@ bad_idle name o h (word ∷ words) read bad = stop_here name o (stands h idle) w
 
 -- ---- one use more
 
-has_not : (b : Bool) → b ≡ true → b ≡ false → ⊥
-has_not b t f = absurd (cc)
-
 pub one_more : (uses : List Use) (u : Use) → rows_for (uses ++ u ∷ []) ≡ rows_for uses ++ row_of u ∷ []
 one_more uses u = map_push row_of uses u
 

@@ -28,8 +28,6 @@ pub kept-some : (a : Account) → 1 ≤ a.lamports → kept a ≡ Some a
 kept-some a some = let e : nat_eq a.lamports 0 ≡ false = grind (arith, nat_tests) in rw e refl
 
 -- ---- one account
-active-some : (a : Account) → 1 ≤ a.lamports → 1 ≤ (active a).lamports
-active-some a some = let e = lamports-active a in omega (arith, e, some)
 
 never : (x y z : Bool) → (x && not true && y && z) ≡ false
 never true y z = refl

@@ -66,8 +66,6 @@ entry_each s head wires order =
     omega (arith, a, b, c)
 
 -- ---- a batch
-keys_most : (s : Snapshot) → IsReadable s → s.limits.keys ≤ 128
-keys_most s readable = readable.limits.keys.1
 
 pub admitted_are_of : (s : Snapshot) (wires : List (List ℕ)) (answer : Admitted) → IsReadable s → length wires ≤ 16384 → answer ≡ admitted (start_in s) wires → AreOf wires answer.order
 admitted_are_of s wires answer readable few is =

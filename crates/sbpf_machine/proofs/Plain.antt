@@ -48,10 +48,6 @@ enters_at : (value p : ℕ) (c : Context) (to : Option ℕ) → enter_at value p
 enters_at value p c None = refl
 enters_at value p c (Some to) = enters to p c
 
-source_plain : (form : Operand) (o : Operands) (c : Context) → source form o (plain_context c) ≡ source form o c
-source_plain Immediate o c = refl
-source_plain Register o c = refl
-
 binary64_plain : (op : _) (r s p : ℕ) (c : Context) → binary64 op r s p (plain_context c) ≡ plain_next (binary64 op r s p c)
 binary64_plain op r s p c = choose _ (fault DivideByZero c) _ _ _ refl refl
 

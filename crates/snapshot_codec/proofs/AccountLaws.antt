@@ -185,10 +185,6 @@ each_entry : (P : Key × Account → Type 0) (list : List KeyedAccount) → AllB
 each_entry P [] h = tt
 each_entry P (e ∷ list) h = (h.0, each_entry P list h.1)
 
-each_keyed : (P : Key × Account → Type 0) (es : List (Key × Account)) → AllByRecursion P es → AllByRecursion (λ e. P (entry_of e)) (map keyed es)
-each_keyed P [] h = tt
-each_keyed P (e ∷ es) h = (h.0, each_keyed P es h.1)
-
 kept : (Q : KeyedAccount → Type 0) → ((before : List KeyedAccount) (e : KeyedAccount) → KeyedFits before e → Q e) → (list : List KeyedAccount) → AllAfter KeyedFits [] list → AllByRecursion Q list
 kept Q so list all = AllAfter-all Q [] list (AllAfter-weaker KeyedFits (λ _ e. Q e) so [] list all)
 
