@@ -4,7 +4,6 @@ use Rattle.std.specs.Prelude.{nat_le}
 use Rattle.sbpf_isa.specs.declared.rows.OpKind.{OpKind}
 use Rattle.sbpf_isa.specs.declared.rows.OpKind.TheVariants.{Binary, Negate, LittleEndian, BigEndian, Jump, JumpIf, Call, CallRegister, Exit, Load, Store, LoadWide}
 use Rattle.sbpf_isa.specs.declared.rows.Width.TheVariants.{Bits64, Bits32}
-use Rattle.sbpf_isa.specs.declared.rows.Operand.{Operand}
 use Rattle.sbpf_isa.specs.declared.rows.Operand.TheVariants.{Immediate, Register}
 use Rattle.sbpf_verify.specs.Places.{instruction_at}
 use Rattle.sbpf_memory.specs.Memory.{Ranges, frame_count}
@@ -17,7 +16,7 @@ use Rattle.sbpf_machine.specs.declared.stop.Fault.TheVariants.{DivideByZero, Cal
 use Rattle.sbpf_machine.specs.declared.stop.Stop.{Stop}
 use Rattle.sbpf_machine.specs.declared.stop.Stop.TheVariants.{Helper}
 use Rattle.sbpf_machine.specs.Plain.{plain_context, plain, plain_stopped}
-use Rattle.sbpf_machine.specs.Steps.{Next, Go, Halt, Stuck, Operands, State, follow, first_stop, steps, steps_by, step, row_of, act, operands_at, address, binary32, binary64, bytes_in, fault, new_frame, source, enter, enter_at, leave, last_kept, load, store, register, start_at_address}
+use Rattle.sbpf_machine.specs.Steps.{Next, Go, Halt, Stuck, Operands, State, follow, first_stop, steps, steps_by, step, row_of, act, operands_at, address, binary32, binary64, bytes_in, fault, new_frame, enter, enter_at, leave, last_kept, load, store, register, start_at_address}
 
 -- what is led to, without the notes
 abbrev plain_next : Next → Next
