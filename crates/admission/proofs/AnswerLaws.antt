@@ -33,7 +33,6 @@ use Rattle.admission.specs.declared.refusal.Refusal.TheVariants.{Sanitize as not
 use Rattle.admission.specs.Lookups.{load, loaded_in, lookup_faults}
 use Rattle.admission.specs.Chosen.{IsChosen}
 use Rattle.admission.specs.Admission.{AreParsed, IsSound, Start, Walk, as_cause, chosen_with, late, sifted, sifted_in, sifted_out, stands, standing_names, walk, walk_with}
-use Rattle.admission.specs.Lines.{PositionsAscend}
 use Rattle.admission.proofs.LookupLaws.{loaded_counts}
 
 -- what is loaded
@@ -121,25 +120,21 @@ module _ (start : Start) (batch : List Parsed) (few : start.limits.keys ≤ 128)
       let above = all.0.above in
       (record { is = all.0.is; above = omega arith; below = all.0.below }, from_lower from to others all.1)
 
-  all_after : (from to position : ℕ) (standing : List Chosen) → position ≡ from → AllByRecursion (StandsIn (from + 1) to) standing → AllByRecursion (λ other. position < other.position) standing
-  all_after from to position [] e all = tt
-  all_after from to position (one ∷ others) e all = let above = all.0.above in (omega arith, all_after from to position others e all.1)
-
   stand_from : (n to : ℕ) (rest : List Parsed) → n + length rest ≡ to → AllByRecursion IsSound rest
-      → AllByRecursion (StandsIn n to) (filter_map (λ entry. result_ok (sifted_in start batch entry)) (enumerate_from n rest)) × PositionsAscend (filter_map (λ entry. result_ok (sifted_in start batch entry)) (enumerate_from n rest))
-  stand_from n to [] e sound = (tt, tt)
+      → AllByRecursion (StandsIn n to) (filter_map (λ entry. result_ok (sifted_in start batch entry)) (enumerate_from n rest))
+  stand_from n to [] e sound = tt
   stand_from n to (x ∷ rest) e sound = go (sifted_in start batch (n, x)) refl (stand_from (n + 1) to rest (omega arith) sound.1)
     where
       go : (r : Result Chosen Refusal) → sifted_in start batch (n, x) ≡ r
-          → AllByRecursion (StandsIn (n + 1) to) (filter_map (λ entry. result_ok (sifted_in start batch entry)) (enumerate_from (n + 1) rest)) × PositionsAscend (filter_map (λ entry. result_ok (sifted_in start batch entry)) (enumerate_from (n + 1) rest))
-          → AllByRecursion (StandsIn n to) (cons_option (result_ok r) (filter_map (λ entry. result_ok (sifted_in start batch entry)) (enumerate_from (n + 1) rest))) × PositionsAscend (cons_option (result_ok r) (filter_map (λ entry. result_ok (sifted_in start batch entry)) (enumerate_from (n + 1) rest)))
-      go (Err cause) er more = (from_lower n to (filter_map (λ entry. result_ok (sifted_in start batch entry)) (enumerate_from (n + 1) rest)) more.0, more.1)
+          → AllByRecursion (StandsIn (n + 1) to) (filter_map (λ entry. result_ok (sifted_in start batch entry)) (enumerate_from (n + 1) rest))
+          → AllByRecursion (StandsIn n to) (cons_option (result_ok r) (filter_map (λ entry. result_ok (sifted_in start batch entry)) (enumerate_from (n + 1) rest)))
+      go (Err cause) er more = from_lower n to (filter_map (λ entry. result_ok (sifted_in start batch entry)) (enumerate_from (n + 1) rest)) more
       go (Ok chosen) er more =
           let is = chosen_is start (has_hash (standing_names start (take n batch))) n x chosen few sound.0 er in
           let at = is.1 in
-          ((record { is = is.0; above = omega arith; below = omega arith }, from_lower n to (filter_map (λ entry. result_ok (sifted_in start batch entry)) (enumerate_from (n + 1) rest)) more.0), (all_after n to chosen.position (filter_map (λ entry. result_ok (sifted_in start batch entry)) (enumerate_from (n + 1) rest)) at more.0, more.1))
+          (record { is = is.0; above = omega arith; below = omega arith }, from_lower n to (filter_map (λ entry. result_ok (sifted_in start batch entry)) (enumerate_from (n + 1) rest)) more)
 
-  pub stand_all : AllByRecursion IsSound batch → AllByRecursion (StandsIn 0 (length batch)) (sifted_out start batch) × PositionsAscend (sifted_out start batch)
+  pub stand_all : AllByRecursion IsSound batch → AllByRecursion (StandsIn 0 (length batch)) (sifted_out start batch)
   stand_all sound = stand_from 0 (length batch) batch (omega arith) sound
 
 -- the walk keeps what holds of each

@@ -1,5 +1,5 @@
 -- The answer for a batch, from its parts.
-use Rattle.std.proofs.Common.{◌≡◌, ℕ, ◌<◌, ◌≤◌, List, [], ◌∷◌, length, map, sym, ap, ◌∙◌, subst, Option, Result, Ok, Err, IfOk, All}
+use Rattle.std.proofs.Common.{◌≡◌, ℕ, ◌<◌, ◌≤◌, List, length, map, sym, ap, ◌∙◌, subst, Option, Result, Ok, Err, IfOk, All}
 use Rattle.std.specs.List.{AllByRecursion, IsDistinct, enumerate_from}
 use Rattle.std.proofs.lemmas.List.{length-map}
 use Rattle.std.proofs.lemmas.List.Elements.{All-from_recursion}
@@ -14,15 +14,10 @@ use Rattle.admission.specs.declared.chosen.Chosen.{Chosen}
 use Rattle.admission.specs.declared.refusal.Refusal.{Refusal}
 use Rattle.admission.specs.Admission.{AreParsed, IsSound, Start, admitted, answer_of, early, line, listed, sifted_out, walk}
 use Rattle.admission.specs.Chosen.{IsChosen}
-use Rattle.admission.specs.Lines.{PositionsAscend}
 use Rattle.admission.specs.Sums.{numbered_in, with_late}
 use Rattle.admission.proofs.AnswerLaws.{StandsIn, all_run, are_parsed, locks_apart, stand_all}
-use Rattle.admission.proofs.LineLaws.{all_line}
+use Rattle.admission.proofs.LineLaws.{all_line, weaker}
 use Rattle.admission.proofs.WalkLaws.{refused_by_causes}
-
-weaker : (P Q : Chosen → Type 0) → ((one : Chosen) → P one → Q one) → (line : List Chosen) → AllByRecursion P line → AllByRecursion Q line
-weaker P Q to [] all = tt
-weaker P Q to (one ∷ others) all = (to one all.0, weaker P Q to others all.1)
 
 -- each transaction of the line has its place among the causes
 pub places : (line : List Chosen) (to : ℕ) (causes : List (Option Refusal)) → to ≡ length causes → AllByRecursion (StandsIn 0 to) line → All (λ one. one.position < length causes) line
@@ -43,10 +38,7 @@ cause_count start batch causes e = sym (ap length e ∙ simp (length-map, length
 
 module _ (start : Start) (wires : List (List ℕ)) (batch : List Parsed) (few : start.limits.keys ≤ 128) (are : AreParsed wires batch) where
   pub stand : (standing : List Chosen) → standing ≡ sifted_out start batch → AllByRecursion (StandsIn 0 (length batch)) standing
-  stand standing e = subst (AllByRecursion (StandsIn 0 (length batch))) (sym e) (stand_all start batch few (are_parsed wires batch are).1).0
-
-  pub ascend : (standing : List Chosen) → standing ≡ sifted_out start batch → PositionsAscend standing
-  ascend standing e = subst PositionsAscend (sym e) (stand_all start batch few (are_parsed wires batch are).1).1
+  stand standing e = subst (AllByRecursion (StandsIn 0 (length batch))) (sym e) (stand_all start batch few (are_parsed wires batch are).1)
 
   pub stand_in_line : (standing found : List Chosen) → standing ≡ sifted_out start batch → found ≡ line standing → AllByRecursion (StandsIn 0 (length batch)) found
   stand_in_line standing found e l = subst (AllByRecursion (StandsIn 0 (length batch))) (sym l) (all_line (StandsIn 0 (length batch)) standing (stand standing e))

@@ -1,51 +1,30 @@
--- A line that is kept by ranks is the line.
-use Rattle.std.proofs.Common.{◌≡◌, ℕ, ◌<◌, ◌≤◌, Bool, true, false, cond, List, [], ◌∷◌, ◌++◌, map, refl, sym, ap, ◌∙◌, append_assoc, append-nil, arith, subst, fold}
-use Rattle.std.specs.Prelude.{AllPairs, nat_lt, nat_eq}
+-- A line has those that stand, by priority and then by position; a stable sort by priority gives it.
+use Rattle.std.proofs.Common.{◌≡◌, ℕ, suc, ◌<◌, ◌≤◌, Bool, true, false, cond, List, [], ◌∷◌, ◌++◌, length, get_or, filter, refl, sym, ap, ◌∙◌, append_assoc, append-nil, arith, subst, fold, suc-le-suc, zero-le}
+use Rattle.std.specs.Prelude.{AllPairs, nat_lt}
+use Rattle.std.specs.Cmp.{IsStrictWeakOrder, nat_cmp_total}
 use Rattle.std.specs.List.{AllByRecursion}
-use Rattle.std.specs.List.Sorted.{IsPermutation}
-use Rattle.std.specs.BTreeMap.{insert_entry}
-use Rattle.std.specs.Ordering.{nat_cmp, ordering_then, match_ordering}
-use Rattle.std.specs.declared.cmp.Ordering.{Ordering}
-use Rattle.std.specs.declared.cmp.Ordering.TheVariants.{Less, Equal, Greater}
+use Rattle.std.specs.List.Sorted.{IsPermutation, IsSortedBy, IsStableBy, ties}
+use Rattle.std.specs.Ordering.{is_lt, nat_cmp}
 use Rattle.std.specs.declared.cmp.Reverse.{Reverse}
+use Rattle.std.proofs.lemmas.Bool.{cond-true}
 use Rattle.std.proofs.lemmas.Bool.Decides.{nat_tests}
-use Rattle.std.proofs.lemmas.List.Elements.{All-from_recursion}
+use Rattle.std.proofs.lemmas.List.Elements.{All-from_recursion, filter-append, recursion_from_All}
 use Rattle.std.proofs.lemmas.List.Kept.{AllPairs-cons}
-use Rattle.std.proofs.lemmas.List.Sorted.{IsPermutation-append_left, IsPermutation-cons, IsPermutation-middle, IsPermutation-refl, IsPermutation-sym, IsPermutation-trans}
+use Rattle.std.proofs.lemmas.List.Sorted.{IsPermutation-append_left, IsPermutation-cons, IsPermutation-middle, IsPermutation-refl, IsPermutation-sym, IsPermutation-trans, IsStrictWeakOrder-flip, ranks_by, sorted_far}
 use Rattle.std.proofs.lemmas.List.Sums.{fold-append}
 use Rattle.admission.specs.declared.chosen.Chosen.{Chosen}
 use Rattle.admission.specs.Admission.{line, priority, with_next}
-use Rattle.admission.specs.Lines.{IsLineOf, PositionsAscend, StandsBefore, rank, with_rank}
+use Rattle.admission.specs.Lines.{IsLineOf, StandsBefore}
 
-Rank : Type 0
-Rank = Reverse ℕ × ℕ
+-- each transaction has a lower position than those after it
+abbrev pub PositionsAscend : List Chosen → Type 0
+PositionsAscend [] = Unit {0}
+PositionsAscend (one ∷ others) = AllByRecursion (λ other. one.position < other.position) others × PositionsAscend others
 
--- the order of ranks
-abbrev pub rank_cmp : Reverse ℕ × ℕ → Reverse ℕ × ℕ → Ordering
-rank_cmp x y = ordering_then (nat_cmp y.0.0 x.0.0) (nat_cmp x.1 y.1)
-
-above : (m n : ℕ) → n < m → nat_cmp m n ≡ Greater
-above m n l = go (nat_lt m n) refl (nat_eq m n) refl
-  where
-    go : (a : Bool) → nat_lt m n ≡ a → (b : Bool) → nat_eq m n ≡ b → cond a Less (cond b Equal Greater) ≡ Greater
-    go true e b f = absurd (grind (arith, nat_tests))
-    go false e true f = absurd (grind (arith, nat_tests))
-    go false e false f = refl
-
--- a transaction takes its place by its rank
-pub placed : (standing : List Chosen) (one : Chosen) → AllByRecursion (λ other. other.position < one.position) standing → insert_entry rank_cmp (map with_rank standing) (rank one) one ≡ map with_rank (with_next standing one)
-placed [] one lower = refl
-placed (other ∷ others) one lower = go (nat_lt (priority other) (priority one)) (nat_eq (priority other) (priority one)) (placed others one lower.1)
-  where
-    later : nat_cmp one.position other.position ≡ Greater
-    later = above one.position other.position lower.0
-
-    go : (a b : Bool) → insert_entry rank_cmp (map with_rank others) (rank one) one ≡ map with_rank (with_next others one)
-        → match_ordering (ordering_then (cond a Less (cond b Equal Greater)) (nat_cmp one.position other.position)) (with_rank one ∷ with_rank other ∷ map with_rank others) ((rank other, one) ∷ map with_rank others) (with_rank other ∷ insert_entry rank_cmp (map with_rank others) (rank one) one)
-        ≡ map with_rank (cond a (one ∷ other ∷ others) (other ∷ with_next others one))
-    go true b more = refl
-    go false true more = rw later (ap (λ entries. with_rank other ∷ entries) more)
-    go false false more = ap (λ entries. with_rank other ∷ entries) more
+-- what follows from what holds of all holds of all
+pub weaker : (P Q : Chosen → Type 0) → ((one : Chosen) → P one → Q one) → (standing : List Chosen) → AllByRecursion P standing → AllByRecursion Q standing
+weaker P Q to [] all = tt
+weaker P Q to (one ∷ others) all = (to one all.0, weaker P Q to others all.1)
 
 -- what holds of all and of one more holds of the line with it
 pub all_placed : (P : Chosen → Type 0) (standing : List Chosen) (one : Chosen) → AllByRecursion P standing → P one → AllByRecursion P (with_next standing one)
@@ -70,25 +49,6 @@ lower_before (first ∷ done) left one up = (among done up.0, lower_before done 
     among : (others : List Chosen) → AllByRecursion (λ other. first.position < other.position) (others ++ one ∷ left) → first.position < one.position
     among [] all = all.0
     among (other ∷ others) all = among others all.1
-
--- one transaction more
-pub line_more : (standing done left : List Chosen) (one : Chosen) → done ++ one ∷ left ≡ standing → PositionsAscend standing → insert_entry rank_cmp (map with_rank (line done)) (rank one) one ≡ map with_rank (line (done ++ one ∷ []))
-line_more standing done left one split up =
-    placed (line done) one (all_line (λ other. other.position < one.position) done (lower_before done left one (subst PositionsAscend (sym split) up)))
-    ∙ ap (map with_rank) (sym (fold-append with_next [] done (one ∷ [])))
-
--- the transactions of a line, back from their ranks
-unranked : (standing : List Chosen) → map (λ (entry : (Reverse ℕ × ℕ) × Chosen). entry.1) (map with_rank standing) ≡ standing
-unranked [] = refl
-unranked (one ∷ others) = ap (λ more. one ∷ more) (unranked others)
-
-same_entries : (entries : List ((Reverse ℕ × ℕ) × Chosen)) → map (λ (entry : (Reverse ℕ × ℕ) × Chosen). entry) entries ≡ entries
-same_entries [] = refl
-same_entries (entry ∷ entries) = ap (λ more. entry ∷ more) (same_entries entries)
-
-pub line_back : (standing found : List Chosen) (yielded entries : List ((Reverse ℕ × ℕ) × Chosen)) → found ≡ map (λ (entry : (Reverse ℕ × ℕ) × Chosen). entry.1) yielded → map (λ (entry : (Reverse ℕ × ℕ) × Chosen). entry) yielded ≡ entries
-    → entries ≡ map with_rank (line standing) → found ≡ line standing
-line_back standing found yielded entries so_far whole ranked = so_far ∙ ap (map (λ (entry : (Reverse ℕ × ℕ) × Chosen). entry.1)) (sym (same_entries yielded) ∙ whole ∙ ranked) ∙ unranked (line standing)
 
 -- ---- the order of a line
 -- a line with one more holds it and all that it held
@@ -119,14 +79,10 @@ placed_ranked : (standing : List Chosen) (one : Chosen) → AllByRecursion (λ o
 placed_ranked [] one lower ranked = (tt, tt)
 placed_ranked (other ∷ others) one lower ranked = go (nat_lt (priority other) (priority one)) refl (placed_ranked others one lower.1 ranked.1)
   where
-    all_lower : priority other < priority one → (left : List Chosen) → AllByRecursion (StandsBefore other) left → AllByRecursion (StandsBefore one) left
-    all_lower l [] all = tt
-    all_lower l (next ∷ left) all = (record { higher = omega (arith, l, all.0.higher); earlier = λ e. absurd (omega (arith, e, l, all.0.higher)) }, all_lower l left all.1)
-
     go : (b : Bool) → nat_lt (priority other) (priority one) ≡ b → Ranked (with_next others one) → Ranked (cond b (one ∷ other ∷ others) (other ∷ with_next others one))
     go true t more =
         let l : priority other < priority one = grind (arith, nat_tests) in
-        ((record { higher = omega (arith, l); earlier = λ e. absurd (omega (arith, e, l)) }, all_lower l others ranked.0), ranked)
+        ((record { higher = omega (arith, l); earlier = λ e. absurd (omega (arith, e, l)) }, weaker (StandsBefore other) (StandsBefore one) (λ next b. record { higher = omega (arith, l, b.higher); earlier = λ e. absurd (omega (arith, e, l, b.higher)) }) others ranked.0), ranked)
     go false t more =
         let l : priority one ≤ priority other = grind (arith, nat_tests) in
         (all_placed (StandsBefore other) others one ranked.0 (record { higher = l; earlier = λ e. lower.0 }), more)
@@ -147,3 +103,121 @@ line_ranked standing up = ranked_from [] standing up tt
 -- a line of those that stand by their positions
 pub lines_are_by_priority : (standing : List Chosen) → PositionsAscend standing → IsLineOf standing (line standing)
 lines_are_by_priority standing up = record { same = line_permutes standing; ranked = pairs_ranked (line standing) (line_ranked standing up) }
+
+-- ---- a stable sort by priority
+-- the key of the sort, and its test
+abbrev pub rank : Chosen → Reverse ℕ
+rank chosen = record { 0 = priority chosen }
+
+abbrev higher : Chosen → Chosen → Bool
+higher one other = is_lt (nat_cmp (priority other) (priority one))
+
+higher_ranks : IsStrictWeakOrder higher
+higher_ranks = IsStrictWeakOrder-flip (λ one other. is_lt (nat_cmp (priority one) (priority other))) (ranks_by nat_cmp_total priority)
+
+-- those of the priority of one
+abbrev level : Chosen → List Chosen → List Chosen
+level one = filter (ties higher one)
+
+same_priority : (one other : Chosen) → ties higher one other ≡ true → priority one ≡ priority other
+same_priority one other tie = grind (arith, nat_tests)
+
+tie_of_same : (one other : Chosen) → priority one ≡ priority other → ties higher one other ≡ true
+tie_of_same one other same = grind (arith, nat_tests)
+
+not_higher : (one other : Chosen) → higher one other ≡ false → priority one ≤ priority other
+not_higher one other test = grind (arith, nat_tests)
+
+level_of_tie : (one first : Chosen) (left : List Chosen) → priority one ≡ priority first → level one (first ∷ left) ≡ first ∷ level one left
+level_of_tie one first left same = cond-true (ties higher one first) (first ∷ level one left) (level one left) (tie_of_same one first same)
+
+level_of_first : (one : Chosen) (others : List Chosen) → level one (one ∷ others) ≡ one ∷ level one others
+level_of_first one others = level_of_tie one one others refl
+
+-- no priority is higher than one before it
+abbrev Falls : List Chosen → Type 0
+Falls [] = Unit {0}
+Falls (one ∷ others) = AllByRecursion (λ other. priority other ≤ priority one) others × Falls others
+
+placed_falls : (before : List Chosen) (one : Chosen) → Falls before → Falls (with_next before one)
+placed_falls [] one falls = (tt, tt)
+placed_falls (other ∷ others) one falls = go (nat_lt (priority other) (priority one)) refl (placed_falls others one falls.1)
+  where
+    go : (b : Bool) → nat_lt (priority other) (priority one) ≡ b → Falls (with_next others one) → Falls (cond b (one ∷ other ∷ others) (other ∷ with_next others one))
+    go true t more =
+        let l : priority other < priority one = grind (arith, nat_tests) in
+        ((omega (arith, l), weaker (λ next. priority next ≤ priority other) (λ next. priority next ≤ priority one) (λ next le. omega (arith, l, le)) others falls.0), falls)
+    go false t more = (all_placed (λ next. priority next ≤ priority other) others one falls.0 (grind (arith, nat_tests)), more)
+
+falls_from : (before left : List Chosen) → Falls before → Falls (fold with_next before left)
+falls_from before [] falls = falls
+falls_from before (one ∷ left) falls = falls_from (with_next before one) left (placed_falls before one falls)
+
+-- one before lower ones is as good as one behind them, for each level
+past_lower : (x one : Chosen) (lower : List Chosen) → AllByRecursion (λ other. priority other < priority one) lower → level x (one ∷ lower) ≡ level x (lower ++ one ∷ [])
+past_lower x one [] all = refl
+past_lower x one (other ∷ others) all = go (ties higher x one) refl (ties higher x other) refl (past_lower x one others all.1)
+  where
+    go : (a : Bool) → ties higher x one ≡ a → (b : Bool) → ties higher x other ≡ b → cond a (one ∷ level x others) (level x others) ≡ level x (others ++ one ∷ [])
+        → cond a (one ∷ cond b (other ∷ level x others) (level x others)) (cond b (other ∷ level x others) (level x others)) ≡ cond b (other ∷ level x (others ++ one ∷ [])) (level x (others ++ one ∷ []))
+    go true s true t more = absurd (omega (arith, same_priority x one s, same_priority x other t, all.0))
+    go true s false t more = more
+    go false s true t more = ap (λ left. other ∷ left) more
+    go false s false t more = more
+
+placed_level : (x : Chosen) (before : List Chosen) (one : Chosen) → Falls before → level x (with_next before one) ≡ level x (before ++ one ∷ [])
+placed_level x [] one falls = refl
+placed_level x (other ∷ others) one falls = go (nat_lt (priority other) (priority one)) refl (placed_level x others one falls.1)
+  where
+    go : (b : Bool) → nat_lt (priority other) (priority one) ≡ b → level x (with_next others one) ≡ level x (others ++ one ∷ []) → level x (cond b (one ∷ other ∷ others) (other ∷ with_next others one)) ≡ level x (other ∷ others ++ one ∷ [])
+    go true t more =
+        let l : priority other < priority one = grind (arith, nat_tests) in
+        past_lower x one (other ∷ others) (l, weaker (λ next. priority next ≤ priority other) (λ next. priority next < priority one) (λ next le. omega (arith, l, le)) others falls.0)
+    go false t more = ap (λ left. cond (ties higher x other) (other ∷ left) left) more
+
+level_from : (x : Chosen) (before left : List Chosen) → Falls before → level x (fold with_next before left) ≡ level x (before ++ left)
+level_from x before [] falls = ap (level x) (sym (append-nil before))
+level_from x before (one ∷ left) falls =
+    level_from x (with_next before one) left (placed_falls before one falls)
+    ∙ filter-append (ties higher x) (with_next before one) left
+    ∙ ap (λ begun. begun ++ level x left) (placed_level x before one falls)
+    ∙ sym (filter-append (ties higher x) (before ++ one ∷ []) left)
+    ∙ ap (level x) (append_assoc before (one ∷ []) left)
+
+-- a level that is found is at most so high
+level_at_most : (n : ℕ) (x first : Chosen) (standing left : List Chosen) → AllByRecursion (λ other. priority other ≤ n) standing → level x standing ≡ first ∷ left → priority x ≤ n
+level_at_most n x first [] left all e = cc
+level_at_most n x first (one ∷ others) left all e = go (ties higher x one) refl (level_at_most n x first others left all.1) e
+  where
+    go : (b : Bool) → ties higher x one ≡ b → (level x others ≡ first ∷ left → priority x ≤ n) → cond b (one ∷ level x others) (level x others) ≡ first ∷ left → priority x ≤ n
+    go true t more found = omega (arith, same_priority x one t, all.0)
+    go false t more found = more found
+
+-- a list whose priorities fall is known by its levels
+same_by_levels : (found wanted : List Chosen) → Falls found → Falls wanted → ((x : Chosen) → level x found ≡ level x wanted) → found ≡ wanted
+same_by_levels [] [] f w same = refl
+same_by_levels [] (one ∷ others) f w same = let e = same one ∙ level_of_first one others in cc
+same_by_levels (one ∷ others) [] f w same = let e = sym (same one) ∙ level_of_first one others in cc
+same_by_levels (one ∷ others) (first ∷ left) f w same =
+    let most : priority one ≤ priority first = level_at_most (priority first) one one (first ∷ left) (level one others) (omega arith, w.0) (sym (same one) ∙ level_of_first one others) in
+    let least : priority first ≤ priority one = level_at_most (priority one) first first (one ∷ others) (level first left) (omega arith, f.0) (same first ∙ level_of_first first left) in
+    let heads : one ∷ level one others ≡ first ∷ level one left = sym (level_of_first one others) ∙ same one ∙ level_of_tie one first left (omega (arith, most, least)) in
+    let head : one ≡ first = cc in
+    let tails : (x : Chosen) → level x others ≡ level x left = λ x. tail x (ties higher x one) refl (same x ∙ ap (λ next. level x (next ∷ left)) (sym head)) in
+    ap (λ next. next ∷ others) head ∙ ap (λ more. first ∷ more) (same_by_levels others left f.1 w.1 tails)
+  where
+    tail : (x : Chosen) (b : Bool) → ties higher x one ≡ b → cond b (one ∷ level x others) (level x others) ≡ cond b (one ∷ level x left) (level x left) → level x others ≡ level x left
+    tail x true t e = cc
+    tail x false t e = e
+
+falls_of_sorted : (found : List Chosen) → ((i j : ℕ) (d : Chosen) → i ≤ j → j < length found → higher (get_or found j d) (get_or found i d) ≡ false) → Falls found
+falls_of_sorted [] sorted = tt
+falls_of_sorted (one ∷ others) sorted = (
+  recursion_from_All (λ other. priority other ≤ priority one) others (λ k d below. not_higher (get_or others k d) one (sorted 0 (suc k) d zero-le (suc-le-suc below))),
+  falls_of_sorted others (λ i j d le below. sorted (suc i) (suc j) d (suc-le-suc le) (suc-le-suc below)),
+)
+
+-- what a stable sort by priority gives is the line
+pub line_by_sort : (standing found : List Chosen) → IsSortedBy higher found → IsStableBy higher standing found → found ≡ line standing
+line_by_sort standing found sorted stable =
+    same_by_levels found (line standing) (falls_of_sorted found (sorted_far higher higher_ranks found sorted)) (falls_from [] standing tt) (λ x. stable x ∙ sym (level_from x [] standing tt))

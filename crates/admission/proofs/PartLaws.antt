@@ -35,10 +35,10 @@ use Rattle.admission.specs.declared.refusal.Refusal.TheVariants.{Budget as no_bu
 use Rattle.admission.specs.declared.refusal.Refused.{Refused}
 use Rattle.admission.specs.Admission.{Start, Walk, admitted, answer_of, as_cause, chosen_with, early, is_name, late, late_cause, line, listed, or_else, refusal_in, refused_in, sifted, sifted_in, sifted_out, standing_name, standing_names, stands, walk, walk_with}
 use Rattle.admission.specs.Batches.{IsOf, IsParted}
-use Rattle.admission.specs.Lines.{PositionsAscend, StandsBefore}
+use Rattle.admission.specs.Lines.{StandsBefore}
 use Rattle.admission.specs.Sums.{cause_with, numbered_at, numbered_in, with_late}
 use Rattle.admission.proofs.AnswerLaws.{all_run}
-use Rattle.admission.proofs.LineLaws.{Ranked, line_permutes, line_ranked, pairs_ranked}
+use Rattle.admission.proofs.LineLaws.{PositionsAscend, Ranked, line_permutes, line_ranked, pairs_ranked}
 use Rattle.admission.proofs.SiftLaws.{name_stands, one_name_more}
 use Rattle.admission.proofs.WalkLaws.{count_late, late_more, none_late, refused_by_causes}
 

@@ -53,7 +53,7 @@ pub fn admit_parsed(
     ensures chosen { IfOk result (λ answer. All IsChosen answer.order) }
 {
     let Sifted { standing, causes } = sift(alloc, recent, accounts, limits, parsed)?;
-    let line = line(alloc, standing)?;
+    let line = line(standing)?;
     admit_line(alloc, limits, line, causes)
 }
 

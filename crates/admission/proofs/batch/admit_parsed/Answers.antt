@@ -1,6 +1,6 @@
 use Rattle.std.proofs.Common.{length, arith}
 use Rattle.admission.specs.Admission.{start_of}
-use Rattle.admission.proofs.BatchLaws.{all_chosen, all_sound, aparts, ascend, cause_count, is_admitted, parsed_count, places, stand_in_line}
+use Rattle.admission.proofs.BatchLaws.{all_chosen, all_sound, aparts, cause_count, is_admitted, parsed_count, places, stand_in_line}
 use Rattle.admission.proofs.batch.admit_parsed.Goals as goal
 
 pub sift-requires-clause-few : goal.sift-requires-clause-few
@@ -11,10 +11,6 @@ sift-requires-clause-few c =
 pub sift-requires-clause-sound : goal.sift-requires-clause-sound
 sift-requires-clause-sound c =
     all_sound c.args.wires.now c.args.parsed c.requires.read
-
-pub line-requires : goal.line-requires
-line-requires c =
-    ascend (start_of c.args.recent.now c.args.accounts.now c.args.limits.now) c.args.wires.now c.args.parsed c.requires.keys c.requires.read c.in_ok-standing.field-0.standing.items c.in_ok-standing.ensures.standing
 
 pub admit_line-requires-clause-few : goal.admit_line-requires-clause-few
 admit_line-requires-clause-few c =
