@@ -513,16 +513,9 @@ fn admit(
             Err(cause) => causes.push(Some(cause)),
         }
     }
-    let mut ranked = BTreeMap::new();
-    for chosen in standing {
-        ranked.insert((Reverse(priority(&chosen.fee, &chosen.budget)), chosen.position), chosen);
-    }
-    let mut line = Vec::with_capacity(ranked.len());
-    for (_, chosen) in ranked {
-        line.push(chosen);
-    }
+    standing.sort_by_cached_key(|chosen| Reverse(priority(&chosen.fee, &chosen.budget)));
     let mut order = Order { chosen: Vec::new(), units: 0, key_units: BTreeMap::new() };
-    for one in line {
+    for one in standing {
         match order.late(&one, most) {
             Some(cause) => causes[one.position as usize] = Some(cause),
             None => order.add(one),
