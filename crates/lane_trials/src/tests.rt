@@ -3,5 +3,6 @@ mod desk;
 mod ends;
 mod gates;
 mod lanes;
+mod readers;
 mod trial;
 mod works;
