@@ -48,12 +48,13 @@ unfolding serial_run
 small_run s slot wires order told is may = subst (λ (t : Told). All IsSmallOutcome (serial_outcomes (job_of t) (at s.accounts))) (sym is) may.small
 
 -- and the block is that of the order
-pub same_end : (s : Snapshot) (head : Head) (wires : List (List ℕ)) (order chosen : List Chosen) (origin : Origin Told) (outcomes : List Outcome) (answer : Result Closed OutOfMemory) → chosen ≡ order → ran_of origin outcomes ≡ serial_run s head.slot order
-    → IfOk answer (λ end. end ≡ closed_with (record { slot = 0; limits = s.limits; recent = s.recent; accounts = joined_of origin }) head wires chosen (ran_of origin outcomes))
+pub same_end : (s : Snapshot) (head : Head) (wires given : List (List ℕ)) (order chosen : List Chosen) (origin : Origin Told) (outcomes : List Outcome) (answer : Result Closed OutOfMemory) → given ≡ wires → chosen ≡ order → ran_of origin outcomes ≡ serial_run s head.slot order
+    → IfOk answer (λ end. end ≡ closed_with (record { slot = 0; limits = s.limits; recent = s.recent; accounts = joined_of origin }) head given chosen (ran_of origin outcomes))
     → IfOk answer (λ end. end ≡ closed s head wires order)
 unfolding closed
-same_end s head wires order chosen origin outcomes (Ok end) same ran_is is = is ∙ ap₂ (λ (o : List Chosen) (r : Ran). closed_with s head wires o r) same ran_is
-same_end s head wires order chosen origin outcomes (Err e) same ran_is is = tt
+same_end s head wires given order chosen origin outcomes (Ok end) read same ran_is is =
+    is ∙ ap (λ (w : List (List ℕ)). closed_with s head w chosen (ran_of origin outcomes)) read ∙ ap₂ (λ (o : List Chosen) (r : Ran). closed_with s head wires o r) same ran_is
+same_end s head wires given order chosen origin outcomes (Err e) read same ran_is is = tt
 
 -- it has an entry for each transaction
 pub entry_each : (s : Snapshot) (head : Head) (wires : List (List ℕ)) (order : List Chosen) → length (closed s head wires order).block.entries ≡ length order

@@ -6,7 +6,6 @@ use Rattle.std.proofs.lemmas.List.{append-nil, length-drop, map-append, take-app
 use Rattle.std.proofs.lemmas.List.Elements.{All-drop, All-take}
 use Rattle.sha2.specs.Hashers.{Holds256}
 use Rattle.sha2.specs.declared.Sha256.{Sha256}
-use Rattle.sol_base.specs.declared.key.Hash32.{Hash32}
 use Rattle.tx_report.specs.declared.outcome.Outcome.{Outcome}
 use Rattle.admission.specs.declared.chosen.Chosen.{Chosen}
 use Rattle.admission.specs.Batches.{IsOf}
@@ -15,7 +14,7 @@ use Rattle.block_record.specs.declared.block.Block.{Block}
 use Rattle.block_record.specs.declared.block.Entry.{Entry}
 use Rattle.block_record.specs.Record.{AreCountable, IsCounted, entry_bytes, front_bytes, heading_bytes}
 use Rattle.block_record.proofs.RecordLaws.{front_is}
-use Rattle.block_run.specs.declared.block.Head.{Head}
+use Rattle.block_run.specs.declared.block.RecordParts.{RecordParts}
 use Rattle.block_run.specs.declared.front.Begun.{Begun}
 use Rattle.block_run.specs.Blocks.{entries_of, entry_of}
 use Rattle.block_run.specs.Ending.{AreOf}
@@ -86,31 +85,37 @@ module _ (wires : List (List ℕ)) (order : List Chosen) where
       few = let a = length-take-le n (drop c order) in let b = length-drop c order in let f = of.few in omega (arith, a, b, f)
 
 -- ---- the hash
-module _ (head : Head) (previous : Hash32) (wires : List (List ℕ)) (order : List Chosen) where
+module _ (parts : RecordParts) where
+  abbrev wires : List (List ℕ)
+  wires = parts.wires.now
+
+  abbrev order : List Chosen
+  order = parts.order.now
+
   abbrev pub heading : List ℕ
-  heading = heading_bytes head.slot head.collector previous (length order)
+  heading = heading_bytes parts.head.now.slot parts.head.now.collector parts.previous (length order)
 
   -- it begins with none
-  pub begins : (outcomes : List Outcome) (begun : Begun) → begun.count ≡ 0 → Holds256 begun.hasher heading → IsBegun head previous wires order outcomes begun
+  pub begins : (outcomes : List Outcome) (begun : Begun) → begun.count ≡ 0 → Holds256 begun.hasher heading → IsBegun parts outcomes begun
   begins outcomes begun none taken = record {
     within = subst (λ n. n ≤ length order) (sym none) (omega arith);
     taken = subst (Holds256 begun.hasher) (sym nothing) taken;
   }
     where
-      nothing : bytes_up_to head previous wires order (take begun.count outcomes) ≡ heading
+      nothing : bytes_up_to parts (take begun.count outcomes) ≡ heading
       nothing =
-          ap (λ n. bytes_up_to head previous wires order (take n outcomes)) none
+          ap (λ n. bytes_up_to parts (take n outcomes)) none
           ∙ ap (λ (es : List (Chosen × Outcome)). heading ++ flat_map entry_bytes (map (entry_of wires) es)) (zip-nil order)
           ∙ append-nil heading
 
   -- it goes on with the outcomes that come next
-  pub goes_on : (all told : List Outcome) (begun next : Begun) → IsBegun head previous wires order all begun
+  pub goes_on : (all told : List Outcome) (begun next : Begun) → IsBegun parts all begun
       → told ≡ take (length told) (drop begun.count all) → begun.count + length told ≤ length order → next.count ≡ begun.count + length told
       → ((taken : List ℕ) → Holds256 begun.hasher taken → Holds256 next.hasher (taken ++ flat_map entry_bytes (entries_of wires (drop begun.count order) told)))
-      → IsBegun head previous wires order all next
+      → IsBegun parts all next
   goes_on all told begun next is told_is within count hashes = record {
     within = subst (λ n. n ≤ length order) (sym count) within;
-    taken = subst (Holds256 next.hasher) whole (hashes (bytes_up_to head previous wires order (take begun.count all)) is.taken);
+    taken = subst (Holds256 next.hasher) whole (hashes (bytes_up_to parts (take begun.count all)) is.taken);
   }
     where
       one : List Entry
@@ -125,7 +130,7 @@ module _ (head : Head) (previous : Hash32) (wires : List (List ℕ)) (order : Li
           ∙ sym (entries_parts wires order all begun.count (length told))
           ∙ ap (λ n. entries_of wires order (take n all)) (sym count)
 
-      whole : (heading ++ flat_map entry_bytes one) ++ flat_map entry_bytes two ≡ bytes_up_to head previous wires order (take next.count all)
+      whole : (heading ++ flat_map entry_bytes one) ++ flat_map entry_bytes two ≡ bytes_up_to parts (take next.count all)
       whole =
           append_assoc heading (flat_map entry_bytes one) (flat_map entry_bytes two)
           ∙ ap (λ bs. heading ++ bs) (sym (flat_map-append entry_bytes one two) ∙ ap (flat_map entry_bytes) both)
@@ -133,17 +138,17 @@ module _ (head : Head) (previous : Hash32) (wires : List (List ℕ)) (order : Li
   -- a block of which only the end is not known
   abbrev pub with_front : List Entry → Block
   with_front entries = record (with_entries entries) {
-    slot = head.slot;
-    collector = head.collector;
-    previous = previous;
+    slot = parts.head.now.slot;
+    collector = parts.head.now.collector;
+    previous = parts.previous;
   }
 
   -- it is that of the whole front once it has the others
-  pub is_whole : (outcomes : List Outcome) (begun : Begun) (hasher : Sha256) (entries : List Entry) → IsBegun head previous wires order outcomes begun
+  pub is_whole : (outcomes : List Outcome) (begun : Begun) (hasher : Sha256) (entries : List Entry) → IsBegun parts outcomes begun
       → entries ≡ entries_of wires order outcomes → length entries ≡ length order
       → ((taken : List ℕ) → Holds256 begun.hasher taken → Holds256 hasher (taken ++ flat_map entry_bytes (drop begun.count entries)))
       → Holds256 hasher (front_bytes (with_front entries))
-  is_whole outcomes begun hasher entries is entries_is long hashes = subst (Holds256 hasher) whole (hashes (bytes_up_to head previous wires order (take begun.count outcomes)) is.taken)
+  is_whole outcomes begun hasher entries is entries_is long hashes = subst (Holds256 hasher) whole (hashes (bytes_up_to parts (take begun.count outcomes)) is.taken)
     where
       first : entries_of wires order (take begun.count outcomes) ≡ take begun.count entries
       first = entries_take wires order outcomes begun.count ∙ ap (take begun.count) (sym entries_is)
@@ -151,11 +156,11 @@ module _ (head : Head) (previous : Hash32) (wires : List (List ℕ)) (order : Li
       joined : flat_map entry_bytes (take begun.count entries) ++ flat_map entry_bytes (drop begun.count entries) ≡ flat_map entry_bytes entries
       joined = sym (flat_map-append entry_bytes (take begun.count entries) (drop begun.count entries)) ∙ ap (flat_map entry_bytes) (take-append-drop begun.count entries)
 
-      whole : bytes_up_to head previous wires order (take begun.count outcomes) ++ flat_map entry_bytes (drop begun.count entries) ≡ front_bytes (with_front entries)
+      whole : bytes_up_to parts (take begun.count outcomes) ++ flat_map entry_bytes (drop begun.count entries) ≡ front_bytes (with_front entries)
       whole =
           append_assoc heading (flat_map entry_bytes (entries_of wires order (take begun.count outcomes))) (flat_map entry_bytes (drop begun.count entries))
           ∙ ap (λ bs. heading ++ bs) (ap (λ (es : List Entry). flat_map entry_bytes es ++ flat_map entry_bytes (drop begun.count entries)) first ∙ joined)
-          ∙ ap (λ n. heading_bytes head.slot head.collector previous n ++ flat_map entry_bytes entries) (sym long)
+          ∙ ap (λ n. heading_bytes parts.head.now.slot parts.head.now.collector parts.previous n ++ flat_map entry_bytes entries) (sym long)
           ∙ front_is (with_front entries)
 
 -- what is left of the entries, once it has begun

@@ -12,20 +12,19 @@ ghost use Rattle.block_run.specs.Ending.{AreOf, MayEnd, joined_of, ran_of};
 ghost use Rattle.block_run.specs.Front.{IsBegun};
 
 use crate::activation::activate_all;
-use crate::block::{Closed, Head};
+use crate::block::{Closed, RecordParts};
 use crate::entries::entries_of;
 use crate::fees::{Shared, share_split, split_paid};
 use crate::front::Begun;
 use crate::names::{ascending, processed_in};
 use crate::threads::call_both;
 use account_store::Accounts;
-use admission::Chosen;
 use bank_core::Ended;
 use block_record::{Block, end_hash, hash_entries};
 use fee_rules::FeeSplit;
 use sha2::Sha256;
 use snapshot_codec::{Snapshot, state_hash};
-use sol_base::{Blob, Hash32, Items, Key, Limits, OutOfMemory};
+use sol_base::{Hash32, Items, Key, Limits, OutOfMemory};
 use status_cache::{Mark, Recent};
 use std::alloc::Global;
 use std::thread::Threads;
@@ -108,30 +107,27 @@ struct Entered {
 /// Lists the entries, and hashes those that are not in the hash yet.
 fn enter(
     alloc: Global,
-    head: &Head,
-    previous: Hash32,
-    wires: &Items<Blob>,
-    order: &[Chosen],
+    parts: RecordParts<'_>,
     outcomes: Items<Outcome>,
     begun: Begun,
 ) -> Result<Entered, OutOfMemory>
-    requires of { AreOf wires.now order.now }
-    requires one_each { length outcomes ≡ length order.now }
+    requires of { AreOf parts.wires.now parts.order.now }
+    requires one_each { length outcomes ≡ length parts.order.now }
     requires small { All IsSmallOutcome outcomes }
-    requires begun { IsBegun head.now previous wires.now order.now outcomes begun }
-    ensures block { IfOk result (λ e.
-        e.block ≡ entered head.now previous wires.now order.now outcomes) }
+    requires begun { IsBegun parts outcomes begun }
+    ensures block { IfOk result (λ e. let p = parts.entry in
+        e.block ≡ entered p.head.now p.previous p.wires.now p.order.now outcomes) }
     ensures counted { IfOk result (λ e. IsCounted e.block) }
     ensures hasher { IfOk result (λ e. Holds256 e.hasher (front_bytes e.block)) }
 {
     let Begun { count, hasher } = begun;
-    let entries = entries_of(alloc, wires.as_slice(), order, outcomes)?;
+    let entries = entries_of(alloc, parts.wires, parts.order, outcomes)?;
     let (_, left) = entries.as_slice().split_at(count as usize);
     let hasher = hash_entries(hasher, left)?;
     let block = Block {
-        slot: head.slot,
-        collector: head.collector,
-        previous,
+        slot: parts.head.slot,
+        collector: parts.head.collector,
+        previous: parts.previous,
         entries,
         burned: 0,
         collected: 0,
@@ -146,10 +142,7 @@ fn end_run<R: Threads + Sync>(
     rt: &R,
     alloc: Global,
     lanes: u32,
-    head: &Head,
-    previous: Hash32,
-    wires: &Items<Blob>,
-    order: &[Chosen],
+    parts: RecordParts<'_>,
     split: FeeSplit,
     names: Vec<Hash32>,
     ended: Ended<TxWork>,
@@ -158,24 +151,30 @@ fn end_run<R: Threads + Sync>(
 ) -> Result<((Settled, Items<Hash32>), Entered), OutOfMemory>
     requires supply { sum (joined_of ended.origin.value) + split.burned + split.rest < 2 ^ 64 }
     requires room { len (joined_of ended.origin.value) + 1 < 2 ^ 32 }
-    requires of { AreOf wires.now order.now }
-    requires one_each { length outcomes ≡ length order.now }
+    requires of { AreOf parts.wires.now parts.order.now }
+    requires one_each { length outcomes ≡ length parts.order.now }
     requires small { All IsSmallOutcome outcomes }
-    requires begun { IsBegun head.now previous wires.now order.now outcomes begun }
+    requires begun { IsBegun parts outcomes begun }
     ensures shares { IfOk result (λ end. (record {
       accounts = end.0.0.accounts;
       burned = end.0.0.burned;
       collected = end.0.0.collected;
     })
-        ≡ settled (joined_of ended.origin.value) head.now.collector split) }
+        ≡ settled (joined_of ended.origin.value) parts.entry.head.now.collector split) }
     ensures state { IfOk result (λ end. end.0.0.state ≡ hash_of_state end.0.0.accounts) }
     ensures names { IfOk result (λ end. end.0.1 ≡ ascending names.items) }
     ensures ascends { IfOk result (λ end. Ascends end.0.1) }
-    ensures block { IfOk result (λ end.
-        end.1.block ≡ entered head.now previous wires.now order.now outcomes) }
+    ensures block { IfOk result (λ end. let p = parts.entry in
+        end.1.block ≡ entered p.head.now p.previous p.wires.now p.order.now outcomes) }
     ensures counted { IfOk result (λ end. IsCounted end.1.block) }
     ensures hasher { IfOk result (λ end. Holds256 end.1.hasher (front_bytes end.1.block)) }
 {
+    let RecordParts {
+        head,
+        previous,
+        wires,
+        order,
+    } = parts;
     let (settled, entered) = call_both(
         rt,
         lanes,
@@ -194,14 +193,27 @@ fn end_run<R: Threads + Sync>(
         { settle_run(alloc, ended, &head.collector, split, names) },
         move || -> Result<Entered, OutOfMemory>
             requires { AreOf wires.now order.now × (length outcomes ≡ length order.now)
-                × All IsSmallOutcome outcomes
-                × IsBegun head.now previous wires.now order.now outcomes begun }
+                × All IsSmallOutcome outcomes × IsBegun (record {
+                  head = head;
+                  previous = previous;
+                  wires = wires;
+                  order = order;
+                })
+                outcomes begun }
             ensures block { IfOk result (λ e.
                 e.block ≡ entered head.entry.now previous wires.entry.now order.entry.now
                 outcomes) }
             ensures counted { IfOk result (λ e. IsCounted e.block) }
             ensures hasher { IfOk result (λ e. Holds256 e.hasher (front_bytes e.block)) }
-        { enter(alloc, head, previous, wires, order, outcomes, begun) },
+        {
+            let parts = RecordParts {
+                head,
+                previous,
+                wires,
+                order,
+            };
+            enter(alloc, parts, outcomes, begun)
+        },
     );
     Ok((settled?, entered?))
 }
@@ -233,32 +245,31 @@ pub(crate) fn close<R: Threads + Sync>(
     lanes: u32,
     limits: Limits,
     recent: Recent,
-    head: &Head,
-    wires: &Items<Blob>,
-    order: &[Chosen],
+    parts: RecordParts<'_>,
     ended: Ended<TxWork>,
     outcomes: Items<Outcome>,
     begun: Begun,
 ) -> Result<Closed, OutOfMemory>
     requires limits { AreAllowed limits }
     requires messages { All (λ mark. length mark.messages ≤ 16384) recent }
-    requires run { MayEnd wires.now order.now (ran_of ended.origin.value outcomes) }
-    requires begun { IsBegun head.now (newest_of recent) wires.now order.now outcomes begun }
+    requires previous { parts.previous ≡ newest_of recent }
+    requires run { MayEnd parts.wires.now parts.order.now (ran_of ended.origin.value outcomes) }
+    requires begun { IsBegun parts outcomes begun }
     ensures exact { IfOk result (λ end. end ≡ closed_with (record {
       slot = 0;
       limits = limits;
       recent = recent;
       accounts = joined_of ended.origin.value;
     })
-        head.now wires.now order.now (ran_of ended.origin.value outcomes)) }
+        parts.entry.head.now parts.entry.wires.now parts.entry.order.now
+        (ran_of ended.origin.value outcomes)) }
     ensures counted { IfOk result (λ end. IsCounted end.block) }
     ensures writable { IfOk result (λ end. IsWritable end.after) }
 {
-    let names = processed_in(alloc, order, outcomes.as_slice())?;
+    let names = processed_in(alloc, parts.order, outcomes.as_slice())?;
     let split = split_paid(outcomes.as_slice());
-    let previous = recent.newest();
     let ((settled, sorted), entered) = end_run(
-        rt, alloc, lanes, head, previous, wires, order, split, names, ended, outcomes, begun,
+        rt, alloc, lanes, parts, split, names, ended, outcomes, begun,
     )?;
     let Settled {
         accounts,
@@ -274,7 +285,7 @@ pub(crate) fn close<R: Threads + Sync>(
     })?;
     Ok(Closed {
         after: Snapshot {
-            slot: head.slot,
+            slot: parts.head.slot,
             limits,
             recent,
             accounts,

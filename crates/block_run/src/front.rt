@@ -10,14 +10,13 @@ ghost use Rattle.block_run.specs.Blocks.{entries_of};
 ghost use Rattle.block_run.specs.Ending.{AreOf};
 ghost use Rattle.block_run.specs.Front.{IsBegun};
 
-use crate::block::Head;
+use crate::block::RecordParts;
 use crate::entries::entries_of;
-use admission::Chosen;
 use bank_core::Work;
 use bank_shared::{Reader, SharedDesk};
 use block_record::{begin_hash, hash_entries};
 use sha2::Sha256;
-use sol_base::{Blob, Hash32, Items, OutOfMemory};
+use sol_base::{Items, OutOfMemory};
 use std::alloc::Global;
 use std::sync::Wait;
 use std::sync::atomic::AtomicBool;
@@ -40,32 +39,37 @@ pub(crate) struct Begun {
 }
 
 /// The hash of a record that is to have an entry for each transaction, up to the first of them.
-pub(crate) fn begin(head: &Head, previous: Hash32, order: &[Chosen]) -> Result<Begun, OutOfMemory>
-    requires few { length order.now ≤ 16384 }
-    ensures { IfOk result (λ begun. (wires : List (List ℕ)) → (outcomes : List OutcomeValue)
-        → IsBegun head.now previous wires order.now outcomes begun) }
+pub(crate) fn begin(parts: RecordParts<'_>) -> Result<Begun, OutOfMemory>
+    requires few { length parts.order.now ≤ 16384 }
+    ensures { IfOk result (λ begun. (outcomes : List OutcomeValue)
+        → IsBegun parts.entry outcomes begun) }
 {
-    let hasher = begin_hash(head.slot, &head.collector, &previous, order.len() as u32)?;
+    let hasher = begin_hash(
+        parts.head.slot,
+        &parts.head.collector,
+        &parts.previous,
+        parts.order.len() as u32,
+    )?;
     Ok(Begun { count: 0, hasher })
 }
 
 /// Takes the entries of the outcomes that come next.
 fn take_in(
     alloc: Global,
-    wires: &[Blob],
-    order: &[Chosen],
+    parts: RecordParts<'_>,
     begun: Begun,
     outcomes: Items<Outcome>,
 ) -> Result<Begun, OutOfMemory>
-    requires of { AreOf wires.now order.now }
-    requires within { begun.count + length outcomes ≤ length order.now }
+    requires of { AreOf parts.wires.now parts.order.now }
+    requires within { begun.count + length outcomes ≤ length parts.order.now }
     requires small { All IsSmallOutcome outcomes }
     ensures count { IfOk result (λ next. next.count ≡ begun.count + length outcomes) }
     ensures taken { IfOk result (λ next. (taken : List ℕ) → Holds256 begun.hasher taken
         → Holds256 next.hasher (taken ++ flat_map entry_bytes
-        (entries_of wires.now (drop begun.count order.now) outcomes))) }
+        (entries_of parts.entry.wires.now (drop begun.count parts.entry.order.now) outcomes))) }
 {
     let Begun { count, hasher } = begun;
+    let RecordParts { wires, order, .. } = parts;
     let next = count + outcomes.len() as u32;
     let order = &order[count as usize..next as usize];
     let entries = entries_of(alloc, wires, order, outcomes)?;
@@ -83,24 +87,21 @@ pub(crate) fn read_front<W: Work, R: Wait>(
     desk: &SharedDesk<W>,
     mut reader: Reader<W>,
     ended: &AtomicBool,
-    head: &Head,
-    previous: Hash32,
-    wires: &[Blob],
-    order: &[Chosen],
+    parts: RecordParts<'_>,
 ) -> Result<Begun, OutOfMemory>
     requires table { reader.seat.table_id ≡ desk.now.table.shared.table_id }
     requires desk { reader.seat.me.0.origin ≡ Some desk.now.table.shared.key.value }
-    requires of { AreOf wires.now order.now }
-    requires one_each { length order.now
+    requires of { AreOf parts.wires.now parts.order.now }
+    requires one_each { length parts.order.now
         ≡ (W.job desk.now.table.shared.key.value.origin.told).count }
     requires small { All IsSmallOutcome
         (outcomes_at_end W.job desk.now.table.shared.key.value.origin) }
-    ensures { IfOk result (IsBegun head.now previous wires.now order.now
+    ensures { IfOk result (IsBegun parts.entry
         (outcomes_at_end W.job desk.now.table.shared.key.value.origin)) }
 {
-    let mut begun = begin(head, previous, order)?;
+    let mut begun = begin(parts)?;
     for _ in rt.forever() {
-        let left = order.len() as u32 - begun.count;
+        let left = parts.order.len() as u32 - begun.count;
         if left == 0 || ended.load(SeqCst) {
             return Ok(begun);
         }
@@ -108,7 +109,7 @@ pub(crate) fn read_front<W: Work, R: Wait>(
         if outcomes.is_empty() {
             Parker::new().park_timeout(rt, Duration::from_micros(PARKED));
         } else {
-            begun = take_in(alloc, wires, order, begun, outcomes)?;
+            begun = take_in(alloc, parts, begun, outcomes)?;
         }
     }
     unreachable!()

@@ -10,14 +10,13 @@ ghost use Rattle.tx_exec.specs.TransactionLaws.{IsSmallOutcome};
 ghost use Rattle.block_run.specs.Ending.{AreOf};
 ghost use Rattle.block_run.specs.Front.{IsBegun};
 
-use crate::block::Head;
+use crate::block::RecordParts;
 use crate::front::{Begun, begin, read_front};
 use account_store::Accounts;
-use admission::Chosen;
 use bank_core::{Core, Ended, Numbered, Take, Work};
 use bank_lanes::{Gate, run_lanes};
 use bank_shared::{Pass, Reader, SharedDesk};
-use sol_base::{Blob, Hash32, Items, OutOfMemory};
+use sol_base::{Items, OutOfMemory};
 use std::alloc::Global;
 use std::sync::Wait;
 use std::sync::atomic::AtomicBool;
@@ -63,10 +62,7 @@ fn run_beside<W: Work + Sync, G: Gate, R: Threads + Wait + Sync>(
     ended: &AtomicBool,
     work: &W,
     gate: &G,
-    head: &Head,
-    previous: Hash32,
-    wires: &[Blob],
-    order: &[Chosen],
+    parts: RecordParts<'_>,
 ) -> (
     Result<Begun, OutOfMemory>,
     (Result<(), OutOfMemory>, Pass<W>),
@@ -77,12 +73,12 @@ fn run_beside<W: Work + Sync, G: Gate, R: Threads + Wait + Sync>(
     requires desk { (pass.seat.me.0.origin ≡ Some desk.now.table.shared.key.value)
         × (reader.seat.me.0.origin ≡ Some desk.now.table.shared.key.value) }
     requires idle { (holds pass.seat.me.0.mine ≡ None) × (returns pass.seat.me.0.mine ≡ 0) }
-    requires of { AreOf wires.now order.now }
-    requires one_each { length order.now
+    requires of { AreOf parts.wires.now parts.order.now }
+    requires one_each { length parts.order.now
         ≡ (W.job desk.now.table.shared.key.value.origin.told).count }
     requires small { All IsSmallOutcome
         (outcomes_at_end W.job desk.now.table.shared.key.value.origin) }
-    ensures begun { IfOk result.0 (IsBegun head.now previous wires.now order.now
+    ensures begun { IfOk result.0 (IsBegun parts.entry
         (outcomes_at_end W.job desk.now.table.shared.key.value.origin)) }
     ensures table { result.1.1.seat.table_id ≡ desk.now.table.shared.table_id }
     ensures desk { result.1.1.seat.me.0.origin ≡ Some desk.now.table.shared.key.value }
@@ -94,13 +90,14 @@ fn run_beside<W: Work + Sync, G: Gate, R: Threads + Wait + Sync>(
         move || -> Result<Begun, OutOfMemory>
             requires { (reader.seat.table_id ≡ desk.now.table.shared.table_id)
                 × (reader.seat.me.0.origin ≡ Some desk.now.table.shared.key.value)
-                × AreOf wires.now order.now
-                × (length order.now ≡ (W.job desk.now.table.shared.key.value.origin.told).count)
+                × AreOf parts.wires.now parts.order.now
+                × (length parts.order.now
+                ≡ (W.job desk.now.table.shared.key.value.origin.told).count)
                 × All IsSmallOutcome (outcomes_at_end W.job
                 desk.now.table.shared.key.value.origin) }
-            ensures { IfOk result (IsBegun head.entry.now previous wires.entry.now order.entry.now
+            ensures { IfOk result (IsBegun parts.entry
                 (outcomes_at_end W.job desk.entry.now.table.shared.key.value.origin)) }
-        { read_front(rt, alloc, desk, reader, ended, head, previous, wires, order) },
+        { read_front(rt, alloc, desk, reader, ended, parts) },
         move || -> (Result<(), OutOfMemory>, Pass<W>)
             requires { (desk.now.table.shared.key.value.origin.told ≡ W.told work.now)
                 × (pass.seat.table_id ≡ desk.now.table.shared.table_id)
@@ -146,27 +143,24 @@ fn run_shared<W: Work + Sync, G: Gate, R: Threads + Wait + Sync>(
     core: Core<W>,
     work: &W,
     gate: &G,
-    head: &Head,
-    previous: Hash32,
-    wires: &[Blob],
-    order: &[Chosen],
+    parts: RecordParts<'_>,
 ) -> Result<(Core<W>, Begun), OutOfMemory>
     requires told { core.origin.value.told ≡ W.told work.now }
     requires journal { core.journal.items ≡ [] }
-    requires of { AreOf wires.now order.now }
-    requires one_each { length order.now ≡ (W.job core.origin.value.told).count }
+    requires of { AreOf parts.wires.now parts.order.now }
+    requires one_each { length parts.order.now ≡ (W.job core.origin.value.told).count }
     requires small { All IsSmallOutcome (outcomes_at_end W.job core.origin.value) }
     ensures origin { IfOk result (λ end. end.0.origin.value ≡ core.origin.value) }
     ensures done { IfOk result (λ end.
         AllDoneAfter W.job end.0.origin.value end.0.journal.items) }
-    ensures begun { IfOk result (λ end. IsBegun head.now previous wires.now order.now
+    ensures begun { IfOk result (λ end. IsBegun parts.entry
         (outcomes_at_end W.job core.origin.value) end.1) }
 {
     let (desk, mut pass) = SharedDesk::new(alloc, core)?;
     let reader = desk.reader(&mut pass);
     let ended = AtomicBool::new(false);
     let (begun, (run, pass)) = run_beside(
-        rt, alloc, &desk, pass, reader, &ended, work, gate, head, previous, wires, order,
+        rt, alloc, &desk, pass, reader, &ended, work, gate, parts,
     );
     run?;
     Ok((desk.close(rt, pass), begun?))
@@ -183,32 +177,28 @@ pub(crate) fn run_work<W: Work + Sync, G: Gate, R: Threads + Wait + Sync>(
     numbered: Numbered,
     lanes: u32,
     gate: &G,
-    head: &Head,
-    previous: Hash32,
-    wires: &[Blob],
-    order: &[Chosen],
+    parts: RecordParts<'_>,
 ) -> Result<(Ended<W>, Items<Outcome>, Begun), OutOfMemory>
     requires some { 1 ≤ lanes }
     requires most { lanes ≤ 64 }
     requires numbered { AreNumbered (W.job (W.told work.now)) numbered.table numbered.graph
         numbered.room }
-    requires of { AreOf wires.now order.now }
-    requires one_each { length order.now ≡ (W.job (W.told work.now)).count }
+    requires of { AreOf parts.wires.now parts.order.now }
+    requires one_each { length parts.order.now ≡ (W.job (W.told work.now)).count }
     requires small { All IsSmallOutcome (serial_outcomes (W.job (W.told work.now)) (at accounts)) }
     ensures origin { IfOk result (λ end.
         end.0.origin.value ≡ record { start = accounts; told = W.told work.now }) }
     ensures outcomes { IfOk result (λ end. let job = W.job (W.told work.now) in
         end.1 ≡ serial_outcomes job (at accounts)) }
-    ensures begun { IfOk result (λ end.
-        IsBegun head.now previous wires.now order.now end.1 end.2) }
+    ensures begun { IfOk result (λ end. IsBegun parts.entry end.1 end.2) }
 {
     let mut core = Core::over(alloc, accounts, work, lanes, numbered)?;
     if lanes == 1 {
         run_alone(&mut core, work, gate)?;
         let (ended, outcomes) = core.part()?;
-        Ok((ended, outcomes, begin(head, previous, order)?))
+        Ok((ended, outcomes, begin(parts)?))
     } else {
-        let (core, begun) = run_shared(rt, alloc, core, work, gate, head, previous, wires, order)?;
+        let (core, begun) = run_shared(rt, alloc, core, work, gate, parts)?;
         let (ended, outcomes) = core.part()?;
         Ok((ended, outcomes, begun))
     }

@@ -7,7 +7,7 @@ ghost use Rattle.snapshot_codec.specs.Snapshot.{IsReadable, IsWritable};
 ghost use Rattle.block_run.specs.Blocks.{before_refused, block_result, closed, is_halted, listed_result, start_in};
 ghost use Rattle.block_run.specs.Ending.{AreOf};
 
-use crate::block::{BlockResult, Closed, Head};
+use crate::block::{BlockResult, Closed, Head, RecordParts};
 use crate::closing::close;
 use crate::lanes::run_work;
 use crate::order::work_of;
@@ -41,7 +41,6 @@ fn run_order<G: Gate, R: Threads + Wait + Sync>(
     ensures counted { IfOk result (λ end. IsCounted end.block) }
     ensures writable { IfOk result (λ end. IsWritable end.after) }
 {
-    let previous = snapshot.recent.newest();
     let (work, numbered) = work_of(rt, alloc, lanes, &snapshot, head.slot, order)?;
     let Snapshot {
         slot: _,
@@ -49,22 +48,17 @@ fn run_order<G: Gate, R: Threads + Wait + Sync>(
         recent,
         accounts,
     } = snapshot;
-    let chosen = work.chosen();
-    let (ended, outcomes, begun) = run_work(
-        rt,
-        alloc,
-        accounts,
-        &work,
-        numbered,
-        lanes,
-        gate,
+    let parts = RecordParts {
         head,
-        previous,
-        wires.as_slice(),
-        chosen,
+        previous: recent.newest(),
+        wires: wires.as_slice(),
+        order: work.chosen(),
+    };
+    let (ended, outcomes, begun) = run_work(
+        rt, alloc, accounts, &work, numbered, lanes, gate, parts,
     )?;
     close(
-        rt, alloc, lanes, limits, recent, head, wires, chosen, ended, outcomes, begun,
+        rt, alloc, lanes, limits, recent, parts, ended, outcomes, begun,
     )
 }
 

@@ -13,20 +13,20 @@ use Rattle.block_run.proofs.closing.close.Goals as goal
 pub returns-clause-exact : goal.returns-clause-exact
 returns-clause-exact g c =
     let end = c.in_ok-settled.settled in
-    closed_is (record { slot = 0; limits = c.args.limits; recent = c.args.recent; accounts = joined_of c.args.ended.origin.value }) c.args.head.now c.args.wires.now c.args.order.now (ran_of c.args.ended.origin.value c.args.outcomes)
-    c.split_paid-split.result c.newest-previous.result (record { accounts = end.accounts; burned = end.burned; collected = end.collected }) end.state c.in_ok-settled.entered.block c.seal-block.result c.in_ok-settled.sorted c.advance.new.self
+    closed_is (record { slot = 0; limits = c.args.limits; recent = c.args.recent; accounts = joined_of c.args.ended.origin.value }) c.args.parts.head.now c.args.parts.wires.now c.args.parts.order.now (ran_of c.args.ended.origin.value c.args.outcomes)
+    c.split_paid-split.result c.args.parts.previous (record { accounts = end.accounts; burned = end.burned; collected = end.collected }) end.state c.in_ok-settled.entered.block c.seal-block.result c.in_ok-settled.sorted c.advance.new.self
     (c.split_paid-split.ensures ∙ ap (λ (os : List Outcome). split_of (base_fees os) (priority_fees os)) c.as_slice-2.ensures)
-    c.newest-previous.ensures c.in_ok-settled.ensures.shares c.in_ok-settled.ensures.state c.in_ok-settled.ensures.block c.seal-block.ensures.exact
-    (c.in_ok-settled.ensures.names ∙ ap ascending c.in_ok-names.ensures ∙ ap (λ (os : List Outcome). ascending (processed_in c.args.order.now os)) c.as_slice.ensures)
+    c.requires.previous c.in_ok-settled.ensures.shares c.in_ok-settled.ensures.state c.in_ok-settled.ensures.block c.seal-block.ensures.exact
+    (c.in_ok-settled.ensures.names ∙ ap ascending c.in_ok-names.ensures ∙ ap (λ (os : List Outcome). ascending (processed_in c.args.parts.order.now os)) c.as_slice.ensures)
     c.in_ok-advance.ensures.ok
 
 pub returns-clause-writable : goal.returns-clause-writable
 returns-clause-writable g c =
     let shares = ap (λ (s : Shares). s.accounts) c.in_ok-settled.ensures.shares in
     let names = c.in_ok-settled.ensures.names ∙ ap ascending c.in_ok-names.ensures in
-    let one : length c.in_ok-settled.sorted ≤ 16384 = subst (λ (ns : List Hash32). length ns ≤ 16384) (sym names) (names_few c.args.order.now _ c.requires.run.of.few) in
+    let one : length c.in_ok-settled.sorted ≤ 16384 = subst (λ (ns : List Hash32). length ns ≤ 16384) (sym names) (names_few c.args.parts.order.now _ c.requires.run.of.few) in
     record {
       limits = c.requires.limits;
       messages = subst (All (λ (mark : Mark). length mark.messages < 2 ^ 32)) (sym c.in_ok-advance.ensures.ok) (marks_few _ c.args.recent one c.requires.messages);
-      accounts = subst (λ (s : State). len s < 2 ^ 32) (sym shares) (settled_few (joined_of c.args.ended.origin.value) c.args.head.now.collector c.split_paid-split.result c.requires.run.room);
+      accounts = subst (λ (s : State). len s < 2 ^ 32) (sym shares) (settled_few (joined_of c.args.ended.origin.value) c.args.parts.head.now.collector c.split_paid-split.result c.requires.run.room);
     }

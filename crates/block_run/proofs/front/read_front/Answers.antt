@@ -28,6 +28,6 @@ loop-preserved g c =
       again = (tt, tt);
       table = c.outcomes_from.ensures.table ∙ c.loop.invariant.table;
       desk = c.outcomes_from.ensures.desk ∙ c.loop.invariant.desk;
-      begun = goes_on c.args.head.now c.args.previous c.args.wires.now c.args.order.now (outcomes_at_end g.W.Work.job c.args.desk.now.table.shared.key.value.origin) c.in_ok-outcomes.outcomes c.loop.begun c.in_ok-begun-2.begun c.loop.invariant.begun
+      begun = goes_on c.args.parts (outcomes_at_end g.W.Work.job c.args.desk.now.table.shared.key.value.origin) c.in_ok-outcomes.outcomes c.loop.begun c.in_ok-begun-2.begun c.loop.invariant.begun
           c.in_ok-outcomes.ensures.serial (omega (arith, few, least, within)) c.in_ok-begun-2.ensures.count c.in_ok-begun-2.ensures.taken;
     }

@@ -9,5 +9,5 @@ invariant-loop g l = record {
   again : (goal.iterator-loop g).can_next l.iterator' × (goal.iterator-loop g).is_finite l.iterator';
   table : l.reader.seat.table_id ≡ l.desk.table.shared.table_id;
   desk : l.reader.seat.me.0.origin ≡ Some l.desk.table.shared.key.value;
-  begun : IsBegun l.head l.fn.previous l.wires l.order (outcomes_at_end g.W.Work.job l.desk.table.shared.key.value.origin) l.begun;
+  begun : IsBegun l.parts (outcomes_at_end g.W.Work.job l.desk.table.shared.key.value.origin) l.begun;
 }

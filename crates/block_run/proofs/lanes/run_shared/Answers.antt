@@ -10,5 +10,5 @@ run_beside-begun-requires-clause-small g c κs within = subst (λ o. All IsSmall
 
 pub returns-clause-begun : goal.returns-clause-begun
 returns-clause-begun g c =
-    subst (λ o. IsBegun c.args.head.now c.args.previous c.args.wires.now c.args.order.now (outcomes_at_end g.W.Work.job o) c.in_ok-begun.field-0) (ap (λ d. d.origin) c.in_ok-desk.ensures.origin)
-    (subst (λ r. IfOk r (IsBegun c.args.head.now c.args.previous c.args.wires.now c.args.order.now (outcomes_at_end g.W.Work.job c.in_ok-desk.desk.table.shared.key.value.origin))) c.in_ok-begun.was c.run_beside-begun.ensures.begun)
+    subst (λ o. IsBegun c.args.parts (outcomes_at_end g.W.Work.job o) c.in_ok-begun.field-0) (ap (λ d. d.origin) c.in_ok-desk.ensures.origin)
+    (subst (λ r. IfOk r (IsBegun c.args.parts (outcomes_at_end g.W.Work.job c.in_ok-desk.desk.table.shared.key.value.origin))) c.in_ok-begun.was c.run_beside-begun.ensures.begun)
