@@ -1,5 +1,5 @@
 //! The front of a record, which is hashed while transactions still run.
-ghost use Rattle.std.specs.Prelude.{◌≡◌, ◌+◌, ◌≤◌, ◌++◌, ℕ, All, IfOk, List, Some, drop, length, take};
+ghost use Rattle.std.specs.Prelude.{◌≡◌, ◌+◌, ◌≤◌, ◌++◌, ℕ, All, IfOk, List, Some, drop, length};
 ghost use Rattle.std.specs.List.{flat_map};
 ghost use Rattle.sha2.specs.Hashers.{Holds256};
 ghost use Rattle.tx_report.specs.declared.outcome.Outcome.{Outcome as OutcomeValue};

@@ -91,7 +91,8 @@ fn run_beside<W: Work + Sync, G: Gate, R: Threads + Wait + Sync>(
             requires { (reader.seat.table_id ≡ desk.now.table.shared.table_id)
                 × (reader.seat.me.0.origin ≡ Some desk.now.table.shared.key.value)
                 × AreOf parts.wires.now parts.order.now
-                × (length parts.order.now ≡ (W.job desk.now.table.shared.key.value.origin.told).count)
+                × (length parts.order.now
+                ≡ (W.job desk.now.table.shared.key.value.origin.told).count)
                 × All IsSmallOutcome (outcomes_at_end W.job
                 desk.now.table.shared.key.value.origin) }
             ensures { IfOk result (IsBegun parts.entry

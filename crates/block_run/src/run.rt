@@ -1,6 +1,6 @@
 //! The calls that run a block.
 ghost use Rattle.std.specs.Prelude.{◌≡◌, ◌≤◌, ◌<◌, All, IfOk, MatchBool, length, map};
-ghost use Rattle.admission.specs.Admission.{AreParsed, admitted, listed};
+ghost use Rattle.admission.specs.Admission.{AreParsed, admitted};
 ghost use Rattle.admission.specs.Chosen.{IsChosen};
 ghost use Rattle.block_record.specs.Record.{IsCounted};
 ghost use Rattle.snapshot_codec.specs.Snapshot.{IsReadable, IsWritable};
