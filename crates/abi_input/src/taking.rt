@@ -3,11 +3,10 @@ ghost use Rattle.std.specs.Prelude.{◌≡◌, ◌↔◌, ◌+◌, ◌<◌, ◌�
 ghost use Rattle.std.specs.Option.{ForSome};
 ghost use Rattle.std.specs.Arc.{arc_value};
 ghost use Rattle.std.specs.List.{enumerate_from, slice_index_or};
-ghost use Rattle.sol_base.specs.declared.account.Account.{Account as AccountValue};
 ghost use Rattle.sol_base.specs.Accounts.{accounts_of, max_data_len, SameUnlessTouched};
 ghost use Rattle.sol_base.specs.Metas.{AreInRange, is_first_listing};
 ghost use Rattle.abi_input.specs.Listing.{IsTableOf};
-ghost use Rattle.abi_input.specs.Region.{account_at, account_back, back, data_len_at, entry_start, has_outgrown, is_too_long, lent_in, max_metas, room_of, IsRegionOf};
+ghost use Rattle.abi_input.specs.Region.{account_at, account_back, back, data_len_at, entry_start, has_outgrown, is_too_long, lent_in, max_metas, IsRegionOf};
 ghost use Rattle.abi_input.specs.Entries.{account_by, found_among, AreEntries, AreLent, IsEntryOf};
 ghost use Rattle.abi_input.specs.Answers.{RefusesBack, TakesBack};
 

@@ -1,5 +1,5 @@
 //! The keys that a message looks up.
-ghost use Rattle.std.specs.Prelude.{◌≡◌, ◌<◌, ◌≤◌, ◌||◌, ◌++◌, [], false, map, length, IfOk, OnOk, Some, None, MatchResult};
+ghost use Rattle.std.specs.Prelude.{◌≡◌, ◌<◌, ◌≤◌, ◌||◌, ◌++◌, [], false, map, IfOk, OnOk, Some, None, MatchResult};
 ghost use Rattle.std.specs.List.{IsDistinct};
 ghost use Rattle.spec_base.specs.Reading.{Gives};
 ghost use Rattle.sol_base.specs.Keys.{same_key};

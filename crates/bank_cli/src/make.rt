@@ -1,6 +1,5 @@
 //! The command `make`: an input that a number draws, or what it comes to.
 ghost use Rattle.std.specs.Prelude.{◌≡◌, ◌≤◌, ◌++◌, ◌<◌, length, All, IfOk, OnOk};
-ghost use Rattle.block_run.specs.Blocks.{block_result};
 ghost use Rattle.batch_gen.specs.Generator.{made};
 ghost use Rattle.snapshot_codec.specs.Batch.{IsShortWire};
 ghost use Rattle.snapshot_codec.specs.Snapshot.{IsReadable};

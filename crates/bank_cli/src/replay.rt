@@ -3,7 +3,7 @@ ghost use Rattle.std.specs.Prelude.{◌≡◌, ◌≤◌, ◌++◌, length, IfOk
 ghost use Rattle.block_record.specs.Record.{IsCounted};
 ghost use Rattle.snapshot_codec.specs.Snapshot.{IsReadable};
 ghost use Rattle.bank_cli.specs.Answer.{differed, judged, replayed as replayed_of, replayed_over, written};
-ghost use Rattle.bank_cli.specs.Texts.{differ_line, match_line, place_text};
+ghost use Rattle.bank_cli.specs.Texts.{match_line, place_text};
 
 use crate::answer::Answer;
 use crate::texts::{append_hash, append_number, refuse_record, refuse_snapshot, tell};

@@ -1,5 +1,5 @@
 //! The core: it lends the values of positions, and takes the effects back.
-ghost use Rattle.std.specs.Prelude.{⊤, ◌≡◌, ◌<◌, ◌≤◌, Some, None, OnOk, OnErr, IfOk, vec_len, vec_capacity};
+ghost use Rattle.std.specs.Prelude.{⊤, ◌≡◌, ◌<◌, ◌≤◌, Some, None, OnOk, OnErr, IfOk, vec_capacity};
 ghost use Rattle.account_store.specs.State.{at};
 ghost use Rattle.bank_law.specs.Machine.{Run, held_count, with_event};
 ghost use Rattle.bank_law.specs.Lawful.{IsLawful};

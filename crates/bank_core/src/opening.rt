@@ -3,10 +3,8 @@ ghost use Rattle.std.specs.Prelude.{◌≡◌, ℕ, ◌+◌, ◌*◌, ◌^◌, �
 ghost use Rattle.std.specs.List.{IsDistinct};
 ghost use Rattle.std.specs.declared.vec.Vec.{Vec as VecValue};
 ghost use Rattle.std.specs.declared.alloc.Global.{Global as GlobalValue};
-ghost use Rattle.sol_base.specs.declared.key.Key.{Key as KeyValue};
-ghost use Rattle.sol_base.specs.Accounts.{empty_account};
-ghost use Rattle.account_store.specs.State.{at, IsState};
-ghost use Rattle.bank_law.specs.Job.{same_key, has_key, keys};
+ghost use Rattle.account_store.specs.State.{at};
+ghost use Rattle.bank_law.specs.Job.{same_key, keys};
 ghost use Rattle.lock_table.specs.Numbers.{Numbers, numbered_key};
 ghost use Rattle.prio_graph.specs.Ready.{set_at};
 ghost use Rattle.bank_core.specs.Slots.{Shared, account_at};

@@ -1,6 +1,6 @@
 //! Written accounts, put into their slots.
-ghost use Rattle.std.specs.Prelude.{◌≡◌, ℕ, ◌<◌, ◌≤◌, ◌∷◌, [], All, length, take, map, Some, IsSome, false, IfOk, OnOk, OnErr, vec_len, vec_capacity};
-ghost use Rattle.bank_core.specs.Slots.{account_at, put_at, value_of, taken_at, put_back_at, numbers, write_numbers, AllThere, AreDistinct, ReadsAny, found};
+ghost use Rattle.std.specs.Prelude.{◌≡◌, ℕ, ◌<◌, ◌≤◌, ◌∷◌, [], All, length, take, Some, IsSome, false, IfOk, OnOk, OnErr, vec_capacity};
+ghost use Rattle.bank_core.specs.Slots.{account_at, put_at, value_of, taken_at, put_back_at, write_numbers, AllThere, AreDistinct, ReadsAny, found};
 ghost use Rattle.sol_base.specs.Accounts.{accounts_of};
 
 use crate::room::push_with_room;

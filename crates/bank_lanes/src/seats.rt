@@ -1,5 +1,5 @@
 //! The seats of the lanes in a wave.
-ghost use Rattle.std.specs.Prelude.{◌≡◌, None, Some, true, false, IfOk, length, All};
+ghost use Rattle.std.specs.Prelude.{◌≡◌, None, Some, false, IfOk, length, All};
 ghost use Rattle.bank_lanes.specs.Seats.{IsEmptySeat, IsLoanOfWork, IsPerformed};
 
 use crate::gate::Gate;

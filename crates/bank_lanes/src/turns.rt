@@ -1,5 +1,5 @@
 //! The loop of one lane over a desk.
-ghost use Rattle.std.specs.Prelude.{◌≡◌, ◌≢◌, None};
+ghost use Rattle.std.specs.Prelude.{◌≡◌, ◌≢◌};
 ghost use Rattle.bank_core.specs.Origins.{AllDoneAfter};
 ghost use Rattle.bank_law.specs.History.{returns};
 ghost use Rattle.bank_lanes.specs.Passes.{IsIdle, SeesLoans, WentOn};

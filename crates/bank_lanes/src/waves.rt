@@ -1,5 +1,5 @@
 //! Lanes over a core of one's own, wave by wave.
-ghost use Rattle.std.specs.Prelude.{◌≡◌, ◌<◌, ◌≤◌, true, false, IsTrue, OnOk, length, All};
+ghost use Rattle.std.specs.Prelude.{◌≡◌, ◌<◌, ◌≤◌, true, false, OnOk, length, All};
 ghost use Rattle.std.specs.List.{AllWithin};
 ghost use mathlib.Core.List.{IsPrefix};
 ghost use Rattle.bank_law.specs.Machine.{NothingHeld};

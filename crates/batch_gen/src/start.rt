@@ -1,9 +1,8 @@
 //! The chain at its start: the users, the collector of fees, and one block before.
 ghost use Rattle.std.specs.Prelude.{◌≡◌, IfOk};
 ghost use Rattle.snapshot_codec.specs.Snapshot.{IsReadable};
-ghost use Rattle.status_cache.specs.Recent.{IsRecent};
 ghost use Rattle.account_store.specs.State.{IsState, len};
-ghost use Rattle.batch_gen.specs.Generator.{user, wallet, start_accounts, start_hash as start_hash_value, start_state, start_snapshot as snapshot_value};
+ghost use Rattle.batch_gen.specs.Generator.{user, wallet, start_accounts, start_state, start_snapshot as snapshot_value};
 
 use account_store::{Accounts, KeyedAccount, StoreFault};
 use snapshot_codec::Snapshot;

@@ -1,5 +1,5 @@
 //! Senders and a taker, in one thread and in several.
-ghost use Rattle.std.specs.Prelude.{◌≡◌, ℕ, ◌+◌, ◌≤◌, ◌<◌, [], length, All, IfErr, IfSome};
+ghost use Rattle.std.specs.Prelude.{◌≡◌, ℕ, ◌+◌, ◌≤◌, ◌<◌, [], length, All, IfSome};
 ghost use Rattle.intake.specs.Seats.{IsSendSeatOf, IsTakeSeatOf, sent_by};
 
 use super::*;

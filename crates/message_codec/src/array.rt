@@ -1,5 +1,5 @@
 //! Compact arrays (Solana): a compact length, and then so many items.
-ghost use Rattle.std.specs.Prelude.{◌≡◌, ◌≤◌, ◌++◌, length, All, OnOk};
+ghost use Rattle.std.specs.Prelude.{◌≡◌, ◌≤◌, ◌++◌, All, OnOk};
 ghost use Rattle.spec_base.specs.Reading.{Gives, many};
 ghost use Rattle.message_codec.specs.Wire.{IsCountable, array_bytes, blob_bytes};
 ghost use Rattle.message_codec.specs.WireReading.{is_wire_memory, array_at, blob_at};

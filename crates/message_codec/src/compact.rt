@@ -1,5 +1,5 @@
 //! Compact lengths (Solana): 7 bits a byte, low bits first, in as few bytes as hold the number.
-ghost use Rattle.std.specs.Prelude.{◌≡◌, ◌+◌, ◌<◌, ◌≤◌, ◌++◌, OnOk, IfOk};
+ghost use Rattle.std.specs.Prelude.{◌≡◌, ◌+◌, ◌<◌, ◌≤◌, ◌++◌, OnOk};
 ghost use Rattle.spec_base.specs.Reading.{Gives};
 ghost use Rattle.message_codec.specs.Compact.{compact, max_count};
 ghost use Rattle.message_codec.specs.WireReading.{is_wire_memory, compact_at, second_at, third_at};

@@ -2,7 +2,6 @@
 ghost use Rattle.std.specs.Prelude.{◌≡◌, ◌≢◌, ◌↔◌, ◌≤◌, ◌<◌, ◌++◌, ℕ, List, length, map, true, false, slice_get, option_map, All};
 ghost use Rattle.spec_base.specs.Bytes.{IsBytes};
 ghost use Rattle.spec_base.specs.Reading.{place};
-ghost use Rattle.sol_base.specs.declared.lock.Lock.{Lock};
 ghost use Rattle.message_codec.specs.declared.fault.WireFault.{WireFault};
 ghost use Rattle.message_codec.specs.declared.fault.WireFault.TheVariants.{Truncated, BadLength};
 ghost use Rattle.message_codec.specs.declared.message.Message.{Message};

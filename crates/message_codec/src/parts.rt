@@ -1,7 +1,5 @@
 //! What the arrays of a wire hold: signatures, keys, instructions and lookups (Solana).
-ghost use Rattle.std.specs.Prelude.{◌≡◌, ◌++◌, OnOk};
-ghost use Rattle.spec_base.specs.Reading.{Gives};
-ghost use Rattle.message_codec.specs.WireReading.{is_wire_memory};
+ghost use Rattle.std.specs.Prelude.{◌≡◌, ◌++◌};
 
 use crate::array::{Item, read_blob, write_blob};
 use crate::fault::WireFault;

@@ -1,5 +1,5 @@
 //! Reading a transaction from its bytes.
-ghost use Rattle.std.specs.Prelude.{◌≡◌, List, IfOk, Ok};
+ghost use Rattle.std.specs.Prelude.{◌≡◌, IfOk, Ok};
 ghost use Rattle.spec_base.specs.Reading.{Gives};
 ghost use Rattle.message_codec.specs.Wire.{Wire, message_bytes};
 ghost use Rattle.message_codec.specs.declared.message.Tx.{Tx};

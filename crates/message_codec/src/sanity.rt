@@ -1,8 +1,8 @@
 //! When a transaction is sane.
-ghost use Rattle.std.specs.Prelude.{◌≡◌, ◌+◌, ◌≤◌, length, nat_le, IsOk, ◌↔◌};
+ghost use Rattle.std.specs.Prelude.{◌≡◌, ◌+◌, ◌≤◌, nat_le, IsOk, ◌↔◌};
 ghost use Rattle.std.specs.List.{list_any};
 ghost use Rattle.message_codec.specs.Wire.{HasShortLists, IsCountable};
-ghost use Rattle.message_codec.specs.Roles.{sanitized, IsSane, key_count, load_count, has_bad_program, has_bad_account, has_repeated_key, has_reserved_payer, empty_lookup, loads_none, lookups_sanitized};
+ghost use Rattle.message_codec.specs.Roles.{sanitized, IsSane, key_count, has_bad_program, has_bad_account, has_repeated_key, has_reserved_payer, empty_lookup, loads_none, lookups_sanitized};
 
 use crate::fault::SanitizeFault;
 use crate::message::{Header, Instruction, Lookup, Message, Tx};

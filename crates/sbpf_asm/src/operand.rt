@@ -1,7 +1,6 @@
 //! Operands: registers, places in memory and targets.
 ghost use Rattle.std.specs.Prelude.{◌≡◌, option_map};
 ghost use Rattle.std.specs.List.{list_all};
-ghost use Rattle.sbpf_asm.specs.Words.{Text};
 ghost use Rattle.sbpf_asm.specs.Operands.{is_name, is_name_byte, place_of, place_within, register_of, starts_with_sign, target_of};
 ghost use Rattle.sbpf_asm.specs.Views.{cut_view, target_view};
 

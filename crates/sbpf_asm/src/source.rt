@@ -1,10 +1,9 @@
 //! What the lines of a text have together.
 ghost use Rattle.std.specs.Prelude.{◌≡◌, ◌+◌, ◌*◌, ◌<◌, ◌≤◌, ◌^◌, ◌∷◌, Some, length};
-ghost use Rattle.std.specs.List.{list_all};
 ghost use Rattle.spec_base.specs.Reading.{Gives, ok_if};
 ghost use Rattle.sbpf_asm.specs.declared.fault.AsmFault.TheVariants.{Range};
 ghost use Rattle.sbpf_asm.specs.Assembly.{empty, is_asm_memory, is_in_range, is_text, is_text_byte, place_in, with_draft, with_item, with_label, with_line, with_lines};
-ghost use Rattle.sbpf_asm.specs.Lines.{constants as constants_of, decoded, lines_of};
+ghost use Rattle.sbpf_asm.specs.Lines.{decoded, lines_of};
 ghost use Rattle.sbpf_asm.specs.Views.{draft_view, rest_view, source_view, text_behind};
 ghost use Rattle.hex.specs.Hex.{decode_of};
 

@@ -1,6 +1,5 @@
 //! One instruction.
 ghost use Rattle.std.specs.Prelude.{◌≡◌, ◌≢◌, ◌<◌, ◌≤◌, ◌+◌, ◌%◌, ◌^◌, ℕ, false, true, if◌then◌else◌, IfSome};
-ghost use Rattle.std.specs.Arc.{arc_value};
 ghost use Rattle.sbpf_memory.specs.Memory.{IsWidth, load_from, store_to};
 ghost use Rattle.sbpf_machine.specs.Flows.{Follows, LandsOn, WantsOnlyAt, IsNext, IsNextOrWant, IsTo, IsToStart, IsCalling, GoBack, operands_of};
 ghost use Rattle.sbpf_machine.specs.Steps as Steps;

@@ -1,5 +1,5 @@
 //! What operations compute and when jumps are taken.
-ghost use Rattle.std.specs.Prelude.{◌≡◌, ◌≢◌, ◌%◌, ◌^◌, false, true};
+ghost use Rattle.std.specs.Prelude.{◌≡◌, ◌≢◌, ◌%◌, ◌^◌, true};
 ghost use Rattle.std.specs.Int.{w32, w64};
 ghost use Rattle.sbpf_machine.specs.Values.{value_of, divides, holds, negative, low_bits, swapped_bits};
 

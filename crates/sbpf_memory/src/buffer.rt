@@ -1,5 +1,5 @@
 //! A range of bytes that is zero at first, of which only as much is written down as is needed.
-ghost use Rattle.std.specs.Prelude.{◌≡◌, ◌≤◌, ◌<◌, ◌+◌, ◌^◌, length, replicate, take, drop, vec_len, vec_capacity, IfOk, OnOk, OnErr, IsOk};
+ghost use Rattle.std.specs.Prelude.{◌≡◌, ◌≤◌, ◌<◌, ◌+◌, ◌^◌, length, replicate, take, drop, vec_capacity, IfOk, OnOk, OnErr, IsOk};
 ghost use Rattle.sol_base.specs.Parts.{with_bytes, ArePrepared};
 ghost use Rattle.sbpf_memory.specs.Buffers.{filled};
 

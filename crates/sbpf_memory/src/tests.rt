@@ -1,5 +1,5 @@
 //! Accesses at the edges of the ranges, numbers, and copies.
-ghost use Rattle.std.specs.Prelude.{◌≡◌, ◌+◌, ◌<◌, ◌≤◌, ◌^◌, length};
+ghost use Rattle.std.specs.Prelude.{◌≡◌, ◌+◌, ◌<◌, ◌≤◌, ◌^◌};
 
 use crate::{AccessViolation, MemFault, Memory};
 use sol_base::{Account, Blob, Items, OutOfMemory, Part, Parts};

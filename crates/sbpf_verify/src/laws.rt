@@ -1,5 +1,5 @@
 //! Laws of verified texts and of program images. Their calls do nothing.
-ghost use Rattle.std.specs.Prelude.{◌≡◌, ◌↔◌, ℕ, ◌+◌, ◌<◌, ◌≤◌, true, false, List, slice_get, Some, None, ℤ};
+ghost use Rattle.std.specs.Prelude.{◌≡◌, ◌↔◌, ℕ, ◌+◌, ◌<◌, ◌≤◌, true, List, slice_get, Some, None, ℤ};
 ghost use Rattle.sbpf_isa.specs.Slots.{slot_of};
 ghost use Rattle.sbpf_isa.specs.declared.rows.OpKind.{OpKind};
 ghost use Rattle.sbpf_isa.specs.declared.rows.OpKind.TheVariants.{LoadWide};
@@ -7,7 +7,7 @@ ghost use Rattle.sbpf_verify.specs.declared.entry.Entry.{Entry};
 ghost use Rattle.sbpf_verify.specs.Entries.{IsDecoded, Fits};
 ghost use Rattle.sbpf_verify.specs.Images.{ImageParts, IsWritable, image_bytes, image_in};
 ghost use Rattle.sbpf_verify.specs.Instructions.{HasRegisters, HasValues};
-ghost use Rattle.sbpf_verify.specs.Places.{slot_count, max_slots, is_start, is_start_at, instruction_at, leads_to, goes_on, slots_taken, Reached};
+ghost use Rattle.sbpf_verify.specs.Places.{max_slots, is_start, is_start_at, instruction_at, leads_to, goes_on, slots_taken, Reached};
 ghost use Rattle.sbpf_verify.specs.Verified.{IsVerified, unfit};
 
 /// A law: the verified texts are those without a refusal.

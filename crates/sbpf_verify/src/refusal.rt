@@ -1,7 +1,5 @@
 //! The first refusal of a text.
-ghost use Rattle.std.specs.Prelude.{◌≡◌, ◌<◌, ◌≤◌, ◌^◌, Some, length};
-ghost use Rattle.sbpf_isa.specs.Rows.{kind_at};
-ghost use Rattle.sbpf_isa.specs.Slots.{slot_of};
+ghost use Rattle.std.specs.Prelude.{◌≡◌, ◌<◌, ◌≤◌, ◌^◌, Some};
 ghost use Rattle.sbpf_verify.specs.Places.{slot_count};
 ghost use Rattle.sbpf_verify.specs.Verified as Table;
 

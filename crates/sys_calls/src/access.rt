@@ -1,5 +1,5 @@
 //! Reads and writes of calls.
-ghost use Rattle.std.specs.Prelude.{◌≡◌, ◌-◌, ◌<◌, min, length, take, drop, None, OnOk, OnErr, IfOk, MatchResult};
+ghost use Rattle.std.specs.Prelude.{◌≡◌, ◌-◌, ◌<◌, min, length, take, drop, None, OnOk, OnErr, MatchResult};
 ghost use Rattle.spec_base.specs.Reading.{Gives};
 ghost use Rattle.sbpf_memory.specs.Memory.{KeepsBytes, IsPrepared, write_refusal};
 ghost use Rattle.sbpf_memory.specs.Plain.{plain_memory};

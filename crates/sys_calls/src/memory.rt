@@ -1,5 +1,5 @@
 //! The calls that copy, compare and fill bytes.
-ghost use Rattle.std.specs.Prelude.{◌≡◌, ◌==◌, not, true, false, OnErr, IsSome, length, replicate, None, Ok};
+ghost use Rattle.std.specs.Prelude.{◌≡◌, ◌==◌, true, false, OnErr, length, replicate, None, Ok};
 ghost use Rattle.std.specs.Option.{option_map};
 ghost use Rattle.spec_base.specs.Reading.{Gives};
 ghost use Rattle.sbpf_memory.specs.Memory.{IsPrepared, write_refusal, write_to};

@@ -1,6 +1,6 @@
 //! The system calls by their numbers, with their costs (the project's own).
 ghost use Rattle.std.specs.Prelude.{◌≡◌};
-ghost use Rattle.sys_calls.specs.Costs.{IsServed, call_numbered, cost_of, bytes_cost};
+ghost use Rattle.sys_calls.specs.Costs.{IsServed, call_numbered, cost_of};
 
 /// A system call other than the cross-program call.
 #[derive(Clone, Copy, Debug, PartialEq, Eq)]

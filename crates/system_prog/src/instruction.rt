@@ -1,5 +1,5 @@
 //! The instructions of the system program, and how they are read (Solana).
-ghost use Rattle.std.specs.Prelude.{◌≡◌, length};
+ghost use Rattle.std.specs.Prelude.{◌≡◌};
 ghost use Rattle.spec_base.specs.Reading.{Gives};
 ghost use Rattle.system_prog.specs.Faults.{is_system_memory};
 ghost use Rattle.system_prog.specs.SystemProgram.{least_accounts};

@@ -1,5 +1,5 @@
 //! The steps that the instructions share.
-ghost use Rattle.std.specs.Prelude.{◌≡◌, ◌<◌, ◌^◌, IsTrue, OnOk, length};
+ghost use Rattle.std.specs.Prelude.{◌≡◌, ◌<◌, ◌^◌, OnOk, length};
 ghost use Rattle.spec_base.specs.Reading.{Gives};
 ghost use Rattle.sol_base.specs.Accounts.{lamports_in};
 ghost use Rattle.system_prog.specs.Faults.{is_system_memory};

@@ -1,5 +1,5 @@
 //! Each instruction once, each refusal, and a transfer that fails.
-ghost use Rattle.std.specs.Prelude.{◌≡◌, IfOk, length};
+ghost use Rattle.std.specs.Prelude.{◌≡◌, IfOk};
 ghost use Rattle.std.specs.Arc.{arc_value};
 ghost use Rattle.sol_base.specs.declared.account.Account.{Account as AccountValue};
 ghost use Rattle.sol_base.specs.Metas.{AreInRange};

@@ -1,6 +1,5 @@
 //! The fee payer.
-ghost use Rattle.std.specs.Prelude.{◌≡◌, ◌∷◌, ◌++◌, ◌≤◌, [], None, map, IfOk, OnOk};
-ghost use Rattle.std.specs.Arc.{arc_value};
+ghost use Rattle.std.specs.Prelude.{◌≡◌, ◌∷◌, ◌++◌, ◌≤◌, [], None, IfOk, OnOk};
 ghost use Rattle.sol_base.specs.Accounts.{AreShort, IsShort, accounts_of, max_data_len};
 ghost use Rattle.rent_rules.specs.Rent.{moves, rent_state_of, rent_of};
 ghost use Rattle.tx_exec.specs.Payer.{charged, drop_cause, dropped, is_wallet, less};

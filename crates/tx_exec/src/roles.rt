@@ -2,7 +2,7 @@
 ghost use Rattle.std.specs.Prelude.{◌≡◌, ◌<◌, ◌≤◌, length, All, IfOk};
 ghost use Rattle.message_codec.specs.Roles.{all_keys};
 ghost use Rattle.admission.specs.Chosen.{IsChosen};
-ghost use Rattle.tx_exec.specs.Executing.{call_of, meta_of};
+ghost use Rattle.tx_exec.specs.Executing.{call_of};
 ghost use Rattle.tx_exec.specs.Tables.{IsTableOf};
 
 use admission::Chosen;

@@ -1,5 +1,5 @@
 //! A core of two lanes that is driven by a list of steps.
-ghost use Rattle.std.specs.Prelude.{◌≡◌, ◌<◌, ◌≤◌, false, None, Some, vec_capacity, length};
+ghost use Rattle.std.specs.Prelude.{◌≡◌, ◌<◌, ◌≤◌, false, None, Some};
 ghost use Rattle.bank_law.specs.History.{own, holds, returns};
 ghost use Rattle.bank_core.specs.Takes.{HasLoanOf, KeepsOthers};
 ghost use Rattle.bank_core.specs.Trial.{IsSeat};

@@ -1,6 +1,5 @@
 //! The worked examples of lanes.
-ghost use Rattle.std.specs.Prelude.{◌≡◌, IfOk};
-ghost use Rattle.bank_core.specs.Trial.{trial_job};
+ghost use Rattle.std.specs.Prelude.{◌≡◌};
 
 use crate::tests::desk::{Turn, lane_turn, two_lanes};
 use crate::tests::ends::{end_by_lanes, end_by_waves, end_of_desk};

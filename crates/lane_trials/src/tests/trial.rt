@@ -1,12 +1,10 @@
 //! A small work, which takes one lamport from each account that it writes.
-ghost use Rattle.std.specs.Prelude.{◌≡◌, ◌<◌, ◌^◌, All, IfOk, OnOk, IsTrue, map, length};
+ghost use Rattle.std.specs.Prelude.{◌≡◌, ◌<◌, ◌^◌, IfOk, map, length};
 ghost use Rattle.std.specs.Arc.{arc_value};
-ghost use Rattle.std.specs.List.{IsDistinct};
 ghost use Rattle.std.proofs.Props.{props};
 ghost use Rattle.std.proofs.lemmas.Map.Keys.{IsDistinct-prop};
 ghost use Rattle.sol_base.specs.Accounts.{accounts_of};
 ghost use Rattle.account_store.specs.State.{sum};
-ghost use Rattle.bank_law.specs.Job.{same_key, lock_keys};
 ghost use Rattle.bank_law.specs.Lawful.{lent_for_writing};
 ghost use Rattle.bank_core.specs.Effects.{effects_seen};
 ghost use Rattle.bank_core.specs.Trial.{spent, first_lamports, trial_effects, trial_job, AreDistinctLists, IsSmall};

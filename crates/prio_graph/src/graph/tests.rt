@@ -1,5 +1,5 @@
 //! The graph beside the scan of its definition, in every order.
-ghost use Rattle.std.specs.Prelude.{◌≡◌, ℕ, ◌^◌, ◌<◌, ◌↔◌, IfOk, IfSome, IfNone, IsTrue, length};
+ghost use Rattle.std.specs.Prelude.{◌≡◌, ℕ, ◌^◌, ◌<◌, ◌↔◌, IfSome, IfNone, IsTrue, length};
 ghost use Rattle.prio_graph.specs.Ready.{IsReady, IsLeastOfReady, mark_at};
 ghost use Rattle.prio_graph.specs.declared.mark.Mark.TheVariants.{Started};
 
