@@ -177,7 +177,7 @@ impl Parts {
         self.array_found(at)
     }
 
-    /// The `N` bytes from a place on, of which no part at hand has all.
+    /// The `N` bytes from a place on, which the part at hand has not, or not all.
     #[cold]
     #[inline(never)]
     fn array_found<const N: usize>(&self, at: usize) -> Option<[u8; N]>
@@ -186,10 +186,6 @@ impl Parts {
     {
         if at + N > self.len {
             return None;
-        }
-        let near = near::first(self.hints.as_slice(), at);
-        if let Some(bytes) = self.pieces.array(near.saturating_add(1), at) {
-            return Some(bytes);
         }
         let mut bytes = [0; N];
         self.read(at, &mut bytes);

@@ -42,23 +42,25 @@ fn at_most(number: usize) -> u32 {
     number.min(u32::MAX as usize) as u32
 }
 
-/// The piece to look at first for a place: the one that its block begins in.
+/// The piece that a hint names for a place: the one that its block begins in, and the next one for
+/// a place behind its end.
 #[inline(always)]
 pub fn hinted(hints: &[Hint], at: usize) -> Option<usize> {
-    Some(hints.get(at / PLACES)?.piece as usize)
+    let hint = hints.get(at / PLACES)?;
+    Some(hint.piece as usize + usize::from(at >= hint.end as usize))
 }
 
 /// The same, and the first piece for a place behind all.
 #[inline(always)]
-pub fn first(hints: &[Hint], at: usize) -> usize {
+pub fn nearest(hints: &[Hint], at: usize) -> usize {
     hinted(hints, at).unwrap_or(0)
 }
 
-/// The same, and the next one for a place behind its end.
+/// The piece from which on a place is sought: the one that its block begins in.
 #[inline(always)]
-pub fn nearest(hints: &[Hint], at: usize) -> usize {
+pub fn first(hints: &[Hint], at: usize) -> usize {
     match hints.get(at / PLACES) {
-        Some(hint) => hint.piece as usize + usize::from(at >= hint.end as usize),
+        Some(hint) => hint.piece as usize,
         None => 0,
     }
 }
