@@ -1,3 +1,4 @@
+mod FrontLaws
 pub mod KeyLaws
 pub mod PartLaws
 pub mod PieceLaws

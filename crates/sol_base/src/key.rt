@@ -1,18 +1,60 @@
 //! Keys and hashes, and the keys that are fixed.
-ghost use Rattle.std.specs.Prelude.{◌≡◌};
+ghost use Rattle.std.specs.Prelude.{◌≡◌, refl, take};
+ghost use Rattle.std.specs.Cmp.{unsigned_ties};
+ghost use Rattle.std.specs.Cmp.Derive.{on_agrees};
+ghost use Rattle.std.specs.Cmp.Lexicographic.{slice_cmp, lists_agrees, lists_ties};
+ghost use Rattle.std.specs.Int.{w64, from_be_bytes};
+ghost use Rattle.std.specs.Ordering.{nat_cmp};
+ghost use Rattle.std.proofs.lemmas.Cmp.{nat_list_cmp_total, on_total};
+ghost use Rattle.sol_base.specs.Keys.{key_cmp};
 ghost use Rattle.sha2.specs.Sha256.{sha256};
 ghost use Rattle.hex.specs.Hex.{encode_lower};
 
 use hex::encode_to_slice;
 use sha2::{Digest, Sha256};
+use std::cmp::Ordering;
 
 /// The name of an account: 32 bytes, ordered as bytes are.
-#[derive(Clone, Copy, Debug, PartialEq, Eq, PartialOrd, Ord, Hash)]
+#[derive(Clone, Copy, Debug, PartialEq, Eq, PartialOrd, Hash)]
 pub struct Key(pub [u8; 32]);
 
 /// A SHA-256 digest (FIPS 180-4): 32 bytes, ordered as bytes are.
 #[derive(Clone, Copy, Debug, PartialEq, Eq, PartialOrd, Ord, Hash)]
 pub struct Hash32(pub [u8; 32]);
+
+impl Ord for Key {
+    ghost cmp = { key_cmp };
+
+    ghost total = { on_total (λ key. key.0) nat_list_cmp_total };
+
+    ghost matches_partial_cmp = { on_agrees (λ key. key.0) (lists_agrees (λ x y. refl)) };
+
+    ghost matches_eq = { λ x y. lists_ties nat_cmp unsigned_ties x.0 y.0 };
+
+    #[inline(always)]
+    fn cmp(&self, other: &Key) -> Ordering {
+        order(&self.0, &other.0)
+    }
+}
+
+/// The order of 32 bytes. Nearly always the first eight decide, which are compared as one number.
+#[inline(always)]
+fn order(a: &[u8; 32], b: &[u8; 32]) -> Ordering
+    ensures { result ≡ slice_cmp nat_cmp a.now b.now }
+{
+    let (x, y) = (front(a), front(b));
+    if x == y { a.cmp(b) } else { x.cmp(&y) }
+}
+
+/// The first eight bytes as a number, the first the greatest.
+#[inline(always)]
+fn front(bytes: &[u8; 32]) -> u64
+    ensures { result ≡ from_be_bytes w64 (take 8 bytes.now) }
+{
+    let mut front = [0; 8];
+    front.copy_from_slice(&bytes[..8]);
+    u64::from_be_bytes(front)
+}
 
 /// The system program, which owns every account that no other program owns.
 pub const SYSTEM_PROGRAM: Key = Key([0; 32]);

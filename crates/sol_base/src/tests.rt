@@ -1,4 +1,6 @@
 //! Published vectors, and each call once.
+ghost use Rattle.std.specs.Prelude.{◌<◌};
+
 use crate::{
     Account, Blob, CLOCK_SYSVAR, COMPUTE_BUDGET_PROGRAM, Hash32, Items, Key, LOADER_PROGRAM, Lock,
     LockList, OutOfMemory, RENT_SYSVAR, SYSTEM_PROGRAM, SeedFault, SeedsFault, hash, hash_field,
@@ -6,6 +8,7 @@ use crate::{
 };
 use spec_base::Refusal;
 use std::alloc::Global;
+use std::cmp::Ordering;
 use std::test::Fail;
 
 /// One byte more than a seed may have.
@@ -68,6 +71,32 @@ fn names_the_keys_of_solana(rt: HostRuntime) {
         ),
     ] {
         assert_eq!(rt; key_text(&key), text);
+    }
+}
+
+/// A key that has one byte in one place, and zeros else.
+fn key_with(place: usize, byte: u8) -> Key
+    requires { place < 32 }
+{
+    let mut bytes = [0; 32];
+    bytes[place] = byte;
+    Key(bytes)
+}
+
+#[test]
+fn the_first_byte_that_differs_orders_keys(rt: HostRuntime) {
+    for place in 0..32 {
+        let key = key_with(place, 1);
+        assert_eq!(rt; key.cmp(&key), Ordering::Equal, "itself, {place}");
+        assert_eq!(rt; key.cmp(&key_of(0)), Ordering::Greater, "above, {place}");
+        assert_eq!(rt; key_of(0).cmp(&key), Ordering::Less, "below, {place}");
+        for later in place + 1..32 {
+            assert_eq!(rt;
+                key.cmp(&key_with(later, 255)),
+                Ordering::Greater,
+                "{place} before {later}"
+            );
+        }
     }
 }
 
