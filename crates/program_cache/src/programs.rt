@@ -9,6 +9,7 @@ use account_store::Accounts;
 use sol_base::{Items, Key, OutOfMemory};
 use std::alloc::Global;
 use std::collections::BTreeMap;
+use std::collections::btree_map::Entry;
 use std::marker::Model;
 
 /// For each of some keys a program that is ready, or why there is none. The keys stand in their
@@ -38,11 +39,9 @@ fn add_key(
     ensures { OnOk result (listing tree.new.entries
         ≡ with_key (listing tree.old.entries) key.now (sought_in accounts.now key.now)) }
 {
-    if tree.contains_key(key) {
-        return Ok(());
+    if let Entry::Vacant(place) = tree.entry(*key)? {
+        place.insert(found_under(alloc, accounts, key)?);
     }
-    let kept = found_under(alloc, accounts, key)?;
-    tree.insert(*key, kept)?;
     Ok(())
 }
 
