@@ -1,5 +1,5 @@
 //! The units of the transactions that run so far.
-ghost use Rattle.std.specs.Prelude.{◌≡◌, ◌+◌, ◌<◌, ◌^◌, ◌++◌, ◌∷◌, [], ◌&&◌, OnOk, IfOk, IfNone, if◌then◌else◌};
+ghost use Rattle.std.specs.Prelude.{◌≡◌, ◌+◌, ◌<◌, ◌^◌, ◌++◌, ◌∷◌, [], ◌&&◌, OnOk, IfNone, if◌then◌else◌};
 ghost use Rattle.std.specs.Bool.{OnFalse};
 ghost use Rattle.std.specs.List.{IsDistinct, list_any};
 ghost use Rattle.sol_base.specs.declared.key.Key.{Key as KeyValue};
@@ -80,25 +80,23 @@ impl Order {
         None
     }
 
-    /// These and one more, which none of the limits refuses.
-    pub(crate) fn with(self, one: Chosen) -> Result<Order, OutOfMemory>
-        requires fits { units_of self + one.budget.limit < 2 ^ 64 }
+    /// Adds one more, which none of the limits refuses. Where memory runs short, all may be gone.
+    pub(crate) fn push(&mut self, one: Chosen) -> Result<(), OutOfMemory>
+        requires fits { units_of self.old + one.budget.limit < 2 ^ 64 }
         requires apart { IsDistinct same_key (lock_keys one.locks) }
-        ensures { IfOk result (λ order. order ≡ self ++ one ∷ []) }
+        ensures { OnOk result (self.new ≡ self.old ++ one ∷ []) }
     {
-        let Order {
-            mut chosen,
-            units,
-            mut key_units,
-        } = self;
+        self.chosen.reserve(1)?;
         let limit = u64::from(one.budget.limit);
-        add_units(&mut key_units, one.locks.as_slice(), limit)?;
-        chosen.push(one)?;
-        Ok(Order {
-            chosen,
-            units: units + limit,
-            key_units,
-        })
+        if let Err(refused) = add_units(&mut self.key_units, one.locks.as_slice(), limit) {
+            self.chosen.clear();
+            self.units = 0;
+            self.key_units.clear();
+            return Err(refused);
+        }
+        self.chosen.push_reserved(one);
+        self.units += limit;
+        Ok(())
     }
 }
 
@@ -135,8 +133,7 @@ fn add_units(sums: &mut BTreeMap<Key, u64>, locks: &[Lock], limit: u64) -> Resul
 {
     for lock in locks {
         if lock.write {
-            let sum = sum_at(sums, &lock.key);
-            sums.insert(lock.key, sum + limit)?;
+            *sums.entry(lock.key)?.or_insert(0) += limit;
         }
     }
     Ok(())

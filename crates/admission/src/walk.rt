@@ -29,7 +29,7 @@ pub(crate) fn walk(
     for one in line {
         match order.late(limits, &one) {
             Some(cause) => causes[one.position as usize] = Some(cause),
-            None => order = order.with(one)?,
+            None => order.push(one)?,
         }
     }
     Ok(order.into_chosen())

@@ -37,5 +37,5 @@ loop-one-preserved-in-Some-late c =
     c.in-Some-late.cause (set c.loop-one.causes.items c.in-Some.one.position (Some c.in-Some-late.cause)) (sym c.late.ensures.exact ∙ c.in-Some-late.is) below refl in
     record { all = next.all; ordered = next.ordered; caused = next.caused }
 
-pub with-requires-clause-fits : goal.with-requires-clause-fits
-with-requires-clause-fits c = c.in-None-late.ensures.fits
+pub push-requires-clause-fits : goal.push-requires-clause-fits
+push-requires-clause-fits c = c.in-None-late.ensures.fits
