@@ -3,9 +3,10 @@ use Rattle.std.proofs.Common.{◌≡◌, ◌≢◌, ◌⊎◌, ℕ, zero, suc, �
 use Rattle.std.specs.List.{range_with_len}
 use Rattle.std.proofs.lemmas.List.{get_or-map, length-map, length-set, map-append}
 use Rattle.std.proofs.lemmas.List.Elements.{All-cons, All-head, All-map, All-nil, All-tail, filter-append}
-use Rattle.std.proofs.lemmas.List.FromFn.{get_or-range_with_len, length-range_with_len}
+use Rattle.std.proofs.lemmas.List.FromFn.{get_or-map-range_with_len, get_or-range_with_len, length-map-range_with_len, length-range_with_len}
 use Rattle.std.proofs.lemmas.Option.{same_Some}
-use Rattle.std.proofs.Math.Nat.{mod-lt}
+use Rattle.std.proofs.lemmas.Simd.{map-map}
+use Rattle.std.proofs.Math.Nat.{mod-lt, mod-one}
 use mathlib.Core.Logic.{dite}
 use native.Mathlib.Decide.{ℕ_discrete, dec_le}
 use Rattle.sol_base.specs.declared.memory.OutOfMemory.{OutOfMemory}
@@ -228,6 +229,36 @@ parsed_is wires senders slots ts parsed long carries is =
     let m = map_length parsed in
     let n = ap length is in
     same_parsed parsed wires (omega (arith, l, m, n, long)) (λ p lt. ap (λ (xs : List (Option Parsed)). get_or xs p None) is ∙ slot_at wires senders slots ts long carries p None lt)
+
+-- where each element passes, a filter keeps all
+all_kept : {A : Type 0} (f : A → Bool) (xs : List A) → All (λ x. f x ≡ true) xs → filter f xs ≡ xs
+all_kept f [] all = refl
+all_kept f (x ∷ xs) all = ap (λ (b : Bool). cond b (x ∷ filter f xs) (filter f xs)) (All-head (λ y. f y ≡ true) x xs all) ∙ ap (λ l. x ∷ l) (all_kept f xs (All-tail (λ y. f y ≡ true) x xs all))
+
+-- the tickets of one sender come in the order of the wires
+one_came : (wires : List (List ℕ)) (ts : List Ticket) → CarriesShares wires 1 ts → map carried ts ≡ map (parsed_at wires) (range_with_len 0 (length wires))
+one_came wires ts carries =
+    let fair = all_fair wires 1 ts carries in
+    let own : of ts 0 ≡ ts = all_kept (λ (t : Ticket). eqb t.sender 0) ts (λ i d lt. eq-eqb _ 0 (sym (fair i d lt).1 ∙ mod-one _)) in
+    let whole : share_of (length wires) 1 0 ≡ range_with_len 0 (length wires) = all_kept (λ p. eqb (p % 1) 0) (range_with_len 0 (length wires)) (λ i d lt. eq-eqb _ 0 (mod-one _)) in
+    ap (map carried) (sym own) ∙ carries 0 ∙ ap (map (parsed_at wires)) whole
+
+parsed_carried : (ts : List Ticket) → map (λ (t : Ticket). t.parsed) ts ≡ map (λ (x : ℕ × Parsed). x.1) (map carried ts)
+parsed_carried [] = refl
+parsed_carried (t ∷ ts) = ap (λ xs. t.parsed ∷ xs) (parsed_carried ts)
+
+parsed_wires : (wires : List (List ℕ)) → map (λ (x : ℕ × Parsed). x.1) (map (parsed_at wires) (range_with_len 0 (length wires))) ≡ map parsed_of wires
+parsed_wires wires =
+    let n = length wires in
+    let f : ℕ → Parsed = λ p. parsed_of (get_or wires p []) in
+    map-map (λ (x : ℕ × Parsed). x.1) (parsed_at wires) (range_with_len 0 n)
+    ∙ same_parsed (map f (range_with_len 0 n)) wires (length-map-range_with_len f 0 n) (λ p lt.
+    let l = length-map-range_with_len f 0 n in
+    get_or-map (λ (x : Parsed). Some x) (map f (range_with_len 0 n)) p (f p) None (omega (arith, l, lt)) ∙ ap (λ (x : Parsed). Some x) (get_or-map-range_with_len f 0 n p p (f p) lt (omega arith)))
+
+pub came_in_order : (wires : List (List ℕ)) (senders : ℕ) (ts : List Ticket) → senders ≡ 1 → CarriesShares wires senders ts → map (λ (t : Ticket). t.parsed) ts ≡ map parsed_of wires
+came_in_order wires senders ts one carries =
+    parsed_carried ts ∙ ap (map (λ (x : ℕ × Parsed). x.1)) (one_came wires ts (subst (λ n. CarriesShares wires n ts) one carries)) ∙ parsed_wires wires
 
 -- a loop that gathers what a function gives of each item, over a list of them
 pub one_done : {A B : Type 0} (f : A → B) (done more : List A) (x : A) (y : B) (rest left all : List B) → rest ≡ y ∷ left → y ≡ f x → more ≡ done ++ x ∷ [] → map f done ++ rest ≡ all → map f more ++ left ≡ all

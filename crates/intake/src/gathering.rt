@@ -166,10 +166,38 @@ fn laid_out(
     ensures parsed { IfOk result (λ g. g.parsed ≡ map parsed_of wires.now) }
     ensures arrivals { IfOk result (λ g. g.arrivals ≡ map arrival_of tickets) }
 {
+    // The tickets of one sender come by position.
+    if senders == 1 {
+        return as_they_come(alloc, tickets);
+    }
     let slots = no_slots(alloc, wires)?;
     let (slots, arrivals) = laid_in(alloc, slots, tickets)?;
     let parsed = in_order(alloc, slots)?;
     Ok(Gathered { parsed, arrivals })
+}
+
+/// What the tickets carry, and their arrivals, in the order of the tickets.
+fn as_they_come(alloc: Global, tickets: Items<Ticket>) -> Result<Gathered, OutOfMemory>
+    ensures parsed { IfOk result (λ g. g.parsed ≡ map (λ t. t.parsed) tickets) }
+    ensures arrivals { IfOk result (λ g. g.arrivals ≡ map arrival_of tickets) }
+{
+    let arrivals = tickets
+        .as_slice()
+        .iter()
+        .map(|ticket| Arrival {
+            sender: ticket.sender,
+            position: ticket.position,
+        })
+        .collect(alloc)?;
+    let parsed = tickets
+        .into_vec()
+        .into_iter()
+        .map(|ticket| ticket.parsed)
+        .collect(alloc)?;
+    Ok(Gathered {
+        parsed: Items::from_vec(parsed),
+        arrivals: Items::from_vec(arrivals),
+    })
 }
 
 /// An empty slot for each wire.

@@ -1,7 +1,12 @@
 use Rattle.std.proofs.Common.{◌≡◌, ◌∙◌, All, IsSome, None, ap, arith, length, subst, sym}
 use Rattle.std.proofs.lemmas.List.{length-map}
-use Rattle.intake.proofs.Gathers.{all_fair, all_laid, parsed_is}
+use Rattle.std.proofs.lemmas.Result.{IfOk-weaker}
+use Rattle.intake.proofs.Gathers.{all_fair, all_laid, came_in_order, parsed_is}
 use Rattle.intake.proofs.gathering.laid_out.Goals as goal
+
+pub returns-then-senders-eq1-clause-parsed : goal.returns-then-senders-eq1-clause-parsed
+returns-then-senders-eq1-clause-parsed c =
+    IfOk-weaker c.as_they_come.result _ _ (λ g is. is ∙ came_in_order c.args.wires.now c.args.senders c.args.tickets c.if-senders-eq1.true c.requires) c.as_they_come.ensures.parsed
 
 pub laid_in-requires : goal.laid_in-requires
 laid_in-requires c = λ k d lt.
