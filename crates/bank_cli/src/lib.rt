@@ -1,6 +1,7 @@
 //! The top call: words and bytes in, a status, an output and notes out.
 #![tactic(auto)]
 
+mod ahead;
 mod answer;
 mod asm;
 mod delivery;

@@ -1,30 +1,27 @@
 //! The command `produce`: a block is run, and its record and the snapshot after it are written.
 ghost use Rattle.std.specs.Prelude.{◌≡◌, ◌≤◌, ◌<◌, ◌++◌, length, IfOk, OnOk};
-ghost use Rattle.std.specs.List.{AllByRecursion};
-ghost use Rattle.spec_base.specs.Bytes.{IsBytes};
-ghost use Rattle.spec_base.specs.Reading.{Gives};
+ghost use Rattle.admission.specs.Admission.{AreParsed};
 ghost use Rattle.block_record.specs.Record.{IsCounted, bytes_of_record};
-ghost use Rattle.snapshot_codec.specs.Batch.{IsBatch};
-ghost use Rattle.snapshot_codec.specs.BatchReading.{batch_of, is_batch_memory};
 ghost use Rattle.snapshot_codec.specs.Snapshot.{IsReadable, IsWritable, snapshot_bytes as bytes_of_snapshot};
 ghost use Rattle.block_run.specs.Blocks.{block_result};
 ghost use Rattle.bank_cli.specs.Answer.{produced as produced_of, ran};
 ghost use Rattle.bank_cli.specs.Texts.{refused_line, refused_lines};
 
+use crate::ahead::{Decoded, read_behind, read_beside};
 use crate::answer::Answer;
 use crate::texts::{append_number, refuse_batch, refuse_snapshot};
 use admission::{Refused, refusal_text};
 use bank_lanes::Gate;
 use block_record::{Block, output_bytes, record_bytes};
 use block_run::{BlockResult, run_parsed};
-use intake::{SendGate, gather};
-use snapshot_codec::{Batch, BatchFault, Snapshot, read_batch, read_snapshot, snapshot_bytes};
+use intake::SendGate;
+use snapshot_codec::{Snapshot, read_snapshot, snapshot_bytes};
 use sol_base::{Blob, OutOfMemory};
 use std::alloc::Global;
 use std::sync::Wait;
 use std::thread::{Threads, join};
 
-/// The answer to `produce`: a snapshot and a batch after it.
+/// The answer to `produce`: a snapshot and a batch after it. On several lanes both are read at once.
 pub(crate) fn produced<G: Gate, H: SendGate, R: Threads + Wait + Sync>(
     rt: &R,
     alloc: Global,
@@ -39,50 +36,42 @@ pub(crate) fn produced<G: Gate, H: SendGate, R: Threads + Wait + Sync>(
     ensures { IfOk result (λ told. told ≡ produced_of input) }
 {
     let bytes = input.as_slice();
-    let prefix = match read_snapshot(alloc, bytes) {
+    let (read, ahead) = if lanes == 1 {
+        (read_snapshot(alloc, bytes), None)
+    } else {
+        read_beside(rt, alloc, bytes, senders, send)
+    };
+    let prefix = match read {
         Ok(prefix) => prefix,
         Err(fault) => return refuse_snapshot(alloc, fault),
     };
-    let snapshot = prefix.snapshot;
-    match read_rest(alloc, &bytes[prefix.length..], snapshot.slot) {
-        Ok(batch) => {
+    match read_behind(rt, alloc, bytes, &prefix, ahead, senders, send) {
+        Ok(decoded) => {
             drop(input);
-            produce_block(rt, alloc, lanes, senders, snapshot, &batch, gate, send)
+            produce_block(rt, alloc, lanes, prefix.snapshot, decoded, gate)
         }
         Err(fault) => refuse_batch(alloc, fault),
     }
 }
 
-/// The batch that the bytes are. Its transactions are bytes too.
-fn read_rest(alloc: Global, bytes: &[u8], before: u64) -> Result<Batch, BatchFault>
-    ensures batch { IfOk result (λ batch. IsBatch before bytes.now batch) }
-    ensures bytes { IfOk result (λ batch. AllByRecursion IsBytes batch.wires) }
-    ensures exact { Gives is_batch_memory (λ batch. batch) result (batch_of before bytes.now) }
-{
-    read_batch(alloc, bytes, before)
-}
-
-/// Senders decode the batch, each transaction once, and it is run as they hand it over.
-fn produce_block<G: Gate, H: SendGate, R: Threads + Wait + Sync>(
+/// Runs a batch, and writes what it comes to.
+fn produce_block<G: Gate, R: Threads + Wait + Sync>(
     rt: &R,
     alloc: Global,
     lanes: u32,
-    senders: u32,
     snapshot: Snapshot,
-    batch: &Batch,
+    decoded: Decoded,
     gate: &G,
-    send: &H,
 ) -> Result<Answer, OutOfMemory>
     requires lanes { (1 ≤ lanes) × (lanes ≤ 64) }
-    requires senders { (1 ≤ senders) × (senders ≤ 8) }
     requires readable { IsReadable snapshot }
-    requires later { snapshot.slot < batch.now.slot }
-    requires few { length batch.now.wires ≤ 16384 }
-    requires bytes { AllByRecursion IsBytes batch.now.wires }
-    ensures { IfOk result (λ told. told ≡ ran (block_result snapshot batch.now)) }
+    requires later { snapshot.slot < decoded.batch.slot }
+    requires few { length decoded.batch.wires ≤ 16384 }
+    requires read { AreParsed decoded.batch.wires decoded.parsed }
+    ensures { IfOk result (λ told. told ≡ ran (block_result snapshot decoded.batch)) }
 {
-    let gathered = gather(rt, alloc, &batch.wires, senders, send)?;
-    let block = run_parsed(rt, alloc, snapshot, batch, gathered.parsed, lanes, gate)?;
+    let Decoded { batch, parsed } = decoded;
+    let block = run_parsed(rt, alloc, snapshot, &batch, parsed, lanes, gate)?;
     write_block(rt, alloc, lanes, block)
 }
 

@@ -332,12 +332,32 @@ fn two_senders_at_once(rt: HostRuntime) -> Result<(), Fail> {
 
 #[test]
 fn each_transaction_is_parsed_once(rt: HostRuntime) -> Result<(), Fail> {
-    let send = Count {
-        passed: AtomicU32::new(0),
-    };
-    let told = ask_two(&rt, rt.alloc(), "produce --senders 2", &OpenGate, &send)?;
-    assert_eq!(rt; told.status, 0);
-    assert_eq!(rt; send.passed.load(Ordering::SeqCst), 2);
+    for line in ["produce --senders 2", "produce --lanes 2"] {
+        let send = Count {
+            passed: AtomicU32::new(0),
+        };
+        let told = ask_two(&rt, rt.alloc(), line, &OpenGate, &send)?;
+        assert_eq!(rt; told.status, 0, "{line}");
+        assert_eq!(rt; send.passed.load(Ordering::SeqCst), 2, "{line}");
+    }
+    Ok(())
+}
+
+#[test]
+fn each_front_is_refused_alike_on_two_lanes(rt: HostRuntime) -> Result<(), Fail> {
+    let alloc = rt.alloc();
+    let input = two_transfers(alloc)?;
+    for count in 0..input.len() {
+        let bytes = front(input.as_slice(), count);
+        let one = ask(&rt, alloc, "produce", bytes, &OpenGate, &OpenSend)?;
+        let two = ask(&rt, alloc, "produce --lanes 2", bytes, &OpenGate, &OpenSend)?;
+        assert_eq!(rt; (two.status, two.output.len()), (3, 0), "of {count} bytes");
+        assert_eq!(rt;
+            two.notes.as_slice(),
+            one.notes.as_slice(),
+            "of {count} bytes"
+        );
+    }
     Ok(())
 }
 

@@ -1,0 +1,150 @@
+//! A batch and its transactions, read behind the snapshot or beside it.
+ghost use Rattle.std.specs.Prelude.{◌≤◌, IfOk, IfSome, drop, length};
+ghost use Rattle.spec_base.specs.Reading.{Gives};
+ghost use Rattle.snapshot_codec.specs.Snapshot.{BeginsWith};
+ghost use Rattle.snapshot_codec.specs.SnapshotReading.{is_snapshot_memory, prefix_of};
+ghost use Rattle.bank_cli.specs.Ahead.{Decodes, IsReadIn};
+
+use intake::{SendGate, gather};
+use message_codec::Parsed;
+use snapshot_codec::{Batch, BatchFault, Prefix, SnapshotFault, read_batch, read_snapshot};
+use sol_base::Items;
+use std::alloc::Global;
+use std::sync::Wait;
+use std::thread::{Threads, join};
+
+/// The bytes of a snapshot before its first count.
+const HEAD_LEN: usize = 16;
+
+/// The same where it has limits.
+const LIMITED_HEAD_LEN: usize = 35;
+
+/// A batch, and its transactions as they were read.
+#[derive(Drop)]
+pub(crate) struct Decoded {
+    pub(crate) batch: Batch,
+    pub(crate) parsed: Items<Parsed>,
+}
+
+/// A batch that was read where one seemed to begin, for a block after the slot that seemed to be
+/// the snapshot's.
+#[derive(Drop)]
+pub(crate) struct Ahead {
+    pub(crate) place: usize,
+    pub(crate) slot: u64,
+    pub(crate) read: Result<Decoded, BatchFault>,
+}
+
+/// The batch behind a snapshot. One that was read there before, for a block after its slot, is taken.
+pub(crate) fn read_behind<H: SendGate, R: Threads + Wait + Sync>(
+    rt: &R,
+    alloc: Global,
+    bytes: &[u8],
+    prefix: &Prefix,
+    ahead: Option<Ahead>,
+    senders: u32,
+    send: &H,
+) -> Result<Decoded, BatchFault>
+    requires senders { (1 ≤ senders) × (senders ≤ 8) }
+    requires within { prefix.now.length ≤ length bytes.now }
+    requires ahead { IfSome ahead (IsReadIn bytes.now) }
+    ensures { Decodes prefix.now.snapshot.slot (drop prefix.now.length bytes.now) result }
+{
+    let (place, slot) = (prefix.length, prefix.snapshot.slot);
+    match ahead {
+        Some(ahead) if ahead.place == place && ahead.slot == slot => ahead.read,
+        _ => read_decoded(rt, alloc, &bytes[place..], slot, senders, send),
+    }
+}
+
+/// The batch that the bytes are. Senders decode its transactions, each once.
+fn read_decoded<H: SendGate, R: Threads + Wait + Sync>(
+    rt: &R,
+    alloc: Global,
+    bytes: &[u8],
+    before: u64,
+    senders: u32,
+    send: &H,
+) -> Result<Decoded, BatchFault>
+    requires senders { (1 ≤ senders) × (senders ≤ 8) }
+    ensures { Decodes before bytes.now result }
+{
+    let batch = read_batch(alloc, bytes, before)?;
+    let parsed = gather(rt, alloc, &batch.wires, senders, send)?.parsed;
+    Ok(Decoded { batch, parsed })
+}
+
+/// The snapshot that the bytes begin with, and the batch after it if its place is seen at once: one
+/// is read beside the other.
+pub(crate) fn read_beside<H: SendGate, R: Threads + Wait + Sync>(
+    rt: &R,
+    alloc: Global,
+    bytes: &[u8],
+    senders: u32,
+    send: &H,
+) -> (Result<Prefix, SnapshotFault>, Option<Ahead>)
+    requires senders { (1 ≤ senders) × (senders ≤ 8) }
+    ensures found { IfOk result.0 (BeginsWith bytes.now) }
+    ensures exact { Gives is_snapshot_memory (λ prefix. prefix) result.0 (prefix_of bytes.now) }
+    ensures ahead { IfSome result.1 (IsReadIn bytes.now) }
+{
+    join(
+        rt,
+        || -> Result<Prefix, SnapshotFault>
+            ensures found { IfOk result (BeginsWith bytes.entry.now) }
+            ensures exact { Gives is_snapshot_memory (λ prefix. prefix) result
+                (prefix_of bytes.entry.now) }
+        { read_snapshot(alloc, bytes) },
+        || -> Option<Ahead>
+            requires { (1 ≤ senders) × (senders ≤ 8) }
+            ensures { IfSome result (IsReadIn bytes.entry.now) }
+        { read_ahead(rt, alloc, bytes, senders, send) },
+    )
+}
+
+/// Reads the batch where one seems to begin.
+fn read_ahead<H: SendGate, R: Threads + Wait + Sync>(
+    rt: &R,
+    alloc: Global,
+    bytes: &[u8],
+    senders: u32,
+    send: &H,
+) -> Option<Ahead>
+    requires senders { (1 ≤ senders) × (senders ≤ 8) }
+    ensures { IfSome result (IsReadIn bytes.now) }
+{
+    let slot = u64::from_le_bytes(*bytes.get(8..)?.first_chunk()?);
+    let rest = behind_snapshot(bytes)?;
+    let place = bytes.len().saturating_sub(rest.len());
+    let read = read_decoded(rt, alloc, &bytes[place..], slot, senders, send);
+    Some(Ahead { place, slot, read })
+}
+
+/// What should stand behind a snapshot: it is passed by its lengths alone, and nothing else of it is
+/// looked at.
+fn behind_snapshot(bytes: &[u8]) -> Option<&[u8]> {
+    let head = if bytes.starts_with(b"SOLSNAP2") {
+        LIMITED_HEAD_LEN
+    } else {
+        HEAD_LEN
+    };
+    let accounts = behind_items(bytes.get(head..)?, 32, 32)?;
+    behind_items(accounts, 73, 1)
+}
+
+/// What stands behind items, whose number stands before them. Each has `fixed` bytes, and then a
+/// number of parts of `part` bytes, and these.
+fn behind_items(bytes: &[u8], fixed: usize, part: usize) -> Option<&[u8]> {
+    let (count, mut rest) = number(bytes)?;
+    for _ in 0..count {
+        let (parts, after) = number(rest.get(fixed..)?)?;
+        rest = after.get(parts.checked_mul(part)?..)?;
+    }
+    Some(rest)
+}
+
+/// The number in the first four bytes, and the bytes after them.
+fn number(bytes: &[u8]) -> Option<(usize, &[u8])> {
+    let (number, rest) = bytes.split_first_chunk()?;
+    Some((u32::from_le_bytes(*number) as usize, rest))
+}
