@@ -13,11 +13,21 @@ use std::alloc::Global;
 use std::sync::Wait;
 use std::thread::{Threads, join};
 
-/// The bytes of a snapshot before its first count.
+/// The bytes of a snapshot before its marks.
 const HEAD_LEN: usize = 16;
 
-/// The same where it has limits.
+/// The same in version 2, which has limits there.
 const LIMITED_HEAD_LEN: usize = 35;
+
+/// The bytes of a mark before the number of its messages: its hash.
+const MARK_HEAD_LEN: usize = 32;
+
+/// The bytes of the name of a message.
+const NAME_LEN: usize = 32;
+
+/// The bytes of an account before the number of its data's bytes: its key, lamports, owner, and
+/// whether it is executable.
+const ACCOUNT_HEAD_LEN: usize = 73;
 
 /// A batch, and its transactions as they were read.
 #[derive(Drop)]
@@ -128,16 +138,16 @@ fn behind_snapshot(bytes: &[u8]) -> Option<&[u8]> {
     } else {
         HEAD_LEN
     };
-    let accounts = behind_items(bytes.get(head..)?, 32, 32)?;
-    behind_items(accounts, 73, 1)
+    let accounts = behind_items(bytes.get(head..)?, MARK_HEAD_LEN, NAME_LEN)?;
+    behind_items(accounts, ACCOUNT_HEAD_LEN, 1)
 }
 
-/// What stands behind items, whose number stands before them. Each has `fixed` bytes, and then a
-/// number of parts of `part` bytes, and these.
-fn behind_items(bytes: &[u8], fixed: usize, part: usize) -> Option<&[u8]> {
+/// What stands behind items, whose number stands before them. Each has `head` bytes, then a number
+/// of parts of `part` bytes, and then these.
+fn behind_items(bytes: &[u8], head: usize, part: usize) -> Option<&[u8]> {
     let (count, mut rest) = number(bytes)?;
     for _ in 0..count {
-        let (parts, after) = number(rest.get(fixed..)?)?;
+        let (parts, after) = number(rest.get(head..)?)?;
         rest = after.get(parts.checked_mul(part)?..)?;
     }
     Some(rest)
