@@ -10,8 +10,6 @@ mod laying;
 mod listing;
 mod patching;
 mod taking;
-#[cfg(test)]
-mod tests;
 
 pub use fault::{BackFault, PatchFault};
 pub use laws::{

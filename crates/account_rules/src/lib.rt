@@ -4,8 +4,6 @@
 mod account;
 mod listed;
 mod rules;
-#[cfg(test)]
-mod tests;
 
 pub use listed::check_listed;
 pub use rules::{RuleFault, check, check_touched};

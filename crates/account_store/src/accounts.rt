@@ -19,7 +19,7 @@ use std::sync::Arc;
 
 /// A finite map from keys to accounts, each with at least 1 lamport and all together with at most
 /// 2^64 - 1. The accounts are shared, so that a share is handed out at no cost.
-#[derive(Debug, Drop)]
+#[derive(Drop)]
 pub struct Accounts {
     tree: BTreeMap<Key, Arc<Account>>,
     /// The sum of the lamports.

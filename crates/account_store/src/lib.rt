@@ -5,8 +5,6 @@
 mod accounts;
 mod laws;
 mod sorted;
-#[cfg(test)]
-mod tests;
 
 pub use accounts::Accounts;
 pub use laws::{

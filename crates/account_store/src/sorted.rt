@@ -7,7 +7,7 @@ use std::alloc::{AllocError, AllocFailed};
 use thiserror::Error;
 
 /// An account and its key.
-#[derive(Debug, Drop)]
+#[derive(Drop)]
 pub struct KeyedAccount {
     pub key: Key,
     pub account: Account,

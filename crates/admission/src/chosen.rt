@@ -5,7 +5,7 @@ use message_codec::{Loaded, Tx};
 use sol_base::{Hash32, Items, LockList};
 
 /// A transaction that runs, with all that is known of it before it does.
-#[derive(Debug, Drop)]
+#[derive(Drop)]
 pub struct Chosen {
     /// Its place in the batch.
     pub position: u32,
@@ -22,7 +22,7 @@ pub struct Chosen {
 
 /// What becomes of a batch: the transactions that run, in their order, and those that do not, by
 /// their positions.
-#[derive(Debug, Drop)]
+#[derive(Drop)]
 pub struct Admitted {
     pub order: Items<Chosen>,
     pub refused: Items<Refused>,

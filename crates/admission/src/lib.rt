@@ -10,8 +10,6 @@ mod lookups;
 mod refusal;
 mod sift;
 mod standing;
-#[cfg(test)]
-mod tests;
 mod text;
 mod units;
 mod walk;

@@ -28,7 +28,7 @@ pub enum Refusal {
 }
 
 /// The position of a transaction that does not run, and why.
-#[derive(Clone, Copy, Debug, PartialEq, Eq)]
+#[derive(Clone, Copy, PartialEq, Eq)]
 pub struct Refused {
     pub position: u32,
     pub cause: Refusal,

@@ -25,7 +25,7 @@ use std::thread::Threads;
 pub const INPUT_LIMIT: usize = 536_870_912;
 
 /// A status, and what is written for it.
-#[derive(Debug, Drop)]
+#[derive(Drop)]
 pub struct Answer {
     pub status: u8,
     pub output: Blob,

@@ -7,7 +7,7 @@ use sol_io::{Sink, WriteFault, write_all};
 use std::alloc::Global;
 
 /// Why an answer was not written whole.
-#[derive(Clone, Copy, Debug, PartialEq, Eq)]
+#[derive(Clone, Copy, PartialEq, Eq)]
 pub enum Undelivered {
     SinkFailed,
     OutOfMemory,

@@ -18,6 +18,3 @@ pub use top::{
     INPUT_REFUSED, OUT_OF_MEMORY, READ_FAILED, REPLAY_DIFFERS, WORDS_REFUSED, WRITE_FAILED,
     bank_main,
 };
-
-#[cfg(test)]
-mod tests;

@@ -4,7 +4,7 @@ pub trait Gate: Sync {
 }
 
 /// The gate that keeps no lane.
-#[derive(Clone, Copy, Debug)]
+#[derive(Clone, Copy)]
 pub struct OpenGate;
 
 impl Gate for OpenGate {

@@ -20,7 +20,7 @@ const PARKED: u64 = 100;
 
 /// How the loop of a lane ended: all positions are done, a share was refused, or the work found no
 /// memory and the loan went back.
-#[derive(Clone, Copy, Debug, PartialEq, Eq)]
+#[derive(Clone, Copy, PartialEq, Eq)]
 pub(crate) enum LaneEnd {
     Finished,
     NoShare,

@@ -1,6 +1,6 @@
 //! The events of the core machine.
 /// What happens to a position: it is lent to a lane, its effects are taken, or it is given back.
-#[derive(Clone, Copy, Debug, PartialEq, Eq)]
+#[derive(Clone, Copy, PartialEq, Eq)]
 pub enum EventKind {
     Grant,
     Commit,
@@ -8,7 +8,7 @@ pub enum EventKind {
 }
 
 /// One step of a run: what happens, by which lane, and to which position.
-#[derive(Clone, Copy, Debug, PartialEq, Eq)]
+#[derive(Clone, Copy, PartialEq, Eq)]
 pub struct Event {
     pub kind: EventKind,
     pub lane: u32,

@@ -4,6 +4,3 @@
 mod json;
 
 pub use json::block_text;
-
-#[cfg(test)]
-mod tests;

@@ -2,7 +2,7 @@
 use std::alloc::AllocError;
 
 /// A command with its numbers.
-#[derive(Clone, Copy, Debug, PartialEq, Eq)]
+#[derive(Clone, Copy, PartialEq, Eq)]
 pub enum Command {
     /// Executes a batch over a snapshot.
     Produce {
@@ -29,7 +29,7 @@ pub enum Command {
 }
 
 /// Why there is no command.
-#[derive(Clone, Copy, Debug, PartialEq, Eq)]
+#[derive(Clone, Copy, PartialEq, Eq)]
 pub enum WordsFault {
     /// The words are not in form.
     Refused,

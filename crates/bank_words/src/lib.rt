@@ -12,6 +12,3 @@ pub use command::{Command, WordsFault};
 pub use laws::commands_are_their_spellings;
 pub use reading::read_words;
 pub use words::Words;
-
-#[cfg(test)]
-mod tests;

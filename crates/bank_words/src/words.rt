@@ -9,7 +9,7 @@ use std::marker::Model;
 use std::str;
 
 /// The words that follow the program's name: texts.
-#[derive(Debug, Drop)]
+#[derive(Drop)]
 pub struct Words {
     texts: Items<Blob>,
 }

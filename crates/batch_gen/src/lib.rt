@@ -8,6 +8,3 @@ mod start;
 mod transfers;
 
 pub use made::{Made, make};
-
-#[cfg(test)]
-mod tests;

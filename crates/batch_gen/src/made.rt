@@ -13,7 +13,7 @@ use sol_base::{Blob, Items, OutOfMemory};
 use std::alloc::Global;
 
 /// A chain at its start, and a block for it.
-#[derive(Debug, Drop)]
+#[derive(Drop)]
 pub struct Made {
     pub snapshot: Snapshot,
     pub batch: Batch,

@@ -3,7 +3,7 @@ use sol_base::{Blob, Hash32, Items, Key};
 use tx_report::Status;
 
 /// A transaction of a block, and what came of it.
-#[derive(Debug, Drop)]
+#[derive(Drop)]
 pub struct Entry {
     /// The transaction as it came.
     pub wire: Blob,
@@ -17,7 +17,7 @@ pub struct Entry {
 }
 
 /// A block: its transactions in the order in which they count, and what it left.
-#[derive(Debug, Drop)]
+#[derive(Drop)]
 pub struct Block {
     pub slot: u64,
     /// Who is paid the part of the fees that is not burned.
@@ -36,7 +36,7 @@ pub struct Block {
 }
 
 /// A block of listed transactions.
-#[derive(Debug, Drop)]
+#[derive(Drop)]
 pub struct Listed {
     pub block: Block,
     /// Whether the entries end before one that is not admitted.

@@ -16,6 +16,3 @@ pub use reading::read_record;
 pub use writing::{
     begin_hash, block_hash, end_hash, hash_entries, lines_bytes, output_bytes, record_bytes,
 };
-
-#[cfg(test)]
-mod tests;

@@ -7,6 +7,3 @@ mod verdict;
 
 pub use comparing::{OF_BLOCK, compare};
 pub use verdict::{Field, Verdict};
-
-#[cfg(test)]
-mod tests;

@@ -5,7 +5,7 @@ ghost use Rattle.block_replay.specs.Verdict.{name_of};
 use sol_base::Blob;
 
 /// What differs: a field of the block, of an entry, or that an entry is admitted at all.
-#[derive(Clone, Copy, Debug, PartialEq, Eq)]
+#[derive(Clone, Copy, PartialEq, Eq)]
 pub enum Field {
     Slot,
     Previous,
@@ -42,7 +42,7 @@ impl Field {
 }
 
 /// What a replay comes to.
-#[derive(Debug, Drop)]
+#[derive(Drop)]
 pub enum Verdict {
     /// The replayed block is the record's.
     Match,

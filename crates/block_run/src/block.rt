@@ -4,7 +4,7 @@ use snapshot_codec::Snapshot;
 use sol_base::{Blob, Hash32, Items, Key};
 
 /// The slot of a block, and who collects what is not burned of its fees.
-#[derive(Clone, Copy, Debug, PartialEq, Eq)]
+#[derive(Clone, Copy, PartialEq, Eq)]
 pub struct Head {
     pub slot: u64,
     pub collector: Key,
@@ -21,14 +21,14 @@ pub(crate) struct RecordParts<'a> {
 }
 
 /// A block, and the snapshot after it.
-#[derive(Debug, Drop)]
+#[derive(Drop)]
 pub struct Closed {
     pub block: Block,
     pub after: Snapshot,
 }
 
 /// What a batch comes to.
-#[derive(Debug, Drop)]
+#[derive(Drop)]
 pub struct BlockResult {
     pub block: Block,
     /// The snapshot after the block.

@@ -18,6 +18,3 @@ mod threads;
 pub use block::{BlockResult, Closed, Head};
 pub use laws::{activated_programs_are_ready, executable_accounts_stay, lamports_are_conserved};
 pub use run::{run_block, run_listed, run_parsed};
-
-#[cfg(test)]
-mod tests;

@@ -14,7 +14,7 @@ use std::alloc::Global;
 
 /// What a callee is given: the place of its program among the transaction's keys, and its list of
 /// accounts.
-#[derive(Debug, Drop)]
+#[derive(Drop)]
 pub struct Granted {
     pub program: u8,
     pub metas: Items<Meta>,

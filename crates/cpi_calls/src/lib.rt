@@ -7,8 +7,6 @@ mod laws;
 mod reads;
 mod request;
 mod signers;
-#[cfg(test)]
-mod tests;
 
 pub use fault::{CallFault, RightsFault};
 pub use grant::{Granted, grant_rights};

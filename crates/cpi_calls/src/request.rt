@@ -15,7 +15,7 @@ use spec_base::number_in;
 use std::alloc::Global;
 
 /// An account of a request, by its key, and what the callee may do with it.
-#[derive(Clone, Copy, Debug, PartialEq, Eq)]
+#[derive(Clone, Copy, PartialEq, Eq)]
 pub struct KeyMeta {
     pub key: Key,
     pub signer: bool,
@@ -24,7 +24,7 @@ pub struct KeyMeta {
 
 /// What a program asks for: a program, a list of accounts, instruction data, and the keys that it
 /// signs for by seeds.
-#[derive(Debug, Drop)]
+#[derive(Drop)]
 pub struct CallRequest {
     pub program: Key,
     pub metas: Items<KeyMeta>,

@@ -19,7 +19,7 @@ pub const UNITS_PER_INSTRUCTION: u32 = 200_000;
 pub const MAX_LOADED_DATA: u32 = 67_108_864;
 
 /// What a message asks of the machine.
-#[derive(Clone, Copy, Debug, PartialEq, Eq)]
+#[derive(Clone, Copy, PartialEq, Eq)]
 pub struct Budget {
     /// The most compute units.
     pub limit: u32,

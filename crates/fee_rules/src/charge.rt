@@ -2,7 +2,7 @@
 use std::marker::Model;
 
 /// What a transaction pays, in lamports. The sum fits in a u64.
-#[derive(Clone, Copy, Debug, PartialEq, Eq)]
+#[derive(Clone, Copy, PartialEq, Eq)]
 pub struct Fee {
     /// For its signatures.
     pub base: u64,

@@ -14,6 +14,3 @@ pub use charge::Fee;
 pub use pricing::{LAMPORTS_PER_SIGNATURE, MICRO_LAMPORTS_PER_LAMPORT, fee, priority, total};
 pub use request::{HEAP_FRAME_STEP, MAX_HEAP_FRAME, MIN_HEAP_FRAME};
 pub use split::{FeeSplit, split_fees};
-
-#[cfg(test)]
-mod tests;

@@ -14,7 +14,7 @@ pub const MAX_HEAP_FRAME: u32 = 262_144;
 pub const HEAP_FRAME_STEP: u32 = 1_024;
 
 /// What one compute budget instruction asks for.
-#[derive(Clone, Copy, Debug, PartialEq, Eq)]
+#[derive(Clone, Copy, PartialEq, Eq)]
 pub(crate) enum Request {
     /// The bytes of the heap.
     HeapFrame(u32),
@@ -27,7 +27,7 @@ pub(crate) enum Request {
 }
 
 /// What the compute budget instructions of a message ask for together, each kind once.
-#[derive(Clone, Copy, Debug, PartialEq, Eq)]
+#[derive(Clone, Copy, PartialEq, Eq)]
 pub(crate) struct Asked {
     pub heap: Option<u32>,
     pub limit: Option<u32>,

@@ -3,7 +3,7 @@ ghost use Rattle.std.specs.Prelude.{◌≡◌, ◌+◌, ◌<◌, ◌^◌};
 ghost use Rattle.fee_rules.specs.Fees.{split_of};
 
 /// Where the fees of a block go, in lamports.
-#[derive(Clone, Copy, Debug, PartialEq, Eq)]
+#[derive(Clone, Copy, PartialEq, Eq)]
 pub struct FeeSplit {
     /// Taken out of the supply.
     pub burned: u64,

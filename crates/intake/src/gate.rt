@@ -6,7 +6,7 @@ pub trait SendGate: Sync {
 }
 
 /// A gate that is open to all.
-#[derive(Clone, Copy, Debug)]
+#[derive(Clone, Copy)]
 pub struct OpenSend;
 
 impl SendGate for OpenSend {

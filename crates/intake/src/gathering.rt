@@ -18,14 +18,14 @@ use std::thread;
 use std::thread::Threads;
 
 /// That the ticket of a position arrived, and of whom.
-#[derive(Clone, Copy, Debug, PartialEq, Eq)]
+#[derive(Clone, Copy, PartialEq, Eq)]
 pub struct Arrival {
     pub sender: u32,
     pub position: u32,
 }
 
 /// What the senders parsed, by position, and the order in which it arrived.
-#[derive(Debug, Drop)]
+#[derive(Drop)]
 pub struct Gathered {
     pub parsed: Items<Parsed>,
     pub arrivals: Items<Arrival>,

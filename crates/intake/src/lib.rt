@@ -14,6 +14,3 @@ pub use gathering::{Arrival, Gathered, gather};
 pub use ring::{Intake, Opened};
 pub use seats::{SendSeat, TakeSeat};
 pub use ticket::{Full, Ticket};
-
-#[cfg(test)]
-mod tests;

@@ -3,7 +3,7 @@ use message_codec::Parsed;
 
 /// A parsed transaction, with its sender, its place among the tickets of that sender from 0 on, and
 /// its position in the batch.
-#[derive(Debug, Drop)]
+#[derive(Drop)]
 pub struct Ticket {
     pub sender: u32,
     pub place: u32,
@@ -12,7 +12,7 @@ pub struct Ticket {
 }
 
 /// There was no room in the ring. What was parsed comes back.
-#[derive(Debug, Drop)]
+#[derive(Drop)]
 pub struct Full {
     pub parsed: Parsed,
 }

@@ -14,7 +14,7 @@ pub struct Call {
 }
 
 /// What is fixed for a transaction beside its keys and programs.
-#[derive(Clone, Copy, Debug)]
+#[derive(Clone, Copy)]
 pub struct Setting {
     pub slot: u64,
     /// The bytes of heap of each frame.

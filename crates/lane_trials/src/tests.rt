@@ -1,8 +1,14 @@
-//! Lanes over both desks, on a small work.
+//! Numbered keys, graphs of positions, cores and lanes over them, and the intake.
+mod cores;
 mod desk;
+mod drives;
 mod ends;
 mod gates;
+mod graphs;
+mod intakes;
 mod lanes;
+mod notes;
 mod readers;
+mod tables;
 mod trial;
 mod works;

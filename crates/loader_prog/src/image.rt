@@ -5,7 +5,7 @@ ghost use Rattle.loader_prog.specs.Buffers.{candidate_in};
 use sbpf_verify::{first_refusal, read_image};
 
 /// What bytes are as a program.
-#[derive(Clone, Copy, Debug, PartialEq, Eq)]
+#[derive(Clone, Copy, PartialEq, Eq)]
 pub(crate) enum Candidate {
     /// They are no image.
     NoImage,

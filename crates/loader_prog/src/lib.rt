@@ -11,8 +11,6 @@ mod laws;
 mod roles;
 mod run;
 mod steps;
-#[cfg(test)]
-mod tests;
 
 pub use activation::activate_one;
 pub use fault::LoaderFault;

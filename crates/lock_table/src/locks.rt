@@ -6,7 +6,7 @@ ghost use Rattle.bank_law.specs.Job.{same_key, lock_keys};
 use sol_base::{Key, Lock, LockList};
 
 /// A lock on the key of a number.
-#[derive(Clone, Copy, Debug, PartialEq, Eq)]
+#[derive(Clone, Copy, PartialEq, Eq)]
 pub struct NumberedLock {
     pub number: u32,
     pub write: bool,

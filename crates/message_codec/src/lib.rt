@@ -26,6 +26,3 @@ pub use reading::{MAX_WIRE_LEN, read_wire};
 pub use roles::{is_signer, is_writable, keys_of, locks, reserved};
 pub use sanity::{has_repeated_key, sanitize};
 pub use writing::{message_key, write_wire};
-
-#[cfg(test)]
-mod tests;

@@ -2,11 +2,11 @@
 use sol_base::{Blob, Hash32, Items, Key};
 
 /// An Ed25519 signature: 64 bytes. It is carried and never tested.
-#[derive(Clone, Copy, Debug, PartialEq, Eq)]
+#[derive(Clone, Copy, PartialEq, Eq)]
 pub struct Signature(pub [u8; 64]);
 
 /// How many of a message's static keys sign, and how many are read only (Solana).
-#[derive(Clone, Copy, Debug, PartialEq, Eq)]
+#[derive(Clone, Copy, PartialEq, Eq)]
 pub struct Header {
     /// The first so many keys sign.
     pub required: u8,
@@ -17,7 +17,7 @@ pub struct Header {
 }
 
 /// A call of one program (Solana).
-#[derive(Debug, Drop)]
+#[derive(Drop)]
 pub struct Instruction {
     /// The program's place among the message's static keys.
     pub program: u8,
@@ -28,7 +28,7 @@ pub struct Instruction {
 }
 
 /// Which of Solana's two message formats.
-#[derive(Clone, Copy, Debug, PartialEq, Eq)]
+#[derive(Clone, Copy, PartialEq, Eq)]
 pub enum MessageKind {
     /// The first format, which has no lookups.
     Legacy,
@@ -37,7 +37,7 @@ pub enum MessageKind {
 }
 
 /// Keys that a version 0 message loads from a table (Solana).
-#[derive(Debug, Drop)]
+#[derive(Drop)]
 pub struct Lookup {
     /// The account that holds the table.
     pub table: Key,
@@ -48,7 +48,7 @@ pub struct Lookup {
 }
 
 /// What a transaction's signers sign (Solana).
-#[derive(Debug, Drop)]
+#[derive(Drop)]
 pub struct Message {
     pub kind: MessageKind,
     pub header: Header,
@@ -61,14 +61,14 @@ pub struct Message {
 
 /// The keys that a message's lookups stand for, in their order. They follow the static keys, those
 /// to write first.
-#[derive(Debug, Drop)]
+#[derive(Drop)]
 pub struct Loaded {
     pub writable: Items<Key>,
     pub readonly: Items<Key>,
 }
 
 /// A transaction: a message and its signatures (Solana).
-#[derive(Debug, Drop)]
+#[derive(Drop)]
 pub struct Tx {
     pub signatures: Items<Signature>,
     pub message: Message,

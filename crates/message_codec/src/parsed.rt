@@ -9,7 +9,7 @@ use sol_base::{Hash32, OutOfMemory, hash};
 use std::alloc::Global;
 
 /// What the bytes of a wire are: a transaction with the name of its message, or why there is none.
-#[derive(Debug, Drop)]
+#[derive(Drop)]
 pub enum Parsed {
     Good { tx: Tx, name: Hash32 },
     /// The refusal, which is never want of memory.

@@ -142,6 +142,3 @@ fn release(waits: &mut [usize], tree: &mut [u32], row: &[u32])
         }
     }
 }
-
-#[cfg(test)]
-mod tests;

@@ -7,8 +7,6 @@ mod image;
 mod kept;
 mod laws;
 mod programs;
-#[cfg(test)]
-mod tests;
 
 pub use found::Found;
 pub use image::Image;

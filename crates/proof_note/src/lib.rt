@@ -62,6 +62,3 @@ impl<T> Drop for Note<T> {
         let Note { marker: _ } = self;
     }
 }
-
-#[cfg(test)]
-mod tests;

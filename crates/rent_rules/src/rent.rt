@@ -15,7 +15,7 @@ pub const EXEMPTION_YEARS: u64 = 2;
 
 /// How an account stands to rent. A paying account is known by its balance in lamports and the
 /// number of its data bytes.
-#[derive(Clone, Copy, Debug, PartialEq, Eq)]
+#[derive(Clone, Copy, PartialEq, Eq)]
 pub enum RentState {
     Empty,
     Exempt,
@@ -60,32 +60,5 @@ pub fn may_move(before: &RentState, after: &RentState) -> bool
             },
         ) => len == len_after && lamports_after <= lamports,
         (RentState::Empty | RentState::Exempt, RentState::Paying { .. }) => false,
-    }
-}
-
-#[cfg(test)]
-mod tests {
-    use super::*;
-
-    /// Published minimums of Solana: an account without data, a token account, the longest account.
-    #[test]
-    fn minimums(rt: HostRuntime) {
-        for (len, lamports) in [(0, 890_880), (165, 2_039_280), (10_485_760, 72_981_780_480)] {
-            assert_eq!(rt; minimum(len), lamports, "at {len}");
-            assert_eq!(rt; rent_state(lamports, len), RentState::Exempt, "at {len}");
-        }
-    }
-
-    /// What may be left of 1,005,001 lamports in an account without data.
-    #[test]
-    fn payers(rt: HostRuntime) {
-        let before = rent_state(1_005_001, 0);
-        for (left, may) in [(0, true), (1, false), (890_879, false), (890_880, true)] {
-            assert_eq!(rt;
-                may_move(&before, &rent_state(left, 0)),
-                may,
-                "with {left} left"
-            );
-        }
     }
 }

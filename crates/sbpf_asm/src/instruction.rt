@@ -1,7 +1,7 @@
 //! Instructions with their numbers as lines write them.
 /// An instruction with its numbers as a line writes them, which are not yet known to be in range.
 /// The immediate of `lddw` is its whole number.
-#[derive(Clone, Copy, Debug, PartialEq, Eq)]
+#[derive(Clone, Copy, PartialEq, Eq)]
 pub(crate) struct Instruction {
     pub opcode: u8,
     pub dst: u8,

@@ -13,8 +13,6 @@ mod operand;
 mod piece;
 mod row;
 mod source;
-#[cfg(test)]
-mod tests;
 
 pub use assembler::assemble;
 pub use fault::{AsmFault, ListFault};

@@ -4,7 +4,7 @@ ghost use Rattle.sbpf_isa.specs.Rows.{kind_at};
 
 /// What an instruction with two operands computes, of the destination register and its source
 /// operand.
-#[derive(Clone, Copy, Debug, PartialEq, Eq)]
+#[derive(Clone, Copy, PartialEq, Eq)]
 pub enum Operation {
     Add,
     Sub,
@@ -21,21 +21,21 @@ pub enum Operation {
 }
 
 /// How much of its operands an operation works on: class 7 on all 64 bits, class 4 on the low 32.
-#[derive(Clone, Copy, Debug, PartialEq, Eq)]
+#[derive(Clone, Copy, PartialEq, Eq)]
 pub enum Width {
     Bits64,
     Bits32,
 }
 
 /// Where the source operand stands: in the slot's immediate, or in its source register.
-#[derive(Clone, Copy, Debug, PartialEq, Eq)]
+#[derive(Clone, Copy, PartialEq, Eq)]
 pub enum Operand {
     Immediate,
     Register,
 }
 
 /// When a jump is taken, by the destination register against the source operand.
-#[derive(Clone, Copy, Debug, PartialEq, Eq)]
+#[derive(Clone, Copy, PartialEq, Eq)]
 pub enum Condition {
     Equal,
     NotEqual,
@@ -52,7 +52,7 @@ pub enum Condition {
 }
 
 /// How many bytes a load or a store moves.
-#[derive(Clone, Copy, Debug, PartialEq, Eq)]
+#[derive(Clone, Copy, PartialEq, Eq)]
 pub enum Size {
     Four,
     Two,
@@ -62,7 +62,7 @@ pub enum Size {
 
 /// What an instruction is: one variant for each family of rows of the table (RFC 9669, in this
 /// project's profile).
-#[derive(Clone, Copy, Debug, PartialEq, Eq)]
+#[derive(Clone, Copy, PartialEq, Eq)]
 pub enum OpKind {
     /// An operation of classes 7 and 4 with two operands.
     Binary(Operation, Width, Operand),

@@ -3,7 +3,7 @@ ghost use Rattle.std.specs.Prelude.{◌≡◌, ◌≤◌, ◌+◌, ◌*◌, leng
 ghost use Rattle.sbpf_isa.specs.Slots.{slot_of};
 
 /// A slot of eight bytes: an instruction, or one half of `lddw`.
-#[derive(Clone, Copy, Debug, PartialEq, Eq)]
+#[derive(Clone, Copy, PartialEq, Eq)]
 pub struct Slot {
     pub opcode: u8,
     /// The destination register, of 4 bits.

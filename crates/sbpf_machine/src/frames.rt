@@ -10,7 +10,7 @@ use std::marker::Model;
 pub const MAX_FRAMES: usize = FRAME_COUNT as usize;
 
 /// A frame that waits: where it goes on, and its own registers.
-#[derive(Clone, Copy, Debug, Default, PartialEq, Eq)]
+#[derive(Clone, Copy, Default, PartialEq, Eq)]
 pub struct Kept {
     pub back: u32,
     pub r6: u64,

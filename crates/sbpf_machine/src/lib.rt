@@ -8,8 +8,6 @@ mod laws;
 mod machine;
 mod run;
 mod stop;
-#[cfg(test)]
-mod tests;
 mod values;
 
 pub use laws::{

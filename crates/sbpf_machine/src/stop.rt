@@ -35,7 +35,7 @@ impl Fault {
 }
 
 /// What a machine stops for.
-#[derive(Clone, Copy, Debug, PartialEq, Eq)]
+#[derive(Clone, Copy, PartialEq, Eq)]
 pub enum Stop {
     /// The program ended with this value in r0.
     Exit { r0: u64 },

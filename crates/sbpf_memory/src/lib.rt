@@ -8,8 +8,6 @@ mod laws;
 mod memory;
 mod place;
 mod reads;
-#[cfg(test)]
-mod tests;
 
 pub use fault::{AccessViolation, MemFault};
 pub use laws::{

@@ -4,7 +4,7 @@ ghost use Rattle.sbpf_memory.specs.Memory.{at_place, frame_count, frame_size, fr
 ghost use Rattle.sbpf_memory.specs.declared.place.Region.TheVariants.{Stack};
 
 /// A range of addresses.
-#[derive(Clone, Copy, Debug, PartialEq, Eq)]
+#[derive(Clone, Copy, PartialEq, Eq)]
 pub enum Region {
     Program,
     Stack,
@@ -13,7 +13,7 @@ pub enum Region {
 }
 
 /// A place in the bytes of a range.
-#[derive(Clone, Copy, Debug, PartialEq, Eq)]
+#[derive(Clone, Copy, PartialEq, Eq)]
 pub struct Place {
     pub region: Region,
     pub at: u64,

@@ -13,7 +13,7 @@ use sol_base::{Items, OutOfMemory};
 use std::alloc::Global;
 
 /// A decoded instruction.
-#[derive(Clone, Copy, Debug, PartialEq, Eq)]
+#[derive(Clone, Copy, PartialEq, Eq)]
 pub struct Entry {
     pub opcode: Opcode,
     /// The destination register, at most 10.

@@ -8,7 +8,7 @@ ghost use Rattle.sbpf_verify.specs.ImageViews.{image_view};
 const MAGIC: [u8; 8] = *b"SBPFIMG1";
 
 /// The parts of a program image, where they stand in its bytes.
-#[derive(Clone, Copy, Debug, PartialEq, Eq)]
+#[derive(Clone, Copy, PartialEq, Eq)]
 pub struct ImageSlices<'a> {
     pub text: &'a [u8],
     pub constants: &'a [u8],

@@ -10,8 +10,6 @@ mod opcode;
 mod places;
 mod refusal;
 mod table;
-#[cfg(test)]
-mod tests;
 mod verified;
 
 pub use decoded::Decoded;

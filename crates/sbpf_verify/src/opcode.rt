@@ -5,7 +5,7 @@ ghost use Rattle.sbpf_verify.specs.Opcodes.{meaning};
 use sbpf_isa::{Condition, OpKind, Operand, Operation, Size, Width};
 
 /// The opcodes, one variant for each row of the table of instructions.
-#[derive(Clone, Copy, Debug, PartialEq, Eq)]
+#[derive(Clone, Copy, PartialEq, Eq)]
 pub enum Opcode {
     Add64Immediate,
     Add64Register,

@@ -11,7 +11,7 @@ use std::marker::Model;
 use thiserror::Error;
 
 /// A text that the verifier lets pass: no row of its table of refusals applies to it.
-#[derive(Debug, Drop)]
+#[derive(Drop)]
 pub struct Verified {
     text: Blob,
 }

@@ -26,7 +26,7 @@ const LENGTH_LEN: usize = 2;
 
 /// What a block is to be made of: its slot, who collects the fees, and the transactions as they
 /// came.
-#[derive(Debug, Drop)]
+#[derive(Drop)]
 pub struct Batch {
     pub slot: u64,
     pub collector: Key,

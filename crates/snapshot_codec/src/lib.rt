@@ -22,6 +22,3 @@ pub use output::Output;
 pub use reading::read_snapshot;
 pub use snapshot::{Prefix, Snapshot};
 pub use writing::{append_snapshot, room_before, snapshot_bytes, state_hash};
-
-#[cfg(test)]
-mod tests;

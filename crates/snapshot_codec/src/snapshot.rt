@@ -4,7 +4,7 @@ use sol_base::Limits;
 use status_cache::Recent;
 
 /// What a chain is at the end of a block: what the next block starts from.
-#[derive(Debug, Drop)]
+#[derive(Drop)]
 pub struct Snapshot {
     pub slot: u64,
     pub limits: Limits,
@@ -13,7 +13,7 @@ pub struct Snapshot {
 }
 
 /// A snapshot that stands at the front of some bytes, and how many of them it takes.
-#[derive(Debug, Drop)]
+#[derive(Drop)]
 pub struct Prefix {
     pub snapshot: Snapshot,
     pub length: usize,

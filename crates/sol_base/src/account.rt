@@ -12,7 +12,7 @@ pub const MAX_DATA_LEN: usize = 10_485_760;
 
 /// An account as Solana has it: a balance in lamports, the program that owns it, whether it is a
 /// program itself, and its data.
-#[derive(Debug, Drop)]
+#[derive(Drop)]
 pub struct Account {
     pub lamports: u64,
     pub owner: Key,

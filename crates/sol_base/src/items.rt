@@ -5,7 +5,7 @@ use std::alloc::Global;
 use std::marker::Model;
 
 /// A list of items.
-#[derive(Debug, Drop)]
+#[derive(Drop)]
 pub struct Items<T> {
     inner: Vec<T>,
 }

@@ -15,11 +15,11 @@ use sha2::{Digest, Sha256};
 use std::cmp::Ordering;
 
 /// The name of an account: 32 bytes, ordered as bytes are.
-#[derive(Clone, Copy, Debug, PartialEq, Eq, PartialOrd, Hash)]
+#[derive(Clone, Copy, PartialEq, Eq, PartialOrd, Hash)]
 pub struct Key(pub [u8; 32]);
 
 /// A SHA-256 digest (FIPS 180-4): 32 bytes, ordered as bytes are.
-#[derive(Clone, Copy, Debug, PartialEq, Eq, PartialOrd, Ord, Hash)]
+#[derive(Clone, Copy, PartialEq, Eq, PartialOrd, Ord, Hash)]
 pub struct Hash32(pub [u8; 32]);
 
 impl Ord for Key {

@@ -13,8 +13,6 @@ mod limits;
 mod lock;
 mod memory;
 mod parts;
-#[cfg(test)]
-mod tests;
 mod text;
 
 pub use account::{Account, MAX_DATA_LEN};

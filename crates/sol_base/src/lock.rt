@@ -3,7 +3,7 @@ use crate::items::Items;
 use crate::key::Key;
 
 /// A key that a transaction declares, and whether it may write the account.
-#[derive(Clone, Copy, Debug, PartialEq, Eq)]
+#[derive(Clone, Copy, PartialEq, Eq)]
 pub struct Lock {
     pub key: Key,
     pub write: bool,
@@ -13,7 +13,7 @@ pub struct Lock {
 pub type LockList = Items<Lock>;
 
 /// An account of an instruction, by its place among the transaction's keys.
-#[derive(Clone, Copy, Debug, PartialEq, Eq)]
+#[derive(Clone, Copy, PartialEq, Eq)]
 pub struct Meta {
     pub index: u8,
     pub signer: bool,

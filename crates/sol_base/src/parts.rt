@@ -8,8 +8,6 @@ mod near;
 mod piece;
 mod pieces;
 mod range;
-#[cfg(test)]
-mod tests;
 
 use crate::account::Account;
 use crate::blob::Blob;

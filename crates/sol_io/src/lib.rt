@@ -7,8 +7,6 @@ mod fault;
 mod memory;
 mod never;
 mod standard;
-#[cfg(test)]
-mod tests;
 mod whole;
 
 pub use device::{Sink, Source};

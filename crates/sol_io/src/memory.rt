@@ -11,7 +11,7 @@ use std::alloc::Global;
 use std::marker::Model;
 
 /// Bytes in memory, read as a device is: the reads whose numbers, from 0, are listed fail.
-#[derive(Debug, Drop)]
+#[derive(Drop)]
 pub struct MemSource {
     bytes: Blob,
     at: usize,
@@ -81,7 +81,7 @@ impl Source for MemSource {
 }
 
 /// Memory written to as a device is: the writes whose numbers, from 0, are listed fail.
-#[derive(Debug, Drop)]
+#[derive(Drop)]
 pub struct MemSink {
     bytes: Blob,
     failing: Items<u32>,

@@ -9,7 +9,7 @@ use std::alloc::Global;
 use std::marker::Model;
 
 /// Bytes in memory whose reads never fail.
-#[derive(Debug, Drop)]
+#[derive(Drop)]
 pub struct NeverSource {
     bytes: Blob,
     at: usize,
@@ -49,7 +49,7 @@ impl Source for NeverSource {
 }
 
 /// Memory whose writes never fail, unless it runs out.
-#[derive(Debug, Drop)]
+#[derive(Drop)]
 pub struct NeverSink {
     bytes: Blob,
 }

@@ -4,8 +4,6 @@
 
 mod fields;
 mod numbers;
-#[cfg(test)]
-mod tests;
 
 pub use fields::{
     Refusal, array_field, byte_field, bytes_field, place, u16_field, u32_field, u64_field,

@@ -10,14 +10,14 @@ use std::marker::Model;
 pub const MAX_MARKS: usize = 150;
 
 /// A block: its hash, and the hashes of the messages that it processed, ascending.
-#[derive(Debug, Drop)]
+#[derive(Drop)]
 pub struct Mark {
     pub hash: Hash32,
     pub messages: Items<Hash32>,
 }
 
 /// The newest blocks of a chain, newest first.
-#[derive(Debug, Drop)]
+#[derive(Drop)]
 pub struct Recent {
     marks: Vec<Mark>,
 }
@@ -102,6 +102,3 @@ fn has_message(messages: &Items<Hash32>, message: &Hash32) -> bool
 {
     messages.as_slice().binary_search(message).is_ok()
 }
-
-#[cfg(test)]
-mod tests;

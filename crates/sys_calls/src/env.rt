@@ -7,7 +7,7 @@ use tx_report::Logs;
 
 /// What system calls look at and change beside the memory: the block's slot, the frame's program,
 /// height and units, the bytes that were returned last with the program that did, and the log.
-#[derive(Debug, Drop)]
+#[derive(Drop)]
 pub struct Env {
     pub slot: u64,
     pub program: Key,

@@ -14,8 +14,6 @@ mod serving;
 mod sha256;
 mod slices;
 mod table;
-#[cfg(test)]
-mod tests;
 
 pub use env::Env;
 pub use fault::SysFault;

@@ -14,7 +14,7 @@ use spec_base::number_in;
 use std::alloc::Global;
 
 /// A range of addresses that a program names.
-#[derive(Clone, Copy, Debug, PartialEq, Eq)]
+#[derive(Clone, Copy, PartialEq, Eq)]
 pub struct Slice {
     pub addr: u64,
     pub len: u64,

@@ -3,7 +3,7 @@ ghost use Rattle.std.specs.Prelude.{◌≡◌};
 ghost use Rattle.sys_calls.specs.Costs.{IsServed, call_numbered, cost_of};
 
 /// A system call other than the cross-program call.
-#[derive(Clone, Copy, Debug, PartialEq, Eq)]
+#[derive(Clone, Copy, PartialEq, Eq)]
 pub enum SystemCall {
     Abort,
     Log,

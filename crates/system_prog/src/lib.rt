@@ -10,8 +10,6 @@ mod laws;
 mod rows;
 mod run;
 mod steps;
-#[cfg(test)]
-mod tests;
 mod zeros;
 
 pub use fault::SystemFault;

@@ -2,7 +2,7 @@
 use tx_report::Cause;
 
 /// Which instruction of a transaction failed, 255 for the transaction as a whole, and why.
-#[derive(Clone, Copy, Debug, PartialEq, Eq)]
+#[derive(Clone, Copy, PartialEq, Eq)]
 pub struct Failure {
     pub index: u8,
     pub cause: Cause,

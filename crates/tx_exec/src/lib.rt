@@ -16,6 +16,3 @@ pub use failure::Failure;
 pub use laws::{transactions_are_lawful_works, transactions_keep_accounts};
 pub use told::Told;
 pub use work::TxWork;
-
-#[cfg(test)]
-mod tests;

@@ -5,7 +5,7 @@ ghost use Rattle.tx_report.specs.Causes.{code_of, name_of, cause_with, drop_code
 /// Why an instruction failed, or its whole transaction (the project's own numbers; most names are
 /// Solana's). A status has a number beside its cause, the detail. It says which account is meant
 /// where a line below says so, and it is 0 where no line speaks of it.
-#[derive(Clone, Copy, Debug, PartialEq, Eq)]
+#[derive(Clone, Copy, PartialEq, Eq)]
 pub enum Cause {
     /// The program's own error. The detail is its number.
     Custom = 1,
@@ -95,7 +95,7 @@ pub enum Cause {
 }
 
 /// Why a transaction pays no fee and changes nothing.
-#[derive(Clone, Copy, Debug, PartialEq, Eq)]
+#[derive(Clone, Copy, PartialEq, Eq)]
 pub enum DropCause {
     /// The fee payer has no lamports.
     PayerAbsent = 1,

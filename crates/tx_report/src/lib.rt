@@ -6,8 +6,6 @@ mod laws;
 mod logs;
 mod outcome;
 mod status;
-#[cfg(test)]
-mod tests;
 mod text;
 
 pub use cause::{Cause, DropCause};

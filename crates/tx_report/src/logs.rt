@@ -13,7 +13,7 @@ const MAX_BYTES: usize = 10_000;
 const TRUNCATED: [u8; 13] = *b"Log truncated";
 
 /// The log lines of one transaction: those kept, and whether one was replaced by `Log truncated`.
-#[derive(Debug, Drop)]
+#[derive(Drop)]
 pub struct Logs {
     lines: Items<Blob>,
     /// The sum of the lengths of the lines kept.

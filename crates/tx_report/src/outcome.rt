@@ -3,7 +3,7 @@ use crate::status::Status;
 use sol_base::{Blob, Items};
 
 /// What one transaction tells besides its accounts.
-#[derive(Debug, Drop)]
+#[derive(Drop)]
 pub struct Outcome {
     pub status: Status,
     /// The compute units used.

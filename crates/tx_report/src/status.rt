@@ -5,7 +5,7 @@ ghost use Rattle.tx_report.specs.Statuses.{status_bytes_of, status_from, part_by
 use crate::cause::{Cause, DropCause};
 
 /// Why an instruction failed, and at which height of the stack of programs that call each other.
-#[derive(Clone, Copy, Debug, PartialEq, Eq)]
+#[derive(Clone, Copy, PartialEq, Eq)]
 pub struct InstructionError {
     pub cause: Cause,
     pub detail: u32,
@@ -13,7 +13,7 @@ pub struct InstructionError {
 }
 
 /// How a transaction ended.
-#[derive(Clone, Copy, Debug, PartialEq, Eq)]
+#[derive(Clone, Copy, PartialEq, Eq)]
 pub enum Status {
     /// Every instruction ended well.
     Good,

@@ -1,9 +1,10 @@
-//! A gate that keeps a lane.
+//! A gate that keeps a lane, or a sender.
 use bank_lanes::Gate;
+use intake::SendGate;
 use std::sync::atomic::{AtomicU64, Ordering};
 use std::thread;
 
-pub const TURNS: u64 = 10_000_000;
+const TURNS: u64 = 10_000_000;
 
 /// Waits, for at most so many turns, until the flag is up. True where it was.
 pub fn wait_for(flag: &AtomicU64) -> bool {
@@ -19,7 +20,7 @@ pub fn wait_for(flag: &AtomicU64) -> bool {
 /// Keeps position 0 until another position has passed.
 #[derive(Drop)]
 pub struct KeepingGate {
-    pub until: u32,
+    until: u32,
     passed: AtomicU64,
     within: AtomicU64,
 }
@@ -37,15 +38,25 @@ impl KeepingGate {
     pub fn was_passed_within(&self) -> bool {
         self.within.load(Ordering::SeqCst) != 0
     }
-}
 
-impl Gate for KeepingGate {
-    fn pass(&self, _lane: u32, position: u32) {
+    fn keep(&self, position: u32) {
         if position == self.until {
             self.passed.store(1, Ordering::SeqCst);
         }
         if position == 0 && wait_for(&self.passed) {
             self.within.store(1, Ordering::SeqCst);
         }
+    }
+}
+
+impl Gate for KeepingGate {
+    fn pass(&self, _lane: u32, position: u32) {
+        self.keep(position);
+    }
+}
+
+impl SendGate for KeepingGate {
+    fn pass(&self, _sender: u32, position: u32) {
+        self.keep(position);
     }
 }

@@ -1,61 +1,86 @@
-//! The worked examples of lanes.
-ghost use Rattle.std.specs.Prelude.{◌≡◌};
-
-use crate::tests::desk::{Turn, lane_turn, two_lanes};
-use crate::tests::ends::{end_by_lanes, end_by_waves, end_of_desk};
+//! Lanes that really run beside each other, by waves and over a shared desk.
+use crate::tests::drives::have_units;
+use crate::tests::ends::{end_by_lanes, end_by_waves};
 use crate::tests::gates::KeepingGate;
-use crate::tests::readers::{desk_of_two, told};
-use crate::tests::trial::{Trial, accounts_of_ten, trial_of};
+use crate::tests::trial::{Trial, WRITE, accounts_of_ten, trial_of};
 use crate::tests::works::{Refusing, Waiting};
 use account_store::Accounts;
-use bank_core::{Sealed, Work};
+use bank_core::Sealed;
 use bank_lanes::{Gate, OpenGate};
-use bank_shared::SharedDesk;
-use sol_base::{Items, OutOfMemory};
+use sol_base::OutOfMemory;
 use std::alloc::Global;
 use std::process::Abort;
 use std::sync::Wait;
 use std::sync::atomic::{AtomicU64, Ordering};
 use std::test::Fail;
 use std::thread::Threads;
-use tx_report::Outcome;
 
-const READ: bool = false;
+/// The lanes run by waves.
+const WAVES: bool = false;
 
-const WRITE: bool = true;
-
-/// The two ways to run lanes.
-#[derive(Clone, Copy, Debug)]
-enum Way {
-    Waves,
-    Lanes,
-}
+/// They run over a shared desk.
+const LANES: bool = true;
 
 fn end_by<G: Gate, R: Threads + Wait + Sync>(
     rt: &R,
     alloc: Global,
     accounts: Accounts,
-    way: Way,
+    lanes: bool,
     trial: &Trial,
     gate: &G,
 ) -> Result<Sealed, OutOfMemory> {
-    match way {
-        Way::Waves => end_by_waves(rt, alloc, accounts, 2, trial, gate),
-        Way::Lanes => end_by_lanes(rt, alloc, accounts, 2, trial, gate),
+    if lanes {
+        end_by_lanes(rt, alloc, accounts, 2, trial, gate)
+    } else {
+        end_by_waves(rt, alloc, accounts, 2, trial, gate)
     }
 }
 
-fn end_of_refusing<R: Threads + Wait + Sync>(
+/// How lanes run, the position that has to pass before position 0 does, whether it does, and the
+/// units of the outcomes.
+type Kept = (bool, u32, bool, &'static [u64]);
+
+/// Whether a gate keeps position 0 of these locks so.
+fn keeps<R: Threads + Wait + Abort + Sync>(
     rt: &R,
     alloc: Global,
-    accounts: Accounts,
-    way: Way,
-    work: &Refusing,
-) -> Result<Sealed, OutOfMemory> {
-    match way {
-        Way::Waves => end_by_waves(rt, alloc, accounts, 2, work, &OpenGate),
-        Way::Lanes => end_by_lanes(rt, alloc, accounts, 2, work, &OpenGate),
+    lists: &[&[(u8, bool)]],
+    kept: &Kept,
+) -> Result<bool, Fail> {
+    let trial = trial_of(rt, alloc, lists)?;
+    let accounts = accounts_of_ten(rt, alloc, &[1, 2])?;
+    let gate = KeepingGate::new(kept.1);
+    let end = end_by(rt, alloc, accounts, kept.0, &trial, &gate)?;
+    Ok(gate.was_passed_within() == kept.2 && have_units(&end.outcomes, kept.3))
+}
+
+/// Two positions that wait for nobody.
+const TWO: [&[(u8, bool)]; 2] = [&[(1, WRITE)], &[(2, WRITE)]];
+
+const AT_ONCE: [Kept; 2] = [(WAVES, 1, true, &[10, 10]), (LANES, 1, true, &[10, 10])];
+
+#[test]
+fn two_lanes_run_at_once(rt: HostRuntime) -> Result<(), Fail> {
+    for kept in AT_ONCE {
+        assert!(rt; keeps(&rt, rt.alloc(), &TWO, &kept)?);
     }
+    Ok(())
+}
+
+/// One position more, which waits for the second.
+const THREE: [&[(u8, bool)]; 3] = [&[(1, WRITE)], &[(2, WRITE)], &[(2, WRITE)]];
+
+const BARRIERS: [Kept; 2] = [
+    (LANES, 2, true, &[10, 10, 9]),
+    (WAVES, 2, false, &[10, 10, 9]),
+];
+
+#[test]
+fn lanes_have_no_barrier(rt: HostRuntime) -> Result<(), Fail> {
+    for kept in BARRIERS {
+        assert!(rt; keeps(&rt, rt.alloc(), &THREE, &kept)?);
+    }
+    Ok(())
 }
 
 fn end_of_waiting<R: Threads + Wait + Sync>(
@@ -67,135 +92,63 @@ fn end_of_waiting<R: Threads + Wait + Sync>(
     end_by_lanes(rt, alloc, accounts, 2, work, &OpenGate)
 }
 
-/// What the turns of the second of two lanes came to, and what the desk ended with.
-fn turns_of_two<R: Threads + Wait + Sync>(
-    rt: &R,
-    alloc: Global,
-    accounts: Accounts,
-    trial: &Trial,
-) -> Result<(Option<[Turn; 4]>, Sealed), OutOfMemory> {
-    let (desk, mut pass) = desk_of_two(alloc, accounts, trial)?;
-    let turns = two_lanes::<Trial, SharedDesk<Trial>, R>(rt, &desk, &mut pass, trial);
-    let end = end_of_desk(rt, alloc, desk, pass, trial, &OpenGate)?;
-    Ok((turns, end))
-}
-
-/// The outcomes tell these units, in the order of the positions.
-fn tells(rt: &impl Abort, outcomes: &Items<Outcome>, units: &[u64]) {
-    assert_eq!(rt; outcomes.len(), units.len());
-    for (outcome, want) in outcomes.as_slice().iter().zip(units) {
-        assert_eq!(rt; outcome.units, *want);
-    }
-}
-
-#[test]
-fn a_desk_of_two_lanes(rt: HostRuntime) -> Result<(), Fail> {
-    let alloc = rt.alloc();
-    let trial = trial_of(&rt, alloc, &[&[(1, READ)], &[(1, WRITE)], &[(1, READ)]])?;
-    let accounts = accounts_of_ten(&rt, alloc, &[1])?;
-    let (turns, end) = turns_of_two(&rt, alloc, accounts, &trial)?;
-    let turns = turns.ok_or("the second pass was not made, or a third one was")?;
-    let want = [Turn::NotNow(1), Turn::Did(1), Turn::Did(2), Turn::Finished];
-    assert_eq!(rt; turns, want);
-    tells(&rt, &end.outcomes, &[10, 10, 9]);
-    Ok(())
-}
-
-#[test]
-fn a_reader_is_told_what_is_done(rt: HostRuntime) -> Result<(), Fail> {
-    let alloc = rt.alloc();
-    let trial = trial_of(&rt, alloc, &[&[(1, READ)], &[(1, WRITE)], &[(1, READ)]])?;
-    assert_eq!(rt; trial.count(), 3);
-    let accounts = accounts_of_ten(&rt, alloc, &[1])?;
-    let (desk, mut pass) = desk_of_two(alloc, accounts, &trial)?;
-    let mut reader = desk.reader(&mut pass);
-    let before = told(&rt, &desk, &mut reader, &trial, 0, 3)?;
-    tells(&rt, &before, &[]);
-    assert_eq!(rt; lane_turn(&rt, &desk, &mut pass, &trial), Turn::Did(0));
-    let first = told(&rt, &desk, &mut reader, &trial, 0, 3)?;
-    tells(&rt, &first, &[10]);
-    let none_yet = told(&rt, &desk, &mut reader, &trial, 1, 2)?;
-    tells(&rt, &none_yet, &[]);
-    assert_eq!(rt; lane_turn(&rt, &desk, &mut pass, &trial), Turn::Did(1));
-    assert_eq!(rt; lane_turn(&rt, &desk, &mut pass, &trial), Turn::Did(2));
-    assert_eq!(rt; lane_turn(&rt, &desk, &mut pass, &trial), Turn::Finished);
-    let all = told(&rt, &desk, &mut reader, &trial, 0, 3)?;
-    tells(&rt, &all, &[10, 10, 9]);
-    let later = told(&rt, &desk, &mut reader, &trial, 1, 2)?;
-    tells(&rt, &later, &[10, 9]);
-    let one = told(&rt, &desk, &mut reader, &trial, 1, 1)?;
-    tells(&rt, &one, &[10]);
-    let end = end_of_desk(&rt, alloc, desk, pass, &trial, &OpenGate)?;
-    tells(&rt, &end.outcomes, &[10, 10, 9]);
-    Ok(())
-}
-
-#[test]
-fn two_lanes_run_at_once(rt: HostRuntime) -> Result<(), Fail> {
-    let alloc = rt.alloc();
-    let trial = trial_of(&rt, alloc, &[&[(1, WRITE)], &[(2, WRITE)]])?;
-    for way in [Way::Waves, Way::Lanes] {
-        let accounts = accounts_of_ten(&rt, alloc, &[1, 2])?;
-        let gate = KeepingGate::new(1);
-        let end = end_by(&rt, alloc, accounts, way, &trial, &gate)?;
-        assert!(rt; gate.was_passed_within(), "by {way:?}");
-        tells(&rt, &end.outcomes, &[10, 10]);
-    }
-    Ok(())
-}
-
-#[test]
-fn lanes_have_no_barrier(rt: HostRuntime) -> Result<(), Fail> {
-    let alloc = rt.alloc();
-    let lists: [&[(u8, bool)]; 3] = [&[(1, WRITE)], &[(2, WRITE)], &[(2, WRITE)]];
-    let trial = trial_of(&rt, alloc, &lists)?;
-    for (way, want) in [(Way::Lanes, true), (Way::Waves, false)] {
-        let accounts = accounts_of_ten(&rt, alloc, &[1, 2])?;
-        let gate = KeepingGate::new(2);
-        let end = end_by(&rt, alloc, accounts, way, &trial, &gate)?;
-        assert_eq!(rt; gate.was_passed_within(), want, "by {way:?}");
-        tells(&rt, &end.outcomes, &[10, 10, 9]);
-    }
-    Ok(())
-}
-
+/// Position 0 waits in its work until position 1 has begun.
 #[test]
 fn the_work_of_lanes_runs_at_once(rt: HostRuntime) -> Result<(), Fail> {
-    let alloc = rt.alloc();
     let work = Waiting {
-        trial: trial_of(&rt, alloc, &[&[(1, WRITE)], &[(2, WRITE)]])?,
+        trial: trial_of(&rt, rt.alloc(), &TWO)?,
         begun: AtomicU64::new(0),
         within: AtomicU64::new(0),
     };
-    let accounts = accounts_of_ten(&rt, alloc, &[1, 2])?;
-    let end = end_of_waiting(&rt, alloc, accounts, &work)?;
-    assert_eq!(rt; work.within.load(Ordering::SeqCst), 1);
-    tells(&rt, &end.outcomes, &[10, 10]);
+    let accounts = accounts_of_ten(&rt, rt.alloc(), &[1, 2])?;
+    let end = end_of_waiting(&rt, rt.alloc(), accounts, &work)?;
+    assert!(rt; work.within.load(Ordering::SeqCst) == 1);
+    assert!(rt; have_units(&end.outcomes, &[10, 10]));
     Ok(())
 }
 
+fn end_of_refusing<R: Threads + Wait + Sync>(
+    rt: &R,
+    alloc: Global,
+    accounts: Accounts,
+    lanes: bool,
+    work: &Refusing,
+) -> Result<Sealed, OutOfMemory> {
+    if lanes {
+        end_by_lanes(rt, alloc, accounts, 2, work, &OpenGate)
+    } else {
+        end_by_waves(rt, alloc, accounts, 2, work, &OpenGate)
+    }
+}
+
+/// Four positions that wait for nobody.
+const FOUR: [&[(u8, bool)]; 4] = [&[(1, WRITE)], &[(2, WRITE)], &[(3, WRITE)], &[(4, WRITE)]];
+
+/// Whether lanes end well only where memory is refused once, and waves then do.
+fn ends_so<R: Threads + Wait + Abort + Sync>(
+    rt: &R,
+    alloc: Global,
+    lanes: bool,
+    refusals: u64,
+) -> Result<bool, Fail> {
+    let work = Refusing {
+        trial: trial_of(rt, alloc, &FOUR)?,
+        left: AtomicU64::new(refusals),
+    };
+    let accounts = accounts_of_ten(rt, alloc, &[1, 2, 3, 4])?;
+    match end_of_refusing(rt, alloc, accounts, lanes, &work) {
+        Ok(end) => Ok(refusals == 1 && have_units(&end.outcomes, &[10, 10, 10, 10])),
+        Err(_) => Ok(refusals > 1 || lanes),
+    }
+}
+
+/// How lanes run, and how often memory is refused.
+const REFUSALS: [(bool, u64); 4] = [(WAVES, 1), (LANES, 1), (WAVES, u64::MAX), (LANES, u64::MAX)];
+
 #[test]
 fn lanes_without_memory_give_back(rt: HostRuntime) -> Result<(), Fail> {
-    let alloc = rt.alloc();
-    let lists: [&[(u8, bool)]; 4] = [&[(1, WRITE)], &[(2, WRITE)], &[(3, WRITE)], &[(4, WRITE)]];
-    for (way, refusals) in [
-        (Way::Waves, 1),
-        (Way::Lanes, 1),
-        (Way::Waves, u64::MAX),
-        (Way::Lanes, u64::MAX),
-    ] {
-        let work = Refusing {
-            trial: trial_of(&rt, alloc, &lists)?,
-            left: AtomicU64::new(refusals),
-        };
-        let accounts = accounts_of_ten(&rt, alloc, &[1, 2, 3, 4])?;
-        match end_of_refusing(&rt, alloc, accounts, way, &work) {
-            Ok(end) => {
-                assert_eq!(rt; refusals, 1, "by {way:?}");
-                tells(&rt, &end.outcomes, &[10, 10, 10, 10]);
-            }
-            Err(_) => assert!(rt; refusals > 1 || matches!(way, Way::Lanes), "by {way:?}"),
-        }
+    for (lanes, refusals) in REFUSALS {
+        assert!(rt; ends_so(&rt, rt.alloc(), lanes, refusals)?);
     }
     Ok(())
 }

@@ -20,6 +20,10 @@ use std::sync::Arc;
 use std::test::Fail;
 use tx_report::{Outcome, Status};
 
+pub const READ: bool = false;
+
+pub const WRITE: bool = true;
+
 #[derive(Drop)]
 pub struct Trial {
     locks: Items<LockList>,
@@ -117,7 +121,7 @@ pub fn key_of(byte: u8) -> Key {
 }
 
 /// The locks on keys of one repeated byte.
-fn locks_of(alloc: Global, entries: &[(u8, bool)]) -> Result<LockList, OutOfMemory> {
+pub fn locks_of(alloc: Global, entries: &[(u8, bool)]) -> Result<LockList, OutOfMemory> {
     let mut locks = LockList::new(alloc);
     for (byte, write) in entries {
         let key = key_of(*byte);

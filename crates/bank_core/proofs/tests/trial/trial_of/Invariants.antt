@@ -1,9 +1,0 @@
-use Rattle.std.proofs.Common.{◌<◌, length, All}
-use Rattle.bank_core.specs.Trial.{AreDistinctLists}
-use Rattle.bank_core.proofs.tests.trial.trial_of.Given as goal
-
-abbrev pub invariant-loop-entries : goal.invariant-loop-entries
-invariant-loop-entries g l = record {
-  distinct : AreDistinctLists l.locks;
-  short : All (λ locks. length locks < 100) l.locks;
-}

@@ -1,4 +1,0 @@
-use Rattle.proof_note.proofs.tests.noted.Given as goal
-
-abbrev pub ghost-told_by : goal.ghost-told_by
-ghost-told_by a = a._from.now
