@@ -1,0 +1,6 @@
+/* r2 = 1 ll, without its second slot. */
+#include "../solana_block.h"
+uint64_t entrypoint(uint8_t *region) {
+  __asm__ volatile(".byte 0x18, 0x02, 0, 0, 1, 0, 0, 0");
+  return region[0];
+}

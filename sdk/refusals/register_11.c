@@ -1,0 +1,6 @@
+/* r11 = 1. */
+#include "../solana_block.h"
+uint64_t entrypoint(uint8_t *region) {
+  __asm__ volatile(".byte 0xb7, 0x0b, 0, 0, 1, 0, 0, 0");
+  return region[0];
+}
