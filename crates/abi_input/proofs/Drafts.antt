@@ -7,10 +7,11 @@ use Rattle.std.proofs.Math.Seq.{take-add}
 use Rattle.sol_base.specs.declared.account.Account.{Account}
 use Rattle.sol_base.specs.declared.key.Key.{Key}
 use Rattle.sol_base.specs.declared.lock.Meta.{Meta}
-use Rattle.sol_base.specs.declared.parts.Part.{Part}
-use Rattle.sol_base.specs.declared.parts.Part.TheVariants.{Bytes}
-use Rattle.sol_base.specs.Parts.{bytes_of, lent_by, lent_from, part_bytes, with_bytes}
-use Rattle.sol_base.proofs.PartLaws.{parts_push, no_parts}
+use Rattle.data_parts.specs.declared.parts.Part.{Part}
+use Rattle.data_parts.specs.declared.parts.Part.TheVariants.{Bytes}
+use Rattle.spec_base.specs.Bytes.{with_bytes}
+use Rattle.data_parts.specs.Parts.{bytes_of, lent_by, lent_from, part_bytes}
+use Rattle.data_parts.proofs.PartLaws.{parts_push, no_parts}
 use Rattle.abi_input.specs.Region.{entry_of, first_entry, first_size, input_of, not_listed_before, number_bytes, over_entry, padding, room_of, state_bytes}
 
 -- a draft with nothing
@@ -98,16 +99,24 @@ first_added signer writable s w x room v a key d d1 d2 d3 d4 d5 d6 zeros last is
 pub length_more : (d d1 a : List ℕ) → d1 ≡ d ++ a → length d1 ≡ length d + length a
 length_more d d1 a e = ap length e ∙ length-append d a
 
--- a whole region, piece by piece
-pub laid_out : (keys : List Key) (accounts : List Account) (metas : List Meta) (input : List ℕ) (program : Key) (d d1 d2 d3 d4 d5 count len : List ℕ) → d ≡ [] → count ≡ number_bytes (length metas) → len ≡ number_bytes (length input)
-    → d1 ≡ d ++ count → d2 ≡ d1 ++ flat_map (entry_of keys accounts metas) (enumerate_from 0 metas) → d3 ≡ d2 ++ len → d4 ≡ d3 ++ input → d5 ≡ d4 ++ program.0 → d5 ≡ input_of keys accounts metas input program
+-- the accounts of a region, piece by piece
+pub accounts_laid : (keys : List Key) (accounts : List Account) (metas : List Meta) (d d1 d2 count : List ℕ) → d ≡ [] → count ≡ number_bytes (length metas) → d1 ≡ d ++ count → d2 ≡ d1 ++ flat_map (entry_of keys accounts metas) (enumerate_from 0 metas)
+    → d2 ≡ number_bytes (length metas) ++ flat_map (entry_of keys accounts metas) (enumerate_from 0 metas)
+accounts_laid keys accounts metas d d1 d2 count none is_count one two =
+    let whole : d1 ≡ number_bytes (length metas) = one ∙ ap (λ (l : List ℕ). l ++ count) none ∙ is_count in
+    two ∙ ap (λ (l : List ℕ). l ++ flat_map (entry_of keys accounts metas) (enumerate_from 0 metas)) whole
+
+-- an instruction behind them, piece by piece
+pub instruction_added : (input : List ℕ) (program : Key) (d d1 d2 d3 len : List ℕ) → len ≡ number_bytes (length input) → d1 ≡ d ++ len → d2 ≡ d1 ++ input → d3 ≡ d2 ++ program.0 → d3 ≡ d ++ number_bytes (length input) ++ input ++ program.0
+instruction_added input program d d1 d2 d3 len is_len one two three =
+    let first : d1 ≡ d ++ number_bytes (length input) = one ∙ ap (λ (l : List ℕ). d ++ l) is_len in
+    three ∙ ap (λ (l : List ℕ). l ++ program.0) (two ∙ ap (λ (l : List ℕ). l ++ input) first)
+
+-- a whole region, in its two halves
+pub laid_out : (keys : List Key) (accounts : List Account) (metas : List Meta) (input : List ℕ) (program : Key) (d d1 : List ℕ) → d ≡ number_bytes (length metas) ++ flat_map (entry_of keys accounts metas) (enumerate_from 0 metas)
+    → d1 ≡ d ++ number_bytes (length input) ++ input ++ program.0 → d1 ≡ input_of keys accounts metas input program
 unfolding input_of
-laid_out keys accounts metas input program d d1 d2 d3 d4 d5 count len none is_count is_len one two three four five =
-    let e1 : d1 ≡ number_bytes (length metas) = one ∙ ap (λ (l : List ℕ). l ++ count) none ∙ is_count in
-    let e2 : d2 ≡ number_bytes (length metas) ++ flat_map (entry_of keys accounts metas) (enumerate_from 0 metas) = two ∙ ap (λ (l : List ℕ). l ++ flat_map (entry_of keys accounts metas) (enumerate_from 0 metas)) e1 in
-    let e3 = three ∙ ap (λ (l : List ℕ). d2 ++ l) is_len ∙ ap (λ (l : List ℕ). l ++ number_bytes (length input)) e2 in
-    let e4 = four ∙ ap (λ (l : List ℕ). l ++ input) e3 in
-    five ∙ ap (λ (l : List ℕ). l ++ program.0) e4
+laid_out keys accounts metas input program d d1 first second = second ∙ ap (λ (l : List ℕ). l ++ number_bytes (length input) ++ input ++ program.0) first
 
 -- an entry with another state, piece by piece
 pub over_added : (start account : Account) (region d d1 d2 d3 : List ℕ) (entry room : ℕ) → room ≡ room_of start → entry + first_size start ≤ length region → length d2 ≡ length d1 + 48 + room

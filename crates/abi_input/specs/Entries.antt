@@ -4,7 +4,7 @@ use Rattle.std.specs.List.{enumerate_from, find, filter, slice_index_or}
 use Rattle.sol_base.specs.declared.account.Account.{Account}
 use Rattle.sol_base.specs.declared.lock.Meta.{Meta}
 use Rattle.sol_base.specs.Metas.{is_listed, is_first_listing}
-use Rattle.sol_base.specs.Parts.{IsLentAt}
+use Rattle.data_parts.specs.Parts.{IsLentAt}
 use Rattle.abi_input.specs.Region.{account_at, data_len_at, first_entry_start}
 
 -- where the entry of an account starts, if it is among the first so many metas

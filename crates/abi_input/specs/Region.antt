@@ -1,31 +1,25 @@
 -- The input region of a frame, in Solana's aligned layout: what a program finds of its accounts,
--- its instruction and its own key, and what it writes of them.
+-- its instruction and its own key, and what it writes of them. That nothing else counts of what it
+-- writes is the project's own.
 use Rattle.std.specs.Prelude.{ℕ, ◌+◌, ◌-◌, ◌%◌, ◌^◌, ◌≤◌, ◌==◌, ◌||◌, Bool, List, [], ◌∷◌, ◌++◌, length, map, take, drop, replicate, sum_by, slice_get, nat_lt, unwrap_or, Option, Some, None, Result, Ok, Err, if◌then◌else◌}
 use Rattle.std.specs.List.{enumerate_from, find, flat_map, position_or_len}
 use Rattle.std.specs.Int.{w64, to_le_bytes, from_bool}
-use Rattle.spec_base.specs.Bytes.{max_count, number_from}
+use Rattle.spec_base.specs.Bytes.{max_count, number_from, with_bytes}
 use Rattle.sol_base.specs.declared.key.Key.{Key}
 use Rattle.sol_base.specs.declared.account.Account.{Account}
 use Rattle.sol_base.specs.declared.lock.Meta.{Meta}
 use Rattle.sol_base.specs.Accounts.{empty_account, max_data_len}
 use Rattle.sol_base.specs.Metas.{is_listed, is_listed_signer, is_listed_writable, is_first_listing, first_listings}
-use Rattle.sol_base.specs.Parts.{with_bytes}
+use Rattle.abi_input.specs.declared.entry.TheConstants.{MAX_GROWTH, NOT_LISTED_BEFORE}
+pub use Rattle.sol_base.specs.Metas.{max_metas}
 
--- by how many bytes a program may make an account longer in one frame (Solana)
-abbrev pub growth : ℕ
-growth = 10240
-
--- the most accounts that a frame lists (Solana)
-abbrev pub max_metas : ℕ
-max_metas = 255
-
--- the most bytes of an instruction's data: as many as have a compact length (Solana)
+-- the most bytes of an instruction's data (the project's own): as many as have a compact length
 abbrev pub max_input_len : ℕ
 max_input_len = max_count
 
 -- the byte before the entry of an account that was not listed before (Solana)
 abbrev pub not_listed_before : ℕ
-not_listed_before = 255
+not_listed_before = NOT_LISTED_BEFORE
 
 -- zero bytes up to a multiple of 8
 abbrev pub padding : ℕ → ℕ
@@ -54,7 +48,7 @@ state_bytes room account =
 
 -- how many data bytes an account may come to have in a frame that it starts with this one
 abbrev pub room_of : Account → ℕ
-room_of account = length account.bytes + growth
+room_of account = length account.bytes + MAX_GROWTH
 
 -- an account where it is listed first
 unfoldable pub first_entry : Bool → Bool → Key → Account → List ℕ

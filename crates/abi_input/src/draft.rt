@@ -2,10 +2,11 @@
 ghost use Rattle.std.specs.Prelude.{◌≡◌, ◌++◌, ◌<◌, ◌^◌, [], length, replicate, IfOk, OnOk};
 ghost use Rattle.std.specs.Arc.{arc_value};
 ghost use Rattle.sol_base.specs.declared.account.Account.{Account as AccountValue};
-ghost use Rattle.sol_base.specs.Parts.{bytes_of, lent_by, lent_from, part_bytes, unprepared};
+ghost use Rattle.data_parts.specs.Parts.{bytes_of, lent_by, lent_from, part_bytes, unprepared};
 ghost use Rattle.abi_input.specs.Region.{lent_of};
 
-use sol_base::{Account, Blob, Items, OutOfMemory, Part, Parts};
+use data_parts::{Part, Parts};
+use sol_base::{Account, Blob, Items, OutOfMemory};
 use std::alloc::Global;
 use std::marker::Model;
 use std::mem;
@@ -23,7 +24,7 @@ pub struct Draft {
 
 impl Model for Draft {
     ghost use Rattle.std.specs.Prelude.{◌++◌};
-    ghost use Rattle.sol_base.specs.Parts.{bytes_of, lent_from};
+    ghost use Rattle.data_parts.specs.Parts.{bytes_of, lent_from};
     ghost use Rattle.abi_input.specs.Drafts.{Drafted};
 
     ghost Value = { Drafted };

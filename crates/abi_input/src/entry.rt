@@ -10,15 +10,17 @@ ghost use Rattle.abi_input.specs.Region.{entry_size, entry_start, first_entry, f
 
 use crate::draft::Draft;
 use crate::listing::{Listing, PLACES, is_first};
-use sol_base::{Account, Key, Meta, OutOfMemory, Parts};
+use data_parts::Parts;
+use sol_base::{Account, Key, Meta, OutOfMemory};
 use std::alloc::Global;
 use std::sync::Arc;
 
-/// By how many bytes a program may make an account longer in one frame (Solana).
-const GROWTH: usize = 10_240;
+/// By how many bytes a program may make an account longer in one frame (Solana; that a transaction
+/// has no cap of its own is the project's own).
+pub const MAX_GROWTH: usize = 10_240;
 
 /// The byte before the entry of an account that was not listed before (Solana).
-const NOT_LISTED_BEFORE: u8 = 255;
+pub const NOT_LISTED_BEFORE: u8 = 255;
 
 /// Where things stand in an entry: the owner, the lamports, the length of the data and the data.
 pub const OWNER_AT: usize = 40;
@@ -43,7 +45,7 @@ pub fn room_for(account: &Account) -> usize
     requires { length account.now.bytes < 2 ^ 32 }
     ensures { result ≡ room_of account.now }
 {
-    account.bytes.len() + GROWTH
+    account.bytes.len() + MAX_GROWTH
 }
 
 /// How many zero bytes stand before the next multiple of 8.

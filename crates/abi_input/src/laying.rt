@@ -3,14 +3,15 @@ ghost use Rattle.std.specs.Prelude.{◌≡◌, ◌+◌, ◌≤◌, ◌++◌, len
 ghost use Rattle.std.specs.List.{enumerate_from, flat_map};
 ghost use Rattle.sol_base.specs.Accounts.{accounts_of, AreShort};
 ghost use Rattle.sol_base.specs.Metas.{AreInRange};
-ghost use Rattle.sol_base.specs.Parts.{unprepared};
+ghost use Rattle.data_parts.specs.Parts.{unprepared};
 ghost use Rattle.abi_input.specs.Listing.{IsTableOf};
-ghost use Rattle.abi_input.specs.Region.{entry_of, entry_size, entry_start, input_of, lent_entry, lent_in, max_input_len, max_metas, IsRegionOf};
+ghost use Rattle.abi_input.specs.Region.{entry_of, entry_size, entry_start, input_of, lent_entry, lent_in, max_input_len, max_metas, number_bytes, IsRegionOf};
 
 use crate::draft::Draft;
 use crate::entry::{add_first, add_repeated};
 use crate::listing::{Listing, PLACES, is_first, listing_of, listings};
-use sol_base::{Account, Key, Meta, OutOfMemory, Parts};
+use data_parts::Parts;
+use sol_base::{Account, Key, Meta, OutOfMemory};
 use std::alloc::Global;
 use std::sync::Arc;
 
@@ -37,13 +38,52 @@ pub fn lay_out(
     ensures size { IfOk result
         (λ region. IsRegionOf (accounts_of accounts.now) metas.now region.bytes) }
 {
+    let mut draft = draft_accounts(alloc, keys, accounts, metas)?;
+    add_instruction(&mut draft, input, program)?;
+    draft.finish(alloc)
+}
+
+/// The first half of a region: how many accounts are listed, and what the region has of each.
+fn draft_accounts(
+    alloc: Global,
+    keys: &[Key],
+    accounts: &[Arc<Account>],
+    metas: &[Meta],
+) -> Result<Draft, OutOfMemory>
+    requires count { length (accounts_of accounts.now) ≡ length keys.now }
+    requires most { length metas.now ≤ max_metas }
+    requires range { AreInRange (length (accounts_of accounts.now)) metas.now }
+    requires short { AreShort (accounts_of accounts.now) }
+    ensures bytes { IfOk result
+        (λ draft. draft.bytes
+        ≡ number_bytes (length metas.now)
+        ++ flat_map (entry_of keys.now (accounts_of accounts.now) metas.now)
+        (enumerate_from 0 metas.now)) }
+    ensures lent { IfOk result
+        (λ draft. draft.lent
+        ≡ lent_in (accounts_of accounts.now) (accounts_of accounts.now) metas.now) }
+    ensures size { IfOk result
+        (λ draft. length draft.bytes
+        ≡ entry_start (accounts_of accounts.now) metas.now (length metas.now)) }
+{
     let mut draft = Draft::new(alloc, parts_for(metas))?;
     draft.append(&(metas.len() as u64).to_le_bytes())?;
     add_entries(alloc, &mut draft, keys, accounts, metas)?;
+    Ok(draft)
+}
+
+/// Adds the instruction's data, their length before them, and the program's key.
+fn add_instruction(draft: &mut Draft, input: &[u8], program: &Key) -> Result<(), OutOfMemory>
+    ensures bytes { OnOk result (draft.new.bytes
+        ≡ draft.old.bytes ++ number_bytes (length input.now) ++ input.now ++ program.now.0) }
+    ensures lent { draft.new.lent ≡ draft.old.lent }
+    ensures size { OnOk result
+        (length draft.new.bytes ≡ length draft.old.bytes + length input.now + 40) }
+{
     draft.append(&(input.len() as u64).to_le_bytes())?;
     draft.append(input)?;
     draft.append(&program.0)?;
-    draft.finish(alloc)
+    Ok(())
 }
 
 /// How many parts a region has at most: three for each account, and one behind them.

@@ -18,7 +18,8 @@ use crate::entry::{
 use crate::fault::PatchFault;
 use crate::laying::parts_for;
 use crate::listing::{Listing, PLACES, is_first, listings};
-use sol_base::{Account, Meta, OutOfMemory, Parts};
+use data_parts::Parts;
+use sol_base::{Account, Meta, OutOfMemory};
 use std::alloc::Global;
 use std::sync::Arc;
 

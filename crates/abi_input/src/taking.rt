@@ -1,5 +1,5 @@
 //! The accounts are taken back from a region.
-ghost use Rattle.std.specs.Prelude.{◌≡◌, ◌↔◌, ◌+◌, ◌<◌, ◌≤◌, ◌||◌, ◌&&◌, ◌^◌, length, slice_get, take, drop, map, nat_lt, false, true, IfErr, IfOk, IsTrue, Some, None};
+ghost use Rattle.std.specs.Prelude.{◌≡◌, ◌↔◌, ◌+◌, ◌<◌, ◌≤◌, ◌||◌, ◌&&◌, ◌^◌, [], ◌∷◌, ◌++◌, length, slice_get, take, drop, map, nat_lt, false, true, IfErr, IfOk, IsTrue, OnOk, Some, None};
 ghost use Rattle.std.specs.Option.{ForSome};
 ghost use Rattle.std.specs.Arc.{arc_value};
 ghost use Rattle.std.specs.List.{enumerate_from, slice_index_or};
@@ -16,7 +16,8 @@ use crate::entry::{
 };
 use crate::fault::BackFault;
 use crate::listing::{Listing, PLACES, is_first, listings};
-use sol_base::{Account, Blob, Items, Key, MAX_DATA_LEN, Meta, OutOfMemory, Parts};
+use data_parts::Parts;
+use sol_base::{Account, Blob, Items, Key, MAX_DATA_LEN, Meta, OutOfMemory};
 use std::alloc::Global;
 use std::sync::Arc;
 
@@ -36,6 +37,29 @@ pub struct TakenBack {
 struct Taken {
     account: Arc<Account>,
     touched: bool,
+}
+
+impl TakenBack {
+    /// No accounts, with room for so many.
+    fn with_capacity(alloc: Global, count: usize) -> Result<TakenBack, OutOfMemory>
+        ensures accounts { IfOk result (λ taken. taken.accounts ≡ []) }
+        ensures touched { IfOk result (λ taken. taken.touched ≡ []) }
+    {
+        Ok(TakenBack {
+            accounts: Items::with_capacity(alloc, count)?,
+            touched: Items::with_capacity(alloc, count)?,
+        })
+    }
+
+    fn push(&mut self, taken: Taken) -> Result<(), OutOfMemory>
+        ensures accounts { OnOk result
+            (self.new.accounts ≡ self.old.accounts ++ taken.account ∷ []) }
+        ensures touched { OnOk result (self.new.touched ≡ self.old.touched ++ taken.touched ∷ []) }
+    {
+        self.touched.push(taken.touched)?;
+        self.accounts.push(taken.account)?;
+        Ok(())
+    }
 }
 
 /// The accounts `now`, with owner, lamports and data of the listed ones as they stand in the region
@@ -165,14 +189,11 @@ fn taken_by(
         (λ taken. SameUnlessTouched taken.touched (accounts_of now.now)
         (accounts_of taken.accounts)) }
 {
-    let mut accounts = Items::with_capacity(alloc, now.len())?;
-    let mut touched = Items::with_capacity(alloc, now.len())?;
+    let mut back = TakenBack::with_capacity(alloc, now.len())?;
     for (index, account) in now.iter().enumerate() {
-        let taken = take_one(alloc, region, entry_at(entries, index), account)?;
-        touched.push(taken.touched)?;
-        accounts.push(taken.account)?;
+        back.push(take_one(alloc, region, entry_at(entries, index), account)?)?;
     }
-    Ok(TakenBack { accounts, touched })
+    Ok(back)
 }
 
 /// Where the entry of an account starts, if it is listed.

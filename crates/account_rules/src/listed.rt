@@ -1,7 +1,7 @@
 //! The account rules over the accounts that a frame lists.
 ghost use Rattle.std.specs.Prelude.{◌≡◌, ℕ, ◌≤◌, OnOk, length, slice_get};
 ghost use Rattle.sol_base.specs.Accounts.{accounts_of, SameUnlessTouched};
-ghost use Rattle.sol_base.specs.Metas.{AreInRange, SameUnlessListed, is_listed_writable};
+ghost use Rattle.sol_base.specs.Metas.{AreInRange, SameUnlessListed, is_listed_writable, max_metas};
 ghost use Rattle.account_rules.specs.AccountRules.{AreFlagsOf, AreParallel, listed_faults, listed_rules};
 ghost use Rattle.account_rules.specs.KeptAccounts.{AreKeptBy};
 
@@ -25,7 +25,7 @@ pub fn check_listed(
 ) -> Result<(), RuleFault>
     requires lists { AreParallel touched.now (accounts_of before.now) (accounts_of after.now) }
     requires range { AreInRange (length (accounts_of before.now)) metas.now }
-    requires most { length metas.now ≤ 255 }
+    requires most { length metas.now ≤ max_metas }
     requires unlisted { SameUnlessListed metas.now
         (accounts_of before.now) (accounts_of after.now) }
     requires untouched { SameUnlessTouched touched.now
@@ -54,7 +54,7 @@ fn first_fault(
 ) -> Option<RuleFault>
     requires lists { AreParallel touched.now (accounts_of before.now) (accounts_of after.now) }
     requires range { AreInRange (length (accounts_of before.now)) metas.now }
-    requires most { length metas.now ≤ 255 }
+    requires most { length metas.now ≤ max_metas }
     requires untouched { SameUnlessTouched touched.now
         (accounts_of before.now) (accounts_of after.now) }
     ensures { result ≡ slice_get (listed_faults program.now metas.now

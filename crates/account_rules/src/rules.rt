@@ -2,6 +2,7 @@
 ghost use Rattle.std.specs.Prelude.{◌≡◌, ◌≤◌, ◌↔◌, IsTrue, IsSomeAnd, OnOk, length, slice_get, false, Some};
 ghost use Rattle.std.specs.Option.{ForSome};
 ghost use Rattle.sol_base.specs.Accounts.{accounts_of, lamports_in, SameUnlessTouched};
+ghost use Rattle.sol_base.specs.Metas.{max_metas};
 ghost use Rattle.account_rules.specs.AccountRules.{AreParallel, rules};
 ghost use Rattle.account_rules.specs.KeptAccounts.{AreKept};
 
@@ -41,7 +42,7 @@ pub fn check(
     after: &[Arc<Account>],
 ) -> Result<(), RuleFault>
     requires lists { AreParallel writable.now (accounts_of before.now) (accounts_of after.now) }
-    requires most { length writable.now ≤ 255 }
+    requires most { length writable.now ≤ max_metas }
     ensures exact { result ≡ rules program.now writable.now
         (accounts_of before.now) (accounts_of after.now) }
     ensures kept { OnOk result (AreKept program.now writable.now
@@ -63,7 +64,7 @@ pub fn check_touched(
 ) -> Result<(), RuleFault>
     requires lists { AreParallel writable.now (accounts_of before.now) (accounts_of after.now) }
     requires marks { AreParallel touched.now (accounts_of before.now) (accounts_of after.now) }
-    requires most { length writable.now ≤ 255 }
+    requires most { length writable.now ≤ max_metas }
     requires untouched { SameUnlessTouched touched.now
         (accounts_of before.now) (accounts_of after.now) }
     ensures exact { result ≡ rules program.now writable.now
@@ -83,7 +84,7 @@ fn check_each(
     after: &[Arc<Account>],
 ) -> Result<(), RuleFault>
     requires lists { AreParallel writable.now (accounts_of before.now) (accounts_of after.now) }
-    requires most { length writable.now ≤ 255 }
+    requires most { length writable.now ≤ max_metas }
     requires untouched { ForSome touched (λ flags. SameUnlessTouched flags.now
         (accounts_of before.now) (accounts_of after.now)) }
     ensures exact { result ≡ rules program.now writable.now

@@ -1,5 +1,6 @@
 -- What the lookups of a message load from their tables (Solana; that a table's owner, authority and
--- deactivation are not looked at is the project's own).
+-- deactivation are not looked at, and that it counts as it was before the block, is the project's
+-- own).
 use Rattle.std.specs.Prelude.{ℕ, ◌+◌, ◌-◌, ◌*◌, ◌/◌, ◌%◌, ◌==◌, Bool, true, false, not, ◌&&◌, ◌||◌, nat_le, List, [], length, take, drop, map, Option, Some, None, Result, Ok, Err, if◌then◌else◌}
 use Rattle.std.specs.List.{list_any, filter_map, flat_map, enumerate_from}
 use Rattle.spec_base.specs.Reading.{first_or}

@@ -47,7 +47,8 @@ impl From<OutOfMemory> for LookupFault {
 
 /// The keys that the message's lookups pick from their tables, the keys to write and the keys to
 /// read each in the order of the lookups (Solana). The first refusal comes lookup by lookup, and
-/// that of a repeated key last. A sane message has so few lookups, and no static key twice.
+/// that of a repeated key last (the project's own). A sane message has so few lookups, and no
+/// static key twice.
 pub fn resolve(alloc: Global, message: &Message, accounts: &Accounts) -> Result<Loaded, LookupFault>
     requires few { IsCountable message.now.lookups }
     requires apart { IsDistinct same_key message.now.keys }

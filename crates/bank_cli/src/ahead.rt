@@ -7,27 +7,13 @@ ghost use Rattle.bank_cli.specs.Ahead.{Decodes, IsReadIn};
 
 use intake::{SendGate, gather};
 use message_codec::Parsed;
-use snapshot_codec::{Batch, BatchFault, Prefix, SnapshotFault, read_batch, read_snapshot};
+use snapshot_codec::{
+    Batch, BatchFault, Prefix, SnapshotFault, read_batch, read_snapshot, snapshot_length,
+};
 use sol_base::Items;
 use std::alloc::Global;
 use std::sync::Wait;
 use std::thread::{Threads, join};
-
-/// The bytes of a snapshot before its marks.
-const HEAD_LEN: usize = 16;
-
-/// The same in version 2, which has limits there.
-const LIMITED_HEAD_LEN: usize = 35;
-
-/// The bytes of a mark before the number of its messages: its hash.
-const MARK_HEAD_LEN: usize = 32;
-
-/// The bytes of the name of a message.
-const NAME_LEN: usize = 32;
-
-/// The bytes of an account before the number of its data's bytes: its key, lamports, owner, and
-/// whether it is executable.
-const ACCOUNT_HEAD_LEN: usize = 73;
 
 /// A batch, and its transactions as they were read.
 #[derive(Drop)]
@@ -124,37 +110,7 @@ fn read_ahead<H: SendGate, R: Threads + Wait + Sync>(
     ensures { IfSome result (IsReadIn bytes.now) }
 {
     let slot = u64::from_le_bytes(*bytes.get(8..)?.first_chunk()?);
-    let rest = behind_snapshot(bytes)?;
-    let place = bytes.len().saturating_sub(rest.len());
-    let read = read_decoded(rt, alloc, &bytes[place..], slot, senders, send);
+    let place = snapshot_length(bytes)?;
+    let read = read_decoded(rt, alloc, bytes.get(place..)?, slot, senders, send);
     Some(Ahead { place, slot, read })
-}
-
-/// What should stand behind a snapshot: it is passed by its lengths alone, and nothing else of it is
-/// looked at.
-fn behind_snapshot(bytes: &[u8]) -> Option<&[u8]> {
-    let head = if bytes.starts_with(b"SOLSNAP2") {
-        LIMITED_HEAD_LEN
-    } else {
-        HEAD_LEN
-    };
-    let accounts = behind_items(bytes.get(head..)?, MARK_HEAD_LEN, NAME_LEN)?;
-    behind_items(accounts, ACCOUNT_HEAD_LEN, 1)
-}
-
-/// What stands behind items, whose number stands before them. Each has `head` bytes, then a number
-/// of parts of `part` bytes, and then these.
-fn behind_items(bytes: &[u8], head: usize, part: usize) -> Option<&[u8]> {
-    let (count, mut rest) = number(bytes)?;
-    for _ in 0..count {
-        let (parts, after) = number(rest.get(head..)?)?;
-        rest = after.get(parts.checked_mul(part)?..)?;
-    }
-    Some(rest)
-}
-
-/// The number in the first four bytes, and the bytes after them.
-fn number(bytes: &[u8]) -> Option<(usize, &[u8])> {
-    let (number, rest) = bytes.split_first_chunk()?;
-    Some((u32::from_le_bytes(*number) as usize, rest))
 }

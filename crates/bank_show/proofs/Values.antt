@@ -18,7 +18,7 @@ use Rattle.tx_report.specs.declared.status.Status.{Status}
 use Rattle.tx_report.specs.declared.status.Status.TheVariants.{Good, Failed, Dropped}
 use Rattle.tx_report.specs.Statuses.{IsStatus, cause_text_of, index_text_of, status_text_of}
 use Rattle.tx_report.specs.Causes.{name_of, drop_name_of}
-use Rattle.bank_show.specs.Show.{entry_json, block_json, text_of_block}
+use Rattle.bank_show.specs.Show.{entry_json, block_json, text_of_entry, text_of_block}
 
 -- ---- texts
 
@@ -95,3 +95,11 @@ no_float block = rw (no_float_entries block.entries) refl
 pub text_of_value : {E : Type 0} (result : Result (List ℕ) E) (bytes : List ℕ) (block : Block) (value : Data) → IfOk result (λ text. text ≡ bytes) → value ≡ block_json block → (has_float value ≡ false → bytes ≡ compact_text value) → IfOk result (λ text. text ≡ text_of_block block)
 text_of_value (Ok text) bytes block value copied same written = copied ∙ (rw same at written) (no_float block)
 text_of_value (Err e) bytes block value copied same written = tt
+
+no_float_entry : (entry : Entry) → has_float (entry_json entry) ≡ false
+no_float_entry entry = rw (no_float_lines entry.lines) refl
+
+-- the text of an entry's value
+pub text_of_entry_value : {E : Type 0} (result : Result (List ℕ) E) (bytes : List ℕ) (entry : Entry) (value : Data) → IfOk result (λ text. text ≡ bytes) → value ≡ entry_json entry → (has_float value ≡ false → bytes ≡ compact_text value) → IfOk result (λ text. text ≡ text_of_entry entry)
+text_of_entry_value (Ok text) bytes entry value copied same written = copied ∙ (rw same at written) (no_float_entry entry)
+text_of_entry_value (Err e) bytes entry value copied same written = tt

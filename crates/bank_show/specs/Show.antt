@@ -44,3 +44,7 @@ block_json block =
 -- the text of a block, with no line feed after it
 abbrev pub text_of_block : Block → List ℕ
 text_of_block block = compact_text (block_json block)
+
+-- the text of one entry
+abbrev pub text_of_entry : Entry → List ℕ
+text_of_entry entry = compact_text (entry_json entry)

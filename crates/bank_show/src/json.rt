@@ -4,7 +4,7 @@ ghost use Rattle.serde_json.specs.Data.{string};
 ghost use Rattle.serde_json.specs.View.{view};
 ghost use Rattle.tx_report.specs.Statuses.{status_text_of};
 ghost use Rattle.block_record.specs.Record.{HasTexts};
-ghost use Rattle.bank_show.specs.Show.{hex_json, lines_json, entry_json, entries_json, block_json, text_of_block};
+ghost use Rattle.bank_show.specs.Show.{hex_json, lines_json, entry_json, entries_json, block_json, text_of_entry, text_of_block};
 
 use block_record::{Block, Entry};
 use serde_json::{Value, json};
@@ -21,6 +21,15 @@ pub fn block_text(alloc: Global, block: &Block) -> Result<Blob, OutOfMemory>
     ensures { IfOk result (λ text. text ≡ text_of_block block.now) }
 {
     let text = block_value(alloc, block)?.to_string(alloc)?;
+    Blob::from_slice(alloc, text.as_bytes())
+}
+
+/// One entry of a record as a JSON object, in the form that it has in the record's.
+pub fn entry_text(alloc: Global, entry: &Entry) -> Result<Blob, OutOfMemory>
+    requires { All IsUtf8 entry.now.lines }
+    ensures { IfOk result (λ text. text ≡ text_of_entry entry.now) }
+{
+    let text = entry_value(alloc, entry)?.to_string(alloc)?;
     Blob::from_slice(alloc, text.as_bytes())
 }
 
@@ -92,14 +101,14 @@ fn status_value(alloc: Global, status: Status) -> Result<Value, AllocError>
     }
 }
 
-/// The bytes as they are: the condition leaves no other case.
+/// The bytes as they are.
 fn text_value(alloc: Global, text: &[u8]) -> Result<Value, AllocError>
     requires { IsUtf8 text.now }
     ensures { IfOk result (λ v. view v ≡ string text.now) }
 {
     match str::from_utf8(text) {
         Ok(text) => Ok(Value::String(String::from_str(alloc, text)?)),
-        Err(_) => Ok(Value::Null),
+        Err(_) => unreachable!(),
     }
 }
 

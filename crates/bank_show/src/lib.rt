@@ -3,4 +3,4 @@
 
 mod json;
 
-pub use json::block_text;
+pub use json::{block_text, entry_text};

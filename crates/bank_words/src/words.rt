@@ -55,7 +55,7 @@ fn texts_of<'a>(alloc: Global, words: &'a [Blob]) -> Result<Vec<&'a str>, AllocE
     for word in words {
         match str::from_utf8(word.as_slice()) {
             Ok(text) => texts.push(text)?,
-            Err(_) => return Err(AllocError),
+            Err(_) => unreachable!(),
         }
     }
     Ok(texts)

@@ -1,5 +1,5 @@
 -- Drawing one transaction after the other.
-use Rattle.std.proofs.Common.{◌≡◌, ℕ, ◌+◌, ◌*◌, ◌%◌, suc, List, length, All, [], ◌∷◌, ◌++◌, refl, sym, arith}
+use Rattle.std.proofs.Common.{◌≡◌, ℕ, ◌+◌, ◌-◌, ◌*◌, ◌%◌, suc, List, length, All, [], ◌∷◌, ◌++◌, refl, sym, arith}
 use Rattle.std.specs.Prelude.{map}
 use Rattle.std.proofs.Math.ListN.{get_or}
 use Rattle.std.specs.List.{range_with_len}
@@ -8,6 +8,8 @@ use Rattle.std.proofs.lemmas.List.Elements.{All-map}
 use Rattle.message_codec.specs.Wire.{tx_bytes}
 use Rattle.snapshot_codec.specs.Batch.{IsShortWire}
 use Rattle.batch_gen.proofs.Sizes.{transfer_len}
+use Rattle.batch_gen.specs.declared.start.TheConstants.{USERS}
+use Rattle.batch_gen.specs.declared.transfers.TheConstants.{PRICES}
 use Rattle.batch_gen.specs.Generator.{state_after, draw, drawn_transfer, wire_of}
 
 -- so many transactions were drawn, and the state is the one after them
@@ -36,8 +38,8 @@ wire_is_short : (number t : ℕ) → IsShortWire (wire_of number t)
 unfolding wire_of
 wire_is_short number t =
     let x = state_after (3 * t) number in
-    let from = draw x 1 % 64 in
-    omega (arith, transfer_len from ((from + 1 + draw x 2 % 63) % 64) (draw x 3 % 1000000) (t + 1))
+    let from = draw x 1 % USERS in
+    omega (arith, transfer_len from ((from + 1 + draw x 2 % (USERS - 1)) % USERS) (draw x 3 % PRICES) (t + 1))
 
 pub drawn_are_short : (number t x : ℕ) (drawn : List (List ℕ)) → AreDrawn number t x drawn → All IsShortWire drawn
 drawn_are_short number t x drawn so_far = rw so_far.wires (All-map IsShortWire (wire_of number) (range_with_len 0 t) (λ k d _. wire_is_short number (get_or (range_with_len 0 t) k d)))

@@ -1,5 +1,5 @@
 -- A chain at its start and a block of transfers, both drawn from a number (the project's own).
-use Rattle.std.specs.Prelude.{ℕ, zero, suc, ◌+◌, ◌*◌, ◌/◌, ◌%◌, ◌^◌, List, [], ◌∷◌, ◌++◌, map, replicate, false}
+use Rattle.std.specs.Prelude.{ℕ, zero, suc, ◌+◌, ◌-◌, ◌*◌, ◌/◌, ◌%◌, ◌^◌, List, [], ◌∷◌, ◌++◌, map, replicate, false}
 use Rattle.std.specs.List.{range_with_len}
 use Rattle.std.specs.Int.{w32, w64, to_le_bytes}
 use Rattle.std.specs.FinMap.{from_entries}
@@ -17,6 +17,8 @@ use Rattle.account_store.specs.declared.sorted.KeyedAccount.{KeyedAccount}
 use Rattle.account_store.specs.State.{State}
 use Rattle.account_store.specs.Sorted.{entries_of}
 use Rattle.snapshot_codec.specs.declared.snapshot.Snapshot.{Snapshot}
+use Rattle.batch_gen.specs.declared.start.TheConstants.{COLLECTOR_LAMPORTS, USER_LAMPORTS, USERS}
+use Rattle.batch_gen.specs.declared.transfers.TheConstants.{PRICES}
 use Rattle.batch_gen.specs.declared.made.Made.{Made}
 
 -- the state of the generator of numbers after one draw more
@@ -54,14 +56,14 @@ wallet lamports = record {
 }
 
 abbrev pub user_account : ℕ → KeyedAccount
-user_account i = record { key = user i; account = wallet 1000000000000 }
+user_account i = record { key = user i; account = wallet USER_LAMPORTS }
 
 abbrev pub collector_account : KeyedAccount
-collector_account = record { key = collector; account = wallet 1000000000 }
+collector_account = record { key = collector; account = wallet COLLECTOR_LAMPORTS }
 
--- the users 0 to 63 and the collector
+-- the users and the collector
 unfoldable pub start_accounts : List KeyedAccount
-start_accounts = map user_account (range_with_len 0 64) ++ collector_account ∷ []
+start_accounts = map user_account (range_with_len 0 USERS) ++ collector_account ∷ []
 
 unfoldable pub start_state : State
 start_state = from_entries (entries_of start_accounts)
@@ -112,9 +114,9 @@ transfer from to price lamports = record {
 -- two different users, a price and lamports, drawn from a state
 abbrev pub drawn_transfer : ℕ → ℕ → Tx
 drawn_transfer x lamports =
-    let from = draw x 1 % 64 in
-    let to = (from + 1 + draw x 2 % 63) % 64 in
-    transfer from to (draw x 3 % 1000000) lamports
+    let from = draw x 1 % USERS in
+    let to = (from + 1 + draw x 2 % (USERS - 1)) % USERS in
+    transfer from to (draw x 3 % PRICES) lamports
 
 -- the bytes of transaction t, after three draws for each before it
 unfoldable pub wire_of : ℕ → ℕ → List ℕ

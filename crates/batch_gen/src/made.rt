@@ -1,6 +1,7 @@
 //! A chain at its start, and a block for it.
 ghost use Rattle.std.specs.Prelude.{◌≡◌, ◌≤◌, ◌<◌, length, All, IfOk, map};
 ghost use Rattle.std.specs.List.{range_with_len};
+ghost use Rattle.sol_base.specs.Limits.{max_transactions};
 ghost use Rattle.snapshot_codec.specs.Batch.{IsShortWire};
 ghost use Rattle.snapshot_codec.specs.Snapshot.{IsReadable};
 ghost use Rattle.batch_gen.specs.Generator.{made, wire_of};
@@ -38,10 +39,10 @@ fn draw_wires(alloc: Global, number: u64, count: u32) -> Result<Items<Blob>, Out
 /// between the users for slot 1, drawn from `number`. Equal numbers make equal blocks, and a longer
 /// block begins with a shorter one.
 pub fn make(alloc: Global, number: u64, count: u32) -> Result<Made, OutOfMemory>
-    requires { (1 ≤ count) × (count ≤ 16384) }
+    requires { (1 ≤ count) × (count ≤ max_transactions) }
     ensures exact { IfOk result (λ m. m ≡ made number count) }
     ensures runnable { IfOk result (λ m. IsReadable m.snapshot × (m.snapshot.slot < m.batch.slot)
-        × (length m.batch.wires ≤ 16384) × All IsShortWire m.batch.wires) }
+        × (length m.batch.wires ≤ max_transactions) × All IsShortWire m.batch.wires) }
 {
     let snapshot = start_snapshot(alloc)?;
     let wires = draw_wires(alloc, number, count)?;

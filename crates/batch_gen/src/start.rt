@@ -72,10 +72,13 @@ fn start_accounts_of(alloc: Global) -> Result<Accounts, OutOfMemory>
     ensures state { IfOk result IsState }
     ensures few { IfOk result (λ accounts. len accounts ≡ 65) }
 {
-    let Ok(accounts) = Accounts::from_sorted(alloc, list_accounts(alloc)?) else {
-        return Err(OutOfMemory);
-    };
-    Ok(accounts)
+    match Accounts::from_sorted(alloc, list_accounts(alloc)?) {
+        Ok(accounts) => Ok(accounts),
+        Err(fault) => match fault {
+            StoreFault::OutOfMemory => Err(OutOfMemory),
+            _ => unreachable!(),
+        },
+    }
 }
 
 /// The one block before, which has no messages.

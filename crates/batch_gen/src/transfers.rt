@@ -1,6 +1,8 @@
 //! Transfers between two users, as transactions and as bytes.
-ghost use Rattle.std.specs.Prelude.{◌≡◌, ◌≤◌, ◌+◌, ◌%◌, ◌∷◌, [], ◌++◌, IfOk, ◌<◌, ◌^◌};
+ghost use Rattle.std.specs.Prelude.{◌≡◌, ◌≤◌, ◌+◌, ◌-◌, ◌%◌, ◌∷◌, [], ◌++◌, IfOk, ◌<◌, ◌^◌};
 ghost use Rattle.message_codec.specs.Wire.{tx_bytes};
+ghost use Rattle.batch_gen.specs.declared.start.TheConstants.{USERS};
+ghost use Rattle.batch_gen.specs.declared.transfers.TheConstants.{PRICES};
 ghost use Rattle.batch_gen.specs.Generator.{state_after, draw, unit_limit, unit_price, payment, transfer as transfer_of, drawn_transfer};
 
 use crate::draws::Draws;
@@ -143,8 +145,8 @@ fn transfer_wire(
 
 /// Two different users.
 fn draw_users(draws: &mut Draws) -> (u8, u8)
-    ensures from { result.0 ≡ draw draws.old.state 1 % 64 }
-    ensures to { result.1 ≡ (result.0 + 1 + draw draws.old.state 2 % 63) % 64 }
+    ensures from { result.0 ≡ draw draws.old.state 1 % USERS }
+    ensures to { result.1 ≡ (result.0 + 1 + draw draws.old.state 2 % (USERS - 1)) % USERS }
     ensures state { draws.new.state ≡ state_after 2 draws.old.state }
 {
     let users = u64::from(USERS);
@@ -155,7 +157,7 @@ fn draw_users(draws: &mut Draws) -> (u8, u8)
 
 /// A price in micro-lamports a compute unit.
 fn draw_price(draws: &mut Draws) -> u64
-    ensures price { result ≡ draw draws.old.state 1 % 1000000 }
+    ensures price { result ≡ draw draws.old.state 1 % PRICES }
     ensures state { draws.new.state ≡ state_after 1 draws.old.state }
 {
     draws.next() % PRICES

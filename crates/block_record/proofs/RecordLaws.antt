@@ -1,30 +1,32 @@
 -- Records: what is spelled is read again, and what is read is spelled so.
-use Rattle.std.proofs.Common.{◌≡◌, ◌<◌, ◌≤◌, ◌^◌, ℕ, List, [], ◌++◌, length, Result, Ok, Err, true, refl, sym, ap, subst, ◌∙◌, append_assoc, lit<, All, arith}
+use Rattle.std.proofs.Common.{◌≡◌, ◌<◌, ◌≤◌, ◌^◌, ℕ, List, [], ◌++◌, ◌-◌, length, take, drop, Result, Ok, Err, true, refl, sym, ap, subst, ◌∙◌, append_assoc, lit<, All, arith, length-drop}
 use Rattle.std.specs.Prelude.{IfOk, IsUtf8, codes, bytes_eq, nat_le}
 use Rattle.std.specs.Int.{w16, w32, w64, to_le_bytes}
 use Rattle.std.specs.Str.{is_utf8}
 use Rattle.std.specs.List.{AllByRecursion, flat_map}
 use Rattle.std.specs.Cmp.Lexicographic.{bytes_decides}
 use Rattle.std.proofs.lemmas.Bool.Decides.{nat_tests}
-use Rattle.std.proofs.lemmas.List.{append-nil}
+use Rattle.std.proofs.Math.Seq.{take-append_seam}
+use Rattle.std.proofs.lemmas.List.{append-nil, length-append, take-append-drop}
 use Rattle.std.proofs.lemmas.List.Elements.{All-from_recursion, recursion_from_All}
 use Rattle.std.proofs.lemmas.Str.{IsUtf8-from_is_utf8, is_utf8-from_IsUtf8}
 use Rattle.spec_base.specs.Bytes.{IsBytes, sized_bytes}
 use Rattle.message_codec.specs.Wire.{max_wire_len}
-use Rattle.spec_base.specs.Reading.{Gives}
-use Rattle.spec_base.proofs.Binding.{bind_ok, ok_parts, whole_ok, onward, follows}
+use Rattle.spec_base.specs.Reading.{Gives, place}
+use Rattle.spec_base.proofs.Binding.{bind_ok, ok_same, ok_parts, whole_ok, onward, follows}
 use Rattle.spec_base.proofs.Formats.{Reads, by_taking, field_reads, u16_reads, u32_reads, u64_reads, read_if_reads, many_reads}
 use Rattle.sol_base.specs.Keys.{IsKey, IsHash, key_bytes, hash_bytes}
-use Rattle.sol_base.proofs.KeyLaws.{key_reads, hash_reads}
+use Rattle.format_fields.proofs.FieldLaws.{key_reads, hash_reads}
 use Rattle.tx_report.specs.Statuses.{IsStatus, status_bytes_of}
 use Rattle.tx_report.proofs.StatusLaws.{status_reads}
-use Rattle.snapshot_codec.proofs.Sized.{sized_reads, sized_field_reads, IsCount, count_fits, count_le}
+use Rattle.format_fields.proofs.Sized.{sized_reads, sized_field_reads, IsCount, count_fits, count_le}
 use Rattle.block_record.specs.declared.fault.RecordFault.{RecordFault}
 use Rattle.block_record.specs.declared.fault.RecordFault.TheVariants.{Truncated, BadField, Trailing}
 use Rattle.block_record.specs.declared.block.Entry.{Entry}
 use Rattle.block_record.specs.declared.block.Block.{Block}
-use Rattle.block_record.specs.Record.{bytes_of_lines, entry_bytes, entries_bytes, heading_bytes, front_bytes, bytes_of_record, AreCountable, IsCounted, HasTexts, HasWidths, IsRecord}
-use Rattle.block_record.specs.RecordReading.{Read, is_record_memory, magic_at, wire_len_at, wire_at, text_at, line_at, lines_at, entry_at, entry_count_at, entries_at, block_at, record_of}
+use Rattle.block_record.specs.declared.block.Front.{Front}
+use Rattle.block_record.specs.Record.{bytes_of_lines, entry_bytes, entries_bytes, heading_bytes, front_bytes, bytes_of_record, AreCountable, IsCounted, HasTexts, HasWidths, IsRecord, BeginsWithRecord}
+use Rattle.block_record.specs.RecordReading.{Read, is_record_memory, magic_at, wire_len_at, wire_at, text_at, line_at, lines_at, entry_at, entry_count_at, entries_at, block_at, record_of, front_of}
 use Rattle.block_record.specs.Laws.{RoundTrip}
 
 -- transactions and lines
@@ -289,6 +291,41 @@ is_only bytes result h b is = subst (Gives is_record_memory (λ v. v) result) (a
 
 pub round_trips : RoundTrip
 round_trips b fits are has = again (bytes_of_record b) b (record { spelled = refl; counted = fits; texts = are; widths = has })
+
+-- ---- a record with other bytes after it
+pub front_takes : (bytes : List ℕ) (front : Front) → IsBytes bytes → front_of bytes ≡ Ok front → BeginsWithRecord bytes front
+unfolding front_of
+front_takes bytes front are h =
+    let a = bind_ok (block_at (length bytes) bytes) _ front h in
+    let t = block_takes (length bytes) bytes a.0.0 a.0.1 are a.1 in
+    subst (BeginsWithRecord bytes) (ok_same _ _ a.2) (begins a.0.0 a.0.1 t.0 t.1)
+  where
+    begins : (b : Block) (rest : List ℕ) → BlockFits b → bytes ≡ bytes_of_record b ++ rest → BeginsWithRecord bytes (record { block = b; length = place (length bytes) rest })
+    begins b rest fits split =
+        let e : place (length bytes) rest ≡ length (bytes_of_record b) = omega (arith, ap length split, length-append (bytes_of_record b) rest) in
+        let text : take (place (length bytes) rest) bytes ≡ bytes_of_record b = ap (λ n. take n bytes) e ∙ ap (λ (l : List ℕ). take (length (bytes_of_record b)) l) split ∙ take-append_seam (bytes_of_record b) rest in
+        record {
+          within = omega arith;
+          is = record { spelled = text; counted = counted b fits; texts = texts b fits; widths = widths b fits };
+        }
+
+pub front_again : (bytes : List ℕ) (front : Front) → BeginsWithRecord bytes front → front_of bytes ≡ Ok front
+unfolding front_of
+front_again bytes front begins =
+    let rest = drop front.length bytes in
+    let is = begins.is in
+    let read : block_at (length bytes) (bytes_of_record front.block ++ rest) ≡ Ok (front.block, rest) = block_again (length bytes) front.block rest (fits_reading front.block is.counted is.texts is.widths) in
+    let split : bytes_of_record front.block ++ rest ≡ bytes = ap (λ (l : List ℕ). l ++ rest) (sym is.spelled) ∙ take-append-drop front.length bytes in
+    let here : block_at (length bytes) bytes ≡ Ok (front.block, rest) = subst (λ (l : List ℕ). block_at (length bytes) l ≡ Ok (front.block, rest)) split read in
+    let long : length bytes - length rest ≡ front.length = let t = begins.within in omega (arith, length-drop front.length bytes) in
+    rw here (ap (λ n. let r : Result Front RecordFault = Ok (record { block = front.block; length = n }) in r) long)
+
+pub front_is_found : (bytes : List ℕ) (result : Result Front RecordFault) → IsBytes bytes → Gives is_record_memory (λ v. v) result (front_of bytes) → IfOk result (λ front. BeginsWithRecord bytes front)
+front_is_found bytes (Ok front) are h = front_takes bytes front are h
+front_is_found bytes (Err e) are h = tt
+
+pub front_is_only : (bytes : List ℕ) (result : Result Front RecordFault) → Gives is_record_memory (λ v. v) result (front_of bytes) → (front : Front) → BeginsWithRecord bytes front → Gives is_record_memory (λ v. v) result (Ok front)
+front_is_only bytes result h front begins = subst (Gives is_record_memory (λ v. v) result) (front_again bytes front begins) h
 
 -- ---- the hash in parts
 -- the entries stand behind the heading

@@ -1,5 +1,5 @@
 -- The record of a block as bytes (the project's own format).
-use Rattle.std.specs.Prelude.{◌≡◌, ℕ, ◌≤◌, ◌<◌, ◌^◌, List, ◌++◌, length, All, codes, IsUtf8}
+use Rattle.std.specs.Prelude.{◌≡◌, ℕ, ◌≤◌, ◌<◌, ◌^◌, List, ◌++◌, length, take, All, codes, IsUtf8}
 use Rattle.std.specs.Int.{w16, w32, w64, to_le_bytes}
 use Rattle.std.specs.List.{flat_map}
 use Rattle.sha2.specs.Sha256.{sha256}
@@ -12,6 +12,7 @@ use Rattle.message_codec.specs.Wire.{IsCountable, max_wire_len}
 use Rattle.tx_report.specs.Statuses.{IsStatus, status_bytes_of}
 use Rattle.block_record.specs.declared.block.Entry.{Entry}
 use Rattle.block_record.specs.declared.block.Block.{Block}
+use Rattle.block_record.specs.declared.block.Front.{Front}
 
 -- the number of lines, and the lines
 abbrev pub bytes_of_lines : List (List ℕ) → List ℕ
@@ -87,3 +88,8 @@ pub record IsRecord (bytes : List ℕ) (block : Block) : Type 0 where
   pub counted : IsCounted block
   pub texts : HasTexts block
   pub widths : HasWidths block
+
+-- the bytes begin with the record of that block
+pub record BeginsWithRecord (bytes : List ℕ) (front : Front) : Type 0 where
+  pub within : front.length ≤ length bytes
+  pub is : IsRecord (take front.length bytes) front.block

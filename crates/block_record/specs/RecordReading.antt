@@ -2,8 +2,8 @@
 use Rattle.std.specs.Prelude.{ℕ, List, length, codes, bytes_eq, Bool, true, false, nat_le, Result, Ok}
 use Rattle.std.specs.Int.{w16, w32, w64}
 use Rattle.std.specs.Str.{is_utf8}
-use Rattle.spec_base.specs.Reading.{◌>>=◌, field_at, number_at, read_if, many, whole}
-use Rattle.sol_base.specs.Keys.{key_at, hash_at}
+use Rattle.spec_base.specs.Reading.{◌>>=◌, field_at, number_at, read_if, many, place, whole}
+use Rattle.format_fields.specs.Fields.{key_at, hash_at}
 use Rattle.sol_base.specs.Limits.{max_transactions}
 use Rattle.message_codec.specs.Wire.{max_wire_len}
 use Rattle.tx_report.specs.Statuses.{status_at}
@@ -11,6 +11,7 @@ use Rattle.block_record.specs.declared.fault.RecordFault.{RecordFault}
 use Rattle.block_record.specs.declared.fault.RecordFault.TheVariants.{Truncated, BadField, Trailing, OutOfMemory}
 use Rattle.block_record.specs.declared.block.Entry.{Entry}
 use Rattle.block_record.specs.declared.block.Block.{Block}
+use Rattle.block_record.specs.declared.block.Front.{Front}
 
 abbrev pub is_record_memory : RecordFault → Bool
 is_record_memory (Truncated _) = false
@@ -109,3 +110,9 @@ unfoldable pub record_of : List ℕ → Result Block RecordFault
 record_of bytes = do
   block ← block_at (length bytes) bytes
   whole Trailing (length bytes) block
+
+-- the block whose record the bytes begin with, or the first refusal
+unfoldable pub front_of : List ℕ → Result Front RecordFault
+front_of bytes = do
+  block ← block_at (length bytes) bytes
+  Ok (record { block = block.0; length = place (length bytes) block.1 })

@@ -42,3 +42,10 @@ pub struct Listed {
     /// Whether the entries end before one that is not admitted.
     pub halted: bool,
 }
+
+/// A block whose record stands at the front of some bytes, and how many of them it takes.
+#[derive(Drop)]
+pub struct Front {
+    pub block: Block,
+    pub length: usize,
+}

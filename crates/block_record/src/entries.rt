@@ -1,12 +1,13 @@
 //! The entries of a record.
-ghost use Rattle.spec_base.specs.Reading.{Gives, many};
+ghost use Rattle.spec_base.specs.Reading.{Gives};
 ghost use Rattle.tx_report.specs.Statuses.{status_at};
 ghost use Rattle.block_record.specs.declared.fault.RecordFault.TheVariants.{Truncated as cut, BadField as bad_field};
-ghost use Rattle.block_record.specs.RecordReading.{is_record_memory, wire_len_at, wire_at, entry_at, entry_count_at, entries_at};
+ghost use Rattle.block_record.specs.RecordReading.{is_record_memory, wire_len_at, wire_at, entry_count_at, entries_at};
 
 use crate::block::Entry;
 use crate::fault::RecordFault;
 use crate::lines::read_lines;
+use format_fields::{Item, read_many};
 use message_codec::MAX_WIRE_LEN;
 use sol_base::{Blob, Items};
 use spec_base::{array_field, bytes_field, place, u16_field, u32_field, u64_field};
@@ -56,23 +57,29 @@ fn read_status(total: usize, bytes: &[u8]) -> Result<(Status, &[u8]), RecordFaul
     }
 }
 
-#[tactic(auto, unfolding(crate::specs::RecordReading::entry_at))]
-fn read_entry(alloc: Global, total: usize, bytes: &[u8]) -> Result<(Entry, &[u8]), RecordFault>
-    ensures { Gives is_record_memory (λ x. (x.0, x.1.now)) result (entry_at total bytes.now) }
-{
-    let (wire, rest) = read_wire(alloc, total, bytes)?;
-    let (status, rest) = read_status(total, rest)?;
-    let (units, rest) = u64_field::<RecordFault>(total, rest)?;
-    let (fee, rest) = u64_field::<RecordFault>(total, rest)?;
-    let (lines, rest) = read_lines(alloc, total, rest)?;
-    let entry = Entry {
-        wire,
-        status,
-        units,
-        fee,
-        lines,
-    };
-    Ok((entry, rest))
+impl Item<RecordFault> for Entry {
+    ghost use Rattle.block_record.specs.RecordReading.{entry_at};
+
+    ghost item_at = { entry_at };
+
+    const LEAST_LEN: usize = ENTRY_LEN;
+
+    #[tactic(auto, unfolding(crate::specs::RecordReading::entry_at))]
+    fn read(alloc: Global, total: usize, bytes: &[u8]) -> Result<(Entry, &[u8]), RecordFault> {
+        let (wire, rest) = read_wire(alloc, total, bytes)?;
+        let (status, rest) = read_status(total, rest)?;
+        let (units, rest) = u64_field::<RecordFault>(total, rest)?;
+        let (fee, rest) = u64_field::<RecordFault>(total, rest)?;
+        let (lines, rest) = read_lines(alloc, total, rest)?;
+        let entry = Entry {
+            wire,
+            status,
+            units,
+            fee,
+            lines,
+        };
+        Ok((entry, rest))
+    }
 }
 
 #[tactic(auto, unfolding(crate::specs::RecordReading::entry_count_at, spec_base::specs::Reading::read_if))]
@@ -88,26 +95,6 @@ fn read_entry_count(total: usize, bytes: &[u8]) -> Result<(u32, &[u8]), RecordFa
     Ok((count, rest))
 }
 
-/// So many entries, and the bytes after them.
-fn read_each_entry(
-    alloc: Global,
-    total: usize,
-    count: u32,
-    bytes: &[u8],
-) -> Result<(Items<Entry>, &[u8]), RecordFault>
-    ensures { Gives is_record_memory (λ x. (x.0, x.1.now)) result
-        (many (entry_at total) count bytes.now) }
-{
-    let mut entries = Items::with_capacity(alloc, (count as usize).min(bytes.len() / ENTRY_LEN))?;
-    let mut rest = bytes;
-    for _ in 0..count {
-        let (entry, after) = read_entry(alloc, total, rest)?;
-        entries.push(entry)?;
-        rest = after;
-    }
-    Ok((entries, rest))
-}
-
 /// The entries at the front of the bytes, and the bytes after them.
 #[tactic(auto, unfolding(crate::specs::RecordReading::entries_at))]
 pub(crate) fn read_entries(
@@ -118,5 +105,5 @@ pub(crate) fn read_entries(
     ensures { Gives is_record_memory (λ x. (x.0, x.1.now)) result (entries_at total bytes.now) }
 {
     let (count, rest) = read_entry_count(total, bytes)?;
-    read_each_entry(alloc, total, count, rest)
+    read_many::<RecordFault, Entry>(alloc, total, count as usize, rest)
 }

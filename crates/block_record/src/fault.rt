@@ -1,6 +1,7 @@
 //! Why bytes are no record.
 ghost use Rattle.std.specs.Prelude.{◌≡◌};
 
+use format_fields::MemoryRefusal;
 use sol_base::OutOfMemory;
 use spec_base::Refusal;
 use thiserror::Error;
@@ -39,5 +40,11 @@ impl Refusal for RecordFault {
 
     fn truncated(at: usize) -> RecordFault {
         RecordFault::Truncated { at }
+    }
+}
+
+impl MemoryRefusal for RecordFault {
+    fn out_of_memory() -> RecordFault {
+        RecordFault::OutOfMemory
     }
 }

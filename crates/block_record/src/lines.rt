@@ -1,9 +1,10 @@
 //! The log lines of an entry.
 ghost use Rattle.std.specs.Prelude.{◌≡◌};
-ghost use Rattle.spec_base.specs.Reading.{Gives, many};
-ghost use Rattle.block_record.specs.RecordReading.{is_record_memory, text_at, line_at, lines_at};
+ghost use Rattle.spec_base.specs.Reading.{Gives};
+ghost use Rattle.block_record.specs.RecordReading.{is_record_memory, text_at, lines_at};
 
 use crate::fault::RecordFault;
+use format_fields::{Item, read_many};
 use sol_base::{Blob, Items, is_text};
 use spec_base::{bytes_field, place, u16_field};
 use std::alloc::Global;
@@ -30,32 +31,19 @@ fn read_text(
     Ok((Blob::from_slice(alloc, field)?, rest))
 }
 
-#[tactic(auto, unfolding(crate::specs::RecordReading::line_at))]
-fn read_line(alloc: Global, total: usize, bytes: &[u8]) -> Result<(Blob, &[u8]), RecordFault>
-    ensures { Gives is_record_memory (λ x. (x.0, x.1.now)) result (line_at total bytes.now) }
-{
-    let (count, rest) = u16_field::<RecordFault>(total, bytes)?;
-    read_text(alloc, total, usize::from(count), rest)
-}
+/// A line of an entry, one field after its length.
+impl Item<RecordFault> for Blob {
+    ghost use Rattle.block_record.specs.RecordReading.{line_at};
 
-/// So many lines, and the bytes after them.
-fn read_each_line(
-    alloc: Global,
-    total: usize,
-    count: u16,
-    bytes: &[u8],
-) -> Result<(Items<Blob>, &[u8]), RecordFault>
-    ensures { Gives is_record_memory (λ x. (x.0, x.1.now)) result
-        (many (line_at total) count bytes.now) }
-{
-    let mut lines = Items::with_capacity(alloc, usize::from(count).min(bytes.len() / LENGTH_LEN))?;
-    let mut rest = bytes;
-    for _ in 0..count {
-        let (line, after) = read_line(alloc, total, rest)?;
-        lines.push(line)?;
-        rest = after;
+    ghost item_at = { line_at };
+
+    const LEAST_LEN: usize = LENGTH_LEN;
+
+    #[tactic(auto, unfolding(crate::specs::RecordReading::line_at))]
+    fn read(alloc: Global, total: usize, bytes: &[u8]) -> Result<(Blob, &[u8]), RecordFault> {
+        let (count, rest) = u16_field::<RecordFault>(total, bytes)?;
+        read_text(alloc, total, usize::from(count), rest)
     }
-    Ok((lines, rest))
 }
 
 /// The lines at the front of the bytes, and the bytes after them.
@@ -68,5 +56,5 @@ pub(crate) fn read_lines(
     ensures { Gives is_record_memory (λ x. (x.0, x.1.now)) result (lines_at total bytes.now) }
 {
     let (count, rest) = u16_field::<RecordFault>(total, bytes)?;
-    read_each_line(alloc, total, count, rest)
+    read_many::<RecordFault, Blob>(alloc, total, usize::from(count), rest)
 }

@@ -2,14 +2,15 @@
 ghost use Rattle.std.specs.Prelude.{Ok, IfOk};
 ghost use Rattle.spec_base.specs.Reading.{Gives};
 ghost use Rattle.block_record.specs.declared.block.Block.{Block as BlockValue};
-ghost use Rattle.block_record.specs.Record.{IsRecord};
-ghost use Rattle.block_record.specs.RecordReading.{is_record_memory, magic_at, block_at, record_of};
+ghost use Rattle.block_record.specs.declared.block.Front.{Front as FrontValue};
+ghost use Rattle.block_record.specs.Record.{BeginsWithRecord, IsRecord};
+ghost use Rattle.block_record.specs.RecordReading.{is_record_memory, magic_at, block_at, front_of, record_of};
 
-use crate::block::Block;
+use crate::block::{Block, Front};
 use crate::entries::read_entries;
 use crate::fault::RecordFault;
 use crate::writing::MAGIC;
-use sol_base::{hash_field, key_field};
+use format_fields::{hash_field, key_field};
 use spec_base::{array_field, place, u64_field};
 use std::alloc::Global;
 
@@ -79,4 +80,30 @@ pub fn read_record(alloc: Global, bytes: &[u8]) -> Result<Block, RecordFault>
     ensures exact { Gives is_record_memory (λ v. v) result (record_of bytes.now) }
 {
     read_whole(alloc, bytes)
+}
+
+#[tactic(auto, unfolding(crate::specs::RecordReading::front_of))]
+fn read_begun(alloc: Global, bytes: &[u8]) -> Result<Front, RecordFault>
+    ensures { Gives is_record_memory (λ front. front) result (front_of bytes.now) }
+{
+    let total = bytes.len();
+    let (block, rest) = read_fields(alloc, total, bytes)?;
+    let length = place(total, rest);
+    Ok(Front { block, length })
+}
+
+/// The block whose record the bytes begin with, and how many of them it takes. Other bytes may
+/// follow it.
+///
+/// The refusals are those of `read_record`, but for the last.
+pub fn read_front(alloc: Global, bytes: &[u8]) -> Result<Front, RecordFault>
+    // What is read is spelled so.
+    ensures found { IfOk result (λ front. BeginsWithRecord bytes.now front) }
+    // What is spelled so is read, unless memory runs out.
+    ensures only { (front : FrontValue) → BeginsWithRecord bytes.now front →
+        Gives is_record_memory (λ v. v) result (Ok front) }
+    // Which refusal it is.
+    ensures exact { Gives is_record_memory (λ v. v) result (front_of bytes.now) }
+{
+    read_begun(alloc, bytes)
 }

@@ -4,15 +4,16 @@ ghost use Rattle.std.specs.List.{flat_map};
 ghost use Rattle.sha2.specs.Hashers.{Holds256};
 ghost use Rattle.spec_base.specs.Bytes.{sized_bytes};
 ghost use Rattle.message_codec.specs.Wire.{IsCountable, max_wire_len};
-ghost use Rattle.snapshot_codec.specs.Output.{Adds};
+ghost use Rattle.format_fields.specs.Output.{Adds};
 ghost use Rattle.snapshot_codec.specs.Snapshot.{IsWritable, snapshot_bytes};
 ghost use Rattle.block_record.specs.Record.{AreCountable, IsCounted, bytes_of_lines, entry_bytes, heading_bytes, front_bytes, block_bytes, hash_of_block, bytes_of_record};
 
 use crate::block::{Block, Entry};
 use crate::entries::ENTRY_LEN;
 use crate::lines::LENGTH_LEN;
+use format_fields::Output;
 use sha2::{Digest, Sha256};
-use snapshot_codec::{Output, Snapshot, append_snapshot, room_before};
+use snapshot_codec::{Snapshot, append_snapshot, room_before};
 use sol_base::{Blob, Hash32, Items, Key, OutOfMemory};
 use std::alloc::Global;
 use tx_report::status_bytes;

@@ -1,6 +1,5 @@
 -- The end of a block: the fees are burned and paid, and final programs become executable (Solana
--- for
--- the fees; the rounding, and programs that transactions write, are the project's own).
+-- for the fees; the rounding, and programs that transactions write, are the project's own).
 use Rattle.std.specs.Prelude.{ℕ, ◌+◌, ◌==◌, ◌&&◌, not, nat_le, Bool, List, length, map, sum_by, if◌then◌else◌}
 use Rattle.std.specs.FinMap.{from_entries}
 use Rattle.sol_base.specs.declared.key.Key.{Key}

@@ -1,5 +1,5 @@
--- One block: the record of a serial run, and the snapshot after it (Solana; the formats are the
--- project's own).
+-- One block: the record of a serial run, and the snapshot after it (Solana; the formats, and that
+-- dropped transactions stand in the record, are the project's own).
 use Rattle.std.specs.Prelude.{ℕ, ◌+◌, Bool, true, false, List, [], ◌∷◌, map, replicate, take, Option, Some, None}
 use Rattle.std.specs.List.{filter_map, zip}
 use Rattle.std.specs.FinMap.Entries.{by_order}

@@ -1,5 +1,6 @@
--- What a callee is given (Solana). A key that the caller lists several times has the rights of all
--- its metas together.
+-- What a callee is given (Solana; that accounts are found by key in the caller's own list, and the
+-- order of the refusals, are the project's own). A key that the caller lists several times has the
+-- rights of all its metas together.
 use Rattle.std.specs.Prelude.{◌≡◌, ℕ, ◌<◌, ◌⊎◌, ◌==◌, ◌&&◌, ◌||◌, not, Bool, true, false, List, length, map, position, is_none, unwrap_or, Option, Some, None, Result, Ok, Err, if◌then◌else◌}
 use Rattle.std.specs.List.{list_any, position_from}
 use Rattle.spec_base.specs.Reading.{◌>>=◌}

@@ -10,7 +10,7 @@ use crate::fault::CallFault;
 use crate::reads::{ITEM_LEN, item_addr};
 use crate::signers::read_signers;
 use sbpf_memory::{Memory, read_array, read_blob};
-use sol_base::{Blob, Items, Key};
+use sol_base::{Blob, Items, Key, MAX_METAS};
 use spec_base::number_in;
 use std::alloc::Global;
 
@@ -42,17 +42,15 @@ struct Call {
     data_len: u64,
 }
 
-/// What a call costs before anything of it is read (the project's own).
-const CALL_COST: u64 = 1_000;
+/// What a call costs before anything of it is read (Solana).
+pub(crate) const CALL_COST: u64 = 1_000;
 
-/// The bytes of data that cost one unit (the project's own).
-const BYTES_OF_UNIT: u64 = 250;
+/// The bytes of data that cost one unit (Solana; that account data cost nothing is the project's
+/// own).
+pub(crate) const BYTES_OF_UNIT: u64 = 250;
 
-/// The most metas of a call (the project's own).
-const MAX_METAS: u64 = 255;
-
-/// The most bytes of a call's data (the project's own).
-const MAX_CALL_DATA: u64 = 10_240;
+/// The most bytes of a call's data (Solana).
+pub(crate) const MAX_CALL_DATA: u64 = 10_240;
 
 /// The bytes of a call (the C interface).
 const CALL_LEN: usize = 40;
@@ -73,7 +71,7 @@ pub fn read_call(
 {
     charge(units, CALL_COST)?;
     let (call, program) = read_header(memory, arguments[0])?;
-    if call.meta_count > MAX_METAS {
+    if call.meta_count > MAX_METAS as u64 {
         return Err(CallFault::TooManyAccounts);
     }
     if call.data_len > MAX_CALL_DATA {

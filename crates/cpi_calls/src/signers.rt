@@ -11,8 +11,8 @@ use sol_base::{Blob, Items, Key, MAX_SEED_LEN, MAX_SEEDS, program_key};
 use spec_base::number_in;
 use std::alloc::Global;
 
-/// The most signers of a call (the project's own).
-const MAX_SIGNERS: u64 = 16;
+/// The most signers of a call (Solana).
+pub(crate) const MAX_SIGNERS: u64 = 16;
 
 /// The keys of a list of signers, which `caller` signs for.
 pub(crate) fn read_signers(

@@ -1,4 +1,5 @@
--- The budget of a message (Solana).
+-- The budget of a message (Solana; that built-in programs have no smaller default, and that a heap
+-- and loaded data cost nothing, is the project's own).
 use Rattle.std.specs.Prelude.{ℕ, ◌*◌, Bool, false, not, List, take, min, count_by, slice_get, Option, Some, None, unwrap_or, Result, Ok, if◌then◌else◌}
 use Rattle.std.specs.Option.{option_map_or}
 use Rattle.std.specs.List.{filter_map, enumerate_from}
@@ -10,6 +11,8 @@ use Rattle.message_codec.specs.declared.message.Instruction.{Instruction}
 use Rattle.message_codec.specs.declared.message.Message.{Message}
 use Rattle.fee_rules.specs.declared.request.Request.{Request}
 use Rattle.fee_rules.specs.declared.request.Asked.{Asked}
+use Rattle.fee_rules.specs.declared.request.TheConstants.{MIN_HEAP_FRAME}
+use Rattle.fee_rules.specs.declared.budget.TheConstants.{MAX_LOADED_DATA, MAX_UNITS, UNITS_PER_INSTRUCTION}
 use Rattle.fee_rules.specs.declared.budget.Budget.{Budget}
 use Rattle.fee_rules.specs.declared.budget.BudgetFault.{BudgetFault}
 use Rattle.fee_rules.specs.declared.budget.BudgetFault.TheVariants.{BadBudget, RepeatedBudget}
@@ -55,10 +58,10 @@ faults_in keys instructions =
 -- the budget for what is asked, with so many instructions that are no requests
 abbrev pub budget_for : Asked → ℕ → Budget
 budget_for asked others = record {
-  limit = min (unwrap_or asked.limit (200000 * others)) 1400000;
+  limit = min (unwrap_or asked.limit (UNITS_PER_INSTRUCTION * others)) MAX_UNITS;
   price = unwrap_or asked.price 0;
-  heap = unwrap_or asked.heap 32768;
-  loaded = min (unwrap_or asked.loaded 67108864) 67108864;
+  heap = unwrap_or asked.heap MIN_HEAP_FRAME;
+  loaded = min (unwrap_or asked.loaded MAX_LOADED_DATA) MAX_LOADED_DATA;
 }
 
 -- the instructions that are no requests

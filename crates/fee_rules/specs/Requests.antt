@@ -3,6 +3,7 @@ use Rattle.std.specs.Prelude.{ℕ, ◌%◌, Bool, ◌&&◌, List, [], ◌∷◌,
 use Rattle.std.specs.List.{filter_map}
 use Rattle.std.specs.Option.{option_map}
 use Rattle.std.specs.Int.{Width, w32, w64, byte_len, from_le_bytes}
+use Rattle.fee_rules.specs.declared.request.TheConstants.{HEAP_FRAME_STEP, MAX_HEAP_FRAME, MIN_HEAP_FRAME}
 use Rattle.fee_rules.specs.declared.request.Request.{Request}
 use Rattle.fee_rules.specs.declared.request.Request.TheVariants.{HeapFrame, UnitLimit, UnitPrice, LoadedLimit}
 use Rattle.fee_rules.specs.declared.request.Asked.{Asked}
@@ -14,9 +15,10 @@ number_of width bytes =
     then Some (from_le_bytes width (take (byte_len width) bytes))
     else None
 
--- a heap frame is a multiple of 1,024 from 32,768 to 262,144
+-- a heap frame is a multiple of the step, from the fewest bytes to the most
 abbrev pub is_heap_frame : ℕ → Bool
-is_heap_frame bytes = bytes % 1024 == 0 && nat_le 32768 bytes && nat_le bytes 262144
+is_heap_frame bytes =
+    bytes % HEAP_FRAME_STEP == 0 && nat_le MIN_HEAP_FRAME bytes && nat_le bytes MAX_HEAP_FRAME
 
 abbrev pub heap_frame_of : ℕ → Option Request
 heap_frame_of bytes = if is_heap_frame bytes then Some (HeapFrame bytes) else None

@@ -10,13 +10,14 @@ use sol_base::{COMPUTE_BUDGET_PROGRAM, Key};
 use thiserror::Error;
 
 /// The most compute units of a transaction (Solana).
-pub const MAX_UNITS: u32 = 1_400_000;
+const MAX_UNITS: u32 = 1_400_000;
 
-/// The compute units of an instruction, where its message has no limit of its own (Solana).
-pub const UNITS_PER_INSTRUCTION: u32 = 200_000;
+/// The compute units of an instruction, where its message has no limit of its own (Solana; that
+/// built-in programs have as many is the project's own).
+const UNITS_PER_INSTRUCTION: u32 = 200_000;
 
 /// The most bytes of data that a transaction may load (Solana).
-pub const MAX_LOADED_DATA: u32 = 67_108_864;
+const MAX_LOADED_DATA: u32 = 67_108_864;
 
 /// What a message asks of the machine.
 #[derive(Clone, Copy, PartialEq, Eq)]
@@ -40,8 +41,9 @@ pub enum BudgetFault {
     RepeatedBudget { index: u16 },
 }
 
-/// The budget that the compute budget instructions of a message ask for (Solana). The first of
-/// them that is bad or repeats a kind is the refusal.
+/// The budget that the compute budget instructions of a message ask for (Solana; that built-in
+/// programs have no smaller default is the project's own). The first of them that is bad or repeats
+/// a kind is the refusal.
 pub fn budget_of(message: &Message) -> Result<Budget, BudgetFault>
     requires programs { All (λ i. i.program < length message.now.keys) message.now.instructions }
     requires most { IsCountable message.now.instructions }

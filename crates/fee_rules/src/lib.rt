@@ -7,10 +7,7 @@ mod pricing;
 mod request;
 mod split;
 
-pub use budget::{
-    Budget, BudgetFault, MAX_LOADED_DATA, MAX_UNITS, UNITS_PER_INSTRUCTION, budget_of,
-};
+pub use budget::{Budget, BudgetFault, budget_of};
 pub use charge::Fee;
-pub use pricing::{LAMPORTS_PER_SIGNATURE, MICRO_LAMPORTS_PER_LAMPORT, fee, priority, total};
-pub use request::{HEAP_FRAME_STEP, MAX_HEAP_FRAME, MIN_HEAP_FRAME};
+pub use pricing::{fee, priority, total};
 pub use split::{FeeSplit, split_fees};

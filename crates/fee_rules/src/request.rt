@@ -5,13 +5,13 @@ ghost use Rattle.fee_rules.specs.Requests.{asked_with, has_asked, heap_frame_of,
 
 /// The fewest bytes of a heap, which are also its bytes where no instruction asks for others
 /// (Solana).
-pub const MIN_HEAP_FRAME: u32 = 32_768;
+pub(crate) const MIN_HEAP_FRAME: u32 = 32_768;
 
 /// The most bytes of a heap (Solana).
-pub const MAX_HEAP_FRAME: u32 = 262_144;
+const MAX_HEAP_FRAME: u32 = 262_144;
 
 /// The bytes of a heap are a multiple of this (Solana).
-pub const HEAP_FRAME_STEP: u32 = 1_024;
+const HEAP_FRAME_STEP: u32 = 1_024;
 
 /// What one compute budget instruction asks for.
 #[derive(Clone, Copy, PartialEq, Eq)]

@@ -1,5 +1,6 @@
--- What a frame does that calls another program (Solana): the request, the callee's rights, the
--- caller's accounts and rules, and whether the callee may start, in this order.
+-- What a frame does that calls another program (Solana; the order is the project's own): the
+-- request, the callee's rights, the caller's accounts and rules, and whether the callee may start,
+-- in this order.
 use Rattle.std.specs.Prelude.{ℕ, ◌&&◌, not, nat_le, List, Result, Ok, Err, if◌then◌else◌}
 use Rattle.spec_base.specs.Reading.{◌>>=◌}
 use Rattle.sol_base.specs.declared.key.Key.{Key}

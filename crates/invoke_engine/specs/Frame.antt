@@ -1,4 +1,5 @@
--- One frame with the frames that it calls, and a top instruction (Solana).
+-- One frame with the frames that it calls, and a top instruction (Solana; the causes of failures
+-- are the project's own).
 use Rattle.std.specs.Prelude.{ℕ, zero, suc, nat_le, List, [], ◌∷◌, Err, if◌then◌else◌}
 use Rattle.sol_base.specs.declared.key.Key.{Key}
 use Rattle.sol_base.specs.declared.key.TheConstants.{SYSTEM_PROGRAM}

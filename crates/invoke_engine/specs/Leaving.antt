@@ -1,5 +1,5 @@
 -- What a frame leaves: its accounts, taken back from its region, where no account rule is broken,
--- and what r0 says at the exit (Solana).
+-- and what r0 says at the exit (Solana; that r0 above 2^32 names no error is the project's own).
 use Rattle.std.specs.Prelude.{ℕ, ◌^◌, ◌==◌, nat_lt, List, Result, Ok, Err, if◌then◌else◌}
 use Rattle.spec_base.specs.Reading.{◌>>=◌}
 use Rattle.sol_base.specs.declared.account.Account.{Account}

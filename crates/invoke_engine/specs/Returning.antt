@@ -1,5 +1,5 @@
 -- A caller after its callee: it fails with it, or its region is patched and its machine goes on
--- with 0 in r0 (Solana).
+-- with 0 in r0 (Solana; the cause of a refused patch is the project's own).
 use Rattle.std.specs.Prelude.{ℕ, List, Result, Ok, Err}
 use Rattle.sol_base.specs.declared.key.Key.{Key}
 use Rattle.sol_base.specs.declared.account.Account.{Account}

@@ -1,5 +1,6 @@
--- Frames at their starts (Solana): the invoke line, the number of accounts, and then a native
--- program, or one that is ready and runs on a new machine.
+-- Frames at their starts (Solana; that a missing program is found out here, and not before the
+-- first instruction, is the project's own): the invoke line, the number of accounts, and then a
+-- native program, or one that is ready and runs on a new machine.
 use Rattle.std.specs.Prelude.{ℕ, ◌+◌, ◌&&◌, not, Bool, true, false, nat_lt, List, [], length, slice_get, unwrap_or, Err, if◌then◌else◌}
 use Rattle.sol_base.specs.declared.key.Key.{Key}
 use Rattle.sol_base.specs.declared.key.TheConstants.{SYSTEM_PROGRAM}

@@ -211,9 +211,10 @@ fn run_started(
     Ok(ran_of(answer?, trace))
 }
 
-/// Runs one top instruction with its cross-program calls (Solana). `trace` counts the instructions
-/// that the transaction started before. The lines are added to `logs`; where memory runs out, some
-/// of them may be. Where the instruction fails, the accounts given are those that hold.
+/// Runs one top instruction with its cross-program calls (Solana; docs/SOLANA.md lists what is the
+/// project's own). `trace` counts the instructions that the transaction started before. The lines
+/// are added to `logs`; where memory runs out, some of them may be. Where the instruction fails,
+/// the accounts given are those that hold.
 pub fn run_instruction(
     alloc: Global,
     programs: &Programs,

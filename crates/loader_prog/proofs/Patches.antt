@@ -2,7 +2,7 @@
 use Rattle.std.proofs.Common.{◌≡◌, ◌++◌, ◌+◌, ℕ, Bool, true, List, length, take, drop, nat_eq, sym, ap, ◌∙◌, append_assoc}
 use Rattle.std.specs.Cmp.Lexicographic.{pointwise, bytes_decides}
 use Rattle.std.proofs.lemmas.List.{drop-drop, take-append-drop}
-use Rattle.sol_base.specs.Parts.{with_bytes}
+use Rattle.spec_base.specs.Bytes.{with_bytes}
 
 same_patch : (bytes piece : List ℕ) (at : ℕ) → take (length piece) (drop at bytes) ≡ piece → bytes ≡ with_bytes bytes at piece
 same_patch bytes piece at there =

@@ -12,7 +12,7 @@ use Rattle.sol_base.specs.declared.lock.Meta.{Meta}
 use Rattle.sol_base.specs.Keys.{same_key}
 use Rattle.sol_base.specs.Accounts.{accounts_of, empty_account}
 use Rattle.sol_base.specs.Metas.{is_listed_signer, no_meta}
-use Rattle.sol_base.specs.Parts.{with_bytes}
+use Rattle.spec_base.specs.Bytes.{with_bytes}
 use Rattle.account_rules.specs.declared.rules.RuleFault.{RuleFault}
 use Rattle.account_rules.specs.AccountRules.{listed_rules}
 use Rattle.loader_prog.specs.declared.fault.LoaderFault.{LoaderFault}

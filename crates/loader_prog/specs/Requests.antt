@@ -3,7 +3,7 @@ use Rattle.std.specs.Prelude.{ℕ, ◌==◌, Bool, true, false, List, length, Re
 use Rattle.std.specs.Int.{w32, w64}
 use Rattle.spec_base.specs.Reading.{◌>>=◌, field_at, number_at}
 use Rattle.sol_base.specs.declared.key.Key.{Key}
-use Rattle.sol_base.specs.Keys.{key_at}
+use Rattle.format_fields.specs.Fields.{key_at}
 use Rattle.loader_prog.specs.declared.fault.LoaderFault.{LoaderFault}
 use Rattle.loader_prog.specs.declared.fault.LoaderFault.TheVariants.{InvalidInstruction, OutOfMemory as no_memory}
 use Rattle.loader_prog.specs.declared.instruction.Instruction.{Instruction}

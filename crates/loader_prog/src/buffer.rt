@@ -1,7 +1,7 @@
 //! The data of buffers: a magic, the key of an authority and an image.
 ghost use Rattle.std.specs.Prelude.{◌≡◌, ◌+◌, ◌≤◌, length, unwrap_or, IfOk};
 ghost use Rattle.sol_base.specs.Keys.{same_key};
-ghost use Rattle.sol_base.specs.Parts.{with_bytes};
+ghost use Rattle.spec_base.specs.Bytes.{with_bytes};
 ghost use Rattle.loader_prog.specs.Buffers.{authority_in, has_byte, image_at, is_blank, is_buffer, is_final, rest_in};
 ghost use Rattle.loader_prog.specs.Loader.{head_of};
 

@@ -4,7 +4,8 @@ ghost use Rattle.spec_base.specs.Reading.{Gives};
 ghost use Rattle.loader_prog.specs.Requests.{accounts_needed, fields_at, init_at, is_loader_memory, request_as, request_in, set_authority_at, write_at};
 
 use crate::fault::LoaderFault;
-use sol_base::{Key, key_field};
+use format_fields::key_field;
+use sol_base::Key;
 use spec_base::{bytes_field, u32_field, u64_field};
 
 /// An instruction of the loader.

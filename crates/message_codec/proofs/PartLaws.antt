@@ -6,7 +6,7 @@ use Rattle.spec_base.specs.Bytes.{IsBytes}
 use Rattle.spec_base.proofs.Binding.{ok_parts, onward, follows}
 use Rattle.spec_base.proofs.Formats.{Reads, taken, field_reads, byte_reads, read_as_reads, many_reads}
 use Rattle.sol_base.specs.Keys.{IsKey, key_bytes}
-use Rattle.sol_base.proofs.KeyLaws.{key_reads}
+use Rattle.format_fields.proofs.FieldLaws.{key_reads}
 use Rattle.message_codec.specs.declared.fault.WireFault.TheVariants.{Truncated}
 use Rattle.message_codec.specs.declared.message.Signature.{Signature}
 use Rattle.message_codec.specs.declared.message.Header.{Header}

@@ -2,7 +2,7 @@
 use Rattle.std.proofs.Common.{◌≡◌, ℕ, zero, suc, List, [], ◌∷◌, ◌++◌, length, Result, Ok, Err, Bool, true, false, cond, ◌||◌, refl, subst, ◌+◌, ◌*◌, ◌-◌, nat_lt}
 use Rattle.std.specs.Prelude.{nat_eq}
 use Rattle.spec_base.specs.Reading.{◌>>=◌, place, field_at, byte_at, read_as, many_after}
-use Rattle.sol_base.specs.Keys.{key_at, hash_at}
+use Rattle.format_fields.specs.Fields.{key_at, hash_at}
 use Rattle.message_codec.specs.declared.fault.WireFault.{WireFault}
 use Rattle.message_codec.specs.declared.fault.WireFault.TheVariants.{Truncated}
 use Rattle.message_codec.specs.declared.message.MessageKind.{MessageKind}

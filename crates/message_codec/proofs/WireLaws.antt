@@ -11,8 +11,9 @@ use Rattle.spec_base.proofs.Binding.{bind_ok, chosen, ok_parts, after_bytes, who
 use Rattle.spec_base.proofs.Formats.{Reads, taken}
 use Rattle.spec_base.specs.Sha256.{sha256}
 use Rattle.sol_base.specs.declared.key.Hash32.{Hash32}
-use Rattle.sol_base.specs.Keys.{IsKey, IsHash, key_bytes, hash_bytes, key_at}
-use Rattle.sol_base.proofs.KeyLaws.{key_reads, hash_reads}
+use Rattle.sol_base.specs.Keys.{IsKey, IsHash, key_bytes, hash_bytes}
+use Rattle.format_fields.specs.Fields.{key_at}
+use Rattle.format_fields.proofs.FieldLaws.{key_reads, hash_reads}
 use Rattle.message_codec.specs.declared.fault.WireFault.{WireFault}
 use Rattle.message_codec.specs.declared.fault.WireFault.TheVariants.{TooLong, Truncated, Version, Trailing}
 use Rattle.message_codec.specs.declared.message.Signature.{Signature}

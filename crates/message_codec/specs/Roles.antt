@@ -1,4 +1,5 @@
--- What the keys of a message may do (Solana), and when a transaction is sane.
+-- What the keys of a message may do (Solana; that programs and reserved keys are never writable in
+-- this width is the project's own), and when a transaction is sane.
 use Rattle.std.specs.Prelude.{◌≡◌, ◌<◌, ◌≤◌, ◌+◌, ◌-◌, ℕ, List, [], ◌∷◌, ◌++◌, length, map, Bool, false, not, ◌&&◌, ◌||◌, ◌==◌, nat_lt, nat_le, Option, Some, None, Result, Ok, Err, if◌then◌else◌, All, sum_by, position, slice_get}
 use Rattle.std.specs.List.{list_any, enumerate_from, IsDistinct}
 use Rattle.std.specs.Option.{option_map_or}

@@ -1,4 +1,5 @@
--- The wire format of a transaction (Solana).
+-- The wire format of a transaction (Solana; that no bytes may follow it, and the places of
+-- refusals, are the project's own).
 use Rattle.std.specs.Prelude.{◌≡◌, ℕ, ◌<◌, ◌≤◌, List, [], ◌∷◌, ◌++◌, length, All}
 use Rattle.std.specs.List.{flat_map}
 use Rattle.spec_base.specs.Sha256.{sha256}

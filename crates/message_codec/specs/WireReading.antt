@@ -1,7 +1,8 @@
 -- Reading a transaction from left to right, with the first refusal that is met.
 use Rattle.std.specs.Prelude.{ℕ, ◌+◌, ◌-◌, ◌*◌, ◌==◌, List, [], ◌∷◌, length, Result, Ok, Err, Bool, true, false, nat_lt, ◌||◌, slice_index, if◌then◌else◌}
 use Rattle.spec_base.specs.Reading.{◌>>=◌, place, field_at, byte_at, read_as, many, whole}
-use Rattle.sol_base.specs.Keys.{key_at, hash_at}
+use Rattle.sol_base.specs.declared.key.Key.{Key}
+use Rattle.format_fields.specs.Fields.{key_at, hash_at}
 use Rattle.message_codec.specs.declared.fault.WireFault.{WireFault}
 use Rattle.message_codec.specs.declared.fault.WireFault.TheVariants.{TooLong, Truncated, BadLength, Version, Trailing, OutOfMemory}
 use Rattle.message_codec.specs.declared.message.Signature.{Signature}
@@ -102,6 +103,24 @@ kind_at total (byte ∷ rest) =
 abbrev pub lookups_at : MessageKind → ℕ → List ℕ → Read (List Lookup)
 lookups_at Legacy total bytes = Ok ([], bytes)
 lookups_at Zero total bytes = array_at lookup_at total bytes
+
+-- a message from its blockhash on, after what stands before it
+abbrev pub body_at : MessageKind → Header → List Key → ℕ → List ℕ → Read Message
+body_at kind header keys total bytes = do
+  blockhash ← hash_at Truncated total bytes
+  instructions ← array_at instruction_at total blockhash.1
+  lookups ← lookups_at kind total instructions.1
+  Ok (
+    record {
+      kind = kind;
+      header = header;
+      keys = keys;
+      blockhash = blockhash.0;
+      instructions = instructions.0;
+      lookups = lookups.0;
+    },
+    lookups.1,
+  )
 
 unfoldable pub message_at : ℕ → List ℕ → Read Message
 message_at total bytes = do

@@ -1,31 +1,25 @@
 //! Compact arrays (Solana): a compact length, and then so many items.
 ghost use Rattle.std.specs.Prelude.{◌≡◌, ◌≤◌, ◌++◌, All, OnOk};
-ghost use Rattle.spec_base.specs.Reading.{Gives, many};
+ghost use Rattle.spec_base.specs.Reading.{Gives};
 ghost use Rattle.message_codec.specs.Wire.{IsCountable, array_bytes, blob_bytes};
 ghost use Rattle.message_codec.specs.WireReading.{is_wire_memory, array_at, blob_at};
 
 use crate::compact::{read_length, write_length};
 use crate::fault::WireFault;
+use format_fields::{Item, read_many};
 use sol_base::{Blob, Items, OutOfMemory};
 use spec_base::bytes_field;
 use std::alloc::Global;
 
-/// What compact arrays of a wire hold.
-pub(crate) trait Item: Sized + Drop {
-    ghost use Rattle.std.specs.Prelude.{ℕ, List, Result};
-    ghost use Rattle.message_codec.specs.declared.fault.WireFault.{WireFault};
-
-    /// The item at the front of the bytes that are left, by the length of the whole text.
-    ghost item_at: { ℕ → List ℕ → Result (Self × List ℕ) WireFault };
+/// What compact arrays of a wire hold, as it is written.
+pub(crate) trait Spelled {
+    ghost use Rattle.std.specs.Prelude.{ℕ, List};
 
     /// The bytes of the item.
     ghost item_bytes: { Self → List ℕ };
 
     /// Whether the item has bytes.
     ghost CanSpell: { Self → Type 0 };
-
-    fn read(alloc: Global, total: usize, bytes: &[u8]) -> Result<(Self, &[u8]), WireFault>
-        ensures { Gives is_wire_memory (λ x. (x.0, x.1.now)) result (item_at total bytes.now) };
 
     fn write(&self, out: &mut Blob) -> Result<(), OutOfMemory>
         requires { CanSpell self.now }
@@ -34,7 +28,7 @@ pub(crate) trait Item: Sized + Drop {
 
 /// The array at the front of the bytes, and the bytes after it.
 #[tactic(auto, unfolding(crate::specs::WireReading::array_at))]
-pub(crate) fn read_array<T: Item>(
+pub(crate) fn read_array<T: Item<WireFault>>(
     alloc: Global,
     total: usize,
     bytes: &[u8],
@@ -43,26 +37,7 @@ pub(crate) fn read_array<T: Item>(
         (array_at T.item_at total bytes.now) }
 {
     let (count, rest) = read_length(total, bytes)?;
-    read_items(alloc, total, count, rest)
-}
-
-fn read_items<T: Item>(
-    alloc: Global,
-    total: usize,
-    count: usize,
-    bytes: &[u8],
-) -> Result<(Items<T>, &[u8]), WireFault>
-    ensures { Gives is_wire_memory (λ x. (x.0, x.1.now)) result
-        (many (T.item_at total) count bytes.now) }
-{
-    let mut items = Items::with_capacity(alloc, count.min(bytes.len()))?;
-    let mut rest = bytes;
-    for _ in 0..count {
-        let (item, after) = T::read(alloc, total, rest)?;
-        items.push(item)?;
-        rest = after;
-    }
-    Ok((items, rest))
+    read_many::<WireFault, T>(alloc, total, count, rest)
 }
 
 /// The compact array of bytes at the front, one field after its length, and the bytes after it.
@@ -80,7 +55,7 @@ pub(crate) fn read_blob(
 }
 
 /// Adds the array to the bytes.
-pub(crate) fn write_array<T: Item>(out: &mut Blob, items: &Items<T>) -> Result<(), OutOfMemory>
+pub(crate) fn write_array<T: Spelled>(out: &mut Blob, items: &Items<T>) -> Result<(), OutOfMemory>
     requires short { IsCountable items.now }
     requires spelled { All T.CanSpell items.now }
     ensures { OnOk result (out.new ≡ out.old ++ array_bytes T.item_bytes items.now) }

@@ -1,6 +1,7 @@
 //! The refusals of bytes and of transactions.
 ghost use Rattle.std.specs.Prelude.{◌≡◌};
 
+use format_fields::MemoryRefusal;
 use sol_base::OutOfMemory;
 use spec_base::Refusal;
 use thiserror::Error;
@@ -43,6 +44,12 @@ impl Refusal for WireFault {
 
     fn truncated(at: usize) -> WireFault {
         WireFault::Truncated { at }
+    }
+}
+
+impl MemoryRefusal for WireFault {
+    fn out_of_memory() -> WireFault {
+        WireFault::OutOfMemory
     }
 }
 

@@ -3,12 +3,13 @@ ghost use Rattle.std.specs.Prelude.{◌≡◌, IfOk, Ok};
 ghost use Rattle.spec_base.specs.Reading.{Gives};
 ghost use Rattle.message_codec.specs.Wire.{Wire, message_bytes};
 ghost use Rattle.message_codec.specs.declared.message.Tx.{Tx};
-ghost use Rattle.message_codec.specs.WireReading.{is_wire_memory, header_at, kind_at, lookups_at, message_at, wire_of};
+ghost use Rattle.message_codec.specs.WireReading.{is_wire_memory, header_at, kind_at, lookups_at, body_at, message_at, wire_of};
 
 use crate::array::read_array;
 use crate::fault::WireFault;
 use crate::message::{Header, Lookup, Message, MessageKind, Tx};
-use sol_base::{Items, hash_field};
+use format_fields::hash_field;
+use sol_base::{Items, Key};
 use spec_base::{array_field, place};
 use std::alloc::Global;
 
@@ -55,14 +56,19 @@ fn read_lookups(
     }
 }
 
-#[tactic(auto, unfolding(crate::specs::WireReading::message_at))]
-fn read_message(alloc: Global, total: usize, bytes: &[u8]) -> Result<(Message, &[u8]), WireFault>
-    ensures { Gives is_wire_memory (λ x. (x.0, x.1.now)) result (message_at total bytes.now) }
+/// A message from its blockhash on.
+fn read_body(
+    alloc: Global,
+    total: usize,
+    kind: MessageKind,
+    header: Header,
+    keys: Items<Key>,
+    bytes: &[u8],
+) -> Result<(Message, &[u8]), WireFault>
+    ensures { Gives is_wire_memory (λ x. (x.0, x.1.now)) result
+        (body_at kind header keys total bytes.now) }
 {
-    let (kind, rest) = read_kind(total, bytes)?;
-    let (header, rest) = read_header(total, rest)?;
-    let (keys, rest) = read_array(alloc, total, rest)?;
-    let (blockhash, rest) = hash_field::<WireFault>(total, rest)?;
+    let (blockhash, rest) = hash_field::<WireFault>(total, bytes)?;
     let (instructions, rest) = read_array(alloc, total, rest)?;
     let (lookups, rest) = read_lookups(alloc, kind, total, rest)?;
     let message = Message {
@@ -74,6 +80,16 @@ fn read_message(alloc: Global, total: usize, bytes: &[u8]) -> Result<(Message, &
         lookups,
     };
     Ok((message, rest))
+}
+
+#[tactic(auto, unfolding(crate::specs::WireReading::message_at))]
+fn read_message(alloc: Global, total: usize, bytes: &[u8]) -> Result<(Message, &[u8]), WireFault>
+    ensures { Gives is_wire_memory (λ x. (x.0, x.1.now)) result (message_at total bytes.now) }
+{
+    let (kind, rest) = read_kind(total, bytes)?;
+    let (header, rest) = read_header(total, rest)?;
+    let (keys, rest) = read_array(alloc, total, rest)?;
+    read_body(alloc, total, kind, header, keys, rest)
 }
 
 /// The transaction that the bytes are, and the bytes of its message.
@@ -100,7 +116,8 @@ pub(crate) fn read_signed(alloc: Global, bytes: &[u8]) -> Result<(Tx, &[u8]), Wi
     Ok((tx, signed))
 }
 
-/// The transaction that the bytes are, all of them (Solana's wire format).
+/// The transaction that the bytes are, all of them (Solana's wire format; that no bytes may follow
+/// is the project's own).
 ///
 /// The refusals come in the order of the bytes; `TooLong` is tested first, and `Trailing` last.
 pub fn read_wire(alloc: Global, bytes: &[u8]) -> Result<Tx, WireFault>

@@ -1,23 +1,13 @@
 -- The rent of accounts, and the changes that it allows (Solana).
 use Rattle.std.specs.Prelude.{◌≡◌, ℕ, Bool, true, false, ◌+◌, ◌*◌, ◌<◌, ◌≤◌, ◌&&◌, length, ◌==◌, nat_le, if◌then◌else◌}
 use Rattle.sol_base.specs.declared.account.Account.{Account}
+use Rattle.rent_rules.specs.declared.rent.TheConstants.{ACCOUNT_OVERHEAD, EXEMPTION_YEARS, LAMPORTS_PER_BYTE_YEAR}
 use Rattle.rent_rules.specs.declared.rent.RentState.{RentState}
 use Rattle.rent_rules.specs.declared.rent.RentState.TheVariants.{Empty, Exempt, Paying}
 
--- the bytes that an account takes beside its data, what a byte costs for a year, and the years whose
--- rent exempts an account
-abbrev pub account_overhead : ℕ
-account_overhead = 128
-
-abbrev pub lamports_per_byte_year : ℕ
-lamports_per_byte_year = 3480
-
-abbrev pub exemption_years : ℕ
-exemption_years = 2
-
 -- the least balance that exempts an account with that many data bytes
 abbrev pub minimum_of : ℕ → ℕ
-minimum_of len = (account_overhead + len) * lamports_per_byte_year * exemption_years
+minimum_of len = (ACCOUNT_OVERHEAD + len) * LAMPORTS_PER_BYTE_YEAR * EXEMPTION_YEARS
 
 -- it has lamports, but not so many as exempt it
 abbrev pub IsPaying : Account → Type 0

@@ -3,7 +3,4 @@
 
 mod rent;
 
-pub use rent::{
-    ACCOUNT_OVERHEAD, EXEMPTION_YEARS, LAMPORTS_PER_BYTE_YEAR, RentState, may_move, minimum,
-    rent_state,
-};
+pub use rent::{RentState, may_move, minimum, rent_state};

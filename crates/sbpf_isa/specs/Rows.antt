@@ -1,5 +1,5 @@
 -- The table of instructions, as this project's profile of sBPF has it (RFC 9669).
-use Rattle.std.specs.Prelude.{ℕ, ◌==◌, List, [], ◌∷◌, ◌++◌, Option, Some, None, if◌then◌else◌}
+use Rattle.std.specs.Prelude.{ℕ, ◌%◌, ◌==◌, List, [], ◌∷◌, ◌++◌, Option, Some, None, if◌then◌else◌}
 use Rattle.sbpf_isa.specs.declared.rows.Operation.{Operation}
 use Rattle.sbpf_isa.specs.declared.rows.Operation.TheVariants.{Add, Sub, Mul, Div, Or, And, Lsh, Rsh, Mod, Xor, Mov, Arsh}
 use Rattle.sbpf_isa.specs.declared.rows.Width.TheVariants.{Bits64, Bits32}
@@ -69,6 +69,12 @@ rows =
     moves One 0x71 0x72 0x73 ++
     moves Eight 0x79 0x7a 0x7b ++
     row 0x18 LoadWide ∷ []
+
+-- the rows of a class, which is the low three bits of an opcode
+abbrev pub of_class : ℕ → List Row → List Row
+of_class class [] = []
+of_class class (r ∷ rs) =
+    if r.opcode % 8 == class then r ∷ of_class class rs else of_class class rs
 
 -- what the first row with the opcode says
 abbrev pub kind_in : ℕ → List Row → Option OpKind

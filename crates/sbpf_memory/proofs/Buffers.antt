@@ -1,7 +1,7 @@
 -- Lists with zeros behind what is written down.
 use Rattle.std.proofs.Common.{◌≡◌, ℕ, ◌+◌, ◌-◌, ◌≤◌, List, ◌++◌, length, take, drop, replicate, ap, ◌∙◌, rules, arith, length-append}
 use Rattle.std.proofs.lemmas.List.{places, same_lists, length-replicate}
-use Rattle.sol_base.specs.Parts.{with_bytes}
+use Rattle.spec_base.specs.Bytes.{with_bytes}
 use Rattle.sbpf_memory.specs.Buffers.{filled}
 
 pub filled_size : (bytes : List ℕ) (size : ℕ) → length bytes ≤ size → length (filled bytes size) ≡ size

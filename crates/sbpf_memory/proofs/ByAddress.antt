@@ -5,8 +5,8 @@ use Rattle.std.proofs.lemmas.Bool.Decides.{nat_tests}
 use Rattle.std.proofs.lemmas.Grind.{elements}
 use Rattle.std.proofs.lemmas.Option.{slice_get-get_or}
 use Rattle.std.proofs.lemmas.List.{map-append}
-use Rattle.sol_base.specs.Parts.{with_bytes}
-use Rattle.sol_base.proofs.PartLaws.{length_with}
+use Rattle.spec_base.specs.Bytes.{with_bytes}
+use Rattle.data_parts.proofs.PartLaws.{length_with}
 use Rattle.sbpf_memory.specs.declared.place.Place.{Place}
 use Rattle.sbpf_memory.specs.declared.place.Region.{Region}
 use Rattle.sbpf_memory.specs.declared.place.Region.TheVariants.{Program, Stack, Heap, Input}

@@ -1,6 +1,6 @@
 -- A memory at the start.
 use Rattle.std.proofs.Common.{◌≡◌, ℕ, List, replicate}
-use Rattle.sol_base.specs.Parts.{Content}
+use Rattle.data_parts.specs.Parts.{Content}
 use Rattle.sbpf_memory.specs.Memory.{Ranges}
 
 abbrev pub ranges_of : List ℕ → List ℕ → List ℕ → Content → Ranges

@@ -1,6 +1,6 @@
 -- What a write keeps.
 use Rattle.std.proofs.Common.{◌≡◌, ℕ, ◌≤◌, List, [], ◌∷◌, length, Option, Some, None, Ok, IfOk, refl, sym, ◌∙◌, subst, arith}
-use Rattle.sol_base.proofs.PartLaws.{length_with}
+use Rattle.data_parts.proofs.PartLaws.{length_with}
 use Rattle.sbpf_memory.specs.declared.place.Place.{Place}
 use Rattle.sbpf_memory.specs.declared.place.Region.{Region}
 use Rattle.sbpf_memory.specs.declared.place.Region.TheVariants.{Program, Stack, Heap, Input}

@@ -1,6 +1,6 @@
 -- Copies from one place of a memory to another.
 use Rattle.std.specs.Prelude.{◌≡◌, ◌≢◌, ◌≤◌, ◌+◌, ℕ, List, length, take, drop, Some}
-use Rattle.sol_base.specs.Parts.{with_bytes}
+use Rattle.spec_base.specs.Bytes.{with_bytes}
 use Rattle.sbpf_memory.specs.declared.place.Region.{Region}
 use Rattle.sbpf_memory.specs.declared.place.Region.TheVariants.{Program, Stack, Heap, Input}
 use Rattle.sbpf_memory.specs.declared.place.Place.{Place}

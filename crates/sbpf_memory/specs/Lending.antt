@@ -1,7 +1,7 @@
 -- What a memory is after its input was lent.
 use Rattle.std.specs.Borrow.{Lends, MutBor, Fml}
-use Rattle.sol_base.specs.Parts.{Content}
-use Rattle.sol_base.specs.contracts.parts.Parts.{the_row as parts_row}
+use Rattle.data_parts.specs.Parts.{Content}
+use Rattle.data_parts.specs.contracts.parts.Parts.{the_row as parts_row}
 use Rattle.sbpf_memory.specs.Memory.{Ranges}
 use Rattle.sbpf_memory.specs.contracts.memory.Memory.{the_row}
 

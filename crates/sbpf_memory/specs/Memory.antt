@@ -2,7 +2,8 @@
 use Rattle.std.specs.Prelude.{◌≡◌, ℕ, ◌+◌, ◌-◌, ◌*◌, ◌/◌, ◌^◌, ◌≤◌, ◌<◌, ◌==◌, ◌&&◌, ◌⊎◌, Bool, true, false, nat_le, nat_lt, List, [], ◌∷◌, ◌++◌, length, take, drop, replicate, slice_range, map, Option, Some, None, Result, Ok, Err, IsOk, if◌then◌else◌}
 use Rattle.std.specs.List.{range_with_len, Contains}
 use Rattle.std.specs.Int.{Width, w8, w16, w32, w64, from_le_bytes, to_le_bytes}
-use Rattle.sol_base.specs.Parts.{Content, with_bytes, ArePrepared, StayPrepared}
+use Rattle.spec_base.specs.Bytes.{with_bytes}
+use Rattle.data_parts.specs.Parts.{Content, ArePrepared, StayPrepared}
 use Rattle.sbpf_memory.specs.declared.place.Region.{Region}
 use Rattle.sbpf_memory.specs.declared.place.Region.TheVariants.{Program, Stack, Heap, Input}
 use Rattle.sbpf_memory.specs.declared.place.Place.{Place}

@@ -1,7 +1,7 @@
 -- Memories without the notes which places are prepared and which accounts were lent: no definition
 -- of what programs do looks at them.
 use Rattle.std.specs.Prelude.{[], Result, Ok, Err}
-use Rattle.sol_base.specs.Parts.{Content}
+use Rattle.data_parts.specs.Parts.{Content}
 use Rattle.sbpf_memory.specs.Memory.{Ranges}
 use Rattle.sbpf_memory.specs.declared.fault.AccessViolation.{AccessViolation}
 use Rattle.sbpf_memory.specs.declared.fault.MemFault.{MemFault}

@@ -1,10 +1,12 @@
 //! A range of bytes that is zero at first, of which only as much is written down as is needed.
 ghost use Rattle.std.specs.Prelude.{◌≡◌, ◌≤◌, ◌<◌, ◌+◌, ◌^◌, length, replicate, take, drop, vec_capacity, IfOk, OnOk, OnErr, IsOk};
-ghost use Rattle.sol_base.specs.Parts.{with_bytes, ArePrepared};
+ghost use Rattle.spec_base.specs.Bytes.{with_bytes};
+ghost use Rattle.data_parts.specs.Parts.{ArePrepared};
 ghost use Rattle.sbpf_memory.specs.Buffers.{filled};
 
 use crate::bytes::{array_from, put_into, read_into, write_into};
-use sol_base::{OutOfMemory, Parts};
+use data_parts::Parts;
+use sol_base::OutOfMemory;
 use std::alloc::Global;
 use std::marker::Model;
 

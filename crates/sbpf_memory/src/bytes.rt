@@ -1,6 +1,6 @@
 //! Bytes of lists, read and written at a place.
 ghost use Rattle.std.specs.Prelude.{◌≡◌, ◌≤◌, ◌+◌, length, take, drop};
-ghost use Rattle.sol_base.specs.Parts.{with_bytes};
+ghost use Rattle.spec_base.specs.Bytes.{with_bytes};
 
 /// Copies bytes from a place of a list on.
 #[inline(always)]

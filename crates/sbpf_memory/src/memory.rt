@@ -2,7 +2,8 @@
 ghost use Rattle.std.specs.Prelude.{◌≡◌, ◌<◌, ◌≤◌, ◌+◌, ◌^◌, ◌≢◌, length, IfOk, MatchOption, MatchResult, IfSome, Some, Ok, Err, false, true, take, drop, IsOk, OnOk, OnErr};
 ghost use Rattle.std.specs.Arc.{arc_value};
 ghost use Rattle.std.specs.Borrow.{sem};
-ghost use Rattle.sol_base.specs.Parts.{with_bytes, ArePrepared};
+ghost use Rattle.spec_base.specs.Bytes.{with_bytes};
+ghost use Rattle.data_parts.specs.Parts.{ArePrepared};
 ghost use Rattle.sbpf_memory.specs.Lending.{LendsInput};
 ghost use Rattle.sbpf_memory.specs.Memory.{IsMemory, IsWidth, IsPrepared, HasMemory, Answers, Prepares, KeepsBytes, fresh, load_from, read_from, store_to, write_to, copy_to, or_refusal, input_start, place_of, range_bytes, with_bytes_in, with_heap, with_input_bytes, with_stack, PreparedIn, refused_in, violation_of, write_refusal, PreparesIn, StaysIfRefused};
 ghost use Rattle.sbpf_memory.specs.Copies.{bytes_of_place, copied_in, IsTarget};
@@ -15,7 +16,8 @@ use crate::place::{
     HEAP_START, INPUT_START, PROGRAM_START, Place, RANGE_STEP, Region, STACK_SIZE, STACK_START,
     overlaps, within, within_frame,
 };
-use sol_base::{Blob, OutOfMemory, Parts};
+use data_parts::Parts;
+use sol_base::{Blob, OutOfMemory};
 use std::alloc::Global;
 use std::marker::Model;
 use std::sync::Arc;

@@ -1,7 +1,7 @@
 -- Accounts and states: what is spelled is read again, and what is read is spelled so.
 use Rattle.std.proofs.Common.{◌≡◌, ◌<◌, ◌≤◌, ◌+◌, ◌-◌, ◌^◌, ℕ, zero, suc, List, [], ◌∷◌, ◌++◌, length, map, Ok, Bool, true, false, refl, sym, ap, subst, ◌∙◌, append_assoc, All, lit<, lit≤, arith}
 use Rattle.std.specs.Prelude.{◌==◌, nat_le}
-use Rattle.std.specs.Int.{w32, w64, to_le_bytes}
+use Rattle.std.specs.Int.{w32, w64, to_le_bytes, from_bool}
 use Rattle.std.specs.List.{flat_map, AllByRecursion}
 use Rattle.std.specs.List.Sorted.{IsStrictlySortedBy}
 use Rattle.std.specs.Map.{keys_of}
@@ -18,7 +18,8 @@ use Rattle.sol_base.specs.declared.key.Key.{Key}
 use Rattle.sol_base.specs.declared.account.Account.{Account}
 use Rattle.sol_base.specs.Keys.{IsKey, key_bytes, key_cmp}
 use Rattle.sol_base.specs.Accounts.{IsShort, max_data_len}
-use Rattle.sol_base.proofs.KeyLaws.{key_reads, key_cmp_exact, key_cmp_total}
+use Rattle.sol_base.proofs.KeyLaws.{key_cmp_exact, key_cmp_total}
+use Rattle.format_fields.proofs.FieldLaws.{key_reads}
 use Rattle.account_store.specs.declared.sorted.KeyedAccount.{KeyedAccount}
 use Rattle.account_store.specs.State.{State, IsHeld, IsState, entries, lamports_of}
 use Rattle.account_store.specs.Sorted.{entry_of, entries_of, keyed, Ascend, AreOfState, state_of}
@@ -27,7 +28,7 @@ use Rattle.account_store.proofs.SortedLaws.{state_of-is}
 use Rattle.snapshot_codec.specs.declared.fault.SnapshotFault.TheVariants.{Truncated, BadField, OutOfOrder, Empty, SupplyTooLarge, TooManyAccounts, DataTooLong}
 use Rattle.snapshot_codec.specs.Snapshot.{flag, account_bytes, accounts_bytes, state_bytes}
 use Rattle.snapshot_codec.specs.SnapshotReading.{Read, key_after, lamports_after, flag_at, data_at, account_after, entries_at, state_at}
-use Rattle.snapshot_codec.proofs.Sized.{sized_reads, sized_field_reads, IsCount, count_fits, count_le}
+use Rattle.format_fields.proofs.Sized.{sized_reads, sized_field_reads, IsCount, count_fits, count_le}
 use Rattle.snapshot_codec.proofs.Ordered.{IsNext, AllAfter-weaker, AllAfter-both, sorted-from_next, next-from_sorted}
 use Rattle.snapshot_codec.proofs.MarkLaws.{count_reads}
 
@@ -313,3 +314,8 @@ unfolding state_at read_as
 state_read total bytes list rest s are read gives =
     let same : from_entries (entries_of list) ≡ s = ok_same _ _ (sym (good_list total bytes list rest are read).gives ∙ gives) in
     rw read (ap (λ (t : State). let r : Read State = Ok (t, rest) in r) same)
+
+-- the byte of a flag, as code has it and as the format has it
+pub flag-same : (is_set : Bool) → from_bool is_set ≡ flag is_set
+flag-same true = refl
+flag-same false = refl

@@ -12,14 +12,14 @@ use Rattle.spec_base.specs.Reading.{Gives}
 use Rattle.spec_base.proofs.Binding.{bind_ok, ok_parts, whole_ok, onward, follows}
 use Rattle.spec_base.proofs.Formats.{Reads, by_taking, field_reads, u16_reads, u32_reads, u64_reads, read_if_reads, many_reads}
 use Rattle.sol_base.specs.Keys.{IsKey, key_bytes}
-use Rattle.sol_base.proofs.KeyLaws.{key_reads}
+use Rattle.format_fields.proofs.FieldLaws.{key_reads}
 use Rattle.snapshot_codec.specs.declared.fault.BatchFault.{BatchFault}
 use Rattle.snapshot_codec.specs.declared.fault.BatchFault.TheVariants.{Magic, Truncated, TooMany, Trailing, SlotNotLater}
 use Rattle.snapshot_codec.specs.declared.batch.Batch.{Batch}
 use Rattle.snapshot_codec.specs.Batch.{batch_bytes, IsBatch}
 use Rattle.snapshot_codec.specs.BatchReading.{Read, is_batch_memory, magic_at, slot_at, count_at, wire_at, batch_at, batch_of}
 use Rattle.snapshot_codec.specs.Laws.{BatchRoundTrip}
-use Rattle.snapshot_codec.proofs.Sized.{sized_reads, sized_field_reads, IsCount, count_fits, count_le}
+use Rattle.format_fields.proofs.Sized.{sized_reads, sized_field_reads, IsCount, count_fits, count_le}
 
 magic_reads : (total : ℕ) → Reads (magic_at total) (λ magic. magic) (λ magic. (length magic ≡ 8) × (bytes_eq magic (codes "SOLBATC1") ≡ true))
 unfolding magic_at

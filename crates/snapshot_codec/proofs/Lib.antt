@@ -1,5 +1,3 @@
-pub mod Adding
-pub mod Sized
 pub mod Ordered
 pub mod HeadLaws
 pub mod MarkLaws
@@ -7,3 +5,4 @@ pub mod AccountLaws
 pub mod SnapshotLaws
 pub mod BatchLaws
 pub mod Walk
+pub mod LengthLaws

@@ -12,14 +12,15 @@ use Rattle.spec_base.proofs.Binding.{ok_parts, onward, follows}
 use Rattle.spec_base.proofs.Formats.{Reads, by_taking, u32_reads, read_if_reads, many_after_reads, many_reads, AllAfter-all, all-AllAfter}
 use Rattle.sol_base.specs.declared.key.Hash32.{Hash32}
 use Rattle.sol_base.specs.Keys.{IsHash, hash_bytes, hash_cmp}
-use Rattle.sol_base.proofs.KeyLaws.{hash_reads, hash_cmp_total}
+use Rattle.sol_base.proofs.KeyLaws.{hash_cmp_total}
+use Rattle.format_fields.proofs.FieldLaws.{hash_reads}
 use Rattle.status_cache.specs.declared.recent.Mark.{Mark}
 use Rattle.status_cache.specs.Recent.{Ascends, IsRecent}
 use Rattle.snapshot_codec.specs.declared.fault.SnapshotFault.{SnapshotFault}
 use Rattle.snapshot_codec.specs.declared.fault.SnapshotFault.TheVariants.{Truncated, BadField, OutOfOrder}
 use Rattle.snapshot_codec.specs.Snapshot.{mark_bytes, marks_bytes}
 use Rattle.snapshot_codec.specs.SnapshotReading.{count_at, name_after, mark_at, marks_at}
-use Rattle.snapshot_codec.proofs.Sized.{sized_reads, IsCount, count_fits, count_le}
+use Rattle.format_fields.proofs.Sized.{sized_reads, IsCount, count_fits, count_le}
 use Rattle.snapshot_codec.proofs.Ordered.{IsNext, AllAfter-weaker, AllAfter-both, sorted-from_next, next-from_sorted, pairs-from_sorted, sorted-from_pairs}
 
 pub count_reads : (refusal : ℕ → SnapshotFault) (most total : ℕ) → Reads (count_at refusal most total) (to_le_bytes w32) (IsCount most)

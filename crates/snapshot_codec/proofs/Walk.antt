@@ -9,9 +9,9 @@ use Rattle.sol_base.specs.declared.key.Key.{Key}
 use Rattle.sol_base.specs.declared.account.Account.{Account}
 use Rattle.account_store.specs.State.{IsHeld}
 use Rattle.account_store.specs.Shared.{Shared}
-use Rattle.snapshot_codec.specs.Output.{Adds}
+use Rattle.format_fields.specs.Output.{Adds}
 use Rattle.snapshot_codec.specs.Snapshot.{account_bytes}
-use Rattle.snapshot_codec.proofs.Adding.{Adds-none, Adds-then, Adds-as}
+use Rattle.format_fields.proofs.Adding.{Adds-none, Adds-then, Adds-as}
 
 -- all but those that are left are written
 pub record IsWritten {O : Type 0} (holds : O → List ℕ → Type 0) (old new : O) (all left : List (Key × Account)) : Type 0 where

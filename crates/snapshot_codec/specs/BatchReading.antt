@@ -2,7 +2,7 @@
 use Rattle.std.specs.Prelude.{ℕ, List, length, codes, bytes_eq, Bool, true, false, nat_le, nat_lt, Result, Ok}
 use Rattle.std.specs.Int.{w16, w32, w64}
 use Rattle.spec_base.specs.Reading.{◌>>=◌, field_at, number_at, read_if, many, whole}
-use Rattle.sol_base.specs.Keys.{key_at}
+use Rattle.format_fields.specs.Fields.{key_at}
 use Rattle.sol_base.specs.Limits.{max_transactions}
 use Rattle.snapshot_codec.specs.declared.fault.BatchFault.{BatchFault}
 use Rattle.snapshot_codec.specs.declared.fault.BatchFault.TheVariants.{Magic, Truncated, TooMany, Trailing, SlotNotLater, OutOfMemory}

@@ -2,5 +2,5 @@ pub mod Snapshot
 pub mod SnapshotReading
 pub mod Batch
 pub mod BatchReading
-pub mod Output
 pub mod Laws
+pub mod Length

@@ -7,7 +7,8 @@ use Rattle.spec_base.specs.Reading.{◌>>=◌, place, field_at, byte_at, number_
 use Rattle.sol_base.specs.declared.key.Key.{Key}
 use Rattle.sol_base.specs.declared.key.Hash32.{Hash32}
 use Rattle.sol_base.specs.declared.limits.Limits.{Limits}
-use Rattle.sol_base.specs.Keys.{key_cmp, hash_cmp, key_at, hash_at}
+use Rattle.sol_base.specs.Keys.{key_cmp, hash_cmp}
+use Rattle.format_fields.specs.Fields.{key_at, hash_at}
 use Rattle.sol_base.specs.Limits.{first_limits, max_transactions}
 use Rattle.sol_base.specs.Accounts.{max_data_len}
 use Rattle.status_cache.specs.declared.recent.Mark.{Mark}
@@ -138,6 +139,25 @@ unfoldable pub data_at : ℕ → List ℕ → Read (List ℕ)
 data_at total bytes = do
   count ← count_at DataTooLong max_data_len total bytes
   field_at Truncated total count.0 count.1
+
+-- an account of known lamports at a known key, from its owner on
+abbrev pub owned_at : Key → ℕ → ℕ → List ℕ → Read KeyedAccount
+owned_at key lamports total bytes = do
+  owner ← key_at Truncated total bytes
+  executable ← flag_at total owner.1
+  field ← data_at total executable.1
+  Ok (
+    record {
+      key = key;
+      account = record {
+        lamports = lamports;
+        owner = owner.0;
+        executable = executable.0;
+        bytes = field.0;
+      };
+    },
+    field.1,
+  )
 
 unfoldable pub account_after : ℕ → List KeyedAccount → List ℕ → Read KeyedAccount
 account_after total before bytes = do

@@ -3,11 +3,12 @@ ghost use Rattle.std.specs.Prelude.{◌≡◌, ◌+◌, ◌^◌, ◌<◌, [], If
 ghost use Rattle.spec_base.specs.Reading.{Gives, many_after};
 ghost use Rattle.account_store.specs.State.{lamports_of};
 ghost use Rattle.account_store.specs.Sorted.{entries_of};
-ghost use Rattle.snapshot_codec.specs.SnapshotReading.{is_snapshot_memory, key_after, lamports_after, flag_at, data_at, account_after, entries_at, state_at};
+ghost use Rattle.snapshot_codec.specs.SnapshotReading.{is_snapshot_memory, key_after, lamports_after, flag_at, data_at, owned_at, account_after, entries_at, state_at};
 
 use crate::fault::SnapshotFault;
 use account_store::{Accounts, KeyedAccount};
-use sol_base::{Account, Blob, Items, Key, MAX_DATA_LEN, key_field};
+use format_fields::key_field;
+use sol_base::{Account, Blob, Items, Key, MAX_DATA_LEN};
 use spec_base::{byte_field, bytes_field, place, u32_field, u64_field};
 use std::alloc::Global;
 
@@ -92,6 +93,30 @@ fn read_data(alloc: Global, total: usize, bytes: &[u8]) -> Result<(Blob, &[u8]),
     Ok((Blob::from_slice(alloc, field)?, rest))
 }
 
+/// The account of these lamports at the key, from its owner on.
+fn read_owned(
+    alloc: Global,
+    total: usize,
+    key: Key,
+    lamports: u64,
+    bytes: &[u8],
+) -> Result<(KeyedAccount, &[u8]), SnapshotFault>
+    ensures gives { Gives is_snapshot_memory (λ x. (x.0, x.1.now)) result
+        (owned_at key lamports total bytes.now) }
+    ensures lamports { IfOk result (λ x. x.0.account.lamports ≡ lamports) }
+{
+    let (owner, rest) = key_field::<SnapshotFault>(total, bytes)?;
+    let (executable, rest) = read_flag(total, rest)?;
+    let (bytes, rest) = read_data(alloc, total, rest)?;
+    let account = Account {
+        lamports,
+        owner,
+        executable,
+        bytes,
+    };
+    Ok((KeyedAccount { key, account }, rest))
+}
+
 /// The account that stands after those before it, which have `supply` lamports together.
 #[tactic(auto, unfolding(crate::specs::SnapshotReading::account_after))]
 fn read_account<'a>(
@@ -108,16 +133,7 @@ fn read_account<'a>(
 {
     let (key, rest) = read_key(total, before, bytes)?;
     let (lamports, rest) = read_lamports(total, before, supply, rest)?;
-    let (owner, rest) = key_field::<SnapshotFault>(total, rest)?;
-    let (executable, rest) = read_flag(total, rest)?;
-    let (bytes, rest) = read_data(alloc, total, rest)?;
-    let account = Account {
-        lamports,
-        owner,
-        executable,
-        bytes,
-    };
-    Ok((KeyedAccount { key, account }, rest))
+    read_owned(alloc, total, key, lamports, rest)
 }
 
 /// So many accounts, and the bytes after them.

@@ -1,14 +1,15 @@
 //! Batches: what a block is to be made of, as bytes.
 ghost use Rattle.std.specs.Prelude.{◌≡◌, ◌++◌, ◌≤◌, Ok, length, All, OnOk, IfOk};
 ghost use Rattle.std.specs.List.{flat_map};
-ghost use Rattle.spec_base.specs.Reading.{Gives, many};
+ghost use Rattle.spec_base.specs.Reading.{Gives};
 ghost use Rattle.spec_base.specs.Bytes.{sized_bytes};
 ghost use Rattle.snapshot_codec.specs.declared.batch.Batch.{Batch as BatchValue};
 ghost use Rattle.snapshot_codec.specs.Batch.{IsBatch, IsShortWire, batch_bytes as bytes_of};
-ghost use Rattle.snapshot_codec.specs.BatchReading.{is_batch_memory, magic_at, slot_at, count_at, wire_at, batch_at, batch_of};
+ghost use Rattle.snapshot_codec.specs.BatchReading.{is_batch_memory, magic_at, slot_at, count_at, batch_at, batch_of};
 
 use crate::fault::BatchFault;
-use sol_base::{Blob, Items, Key, OutOfMemory, key_field};
+use format_fields::{Item, key_field, read_many};
+use sol_base::{Blob, Items, Key, OutOfMemory};
 use spec_base::{array_field, bytes_field, place, u16_field, u32_field, u64_field};
 use std::alloc::Global;
 
@@ -67,33 +68,20 @@ fn read_count(total: usize, bytes: &[u8]) -> Result<(u32, &[u8]), BatchFault>
     Ok((count, rest))
 }
 
-#[tactic(auto, unfolding(crate::specs::BatchReading::wire_at))]
-fn read_wire(alloc: Global, total: usize, bytes: &[u8]) -> Result<(Blob, &[u8]), BatchFault>
-    ensures { Gives is_batch_memory (λ x. (x.0, x.1.now)) result (wire_at total bytes.now) }
-{
-    let (len, rest) = u16_field::<BatchFault>(total, bytes)?;
-    let (field, rest) = bytes_field::<BatchFault>(total, usize::from(len), rest)?;
-    Ok((Blob::from_slice(alloc, field)?, rest))
-}
+/// A transaction of a batch, one field after its length.
+impl Item<BatchFault> for Blob {
+    ghost use Rattle.snapshot_codec.specs.BatchReading.{wire_at};
 
-/// So many transactions, and the bytes after them.
-fn read_wires(
-    alloc: Global,
-    total: usize,
-    count: u32,
-    bytes: &[u8],
-) -> Result<(Items<Blob>, &[u8]), BatchFault>
-    ensures { Gives is_batch_memory (λ x. (x.0, x.1.now)) result
-        (many (wire_at total) count bytes.now) }
-{
-    let mut wires = Items::with_capacity(alloc, (count as usize).min(bytes.len() / LENGTH_LEN))?;
-    let mut rest = bytes;
-    for _ in 0..count {
-        let (wire, after) = read_wire(alloc, total, rest)?;
-        wires.push(wire)?;
-        rest = after;
+    ghost item_at = { wire_at };
+
+    const LEAST_LEN: usize = LENGTH_LEN;
+
+    #[tactic(auto, unfolding(crate::specs::BatchReading::wire_at))]
+    fn read(alloc: Global, total: usize, bytes: &[u8]) -> Result<(Blob, &[u8]), BatchFault> {
+        let (len, rest) = u16_field::<BatchFault>(total, bytes)?;
+        let (field, rest) = bytes_field::<BatchFault>(total, usize::from(len), rest)?;
+        Ok((Blob::from_slice(alloc, field)?, rest))
     }
-    Ok((wires, rest))
 }
 
 #[tactic(auto, unfolding(crate::specs::BatchReading::batch_at))]
@@ -109,7 +97,7 @@ fn read_fields(
     let (slot, rest) = read_slot(before, total, rest)?;
     let (collector, rest) = key_field::<BatchFault>(total, rest)?;
     let (count, rest) = read_count(total, rest)?;
-    let (wires, rest) = read_wires(alloc, total, count, rest)?;
+    let (wires, rest) = read_many::<BatchFault, Blob>(alloc, total, count as usize, rest)?;
     let batch = Batch {
         slot,
         collector,

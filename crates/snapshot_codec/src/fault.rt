@@ -1,6 +1,7 @@
 //! Why bytes begin with no snapshot, and why they are no batch.
 ghost use Rattle.std.specs.Prelude.{◌≡◌};
 
+use format_fields::MemoryRefusal;
 use sol_base::OutOfMemory;
 use spec_base::Refusal;
 use thiserror::Error;
@@ -52,6 +53,12 @@ impl Refusal for SnapshotFault {
     }
 }
 
+impl MemoryRefusal for SnapshotFault {
+    fn out_of_memory() -> SnapshotFault {
+        SnapshotFault::OutOfMemory
+    }
+}
+
 /// Why bytes are no batch. A place counts from the first byte of the batch, and is that of the
 /// first byte of the field concerned.
 #[derive(Clone, Copy, Debug, PartialEq, Eq, Error)]
@@ -90,5 +97,11 @@ impl Refusal for BatchFault {
 
     fn truncated(at: usize) -> BatchFault {
         BatchFault::Truncated { at }
+    }
+}
+
+impl MemoryRefusal for BatchFault {
+    fn out_of_memory() -> BatchFault {
+        BatchFault::OutOfMemory
     }
 }

@@ -115,14 +115,14 @@ fn read_head_two(total: usize, bytes: &[u8]) -> Result<((u64, Limits), &[u8]), S
 }
 
 #[tactic(auto, unfolding(crate::specs::SnapshotReading::names_one))]
-fn is_version_one(magic: &[u8; 8]) -> bool
+pub(crate) fn is_version_one(magic: &[u8; 8]) -> bool
     ensures { result ≡ names_one magic.now }
 {
     *magic == *b"SOLSNAP1"
 }
 
 #[tactic(auto, unfolding(crate::specs::SnapshotReading::names_two))]
-fn is_version_two(magic: &[u8; 8]) -> bool
+pub(crate) fn is_version_two(magic: &[u8; 8]) -> bool
     ensures { result ≡ names_two magic.now }
 {
     *magic == *b"SOLSNAP2"

@@ -6,8 +6,8 @@ mod batch;
 mod fault;
 mod head;
 mod laws;
+mod length;
 mod marks;
-mod output;
 mod reading;
 mod snapshot;
 mod writing;
@@ -18,7 +18,7 @@ pub use laws::{
     first_version_is_read, readable_snapshots_are_writable, written_batches_are_read,
     written_snapshots_are_read,
 };
-pub use output::Output;
+pub use length::snapshot_length;
 pub use reading::read_snapshot;
 pub use snapshot::{Prefix, Snapshot};
 pub use writing::{append_snapshot, room_before, snapshot_bytes, state_hash};

@@ -2,11 +2,12 @@
 ghost use Rattle.std.specs.Prelude.{◌≡◌, [], IfOk};
 ghost use Rattle.spec_base.specs.Reading.{Gives, many, many_after};
 ghost use Rattle.status_cache.specs.Recent.{IsRecent};
-ghost use Rattle.snapshot_codec.specs.SnapshotReading.{is_snapshot_memory, name_after, mark_at, marks_at};
+ghost use Rattle.snapshot_codec.specs.SnapshotReading.{is_snapshot_memory, name_after, marks_at};
 
 use crate::fault::SnapshotFault;
 use crate::head::count_field;
-use sol_base::{Hash32, Items, OutOfMemory, hash_field};
+use format_fields::{Item, hash_field, read_many};
+use sol_base::{Hash32, Items, OutOfMemory};
 use spec_base::place;
 use status_cache::{Mark, Recent};
 use std::alloc::Global;
@@ -64,34 +65,20 @@ fn read_names(
     Ok((names, rest))
 }
 
-#[tactic(auto, unfolding(crate::specs::SnapshotReading::mark_at))]
-fn read_mark(alloc: Global, total: usize, bytes: &[u8]) -> Result<(Mark, &[u8]), SnapshotFault>
-    ensures { Gives is_snapshot_memory (λ x. (x.0, x.1.now)) result (mark_at total bytes.now) }
-{
-    let (hash, rest) = hash_field::<SnapshotFault>(total, bytes)?;
-    let (count, rest) = count_field(MOST_MESSAGES, total, rest)?;
-    let (messages, rest) = read_names(alloc, total, count, rest)?;
-    Ok((Mark { hash, messages }, rest))
-}
+impl Item<SnapshotFault> for Mark {
+    ghost use Rattle.snapshot_codec.specs.SnapshotReading.{mark_at};
 
-/// So many marks, and the bytes after them.
-fn read_list(
-    alloc: Global,
-    total: usize,
-    count: u32,
-    bytes: &[u8],
-) -> Result<(Items<Mark>, &[u8]), SnapshotFault>
-    ensures { Gives is_snapshot_memory (λ x. (x.0, x.1.now)) result
-        (many (mark_at total) count bytes.now) }
-{
-    let mut marks = Items::with_capacity(alloc, (count as usize).min(bytes.len() / MARK_LEN))?;
-    let mut rest = bytes;
-    for _ in 0..count {
-        let (mark, after) = read_mark(alloc, total, rest)?;
-        marks.push(mark)?;
-        rest = after;
+    ghost item_at = { mark_at };
+
+    const LEAST_LEN: usize = MARK_LEN;
+
+    #[tactic(auto, unfolding(crate::specs::SnapshotReading::mark_at))]
+    fn read(alloc: Global, total: usize, bytes: &[u8]) -> Result<(Mark, &[u8]), SnapshotFault> {
+        let (hash, rest) = hash_field::<SnapshotFault>(total, bytes)?;
+        let (count, rest) = count_field(MOST_MESSAGES, total, rest)?;
+        let (messages, rest) = read_names(alloc, total, count, rest)?;
+        Ok((Mark { hash, messages }, rest))
     }
-    Ok((marks, rest))
 }
 
 /// The number of marks, and the marks.
@@ -104,7 +91,7 @@ fn read_marks(
     ensures { Gives is_snapshot_memory (λ x. (x.0, x.1.now)) result (marks_at total bytes.now) }
 {
     let (count, rest) = count_field(MOST_MARKS, total, bytes)?;
-    read_list(alloc, total, count, rest)
+    read_many::<SnapshotFault, Mark>(alloc, total, count as usize, rest)
 }
 
 /// The marks, newest first, as a chain keeps them.

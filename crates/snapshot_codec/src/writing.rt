@@ -3,13 +3,13 @@ ghost use Rattle.std.specs.Prelude.{◌≡◌, ◌<◌, ◌^◌, ◌++◌, [], l
 ghost use Rattle.std.specs.List.{flat_map};
 ghost use Rattle.account_store.specs.State.{len, entries};
 ghost use Rattle.sol_base.specs.Keys.{hash_bytes};
-ghost use Rattle.snapshot_codec.specs.Output.{Adds};
+ghost use Rattle.format_fields.specs.Output.{Adds};
 ghost use Rattle.snapshot_codec.specs.Snapshot.{IsWritable, limits_bytes, mark_bytes, marks_bytes, account_bytes, state_bytes, hash_of_state, snapshot_bytes as bytes_of};
 
 use crate::accounts::ACCOUNT_LEN;
-use crate::output::Output;
 use crate::snapshot::Snapshot;
 use account_store::Accounts;
+use format_fields::Output;
 use sha2::{Digest, Sha256};
 use sol_base::{Account, Blob, Hash32, Key, Limits, OutOfMemory};
 use status_cache::Mark;

@@ -1,4 +1,4 @@
--- Equality and order of keys and hashes, and their fields in a format.
+-- Equality and order of keys and hashes.
 use Rattle.std.proofs.Common.{◌≡◌, ◌≢◌, ℕ, List, Bool, true, false, refl, ap, subst, sym}
 use Rattle.std.specs.Bool.{Decides}
 use Rattle.std.specs.Ordering.{eq_by_cmp, is_eq}
@@ -9,10 +9,9 @@ use Rattle.std.specs.Cmp.{IsEquivalence, IsTotalOrder}
 use Rattle.std.specs.Cmp.Lexicographic.{bytes_decides}
 use Rattle.std.proofs.lemmas.Map.Lookups.{CmpEqualImpliesEq, exact_bytes}
 use Rattle.std.proofs.lemmas.Cmp.{eq_by_cmp_equiv, on_equiv, on_total, nat_list_eq_equiv, nat_list_cmp_total}
-use Rattle.spec_base.proofs.Formats.{Reads, field_reads, read_as_reads}
 use Rattle.sol_base.specs.declared.key.Key.{Key}
 use Rattle.sol_base.specs.declared.key.Hash32.{Hash32}
-use Rattle.sol_base.specs.Keys.{IsKey, IsHash, same_key, same_hash, key_cmp, hash_cmp, key_bytes, hash_bytes, key_at, hash_at}
+use Rattle.sol_base.specs.Keys.{same_key, same_hash, key_cmp, hash_cmp}
 
 -- the test of two keys tells exactly whether they are one
 pub same_key-Decides : (a b : Key) → Decides (same_key a b) (a ≡ b)
@@ -70,9 +69,3 @@ hash_cmp_exact a b h = ap (λ (bytes : List ℕ). let hash : Hash32 = record { 0
 
 pub hash_cmp_total : IsTotalOrder hash_cmp
 hash_cmp_total = on_total (λ (hash : Hash32). hash.0) nat_list_cmp_total
-
-pub key_reads : {E : Type 0} (truncated : ℕ → E) (total : ℕ) → Reads (key_at truncated total) key_bytes IsKey
-key_reads truncated total = read_as_reads (λ (field : List ℕ). let key : Key = record { 0 = field } in key) (λ key. key.0) (λ _. refl) (λ _. refl) (field_reads truncated total 32)
-
-pub hash_reads : {E : Type 0} (truncated : ℕ → E) (total : ℕ) → Reads (hash_at truncated total) hash_bytes IsHash
-hash_reads truncated total = read_as_reads (λ (field : List ℕ). let hash : Hash32 = record { 0 = field } in hash) (λ hash. hash.0) (λ _. refl) (λ _. refl) (field_reads truncated total 32)

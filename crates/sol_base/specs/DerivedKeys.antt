@@ -1,4 +1,5 @@
--- Keys that are the SHA-256 (FIPS 180-4) of others and of seeds (Solana).
+-- Keys that are the SHA-256 (FIPS 180-4) of others and of seeds (Solana; that a program key may lie
+-- on the curve is the project's own).
 use Rattle.std.specs.Prelude.{ℕ, Bool, List, ◌++◌, length, codes, nat_lt, nat_eq, Result, Ok, Err, if◌then◌else◌}
 use Rattle.std.specs.List.{ends_with, flat_map, list_any}
 use Rattle.sha2.specs.Sha256.{sha256}

@@ -1,11 +1,10 @@
 -- Keys and hashes: 32 bytes each, in the order of their bytes.
-use Rattle.std.specs.Prelude.{◌≡◌, ℕ, Bool, List, length, nat_eq, refl, Result}
+use Rattle.std.specs.Prelude.{◌≡◌, ℕ, Bool, List, length, nat_eq, refl}
 use Rattle.std.specs.Ordering.{nat_cmp}
 use Rattle.std.specs.declared.cmp.Ordering.{Ordering}
 use Rattle.std.specs.Coded.{Coded, code_by, coded_list, coded_ℕ}
 use Rattle.std.specs.Cmp.Lexicographic.{slice_cmp, pointwise}
 use Rattle.std.specs.List.{list_any}
-use Rattle.spec_base.specs.Reading.{field_at, read_as}
 use Rattle.sol_base.specs.declared.key.Key.{Key}
 use Rattle.sol_base.specs.declared.key.Hash32.{Hash32}
 
@@ -42,15 +41,6 @@ key_bytes key = key.0
 
 abbrev pub hash_bytes : Hash32 → List ℕ
 hash_bytes hash = hash.0
-
--- a field that is a key, and one that is a hash
-abbrev pub key_at : {E : Type 0} → (ℕ → E) → ℕ → List ℕ → Result (Key × List ℕ) E
-key_at truncated total bytes =
-    read_as (λ field. record { 0 = field }) (field_at truncated total 32) bytes
-
-abbrev pub hash_at : {E : Type 0} → (ℕ → E) → ℕ → List ℕ → Result (Hash32 × List ℕ) E
-hash_at truncated total bytes =
-    read_as (λ field. record { 0 = field }) (field_at truncated total 32) bytes
 
 -- keys as the keys of a finite map
 abbrev pub coded_key : Coded Key

@@ -4,7 +4,6 @@ pub mod DerivedKeys
 pub mod Limits
 pub mod Locks
 pub mod Metas
-pub mod Parts
 pub use Rattle.spec_base.specs.Bytes
 pub use Rattle.spec_base.specs.Reading
 pub use Rattle.spec_base.specs.Faults

@@ -4,6 +4,11 @@ use Rattle.std.specs.Prelude.{◌≡◌, ℕ, ◌<◌, ◌==◌, ◌&&◌, Bool,
 use Rattle.std.specs.List.{list_any, enumerate_from}
 use Rattle.sol_base.specs.declared.account.Account.{Account}
 use Rattle.sol_base.specs.declared.lock.Meta.{Meta}
+use Rattle.sol_base.specs.declared.lock.TheConstants.{MAX_METAS}
+
+-- the most accounts that a frame lists
+abbrev pub max_metas : ℕ
+max_metas = MAX_METAS
 
 -- what stands where no meta does
 abbrev pub no_meta : Meta

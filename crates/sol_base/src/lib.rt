@@ -5,14 +5,12 @@
 mod account;
 mod blob;
 mod derived;
-mod fields;
 mod items;
 mod key;
 mod laws;
 mod limits;
 mod lock;
 mod memory;
-mod parts;
 mod text;
 
 pub use account::{Account, MAX_DATA_LEN};
@@ -20,7 +18,6 @@ pub use blob::Blob;
 pub use derived::{
     DERIVED_KEY_MARKER, MAX_SEED_LEN, MAX_SEEDS, SeedFault, SeedsFault, program_key, seed_key,
 };
-pub use fields::{hash_field, key_field};
 pub use items::Items;
 pub use key::{
     CLOCK_SYSVAR, COMPUTE_BUDGET_PROGRAM, Hash32, Key, LOADER_PROGRAM, RENT_SYSVAR, SYSTEM_PROGRAM,
@@ -28,7 +25,6 @@ pub use key::{
 };
 pub use laws::{bounds_are_as_published, native_keys_repeat_one_byte};
 pub use limits::Limits;
-pub use lock::{Lock, LockList, Meta};
+pub use lock::{Lock, LockList, MAX_METAS, Meta};
 pub use memory::OutOfMemory;
-pub use parts::{Part, Parts};
 pub use text::is_text;

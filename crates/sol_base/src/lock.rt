@@ -12,6 +12,9 @@ pub struct Lock {
 /// The locks of one transaction, in the order of its keys.
 pub type LockList = Items<Lock>;
 
+/// The most accounts that a frame lists (Solana).
+pub const MAX_METAS: usize = 255;
+
 /// An account of an instruction, by its place among the transaction's keys.
 #[derive(Clone, Copy, PartialEq, Eq)]
 pub struct Meta {

@@ -1,14 +1,13 @@
 -- From what a function of a call answers to what the served call says.
-use Rattle.std.proofs.Common.{◌≡◌, ℕ, ◌-◌, true, false, List, length, Result, Ok, Err, refl, sym, ap, subst, ◌∙◌, if◌then◌else◌, arith}
+use Rattle.std.proofs.Common.{◌≡◌, ℕ, ◌-◌, true, false, List, length, Result, Ok, Err, refl, sym, ap, subst, ◌∙◌, if◌then◌else◌}
 use Rattle.std.specs.Prelude.{nat_lt}
-use Rattle.tx_report.specs.LogLines.{with_line}
 use Rattle.sbpf_memory.specs.Memory.{Ranges}
 use Rattle.sbpf_memory.specs.Plain.{plain_memory}
 use Rattle.sys_calls.specs.declared.env.Env.{Env}
 use Rattle.sys_calls.specs.declared.fault.SysFault.{SysFault}
 use Rattle.sys_calls.specs.declared.fault.SysFault.TheVariants.{Abort, AccessViolation, Overlap, UnitsSpent, TooManySeeds, ReturnTooLong, BadText, TooManySlices, OutOfMemory as no_memory}
 use Rattle.sys_calls.specs.Costs.{call_numbered, cost_of}
-use Rattle.sys_calls.specs.SysCalls.{SysAnswer, Serves, Does, IsServedMemory, service, logged, at_cost, effect_of, sys_row}
+use Rattle.sys_calls.specs.SysCalls.{SysAnswer, Serves, Does, Logs, IsServedMemory, service, logged, at_cost, effect_of, sys_row}
 use Rattle.sys_calls.specs.declared.table.SystemCall.{SystemCall}
 use Rattle.sys_calls.proofs.Loops.{charge-paid}
 use Rattle.sys_calls.proofs.Pieces.{memory-plain, memory-bare}
@@ -88,16 +87,11 @@ serves-memory number arguments old new env env' (Err ReturnTooLong) lent serves 
 serves-memory number arguments old new env env' (Err BadText) lent serves = stays-served old new lent serves.2
 serves-memory number arguments old new env env' (Err TooManySlices) lent serves = stays-served old new lent serves.2
 
--- a line is added
-pub line-done : (row : SysAnswer) (old : Ranges) (env env' : Env) (line text : List ℕ) (r0 : ℕ) → row ≡ at_cost env (logged (plain_memory old) env (Ok line)) → text ≡ line → env' ≡ record env { logs = with_line env.logs text } → r0 ≡ 0
-    → Does row old old env env' (Ok r0)
-line-done row old env env' line text r0 is same added zero =
-    let after : List ℕ → Env = λ l. record env { logs = with_line env.logs l } in
-    let all : Does (at_cost env (logged (plain_memory old) env (Ok line))) old old env (after line) (Ok 0) = (refl, refl, record { slot = refl; program = refl; height = refl }, omega arith, tt, refl) in
-    let by_r0 : Does (at_cost env (logged (plain_memory old) env (Ok line))) old old env (after line) (Ok r0) = subst (λ (n : ℕ). Does (at_cost env (logged (plain_memory old) env (Ok line))) old old env (after line) (Ok n)) (sym zero) all in
-    let by_env : Does (at_cost env (logged (plain_memory old) env (Ok line))) old old env env' (Ok r0) = subst (λ (e : Env). Does (at_cost env (logged (plain_memory old) env (Ok line))) old old env e (Ok r0)) (ap after (sym same) ∙ sym added) by_r0 in
-    subst (λ (a : SysAnswer). Does a old old env env' (Ok r0)) (sym is) by_env
+-- a line that was made is added
+pub line-added : (line : Result (List ℕ) SysFault) (text slice : List ℕ) (env env' : Env) (result : Result ℕ SysFault) → line ≡ Ok text → slice ≡ text → Logs (Ok slice) env env' result → Logs line env env' result
+line-added line text slice env env' result made same logs =
+    subst (λ (l : Result (List ℕ) SysFault). Logs l env env' result) (ap (λ (t : List ℕ). let r : Result (List ℕ) SysFault = Ok t in r) same ∙ sym made) logs
 
--- the line that was made
-pub line-of : (line text : List ℕ) → (let r : Result (List ℕ) SysFault = Ok line in r) ≡ Ok text → text ≡ line
-line-of line text h = cc
+-- what a call does that logs a line
+pub logs-does : (row : SysAnswer) (line : Result (List ℕ) SysFault) (m : Ranges) (env env' : Env) (result : Result ℕ SysFault) → row ≡ at_cost env (logged (plain_memory m) env line) → Logs line env env' result → Does row m m env env' result
+logs-does row line m env env' result is logs = subst (λ (a : SysAnswer). Does a m m env env' result) (sym is) (logs m)

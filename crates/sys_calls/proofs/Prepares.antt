@@ -3,7 +3,7 @@ use Rattle.std.proofs.Common.{◌≡◌, ℕ, List, length, Option, Some, None, 
 use Rattle.std.proofs.lemmas.List.{length-replicate}
 use Rattle.std.specs.Prelude.{Bool}
 use Rattle.spec_base.specs.Reading.{◌>>=◌}
-use Rattle.sol_base.specs.Parts.{ArePrepared}
+use Rattle.data_parts.specs.Parts.{ArePrepared}
 use Rattle.sbpf_memory.specs.declared.fault.AccessViolation.{AccessViolation}
 use Rattle.sbpf_memory.specs.declared.fault.MemFault.{MemFault}
 use Rattle.sbpf_memory.specs.declared.fault.MemFault.TheVariants.{AccessViolation as violation, Overlap, OutOfMemory as no_memory}

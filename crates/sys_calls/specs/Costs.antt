@@ -1,7 +1,11 @@
--- The numbers, the costs and the limits of the calls (the project's own).
+-- The numbers, the costs and the limits of the calls (Solana; the numbers, and the costs of slot,
+-- rent and reading what was returned, are the project's own).
 use Rattle.std.specs.Prelude.{ℕ, ◌≤◌, ◌+◌, ◌/◌, ◌==◌, max, min, List, slice_index, if◌then◌else◌}
 use Rattle.sys_calls.specs.declared.table.SystemCall.{SystemCall}
 use Rattle.sys_calls.specs.declared.table.SystemCall.TheVariants.{Abort, Log, Log64, LogKey, LogUnits, Sha256, Memcpy, Memmove, Memcmp, Memset, ProgramKey, GetSlot, GetRent, SetReturn, GetReturn, GetHeight}
+use Rattle.sys_calls.specs.declared.table.TheConstants.{BASE_COST, BYTES_OF_UNIT, HASH_COST, KEY_COST, MIN_BYTES_COST, RENT_COST, SLOT_COST}
+use Rattle.sys_calls.specs.declared.sha256.TheConstants.{MAX_SLICES}
+use Rattle.sys_calls.specs.declared.returned.TheConstants.{MAX_RETURNED}
 
 -- the numbers that are served; 17 is the cross-program call
 abbrev pub IsServed : ℕ → Type 0
@@ -43,40 +47,32 @@ r4 arguments = slice_index arguments 3
 abbrev pub r5 : List ℕ → ℕ
 r5 arguments = slice_index arguments 4
 
--- what most calls cost
-abbrev pub base_cost : ℕ
-base_cost = 100
-
--- the bytes that cost one unit
-abbrev pub bytes_of_unit : ℕ
-bytes_of_unit = 250
-
 -- what a call on many bytes costs
 abbrev pub bytes_cost : ℕ → ℕ
-bytes_cost count = max 10 (count / bytes_of_unit)
+bytes_cost count = max MIN_BYTES_COST (count / BYTES_OF_UNIT)
 
 -- what a call costs before it does anything, by its arguments and how many returned bytes are kept
 abbrev pub cost_of : SystemCall → List ℕ → ℕ → ℕ
-cost_of Abort r kept = base_cost
-cost_of Log r kept = max base_cost (r2 r)
-cost_of Log64 r kept = base_cost
-cost_of LogKey r kept = base_cost
-cost_of LogUnits r kept = base_cost
-cost_of Sha256 r kept = 85
+cost_of Abort r kept = BASE_COST
+cost_of Log r kept = max BASE_COST (r2 r)
+cost_of Log64 r kept = BASE_COST
+cost_of LogKey r kept = BASE_COST
+cost_of LogUnits r kept = BASE_COST
+cost_of Sha256 r kept = HASH_COST
 cost_of Memcpy r kept = bytes_cost (r3 r)
 cost_of Memmove r kept = bytes_cost (r3 r)
 cost_of Memcmp r kept = bytes_cost (r3 r)
 cost_of Memset r kept = bytes_cost (r3 r)
-cost_of ProgramKey r kept = 1500
-cost_of GetSlot r kept = 108
-cost_of GetRent r kept = 116
-cost_of SetReturn r kept = base_cost + r2 r / bytes_of_unit
-cost_of GetReturn r kept = base_cost + min (r2 r) kept / bytes_of_unit
-cost_of GetHeight r kept = base_cost
+cost_of ProgramKey r kept = KEY_COST
+cost_of GetSlot r kept = SLOT_COST
+cost_of GetRent r kept = RENT_COST
+cost_of SetReturn r kept = BASE_COST + r2 r / BYTES_OF_UNIT
+cost_of GetReturn r kept = BASE_COST + min (r2 r) kept / BYTES_OF_UNIT
+cost_of GetHeight r kept = BASE_COST
 
 -- the most slices that are hashed, and the most bytes that are returned
 abbrev pub max_slices : ℕ
-max_slices = 20000
+max_slices = MAX_SLICES
 
 abbrev pub max_returned : ℕ
-max_returned = 1024
+max_returned = MAX_RETURNED

@@ -1,4 +1,5 @@
--- The log lines of the calls that write one.
+-- The log lines of the calls that write one (Solana; that a key is hexadecimal digits is the
+-- project's own).
 use Rattle.std.specs.Prelude.{ℕ, false, List, ◌++◌, codes, decimal, Result, Ok}
 use Rattle.std.specs.List.{flat_map}
 use Rattle.std.specs.Fmt.{digits}

@@ -7,13 +7,14 @@ use Rattle.spec_base.specs.Bytes.{number_from}
 use Rattle.sol_base.specs.DerivedKeys.{max_seed_len}
 use Rattle.sbpf_memory.specs.Memory.{Ranges}
 use Rattle.sys_calls.specs.declared.slices.Slice.{Slice}
+use Rattle.sys_calls.specs.declared.slices.TheConstants.{SLICE_LEN}
 use Rattle.sys_calls.specs.declared.fault.SysFault.{SysFault}
 use Rattle.sys_calls.specs.declared.fault.SysFault.TheVariants.{UnitsSpent}
 use Rattle.sys_calls.specs.Access.{bytes_read}
 
 -- the bytes of a slice in a list
 abbrev pub slice_len : ℕ
-slice_len = 16
+slice_len = SLICE_LEN
 
 -- the slice that stands at an index
 abbrev pub slice_at : List ℕ → ℕ → Slice

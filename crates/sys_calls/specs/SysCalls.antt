@@ -1,4 +1,6 @@
--- The system calls other than the cross-program call, with numbers and costs of the project's own.
+-- The system calls other than the cross-program call (Solana; their numbers, the bytes and the
+-- costs of slot and rent, the cost of reading what was returned, and the answer 1 to a seed that is
+-- too long are the project's own).
 use Rattle.std.specs.Prelude.{◌≡◌, ℕ, ◌+◌, ◌-◌, ◌%◌, ◌^◌, ◌≤◌, ◌==◌, nat_lt, true, false, List, [], ◌∷◌, ◌++◌, length, take, replicate, min, Option, Some, None, unwrap_or, Result, Ok, Err, OnErr, if◌then◌else◌}
 use Rattle.std.specs.Option.{option_map}
 use Rattle.std.specs.Int.{w32, w64, to_le_bytes}
@@ -9,6 +11,7 @@ use Rattle.sol_base.specs.declared.derived.SeedsFault.{SeedsFault}
 use Rattle.sbpf_memory.specs.Memory.{Ranges, IsMemory}
 use Rattle.sbpf_memory.specs.Plain.{plain_memory}
 use Rattle.tx_report.specs.LogLines.{Log as Lines, with_line}
+use Rattle.sys_calls.specs.declared.block.TheConstants.{EXEMPT_YEARS, LAMPORTS_PER_BYTE_YEAR}
 use Rattle.sys_calls.specs.declared.env.Env.{Env}
 use Rattle.sys_calls.specs.declared.slices.Slice.{Slice}
 use Rattle.sys_calls.specs.declared.table.SystemCall.{SystemCall}
@@ -127,17 +130,9 @@ hashed m env slices count result =
     if nat_lt max_slices count then at_cost env (Err TooManySlices)
     else slices_hashed m env result (slices_read m slices count)
 
--- what a byte costs each year, in lamports, and the years that an account pays for at once to be
--- exempt (Solana)
-abbrev pub lamports_per_byte_year : ℕ
-lamports_per_byte_year = 3480
-
-abbrev pub exempt_years : ℕ
-exempt_years = 2
-
--- the numbers of the rent
+-- the numbers of the rent, 8 bytes each (the project's own)
 abbrev pub rent_bytes : List ℕ
-rent_bytes = to_le_bytes w64 lamports_per_byte_year ++ to_le_bytes w64 exempt_years
+rent_bytes = to_le_bytes w64 LAMPORTS_PER_BYTE_YEAR ++ to_le_bytes w64 EXEMPT_YEARS
 
 unfoldable pub return_set : Ranges → Env → ℕ → ℕ → Result Service SysFault
 return_set m env addr len =
@@ -229,6 +224,11 @@ Does row old new env env' result =
     × OnErr result ((plain_memory new ≡ plain_memory old)
     × (env' ≡ record env { units = env'.units }))
     × (new.input.lent ≡ old.input.lent)
+
+-- what the function of a call answers that logs a line and leaves every memory as it is
+abbrev pub Logs : Result (List ℕ) SysFault → Env → Env → Result ℕ SysFault → Type 0
+Logs line env env' result = (m : Ranges)
+    → Does (at_cost env (logged (plain_memory m) env line)) m m env env' result
 
 -- a served call leaves a memory with as many bytes in its input, which was made to lend the same
 -- accounts

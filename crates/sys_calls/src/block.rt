@@ -11,12 +11,12 @@ use crate::fault::SysFault;
 use sbpf_memory::Memory;
 
 /// The lamports that a byte costs each year (Solana).
-const LAMPORTS_PER_BYTE_YEAR: u64 = 3_480;
+pub(crate) const LAMPORTS_PER_BYTE_YEAR: u64 = 3_480;
 
 /// The years that an account pays for at once to be exempt (Solana).
-const EXEMPT_YEARS: u64 = 2;
+pub(crate) const EXEMPT_YEARS: u64 = 2;
 
-/// Writes the block's slot.
+/// Writes the block's slot, 8 bytes (the project's own).
 pub(crate) fn get_slot(result_at: u64, slot: u64, memory: &mut Memory) -> Result<(), SysFault>
     ensures answer { Gives is_sys_memory (λ _. plain_memory memory.new) result
         (bytes_written (plain_memory memory.old) result_at (to_le_bytes w64 slot)) }
@@ -26,7 +26,7 @@ pub(crate) fn get_slot(result_at: u64, slot: u64, memory: &mut Memory) -> Result
     write(memory, result_at, &slot.to_le_bytes())
 }
 
-/// Writes the numbers of the rent.
+/// Writes the numbers of the rent, 8 bytes each (the project's own).
 pub(crate) fn get_rent(result_at: u64, memory: &mut Memory) -> Result<(), SysFault>
     ensures answer { Gives is_sys_memory (λ _. plain_memory memory.new) result
         (bytes_written (plain_memory memory.old) result_at bytes_of_rent) }

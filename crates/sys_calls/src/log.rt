@@ -5,7 +5,9 @@ ghost use Rattle.sbpf_memory.specs.Plain.{plain_memory};
 ghost use Rattle.spec_base.specs.Reading.{Gives};
 ghost use Rattle.sys_calls.specs.Access.{is_sys_memory};
 ghost use Rattle.sys_calls.specs.Lines.{number_text, log_line, log_64_line, log_key_line, log_units_line};
+ghost use Rattle.sys_calls.specs.SysCalls.{Logs};
 
+use crate::env::Env;
 use crate::fault::SysFault;
 use sbpf_memory::{Memory, read_array, read_bytes};
 use sol_base::{Key, OutOfMemory, is_text, key_text};
@@ -14,9 +16,65 @@ use std::alloc::Global;
 /// What stands before what a program logs.
 const PROGRAM_LOG: [u8; 13] = *b"Program log: ";
 
+/// Logs a text.
+pub(crate) fn log(
+    alloc: Global,
+    text: u64,
+    len: u64,
+    memory: &Memory,
+    env: &mut Env,
+) -> Result<u64, SysFault>
+    ensures { Logs (log_line (plain_memory memory.now) text len) env.old env.new result }
+{
+    let line = text_line(alloc, text, len, memory)?;
+    add_line(env, line.as_slice())
+}
+
+/// Logs five numbers.
+pub(crate) fn log_64(
+    alloc: Global,
+    first: u64,
+    others: [u64; 4],
+    env: &mut Env,
+) -> Result<u64, SysFault>
+    ensures { Logs (Ok (log_64_line first others)) env.old env.new result }
+{
+    let line = numbers_line(alloc, first, others)?;
+    add_line(env, line.as_slice())
+}
+
+/// Logs a key.
+pub(crate) fn log_key(
+    alloc: Global,
+    key: u64,
+    memory: &Memory,
+    env: &mut Env,
+) -> Result<u64, SysFault>
+    ensures { Logs (log_key_line (plain_memory memory.now) key) env.old env.new result }
+{
+    let line = key_line(alloc, key, memory)?;
+    add_line(env, line.as_slice())
+}
+
+/// Logs the units that are left.
+pub(crate) fn log_units(alloc: Global, env: &mut Env) -> Result<u64, SysFault>
+    ensures { Logs (Ok (log_units_line env.old.units)) env.old env.new result }
+{
+    let line = units_line(alloc, env.units)?;
+    add_line(env, line.as_slice())
+}
+
+/// Adds a line to the log.
+fn add_line(env: &mut Env, line: &[u8]) -> Result<u64, SysFault>
+    ensures { Logs (Ok line.now) env.old env.new result }
+{
+    env.logs.push_line(line)?;
+    Ok(0)
+}
+
 /// The line of a text.
 #[tactic(auto, unfolding(crate::specs::Lines::log_line))]
-pub(crate) fn log(alloc: Global, text: u64, len: u64, memory: &Memory) -> Result<Vec<u8>, SysFault>
+fn text_line(alloc: Global, text: u64, len: u64, memory: &Memory) -> Result<Vec<u8>, SysFault>
     ensures { Gives is_sys_memory (λ line. line.items) result
         (log_line (plain_memory memory.now) text len) }
 {
@@ -30,7 +88,7 @@ pub(crate) fn log(alloc: Global, text: u64, len: u64, memory: &Memory) -> Result
 }
 
 /// The line of five numbers.
-pub(crate) fn log_64(alloc: Global, first: u64, others: [u64; 4]) -> Result<Vec<u8>, SysFault>
+fn numbers_line(alloc: Global, first: u64, others: [u64; 4]) -> Result<Vec<u8>, SysFault>
     ensures { Gives is_sys_memory (λ line. line.items) result (Ok (log_64_line first others)) }
 {
     let mut line = Vec::from_slice(alloc, &PROGRAM_LOG)?;
@@ -61,7 +119,7 @@ fn append_number(alloc: Global, line: &mut Vec<u8>, number: u64) -> Result<(), O
 
 /// The line of a key.
 #[tactic(auto, unfolding(crate::specs::Lines::log_key_line))]
-pub(crate) fn log_key(alloc: Global, key: u64, memory: &Memory) -> Result<Vec<u8>, SysFault>
+fn key_line(alloc: Global, key: u64, memory: &Memory) -> Result<Vec<u8>, SysFault>
     ensures { Gives is_sys_memory (λ line. line.items) result
         (log_key_line (plain_memory memory.now) key) }
 {
@@ -72,7 +130,7 @@ pub(crate) fn log_key(alloc: Global, key: u64, memory: &Memory) -> Result<Vec<u8
 }
 
 /// The line of the units that are left.
-pub(crate) fn log_units(alloc: Global, units: u64) -> Result<Vec<u8>, SysFault>
+fn units_line(alloc: Global, units: u64) -> Result<Vec<u8>, SysFault>
     ensures { Gives is_sys_memory (λ line. line.items) result (Ok (log_units_line units)) }
 {
     let line = format!(in alloc; "Program consumption: {units} units remaining")?;

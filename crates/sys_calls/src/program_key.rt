@@ -14,7 +14,7 @@ use sol_base::{Blob, Items, Key, MAX_SEED_LEN, MAX_SEEDS};
 use std::alloc::Global;
 
 /// Writes the key that a program signs for by the seeds (Solana), and answers 0. Where a seed is
-/// too long it answers 1 and writes nothing.
+/// too long it answers 1 and writes nothing (the project's own).
 #[tactic(auto, unfolding(crate::specs::SysCalls::key_derived))]
 pub(crate) fn program_key(
     alloc: Global,

@@ -13,7 +13,7 @@ use sol_base::Key;
 use std::alloc::Global;
 
 /// The most bytes that are kept.
-const MAX_RETURNED: u64 = 1_024;
+pub(crate) const MAX_RETURNED: u64 = 1_024;
 
 /// Keeps bytes, and the program that returns them.
 #[tactic(auto, unfolding(crate::specs::SysCalls::return_set))]

@@ -1,6 +1,5 @@
 //! Serving one system call.
-ghost use Rattle.std.specs.Prelude.{◌≡◌, ◌≤◌, OnOk, OnErr, IfOk, IfErr};
-ghost use Rattle.tx_report.specs.LogLines.{with_line};
+ghost use Rattle.std.specs.Prelude.{◌≤◌};
 ghost use Rattle.sbpf_memory.specs.Plain.{plain_memory};
 ghost use Rattle.sys_calls.specs.Costs.{IsServed};
 ghost use Rattle.sys_calls.specs.SysCalls.{Serves, KeepsBlock, IsServedMemory, Does, sys_row, effect_of};
@@ -55,10 +54,10 @@ fn take_effect(
     let [a, b, c, d, e] = arguments;
     match call {
         SystemCall::Abort => Err(SysFault::Abort),
-        SystemCall::Log => Ok(add_line(env, log(alloc, a, b, memory)?.as_slice())?),
-        SystemCall::Log64 => Ok(add_line(env, log_64(alloc, a, [b, c, d, e])?.as_slice())?),
-        SystemCall::LogKey => Ok(add_line(env, log_key(alloc, a, memory)?.as_slice())?),
-        SystemCall::LogUnits => Ok(add_line(env, log_units(alloc, env.units)?.as_slice())?),
+        SystemCall::Log => log(alloc, a, b, memory, env),
+        SystemCall::Log64 => log_64(alloc, a, [b, c, d, e], env),
+        SystemCall::LogKey => log_key(alloc, a, memory, env),
+        SystemCall::LogUnits => log_units(alloc, env),
         SystemCall::Sha256 => sha256(alloc, a, b, c, memory, env),
         SystemCall::Memcpy => {
             memcpy(a, b, c, memory)?;
@@ -96,15 +95,4 @@ fn take_effect(
         )?),
         SystemCall::GetHeight => Ok(u64::from(env.height)),
     }
-}
-
-/// Adds a log line.
-fn add_line(env: &mut Env, line: &[u8]) -> Result<u64, SysFault>
-    ensures ok { OnOk result (env.new ≡ record env.old { logs = with_line env.old.logs line.now }) }
-    ensures r0 { IfOk result (λ r0. r0 ≡ 0) }
-    ensures err { IfErr result (λ fault. fault ≡ SysFault.OutOfMemory) }
-    ensures kept { OnErr result (env.new ≡ env.old) }
-{
-    env.logs.push_line(line)?;
-    Ok(0)
 }

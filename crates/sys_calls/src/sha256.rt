@@ -15,7 +15,7 @@ use sha2::{Digest, Sha256};
 use std::alloc::Global;
 
 /// The most slices of a call.
-const MAX_SLICES: u64 = 20_000;
+pub(crate) const MAX_SLICES: u64 = 20_000;
 
 /// Writes the SHA-256 of the slices, one after another (FIPS 180-4).
 #[tactic(auto, unfolding(crate::specs::SysCalls::hashed))]

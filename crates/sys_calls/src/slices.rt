@@ -21,7 +21,7 @@ pub struct Slice {
 }
 
 /// The bytes of a slice in a list.
-const SLICE_LEN: usize = 16;
+pub(crate) const SLICE_LEN: usize = 16;
 
 /// The slices of a list.
 #[tactic(auto, unfolding(crate::specs::Slices::slices_read))]

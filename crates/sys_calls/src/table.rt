@@ -1,4 +1,5 @@
-//! The system calls by their numbers, with their costs (the project's own).
+//! The system calls by their numbers, with their costs (Solana; the numbers, and the costs of slot,
+//! rent and reading what was returned, are the project's own).
 ghost use Rattle.std.specs.Prelude.{◌≡◌};
 ghost use Rattle.sys_calls.specs.Costs.{IsServed, call_numbered, cost_of};
 
@@ -24,10 +25,25 @@ pub enum SystemCall {
 }
 
 /// What most calls cost.
-const BASE_COST: u64 = 100;
+pub(crate) const BASE_COST: u64 = 100;
 
 /// The bytes that cost one unit.
-const BYTES_OF_UNIT: u64 = 250;
+pub(crate) const BYTES_OF_UNIT: u64 = 250;
+
+/// What a call on many bytes costs at least.
+pub(crate) const MIN_BYTES_COST: u64 = 10;
+
+/// What hashing costs beside what each slice costs.
+pub(crate) const HASH_COST: u64 = 85;
+
+/// What deriving a key costs.
+pub(crate) const KEY_COST: u64 = 1_500;
+
+/// What reading the slot costs (the project's own).
+pub(crate) const SLOT_COST: u64 = 108;
+
+/// What reading the rent costs (the project's own).
+pub(crate) const RENT_COST: u64 = 116;
 
 impl SystemCall {
     /// The call of a number.
@@ -68,12 +84,12 @@ impl SystemCall {
             | SystemCall::LogUnits
             | SystemCall::GetHeight => BASE_COST,
             SystemCall::Log => second.max(BASE_COST),
-            SystemCall::Sha256 => 85,
+            SystemCall::Sha256 => HASH_COST,
             SystemCall::Memcpy | SystemCall::Memmove | SystemCall::Memcmp | SystemCall::Memset =>
-                (third / BYTES_OF_UNIT).max(10),
-            SystemCall::ProgramKey => 1_500,
-            SystemCall::GetSlot => 108,
-            SystemCall::GetRent => 116,
+                (third / BYTES_OF_UNIT).max(MIN_BYTES_COST),
+            SystemCall::ProgramKey => KEY_COST,
+            SystemCall::GetSlot => SLOT_COST,
+            SystemCall::GetRent => RENT_COST,
             SystemCall::SetReturn => BASE_COST + second / BYTES_OF_UNIT,
             SystemCall::GetReturn => BASE_COST + second.min(kept) / BYTES_OF_UNIT,
         }

@@ -1,10 +1,10 @@
--- The instructions of the system program as bytes (Solana): a tag, fields, and bytes that are
--- ignored.
+-- The instructions of the system program as bytes (Solana; that those of nonces are not there is
+-- the project's own): a tag, fields, and bytes that are ignored.
 use Rattle.std.specs.Prelude.{ℕ, ◌==◌, List, length, Result, Ok, Err, if◌then◌else◌}
 use Rattle.std.specs.Int.{w32, w64}
 use Rattle.std.specs.Str.{is_utf8}
 use Rattle.spec_base.specs.Reading.{◌>>=◌, ok_if, field_at, number_at}
-use Rattle.sol_base.specs.Keys.{key_at}
+use Rattle.format_fields.specs.Fields.{key_at}
 use Rattle.system_prog.specs.declared.fault.SystemFault.{SystemFault}
 use Rattle.system_prog.specs.declared.fault.SystemFault.TheVariants.{InvalidInstruction}
 use Rattle.system_prog.specs.declared.instruction.Instruction.{Instruction}

@@ -2,29 +2,65 @@
 use account_rules::RuleFault;
 use sol_base::OutOfMemory;
 use spec_base::Refusal;
-use thiserror::Error;
+use std::error::Error;
+use std::fmt;
 
 /// Why the system program refuses an instruction.
-#[derive(Clone, Copy, Debug, PartialEq, Eq, Error)]
+#[derive(Clone, Copy, Debug, PartialEq, Eq)]
 pub enum SystemFault {
-    #[error("the data are no instruction of the system program")]
     InvalidInstruction,
-    #[error("fewer accounts are listed than the instruction needs")]
     NotEnoughAccounts,
     /// `i` is the place in the list of the account that does not sign.
-    #[error("the account listed at place {i} does not sign")]
     MissingSignature { i: u8 },
-    #[error("an argument is not allowed")]
     InvalidArgument,
     /// 0: the account is in use. 1: there are too few lamports. 3: the space is too large. 4: the
     /// seed is too long. 5: the account's key is not the one that is derived.
-    #[error("the system program's own refusal {code}")]
     Custom { code: u32 },
-    #[error("an account rule is broken")]
     Rule(RuleFault),
-    #[error("out of memory")]
     OutOfMemory,
 }
+
+impl SystemFault {
+    /// The number that the text names: a place in the list, or a code. None where it names none.
+    fn number(&self) -> Option<u32> {
+        match *self {
+            SystemFault::MissingSignature { i } => Some(u32::from(i)),
+            SystemFault::Custom { code } => Some(code),
+            _ => None,
+        }
+    }
+
+    /// The words before the number and after it.
+    fn words(&self) -> (&'static str, &'static str) {
+        match self {
+            SystemFault::InvalidInstruction => {
+                ("the data are no instruction of the system program", "")
+            }
+            SystemFault::NotEnoughAccounts => {
+                ("fewer accounts are listed than the instruction needs", "")
+            }
+            SystemFault::MissingSignature { .. } => {
+                ("the account listed at place ", " does not sign")
+            }
+            SystemFault::InvalidArgument => ("an argument is not allowed", ""),
+            SystemFault::Custom { .. } => ("the system program's own refusal ", ""),
+            SystemFault::Rule(_) => ("an account rule is broken", ""),
+            SystemFault::OutOfMemory => ("out of memory", ""),
+        }
+    }
+}
+
+impl fmt::Display for SystemFault {
+    fn fmt<W: fmt::Write>(&self, f: &mut fmt::Formatter<W>) -> fmt::Result {
+        let (before, after) = self.words();
+        match self.number() {
+            None => f.write_str(before),
+            Some(number) => write!(f, "{before}{number}{after}"),
+        }
+    }
+}
+
+impl Error for SystemFault {}
 
 impl From<OutOfMemory> for SystemFault {
     ghost use Rattle.std.specs.Prelude.{◌≡◌};

@@ -1,4 +1,5 @@
-//! The instructions of the system program, and how they are read (Solana).
+//! The instructions of the system program, and how they are read (Solana; that those of nonces are
+//! not there is the project's own).
 ghost use Rattle.std.specs.Prelude.{◌≡◌};
 ghost use Rattle.spec_base.specs.Reading.{Gives};
 ghost use Rattle.system_prog.specs.Faults.{is_system_memory};
@@ -19,7 +20,8 @@ ghost use Rattle.system_prog.specs.Instructions.{
 };
 
 use crate::fault::SystemFault;
-use sol_base::{Key, key_field};
+use format_fields::key_field;
+use sol_base::Key;
 use spec_base::{bytes_field, u32_field, u64_field};
 use std::marker::Model;
 use std::str;

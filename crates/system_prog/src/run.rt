@@ -2,7 +2,7 @@
 ghost use Rattle.std.specs.Prelude.{◌≡◌, ◌<◌, ◌≤◌, ◌^◌, IfOk, Ok, length};
 ghost use Rattle.spec_base.specs.Reading.{Gives};
 ghost use Rattle.sol_base.specs.Accounts.{accounts_of, lamports_in};
-ghost use Rattle.sol_base.specs.Metas.{AreInRange};
+ghost use Rattle.sol_base.specs.Metas.{AreInRange, max_metas};
 ghost use Rattle.system_prog.specs.Faults.{is_system_memory};
 ghost use Rattle.system_prog.specs.SystemProgram.{AnswersSystem, counted_row, least_accounts, rules_kept, system_row};
 ghost use Rattle.system_prog.specs.Written.{flags_of, written};
@@ -16,10 +16,11 @@ use sol_base::{Account, Items, Key, Meta, OutOfMemory, SYSTEM_PROGRAM};
 use std::alloc::Global;
 use std::sync::Arc;
 
-/// Runs one instruction of the system program (Solana) over all accounts of a transaction, of which
-/// `metas` lists those of the instruction. The answer shares the accounts that are not changed. The
-/// `i` of a `MissingSignature` is the place in the list at which the account was asked to sign,
-/// that of a broken rule the place of the account's first meta.
+/// Runs one instruction of the system program (Solana; the causes of a failed derivation are the
+/// project's own) over all accounts of a transaction, of which `metas` lists those of the
+/// instruction. The answer shares the accounts that are not changed. The `i` of a
+/// `MissingSignature` is the place in the list at which the account was asked to sign, that of a
+/// broken rule the place of the account's first meta.
 pub fn run_system(
     alloc: Global,
     keys: &[Key],
@@ -28,7 +29,7 @@ pub fn run_system(
     input: &[u8],
 ) -> Result<Items<Arc<Account>>, SystemFault>
     requires count { length (accounts_of accounts.now) ≡ length keys.now }
-    requires most { length metas.now ≤ 255 }
+    requires most { length metas.now ≤ max_metas }
     requires range { AreInRange (length (accounts_of accounts.now)) metas.now }
     requires supply { lamports_in (accounts_of accounts.now) < 2 ^ 64 }
     ensures exact { AnswersSystem (system_row keys.now (accounts_of accounts.now)
@@ -45,7 +46,7 @@ fn answer(
     input: &[u8],
 ) -> Result<Items<Arc<Account>>, SystemFault>
     requires count { length (accounts_of accounts.now) ≡ length frame.now.keys }
-    requires most { length frame.now.metas ≤ 255 }
+    requires most { length frame.now.metas ≤ max_metas }
     requires supply { lamports_in (accounts_of accounts.now) < 2 ^ 64 }
     ensures { Gives is_system_memory accounts_of result
         (system_row frame.now.keys (accounts_of accounts.now) frame.now.metas input.now) }
@@ -86,7 +87,7 @@ fn check_rules(
     after: &[Arc<Account>],
 ) -> Result<(), SystemFault>
     requires count { length (accounts_of before.now) ≡ length frame.now.keys }
-    requires most { length frame.now.metas ≤ 255 }
+    requires most { length frame.now.metas ≤ max_metas }
     requires ended { counted_row frame.now instruction.now (accounts_of before.now) ≡
         Ok (accounts_of after.now) }
     ensures { Gives is_system_memory (λ _. tt) result

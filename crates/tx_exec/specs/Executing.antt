@@ -1,4 +1,5 @@
--- The instructions of a transaction, one after another (Solana).
+-- The instructions of a transaction, one after another (Solana; that those before a missing program
+-- run is the project's own).
 use Rattle.std.specs.Prelude.{ℕ, ◌+◌, Bool, List, [], ◌∷◌, map, Result, Ok, Err}
 use Rattle.sol_base.specs.declared.key.Key.{Key}
 use Rattle.sol_base.specs.declared.account.Account.{Account}

@@ -1,4 +1,5 @@
--- The fee payer, which is the first of a transaction's accounts (Solana): why a transaction is
+-- The fee payer, which is the first of a transaction's accounts (Solana; that a transaction whose
+-- payer cannot pay stands in its block as dropped is the project's own): why a transaction is
 -- dropped, and what its fee leaves.
 use Rattle.std.specs.Prelude.{ℕ, ◌+◌, ◌-◌, ◌==◌, ◌&&◌, not, Bool, nat_lt, List, [], ◌∷◌, length, Option, Some, None, if◌then◌else◌}
 use Rattle.sol_base.specs.declared.key.TheConstants.{SYSTEM_PROGRAM}

@@ -1,5 +1,6 @@
--- One transaction (Solana): a function of what is fixed for the block, and of the values of its
--- keys.
+-- One transaction (Solana; that its data may grow without a cap, the causes of failures and what is
+-- dropped are the project's own): a function of what is fixed for the block, and of the values of
+-- its keys.
 use Rattle.std.specs.Prelude.{ℕ, ◌-◌, ◌&&◌, Bool, List, [], length, map, sum_by, nat_lt, position, Option, Some, None, Result, Ok, Err, if◌then◌else◌}
 use Rattle.std.specs.List.{zip}
 use Rattle.sol_base.specs.declared.account.Account.{Account}
@@ -22,7 +23,7 @@ use Rattle.tx_exec.specs.Executing.{Executed, Failure, InBlock, fixed_for, locks
 abbrev pub of_all : ℕ
 of_all = 255
 
--- the data bytes of all values
+-- the data bytes of all values, without an overhead for an account (the project's own)
 abbrev pub data_in : List Account → ℕ
 data_in values = sum_by (λ account. length account.bytes) values
 

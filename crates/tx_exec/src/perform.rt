@@ -26,9 +26,9 @@ use tx_report::{Cause, DropCause, Outcome, Status};
 /// What stands in the place of an instruction where the whole transaction failed.
 const OF_ALL: u8 = 255;
 
-/// Performs a transaction (Solana): its fee is taken, its instructions run one after another, and
-/// the rent of what it wrote is looked at. One that fails leaves its fee alone, one that is dropped
-/// nothing.
+/// Performs a transaction (Solana; docs/SOLANA.md lists what is the project's own): its fee is
+/// taken, its instructions run one after another, and the rent of what it wrote is looked at. One
+/// that fails leaves its fee alone, one that is dropped nothing.
 #[tactic(auto, unfolding(crate::specs::Transaction::transaction))]
 pub fn perform_one(
     alloc: Global,

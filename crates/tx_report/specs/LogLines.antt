@@ -1,4 +1,5 @@
--- The log lines of one transaction (Solana's rule, with a limit and a text of the project's own).
+-- The log lines of one transaction (Solana's rule; that nothing is kept after the first line that
+-- does not fit is the project's own).
 use Rattle.std.specs.Prelude.{◌≡◌, ℕ, ◌+◌, ◌<◌, ◌≤◌, List, [], ◌∷◌, ◌++◌, length, take, sum_by, codes, Bool, true, false, nat_le, if◌then◌else◌}
 use Rattle.std.specs.List.{AllByRecursion}
 

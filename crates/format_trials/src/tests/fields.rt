@@ -1,6 +1,7 @@
 //! The fields of a text, each once, and where a cut text is refused.
 use block_record::RecordFault;
-use sol_base::{Hash32, Key, hash_field, key_field};
+use format_fields::{hash_field, key_field};
+use sol_base::{Hash32, Key};
 use spec_base::{array_field, byte_field, bytes_field, number_in, u16_field, u32_field, u64_field};
 
 /// The bytes of one field of each kind, the numbers with their least byte first.

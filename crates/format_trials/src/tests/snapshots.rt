@@ -1,6 +1,8 @@
 //! Snapshots: every prefix, each refusal, and each call once.
 use crate::tests::pieces::{joined, patched, start_of};
-use snapshot_codec::{Snapshot, SnapshotFault, read_snapshot, snapshot_bytes, state_hash};
+use snapshot_codec::{
+    Snapshot, SnapshotFault, read_snapshot, snapshot_bytes, snapshot_length, state_hash,
+};
 use sol_base::{Blob, Hash32, Key, Limits, OutOfMemory, hash};
 use std::alloc::Global;
 
@@ -64,7 +66,11 @@ const STATE: usize = 139;
 fn is_cut(alloc: Global, bytes: &[u8]) -> bool {
     for len in 0..bytes.len() {
         let at = start_of(&FIELDS, len);
-        if read_snapshot(alloc, &bytes[..len]).err() != Some(SnapshotFault::Truncated { at }) {
+        let front = &bytes[..len];
+        if read_snapshot(alloc, front).err() != Some(SnapshotFault::Truncated { at }) {
+            return false;
+        }
+        if snapshot_length(front).is_some() {
             return false;
         }
     }
@@ -174,7 +180,7 @@ fn is_second(snapshot: &Snapshot) -> bool {
 /// Whether the bytes begin with the snapshot of version 2.
 fn begin_with_second(alloc: Global, bytes: &[u8]) -> Result<bool, SnapshotFault> {
     let prefix = read_snapshot(alloc, bytes)?;
-    Ok(prefix.length == 300 && is_second(&prefix.snapshot))
+    Ok(prefix.length == 300 && snapshot_length(bytes) == Some(300) && is_second(&prefix.snapshot))
 }
 
 /// Whether that snapshot is read before other bytes.

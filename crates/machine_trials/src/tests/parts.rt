@@ -1,6 +1,7 @@
 //! Lists of bytes in parts: reads, writes and copies, and the account that is lent.
 use crate::tests::region::{lent_account, region, region_with_gaps};
-use sol_base::{Account, OutOfMemory, Parts};
+use data_parts::Parts;
+use sol_base::{Account, OutOfMemory};
 use std::alloc::Global;
 
 /// Whether these are the bytes, read whole and as an array.

@@ -3,7 +3,8 @@ ghost use Rattle.std.specs.Prelude.{◌≡◌, length, IfOk};
 ghost use Rattle.std.specs.Arc.{arc_value};
 ghost use Rattle.sol_base.specs.declared.account.Account.{Account};
 
-use sol_base::{Account, Blob, Items, OutOfMemory, Part, Parts};
+use data_parts::{Part, Parts};
+use sol_base::{Account, Blob, Items, OutOfMemory};
 use std::alloc::Global;
 use std::sync::Arc;
 
@@ -18,7 +19,7 @@ pub fn lent_account(alloc: Global) -> Result<Arc<Account>, OutOfMemory>
 }
 
 /// The list `0102` of its own, the data of the account, and one zero byte.
-#[tactic(auto, unfolding(sol_base::specs::Parts::bytes_of))]
+#[tactic(auto, unfolding(data_parts::specs::Parts::bytes_of))]
 pub fn region(alloc: Global, lent: &Arc<Account>) -> Result<Parts, OutOfMemory>
     requires { let account : Account = arc_value lent.now in length account.bytes ≡ 2 }
 {
@@ -30,7 +31,7 @@ pub fn region(alloc: Global, lent: &Arc<Account>) -> Result<Parts, OutOfMemory>
 }
 
 /// The same list with empty parts between the others.
-#[tactic(auto, unfolding(sol_base::specs::Parts::bytes_of))]
+#[tactic(auto, unfolding(data_parts::specs::Parts::bytes_of))]
 pub fn region_with_gaps(alloc: Global, lent: &Arc<Account>) -> Result<Parts, OutOfMemory>
     requires { let account : Account = arc_value lent.now in length account.bytes ≡ 2 }
 {

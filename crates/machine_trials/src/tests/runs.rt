@@ -1,14 +1,15 @@
 //! Texts that run to their stops, with values from the rows of the table of instructions.
 use crate::tests::texts::{EXIT, Fields, append_slot, append_slots, append_wide, text_of};
+use data_parts::{Part, Parts};
 use sbpf_machine::{Fault, Machine, Stop};
 use sbpf_memory::Memory;
 use sbpf_verify::{Verified, verify};
-use sol_base::{Blob, Items, OutOfMemory, Part, Parts};
+use sol_base::{Blob, Items, OutOfMemory};
 use std::alloc::Global;
 use std::sync::Arc;
 
 /// An input of sixteen bytes of ones.
-#[tactic(auto, unfolding(sol_base::specs::Parts::bytes_of))]
+#[tactic(auto, unfolding(data_parts::specs::Parts::bytes_of))]
 fn input_of(alloc: Global) -> Result<Parts, OutOfMemory> {
     let mut parts = Items::new(alloc);
     parts.push(Part::Bytes(Blob::from_slice(alloc, &[0xff; 16])?))?;

@@ -4,7 +4,8 @@ ghost use Rattle.std.specs.Arc.{arc_value};
 ghost use Rattle.sol_base.specs.Accounts.{IsShort};
 
 use abi_input::{BackFault, PatchFault, TakenBack, lay_out, patch, take_back};
-use sol_base::{Account, Blob, Key, MAX_DATA_LEN, Meta, OutOfMemory, Parts};
+use data_parts::Parts;
+use sol_base::{Account, Blob, Key, MAX_DATA_LEN, Meta, OutOfMemory};
 use std::alloc::Global;
 use std::sync::Arc;
 use std::test::Fail;

@@ -4,8 +4,9 @@ ghost use Rattle.cpi_calls.specs.Limits.{max_metas};
 
 use super::texts::VAULT;
 use cpi_calls::{CallFault, CallRequest, Granted, KeyMeta, RightsFault, grant_rights, read_call};
+use data_parts::Parts;
 use sbpf_memory::Memory;
-use sol_base::{Blob, Items, Key, Meta, OutOfMemory, Parts, SYSTEM_PROGRAM};
+use sol_base::{Blob, Items, Key, Meta, OutOfMemory, SYSTEM_PROGRAM};
 use std::alloc::Global;
 use std::sync::Arc;
 use std::test::Fail;
@@ -20,7 +21,7 @@ const LAST: u64 = 0x3_0000_7fd8;
 const CALLER: Key = Key([0x77; 32]);
 
 /// A memory of 32,768 bytes of heap.
-#[tactic(auto, unfolding(sol_base::specs::Parts::bytes_of))]
+#[tactic(auto, unfolding(data_parts::specs::Parts::bytes_of))]
 fn heap_memory(alloc: Global) -> Result<Memory, OutOfMemory> {
     let image = Arc::new(alloc, Blob::from_slice(alloc, b"vault")?)?;
     let input = Parts::from_items(alloc, Items::new(alloc))?;

@@ -1,6 +1,7 @@
 //! Each system call once, its cost, and its refusals.
+use data_parts::Parts;
 use sbpf_memory::Memory;
-use sol_base::{Blob, Items, Key, OutOfMemory, Parts};
+use sol_base::{Blob, Items, Key, OutOfMemory};
 use std::alloc::Global;
 use std::sync::Arc;
 use std::test::Fail;
@@ -12,7 +13,7 @@ const PROGRAM: u64 = 0x1_0000_0000;
 const HEAP: u64 = 0x3_0000_0000;
 
 /// A memory whose program is five letters and a byte that is no text, with 8,192 bytes of heap.
-#[tactic(auto, unfolding(sol_base::specs::Parts::bytes_of))]
+#[tactic(auto, unfolding(data_parts::specs::Parts::bytes_of))]
 fn small_memory(alloc: Global) -> Result<Memory, OutOfMemory> {
     let image = Arc::new(alloc, Blob::from_slice(alloc, b"hello\xff")?)?;
     let input = Parts::from_items(alloc, Items::new(alloc))?;

@@ -1,5 +1,5 @@
 use Rattle.std.proofs.Common.{ap, ◌∙◌, ◌++◌, List, ℕ}
-use Rattle.sol_base.specs.Parts.{bytes_of}
+use Rattle.data_parts.specs.Parts.{bytes_of}
 use Rattle.abi_input.proofs.Drafts.{closed, closed_lent}
 use Rattle.abi_input.proofs.draft.close.Goals as goal
 

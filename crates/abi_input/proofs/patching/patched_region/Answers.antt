@@ -2,7 +2,7 @@ use Rattle.std.proofs.Common.{◌≡◌, ◌≤◌, ◌-◌, ◌++◌, ℕ, List
 use Rattle.std.proofs.lemmas.Result.{IfOk-weaker}
 use Rattle.sol_base.specs.declared.account.Account.{Account}
 use Rattle.sol_base.specs.Accounts.{accounts_of}
-use Rattle.sol_base.specs.Parts.{Content}
+use Rattle.data_parts.specs.Parts.{Content}
 use Rattle.abi_input.specs.Region.{entry_start, lent_in}
 use Rattle.abi_input.proofs.Entries.{start_least}
 use Rattle.abi_input.proofs.PatchLaws.{patched_whole}

@@ -23,20 +23,20 @@ pub loop-index-preserved : goal.loop-index-preserved
 loop-index-preserved c =
     let before = accounts_of c.args.now.now in
     let x = c.index-now-index.result in
-    let t = c.in_ok-taken.taken.account in
-    let flag = c.in_ok-taken.taken.touched in
-    let value = c.in_ok-taken.ensures.value ∙ account_by_is c.args.region.now.bytes (accounts_of c.args.start.now) c.args.metas.now c.loop-index.index c.entry_at.result (arc_value x) (c.entry_at.ensures ∙ c.requires.entries c.loop-index.index) in
-    let more = pushed c.loop-index.accounts c.push-in-loop-index.new.self t c.in_ok-push-2.ensures.ok in
+    let t = c.in_ok-take_one.field-0.account in
+    let flag = c.in_ok-take_one.field-0.touched in
+    let value = c.in_ok-take_one.ensures.value ∙ account_by_is c.args.region.now.bytes (accounts_of c.args.start.now) c.args.metas.now c.loop-index.index c.entry_at.result (arc_value x) (c.entry_at.ensures ∙ c.requires.entries c.loop-index.index) in
+    let more = pushed c.loop-index.back.accounts c.push.new.self.accounts t c.in_ok-push.ensures.accounts in
     let there = shared_at c.args.now.now c.loop-index.index x c.loop-index-test.true c.index-now-index.is in
-    let long = length-map c.loop-index.accounts (λ share. arc_value share) ∙ c.loop-index.invariant.count in
+    let long = length-map c.loop-index.back.accounts (λ share. arc_value share) ∙ c.loop-index.invariant.count in
     record {
-      accounts = ap (λ (l : List _). accounts_of l) c.in_ok-push-2.ensures.ok ∙ taken_more (account_back c.args.region.now.bytes (accounts_of c.args.start.now) c.args.metas.now) c.args.now.now c.loop-index.accounts c.loop-index.index x t c.loop-index-test.true c.index-now-index.is value c.loop-index.invariant.accounts;
-      count = ap length c.in_ok-push-2.ensures.ok ∙ length-append c.loop-index.accounts (t ∷ []) ∙ ap (λ n. n + 1) c.loop-index.invariant.count;
-      flags = ap length c.in_ok-push.ensures.ok ∙ length-append c.loop-index.touched (flag ∷ []) ∙ ap (λ n. n + 1) c.loop-index.invariant.flags;
-      untouched = subst (λ (l : List Bool). SameUnlessTouched l before (accounts_of c.push-in-loop-index.new.self)) (sym c.in_ok-push.ensures.ok)
-          (subst (λ (l : List Account). SameUnlessTouched (c.loop-index.touched ++ flag ∷ []) before l) (sym more)
-          (untouched_more c.loop-index.touched flag before (accounts_of c.loop-index.accounts) c.loop-index.index (arc_value t) c.loop-index.invariant.flags long
-          (λ unset. there ∙ ap Some (sym (c.in_ok-taken.ensures.same unset))) c.loop-index.invariant.untouched));
+      accounts = ap (λ (l : List _). accounts_of l) c.in_ok-push.ensures.accounts ∙ taken_more (account_back c.args.region.now.bytes (accounts_of c.args.start.now) c.args.metas.now) c.args.now.now c.loop-index.back.accounts c.loop-index.index x t c.loop-index-test.true c.index-now-index.is value c.loop-index.invariant.accounts;
+      count = ap length c.in_ok-push.ensures.accounts ∙ length-append c.loop-index.back.accounts (t ∷ []) ∙ ap (λ n. n + 1) c.loop-index.invariant.count;
+      flags = ap length c.in_ok-push.ensures.touched ∙ length-append c.loop-index.back.touched (flag ∷ []) ∙ ap (λ n. n + 1) c.loop-index.invariant.flags;
+      untouched = subst (λ (l : List Bool). SameUnlessTouched l before (accounts_of c.push.new.self.accounts)) (sym c.in_ok-push.ensures.touched)
+          (subst (λ (l : List Account). SameUnlessTouched (c.loop-index.back.touched ++ flag ∷ []) before l) (sym more)
+          (untouched_more c.loop-index.back.touched flag before (accounts_of c.loop-index.back.accounts) c.loop-index.index (arc_value t) c.loop-index.invariant.flags long
+          (λ unset. there ∙ ap Some (sym (c.in_ok-take_one.ensures.same unset))) c.loop-index.invariant.untouched));
     }
 
 pub returns-clause-accounts : goal.returns-clause-accounts

@@ -1,4 +1,4 @@
 use Rattle.bank_show.proofs.json.text_value.Goals as goal
 
-pub returns-in-Err : goal.returns-in-Err
-returns-in-Err c = absurd (c.in-Err.ensures.cases.0 c.requires)
+pub unreachable-requires : goal.unreachable-requires
+unreachable-requires c = absurd (c.in-Err.ensures.cases.0 c.requires)

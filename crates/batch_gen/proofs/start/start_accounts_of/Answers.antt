@@ -1,4 +1,4 @@
-use Rattle.batch_gen.proofs.Starting.{starts_few, starts_short, is_start, start_len}
+use Rattle.batch_gen.proofs.Starting.{starts_few, starts_short, is_start, only_memory, start_len}
 use Rattle.batch_gen.proofs.start.start_accounts_of.Goals as goal
 use Rattle.std.proofs.Common.{arith}
 
@@ -8,8 +8,11 @@ from_sorted-requires-clause-few c = rw c.in_ok-list_accounts.ensures (omega (ari
 pub from_sorted-requires-clause-short : goal.from_sorted-requires-clause-short
 from_sorted-requires-clause-short c = rw c.in_ok-list_accounts.ensures starts_short
 
-pub returns-clause-exact : goal.returns-clause-exact
-returns-clause-exact c = is_start c.in-Ok.accounts (rw c.in_ok-list_accounts.ensures at c.in-Ok.ensures)
+pub unreachable-requires : goal.unreachable-requires
+unreachable-requires c = absurd (c.in_default.not-OutOfMemory (only_memory c.in-Err.fault (rw c.in_ok-list_accounts.ensures at c.in-Err.ensures)))
 
-pub returns-clause-few : goal.returns-clause-few
-returns-clause-few c = start_len c.in-Ok.accounts (rw c.in_ok-list_accounts.ensures at c.in-Ok.ensures)
+pub returns-in-Ok-clause-exact : goal.returns-in-Ok-clause-exact
+returns-in-Ok-clause-exact c = is_start c.in-Ok.accounts (rw c.in_ok-list_accounts.ensures at c.in-Ok.ensures)
+
+pub returns-in-Ok-clause-few : goal.returns-in-Ok-clause-few
+returns-in-Ok-clause-few c = start_len c.in-Ok.accounts (rw c.in_ok-list_accounts.ensures at c.in-Ok.ensures)

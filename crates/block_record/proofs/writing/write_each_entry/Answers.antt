@@ -3,7 +3,7 @@ use Rattle.std.specs.List.{flat_map}
 use Rattle.std.proofs.lemmas.List.{take_all}
 use Rattle.block_record.specs.declared.block.Entry.{Entry}
 use Rattle.block_record.specs.Record.{entry_bytes}
-use Rattle.snapshot_codec.proofs.Adding.{Adds-none, Adds-then, Adds-as, flat_map-more}
+use Rattle.format_fields.proofs.Adding.{Adds-none, Adds-then, Adds-as, flat_map-more}
 use Rattle.block_record.proofs.writing.write_each_entry.Goals as goal
 
 pub loop-entry-init : goal.loop-entry-init

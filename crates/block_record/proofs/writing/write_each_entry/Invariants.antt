@@ -1,6 +1,6 @@
 use Rattle.std.proofs.Common.{take}
 use Rattle.std.specs.List.{flat_map}
-use Rattle.snapshot_codec.specs.Output.{Adds}
+use Rattle.format_fields.specs.Output.{Adds}
 use Rattle.block_record.specs.Record.{entry_bytes}
 use Rattle.block_record.proofs.writing.write_each_entry.Given as goal
 

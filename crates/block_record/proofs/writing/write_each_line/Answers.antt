@@ -2,7 +2,7 @@ use Rattle.std.proofs.Common.{List, ℕ, take, ◌++◌, ap, sym, ◌∙◌}
 use Rattle.std.specs.List.{flat_map}
 use Rattle.std.proofs.lemmas.List.{take_all}
 use Rattle.spec_base.specs.Bytes.{sized_bytes}
-use Rattle.snapshot_codec.proofs.Adding.{Adds-none, Adds-then, Adds-as, flat_map-more}
+use Rattle.format_fields.proofs.Adding.{Adds-none, Adds-then, Adds-as, flat_map-more}
 use Rattle.block_record.proofs.writing.write_each_line.Goals as goal
 
 pub loop-line-init : goal.loop-line-init

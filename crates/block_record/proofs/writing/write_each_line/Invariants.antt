@@ -1,7 +1,7 @@
 use Rattle.std.proofs.Common.{take}
 use Rattle.std.specs.List.{flat_map}
 use Rattle.spec_base.specs.Bytes.{sized_bytes}
-use Rattle.snapshot_codec.specs.Output.{Adds}
+use Rattle.format_fields.specs.Output.{Adds}
 use Rattle.block_record.proofs.writing.write_each_line.Given as goal
 
 -- the lines so far

@@ -1,7 +1,7 @@
 use Rattle.std.proofs.Common.{List, length, ap, ◌++◌, ◌∙◌}
 use Rattle.std.specs.List.{flat_map}
 use Rattle.std.proofs.lemmas.Result.{on_ok_weaker}
-use Rattle.snapshot_codec.proofs.Adding.{Adds-then, Adds-as}
+use Rattle.format_fields.proofs.Adding.{Adds-then, Adds-as}
 use Rattle.block_record.specs.declared.block.Entry.{Entry}
 use Rattle.block_record.specs.Record.{entry_bytes, heading_bytes}
 use Rattle.block_record.proofs.RecordLaws.{front_is}

@@ -4,7 +4,7 @@ use Rattle.sol_base.specs.declared.account.Account.{Account}
 use Rattle.account_store.specs.State.{entries}
 use Rattle.account_store.specs.Shared.{seen}
 use Rattle.snapshot_codec.specs.Snapshot.{account_bytes}
-use Rattle.snapshot_codec.specs.Output.{Adds}
+use Rattle.format_fields.specs.Output.{Adds}
 use Rattle.snapshot_codec.proofs.Walk.{begun, goes_on, ends, next_is_short, none_left}
 use Rattle.snapshot_codec.proofs.writing.write_each_account.Goals as goal
 

@@ -3,7 +3,7 @@ use Rattle.std.specs.List.{flat_map}
 use Rattle.std.proofs.lemmas.List.{take_all}
 use Rattle.status_cache.specs.declared.recent.Mark.{Mark}
 use Rattle.snapshot_codec.specs.Snapshot.{mark_bytes}
-use Rattle.snapshot_codec.proofs.Adding.{Adds-none, Adds-then, Adds-as, flat_map-more}
+use Rattle.format_fields.proofs.Adding.{Adds-none, Adds-then, Adds-as, flat_map-more}
 use Rattle.snapshot_codec.proofs.writing.write_each_mark.Goals as goal
 
 pub loop-mark-init : goal.loop-mark-init

@@ -1,7 +1,7 @@
 use Rattle.std.proofs.Common.{take}
 use Rattle.std.specs.List.{flat_map}
 use Rattle.snapshot_codec.specs.Snapshot.{mark_bytes}
-use Rattle.snapshot_codec.specs.Output.{Adds}
+use Rattle.format_fields.specs.Output.{Adds}
 use Rattle.snapshot_codec.proofs.writing.write_each_mark.Given as goal
 
 -- the marks so far

@@ -2,7 +2,7 @@ use Rattle.std.proofs.Common.{[], ap, sym}
 use Rattle.std.specs.List.{flat_map}
 use Rattle.std.proofs.lemmas.List.{take_all}
 use Rattle.sol_base.specs.Keys.{hash_bytes}
-use Rattle.snapshot_codec.proofs.Adding.{Adds-none, Adds-then, Adds-as, flat_map-more}
+use Rattle.format_fields.proofs.Adding.{Adds-none, Adds-then, Adds-as, flat_map-more}
 use Rattle.snapshot_codec.proofs.writing.write_names.Goals as goal
 
 pub loop-name-init : goal.loop-name-init

@@ -1,7 +1,7 @@
 use Rattle.std.proofs.Common.{take}
 use Rattle.std.specs.List.{flat_map}
 use Rattle.sol_base.specs.Keys.{hash_bytes}
-use Rattle.snapshot_codec.specs.Output.{Adds}
+use Rattle.format_fields.specs.Output.{Adds}
 use Rattle.snapshot_codec.proofs.writing.write_names.Given as goal
 
 -- the names so far

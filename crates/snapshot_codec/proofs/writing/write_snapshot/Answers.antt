@@ -1,6 +1,6 @@
 use Rattle.std.proofs.Common.{refl}
 use Rattle.std.proofs.lemmas.Result.{on_ok_weaker}
-use Rattle.snapshot_codec.proofs.Adding.{Adds-then, Adds-as}
+use Rattle.format_fields.proofs.Adding.{Adds-then, Adds-as}
 use Rattle.snapshot_codec.proofs.writing.write_snapshot.Goals as goal
 
 pub returns : goal.returns

@@ -5,7 +5,7 @@ use Rattle.std.specs.FinMap.{len-entries}
 use Rattle.std.proofs.lemmas.Result.{on_ok_weaker}
 use Rattle.account_store.specs.State.{entries}
 use Rattle.snapshot_codec.specs.Snapshot.{account_bytes}
-use Rattle.snapshot_codec.proofs.Adding.{Adds-then, Adds-as}
+use Rattle.format_fields.proofs.Adding.{Adds-then, Adds-as}
 use Rattle.snapshot_codec.proofs.writing.write_state.Goals as goal
 
 pub returns : goal.returns

@@ -1,6 +1,6 @@
 use Rattle.std.proofs.Common.{ap, ◌∙◌, ◌++◌, length}
-use Rattle.sol_base.specs.Parts.{lent_by, part_bytes}
-use Rattle.sol_base.proofs.PartLaws.{parts_push}
+use Rattle.data_parts.specs.Parts.{lent_by, part_bytes}
+use Rattle.data_parts.proofs.PartLaws.{parts_push}
 use Rattle.abi_input.specs.Drafts.{Drafted}
 use Rattle.abi_input.proofs.Drafts.{added, added_lent}
 use Rattle.abi_input.proofs.draft.Draft.add.Goals as goal

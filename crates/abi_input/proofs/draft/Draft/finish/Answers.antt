@@ -1,6 +1,6 @@
 use Rattle.std.proofs.Common.{◌≡◌, ap, ◌∙◌, length, arith}
 use Rattle.std.proofs.lemmas.Result.{IfOk-weaker}
-use Rattle.sol_base.specs.Parts.{bytes_of, lent_from, unprepared}
+use Rattle.data_parts.specs.Parts.{bytes_of, lent_from, unprepared}
 use Rattle.abi_input.specs.Drafts.{Drafted}
 use Rattle.abi_input.proofs.Drafts.{closed, closed_lent}
 use Rattle.abi_input.proofs.draft.Draft.finish.Goals as goal

@@ -1,0 +1,3 @@
+pub mod Adding
+pub mod FieldLaws
+pub mod Sized

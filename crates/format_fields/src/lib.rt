@@ -1,0 +1,11 @@
+//! What the formats of the product share: fields that are keys and hashes, lists of so many items,
+//! and where the bytes of a format go.
+#![tactic(auto)]
+
+mod fields;
+mod many;
+mod output;
+
+pub use fields::{hash_field, key_field};
+pub use many::{Item, MemoryRefusal, read_many};
+pub use output::Output;

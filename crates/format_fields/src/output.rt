@@ -1,0 +1,37 @@
+//! Where the bytes of a format go: into a list, or into a hash.
+use sha2::{Digest, Sha256};
+use sol_base::{Blob, OutOfMemory};
+
+/// What takes the bytes of a format, piece by piece.
+pub trait Output {
+    ghost use Rattle.std.specs.Prelude.{List, ℕ, OnOk};
+    ghost use Rattle.format_fields.specs.Output.{Adds};
+
+    /// It has taken these bytes.
+    ghost holds: { Self → List ℕ → Type 0 };
+
+    /// Takes the piece after what it has taken.
+    fn append(&mut self, piece: &[u8]) -> Result<(), OutOfMemory>
+        ensures { OnOk result (Adds holds self.old self.new piece.now) };
+}
+
+impl Output for Blob {
+    ghost use Rattle.std.specs.Prelude.{◌≡◌};
+
+    ghost holds = { λ blob taken. blob ≡ taken };
+
+    fn append(&mut self, piece: &[u8]) -> Result<(), OutOfMemory> {
+        Blob::append(self, piece)
+    }
+}
+
+impl Output for Sha256 {
+    ghost use Rattle.sha2.specs.Hashers.{Holds256};
+
+    ghost holds = { λ hasher taken. Holds256 hasher taken };
+
+    fn append(&mut self, piece: &[u8]) -> Result<(), OutOfMemory> {
+        self.update(piece);
+        Ok(())
+    }
+}

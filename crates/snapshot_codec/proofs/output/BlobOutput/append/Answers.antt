@@ -1,6 +1,0 @@
-use Rattle.std.proofs.Common.{ℕ, List, ◌++◌, ap, ◌∙◌}
-use Rattle.std.proofs.lemmas.Result.{on_ok_weaker}
-use Rattle.snapshot_codec.proofs.output.BlobOutput.append.Goals as goal
-
-pub returns : goal.returns
-returns c = on_ok_weaker c.append.result (λ e. record { after = λ taken h. e ∙ ap (λ (l : List ℕ). l ++ c.args.piece.now) h }) c.append.ensures.ok

@@ -1,5 +1,0 @@
-use Rattle.sol_base.specs.Parts.{lent_from}
-use Rattle.sol_base.proofs.parts.lent_by.Given as goal
-
-abbrev pub ghost-told_by : goal.ghost-told_by
-ghost-told_by a = lent_from 0 a._from.now
