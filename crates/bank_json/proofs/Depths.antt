@@ -1,0 +1,164 @@
+-- How deep the JSON of each format nests.
+use Rattle.std.proofs.Common.{◌≡◌, ◌≤◌, ℕ, List, [], ◌∷◌, length, map, Bool, true, false, Option, Some, None, Result, Ok, Err, subst, lit≤, arith}
+use Rattle.std.specs.Prelude.{◌==◌, if◌then◌else◌}
+use Rattle.spec_base.proofs.Binding.{ok_same}
+use Rattle.bank_json.specs.declared.fault.JsonFault.TheVariants.{Trailing}
+use Rattle.std.specs.Str.{is_utf8}
+use Rattle.serde_json.specs.Data.{Data, null, string, depth, items_depth}
+use Rattle.serde_json.specs.View.{items_of}
+use Rattle.sol_base.specs.declared.key.Key.{Key}
+use Rattle.sol_base.specs.declared.key.Hash32.{Hash32}
+use Rattle.sol_base.specs.declared.account.Account.{Account}
+use Rattle.status_cache.specs.declared.recent.Mark.{Mark}
+use Rattle.account_store.specs.State.{entries}
+use Rattle.snapshot_codec.specs.declared.snapshot.Snapshot.{Snapshot}
+use Rattle.snapshot_codec.specs.declared.snapshot.Prefix.{Prefix}
+use Rattle.snapshot_codec.specs.declared.fault.SnapshotFault.{SnapshotFault}
+use Rattle.snapshot_codec.specs.SnapshotReading.{prefix_of}
+use Rattle.snapshot_codec.specs.declared.fault.BatchFault.{BatchFault}
+use Rattle.snapshot_codec.specs.declared.batch.Batch.{Batch}
+use Rattle.snapshot_codec.specs.BatchReading.{batch_of}
+use Rattle.message_codec.specs.declared.fault.WireFault.{WireFault}
+use Rattle.message_codec.specs.declared.message.Instruction.{Instruction}
+use Rattle.message_codec.specs.declared.message.Lookup.{Lookup}
+use Rattle.message_codec.specs.declared.message.MessageKind.{MessageKind}
+use Rattle.message_codec.specs.declared.message.MessageKind.TheVariants.{Legacy, Zero}
+use Rattle.message_codec.specs.declared.message.Tx.{Tx}
+use Rattle.message_codec.specs.WireReading.{wire_of}
+use Rattle.tx_report.specs.declared.status.Status.{Status}
+use Rattle.tx_report.specs.declared.status.Status.TheVariants.{Good, Failed, Dropped}
+use Rattle.block_record.specs.declared.fault.RecordFault.{RecordFault}
+use Rattle.block_record.specs.declared.block.Entry.{Entry}
+use Rattle.block_record.specs.declared.block.Block.{Block}
+use Rattle.block_record.specs.RecordReading.{record_of}
+use Rattle.sbpf_verify.specs.Images.{ImageParts, image_in}
+use Rattle.bank_json.specs.Faults.{Read}
+use Rattle.bank_json.specs.Written.{number_json}
+use Rattle.bank_json.specs.TransactionJson.{key_json, signature_json, instruction_json, lookup_json, version_json, tx_json, json_by_wire, transaction_json}
+use Rattle.bank_json.specs.BatchJson.{batch_json, json_by_batch, data_of_batch}
+use Rattle.bank_json.specs.RecordJson.{line_json, status_json, entry_json, record_json, json_by_record, data_of_record}
+use Rattle.bank_json.specs.ImageJson.{json_by_image, data_of_image}
+use Rattle.bank_json.specs.SnapshotJson.{name_json, mark_json, account_json, snapshot_json_one, snapshot_json_two, snapshot_json, is_first, json_by_prefix, data_of_snapshot}
+
+pub list_depth : {X : Type 0} (json : X → Data) (most : ℕ) → ((x : X) → depth (json x) ≤ most) → (xs : List X) → items_depth (items_of (map json xs)) ≤ most
+list_depth json most each [] = omega arith
+list_depth json most each (x ∷ xs) = let first = each x in let rest = list_depth json most each xs in omega arith
+
+mark_depth : (mark : Mark) → depth (mark_json mark) ≤ 4
+mark_depth mark = let names = list_depth name_json 0 (λ name. lit≤ tt) mark.messages in omega arith
+
+account_depth : (e : Key × Account) → depth (account_json e) ≤ 4
+account_depth (key, account) = lit≤ tt
+
+one_depth : (s : Snapshot) → depth (snapshot_json_one s) ≤ 127
+one_depth s =
+    let marks = list_depth mark_json 4 mark_depth s.recent in
+    let accounts = list_depth account_json 4 account_depth (entries s.accounts) in
+    omega arith
+
+two_depth : (s : Snapshot) → depth (snapshot_json_two s) ≤ 127
+two_depth s =
+    let marks = list_depth mark_json 4 mark_depth s.recent in
+    let accounts = list_depth account_json 4 account_depth (entries s.accounts) in
+    omega arith
+
+json_depth : (first : Bool) (s : Snapshot) → depth (if first then snapshot_json_one s else snapshot_json_two s) ≤ 127
+json_depth true s = one_depth s
+json_depth false s = two_depth s
+
+pub snapshot_depth : (bytes : List ℕ) (d : Data) → data_of_snapshot bytes ≡ Ok d → depth d ≤ 127
+unfolding data_of_snapshot
+snapshot_depth bytes d shown = by_prefix (prefix_of bytes) shown
+  where
+    by_length : (prefix : Prefix) (whole : Bool) → (if whole then Ok (snapshot_json bytes prefix.snapshot) else Err (Trailing prefix.length)) ≡ (let r : Read Data = Ok d in r) → depth d ≤ 127
+    by_length prefix true h = subst (λ (e : Data). depth e ≤ 127) (ok_same _ _ h) (json_depth (is_first bytes) prefix.snapshot)
+    by_length prefix false h = absurd (cc)
+
+    by_prefix : (r : Result Prefix SnapshotFault) → json_by_prefix bytes r ≡ Ok d → depth d ≤ 127
+    by_prefix (Ok prefix) h = by_length prefix (prefix.length == length bytes) h
+    by_prefix (Err fault) h = absurd (cc)
+
+-- ---- transactions and batches
+
+numbers_depth : (ns : List ℕ) → items_depth (items_of (map number_json ns)) ≤ 0
+numbers_depth ns = list_depth number_json 0 (λ n. lit≤ tt) ns
+
+instruction_depth : (instruction : Instruction) → depth (instruction_json instruction) ≤ 8
+instruction_depth instruction = let accounts = numbers_depth instruction.accounts in omega arith
+
+lookup_depth : (lookup : Lookup) → depth (lookup_json lookup) ≤ 8
+lookup_depth lookup =
+    let readonly = numbers_depth lookup.readonly in
+    let writable = numbers_depth lookup.writable in
+    omega arith
+
+version_depth : (kind : MessageKind) → depth (version_json kind) ≤ 0
+version_depth Legacy = lit≤ tt
+version_depth Zero = lit≤ tt
+
+tx_depth : (tx : Tx) → depth (tx_json tx) ≤ 16
+tx_depth tx =
+    let instructions = list_depth instruction_json 8 instruction_depth tx.message.instructions in
+    let keys = list_depth key_json 0 (λ key. lit≤ tt) tx.message.keys in
+    let lookups = list_depth lookup_json 8 lookup_depth tx.message.lookups in
+    let signatures = list_depth signature_json 0 (λ signature. lit≤ tt) tx.signatures in
+    let version = version_depth tx.message.kind in
+    omega arith
+
+transaction_depth : (bytes : List ℕ) → depth (transaction_json bytes) ≤ 16
+transaction_depth bytes = by_wire (wire_of bytes)
+  where
+    by_wire : (r : Result Tx WireFault) → depth (json_by_wire bytes r) ≤ 16
+    by_wire (Ok tx) = tx_depth tx
+    by_wire (Err fault) = lit≤ tt
+
+batch_value_depth : (batch : Batch) → depth (batch_json batch) ≤ 127
+batch_value_depth batch = let transactions = list_depth transaction_json 16 transaction_depth batch.wires in omega arith
+
+pub batch_depth : (bytes : List ℕ) (d : Data) → data_of_batch bytes ≡ Ok d → depth d ≤ 127
+unfolding data_of_batch
+batch_depth bytes d shown = by_batch (batch_of 0 bytes) shown
+  where
+    by_batch : (r : Result Batch BatchFault) → json_by_batch r ≡ Ok d → depth d ≤ 127
+    by_batch (Ok batch) h = subst (λ (e : Data). depth e ≤ 127) (ok_same _ _ h) (batch_value_depth batch)
+    by_batch (Err fault) h = absurd (cc)
+
+-- ---- records and images
+
+line_depth : (line : List ℕ) → depth (line_json line) ≤ 0
+line_depth line = by_text (is_utf8 line)
+  where
+    by_text : (b : Bool) → depth (if b then string line else null) ≤ 0
+    by_text true = lit≤ tt
+    by_text false = lit≤ tt
+
+status_depth : (status : Status) → depth (status_json status) ≤ 4
+status_depth Good = lit≤ tt
+status_depth (Failed index cause detail) = lit≤ tt
+status_depth (Dropped cause) = lit≤ tt
+
+entry_depth : (entry : Entry) → depth (entry_json entry) ≤ 32
+entry_depth entry =
+    let lines = list_depth line_json 0 line_depth entry.lines in
+    let status = status_depth entry.status in
+    let transaction = transaction_depth entry.wire in
+    omega arith
+
+record_value_depth : (block : Block) → depth (record_json block) ≤ 127
+record_value_depth block = let entries = list_depth entry_json 32 entry_depth block.entries in omega arith
+
+pub record_depth : (bytes : List ℕ) (d : Data) → data_of_record bytes ≡ Ok d → depth d ≤ 127
+unfolding data_of_record
+record_depth bytes d shown = by_record (record_of bytes) shown
+  where
+    by_record : (r : Result Block RecordFault) → json_by_record r ≡ Ok d → depth d ≤ 127
+    by_record (Ok block) h = subst (λ (e : Data). depth e ≤ 127) (ok_same _ _ h) (record_value_depth block)
+    by_record (Err fault) h = absurd (cc)
+
+pub image_depth : (bytes : List ℕ) (d : Data) → data_of_image bytes ≡ Ok d → depth d ≤ 127
+unfolding data_of_image
+image_depth bytes d shown = by_image (image_in bytes) shown
+  where
+    by_image : (r : Option ImageParts) → json_by_image r ≡ Ok d → depth d ≤ 127
+    by_image (Some image) h = subst (λ (e : Data). depth e ≤ 127) (ok_same _ _ h) (lit≤ tt)
+    by_image None h = absurd (cc)

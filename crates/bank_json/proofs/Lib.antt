@@ -1,0 +1,12 @@
+mod Within
+mod Items
+mod Lists
+mod Names
+mod Again
+mod SnapshotLaws
+mod TransactionLaws
+mod BatchLaws
+mod RecordLaws
+mod ImageLaws
+mod Depths
+mod Texts

@@ -1,0 +1,85 @@
+//! Program images as JSON values, and back.
+ghost use Rattle.std.specs.Prelude.{◌≡◌, IfOk};
+ghost use Rattle.spec_base.specs.Reading.{Gives};
+ghost use Rattle.serde_json.specs.View.{view};
+ghost use Rattle.bank_json.specs.Faults.{is_json_memory};
+ghost use Rattle.bank_json.specs.ImageJson.{image_json, data_of_image, spelled_in, image_of_data};
+
+use crate::data::data_member;
+use crate::fault::JsonFault;
+use crate::parts::{Names, known};
+use crate::snapshot_out::hex_value;
+use sbpf_verify::read_image;
+use serde_json::{Value, json};
+use sol_base::Blob;
+use std::alloc::{AllocError, Global};
+
+/// The most bytes of a text.
+const MOST_TEXT: usize = 34_359_738_360;
+
+/// The most bytes of the constants.
+const MOST_CONSTANTS: usize = 4_294_967_295;
+
+/// The members of an image.
+struct ImageNames;
+
+impl Names for ImageNames {
+    ghost use Rattle.bank_json.specs.ImageJson.{image_names};
+
+    ghost names = { image_names };
+
+    fn has(name: &str) -> bool {
+        "constants" == name || "text" == name
+    }
+}
+
+fn value_of(alloc: Global, text: &[u8], constants: &[u8]) -> Result<Value, AllocError>
+    ensures { IfOk result (λ v. view v
+        ≡ image_json (record { text = text.now; constants = constants.now })) }
+{
+    let shown_constants = hex_value(alloc, constants)?;
+    let shown_text = hex_value(alloc, text)?;
+    json!(in alloc; {"constants": shown_constants, "text": shown_text})
+}
+
+/// The program image that the bytes are, as a JSON value (the project's own form): what
+/// `image_from_value` turns into the same bytes.
+#[tactic(auto, unfolding(crate::specs::ImageJson::data_of_image))]
+pub fn image_value(alloc: Global, bytes: &[u8]) -> Result<Value, JsonFault>
+    ensures { Gives is_json_memory view result (data_of_image bytes.now) }
+{
+    match read_image(bytes) {
+        Some(image) => Ok(value_of(alloc, image.text, image.constants)?),
+        None => Err(JsonFault::BadImage),
+    }
+}
+
+#[tactic(auto, unfolding(crate::specs::ImageJson::spelled_in))]
+fn spelled(alloc: Global, value: &Value) -> Result<Blob, JsonFault>
+    ensures { Gives is_json_memory (λ bytes. bytes) result (spelled_in (view value.now)) }
+{
+    known::<ImageNames>(alloc, value)?;
+    let text = data_member(alloc, value, "text", MOST_TEXT)?;
+    let constants = data_member(alloc, value, "constants", MOST_CONSTANTS)?;
+    let mut out = Blob::from_slice(alloc, b"SBPFIMG1")?;
+    out.append(&((text.len() / 8) as u32).to_le_bytes())?;
+    out.append(&(constants.len() as u32).to_le_bytes())?;
+    out.append(text.as_slice())?;
+    out.append(constants.as_slice())?;
+    Ok(out)
+}
+
+/// The bytes of the program image that the JSON value is (the project's own form).
+///
+/// Its members are `text` and `constants`, both hexadecimal digits, and no others. The text has
+/// eight bytes for each slot.
+#[tactic(auto, unfolding(crate::specs::ImageJson::image_of_data))]
+pub fn image_from_value(alloc: Global, value: &Value) -> Result<Blob, JsonFault>
+    ensures { Gives is_json_memory (λ bytes. bytes) result (image_of_data (view value.now)) }
+{
+    let bytes = spelled(alloc, value)?;
+    match read_image(bytes.as_slice()) {
+        Some(_) => Ok(bytes),
+        None => Err(JsonFault::BadImage),
+    }
+}

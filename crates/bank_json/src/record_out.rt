@@ -1,0 +1,127 @@
+//! From the bytes of a record to JSON.
+ghost use Rattle.std.specs.Prelude.{◌≡◌, IfOk, IsUtf8};
+ghost use Rattle.spec_base.specs.Reading.{Gives};
+ghost use Rattle.serde_json.specs.Data.{string};
+ghost use Rattle.serde_json.specs.View.{view};
+ghost use Rattle.tx_report.specs.declared.status.Status.TheVariants.{Failed};
+ghost use Rattle.bank_json.specs.Faults.{is_json_memory};
+ghost use Rattle.bank_json.specs.Written.{list_json};
+ghost use Rattle.bank_json.specs.RecordJson.{line_json, status_json, record_json, data_of_record};
+
+use crate::fault::JsonFault;
+use crate::list::{Shown, list_value};
+use crate::snapshot_out::hex_value;
+use block_record::{Block, Entry, RecordFault, read_record};
+use serde_json::{Value, json};
+use sol_base::{Blob, is_text};
+use std::alloc::{AllocError, Global};
+use std::str;
+use tx_report::{Cause, Status};
+
+/// The bytes as they are: the condition leaves no other case.
+fn text_value(alloc: Global, text: &[u8]) -> Result<Value, AllocError>
+    requires { IsUtf8 text.now }
+    ensures { IfOk result (λ v. view v ≡ string text.now) }
+{
+    match str::from_utf8(text) {
+        Ok(text) => Ok(Value::String(String::from_str(alloc, text)?)),
+        Err(_) => Ok(Value::Null),
+    }
+}
+
+/// A line is a text; no record has another.
+fn line_value(alloc: Global, line: &[u8]) -> Result<Value, AllocError>
+    ensures { IfOk result (λ v. view v ≡ line_json line.now) }
+{
+    if is_text(line) {
+        text_value(alloc, line)
+    } else {
+        Ok(Value::Null)
+    }
+}
+
+fn lines_value(alloc: Global, lines: &[Blob]) -> Result<Value, AllocError>
+    ensures { IfOk result (λ v. view v ≡ list_json line_json lines.now) }
+{
+    let mut values = Vec::with_capacity(alloc, lines.len())?;
+    for line in lines {
+        values.push(line_value(alloc, line.as_slice())?)?;
+    }
+    Ok(Value::Array(values))
+}
+
+fn failure_value(alloc: Global, index: u8, cause: Cause, detail: u32) -> Result<Value, AllocError>
+    ensures { IfOk result (λ v. view v ≡ status_json (Failed index cause detail)) }
+{
+    let code = cause.code();
+    json!(in alloc; {"failed": {"code": code, "detail": detail, "index": index}})
+}
+
+fn status_value(alloc: Global, status: Status) -> Result<Value, AllocError>
+    ensures { IfOk result (λ v. view v ≡ status_json status) }
+{
+    match status {
+        Status::Good => Ok(Value::String(String::from_str(alloc, "ok")?)),
+        Status::Failed {
+            index,
+            cause,
+            detail,
+        } => failure_value(alloc, index, cause, detail),
+        Status::Dropped { cause } => {
+            let code = cause.code();
+            json!(in alloc; {"dropped": code})
+        }
+    }
+}
+
+impl Shown for Entry {
+    ghost use Rattle.bank_json.specs.RecordJson.{entry_json};
+
+    ghost json_of = { entry_json };
+
+    fn value(&self, alloc: Global) -> Result<Value, AllocError> {
+        let lines = lines_value(alloc, self.lines.as_slice())?;
+        let status = status_value(alloc, self.status)?;
+        let transaction = self.wire.value(alloc)?;
+        json!(in alloc; {
+            "fee": self.fee,
+            "lines": lines,
+            "status": status,
+            "transaction": transaction,
+            "units": self.units,
+        })
+    }
+}
+
+fn block_value(alloc: Global, block: &Block) -> Result<Value, AllocError>
+    ensures { IfOk result (λ v. view v ≡ record_json block.now) }
+{
+    let collector = hex_value(alloc, &block.collector.0)?;
+    let entries = list_value(alloc, block.entries.as_slice())?;
+    let hash = hex_value(alloc, &block.hash.0)?;
+    let previous = hex_value(alloc, &block.previous.0)?;
+    let state = hex_value(alloc, &block.state.0)?;
+    json!(in alloc; {
+        "burned": block.burned,
+        "collected": block.collected,
+        "collector": collector,
+        "entries": entries,
+        "hash": hash,
+        "previous": previous,
+        "slot": block.slot,
+        "state": state,
+    })
+}
+
+/// The record that the bytes are, all of them, as a JSON value (the project's own form): what
+/// `record_from_value` turns into the same bytes.
+#[tactic(auto, unfolding(crate::specs::RecordJson::data_of_record))]
+pub fn record_value(alloc: Global, bytes: &[u8]) -> Result<Value, JsonFault>
+    ensures { Gives is_json_memory view result (data_of_record bytes.now) }
+{
+    match read_record(alloc, bytes) {
+        Ok(block) => Ok(block_value(alloc, &block)?),
+        Err(RecordFault::OutOfMemory) => Err(JsonFault::OutOfMemory),
+        Err(fault) => Err(JsonFault::BadRecord { fault }),
+    }
+}

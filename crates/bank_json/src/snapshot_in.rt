@@ -1,0 +1,266 @@
+//! From JSON to the bytes of a snapshot.
+ghost use Rattle.std.specs.Prelude.{◌≡◌, codes, IfOk};
+ghost use Rattle.spec_base.specs.Reading.{Gives};
+ghost use Rattle.serde_json.specs.View.{view};
+ghost use Rattle.snapshot_codec.specs.Snapshot.{limits_bytes};
+ghost use Rattle.bank_json.specs.Faults.{is_json_memory};
+ghost use Rattle.bank_json.specs.Parts.{member_in};
+ghost use Rattle.bank_json.specs.SnapshotJson.{limits_in, sections_in, first_in, second_in, snapshot_in, snapshot_of_data};
+
+use crate::data::data_member;
+use crate::fault::{JsonFault, in_member};
+use crate::list::{Part, list_member};
+use crate::parts::{
+    Names, byte_member, digits, digits_member, flag_member, found, known, number_member,
+    short_member,
+};
+use account_store::KeyedAccount;
+use serde_json::Value;
+use snapshot_codec::{SnapshotFault, read_snapshot};
+use sol_base::{Blob, Hash32, Limits, MAX_DATA_LEN, OutOfMemory};
+use status_cache::Mark;
+use std::alloc::Global;
+
+/// The most blocks of a snapshot.
+const MOST_MARKS: usize = 150;
+
+/// The most messages of a block in a snapshot.
+const MOST_MESSAGES: usize = 16_384;
+
+/// The most accounts of a snapshot.
+const MOST_ACCOUNTS: usize = 4_194_304;
+
+/// The most compute units that limits may name.
+const MOST_UNITS: u64 = 1_000_000_000_000;
+
+/// The members of a block.
+struct MarkNames;
+
+impl Names for MarkNames {
+    ghost use Rattle.bank_json.specs.SnapshotJson.{mark_names};
+
+    ghost names = { mark_names };
+
+    fn has(name: &str) -> bool {
+        "hash" == name || "messages" == name
+    }
+}
+
+/// The members of an account.
+struct AccountNames;
+
+impl Names for AccountNames {
+    ghost use Rattle.bank_json.specs.SnapshotJson.{account_names};
+
+    ghost names = { account_names };
+
+    fn has(name: &str) -> bool {
+        "data" == name
+            || "executable" == name
+            || "key" == name
+            || "lamports" == name
+            || "owner" == name
+    }
+}
+
+/// The members of limits.
+struct LimitsNames;
+
+impl Names for LimitsNames {
+    ghost use Rattle.bank_json.specs.SnapshotJson.{limits_names};
+
+    ghost names = { limits_names };
+
+    fn has(name: &str) -> bool {
+        "block_units" == name || "height" == name || "key_units" == name || "keys" == name
+    }
+}
+
+/// The members of a snapshot of format 1.
+struct FirstNames;
+
+impl Names for FirstNames {
+    ghost use Rattle.bank_json.specs.SnapshotJson.{first_names};
+
+    ghost names = { first_names };
+
+    fn has(name: &str) -> bool {
+        "accounts" == name || "format" == name || "recent" == name || "slot" == name
+    }
+}
+
+/// The members of a snapshot of format 2.
+struct SecondNames;
+
+impl Names for SecondNames {
+    ghost use Rattle.bank_json.specs.SnapshotJson.{second_names};
+
+    ghost names = { second_names };
+
+    fn has(name: &str) -> bool {
+        "accounts" == name
+            || "format" == name
+            || "limits" == name
+            || "recent" == name
+            || "slot" == name
+    }
+}
+
+impl Part for Hash32 {
+    ghost use Rattle.bank_json.specs.SnapshotJson.{hash_in};
+
+    ghost part_in = { hash_in };
+
+    fn read(alloc: Global, value: &Value) -> Result<Blob, JsonFault> {
+        let hash = digits::<32>(alloc, value)?;
+        Ok(Blob::from_slice(alloc, &hash)?)
+    }
+}
+
+impl Part for Mark {
+    ghost use Rattle.bank_json.specs.SnapshotJson.{mark_in};
+
+    ghost part_in = { mark_in };
+
+    #[tactic(auto, unfolding(crate::specs::SnapshotJson::mark_in))]
+    fn read(alloc: Global, value: &Value) -> Result<Blob, JsonFault> {
+        known::<MarkNames>(alloc, value)?;
+        let hash = digits_member::<32>(alloc, value, "hash")?;
+        let (count, names) = list_member::<Hash32>(alloc, value, "messages", MOST_MESSAGES)?;
+        let mut out = Blob::from_slice(alloc, &hash)?;
+        out.append(&(count as u32).to_le_bytes())?;
+        out.append(names.as_slice())?;
+        Ok(out)
+    }
+}
+
+impl Part for KeyedAccount {
+    ghost use Rattle.bank_json.specs.SnapshotJson.{account_in};
+
+    ghost part_in = { account_in };
+
+    #[tactic(auto, unfolding(crate::specs::SnapshotJson::account_in))]
+    fn read(alloc: Global, value: &Value) -> Result<Blob, JsonFault> {
+        known::<AccountNames>(alloc, value)?;
+        let key = digits_member::<32>(alloc, value, "key")?;
+        let lamports = number_member(alloc, value, "lamports", 1, u64::MAX)?;
+        let owner = digits_member::<32>(alloc, value, "owner")?;
+        let executable = flag_member(alloc, value, "executable")?;
+        let data = data_member(alloc, value, "data", MAX_DATA_LEN)?;
+        let mut out = Blob::from_slice(alloc, &key)?;
+        out.append(&lamports.to_le_bytes())?;
+        out.append(&owner)?;
+        out.append(&[u8::from(executable)])?;
+        out.append(&(data.len() as u32).to_le_bytes())?;
+        out.append(data.as_slice())?;
+        Ok(out)
+    }
+}
+
+fn spelled_limits(alloc: Global, limits: &Limits) -> Result<Blob, OutOfMemory>
+    ensures { IfOk result (λ bytes. bytes ≡ limits_bytes limits.now) }
+{
+    let mut out = Blob::from_slice(alloc, &limits.keys.to_le_bytes())?;
+    out.append(&[limits.height])?;
+    out.append(&limits.key_units.to_le_bytes())?;
+    out.append(&limits.block_units.to_le_bytes())?;
+    Ok(out)
+}
+
+#[tactic(auto, unfolding(crate::specs::SnapshotJson::limits_in))]
+fn limits(alloc: Global, value: &Value) -> Result<Blob, JsonFault>
+    ensures { Gives is_json_memory (λ bytes. bytes) result (limits_in (view value.now)) }
+{
+    known::<LimitsNames>(alloc, value)?;
+    let keys = short_member(alloc, value, "keys", 1, 128)?;
+    let height = byte_member(alloc, value, "height", 1, 9)?;
+    let key_units = number_member(alloc, value, "key_units", 1, MOST_UNITS)?;
+    let block_units = number_member(alloc, value, "block_units", 1, MOST_UNITS)?;
+    let limits = Limits {
+        keys,
+        height,
+        key_units,
+        block_units,
+    };
+    Ok(spelled_limits(alloc, &limits)?)
+}
+
+#[tactic(auto, unfolding(crate::specs::Parts::member_in))]
+fn limits_member(alloc: Global, value: &Value) -> Result<Blob, JsonFault>
+    ensures { Gives is_json_memory (λ bytes. bytes) result
+        (member_in (codes "limits") limits_in (view value.now)) }
+{
+    let found = found(alloc, value, "limits")?;
+    in_member(alloc, "limits", limits(alloc, found))
+}
+
+/// The marks and the accounts, each behind their number.
+#[tactic(auto, unfolding(crate::specs::SnapshotJson::sections_in))]
+fn sections(alloc: Global, value: &Value) -> Result<Blob, JsonFault>
+    ensures { Gives is_json_memory (λ bytes. bytes) result (sections_in (view value.now)) }
+{
+    let (mark_count, marks) = list_member::<Mark>(alloc, value, "recent", MOST_MARKS)?;
+    let (count, accounts) = list_member::<KeyedAccount>(alloc, value, "accounts", MOST_ACCOUNTS)?;
+    let mut out = Blob::from_slice(alloc, &(mark_count as u32).to_le_bytes())?;
+    out.append(marks.as_slice())?;
+    out.append(&(count as u32).to_le_bytes())?;
+    out.append(accounts.as_slice())?;
+    Ok(out)
+}
+
+#[tactic(auto, unfolding(crate::specs::SnapshotJson::first_in))]
+fn first(alloc: Global, value: &Value) -> Result<Blob, JsonFault>
+    ensures { Gives is_json_memory (λ bytes. bytes) result (first_in (view value.now)) }
+{
+    known::<FirstNames>(alloc, value)?;
+    let slot = number_member(alloc, value, "slot", 0, u64::MAX)?;
+    let sections = sections(alloc, value)?;
+    let mut out = Blob::from_slice(alloc, b"SOLSNAP1")?;
+    out.append(&slot.to_le_bytes())?;
+    out.append(sections.as_slice())?;
+    Ok(out)
+}
+
+#[tactic(auto, unfolding(crate::specs::SnapshotJson::second_in))]
+fn second(alloc: Global, value: &Value) -> Result<Blob, JsonFault>
+    ensures { Gives is_json_memory (λ bytes. bytes) result (second_in (view value.now)) }
+{
+    known::<SecondNames>(alloc, value)?;
+    let slot = number_member(alloc, value, "slot", 0, u64::MAX)?;
+    let limits = limits_member(alloc, value)?;
+    let sections = sections(alloc, value)?;
+    let mut out = Blob::from_slice(alloc, b"SOLSNAP2")?;
+    out.append(&slot.to_le_bytes())?;
+    out.append(limits.as_slice())?;
+    out.append(sections.as_slice())?;
+    Ok(out)
+}
+
+#[tactic(auto, unfolding(crate::specs::SnapshotJson::snapshot_in))]
+fn spelled(alloc: Global, value: &Value) -> Result<Blob, JsonFault>
+    ensures { Gives is_json_memory (λ bytes. bytes) result (snapshot_in (view value.now)) }
+{
+    let format = number_member(alloc, value, "format", 1, 2)?;
+    if format == 1 {
+        first(alloc, value)
+    } else {
+        second(alloc, value)
+    }
+}
+
+/// The bytes of the snapshot that the JSON value is (the project's own form).
+///
+/// Its members are `format` (1 or 2), `slot`, `limits` (in format 2 alone), `recent` and
+/// `accounts`, and no others. Keys, hashes and data are hexadecimal digits in either case. The
+/// refusals come in the order of the reading; last, the bytes have to be a snapshot.
+#[tactic(auto, unfolding(crate::specs::SnapshotJson::snapshot_of_data))]
+pub fn snapshot_from_value(alloc: Global, value: &Value) -> Result<Blob, JsonFault>
+    ensures { Gives is_json_memory (λ bytes. bytes) result (snapshot_of_data (view value.now)) }
+{
+    let bytes = spelled(alloc, value)?;
+    match read_snapshot(alloc, bytes.as_slice()) {
+        Ok(_) => Ok(bytes),
+        Err(SnapshotFault::OutOfMemory) => Err(JsonFault::OutOfMemory),
+        Err(fault) => Err(JsonFault::BadSnapshot { fault }),
+    }
+}

@@ -1,0 +1,138 @@
+//! From the bytes of a snapshot to JSON.
+ghost use Rattle.std.specs.Prelude.{◌≡◌, IfOk};
+ghost use Rattle.spec_base.specs.Reading.{Gives};
+ghost use Rattle.serde_json.specs.View.{view};
+ghost use Rattle.account_store.specs.State.{entries};
+ghost use Rattle.bank_json.specs.Faults.{is_json_memory};
+ghost use Rattle.bank_json.specs.Written.{hex_json, list_json};
+ghost use Rattle.bank_json.specs.SnapshotJson.{account_json, limits_json, snapshot_json_one, snapshot_json_two, snapshot_json, data_of_snapshot};
+
+use crate::fault::JsonFault;
+use crate::list::{Shown, list_value};
+use account_store::Accounts;
+use serde_json::{Value, json};
+use snapshot_codec::{Snapshot, SnapshotFault, read_snapshot};
+use sol_base::{Account, Hash32, Key, Limits};
+use status_cache::Mark;
+use std::alloc::{AllocError, Global};
+
+pub(crate) fn hex_value(alloc: Global, bytes: &[u8]) -> Result<Value, AllocError>
+    ensures { IfOk result (λ v. view v ≡ hex_json bytes.now) }
+{
+    Ok(Value::String(hex::encode(alloc, bytes)?))
+}
+
+impl Shown for Hash32 {
+    ghost use Rattle.bank_json.specs.SnapshotJson.{name_json};
+
+    ghost json_of = { name_json };
+
+    fn value(&self, alloc: Global) -> Result<Value, AllocError> {
+        hex_value(alloc, &self.0)
+    }
+}
+
+impl Shown for Mark {
+    ghost use Rattle.bank_json.specs.SnapshotJson.{mark_json};
+
+    ghost json_of = { mark_json };
+
+    fn value(&self, alloc: Global) -> Result<Value, AllocError> {
+        let hash = hex_value(alloc, &self.hash.0)?;
+        let messages = list_value(alloc, self.messages.as_slice())?;
+        json!(in alloc; {"hash": hash, "messages": messages})
+    }
+}
+
+fn account_value(alloc: Global, key: &Key, account: &Account) -> Result<Value, AllocError>
+    ensures { IfOk result (λ v. view v ≡ account_json (key.now, account.now)) }
+{
+    let data = hex_value(alloc, account.bytes.as_slice())?;
+    let shown_key = hex_value(alloc, &key.0)?;
+    let owner = hex_value(alloc, &account.owner.0)?;
+    json!(in alloc; {
+        "data": data,
+        "executable": account.executable,
+        "key": shown_key,
+        "lamports": account.lamports,
+        "owner": owner,
+    })
+}
+
+fn accounts_value(alloc: Global, accounts: &Accounts) -> Result<Value, AllocError>
+    ensures { IfOk result (λ v. view v ≡ list_json account_json (entries accounts.now)) }
+{
+    let mut values = Vec::with_capacity(alloc, accounts.len())?;
+    let mut rest = accounts.iter();
+    while let Some((key, account)) = rest.next() {
+        values.push(account_value(alloc, key, account)?)?;
+    }
+    Ok(Value::Array(values))
+}
+
+fn limits_value(alloc: Global, limits: &Limits) -> Result<Value, AllocError>
+    ensures { IfOk result (λ v. view v ≡ limits_json limits.now) }
+{
+    json!(in alloc; {
+        "block_units": limits.block_units,
+        "height": limits.height,
+        "key_units": limits.key_units,
+        "keys": limits.keys,
+    })
+}
+
+fn first_value(alloc: Global, snapshot: &Snapshot) -> Result<Value, AllocError>
+    ensures { IfOk result (λ v. view v ≡ snapshot_json_one snapshot.now) }
+{
+    let accounts = accounts_value(alloc, &snapshot.accounts)?;
+    let recent = list_value(alloc, snapshot.recent.marks())?;
+    json!(in alloc; {
+        "accounts": accounts,
+        "format": 1u64,
+        "recent": recent,
+        "slot": snapshot.slot,
+    })
+}
+
+fn second_value(alloc: Global, snapshot: &Snapshot) -> Result<Value, AllocError>
+    ensures { IfOk result (λ v. view v ≡ snapshot_json_two snapshot.now) }
+{
+    let accounts = accounts_value(alloc, &snapshot.accounts)?;
+    let limits = limits_value(alloc, &snapshot.limits)?;
+    let recent = list_value(alloc, snapshot.recent.marks())?;
+    json!(in alloc; {
+        "accounts": accounts,
+        "format": 2u64,
+        "limits": limits,
+        "recent": recent,
+        "slot": snapshot.slot,
+    })
+}
+
+fn value_of(alloc: Global, bytes: &[u8], snapshot: &Snapshot) -> Result<Value, AllocError>
+    ensures { IfOk result (λ v. view v ≡ snapshot_json bytes.now snapshot.now) }
+{
+    if bytes.starts_with(b"SOLSNAP1") {
+        first_value(alloc, snapshot)
+    } else {
+        second_value(alloc, snapshot)
+    }
+}
+
+/// The snapshot that the bytes are, all of them, as a JSON value (the project's own form): what
+/// `snapshot_from_value` turns into the same bytes.
+#[tactic(auto, unfolding(crate::specs::SnapshotJson::data_of_snapshot))]
+pub fn snapshot_value(alloc: Global, bytes: &[u8]) -> Result<Value, JsonFault>
+    ensures { Gives is_json_memory view result (data_of_snapshot bytes.now) }
+{
+    match read_snapshot(alloc, bytes) {
+        Ok(prefix) => {
+            if prefix.length != bytes.len() {
+                return Err(JsonFault::Trailing { at: prefix.length });
+            }
+            Ok(value_of(alloc, bytes, &prefix.snapshot)?)
+        }
+        Err(SnapshotFault::OutOfMemory) => Err(JsonFault::OutOfMemory),
+        Err(fault) => Err(JsonFault::BadSnapshot { fault }),
+    }
+}
