@@ -1,0 +1,138 @@
+//! The commands that read one input.
+use crate::answer::{Answer, DIFFERS, INPUT_REFUSED, WRITE_FAILED, noted, written};
+use crate::compared::compared;
+use crate::files::{Given, standard_input, write_files};
+use crate::json::{shown, told_bytes};
+use crate::shape::shaped;
+use crate::why::explained;
+use block_record::{RecordFault, read_front};
+use message_codec::Signature;
+use snapshot_codec::{SnapshotFault, read_snapshot};
+use sol_base::{Blob, Key, OutOfMemory};
+use std::alloc::Global;
+use std::rt::Files;
+use std::str;
+use text_views::{Split, split_output, view_account, view_entry};
+use text_words::{Sought, TextCommand, USAGE};
+
+/// The bytes as a text. They are one: they came as a word.
+pub(crate) fn path_of(path: &Blob) -> &str {
+    match str::from_utf8(path.as_slice()) {
+        Ok(text) => text,
+        Err(_) => "",
+    }
+}
+
+/// The answer to a command.
+pub(crate) fn answer_command<R: Files + Input + AllocGlobal>(
+    rt: &R,
+    command: &TextCommand,
+) -> Result<Answer, OutOfMemory> {
+    if let TextCommand::Diff { left, right } = command {
+        return compared(rt, path_of(left), path_of(right));
+    }
+    let input = match standard_input(rt)? {
+        Given::Bytes(input) => input,
+        Given::Nothing(told) => return Ok(told),
+    };
+    match command {
+        TextCommand::Split { record, snapshot } => {
+            parted(rt, input.as_slice(), path_of(record), path_of(snapshot))
+        }
+        TextCommand::Shape { picture } => {
+            let file = match picture {
+                Some(file) => Some(path_of(file)),
+                None => None,
+            };
+            shaped(rt, input.as_slice(), file)
+        }
+        TextCommand::View { sought } => viewed(rt.alloc(), input.as_slice(), sought),
+        TextCommand::Why => explained(rt.alloc(), input.as_slice()),
+        TextCommand::Json { form, pretty } => {
+            shown(rt.alloc(), *form, *pretty, input.as_slice())
+        }
+        TextCommand::Bytes { form } => told_bytes(rt.alloc(), *form, input.as_slice()),
+        _ => written(rt.alloc(), USAGE.as_bytes()),
+    }
+}
+
+/// Writes the two parts of what `produce` wrote.
+fn parted<R: Files + AllocGlobal>(
+    rt: &R,
+    bytes: &[u8],
+    record: &str,
+    snapshot: &str,
+) -> Result<Answer, OutOfMemory> {
+    let alloc = rt.alloc();
+    let length = match split_output(alloc, bytes)? {
+        Split::Parts { record } => record,
+        Split::NoRecord(fault) => {
+            let text = fault.to_string(alloc)?;
+            return noted(alloc, INPUT_REFUSED, "record", text.as_str());
+        }
+        Split::NoSnapshot(fault) => {
+            let text = fault.to_string(alloc)?;
+            return noted(alloc, INPUT_REFUSED, "snapshot", text.as_str());
+        }
+        Split::Trailing { count } => {
+            let text = format!(in alloc; "{count} bytes follow it")?;
+            return noted(alloc, INPUT_REFUSED, "snapshot", text.as_str());
+        }
+    };
+    if length > bytes.len() {
+        return Err(OutOfMemory);
+    }
+    let (front, back) = bytes.split_at(length);
+    match write_files(rt, (record, front), (snapshot, back))? {
+        Ok(()) => written(alloc, b""),
+        Err(_) => noted(alloc, WRITE_FAILED, "split", "write failed"),
+    }
+}
+
+/// The account or the transaction of a snapshot or a record, told by the first eight bytes.
+fn viewed(alloc: Global, bytes: &[u8], sought: &Sought) -> Result<Answer, OutOfMemory> {
+    let is_record = bytes.starts_with(b"SOLBLCK1");
+    match *sought {
+        Sought::Account(key) if !is_record => viewed_account(alloc, bytes, &key),
+        Sought::Account(_) => noted(alloc, INPUT_REFUSED, "record", "it holds no accounts"),
+        Sought::Transaction(signature) if is_record => {
+            viewed_entry(alloc, bytes, &Signature(signature))
+        }
+        Sought::Transaction(_) => {
+            noted(alloc, INPUT_REFUSED, "snapshot", "it holds no transactions")
+        }
+    }
+}
+
+fn viewed_account(alloc: Global, bytes: &[u8], key: &Key) -> Result<Answer, OutOfMemory> {
+    let prefix = match read_snapshot(alloc, bytes) {
+        Ok(prefix) => prefix,
+        Err(SnapshotFault::OutOfMemory) => return Err(OutOfMemory),
+        Err(fault) => {
+            let text = fault.to_string(alloc)?;
+            return noted(alloc, INPUT_REFUSED, "snapshot", text.as_str());
+        }
+    };
+    match view_account(alloc, &prefix.snapshot.accounts, key)? {
+        Some(text) => written(alloc, text.as_slice()),
+        None => noted(alloc, DIFFERS, "snapshot", "there is no such account"),
+    }
+}
+
+fn viewed_entry(alloc: Global, bytes: &[u8], signature: &Signature) -> Result<Answer, OutOfMemory> {
+    let front = match read_front(alloc, bytes) {
+        Ok(front) => front,
+        Err(RecordFault::OutOfMemory) => return Err(OutOfMemory),
+        Err(fault) => {
+            let text = fault.to_string(alloc)?;
+            return noted(alloc, INPUT_REFUSED, "record", text.as_str());
+        }
+    };
+    match view_entry(alloc, &front.block, signature)? {
+        Some(mut text) => {
+            text.append(b"\n")?;
+            written(alloc, text.as_slice())
+        }
+        None => noted(alloc, DIFFERS, "record", "there is no such transaction"),
+    }
+}

@@ -1,0 +1,4 @@
+mod Walk
+mod PairLaws
+mod PartLaws
+mod EqualLaws

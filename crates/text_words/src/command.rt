@@ -1,0 +1,57 @@
+//! The commands for texts.
+use sol_base::{Blob, Key, OutOfMemory};
+
+/// What bytes are of.
+#[derive(Clone, Copy, PartialEq, Eq)]
+pub enum Form {
+    Snapshot,
+    Batch,
+    Record,
+    Image,
+}
+
+/// What `view` looks for.
+#[derive(Clone, Copy, PartialEq, Eq)]
+pub enum Sought {
+    /// The account under a key, in a snapshot.
+    Account(Key),
+    /// The transaction whose first signature this is, in a record.
+    Transaction([u8; 64]),
+}
+
+/// A command with what its words say. Files are texts.
+#[derive(Drop)]
+pub enum TextCommand {
+    Help,
+    Version,
+    /// Bytes to JSON.
+    Json { form: Form, pretty: bool },
+    /// JSON to bytes.
+    Bytes { form: Form },
+    /// A record and a snapshot to two files.
+    Split { record: Blob, snapshot: Blob },
+    View { sought: Sought },
+    Diff { left: Blob, right: Blob },
+    /// How parallel a block is, and a picture of it.
+    Shape { picture: Option<Blob> },
+    Why,
+}
+
+/// Why there is no command.
+#[derive(Clone, Copy, PartialEq, Eq)]
+pub enum TextWordsFault {
+    /// The words are no command.
+    Refused,
+    OutOfMemory,
+}
+
+impl From<OutOfMemory> for TextWordsFault {
+    ghost use Rattle.std.specs.Prelude.{◌≡◌};
+    ghost use Rattle.text_words.specs.declared.command.TextWordsFault.TheVariants.{OutOfMemory as no_memory};
+
+    ghost from_gives = { λ _ e. e ≡ no_memory };
+
+    fn from(_e: OutOfMemory) -> TextWordsFault {
+        TextWordsFault::OutOfMemory
+    }
+}
