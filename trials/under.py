@@ -1,7 +1,8 @@
 """Runs cases over the built program by under.c, and counts them.
 
 A trial makes an `Under` and asks it for cases: words, an input, and what is struck on the way. The
-program is that of the variable PROGRAM, or the one that ./bank runs.
+program is that of the variable PROGRAM, or the one that ./bank runs; the program for texts that of
+the variable TEXT_PROGRAM.
 """
 import argparse
 import atexit
@@ -20,21 +21,38 @@ MOST_WORDS = 16
 ORDER, ANSWER = struct.Struct('<13q256s'), struct.Struct('<7q')
 NONE, EVER = (0, 0, 0), 1 << 40
 SKIPPED = 77
+NOT_BUILT = 125
 
 
 def find_program():
     given = os.environ.get('PROGRAM')
+    return str(pathlib.Path(given).resolve()) if given else run_by_bank('bank_program', ['make', '--number', '1', '--count', '1'])
+
+
+def find_text_program():
+    """The program for texts, or None where only the other one is given."""
+    given = os.environ.get('TEXT_PROGRAM')
     if given:
         return str(pathlib.Path(given).resolve())
-    subprocess.run([TOP / 'bank', 'make', '--number', '1', '--count', '1'], stdout=subprocess.DEVNULL, check=True)
-    out = TOP / 'crates' / 'bank_program' / 'out'
+    return None if os.environ.get('PROGRAM') else run_by_bank('bank_text', ['json', 'image'])
+
+
+def run_by_bank(name, words):
+    """The program that ./bank runs on these words."""
+    if subprocess.run([TOP / 'bank', *words], stdin=subprocess.DEVNULL, capture_output=True).returncode == NOT_BUILT:
+        raise RuntimeError(f'./bank could not build {name}')
+    out = TOP / 'crates' / name / 'out'
     checked = out / 'checked'
-    return checked.read_text().strip() if checked.exists() else str(out / 'bank_program')
+    return checked.read_text().strip() if checked.exists() else str(out / name)
 
 
 def skip(name, why):
     print(f'{name}: skipped, {why}')
     sys.exit(SKIPPED)
+
+
+def leave_out(name, what):
+    print(f'{name}: {what} is left out, as TEXT_PROGRAM names no program')
 
 
 def library(name):
