@@ -167,15 +167,6 @@ entry_added keys accounts metas k meta listing i d account is first same below a
     let key : key_in keys meta.index ≡ get_or keys i d = ap (λ n. key_in keys n) (sym same) ∙ key_there keys i d below in
     ap (λ (l : Listing). first_entry l.signer l.writable (get_or keys i d) account) is ∙ sym (entry_first keys accounts metas k meta (get_or keys i d) account first key account_is)
 
--- where the entries end
-pub starts_at_end : (start : List Account) (metas : List Meta) (k : ℕ) → length metas ≤ k → entry_start start metas k ≡ entry_start start metas (length metas)
-unfolding entry_start
-starts_at_end start metas k past =
-    let items : List (ℕ × Meta) = enumerate_from 0 metas in
-    let size : ℕ × Meta → ℕ = entry_size start metas in
-    let all : take k items ≡ take (length metas) items = take_all k items (rw length-enumerate_from past) ∙ sym (all_items metas) in
-    ap (λ (l : List (ℕ × Meta)). 8 + sum_by size l) all
-
 pub flat_all : {X : Type 0} (f : ℕ × Meta → List X) (metas : List Meta) (k : ℕ) → length metas ≤ k → flat_map f (take k (enumerate_from 0 metas)) ≡ flat_map f (enumerate_from 0 metas)
 flat_all f metas k past = ap (λ (l : List (ℕ × Meta)). flat_map f l) (take_all k (enumerate_from 0 metas) (rw length-enumerate_from past))
 

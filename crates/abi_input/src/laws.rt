@@ -7,6 +7,14 @@ ghost use Rattle.sol_base.specs.Metas.{AreInRange, is_listed};
 ghost use Rattle.abi_input.specs.Region.{account_in, back, data_len_at, first_entry_start, input_of, lamports_at, patched, IsRegionOf};
 ghost use Rattle.abi_input.specs.Widths.{AreKeys, HaveWidths};
 
+use crate::entry::{MAX_GROWTH, NOT_LISTED_BEFORE};
+
+/// The numbers of the layout, as Solana has them.
+pub fn numbers_are_as_stated()
+    ensures growth { MAX_GROWTH ≡ 10_240 }
+    ensures first { NOT_LISTED_BEFORE ≡ 255 }
+{}
+
 /// A law: what is laid out is taken back as it was, where nothing is written in between.
 pub fn what_is_laid_out_is_taken_back()
     ensures accounts { (keys : List KeyValue) (accounts : List AccountValue) (metas : List MetaValue)

@@ -13,7 +13,7 @@ mod taking;
 
 pub use fault::{BackFault, PatchFault};
 pub use laws::{
-    what_is_laid_out_is_taken_back, what_is_patched_in_is_taken_back,
+    numbers_are_as_stated, what_is_laid_out_is_taken_back, what_is_patched_in_is_taken_back,
     what_is_taken_back_stands_in_the_region,
 };
 pub use laying::lay_out;

@@ -12,9 +12,6 @@ use Rattle.account_rules.specs.AccountRules.{Change, broken_rules, first_of, lis
 use Rattle.account_rules.specs.Listings.{SameListing, indexes}
 
 -- ---- the changes that account rules speak of, by the indexes of the metas alone
-at_index : ℕ × Meta → ℕ × ℕ
-at_index (at, meta) = (at, meta.index)
-
 is_first_index : List ℕ → ℕ × ℕ → Bool
 is_first_index list (at, index) = not (list_any (λ one. one == index) (take at list))
 

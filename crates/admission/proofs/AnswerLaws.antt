@@ -9,6 +9,7 @@ use Rattle.sol_base.specs.declared.limits.Limits.{Limits}
 use Rattle.sol_base.specs.declared.lock.Lock.{Lock}
 use Rattle.sol_base.specs.Keys.{same_key}
 use Rattle.sol_base.specs.Locks.{lock_keys}
+use Rattle.sol_base.specs.Limits.{max_transaction_keys}
 use Rattle.message_codec.specs.declared.fault.SanitizeFault.{SanitizeFault}
 use Rattle.message_codec.specs.declared.message.Loaded.{Loaded}
 use Rattle.message_codec.specs.declared.message.Message.{Message}
@@ -81,7 +82,7 @@ sane_for_few_keys_is_sane_for_more tx few more fewer is = record {
 pub locks_apart : (chosen : Chosen) → IsChosen chosen → IsDistinct same_key (lock_keys chosen.locks)
 locks_apart chosen is = subst (IsDistinct same_key) (sym (ap (map (λ (lock : Lock). lock.key)) is.locked ∙ keys_of_locks chosen.tx.message chosen.loaded)) is.apart
 
-pub chosen_is : (start : Start) (is_before : Hash32 → Bool) (position : ℕ) (parsed : Parsed) (chosen : Chosen) → start.limits.keys ≤ 128 → IsSound parsed → sifted start is_before position parsed ≡ Ok chosen → IsChosen chosen × (chosen.position ≡ position)
+pub chosen_is : (start : Start) (is_before : Hash32 → Bool) (position : ℕ) (parsed : Parsed) (chosen : Chosen) → start.limits.keys ≤ max_transaction_keys → IsSound parsed → sifted start is_before position parsed ≡ Ok chosen → IsChosen chosen × (chosen.position ≡ position)
 unfolding sifted
 chosen_is start is_before position (Bad fault) chosen few sound e = absurd (cc)
 chosen_is start is_before position (Good tx name) chosen few sound e = go (stands start tx name) refl (is_before name) (budget_in tx.message) refl e
@@ -95,7 +96,7 @@ chosen_is start is_before position (Good tx name) chosen few sound e = go (stand
         let same : chosen_with position tx name loaded budget ≡ chosen = cc in
         let loads = load_ok start.state tx.message loaded (stands_ok start tx name loaded ea).1 in
         let is : IsChosen (chosen_with position tx name loaded budget) = record {
-          sane = sane_for_few_keys_is_sane_for_more tx start.limits.keys 128 few (stands_sane start tx name loaded ea);
+          sane = sane_for_few_keys_is_sane_for_more tx start.limits.keys max_transaction_keys few (stands_sane start tx name loaded ea);
           signatures = sound.1;
           lists = sound.0;
           loaded = loads.0;
@@ -113,7 +114,7 @@ pub record StandsIn (from to : ℕ) (chosen : Chosen) : Type 0 where
   pub above : from ≤ chosen.position
   pub below : chosen.position < to
 
-module _ (start : Start) (batch : List Parsed) (few : start.limits.keys ≤ 128) where
+module _ (start : Start) (batch : List Parsed) (few : start.limits.keys ≤ max_transaction_keys) where
   from_lower : (from to : ℕ) (standing : List Chosen) → AllByRecursion (StandsIn (from + 1) to) standing → AllByRecursion (StandsIn from to) standing
   from_lower from to [] all = tt
   from_lower from to (one ∷ others) all =

@@ -7,12 +7,14 @@ use Rattle.std.proofs.lemmas.List.FromFn.{length-enumerate_from}
 use Rattle.sol_base.specs.Keys.{same_key}
 use Rattle.sol_base.specs.declared.memory.OutOfMemory.{OutOfMemory}
 use Rattle.sol_base.specs.Locks.{lock_keys}
+use Rattle.sol_base.specs.Limits.{max_transaction_keys}
 use Rattle.message_codec.specs.declared.parsed.Parsed.{Parsed}
 use Rattle.message_codec.specs.Parsing.{parsed_of}
 use Rattle.admission.specs.declared.chosen.Admitted.{Admitted}
 use Rattle.admission.specs.declared.chosen.Chosen.{Chosen}
 use Rattle.admission.specs.declared.refusal.Refusal.{Refusal}
 use Rattle.admission.specs.Admission.{AreParsed, IsSound, Start, admitted, answer_of, early, line, listed, sifted_out, walk}
+use Rattle.admission.specs.Answers.{IsAnswer}
 use Rattle.admission.specs.Chosen.{IsChosen}
 use Rattle.admission.specs.Sums.{numbered_in, with_late}
 use Rattle.admission.proofs.AnswerLaws.{StandsIn, all_run, are_parsed, locks_apart, stand_all}
@@ -36,40 +38,40 @@ all_sound wires batch are = All-from_recursion IsSound batch (are_parsed wires b
 pub cause_count : (start : Start) (batch : List Parsed) (causes : List (Option Refusal)) → causes ≡ map (early start batch) (enumerate_from 0 batch) → length batch ≡ length causes
 cause_count start batch causes e = sym (ap length e ∙ simp (length-map, length-enumerate_from))
 
-module _ (start : Start) (wires : List (List ℕ)) (batch : List Parsed) (few : start.limits.keys ≤ 128) (are : AreParsed wires batch) where
+module _ (start : Start) (wires : List (List ℕ)) (batch : List Parsed) (few : start.limits.keys ≤ max_transaction_keys) (are : AreParsed wires batch) where
   pub stand : (standing : List Chosen) → standing ≡ sifted_out start batch → AllByRecursion (StandsIn 0 (length batch)) standing
   stand standing e = subst (AllByRecursion (StandsIn 0 (length batch))) (sym e) (stand_all start batch few (are_parsed wires batch are).1)
 
   pub stand_in_line : (standing found : List Chosen) → standing ≡ sifted_out start batch → found ≡ line standing → AllByRecursion (StandsIn 0 (length batch)) found
   stand_in_line standing found e l = subst (AllByRecursion (StandsIn 0 (length batch))) (sym l) (all_line (StandsIn 0 (length batch)) standing (stand standing e))
 
-  answer : (found : List Chosen) (causes : List (Option Refusal)) (admission : Admitted) → causes ≡ map (early start batch) (enumerate_from 0 batch) → admission.order ≡ (walk start.limits found).order
+  exact : (found : List Chosen) (causes : List (Option Refusal)) (admission : Admitted) → causes ≡ map (early start batch) (enumerate_from 0 batch) → admission.order ≡ (walk start.limits found).order
       → admission.refused ≡ numbered_in (with_late (walk start.limits found).refused causes) → admission ≡ answer_of start (map parsed_of wires) (walk start.limits found)
-  answer found causes admission c order refused =
+  exact found causes admission c order refused =
       let ascending = refused ∙ ap (λ cs. numbered_in (with_late (walk start.limits found).refused cs)) c ∙ refused_by_causes start batch (walk start.limits found).refused in
       let whole : admission ≡ answer_of start batch (walk start.limits found) = λ i. record { order = order i; refused = ascending i } in
       whole ∙ ap (λ b. answer_of start b (walk start.limits found)) (are_parsed wires batch are).0
 
-  both : (result : Result Admitted OutOfMemory) (P Q R : Admitted → Type 0) → ((a : Admitted) → P a → Q a → R a) → IfOk result P → IfOk result Q → IfOk result R
-  both (Ok a) P Q R to p q = to a p q
-  both (Err e) P Q R to p q = tt
+  all_chosen : (found : List Chosen) (admission : Admitted) → AllByRecursion (StandsIn 0 (length batch)) found → admission.order ≡ (walk start.limits found).order → All IsChosen admission.order
+  all_chosen found admission all order =
+      All-from_recursion IsChosen admission.order (subst (AllByRecursion IsChosen) (sym order) (weaker (StandsIn 0 (length batch)) IsChosen (λ one is. is.is) (walk start.limits found).order (all_run (StandsIn 0 (length batch)) start.limits found all)))
+
+  -- what a walk over transactions that stand comes to
+  is_answer : (found : List Chosen) (causes : List (Option Refusal)) (result : Result Admitted OutOfMemory) → AllByRecursion (StandsIn 0 (length batch)) found → causes ≡ map (early start batch) (enumerate_from 0 batch)
+      → IfOk result (λ a. a.order ≡ (walk start.limits found).order) → IfOk result (λ a. a.refused ≡ numbered_in (with_late (walk start.limits found).refused causes)) → IfOk result (IsAnswer (answer_of start (map parsed_of wires) (walk start.limits found)))
+  is_answer found causes (Ok a) all c order refused = record { exact = exact found causes a c order refused; chosen = all_chosen found a all order }
+  is_answer found causes (Err e) all c order refused = tt
 
   pub is_admitted : (standing found : List Chosen) (causes : List (Option Refusal)) (result : Result Admitted OutOfMemory) → standing ≡ sifted_out start batch → found ≡ line standing → causes ≡ map (early start batch) (enumerate_from 0 batch)
-      → IfOk result (λ a. a.order ≡ (walk start.limits found).order) → IfOk result (λ a. a.refused ≡ numbered_in (with_late (walk start.limits found).refused causes)) → IfOk result (λ a. a ≡ admitted start wires)
+      → IfOk result (λ a. a.order ≡ (walk start.limits found).order) → IfOk result (λ a. a.refused ≡ numbered_in (with_late (walk start.limits found).refused causes)) → IfOk result (IsAnswer (admitted start wires))
   unfolding admitted
   is_admitted standing found causes result e l c order refused =
-      both result (λ a. a.order ≡ (walk start.limits found).order) (λ a. a.refused ≡ numbered_in (with_late (walk start.limits found).refused causes)) (λ a. a ≡ admitted start wires)
-      (λ a p q. answer found causes a c p q ∙ ap (λ ls. answer_of start (map parsed_of wires) (walk start.limits ls)) (l ∙ ap line (e ∙ ap (sifted_out start) (are_parsed wires batch are).0)))
-      order refused
+      subst (λ ls. IfOk result (IsAnswer (answer_of start (map parsed_of wires) (walk start.limits ls)))) (l ∙ ap line (e ∙ ap (sifted_out start) (are_parsed wires batch are).0))
+      (is_answer found causes result (stand_in_line standing found e l) c order refused)
 
   pub is_listed : (standing : List Chosen) (causes : List (Option Refusal)) (result : Result Admitted OutOfMemory) → standing ≡ sifted_out start batch → causes ≡ map (early start batch) (enumerate_from 0 batch)
-      → IfOk result (λ a. a.order ≡ (walk start.limits standing).order) → IfOk result (λ a. a.refused ≡ numbered_in (with_late (walk start.limits standing).refused causes)) → IfOk result (λ a. a ≡ listed start wires)
+      → IfOk result (λ a. a.order ≡ (walk start.limits standing).order) → IfOk result (λ a. a.refused ≡ numbered_in (with_late (walk start.limits standing).refused causes)) → IfOk result (IsAnswer (listed start wires))
   unfolding listed
   is_listed standing causes result e c order refused =
-      both result (λ a. a.order ≡ (walk start.limits standing).order) (λ a. a.refused ≡ numbered_in (with_late (walk start.limits standing).refused causes)) (λ a. a ≡ listed start wires)
-      (λ a p q. answer standing causes a c p q ∙ ap (λ ls. answer_of start (map parsed_of wires) (walk start.limits ls)) (e ∙ ap (sifted_out start) (are_parsed wires batch are).0))
-      order refused
-
-  pub all_chosen : (found : List Chosen) (result : Result Admitted OutOfMemory) → AllByRecursion (StandsIn 0 (length batch)) found → IfOk result (λ a. a.order ≡ (walk start.limits found).order) → IfOk result (λ a. All IsChosen a.order)
-  all_chosen found result all order = both result (λ a. a.order ≡ (walk start.limits found).order) (λ a. a.order ≡ (walk start.limits found).order) (λ a. All IsChosen a.order)
-      (λ a p q. All-from_recursion IsChosen a.order (subst (AllByRecursion IsChosen) (sym p) (weaker (StandsIn 0 (length batch)) IsChosen (λ one is. is.is) (walk start.limits found).order (all_run (StandsIn 0 (length batch)) start.limits found all)))) order order
+      subst (λ ls. IfOk result (IsAnswer (answer_of start (map parsed_of wires) (walk start.limits ls)))) (e ∙ ap (sifted_out start) (are_parsed wires batch are).0)
+      (is_answer standing causes result (stand standing e) c order refused)

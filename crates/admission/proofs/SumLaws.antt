@@ -1,7 +1,7 @@
 -- Sums of units, with one transaction more.
 use Rattle.std.proofs.Common.{◌≡◌, ℕ, zero, suc, ◌+◌, ◌<◌, ◌≤◌, Bool, true, false, ◌||◌, ◌&&◌, cond, List, [], ◌∷◌, ◌++◌, length, take, filter, get_or, refl, sym, ap, ◌∙◌, arith, Some, subst, unwrap_or, zero-add}
-use Rattle.std.specs.Prelude.{if◌then◌else◌, nat_lt}
-use Rattle.std.specs.List.{list_any, AllByRecursion, IsDistinct}
+use Rattle.std.specs.Prelude.{if◌then◌else◌}
+use Rattle.std.specs.List.{AllByRecursion, IsDistinct}
 use Rattle.std.specs.BTreeMap.{BTreeMap, get, is_at}
 use Rattle.std.proofs.Math.Bool.{or-false, or-true}
 use Rattle.std.proofs.lemmas.Bool.{both_ways}
@@ -11,13 +11,12 @@ use Rattle.std.proofs.lemmas.List.Sums.{sum_by-append, sum_by-cons, sum_by_push}
 use Rattle.std.proofs.lemmas.List.Folds.{list_any-append}
 use Rattle.sol_base.specs.declared.key.Key.{Key}
 use Rattle.sol_base.specs.declared.lock.Lock.{Lock}
-use Rattle.sol_base.specs.declared.limits.Limits.{Limits}
 use Rattle.sol_base.specs.Keys.{key_cmp, same_key}
 use Rattle.sol_base.proofs.KeyLaws.{same_cmp, same_key-true}
 use Rattle.sol_base.specs.Locks.{lock_keys}
 use Rattle.admission.specs.declared.chosen.Chosen.{Chosen}
 use Rattle.admission.specs.Admission.{units_of, units_on, may_write_key, locks_write}
-use Rattle.admission.specs.Sums.{HasSums, passes, sum_at}
+use Rattle.admission.specs.Sums.{HasSums, sum_at}
 
 -- a key has no more units than all together
 pub part_of_all : (key : Key) (order : List Chosen) → units_on key order ≤ units_of order
@@ -48,14 +47,6 @@ sums_more order units sums next one has added = record {
   all = ap (λ n. n + one.budget.limit) has.all ∙ sym (units_more order one);
   each = λ key. added key ∙ ap (λ n. n + (if locks_write one.locks key then one.budget.limit else 0)) (has.each key) ∙ sym (units_on_more key order one);
 }
-
--- the test over the sums is that over the transactions
-pub passes_by_sums : (limits : Limits) (order : List Chosen) (one : Chosen) (units : ℕ) (sums : BTreeMap Key ℕ) → HasSums order units sums → (locks : List Lock)
-    → list_any (λ lock. lock.write && passes (sum_at sums lock.key) one.budget.limit limits.key_units) locks ≡ list_any (λ lock. lock.write && nat_lt limits.key_units (units_on lock.key order + one.budget.limit)) locks
-passes_by_sums limits order one units sums has [] = refl
-passes_by_sums limits order one units sums has (lock ∷ locks) =
-    ap (λ n. (lock.write && nat_lt limits.key_units (n + one.budget.limit)) || list_any (λ lock. lock.write && passes (sum_at sums lock.key) one.budget.limit limits.key_units) locks) (has.each lock.key)
-    ∙ ap (λ b. (lock.write && nat_lt limits.key_units (units_on lock.key order + one.budget.limit)) || b) (passes_by_sums limits order one units sums has locks)
 
 -- ---- the locks of one transaction, one after the other
 one_lock : (lock : Lock) (key : Key) → locks_write (lock ∷ []) key ≡ (lock.write && same_key lock.key key)

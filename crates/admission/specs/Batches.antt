@@ -9,14 +9,14 @@ use Rattle.admission.specs.declared.chosen.Chosen.{Chosen}
 use Rattle.admission.specs.declared.chosen.Admitted.{Admitted}
 
 -- the wire at a position of a batch
-abbrev pub wire_at : List (List ℕ) → ℕ → List ℕ
-wire_at wires position = slice_index_or wires position []
+abbrev pub wire_in : List (List ℕ) → ℕ → List ℕ
+wire_in wires position = slice_index_or wires position []
 
 -- it is what the wire at its position spells
 pub record IsOf (wires : List (List ℕ)) (chosen : Chosen) : Type 0 where
   pub below : chosen.position < length wires
-  pub read : parsed_of (wire_at wires chosen.position) ≡ Good chosen.tx chosen.name
-  pub short : length (wire_at wires chosen.position) ≤ max_wire_len
+  pub read : parsed_of (wire_in wires chosen.position) ≡ Good chosen.tx chosen.name
+  pub short : length (wire_in wires chosen.position) ≤ max_wire_len
 
 -- each that runs is of its wire, no two of them have one name, and every position runs or is
 -- refused

@@ -30,15 +30,15 @@ abbrev pub numbered : List ℕ → ℕ → List ℕ
 numbered name number = name ++ codes " " ++ decimal number
 
 -- a place stands behind `at`
-abbrev pub placed : List ℕ → ℕ → List ℕ
-placed name place = numbered (name ++ codes " at") place
+abbrev pub at_place : List ℕ → ℕ → List ℕ
+at_place name place = numbered (name ++ codes " at") place
 
 abbrev pub wire_text : WireFault → List ℕ
 wire_text TooLong = codes "TooLong"
-wire_text (Truncated place) = placed (codes "Truncated") place
-wire_text (BadLength place) = placed (codes "BadLength") place
+wire_text (Truncated place) = at_place (codes "Truncated") place
+wire_text (BadLength place) = at_place (codes "BadLength") place
 wire_text (Version byte) = numbered (codes "Version") byte
-wire_text (Trailing place) = placed (codes "Trailing") place
+wire_text (Trailing place) = at_place (codes "Trailing") place
 wire_text no_wire_memory = codes "OutOfMemory"
 
 abbrev pub sanitize_text : SanitizeFault → List ℕ

@@ -3,8 +3,9 @@ ghost use Rattle.std.specs.Prelude.{◌≡◌, ◌<◌, ◌≤◌, ◌^◌, All,
 ghost use Rattle.std.specs.List.{IsDistinct};
 ghost use Rattle.sol_base.specs.Keys.{same_key};
 ghost use Rattle.sol_base.specs.Locks.{lock_keys};
+ghost use Rattle.sol_base.specs.Limits.{max_transaction_keys};
 ghost use Rattle.admission.specs.Admission.{AreParsed, admitted, listed, start_of, walk};
-ghost use Rattle.admission.specs.Chosen.{IsChosen};
+ghost use Rattle.admission.specs.Answers.{IsAnswer};
 ghost use Rattle.admission.specs.Sums.{numbered_in, with_late};
 
 use crate::chosen::{Admitted, Chosen};
@@ -26,11 +27,10 @@ pub fn admit(
     accounts: &Accounts,
     limits: &Limits,
 ) -> Result<Admitted, OutOfMemory>
-    requires keys { limits.now.keys ≤ 128 }
+    requires keys { limits.now.keys ≤ max_transaction_keys }
     requires few { length wires.now < 2 ^ 32 }
-    ensures exact { IfOk result (λ answer.
-        answer ≡ admitted (start_of recent.now accounts.now limits.now) wires.now) }
-    ensures chosen { IfOk result (λ answer. All IsChosen answer.order) }
+    ensures { IfOk result (IsAnswer
+        (admitted (start_of recent.now accounts.now limits.now) wires.now)) }
 {
     let parsed = parse_all(alloc, wires)?;
     admit_parsed(alloc, wires, parsed, recent, accounts, limits)
@@ -46,11 +46,10 @@ pub fn admit_parsed(
     limits: &Limits,
 ) -> Result<Admitted, OutOfMemory>
     requires read { AreParsed wires.now parsed }
-    requires keys { limits.now.keys ≤ 128 }
+    requires keys { limits.now.keys ≤ max_transaction_keys }
     requires few { length wires.now < 2 ^ 32 }
-    ensures exact { IfOk result (λ answer.
-        answer ≡ admitted (start_of recent.now accounts.now limits.now) wires.now) }
-    ensures chosen { IfOk result (λ answer. All IsChosen answer.order) }
+    ensures { IfOk result (IsAnswer
+        (admitted (start_of recent.now accounts.now limits.now) wires.now)) }
 {
     let Sifted { standing, causes } = sift(alloc, recent, accounts, limits, parsed)?;
     let line = line(standing)?;
@@ -65,11 +64,10 @@ pub fn admit_listed(
     accounts: &Accounts,
     limits: &Limits,
 ) -> Result<Admitted, OutOfMemory>
-    requires keys { limits.now.keys ≤ 128 }
+    requires keys { limits.now.keys ≤ max_transaction_keys }
     requires few { length wires.now < 2 ^ 32 }
-    ensures exact { IfOk result (λ answer.
-        answer ≡ listed (start_of recent.now accounts.now limits.now) wires.now) }
-    ensures chosen { IfOk result (λ answer. All IsChosen answer.order) }
+    ensures { IfOk result (IsAnswer
+        (listed (start_of recent.now accounts.now limits.now) wires.now)) }
 {
     let parsed = parse_all(alloc, wires)?;
     let Sifted { standing, causes } = sift(alloc, recent, accounts, limits, parsed)?;

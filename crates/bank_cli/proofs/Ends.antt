@@ -25,7 +25,7 @@ use Rattle.bank_words.specs.declared.command.Command.{Command}
 use Rattle.bank_words.specs.declared.command.Command.TheVariants.{Produce, Replay, Show, Make, Assemble, List as list_image}
 use Rattle.bank_cli.specs.declared.answer.Answer.{Answer}
 use Rattle.bank_cli.specs.Texts.{snapshot_text, batch_text, record_text, asm_text, list_text}
-use Rattle.bank_cli.specs.Answer.{refused, unless_refused, after_snapshot, produced, produced_after, judged, replayed, replayed_over, replayed_after, shown, made_answer, assembled_answer, listed_answer, within, input_limit, answer_to, answer_for, answer, takes_input, reads_input, read_failed}
+use Rattle.bank_cli.specs.Answer.{input_refused, refused, unless_refused, after_snapshot, produced, produced_after, judged, replayed, replayed_over, replayed_after, shown, made_answer, assembled_answer, listed_answer, within, input_limit, answer_to, answer_for, answer, takes_input, reads_input, read_failed}
 use Rattle.bank_cli.specs.Ending.{Writes, Begins, TellsAnswer, TellsFault, Stops, EndsEarly, FailsEarly}
 
 -- ---- answers that do not look at the input
@@ -54,7 +54,7 @@ input_ignored command left count input told ignored is = told_always (answer_to 
 -- ---- inputs that are too long
 
 abbrev too_long_answer : Answer
-too_long_answer = refused 3 (codes "input: TooLong")
+too_long_answer = input_refused (codes "input: TooLong")
 
 long_refused : (a : Answer) (bytes : List ℕ) → input_limit < length bytes → within bytes a ≡ too_long_answer
 long_refused a bytes long = let e : nat_le (length bytes) input_limit ≡ false = grind (arith, nat_tests) in rw e refl

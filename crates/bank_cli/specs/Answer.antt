@@ -42,10 +42,14 @@ written output = record { status = 0; output = output; notes = [] }
 abbrev pub refused : ℕ → List ℕ → Answer
 refused status text = record { status = status; output = []; notes = line text }
 
+-- the answer to an input that is refused
+abbrev pub input_refused : List ℕ → Answer
+input_refused text = refused 3 text
+
 -- what is answered to a part of the input, or why it is none
 abbrev pub unless_refused : {X E : Type 0} → (E → List ℕ) → (X → Answer) → Result X E → Answer
 unless_refused text answer (Ok part) = answer part
-unless_refused text answer (Err fault) = refused 3 (text fault)
+unless_refused text answer (Err fault) = input_refused (text fault)
 
 -- what is answered to a snapshot and the bytes after it
 abbrev pub after_snapshot : (Snapshot → List ℕ → Answer) → List ℕ → Answer
@@ -161,7 +165,7 @@ input_limit = 536870912
 
 abbrev pub within : List ℕ → Answer → Answer
 within bytes answer =
-    if nat_le (length bytes) input_limit then answer else refused 3 (codes "input: TooLong")
+    if nat_le (length bytes) input_limit then answer else input_refused (codes "input: TooLong")
 
 -- The number of lanes and of senders changes nothing, nor do the bytes where an input is made.
 abbrev pub answer_to : Command → List ℕ → Answer

@@ -16,7 +16,7 @@ use Rattle.sbpf_asm.specs.declared.fault.AsmFault.TheVariants as asm
 use Rattle.sbpf_asm.specs.declared.fault.ListFault.{ListFault}
 use Rattle.sbpf_asm.specs.declared.fault.ListFault.TheVariants as image
 use Rattle.admission.specs.declared.refusal.Refused.{Refused}
-use Rattle.admission.specs.Refusals.{placed, text_of}
+use Rattle.admission.specs.Refusals.{at_place, text_of}
 use Rattle.block_replay.specs.Verdict.{name_of, of_block}
 use Rattle.block_replay.specs.declared.verdict.Field.{Field}
 
@@ -28,50 +28,50 @@ line text = text ++ 10 ∷ []
 
 abbrev pub snapshot_text : SnapshotFault → List ℕ
 snapshot_text snapshot.Magic = codes "snapshot: Magic"
-snapshot_text (snapshot.Truncated at) = placed (codes "snapshot: Truncated") at
-snapshot_text (snapshot.BadField at) = placed (codes "snapshot: BadField") at
-snapshot_text (snapshot.OutOfOrder at) = placed (codes "snapshot: OutOfOrder") at
-snapshot_text (snapshot.Empty at) = placed (codes "snapshot: Empty") at
+snapshot_text (snapshot.Truncated at) = at_place (codes "snapshot: Truncated") at
+snapshot_text (snapshot.BadField at) = at_place (codes "snapshot: BadField") at
+snapshot_text (snapshot.OutOfOrder at) = at_place (codes "snapshot: OutOfOrder") at
+snapshot_text (snapshot.Empty at) = at_place (codes "snapshot: Empty") at
 snapshot_text snapshot.SupplyTooLarge = codes "snapshot: SupplyTooLarge"
 snapshot_text snapshot.TooManyAccounts = codes "snapshot: TooManyAccounts"
-snapshot_text (snapshot.DataTooLong at) = placed (codes "snapshot: DataTooLong") at
+snapshot_text (snapshot.DataTooLong at) = at_place (codes "snapshot: DataTooLong") at
 snapshot_text snapshot.OutOfMemory = []
 
 abbrev pub batch_text : BatchFault → List ℕ
 batch_text batch.Magic = codes "batch: Magic"
-batch_text (batch.Truncated at) = placed (codes "batch: Truncated") at
+batch_text (batch.Truncated at) = at_place (codes "batch: Truncated") at
 batch_text batch.TooMany = codes "batch: TooMany"
-batch_text (batch.Trailing at) = placed (codes "batch: Trailing") at
+batch_text (batch.Trailing at) = at_place (codes "batch: Trailing") at
 batch_text batch.SlotNotLater = codes "batch: SlotNotLater"
 batch_text batch.OutOfMemory = []
 
 abbrev pub record_text : RecordFault → List ℕ
-record_text (block.Truncated at) = placed (codes "record: Truncated") at
-record_text (block.BadField at) = placed (codes "record: BadField") at
-record_text (block.Trailing at) = placed (codes "record: Trailing") at
+record_text (block.Truncated at) = at_place (codes "record: Truncated") at
+record_text (block.BadField at) = at_place (codes "record: BadField") at
+record_text (block.Trailing at) = at_place (codes "record: Trailing") at
 record_text block.OutOfMemory = []
 
 -- a rule of the verifier, and the slot that breaks it
 abbrev pub verify_text : VerifyFault → List ℕ
 verify_text verify.Length = codes "Length"
-verify_text (verify.Opcode at) = placed (codes "Opcode") at
-verify_text (verify.Register at) = placed (codes "Register") at
-verify_text (verify.WritesFrame at) = placed (codes "WritesFrame") at
-verify_text (verify.ZeroDivisor at) = placed (codes "ZeroDivisor") at
-verify_text (verify.Shift at) = placed (codes "Shift") at
-verify_text (verify.HalfWide at) = placed (codes "HalfWide") at
-verify_text (verify.Jump at) = placed (codes "Jump") at
-verify_text (verify.Helper at) = placed (codes "Helper") at
+verify_text (verify.Opcode at) = at_place (codes "Opcode") at
+verify_text (verify.Register at) = at_place (codes "Register") at
+verify_text (verify.WritesFrame at) = at_place (codes "WritesFrame") at
+verify_text (verify.ZeroDivisor at) = at_place (codes "ZeroDivisor") at
+verify_text (verify.Shift at) = at_place (codes "Shift") at
+verify_text (verify.HalfWide at) = at_place (codes "HalfWide") at
+verify_text (verify.Jump at) = at_place (codes "Jump") at
+verify_text (verify.Helper at) = at_place (codes "Helper") at
 verify_text verify.OpenEnd = codes "OpenEnd"
-verify_text (verify.Field at) = placed (codes "Field") at
+verify_text (verify.Field at) = at_place (codes "Field") at
 
 -- a text of the assembler is refused at a line
 abbrev pub asm_text : AsmFault → List ℕ
-asm_text (asm.NotText at) = placed (codes "asm: NotText") at
-asm_text (asm.Syntax at) = placed (codes "asm: Syntax") at
-asm_text (asm.Range at) = placed (codes "asm: Range") at
-asm_text (asm.RepeatedLabel at) = placed (codes "asm: RepeatedLabel") at
-asm_text (asm.UnknownLabel at) = placed (codes "asm: UnknownLabel") at
+asm_text (asm.NotText at) = at_place (codes "asm: NotText") at
+asm_text (asm.Syntax at) = at_place (codes "asm: Syntax") at
+asm_text (asm.Range at) = at_place (codes "asm: Range") at
+asm_text (asm.RepeatedLabel at) = at_place (codes "asm: RepeatedLabel") at
+asm_text (asm.UnknownLabel at) = at_place (codes "asm: UnknownLabel") at
 asm_text asm.TooLong = codes "asm: TooLong"
 asm_text (asm.Unverified fault) = codes "asm: Unverified " ++ verify_text fault
 asm_text asm.OutOfMemory = []

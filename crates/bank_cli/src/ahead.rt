@@ -1,6 +1,7 @@
 //! A batch and its transactions, read behind the snapshot or beside it.
 ghost use Rattle.std.specs.Prelude.{◌≤◌, IfOk, IfSome, drop, length};
 ghost use Rattle.spec_base.specs.Reading.{Gives};
+ghost use Rattle.sol_base.specs.Limits.{max_senders};
 ghost use Rattle.snapshot_codec.specs.Snapshot.{BeginsWith};
 ghost use Rattle.snapshot_codec.specs.SnapshotReading.{is_snapshot_memory, prefix_of};
 ghost use Rattle.bank_cli.specs.Ahead.{Decodes, IsReadIn};
@@ -41,7 +42,7 @@ pub(crate) fn read_behind<H: SendGate, R: Threads + Wait + Sync>(
     senders: u32,
     send: &H,
 ) -> Result<Decoded, BatchFault>
-    requires senders { (1 ≤ senders) × (senders ≤ 8) }
+    requires senders { (1 ≤ senders) × (senders ≤ max_senders) }
     requires within { prefix.now.length ≤ length bytes.now }
     requires ahead { IfSome ahead (IsReadIn bytes.now) }
     ensures { Decodes prefix.now.snapshot.slot (drop prefix.now.length bytes.now) result }
@@ -62,7 +63,7 @@ fn read_decoded<H: SendGate, R: Threads + Wait + Sync>(
     senders: u32,
     send: &H,
 ) -> Result<Decoded, BatchFault>
-    requires senders { (1 ≤ senders) × (senders ≤ 8) }
+    requires senders { (1 ≤ senders) × (senders ≤ max_senders) }
     ensures { Decodes before bytes.now result }
 {
     let batch = read_batch(alloc, bytes, before)?;
@@ -71,7 +72,8 @@ fn read_decoded<H: SendGate, R: Threads + Wait + Sync>(
 }
 
 /// The snapshot that the bytes begin with, and the batch after it if its place is seen at once: one
-/// is read beside the other.
+/// is read beside the other. The snapshot takes more memory, which costs least on the caller's
+/// thread.
 pub(crate) fn read_beside<H: SendGate, R: Threads + Wait + Sync>(
     rt: &R,
     alloc: Global,
@@ -79,23 +81,24 @@ pub(crate) fn read_beside<H: SendGate, R: Threads + Wait + Sync>(
     senders: u32,
     send: &H,
 ) -> (Result<Prefix, SnapshotFault>, Option<Ahead>)
-    requires senders { (1 ≤ senders) × (senders ≤ 8) }
+    requires senders { (1 ≤ senders) × (senders ≤ max_senders) }
     ensures found { IfOk result.0 (BeginsWith bytes.now) }
     ensures exact { Gives is_snapshot_memory (λ prefix. prefix) result.0 (prefix_of bytes.now) }
     ensures ahead { IfSome result.1 (IsReadIn bytes.now) }
 {
-    join(
+    let (ahead, read) = join(
         rt,
+        || -> Option<Ahead>
+            requires { (1 ≤ senders) × (senders ≤ max_senders) }
+            ensures { IfSome result (IsReadIn bytes.entry.now) }
+        { read_ahead(rt, alloc, bytes, senders, send) },
         || -> Result<Prefix, SnapshotFault>
             ensures found { IfOk result (BeginsWith bytes.entry.now) }
             ensures exact { Gives is_snapshot_memory (λ prefix. prefix) result
                 (prefix_of bytes.entry.now) }
         { read_snapshot(alloc, bytes) },
-        || -> Option<Ahead>
-            requires { (1 ≤ senders) × (senders ≤ 8) }
-            ensures { IfSome result (IsReadIn bytes.entry.now) }
-        { read_ahead(rt, alloc, bytes, senders, send) },
-    )
+    );
+    (read, ahead)
 }
 
 /// Reads the batch where one seems to begin.
@@ -106,7 +109,7 @@ fn read_ahead<H: SendGate, R: Threads + Wait + Sync>(
     senders: u32,
     send: &H,
 ) -> Option<Ahead>
-    requires senders { (1 ≤ senders) × (senders ≤ 8) }
+    requires senders { (1 ≤ senders) × (senders ≤ max_senders) }
     ensures { IfSome result (IsReadIn bytes.now) }
 {
     let slot = u64::from_le_bytes(*bytes.get(8..)?.first_chunk()?);

@@ -1,5 +1,6 @@
 //! The command `make`: an input that a number draws, or what it comes to.
-ghost use Rattle.std.specs.Prelude.{◌≡◌, ◌≤◌, ◌++◌, ◌<◌, length, All, IfOk, OnOk};
+ghost use Rattle.std.specs.Prelude.{◌≡◌, ◌≤◌, ◌++◌, length, All, IfOk, OnOk};
+ghost use Rattle.sol_base.specs.Limits.{max_lanes, max_transactions};
 ghost use Rattle.batch_gen.specs.Generator.{made};
 ghost use Rattle.snapshot_codec.specs.Batch.{IsShortWire};
 ghost use Rattle.snapshot_codec.specs.Snapshot.{IsReadable};
@@ -28,8 +29,8 @@ pub(crate) fn made<G: Gate, R: Threads + Wait + Sync>(
     lanes: u32,
     gate: &G,
 ) -> Result<Answer, OutOfMemory>
-    requires count { (1 ≤ count) × (count ≤ 16384) }
-    requires lanes { (1 ≤ lanes) × (lanes ≤ 64) }
+    requires count { (1 ≤ count) × (count ≤ max_transactions) }
+    requires lanes { (1 ≤ lanes) × (lanes ≤ max_lanes) }
     ensures { IfOk result (λ told. told ≡ made_answer number count run) }
 {
     let input = make(alloc, number, count)?;
@@ -43,7 +44,7 @@ pub(crate) fn made<G: Gate, R: Threads + Wait + Sync>(
 /// The snapshot, then the batch.
 fn write_input(alloc: Global, input: &Made) -> Result<Answer, OutOfMemory>
     requires readable { IsReadable input.now.snapshot }
-    requires few { length input.now.batch.wires ≤ 16384 }
+    requires few { length input.now.batch.wires ≤ max_transactions }
     requires short { All IsShortWire input.now.batch.wires }
     ensures { IfOk result (λ told. told ≡ written (input_bytes input.now)) }
 {
@@ -61,10 +62,9 @@ fn run_made<G: Gate, R: Threads + Wait + Sync>(
     lanes: u32,
     gate: &G,
 ) -> Result<Answer, OutOfMemory>
-    requires lanes { (1 ≤ lanes) × (lanes ≤ 64) }
+    requires lanes { (1 ≤ lanes) × (lanes ≤ max_lanes) }
     requires readable { IsReadable input.snapshot }
-    requires later { input.snapshot.slot < input.batch.slot }
-    requires few { length input.batch.wires ≤ 16384 }
+    requires few { length input.batch.wires ≤ max_transactions }
     ensures { IfOk result (λ told. told ≡ made_run count input) }
 {
     let Made { snapshot, batch } = input;

@@ -1,5 +1,6 @@
 //! The command `produce`: a block is run, and its record and the snapshot after it are written.
-ghost use Rattle.std.specs.Prelude.{◌≡◌, ◌≤◌, ◌<◌, ◌++◌, length, IfOk, OnOk};
+ghost use Rattle.std.specs.Prelude.{◌≡◌, ◌≤◌, ◌++◌, length, IfOk, OnOk};
+ghost use Rattle.sol_base.specs.Limits.{max_lanes, max_senders, max_transactions};
 ghost use Rattle.admission.specs.Admission.{AreParsed};
 ghost use Rattle.block_record.specs.Record.{IsCounted, bytes_of_record};
 ghost use Rattle.snapshot_codec.specs.Snapshot.{IsReadable, IsWritable, snapshot_bytes as bytes_of_snapshot};
@@ -12,10 +13,11 @@ use crate::answer::Answer;
 use crate::texts::{append_number, refuse_batch, refuse_snapshot};
 use admission::{Refused, refusal_text};
 use bank_lanes::Gate;
-use block_record::{Block, output_bytes, record_bytes};
+use block_record::{Block, write_record};
 use block_run::{BlockResult, run_parsed};
+use format_fields::ByteCount;
 use intake::SendGate;
-use snapshot_codec::{Snapshot, read_snapshot, snapshot_bytes};
+use snapshot_codec::{Snapshot, read_snapshot, write_snapshot};
 use sol_base::{Blob, OutOfMemory};
 use std::alloc::Global;
 use std::sync::Wait;
@@ -31,8 +33,8 @@ pub(crate) fn produced<G: Gate, H: SendGate, R: Threads + Wait + Sync>(
     gate: &G,
     send: &H,
 ) -> Result<Answer, OutOfMemory>
-    requires lanes { (1 ≤ lanes) × (lanes ≤ 64) }
-    requires senders { (1 ≤ senders) × (senders ≤ 8) }
+    requires lanes { (1 ≤ lanes) × (lanes ≤ max_lanes) }
+    requires senders { (1 ≤ senders) × (senders ≤ max_senders) }
     ensures { IfOk result (λ told. told ≡ produced_of input) }
 {
     let bytes = input.as_slice();
@@ -63,10 +65,9 @@ fn produce_block<G: Gate, R: Threads + Wait + Sync>(
     decoded: Decoded,
     gate: &G,
 ) -> Result<Answer, OutOfMemory>
-    requires lanes { (1 ≤ lanes) × (lanes ≤ 64) }
+    requires lanes { (1 ≤ lanes) × (lanes ≤ max_lanes) }
     requires readable { IsReadable snapshot }
-    requires later { snapshot.slot < decoded.batch.slot }
-    requires few { length decoded.batch.wires ≤ 16384 }
+    requires few { length decoded.batch.wires ≤ max_transactions }
     requires read { AreParsed decoded.batch.wires decoded.parsed }
     ensures { IfOk result (λ told. told ≡ ran (block_result snapshot decoded.batch)) }
 {
@@ -100,8 +101,31 @@ fn write_block<R: Threads + Sync>(
     })
 }
 
-/// The record and the snapshot: in one buffer on one lane, and on several each beside the other,
-/// which gives its memory back at once.
+/// The record of the block, with room behind it for the snapshot.
+fn record_before(alloc: Global, block: &Block, after: &Snapshot) -> Result<Blob, OutOfMemory>
+    requires counted { IsCounted block.now }
+    requires writable { IsWritable after.now }
+    ensures { IfOk result (λ output. output ≡ bytes_of_record block.now) }
+{
+    let mut count = ByteCount(0);
+    write_record(&mut count, block)?;
+    write_snapshot(&mut count, after)?;
+    let mut output = Blob::with_capacity(alloc, count.0)?;
+    write_record(&mut output, block)?;
+    Ok(output)
+}
+
+/// The bytes with those of the snapshot behind them.
+fn with_snapshot(mut output: Blob, after: Snapshot) -> Result<Blob, OutOfMemory>
+    requires { IsWritable after }
+    ensures { IfOk result (λ whole. whole ≡ output ++ bytes_of_snapshot after) }
+{
+    write_snapshot(&mut output, &after)?;
+    Ok(output)
+}
+
+/// The record and the snapshot after it, in one buffer. On several lanes the block's memory is given
+/// back beside the snapshot's writing.
 fn output_of<R: Threads + Sync>(
     rt: &R,
     alloc: Global,
@@ -113,23 +137,19 @@ fn output_of<R: Threads + Sync>(
     requires writable { IsWritable after }
     ensures { IfOk result (λ output. output ≡ bytes_of_record block ++ bytes_of_snapshot after) }
 {
+    let front = record_before(alloc, &block, &after)?;
     if lanes == 1 {
-        return output_bytes(alloc, &block, &after);
+        return with_snapshot(front, after);
     }
-    let (record, snapshot) = join(
+    let ((), output) = join(
         rt,
-        move || -> Result<Blob, OutOfMemory>
-            requires { IsCounted block }
-            ensures { IfOk result (λ bytes. bytes ≡ bytes_of_record block) }
-        { record_bytes(alloc, &block) },
+        move || drop(block),
         move || -> Result<Blob, OutOfMemory>
             requires { IsWritable after }
-            ensures { IfOk result (λ bytes. bytes ≡ bytes_of_snapshot after) }
-        { snapshot_bytes(alloc, &after) },
+            ensures { IfOk result (λ whole. whole ≡ front ++ bytes_of_snapshot after) }
+        { with_snapshot(front, after) },
     );
-    let mut output = record?;
-    output.append(snapshot?.as_slice())?;
-    Ok(output)
+    output
 }
 
 /// A line for each transaction that did not run.

@@ -1,5 +1,6 @@
 //! The command `replay`: the entries of a record are run again, and the first difference is told.
 ghost use Rattle.std.specs.Prelude.{◌≡◌, ◌≤◌, ◌++◌, length, IfOk, OnOk};
+ghost use Rattle.sol_base.specs.Limits.{max_lanes};
 ghost use Rattle.block_record.specs.Record.{IsCounted};
 ghost use Rattle.snapshot_codec.specs.Snapshot.{IsReadable};
 ghost use Rattle.bank_cli.specs.Answer.{differed, judged, replayed as replayed_of, replayed_over, written};
@@ -26,7 +27,7 @@ pub(crate) fn replayed<G: Gate, R: Threads + Wait + Sync>(
     input: Blob,
     gate: &G,
 ) -> Result<Answer, OutOfMemory>
-    requires lanes { (1 ≤ lanes) × (lanes ≤ 64) }
+    requires lanes { (1 ≤ lanes) × (lanes ≤ max_lanes) }
     ensures { IfOk result (λ told. told ≡ replayed_of input) }
 {
     let bytes = input.as_slice();
@@ -52,7 +53,7 @@ fn replay_block<G: Gate, R: Threads + Wait + Sync>(
     given: &Block,
     gate: &G,
 ) -> Result<Answer, OutOfMemory>
-    requires lanes { (1 ≤ lanes) × (lanes ≤ 64) }
+    requires lanes { (1 ≤ lanes) × (lanes ≤ max_lanes) }
     requires readable { IsReadable snapshot }
     requires counted { IsCounted given.now }
     ensures { IfOk result (λ told. told ≡ replayed_over snapshot given.now) }

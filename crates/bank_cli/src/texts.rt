@@ -7,8 +7,8 @@ ghost use Rattle.snapshot_codec.specs.BatchReading.{is_batch_memory};
 ghost use Rattle.block_record.specs.RecordReading.{is_record_memory};
 ghost use Rattle.sbpf_asm.specs.Assembly.{is_asm_memory};
 ghost use Rattle.sbpf_asm.specs.Listing.{is_list_memory};
-ghost use Rattle.admission.specs.Refusals.{placed};
-ghost use Rattle.bank_cli.specs.Answer.{refused, written};
+ghost use Rattle.admission.specs.Refusals.{at_place};
+ghost use Rattle.bank_cli.specs.Answer.{input_refused, refused, written};
 ghost use Rattle.bank_cli.specs.Texts.{asm_text, batch_text, line, list_text, record_text, snapshot_text, verify_text};
 
 use crate::answer::Answer;
@@ -64,7 +64,7 @@ pub(crate) fn append_hash(text: &mut Blob, hash: &Hash32) -> Result<(), OutOfMem
 
 /// A name and the place after it.
 fn at_place(alloc: Global, name: &[u8], place: usize) -> Result<Blob, OutOfMemory>
-    ensures { IfOk result (λ text. text ≡ placed name.now place) }
+    ensures { IfOk result (λ text. text ≡ at_place name.now place) }
 {
     let mut text = Blob::from_slice(alloc, name)?;
     text.append(b" at ")?;
@@ -170,7 +170,7 @@ fn list_note(alloc: Global, fault: ListFault) -> Result<Blob, OutOfMemory>
 }
 
 pub(crate) fn refuse_snapshot(alloc: Global, fault: SnapshotFault) -> Result<Answer, OutOfMemory>
-    ensures told { IfOk result (λ told. told ≡ refused 3 (snapshot_text fault)) }
+    ensures told { IfOk result (λ told. told ≡ input_refused (snapshot_text fault)) }
     ensures cause { IfOk result (λ _. is_snapshot_memory fault ≡ false) }
 {
     let text = snapshot_note(alloc, fault)?;
@@ -178,7 +178,7 @@ pub(crate) fn refuse_snapshot(alloc: Global, fault: SnapshotFault) -> Result<Ans
 }
 
 pub(crate) fn refuse_batch(alloc: Global, fault: BatchFault) -> Result<Answer, OutOfMemory>
-    ensures told { IfOk result (λ told. told ≡ refused 3 (batch_text fault)) }
+    ensures told { IfOk result (λ told. told ≡ input_refused (batch_text fault)) }
     ensures cause { IfOk result (λ _. is_batch_memory fault ≡ false) }
 {
     let text = batch_note(alloc, fault)?;
@@ -186,7 +186,7 @@ pub(crate) fn refuse_batch(alloc: Global, fault: BatchFault) -> Result<Answer, O
 }
 
 pub(crate) fn refuse_record(alloc: Global, fault: RecordFault) -> Result<Answer, OutOfMemory>
-    ensures told { IfOk result (λ told. told ≡ refused 3 (record_text fault)) }
+    ensures told { IfOk result (λ told. told ≡ input_refused (record_text fault)) }
     ensures cause { IfOk result (λ _. is_record_memory fault ≡ false) }
 {
     let text = record_note(alloc, fault)?;
@@ -194,7 +194,7 @@ pub(crate) fn refuse_record(alloc: Global, fault: RecordFault) -> Result<Answer,
 }
 
 pub(crate) fn refuse_asm(alloc: Global, fault: AsmFault) -> Result<Answer, OutOfMemory>
-    ensures told { IfOk result (λ told. told ≡ refused 3 (asm_text fault)) }
+    ensures told { IfOk result (λ told. told ≡ input_refused (asm_text fault)) }
     ensures cause { IfOk result (λ _. is_asm_memory fault ≡ false) }
 {
     let text = asm_note(alloc, fault)?;
@@ -202,7 +202,7 @@ pub(crate) fn refuse_asm(alloc: Global, fault: AsmFault) -> Result<Answer, OutOf
 }
 
 pub(crate) fn refuse_list(alloc: Global, fault: ListFault) -> Result<Answer, OutOfMemory>
-    ensures told { IfOk result (λ told. told ≡ refused 3 (list_text fault)) }
+    ensures told { IfOk result (λ told. told ≡ input_refused (list_text fault)) }
     ensures cause { IfOk result (λ _. is_list_memory fault ≡ false) }
 {
     let text = list_note(alloc, fault)?;

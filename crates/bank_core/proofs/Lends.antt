@@ -15,9 +15,6 @@ pub record LentSoFar (slots : List (Option Shared)) (locks : List NumberedLock) 
   pub lent : accounts_of values ≡ found (take i locks) old
   pub left : (n : ℕ) → account_at slots n ≡ taken_at (write_numbers (take i locks)) old n
 
-pub none_lent : (slots : List (Option Shared)) (locks : List NumberedLock) (values : List Shared) → values ≡ [] → LentSoFar slots locks 0 values (account_at slots)
-none_lent slots locks values e = record { lent = ap accounts_of e; left = λ n. refl }
-
 -- write locks are locks
 pub written_number : (n : ℕ) (locks : List NumberedLock) → has n (write_numbers locks) ≡ true → has n (numbers locks) ≡ true
 written_number n [] h = h

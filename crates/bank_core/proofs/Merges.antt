@@ -45,15 +45,6 @@ pub record MergedSoFar (keys : List Key) (all slots : List (Option Shared)) (n :
   pub total : sum now ≡ sum old + slot_lamports (take n all)
   pub is_state : IsState now
 
-pub merge_first : (keys : List Key) (slots : List (Option Shared)) (n : ℕ) (old : State) → n ≡ 0 → IsState old → MergedSoFar keys slots slots n old old
-merge_first keys slots n old e is = record {
-  is_state = is;
-  same = λ k l. refl;
-  within = λ k l. absurd (omega (arith, e, l));
-  others = λ key out. refl;
-  total = let z = ap (λ m. slot_lamports (take m slots)) e in omega (arith, z);
-}
-
 module _ (keys : List Key) (all slots : List (Option Shared)) (n : ℕ) (old now : State) (distinct : IsDistinct same_key keys) (long : length all ≡ length keys) (below : n < length keys)
     (fresh : (key : Key) → has_key key keys ≡ true → at old key ≡ empty_account) (M : MergedSoFar keys all slots n old now) where
   key : Key

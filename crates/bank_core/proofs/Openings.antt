@@ -1,5 +1,6 @@
 -- What a core begins with.
-use Rattle.std.proofs.Common.{◌≡◌, ℕ, zero, suc, ◌+◌, ◌*◌, ◌^◌, ◌<◌, ◌≤◌, Bool, true, false, ◌||◌, cond, inl, inr, ◌⊎◌, List, [], ◌∷◌, ◌++◌, length, get_or, take, replicate, Option, Some, None, refl, sym, ◌∙◌, ap, subst, arith, take_all}
+use Rattle.sol_base.specs.Limits.{max_lanes}
+use Rattle.std.proofs.Common.{◌≡◌, ℕ, zero, suc, ◌+◌, ◌*◌, ◌^◌, ◌<◌, ◌≤◌, Bool, true, false, ◌||◌, cond, inl, inr, ◌⊎◌, List, [], ◌∷◌, ◌++◌, length, get_or, take, replicate, Option, Some, None, refl, sym, ◌∙◌, ap, subst, arith}
 use Rattle.std.specs.Prelude.{unwrap_or, vec_len, vec_capacity}
 use Rattle.std.specs.List.{IsDistinct}
 use Rattle.std.specs.Option.{option_map}
@@ -25,7 +26,7 @@ use Rattle.prio_graph.specs.declared.mark.Mark.TheVariants.{Waiting, Done}
 use Rattle.prio_graph.specs.Ready.{set_at}
 use Rattle.bank_core.specs.Slots.{Shared, value_of, account_at}
 use Rattle.bank_core.specs.Counts.{locks_before}
-use Rattle.bank_core.specs.Keeping.{Keeps, IsApart, HasRoom, HasBuffers}
+use Rattle.bank_core.specs.Keeping.{Keeps, HasRoom, HasBuffers}
 use Rattle.bank_core.proofs.Merges.{not_before}
 use Rattle.lock_table.proofs.Tables.{tables_grow, stay_distinct}
 use Rattle.bank_core.proofs.Numbers.{as_many_locks}
@@ -79,15 +80,6 @@ pub record TakenSoFar (keys : List Key) (slots : List (Option Shared)) (n : ℕ)
   pub stored : (k : ℕ) → k < n → account_at slots k ≡ Some (at old (numbered_key keys k))
   pub rest : (key : Key) → at now key ≡ cond (has_key key (take n keys)) empty_account (at old key)
 
-pub taken_first : (keys : List Key) (slots : List (Option Shared)) (n : ℕ) (old now : State) → slots ≡ [] → n ≡ 0 → IsState old → now ≡ old → TakenSoFar keys slots n old now
-taken_first keys slots n old now nil e is same = record {
-  long = ap length nil ∙ sym e;
-  is_old = is;
-  is_now = subst IsState (sym same) is;
-  stored = λ k l. absurd (omega (arith, e, l));
-  rest = λ key. ap (λ s. at s key) same ∙ sym (ap (λ m. cond (has_key key (take m keys)) empty_account (at old key)) e);
-}
-
 -- the account that a slot gets: what was there, or the empty account
 pub taken_next : (keys : List Key) (slots more : List (Option Shared)) (n : ℕ) (old now next : State) (share : Shared) → IsDistinct same_key keys → n < length keys → TakenSoFar keys slots n old now
     → value_of share ≡ at now (numbered_key keys n) → next ≡ remove now (numbered_key keys n) → more ≡ slots ++ Some share ∷ [] → TakenSoFar keys more (n + 1) old next
@@ -125,13 +117,6 @@ value_taken s key o share found e = ap (λ (x : Option Account). unwrap_or x emp
 pub value_absent : (s : State) (key : Key) (o : Option Shared) (share : Shared) → option_map value_of o ≡ get s key → o ≡ None → value_of share ≡ empty_account → value_of share ≡ at s key
 value_absent s key o share found e empty = empty ∙ ap (λ (x : Option Account). unwrap_or x empty_account) (ap (option_map value_of) (sym e) ∙ found)
 
-pub taken_all : (keys : List Key) (slots : List (Option Shared)) (n : ℕ) (old now : State) → TakenSoFar keys slots n old now → length keys ≤ n → IsApart old now keys
-taken_all keys slots n old now T l = record {
-  is_start = T.is_old;
-  is_rest = T.is_now;
-  at_rest = λ key. T.rest key ∙ ap (λ ks. cond (has_key key ks) empty_account (at old key)) (take_all n keys l);
-}
-
 -- a core that has just begun
 pub opening_keeps : (job : Job) (start : State) (ks : List Key) (sets : List (List NumberedLock)) (slots : List (Option Shared)) (outcomes : List (Option Outcome))
     → length sets ≡ job.count → ((i : ℕ) → i < job.count → Numbers ks (job.locks i) (set_at sets i)) → IsDistinct same_key ks → length slots ≡ length ks
@@ -155,7 +140,7 @@ pub opening_unheld : (n : ℕ) → count_below (λ i. is_held waiting) n ≡ 0
 opening_unheld zero = refl
 opening_unheld (suc n) = let rest = opening_unheld n in omega (arith, rest)
 
-pub opening_room : (count lanes capacity : ℕ) (journal : List Event) → journal ≡ [] → count < 2 ^ 32 → lanes ≤ 64 → 4 * count + 256 ≤ capacity → HasRoom count lanes capacity journal
+pub opening_room : (count lanes capacity : ℕ) (journal : List Event) → journal ≡ [] → count < 2 ^ 32 → lanes ≤ max_lanes → 4 * count + 256 ≤ capacity → HasRoom count lanes capacity journal
 opening_room count lanes capacity journal nil few most room = subst (HasRoom count lanes capacity) (sym nil) (record {
   few = few;
   most = most;

@@ -1,6 +1,6 @@
 -- Accounts put into slots, one after another from the back.
-use Rattle.std.proofs.Common.{◌≡◌, ℕ, ◌+◌, ◌-◌, ◌<◌, ◌≤◌, ◌==◌, Bool, true, false, ◌||◌, ◌&&◌, cond, inl, inr, List, [], ◌∷◌, ◌++◌, length, get_or, set, take, drop, All, Option, Some, None, refl, sym, ◌∙◌, ap, ap₂, subst, arith, take-take, take_at, take_all, length-take-le, get_or-take, get_or-set_same, get_or-set_other, eq-eqb, ne_eqb, filter, length-append}
-use Rattle.std.proofs.lemmas.List.{drop_all, get_or_default, drop_more, take_more, get_or_at, length_push}
+use Rattle.std.proofs.Common.{◌≡◌, ℕ, ◌+◌, ◌-◌, ◌<◌, ◌≤◌, ◌==◌, Bool, true, false, ◌||◌, ◌&&◌, cond, inl, inr, List, [], ◌∷◌, ◌++◌, length, get_or, set, take, drop, All, Option, Some, None, refl, sym, ◌∙◌, ap, ap₂, subst, arith, take-take, take_at, length-take-le, get_or-take, get_or-set_same, get_or-set_other, eq-eqb, ne_eqb, filter, length-append}
+use Rattle.std.proofs.lemmas.List.{get_or_default, drop_more, take_more, get_or_at, length_push}
 use Rattle.std.proofs.lemmas.Bool.{cases_eq, cond-true, cond-false}
 use Rattle.std.specs.Prelude.{IfSome, IfNone}
 use Rattle.std.specs.Option.{option_map}
@@ -38,14 +38,8 @@ write_numbers_more (y ∷ ys) x = go y.write (write_numbers_more ys x)
 pub writes_one : (x : NumberedLock) → x.write ≡ true → write_numbers (x ∷ []) ≡ x.number ∷ []
 writes_one x w = ap numbers (cond-true x.write (x ∷ []) [] w)
 
-pub reads_none : (x : NumberedLock) → x.write ≡ false → write_numbers (x ∷ []) ≡ []
-reads_none x w = ap numbers (cond-false x.write (x ∷ []) [] w)
-
 writes_front : (x : NumberedLock) (xs : List NumberedLock) → x.write ≡ true → write_numbers (x ∷ xs) ≡ x.number ∷ write_numbers xs
 writes_front x xs w = ap numbers (cond-true x.write (x ∷ filter (λ l. l.write) xs) (filter (λ l. l.write) xs) w)
-
-reads_front : (x : NumberedLock) (xs : List NumberedLock) → x.write ≡ false → write_numbers (x ∷ xs) ≡ write_numbers xs
-reads_front x xs w = ap numbers (cond-false x.write (x ∷ filter (λ l. l.write) xs) (filter (λ l. l.write) xs) w)
 
 -- the accounts of the locks from place i on are put
 pub record PutSoFar (slots : List (Option Shared)) (locks : List NumberedLock) (i : ℕ) (all left : List Shared) (old : ℕ → Option Account) : Type 0 where
@@ -54,15 +48,6 @@ pub record PutSoFar (slots : List (Option Shared)) (locks : List NumberedLock) (
   pub few : length left ≡ length (write_numbers (take i locks))
   pub most : length left ≤ length all
   pub put : (n : ℕ) → account_at slots n ≡ put_at (write_numbers (drop i locks)) (accounts_of (drop (length left) all)) old n
-
-pub put_first : (slots : List (Option Shared)) (locks : List NumberedLock) (i : ℕ) (all : List Shared) → i ≡ length locks → length all ≡ length (write_numbers locks) → PutSoFar slots locks i all all (account_at slots)
-put_first slots locks i all e one_each = record {
-  below = omega (arith, e);
-  front = sym (take_all (length all) all (omega arith));
-  few = one_each ∙ ap (λ ls. length (write_numbers ls)) (sym (take_all i locks (omega (arith, e))));
-  most = omega arith;
-  put = λ n. sym (ap₂ (λ (ls : List NumberedLock) (vs : List Shared). put_at (write_numbers ls) (accounts_of vs) (account_at slots) n) (drop_all i locks (omega (arith, e))) (drop_all (length all) all (omega arith)));
-}
 
 module _ (slots : List (Option Shared)) (locks : List NumberedLock) (i : ℕ) (all left : List Shared) (old : ℕ → Option Account) (lock : NumberedLock)
     (h : PutSoFar slots locks (i + 1) all left old) (here : lock ≡ get_or locks i lock) where
@@ -110,15 +95,6 @@ module _ (slots : List (Option Shared)) (locks : List NumberedLock) (i : ℕ) (a
       all_here : drop m all ≡ a ∷ drop (m + 1) all
       all_here = drop_more all m a (let f = h.most in omega (arith, f, longer)) ∙ ap (λ x. x ∷ drop (m + 1) all) item
 
-  pub put_read : lock.write ≡ false → PutSoFar slots locks i all left old
-  put_read r = record {
-    below = omega (arith, below_locks);
-    front = h.front;
-    few = let none = ap length (reads_none lock r) in omega (arith, counted, none);
-    most = h.most;
-    put = λ n. h.put n ∙ ap (λ ns. put_at ns (accounts_of (drop (length left) all)) old n) (sym (ap write_numbers lock_here ∙ reads_front lock (drop (i + 1) locks) r));
-  }
-
 -- one turn from the back, where a lock writes, and where it reads
 pub put_write_at : (slots : List (Option Shared)) (locks : List NumberedLock) (at : ℕ) (all left rest : List Shared) (o : Option Shared) (old : ℕ → Option Account) (lock d : NumberedLock)
     → PutSoFar slots locks at all left old → 0 < at → lock ≡ get_or locks (at - 1) d → IfSome o (λ x. left ≡ rest ++ x ∷ []) → IfNone o ((left ≡ []) × (rest ≡ [])) → lock.write ≡ true → All (λ l. l.number < length slots) locks
@@ -143,24 +119,6 @@ put_write_at slots locks at all left rest o old lock d h more here some none w w
     by_case : (o : Option Shared) → IfSome o (λ x. left ≡ rest ++ x ∷ []) → IfNone o ((left ≡ []) × (rest ≡ [])) → PutSoFar (set slots lock.number o) locks (at - 1) all rest old
     by_case (Some a) some none = put_write slots locks (at - 1) all left old lock there read rest a some w below
     by_case None some none = let a = ap length none.0 in let b = counted slots locks (at - 1) all left old lock there read in let one = ap length (writes_one lock w) in absurd (omega arith)
-
-pub put_read_at : (slots : List (Option Shared)) (locks : List NumberedLock) (at : ℕ) (all left : List Shared) (old : ℕ → Option Account) (lock d : NumberedLock)
-    → PutSoFar slots locks at all left old → 0 < at → lock ≡ get_or locks (at - 1) d → lock.write ≡ false
-    → PutSoFar slots locks (at - 1) all left old
-put_read_at slots locks at all left old lock d h more here r =
-    let next : at ≡ at - 1 + 1 = omega arith in
-    let below = h.below in
-    put_read slots locks (at - 1) all left old lock (subst (λ k. PutSoFar slots locks k all left old) next h) (here ∙ get_or_default locks (at - 1) d lock (omega arith)) r
-
-pub put_last : (slots : List (Option Shared)) (locks : List NumberedLock) (i : ℕ) (all left : List Shared) (old : ℕ → Option Account) → PutSoFar slots locks i all left old → i ≤ 0 → (n : ℕ) → account_at slots n ≡ put_at (write_numbers locks) (accounts_of all) old n
-put_last slots locks i all left old h e n =
-    h.put n ∙ ap₂ (λ k m. put_at (write_numbers (drop k locks)) (accounts_of (drop m all)) old n) none few
-  where
-    none : i ≡ 0
-    none = omega arith
-
-    few : length left ≡ 0
-    few = h.few ∙ ap (λ k. length (write_numbers (take k locks))) none
 
 -- the values of write locks go back
 pub record BackSoFar (slots : List (Option Shared)) (locks : List NumberedLock) (all left : List Shared) (old : ℕ → Option Account) : Type 0 where

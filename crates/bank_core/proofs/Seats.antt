@@ -20,7 +20,3 @@ module _ (journal next : List Event) (kind : EventKind) (lane p : ℕ) (grown : 
 
   pub grown_others : KeepsOthers journal next lane
   grown_others other n = ap (λ j. own j other) grown ∙ own_stays journal kind lane p other n
-
--- a journal that stays
-pub same_others : (journal next : List Event) (lane : ℕ) → next ≡ journal → KeepsOthers journal next lane
-same_others journal next lane e other n = ap (λ j. own j other) e

@@ -1,19 +1,14 @@
 -- The small work for trials: few locks, and what is lent of one lock more.
-use Rattle.std.proofs.Common.{◌≡◌, ℕ, zero, suc, ◌+◌, ◌*◌, ◌^◌, ◌<◌, ◌≤◌, Bool, true, false, cond, List, [], ◌∷◌, ◌++◌, map, length, get_or, take, All, Option, Some, None, refl, sym, append-nil, ◌∙◌, ap, ap₂, arith}
+use Rattle.std.proofs.Common.{◌≡◌, ℕ, zero, suc, ◌+◌, ◌*◌, ◌^◌, ◌<◌, ◌≤◌, Bool, true, false, cond, List, [], ◌∷◌, ◌++◌, map, length, get_or, take, All, refl, sym, append-nil, ◌∙◌, ap, ap₂, arith}
 use Rattle.std.proofs.lemmas.Bool.{cond-true, cond-false}
 use Rattle.std.proofs.lemmas.List.{length-take-le, take_more, length-map, map-append}
 use Rattle.sol_base.specs.declared.account.Account.{Account}
 use Rattle.sol_base.specs.declared.lock.Lock.{Lock}
 use Rattle.sol_base.specs.Accounts.{accounts_of}
-use Rattle.bank_law.specs.declared.event.Event.{Event}
-use Rattle.bank_law.specs.History.{own, holds, returns}
 use Rattle.bank_law.specs.Lawful.{lent_for_writing}
-use Rattle.bank_core.specs.declared.origin.Origin.{Origin}
-use Rattle.bank_core.specs.declared.loan.Loan.{Loan}
 use Rattle.bank_core.specs.Slots.{Shared, value_of}
-use Rattle.bank_core.specs.Takes.{HasLoanOf}
 use Rattle.bank_core.specs.Counts.{locks_before}
-use Rattle.bank_core.specs.Trial.{trial_job, spent, IsSmall, IsSeat}
+use Rattle.bank_core.specs.Trial.{trial_job, spent, IsSmall}
 
 -- few positions of few locks have few locks together
 few_before : (lists : List (List Lock)) (n : ℕ) → n ≤ length lists → All (λ locks. length locks < 100) lists → locks_before (trial_job lists) n ≤ 100 * n
@@ -70,12 +65,3 @@ module _ (locks : List Lock) (shares written : List Shared) (i : ℕ) (d : Lock)
   read_more w =
       sym (append-nil (accounts_of written))
       ∙ (sym (ap (λ vs. accounts_of written ++ map spent vs) (cond-false (get_or locks i d).write (get_or (accounts_of shares) i u ∷ []) [] w)) ∙ sym joined)
-
--- the seat of a lane that another lane's event leaves
-pub seat_stays : (seat : ℕ) (gave_back : Bool) (old new : List Event) (lane : ℕ) → own new lane ≡ own old lane → IsSeat seat gave_back old lane → IsSeat seat gave_back new lane
-seat_stays seat gave_back old new lane e s = record { lane_is = s.lane_is; once = λ f. ap returns e ∙ s.once f }
-
-module _ {W T : Type 0} {G : _} where
-  pub loan_stays : (o : Option (Loan W T G)) (origin next : Origin T) (old new : List Event) (lane : ℕ) → next ≡ origin → own new lane ≡ own old lane → HasLoanOf o origin old lane → HasLoanOf o next new lane
-  loan_stays None origin next old new lane q e h = ap holds e ∙ h
-  loan_stays (Some loan) origin next old new lane q e h = (h.0, h.1 ∙ sym q, ap holds e ∙ h.2)

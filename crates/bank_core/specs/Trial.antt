@@ -1,13 +1,11 @@
 -- A small work for trials of a core (the project's own).
-use Rattle.std.specs.Prelude.{◌≡◌, ℕ, ◌-◌, nat_lt, ◌<◌, ◌∷◌, Bool, false, if◌then◌else◌, List, [], map, length, slice_index_or, All}
+use Rattle.std.specs.Prelude.{ℕ, ◌-◌, nat_lt, ◌<◌, ◌∷◌, if◌then◌else◌, List, [], map, length, slice_index_or, All}
 use Rattle.std.specs.List.{IsDistinct}
 use Rattle.sol_base.specs.declared.account.Account.{Account}
 use Rattle.sol_base.specs.declared.lock.Lock.{Lock}
 use Rattle.sol_base.specs.Accounts.{empty_account}
 use Rattle.tx_report.specs.declared.outcome.Outcome.{Outcome}
 use Rattle.tx_report.specs.declared.status.Status.TheVariants.{Good}
-use Rattle.bank_law.specs.declared.event.Event.{Event}
-use Rattle.bank_law.specs.History.{own, returns}
 use Rattle.bank_law.specs.Job.{Job, JobEffects, same_key, lock_keys}
 use Rattle.bank_law.specs.Lawful.{lent_for_writing}
 
@@ -49,8 +47,3 @@ AreDistinctLists lists = All (λ locks. IsDistinct same_key (lock_keys locks)) l
 pub record IsSmall (lists : List (List Lock)) : Type 0 where
   pub few : length lists < 100
   pub short : All (λ locks. length locks < 100) lists
-
--- a seat of this lane, which has given nothing back where it says so
-pub record IsSeat (seat : ℕ) (gave_back : Bool) (journal : List Event) (lane : ℕ) : Type 0 where
-  pub lane_is : seat ≡ lane
-  pub once : gave_back ≡ false → returns (own journal lane) ≡ 0

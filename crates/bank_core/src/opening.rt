@@ -1,5 +1,5 @@
 //! What a core is made from: the locks, the graph and the slots.
-ghost use Rattle.std.specs.Prelude.{◌≡◌, ℕ, ◌+◌, ◌*◌, ◌^◌, ◌<◌, ◌≤◌, [], ⊤, Some, None, IfOk, OnOk, length, replicate, vec_len, vec_capacity, slice_index_or, if◌then◌else◌};
+ghost use Rattle.std.specs.Prelude.{◌≡◌, ℕ, ◌+◌, ◌*◌, ◌^◌, ◌<◌, ◌≤◌, [], Some, None, IfOk, OnOk, length, replicate, vec_len, vec_capacity, slice_index_or};
 ghost use Rattle.std.specs.List.{IsDistinct};
 ghost use Rattle.std.specs.declared.vec.Vec.{Vec as VecValue};
 ghost use Rattle.std.specs.declared.alloc.Global.{Global as GlobalValue};
@@ -11,6 +11,7 @@ ghost use Rattle.bank_core.specs.Slots.{Shared, account_at};
 ghost use Rattle.bank_core.specs.Keeping.{IsApart};
 ghost use Rattle.bank_core.specs.Openings.{AreNumbered};
 ghost use Rattle.bank_core.specs.Counts.{locks_before};
+ghost use Rattle.sol_base.specs.Limits.{max_lanes};
 
 use crate::kept::Core;
 use crate::locked::{Locked, OfWork};
@@ -153,7 +154,7 @@ impl<W: Work> Core<W> {
         lanes: u32,
     ) -> Result<Core<W>, OutOfMemory>
         requires some { 1 ≤ lanes }
-        requires most { lanes ≤ 64 }
+        requires most { lanes ≤ max_lanes }
         requires room { locks_before (W.job (W.told work.now)) (W.job (W.told work.now)).count
             < 2 ^ 32 }
         ensures origin { IfOk result
@@ -174,7 +175,7 @@ impl<W: Work> Core<W> {
         numbered: Numbered,
     ) -> Result<Core<W>, OutOfMemory>
         requires some { 1 ≤ lanes }
-        requires most { lanes ≤ 64 }
+        requires most { lanes ≤ max_lanes }
         requires numbered { AreNumbered (W.job (W.told work.now)) numbered.table numbered.graph
             numbered.room }
         ensures origin { IfOk result

@@ -3,9 +3,8 @@ ghost use Rattle.std.specs.Prelude.{◌≡◌, ℕ, ◌<◌, ◌≤◌, ◌∷�
 ghost use Rattle.bank_core.specs.Slots.{account_at, put_at, value_of, taken_at, put_back_at, write_numbers, AllThere, AreDistinct, ReadsAny, found};
 ghost use Rattle.sol_base.specs.Accounts.{accounts_of};
 
-use crate::room::push_with_room;
 use lock_table::NumberedLock;
-use sol_base::{Account, Items, OutOfMemory};
+use sol_base::{Account, Items, OutOfMemory, push_with_room};
 use std::sync::Arc;
 
 /// Puts each written account into the slot of its write lock.

@@ -1,13 +1,12 @@
 -- What a lane's pass knows after each call of a desk.
-use Rattle.std.proofs.Common.{◌≡◌, ℕ, List, Option, Some, None, refl, ap, sym, ◌∙◌, arith}
+use Rattle.std.proofs.Common.{◌≡◌, ℕ, Some, None, ap, ◌∙◌, arith}
 use mathlib.Core.List.{IsPrefix}
-use base.Growing.{prefix_refl, prefix_trans}
-use Rattle.bank_law.specs.declared.event.Event.{Event}
+use base.Growing.{prefix_trans}
 use Rattle.bank_law.specs.declared.event.EventKind.TheVariants.{Grant, Commit, Return}
 use Rattle.bank_law.specs.History.{PassView, holds, returns}
 use Rattle.bank_law.proofs.Histories.{holds_push, returns_push}
-use Rattle.bank_core.specs.Desks.{Stays, OneMore, IsNew}
-use Rattle.bank_lanes.specs.Passes.{IsIdle, WentOn}
+use Rattle.bank_core.specs.Desks.{Stays, OneMore}
+use Rattle.bank_lanes.specs.Passes.{IsIdle}
 
 -- a lane that was lent a position holds it
 pub lent : (v w : PassView) (p : ℕ) → OneMore v Grant p w → holds w.mine ≡ Some p
@@ -33,31 +32,6 @@ committed v w x p q idle more end = record {
 pub gave_back : (w x : PassView) (q : ℕ) → OneMore w Return q x → holds x.mine ≡ None
 gave_back w x q end = ap holds end.mine ∙ holds_push w.mine (record { kind = Return; lane = w.lane; position = q })
 
--- a lane whose own events stay is as idle as it was
-pub stays_idle : (v w : PassView) → w.mine ≡ v.mine → IsIdle v → IsIdle w
-stays_idle v w same idle = record { free = ap holds same ∙ idle.free; once = ap returns same ∙ idle.once }
-
--- a new pass is idle
-pub new_idle : (v w : PassView) → IsNew v w → IsIdle w
-new_idle v w new = record { free = ap holds new.mine; once = ap returns new.mine }
-
 -- what one call and another keep
 pub further : (u v w : PassView) → IsPrefix u.seen v.seen → Stays v w → IsPrefix u.seen w.seen
 further u v w longer stays = prefix_trans u.seen v.seen w.seen longer stays.longer
-
-pub went_nowhere : (v : PassView) → IsIdle v → WentOn v v
-went_nowhere v idle = record { lane = refl; longer = prefix_refl v.seen; free = idle.free }
-
-pub went_further : (u v w : PassView) → WentOn u v → Stays v w → w.mine ≡ v.mine → WentOn u w
-went_further u v w on stays same = record {
-  lane = stays.lane ∙ on.lane;
-  longer = further u v w on.longer stays;
-  free = ap holds same ∙ on.free;
-}
-
-pub went_on_twice : (u v w : PassView) → WentOn u v → WentOn v w → WentOn u w
-went_on_twice u v w one two = record {
-  lane = two.lane ∙ one.lane;
-  longer = prefix_trans u.seen v.seen w.seen one.longer two.longer;
-  free = two.free;
-}

@@ -1,23 +1,20 @@
 -- The seats of lanes after one event more.
-use Rattle.std.proofs.Common.{◌≡◌, ℕ, ◌+◌, ◌<◌, ◌≤◌, Bool, true, false, List, [], ◌∷◌, ◌++◌, length, get_or, set, map, All, IfSome, Option, Some, None, refl, sym, ◌∙◌, ap, subst, inl, inr, arith}
+use Rattle.std.proofs.Common.{◌≡◌, ℕ, ◌+◌, ◌<◌, Bool, true, false, List, [], ◌∷◌, length, get_or, set, All, Option, Some, None, sym, ◌∙◌, ap, subst, inl, inr, arith}
 use Rattle.std.proofs.Math.ListN.{length-set}
 use Rattle.std.proofs.lemmas.Bool.{cases_eq}
 use Rattle.std.proofs.lemmas.List.{get_or-set_same, get_or-set_other, get_or-map, length-map, ext_get_or}
 use Rattle.std.specs.List.{AllWithin}
-use mathlib.Core.List.{IsPrefix}
-use base.Growing.{prefix_refl}
 use Rattle.bank_law.specs.declared.event.Event.{Event}
 use Rattle.bank_law.specs.declared.event.EventKind.{EventKind}
 use Rattle.bank_law.specs.declared.event.EventKind.TheVariants.{Grant, Commit, Return}
-use Rattle.bank_law.specs.Job.{Job}
 use Rattle.bank_law.specs.Machine.{with_event}
 use Rattle.bank_law.specs.History.{own, holds, returns}
 use Rattle.bank_core.specs.declared.loan.Loan.{Loan}
 use Rattle.bank_core.specs.declared.origin.Origin.{Origin}
-use Rattle.bank_core.specs.Takes.{HasLoanOf, KeepsOthers}
+use Rattle.bank_core.specs.Takes.{HasLoanOf}
 use Rattle.bank_core.proofs.Seats.{grown_holds, grown_returns, grown_others}
 use Rattle.bank_lanes.specs.declared.seats.Seat.{Seat}
-use Rattle.bank_lanes.specs.Seats.{fresh_seat, IsEmptySeat, IsSeatOf, AreSeats, sitting, IsLoanOfWork, IsPerformed}
+use Rattle.bank_lanes.specs.Seats.{fresh_seat, IsEmptySeat, IsSeatOf, AreSeats, sitting}
 use Rattle.bank_lanes.specs.Steps.{GrewBy}
 
 -- one event more is one of its lane alone
@@ -26,10 +23,6 @@ grew_by journal next kind lane p e = record {
   longer = (record { kind = kind; lane = lane; position = p } ∷ [], sym e);
   others = grown_others journal next kind lane p e;
 }
-
--- a journal that stays
-pub grew_none : (lane : ℕ) (journal next : List Event) → next ≡ journal → GrewBy lane journal next
-grew_none lane journal next e = record { longer = subst (IsPrefix journal) (sym e) (prefix_refl journal); others = λ other n. ap (λ j. own j other) e }
 
 module _ {W T : Type 0} {G : _} where
   -- a lane with an empty seat holds nothing

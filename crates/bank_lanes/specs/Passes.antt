@@ -1,5 +1,5 @@
 -- What the loop of a lane does to its pass.
-use Rattle.std.specs.Prelude.{◌≡◌, ℕ, List, None}
+use Rattle.std.specs.Prelude.{◌≡◌, None}
 use mathlib.Core.List.{IsPrefix}
 use Rattle.bank_law.specs.History.{PassView, holds, returns}
 use Rattle.sol_base.specs.Accounts.{accounts_of}

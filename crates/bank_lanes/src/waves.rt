@@ -135,6 +135,7 @@ fn settle<W: Work>(core: &mut Core<W>, lane: u32, seat: &mut Seat<W>)
     ensures seat { IsSeatOf seat.new core.new.origin.value core.new.journal.items lane }
     ensures empty { IsEmptySeat seat.new }
 {
+    // The contract alone asks for the lane: the loan knows its own.
     let _lane = lane;
     let effects = seat.effects.take();
     match (seat.loan.take(), effects) {

@@ -18,7 +18,7 @@ use Rattle.bank_shared.specs.declared.view.View.{View}
 use Rattle.bank_shared.specs.History.{own, own_if}
 use Rattle.bank_shared.specs.Rule.{stands, first_view, spent_view, new_view, joined_view, Knows, Placed, IsRuled}
 use Rattle.bank_shared.specs.Plays.{holding, done, seated, caught_up, looked, Gets, Taken, took, released, drew}
-use Rattle.bank_shared.specs.Passes.{Adds, Sees, Keeps, Begins}
+use Rattle.bank_shared.specs.Passes.{Adds, Keeps, Begins}
 use base.Growing.{prefix_refl, prefix_trans}
 use Rattle.bank_shared.proofs.Sums.{sum_set, sum_append, term_le, terms_le}
 
@@ -400,13 +400,6 @@ module _ {O : Type 0} where
     seen = ap (λ (u : View O). u.seen) last ∙ is;
     longer = k.seen;
     mine = ap (λ (u : View O). u.mine) last ∙ (ap (λ (x : List Event × Option ℕ). own_if x.0 x.1) (λ i. (is i, lane i)) ∙ (own_same e.lane h e refl ∙ ap (λ (l : List Event). l ++ e ∷ []) (sym (k.mine ∙ ap (own_if h) lane))));
-    turn = ap (λ (u : View O). u.turns) last;
-  }
-
-  pub sees : (o : O) (h : List Event) (d d' : ℕ) (v w : View O) → Knows o h d v → w ≡ done (holding v h d) h d' → Sees v w
-  sees o h d d' v w k last = record {
-    longer = subst (IsPrefix v.seen) (sym (ap (λ (u : View O). u.seen) last)) k.seen;
-    mine = ap (λ (u : View O). u.mine) last ∙ sym k.mine;
     turn = ap (λ (u : View O). u.turns) last;
   }
 

@@ -123,6 +123,7 @@ impl<W: Work> SharedDesk<W> {
         ensures table { seat.new.table_id ≡ seat.old.table_id }
         ensures me { seat.new.me ≡ (done seat.old.me.0 kept.core.journal.items kept.drawn, []) }
     {
+        // The contract alone asks for the event: the journal has it already.
         let _event = event;
         self.table.shared.exchange(seat, 0, Some(kept));
         self.table.shared.store::<Releases<W>>(seat, 0, word);
@@ -148,6 +149,7 @@ impl<W: Work> SharedDesk<W> {
         ensures table { seat.new.table_id ≡ seat.old.table_id }
         ensures me { seat.new.me ≡ (seated seat.old.me.0 kept.core.journal.items kept.drawn, []) }
     {
+        // The contract alone asks for the lane: the count of drawn ones has it already.
         let _lane = lane;
         self.table.shared.exchange(seat, 0, Some(kept));
         self.table.shared.store::<Draws<W>>(seat, 0, word);

@@ -1,14 +1,13 @@
 -- The two levels of the command line, whole.
-use Rattle.std.proofs.Common.{◌≡◌, List, [], ◌∷◌, ◌++◌, Bool, true, false, ◌&&◌, not, Option, Some, None, refl, ap, ◌∙◌, map, codes, append_assoc, append-nil}
+use Rattle.std.proofs.Common.{◌≡◌, List, [], ◌∷◌, ◌++◌, Bool, true, false, ◌&&◌, not, Option, Some, None, refl, ap, ◌∙◌, map, append_assoc, append-nil}
 use Rattle.std.specs.Prelude.{fold}
 use Rattle.std.specs.List.{list_all, list_any}
 use Rattle.clap.specs.Kinds.{Kinds, or_else}
 use Rattle.clap.specs.Walk.{Rule, Row, Names, idle, Walk, walked, with_default, has_row, nothing_held, rows_after}
 use Rattle.clap.specs.Takes.{is_given}
 use Rattle.clap.specs.Faults.{walk_fault, settle_fault, default_fault, defaults_fault, check_fault, level_fault, fault_of}
-use Rattle.clap.specs.Simple.{Shape, built, is_simple}
+use Rattle.clap.specs.Simple.{Shape, is_simple}
 use Rattle.bank_words.specs.Options.{Text, Options, Use, uses_in}
-use Rattle.bank_words.specs.Commands.{no_options, produce_options, replay_options, make_options}
 use Rattle.bank_words.specs.CommandLine.{bank_app}
 use Rattle.bank_words.specs.Reading.{is_plain}
 use Rattle.bank_words.proofs.Rules.{rules_of, number_rule, run_rule, rows_for}
@@ -86,12 +85,6 @@ pub stopped_fault : (s : Shape) (names : Names) (w : Walk) (p : Text × List Tex
 unfolding walk_fault walked
 stopped_fault s names w p [] = refl
 stopped_fault s names w p (word ∷ words) = stopped_fault s names w (p.0, p.1 ++ word ∷ []) words
-
-abbrev pub subs : List Shape
-subs = leaf (codes "produce") produce_options ∷ leaf (codes "replay") replay_options ∷ leaf (codes "show") no_options ∷ leaf (codes "make") make_options ∷ leaf (codes "asm") no_options ∷ leaf (codes "list") no_options ∷ []
-
-pub built_subs : (built bank_app).subs ≡ subs
-built_subs = refl
 
 pub bank_is_simple : is_simple bank_app ≡ true
 bank_is_simple = refl

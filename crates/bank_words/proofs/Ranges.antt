@@ -3,6 +3,7 @@ use Rattle.std.proofs.Common.{◌≡◌, ℕ, ◌&&◌, Bool, true, false, List,
 use Rattle.std.specs.Prelude.{option_and_then}
 use Rattle.std.specs.Str.Parse.{digits_value}
 use Rattle.std.proofs.lemmas.Bool.{and_parts, leb-true}
+use Rattle.sol_base.specs.Limits.{max_lanes, max_senders, max_transactions}
 use Rattle.bank_words.specs.Options.{Text, Use, has_use, given, uses_in}
 use Rattle.bank_words.specs.Numbers.{is_number_text, number_in, lanes_in, senders_in, seed_in, count_in}
 use Rattle.bank_words.specs.Commands.{no_options, produce_options, replay_options, make_options, produce_from, replay_from, make_from, produce_by, replay_by, make_by, command_in, IsFrom, IsInRange}
@@ -29,17 +30,17 @@ number_range low high n text e = go (is_number_text text) refl (nat_le low value
     go true f false g = absurd (cc (rw (f, g) at e))
     go false f c g = absurd (cc (rw f at e))
 
-lanes_range : (text : Option Text) (n : ℕ) → lanes_in text ≡ Some n → IsFrom 1 64 n
+lanes_range : (text : Option Text) (n : ℕ) → lanes_in text ≡ Some n → IsFrom 1 max_lanes n
 lanes_range None n e = let same : 1 ≡ n = ap (number_of n) e in rw (← same) (omega arith, omega arith)
-lanes_range (Some text) n e = number_range 1 64 n text e
+lanes_range (Some text) n e = number_range 1 max_lanes n text e
 
-senders_range : (text : Option Text) (n : ℕ) → senders_in text ≡ Some n → IsFrom 1 8 n
+senders_range : (text : Option Text) (n : ℕ) → senders_in text ≡ Some n → IsFrom 1 max_senders n
 senders_range None n e = let same : 1 ≡ n = ap (number_of n) e in rw (← same) (omega arith, omega arith)
-senders_range (Some text) n e = number_range 1 8 n text e
+senders_range (Some text) n e = number_range 1 max_senders n text e
 
-count_range : (text : Option Text) (n : ℕ) → count_in text ≡ Some n → IsFrom 1 16384 n
+count_range : (text : Option Text) (n : ℕ) → count_in text ≡ Some n → IsFrom 1 max_transactions n
 count_range None n e = absurd (cc)
-count_range (Some text) n e = number_range 1 16384 n text e
+count_range (Some text) n e = number_range 1 max_transactions n text e
 
 -- the command that is made, where one is
 abbrev Ranged : Option Command → Type 0

@@ -23,10 +23,6 @@ pub fault_first : (a b : Kinds) → IsFault a → IsFault (or_else a b)
 fault_first [] b h = absurd h
 fault_first (k ∷ ks) b h = tt
 
-pub fault_second : (a b : Kinds) → IsFault b → IsFault (or_else a b)
-fault_second [] b h = h
-fault_second (k ∷ ks) b h = tt
-
 -- what a walk from here comes to
 abbrev pub faults_from : Text → Options → Walk → List Text → Kinds
 faults_from name o w words = or_else (walk_fault (leaf name o) [] w words) (settle_fault (rules_of o) false (fold (walked (rules_of o) []) w words).held)

@@ -41,10 +41,10 @@ top_app = record {
 abbrev pub with_simple : App → App → App
 with_simple app sub = with_subcommand app sub.top
 
-abbrev pub three_app : App
-three_app = with_simple (with_simple (with_simple top_app produce_app) replay_app)
+abbrev pub block_commands_app : App
+block_commands_app = with_simple (with_simple (with_simple top_app produce_app) replay_app)
     (new_app (codes "show"))
 
 abbrev pub bank_app : App
-bank_app = with_simple (with_simple (with_simple three_app make_app) (new_app (codes "asm")))
+bank_app = with_simple (with_simple (with_simple block_commands_app make_app) (new_app (codes "asm")))
     (new_app (codes "list"))

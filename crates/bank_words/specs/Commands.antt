@@ -2,7 +2,7 @@
 -- ranges.
 use Rattle.std.specs.Prelude.{ℕ, ◌≤◌, Bool, List, [], ◌∷◌, Option, Some, None, option_map, option_and_then, find, codes}
 use Rattle.std.specs.Str.{bytes_eq}
-use Rattle.sol_base.specs.Limits.{max_transactions}
+use Rattle.sol_base.specs.Limits.{max_lanes, max_senders, max_transactions}
 use Rattle.bank_words.specs.Options.{Text, Options, Use, has_use, given, uses_in}
 use Rattle.bank_words.specs.Numbers.{lanes_in, senders_in, seed_in, count_in}
 use Rattle.bank_words.specs.declared.command.Command.{Command}
@@ -82,7 +82,7 @@ IsFrom low high n = (low ≤ n) × (n ≤ high)
 
 -- the numbers of a command are in their ranges
 abbrev pub IsInRange : Command → Type 0
-IsInRange (Produce lanes senders) = IsFrom 1 64 lanes × IsFrom 1 8 senders
-IsInRange (Replay lanes) = IsFrom 1 64 lanes
-IsInRange (Make number count run lanes) = IsFrom 1 max_transactions count × IsFrom 1 64 lanes
+IsInRange (Produce lanes senders) = IsFrom 1 max_lanes lanes × IsFrom 1 max_senders senders
+IsInRange (Replay lanes) = IsFrom 1 max_lanes lanes
+IsInRange (Make number count run lanes) = IsFrom 1 max_transactions count × IsFrom 1 max_lanes lanes
 IsInRange _ = Unit {0}

@@ -3,7 +3,7 @@ use Rattle.std.specs.Prelude.{ℕ, ◌^◌, ◌-◌, ◌&&◌, Bool, length, nat
 use Rattle.std.specs.List.{list_all}
 use Rattle.std.specs.Char.{is_ascii_digit}
 use Rattle.std.specs.Str.Parse.{digits_value}
-use Rattle.sol_base.specs.Limits.{max_transactions}
+use Rattle.sol_base.specs.Limits.{max_lanes, max_senders, max_transactions}
 use Rattle.bank_words.specs.Options.{Text}
 
 -- the text is a number: 1 to 20 decimal digits
@@ -23,10 +23,10 @@ or_default default read None = default
 or_default default read (Some text) = read text
 
 abbrev pub lanes_in : Option Text → Option ℕ
-lanes_in = or_default (Some 1) (number_in 1 64)
+lanes_in = or_default (Some 1) (number_in 1 max_lanes)
 
 abbrev pub senders_in : Option Text → Option ℕ
-senders_in = or_default (Some 1) (number_in 1 8)
+senders_in = or_default (Some 1) (number_in 1 max_senders)
 
 -- the number that `make` starts from, and how many transactions it makes: both required
 abbrev pub seed_in : Option Text → Option ℕ

@@ -2,7 +2,7 @@
 ghost use Rattle.std.specs.Prelude.{◌≡◌, IfOk, false};
 ghost use Rattle.clap.specs.Simple.{app_of, with_rule};
 ghost use Rattle.clap.specs.declared.Command.TheViews.{out-Command as fields_of};
-ghost use Rattle.bank_words.specs.CommandLine.{bank_app, flag_rule, make_app, produce_app, replay_app, three_app, top_app, value_rule, with_simple};
+ghost use Rattle.bank_words.specs.CommandLine.{bank_app, flag_rule, make_app, produce_app, replay_app, block_commands_app, top_app, value_rule, with_simple};
 
 use clap::{Arg, ArgAction, Command};
 use std::alloc::{AllocError, Global};
@@ -80,8 +80,8 @@ fn top_command<'a>(alloc: Global) -> Command<'a>
         .subcommand_required(true)
 }
 
-fn with_three<'a>(alloc: Global) -> Result<Command<'a>, AllocError>
-    ensures { IfOk result (λ c. app_of c ≡ three_app) }
+fn with_block_commands<'a>(alloc: Global) -> Result<Command<'a>, AllocError>
+    ensures { IfOk result (λ c. app_of c ≡ block_commands_app) }
 {
     let top = with(top_command(alloc), produce_command(alloc)?)?;
     let top = with(top, replay_command(alloc)?)?;
@@ -92,7 +92,7 @@ fn with_three<'a>(alloc: Global) -> Result<Command<'a>, AllocError>
 pub(crate) fn bank_command<'a>(alloc: Global) -> Result<Command<'a>, AllocError>
     ensures { IfOk result (λ c. app_of c ≡ bank_app) }
 {
-    let top = with(with_three(alloc)?, make_command(alloc)?)?;
+    let top = with(with_block_commands(alloc)?, make_command(alloc)?)?;
     let top = with(top, Command::new(alloc, "asm"))?;
     with(top, Command::new(alloc, "list"))
 }

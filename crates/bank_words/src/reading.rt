@@ -13,16 +13,8 @@ use crate::numbers::number_in;
 use crate::words::Words;
 use clap::error::ErrorKind;
 use clap::{ArgMatches, Error};
+use sol_base::{MAX_LANES, MAX_SENDERS, MAX_TRANSACTIONS};
 use std::alloc::Global;
-
-/// The most lanes of a block.
-const MAX_LANES: u64 = 64;
-
-/// The most senders of a batch.
-const MAX_SENDERS: u64 = 8;
-
-/// The most transactions that are made.
-const MAX_COUNT: u64 = 16_384;
 
 /// The command that the words are.
 pub fn read_words(alloc: Global, words: &Words) -> Result<Command, WordsFault>
@@ -128,7 +120,7 @@ fn lanes_in(text: Option<&str>) -> Option<u32>
     ensures { result ≡ lanes_in (option_map (λ t. t.now) text.entry) }
 {
     match text {
-        Some(text) => Some(number_in(1, MAX_LANES, text)? as u32),
+        Some(text) => Some(number_in(1, u64::from(MAX_LANES), text)? as u32),
         None => Some(1),
     }
 }
@@ -137,7 +129,7 @@ fn senders_in(text: Option<&str>) -> Option<u32>
     ensures { result ≡ senders_in (option_map (λ t. t.now) text.entry) }
 {
     match text {
-        Some(text) => Some(number_in(1, MAX_SENDERS, text)? as u32),
+        Some(text) => Some(number_in(1, u64::from(MAX_SENDERS), text)? as u32),
         None => Some(1),
     }
 }
@@ -145,7 +137,7 @@ fn senders_in(text: Option<&str>) -> Option<u32>
 fn count_in(text: Option<&str>) -> Option<u32>
     ensures { result ≡ count_in (option_map (λ t. t.now) text.entry) }
 {
-    Some(number_in(1, MAX_COUNT, text?)? as u32)
+    Some(number_in(1, MAX_TRANSACTIONS as u64, text?)? as u32)
 }
 
 fn seed_in(text: Option<&str>) -> Option<u64>

@@ -3,8 +3,10 @@
 #![tactic(auto)]
 
 mod draws;
+mod laws;
 mod made;
 mod start;
 mod transfers;
 
+pub use laws::numbers_are_as_stated;
 pub use made::{Made, make};

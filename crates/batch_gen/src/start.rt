@@ -20,10 +20,10 @@ pub(crate) const COLLECTOR: Key = Key([0xc0; 32]);
 pub(crate) const START_HASH: Hash32 = Hash32([0xaa; 32]);
 
 /// What each user has.
-const USER_LAMPORTS: u64 = 1_000_000_000_000;
+pub(crate) const USER_LAMPORTS: u64 = 1_000_000_000_000;
 
 /// What the collector has.
-const COLLECTOR_LAMPORTS: u64 = 1_000_000_000;
+pub(crate) const COLLECTOR_LAMPORTS: u64 = 1_000_000_000;
 
 /// The key of user i.
 pub(crate) fn user_key(i: u8) -> Key

@@ -15,7 +15,7 @@ use std::alloc::Global;
 const UNIT_LIMIT: u32 = 1_000;
 
 /// What prices stay below, in micro-lamports.
-const PRICES: u64 = 1_000_000;
+pub(crate) const PRICES: u64 = 1_000_000;
 
 /// The place of the system program among the keys.
 const SYSTEM_PLACE: u8 = 2;

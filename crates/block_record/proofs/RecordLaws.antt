@@ -1,4 +1,5 @@
 -- Records: what is spelled is read again, and what is read is spelled so.
+use Rattle.sol_base.specs.Limits.{max_transactions}
 use Rattle.std.proofs.Common.{◌≡◌, ◌<◌, ◌≤◌, ◌^◌, ℕ, List, [], ◌++◌, ◌-◌, length, take, drop, Result, Ok, Err, true, refl, sym, ap, subst, ◌∙◌, append_assoc, lit<, All, arith, length-drop}
 use Rattle.std.specs.Prelude.{IfOk, IsUtf8, codes, bytes_eq, nat_le}
 use Rattle.std.specs.Int.{w16, w32, w64, to_le_bytes}
@@ -109,12 +110,12 @@ entry_takes total bytes entry rest are h =
 entry_reads : (total : ℕ) → Reads (entry_at total) entry_bytes EntryFits
 entry_reads total = record { again = entry_again total; takes = entry_takes total }
 
-entry_count_reads : (total : ℕ) → Reads (entry_count_at total) (to_le_bytes w32) (IsCount 16384)
+entry_count_reads : (total : ℕ) → Reads (entry_count_at total) (to_le_bytes w32) (IsCount max_transactions)
 unfolding entry_count_at
-entry_count_reads total = read_if_reads BadField (λ n. nat_le n 16384) total (u32_reads Truncated total)
+entry_count_reads total = read_if_reads BadField (λ n. nat_le n max_transactions) total (u32_reads Truncated total)
 
 abbrev EntriesFit : List Entry → Type 0
-EntriesFit entries = IsCount 16384 (length entries) × AllByRecursion EntryFits entries
+EntriesFit entries = IsCount max_transactions (length entries) × AllByRecursion EntryFits entries
 
 entries_reads : (total : ℕ) → Reads (entries_at total) entries_bytes EntriesFit
 unfolding entries_at
@@ -211,7 +212,7 @@ fits_reading b counted texts has = record {
   collector = has.collector;
   previous = has.previous;
   entries = (
-    count_fits 16384 (length b.entries) (lit< tt) counted.entries,
+    count_fits max_transactions (length b.entries) (lit< tt) counted.entries,
     recursion_from_All EntryFits b.entries (λ k d lt. record {
       wire = wire_fits _ (counted.wires k d lt);
       status = has.statuses k d lt;
@@ -237,7 +238,7 @@ short_lines lines fits =
 counted : (b : Block) → BlockFits b → IsCounted b
 counted b fits =
     let each = All-from_recursion EntryFits b.entries fits.entries.1 in
-    record { entries = count_le 16384 (length b.entries) fits.entries.0; wires = λ k d lt. wire_len _ (each k d lt).wire; lines = λ k d lt. short_lines _ (each k d lt).lines }
+    record { entries = count_le max_transactions (length b.entries) fits.entries.0; wires = λ k d lt. wire_len _ (each k d lt).wire; lines = λ k d lt. short_lines _ (each k d lt).lines }
   where
     wire_len : (n : ℕ) → WireLenFits n → n ≤ max_wire_len
     wire_len n h = let t = h.1 in grind (arith, nat_tests)

@@ -1,3 +1,4 @@
 pub mod Record
 pub mod RecordReading
+pub mod Replays
 pub mod Laws

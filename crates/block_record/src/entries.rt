@@ -9,16 +9,13 @@ use crate::fault::RecordFault;
 use crate::lines::read_lines;
 use format_fields::{Item, read_many};
 use message_codec::MAX_WIRE_LEN;
-use sol_base::{Blob, Items};
+use sol_base::{Blob, Items, MAX_TRANSACTIONS};
 use spec_base::{array_field, bytes_field, place, u16_field, u32_field, u64_field};
 use std::alloc::Global;
 use tx_report::{Status, status_of};
 
-/// The most entries of a record.
-const MOST_ENTRIES: u32 = 16_384;
-
 /// The bytes of an entry without its transaction and its lines.
-pub(crate) const ENTRY_LEN: usize = 28;
+const ENTRY_LEN: usize = 28;
 
 #[tactic(auto, unfolding(crate::specs::RecordReading::wire_len_at, spec_base::specs::Reading::read_if))]
 fn read_wire_len(total: usize, bytes: &[u8]) -> Result<(u16, &[u8]), RecordFault>
@@ -87,7 +84,7 @@ fn read_entry_count(total: usize, bytes: &[u8]) -> Result<(u32, &[u8]), RecordFa
     ensures { Gives is_record_memory (λ x. (x.0, x.1.now)) result (entry_count_at total bytes.now) }
 {
     let (count, rest) = u32_field::<RecordFault>(total, bytes)?;
-    if count > MOST_ENTRIES {
+    if count > MAX_TRANSACTIONS as u32 {
         return Err(RecordFault::BadField {
             at: place(total, bytes),
         });

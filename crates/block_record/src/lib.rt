@@ -14,5 +14,5 @@ pub use fault::RecordFault;
 pub use laws::written_records_are_read;
 pub use reading::{read_front, read_record};
 pub use writing::{
-    begin_hash, block_hash, end_hash, hash_entries, lines_bytes, output_bytes, record_bytes,
+    begin_hash, block_hash, end_hash, hash_entries, lines_bytes, record_bytes, write_record,
 };

@@ -1,5 +1,4 @@
 //! The log lines of an entry.
-ghost use Rattle.std.specs.Prelude.{◌≡◌};
 ghost use Rattle.spec_base.specs.Reading.{Gives};
 ghost use Rattle.block_record.specs.RecordReading.{is_record_memory, text_at, lines_at};
 
@@ -10,7 +9,7 @@ use spec_base::{bytes_field, place, u16_field};
 use std::alloc::Global;
 
 /// The bytes of a length, and of the number of lines.
-pub(crate) const LENGTH_LEN: usize = 2;
+const LENGTH_LEN: usize = 2;
 
 /// A text of so many bytes.
 #[tactic(auto, unfolding(crate::specs::RecordReading::text_at, spec_base::specs::Reading::read_if))]

@@ -5,24 +5,17 @@ ghost use Rattle.sha2.specs.Hashers.{Holds256};
 ghost use Rattle.spec_base.specs.Bytes.{sized_bytes};
 ghost use Rattle.message_codec.specs.Wire.{IsCountable, max_wire_len};
 ghost use Rattle.format_fields.specs.Output.{Adds};
-ghost use Rattle.snapshot_codec.specs.Snapshot.{IsWritable, snapshot_bytes};
 ghost use Rattle.block_record.specs.Record.{AreCountable, IsCounted, bytes_of_lines, entry_bytes, heading_bytes, front_bytes, block_bytes, hash_of_block, bytes_of_record};
 
 use crate::block::{Block, Entry};
-use crate::entries::ENTRY_LEN;
-use crate::lines::LENGTH_LEN;
-use format_fields::Output;
+use format_fields::{ByteCount, Output};
 use sha2::{Digest, Sha256};
-use snapshot_codec::{Snapshot, append_snapshot, room_before};
 use sol_base::{Blob, Hash32, Items, Key, OutOfMemory};
 use std::alloc::Global;
 use tx_report::status_bytes;
 
 /// What a record begins with.
 pub(crate) const MAGIC: [u8; 8] = *b"SOLBLCK1";
-
-/// The bytes of a record without entries.
-const FIXED_LEN: usize = 164;
 
 /// A transaction or a line: its length, and its bytes.
 fn write_sized<O: Output>(out: &mut O, bytes: &Blob) -> Result<(), OutOfMemory>
@@ -120,56 +113,26 @@ fn write_block<O: Output>(out: &mut O, block: &Block) -> Result<(), OutOfMemory>
     out.append(&block.state.0)
 }
 
-/// The bytes of lines, so that one buffer is reserved for them.
-fn lines_len(lines: &[Blob]) -> usize {
-    let mut sum = LENGTH_LEN;
-    for line in lines {
-        sum = sum.saturating_add(line.len()).saturating_add(LENGTH_LEN);
-    }
-    sum
-}
-
-/// The bytes of a record, so that one buffer is reserved for them.
-fn record_len(entries: &[Entry]) -> usize {
-    let mut sum = FIXED_LEN;
-    for entry in entries {
-        let lines = lines_len(entry.lines.as_slice());
-        let wire = entry.wire.len().saturating_add(ENTRY_LEN - LENGTH_LEN);
-        sum = sum.saturating_add(wire).saturating_add(lines);
-    }
-    sum
-}
-
-/// Adds the record of the block (the project's own format). The hash that stands in it is the
+/// Writes the record of the block (the project's own format). The hash that stands in it is the
 /// block's own.
-fn append_record(out: &mut Blob, block: &Block) -> Result<(), OutOfMemory>
+pub fn write_record<O: Output>(out: &mut O, block: &Block) -> Result<(), OutOfMemory>
     requires { IsCounted block.now }
-    ensures { OnOk result (out.new ≡ out.old ++ bytes_of_record block.now) }
+    ensures { OnOk result (Adds O.holds out.old out.new (bytes_of_record block.now)) }
 {
     write_block(out, block)?;
-    out.append(&block.hash.0)
+    out.append(&block.hash.0)?;
+    Ok(())
 }
 
-/// The record of the block. The hash that stands in it is the block's own.
+/// The record of the block, in one buffer. The hash that stands in it is the block's own.
 pub fn record_bytes(alloc: Global, block: &Block) -> Result<Blob, OutOfMemory>
     requires { IsCounted block.now }
     ensures { IfOk result (λ bytes. bytes ≡ bytes_of_record block.now) }
 {
-    let mut out = Blob::with_capacity(alloc, record_len(block.entries.as_slice()))?;
-    append_record(&mut out, block)?;
-    Ok(out)
-}
-
-/// The record of the block and the snapshot after it, in one buffer.
-pub fn output_bytes(alloc: Global, block: &Block, after: &Snapshot) -> Result<Blob, OutOfMemory>
-    requires counted { IsCounted block.now }
-    requires writable { IsWritable after.now }
-    ensures { IfOk result (λ bytes.
-        bytes ≡ bytes_of_record block.now ++ snapshot_bytes after.now) }
-{
-    let mut out = room_before(alloc, record_len(block.entries.as_slice()), after)?;
-    append_record(&mut out, block)?;
-    append_snapshot(&mut out, after)?;
+    let mut count = ByteCount(0);
+    write_record(&mut count, block)?;
+    let mut out = Blob::with_capacity(alloc, count.0)?;
+    write_record(&mut out, block)?;
     Ok(out)
 }
 
@@ -231,7 +194,9 @@ pub fn lines_bytes(alloc: Global, lines: &Items<Blob>) -> Result<Blob, OutOfMemo
     requires { AreCountable lines.now }
     ensures { IfOk result (λ bytes. bytes ≡ bytes_of_lines lines.now) }
 {
-    let mut out = Blob::with_capacity(alloc, lines_len(lines.as_slice()))?;
+    let mut count = ByteCount(0);
+    write_lines(&mut count, lines)?;
+    let mut out = Blob::with_capacity(alloc, count.0)?;
     write_lines(&mut out, lines)?;
     Ok(out)
 }

@@ -1,6 +1,5 @@
 -- Lists that are compared item by item from the front.
-use Rattle.std.proofs.Common.{◌≡◌, ℕ, zero, suc, ◌<◌, Bool, true, false, List, [], ◌∷◌, length, take, get_or, refl, sym, ap, ◌∙◌, ◌&&◌, arith}
-use Rattle.std.proofs.Math.Seq.{take-length}
+use Rattle.std.proofs.Common.{◌≡◌, ℕ, zero, suc, ◌<◌, Bool, true, false, List, [], ◌∷◌, length, take, get_or, refl, ◌&&◌, arith}
 use Rattle.std.specs.Cmp.Lexicographic.{pointwise}
 
 -- the first n are the same
@@ -28,20 +27,3 @@ other_here E (x ∷ xs) (y ∷ ys) (suc n) a b count below first second one =
     by_test : (c : Bool) → pointwise E xs ys ≡ false → (c && pointwise E xs ys) ≡ false
     by_test true rest = rest
     by_test false rest = refl
-
-pub other_length : {X : Type 0} (E : X → X → Bool) (xs ys : List X) → (length xs ≡ length ys → ⊥) → pointwise E xs ys ≡ false
-other_length E [] [] differ = absurd (differ refl)
-other_length E [] (y ∷ ys) differ = refl
-other_length E (x ∷ xs) [] differ = refl
-other_length E (x ∷ xs) (y ∷ ys) differ = by_test (E x y) (other_length E xs ys (λ same. differ (omega (arith, same))))
-  where
-    by_test : (c : Bool) → pointwise E xs ys ≡ false → (c && pointwise E xs ys) ≡ false
-    by_test true rest = rest
-    by_test false rest = refl
-
--- all are the same where the first ones are, as many as there are
-pub same_whole : {X : Type 0} (E : X → X → Bool) (xs ys : List X) (n : ℕ) → length xs ≡ length ys → n ≡ length xs → AreSameTo E xs ys n → pointwise E xs ys ≡ true
-same_whole E xs ys n count whole same =
-    let left : take n xs ≡ xs = ap (λ m. take m xs) whole ∙ take-length xs in
-    let right : take n ys ≡ ys = ap (λ m. take m ys) (whole ∙ count) ∙ take-length ys in
-    ap (λ zs. pointwise E zs ys) (sym left) ∙ ap (λ zs. pointwise E (take n xs) zs) (sym right) ∙ same

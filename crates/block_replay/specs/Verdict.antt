@@ -1,6 +1,6 @@
 -- The first difference between a record and the block that its entries give when they run again
 -- (the project's own).
-use Rattle.std.specs.Prelude.{◌≡◌, ℕ, ◌<◌, ◌==◌, Bool, nat_eq, nat_lt, List, [], ◌∷◌, ◌++◌, codes, length, drop, slice_get, unwrap_or, MatchBool, if◌then◌else◌}
+use Rattle.std.specs.Prelude.{ℕ, ◌==◌, Bool, nat_eq, nat_lt, List, [], ◌∷◌, ◌++◌, codes, length, drop, slice_get, unwrap_or, if◌then◌else◌}
 use Rattle.std.specs.List.{flat_map, enumerate_from, zip}
 use Rattle.std.specs.Int.{w64, to_le_bytes}
 use Rattle.std.specs.Cmp.Lexicographic.{pointwise}
@@ -108,10 +108,3 @@ differences slot newest given replayed =
 unfoldable pub verdict : ℕ → Hash32 → Block → Listed → Verdict
 verdict slot newest given listed =
     unwrap_or (slice_get (differences slot newest given listed.block) 0) Match
-
--- the replayed block ends before an entry that is not admitted, or has them all
-abbrev pub IsReplayOf : Block → Listed → Type 0
-IsReplayOf given listed =
-    MatchBool listed.halted
-    (length listed.block.entries < length given.entries)
-    (length listed.block.entries ≡ length given.entries)

@@ -1,7 +1,9 @@
 //! Comparing a record with what its entries give when they run again.
 ghost use Rattle.std.specs.Prelude.{◌≡◌, ◌<◌, ◌≤◌, ℕ, length, All, drop, slice_get, IfOk};
+ghost use Rattle.sol_base.specs.Limits.{max_transactions};
 ghost use Rattle.block_record.specs.Record.{AreCountable, IsCounted};
-ghost use Rattle.block_replay.specs.Verdict.{IsReplayOf, differences, entries_differences, entry_differences, head_differences, in_hash, in_lines, in_number, in_status, refused_entry, same_bytes, same_lines, tail_differences, verdict};
+ghost use Rattle.block_record.specs.Replays.{IsReplayOf};
+ghost use Rattle.block_replay.specs.Verdict.{differences, entries_differences, entry_differences, head_differences, in_hash, in_lines, in_number, in_status, of_block, refused_entry, same_bytes, same_lines, tail_differences, verdict};
 ghost use Rattle.block_replay.specs.declared.verdict.Verdict.TheVariants.{Differ};
 
 use crate::verdict::{Field, Verdict};
@@ -83,7 +85,7 @@ fn compare_entries(
     given: &[Entry],
     replayed: &[Entry],
 ) -> Result<Option<Verdict>, OutOfMemory>
-    requires few { length given.now ≤ 16384 }
+    requires few { length given.now ≤ max_transactions }
     requires cut { length replayed.now ≤ length given.now }
     requires given { All (λ entry. AreCountable entry.lines) given.now }
     requires replayed { All (λ entry. AreCountable entry.lines) replayed.now }
@@ -129,7 +131,7 @@ fn find_refused(
     place: usize,
     given: &[Entry],
 ) -> Result<Option<Verdict>, OutOfMemory>
-    requires few { length given.now ≤ 16384 }
+    requires few { length given.now ≤ max_transactions }
     ensures { IfOk result
         (λ answer. answer ≡ slice_get (refused_entry place (drop place given.now)) 0) }
 {
@@ -254,7 +256,7 @@ fn compare_hashes(
     found: &Hash32,
 ) -> Result<Option<Verdict>, OutOfMemory>
     ensures { IfOk result
-        (λ answer. answer ≡ slice_get (in_hash 4294967295 field expected.now found.now) 0) }
+        (λ answer. answer ≡ slice_get (in_hash of_block field expected.now found.now) 0) }
 {
     if expected == found {
         return Ok(None);

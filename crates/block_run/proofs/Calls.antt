@@ -1,12 +1,12 @@
 -- From what was admitted to what the calls answer.
-use Rattle.std.proofs.Common.{◌≡◌, ◌≤◌, ◌<◌, ◌+◌, ◌∷◌, [], ℕ, Bool, List, length, All, Result, Ok, Err, sym, ap, ap₂, subst, ◌∙◌, arith}
-use Rattle.std.specs.Prelude.{IfOk, MatchBool}
+use Rattle.std.proofs.Common.{◌≡◌, ◌≤◌, ◌<◌, ◌+◌, ◌∷◌, [], ℕ, Bool, List, length, All, sym, ap, ap₂, subst, ◌∙◌, arith}
+use Rattle.std.specs.Prelude.{MatchBool}
 use Rattle.std.specs.List.{zip}
 use Rattle.std.proofs.lemmas.List.{length-map}
 use Rattle.std.proofs.lemmas.List.Elements.{All-head}
 use Rattle.std.proofs.lemmas.List.FromFn.{length-map-range_with_len}
 use Rattle.std.proofs.lemmas.Slice.Zip.{length-zip}
-use Rattle.sol_base.specs.declared.memory.OutOfMemory.{OutOfMemory}
+use Rattle.sol_base.specs.Limits.{max_transactions}
 use Rattle.account_store.specs.State.{at}
 use Rattle.tx_report.specs.declared.outcome.Outcome.{Outcome}
 use Rattle.bank_law.specs.Serial.{result}
@@ -48,13 +48,11 @@ unfolding serial_run
 small_run s slot wires order told is may = subst (λ (t : Told). All IsSmallOutcome (serial_outcomes (job_of t) (at s.accounts))) (sym is) may.small
 
 -- and the block is that of the order
-pub same_end : (s : Snapshot) (head : Head) (wires given : List (List ℕ)) (order chosen : List Chosen) (origin : Origin Told) (outcomes : List Outcome) (answer : Result Closed OutOfMemory) → given ≡ wires → chosen ≡ order → ran_of origin outcomes ≡ serial_run s head.slot order
-    → IfOk answer (λ end. end ≡ closed_with (record { slot = 0; limits = s.limits; recent = s.recent; accounts = joined_of origin }) head given chosen (ran_of origin outcomes))
-    → IfOk answer (λ end. end ≡ closed s head wires order)
+pub same_end : (s : Snapshot) (head : Head) (wires given : List (List ℕ)) (order chosen : List Chosen) (origin : Origin Told) (outcomes : List Outcome) → given ≡ wires → chosen ≡ order → ran_of origin outcomes ≡ serial_run s head.slot order
+    → closed_with (record { slot = 0; limits = s.limits; recent = s.recent; accounts = joined_of origin }) head given chosen (ran_of origin outcomes) ≡ closed s head wires order
 unfolding closed
-same_end s head wires given order chosen origin outcomes (Ok end) read same ran_is is =
-    is ∙ ap (λ (w : List (List ℕ)). closed_with s head w chosen (ran_of origin outcomes)) read ∙ ap₂ (λ (o : List Chosen) (r : Ran). closed_with s head wires o r) same ran_is
-same_end s head wires given order chosen origin outcomes (Err e) read same ran_is is = tt
+same_end s head wires given order chosen origin outcomes read same ran_is =
+    ap (λ (w : List (List ℕ)). closed_with s head w chosen (ran_of origin outcomes)) read ∙ ap₂ (λ (o : List Chosen) (r : Ran). closed_with s head wires o r) same ran_is
 
 -- it has an entry for each transaction
 pub entry_each : (s : Snapshot) (head : Head) (wires : List (List ℕ)) (order : List Chosen) → length (closed s head wires order).block.entries ≡ length order
@@ -68,7 +66,7 @@ entry_each s head wires order =
 
 -- ---- a batch
 
-pub admitted_are_of : (s : Snapshot) (wires : List (List ℕ)) (answer : Admitted) → IsReadable s → length wires ≤ 16384 → answer ≡ admitted (start_in s) wires → AreOf wires answer.order
+pub admitted_are_of : (s : Snapshot) (wires : List (List ℕ)) (answer : Admitted) → IsReadable s → length wires ≤ max_transactions → answer ≡ admitted (start_in s) wires → AreOf wires answer.order
 admitted_are_of s wires answer readable few is =
     parted_are_of wires answer few (subst (IsParted wires) (sym is) (admitted_batches_are_parted (start_in s) wires))
 
@@ -83,7 +81,7 @@ admitted_result s batch answer end is ended =
 listed_parted : (s : Snapshot) (wires : List (List ℕ)) (answer : Admitted) → IsReadable s → answer ≡ listed (start_in s) wires → IsParted wires answer
 listed_parted s wires answer readable is = subst (IsParted wires) (sym is) (listed_batches_are_parted (start_in s) wires)
 
-pub listed_are_of : (s : Snapshot) (wires : List (List ℕ)) (answer : Admitted) → IsReadable s → length wires ≤ 16384 → answer ≡ listed (start_in s) wires → AreOf wires answer.order
+pub listed_are_of : (s : Snapshot) (wires : List (List ℕ)) (answer : Admitted) → IsReadable s → length wires ≤ max_transactions → answer ≡ listed (start_in s) wires → AreOf wires answer.order
 listed_are_of s wires answer readable few is = parted_are_of wires answer few (listed_parted s wires answer readable is)
 
 -- the head of a block that is run again

@@ -2,7 +2,8 @@
 use Rattle.std.proofs.Common.{◌≡◌, ◌≤◌, ◌<◌, ◌+◌, ◌^◌, ◌∷◌, [], ℕ, suc, Bool, true, false, cond, List, length, take, Option, Some, None, All, refl, sym, subst, arith}
 use Rattle.std.specs.Prelude.{sum_by}
 use Rattle.std.specs.List.{AllByRecursion, cons_option, filter_map, zip}
-use Rattle.std.specs.FinMap.Entries.{by_order}
+use Rattle.std.specs.BTreeSet.{insert_key}
+use Rattle.std.specs.Ordering.{match_ordering}
 use Rattle.std.specs.declared.cmp.Ordering.{Ordering}
 use Rattle.std.specs.declared.cmp.Ordering.TheVariants.{Less, Equal, Greater}
 use Rattle.std.proofs.lemmas.List.{length-map}
@@ -12,7 +13,8 @@ use Rattle.std.proofs.lemmas.Slice.Zip.{length-zip}
 use Rattle.sol_base.specs.declared.key.Key.{Key}
 use Rattle.sol_base.specs.declared.key.Hash32.{Hash32}
 use Rattle.sol_base.specs.Keys.{hash_cmp}
-use Rattle.message_codec.specs.Wire.{IsCountable}
+use Rattle.sol_base.specs.Limits.{max_transactions}
+use Rattle.message_codec.specs.Wire.{IsCountable, max_wire_len}
 use Rattle.fee_rules.specs.declared.split.FeeSplit.{FeeSplit}
 use Rattle.fee_rules.specs.Fees.{split_of}
 use Rattle.status_cache.specs.declared.recent.Mark.{Mark}
@@ -28,10 +30,10 @@ use Rattle.admission.specs.declared.chosen.Chosen.{Chosen}
 use Rattle.admission.specs.Batches.{IsOf}
 use Rattle.tx_exec.specs.TransactionLaws.{IsSmallOutcome}
 use Rattle.block_run.specs.SerialRun.{Ran}
-use Rattle.block_run.specs.BlockEnd.{Shares, base_fees, more, priority_fees, settled, share, share_fees}
+use Rattle.block_run.specs.BlockEnd.{Shares, base_fees, more, priority_fees, shares_at_end, share, share_fees}
 use Rattle.block_run.specs.declared.block.Closed.{Closed}
 use Rattle.block_run.specs.declared.block.Head.{Head}
-use Rattle.block_run.specs.Blocks.{ascending, closed_with, entered, entries_of, entry_of, placed, processed_by, processed_in, sealed}
+use Rattle.block_run.specs.Blocks.{ascending, closed_with, unsealed, entries_of, entry_of, processed_by, processed_in, sealed}
 use Rattle.block_run.specs.Ending.{AreOf}
 use Rattle.block_run.proofs.Runs.{len-put}
 use Rattle.block_run.proofs.Activating.{len-activate_all}
@@ -48,8 +50,8 @@ len-share s collector split =
     either_few _ (len s + 1) (record { accounts = put s collector paid; burned = split.burned; collected = split.rest }) (record { accounts = s; burned = split.burned + split.rest; collected = 0 })
     (len-put s collector paid) (omega arith)
 
-pub settled_few : (s : State) (collector : Key) (split : FeeSplit) → len s + 1 < 2 ^ 32 → len (settled s collector split).accounts < 2 ^ 32
-settled_few s collector split room =
+pub few_at_end : (s : State) (collector : Key) (split : FeeSplit) → len s + 1 < 2 ^ 32 → len (shares_at_end s collector split).accounts < 2 ^ 32
+few_at_end s collector split room =
     let a = len-share s collector split in
     let b = len-activate_all (share s collector split).accounts in
     omega (arith, a, b, room)
@@ -90,7 +92,7 @@ module _ (wires : List (List ℕ)) (order : List Chosen) (outcomes : List Outcom
   all_entries : (P : Entry → Type 0) → ((e : Chosen × Outcome) → IsOf wires e.0 × IsSmallOutcome e.1 → P (entry_of wires e)) → All P (entries_of wires order outcomes)
   all_entries P each = All-map P (entry_of wires) (zip order outcomes) (All-weaker _ (λ (e : Chosen × Outcome). P (entry_of wires e)) each (zip order outcomes) both)
 
-  entries_few : length (entries_of wires order outcomes) ≤ 16384
+  entries_few : length (entries_of wires order outcomes) ≤ max_transactions
   entries_few =
       let a = length-map (zip order outcomes) (entry_of wires) in
       let b = length-zip order outcomes in
@@ -100,26 +102,26 @@ module _ (wires : List (List ℕ)) (order : List Chosen) (outcomes : List Outcom
   -- a block of them can be counted
   pub block_counted : (block : Block) → block.entries ≡ entries_of wires order outcomes → IsCounted block
   block_counted block is = record {
-    entries = subst (λ (es : List Entry). length es ≤ 16384) (sym is) entries_few;
-    wires = subst (All (λ (entry : Entry). length entry.wire ≤ 1232)) (sym is) (all_entries (λ (entry : Entry). length entry.wire ≤ 1232) (λ e h. h.0.short));
+    entries = subst (λ (es : List Entry). length es ≤ max_transactions) (sym is) entries_few;
+    wires = subst (All (λ (entry : Entry). length entry.wire ≤ max_wire_len)) (sym is) (all_entries (λ (entry : Entry). length entry.wire ≤ max_wire_len) (λ e h. h.0.short));
     lines = subst (All (λ (entry : Entry). AreCountable entry.lines)) (sym is) (all_entries (λ (entry : Entry). AreCountable entry.lines) (λ e h. lines_countable e.1 h.1));
   }
 
 -- ---- the marks
-placed_more : (r : Ordering) (n : ℕ) (a b c : List Hash32) → length a ≤ n → length b ≤ n → length c ≤ n → length (by_order r a b c) ≤ n
-placed_more Less n a b c x y z = x
-placed_more Equal n a b c x y z = y
-placed_more Greater n a b c x y z = z
+inserted_more : (r : Ordering) (n : ℕ) (a b c : List Hash32) → length a ≤ n → length b ≤ n → length c ≤ n → length (match_ordering r a b c) ≤ n
+inserted_more Less n a b c x y z = x
+inserted_more Equal n a b c x y z = y
+inserted_more Greater n a b c x y z = z
 
-length-placed : (name : Hash32) (names : List Hash32) → length (placed name names) ≤ suc (length names)
-length-placed name [] = omega arith
-length-placed name (n ∷ ns) =
-    let rest = length-placed name ns in
-    placed_more (hash_cmp name n) (suc (suc (length ns))) (name ∷ n ∷ ns) (n ∷ ns) (n ∷ placed name ns) (omega arith) (omega arith) (omega (arith, rest))
+length-inserted : (name : Hash32) (names : List Hash32) → length (insert_key hash_cmp names name) ≤ suc (length names)
+length-inserted name [] = omega arith
+length-inserted name (n ∷ ns) =
+    let rest = length-inserted name ns in
+    inserted_more (hash_cmp name n) (suc (suc (length ns))) (name ∷ n ∷ ns) (n ∷ ns) (n ∷ insert_key hash_cmp ns name) (omega arith) (omega arith) (omega (arith, rest))
 
 length-ascending : (names : List Hash32) → length (ascending names) ≤ length names
 length-ascending [] = omega arith
-length-ascending (n ∷ ns) = let a = length-placed n (ascending ns) in let b = length-ascending ns in omega (arith, a, b)
+length-ascending (n ∷ ns) = let a = length-inserted n (ascending ns) in let b = length-ascending ns in omega (arith, a, b)
 
 length-cons_option : {Y : Type 0} (o : Option Y) (ys : List Y) → length (cons_option o ys) ≤ suc (length ys)
 length-cons_option None ys = omega arith
@@ -129,24 +131,24 @@ length-filter_map : {X Y : Type 0} (f : X → Option Y) (xs : List X) → length
 length-filter_map f [] = omega arith
 length-filter_map f (x ∷ xs) = let a = length-cons_option (f x) (filter_map f xs) in let rest = length-filter_map f xs in omega (arith, a, rest)
 
-pub names_few : (order : List Chosen) (outcomes : List Outcome) → length order ≤ 16384 → length (ascending (processed_in order outcomes)) ≤ 16384
+pub names_few : (order : List Chosen) (outcomes : List Outcome) → length order ≤ max_transactions → length (ascending (processed_in order outcomes)) ≤ max_transactions
 names_few order outcomes few =
     let a = length-ascending (processed_in order outcomes) in
     let b = length-filter_map (λ (e : Chosen × Outcome). processed_by e.0.name e.1.status) (zip order outcomes) in
     let c = length-zip order outcomes in
     omega (arith, a, b, c, few)
 
-pub marks_few : (mark : Mark) (recent : List Mark) → length mark.messages ≤ 16384 → All (λ mark. length mark.messages ≤ 16384) recent → All (λ mark. length mark.messages < 2 ^ 32) (take max_marks (mark ∷ recent))
+pub marks_few : (mark : Mark) (recent : List Mark) → length mark.messages ≤ max_transactions → All (λ mark. length mark.messages ≤ max_transactions) recent → All (λ mark. length mark.messages < 2 ^ 32) (take max_marks (mark ∷ recent))
 marks_few mark recent one all =
-    All-weaker (λ (m : Mark). length m.messages ≤ 16384) (λ (m : Mark). length m.messages < 2 ^ 32) (λ m h. omega (arith, h)) (take max_marks (mark ∷ recent))
-    (All-take (λ (m : Mark). length m.messages ≤ 16384) max_marks (mark ∷ recent) (All-cons (λ (m : Mark). length m.messages ≤ 16384) mark recent one all))
+    All-weaker (λ (m : Mark). length m.messages ≤ max_transactions) (λ (m : Mark). length m.messages < 2 ^ 32) (λ m h. omega (arith, h)) (take max_marks (mark ∷ recent))
+    (All-take (λ (m : Mark). length m.messages ≤ max_transactions) max_marks (mark ∷ recent) (All-cons (λ (m : Mark). length m.messages ≤ max_transactions) mark recent one all))
 
 -- ---- the end
 -- a block and the snapshot after it, from their parts
 pub closed_is : (s : Snapshot) (head : Head) (wires : List (List ℕ)) (order : List Chosen) (ran : Ran) (split : FeeSplit) (previous : Hash32) (shares : Shares) (state : Hash32) (known block : Block) (names : List Hash32) (recent : List Mark)
     → split ≡ split_of (base_fees ran.outcomes) (priority_fees ran.outcomes) → previous ≡ newest_of s.recent
-    → shares ≡ settled ran.accounts head.collector split → state ≡ hash_of_state shares.accounts
-    → known ≡ entered head previous wires order ran.outcomes → block ≡ sealed (record known { burned = shares.burned; collected = shares.collected; state = state })
+    → shares ≡ shares_at_end ran.accounts head.collector split → state ≡ hash_of_state shares.accounts
+    → known ≡ unsealed head previous wires order ran.outcomes → block ≡ sealed (record known { burned = shares.burned; collected = shares.collected; state = state })
     → names ≡ ascending (processed_in order ran.outcomes) → recent ≡ take max_marks (record { hash = block.hash; messages = names } ∷ s.recent)
     → (let end : Closed = record { block = block; after = record { slot = head.slot; limits = s.limits; recent = recent; accounts = shares.accounts } } in end) ≡ closed_with s head wires order ran
 unfolding share_fees

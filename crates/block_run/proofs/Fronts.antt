@@ -6,6 +6,8 @@ use Rattle.std.proofs.lemmas.List.{append-nil, length-drop, map-append, take-app
 use Rattle.std.proofs.lemmas.List.Elements.{All-drop, All-take}
 use Rattle.sha2.specs.Hashers.{Holds256}
 use Rattle.sha2.specs.declared.Sha256.{Sha256}
+use Rattle.message_codec.specs.Wire.{max_wire_len}
+use Rattle.sol_base.specs.Limits.{max_transactions}
 use Rattle.tx_report.specs.declared.outcome.Outcome.{Outcome}
 use Rattle.admission.specs.declared.chosen.Chosen.{Chosen}
 use Rattle.admission.specs.Batches.{IsOf}
@@ -81,7 +83,7 @@ module _ (wires : List (List ℕ)) (order : List Chosen) where
   pub part_counted : AreOf wires order → (told : List Outcome) → All IsSmallOutcome told → (c n : ℕ) (entries : List Entry) → entries ≡ entries_of wires (take n (drop c order)) told → IsCounted (with_entries entries)
   part_counted of told small c n entries is = block_counted wires (take n (drop c order)) told (record { few = few; each = All-take (IsOf wires) n (drop c order) (All-drop (IsOf wires) c order of.each) }) small (with_entries entries) is
     where
-      few : length (take n (drop c order)) ≤ 16384
+      few : length (take n (drop c order)) ≤ max_transactions
       few = let a = length-take-le n (drop c order) in let b = length-drop c order in let f = of.few in omega (arith, a, b, f)
 
 -- ---- the hash
@@ -168,7 +170,7 @@ module _ (wires : List (List ℕ)) (order : List Chosen) where
   pub left_counted : (outcomes : List Outcome) (begun : Begun) (entries : List Entry) → AreOf wires order → All IsSmallOutcome outcomes → entries ≡ entries_of wires order outcomes → IsCounted (with_entries (drop begun.count entries))
   left_counted outcomes begun entries of small is = record {
     entries = let a = length-drop begun.count entries in let b = all.entries in omega (arith, a, b);
-    wires = All-drop (λ (entry : Entry). length entry.wire ≤ 1232) begun.count entries all.wires;
+    wires = All-drop (λ (entry : Entry). length entry.wire ≤ max_wire_len) begun.count entries all.wires;
     lines = All-drop (λ (entry : Entry). AreCountable entry.lines) begun.count entries all.lines;
   }
     where

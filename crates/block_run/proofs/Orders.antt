@@ -1,6 +1,7 @@
 -- Transactions of a batch, and the first of them.
 use Rattle.std.proofs.Common.{◌≤◌, ◌∷◌, [], ℕ, zero, suc, List, length, take, arith}
 use Rattle.std.proofs.lemmas.List.Elements.{All-take}
+use Rattle.sol_base.specs.Limits.{max_transactions}
 use Rattle.admission.specs.declared.chosen.Chosen.{Chosen}
 use Rattle.admission.specs.declared.chosen.Admitted.{Admitted}
 use Rattle.admission.specs.declared.refusal.Refused.{Refused}
@@ -19,7 +20,7 @@ length-take-least (suc n) [] = omega arith
 length-take-least (suc n) (x ∷ xs) = let rest = length-take-least n xs in omega (arith, rest)
 
 -- those that run are of their wires
-pub parted_are_of : (wires : List (List ℕ)) (answer : Admitted) → length wires ≤ 16384 → IsParted wires answer → AreOf wires answer.order
+pub parted_are_of : (wires : List (List ℕ)) (answer : Admitted) → length wires ≤ max_transactions → IsParted wires answer → AreOf wires answer.order
 parted_are_of wires answer few parted = record {
   few = let c = parted.count in omega (arith, c, few);
   each = parted.each;

@@ -6,6 +6,7 @@ use Rattle.sol_base.specs.declared.key.Key.{Key}
 use Rattle.sol_base.specs.declared.account.Account.{Account}
 use Rattle.sol_base.specs.declared.lock.Lock.{Lock}
 use Rattle.sol_base.specs.Accounts.{lamports_in}
+use Rattle.sol_base.specs.Limits.{max_transaction_keys}
 use Rattle.message_codec.specs.Roles.{all_keys, load_count}
 use Rattle.message_codec.proofs.RoleLaws.{lock_count}
 use Rattle.bank_law.specs.Job.{Job, JobEffects, write_keys}
@@ -27,15 +28,15 @@ use Rattle.tx_exec.proofs.Works.{there}
 pub at_position : (told : Told) → All IsChosen told.chosen → (P : Option Chosen → Type 0) → ((t : Chosen) → IsChosen t → P (Some t)) → (i : ℕ) → i < length told.chosen → P (slice_get told.chosen i)
 at_position told all P each i below = let x = there told.chosen i below all in subst P (sym x.1) (each x.0 x.2)
 
--- a transaction has at most 128 locks
-few_locks : (t : Chosen) → IsChosen t → length t.locks ≤ 128
+-- a transaction has at most as many locks as keys
+few_locks : (t : Chosen) → IsChosen t → length t.locks ≤ max_transaction_keys
 few_locks t is =
     let a = ap length is.locked in
     let b = lock_count t.tx.message t.loaded in
     let c : length (all_keys t.tx.message t.loaded) ≡ length (t.tx.message.keys ++ t.loaded.writable) + length t.loaded.readonly = length-append (t.tx.message.keys ++ t.loaded.writable) t.loaded.readonly in
     let d = length-append t.tx.message.keys t.loaded.writable in
     let e : length t.loaded.writable + length t.loaded.readonly ≡ sum_by load_count t.tx.message.lookups = is.loaded in
-    let f : length t.tx.message.keys + sum_by load_count t.tx.message.lookups ≤ 128 = is.sane.keys in
+    let f : length t.tx.message.keys + sum_by load_count t.tx.message.lookups ≤ max_transaction_keys = is.sane.keys in
     omega (arith, a, b, c, d, e, f)
 
 -- what effects paid
@@ -52,10 +53,10 @@ pays told t is vs count =
     omega (arith, a, b)
 
 module _ (told : Told) (all : All IsChosen told.chosen) where
-  pub locks_most : (i : ℕ) → i < length told.chosen → length ((job_of told).locks i) ≤ 128
-  locks_most = at_position told all (λ o. length (locks_at o) ≤ 128) few_locks
+  pub locks_most : (i : ℕ) → i < length told.chosen → length ((job_of told).locks i) ≤ max_transaction_keys
+  locks_most = at_position told all (λ o. length (locks_at o) ≤ max_transaction_keys) few_locks
 
-  pub locks_few : (n : ℕ) → n ≤ length told.chosen → locks_before (job_of told) n ≤ 128 * n
+  pub locks_few : (n : ℕ) → n ≤ length told.chosen → locks_before (job_of told) n ≤ max_transaction_keys * n
   locks_few zero l = omega arith
   locks_few (suc n) l =
       let here = locks_most n (omega (arith, l)) in

@@ -9,6 +9,7 @@ use Rattle.sol_base.specs.declared.key.Key.{Key}
 use Rattle.sol_base.specs.declared.account.Account.{Account}
 use Rattle.sol_base.specs.declared.lock.Lock.{Lock}
 use Rattle.sol_base.proofs.KeyLaws.{key_cmp_total}
+use Rattle.sol_base.specs.Limits.{max_transaction_keys}
 use Rattle.tx_report.specs.declared.outcome.Outcome.{Outcome}
 use Rattle.account_store.specs.State.{State, IsState, at, len, put, sum}
 use Rattle.bank_law.specs.Job.{keys, write_keys}
@@ -59,7 +60,7 @@ module _ (told : Told) (all : All IsChosen told.chosen) (start : State) (is : Is
   abbrev outcomes_to : ℕ → List Outcome
   outcomes_to n = map (result (job_of told) (at start)) (range_with_len 0 n)
 
-  pub len_grows : (n : ℕ) → n ≤ length told.chosen → len (serial_state (job_of told) start n) ≤ len start + 128 * n
+  pub len_grows : (n : ℕ) → n ≤ length told.chosen → len (serial_state (job_of told) start n) ≤ len start + max_transaction_keys * n
   len_grows zero l = omega arith
   len_grows (suc n) l =
       let s = serial_state (job_of told) start n in

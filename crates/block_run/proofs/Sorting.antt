@@ -1,38 +1,27 @@
 -- Names in ascending order.
-use Rattle.std.proofs.Common.{◌≡◌, ◌+◌, ◌<◌, ◌∷◌, [], ◌++◌, ℕ, zero, suc, List, length, take, get_or, Option, Some, None, refl, sym, ap, ◌∙◌, append_assoc, add-one, arith}
+use Rattle.std.proofs.Common.{◌≡◌, ◌+◌, ◌<◌, ◌∷◌, [], ◌++◌, ℕ, zero, suc, Bool, true, false, ◌||◌, List, length, take, get_or, Option, Some, None, refl, sym, ap, ◌∙◌, append_assoc, add-one, arith}
 use Rattle.std.specs.Prelude.{option_to_list}
 use Rattle.std.specs.BTreeSet.{insert_key}
 use Rattle.std.specs.Ordering.{match_ordering, ordering_reverse}
 use Rattle.std.specs.List.{AllByRecursion, cons_option, filter_map, zip}
 use Rattle.std.specs.List.Sorted.{IsStrictlySortedBy}
-use Rattle.sol_base.proofs.KeyLaws.{hash_cmp_total}
-use Rattle.status_cache.specs.Recent.{Ascends}
+use Rattle.sol_base.proofs.KeyLaws.{hash_cmp_exact, hash_cmp_total}
+use Rattle.status_cache.specs.Recent.{Ascends, has_hash}
 use Rattle.snapshot_codec.proofs.Ordered.{pairs-from_sorted}
 use Rattle.tx_report.specs.declared.outcome.Outcome.{Outcome}
 use Rattle.admission.specs.declared.chosen.Chosen.{Chosen}
 use Rattle.std.specs.declared.cmp.Ordering.{Ordering}
 use Rattle.std.specs.declared.cmp.Ordering.TheVariants.{Less, Equal, Greater}
-use Rattle.std.specs.FinMap.Entries.{by_order}
 use Rattle.sol_base.specs.declared.key.Hash32.{Hash32}
-use Rattle.sol_base.specs.Keys.{hash_cmp}
-use Rattle.block_run.specs.Blocks.{ascending, placed, processed_by, processed_in}
-
-by_order-is : {X : Type 0} (r : Ordering) (a b c d : X) → d ≡ c → match_ordering r a b c ≡ by_order r a b d
-by_order-is Less a b c d e = refl
-by_order-is Equal a b c d e = refl
-by_order-is Greater a b c d e = sym e
-
--- a set puts a name in its place
-pub placed-insert : (name : Hash32) (names : List Hash32) → insert_key hash_cmp names name ≡ placed name names
-placed-insert name [] = refl
-placed-insert name (n ∷ ns) = by_order-is (hash_cmp name n) (name ∷ n ∷ ns) (n ∷ ns) (n ∷ insert_key hash_cmp ns name) (n ∷ placed name ns) (ap (λ (l : List Hash32). n ∷ l) (sym (placed-insert name ns)))
+use Rattle.sol_base.specs.Keys.{hash_cmp, same_hash}
+use Rattle.block_run.specs.Blocks.{ascending, processed_by, processed_in}
 
 -- names stay in order when one is put in its place
-placed-above : (k name : Hash32) (names : List Hash32) → hash_cmp k name ≡ Less → AllByRecursion (λ (q : Hash32). hash_cmp k q ≡ Less) names → AllByRecursion (λ (q : Hash32). hash_cmp k q ≡ Less) (placed name names)
-placed-above k name [] above all = (above, tt)
-placed-above k name (n ∷ ns) above all = by_case (hash_cmp name n) (placed-above k name ns above all.1)
+inserted-above : (k name : Hash32) (names : List Hash32) → hash_cmp k name ≡ Less → AllByRecursion (λ (q : Hash32). hash_cmp k q ≡ Less) names → AllByRecursion (λ (q : Hash32). hash_cmp k q ≡ Less) (insert_key hash_cmp names name)
+inserted-above k name [] above all = (above, tt)
+inserted-above k name (n ∷ ns) above all = by_case (hash_cmp name n) (inserted-above k name ns above all.1)
   where
-    by_case : (r : Ordering) → AllByRecursion (λ (q : Hash32). hash_cmp k q ≡ Less) (placed name ns) → AllByRecursion (λ (q : Hash32). hash_cmp k q ≡ Less) (by_order r (name ∷ n ∷ ns) (n ∷ ns) (n ∷ placed name ns))
+    by_case : (r : Ordering) → AllByRecursion (λ (q : Hash32). hash_cmp k q ≡ Less) (insert_key hash_cmp ns name) → AllByRecursion (λ (q : Hash32). hash_cmp k q ≡ Less) (match_ordering r (name ∷ n ∷ ns) (n ∷ ns) (n ∷ insert_key hash_cmp ns name))
     by_case Less rest = (above, all)
     by_case Equal rest = all
     by_case Greater rest = (all.0, rest)
@@ -41,23 +30,48 @@ all_above : (name n : Hash32) (ns : List Hash32) → hash_cmp name n ≡ Less �
 all_above name n [] below all = tt
 all_above name n (q ∷ qs) below all = (hash_cmp_total.trans name n q below all.0, all_above name n qs below all.1)
 
-placed-sorted : (name : Hash32) (names : List Hash32) → IsStrictlySortedBy hash_cmp names → IsStrictlySortedBy hash_cmp (placed name names)
+inserted-sorted : (name : Hash32) (names : List Hash32) → IsStrictlySortedBy hash_cmp names → IsStrictlySortedBy hash_cmp (insert_key hash_cmp names name)
 unfolding IsStrictlySortedBy
-placed-sorted name [] sorted = (tt, tt)
-placed-sorted name (n ∷ ns) sorted = by_case (hash_cmp name n) refl (placed-sorted name ns sorted.1)
+inserted-sorted name [] sorted = (tt, tt)
+inserted-sorted name (n ∷ ns) sorted = by_case (hash_cmp name n) refl (inserted-sorted name ns sorted.1)
   where
-    by_case : (r : Ordering) → hash_cmp name n ≡ r → IsStrictlySortedBy hash_cmp (placed name ns) → IsStrictlySortedBy hash_cmp (by_order r (name ∷ n ∷ ns) (n ∷ ns) (n ∷ placed name ns))
+    by_case : (r : Ordering) → hash_cmp name n ≡ r → IsStrictlySortedBy hash_cmp (insert_key hash_cmp ns name) → IsStrictlySortedBy hash_cmp (match_ordering r (name ∷ n ∷ ns) (n ∷ ns) (n ∷ insert_key hash_cmp ns name))
     by_case Less is rest = ((is, all_above name n ns is sorted.0), sorted)
     by_case Equal is rest = sorted
-    by_case Greater is rest = (placed-above n name ns (hash_cmp_total.antisymm n name ∙ ap ordering_reverse is) sorted.0, rest)
+    by_case Greater is rest = (inserted-above n name ns (hash_cmp_total.antisymm n name ∙ ap ordering_reverse is) sorted.0, rest)
 
 ascending-sorted : (names : List Hash32) → IsStrictlySortedBy hash_cmp (ascending names)
 unfolding IsStrictlySortedBy
 ascending-sorted [] = tt
-ascending-sorted (n ∷ ns) = placed-sorted n (ascending ns) (ascending-sorted ns)
+ascending-sorted (n ∷ ns) = inserted-sorted n (ascending ns) (ascending-sorted ns)
 
 pub ascending_ascends : (names : List Hash32) → Ascends (ascending names)
 ascending_ascends names = pairs-from_sorted hash_cmp (ascending names) (ascending-sorted names)
+
+-- the name that is put in its place is there then, and all others as before
+or_twice : (b c : Bool) → (b || c) ≡ (b || (b || c))
+or_twice true c = refl
+or_twice false c = refl
+
+or_swap : (a b c : Bool) → (a || (b || c)) ≡ (b || (a || c))
+or_swap true true c = refl
+or_swap true false c = refl
+or_swap false true c = refl
+or_swap false false c = refl
+
+has_inserted : (name q : Hash32) (names : List Hash32) → has_hash (insert_key hash_cmp names name) q ≡ (same_hash name q || has_hash names q)
+has_inserted name q [] = refl
+has_inserted name q (n ∷ ns) = by_case (hash_cmp name n) refl (has_inserted name q ns)
+  where
+    by_case : (r : Ordering) → hash_cmp name n ≡ r → has_hash (insert_key hash_cmp ns name) q ≡ (same_hash name q || has_hash ns q)
+        → has_hash (match_ordering r (name ∷ n ∷ ns) (n ∷ ns) (n ∷ insert_key hash_cmp ns name)) q ≡ (same_hash name q || (same_hash n q || has_hash ns q))
+    by_case Less is rest = refl
+    by_case Equal is rest = or_twice (same_hash n q) (has_hash ns q) ∙ ap (λ (one : Hash32). same_hash one q || (same_hash n q || has_hash ns q)) (sym (hash_cmp_exact name n is))
+    by_case Greater is rest = ap (λ b. same_hash n q || b) rest ∙ or_swap (same_hash n q) (same_hash name q) (has_hash ns q)
+
+pub ascending_has : (names : List Hash32) (q : Hash32) → has_hash (ascending names) q ≡ has_hash names q
+ascending_has [] q = refl
+ascending_has (n ∷ ns) q = has_inserted n q (ascending ns) ∙ ap (λ b. same_hash n q || b) (ascending_has ns q)
 
 -- the names that are not left stand in their order
 pub record AreSorted (all left sorted : List Hash32) : Type 0 where
@@ -69,7 +83,7 @@ pub one_sorted : (all left now sorted after : List Hash32) (name : Hash32) → A
 one_sorted all left now sorted after name so popped inserted = record {
   done = name ∷ so.done;
   split = sym (append_assoc now (name ∷ []) so.done) ∙ ap (λ (l : List Hash32). l ++ so.done) (sym popped) ∙ so.split;
-  ascend = inserted ∙ ap (λ (l : List Hash32). insert_key hash_cmp l name) so.ascend ∙ placed-insert name (ascending so.done);
+  ascend = inserted ∙ ap (λ (l : List Hash32). insert_key hash_cmp l name) so.ascend;
 }
 
 -- ---- transactions beside their outcomes

@@ -61,7 +61,7 @@ activate_all state = from_entries (map (λ e. (e.0, active e.1)) (entries state)
 
 -- the accounts at the end of a block, which has so many fees to share, and the lamports burned and
 -- paid
-abbrev pub settled : State → Key → FeeSplit → Shares
-settled state collector split =
+abbrev pub shares_at_end : State → Key → FeeSplit → Shares
+shares_at_end state collector split =
     let shares = share state collector split in
     record shares { accounts = activate_all shares.accounts }

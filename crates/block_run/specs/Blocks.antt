@@ -2,7 +2,7 @@
 -- dropped transactions stand in the record, are the project's own).
 use Rattle.std.specs.Prelude.{ℕ, ◌+◌, Bool, true, false, List, [], ◌∷◌, map, replicate, take, Option, Some, None}
 use Rattle.std.specs.List.{filter_map, zip}
-use Rattle.std.specs.FinMap.Entries.{by_order}
+use Rattle.std.specs.BTreeSet.{insert_key}
 use Rattle.sol_base.specs.declared.key.Hash32.{Hash32}
 use Rattle.sol_base.specs.Keys.{hash_cmp}
 use Rattle.status_cache.specs.declared.recent.Mark.{Mark}
@@ -21,7 +21,7 @@ use Rattle.block_record.specs.Record.{hash_of_block}
 use Rattle.admission.specs.declared.chosen.Chosen.{Chosen}
 use Rattle.admission.specs.declared.refusal.Refused.{Refused}
 use Rattle.admission.specs.Admission.{Start, admitted, listed, start_of}
-use Rattle.admission.specs.Batches.{wire_at}
+use Rattle.admission.specs.Batches.{wire_in}
 use Rattle.block_run.specs.declared.block.BlockResult.{BlockResult}
 use Rattle.block_run.specs.declared.block.Head.{Head}
 use Rattle.block_run.specs.declared.block.Closed.{Closed}
@@ -32,7 +32,7 @@ use Rattle.block_run.specs.BlockEnd.{Shares, activate_all, share_fees}
 -- a transaction as it came, with its outcome
 abbrev pub entry_of : List (List ℕ) → Chosen × Outcome → Entry
 entry_of wires (t, outcome) = record {
-  wire = wire_at wires t.position;
+  wire = wire_in wires t.position;
   status = outcome.status;
   units = outcome.units;
   fee = outcome.base_paid + outcome.priority_paid;
@@ -53,15 +53,10 @@ abbrev pub processed_in : List Chosen → List Outcome → List Hash32
 processed_in order outcomes =
     filter_map (λ e. processed_by e.0.name e.1.status) (zip order outcomes)
 
--- a name in its place among names that ascend
-abbrev pub placed : Hash32 → List Hash32 → List Hash32
-placed name [] = name ∷ []
-placed name (n ∷ ns) = by_order (hash_cmp name n) (name ∷ n ∷ ns) (n ∷ ns) (n ∷ placed name ns)
-
--- names in ascending order
+-- names in ascending order, each once
 abbrev pub ascending : List Hash32 → List Hash32
 ascending [] = []
-ascending (n ∷ ns) = placed n (ascending ns)
+ascending (name ∷ names) = insert_key hash_cmp (ascending names) name
 
 abbrev pub mark_of : Hash32 → List Chosen → List Outcome → Mark
 mark_of hash order outcomes =
@@ -72,8 +67,8 @@ abbrev pub no_hash : Hash32
 no_hash = record { 0 = replicate 32 0 }
 
 -- a block as far as it is known by its entries
-abbrev pub entered : Head → Hash32 → List (List ℕ) → List Chosen → List Outcome → Block
-entered head previous wires order outcomes = record {
+abbrev pub unsealed : Head → Hash32 → List (List ℕ) → List Chosen → List Outcome → Block
+unsealed head previous wires order outcomes = record {
   slot = head.slot;
   collector = head.collector;
   previous = previous;

@@ -1,5 +1,6 @@
 -- What the end of a block rests on.
 use Rattle.std.specs.Prelude.{◌≡◌, ℕ, ◌+◌, ◌<◌, ◌≤◌, ◌^◌, List, length, All}
+use Rattle.sol_base.specs.Limits.{max_transactions}
 use Rattle.account_store.specs.State.{State, IsState, len, sum}
 use Rattle.admission.specs.declared.chosen.Chosen.{Chosen}
 use Rattle.admission.specs.Batches.{IsOf}
@@ -22,7 +23,7 @@ ran_of origin outcomes = record { accounts = joined_of origin; outcomes = outcom
 
 -- transactions of these wires, no more than a block may have
 pub record AreOf (wires : List (List ℕ)) (order : List Chosen) : Type 0 where
-  pub few : length order ≤ 16384
+  pub few : length order ≤ max_transactions
   pub each : All (IsOf wires) order
 
 -- transactions of a batch, and a run of them that a block may end with: an outcome for each, all of

@@ -1,6 +1,8 @@
 pub mod SerialRun
 pub mod BlockEnd
 pub mod Blocks
+pub mod Closing
+pub mod Answers
 pub mod Activation
 pub mod Ending
 pub mod Front

@@ -1,13 +1,15 @@
 //! The end of a block: its record, and the snapshot after it.
 ghost use Rattle.std.specs.Prelude.{◌≡◌, ◌+◌, ◌<◌, ◌≤◌, ◌^◌, All, IfOk, length};
 ghost use Rattle.sha2.specs.Hashers.{Holds256};
+ghost use Rattle.sol_base.specs.Limits.{max_transactions};
 ghost use Rattle.account_store.specs.State.{len, sum};
 ghost use Rattle.tx_exec.specs.TransactionLaws.{IsSmallOutcome};
 ghost use Rattle.block_record.specs.Record.{IsCounted, front_bytes};
-ghost use Rattle.snapshot_codec.specs.Snapshot.{AreAllowed, IsWritable, hash_of_state};
-ghost use Rattle.block_run.specs.BlockEnd.{settled};
-ghost use Rattle.status_cache.specs.Recent.{Ascends, newest_of};
-ghost use Rattle.block_run.specs.Blocks.{ascending, closed_with, entered, sealed};
+ghost use Rattle.snapshot_codec.specs.Snapshot.{AreAllowed};
+ghost use Rattle.status_cache.specs.Recent.{newest_of};
+ghost use Rattle.block_run.specs.Answers.{IsClosed};
+ghost use Rattle.block_run.specs.Blocks.{ascending, closed_with, sealed};
+ghost use Rattle.block_run.specs.Closing.{IsEndOf, IsUnsealed};
 ghost use Rattle.block_run.specs.Ending.{AreOf, MayEnd, joined_of, ran_of};
 ghost use Rattle.block_run.specs.Front.{IsBegun};
 
@@ -33,7 +35,7 @@ use tx_report::Outcome;
 
 /// The accounts after a block with their hash, and the lamports burned and paid.
 #[derive(Drop)]
-struct Settled {
+pub(crate) struct EndState {
     accounts: Accounts,
     burned: u64,
     collected: u64,
@@ -41,21 +43,15 @@ struct Settled {
 }
 
 /// Shares the fees; then programs become executable, and the state hash is of these accounts.
-fn settle(
+fn end_state(
     alloc: Global,
     accounts: Accounts,
     collector: &Key,
     split: FeeSplit,
-) -> Result<Settled, OutOfMemory>
+) -> Result<EndState, OutOfMemory>
     requires supply { sum accounts + split.burned + split.rest < 2 ^ 64 }
     requires room { len accounts + 1 < 2 ^ 32 }
-    ensures shares { IfOk result (λ end. (record {
-      accounts = end.accounts;
-      burned = end.burned;
-      collected = end.collected;
-    })
-        ≡ settled accounts collector.now split) }
-    ensures state { IfOk result (λ end. end.state ≡ hash_of_state end.accounts) }
+    ensures { IfOk result (IsEndOf accounts collector.now split) }
 {
     let Shared {
         accounts,
@@ -64,7 +60,7 @@ fn settle(
     } = share_split(alloc, accounts, collector, split)?;
     let accounts = activate_all(alloc, accounts)?;
     let state = state_hash(alloc, &accounts)?;
-    Ok(Settled {
+    Ok(EndState {
         accounts,
         burned,
         collected,
@@ -72,53 +68,44 @@ fn settle(
     })
 }
 
-/// Joins the accounts of a run and settles them; and sorts the names.
-fn settle_run(
+/// The same of the accounts that a run leaves, once they are joined; and the names, sorted.
+fn end_state_of_run(
     alloc: Global,
     ended: Ended<TxWork>,
     collector: &Key,
     split: FeeSplit,
     names: Vec<Hash32>,
-) -> Result<(Settled, Items<Hash32>), OutOfMemory>
+) -> Result<(EndState, Items<Hash32>), OutOfMemory>
     requires supply { sum (joined_of ended.origin.value) + split.burned + split.rest < 2 ^ 64 }
     requires room { len (joined_of ended.origin.value) + 1 < 2 ^ 32 }
-    ensures shares { IfOk result (λ end. (record {
-      accounts = end.0.accounts;
-      burned = end.0.burned;
-      collected = end.0.collected;
-    })
-        ≡ settled (joined_of ended.origin.value) collector.now split) }
-    ensures state { IfOk result (λ end. end.0.state ≡ hash_of_state end.0.accounts) }
+    ensures end { IfOk result (λ end.
+        IsEndOf (joined_of ended.origin.value) collector.now split end.0) }
     ensures names { IfOk result (λ end. end.1 ≡ ascending names.items) }
-    ensures ascends { IfOk result (λ end. Ascends end.1) }
 {
     let accounts = ended.joined()?;
-    let settled = settle(alloc, accounts, collector, split)?;
-    Ok((settled, ascending(alloc, names)?))
+    let end = end_state(alloc, accounts, collector, split)?;
+    Ok((end, ascending(alloc, names)?))
 }
 
 /// A block as far as it is known by its entries, and its hash so far.
 #[derive(Drop)]
-struct Entered {
+pub(crate) struct Unsealed {
     block: Block,
     hasher: Sha256,
 }
 
 /// Lists the entries, and hashes those that are not in the hash yet.
-fn enter(
+fn list_entries(
     alloc: Global,
     parts: RecordParts<'_>,
     outcomes: Items<Outcome>,
     begun: Begun,
-) -> Result<Entered, OutOfMemory>
+) -> Result<Unsealed, OutOfMemory>
     requires of { AreOf parts.wires.now parts.order.now }
     requires one_each { length outcomes ≡ length parts.order.now }
     requires small { All IsSmallOutcome outcomes }
     requires begun { IsBegun parts outcomes begun }
-    ensures block { IfOk result (λ e. let p = parts.entry in
-        e.block ≡ entered p.head.now p.previous p.wires.now p.order.now outcomes) }
-    ensures counted { IfOk result (λ e. IsCounted e.block) }
-    ensures hasher { IfOk result (λ e. Holds256 e.hasher (front_bytes e.block)) }
+    ensures { IfOk result (IsUnsealed parts.entry outcomes) }
 {
     let Begun { count, hasher } = begun;
     let entries = entries_of(alloc, parts.wires, parts.order, outcomes)?;
@@ -134,10 +121,10 @@ fn enter(
         state: Hash32([0; 32]),
         hash: Hash32([0; 32]),
     };
-    Ok(Entered { block, hasher })
+    Ok(Unsealed { block, hasher })
 }
 
-/// The accounts are settled and the names sorted beside the entries, where there are several lanes.
+/// The accounts are ended and the names sorted beside the entries, where there are several lanes.
 fn end_run<R: Threads + Sync>(
     rt: &R,
     alloc: Global,
@@ -148,26 +135,17 @@ fn end_run<R: Threads + Sync>(
     ended: Ended<TxWork>,
     outcomes: Items<Outcome>,
     begun: Begun,
-) -> Result<((Settled, Items<Hash32>), Entered), OutOfMemory>
+) -> Result<((EndState, Items<Hash32>), Unsealed), OutOfMemory>
     requires supply { sum (joined_of ended.origin.value) + split.burned + split.rest < 2 ^ 64 }
     requires room { len (joined_of ended.origin.value) + 1 < 2 ^ 32 }
     requires of { AreOf parts.wires.now parts.order.now }
     requires one_each { length outcomes ≡ length parts.order.now }
     requires small { All IsSmallOutcome outcomes }
     requires begun { IsBegun parts outcomes begun }
-    ensures shares { IfOk result (λ end. (record {
-      accounts = end.0.0.accounts;
-      burned = end.0.0.burned;
-      collected = end.0.0.collected;
-    })
-        ≡ settled (joined_of ended.origin.value) parts.entry.head.now.collector split) }
-    ensures state { IfOk result (λ end. end.0.0.state ≡ hash_of_state end.0.0.accounts) }
+    ensures end { IfOk result (λ end. IsEndOf (joined_of ended.origin.value)
+        parts.entry.head.now.collector split end.0.0) }
     ensures names { IfOk result (λ end. end.0.1 ≡ ascending names.items) }
-    ensures ascends { IfOk result (λ end. Ascends end.0.1) }
-    ensures block { IfOk result (λ end. let p = parts.entry in
-        end.1.block ≡ entered p.head.now p.previous p.wires.now p.order.now outcomes) }
-    ensures counted { IfOk result (λ end. IsCounted end.1.block) }
-    ensures hasher { IfOk result (λ end. Holds256 end.1.hasher (front_bytes end.1.block)) }
+    ensures entries { IfOk result (λ end. IsUnsealed parts.entry outcomes end.1) }
 {
     let RecordParts {
         head,
@@ -175,23 +153,17 @@ fn end_run<R: Threads + Sync>(
         wires,
         order,
     } = parts;
-    let (settled, entered) = call_both(
+    let (end, unsealed) = call_both(
         rt,
         lanes,
-        move || -> Result<(Settled, Items<Hash32>), OutOfMemory>
+        move || -> Result<(EndState, Items<Hash32>), OutOfMemory>
             requires { (sum (joined_of ended.origin.value) + split.burned + split.rest < 2 ^ 64)
                 × (len (joined_of ended.origin.value) + 1 < 2 ^ 32) }
-            ensures shares { IfOk result (λ end. (record {
-              accounts = end.0.accounts;
-              burned = end.0.burned;
-              collected = end.0.collected;
-            })
-                ≡ settled (joined_of ended.origin.value) head.entry.now.collector split) }
-            ensures state { IfOk result (λ end. end.0.state ≡ hash_of_state end.0.accounts) }
+            ensures end { IfOk result (λ end. IsEndOf (joined_of ended.origin.value)
+                head.entry.now.collector split end.0) }
             ensures names { IfOk result (λ end. end.1 ≡ ascending names.items) }
-            ensures ascends { IfOk result (λ end. Ascends end.1) }
-        { settle_run(alloc, ended, &head.collector, split, names) },
-        move || -> Result<Entered, OutOfMemory>
+        { end_state_of_run(alloc, ended, &head.collector, split, names) },
+        move || -> Result<Unsealed, OutOfMemory>
             requires { AreOf wires.now order.now × (length outcomes ≡ length order.now)
                 × All IsSmallOutcome outcomes × IsBegun (record {
                   head = head;
@@ -200,11 +172,13 @@ fn end_run<R: Threads + Sync>(
                   order = order;
                 })
                 outcomes begun }
-            ensures block { IfOk result (λ e.
-                e.block ≡ entered head.entry.now previous wires.entry.now order.entry.now
+            ensures { IfOk result (IsUnsealed (record {
+              head = head.entry;
+              previous = previous;
+              wires = wires.entry;
+              order = order.entry;
+            })
                 outcomes) }
-            ensures counted { IfOk result (λ e. IsCounted e.block) }
-            ensures hasher { IfOk result (λ e. Holds256 e.hasher (front_bytes e.block)) }
         {
             let parts = RecordParts {
                 head,
@@ -212,24 +186,24 @@ fn end_run<R: Threads + Sync>(
                 wires,
                 order,
             };
-            enter(alloc, parts, outcomes, begun)
+            list_entries(alloc, parts, outcomes, begun)
         },
     );
-    Ok((settled?, entered?))
+    Ok((end?, unsealed?))
 }
 
 /// The block with the accounts' hash, the lamports burned and paid, and its own hash.
-fn seal(entered: Entered, burned: u64, collected: u64, state: Hash32) -> Block
-    requires counted { IsCounted entered.block }
-    requires hasher { Holds256 entered.hasher (front_bytes entered.block) }
-    ensures exact { result ≡ sealed (record entered.block {
+fn seal(unsealed: Unsealed, burned: u64, collected: u64, state: Hash32) -> Block
+    requires counted { IsCounted unsealed.block }
+    requires hasher { Holds256 unsealed.hasher (front_bytes unsealed.block) }
+    ensures exact { result ≡ sealed (record unsealed.block {
       burned = burned;
       collected = collected;
       state = state;
     }) }
     ensures counted { IsCounted result }
 {
-    let Entered { mut block, hasher } = entered;
+    let Unsealed { mut block, hasher } = unsealed;
     block.burned = burned;
     block.collected = collected;
     block.state = state;
@@ -251,33 +225,31 @@ pub(crate) fn close<R: Threads + Sync>(
     begun: Begun,
 ) -> Result<Closed, OutOfMemory>
     requires limits { AreAllowed limits }
-    requires messages { All (λ mark. length mark.messages ≤ 16384) recent }
+    requires messages { All (λ mark. length mark.messages ≤ max_transactions) recent }
     requires previous { parts.previous ≡ newest_of recent }
     requires run { MayEnd parts.wires.now parts.order.now (ran_of ended.origin.value outcomes) }
     requires begun { IsBegun parts outcomes begun }
-    ensures exact { IfOk result (λ end. end ≡ closed_with (record {
+    ensures { IfOk result (IsClosed (closed_with (record {
       slot = 0;
       limits = limits;
       recent = recent;
       accounts = joined_of ended.origin.value;
     })
         parts.entry.head.now parts.entry.wires.now parts.entry.order.now
-        (ran_of ended.origin.value outcomes)) }
-    ensures counted { IfOk result (λ end. IsCounted end.block) }
-    ensures writable { IfOk result (λ end. IsWritable end.after) }
+        (ran_of ended.origin.value outcomes))) }
 {
     let names = processed_in(alloc, parts.order, outcomes.as_slice())?;
     let split = split_paid(outcomes.as_slice());
-    let ((settled, sorted), entered) = end_run(
+    let ((end, sorted), unsealed) = end_run(
         rt, alloc, lanes, parts, split, names, ended, outcomes, begun,
     )?;
-    let Settled {
+    let EndState {
         accounts,
         burned,
         collected,
         state,
-    } = settled;
-    let block = seal(entered, burned, collected, state);
+    } = end;
+    let block = seal(unsealed, burned, collected, state);
     let mut recent = recent;
     recent.advance(Mark {
         hash: block.hash,

@@ -2,6 +2,7 @@
 ghost use Rattle.std.specs.Prelude.{◌≡◌, ◌+◌, ◌≤◌, ◌++◌, ℕ, All, IfOk, List, Some, drop, length};
 ghost use Rattle.std.specs.List.{flat_map};
 ghost use Rattle.sha2.specs.Hashers.{Holds256};
+ghost use Rattle.sol_base.specs.Limits.{max_transactions};
 ghost use Rattle.tx_report.specs.declared.outcome.Outcome.{Outcome as OutcomeValue};
 ghost use Rattle.tx_exec.specs.TransactionLaws.{IsSmallOutcome};
 ghost use Rattle.bank_core.specs.Ends.{outcomes_at_end};
@@ -40,7 +41,7 @@ pub(crate) struct Begun {
 
 /// The hash of a record that is to have an entry for each transaction, up to the first of them.
 pub(crate) fn begin(parts: RecordParts<'_>) -> Result<Begun, OutOfMemory>
-    requires few { length parts.order.now ≤ 16384 }
+    requires few { length parts.order.now ≤ max_transactions }
     ensures { IfOk result (λ begun. (outcomes : List OutcomeValue)
         → IsBegun parts.entry outcomes begun) }
 {

@@ -1,6 +1,7 @@
 //! A work on its lanes: alone in order, or beside each other over a shared desk, while the front of
 //! the record is hashed.
 ghost use Rattle.std.specs.Prelude.{◌≡◌, ◌<◌, ◌≤◌, [], All, IfOk, None, OnOk, Some, length};
+ghost use Rattle.sol_base.specs.Limits.{max_lanes};
 ghost use Rattle.account_store.specs.State.{at};
 ghost use Rattle.bank_law.specs.History.{holds, returns};
 ghost use Rattle.bank_core.specs.Ends.{outcomes_at_end, serial_outcomes};
@@ -180,7 +181,7 @@ pub(crate) fn run_work<W: Work + Sync, G: Gate, R: Threads + Wait + Sync>(
     parts: RecordParts<'_>,
 ) -> Result<(Ended<W>, Items<Outcome>, Begun), OutOfMemory>
     requires some { 1 ≤ lanes }
-    requires most { lanes ≤ 64 }
+    requires most { lanes ≤ max_lanes }
     requires numbered { AreNumbered (W.job (W.told work.now)) numbered.table numbered.graph
         numbered.room }
     requires of { AreOf parts.wires.now parts.order.now }

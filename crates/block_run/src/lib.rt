@@ -16,5 +16,8 @@ mod run;
 mod threads;
 
 pub use block::{BlockResult, Closed, Head};
-pub use laws::{activated_programs_are_ready, executable_accounts_stay, lamports_are_conserved};
+pub use laws::{
+    activated_programs_are_ready, executable_accounts_stay, lamports_are_conserved,
+    sorted_names_are_the_same,
+};
 pub use run::{run_block, run_listed, run_parsed};

@@ -1,6 +1,5 @@
 //! The names of the messages that a block processed.
 ghost use Rattle.std.specs.Prelude.{◌≡◌, IfOk, length};
-ghost use Rattle.status_cache.specs.Recent.{Ascends};
 ghost use Rattle.block_run.specs.Blocks.{ascending, processed_by, processed_in};
 
 use admission::Chosen;
@@ -39,8 +38,7 @@ pub(crate) fn processed_in(
 
 /// The names in ascending order.
 pub(crate) fn ascending(alloc: Global, mut names: Vec<Hash32>) -> Result<Items<Hash32>, OutOfMemory>
-    ensures exact { IfOk result (λ sorted. sorted ≡ ascending names.items) }
-    ensures ascends { IfOk result Ascends }
+    ensures { IfOk result (λ sorted. sorted ≡ ascending names.items) }
 {
     let mut set = BTreeSet::new(alloc);
     while let Some(name) = names.pop() {

@@ -1,5 +1,6 @@
 //! Transactions in their order, as a work with the programs that they may call.
 ghost use Rattle.std.specs.Prelude.{◌≡◌, ◌<◌, ◌≤◌, ◌++◌, All, IfOk, OnOk, length, slice_get};
+ghost use Rattle.sol_base.specs.Limits.{max_stack_height, max_transactions};
 ghost use Rattle.message_codec.specs.Roles.{all_keys};
 ghost use Rattle.snapshot_codec.specs.Snapshot.{IsUpTo};
 ghost use Rattle.admission.specs.Chosen.{IsChosen};
@@ -45,7 +46,7 @@ fn keys_in(alloc: Global, order: &[Chosen]) -> Result<Items<Key>, OutOfMemory>
 #[derive(Drop)]
 struct InOrder<'a> {
     order: &'a [Chosen],
-    ghost few: { length order.now ≤ 16384 },
+    ghost few: { length order.now ≤ max_transactions },
 }
 
 impl<'a> Locked for InOrder<'a> {
@@ -85,7 +86,7 @@ fn programs_in(
 
 /// The keys that the transactions lock, as numbers.
 fn numbered_in(alloc: Global, order: &[Chosen]) -> Result<Numbered, OutOfMemory>
-    requires few { length order.now ≤ 16384 }
+    requires few { length order.now ≤ max_transactions }
     requires chosen { All IsChosen order.now }
     ensures { IfOk result (λ n.
         AreNumbered (job_of (locked_in order.now)) n.table n.graph n.room) }
@@ -102,25 +103,25 @@ fn prepare<R: Threads + Sync>(
     accounts: &Accounts,
     order: &[Chosen],
 ) -> Result<(Programs, Numbered), OutOfMemory>
-    requires few { length order.now ≤ 16384 }
+    requires few { length order.now ≤ max_transactions }
     requires chosen { All IsChosen order.now }
     ensures programs { IfOk result (λ made.
         made.0 ≡ programs_of accounts.now (keys_in order.now)) }
     ensures numbered { IfOk result (λ made.
         AreNumbered (job_of (locked_in order.now)) made.1.table made.1.graph made.1.room) }
 {
-    let (programs, numbered) = call_both(
+    let (numbered, programs) = call_both(
         rt,
         lanes,
+        || -> Result<Numbered, OutOfMemory>
+            requires { (length order.now ≤ max_transactions) × All IsChosen order.now }
+            ensures { IfOk result (λ n.
+                AreNumbered (job_of (locked_in order.entry.now)) n.table n.graph n.room) }
+        { numbered_in(alloc, order) },
         || -> Result<Programs, OutOfMemory>
             ensures { IfOk result (λ programs.
                 programs ≡ programs_of accounts.entry.now (keys_in order.entry.now)) }
         { programs_in(alloc, accounts, order) },
-        || -> Result<Numbered, OutOfMemory>
-            requires { (length order.now ≤ 16384) × All IsChosen order.now }
-            ensures { IfOk result (λ n.
-                AreNumbered (job_of (locked_in order.entry.now)) n.table n.graph n.room) }
-        { numbered_in(alloc, order) },
     );
     Ok((programs?, numbered?))
 }
@@ -135,8 +136,8 @@ pub(crate) fn work_of<R: Threads + Sync>(
     slot: u64,
     order: Items<Chosen>,
 ) -> Result<(TxWork, Numbered), OutOfMemory>
-    requires few { length order ≤ 16384 }
-    requires height { IsUpTo 9 snapshot.now.limits.height }
+    requires few { length order ≤ max_transactions }
+    requires height { IsUpTo max_stack_height snapshot.now.limits.height }
     requires chosen { All IsChosen order }
     ensures told { IfOk result (λ work. work.0.told ≡ told_in snapshot.now slot order) }
     ensures numbered { IfOk result (λ work.

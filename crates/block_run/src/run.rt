@@ -1,9 +1,12 @@
 //! The calls that run a block.
-ghost use Rattle.std.specs.Prelude.{◌≡◌, ◌≤◌, ◌<◌, All, IfOk, MatchBool, length, map};
+ghost use Rattle.std.specs.Prelude.{◌≡◌, ◌≤◌, All, IfOk, length, map};
+ghost use Rattle.sol_base.specs.Limits.{max_lanes, max_transactions};
 ghost use Rattle.admission.specs.Admission.{AreParsed, admitted};
 ghost use Rattle.admission.specs.Chosen.{IsChosen};
 ghost use Rattle.block_record.specs.Record.{IsCounted};
-ghost use Rattle.snapshot_codec.specs.Snapshot.{IsReadable, IsWritable};
+ghost use Rattle.block_record.specs.Replays.{IsReplayOf};
+ghost use Rattle.snapshot_codec.specs.Snapshot.{IsReadable};
+ghost use Rattle.block_run.specs.Answers.{IsBlockResult, IsClosed};
 ghost use Rattle.block_run.specs.Blocks.{before_refused, block_result, closed, is_halted, listed_result, start_in};
 ghost use Rattle.block_run.specs.Ending.{AreOf};
 
@@ -33,13 +36,11 @@ fn run_order<G: Gate, R: Threads + Wait + Sync>(
     gate: &G,
 ) -> Result<Closed, OutOfMemory>
     requires some { 1 ≤ lanes }
-    requires most { lanes ≤ 64 }
+    requires most { lanes ≤ max_lanes }
     requires readable { IsReadable snapshot }
     requires chosen { All IsChosen order }
     requires of { AreOf wires.now order }
-    ensures exact { IfOk result (λ end. end ≡ closed snapshot head.now wires.now order) }
-    ensures counted { IfOk result (λ end. IsCounted end.block) }
-    ensures writable { IfOk result (λ end. IsWritable end.after) }
+    ensures { IfOk result (IsClosed (closed snapshot head.now wires.now order)) }
 {
     let (work, numbered) = work_of(rt, alloc, lanes, &snapshot, head.slot, order)?;
     let Snapshot {
@@ -73,14 +74,12 @@ fn run_admitted<G: Gate, R: Threads + Wait + Sync>(
     gate: &G,
 ) -> Result<BlockResult, OutOfMemory>
     requires some { 1 ≤ lanes }
-    requires most { lanes ≤ 64 }
+    requires most { lanes ≤ max_lanes }
     requires readable { IsReadable snapshot }
-    requires few { length batch.now.wires ≤ 16384 }
+    requires few { length batch.now.wires ≤ max_transactions }
     requires answer { answer ≡ admitted (start_in snapshot) batch.now.wires }
     requires chosen { All IsChosen answer.order }
-    ensures exact { IfOk result (λ answer. answer ≡ block_result snapshot batch.now) }
-    ensures counted { IfOk result (λ answer. IsCounted answer.block) }
-    ensures writable { IfOk result (λ answer. IsWritable answer.after) }
+    ensures { IfOk result (IsBlockResult (block_result snapshot batch.now)) }
 {
     let Admitted { order, refused } = answer;
     let head = Head {
@@ -116,13 +115,10 @@ pub fn run_block<G: Gate, R: Threads + Wait + Sync>(
     gate: &G,
 ) -> Result<BlockResult, OutOfMemory>
     requires some { 1 ≤ lanes }
-    requires most { lanes ≤ 64 }
+    requires most { lanes ≤ max_lanes }
     requires readable { IsReadable snapshot }
-    requires later { snapshot.slot < batch.now.slot }
-    requires few { length batch.now.wires ≤ 16384 }
-    ensures exact { IfOk result (λ answer. answer ≡ block_result snapshot batch.now) }
-    ensures counted { IfOk result (λ answer. IsCounted answer.block) }
-    ensures writable { IfOk result (λ answer. IsWritable answer.after) }
+    requires few { length batch.now.wires ≤ max_transactions }
+    ensures { IfOk result (IsBlockResult (block_result snapshot batch.now)) }
 {
     let answer = admit(
         alloc,
@@ -145,14 +141,11 @@ pub fn run_parsed<G: Gate, R: Threads + Wait + Sync>(
     gate: &G,
 ) -> Result<BlockResult, OutOfMemory>
     requires some { 1 ≤ lanes }
-    requires most { lanes ≤ 64 }
+    requires most { lanes ≤ max_lanes }
     requires readable { IsReadable snapshot }
-    requires later { snapshot.slot < batch.now.slot }
-    requires few { length batch.now.wires ≤ 16384 }
+    requires few { length batch.now.wires ≤ max_transactions }
     requires read { AreParsed batch.now.wires parsed }
-    ensures exact { IfOk result (λ answer. answer ≡ block_result snapshot batch.now) }
-    ensures counted { IfOk result (λ answer. IsCounted answer.block) }
-    ensures writable { IfOk result (λ answer. IsWritable answer.after) }
+    ensures { IfOk result (IsBlockResult (block_result snapshot batch.now)) }
 {
     let answer = admit_parsed(
         alloc,
@@ -204,14 +197,12 @@ pub fn run_listed<G: Gate, R: Threads + Wait + Sync>(
     gate: &G,
 ) -> Result<Listed, OutOfMemory>
     requires some { 1 ≤ lanes }
-    requires most { lanes ≤ 64 }
+    requires most { lanes ≤ max_lanes }
     requires readable { IsReadable snapshot }
-    requires few { length given.now.entries ≤ 16384 }
+    requires few { length given.now.entries ≤ max_transactions }
     ensures exact { IfOk result (λ answer. answer ≡ listed_result snapshot given.now) }
     ensures counted { IfOk result (λ answer. IsCounted answer.block) }
-    ensures cut { IfOk result (λ answer. MatchBool answer.halted
-        (length answer.block.entries < length given.now.entries)
-        (length answer.block.entries ≡ length given.now.entries)) }
+    ensures cut { IfOk result (IsReplayOf given.now) }
 {
     let wires = wires_of(alloc, given.entries.as_slice())?;
     let Admitted { order, refused } = admit_listed(

@@ -1,8 +1,9 @@
 use std::thread::{Threads, join};
 
-/// Calls both: the first in a thread of its own, unless there is one lane alone. Then the second is
-/// called after the first, and no thread is started.
-pub(crate) fn call_both<R: Threads, F: FnOnce() -> A + Send, G: FnOnce() -> B, A: Send, B>(
+/// Calls both: the second in a thread of its own, unless there is one lane alone. Then it is called
+/// after the first, and no thread is started. The first should be the one that takes more memory,
+/// which costs least on the caller's thread.
+pub(crate) fn call_both<R: Threads, F: FnOnce() -> A, G: FnOnce() -> B + Send, A, B: Send>(
     rt: &R,
     lanes: u32,
     first: F,
@@ -15,6 +16,7 @@ pub(crate) fn call_both<R: Threads, F: FnOnce() -> A + Send, G: FnOnce() -> B, A
     if lanes == 1 {
         (first(), second())
     } else {
-        join(rt, first, second)
+        let (second, first) = join(rt, second, first);
+        (first, second)
     }
 }

@@ -1,7 +1,8 @@
 -- The limits and the costs of a cross-program call (Solana; that account data cost nothing is the
 -- project's own).
 use Rattle.std.specs.Prelude.{ℕ}
-use Rattle.cpi_calls.specs.declared.request.TheConstants.{BYTES_OF_UNIT, CALL_COST, MAX_CALL_DATA}
+use Rattle.compute_meter.specs.declared.units.TheConstants.{BYTES_OF_UNIT}
+use Rattle.cpi_calls.specs.declared.request.TheConstants.{CALL_COST, MAX_CALL_DATA}
 use Rattle.cpi_calls.specs.declared.signers.TheConstants.{MAX_SIGNERS}
 pub use Rattle.sol_base.specs.Metas.{max_metas}
 

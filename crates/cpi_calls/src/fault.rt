@@ -1,4 +1,5 @@
 //! The refusals of requests and of rights.
+use compute_meter::UnitsFault;
 use sbpf_memory::ReadFault;
 use sol_base::OutOfMemory;
 use std::alloc::AllocError;
@@ -61,6 +62,16 @@ impl ReadFault for CallFault {
 
     fn out_of_memory() -> CallFault {
         CallFault::OutOfMemory
+    }
+}
+
+impl UnitsFault for CallFault {
+    ghost use Rattle.cpi_calls.specs.declared.fault.CallFault.TheVariants.{UnitsSpent as units_spent};
+
+    ghost spent = { units_spent };
+
+    fn units_spent() -> CallFault {
+        CallFault::UnitsSpent
     }
 }
 

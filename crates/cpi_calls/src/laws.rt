@@ -8,6 +8,16 @@ ghost use Rattle.cpi_calls.specs.declared.grant.Granted.{Granted};
 ghost use Rattle.cpi_calls.specs.Calls.{IsSmallRequest, request_of};
 ghost use Rattle.cpi_calls.specs.Rights.{IsWithin, rights_of};
 
+use crate::request::{CALL_COST, MAX_CALL_DATA};
+use crate::signers::MAX_SIGNERS;
+
+/// The cost and the bounds of a cross-program call, as Solana has them.
+pub fn numbers_are_as_stated()
+    ensures cost { CALL_COST ≡ 1_000 }
+    ensures data { MAX_CALL_DATA ≡ 10_240 }
+    ensures signers { MAX_SIGNERS ≡ 16 }
+{}
+
 /// A law: no request leaves more units than there were, and each is small.
 pub fn requests_are_small()
     ensures units { (arguments : List ℕ) (m : Ranges) (caller : Key) (units : ℕ) →

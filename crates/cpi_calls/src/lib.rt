@@ -10,5 +10,5 @@ mod signers;
 
 pub use fault::{CallFault, RightsFault};
 pub use grant::{Granted, grant_rights};
-pub use laws::{grants_are_within_the_caller, requests_are_small};
+pub use laws::{grants_are_within_the_caller, numbers_are_as_stated, requests_are_small};
 pub use request::{CallRequest, KeyMeta, read_call};

@@ -1,5 +1,5 @@
 //! Reading the request of a cross-program call.
-ghost use Rattle.std.specs.Prelude.{◌≡◌, ◌-◌, ◌≤◌, nat_lt, length, if◌then◌else◌};
+ghost use Rattle.std.specs.Prelude.{◌≡◌, ◌-◌, ◌≤◌, length};
 ghost use Rattle.spec_base.specs.Reading.{Gives};
 ghost use Rattle.sbpf_memory.specs.Plain.{plain_memory};
 ghost use Rattle.cpi_calls.specs.Limits.{max_metas};
@@ -9,6 +9,7 @@ ghost use Rattle.cpi_calls.specs.Calls.{Reads, header_read, lists_read, request_
 use crate::fault::CallFault;
 use crate::reads::{ITEM_LEN, item_addr};
 use crate::signers::read_signers;
+use compute_meter::{BYTES_OF_UNIT, charge};
 use sbpf_memory::{Memory, read_array, read_blob};
 use sol_base::{Blob, Items, Key, MAX_METAS};
 use spec_base::number_in;
@@ -45,10 +46,6 @@ struct Call {
 /// What a call costs before anything of it is read (Solana).
 pub(crate) const CALL_COST: u64 = 1_000;
 
-/// The bytes of data that cost one unit (Solana; that account data cost nothing is the project's
-/// own).
-pub(crate) const BYTES_OF_UNIT: u64 = 250;
-
 /// The most bytes of a call's data (Solana).
 pub(crate) const MAX_CALL_DATA: u64 = 10_240;
 
@@ -69,7 +66,7 @@ pub fn read_call(
         (request_of arguments (plain_memory memory.now) caller.now units.old) units.new result }
     ensures units { units.new ≤ units.old }
 {
-    charge(units, CALL_COST)?;
+    charge::<CallFault>(units, CALL_COST)?;
     let (call, program) = read_header(memory, arguments[0])?;
     if call.meta_count > MAX_METAS as u64 {
         return Err(CallFault::TooManyAccounts);
@@ -77,21 +74,8 @@ pub fn read_call(
     if call.data_len > MAX_CALL_DATA {
         return Err(CallFault::DataTooLong);
     }
-    charge(units, call.data_len / BYTES_OF_UNIT)?;
+    charge::<CallFault>(units, call.data_len / BYTES_OF_UNIT)?;
     read_lists(alloc, memory, caller, arguments, program, call)
-}
-
-/// Takes units, or all that are left where they are too few.
-fn charge(units: &mut u64, cost: u64) -> Result<(), CallFault>
-    ensures left { units.new ≡ units.old - cost }
-    ensures answer { result ≡ (if nat_lt units.old cost then Err CallFault.UnitsSpent else Ok tt) }
-{
-    if *units < cost {
-        *units = 0;
-        return Err(CallFault::UnitsSpent);
-    }
-    *units -= cost;
-    Ok(())
 }
 
 /// A call, and the key of its program.

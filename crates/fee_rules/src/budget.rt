@@ -10,14 +10,14 @@ use sol_base::{COMPUTE_BUDGET_PROGRAM, Key};
 use thiserror::Error;
 
 /// The most compute units of a transaction (Solana).
-const MAX_UNITS: u32 = 1_400_000;
+pub(crate) const MAX_UNITS: u32 = 1_400_000;
 
 /// The compute units of an instruction, where its message has no limit of its own (Solana; that
 /// built-in programs have as many is the project's own).
-const UNITS_PER_INSTRUCTION: u32 = 200_000;
+pub(crate) const UNITS_PER_INSTRUCTION: u32 = 200_000;
 
 /// The most bytes of data that a transaction may load (Solana).
-const MAX_LOADED_DATA: u32 = 67_108_864;
+pub(crate) const MAX_LOADED_DATA: u32 = 67_108_864;
 
 /// What a message asks of the machine.
 #[derive(Clone, Copy, PartialEq, Eq)]

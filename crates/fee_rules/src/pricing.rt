@@ -7,10 +7,10 @@ use crate::charge::Fee;
 use message_codec::Message;
 
 /// What each required signature costs, in lamports (Solana).
-const LAMPORTS_PER_SIGNATURE: u64 = 5_000;
+pub(crate) const LAMPORTS_PER_SIGNATURE: u64 = 5_000;
 
 /// How many micro-lamports, in which prices are given, make a lamport (Solana).
-const MICRO_LAMPORTS_PER_LAMPORT: u128 = 1_000_000;
+pub(crate) const MICRO_LAMPORTS_PER_LAMPORT: u128 = 1_000_000;
 
 /// What the message's transaction pays with that budget. A priority fee with which the sum does not
 /// fit in a u64 counts as the greatest with which it does (Solana; the cut is the project's own).

@@ -8,10 +8,10 @@ ghost use Rattle.fee_rules.specs.Requests.{asked_with, has_asked, heap_frame_of,
 pub(crate) const MIN_HEAP_FRAME: u32 = 32_768;
 
 /// The most bytes of a heap (Solana).
-const MAX_HEAP_FRAME: u32 = 262_144;
+pub(crate) const MAX_HEAP_FRAME: u32 = 262_144;
 
 /// The bytes of a heap are a multiple of this (Solana).
-const HEAP_FRAME_STEP: u32 = 1_024;
+pub(crate) const HEAP_FRAME_STEP: u32 = 1_024;
 
 /// What one compute budget instruction asks for.
 #[derive(Clone, Copy, PartialEq, Eq)]

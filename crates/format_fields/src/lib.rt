@@ -8,4 +8,4 @@ mod output;
 
 pub use fields::{hash_field, key_field};
 pub use many::{Item, MemoryRefusal, read_many};
-pub use output::Output;
+pub use output::{ByteCount, Output};

@@ -1,4 +1,4 @@
-//! Where the bytes of a format go: into a list, or into a hash.
+//! Where the bytes of a format go: into a list, into a hash, or into a count.
 use sha2::{Digest, Sha256};
 use sol_base::{Blob, OutOfMemory};
 
@@ -32,6 +32,21 @@ impl Output for Sha256 {
 
     fn append(&mut self, piece: &[u8]) -> Result<(), OutOfMemory> {
         self.update(piece);
+        Ok(())
+    }
+}
+
+/// A count of bytes, so that one buffer is reserved for them. It ends at the greatest `usize`.
+#[derive(Clone, Copy)]
+pub struct ByteCount(pub usize);
+
+impl Output for ByteCount {
+    ghost use Rattle.std.specs.Prelude.{◌≡◌, ◌-◌, ◌^◌, length, min};
+
+    ghost holds = { λ count taken. count.0 ≡ min (length taken) (2 ^ 64 - 1) };
+
+    fn append(&mut self, piece: &[u8]) -> Result<(), OutOfMemory> {
+        self.0 = self.0.saturating_add(piece.len());
         Ok(())
     }
 }

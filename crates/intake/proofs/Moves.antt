@@ -241,7 +241,3 @@ all_left v tickets seats made taken joined number h =
       of_seats tickets seats (subst (λ (y : List Ticket × List (ℕ × List Ticket)). All (λ (k : ℕ × List Ticket). of y.0 k.0 ≡ k.1) y.1) (λ i. (same i, joined i)) h.2.0),
       λ s le. ap (λ (l : List Ticket). of l s) (sym same) ∙ h.2.1 s (omega (arith, number)),
     )
-
--- nothing is left to join
-pub all_joined : (v w : PassView) (seats : List SendSeat) → alone v ≡ alone w → v.joined ≡ map sender_and_sent seats → v ≡ record w { joined = map sender_and_sent seats }
-all_joined v w seats same joined = λ i. record (same i) { joined = joined i }

@@ -1,5 +1,6 @@
 //! Gathering: the wires of a batch parsed by several senders at once.
 ghost use Rattle.std.specs.Prelude.{◌≡◌, ℕ, ◌+◌, ◌<◌, ◌≤◌, ◌-◌, ◌^◌, ◌++◌, ◌∷◌, [], List, length, map, All, IfOk, IsSome, Ok, Some, None, slice_set};
+ghost use Rattle.sol_base.specs.Limits.{max_senders, max_transactions};
 ghost use Rattle.message_codec.specs.Parsing.{parsed_of};
 ghost use Rattle.intake.specs.declared.seats.SendSeat.{SendSeat};
 ghost use Rattle.intake.specs.Gathering.{ArriveByShares, CarriesShares, EachArrivesOnce, HasSentShare, HaveSentShares, arrival_of};
@@ -40,8 +41,8 @@ pub fn gather<R: Threads + Wait + Sync, G: SendGate>(
     senders: u32,
     gate: &G,
 ) -> Result<Gathered, OutOfMemory>
-    requires wires { length wires.now ≤ 16384 }
-    requires senders { (1 ≤ senders) × (senders ≤ 8) }
+    requires wires { length wires.now ≤ max_transactions }
+    requires senders { (1 ≤ senders) × (senders ≤ max_senders) }
     ensures parsed { IfOk result (λ g. g.parsed ≡ map parsed_of wires.now) }
     ensures once { IfOk result (λ g. EachArrivesOnce (length wires.now) g.arrivals) }
     ensures ascending { IfOk result (λ g. ArriveByShares (length wires.now) senders g.arrivals) }
@@ -74,7 +75,7 @@ fn send_all<R: Threads + Wait + Sync, G: SendGate>(
     gate: &G,
     seats: Items<SendSeat>,
 ) -> Result<Vec<Result<SendSeat, OutOfMemory>>, OutOfMemory>
-    requires wires { length wires.now ≤ 16384 }
+    requires wires { length wires.now ≤ max_transactions }
     requires senders { 1 ≤ senders }
     requires seats { AreFresh intake.now seats }
     ensures count { IfOk result (λ sent. length sent.items ≡ length seats) }
@@ -85,7 +86,7 @@ fn send_all<R: Threads + Wait + Sync, G: SendGate>(
         rt,
         seats.into_vec(),
         &|seat: SendSeat| -> Result<SendSeat, OutOfMemory>
-            requires { (length wires.now ≤ 16384) × (1 ≤ senders) × IsFresh intake.now seat }
+            requires { (length wires.now ≤ max_transactions) × (1 ≤ senders) × IsFresh intake.now seat }
             ensures { IfOk result
                 (HasSentShare intake.entry.now wires.entry.now senders (sender_of seat)) }
         { send_share(rt, alloc, intake, wires, senders, gate, seat) },
@@ -103,7 +104,7 @@ fn send_share<R: Wait, G: SendGate>(
     gate: &G,
     mut seat: SendSeat,
 ) -> Result<SendSeat, OutOfMemory>
-    requires wires { length wires.now ≤ 16384 }
+    requires wires { length wires.now ≤ max_transactions }
     requires senders { 1 ≤ senders }
     requires seat { IsFresh intake.now seat }
     ensures { IfOk result (HasSentShare intake.now wires.now senders (sender_of seat)) }

@@ -1,4 +1,5 @@
 -- Frames at their starts.
+use Rattle.invoke_engine.specs.declared.begin.TheConstants.{NATIVE_UNITS}
 use Rattle.std.proofs.Common.{◌≡◌, ◌≤◌, ℕ, length, false, List, Result, Ok, Err, refl, ap, ◌∙◌, ◌-◌, arith}
 use Rattle.std.specs.Prelude.{nat_lt, not, ◌&&◌}
 use Rattle.std.proofs.lemmas.Bool.Decides.{nat_tests}
@@ -16,7 +17,7 @@ use Rattle.invoke_engine.specs.Frames.{Fixed, Carried, Running, Ending, Next, Ru
 use Rattle.invoke_engine.specs.Ends.{or_error}
 use Rattle.invoke_engine.specs.Returning.{patching, returning, returned}
 use Rattle.invoke_engine.specs.Native.{is_native, native, native_row}
-use Rattle.invoke_engine.specs.Starting.{entering, entered, crowded, first_running, is_ready, begun, key_at, started}
+use Rattle.invoke_engine.specs.Starting.{entering, program_started, crowded, first_running, is_ready, begun, key_at, started}
 use Rattle.invoke_engine.specs.Fits.{EndFits}
 use Rattle.invoke_engine.specs.Given.{AreGiven}
 use Rattle.invoke_engine.proofs.Fuel.{either}
@@ -25,7 +26,7 @@ use Rattle.invoke_engine.proofs.Keeping.{kept_given, native_row_keeps}
 pub entering_ready : (s : Fixed) (outer : List Key) (key : Key) (call : Call) (accounts : List Account) (units : ℕ) (c : Carried) (image : ReadyImage) → length call.metas ≤ max_metas → is_native key ≡ false → s.programs key ≡ IsReady image → entering s outer key call accounts units c ≡ Runs (first_running s.setting s.keys key image call accounts units) c
 unfolding entering
 entering_ready s outer key call accounts units c image h k l =
-    cond-false (nat_lt max_metas (length call.metas)) _ _ (grind (arith, nat_tests)) ∙ cond-false (is_native key) _ _ k ∙ ap (entered s.setting s.keys outer key call accounts units c) l
+    cond-false (nat_lt max_metas (length call.metas)) _ _ (grind (arith, nat_tests)) ∙ cond-false (is_native key) _ _ k ∙ ap (program_started s.setting s.keys outer key call accounts units c) l
 
 or_error_fits : (n units : ℕ) (c : Carried) (height : ℕ) (result : Result (List Account) Stopped) → ((after : List Account) → result ≡ Ok after → AreGiven n after) → (let e : Ending = record { units = units; carried = c; result = or_error height result } in EndFits n e)
 or_error_fits n units c height (Ok after) k = k after refl
@@ -33,8 +34,8 @@ or_error_fits n units c height (Err stopped) k = tt
 
 native_fits : (n : ℕ) (key : Key) (outer keys : List Key) (call : Call) (accounts : List Account) (units : ℕ) (c : Carried) → AreInRange n call.metas → AreGiven n accounts → EndFits n (native key outer keys call accounts units c)
 native_fits n key outer keys call accounts units c range g =
-    either (EndFits n) (nat_lt units 150) _ _ tt
-    (or_error_fits n (units - 150) c (height outer) (native_row key keys accounts call) (λ after h. kept_given n (is_listed_writable call.metas) accounts after g (native_row_keeps n key keys accounts call after (record { count = g.count; range = range }) h)))
+    either (EndFits n) (nat_lt units NATIVE_UNITS) _ _ tt
+    (or_error_fits n (units - NATIVE_UNITS) c (height outer) (native_row key keys accounts call) (λ after h. kept_given n (is_listed_writable call.metas) accounts after g (native_row_keeps n key keys accounts call after (record { count = g.count; range = range }) h)))
 
 -- where a frame ends at once, its end fits
 abbrev pub EndsFit : ℕ → Next → Type 0
@@ -45,7 +46,7 @@ crowded_fits : (n : ℕ) (s : Fixed) (key : Key) (outer : List Key) (units : ℕ
 unfolding crowded
 crowded_fits n s key outer units c = either (EndFits n) (not (is_native key) && is_ready (s.programs key)) _ _ tt tt
 
-entered_fits : (n : ℕ) (s : Fixed) (outer : List Key) (key : Key) (call : Call) (accounts : List Account) (units : ℕ) (c : Carried) (found : Sought) → EndsFit n (entered s.setting s.keys outer key call accounts units c found)
+entered_fits : (n : ℕ) (s : Fixed) (outer : List Key) (key : Key) (call : Call) (accounts : List Account) (units : ℕ) (c : Carried) (found : Sought) → EndsFit n (program_started s.setting s.keys outer key call accounts units c found)
 entered_fits n s outer key call accounts units c (IsReady image) = tt
 entered_fits n s outer key call accounts units c IsAbsent = tt
 entered_fits n s outer key call accounts units c IsNoProgram = tt

@@ -1,4 +1,5 @@
 -- Frames of the loader, and the buffers that they change.
+use Rattle.invoke_engine.specs.declared.begin.TheConstants.{NATIVE_UNITS}
 use Rattle.std.proofs.Common.{◌≡◌, ◌∙◌, ℕ, length, List, Result, Ok, Err, refl, sym, subst}
 use Rattle.std.specs.Prelude.{IfOk, nat_lt, not, ◌&&◌}
 use Rattle.sol_base.specs.declared.key.Key.{Key}
@@ -39,7 +40,7 @@ loader_row_is keys accounts call = refl
 
 native_writes : (outer keys : List Key) (call : Call) (accounts : List Account) (units : ℕ) (c : Carried) → AreListed (length keys) call.metas accounts → Writes keys accounts call.metas (native LOADER_PROGRAM outer keys call accounts units c)
 native_writes outer keys call accounts units c listed =
-    either (Writes keys accounts call.metas) (nat_lt units 150) _ _ tt
+    either (Writes keys accounts call.metas) (nat_lt units NATIVE_UNITS) _ _ tt
     (or_error_writes keys accounts call.metas (height outer) (native_row LOADER_PROGRAM keys accounts call)
     (λ after h. only_the_authority keys accounts call.metas call.input after listed.count (in_range (length keys) (length accounts) call.metas listed.count listed.range) (refuse_ok by_loader _ after (sym (loader_row_is keys accounts call) ∙ h))))
 

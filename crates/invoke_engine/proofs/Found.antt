@@ -9,11 +9,11 @@ use Rattle.program_cache.specs.Programs.{Sought}
 use Rattle.abi_input.specs.Region.{max_metas}
 use Rattle.invoke_engine.specs.declared.call.Call.{Call}
 use Rattle.invoke_engine.specs.declared.call.Setting.{Setting}
-use Rattle.invoke_engine.specs.Frames.{Carried, Running, Ending, Next, Runs, Ends, Turn, GoesOn, Calls, Leaves, height}
+use Rattle.invoke_engine.specs.Frames.{Carried, Running, Ending, Next, Runs, Ends, Turn, GoesOn, Calls, Leaves, height, max_trace}
 use Rattle.invoke_engine.specs.Turns.{turn}
 use Rattle.invoke_engine.specs.Returning.{returned}
 use Rattle.invoke_engine.specs.Native.{is_native}
-use Rattle.invoke_engine.specs.Starting.{is_ready, crowded, entered, entering, key_at, begun, started}
+use Rattle.invoke_engine.specs.Starting.{is_ready, crowded, program_started, entering, key_at, begun, started}
 use Rattle.invoke_engine.specs.Frame.{after, follow, within, frame, go, instruction, nothing_returned}
 use Rattle.invoke_engine.specs.Fits.{SameFound}
 use Rattle.invoke_engine.specs.Views.{fixed}
@@ -50,7 +50,7 @@ module _ (one other : Key → Sought) (setting : Setting) (keys : List Key) (sam
   unfolding entering
   same_entering place outer call accounts units c =
       by_test (nat_lt max_metas (length call.metas)) _ _ _ _ (ap Ends (same_crowded place outer units c))
-      (λ few. by_test (is_native (key_at keys place)) _ _ _ _ refl (λ native. ap (entered setting keys outer (key_at keys place) call accounts units c) (same_at place native)))
+      (λ few. by_test (is_native (key_at keys place)) _ _ _ _ refl (λ native. ap (program_started setting keys outer (key_at keys place) call accounts units c) (same_at place native)))
 
   same_begun : (outer : List Key) (call : Call) (accounts : List Account) (units : ℕ) (c : Carried) → begun (fixed one setting keys) outer call accounts units c ≡ begun (fixed other setting keys) outer call accounts units c
   unfolding begun
@@ -82,4 +82,4 @@ module _ (one other : Key → Sought) (setting : Setting) (keys : List Key) (sam
 pub same_instruction : (one other : Key → Sought) (setting : Setting) (keys : List Key) (call : Call) (accounts : List Account) (units trace : ℕ) (log : Log) → SameFound keys one other →
     instruction (fixed one setting keys) call accounts units trace log ≡ instruction (fixed other setting keys) call accounts units trace log
 same_instruction one other setting keys call accounts units trace log same =
-    by_test (nat_le 64 trace) _ _ _ _ refl (λ few. same_frame one other setting keys same [] call accounts units (nothing_returned trace log))
+    by_test (nat_le max_trace trace) _ _ _ _ refl (λ few. same_frame one other setting keys same [] call accounts units (nothing_returned trace log))

@@ -1,4 +1,6 @@
 -- Frames and their units: no frame gains any, each turn takes one, and any bound that is enough serves.
+use Rattle.sbpf_isa.specs.Calls.{invoke_call}
+use Rattle.invoke_engine.specs.declared.begin.TheConstants.{NATIVE_UNITS}
 use Rattle.std.proofs.Common.{◌≡◌, ◌≤◌, ◌<◌, ◌==◌, ◌∷◌, ℕ, zero, suc, length, Bool, true, false, List, Option, Some, None, Result, Ok, Err, refl, ap, ◌∙◌, arith, if◌then◌else◌}
 use Rattle.std.specs.Prelude.{nat_lt, not, ◌&&◌}
 use Rattle.sol_base.specs.declared.key.Key.{Key}
@@ -24,7 +26,7 @@ use Rattle.invoke_engine.specs.Serving.{serving, served, serve_turn}
 use Rattle.invoke_engine.specs.Turns.{at_stop, run_to, turn}
 use Rattle.invoke_engine.specs.Returning.{patching, returning, returned}
 use Rattle.invoke_engine.specs.Native.{is_native, native}
-use Rattle.invoke_engine.specs.Starting.{key_at, entered, is_ready, crowded, entering, started, begun}
+use Rattle.invoke_engine.specs.Starting.{key_at, program_started, is_ready, crowded, entering, started, begun}
 use Rattle.invoke_engine.specs.Frame.{after, follow, within, go}
 use Rattle.invoke_engine.specs.Fits.{IsGoing, TurnTakes, NextTakes}
 
@@ -53,7 +55,7 @@ stop_takes setting keys outer f c u (Some (Helper number)) h took =
     let less : f.machine.units < u = took tt in
     let asked : (requested f).units ≤ f.machine.units = request-units _ _ _ _ in
     let given : (served setting outer f c number).units ≤ f.machine.units = sys_row-units _ _ _ _ in
-    either (TurnTakes u) (number == 17) (call_turn setting keys outer f c) (serve_turn setting outer f c number)
+    either (TurnTakes u) (number == invoke_call) (call_turn setting keys outer f c) (serve_turn setting outer f c number)
     (calling_takes outer f c u (requested f).units _ (omega arith) asked h)
     (serving_takes outer f c u (served setting outer f c number).units _ (omega arith))
 
@@ -83,9 +85,9 @@ returned_takes outer f e = returning_takes outer f e.units e.carried e.result
 
 native_takes : (key : Key) (outer keys : List Key) (call : Call) (accounts : List Account) (units : ℕ) (c : Carried) → (native key outer keys call accounts units c).units ≤ units
 native_takes key outer keys call accounts units c =
-    either (λ (e : Ending). e.units ≤ units) (nat_lt units 150) _ _ (omega arith) (omega arith)
+    either (λ (e : Ending). e.units ≤ units) (nat_lt units NATIVE_UNITS) _ _ (omega arith) (omega arith)
 
-entered_takes : (setting : Setting) (keys outer : List Key) (key : Key) (call : Call) (accounts : List Account) (units : ℕ) (c : Carried) (found : Sought) → NextTakes units (entered setting keys outer key call accounts units c found)
+entered_takes : (setting : Setting) (keys outer : List Key) (key : Key) (call : Call) (accounts : List Account) (units : ℕ) (c : Carried) (found : Sought) → NextTakes units (program_started setting keys outer key call accounts units c found)
 entered_takes setting keys outer key call accounts units c (IsReady image) = (omega arith, refl)
 entered_takes setting keys outer key call accounts units c IsAbsent = omega arith
 entered_takes setting keys outer key call accounts units c IsNoProgram = omega arith

@@ -1,4 +1,5 @@
 -- What turns keep: frames stay as they have to be, and what they hand out fits.
+use Rattle.sbpf_isa.specs.Calls.{invoke_call}
 use Rattle.std.proofs.Common.{◌≡◌, ◌<◌, ◌==◌, ◌+◌, ℕ, zero, suc, length, Bool, true, false, List, [], ◌∷◌, Option, Some, None, Result, Ok, Err, refl, ap, sym, subst, ◌∙◌, arith, slice_get, if◌then◌else◌}
 use Rattle.std.specs.Prelude.{map, nat_le}
 use Rattle.std.specs.List.{enumerate_from}
@@ -40,9 +41,9 @@ use Rattle.invoke_engine.specs.declared.call.Call.{Call}
 use Rattle.invoke_engine.specs.declared.call.Setting.{Setting}
 use Rattle.invoke_engine.specs.declared.stopped.Stopped.{Stopped}
 use Rattle.invoke_engine.specs.Reasons.{plainly, refuse, by_length, by_rule, by_call, by_rights, by_system, by_loader}
-use Rattle.invoke_engine.specs.Frames.{Carried, Running, Callee, height}
+use Rattle.invoke_engine.specs.Frames.{Carried, Running, Callee, height, max_trace}
 use Rattle.invoke_engine.specs.Ends.{closes}
-use Rattle.invoke_engine.specs.Leaving.{settled, left, exited}
+use Rattle.invoke_engine.specs.Leaving.{lawful_accounts, left, exited}
 use Rattle.invoke_engine.specs.Calling.{may_start, called, callee_of, calling, requested, call_turn}
 use Rattle.invoke_engine.specs.Serving.{serving, served, serve_turn, env_of}
 use Rattle.invoke_engine.specs.Turns.{at_stop, run_to, turn}
@@ -112,8 +113,8 @@ pub record Settles (f : Running) (after : List Account) : Type 0 where
   pub taken : back f.machine.context.memory.input.bytes f.start f.before f.metas ≡ Ok after
   pub rules : listed_rules f.program f.metas f.before after ≡ Ok tt
 
-pub settles : (f : Running) (after : List Account) → settled f ≡ Ok after → Settles f after
-unfolding settled
+pub settles : (f : Running) (after : List Account) → lawful_accounts f ≡ Ok after → Settles f after
+unfolding lawful_accounts
 settles f after h =
     let one = bind_ok (refuse by_length (back f.machine.context.memory.input.bytes f.start f.before f.metas)) _ after h in
     let two = bind_ok (refuse by_rule (listed_rules f.program f.metas f.before one.0)) _ after one.2 in
@@ -123,16 +124,16 @@ settles f after h =
     subst (Settles f) same (record { taken = come; rules = passed })
 
 -- what a frame leaves is kept since its last call
-pub settled_keeps : (n : ℕ) (f : Running) (after : List Account) → AreListed n f.metas f.before → settled f ≡ Ok after → AreKeptBy (is_listed_writable f.metas) f.before after
+pub settled_keeps : (n : ℕ) (f : Running) (after : List Account) → AreListed n f.metas f.before → lawful_accounts f ≡ Ok after → AreKeptBy (is_listed_writable f.metas) f.before after
 settled_keeps n f after listed h =
     let from : Settles f after = settles f after h in
     AreKeptBy-listed_rules f.program f.metas f.before after (back_count _ _ _ _ after from.taken) (in_range n (length f.before) f.metas listed.count listed.range) (back_others _ _ _ _ after from.taken) from.rules
 
 -- a good exit leaves the accounts so
-pub left_settled : (f : Running) (r0 : ℕ) (after : List Account) → left f r0 ≡ Ok after → settled f ≡ Ok after
+pub left_settled : (f : Running) (r0 : ℕ) (after : List Account) → left f r0 ≡ Ok after → lawful_accounts f ≡ Ok after
 unfolding left
 left_settled f r0 after h =
-    let one = bind_ok (settled f) _ after h in
+    let one = bind_ok (lawful_accounts f) _ after h in
     let two = bind_ok (exited r0) _ after one.2 in
     let same : one.0 ≡ after = cc two.2 in
     one.1 ∙ ap Ok same
@@ -158,7 +159,7 @@ pub record ComesFrom (most : ℕ) (keys outer : List Key) (f : Running) (trace :
   pub accounts : List Account
   pub asked : answer ≡ Ok request
   pub rights : rights_of request keys f.metas ≡ Ok granted
-  pub left : settled f ≡ Ok accounts
+  pub left : lawful_accounts f ≡ Ok accounts
   pub start : may_start most outer f trace request.program ≡ Ok tt
   pub is : callee_of request granted accounts ≡ callee
 
@@ -167,7 +168,7 @@ unfolding called
 called_from most keys outer f trace answer callee h =
     let one = bind_ok (refuse by_call answer) _ callee h in
     let two = bind_ok (refuse by_rights (rights_of one.0 keys f.metas)) _ callee one.2 in
-    let three = bind_ok (settled f) _ callee two.2 in
+    let three = bind_ok (lawful_accounts f) _ callee two.2 in
     let four = bind_ok (may_start most outer f trace one.0.program) _ callee three.2 in
     record {
       request = one.0;
@@ -180,11 +181,11 @@ called_from most keys outer f trace answer callee h =
       is = cc four.2;
     }
 
-started_ok : (most : ℕ) (outer : List Key) (f : Running) (trace : ℕ) (program : Key) → may_start most outer f trace program ≡ Ok tt → (trace < 64) × (height outer < most)
+started_ok : (most : ℕ) (outer : List Key) (f : Running) (trace : ℕ) (program : Key) → may_start most outer f trace program ≡ Ok tt → (trace < max_trace) × (height outer < most)
 unfolding may_start
-started_ok most outer f trace program h = tests (nat_le 64 trace) (nat_le most (height outer)) _ refl refl h
+started_ok most outer f trace program h = tests (nat_le max_trace trace) (nat_le most (height outer)) _ refl refl h
   where
-    tests : (a b : Bool) (rest : Result (Unit {0}) Stopped) → nat_le 64 trace ≡ a → nat_le most (height outer) ≡ b → (if a then Err (plainly TraceTooLong) else if b then Err (plainly StackHeight) else rest) ≡ Ok tt → (trace < 64) × (height outer < most)
+    tests : (a b : Bool) (rest : Result (Unit {0}) Stopped) → nat_le max_trace trace ≡ a → nat_le most (height outer) ≡ b → (if a then Err (plainly TraceTooLong) else if b then Err (plainly StackHeight) else rest) ≡ Ok tt → (trace < max_trace) × (height outer < most)
     tests true b rest h k l = absurd (cc)
     tests false true rest h k l = absurd (cc)
     tests false false rest h k l = (grind (arith, nat_tests), grind (arith, nat_tests))
@@ -230,7 +231,7 @@ stop_fits setting keys outer f c (Some (Exit r0)) e h =
 stop_fits setting keys outer f c (Some (Faulted fault)) e h = tt
 stop_fits setting keys outer f c (Some (Helper number)) e h =
     let helper : IsHelper f.machine.stop = subst IsHelper (sym e) tt in
-    either (TurnFits (length keys) setting.height outer) (number == 17) (call_turn setting keys outer f c) (serve_turn setting outer f c number)
+    either (TurnFits (length keys) setting.height outer) (number == invoke_call) (call_turn setting keys outer f c) (serve_turn setting outer f c number)
     (calling_fits (length keys) setting.height outer f c (requested f).units _
     (λ callee k. callee_fits setting.height keys outer f c callee (record { frame = h; helper = helper }) (called_from setting.height keys outer f c.trace (requested f).answer callee k)))
     (serving_fits (length keys) setting.height outer f c (served setting outer f c number).units _ h

@@ -1,4 +1,6 @@
 -- What frames keep of their accounts, and the account rules of their stretches.
+use Rattle.sbpf_isa.specs.Calls.{invoke_call}
+use Rattle.invoke_engine.specs.declared.begin.TheConstants.{NATIVE_UNITS}
 use Rattle.std.proofs.Common.{◌≡◌, ◌==◌, ◌∷◌, ℕ, zero, suc, length, Bool, true, false, List, Option, Some, None, Result, Ok, Err, refl, sym, subst, ◌∙◌}
 use Rattle.std.specs.Prelude.{MatchResult, IfOk, nat_lt, not, ◌&&◌}
 use Rattle.sol_base.specs.declared.key.Key.{Key}
@@ -29,7 +31,7 @@ use Rattle.invoke_engine.specs.Serving.{serving, served, serve_turn}
 use Rattle.invoke_engine.specs.Turns.{at_stop, run_to, turn}
 use Rattle.invoke_engine.specs.Returning.{patching, returning, returned}
 use Rattle.invoke_engine.specs.Native.{native, native_row, is_native}
-use Rattle.invoke_engine.specs.Starting.{entered, entering, crowded, is_ready, key_at, started, begun}
+use Rattle.invoke_engine.specs.Starting.{program_started, entering, crowded, is_ready, key_at, started, begun}
 use Rattle.invoke_engine.specs.Frame.{after, follow, within, frame, go}
 use Rattle.invoke_engine.specs.Fits.{AreListed, EndKeeps}
 use Rattle.invoke_engine.proofs.Fuel.{either}
@@ -81,7 +83,7 @@ stop_keeps setting keys outer f c (Some (Exit r0)) listed =
     leaving_keeps outer f c f.machine.units (left f r0) (λ accounts k. settled_keeps (length keys) f accounts listed (left_settled f r0 accounts k))
 stop_keeps setting keys outer f c (Some (Faulted fault)) listed = tt
 stop_keeps setting keys outer f c (Some (Helper number)) listed =
-    either (TurnKeeps (length keys) f) (number == 17) (call_turn setting keys outer f c) (serve_turn setting outer f c number)
+    either (TurnKeeps (length keys) f) (number == invoke_call) (call_turn setting keys outer f c) (serve_turn setting outer f c number)
     (calling_keeps outer keys f c setting.height (requested f).units (called setting.height keys outer f c.trace (requested f).answer) listed (λ callee k. called_from setting.height keys outer f c.trace (requested f).answer callee k))
     (serving_keeps (length keys) outer f c (served setting outer f c number).units (served setting outer f c number).answer)
 
@@ -121,10 +123,10 @@ or_error_keeps metas before units c height (Err stopped) k = tt
 
 native_keeps : (n : ℕ) (key : Key) (outer keys : List Key) (call : Call) (accounts : List Account) (units : ℕ) (c : Carried) → AreListed n call.metas accounts → EndKeeps call.metas accounts (native key outer keys call accounts units c)
 native_keeps n key outer keys call accounts units c listed =
-    either (EndKeeps call.metas accounts) (nat_lt units 150) _ _ tt
+    either (EndKeeps call.metas accounts) (nat_lt units NATIVE_UNITS) _ _ tt
     (or_error_keeps call.metas accounts units c (height outer) (native_row key keys accounts call) (λ after h. native_row_keeps n key keys accounts call after listed h))
 
-entered_keeps : (s : Fixed) (outer : List Key) (key : Key) (call : Call) (accounts : List Account) (units : ℕ) (c : Carried) (found : Sought) → NextKeeps call.metas accounts (entered s.setting s.keys outer key call accounts units c found)
+entered_keeps : (s : Fixed) (outer : List Key) (key : Key) (call : Call) (accounts : List Account) (units : ℕ) (c : Carried) (found : Sought) → NextKeeps call.metas accounts (program_started s.setting s.keys outer key call accounts units c found)
 entered_keeps s outer key call accounts units c (IsReady image) = (refl, refl)
 entered_keeps s outer key call accounts units c IsAbsent = tt
 entered_keeps s outer key call accounts units c IsNoProgram = tt
@@ -219,7 +221,7 @@ stop_rules setting keys outer f c None = tt
 stop_rules setting keys outer f c (Some (Exit r0)) = leaving_rules outer f c f.machine.units (left f r0) (λ accounts k. settles f accounts (left_settled f r0 accounts k))
 stop_rules setting keys outer f c (Some (Faulted fault)) = tt
 stop_rules setting keys outer f c (Some (Helper number)) =
-    either (TurnRules f) (number == 17) (call_turn setting keys outer f c) (serve_turn setting outer f c number)
+    either (TurnRules f) (number == invoke_call) (call_turn setting keys outer f c) (serve_turn setting outer f c number)
     (calling_rules outer keys f c setting.height (requested f).units (called setting.height keys outer f c.trace (requested f).answer) (λ callee k. called_from setting.height keys outer f c.trace (requested f).answer callee k))
     (serving_rules outer f c (served setting outer f c number).units (served setting outer f c number).answer)
 
@@ -246,7 +248,7 @@ abbrev StartsWith : List Account → Next → Type 0
 StartsWith accounts (Runs f c) = f.before ≡ accounts
 StartsWith accounts (Ends e) = Unit {0}
 
-entered_starts : (s : Fixed) (outer : List Key) (key : Key) (call : Call) (accounts : List Account) (units : ℕ) (c : Carried) (found : Sought) → StartsWith accounts (entered s.setting s.keys outer key call accounts units c found)
+entered_starts : (s : Fixed) (outer : List Key) (key : Key) (call : Call) (accounts : List Account) (units : ℕ) (c : Carried) (found : Sought) → StartsWith accounts (program_started s.setting s.keys outer key call accounts units c found)
 entered_starts s outer key call accounts units c (IsReady image) = refl
 entered_starts s outer key call accounts units c IsAbsent = tt
 entered_starts s outer key call accounts units c IsNoProgram = tt

@@ -1,7 +1,6 @@
 -- The loop over the frames: each step keeps the ending of the outermost.
-use Rattle.std.proofs.Common.{◌≡◌, ◌≤◌, ◌<◌, ◌+◌, ◌*◌, ◌∷◌, [], ℕ, Bool, true, false, List, length, Result, Ok, Err, refl, ap, sym, subst, ◌∙◌, arith}
-use Rattle.std.specs.Prelude.{IfOk, nat_le, if◌then◌else◌}
-use Rattle.std.proofs.lemmas.Bool.Decides.{nat_tests}
+use Rattle.std.proofs.Common.{◌≡◌, ◌≤◌, ◌<◌, ◌+◌, ◌*◌, ◌∷◌, [], ℕ, List, length, Result, Ok, Err, refl, ap, sym, subst, ◌∙◌, arith}
+use Rattle.std.specs.Prelude.{IfOk}
 use Rattle.sol_base.specs.declared.account.Account.{Account}
 use Rattle.sol_base.specs.Metas.{AreInRange}
 use Rattle.tx_report.specs.LogLines.{Log}
@@ -12,7 +11,7 @@ use Rattle.invoke_engine.specs.Frames.{Fixed, Carried, Running, Ending, Next, Ru
 use Rattle.invoke_engine.specs.Turns.{turn}
 use Rattle.invoke_engine.specs.Returning.{returned}
 use Rattle.invoke_engine.specs.Starting.{begun}
-use Rattle.invoke_engine.specs.Frame.{frame, instruction, nothing_returned, go, after, follow}
+use Rattle.invoke_engine.specs.Frame.{frame, nothing_returned, go, after, follow}
 use Rattle.invoke_engine.specs.Fits.{NextFits, TurnFits, IsGoing, TurnTakes, NextTakes, Works, Stands, Steps, Goes, units_in, ending_in, measure}
 use Rattle.invoke_engine.specs.Given.{AreGiven, IsFrame, AreSuspended}
 use Rattle.invoke_engine.specs.Suspended.{programs_of, rest}
@@ -32,9 +31,6 @@ pub record Working (s : Fixed) (outer : List Key) (f : Running) (c : Carried) (g
   pub frame : IsFrame (length s.keys) g
   pub going : IsGoing g
   pub units : g.machine.units ≤ f.machine.units
-
-pub working_first : (s : Fixed) (outer : List Key) (f : Running) (c : Carried) → IsFrame (length s.keys) f → IsGoing f → Working s outer f c f c
-working_first s outer f c h k = record { same = refl; frame = h; going = k; units = omega arith }
 
 -- one more turn that goes on
 pub working_on : (s : Fixed) (outer : List Key) (f : Running) (c : Carried) (g : Running) (d : Carried) (h : Running) (e : Carried) → Working s outer f c g d → turn s.setting s.keys outer g d ≡ GoesOn h e → Working s outer f c h e × (h.machine.units < g.machine.units)
@@ -188,13 +184,6 @@ unfolding rest
 first_ending s stack call accounts units c next none begins =
     subst (λ (gs : List Running). begun s (programs_of gs) call accounts units c ≡ next → ending_in s gs next ≡ frame s [] call accounts units c) (sym none)
     (λ (k : begun s [] call accounts units c ≡ next). ap (after [] (go s)) (sym k)) begins
-
-started_test : (b : Bool) (x y : Ending) → b ≡ false → (if b then x else y) ≡ y
-started_test true x y h = absurd (cc)
-started_test false x y h = refl
-
-pub instruction_started : (s : Fixed) (call : Call) (accounts : List Account) (units trace : ℕ) (log : Log) → trace < 64 → instruction s call accounts units trace log ≡ frame s [] call accounts units (nothing_returned trace log)
-instruction_started s call accounts units trace log h = started_test (nat_le 64 trace) _ _ (grind (arith, nat_tests))
 
 pub carried_first : (trace : ℕ) (kept : List ℕ) (log given : Log) → kept ≡ [] → log ≡ given → (let c : Carried = record { trace = trace; returned = kept; keeper = SYSTEM_PROGRAM; log = log } in c) ≡ nothing_returned trace given
 carried_first trace kept log given h k = rw (h, k) refl

@@ -1,4 +1,6 @@
 -- Frames and the log: one that is small stays small, since each line of a frame has a byte at least.
+use Rattle.sbpf_isa.specs.Calls.{invoke_call}
+use Rattle.invoke_engine.specs.declared.begin.TheConstants.{NATIVE_UNITS}
 use Rattle.std.proofs.Common.{◌≡◌, ◌≤◌, ◌==◌, ◌++◌, ◌∷◌, [], ℕ, zero, suc, length, List, Option, Some, None, Result, Ok, Err, refl, lit≤}
 use Rattle.std.specs.Prelude.{◌-◌, nat_lt, nat_le, not, ◌&&◌, codes, decimal}
 use Rattle.hex.specs.Hex.{encode_lower}
@@ -22,7 +24,7 @@ use Rattle.invoke_engine.specs.declared.call.Call.{Call}
 use Rattle.invoke_engine.specs.declared.call.Setting.{Setting}
 use Rattle.invoke_engine.specs.declared.stopped.Stopped.{Stopped}
 use Rattle.invoke_engine.specs.Lines.{program_line, invoke_line, consumed_line, last_line}
-use Rattle.invoke_engine.specs.Frames.{Fixed, Carried, Running, Ending, Next, Runs, Ends, Callee, Turn, GoesOn, Calls, Leaves, height}
+use Rattle.invoke_engine.specs.Frames.{Fixed, Carried, Running, Ending, Next, Runs, Ends, Callee, Turn, GoesOn, Calls, Leaves, height, max_trace}
 use Rattle.invoke_engine.specs.Ends.{say, error_of, or_error, ended, closed, closes}
 use Rattle.invoke_engine.specs.Leaving.{left}
 use Rattle.invoke_engine.specs.Calling.{called, calling, requested, call_turn}
@@ -30,7 +32,7 @@ use Rattle.invoke_engine.specs.Serving.{serving, served, serve_turn, env_of}
 use Rattle.invoke_engine.specs.Turns.{at_stop, run_to, turn}
 use Rattle.invoke_engine.specs.Returning.{patching, returning, returned}
 use Rattle.invoke_engine.specs.Native.{is_native, native, native_row}
-use Rattle.invoke_engine.specs.Starting.{key_at, refusing, entered, is_ready, crowded, entering, started, begun}
+use Rattle.invoke_engine.specs.Starting.{key_at, refusing, program_started, is_ready, crowded, entering, started, begun}
 use Rattle.invoke_engine.specs.Frame.{after, follow, within, go, frame, instruction, nothing_returned}
 use Rattle.invoke_engine.specs.Reasons.{at, plainly, by_fault, by_sys, by_length}
 use Rattle.invoke_engine.proofs.Fuel.{either}
@@ -84,7 +86,7 @@ stop-small setting keys outer f c None small = closes-small outer f 0 c (Err (pl
 stop-small setting keys outer f c (Some (Exit r0)) small = closes-small outer f f.machine.units c (left f r0) small
 stop-small setting keys outer f c (Some (Faulted fault)) small = closes-small outer f f.machine.units c (Err (by_fault fault)) small
 stop-small setting keys outer f c (Some (Helper number)) small =
-    either TurnSmall (number == 17) (call_turn setting keys outer f c) (serve_turn setting outer f c number)
+    either TurnSmall (number == invoke_call) (call_turn setting keys outer f c) (serve_turn setting outer f c number)
     (calling-small outer f c (requested f).units (called setting.height keys outer f c.trace (requested f).answer) small)
     (serving-small outer f c (served setting outer f c number).units (served setting outer f c number).answer
     (λ s is. sys_row-small number (arguments_in f.machine.context.registers) f.machine.context.memory (env_of setting outer f c) s is small) small)
@@ -111,14 +113,14 @@ returned-small outer f e small = returning-small outer f e.units e.carried e.res
 
 native-small : (key : Key) (outer keys : List Key) (call : Call) (accounts : List Account) (units : ℕ) (c : Carried) → IsSmall c.log → NextSmall (Ends (native key outer keys call accounts units c))
 native-small key outer keys call accounts units c small =
-    either (λ (e : Ending). IsSmall e.carried.log) (nat_lt units 150) _ _
+    either (λ (e : Ending). IsSmall e.carried.log) (nat_lt units NATIVE_UNITS) _ _
     (ended-small key 0 c (Err (error_of (height outer) (plainly UnitsSpent))) small)
-    (ended-small key (units - 150) c (or_error (height outer) (native_row key keys accounts call)) small)
+    (ended-small key (units - NATIVE_UNITS) c (or_error (height outer) (native_row key keys accounts call)) small)
 
 refusing-small : (key : Key) (outer : List Key) (units : ℕ) (c : Carried) (stopped : Stopped) → IsSmall c.log → IsSmall (refusing key outer units c stopped).carried.log
 refusing-small key outer units c stopped small = ended-small key units c (Err (error_of (height outer) stopped)) small
 
-entered-small : (setting : Setting) (keys outer : List Key) (key : Key) (call : Call) (accounts : List Account) (units : ℕ) (c : Carried) (found : Sought) → IsSmall c.log → NextSmall (entered setting keys outer key call accounts units c found)
+entered-small : (setting : Setting) (keys outer : List Key) (key : Key) (call : Call) (accounts : List Account) (units : ℕ) (c : Carried) (found : Sought) → IsSmall c.log → NextSmall (program_started setting keys outer key call accounts units c found)
 entered-small setting keys outer key call accounts units c (IsReady image) small = small
 entered-small setting keys outer key call accounts units c IsAbsent small = refusing-small key outer units c (plainly UnknownProgram) small
 entered-small setting keys outer key call accounts units c IsNoProgram small = refusing-small key outer units c (plainly UnknownProgram) small
@@ -170,6 +172,6 @@ within-small s (suc n) outer f c small = follow-small s outer (within s n) (turn
 -- an instruction keeps a small log small
 pub instruction-small : (s : Fixed) (call : Call) (accounts : List Account) (units trace : ℕ) (log : Log) → IsSmall log → IsSmall (instruction s call accounts units trace log).carried.log
 instruction-small s call accounts units trace log small =
-    either (λ (e : Ending). IsSmall e.carried.log) (nat_le 64 trace) (record { units = units; carried = nothing_returned trace log; result = Err (error_of 1 (plainly TraceTooLong)) }) (frame s [] call accounts units (nothing_returned trace log)) small
+    either (λ (e : Ending). IsSmall e.carried.log) (nat_le max_trace trace) (record { units = units; carried = nothing_returned trace log; result = Err (error_of 1 (plainly TraceTooLong)) }) (frame s [] call accounts units (nothing_returned trace log)) small
     (after-small [] (go s) (begun s [] call accounts units (nothing_returned trace log)) (λ outer f c. within-small s (suc f.machine.units) outer f c)
     (begun-small s [] call accounts units (nothing_returned trace log) small))

@@ -1,4 +1,6 @@
 -- Frames and the instructions that were started: none is forgotten, and one that starts counts.
+use Rattle.sbpf_isa.specs.Calls.{invoke_call}
+use Rattle.invoke_engine.specs.declared.begin.TheConstants.{NATIVE_UNITS}
 use Rattle.std.proofs.Common.{◌≡◌, ◌≤◌, ◌<◌, ◌+◌, ◌==◌, ◌∷◌, [], ℕ, zero, suc, length, Bool, true, false, List, Option, Some, None, Result, Ok, Err, refl, arith, if◌then◌else◌}
 use Rattle.std.specs.Prelude.{nat_lt, nat_le, not, ◌&&◌}
 use Rattle.std.proofs.lemmas.Bool.Decides.{nat_tests}
@@ -16,13 +18,13 @@ use Rattle.abi_input.specs.Region.{max_metas}
 use Rattle.invoke_engine.specs.declared.call.Call.{Call}
 use Rattle.invoke_engine.specs.declared.call.Setting.{Setting}
 use Rattle.invoke_engine.specs.declared.stopped.Stopped.{Stopped}
-use Rattle.invoke_engine.specs.Frames.{Fixed, Carried, Running, Ending, Next, Runs, Ends, Callee, Turn, GoesOn, Calls, Leaves, height}
+use Rattle.invoke_engine.specs.Frames.{Fixed, Carried, Running, Ending, Next, Runs, Ends, Callee, Turn, GoesOn, Calls, Leaves, height, max_trace}
 use Rattle.invoke_engine.specs.Calling.{calling, requested, call_turn}
 use Rattle.invoke_engine.specs.Serving.{serving, served, serve_turn}
 use Rattle.invoke_engine.specs.Turns.{at_stop, run_to, turn}
 use Rattle.invoke_engine.specs.Returning.{patching, returning, returned}
 use Rattle.invoke_engine.specs.Native.{is_native, native}
-use Rattle.invoke_engine.specs.Starting.{key_at, entered, is_ready, crowded, entering, started, begun}
+use Rattle.invoke_engine.specs.Starting.{key_at, program_started, is_ready, crowded, entering, started, begun}
 use Rattle.invoke_engine.specs.Frame.{after, follow, within, go, frame, instruction, nothing_returned}
 use Rattle.invoke_engine.specs.Reasons.{plainly}
 use Rattle.invoke_engine.specs.Ends.{error_of}
@@ -52,7 +54,7 @@ stop_counts setting keys outer f c None = omega arith
 stop_counts setting keys outer f c (Some (Exit r0)) = omega arith
 stop_counts setting keys outer f c (Some (Faulted fault)) = omega arith
 stop_counts setting keys outer f c (Some (Helper number)) =
-    either (TurnCounts c.trace) (number == 17) (call_turn setting keys outer f c) (serve_turn setting outer f c number)
+    either (TurnCounts c.trace) (number == invoke_call) (call_turn setting keys outer f c) (serve_turn setting outer f c number)
     (calling_counts outer f c (requested f).units _)
     (serving_counts outer f c (served setting outer f c number).units _)
 
@@ -78,9 +80,9 @@ returned_counts outer f e = returning_counts outer f e.units e.carried e.result
 
 native_counts : (key : Key) (outer keys : List Key) (call : Call) (accounts : List Account) (units : ℕ) (c : Carried) → NextCounts c.trace (Ends (native key outer keys call accounts units c))
 native_counts key outer keys call accounts units c =
-    either (λ (e : Ending). c.trace ≤ e.carried.trace) (nat_lt units 150) _ _ (omega arith) (omega arith)
+    either (λ (e : Ending). c.trace ≤ e.carried.trace) (nat_lt units NATIVE_UNITS) _ _ (omega arith) (omega arith)
 
-entered_counts : (setting : Setting) (keys outer : List Key) (key : Key) (call : Call) (accounts : List Account) (units : ℕ) (c : Carried) (found : Sought) → NextCounts c.trace (entered setting keys outer key call accounts units c found)
+entered_counts : (setting : Setting) (keys outer : List Key) (key : Key) (call : Call) (accounts : List Account) (units : ℕ) (c : Carried) (found : Sought) → NextCounts c.trace (program_started setting keys outer key call accounts units c found)
 entered_counts setting keys outer key call accounts units c (IsReady image) = omega arith
 entered_counts setting keys outer key call accounts units c IsAbsent = omega arith
 entered_counts setting keys outer key call accounts units c IsNoProgram = omega arith
@@ -129,10 +131,10 @@ within_counts s zero outer f c = omega arith
 within_counts s (suc n) outer f c = follow_counts s outer (within s n) c.trace (turn s.setting s.keys outer f c) (within_counts s n) (turn_counts s.setting s.keys outer f c)
 
 -- an instruction that starts counts at least one
-pub instruction_counts : (s : Fixed) (call : Call) (accounts : List Account) (units trace : ℕ) (log : Log) → trace < 64 → trace + 1 ≤ (instruction s call accounts units trace log).carried.trace
-instruction_counts s call accounts units trace log few = by_test (nat_le 64 trace) refl
+pub instruction_counts : (s : Fixed) (call : Call) (accounts : List Account) (units trace : ℕ) (log : Log) → trace < max_trace → trace + 1 ≤ (instruction s call accounts units trace log).carried.trace
+instruction_counts s call accounts units trace log few = by_test (nat_le max_trace trace) refl
   where
-    by_test : (b : Bool) → nat_le 64 trace ≡ b → trace + 1 ≤ (if b then record { units = units; carried = nothing_returned trace log; result = Err (error_of 1 (plainly TraceTooLong)) } else frame s [] call accounts units (nothing_returned trace log)).carried.trace
+    by_test : (b : Bool) → nat_le max_trace trace ≡ b → trace + 1 ≤ (if b then record { units = units; carried = nothing_returned trace log; result = Err (error_of 1 (plainly TraceTooLong)) } else frame s [] call accounts units (nothing_returned trace log)).carried.trace
     by_test true e = absurd (grind (arith, nat_tests))
     by_test false e =
         after_counts [] (go s) (trace + 1) (begun s [] call accounts units (nothing_returned trace log)) (λ outer f c. within_counts s (suc f.machine.units) outer f c)

@@ -1,4 +1,5 @@
 -- Turns by the stops that they come to.
+use Rattle.sbpf_isa.specs.Calls.{invoke_call}
 use Rattle.std.proofs.Common.{◌≡◌, ◌==◌, ℕ, Bool, true, false, List, Some, Result, Ok, Err, refl, ap, sym, subst, ◌∙◌, arith}
 use Rattle.std.proofs.lemmas.Bool.Decides.{nat_tests}
 use Rattle.std.specs.Prelude.{IfErr, IfOk, cond}
@@ -50,8 +51,8 @@ chosen_false : (b : Bool) (x y : Turn) → b ≡ false → cond b x y ≡ y
 chosen_false true x y h = absurd (cc)
 chosen_false false x y h = refl
 
-pub turn_calls : (setting : Setting) (keys outer : List Key) (f g : Running) (c : Carried) (number : ℕ) → Ran f g (Helper number) → number ≡ 17 → turn setting keys outer f c ≡ call_turn setting keys outer g c
-turn_calls setting keys outer f g c number r h = turn_at setting keys outer f g c (Helper number) r ∙ chosen_true (number == 17) _ _ (grind (arith, nat_tests))
+pub turn_calls : (setting : Setting) (keys outer : List Key) (f g : Running) (c : Carried) (number : ℕ) → Ran f g (Helper number) → number ≡ invoke_call → turn setting keys outer f c ≡ call_turn setting keys outer g c
+turn_calls setting keys outer f g c number r h = turn_at setting keys outer f g c (Helper number) r ∙ chosen_true (number == invoke_call) _ _ (grind (arith, nat_tests))
 
-pub turn_serves : (setting : Setting) (keys outer : List Key) (f g : Running) (c : Carried) (number : ℕ) → Ran f g (Helper number) → (number ≡ 17 → ⊥) → turn setting keys outer f c ≡ serve_turn setting outer g c number
-turn_serves setting keys outer f g c number r h = turn_at setting keys outer f g c (Helper number) r ∙ chosen_false (number == 17) _ _ (grind (arith, nat_tests))
+pub turn_serves : (setting : Setting) (keys outer : List Key) (f g : Running) (c : Carried) (number : ℕ) → Ran f g (Helper number) → (number ≡ invoke_call → ⊥) → turn setting keys outer f c ≡ serve_turn setting outer g c number
+turn_serves setting keys outer f g c number r h = turn_at setting keys outer f g c (Helper number) r ∙ chosen_false (number == invoke_call) _ _ (grind (arith, nat_tests))

@@ -16,15 +16,15 @@ use Rattle.tx_report.specs.declared.cause.Cause.TheVariants.{TraceTooLong, Stack
 use Rattle.invoke_engine.specs.declared.call.Setting.{Setting}
 use Rattle.invoke_engine.specs.declared.stopped.Stopped.{Stopped}
 use Rattle.invoke_engine.specs.Reasons.{plainly, refuse, by_call, by_rights}
-use Rattle.invoke_engine.specs.Frames.{Carried, Running, Callee, Turn, Calls, Leaves, height}
+use Rattle.invoke_engine.specs.Frames.{Carried, Running, Callee, Turn, Calls, Leaves, height, max_trace}
 use Rattle.invoke_engine.specs.Ends.{closes}
-use Rattle.invoke_engine.specs.Leaving.{settled}
+use Rattle.invoke_engine.specs.Leaving.{lawful_accounts}
 
 -- whether a program may be called now, under this greatest height and with so many instructions
 -- started; the caller itself may be called
 unfoldable pub may_start : ℕ → List Key → Running → ℕ → Key → Result (Unit {0}) Stopped
 may_start most outer f trace program =
-    if nat_le 64 trace then Err (plainly TraceTooLong) else
+    if nat_le max_trace trace then Err (plainly TraceTooLong) else
     if nat_le most (height outer) then Err (plainly StackHeight) else
     if not (same_key program f.program) && has_key program outer then Err (plainly Reentrancy) else
     Ok tt
@@ -47,7 +47,7 @@ unfoldable pub called : ℕ → List Key → List Key → Running → ℕ → Re
 called most keys outer f trace answer = do
   request ← refuse by_call answer
   granted ← refuse by_rights (rights_of request keys f.metas)
-  accounts ← settled f
+  accounts ← lawful_accounts f
   _ ← may_start most outer f trace request.program
   Ok (callee_of request granted accounts)
 

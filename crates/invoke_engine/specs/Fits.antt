@@ -9,6 +9,7 @@ use Rattle.program_cache.specs.Programs.{Sought}
 use Rattle.invoke_engine.specs.Frame.{Fixed, Carried, Running, Callee, height, go, after, follow, Ending, Next, Runs, Ends, Turn, GoesOn, Calls, Leaves}
 use Rattle.invoke_engine.specs.Given.{AreGiven, IsCall, IsFrame, IsSuspended, AreSuspended}
 use Rattle.invoke_engine.specs.Suspended.{programs_of, rest}
+use Rattle.invoke_engine.specs.Frames.{max_trace}
 
 -- where a frame ended well, its accounts are as many as before and fit
 abbrev pub EndFits : ℕ → Ending → Type 0
@@ -25,7 +26,7 @@ pub record CallFits (n most : ℕ) (outer : List Key) (f : Running) (c : Carried
   pub suspended : IsSuspended n f
   pub call : IsCall n callee.call
   pub accounts : AreGiven n callee.accounts
-  pub trace : c.trace < 64
+  pub trace : c.trace < max_trace
   pub height : height outer < most
 
 abbrev pub TurnFits : ℕ → ℕ → List Key → Turn → Type 0

@@ -9,6 +9,7 @@ use Rattle.tx_report.specs.declared.cause.Cause.TheVariants.{UnitsSpent, TraceTo
 use Rattle.invoke_engine.specs.declared.call.Call.{Call}
 use Rattle.invoke_engine.specs.Reasons.{plainly}
 use Rattle.invoke_engine.specs.Ends.{error_of}
+use Rattle.invoke_engine.specs.Frames.{max_trace}
 pub use Rattle.invoke_engine.specs.Frames.{Fixed, Carried, Running, Ending, Next, Runs, Ends, Callee, Turn, GoesOn, Calls, Leaves, height}
 pub use Rattle.invoke_engine.specs.Turns.{turn}
 pub use Rattle.invoke_engine.specs.Returning.{returned}
@@ -51,7 +52,7 @@ nothing_returned trace log =
 -- a top instruction: the 65th of a transaction is not started, and has no line
 abbrev pub instruction : Fixed → Call → List Account → ℕ → ℕ → Log → Ending
 instruction s call accounts units trace log =
-    if nat_le 64 trace
+    if nat_le max_trace trace
     then record {
       units = units;
       carried = nothing_returned trace log;

@@ -10,6 +10,7 @@ use Rattle.sbpf_machine.specs.Steps.{State}
 use Rattle.program_cache.specs.Programs.{Sought}
 use Rattle.invoke_engine.specs.declared.call.Call.{Call}
 use Rattle.invoke_engine.specs.declared.call.Setting.{Setting}
+use Rattle.invoke_engine.specs.declared.stop.TheConstants.{MAX_TRACE}
 
 -- what is fixed beside the frames of a transaction: what is found under the key of a program, the
 -- setting, and the transaction's keys
@@ -62,6 +63,10 @@ pub data Turn : Type 0 where
 -- the height of the frame that has the frames of these programs around it, the innermost first
 abbrev pub height : List Key → ℕ
 height outer = length outer + 1
+
+-- the most instructions that a transaction starts (Solana)
+abbrev pub max_trace : ℕ
+max_trace = MAX_TRACE
 
 -- the greatest height of a frame: an error has it in one byte
 abbrev pub max_height : ℕ

@@ -58,17 +58,17 @@ abbrev pub refused : Key → List Key → ℕ → Carried → Stopped → Next
 refused key outer units c stopped = Ends (refusing key outer units c stopped)
 
 -- a program that is not native: it runs where it is ready
-abbrev pub entered : Setting → List Key → List Key → Key → Call → List Account → ℕ → Carried
+abbrev pub program_started : Setting → List Key → List Key → Key → Call → List Account → ℕ → Carried
     → Sought → Next
-entered setting keys outer key call accounts units c (IsReady image) =
+program_started setting keys outer key call accounts units c (IsReady image) =
     Runs (first_running setting keys key image call accounts units) c
-entered setting keys outer key call accounts units c IsAbsent =
+program_started setting keys outer key call accounts units c IsAbsent =
     refused key outer units c (plainly UnknownProgram)
-entered setting keys outer key call accounts units c IsNoProgram =
+program_started setting keys outer key call accounts units c IsNoProgram =
     refused key outer units c (plainly UnknownProgram)
-entered setting keys outer key call accounts units c IsBad =
+program_started setting keys outer key call accounts units c IsBad =
     refused key outer units c (plainly BadImage)
-entered setting keys outer key call accounts units c (IsUnverified fault) =
+program_started setting keys outer key call accounts units c (IsUnverified fault) =
     refused key outer units c (at Unverified (fault_number fault))
 
 abbrev pub is_ready : Sought → Bool
@@ -88,7 +88,7 @@ unfoldable pub entering : Fixed → List Key → Key → Call → List Account �
 entering s outer key call accounts units c =
     if nat_lt max_metas (length call.metas) then Ends (crowded s.programs key outer units c) else
     if is_native key then Ends (native key outer s.keys call accounts units c) else
-    entered s.setting s.keys outer key call accounts units c (s.programs key)
+    program_started s.setting s.keys outer key call accounts units c (s.programs key)
 
 -- a started instruction: one more is counted, nothing is returned yet, and its first line stands
 abbrev pub started : Key → ℕ → Carried → Carried

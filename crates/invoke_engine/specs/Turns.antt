@@ -13,6 +13,7 @@ use Rattle.invoke_engine.specs.Ends.{closes}
 use Rattle.invoke_engine.specs.Leaving.{left}
 use Rattle.invoke_engine.specs.Calling.{call_turn}
 use Rattle.invoke_engine.specs.Serving.{serve_turn}
+use Rattle.sbpf_isa.specs.Calls.{invoke_call}
 
 -- a machine over a verified text always comes to a stop, so this never is
 abbrev pub never : List Key → Running → Carried → Turn
@@ -26,7 +27,7 @@ at_stop setting keys outer f c (Some (Exit r0)) =
 at_stop setting keys outer f c (Some (Faulted fault)) =
     Leaves (closes outer f f.machine.units c (Err (by_fault fault)))
 at_stop setting keys outer f c (Some (Helper number)) =
-    if number == 17 then call_turn setting keys outer f c else serve_turn setting outer f c number
+    if number == invoke_call then call_turn setting keys outer f c else serve_turn setting outer f c number
 
 abbrev pub run_to : Setting → List Key → List Key → Running → Carried → Option State → Turn
 run_to setting keys outer f c None = never outer f c

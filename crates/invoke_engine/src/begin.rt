@@ -1,11 +1,10 @@
 //! A frame at its start.
 ghost use Rattle.std.specs.Prelude.{◌≡◌, ◌<◌, ◌≤◌, Ok, Err, MatchResult, length, IfOk, OnOk};
 ghost use Rattle.sol_base.specs.Accounts.{accounts_of};
-ghost use Rattle.sbpf_verify.specs.Faults.{fault_number};
 ghost use Rattle.abi_input.specs.Region.{max_metas};
 ghost use Rattle.program_cache.specs.Programs.{sought};
 ghost use Rattle.invoke_engine.specs.Ends.{ended, error_of};
-ghost use Rattle.invoke_engine.specs.Frames.{height, max_height};
+ghost use Rattle.invoke_engine.specs.Frames.{height, max_height, max_trace};
 ghost use Rattle.invoke_engine.specs.Given.{AreGiven, IsCall, IsFrame};
 ghost use Rattle.invoke_engine.specs.Native as Native;
 ghost use Rattle.invoke_engine.specs.Reasons.{StopsBy};
@@ -26,10 +25,9 @@ use loader_prog::run_loader;
 use program_cache::{Found, Image, Programs};
 use sbpf_machine::Machine;
 use sbpf_memory::Memory;
-use sbpf_verify::VerifyFault;
 use sol_base::{
-    Account, Blob, COMPUTE_BUDGET_PROGRAM, Items, Key, LOADER_PROGRAM, Meta, OutOfMemory,
-    SYSTEM_PROGRAM,
+    Account, Blob, COMPUTE_BUDGET_PROGRAM, Items, Key, LOADER_PROGRAM, MAX_METAS, Meta,
+    OutOfMemory, SYSTEM_PROGRAM, share_all,
 };
 use std::alloc::Global;
 use std::sync::Arc;
@@ -37,10 +35,7 @@ use system_prog::run_system;
 use tx_report::{Cause, InstructionError};
 
 /// The units of a frame of a native program (the project's own).
-const NATIVE_UNITS: u64 = 150;
-
-/// The most accounts that a frame lists (Solana).
-const MAX_METAS: usize = 255;
+pub(crate) const NATIVE_UNITS: u64 = 150;
 
 /// A frame that runs, or has ended.
 #[derive(Drop)]
@@ -54,24 +49,6 @@ fn is_native(key: &Key) -> bool
     ensures { result ≡ Native.is_native key.now }
 {
     *key == SYSTEM_PROGRAM || *key == LOADER_PROGRAM || *key == COMPUTE_BUDGET_PROGRAM
-}
-
-fn number_of(fault: VerifyFault) -> u32
-    ensures { result ≡ fault_number fault }
-{
-    match fault {
-        VerifyFault::Length => 1,
-        VerifyFault::Opcode { .. } => 2,
-        VerifyFault::Register { .. } => 3,
-        VerifyFault::WritesFrame { .. } => 4,
-        VerifyFault::ZeroDivisor { .. } => 5,
-        VerifyFault::Shift { .. } => 6,
-        VerifyFault::HalfWide { .. } => 7,
-        VerifyFault::Jump { .. } => 8,
-        VerifyFault::Helper { .. } => 9,
-        VerifyFault::OpenEnd => 10,
-        VerifyFault::Field { .. } => 11,
-    }
 }
 
 /// What a native program does.
@@ -157,20 +134,6 @@ fn native(
     }
 }
 
-/// Shares of the accounts.
-pub(crate) fn share(
-    alloc: Global,
-    accounts: &[Arc<Account>],
-) -> Result<Items<Arc<Account>>, OutOfMemory>
-    ensures { IfOk result (λ shared. accounts_of shared ≡ accounts_of accounts.now) }
-{
-    let mut shared = Items::with_capacity(alloc, accounts.len())?;
-    for account in accounts {
-        shared.push(Arc::try_clone(account)?)?;
-    }
-    Ok(shared)
-}
-
 /// A list of the same metas.
 fn copy_of(alloc: Global, metas: &[Meta]) -> Result<Items<Meta>, OutOfMemory>
     ensures { IfOk result (λ copy. copy ≡ metas.now) }
@@ -211,7 +174,7 @@ fn first_frame(
     Ok(Frame {
         program: key,
         metas: copy_of(alloc, call.metas.as_slice())?,
-        start: share(alloc, accounts.as_slice())?,
+        start: share_all(alloc, accounts.as_slice())?,
         before: accounts,
         had: units,
         machine,
@@ -303,7 +266,7 @@ fn enter(
         },
         Found::Unverified(fault) => Reason {
             cause: Cause::Unverified,
-            detail: number_of(fault),
+            detail: u32::from(fault.number()),
         },
     };
     Ok(Next::Ends(refuse(alloc, outer, &key, units, carrier, reason)?))
@@ -322,7 +285,7 @@ fn key_at(keys: &[Key], place: u8) -> Key
 /// One more instruction is started.
 fn start(alloc: Global, key: &Key, outer: &Stack, carrier: &mut Carrier) -> Result<(), OutOfMemory>
     requires outer { length outer.now < max_height }
-    requires trace { carrier.old.trace < 64 }
+    requires trace { carrier.old.trace < max_trace }
     ensures { OnOk result (carrier.new
         ≡ Starting.started key.now (height (programs_of outer.now)) carrier.old) }
 {
@@ -347,7 +310,7 @@ pub(crate) fn begin(
     requires outer { length outer.now < max_height }
     requires call { IsCall (length keys.now) call.now }
     requires accounts { AreGiven (length keys.now) (accounts_of accounts) }
-    requires trace { carrier.old.trace < 64 }
+    requires trace { carrier.old.trace < max_trace }
     ensures next { IfOk result (λ next.
         Starting.begun (fixed (sought programs.now) setting keys.now) (programs_of outer.now)
         call.now (accounts_of accounts) units carrier.old

@@ -1,5 +1,5 @@
 //! Laws over frames.
-ghost use Rattle.std.specs.Prelude.{◌≡◌, ◌<◌, ◌≤◌, ◌+◌, ◌∷◌, ℕ, List, Ok, IfOk, length};
+ghost use Rattle.std.specs.Prelude.{◌≡◌, ◌<◌, ◌≤◌, ◌+◌, ◌∷◌, ℕ, List, Ok, IfOk, length, ◌^◌};
 ghost use Rattle.sol_base.specs.declared.key.Key.{Key as KeyValue};
 ghost use Rattle.sol_base.specs.declared.key.TheConstants.{LOADER_PROGRAM};
 ghost use Rattle.sol_base.specs.declared.account.Account.{Account as AccountValue};
@@ -14,6 +14,18 @@ ghost use Rattle.invoke_engine.specs.Frame.{Fixed, Carried, Running, Ending, Cal
 ghost use Rattle.invoke_engine.specs.Starting.{key_at};
 ghost use Rattle.invoke_engine.specs.Suspended.{programs_of, rest};
 ghost use Rattle.invoke_engine.specs.Views.{fixed};
+ghost use Rattle.invoke_engine.specs.Frames.{max_trace};
+
+use crate::begin::NATIVE_UNITS;
+use crate::stop::{CUSTOM_ZERO, MAX_TRACE};
+
+/// The numbers of instructions and their frames (Solana; the units of native programs are the
+/// project's own).
+pub fn numbers_are_as_stated()
+    ensures trace { MAX_TRACE ≡ 64 }
+    ensures custom { CUSTOM_ZERO ≡ 2 ^ 32 }
+    ensures native { NATIVE_UNITS ≡ 150 }
+{}
 
 /// A law: no frame ends with more units than it had, and any bound above them serves.
 pub fn frames_take_units()
@@ -85,7 +97,7 @@ pub fn instructions_look_at_their_keys()
 /// A law: an instruction that is started counts at least one.
 pub fn instructions_are_counted()
     ensures counted { (s : Fixed) (call : CallValue) (accounts : List AccountValue) (units trace : ℕ)
-        (log : Log) → trace < 64 →
+        (log : Log) → trace < max_trace →
         trace + 1 ≤ (instruction s call accounts units trace log).carried.trace }
 {}
 

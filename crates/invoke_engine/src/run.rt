@@ -6,12 +6,12 @@ ghost use Rattle.program_cache.specs.Programs.{sought};
 ghost use Rattle.invoke_engine.specs.Fits.{Works, Stands, Steps, ending_in};
 ghost use Rattle.invoke_engine.specs.Frame as Spec;
 ghost use Rattle.invoke_engine.specs.Frame.{Carried};
-ghost use Rattle.invoke_engine.specs.Frames.{max_height};
+ghost use Rattle.invoke_engine.specs.Frames.{max_height, max_trace};
 ghost use Rattle.invoke_engine.specs.Given.{AreGiven, IsCall, IsFrame};
 ghost use Rattle.invoke_engine.specs.Suspended.{programs_of};
 ghost use Rattle.invoke_engine.specs.Views.{fixed, ending_as, next_as, work_as, IsRun};
 
-use crate::begin::{Next, begin, share};
+use crate::begin::{Next, begin};
 use crate::call::{Call, Ended, Ran, Setting};
 use crate::carrier::Carrier;
 use crate::ending::{Callee, End};
@@ -20,7 +20,7 @@ use crate::resume::resume;
 use crate::stop::MAX_TRACE;
 use crate::turn::{Turn, take_turn};
 use program_cache::Programs;
-use sol_base::{Account, Blob, Items, Key, OutOfMemory, SYSTEM_PROGRAM};
+use sol_base::{Account, Blob, Items, Key, OutOfMemory, SYSTEM_PROGRAM, share_all};
 use std::alloc::Global;
 use std::mem;
 use std::sync::Arc;
@@ -137,7 +137,7 @@ fn run_frame(
     requires height { (1 ≤ setting.height) × (setting.height ≤ 9) }
     requires call { IsCall (length keys.now) call.now }
     requires accounts { AreGiven (length keys.now) (accounts_of accounts) }
-    requires trace { carrier.old.trace < 64 }
+    requires trace { carrier.old.trace < max_trace }
     ensures { IfOk result (λ e. ending_as e carrier.new
         ≡ Spec.frame (fixed (sought programs.now) setting keys.now) [] call.now
         (accounts_of accounts) units carrier.old) }
@@ -177,7 +177,7 @@ fn run_started(
     requires height { (1 ≤ setting.height) × (setting.height ≤ 9) }
     requires call { IsCall (length keys.now) call.now }
     requires accounts { AreGiven (length keys.now) (accounts_of accounts) }
-    requires trace { trace < 64 }
+    requires trace { trace < max_trace }
     ensures { IfOk result (λ ran. IsRun
         (Spec.frame (fixed (sought programs.now) setting keys.now) [] call.now
         (accounts_of accounts) units (Spec.nothing_returned trace logs.old))
@@ -246,7 +246,7 @@ pub fn run_instruction(
             }),
         });
     }
-    let shared = share(alloc, accounts)?;
+    let shared = share_all(alloc, accounts)?;
     run_started(
         alloc, programs, *setting, keys, call, shared, units, trace, logs,
     )

@@ -24,16 +24,25 @@ use std::sync::Arc;
 use tx_report::Cause;
 
 /// The most instructions that a transaction starts (Solana).
-pub(crate) const MAX_TRACE: u8 = 64;
+pub const MAX_TRACE: u8 = 64;
+
+/// What r0 is where a program ends with its own error 0. A lower number is itself the error
+/// (Solana).
+pub const CUSTOM_ZERO: u64 = 0x1_0000_0000;
 
 /// The accounts as the frame leaves them, where it breaks no rule.
-#[tactic(auto, unfolding(crate::specs::Leaving::settled))]
-fn settled(alloc: Global, keys: &[Key], frame: &Frame) -> Result<Items<Arc<Account>>, Stopped>
+#[tactic(auto, unfolding(crate::specs::Leaving::lawful_accounts))]
+fn lawful_accounts(
+    alloc: Global,
+    keys: &[Key],
+    frame: &Frame,
+) -> Result<Items<Arc<Account>>, Stopped>
     requires { IsFrame (length keys.now) frame.now }
     ensures { MatchResult result
-        (λ accounts. Leaving.settled frame.now ≡ Ok (accounts_of accounts))
-        (λ e. StopsBy e (Leaving.settled frame.now)) }
+        (λ accounts. Leaving.lawful_accounts frame.now ≡ Ok (accounts_of accounts))
+        (λ e. StopsBy e (Leaving.lawful_accounts frame.now)) }
 {
+    // The contract speaks of the number of the keys.
     let _keys = keys;
     let taken = take_back(
         alloc,
@@ -60,10 +69,10 @@ fn exited(r0: u64) -> Result<(), Stopped>
     if r0 == 0 {
         return Ok(());
     }
-    if r0 < 0x1_0000_0000 {
+    if r0 < CUSTOM_ZERO {
         return Err(Stopped::with(Cause::Custom, r0 as u32));
     }
-    if r0 == 0x1_0000_0000 {
+    if r0 == CUSTOM_ZERO {
         return Err(Stopped::plainly(Cause::Custom));
     }
     Err(Stopped::plainly(Cause::InvalidError))
@@ -82,7 +91,7 @@ pub(crate) fn left(
         (λ accounts. Leaving.left frame.now r0 ≡ Ok (accounts_of accounts))
         (λ e. StopsBy e (Leaving.left frame.now r0)) }
 {
-    let after = settled(alloc, keys, frame)?;
+    let after = lawful_accounts(alloc, keys, frame)?;
     exited(r0)?;
     Ok(after)
 }
@@ -165,7 +174,7 @@ pub(crate) fn called(
 {
     let request = ask(alloc, frame, units)?;
     let granted = grant(alloc, keys, frame, &request)?;
-    let accounts = settled(alloc, keys, frame)?;
+    let accounts = lawful_accounts(alloc, keys, frame)?;
     may_start(setting, outer, frame, trace, &request.program)?;
     Ok(Callee {
         call: Call {

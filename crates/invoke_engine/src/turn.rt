@@ -4,7 +4,7 @@ ghost use Rattle.cpi_calls.specs.Limits.{max_keys};
 ghost use Rattle.sbpf_machine.specs.Runs.{IsNumbered};
 ghost use Rattle.sbpf_machine.specs.Steps.{IsHelper, arguments_in, steps};
 ghost use Rattle.sbpf_machine.specs.Lending.{with_memory};
-ghost use Rattle.sys_calls.specs.Costs.{IsServed};
+ghost use Rattle.sbpf_isa.specs.Calls.{IsServed};
 ghost use Rattle.sys_calls.specs.SysCalls.{sys_row};
 ghost use Rattle.invoke_engine.specs.Calling as Calling;
 ghost use Rattle.invoke_engine.specs.Ends.{closes};
@@ -25,14 +25,12 @@ use crate::frame::{Frame, Stack};
 use crate::lines::close;
 use crate::stop::{called, left};
 use crate::stopped::{Reason, Stopped};
+use sbpf_isa::INVOKE_CALL;
 use sbpf_machine::{Fault, Stop};
 use sol_base::{Key, OutOfMemory};
 use std::alloc::Global;
 use sys_calls::{Env, serve};
 use tx_report::{Cause, InstructionError};
-
-/// The system call that calls another program.
-const INVOKE: u32 = 17;
 
 /// What a frame does at a stop of its machine.
 #[derive(Drop)]
@@ -228,7 +226,7 @@ pub(crate) fn take_turn(
             Ok(Turn::Leaves(fail(alloc, outer, frame, units, carrier, reason_of(fault))?))
         }
         Stop::Helper { number } => {
-            if number == INVOKE {
+            if number == INVOKE_CALL {
                 call_turn(alloc, setting, keys, outer, frame, carrier)
             } else {
                 serve_turn(alloc, setting, outer, frame, carrier, number)

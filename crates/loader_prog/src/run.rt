@@ -3,7 +3,7 @@ ghost use Rattle.std.specs.Prelude.{◌≡◌, ◌<◌, ◌≤◌, ◌^◌, true
 ghost use Rattle.std.specs.List.{slice_index_or};
 ghost use Rattle.spec_base.specs.Reading.{Gives};
 ghost use Rattle.sol_base.specs.Accounts.{accounts_of, empty_account, lamports_in};
-ghost use Rattle.sol_base.specs.Metas.{AreInRange};
+ghost use Rattle.sol_base.specs.Metas.{AreInRange, max_metas};
 ghost use Rattle.loader_prog.specs.Requests.{is_loader_memory};
 ghost use Rattle.loader_prog.specs.Loader.{AnswersLoader, holding, loader_row, ruled, with_data};
 ghost use Rattle.loader_prog.specs.Written.{IsReplaced, data_by};
@@ -13,7 +13,7 @@ use crate::instruction::read_instruction;
 use crate::roles::{BUFFER, place_of};
 use crate::steps::data_after;
 use account_rules::check_listed;
-use sol_base::{Account, Blob, Items, Key, LOADER_PROGRAM, Meta, OutOfMemory};
+use sol_base::{Account, Blob, Items, Key, LOADER_PROGRAM, Meta, OutOfMemory, share_all};
 use std::alloc::Global;
 use std::sync::Arc;
 
@@ -27,7 +27,7 @@ pub fn run_loader(
     input: &[u8],
 ) -> Result<Items<Arc<Account>>, LoaderFault>
     requires count { length (accounts_of accounts.now) ≡ length keys.now }
-    requires most { length metas.now ≤ 255 }
+    requires most { length metas.now ≤ max_metas }
     requires range { AreInRange (length (accounts_of accounts.now)) metas.now }
     requires supply { lamports_in (accounts_of accounts.now) < 2 ^ 64 }
     ensures exact { AnswersLoader
@@ -46,7 +46,7 @@ fn run_steps(
     input: &[u8],
 ) -> Result<Items<Arc<Account>>, LoaderFault>
     requires count { length (accounts_of accounts.now) ≡ length keys.now }
-    requires most { length metas.now ≤ 255 }
+    requires most { length metas.now ≤ max_metas }
     requires range { AreInRange (length (accounts_of accounts.now)) metas.now }
     ensures { Gives is_loader_memory accounts_of result
         (loader_row keys.now (accounts_of accounts.now) metas.now input.now) }
@@ -67,7 +67,7 @@ fn checked(
     written: Option<Blob>,
 ) -> Result<Items<Arc<Account>>, LoaderFault>
     requires there { 0 < length metas.now }
-    requires most { length metas.now ≤ 255 }
+    requires most { length metas.now ≤ max_metas }
     requires range { AreInRange (length (accounts_of accounts.now)) metas.now }
     ensures { Gives is_loader_memory accounts_of result (ruled metas.now (accounts_of accounts.now)
         (with_data (accounts_of accounts.now) metas.now
@@ -117,12 +117,8 @@ fn shared(alloc: Global, accounts: &[Arc<Account>]) -> Result<After, OutOfMemory
     ensures flags { IfOk result (λ after.
         after.touched.items ≡ replicate (length accounts.now) false) }
 {
-    let mut shares = Items::with_capacity(alloc, accounts.len())?;
-    for account in accounts {
-        shares.push(Arc::try_clone(account)?)?;
-    }
     Ok(After {
-        accounts: shares,
+        accounts: share_all(alloc, accounts)?,
         touched: vec![in alloc; false; accounts.len()]?,
     })
 }

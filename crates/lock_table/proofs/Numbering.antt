@@ -3,7 +3,7 @@ use Rattle.std.proofs.Common.{◌≡◌, ℕ, ◌+◌, ◌<◌, ◌≤◌, ◌==
 use Rattle.std.specs.List.{IsDistinct, AllByRecursion}
 use Rattle.std.proofs.lemmas.Bool.{eqb-false, both_ways, cond_both, false_from_ne_true}
 use Rattle.std.proofs.lemmas.List.{map_more, map-append, length-map, get_or-map, get_or_append_left}
-use Rattle.std.proofs.lemmas.List.Elements.{All-head, All-tail, All-push, All-nil}
+use Rattle.std.proofs.lemmas.List.Elements.{All-head, All-tail, All-push}
 use Rattle.std.proofs.lemmas.List.Sums.{fold_push}
 use Rattle.std.proofs.lemmas.List.Quantifiers.{position-Some}
 use Rattle.std.proofs.lemmas.Map.Keys.{apart_from_distinct}
@@ -65,9 +65,6 @@ pub number_of-found : (keys : List Key) (key : Key) (n : ℕ) → number_of keys
 number_of-found keys key n h =
     let found = position-Some (λ k. same_key key k) keys n no_key h in
     (found.0, sym (same_key-true key (get_or keys n no_key) found.1))
-
-pub Numbers-nil : (keys : List Key) → Numbers keys [] []
-Numbers-nil keys = record { within = All-nil (λ (lock : NumberedLock). lock.number < length keys); stands_for = refl }
 
 -- one lock more
 pub Numbers-push : (keys more : List Key) (locks : List Lock) (set : List NumberedLock) (lock : Lock) (n : ℕ) → more ≡ with_key keys lock.key → number_of more lock.key ≡ Some n → Numbers keys locks set

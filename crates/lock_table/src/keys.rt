@@ -1,10 +1,10 @@
 //! Keys as numbers.
-ghost use Rattle.std.specs.Prelude.{◌≡◌, ◌+◌, ◌-◌, ◌^◌, ◌<◌, ◌≤◌, [], ◌∷◌, ◌++◌, Some, None, length, slice_get, take, vec_len, vec_capacity, IfOk, OnOk, OnErr};
+ghost use Rattle.std.specs.Prelude.{◌≡◌, ◌-◌, ◌^◌, ◌<◌, ◌≤◌, [], Some, None, length, slice_get, take, IfOk, OnOk, OnErr};
 ghost use Rattle.std.specs.List.{IsDistinct};
 ghost use Rattle.bank_law.specs.Job.{same_key};
 ghost use Rattle.lock_table.specs.Numbers.{number_of, with_key};
 
-use sol_base::{Key, OutOfMemory};
+use sol_base::{Key, OutOfMemory, push_with_room};
 use std::alloc::Global;
 use std::collections::BTreeMap;
 use std::marker::Model;
@@ -100,13 +100,4 @@ impl KeyTable {
             let _number = self.numbers.remove(&key);
         }
     }
-}
-
-/// Appends an item to a list that has room for it.
-pub(crate) fn push_with_room<T: Drop>(list: &mut Vec<T>, item: T)
-    requires { vec_len list.old < vec_capacity list.old }
-    ensures items { list.new.items ≡ list.old.items ++ item ∷ [] }
-    ensures capacity { vec_capacity list.old ≤ vec_capacity list.new }
-{
-    let _ = list.push(item);
 }

@@ -4,9 +4,9 @@ ghost use Rattle.std.specs.List.{IsDistinct, list_any};
 ghost use Rattle.bank_law.specs.Job.{same_key, lock_keys};
 ghost use Rattle.lock_table.specs.Numbers.{Numbers, EachOnce, meets, conflicts, with_keys};
 
-use crate::keys::{KeyTable, push_with_room};
+use crate::keys::KeyTable;
 use crate::locks::NumberedLock;
-use sol_base::{LockList, OutOfMemory};
+use sol_base::{LockList, OutOfMemory, push_with_room};
 use std::alloc::Global;
 use std::marker::Model;
 

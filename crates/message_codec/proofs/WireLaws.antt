@@ -172,9 +172,6 @@ tx_takes total bytes tx rest are h =
     subst (λ (v : Tx). TxFits v × (bytes ≡ tx_bytes v ++ rest)) p.0
     (record { signatures = a.fits; message = b.fits }, follows (array_bytes signature_bytes a.value) (message_bytes b.value) rest a.spelled (onward (message_bytes b.value) b.spelled p.1))
 
-pub tx_reads : (total : ℕ) → Reads (tx_at total) tx_bytes TxFits
-tx_reads total = record { again = tx_again total; takes = tx_takes total }
-
 -- what reading asks of a transaction, and what the format and the types say
 
 lookups_fit : (kind : MessageKind) (message : Message) → AllowsLookups kind message.lookups → HasShortLists message → All (λ lookup. IsKey lookup.table) message.lookups → LookupsFit kind message.lookups

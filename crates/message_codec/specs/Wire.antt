@@ -14,6 +14,7 @@ use Rattle.message_codec.specs.declared.message.Lookup.{Lookup}
 use Rattle.message_codec.specs.declared.message.Message.{Message}
 use Rattle.message_codec.specs.declared.message.Tx.{Tx}
 use Rattle.message_codec.specs.Compact.{compact, max_count}
+use Rattle.message_codec.specs.declared.reading.TheConstants.{MAX_WIRE_LEN}
 
 -- a compact array: the length, and then the items
 abbrev pub array_bytes : {X : Type 0} → (X → List ℕ) → List X → List ℕ
@@ -97,7 +98,7 @@ BeginsAsItsKind Zero header = Unit {0}
 
 -- the most bytes of a transaction (Solana)
 abbrev pub max_wire_len : ℕ
-max_wire_len = 1232
+max_wire_len = MAX_WIRE_LEN
 
 -- the bytes are that transaction
 pub record Wire (bytes : List ℕ) (tx : Tx) : Type 0 where

@@ -12,6 +12,13 @@ ghost use Rattle.message_codec.specs.Wire.{Wire, IsOneWire, tx_bytes};
 ghost use Rattle.message_codec.specs.WireReading.{compact_at, wire_of, is_wire_memory};
 ghost use Rattle.message_codec.specs.Roles.{IsSane, HasAllLoaded, AreNamed, is_signer_at, is_writable_at, all_keys, key_count, lock_of, locks_of};
 
+use crate::reading::MAX_WIRE_LEN;
+
+/// The most bytes of a transaction, as Solana has them.
+pub fn numbers_are_as_stated()
+    ensures { MAX_WIRE_LEN ≡ 1232 }
+{}
+
 /// A law: the spelling of a compact length is the one list of its 7-bit digits, low digit first,
 /// 128 added to each but the last, and the last not 0 unless it stands alone.
 pub fn lengths_have_one_spelling()

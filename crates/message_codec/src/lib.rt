@@ -17,7 +17,7 @@ mod writing;
 pub use fault::{SanitizeFault, WireFault};
 pub use laws::{
     lengths_are_read_or_cut_or_bad, lengths_have_one_spelling, locks_stand_beside_the_keys,
-    sane_payers_sign_and_are_writable, sane_transactions_name_their_keys,
+    numbers_are_as_stated, sane_payers_sign_and_are_writable, sane_transactions_name_their_keys,
     wires_are_read_as_they_are_spelled, written_wires_are_read_again,
 };
 pub use message::{Header, Instruction, Loaded, Lookup, Message, MessageKind, Signature, Tx};

@@ -1,10 +1,9 @@
 -- One position more in the chains.
-use Rattle.std.proofs.Common.{◌≡◌, ℕ, suc, ◌+◌, ◌<◌, ◌≤◌, ◌==◌, true, cond, inl, inr, List, [], ◌∷◌, ◌++◌, length, get_or, set, replicate, All, Option, None, refl, sym, ◌∙◌, ap, ap₂, subst, arith, add-one, eq-eqb, ne_eqb, get_or-set_same, get_or-set_other, length-set}
+use Rattle.std.proofs.Common.{◌≡◌, ℕ, suc, ◌+◌, ◌<◌, ◌≤◌, ◌==◌, true, cond, inl, inr, List, [], ◌∷◌, ◌++◌, length, get_or, set, All, Option, None, refl, sym, ◌∙◌, ap, ap₂, subst, arith, add-one, eq-eqb, ne_eqb, get_or-set_same, get_or-set_other, length-set}
 use Rattle.std.specs.Prelude.{slice_index, option_to_list}
 use Rattle.std.specs.List.{flat_map}
-use Rattle.std.proofs.lemmas.Bool.{cases_eq, cases_lt, cond-true, cond-false}
+use Rattle.std.proofs.lemmas.Bool.{cases_eq, cond-true, cond-false}
 use Rattle.std.proofs.lemmas.List.Elements.{All-head, All-tail}
-use Rattle.std.proofs.lemmas.List.{length-replicate, get_or-replicate, get_or_past}
 use Rattle.lock_table.specs.declared.locks.NumberedLock.{NumberedLock}
 use Rattle.prio_graph.specs.Ready.{set_at}
 use Rattle.prio_graph.specs.Chains.{awaited, edges_into}
@@ -12,29 +11,6 @@ use Rattle.prio_graph.specs.Kept.{times, edges}
 use Rattle.prio_graph.specs.Chained.{awaited_by, writer_after, readers_after, Chained}
 use Rattle.prio_graph.proofs.Finding.{has, any_at}
 use Rattle.prio_graph.proofs.ChainLaws.{edge-is}
-
--- copies of the default
-get_or-copies : {X : Type 0} (n : ℕ) (x : X) (i : ℕ) → get_or (replicate n x) i x ≡ x
-get_or-copies n x i =
-    elim (cases_lt i n) [
-      | inl u ↦ get_or-replicate n i x x u
-      | inr v ↦ get_or_past (replicate n x) i x (let l = length-replicate n x in omega (arith, l, v))
-    ]
-
--- no position has passed
-pub Chained-none : (sets : List (List NumberedLock)) (count : ℕ) → ((j : ℕ) → All (λ lock. lock.number < count) (set_at sets j))
-    → Chained sets 0 (replicate count None) (replicate count []) (replicate (length sets) []) (replicate (length sets) 0)
-Chained-none sets count numbers = record {
-  numbers = λ j k d l. let u = numbers j k d l in omega (arith, u, length-replicate {A = Option ℕ} count None);
-  readers_length = length-replicate count [] ∙ sym (length-replicate {A = Option ℕ} count None);
-  rows_length = length-replicate (length sets) [];
-  waits_length = length-replicate (length sets) 0;
-  writer = λ n l. get_or-copies count None n;
-  since = λ n l. get_or-copies count [] n;
-  later = λ j m l. absurd (omega arith);
-  never = λ j m l. ap (times m) (get_or-copies (length sets) [] j);
-  counted = λ m l. absurd (omega arith);
-}
 
 module _ (sets : List (List NumberedLock)) (i : ℕ) (last : List (Option ℕ)) (readers rows : List (List ℕ)) (waits : List ℕ) (C : Chained sets i last readers rows waits) where
   awaited_by-same : (locks : List NumberedLock) → All (λ lock. lock.number < length last) locks → flat_map (awaited_by last readers) locks ≡ flat_map (awaited sets i) locks

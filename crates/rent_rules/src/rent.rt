@@ -5,13 +5,13 @@ ghost use Rattle.sol_base.specs.Accounts.{max_data_len};
 ghost use Rattle.rent_rules.specs.Rent.{minimum_of, rent_state_of, rent_of, moves, MayMove};
 
 /// The bytes that an account takes beside its data (Solana).
-const ACCOUNT_OVERHEAD: u64 = 128;
+pub(crate) const ACCOUNT_OVERHEAD: u64 = 128;
 
 /// What storing one byte for a year costs, in lamports (Solana).
-const LAMPORTS_PER_BYTE_YEAR: u64 = 3_480;
+pub const LAMPORTS_PER_BYTE_YEAR: u64 = 3_480;
 
 /// The years whose rent exempts an account (Solana).
-const EXEMPTION_YEARS: u64 = 2;
+pub const EXEMPTION_YEARS: u64 = 2;
 
 /// How an account stands to rent. A paying account is known by its balance in lamports and the
 /// number of its data bytes.

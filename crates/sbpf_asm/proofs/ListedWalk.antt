@@ -19,7 +19,7 @@ use Rattle.sbpf_asm.specs.declared.instruction.Instruction.{Instruction}
 use Rattle.sbpf_asm.specs.Words.{Text, is_line_feed}
 use Rattle.sbpf_asm.specs.Rows.{Draft}
 use Rattle.sbpf_asm.specs.Lines.{lines_of}
-use Rattle.sbpf_asm.specs.Assembly.{Placed, Label, Source, is_in_range, is_text, is_text_byte, slots_taken, slots_after, settled, instruction_bytes, with_draft, with_line, with_lines}
+use Rattle.sbpf_asm.specs.Assembly.{Placed, Label, Source, is_in_range, is_text, is_text_byte, slots_taken, slots_after, linked, instruction_bytes, with_draft, with_line, with_lines}
 use Rattle.sbpf_asm.specs.Listing.{instruction_of, instruction_text, slot_line}
 use Rattle.sbpf_asm.proofs.Pieces.{cut_here}
 use Rattle.sbpf_asm.proofs.Clean.{weaker}
@@ -154,7 +154,7 @@ slots_push : (labels : List Label) (before : List ℕ) (ps : List Placed) (line 
     → slots_after labels before (ps ++ (record { line = line; place = place; draft = listed_draft i }) ∷ []) ≡ Ok (bytes ++ instruction_bytes i)
 slots_push labels before [] line place i bytes h = ap (λ (b : List ℕ). Ok (b ++ instruction_bytes i)) (ok_same before bytes h)
 slots_push labels before (p ∷ ps) line place i bytes h =
-    let bound = bind_ok (settled labels p p.draft.target) (λ j. slots_after labels (before ++ instruction_bytes j) ps) bytes h in
+    let bound = bind_ok (linked labels p p.draft.target) (λ j. slots_after labels (before ++ instruction_bytes j) ps) bytes h in
     ap (λ (r : Result Instruction AsmFault). r >>= (λ j. slots_after labels (before ++ instruction_bytes j) (ps ++ (record { line = line; place = place; draft = listed_draft i }) ∷ []))) bound.1
     ∙ slots_push labels (before ++ instruction_bytes bound.0) ps line place i bytes bound.2
 

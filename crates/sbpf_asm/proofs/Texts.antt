@@ -127,7 +127,7 @@ assembly text image s read h =
       allowed = read.allowed;
       short = long.0;
       slots = bound.0;
-      settled = bound.1;
+      linked = bound.1;
       verified = verified.0;
       image_is = verified.1;
     }

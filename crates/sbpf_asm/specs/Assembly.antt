@@ -124,9 +124,9 @@ led_to p (Some target) =
     let i = leading (pos target -ℤ pos (p.place + 1)) p.draft.instruction in
     ok_if (is_in_range i) (Range p.line) i
 
-abbrev pub settled : List Label → Placed → Option Text → Result Instruction AsmFault
-settled labels p None = Ok p.draft.instruction
-settled labels p (Some name) = led_to p (place_in name labels)
+abbrev pub linked : List Label → Placed → Option Text → Result Instruction AsmFault
+linked labels p None = Ok p.draft.instruction
+linked labels p (Some name) = led_to p (place_in name labels)
 
 -- the lowest bytes of a number, in two's complement, the lowest first
 abbrev pub low_bytes : ℤ → List ℕ
@@ -149,7 +149,7 @@ instruction_bytes i = first_slot i ++ second_slot i
 abbrev pub slots_after : List Label → List ℕ → List Placed → Result (List ℕ) AsmFault
 slots_after labels before [] = Ok before
 slots_after labels before (p ∷ ps) =
-    settled labels p p.draft.target >>= (λ i. slots_after labels (before ++ instruction_bytes i) ps)
+    linked labels p p.draft.target >>= (λ i. slots_after labels (before ++ instruction_bytes i) ps)
 
 -- ---- round four: the text is verified
 

@@ -70,6 +70,6 @@ pub record IsAssembly (text : Text) (image : List ℕ) : Type 0 where
   pub allowed : AreAllowed [] 0 items
   pub short : is_too_long (source_of items) ≡ false
   pub slots : List ℕ
-  pub settled : slots_after (labels_in 0 items) [] (instructions_in 1 0 items) ≡ Ok slots
+  pub linked : slots_after (labels_in 0 items) [] (instructions_in 1 0 items) ≡ Ok slots
   pub verified : unfit slots ≡ None
   pub image_is : image ≡ image_bytes (record { text = slots; constants = constants_in items })

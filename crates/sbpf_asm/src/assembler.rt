@@ -1,7 +1,7 @@
 //! From an assembler text to an image.
 ghost use Rattle.std.specs.Prelude.{◌≡◌, ◌++◌, ◌<◌, ◌≤◌, ◌*◌, ◌+◌, ◌^◌, [], IfOk, OnOk, length, pos, ◌-ℤ◌};
 ghost use Rattle.spec_base.specs.Reading.{Gives};
-ghost use Rattle.sbpf_asm.specs.Assembly.{assembled, image_of, instruction_bytes, is_asm_memory, is_too_long, settled, slots_after, verified_image};
+ghost use Rattle.sbpf_asm.specs.Assembly.{assembled, image_of, instruction_bytes, is_asm_memory, is_too_long, linked, slots_after, verified_image};
 ghost use Rattle.sbpf_asm.specs.Rows.{leading};
 ghost use Rattle.sbpf_asm.specs.Views.{labels_view, placed_view, source_view};
 ghost use Rattle.sol_base.specs.Accounts.{max_data_len};
@@ -40,9 +40,9 @@ fn led(instruction: Instruction, target: u64, place: u64) -> Instruction
 }
 
 /// The instruction with its label put in.
-fn settled(labels: &IndexMap<&[u8], u64>, placed: Placed<'_>) -> Result<Instruction, AsmFault>
+fn linked(labels: &IndexMap<&[u8], u64>, placed: Placed<'_>) -> Result<Instruction, AsmFault>
     ensures { let p = placed_view placed.entry
-        in result ≡ settled (labels_view labels.now.entries) p p.draft.target }
+        in result ≡ linked (labels_view labels.now.entries) p p.draft.target }
 {
     let instruction = placed.draft.instruction;
     let Some(name) = placed.draft.target else {
@@ -81,7 +81,7 @@ fn text_of(alloc: Global, source: &Source<'_>) -> Result<Blob, AsmFault>
 {
     let mut text = Blob::with_capacity(alloc, 8 * source.slots as usize)?;
     for placed in source.instructions.as_slice() {
-        append_instruction(&mut text, settled(&source.labels, *placed)?)?;
+        append_instruction(&mut text, linked(&source.labels, *placed)?)?;
     }
     Ok(text)
 }

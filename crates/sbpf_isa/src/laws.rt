@@ -3,6 +3,13 @@ ghost use Rattle.std.specs.Prelude.{◌≡◌, Some};
 ghost use Rattle.std.specs.List.{AllByRecursion};
 ghost use Rattle.sbpf_isa.specs.Rows.{kind_at, rows};
 
+use crate::call::INVOKE_CALL;
+
+/// The number of the cross-program call (the project's own).
+pub fn numbers_are_as_stated()
+    ensures { INVOKE_CALL ≡ 17 }
+{}
+
 /// A law: each row of the table is what its opcode leads to, so that no opcode stands in two rows.
 #[tactic(auto, unfolding(crate::specs::Rows::kind_at))]
 pub fn rows_have_their_own_opcodes()

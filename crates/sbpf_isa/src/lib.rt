@@ -2,10 +2,12 @@
 //! which opcodes there are (RFC 9669).
 #![tactic(auto)]
 
+mod call;
 mod laws;
 mod rows;
 mod slot;
 
-pub use laws::rows_have_their_own_opcodes;
+pub use call::INVOKE_CALL;
+pub use laws::{numbers_are_as_stated, rows_have_their_own_opcodes};
 pub use rows::{Condition, OpKind, Operand, Operation, Size, Width, kind_of};
 pub use slot::{Slot, slot_at};

@@ -1,7 +1,7 @@
 -- What the answer of one instruction says of the row that it follows.
 use Rattle.std.specs.Prelude.{◌≡◌, ℕ, ◌+◌, true, List, slice_get, Some}
 use Rattle.sbpf_isa.specs.declared.rows.OpKind.{OpKind}
-use Rattle.sbpf_verify.specs.Entries.{IsHelperNumber}
+use Rattle.sbpf_isa.specs.Calls.{IsCallNumber}
 use Rattle.sbpf_verify.specs.Places.{is_start}
 use Rattle.sbpf_verify.specs.declared.entry.Entry.{Entry}
 use Rattle.sbpf_memory.specs.Memory.{IsPrepared}
@@ -37,7 +37,7 @@ LandsOn text target place Next = is_start text (place + 1) ≡ true
 LandsOn text target place Jump = is_start text target ≡ true
 LandsOn text target place (To other) = is_start text other ≡ true
 LandsOn text target place (Off (Helper number)) =
-    (is_start text (place + 1) ≡ true) × IsHelperNumber number
+    (is_start text (place + 1) ≡ true) × IsCallNumber number
 LandsOn text target place (Off (Exit r0)) = Unit {0}
 LandsOn text target place (Off (Fault fault)) = Unit {0}
 LandsOn text target place NoMemory = Unit {0}

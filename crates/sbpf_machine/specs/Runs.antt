@@ -1,6 +1,6 @@
 -- A run of the machine's loop, and what holds of each machine.
 use Rattle.std.specs.Prelude.{◌≡◌, ℕ, ◌+◌, true, List, Option, Some, None, IfSome}
-use Rattle.sbpf_verify.specs.Entries.{IsHelperNumber}
+use Rattle.sbpf_isa.specs.Calls.{IsCallNumber}
 use Rattle.sbpf_verify.specs.Places.{is_start}
 use Rattle.sbpf_verify.specs.Verified.{IsVerified}
 use Rattle.sbpf_machine.specs.Flows.{GoBack}
@@ -10,9 +10,9 @@ use Rattle.sbpf_machine.specs.declared.stop.Stop.{Stop}
 use Rattle.sbpf_machine.specs.declared.stop.Stop.TheVariants.{Exit, Helper, Fault}
 use Rattle.sbpf_machine.specs.declared.run.Ended.{Ended}
 
--- a stop at a system call has its number, 1 to 17
+-- a stop at a system call has its number
 abbrev pub IsNumbered : Stop → Type 0
-IsNumbered (Helper number) = IsHelperNumber number
+IsNumbered (Helper number) = IsCallNumber number
 IsNumbered (Exit r0) = Unit {0}
 IsNumbered (Fault fault) = Unit {0}
 

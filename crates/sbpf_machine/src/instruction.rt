@@ -1,14 +1,15 @@
 //! One instruction.
-ghost use Rattle.std.specs.Prelude.{◌≡◌, ◌≢◌, ◌<◌, ◌≤◌, ◌+◌, ◌%◌, ◌^◌, ℕ, false, true, if◌then◌else◌, IfSome};
+ghost use Rattle.std.specs.Prelude.{◌≡◌, ◌≢◌, ◌<◌, ◌+◌, ◌%◌, ℕ, false, true, if◌then◌else◌, IfSome};
 ghost use Rattle.sbpf_memory.specs.Memory.{IsWidth, load_from, store_to};
 ghost use Rattle.sbpf_machine.specs.Flows.{Follows, LandsOn, WantsOnlyAt, IsNext, IsNextOrWant, IsTo, IsToStart, IsCalling, GoBack, operands_of};
 ghost use Rattle.sbpf_machine.specs.Steps as Steps;
 ghost use Rattle.sbpf_machine.specs.Values.{divides, holds};
 ghost use Rattle.sbpf_machine.specs.declared.instruction.Flow.TheVariants.{Next as next_one, Jump as jumps};
-ghost use Rattle.sbpf_verify.specs.Entries.{Fits, IsHelperNumber};
+ghost use Rattle.sbpf_verify.specs.Entries.{Fits};
 ghost use Rattle.sbpf_verify.specs.Opcodes.{meaning};
 ghost use Rattle.sbpf_verify.specs.Places.{is_start, max_slots};
 ghost use Rattle.sbpf_verify.specs.Verified.{IsVerified};
+ghost use Rattle.sbpf_isa.specs.Calls.{IsCallNumber};
 
 use crate::context::Context;
 use crate::frames::{Kept, MAX_FRAMES};
@@ -274,7 +275,7 @@ fn call(program: &Verified, entry: Entry, place: u32, context: &mut Context) -> 
     requires room { place < max_slots }
     requires next { is_start program.now (place + 1) ≡ true }
     requires to { is_start program.now entry.target ≡ true }
-    requires helper { entry.src ≢ 1 → IsHelperNumber entry.imm }
+    requires helper { entry.src ≢ 1 → IsCallNumber entry.imm }
     requires backs { GoBack program.now context.old.frames }
     ensures lands { (target : ℕ) → LandsOn program.now target place result }
     ensures backs { GoBack program.now context.new.frames }

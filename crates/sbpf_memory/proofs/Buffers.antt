@@ -1,7 +1,6 @@
 -- Lists with zeros behind what is written down.
 use Rattle.std.proofs.Common.{◌≡◌, ℕ, ◌+◌, ◌-◌, ◌≤◌, List, ◌++◌, length, take, drop, replicate, ap, ◌∙◌, rules, arith, length-append}
 use Rattle.std.proofs.lemmas.List.{places, same_lists, length-replicate}
-use Rattle.spec_base.specs.Bytes.{with_bytes}
 use Rattle.sbpf_memory.specs.Buffers.{filled}
 
 pub filled_size : (bytes : List ℕ) (size : ℕ) → length bytes ≤ size → length (filled bytes size) ≡ size
@@ -14,7 +13,3 @@ filled_range bytes size at n h = same_lists _ _ (search (rules, places)) (λ k d
 -- more zeros are written down
 pub filled_more : (bytes : List ℕ) (size more : ℕ) → length bytes + more ≤ size → filled (bytes ++ replicate more 0) size ≡ filled bytes size
 filled_more bytes size more h = same_lists _ _ (search (rules, places)) (λ k d below. grind (arith, places))
-
--- a write where it is written down
-pub filled_with : (bytes new : List ℕ) (size at : ℕ) → at + length new ≤ length bytes → filled (with_bytes bytes at new) size ≡ with_bytes (filled bytes size) at new
-filled_with bytes new size at h = same_lists _ _ (search (rules, places)) (λ k d below. grind (arith, places))

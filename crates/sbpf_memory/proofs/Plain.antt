@@ -5,7 +5,7 @@ use Rattle.sbpf_memory.specs.declared.fault.AccessViolation.{AccessViolation}
 use Rattle.sbpf_memory.specs.declared.place.Place.{Place}
 use Rattle.sbpf_memory.specs.declared.place.Region.{Region}
 use Rattle.sbpf_memory.specs.declared.place.Region.TheVariants.{Program, Stack, Heap, Input}
-use Rattle.sbpf_memory.specs.Memory.{Ranges, place_of, bytes_at, read_from, number_in, load_from, width_of, with_bytes_in, with_bytes_at, write_to, store_to, write_refusal, meet, or_overlap, copy_of, copy_to}
+use Rattle.sbpf_memory.specs.Memory.{Ranges, place_of, bytes_at, read_from, number_in, load_from, width_of, with_bytes_in, with_bytes_at, write_to, store_to, meet, or_overlap, copy_of, copy_to}
 use Rattle.sbpf_memory.specs.Plain.{plain_memory, plain_written, plain_copied}
 
 bytes_in_plain : (m : Ranges) (addr len at : ℕ) (region : Region) → bytes_at (plain_memory m) addr len (Some (record { region = region; at = at })) ≡ bytes_at m addr len (Some (record { region = region; at = at }))
@@ -71,9 +71,5 @@ pub copy-plain : (m : Ranges) (to from len : ℕ) (apart : Bool) → copy_to (pl
 unfolding copy_to
 copy-plain m to from len apart =
     ap (copy_of (plain_memory m) to (apart && nat_lt 0 len && meet to from len)) (read-plain m from len) ∙ copied_plain m to (apart && nat_lt 0 len && meet to from len) (read_from m from len)
-
-pub write_refusal-plain : (m : Ranges) (addr len : ℕ) → write_refusal (plain_memory m) addr len ≡ write_refusal m addr len
-unfolding write_refusal place_of
-write_refusal-plain m addr len = refl
 
 pub ruleset plain = (read-plain, write-plain, copy-plain)

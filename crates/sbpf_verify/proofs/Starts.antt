@@ -1,4 +1,5 @@
 -- What is known of the instructions of a verified text.
+use Rattle.sbpf_isa.specs.Calls.{IsCallNumber, invoke_call}
 use Rattle.std.proofs.Common.{◌≡◌, ◌≢◌, ◌<◌, ◌≤◌, ◌-◌, ◌+◌, ◌==◌, ◌&&◌, ◌||◌, not, ℕ, Bool, true, false, cond, List, length, Option, Some, None, refl, ap, ◌∙◌, sym, arith, add-one, ◌⊎◌, inl, inr, ⊎_elim, ◌%◌, ◌/◌}
 use Rattle.std.specs.Prelude.{nat_lt, is_none, ℤ, pos, negsuc, ◌≤ℤ◌, int_lt, slice_get, unwrap_or}
 use Rattle.std.proofs.lemmas.Bool.{or_parts, not-false, eq-eqb, ne_eqb, ltb-false}
@@ -13,7 +14,7 @@ use Rattle.sbpf_isa.specs.declared.rows.OpKind.{OpKind}
 use Rattle.sbpf_isa.specs.declared.rows.OpKind.TheVariants.{Jump, Exit, LoadWide}
 use Rattle.sbpf_verify.specs.declared.entry.Entry.{Entry}
 use Rattle.sbpf_verify.specs.Opcodes.{meaning}
-use Rattle.sbpf_verify.specs.Entries.{Decodes, IsDecoded, Fits, IsHelperNumber, immediate_of}
+use Rattle.sbpf_verify.specs.Entries.{Decodes, IsDecoded, Fits, immediate_of}
 use Rattle.sbpf_verify.specs.Instructions.{HasRegisters, HasValues}
 use Rattle.sbpf_verify.specs.Places.{slot_count, max_slots, is_start, is_start_at, instruction_at, leads_to, goes_on, slots_taken, Reached, first, after, jumped, called}
 use Rattle.sbpf_verify.specs.Verified.{rows_of, lacks_row, follows_wide, is_astray, is_outside, calls_bad_register, is_no_width, has_bad_value, has_stray_field, used, calls_no_helper, instruction_rows, slot_rows, NoneApplies, IsVerified}
@@ -239,8 +240,8 @@ is_width z h = ⊎_elim
     (λ r. ⊎_elim (λ b. inr (inl (same_number z (pos 32) b))) (λ c. inr (inr (same_number z (pos 64) c))) r)
     (one_of_three (int_eq z (pos 16)) (int_eq z (pos 32)) (int_eq z (pos 64)) h)
 
-helper_there : (slot : Slot) → ((slot.src == 0) && is_outside (pos 1) (pos 17) slot.imm) ≡ false → slot.src ≡ 0 → is_outside (pos 1) (pos 17) slot.imm ≡ false
-helper_there slot h e = both (slot.src == 0) (is_outside (pos 1) (pos 17) slot.imm) h (eq-eqb slot.src 0 e)
+helper_there : (slot : Slot) → ((slot.src == 0) && is_outside (pos 1) (pos invoke_call) slot.imm) ≡ false → slot.src ≡ 0 → is_outside (pos 1) (pos invoke_call) slot.imm ≡ false
+helper_there slot h e = both (slot.src == 0) (is_outside (pos 1) (pos invoke_call) slot.imm) h (eq-eqb slot.src 0 e)
   where
     both : (a b : Bool) → (a && b) ≡ false → a ≡ true → b ≡ false
     both true b h e = h
@@ -256,13 +257,13 @@ has_values text place kind v h =
       little = λ e. is_width slot.imm (ap (has_bad_value slot) (sym e) ∙ field);
       big = λ e. is_width slot.imm (ap (has_bad_value slot) (sym e) ∙ field);
       source = λ e. ltb-false 1 slot.src (ap (has_bad_value slot) (sym e) ∙ field);
-      helper = λ e zero. within (pos 1) (pos 17) slot.imm (helper_there slot (ap (calls_no_helper slot) (sym e) ∙ helper) zero);
+      helper = λ e zero. within (pos 1) (pos invoke_call) slot.imm (helper_there slot (ap (calls_no_helper slot) (sym e) ∙ helper) zero);
     }
 
 small_number : (z : ℤ) → (pos 0 ≤ℤ z) × (z ≤ℤ pos 9) → cast_unsigned w64 z ≤ 9
 small_number z h = omega (arith, ints)
 
-helper_number : (z : ℤ) → (pos 1 ≤ℤ z) × (z ≤ℤ pos 17) → IsHelperNumber (cast_unsigned w64 z)
+helper_number : (z : ℤ) → (pos 1 ≤ℤ z) × (z ≤ℤ pos invoke_call) → IsCallNumber (cast_unsigned w64 z)
 helper_number z h = (omega (arith, ints), omega (arith, ints))
 
 no_source : (n : ℕ) → n ≤ 1 → n ≢ 1 → n ≡ 0

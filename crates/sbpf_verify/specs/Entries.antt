@@ -7,6 +7,7 @@ use Rattle.sbpf_isa.specs.declared.rows.OpKind.TheVariants.{Call, CallRegister, 
 use Rattle.sbpf_verify.specs.Opcodes.{meaning}
 use Rattle.sbpf_verify.specs.Places.{slot_count, is_start, instruction_at, leads_to, goes_on, slots_taken}
 use Rattle.sbpf_verify.specs.declared.entry.Entry.{Entry}
+use Rattle.sbpf_isa.specs.Calls.{IsCallNumber}
 
 -- the immediate of an instruction in 64 bits: sign-extended; that of `lddw` has its low half in the
 -- first slot and its high half in the second
@@ -33,17 +34,13 @@ pub record IsDecoded (text : List ℕ) (entries : List Entry) : Type 0 where
   pub each : (place : ℕ) (entry : Entry) → slice_get entries place ≡ Some entry
       → is_start text place ≡ true → Decodes text place entry
 
--- the numbers of the system calls
-abbrev pub IsHelperNumber : ℕ → Type 0
-IsHelperNumber number = (1 ≤ number) × (number ≤ 17)
-
 -- what holds of the entry of a start: its registers are there, it leads to starts alone, and a
 -- system call that it calls is there
 pub record Fits (text : List ℕ) (place : ℕ) (entry : Entry) : Type 0 where
   pub dst : entry.dst ≤ 10
   pub src : entry.src ≤ 10
   pub called : meaning entry.opcode ≡ CallRegister → entry.imm ≤ 9
-  pub helper : meaning entry.opcode ≡ Call → entry.src ≢ 1 → IsHelperNumber entry.imm
+  pub helper : meaning entry.opcode ≡ Call → entry.src ≢ 1 → IsCallNumber entry.imm
   pub target : is_start text entry.target ≡ true
   pub next : goes_on (meaning entry.opcode) ≡ true
       → is_start text (place + slots_taken (meaning entry.opcode)) ≡ true

@@ -5,13 +5,14 @@ use Rattle.sbpf_isa.specs.Slots.{slot_of}
 use Rattle.sbpf_isa.specs.declared.slot.Slot.{Slot}
 use Rattle.sbpf_isa.specs.declared.rows.OpKind.{OpKind}
 use Rattle.sbpf_isa.specs.declared.rows.OpKind.TheVariants.{Jump, JumpIf, Call, CallRegister, Exit, LoadWide}
+use Rattle.sbpf_verify.specs.declared.table.TheConstants.{MAX_SLOTS}
 
 abbrev pub slot_count : List ℕ → ℕ
 slot_count text = length text / 8
 
 -- the most slots of a text (the project's own)
 abbrev pub max_slots : ℕ
-max_slots = 65536
+max_slots = MAX_SLOTS
 
 -- a start: a slot is there whose opcode is not 0
 unfoldable pub is_start : List ℕ → ℕ → Bool

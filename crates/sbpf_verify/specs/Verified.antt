@@ -15,6 +15,7 @@ use Rattle.sbpf_isa.specs.declared.rows.OpKind.TheVariants.{Binary, Negate, Litt
 use Rattle.sbpf_verify.specs.Places.{slot_count, max_slots, is_start_at, leads_to}
 use Rattle.sbpf_verify.specs.declared.fault.VerifyFault.{VerifyFault}
 use Rattle.sbpf_verify.specs.declared.fault.VerifyFault.TheVariants.{Length, Opcode, Register, WritesFrame, ZeroDivisor, Shift, HalfWide, Jump, Helper, OpenEnd, Field}
+use Rattle.sbpf_isa.specs.Calls.{invoke_call}
 
 -- a number outside low to high
 abbrev pub is_outside : ℤ → ℤ → ℤ → Bool
@@ -137,9 +138,9 @@ is_astray text (Some target) = not (is_start_at text target)
 abbrev pub jumps_astray : List ℕ → ℕ → Slot → OpKind → Bool
 jumps_astray text place slot kind = is_astray text (leads_to kind slot place)
 
--- Helper: a call of a system call whose number is not 1 to 17
+-- Helper: a call of a system call whose number is that of none
 abbrev pub calls_no_helper : Slot → OpKind → Bool
-calls_no_helper slot Call = (slot.src == 0) && is_outside (pos 1) (pos 17) slot.imm
+calls_no_helper slot Call = (slot.src == 0) && is_outside (pos 1) (pos invoke_call) slot.imm
 calls_no_helper slot _ = false
 
 -- OpenEnd: the last slot's opcode is neither that of `exit` nor that of `ja`

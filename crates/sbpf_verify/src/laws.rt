@@ -1,5 +1,5 @@
 //! Laws of verified texts and of program images. Their calls do nothing.
-ghost use Rattle.std.specs.Prelude.{◌≡◌, ◌↔◌, ℕ, ◌+◌, ◌<◌, ◌≤◌, true, List, slice_get, Some, None, ℤ};
+ghost use Rattle.std.specs.Prelude.{◌≡◌, ◌↔◌, ℕ, ◌+◌, ◌<◌, true, List, slice_get, Some, None, ℤ};
 ghost use Rattle.sbpf_isa.specs.Slots.{slot_of};
 ghost use Rattle.sbpf_isa.specs.declared.rows.OpKind.{OpKind};
 ghost use Rattle.sbpf_isa.specs.declared.rows.OpKind.TheVariants.{LoadWide};
@@ -9,6 +9,13 @@ ghost use Rattle.sbpf_verify.specs.Images.{ImageParts, IsWritable, image_bytes, 
 ghost use Rattle.sbpf_verify.specs.Instructions.{HasRegisters, HasValues};
 ghost use Rattle.sbpf_verify.specs.Places.{max_slots, is_start, is_start_at, instruction_at, leads_to, goes_on, slots_taken, Reached};
 ghost use Rattle.sbpf_verify.specs.Verified.{IsVerified, unfit};
+
+use crate::table::MAX_SLOTS;
+
+/// The most slots of a text (the project's own).
+pub fn numbers_are_as_stated()
+    ensures { MAX_SLOTS ≡ 65_536 }
+{}
 
 /// A law: the verified texts are those without a refusal.
 pub fn verified_is_without_refusal()

@@ -1,10 +1,10 @@
 //! The rows of the table of refusals, each by itself.
-ghost use Rattle.std.specs.Prelude.{◌≡◌, ◌<◌, ◌≤◌, ◌^◌, length};
+ghost use Rattle.std.specs.Prelude.{◌≡◌, ◌<◌, ◌≤◌, length};
 ghost use Rattle.sbpf_verify.specs.Places.{slot_count};
 ghost use Rattle.sbpf_verify.specs.Verified as Table;
 
 use crate::places::{is_start_at, leads_to};
-use sbpf_isa::{OpKind, Operand, Operation, Slot, Width, slot_at};
+use sbpf_isa::{INVOKE_CALL, OpKind, Operand, Operation, Slot, Width, slot_at};
 
 /// The most slots of a text (the project's own).
 pub const MAX_SLOTS: usize = 65_536;
@@ -152,7 +152,7 @@ pub fn jumps_astray(text: &[u8], place: u32, slot: Slot, kind: OpKind) -> bool
 pub fn calls_no_helper(slot: Slot, kind: OpKind) -> bool
     ensures { result ≡ Table.calls_no_helper slot kind }
 {
-    kind == OpKind::Call && slot.src == 0 && is_outside(1, 17, slot.imm)
+    kind == OpKind::Call && slot.src == 0 && is_outside(1, INVOKE_CALL as i32, slot.imm)
 }
 
 /// Row `OpenEnd`: the last slot neither ends the program nor jumps.

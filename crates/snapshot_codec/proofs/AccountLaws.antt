@@ -26,7 +26,7 @@ use Rattle.account_store.specs.Sorted.{entry_of, entries_of, keyed, Ascend, AreO
 use Rattle.account_store.proofs.EntryLists.{sorted-entries, entries-from_entries, from_entries-entries}
 use Rattle.account_store.proofs.SortedLaws.{state_of-is}
 use Rattle.snapshot_codec.specs.declared.fault.SnapshotFault.TheVariants.{Truncated, BadField, OutOfOrder, Empty, SupplyTooLarge, TooManyAccounts, DataTooLong}
-use Rattle.snapshot_codec.specs.Snapshot.{flag, account_bytes, accounts_bytes, state_bytes}
+use Rattle.snapshot_codec.specs.Snapshot.{flag, account_bytes, accounts_bytes, state_bytes, max_accounts}
 use Rattle.snapshot_codec.specs.SnapshotReading.{Read, key_after, lamports_after, flag_at, data_at, account_after, entries_at, state_at}
 use Rattle.format_fields.proofs.Sized.{sized_reads, sized_field_reads, IsCount, count_fits, count_le}
 use Rattle.snapshot_codec.proofs.Ordered.{IsNext, AllAfter-weaker, AllAfter-both, sorted-from_next, next-from_sorted}
@@ -155,18 +155,14 @@ account_reads total before = record { again = account_again total before; takes 
 pub supply-more : (before : List KeyedAccount) (e : KeyedAccount) → supply (before ++ e ∷ []) ≡ supply before + e.account.lamports
 supply-more before e = ap lamports_of (map-append entry_of before (e ∷ [])) ∙ sum_by_push (λ (d : Key × Account). d.1.lamports) (entries_of before) (entry_of e)
 
--- what an account that was read has of lamports
-pub lamports_read : (total : ℕ) (before : List KeyedAccount) (bytes : List ℕ) (e : KeyedAccount) (rest : List ℕ) → IsBytes bytes → account_after total before bytes ≡ Ok (e, rest) → supply before + e.account.lamports ≤ 2 ^ 64 - 1
-lamports_read total before bytes e rest are h = (account_takes total before bytes e rest are h).0.supply_fits
-
 -- lists of accounts
 
 abbrev ListFits : List KeyedAccount → Type 0
-ListFits list = IsCount 4194304 (length list) × AllAfter KeyedFits [] list
+ListFits list = IsCount max_accounts (length list) × AllAfter KeyedFits [] list
 
 entries_reads : (total : ℕ) → Reads (entries_at total) (λ list. to_le_bytes w32 (length list) ++ flat_map keyed_bytes list) ListFits
 unfolding entries_at
-entries_reads total = sized_reads length (count_reads (λ _. TooManyAccounts) 4194304 total) (λ n. many_after_reads (account_reads total) n)
+entries_reads total = sized_reads length (count_reads (λ _. TooManyAccounts) max_accounts total) (λ n. many_after_reads (account_reads total) n)
 
 keys-same : (list : List KeyedAccount) → map key_of list ≡ keys_of (entries_of list)
 keys-same [] = refl
@@ -205,7 +201,7 @@ entries-same list all = entries-from_entries key_cmp_total key_cmp_exact (entrie
 -- states
 
 pub record StateFits (s : State) : Type 0 where
-  pub few : length (entries s) ≤ 4194304
+  pub few : length (entries s) ≤ max_accounts
   pub is_state : IsState s
   pub keys : AllByRecursion (λ e. IsKey e.0) (entries s)
   pub owners : AllByRecursion (λ e. IsKey e.1.owner) (entries s)
@@ -215,7 +211,7 @@ state_fits list fits =
     let same = entries-same list fits.1 in
     let Each : (Key × Account → Type 0) → Type 0 = λ P. AllByRecursion P (entries (state_with list)) in
     record {
-      few = subst (λ (es : List (Key × Account)). length es ≤ 4194304) (sym same) (subst (λ n. n ≤ 4194304) (sym (length-map list entry_of)) (count_le 4194304 (length list) fits.0));
+      few = subst (λ (es : List (Key × Account)). length es ≤ max_accounts) (sym same) (subst (λ n. n ≤ max_accounts) (sym (length-map list entry_of)) (count_le max_accounts (length list) fits.0));
       is_state = record {
         held = subst (AllByRecursion (λ (e : Key × Account). IsHeld e.1)) (sym same) (each_entry (λ e. IsHeld e.1) list (kept (λ e. IsHeld e.account) (λ before e h. (h.some, h.short)) list fits.1));
         fits = subst (λ (es : List (Key × Account)). lamports_of es ≤ 2 ^ 64 - 1) (sym same) (of_state list fits.1).fits;
@@ -284,9 +280,9 @@ unfolding state_at read_as
 state_again total s rest fits =
     let list = map keyed (entries s) in
     let same : to_le_bytes w32 (length list) ++ flat_map keyed_bytes list ≡ state_bytes s = list_bytes-same list ∙ ap accounts_bytes (keyed-back (entries s)) in
-    let few : length list ≤ 4194304 = subst (λ n. n ≤ 4194304) (sym (length-map (entries s) keyed)) fits.few in
+    let few : length list ≤ max_accounts = subst (λ n. n ≤ max_accounts) (sym (length-map (entries s) keyed)) fits.few in
     let read : entries_at total (state_bytes s ++ rest) ≡ Ok (list, rest) =
-    subst (λ (b : List ℕ). entries_at total (b ++ rest) ≡ Ok (list, rest)) same ((entries_reads total).again list rest (count_fits 4194304 (length list) (lit< tt) few, list_fits s fits)) in
+    subst (λ (b : List ℕ). entries_at total (b ++ rest) ≡ Ok (list, rest)) same ((entries_reads total).again list rest (count_fits max_accounts (length list) (lit< tt) few, list_fits s fits)) in
     let back : state_with list ≡ s = ap (λ (es : List (Key × Account)). from_entries {R = key_cmp} es) (keyed-back (entries s)) ∙ from_entries-entries key_cmp_total key_cmp_exact s in
     rw read (ap (λ (t : State). let r : Read State = Ok (t, rest) in r) back)
 

@@ -1,4 +1,5 @@
 -- Batches: what is spelled is read again, and what is read is spelled so.
+use Rattle.sol_base.specs.Limits.{max_transactions}
 use Rattle.std.proofs.Common.{◌≡◌, ◌<◌, ◌^◌, ℕ, List, [], ◌++◌, length, Result, Ok, Err, true, refl, sym, ap, subst, ◌∙◌, append_assoc, lit<, nat_lt, arith}
 use Rattle.std.specs.Prelude.{IfOk, codes, bytes_eq, nat_le}
 use Rattle.std.specs.Int.{w32, w64, to_le_bytes}
@@ -29,9 +30,9 @@ slot_reads : (before total : ℕ) → Reads (slot_at before total) (to_le_bytes 
 unfolding slot_at
 slot_reads before total = read_if_reads (λ _. SlotNotLater) (λ slot. nat_lt before slot) total (u64_reads Truncated total)
 
-count_reads : (total : ℕ) → Reads (count_at total) (to_le_bytes w32) (IsCount 16384)
+count_reads : (total : ℕ) → Reads (count_at total) (to_le_bytes w32) (IsCount max_transactions)
 unfolding count_at
-count_reads total = read_if_reads (λ _. TooMany) (λ n. nat_le n 16384) total (u32_reads Truncated total)
+count_reads total = read_if_reads (λ _. TooMany) (λ n. nat_le n max_transactions) total (u32_reads Truncated total)
 
 wire_reads : (total : ℕ) → Reads (wire_at total) sized_bytes (λ wire. (length wire < 2 ^ 16) × Unit {0})
 unfolding wire_at
@@ -40,7 +41,7 @@ wire_reads total = sized_reads length (u16_reads Truncated total) (sized_field_r
 record BatchFits (before : ℕ) (b : Batch) : Type 0 where
   slot : (b.slot < 2 ^ 64) × (nat_lt before b.slot ≡ true)
   collector : IsKey b.collector
-  few : IsCount 16384 (length b.wires)
+  few : IsCount max_transactions (length b.wires)
   wires : AllByRecursion (λ wire. (length wire < 2 ^ 16) × Unit {0}) b.wires
 
 batch_again : (before total : ℕ) (b : Batch) (rest : List ℕ) → BatchFits before b → batch_at before total (batch_bytes b ++ rest) ≡ Ok (b, rest)
@@ -80,13 +81,13 @@ batch_takes before total bytes b rest are h =
     let to_count = follows (head ++ key_bytes collector) (to_le_bytes w32 (length wires)) r4 to_collector counted in
     let all = follows (head ++ key_bytes collector ++ to_le_bytes w32 (length wires)) (flat_map sized_bytes wires) rest to_count (onward (flat_map sized_bytes wires) e5 p.1) in
     subst (λ (v : Batch). BatchFits before v × (bytes ≡ batch_bytes v ++ rest)) p.0
-    (record { slot = f2; collector = f3; few = subst (IsCount 16384) (sym f5.0) f4; wires = f5.1 }, all))))))
+    (record { slot = f2; collector = f3; few = subst (IsCount max_transactions) (sym f5.0) f4; wires = f5.1 }, all))))))
 
 fits_reading : (before : ℕ) (bytes : List ℕ) (b : Batch) → IsBatch before bytes b → BatchFits before b
 fits_reading before bytes b is = record {
   slot = (is.slot, let t = is.later in grind (arith, nat_tests));
   collector = is.collector;
-  few = count_fits 16384 (length b.wires) (lit< tt) is.few;
+  few = count_fits max_transactions (length b.wires) (lit< tt) is.few;
   wires = recursion_from_All (λ wire. (length wire < 2 ^ 16) × Unit {0}) b.wires (λ k d lt. (let t = is.short k d lt in omega arith, tt));
 }
 
@@ -108,7 +109,7 @@ takes before bytes b are h =
     record {
       spelled = t.1 ∙ append-nil (batch_bytes b);
       later = later b.slot t.0.slot.1;
-      few = count_le 16384 (length b.wires) t.0.few;
+      few = count_le max_transactions (length b.wires) t.0.few;
       short = λ k d lt. let s = (short k d lt).0 in omega arith;
       slot = t.0.slot.0;
       collector = t.0.collector;

@@ -9,7 +9,7 @@ use Rattle.spec_base.specs.Reading.{read_as}
 use Rattle.spec_base.proofs.Binding.{chosen, ok_parts, onward, follows}
 use Rattle.spec_base.proofs.Formats.{Reads, by_taking, field_reads, byte_reads, u16_reads, u64_reads, read_if_reads}
 use Rattle.sol_base.specs.declared.limits.Limits.{Limits}
-use Rattle.sol_base.specs.Limits.{first_limits}
+use Rattle.sol_base.specs.Limits.{first_limits, max_block_units, max_transaction_keys, max_stack_height}
 use Rattle.snapshot_codec.specs.declared.fault.SnapshotFault.TheVariants.{Magic, Truncated, BadField}
 use Rattle.snapshot_codec.specs.Snapshot.{limits_bytes, AreAllowed, IsUpTo}
 use Rattle.snapshot_codec.specs.SnapshotReading.{Read, limit_at, height_at, limits_at, names_one, names_two, head_one_at, head_two_at, head_at}
@@ -32,23 +32,23 @@ range_passes most n h =
 abbrev Passes : ℕ → ℕ → Type 0
 Passes most n = (nat_le 1 n && nat_le n most) ≡ true
 
-keys_reads : (total : ℕ) → Reads (limit_at 128 w16 total) (to_le_bytes w16) (λ n. (n < 2 ^ 16) × Passes 128 n)
-keys_reads total = read_if_reads BadField (λ n. nat_le 1 n && nat_le n 128) total (u16_reads Truncated total)
+keys_reads : (total : ℕ) → Reads (limit_at max_transaction_keys w16 total) (to_le_bytes w16) (λ n. (n < 2 ^ 16) × Passes max_transaction_keys n)
+keys_reads total = read_if_reads BadField (λ n. nat_le 1 n && nat_le n max_transaction_keys) total (u16_reads Truncated total)
 
-height_reads : (total : ℕ) → Reads (height_at total) (λ n. n ∷ []) (λ n. (n < 256) × Passes 9 n)
-height_reads total = read_if_reads BadField (λ n. nat_le 1 n && nat_le n 9) total (byte_reads Truncated total)
+height_reads : (total : ℕ) → Reads (height_at total) (λ n. n ∷ []) (λ n. (n < 256) × Passes max_stack_height n)
+height_reads total = read_if_reads BadField (λ n. nat_le 1 n && nat_le n max_stack_height) total (byte_reads Truncated total)
 
-units_reads : (total : ℕ) → Reads (limit_at 1000000000000 w64 total) (to_le_bytes w64) (λ n. (n < 2 ^ 64) × Passes 1000000000000 n)
-units_reads total = read_if_reads BadField (λ n. nat_le 1 n && nat_le n 1000000000000) total (u64_reads Truncated total)
+units_reads : (total : ℕ) → Reads (limit_at max_block_units w64 total) (to_le_bytes w64) (λ n. (n < 2 ^ 64) × Passes max_block_units n)
+units_reads total = read_if_reads BadField (λ n. nat_le 1 n && nat_le n max_block_units) total (u64_reads Truncated total)
 
-keys_fit : (n : ℕ) → IsUpTo 128 n → (n < 2 ^ 16) × Passes 128 n
-keys_fit n h = (let t = h.1 in omega arith, range_passes 128 n h)
+keys_fit : (n : ℕ) → IsUpTo max_transaction_keys n → (n < 2 ^ 16) × Passes max_transaction_keys n
+keys_fit n h = (let t = h.1 in omega arith, range_passes max_transaction_keys n h)
 
-height_fits : (n : ℕ) → IsUpTo 9 n → (n < 256) × Passes 9 n
-height_fits n h = (let t = h.1 in omega arith, range_passes 9 n h)
+height_fits : (n : ℕ) → IsUpTo max_stack_height n → (n < 256) × Passes max_stack_height n
+height_fits n h = (let t = h.1 in omega arith, range_passes max_stack_height n h)
 
-units_fit : (n : ℕ) → IsUpTo 1000000000000 n → (n < 2 ^ 64) × Passes 1000000000000 n
-units_fit n h = (let t = h.1 in omega arith, range_passes 1000000000000 n h)
+units_fit : (n : ℕ) → IsUpTo max_block_units n → (n < 2 ^ 64) × Passes max_block_units n
+units_fit n h = (let t = h.1 in omega arith, range_passes max_block_units n h)
 
 limits_again : (total : ℕ) (limits : Limits) (rest : List ℕ) → AreAllowed limits → limits_at total (limits_bytes limits ++ rest) ≡ Ok (limits, rest)
 unfolding limits_at
@@ -77,7 +77,7 @@ limits_takes total bytes limits rest are h =
     let b = follows (to_le_bytes w16 keys ++ height ∷ []) (to_le_bytes w64 key_units) r3 a e3 in
     let c = follows (to_le_bytes w16 keys ++ height ∷ [] ++ to_le_bytes w64 key_units) (to_le_bytes w64 block_units) rest b (onward (to_le_bytes w64 block_units) e4 p.1) in
     subst (λ (v : Limits). AreAllowed v × (bytes ≡ limits_bytes v ++ rest)) p.0
-    (record { keys = in_range 128 keys f1.1; height = in_range 9 height f2.1; key_units = in_range 1000000000000 key_units f3.1; block_units = in_range 1000000000000 block_units f4.1 }, c)))))
+    (record { keys = in_range max_transaction_keys keys f1.1; height = in_range max_stack_height height f2.1; key_units = in_range max_block_units key_units f3.1; block_units = in_range max_block_units block_units f4.1 }, c)))))
 
 limits_reads : (total : ℕ) → Reads (limits_at total) limits_bytes AreAllowed
 limits_reads total = record { again = limits_again total; takes = limits_takes total }

@@ -1,4 +1,6 @@
 -- A snapshot that is read takes as many bytes as its lengths tell.
+use Rattle.sol_base.specs.Limits.{max_transactions, max_block_units, max_transaction_keys}
+use Rattle.status_cache.specs.Recent.{max_marks}
 use Rattle.std.proofs.Common.{◌≡◌, ◌≤◌, ◌<◌, ◌+◌, ◌-◌, ◌*◌, ℕ, zero, suc, List, [], ◌∷◌, ◌++◌, length, take, drop, Result, Ok, Option, Some, None, Bool, true, false, inl, inr, refl, sym, ap, ◌∙◌, arith}
 use Rattle.std.specs.Prelude.{nat_lt, option_and_then}
 use Rattle.std.specs.Int.{Width, w16, w32, w64, byte_len, from_le_bytes}
@@ -148,10 +150,10 @@ mark_takes : (total : ℕ) → TakesItem behind_mark (mark_at total)
 unfolding mark_at behind_mark
 mark_takes total bytes mark rest h =
     let a = bind_ok (hash_at Truncated total bytes) _ (mark, rest) h in
-    let b = bind_ok (count_at BadField 16384 total a.0.1) _ (mark, rest) a.2 in
+    let b = bind_ok (count_at BadField max_transactions total a.0.1) _ (mark, rest) a.2 in
     let c = bind_ok (many_after (name_after total) [] b.0.0 b.0.1) _ (mark, rest) b.2 in
     let names = names_take total b.0.0 [] b.0.1 c.0.0 c.0.1 c.1 ∙ ap Some (ok_parts _ _ _ _ c.2).1 in
-    sized_behind 32 b.0.0 (λ names. names * 32) bytes a.0.1 b.0.1 rest (hash_takes total bytes a.0.0 a.0.1 a.1) (counts BadField 16384 total a.0.1 b.0.0 b.0.1 b.1) names
+    sized_behind 32 b.0.0 (λ names. names * 32) bytes a.0.1 b.0.1 rest (hash_takes total bytes a.0.0 a.0.1 a.1) (counts BadField max_transactions total a.0.1 b.0.0 b.0.1 b.1) names
 
 before_takes : (total : ℕ) (before : List KeyedAccount) → Takes 32 (key_after total before)
 unfolding key_after
@@ -197,8 +199,8 @@ items_behind behind_one count bytes items rest first second = rw first second
 marks_take : (total : ℕ) (bytes : List ℕ) (marks : List Mark) (rest : List ℕ) → marks_at total bytes ≡ Ok (marks, rest) → behind_items behind_mark bytes ≡ Some rest
 unfolding marks_at
 marks_take total bytes marks rest h =
-    let a = bind_ok (count_at BadField 150 total bytes) _ (marks, rest) h in
-    items_behind behind_mark a.0.0 bytes a.0.1 rest (counts BadField 150 total bytes a.0.0 a.0.1 a.1) (many_take behind_mark (λ _. mark_at total) (λ _. mark_takes total) a.0.0 [] a.0.1 marks rest a.2)
+    let a = bind_ok (count_at BadField max_marks total bytes) _ (marks, rest) h in
+    items_behind behind_mark a.0.0 bytes a.0.1 rest (counts BadField max_marks total bytes a.0.0 a.0.1 a.1) (many_take behind_mark (λ _. mark_at total) (λ _. mark_takes total) a.0.0 [] a.0.1 marks rest a.2)
 
 entries_take : (total : ℕ) (bytes : List ℕ) (entries : List KeyedAccount) (rest : List ℕ) → entries_at total bytes ≡ Ok (entries, rest) → behind_items behind_account bytes ≡ Some rest
 unfolding entries_at
@@ -215,10 +217,10 @@ state_takes total bytes state rest h =
 limits_take : (total : ℕ) → Takes 19 (limits_at total)
 unfolding limits_at
 limits_take total bytes limits rest h =
-    let a = bind_ok (limit_at 128 w16 total bytes) _ (limits, rest) h in
+    let a = bind_ok (limit_at max_transaction_keys w16 total bytes) _ (limits, rest) h in
     let b = bind_ok (height_at total a.0.1) _ (limits, rest) a.2 in
-    let c = bind_ok (limit_at 1000000000000 w64 total b.0.1) _ (limits, rest) b.2 in
-    let d = bind_ok (limit_at 1000000000000 w64 total c.0.1) _ (limits, rest) c.2 in
+    let c = bind_ok (limit_at max_block_units w64 total b.0.1) _ (limits, rest) b.2 in
+    let d = bind_ok (limit_at max_block_units w64 total c.0.1) _ (limits, rest) c.2 in
     let keys = read_if_takes 2 _ _ _ total (number_takes Truncated w16 total) bytes a.0.0 a.0.1 a.1 in
     let height = read_if_takes 1 _ _ _ total (byte_takes Truncated total) a.0.1 b.0.0 b.0.1 b.1 in
     let key_units = read_if_takes 8 _ _ _ total (number_takes Truncated w64 total) b.0.1 c.0.0 c.0.1 c.1 in

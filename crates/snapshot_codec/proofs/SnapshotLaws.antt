@@ -18,7 +18,7 @@ use Rattle.account_store.specs.State.{State, entries}
 use Rattle.snapshot_codec.specs.declared.fault.SnapshotFault.{SnapshotFault}
 use Rattle.snapshot_codec.specs.declared.snapshot.Snapshot.{Snapshot}
 use Rattle.snapshot_codec.specs.declared.snapshot.Prefix.{Prefix}
-use Rattle.snapshot_codec.specs.Snapshot.{limits_bytes, marks_bytes, state_bytes, snapshot_bytes, snapshot_bytes_one, AreAllowed, IsReadable, HasWidths, Spells, BeginsWith}
+use Rattle.snapshot_codec.specs.Snapshot.{limits_bytes, marks_bytes, state_bytes, snapshot_bytes, snapshot_bytes_one, AreAllowed, IsReadable, HasWidths, Spells, BeginsWith, max_accounts}
 use Rattle.snapshot_codec.specs.SnapshotReading.{Read, is_snapshot_memory, head_at, snapshot_at, prefix_of}
 use Rattle.snapshot_codec.specs.Laws.{SnapshotRoundTrip, FirstVersionRead, ReadableWritten}
 use Rattle.snapshot_codec.proofs.HeadLaws.{IsHead, head_takes, head_one_again, head_two_again}
@@ -117,7 +117,7 @@ snapshot_takes total bytes s rest are h =
 readable : (s : Snapshot) → SnapshotFits s → IsReadable s
 readable s fits =
     let each = All-from_recursion MarkFits s.recent fits.marks.each in
-    record { limits = fits.limits; recent = recent-from_fits s.recent fits.marks; messages = λ k d lt. (each k d lt).few; state = fits.state.is_state; accounts = subst (λ n. n ≤ 4194304) (sym (len-entries s.accounts)) fits.state.few }
+    record { limits = fits.limits; recent = recent-from_fits s.recent fits.marks; messages = λ k d lt. (each k d lt).few; state = fits.state.is_state; accounts = subst (λ n. n ≤ max_accounts) (sym (len-entries s.accounts)) fits.state.few }
 
 widths : (s : Snapshot) → SnapshotFits s → HasWidths s
 widths s fits =
@@ -136,7 +136,7 @@ fits_reading s is has = record {
   slot = has.slot;
   marks = fits-from_recent s.recent is.recent is.messages has.hashes has.names;
   state = record {
-    few = subst (λ n. n ≤ 4194304) (len-entries s.accounts) is.accounts;
+    few = subst (λ n. n ≤ max_accounts) (len-entries s.accounts) is.accounts;
     is_state = is.state;
     keys = recursion_from_All (λ e. IsKey e.0) (entries s.accounts) has.keys;
     owners = recursion_from_All (λ e. IsKey e.1.owner) (entries s.accounts) has.owners;

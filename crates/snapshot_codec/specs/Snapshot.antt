@@ -9,12 +9,13 @@ use Rattle.sol_base.specs.declared.key.Hash32.{Hash32}
 use Rattle.sol_base.specs.declared.account.Account.{Account}
 use Rattle.sol_base.specs.declared.limits.Limits.{Limits}
 use Rattle.sol_base.specs.Keys.{IsKey, IsHash, key_bytes, hash_bytes}
-use Rattle.sol_base.specs.Limits.{first_limits, max_transactions}
+use Rattle.sol_base.specs.Limits.{first_limits, max_transactions, max_block_units, max_stack_height, max_transaction_keys}
 use Rattle.status_cache.specs.declared.recent.Mark.{Mark}
 use Rattle.status_cache.specs.Recent.{IsRecent}
 use Rattle.account_store.specs.State.{State, IsState, entries, len}
 use Rattle.snapshot_codec.specs.declared.snapshot.Snapshot.{Snapshot}
 use Rattle.snapshot_codec.specs.declared.snapshot.Prefix.{Prefix}
+use Rattle.snapshot_codec.specs.declared.accounts.TheConstants.{MAX_ACCOUNTS}
 
 -- a block: its hash, the number of its messages, and their names
 abbrev pub mark_bytes : Mark → List ℕ
@@ -69,12 +70,16 @@ snapshot_bytes snapshot =
 abbrev pub IsUpTo : ℕ → ℕ → Type 0
 IsUpTo most n = (1 ≤ n) × (n ≤ most)
 
+-- the most accounts of a snapshot (the project's own)
+abbrev pub max_accounts : ℕ
+max_accounts = MAX_ACCOUNTS
+
 -- what limits a chain may have
 pub record AreAllowed (limits : Limits) : Type 0 where
-  pub keys : IsUpTo 128 limits.keys
-  pub height : IsUpTo 9 limits.height
-  pub key_units : IsUpTo 1000000000000 limits.key_units
-  pub block_units : IsUpTo 1000000000000 limits.block_units
+  pub keys : IsUpTo max_transaction_keys limits.keys
+  pub height : IsUpTo max_stack_height limits.height
+  pub key_units : IsUpTo max_block_units limits.key_units
+  pub block_units : IsUpTo max_block_units limits.block_units
 
 -- a snapshot that is read: within the limits of the format
 pub record IsReadable (snapshot : Snapshot) : Type 0 where
@@ -82,7 +87,7 @@ pub record IsReadable (snapshot : Snapshot) : Type 0 where
   pub recent : IsRecent snapshot.recent
   pub messages : All (λ mark. length mark.messages ≤ max_transactions) snapshot.recent
   pub state : IsState snapshot.accounts
-  pub accounts : len snapshot.accounts ≤ 4194304
+  pub accounts : len snapshot.accounts ≤ max_accounts
 
 -- a snapshot that is written: its numbers fit their fields
 pub record IsWritable (snapshot : Snapshot) : Type 0 where

@@ -9,7 +9,7 @@ use Rattle.sol_base.specs.declared.key.Hash32.{Hash32}
 use Rattle.sol_base.specs.declared.limits.Limits.{Limits}
 use Rattle.sol_base.specs.Keys.{key_cmp, hash_cmp}
 use Rattle.format_fields.specs.Fields.{key_at, hash_at}
-use Rattle.sol_base.specs.Limits.{first_limits, max_transactions}
+use Rattle.sol_base.specs.Limits.{first_limits, max_transactions, max_block_units, max_stack_height, max_transaction_keys}
 use Rattle.sol_base.specs.Accounts.{max_data_len}
 use Rattle.status_cache.specs.declared.recent.Mark.{Mark}
 use Rattle.account_store.specs.declared.sorted.KeyedAccount.{KeyedAccount}
@@ -19,6 +19,8 @@ use Rattle.snapshot_codec.specs.declared.fault.SnapshotFault.{SnapshotFault}
 use Rattle.snapshot_codec.specs.declared.fault.SnapshotFault.TheVariants.{Magic, Truncated, BadField, OutOfOrder, Empty, SupplyTooLarge, TooManyAccounts, DataTooLong, OutOfMemory}
 use Rattle.snapshot_codec.specs.declared.snapshot.Snapshot.{Snapshot}
 use Rattle.snapshot_codec.specs.declared.snapshot.Prefix.{Prefix}
+use Rattle.status_cache.specs.Recent.{max_marks}
+use Rattle.snapshot_codec.specs.Snapshot.{max_accounts}
 
 abbrev pub is_snapshot_memory : SnapshotFault → Bool
 is_snapshot_memory Magic = false
@@ -48,14 +50,14 @@ limit_at most width total bytes =
 
 abbrev pub height_at : ℕ → List ℕ → Read ℕ
 height_at total bytes =
-    read_if BadField (λ n. nat_le 1 n && nat_le n 9) (byte_at Truncated total) total bytes
+    read_if BadField (λ n. nat_le 1 n && nat_le n max_stack_height) (byte_at Truncated total) total bytes
 
 unfoldable pub limits_at : ℕ → List ℕ → Read Limits
 limits_at total bytes = do
-  keys ← limit_at 128 w16 total bytes
+  keys ← limit_at max_transaction_keys w16 total bytes
   height ← height_at total keys.1
-  key_units ← limit_at 1000000000000 w64 total height.1
-  block_units ← limit_at 1000000000000 w64 total key_units.1
+  key_units ← limit_at max_block_units w64 total height.1
+  block_units ← limit_at max_block_units w64 total key_units.1
   Ok (
     record {
       keys = keys.0;
@@ -114,7 +116,7 @@ mark_at total bytes = do
 
 unfoldable pub marks_at : ℕ → List ℕ → Read (List Mark)
 marks_at total bytes = do
-  count ← count_at BadField 150 total bytes
+  count ← count_at BadField max_marks total bytes
   many (mark_at total) count.0 count.1
 
 -- a key, above that of the account before
@@ -181,7 +183,7 @@ account_after total before bytes = do
 
 unfoldable pub entries_at : ℕ → List ℕ → Read (List KeyedAccount)
 entries_at total bytes = do
-  count ← count_at (λ _. TooManyAccounts) 4194304 total bytes
+  count ← count_at (λ _. TooManyAccounts) max_accounts total bytes
   many_after (account_after total) [] count.0 count.1
 
 -- the state section

@@ -12,11 +12,11 @@ use sol_base::{Account, Blob, Items, Key, MAX_DATA_LEN};
 use spec_base::{byte_field, bytes_field, place, u32_field, u64_field};
 use std::alloc::Global;
 
-/// The most accounts of a snapshot.
-const MOST_ACCOUNTS: u32 = 4_194_304;
+/// The most accounts of a snapshot (the project's own).
+pub const MAX_ACCOUNTS: u32 = 4_194_304;
 
 /// The bytes of an account without data.
-pub(crate) const ACCOUNT_LEN: usize = 77;
+const ACCOUNT_LEN: usize = 77;
 
 /// The key of an account, above that of the account before.
 #[tactic(auto, unfolding(crate::specs::SnapshotReading::key_after, spec_base::specs::Reading::read_if))]
@@ -169,7 +169,7 @@ fn read_entries(
     ensures { Gives is_snapshot_memory (λ x. (x.0, x.1.now)) result (entries_at total bytes.now) }
 {
     let (count, rest) = u32_field::<SnapshotFault>(total, bytes)?;
-    if count > MOST_ACCOUNTS {
+    if count > MAX_ACCOUNTS {
         return Err(SnapshotFault::TooManyAccounts);
     }
     read_accounts(alloc, total, count, rest)

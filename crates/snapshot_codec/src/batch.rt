@@ -6,18 +6,16 @@ ghost use Rattle.spec_base.specs.Bytes.{sized_bytes};
 ghost use Rattle.snapshot_codec.specs.declared.batch.Batch.{Batch as BatchValue};
 ghost use Rattle.snapshot_codec.specs.Batch.{IsBatch, IsShortWire, batch_bytes as bytes_of};
 ghost use Rattle.snapshot_codec.specs.BatchReading.{is_batch_memory, magic_at, slot_at, count_at, batch_at, batch_of};
+ghost use Rattle.sol_base.specs.Limits.{max_transactions};
 
 use crate::fault::BatchFault;
 use format_fields::{Item, key_field, read_many};
-use sol_base::{Blob, Items, Key, OutOfMemory};
+use sol_base::{Blob, Items, Key, MAX_TRANSACTIONS, OutOfMemory};
 use spec_base::{array_field, bytes_field, place, u16_field, u32_field, u64_field};
 use std::alloc::Global;
 
 /// What a batch begins with.
 const MAGIC: [u8; 8] = *b"SOLBATC1";
-
-/// The most transactions of a batch.
-const MOST_WIRES: u32 = 16_384;
 
 /// The bytes of a batch without transactions.
 const FIXED_LEN: usize = 52;
@@ -62,7 +60,7 @@ fn read_count(total: usize, bytes: &[u8]) -> Result<(u32, &[u8]), BatchFault>
     ensures { Gives is_batch_memory (λ x. (x.0, x.1.now)) result (count_at total bytes.now) }
 {
     let (count, rest) = u32_field::<BatchFault>(total, bytes)?;
-    if count > MOST_WIRES {
+    if count > MAX_TRANSACTIONS as u32 {
         return Err(BatchFault::TooMany);
     }
     Ok((count, rest))
@@ -165,7 +163,7 @@ fn batch_len(wires: &[Blob]) -> usize {
 
 /// The bytes of the batch (the project's own format).
 pub fn batch_bytes(alloc: Global, batch: &Batch) -> Result<Blob, OutOfMemory>
-    requires few { length batch.now.wires ≤ 16384 }
+    requires few { length batch.now.wires ≤ max_transactions }
     requires short { All IsShortWire batch.now.wires }
     ensures { IfOk result (λ bytes. bytes ≡ bytes_of batch.now) }
 {

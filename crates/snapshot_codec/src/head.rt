@@ -4,19 +4,11 @@ ghost use Rattle.std.specs.Int.{w16, w64};
 ghost use Rattle.spec_base.specs.Reading.{Gives};
 ghost use Rattle.snapshot_codec.specs.SnapshotReading.{is_snapshot_memory, count_at, limit_at, height_at, limits_at, head_one_at, head_two_at, names_one, names_two, head_at};
 ghost use Rattle.snapshot_codec.specs.declared.fault.SnapshotFault.TheVariants.{BadField as bad_field};
+ghost use Rattle.sol_base.specs.Limits.{max_block_units, max_transaction_keys};
 
 use crate::fault::SnapshotFault;
-use sol_base::Limits;
+use sol_base::{Limits, MAX_BLOCK_UNITS, MAX_STACK_HEIGHT, MAX_TRANSACTION_KEYS};
 use spec_base::{array_field, byte_field, place, u16_field, u32_field, u64_field};
-
-/// The most keys of a transaction that limits may allow.
-const MOST_KEYS: u16 = 128;
-
-/// The greatest stack height that limits may allow.
-const MOST_HEIGHT: u8 = 9;
-
-/// The most compute units, of a key or of a block, that limits may allow.
-const MOST_UNITS: u64 = 1_000_000_000_000;
 
 /// A number of items, at most `most`.
 #[tactic(auto, unfolding(spec_base::specs::Reading::read_if))]
@@ -40,10 +32,10 @@ pub(crate) fn count_field(
 #[tactic(auto, unfolding(spec_base::specs::Reading::read_if))]
 fn keys_field(total: usize, bytes: &[u8]) -> Result<(u16, &[u8]), SnapshotFault>
     ensures { Gives is_snapshot_memory (λ x. (x.0, x.1.now)) result
-        (limit_at 128 w16 total bytes.now) }
+        (limit_at max_transaction_keys w16 total bytes.now) }
 {
     let (keys, rest) = u16_field::<SnapshotFault>(total, bytes)?;
-    if keys < 1 || keys > MOST_KEYS {
+    if keys < 1 || keys > MAX_TRANSACTION_KEYS {
         return Err(SnapshotFault::BadField {
             at: place(total, bytes),
         });
@@ -56,7 +48,7 @@ fn height_field(total: usize, bytes: &[u8]) -> Result<(u8, &[u8]), SnapshotFault
     ensures { Gives is_snapshot_memory (λ x. (x.0, x.1.now)) result (height_at total bytes.now) }
 {
     let (height, rest) = byte_field::<SnapshotFault>(total, bytes)?;
-    if height < 1 || height > MOST_HEIGHT {
+    if height < 1 || height > MAX_STACK_HEIGHT {
         return Err(SnapshotFault::BadField {
             at: place(total, bytes),
         });
@@ -67,10 +59,10 @@ fn height_field(total: usize, bytes: &[u8]) -> Result<(u8, &[u8]), SnapshotFault
 #[tactic(auto, unfolding(spec_base::specs::Reading::read_if))]
 fn units_field(total: usize, bytes: &[u8]) -> Result<(u64, &[u8]), SnapshotFault>
     ensures { Gives is_snapshot_memory (λ x. (x.0, x.1.now)) result
-        (limit_at 1000000000000 w64 total bytes.now) }
+        (limit_at max_block_units w64 total bytes.now) }
 {
     let (units, rest) = u64_field::<SnapshotFault>(total, bytes)?;
-    if units < 1 || units > MOST_UNITS {
+    if units < 1 || units > MAX_BLOCK_UNITS {
         return Err(SnapshotFault::BadField {
             at: place(total, bytes),
         });

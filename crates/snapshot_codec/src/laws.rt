@@ -1,5 +1,13 @@
 //! Laws over the definitions that the contracts of this crate cite. Their calls do nothing.
+ghost use Rattle.std.specs.Prelude.{◌≡◌};
 ghost use Rattle.snapshot_codec.specs.Laws.{SnapshotRoundTrip, FirstVersionRead, ReadableWritten, BatchRoundTrip};
+
+use crate::accounts::MAX_ACCOUNTS;
+
+/// The most accounts of a snapshot (the project's own).
+pub fn numbers_are_as_stated()
+    ensures { MAX_ACCOUNTS ≡ 4_194_304 }
+{}
 
 /// What `snapshot_bytes` writes is read again, whatever follows it, where the snapshot is within
 /// the limits of its format.

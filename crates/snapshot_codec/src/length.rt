@@ -5,6 +5,7 @@ ghost use Rattle.snapshot_codec.specs.SnapshotReading.{prefix_of};
 ghost use Rattle.snapshot_codec.specs.Length.{behind as behind_of, count_in_front as count_in_front_of, behind_many as behind_many_of, behind_items as behind_items_of, head_len as head_len_of, behind_snapshot as behind_snapshot_of, told_length};
 
 use crate::head::{is_version_one, is_version_two};
+use crate::marks::NAME_LEN;
 use account_store::KeyedAccount;
 use spec_base::place;
 use status_cache::Mark;
@@ -17,9 +18,6 @@ const LIMITED_HEAD_LEN: usize = 35;
 
 /// The bytes of a mark before the number of its messages: its hash.
 const MARK_HEAD_LEN: usize = 32;
-
-/// The bytes of the name of a message.
-const NAME_LEN: usize = 32;
 
 /// The bytes of an account before the number of its data's bytes: its key, lamports, owner, and
 /// whether it is executable.

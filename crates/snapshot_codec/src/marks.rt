@@ -1,28 +1,22 @@
 //! The newest blocks of a chain, as a snapshot has them.
 ghost use Rattle.std.specs.Prelude.{◌≡◌, [], IfOk};
-ghost use Rattle.spec_base.specs.Reading.{Gives, many, many_after};
+ghost use Rattle.spec_base.specs.Reading.{Gives, many_after};
 ghost use Rattle.status_cache.specs.Recent.{IsRecent};
 ghost use Rattle.snapshot_codec.specs.SnapshotReading.{is_snapshot_memory, name_after, marks_at};
 
 use crate::fault::SnapshotFault;
 use crate::head::count_field;
 use format_fields::{Item, hash_field, read_many};
-use sol_base::{Hash32, Items, OutOfMemory};
+use sol_base::{Hash32, Items, MAX_TRANSACTIONS, OutOfMemory};
 use spec_base::place;
-use status_cache::{Mark, Recent};
+use status_cache::{MAX_MARKS, Mark, Recent};
 use std::alloc::Global;
-
-/// The most blocks of a snapshot.
-const MOST_MARKS: u32 = 150;
-
-/// The most messages of a block in a snapshot.
-const MOST_MESSAGES: u32 = 16_384;
 
 /// The bytes of a mark without messages.
 const MARK_LEN: usize = 36;
 
-/// The bytes of a name.
-const NAME_LEN: usize = 32;
+/// The bytes of the name of a message.
+pub(crate) const NAME_LEN: usize = 32;
 
 /// The name that stands after those before it.
 #[tactic(auto, unfolding(crate::specs::SnapshotReading::name_after, spec_base::specs::Reading::read_if))]
@@ -75,7 +69,7 @@ impl Item<SnapshotFault> for Mark {
     #[tactic(auto, unfolding(crate::specs::SnapshotReading::mark_at))]
     fn read(alloc: Global, total: usize, bytes: &[u8]) -> Result<(Mark, &[u8]), SnapshotFault> {
         let (hash, rest) = hash_field::<SnapshotFault>(total, bytes)?;
-        let (count, rest) = count_field(MOST_MESSAGES, total, rest)?;
+        let (count, rest) = count_field(MAX_TRANSACTIONS as u32, total, rest)?;
         let (messages, rest) = read_names(alloc, total, count, rest)?;
         Ok((Mark { hash, messages }, rest))
     }
@@ -90,7 +84,7 @@ fn read_marks(
 ) -> Result<(Items<Mark>, &[u8]), SnapshotFault>
     ensures { Gives is_snapshot_memory (λ x. (x.0, x.1.now)) result (marks_at total bytes.now) }
 {
-    let (count, rest) = count_field(MOST_MARKS, total, bytes)?;
+    let (count, rest) = count_field(MAX_MARKS as u32, total, bytes)?;
     read_many::<SnapshotFault, Mark>(alloc, total, count as usize, rest)
 }
 

@@ -1,28 +1,18 @@
 //! From a snapshot to bytes, and the hash of a state.
-ghost use Rattle.std.specs.Prelude.{◌≡◌, ◌<◌, ◌^◌, ◌++◌, [], length, All, OnOk, IfOk};
+ghost use Rattle.std.specs.Prelude.{◌≡◌, ◌<◌, ◌^◌, length, All, OnOk, IfOk};
 ghost use Rattle.std.specs.List.{flat_map};
 ghost use Rattle.account_store.specs.State.{len, entries};
 ghost use Rattle.sol_base.specs.Keys.{hash_bytes};
 ghost use Rattle.format_fields.specs.Output.{Adds};
 ghost use Rattle.snapshot_codec.specs.Snapshot.{IsWritable, limits_bytes, mark_bytes, marks_bytes, account_bytes, state_bytes, hash_of_state, snapshot_bytes as bytes_of};
 
-use crate::accounts::ACCOUNT_LEN;
 use crate::snapshot::Snapshot;
 use account_store::Accounts;
-use format_fields::Output;
+use format_fields::{ByteCount, Output};
 use sha2::{Digest, Sha256};
 use sol_base::{Account, Blob, Hash32, Key, Limits, OutOfMemory};
 use status_cache::Mark;
 use std::alloc::Global;
-
-/// The bytes of a snapshot without marks and accounts.
-const FIXED_LEN: usize = 43;
-
-/// The bytes of a mark without messages.
-const MARK_LEN: usize = 36;
-
-/// The bytes of a name.
-const NAME_LEN: usize = 32;
 
 fn write_limits<O: Output>(out: &mut O, limits: &Limits) -> Result<(), OutOfMemory>
     ensures { OnOk result (Adds O.holds out.old out.new (limits_bytes limits.now)) }
@@ -103,35 +93,8 @@ fn write_state<O: Output>(out: &mut O, accounts: &Accounts) -> Result<(), OutOfM
     write_each_account(out, accounts)
 }
 
-/// The bytes of the data of all accounts together.
-fn data_len(accounts: &Accounts) -> usize {
-    let mut sum: usize = 0;
-    let mut rest = accounts.iter();
-    while let Some((_key, account)) = rest.next() {
-        sum = sum.saturating_add(account.bytes.len());
-    }
-    sum
-}
-
-fn marks_len(marks: &[Mark]) -> usize {
-    let mut sum: usize = 0;
-    for mark in marks {
-        let names = mark.messages.len().saturating_mul(NAME_LEN);
-        sum = sum.saturating_add(names).saturating_add(MARK_LEN);
-    }
-    sum
-}
-
-/// The bytes of a snapshot, so that one buffer is reserved for them.
-fn snapshot_len(snapshot: &Snapshot) -> usize {
-    let heads = snapshot.accounts.len().saturating_mul(ACCOUNT_LEN);
-    marks_len(snapshot.recent.marks())
-        .saturating_add(heads)
-        .saturating_add(data_len(&snapshot.accounts))
-        .saturating_add(FIXED_LEN)
-}
-
-fn write_snapshot<O: Output>(out: &mut O, snapshot: &Snapshot) -> Result<(), OutOfMemory>
+/// Writes the snapshot in version 2 (the project's own format).
+pub fn write_snapshot<O: Output>(out: &mut O, snapshot: &Snapshot) -> Result<(), OutOfMemory>
     requires { IsWritable snapshot.now }
     ensures { OnOk result (Adds O.holds out.old out.new (bytes_of snapshot.now)) }
 {
@@ -142,29 +105,15 @@ fn write_snapshot<O: Output>(out: &mut O, snapshot: &Snapshot) -> Result<(), Out
     write_state(out, &snapshot.accounts)
 }
 
-/// No bytes, with room for so many and for those of the snapshot behind them. No clause speaks of
-/// the room: it saves time alone.
-pub fn room_before(alloc: Global, front: usize, snapshot: &Snapshot) -> Result<Blob, OutOfMemory>
-    ensures { IfOk result (λ b. b ≡ []) }
-{
-    Blob::with_capacity(alloc, front.saturating_add(snapshot_len(snapshot)))
-}
-
-/// Adds the bytes of the snapshot in version 2 (the project's own format).
-pub fn append_snapshot(out: &mut Blob, snapshot: &Snapshot) -> Result<(), OutOfMemory>
-    requires { IsWritable snapshot.now }
-    ensures { OnOk result (out.new ≡ out.old ++ bytes_of snapshot.now) }
-{
-    write_snapshot(out, snapshot)
-}
-
-/// The bytes of the snapshot in version 2.
+/// The bytes of the snapshot in version 2, in one buffer.
 pub fn snapshot_bytes(alloc: Global, snapshot: &Snapshot) -> Result<Blob, OutOfMemory>
     requires { IsWritable snapshot.now }
     ensures { IfOk result (λ bytes. bytes ≡ bytes_of snapshot.now) }
 {
-    let mut out = room_before(alloc, 0, snapshot)?;
-    append_snapshot(&mut out, snapshot)?;
+    let mut count = ByteCount(0);
+    write_snapshot(&mut count, snapshot)?;
+    let mut out = Blob::with_capacity(alloc, count.0)?;
+    write_snapshot(&mut out, snapshot)?;
     Ok(out)
 }
 

@@ -6,6 +6,7 @@ use Rattle.std.specs.declared.alloc.Global.{Global}
 use Rattle.std.specs.Coded.{Coded, code_by, coded_list, coded_ℕ, coded×, coded_bool}
 use Rattle.sol_base.specs.declared.key.Key.{Key}
 use Rattle.sol_base.specs.declared.account.Account.{Account}
+use Rattle.sol_base.specs.declared.account.TheConstants.{MAX_DATA_LEN}
 use Rattle.sol_base.specs.Keys.{coded_key}
 
 -- what an absent account stands for (Solana)
@@ -23,7 +24,7 @@ lamports_in accounts = sum_by (λ account. account.lamports) accounts
 
 -- the most data bytes of an account (Solana)
 abbrev pub max_data_len : ℕ
-max_data_len = 10485760
+max_data_len = MAX_DATA_LEN
 
 -- an account of a length that is allowed
 abbrev pub IsShort : Account → Type 0

@@ -4,6 +4,7 @@ use Rattle.std.specs.Prelude.{ℕ, Bool, List, ◌++◌, length, codes, nat_lt, 
 use Rattle.std.specs.List.{ends_with, flat_map, list_any}
 use Rattle.sha2.specs.Sha256.{sha256}
 use Rattle.sol_base.specs.declared.key.Key.{Key}
+use Rattle.sol_base.specs.declared.derived.TheConstants.{MAX_SEED_LEN, MAX_SEEDS}
 use Rattle.sol_base.specs.declared.derived.SeedFault.{SeedFault}
 use Rattle.sol_base.specs.declared.derived.SeedFault.TheVariants.{TooLong, IllegalOwner}
 use Rattle.sol_base.specs.declared.derived.SeedsFault.{SeedsFault}
@@ -15,10 +16,10 @@ marker = codes "ProgramDerivedAddress"
 
 -- the most bytes of a seed, and the most seeds of a program key (Solana)
 abbrev pub max_seed_len : ℕ
-max_seed_len = 32
+max_seed_len = MAX_SEED_LEN
 
 abbrev pub max_seeds : ℕ
-max_seeds = 16
+max_seeds = MAX_SEEDS
 
 -- the key of a base, a seed and an owner: the hash of the three
 abbrev pub seed_key_of : Key → List ℕ → Key → Result Key SeedFault

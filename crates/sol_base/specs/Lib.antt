@@ -4,7 +4,3 @@ pub mod DerivedKeys
 pub mod Limits
 pub mod Locks
 pub mod Metas
-pub use Rattle.spec_base.specs.Bytes
-pub use Rattle.spec_base.specs.Reading
-pub use Rattle.spec_base.specs.Faults
-pub use Rattle.spec_base.specs.Sha256

@@ -1,11 +1,13 @@
 //! Accounts.
 ghost use Rattle.std.specs.Prelude.{◌≡◌, IfOk};
-ghost use Rattle.sol_base.specs.Accounts.{empty_account};
+ghost use Rattle.sol_base.specs.Accounts.{accounts_of, empty_account};
 
 use crate::blob::Blob;
+use crate::items::Items;
 use crate::key::{Key, SYSTEM_PROGRAM};
 use crate::memory::OutOfMemory;
 use std::alloc::Global;
+use std::sync::Arc;
 
 /// The most data bytes of an account (Solana).
 pub const MAX_DATA_LEN: usize = 10_485_760;
@@ -44,4 +46,18 @@ impl Account {
             bytes: self.bytes.try_copy()?,
         })
     }
+}
+
+/// Shares of the accounts, in their order.
+pub fn share_all(
+    alloc: Global,
+    accounts: &[Arc<Account>],
+) -> Result<Items<Arc<Account>>, OutOfMemory>
+    ensures { IfOk result (λ shares. accounts_of shares ≡ accounts_of accounts.now) }
+{
+    let mut shares = Items::with_capacity(alloc, accounts.len())?;
+    for account in accounts {
+        shares.push(Arc::try_clone(account)?)?;
+    }
+    Ok(shares)
 }

@@ -1,4 +1,4 @@
-ghost use Rattle.std.specs.Prelude.{◌≡◌, ◌↔◌, ◌++◌, ◌∷◌, [], IfSome, IfNone, IsTrue, OnOk, OnErr, IfOk, length};
+ghost use Rattle.std.specs.Prelude.{◌≡◌, ◌<◌, ◌≤◌, ◌↔◌, ◌++◌, ◌∷◌, [], IfSome, IfNone, IsTrue, OnOk, OnErr, IfOk, length, vec_len, vec_capacity};
 
 use crate::memory::OutOfMemory;
 use std::alloc::Global;
@@ -92,4 +92,13 @@ impl<T: Drop> Items<T> {
         self.inner.push(item)?;
         Ok(())
     }
+}
+
+/// Appends an item to a list that has room for it. It takes no memory.
+pub fn push_with_room<T: Drop>(list: &mut Vec<T>, item: T)
+    requires { vec_len list.old < vec_capacity list.old }
+    ensures items { list.new.items ≡ list.old.items ++ item ∷ [] }
+    ensures capacity { vec_capacity list.old ≤ vec_capacity list.new }
+{
+    let _ = list.push(item);
 }

@@ -1,18 +1,33 @@
-//! Laws of the constants that the definitions of other crates cite.
+//! The values of the constants that definitions cite, here and in other crates.
 ghost use Rattle.std.specs.Prelude.{◌≡◌, replicate};
-ghost use Rattle.sol_base.specs.Accounts.{max_data_len};
-ghost use Rattle.sol_base.specs.DerivedKeys.{marker, max_seed_len, max_seeds};
+ghost use Rattle.sol_base.specs.DerivedKeys.{marker};
 
 use crate::account::MAX_DATA_LEN;
 use crate::derived::{DERIVED_KEY_MARKER, MAX_SEED_LEN, MAX_SEEDS};
 use crate::key::{LOADER_PROGRAM, SYSTEM_PROGRAM};
+use crate::limits::{
+    MAX_BLOCK_UNITS, MAX_LANES, MAX_SENDERS, MAX_STACK_HEIGHT, MAX_TRANSACTION_KEYS,
+    MAX_TRANSACTIONS,
+};
+use crate::lock::MAX_METAS;
 
 /// The bounds and the text are those of Solana.
 pub fn bounds_are_as_published()
-    ensures data { MAX_DATA_LEN ≡ max_data_len }
-    ensures seed { MAX_SEED_LEN ≡ max_seed_len }
-    ensures seeds { MAX_SEEDS ≡ max_seeds }
+    ensures data { MAX_DATA_LEN ≡ 10_485_760 }
+    ensures metas { MAX_METAS ≡ 255 }
+    ensures keys { MAX_TRANSACTION_KEYS ≡ 128 }
+    ensures height { MAX_STACK_HEIGHT ≡ 9 }
+    ensures seed { MAX_SEED_LEN ≡ 32 }
+    ensures seeds { MAX_SEEDS ≡ 16 }
     ensures text { DERIVED_KEY_MARKER ≡ marker }
+{}
+
+/// The bounds of the project's own.
+pub fn bounds_of_blocks()
+    ensures transactions { MAX_TRANSACTIONS ≡ 16_384 }
+    ensures lanes { MAX_LANES ≡ 64 }
+    ensures senders { MAX_SENDERS ≡ 8 }
+    ensures units { MAX_BLOCK_UNITS ≡ 1_000_000_000_000 }
 {}
 
 /// The two keys that are one byte over and over.

@@ -1,6 +1,25 @@
 ghost use Rattle.std.specs.Prelude.{◌≡◌};
 ghost use Rattle.sol_base.specs.Limits.{first_limits};
 
+/// The most transactions of a block (the project's own).
+pub const MAX_TRANSACTIONS: usize = 16_384;
+
+/// The most lanes that execute a block (the project's own).
+pub const MAX_LANES: u32 = 64;
+
+/// The most senders that a batch is gathered from (the project's own).
+pub const MAX_SENDERS: u32 = 8;
+
+/// The most keys that a chain may allow a transaction (Solana).
+pub const MAX_TRANSACTION_KEYS: u16 = 128;
+
+/// The greatest stack height that a chain may allow (Solana).
+pub const MAX_STACK_HEIGHT: u8 = 9;
+
+/// The most compute units that a chain may allow a block, for one key or in all (the project's
+/// own).
+pub const MAX_BLOCK_UNITS: u64 = 1_000_000_000_000;
+
 /// What a chain allows, as its snapshot carries it.
 #[derive(Clone, Copy, PartialEq, Eq)]
 pub struct Limits {

@@ -5,6 +5,7 @@ use Rattle.std.specs.declared.cmp.Ordering.TheVariants.{Less}
 use Rattle.sol_base.specs.declared.key.Hash32.{Hash32}
 use Rattle.sol_base.specs.Keys.{hash_cmp, same_hash}
 use Rattle.status_cache.specs.declared.recent.Mark.{Mark}
+use Rattle.status_cache.specs.declared.recent.TheConstants.{MAX_MARKS}
 
 -- each hash is below those after it
 abbrev pub Ascends : List Hash32 → Type 0
@@ -12,7 +13,7 @@ Ascends hashes = AllPairs (λ a b. hash_cmp a b ≡ Less) hashes
 
 -- the most blocks that a chain remembers
 abbrev pub max_marks : ℕ
-max_marks = 150
+max_marks = MAX_MARKS
 
 -- no more blocks than a chain remembers, and the messages of each ascending
 pub record IsRecent (marks : List Mark) : Type 0 where

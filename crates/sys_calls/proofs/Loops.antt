@@ -1,5 +1,5 @@
 -- Slices gathered one after the other, as a loop does them.
-use Rattle.std.proofs.Common.{◌≡◌, ℕ, ◌+◌, ◌-◌, ◌<◌, ◌≤◌, List, [], ◌++◌, length, drop, get_or, Result, Ok, Err, Bool, true, false, refl, sym, ap, append_assoc, append-nil, arith}
+use Rattle.std.proofs.Common.{◌≡◌, ℕ, ◌+◌, ◌-◌, ◌<◌, ◌≤◌, List, ◌++◌, length, drop, get_or, Result, Ok, Err, Bool, true, false, refl, sym, ap, append_assoc, append-nil, arith}
 use Rattle.std.specs.Prelude.{nat_lt, if◌then◌else◌}
 use Rattle.std.proofs.lemmas.List.{drop_more, drop_all}
 use Rattle.std.proofs.lemmas.List.FromFn.{map-range_with_len_more}
@@ -15,14 +15,6 @@ before-before done bytes g = by_case g.units g.bytes
   where
     by_case : (units : ℕ) (r : Result (List ℕ) SysFault) → before done (before bytes (record { units = units; bytes = r })) ≡ before (done ++ bytes) (record { units = units; bytes = r })
     by_case units (Ok more) = ap (λ (l : List ℕ). let g : Gathered = record { units = units; bytes = Ok l } in g) (sym (append_assoc done bytes more))
-    by_case units (Err e) = refl
-
--- before anything is gathered
-pub gather-none : (g : Gathered) → before [] g ≡ g
-gather-none g = by_case g.units g.bytes
-  where
-    by_case : (units : ℕ) (r : Result (List ℕ) SysFault) → before [] (record { units = units; bytes = r }) ≡ record { units = units; bytes = r }
-    by_case units (Ok more) = refl
     by_case units (Err e) = refl
 
 -- the next slice is refused

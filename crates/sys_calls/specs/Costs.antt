@@ -1,15 +1,12 @@
 -- The numbers, the costs and the limits of the calls (Solana; the numbers, and the costs of slot,
 -- rent and reading what was returned, are the project's own).
-use Rattle.std.specs.Prelude.{ℕ, ◌≤◌, ◌+◌, ◌/◌, ◌==◌, max, min, List, slice_index, if◌then◌else◌}
+use Rattle.std.specs.Prelude.{ℕ, ◌+◌, ◌/◌, ◌==◌, max, min, List, slice_index, if◌then◌else◌}
+use Rattle.compute_meter.specs.declared.units.TheConstants.{BYTES_OF_UNIT}
 use Rattle.sys_calls.specs.declared.table.SystemCall.{SystemCall}
 use Rattle.sys_calls.specs.declared.table.SystemCall.TheVariants.{Abort, Log, Log64, LogKey, LogUnits, Sha256, Memcpy, Memmove, Memcmp, Memset, ProgramKey, GetSlot, GetRent, SetReturn, GetReturn, GetHeight}
-use Rattle.sys_calls.specs.declared.table.TheConstants.{BASE_COST, BYTES_OF_UNIT, HASH_COST, KEY_COST, MIN_BYTES_COST, RENT_COST, SLOT_COST}
+use Rattle.sys_calls.specs.declared.table.TheConstants.{BASE_COST, HASH_COST, KEY_COST, MIN_BYTES_COST, RENT_COST, SLOT_COST}
 use Rattle.sys_calls.specs.declared.sha256.TheConstants.{MAX_SLICES}
 use Rattle.sys_calls.specs.declared.returned.TheConstants.{MAX_RETURNED}
-
--- the numbers that are served; 17 is the cross-program call
-abbrev pub IsServed : ℕ → Type 0
-IsServed number = (1 ≤ number) × (number ≤ 16)
 
 -- the call of a number that is served
 abbrev pub call_numbered : ℕ → SystemCall

@@ -11,6 +11,7 @@ use Rattle.sys_calls.specs.declared.slices.TheConstants.{SLICE_LEN}
 use Rattle.sys_calls.specs.declared.fault.SysFault.{SysFault}
 use Rattle.sys_calls.specs.declared.fault.SysFault.TheVariants.{UnitsSpent}
 use Rattle.sys_calls.specs.Access.{bytes_read}
+use Rattle.sys_calls.specs.declared.table.TheConstants.{MIN_BYTES_COST}
 
 -- the bytes of a slice in a list
 abbrev pub slice_len : ℕ
@@ -43,7 +44,7 @@ pub record Gathered : Type 0 where
 
 -- what a slice costs
 abbrev pub slice_cost : ℕ → ℕ
-slice_cost len = max (len / 2) 10
+slice_cost len = max (len / 2) MIN_BYTES_COST
 
 abbrev pub before : List ℕ → Gathered → Gathered
 before bytes rest = record rest { bytes = rest.bytes >>= (λ more. Ok (bytes ++ more)) }

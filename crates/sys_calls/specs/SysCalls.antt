@@ -11,7 +11,7 @@ use Rattle.sol_base.specs.declared.derived.SeedsFault.{SeedsFault}
 use Rattle.sbpf_memory.specs.Memory.{Ranges, IsMemory}
 use Rattle.sbpf_memory.specs.Plain.{plain_memory}
 use Rattle.tx_report.specs.LogLines.{Log as Lines, with_line}
-use Rattle.sys_calls.specs.declared.block.TheConstants.{EXEMPT_YEARS, LAMPORTS_PER_BYTE_YEAR}
+use Rattle.rent_rules.specs.declared.rent.TheConstants.{EXEMPTION_YEARS, LAMPORTS_PER_BYTE_YEAR}
 use Rattle.sys_calls.specs.declared.env.Env.{Env}
 use Rattle.sys_calls.specs.declared.slices.Slice.{Slice}
 use Rattle.sys_calls.specs.declared.table.SystemCall.{SystemCall}
@@ -132,7 +132,7 @@ hashed m env slices count result =
 
 -- the numbers of the rent, 8 bytes each (the project's own)
 abbrev pub rent_bytes : List ℕ
-rent_bytes = to_le_bytes w64 LAMPORTS_PER_BYTE_YEAR ++ to_le_bytes w64 EXEMPT_YEARS
+rent_bytes = to_le_bytes w64 LAMPORTS_PER_BYTE_YEAR ++ to_le_bytes w64 EXEMPTION_YEARS
 
 unfoldable pub return_set : Ranges → Env → ℕ → ℕ → Result Service SysFault
 return_set m env addr len =

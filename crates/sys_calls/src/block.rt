@@ -8,13 +8,8 @@ ghost use Rattle.sys_calls.specs.SysCalls.{rent_bytes as bytes_of_rent};
 
 use crate::access::write;
 use crate::fault::SysFault;
+use rent_rules::{EXEMPTION_YEARS, LAMPORTS_PER_BYTE_YEAR};
 use sbpf_memory::Memory;
-
-/// The lamports that a byte costs each year (Solana).
-pub(crate) const LAMPORTS_PER_BYTE_YEAR: u64 = 3_480;
-
-/// The years that an account pays for at once to be exempt (Solana).
-pub(crate) const EXEMPT_YEARS: u64 = 2;
 
 /// Writes the block's slot, 8 bytes (the project's own).
 pub(crate) fn get_slot(result_at: u64, slot: u64, memory: &mut Memory) -> Result<(), SysFault>
@@ -40,6 +35,6 @@ fn rent_bytes() -> [u8; 16]
     ensures { result ≡ bytes_of_rent }
 {
     let [a, b, c, d, e, f, g, h] = LAMPORTS_PER_BYTE_YEAR.to_le_bytes();
-    let [i, j, k, l, m, n, o, p] = EXEMPT_YEARS.to_le_bytes();
+    let [i, j, k, l, m, n, o, p] = EXEMPTION_YEARS.to_le_bytes();
     [a, b, c, d, e, f, g, h, i, j, k, l, m, n, o, p]
 }

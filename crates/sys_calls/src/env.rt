@@ -1,7 +1,4 @@
 //! What a frame lends to its system calls.
-ghost use Rattle.std.specs.Prelude.{◌≡◌, ◌-◌, ◌≤◌, nat_lt, if◌then◌else◌};
-
-use crate::fault::SysFault;
 use sol_base::{Blob, Key};
 use tx_report::Logs;
 
@@ -16,17 +13,4 @@ pub struct Env {
     pub returned: Blob,
     pub returned_by: Key,
     pub logs: Logs,
-}
-
-/// Takes units, or all that are left where they are too few.
-pub(crate) fn charge(units: &mut u64, cost: u64) -> Result<(), SysFault>
-    ensures left { units.new ≡ units.old - cost }
-    ensures answer { result ≡ (if nat_lt units.old cost then Err SysFault.UnitsSpent else Ok tt) }
-{
-    if *units < cost {
-        *units = 0;
-        return Err(SysFault::UnitsSpent);
-    }
-    *units -= cost;
-    Ok(())
 }

@@ -1,4 +1,5 @@
 //! The refusals of system calls.
+use compute_meter::UnitsFault;
 use sbpf_memory::{MemFault, ReadFault};
 use sol_base::OutOfMemory;
 use std::alloc::AllocError;
@@ -63,6 +64,16 @@ impl ReadFault for SysFault {
 
     fn out_of_memory() -> SysFault {
         SysFault::OutOfMemory
+    }
+}
+
+impl UnitsFault for SysFault {
+    ghost use Rattle.sys_calls.specs.declared.fault.SysFault.TheVariants.{UnitsSpent as units_spent};
+
+    ghost spent = { units_spent };
+
+    fn units_spent() -> SysFault {
+        SysFault::UnitsSpent
     }
 }
 

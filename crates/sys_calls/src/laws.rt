@@ -4,6 +4,22 @@ ghost use Rattle.sbpf_memory.specs.Memory.{Ranges};
 ghost use Rattle.sys_calls.specs.declared.env.Env.{Env};
 ghost use Rattle.sys_calls.specs.SysCalls.{Service, IsServedMemory, sys_row};
 
+use crate::returned::MAX_RETURNED;
+use crate::sha256::MAX_SLICES;
+use crate::table::{BASE_COST, HASH_COST, KEY_COST, MIN_BYTES_COST, RENT_COST, SLOT_COST};
+
+/// The costs and the bounds of calls (Solana; the costs of slot and rent are the project's own).
+pub fn numbers_are_as_stated()
+    ensures base { BASE_COST ≡ 100 }
+    ensures least { MIN_BYTES_COST ≡ 10 }
+    ensures hash { HASH_COST ≡ 85 }
+    ensures key { KEY_COST ≡ 1_500 }
+    ensures slot { SLOT_COST ≡ 108 }
+    ensures rent { RENT_COST ≡ 116 }
+    ensures slices { MAX_SLICES ≡ 20_000 }
+    ensures returned { MAX_RETURNED ≡ 1_024 }
+{}
+
 /// A law: no call leaves more units than there were.
 pub fn calls_gain_no_units()
     ensures units { (number : ℕ) (arguments : List ℕ) (m : Ranges) (env : Env) →

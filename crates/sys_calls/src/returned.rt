@@ -12,7 +12,7 @@ use sbpf_memory::{Memory, read_blob};
 use sol_base::Key;
 use std::alloc::Global;
 
-/// The most bytes that are kept.
+/// The most bytes that are kept (Solana).
 pub(crate) const MAX_RETURNED: u64 = 1_024;
 
 /// Keeps bytes, and the program that returns them.

@@ -1,11 +1,11 @@
 //! Serving one system call.
 ghost use Rattle.std.specs.Prelude.{◌≤◌};
 ghost use Rattle.sbpf_memory.specs.Plain.{plain_memory};
-ghost use Rattle.sys_calls.specs.Costs.{IsServed};
+ghost use Rattle.sbpf_isa.specs.Calls.{IsServed};
 ghost use Rattle.sys_calls.specs.SysCalls.{Serves, KeepsBlock, IsServedMemory, Does, sys_row, effect_of};
 
 use crate::block::{get_rent, get_slot};
-use crate::env::{Env, charge};
+use crate::env::Env;
 use crate::fault::SysFault;
 use crate::log::{log, log_64, log_key, log_units};
 use crate::memory::{memcmp, memcpy, memmove, memset};
@@ -13,6 +13,7 @@ use crate::program_key::program_key;
 use crate::returned::{get_return, set_return};
 use crate::sha256::sha256;
 use crate::table::SystemCall;
+use compute_meter::charge;
 use sbpf_memory::Memory;
 use std::alloc::Global;
 
@@ -33,7 +34,7 @@ pub fn serve(
     ensures units { env.new.units ≤ env.old.units }
 {
     let call = SystemCall::numbered(number);
-    charge(
+    charge::<SysFault>(
         &mut env.units,
         call.cost(arguments, env.returned.len() as u64),
     )?;

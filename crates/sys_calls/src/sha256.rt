@@ -7,14 +7,16 @@ ghost use Rattle.sys_calls.specs.Slices.{gathered, hash_of, slice_cost, slice_re
 ghost use Rattle.sys_calls.specs.SysCalls.{Does, hashed};
 
 use crate::access::{PIECE, check_read, read_piece, write};
-use crate::env::{Env, charge};
+use crate::env::Env;
 use crate::fault::SysFault;
 use crate::slices::{Slice, read_slices};
+use crate::table::MIN_BYTES_COST;
+use compute_meter::charge;
 use sbpf_memory::Memory;
 use sha2::{Digest, Sha256};
 use std::alloc::Global;
 
-/// The most slices of a call.
+/// The most slices of a call (Solana).
 pub(crate) const MAX_SLICES: u64 = 20_000;
 
 /// Writes the SHA-256 of the slices, one after another (FIPS 180-4).
@@ -71,7 +73,7 @@ fn hash_slice(
         (hashed ++ held (plain_memory memory.old) slice.addr slice.len)) }
     ensures memory { memory.new ≡ memory.old }
 {
-    charge(units, (slice.len / 2).max(10))?;
+    charge::<SysFault>(units, (slice.len / 2).max(MIN_BYTES_COST))?;
     check_read(memory, slice.addr, slice.len)?;
     hash_pieces(slice, memory, hasher);
     Ok(())

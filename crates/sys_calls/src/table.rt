@@ -1,7 +1,10 @@
 //! The system calls by their numbers, with their costs (Solana; the numbers, and the costs of slot,
 //! rent and reading what was returned, are the project's own).
 ghost use Rattle.std.specs.Prelude.{◌≡◌};
-ghost use Rattle.sys_calls.specs.Costs.{IsServed, call_numbered, cost_of};
+ghost use Rattle.sbpf_isa.specs.Calls.{IsServed};
+ghost use Rattle.sys_calls.specs.Costs.{call_numbered, cost_of};
+
+use compute_meter::BYTES_OF_UNIT;
 
 /// A system call other than the cross-program call.
 #[derive(Clone, Copy, PartialEq, Eq)]
@@ -26,9 +29,6 @@ pub enum SystemCall {
 
 /// What most calls cost.
 pub(crate) const BASE_COST: u64 = 100;
-
-/// The bytes that cost one unit.
-pub(crate) const BYTES_OF_UNIT: u64 = 250;
 
 /// What a call on many bytes costs at least.
 pub(crate) const MIN_BYTES_COST: u64 = 10;

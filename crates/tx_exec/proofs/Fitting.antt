@@ -11,6 +11,7 @@ use Rattle.sol_base.specs.declared.account.Account.{Account}
 use Rattle.sol_base.specs.declared.lock.Lock.{Lock}
 use Rattle.sol_base.specs.declared.lock.Meta.{Meta}
 use Rattle.sol_base.specs.Accounts.{AreShort, IsShort, accounts_of}
+use Rattle.sol_base.specs.Limits.{max_transaction_keys}
 use Rattle.message_codec.specs.declared.message.Instruction.{Instruction}
 use Rattle.message_codec.specs.Wire.{IsCountable}
 use Rattle.message_codec.specs.Roles.{AreNamed, all_keys}
@@ -56,11 +57,11 @@ short_at shares i share h here all = subst (λ (s : Arc Account Global). IsShort
     one (s ∷ ss) (suc n) k a = one ss n (omega (arith, k)) (λ m e l. a (suc m) e (omega (arith, l)))
 
 -- ---- instructions
-pub keys_few : (t : Chosen) → IsChosen t → length (all_keys t.tx.message t.loaded) ≤ 128
-keys_few t is = all_most t.tx 128 t.loaded is.sane is.loaded
+pub keys_few : (t : Chosen) → IsChosen t → length (all_keys t.tx.message t.loaded) ≤ max_transaction_keys
+keys_few t is = all_most t.tx max_transaction_keys t.loaded is.sane is.loaded
 
 pub all_named : (t : Chosen) → IsChosen t → All (AreNamed t.tx.message t.loaded) t.tx.message.instructions
-all_named t is = are_named t.tx 128 t.loaded is.sane is.loaded
+all_named t is = are_named t.tx max_transaction_keys t.loaded is.sane is.loaded
 
 pub named_at : (t : Chosen) → IsChosen t → (index : ℕ) (i : Instruction) → index < length t.tx.message.instructions → i ≡ get_or t.tx.message.instructions index i → AreNamed t.tx.message t.loaded i
 named_at t is index i below here = subst (λ (x : Instruction). AreNamed t.tx.message t.loaded x) (sym here) (all_named t is index i below)

@@ -13,6 +13,7 @@ use Rattle.sol_base.specs.declared.lock.Lock.{Lock}
 use Rattle.sol_base.specs.declared.lock.Meta.{Meta}
 use Rattle.sol_base.specs.Accounts.{AreShort, IsShort, lamports_in, max_data_len}
 use Rattle.sol_base.specs.Metas.{AreInRange, is_listed_writable}
+use Rattle.sol_base.specs.Limits.{max_transaction_keys}
 use Rattle.account_store.specs.State.{settled}
 use Rattle.account_rules.specs.KeptAccounts.{AreKeptBy}
 use Rattle.account_rules.proofs.KeptLaws.{AreKeptBy-refl, AreKeptBy-trans, AreKeptBy-weaker}
@@ -33,6 +34,7 @@ use Rattle.admission.specs.Chosen.{IsChosen}
 use Rattle.invoke_engine.specs.Fits.{AreListed}
 use Rattle.invoke_engine.specs.Frame.{Ending, frame, instruction, nothing_returned}
 use Rattle.invoke_engine.proofs.Kept.{frame_keeps}
+use Rattle.invoke_engine.specs.Frames.{max_trace}
 use Rattle.tx_exec.specs.Payer.{charged, drop_cause, dropped, is_wallet, less, total_fee}
 use Rattle.tx_exec.specs.Executing.{Executed, Failure, InBlock, call_of, executed, fixed_for, following, locks, meta_of, performed, lets_write}
 use Rattle.tx_exec.specs.Transaction.{Transacted, by_drop, came_to, data_in, finished, finishing, no_fee, rent_broken, transaction}
@@ -79,7 +81,7 @@ metas_there t n (p ∷ ps) h =
     (metas_there t n ps (All-tail (λ place. place < n) p ps h))
 
 pub all_there : (t : Chosen) → IsChosen t → All (IsThere t) t.tx.message.instructions
-all_there t is k d l = (are_named t.tx 128 t.loaded is.sane is.loaded k d l).accounts
+all_there t is k d l = (are_named t.tx max_transaction_keys t.loaded is.sane is.loaded k d l).accounts
 
 -- ---- the instructions
 abbrev pub IsKept : Chosen → List Account → List Account → Type 0
@@ -95,7 +97,7 @@ of_end t i a (Err error) k = tt
 pub instruction_keeps : (block : InBlock) (t : Chosen) (i : Instruction) (a : List Account) (units trace : ℕ) (log : Log) → IsThere t i → length a ≡ length (all_keys t.tx.message t.loaded) → GoodKeeps t a (instruction (fixed_for block t) (call_of t i) a units trace log).result
 instruction_keeps block t i a units trace log there count =
     let listed : AreListed (length (all_keys t.tx.message t.loaded)) (call_of t i).metas a = record { count = count; range = metas_there t (length (all_keys t.tx.message t.loaded)) i.accounts there } in
-    cond_both (nat_le 64 trace) _ _ (λ (e : Ending). GoodKeeps t a e.result) (λ _. tt)
+    cond_both (nat_le max_trace trace) _ _ (λ (e : Ending). GoodKeeps t a e.result) (λ _. tt)
     (λ _. of_end t i a (frame (fixed_for block t) [] (call_of t i) a units (nothing_returned trace log)).result (frame_keeps (fixed_for block t) [] (call_of t i) a units (nothing_returned trace log) listed))
 
 follow_keeps : (t : Chosen) (index : ℕ) (on : List Account → ℕ → ℕ → Log → Executed) (a : List Account) (result : Result (List Account) InstructionError) (e : Ending) →
@@ -172,10 +174,6 @@ fee_taken t (payer ∷ others) w h =
       short = short_less payer (less payer (total_fee t)) others refl;
     }
 
-pub charged_count : (vs : List Account) (fee : ℕ) → length (charged vs fee) ≡ length vs
-charged_count [] fee = refl
-charged_count (v ∷ vs) fee = refl
-
 -- ---- the whole
 
 base_keeps : (t : Chosen) (values base : List Account) (status : Status) (units : ℕ) (lines : List (List ℕ)) → IsCharged t values base → Keeps t values (came_to status units t.fee lines base)
@@ -211,7 +209,7 @@ transaction_keeps block t values is count = by_cause (dropped values (total_fee 
     by_cause (Some cause) h = dropped_keeps t values cause
     by_cause None h =
         let base : List Account = charged values (total_fee t) in
-        let k : IsCharged t values base = fee_taken t values (payer_is_writable t.tx 128 t.loaded is.sane) h in
+        let k : IsCharged t values base = fee_taken t values (payer_is_writable t.tx max_transaction_keys t.loaded is.sane) h in
         cond_both (nat_lt t.budget.loaded (data_in base)) _ _ (Keeps t values) (λ _. base_keeps t values base _ 0 [] k)
         (λ _. finished_keeps t values base _ _ (performed (fixed_for block t) t base).result k
         (executed_keeps block t 0 t.tx.message.instructions base t.budget.limit 0 no_lines (all_there t is) (k.count ∙ count)))

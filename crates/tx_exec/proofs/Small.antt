@@ -1,15 +1,16 @@
 -- The outcome of a transaction is small.
-use Rattle.std.proofs.Common.{◌≤◌, ◌<◌, ◌+◌, ◌-◌, ◌*◌, ◌/◌, ◌^◌, ℕ, List, [], ◌∷◌, length, sum_by, Option, Some, None, Result, Ok, Err, All, sym, subst, lit≤, arith, min}
+use Rattle.std.proofs.Common.{◌≤◌, ◌<◌, ◌+◌, ◌-◌, ◌*◌, ◌^◌, ℕ, List, [], ◌∷◌, length, sum_by, Option, Some, None, Result, Ok, Err, All, sym, subst, lit≤, arith, min}
 use Rattle.std.specs.Prelude.{nat_lt}
 use Rattle.std.proofs.lemmas.Bool.{cond_both}
 use Rattle.std.proofs.lemmas.List.Elements.{All-nil, All-from_recursion}
 use Rattle.sol_base.specs.declared.account.Account.{Account}
+use Rattle.sol_base.specs.Limits.{max_transaction_keys}
 use Rattle.message_codec.specs.declared.message.Instruction.{Instruction}
 use Rattle.message_codec.specs.declared.message.Message.{Message}
 use Rattle.fee_rules.specs.Charge.{Charge}
 use Rattle.fee_rules.specs.declared.budget.Budget.{Budget}
-use Rattle.fee_rules.specs.Fees.{fee_of}
-use Rattle.tx_report.specs.LogLines.{IsSmall, Log, no_lines}
+use Rattle.fee_rules.specs.Fees.{base_fee, fee_of}
+use Rattle.tx_report.specs.LogLines.{IsSmall, Log, max_lines_bytes, no_lines}
 use Rattle.tx_report.proofs.LogLaws.{IsSmall-no_lines}
 use Rattle.tx_report.specs.declared.cause.DropCause.{DropCause}
 use Rattle.tx_report.specs.declared.status.InstructionError.{InstructionError}
@@ -42,10 +43,10 @@ executed_small s t index (i ∷ is) a units trace log small =
 min_below : (a b : ℕ) → min a b ≤ b
 min_below a b = grind arith
 
-fee_below : (message : Message) (budget : Budget) → message.header.required ≤ 128 → (fee_of message budget).base + (fee_of message budget).priority < 2 ^ 64
+fee_below : (message : Message) (budget : Budget) → message.header.required ≤ max_transaction_keys → (fee_of message budget).base + (fee_of message budget).priority < 2 ^ 64
 unfolding fee_of
 fee_below message budget few =
-    let cut = min_below ((budget.price * budget.limit + 999999) / 1000000) (2 ^ 64 - 1 - 5000 * message.header.required) in
+    let cut : (fee_of message budget).priority ≤ 2 ^ 64 - 1 - base_fee message = min_below _ _ in
     omega (arith, cut, few)
 
 fee_small : (t : Chosen) → IsChosen t → t.fee.base + t.fee.priority < 2 ^ 64
@@ -56,7 +57,7 @@ fee_small t is =
 
 -- ---- the outcome
 record AreSmall (lines : List (List ℕ)) : Type 0 where
-  pub bytes : sum_by length lines ≤ 10013
+  pub bytes : sum_by length lines ≤ max_lines_bytes
   pub filled : All (λ line. 1 ≤ length line) lines
 
 none_small : AreSmall []

@@ -18,6 +18,7 @@ use Rattle.invoke_engine.specs.Frame.{Ending, instruction}
 use Rattle.invoke_engine.specs.Given.{AreGiven}
 use Rattle.invoke_engine.specs.Views.{IsRun, result_as}
 use Rattle.invoke_engine.proofs.Traces.{instruction_counts}
+use Rattle.invoke_engine.specs.Frames.{max_trace}
 use Rattle.tx_exec.specs.Executing.{Executed, Failure, InBlock, call_of, executed, fixed_for, following, performed}
 use Rattle.tx_exec.specs.Views.{IsExecuted, values_seen}
 use Rattle.tx_exec.proofs.Keeping.{GoodKeeps, instruction_keeps}
@@ -63,19 +64,19 @@ module _ (block : InBlock) (t : Chosen) (base : List Account) (index : ℕ) (acc
 
   module _ (named : AreNamed t.tx.message t.loaded i) (ran : Ran) (log' : Log) (run : IsRun ending ran log') where
     -- the 65th is not started
-    no_start : {after : List Account} → nat_le 64 trace ≡ true → ending.result ≡ Ok after → ⊥
-    no_start {after} e good = refused (late (nat_le 64 trace) _ _ after good e)
+    no_start : {after : List Account} → nat_le max_trace trace ≡ true → ending.result ≡ Ok after → ⊥
+    no_start {after} e good = refused (late (nat_le max_trace trace) _ _ after good e)
 
     kept : GoodKeeps t accounts ending.result
     kept = instruction_keeps block t i accounts units trace log named.accounts stands.given.count
 
     counts : (after : List Account) → ending.result ≡ Ok after → index + 1 ≤ ran.trace
-    counts after good = by_test (nat_le 64 trace) refl
+    counts after good = by_test (nat_le max_trace trace) refl
       where
-        by_test : (b : Bool) → nat_le 64 trace ≡ b → index + 1 ≤ ran.trace
+        by_test : (b : Bool) → nat_le max_trace trace ≡ b → index + 1 ≤ ran.trace
         by_test true e = absurd (no_start e good)
         by_test false e =
-            let few : trace < 64 = grind (arith, nat_tests) in
+            let few : trace < max_trace = grind (arith, nat_tests) in
             let more = instruction_counts (fixed_for block t) (call_of t i) accounts units trace log few in
             let same = run.trace in
             let old = stands.counted in

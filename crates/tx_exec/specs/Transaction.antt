@@ -12,16 +12,13 @@ use Rattle.tx_report.specs.declared.cause.DropCause.{DropCause}
 use Rattle.tx_report.specs.declared.outcome.Outcome.{Outcome}
 use Rattle.tx_report.specs.declared.status.Status.{Status}
 use Rattle.tx_report.specs.declared.status.Status.TheVariants.{Good, Failed, Dropped}
+use Rattle.tx_report.specs.Statuses.{whole_transaction}
 use Rattle.bank_law.specs.Job.{JobEffects}
 use Rattle.bank_law.specs.Lawful.{lent_for_writing}
 use Rattle.admission.specs.declared.chosen.Chosen.{Chosen}
 use Rattle.invoke_engine.specs.Frame.{Fixed}
 use Rattle.tx_exec.specs.Payer.{breaks_rent, charged, dropped, total_fee}
 use Rattle.tx_exec.specs.Executing.{Executed, Failure, InBlock, fixed_for, locks, performed}
-
--- what stands in the place of an instruction where the whole transaction failed
-abbrev pub of_all : ℕ
-of_all = 255
 
 -- the data bytes of all values, without an overhead for an account (the project's own)
 abbrev pub data_in : List Account → ℕ
@@ -63,7 +60,7 @@ abbrev pub finishing : Chosen → List Account → ℕ → List (List ℕ) → L
     → Transacted
 finishing t base units lines after None = came_to Good units t.fee lines after
 finishing t base units lines after (Some place) =
-    failing t base (record { index = of_all; cause = RentState; detail = place }) units lines
+    failing t base (record { index = whole_transaction; cause = RentState; detail = place }) units lines
 
 abbrev pub finished : Chosen → List Account → ℕ → List (List ℕ) → Result (List Account) Failure
     → Transacted
@@ -79,7 +76,7 @@ ran t base e = finished t base (t.budget.limit - e.units) e.log.lines e.result
 abbrev pub paid : Fixed → Chosen → List Account → Transacted
 paid s t base =
     if nat_lt t.budget.loaded (data_in base)
-    then failing t base (record { index = of_all; cause = LoadedDataTooLarge; detail = 0 }) 0 []
+    then failing t base (record { index = whole_transaction; cause = LoadedDataTooLarge; detail = 0 }) 0 []
     else ran t base (performed s t base)
 
 abbrev pub by_drop : Fixed → Chosen → List Account → Option DropCause → Transacted

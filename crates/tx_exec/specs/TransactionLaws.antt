@@ -3,6 +3,7 @@ use Rattle.std.specs.Prelude.{◌≡◌, ◌≤◌, ◌+◌, ◌^◌, ◌<◌, �
 use Rattle.sol_base.specs.declared.account.Account.{Account}
 use Rattle.sol_base.specs.Accounts.{AreShort, lamports_in}
 use Rattle.tx_report.specs.declared.outcome.Outcome.{Outcome}
+use Rattle.tx_report.specs.LogLines.{max_lines_bytes}
 use Rattle.bank_law.specs.Lawful.{AreSettled, lent_for_writing}
 use Rattle.admission.specs.declared.chosen.Chosen.{Chosen}
 use Rattle.tx_exec.specs.Executing.{locks, lets_write}
@@ -37,5 +38,5 @@ pub record WritesFit (t : Chosen) (values : List Account) (x : Transacted) : Typ
 -- an outcome has a fee of 64 bits, and lines that are few and short
 pub record IsSmallOutcome (outcome : Outcome) : Type 0 where
   pub fee : outcome.base_paid + outcome.priority_paid < 2 ^ 64
-  pub bytes : sum_by length outcome.lines ≤ 10013
+  pub bytes : sum_by length outcome.lines ≤ max_lines_bytes
   pub filled : All (λ line. 1 ≤ length line) outcome.lines

@@ -1,6 +1,7 @@
 //! The instructions of a transaction, one after another.
 ghost use Rattle.std.specs.Prelude.{◌≡◌, ◌≤◌, length, IfOk, MatchResult};
 ghost use Rattle.sol_base.specs.Accounts.{accounts_of};
+ghost use Rattle.sol_base.specs.Limits.{max_stack_height};
 ghost use Rattle.message_codec.specs.Roles.{AreNamed, all_keys};
 ghost use Rattle.message_codec.specs.Wire.{IsCountable};
 ghost use Rattle.admission.specs.Chosen.{IsChosen};
@@ -13,13 +14,12 @@ ghost use Rattle.tx_exec.specs.Told.{block_of};
 ghost use Rattle.tx_exec.specs.Views.{IsExecuted};
 
 use crate::failure::Failure;
-use crate::payer::share_all;
 use crate::roles::{call_for, rights_of};
 use crate::told::Told;
 use admission::Chosen;
 use invoke_engine::{Ended, Ran, Setting, run_instruction};
 use message_codec::{Instruction, keys_of};
-use sol_base::{Account, Items, Key, Meta, OutOfMemory};
+use sol_base::{Account, Items, Key, Meta, OutOfMemory, share_all};
 use std::alloc::Global;
 use std::sync::Arc;
 use tx_report::Logs;
@@ -40,7 +40,7 @@ pub fn execute(
     chosen: &Chosen,
     base: &[Arc<Account>],
 ) -> Result<Executed, OutOfMemory>
-    requires height { (1 ≤ told.now.height) × (told.now.height ≤ 9) }
+    requires height { (1 ≤ told.now.height) × (told.now.height ≤ max_stack_height) }
     requires chosen { IsChosen chosen.now }
     requires base { AreGiven (length (all_keys chosen.now.tx.message chosen.now.loaded))
         (accounts_of base.now) }
@@ -65,7 +65,7 @@ fn run_all(
     table: &[Meta],
     base: &[Arc<Account>],
 ) -> Result<Executed, OutOfMemory>
-    requires height { (1 ≤ told.now.height) × (told.now.height ≤ 9) }
+    requires height { (1 ≤ told.now.height) × (told.now.height ≤ max_stack_height) }
     requires chosen { IsChosen chosen.now }
     requires keys { keys.now ≡ all_keys chosen.now.tx.message chosen.now.loaded }
     requires table { IsTableOf chosen.now table.now }
@@ -134,7 +134,7 @@ fn run_one(
     trace: u8,
     logs: &mut Logs,
 ) -> Result<Ran, OutOfMemory>
-    requires height { (1 ≤ told.now.height) × (told.now.height ≤ 9) }
+    requires height { (1 ≤ told.now.height) × (told.now.height ≤ max_stack_height) }
     requires chosen { IsChosen chosen.now }
     requires keys { keys.now ≡ all_keys chosen.now.tx.message chosen.now.loaded }
     requires table { IsTableOf chosen.now table.now }

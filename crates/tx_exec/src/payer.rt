@@ -81,15 +81,7 @@ fn charge_one(payer: &Account, fee: u64) -> Result<Account, OutOfMemory>
     Ok(left)
 }
 
-/// Shares of all accounts.
-pub fn share_all(alloc: Global, values: &[Arc<Account>]) -> Result<Items<Arc<Account>>, OutOfMemory>
-    ensures { IfOk result (λ shares. accounts_of shares ≡ accounts_of values.now) }
-{
-    let mut shares = Items::with_capacity(alloc, values.len())?;
-    share_each(&mut shares, values)?;
-    Ok(shares)
-}
-
+/// Adds shares of all accounts.
 fn share_each(into: &mut Items<Arc<Account>>, values: &[Arc<Account>]) -> Result<(), OutOfMemory>
     ensures { OnOk result (accounts_of into.new ≡ accounts_of into.old ++ accounts_of values.now) }
 {

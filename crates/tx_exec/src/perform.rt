@@ -1,6 +1,7 @@
 //! A transaction on the values of its keys.
 ghost use Rattle.std.specs.Prelude.{◌≡◌, ◌<◌, ◌≤◌, [], None, length, IfOk, IfSome};
 ghost use Rattle.sol_base.specs.Accounts.{accounts_of};
+ghost use Rattle.sol_base.specs.Limits.{max_stack_height};
 ghost use Rattle.bank_core.specs.Effects.{effects_seen};
 ghost use Rattle.bank_law.specs.Lawful.{Fits};
 ghost use Rattle.admission.specs.Chosen.{IsChosen};
@@ -21,10 +22,7 @@ use fee_rules::total;
 use sol_base::{Account, Blob, Items, OutOfMemory};
 use std::alloc::Global;
 use std::sync::Arc;
-use tx_report::{Cause, DropCause, Outcome, Status};
-
-/// What stands in the place of an instruction where the whole transaction failed.
-const OF_ALL: u8 = 255;
+use tx_report::{Cause, DropCause, Outcome, Status, WHOLE_TRANSACTION};
 
 /// Performs a transaction (Solana; docs/SOLANA.md lists what is the project's own): its fee is
 /// taken, its instructions run one after another, and the rent of what it wrote is looked at. One
@@ -36,7 +34,7 @@ pub fn perform_one(
     chosen: &Chosen,
     values: &[Arc<Account>],
 ) -> Result<Effects, OutOfMemory>
-    requires height { (1 ≤ told.now.height) × (told.now.height ≤ 9) }
+    requires height { (1 ≤ told.now.height) × (told.now.height ≤ max_stack_height) }
     requires chosen { IsChosen chosen.now }
     requires fits { Fits chosen.now.locks (accounts_of values.now) }
     ensures { IfOk result (λ e. effects_seen e
@@ -84,7 +82,7 @@ fn perform_paid(
     chosen: &Chosen,
     values: &[Arc<Account>],
 ) -> Result<Effects, OutOfMemory>
-    requires height { (1 ≤ told.now.height) × (told.now.height ≤ 9) }
+    requires height { (1 ≤ told.now.height) × (told.now.height ≤ max_stack_height) }
     requires chosen { IsChosen chosen.now }
     requires fits { Fits chosen.now.locks (accounts_of values.now) }
     requires pays { dropped (accounts_of values.now) (total_fee chosen.now) ≡ None }
@@ -96,7 +94,7 @@ fn perform_paid(
     let base = accounts.as_slice();
     if data_of(base) > u128::from(chosen.budget.loaded) {
         let failure = Failure {
-            index: OF_ALL,
+            index: WHOLE_TRANSACTION,
             cause: Cause::LoadedDataTooLarge,
             detail: 0,
         };
@@ -191,7 +189,7 @@ fn finish(
         None => leave(alloc, chosen, after, Status::Good, units, lines),
         Some(place) => {
             let failure = Failure {
-                index: OF_ALL,
+                index: WHOLE_TRANSACTION,
                 cause: Cause::RentState,
                 detail: place as u32,
             };

@@ -41,6 +41,7 @@ pub fn call_for(
         instruction.now.accounts }
     ensures { IfOk result (λ call. call ≡ call_of chosen.now instruction.now) }
 {
+    // The contract alone asks for the transaction: the table has its rights.
     let _chosen = chosen;
     let accounts = instruction.accounts.as_slice();
     let mut metas = Items::with_capacity(alloc, accounts.len())?;

@@ -2,6 +2,7 @@
 ghost use Rattle.std.specs.Prelude.{◌≡◌, ◌<◌, ◌≤◌, ◌^◌, All, length, IfOk};
 ghost use Rattle.std.proofs.Props.{props};
 ghost use Rattle.std.proofs.lemmas.Map.Keys.{IsDistinct-prop};
+ghost use Rattle.sol_base.specs.Limits.{max_stack_height};
 ghost use Rattle.bank_law.specs.Lawful.{IsLawful};
 ghost use Rattle.bank_law.proofs.Props.{IsLawful-prop};
 ghost use Rattle.admission.specs.Chosen.{IsChosen};
@@ -22,7 +23,7 @@ pub struct TxWork {
     told: Told,
     alloc: Global,
     ghost few: { length told.chosen < 2 ^ 32 },
-    ghost height: { (1 ≤ told.height) × (told.height ≤ 9) } by { Prim.hlevel props },
+    ghost height: { (1 ≤ told.height) × (told.height ≤ max_stack_height) } by { Prim.hlevel props },
     ghost lawful: { IsLawful (job_of told) } by { IsLawful-prop (job_of told) },
     ghost each: { All IsChosen told.chosen } by { Prim.hlevel (props, IsDistinct-prop) },
 }
@@ -37,7 +38,7 @@ impl TxWork {
         height: u8,
     ) -> Result<TxWork, OutOfMemory>
         requires few { length chosen < 2 ^ 32 }
-        requires height { (1 ≤ height) × (height ≤ 9) }
+        requires height { (1 ≤ height) × (height ≤ max_stack_height) }
         requires chosen { All IsChosen chosen }
         ensures { IfOk result (λ work. work.told
             ≡ record { chosen = chosen; programs = programs; slot = slot; height = height }) }

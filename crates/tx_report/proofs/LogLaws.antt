@@ -5,20 +5,20 @@ use Rattle.std.specs.List.{AllByRecursion}
 use Rattle.std.proofs.lemmas.Bool.{cases_Bool}
 use Rattle.std.proofs.lemmas.Bool.Decides.{nat_tests, leb_tells}
 use Rattle.std.proofs.lemmas.List.{take-append-le, length-append}
-use Rattle.std.proofs.lemmas.List.Sums.{sum_by_push, sum_by-cons}
+use Rattle.std.proofs.lemmas.List.Sums.{sum_by_push}
 use Rattle.std.proofs.Math.Seq.{take-append_seam, take-append-add, take-length}
-use Rattle.tx_report.specs.LogLines.{Log, no_lines, with_line, truncated_line, IsLogOf, IsSmall}
+use Rattle.tx_report.specs.LogLines.{Log, no_lines, with_line, truncated_line, IsLogOf, IsSmall, max_log_bytes}
 
 -- a line with no room left for it
-pub with_line-full : (log : Log) (line : List ℕ) → log.truncated ≡ false → 10000 < sum_by length log.lines + length line → with_line log line ≡ record { lines = log.lines ++ truncated_line ∷ []; truncated = true }
+pub with_line-full : (log : Log) (line : List ℕ) → log.truncated ≡ false → max_log_bytes < sum_by length log.lines + length line → with_line log line ≡ record { lines = log.lines ++ truncated_line ∷ []; truncated = true }
 with_line-full log line whole full =
-    let none : nat_le (sum_by length log.lines + length line) 10000 ≡ false = grind (arith, nat_tests) in
+    let none : nat_le (sum_by length log.lines + length line) max_log_bytes ≡ false = grind (arith, nat_tests) in
     rw (whole, none) refl
 
 -- a line with room for it
-pub with_line-room : (log : Log) (line : List ℕ) → log.truncated ≡ false → sum_by length log.lines + length line ≤ 10000 → with_line log line ≡ record { lines = log.lines ++ line ∷ []; truncated = false }
+pub with_line-room : (log : Log) (line : List ℕ) → log.truncated ≡ false → sum_by length log.lines + length line ≤ max_log_bytes → with_line log line ≡ record { lines = log.lines ++ line ∷ []; truncated = false }
 with_line-room log line whole room =
-    let some : nat_le (sum_by length log.lines + length line) 10000 ≡ true = grind (arith, nat_tests) in
+    let some : nat_le (sum_by length log.lines + length line) max_log_bytes ≡ true = grind (arith, nat_tests) in
     rw (whole, some) refl
 
 pub with_line-truncated : (log : Log) (line : List ℕ) → log.truncated ≡ true → with_line log line ≡ log
@@ -42,7 +42,7 @@ still_cut given log line cut is =
       cut = λ _. (rw (length-append given (line ∷ [])) (omega arith), rw more was.1, rw same was.2);
     }
 
-goes_in : (given : List (List ℕ)) (log : Log) (line : List ℕ) → log.truncated ≡ false → sum_by length log.lines + length line ≤ 10000 → IsLogOf given log
+goes_in : (given : List (List ℕ)) (log : Log) (line : List ℕ) → log.truncated ≡ false → sum_by length log.lines + length line ≤ max_log_bytes → IsLogOf given log
     → IsLogOf (given ++ line ∷ []) (record { lines = log.lines ++ line ∷ []; truncated = false })
 goes_in given log line whole room is =
     let was = is.all whole in
@@ -53,13 +53,13 @@ goes_in given log line whole room is =
       cut = λ e. absurd (cc);
     }
 
-becomes_cut : (given : List (List ℕ)) (log : Log) (line : List ℕ) → log.truncated ≡ false → 10000 < sum_by length log.lines + length line → IsLogOf given log
+becomes_cut : (given : List (List ℕ)) (log : Log) (line : List ℕ) → log.truncated ≡ false → max_log_bytes < sum_by length log.lines + length line → IsLogOf given log
     → IsLogOf (given ++ line ∷ []) (record { lines = log.lines ++ truncated_line ∷ []; truncated = true })
 becomes_cut given log line whole full is =
     let was = is.all whole in
     let front : take (length given) (given ++ line ∷ []) ≡ given = take-append_seam given (line ∷ []) in
-    let fits : sum_by length given ≤ 10000 = subst (λ (lines : List (List ℕ)). sum_by length lines ≤ 10000) (ap (λ n. take n given) was.0 ∙ take-length given) is.room in
-    let over : 10000 < sum_by length given + length line = subst (λ (lines : List (List ℕ)). 10000 < sum_by length lines + length line) was.1 full in
+    let fits : sum_by length given ≤ max_log_bytes = subst (λ (lines : List (List ℕ)). sum_by length lines ≤ max_log_bytes) (ap (λ n. take n given) was.0 ∙ take-length given) is.room in
+    let over : max_log_bytes < sum_by length given + length line = subst (λ (lines : List (List ℕ)). max_log_bytes < sum_by length lines + length line) was.1 full in
     record {
       count = length given;
       room = rw front fits;
@@ -71,7 +71,7 @@ becomes_cut given log line whole full is =
 pub IsLogOf-with_line : (given : List (List ℕ)) (log : Log) (line : List ℕ) → IsLogOf given log → IsLogOf (given ++ line ∷ []) (with_line log line)
 IsLogOf-with_line given log line is = elim (cases_Bool log.truncated) [
   | inl cut ↦ subst (IsLogOf (given ++ line ∷ [])) (sym (with_line-truncated log line cut)) (still_cut given log line cut is)
-  | inr whole ↦ elim (leb_tells (sum_by length log.lines + length line) 10000) [
+  | inr whole ↦ elim (leb_tells (sum_by length log.lines + length line) max_log_bytes) [
     | inl p ↦ let room = p.1 in subst (IsLogOf (given ++ line ∷ [])) (sym (with_line-room log line whole room)) (goes_in given log line whole room is)
     | inr p ↦ let full = p.1 in subst (IsLogOf (given ++ line ∷ [])) (sym (with_line-full log line whole full)) (becomes_cut given log line whole full is)
   ]
@@ -87,31 +87,16 @@ filled_push (l ∷ lines) line all one = (all.0, filled_push lines line all.1 on
 pub IsSmall-with_line : (log : Log) (line : List ℕ) → 1 ≤ length line → IsSmall log → IsSmall (with_line log line)
 IsSmall-with_line log line one is = elim (cases_Bool log.truncated) [
   | inl cut ↦ subst IsSmall (sym (with_line-truncated log line cut)) is
-  | inr whole ↦ elim (leb_tells (sum_by length log.lines + length line) 10000) [
+  | inr whole ↦ elim (leb_tells (sum_by length log.lines + length line) max_log_bytes) [
     | inl p ↦ let room = p.1 in subst IsSmall (sym (with_line-room log line whole room)) (record {
       whole = rw (sum_by_push length log.lines line) (omega arith);
       room = λ _. rw (sum_by_push length log.lines line) room;
       filled = filled_push log.lines line is.filled one;
     })
     | inr p ↦ let full = p.1 in subst IsSmall (sym (with_line-full log line whole full)) (record {
-      whole = let fits : sum_by length log.lines ≤ 10000 = is.room whole in rw (sum_by_push length log.lines truncated_line) (omega arith);
+      whole = let fits : sum_by length log.lines ≤ max_log_bytes = is.room whole in rw (sum_by_push length log.lines truncated_line) (omega arith);
       room = λ e. absurd (cc);
       filled = filled_push log.lines truncated_line is.filled (lit≤ tt);
     })
   ]
 ]
-
-few : (lines : List (List ℕ)) → AllByRecursion (λ (l : List ℕ). 1 ≤ length l) lines → length lines ≤ sum_by length lines
-few [] all = lit≤ tt
-few (l ∷ lines) all = let rest : length lines ≤ sum_by length lines = few lines all.1 in let one : 1 ≤ length l = all.0 in rw (sum_by-cons length l lines) (omega arith)
-
-short : (lines : List (List ℕ)) (most : ℕ) → sum_by length lines ≤ most → AllByRecursion (λ (l : List ℕ). length l ≤ most) lines
-short [] most fits = tt
-short (l ∷ lines) most fits = let split : length l + sum_by length lines ≤ most = rw (sum_by-cons length l lines) at fits in (omega arith, short lines most (omega arith))
-
--- a small log has few lines, and short ones
-pub length-IsSmall : (log : Log) → IsSmall log → length log.lines ≤ 10013
-length-IsSmall log is = let n : length log.lines ≤ sum_by length log.lines = few log.lines is.filled in omega (arith, is.whole)
-
-pub lines-IsSmall : (log : Log) → IsSmall log → AllByRecursion (λ (l : List ℕ). length l ≤ 10013) log.lines
-lines-IsSmall log is = short log.lines 10013 is.whole

@@ -5,6 +5,7 @@ use Rattle.spec_base.specs.Reading.{◌>>=◌, place, field_at}
 use Rattle.tx_report.specs.declared.cause.Cause.{Cause}
 use Rattle.tx_report.specs.declared.cause.Cause.TheVariants.{Custom}
 use Rattle.tx_report.specs.declared.status.Status.{Status}
+use Rattle.tx_report.specs.declared.status.TheConstants.{WHOLE_TRANSACTION}
 use Rattle.tx_report.specs.declared.status.Status.TheVariants.{Good, Failed, Dropped}
 use Rattle.tx_report.specs.Causes.{code_of, name_of, cause_with, drop_code_of, drop_name_of, drop_cause_with}
 
@@ -52,9 +53,13 @@ abbrev pub cause_text_of : Cause → ℕ → List ℕ
 cause_text_of Custom detail = codes "Custom(" ++ decimal detail ++ codes ")"
 cause_text_of cause detail = name_of cause
 
+-- what stands in the place of an instruction's index where a transaction failed as a whole
+abbrev pub whole_transaction : ℕ
+whole_transaction = WHOLE_TRANSACTION
+
 -- which instruction failed
 abbrev pub index_text_of : ℕ → List ℕ
-index_text_of index = if index == 255 then codes "transaction" else decimal index
+index_text_of index = if index == whole_transaction then codes "transaction" else decimal index
 
 abbrev pub status_text_of : Status → List ℕ
 status_text_of Good = codes "Ok"

@@ -5,6 +5,15 @@ ghost use Rattle.tx_report.specs.declared.status.Status.{Status};
 ghost use Rattle.tx_report.specs.LogLines.{IsLogOf, Log, no_lines, with_line};
 ghost use Rattle.tx_report.specs.Statuses.{IsStatus, status_bytes_of, status_from};
 
+use crate::logs::MAX_LOG_BYTES;
+use crate::status::WHOLE_TRANSACTION;
+
+/// The numbers of this crate (Solana's bound of log lines; the index is the project's own).
+pub fn numbers_are_as_stated()
+    ensures log { MAX_LOG_BYTES ≡ 10_000 }
+    ensures index { WHOLE_TRANSACTION ≡ 255 }
+{}
+
 /// A law: each status is read from its bytes again, and what is read has these bytes.
 pub fn statuses_are_their_bytes()
     ensures again { (status : Status) → IsStatus status

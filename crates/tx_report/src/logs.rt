@@ -6,8 +6,8 @@ use sol_base::{Blob, Items, OutOfMemory};
 use std::alloc::Global;
 use std::marker::Model;
 
-/// The most bytes of the lines kept, all together.
-const MAX_BYTES: usize = 10_000;
+/// The most bytes of the lines kept, all together (Solana).
+pub(crate) const MAX_LOG_BYTES: usize = 10_000;
 
 /// What stands in place of the first line that is not kept.
 const TRUNCATED: [u8; 13] = *b"Log truncated";
@@ -24,13 +24,13 @@ pub struct Logs {
 
 impl Model for Logs {
     ghost use Rattle.std.specs.Prelude.{◌≡◌, ◌≤◌, false, sum_by, length};
-    ghost use Rattle.tx_report.specs.LogLines.{Log};
+    ghost use Rattle.tx_report.specs.LogLines.{Log, max_log_bytes};
 
     ghost Value = { Log };
 
     ghost view = { λ logs. record { lines = logs.lines; truncated = logs.truncated } };
 
-    ghost invariant = { λ logs. (logs.used ≤ 10000)
+    ghost invariant = { λ logs. (logs.used ≤ max_log_bytes)
         × (logs.truncated ≡ false → logs.used ≡ sum_by length logs.lines) };
 }
 
@@ -56,7 +56,7 @@ impl Logs {
         if self.truncated {
             return Ok(());
         }
-        if line.len() <= MAX_BYTES - self.used {
+        if line.len() <= MAX_LOG_BYTES - self.used {
             self.lines.push(Blob::from_slice(self.alloc, line)?)?;
             self.used += line.len();
         } else {

@@ -12,13 +12,17 @@ pub struct InstructionError {
     pub height: u8,
 }
 
+/// What stands in the place of an instruction's index where a transaction failed as a whole (the
+/// project's own).
+pub const WHOLE_TRANSACTION: u8 = 255;
+
 /// How a transaction ended.
 #[derive(Clone, Copy, PartialEq, Eq)]
 pub enum Status {
     /// Every instruction ended well.
     Good,
-    /// The instruction of this index failed, or for 255 the transaction as a whole. The fee is paid
-    /// and nothing else changed.
+    /// The instruction of this index failed, or by `WHOLE_TRANSACTION` the transaction as a whole.
+    /// The fee is paid and nothing else changed.
     Failed {
         index: u8,
         cause: Cause,

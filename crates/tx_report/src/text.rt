@@ -3,7 +3,7 @@ ghost use Rattle.std.specs.Prelude.{◌≡◌, ◌++◌, IfOk, OnOk};
 ghost use Rattle.tx_report.specs.Statuses.{cause_text_of, index_text_of, status_text_of};
 
 use crate::cause::Cause;
-use crate::status::Status;
+use crate::status::{Status, WHOLE_TRANSACTION};
 use itoa::Buffer;
 use sol_base::{Blob, OutOfMemory};
 use std::alloc::Global;
@@ -59,7 +59,7 @@ fn append_cause(text: &mut Blob, cause: Cause, detail: u32) -> Result<(), OutOfM
 fn append_index(text: &mut Blob, index: u8) -> Result<(), OutOfMemory>
     ensures { OnOk result (text.new ≡ text.old ++ index_text_of index) }
 {
-    if index == u8::MAX {
+    if index == WHOLE_TRANSACTION {
         text.append(b"transaction")
     } else {
         text.append(Buffer::new().format(index).as_bytes())

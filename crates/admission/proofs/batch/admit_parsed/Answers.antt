@@ -1,6 +1,6 @@
 use Rattle.std.proofs.Common.{length, arith}
 use Rattle.admission.specs.Admission.{start_of}
-use Rattle.admission.proofs.BatchLaws.{all_chosen, all_sound, aparts, cause_count, is_admitted, parsed_count, places, stand_in_line}
+use Rattle.admission.proofs.BatchLaws.{all_sound, aparts, cause_count, is_admitted, parsed_count, places, stand_in_line}
 use Rattle.admission.proofs.batch.admit_parsed.Goals as goal
 
 pub sift-requires-clause-few : goal.sift-requires-clause-few
@@ -28,13 +28,7 @@ admit_line-requires-clause-apart c =
     aparts c.in_ok-line.line.items (length c.args.parsed)
     (stand_in_line (start_of c.args.recent.now c.args.accounts.now c.args.limits.now) c.args.wires.now c.args.parsed c.requires.keys c.requires.read c.in_ok-standing.field-0.standing.items c.in_ok-line.line.items c.in_ok-standing.ensures.standing c.in_ok-line.ensures)
 
-pub returns-clause-exact : goal.returns-clause-exact
-returns-clause-exact c =
+pub returns : goal.returns
+returns c =
     is_admitted (start_of c.args.recent.now c.args.accounts.now c.args.limits.now) c.args.wires.now c.args.parsed c.requires.keys c.requires.read
     c.in_ok-standing.field-0.standing.items c.in_ok-line.line.items c.in_ok-standing.field-0.causes.items c.admit_line.result c.in_ok-standing.ensures.standing c.in_ok-line.ensures c.in_ok-standing.ensures.causes c.admit_line.ensures.order c.admit_line.ensures.refused
-
-pub returns-clause-chosen : goal.returns-clause-chosen
-returns-clause-chosen c =
-    all_chosen (start_of c.args.recent.now c.args.accounts.now c.args.limits.now) c.args.wires.now c.args.parsed c.requires.keys c.requires.read
-    c.in_ok-line.line.items c.admit_line.result
-    (stand_in_line (start_of c.args.recent.now c.args.accounts.now c.args.limits.now) c.args.wires.now c.args.parsed c.requires.keys c.requires.read c.in_ok-standing.field-0.standing.items c.in_ok-line.line.items c.in_ok-standing.ensures.standing c.in_ok-line.ensures) c.admit_line.ensures.order

@@ -1,5 +1,4 @@
-use Rattle.std.proofs.Common.{◌≡◌, All}
-use mathlib.Core.List.{IsPrefix}
+use Rattle.std.proofs.Common.{All}
 use Rattle.bank_lanes.specs.Passes.{IsIdle, WentOn}
 use Rattle.bank_lanes.proofs.lanes.make_passes.Given as goal
 

@@ -1,9 +1,8 @@
-use Rattle.std.proofs.Common.{◌<◌, length, get_or, refl, ap, sym, subst, ◌∙◌, arith, length-append}
+use Rattle.std.proofs.Common.{◌<◌, length, get_or, refl, ap, ◌∙◌, arith, length-append}
 use base.Growing.{prefix_refl}
 use Rattle.account_store.specs.State.{at}
 use Rattle.bank_law.specs.declared.event.EventKind.TheVariants.{Grant}
 use Rattle.bank_law.specs.History.{own, holds}
-use Rattle.bank_lanes.specs.Seats.{IsSeatOf}
 use Rattle.bank_lanes.proofs.Rests.{holds_none, own_returns, nothing_held, journal_most, prefix_length}
 use Rattle.bank_lanes.proofs.SeatSteps.{all_hold_none, fresh_seats, grew_by, seat_lent, seats_set, seats_same, set_length}
 use Rattle.bank_lanes.proofs.waves.run_seats.Goals as goal

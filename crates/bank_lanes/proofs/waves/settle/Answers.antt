@@ -1,4 +1,4 @@
-use Rattle.std.proofs.Common.{◌≡◌, Some, refl, rules}
+use Rattle.std.proofs.Common.{◌≡◌, Some, rules}
 use Rattle.bank_law.specs.declared.event.EventKind.TheVariants.{Return}
 use Rattle.bank_lanes.proofs.SeatSteps.{seat_grew, seat_committed, seat_returned}
 use Rattle.bank_lanes.proofs.waves.settle.Goals as goal

@@ -4,5 +4,9 @@ use Rattle.block_run.proofs.run.run_admitted.Goals as goal
 pub run_order-requires-clause-of : goal.run_order-requires-clause-of
 run_order-requires-clause-of g c κs within = admitted_are_of c.args.snapshot c.args.batch.now.wires c.args.answer c.requires.readable c.requires.few c.requires.answer
 
-pub returns-clause-exact : goal.returns-clause-exact
-returns-clause-exact g c = admitted_result c.args.snapshot c.args.batch.now c.args.answer c.in_ok-block.field-0 c.requires.answer c.in_ok-block.ensures.exact
+pub returns : goal.returns
+returns g c = record {
+  exact = admitted_result c.args.snapshot c.args.batch.now c.args.answer c.in_ok-block.field-0 c.requires.answer c.in_ok-block.ensures.exact;
+  counted = c.in_ok-block.ensures.counted;
+  writable = c.in_ok-block.ensures.writable;
+}

@@ -1,5 +1,6 @@
 use Rattle.std.proofs.Common.{◌≡◌, ◌≤◌, ◌∙◌, List, length, map, sym, ap, subst, arith}
 use Rattle.std.proofs.lemmas.List.{length-map}
+use Rattle.sol_base.specs.Limits.{max_transactions}
 use Rattle.block_record.specs.declared.block.Entry.{Entry}
 use Rattle.admission.specs.declared.chosen.Chosen.{Chosen}
 use Rattle.block_run.specs.Blocks.{before_refused, closed, is_halted, wires_of}
@@ -12,7 +13,7 @@ pub run_order-requires-clause-of : goal.run_order-requires-clause-of
 run_order-requires-clause-of g c κs within =
     let read : c.in_ok-wires.wires ≡ wires_of c.args.given.now = c.in_ok-wires.ensures ∙ ap (map (λ (entry : Entry). entry.wire)) c.as_slice.ensures in
     let long = ap length read ∙ length-map c.args.given.now.entries (λ (entry : Entry). entry.wire) in
-    let few : length c.in_ok-wires.wires ≤ 16384 = omega (arith, long, c.requires.few) in
+    let few : length c.in_ok-wires.wires ≤ max_transactions = omega (arith, long, c.requires.few) in
     subst (AreOf c.in_ok-wires.wires) (sym c.before_refused-order.ensures)
     (before_are_of c.in_ok-wires.wires _ _ (listed_are_of c.args.snapshot c.in_ok-wires.wires c.in_ok-order.field-0 c.requires.readable few c.in_ok-order.ensures.exact))
 

@@ -1,6 +1,8 @@
-use Rattle.std.proofs.Common.{List, ℕ, sym, ap, subst, ◌∙◌}
+use Rattle.std.proofs.Common.{List, ℕ, sym, ap, subst, ◌∙◌, IfOk}
 use Rattle.admission.specs.declared.chosen.Chosen.{Chosen}
 use Rattle.tx_exec.specs.declared.told.Told.{Told}
+use Rattle.block_run.specs.declared.block.Closed.{Closed}
+use Rattle.block_run.specs.Answers.{IsClosed}
 use Rattle.block_run.specs.SerialRun.{Ran}
 use Rattle.block_run.specs.Ending.{MayEnd, ran_of}
 use Rattle.block_run.proofs.Calls.{same_end, same_run, small_run}
@@ -24,10 +26,11 @@ close-requires-clause-run g c κs within =
     (subst (λ (r : Ran). MayEnd c.args.wires.now order r) (sym same)
     (run_may_end s c.args.head.now.slot c.args.wires.now order c.requires.readable c.requires.chosen c.requires.of)))
 
-pub returns-clause-exact : goal.returns-clause-exact
-returns-clause-exact g c =
+pub returns : goal.returns
+returns g c =
     let s = c.args.snapshot in
     let order = c.args.order in
     let same = same_run s c.args.head.now.slot order c.in_ok-work.work.told c.in_ok-ended.ended.origin.value c.in_ok-ended.outcomes c.in_ok-work.ensures.told c.in_ok-ended.ensures.origin c.in_ok-ended.ensures.outcomes in
     let chosen = c.chosen.ensures ∙ ap (λ (t : Told). t.chosen) c.in_ok-work.ensures.told in
-    same_end s c.args.head.now c.args.wires.now c.as_slice.result.now order c.chosen.result.now c.in_ok-ended.ended.origin.value c.in_ok-ended.outcomes c.close.result c.as_slice.ensures chosen same c.close.ensures.exact
+    let end = same_end s c.args.head.now c.args.wires.now c.as_slice.result.now order c.chosen.result.now c.in_ok-ended.ended.origin.value c.in_ok-ended.outcomes c.as_slice.ensures chosen same in
+    subst (λ (wanted : Closed). IfOk c.close.result (IsClosed wanted)) end c.close.ensures

@@ -37,12 +37,12 @@ returns-in_ok-fail-in-Fault c =
     ap (λ n. Leaves (closes (programs_of c.args.outer.now) c.run.new.frame n c.args.carrier.now (Err (Refused c.reason_of.result)))) units ∙
     ap Leaves (sym c.in_ok-fail-in-Fault.ensures)
 
-pub returns-then-number-eq-INVOKE : goal.returns-then-number-eq-INVOKE
-returns-then-number-eq-INVOKE c =
+pub returns-then-number-eq-INVOKE_CALL : goal.returns-then-number-eq-INVOKE_CALL
+returns-then-number-eq-INVOKE_CALL c =
     let r : Ran c.args.frame.now c.run.new.frame (Helper c.in-Helper.number) = record { steps = c.in_ok-r0.ensures.steps.0; rest = c.run.ensures.rest; stop = c.in_ok-r0.ensures.steps.1 ∙ ap Some c.in-Helper.is } in
-    IfOk-weaker c.call_turn.result _ _ (λ t h. turn_calls c.args.setting c.args.keys.now (programs_of c.args.outer.now) c.args.frame.now c.run.new.frame c.args.carrier.now c.in-Helper.number r c.if-number-eq-INVOKE.true ∙ h) c.call_turn.ensures
+    IfOk-weaker c.call_turn.result _ _ (λ t h. turn_calls c.args.setting c.args.keys.now (programs_of c.args.outer.now) c.args.frame.now c.run.new.frame c.args.carrier.now c.in-Helper.number r c.if-number-eq-INVOKE_CALL.true ∙ h) c.call_turn.ensures
 
-pub returns-else-number-eq-INVOKE : goal.returns-else-number-eq-INVOKE
-returns-else-number-eq-INVOKE c =
+pub returns-else-number-eq-INVOKE_CALL : goal.returns-else-number-eq-INVOKE_CALL
+returns-else-number-eq-INVOKE_CALL c =
     let r : Ran c.args.frame.now c.run.new.frame (Helper c.in-Helper.number) = record { steps = c.in_ok-r0.ensures.steps.0; rest = c.run.ensures.rest; stop = c.in_ok-r0.ensures.steps.1 ∙ ap Some c.in-Helper.is } in
-    IfOk-weaker c.serve_turn.result _ _ (λ t h. turn_serves c.args.setting c.args.keys.now (programs_of c.args.outer.now) c.args.frame.now c.run.new.frame c.args.carrier.now c.in-Helper.number r c.if-number-eq-INVOKE.false ∙ h) c.serve_turn.ensures
+    IfOk-weaker c.serve_turn.result _ _ (λ t h. turn_serves c.args.setting c.args.keys.now (programs_of c.args.outer.now) c.args.frame.now c.run.new.frame c.args.carrier.now c.in-Helper.number r c.if-number-eq-INVOKE_CALL.false ∙ h) c.serve_turn.ensures

@@ -1,5 +1,5 @@
 use Rattle.std.proofs.Common.{◌+◌, ◌<◌, ◌++◌, ◌∷◌, [], List, ℕ, length, sum_by, true, sym, ap, ◌∙◌, arith}
-use Rattle.tx_report.specs.LogLines.{Log, with_line}
+use Rattle.tx_report.specs.LogLines.{Log, with_line, max_log_bytes}
 use Rattle.tx_report.proofs.LogLaws.{with_line-full}
 use Rattle.tx_report.proofs.logs.Logs.push_line.Goals as goal
 
@@ -8,7 +8,7 @@ returns-in_ok-push-2-clause-ok c =
     let log : Log = record { lines = c.self.inside.lines; truncated = c.self.inside.truncated } in
     let counted = c.self.invariant.1 c.if-self.false in
     let over = c.if-line-self.false in
-    let full : 10000 < sum_by length log.lines + length c.args.line.now = omega arith in
+    let full : max_log_bytes < sum_by length log.lines + length c.args.line.now = omega arith in
     let text = c.in_ok-from_slice-2.ensures in
     ap (λ (lines : List (List ℕ)). let l : Log = record { lines = lines; truncated = true } in l) (c.in_ok-push-2.ensures.ok ∙ ap (λ (t : List ℕ). log.lines ++ t ∷ []) text)
     ∙ sym (with_line-full log c.args.line.now c.if-self.false full)
