@@ -1,0 +1,5 @@
+pub mod Parts
+pub mod Again
+pub mod Keeping
+pub mod Chain
+pub mod Replay

@@ -1,0 +1,17 @@
+//! What the block of a batch keeps.
+ghost use Rattle.block_laws.specs.Keeping.{BlocksKeepLamports, NewProgramsAreReady, ProgramsStay, ReplaysKeepLamports, TransactionsTakeTheirFees};
+
+/// A law: each transaction of the block that a batch comes to takes the fees that it pays out of
+/// the accounts, and what the block burns is all that leaves them; so too when it runs again.
+pub fn blocks_keep_lamports()
+    ensures fees { TransactionsTakeTheirFees }
+    ensures burned { BlocksKeepLamports }
+    ensures again { ReplaysKeepLamports }
+{}
+
+/// A law: while the transactions of a batch run, no account becomes executable and none that is
+/// changes; one that is executable after the block was so before, or is a program that is ready.
+pub fn blocks_keep_programs()
+    ensures stay { ProgramsStay }
+    ensures ready { NewProgramsAreReady }
+{}
