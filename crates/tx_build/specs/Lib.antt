@@ -1,0 +1,5 @@
+pub mod Mentions
+pub mod Classes
+pub mod Tables
+pub mod Signing
+pub mod Built
