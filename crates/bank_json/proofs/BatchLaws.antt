@@ -1,10 +1,10 @@
 -- Batches in JSON: what is written stands for the bytes that it was made of.
-use Rattle.std.proofs.Common.{◌≡◌, ◌≤◌, ◌-◌, ◌^◌, ℕ, List, ◌++◌, length, Result, Ok, Err, refl, sym, ap, subst, ◌∙◌, arith}
+use Rattle.std.proofs.Common.{◌≡◌, ◌-◌, ◌^◌, ℕ, List, ◌++◌, length, Result, Ok, Err, refl, sym, ap, subst, ◌∙◌, arith}
 use Rattle.std.specs.Prelude.{codes}
 use Rattle.std.specs.Int.{w16, w32, w64, to_le_bytes}
 use Rattle.std.specs.List.{flat_map}
 use Rattle.std.proofs.lemmas.List.Elements.{recursion_from_All}
-use Rattle.spec_base.specs.Bytes.{IsBytes, max_count, sized_bytes}
+use Rattle.spec_base.specs.Bytes.{IsBytes, sized_bytes}
 use Rattle.spec_base.proofs.Binding.{before_bytes, after_bytes, ok_same}
 use Rattle.sol_base.specs.Limits.{max_transactions}
 use Rattle.snapshot_codec.specs.declared.fault.BatchFault.{BatchFault}
@@ -13,12 +13,12 @@ use Rattle.snapshot_codec.specs.Batch.{batch_bytes, IsShortWire, IsBatch}
 use Rattle.snapshot_codec.specs.BatchReading.{batch_of}
 use Rattle.snapshot_codec.proofs.BatchLaws.{takes}
 use Rattle.serde_json.specs.Data.{Data}
-use Rattle.bank_json.specs.Written.{hex_json, number_json, list_json}
-use Rattle.bank_json.specs.Parts.{number_in, digits_in, known_in, list_in}
-use Rattle.bank_json.specs.TransactionJson.{transaction_json}
+use Rattle.json_parts.specs.Written.{hex_json, number_json, list_json}
+use Rattle.json_parts.specs.Parts.{number_in, digits_in, known_in, list_in}
+use Rattle.json_parts.specs.TransactionJson.{transaction_json}
 use Rattle.bank_json.specs.BatchJson.{batch_json, json_by_batch, data_of_batch, sized_in, batch_in, batch_of_data}
-use Rattle.bank_json.proofs.Again.{number_again, digits_again, member_again, items_again, list_again}
-use Rattle.bank_json.proofs.TransactionLaws.{transaction_again}
+use Rattle.json_parts.proofs.Again.{number_again, digits_again, member_again, items_again, list_again}
+use Rattle.json_parts.proofs.TransactionLaws.{transaction_again}
 
 sized_again : (wire : List ℕ) → IsShortWire wire → IsBytes (sized_bytes wire) → sized_in (transaction_json wire) ≡ Ok (sized_bytes wire)
 unfolding sized_in

@@ -1,13 +1,11 @@
 -- How deep the JSON of each format nests.
-use Rattle.std.proofs.Common.{◌≡◌, ◌≤◌, ℕ, List, [], ◌∷◌, length, map, Bool, true, false, Option, Some, None, Result, Ok, Err, subst, lit≤, arith}
+use Rattle.std.proofs.Common.{◌≡◌, ◌≤◌, ℕ, List, length, Bool, true, false, Option, Some, None, Result, Ok, Err, subst, lit≤, arith}
 use Rattle.std.specs.Prelude.{◌==◌, if◌then◌else◌}
 use Rattle.spec_base.proofs.Binding.{ok_same}
-use Rattle.bank_json.specs.declared.fault.JsonFault.TheVariants.{Trailing}
+use Rattle.json_parts.specs.declared.fault.JsonFault.TheVariants.{Trailing}
 use Rattle.std.specs.Str.{is_utf8}
-use Rattle.serde_json.specs.Data.{Data, null, string, depth, items_depth}
-use Rattle.serde_json.specs.View.{items_of}
+use Rattle.serde_json.specs.Data.{Data, null, string, depth}
 use Rattle.sol_base.specs.declared.key.Key.{Key}
-use Rattle.sol_base.specs.declared.key.Hash32.{Hash32}
 use Rattle.sol_base.specs.declared.account.Account.{Account}
 use Rattle.status_cache.specs.declared.recent.Mark.{Mark}
 use Rattle.account_store.specs.State.{entries}
@@ -18,13 +16,6 @@ use Rattle.snapshot_codec.specs.SnapshotReading.{prefix_of}
 use Rattle.snapshot_codec.specs.declared.fault.BatchFault.{BatchFault}
 use Rattle.snapshot_codec.specs.declared.batch.Batch.{Batch}
 use Rattle.snapshot_codec.specs.BatchReading.{batch_of}
-use Rattle.message_codec.specs.declared.fault.WireFault.{WireFault}
-use Rattle.message_codec.specs.declared.message.Instruction.{Instruction}
-use Rattle.message_codec.specs.declared.message.Lookup.{Lookup}
-use Rattle.message_codec.specs.declared.message.MessageKind.{MessageKind}
-use Rattle.message_codec.specs.declared.message.MessageKind.TheVariants.{Legacy, Zero}
-use Rattle.message_codec.specs.declared.message.Tx.{Tx}
-use Rattle.message_codec.specs.WireReading.{wire_of}
 use Rattle.tx_report.specs.declared.status.Status.{Status}
 use Rattle.tx_report.specs.declared.status.Status.TheVariants.{Good, Failed, Dropped}
 use Rattle.block_record.specs.declared.fault.RecordFault.{RecordFault}
@@ -32,17 +23,13 @@ use Rattle.block_record.specs.declared.block.Entry.{Entry}
 use Rattle.block_record.specs.declared.block.Block.{Block}
 use Rattle.block_record.specs.RecordReading.{record_of}
 use Rattle.sbpf_verify.specs.Images.{ImageParts, image_in}
-use Rattle.bank_json.specs.Faults.{Read}
-use Rattle.bank_json.specs.Written.{number_json}
-use Rattle.bank_json.specs.TransactionJson.{key_json, signature_json, instruction_json, lookup_json, version_json, tx_json, json_by_wire, transaction_json}
+use Rattle.json_parts.specs.Faults.{Read}
+use Rattle.json_parts.specs.TransactionJson.{transaction_json}
+use Rattle.json_parts.proofs.Depths.{list_depth, transaction_depth}
 use Rattle.bank_json.specs.BatchJson.{batch_json, json_by_batch, data_of_batch}
 use Rattle.bank_json.specs.RecordJson.{line_json, status_json, entry_json, record_json, json_by_record, data_of_record}
 use Rattle.bank_json.specs.ImageJson.{json_by_image, data_of_image}
 use Rattle.bank_json.specs.SnapshotJson.{name_json, mark_json, account_json, snapshot_json_one, snapshot_json_two, snapshot_json, is_first, json_by_prefix, data_of_snapshot}
-
-pub list_depth : {X : Type 0} (json : X → Data) (most : ℕ) → ((x : X) → depth (json x) ≤ most) → (xs : List X) → items_depth (items_of (map json xs)) ≤ most
-list_depth json most each [] = omega arith
-list_depth json most each (x ∷ xs) = let first = each x in let rest = list_depth json most each xs in omega arith
 
 mark_depth : (mark : Mark) → depth (mark_json mark) ≤ 4
 mark_depth mark = let names = list_depth name_json 0 (λ name. lit≤ tt) mark.messages in omega arith
@@ -78,39 +65,7 @@ snapshot_depth bytes d shown = by_prefix (prefix_of bytes) shown
     by_prefix (Ok prefix) h = by_length prefix (prefix.length == length bytes) h
     by_prefix (Err fault) h = absurd (cc)
 
--- ---- transactions and batches
-
-numbers_depth : (ns : List ℕ) → items_depth (items_of (map number_json ns)) ≤ 0
-numbers_depth ns = list_depth number_json 0 (λ n. lit≤ tt) ns
-
-instruction_depth : (instruction : Instruction) → depth (instruction_json instruction) ≤ 8
-instruction_depth instruction = let accounts = numbers_depth instruction.accounts in omega arith
-
-lookup_depth : (lookup : Lookup) → depth (lookup_json lookup) ≤ 8
-lookup_depth lookup =
-    let readonly = numbers_depth lookup.readonly in
-    let writable = numbers_depth lookup.writable in
-    omega arith
-
-version_depth : (kind : MessageKind) → depth (version_json kind) ≤ 0
-version_depth Legacy = lit≤ tt
-version_depth Zero = lit≤ tt
-
-tx_depth : (tx : Tx) → depth (tx_json tx) ≤ 16
-tx_depth tx =
-    let instructions = list_depth instruction_json 8 instruction_depth tx.message.instructions in
-    let keys = list_depth key_json 0 (λ key. lit≤ tt) tx.message.keys in
-    let lookups = list_depth lookup_json 8 lookup_depth tx.message.lookups in
-    let signatures = list_depth signature_json 0 (λ signature. lit≤ tt) tx.signatures in
-    let version = version_depth tx.message.kind in
-    omega arith
-
-transaction_depth : (bytes : List ℕ) → depth (transaction_json bytes) ≤ 16
-transaction_depth bytes = by_wire (wire_of bytes)
-  where
-    by_wire : (r : Result Tx WireFault) → depth (json_by_wire bytes r) ≤ 16
-    by_wire (Ok tx) = tx_depth tx
-    by_wire (Err fault) = lit≤ tt
+-- ---- batches and records
 
 batch_value_depth : (batch : Batch) → depth (batch_json batch) ≤ 127
 batch_value_depth batch = let transactions = list_depth transaction_json 16 transaction_depth batch.wires in omega arith

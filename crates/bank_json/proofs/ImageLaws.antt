@@ -1,5 +1,5 @@
 -- Program images in JSON: what is written stands for the bytes that it was made of.
-use Rattle.std.proofs.Common.{◌≡◌, ◌≤◌, ◌/◌, ◌*◌, ◌+◌, ℕ, List, ◌++◌, length, take, drop, Option, Some, None, Result, Ok, Err, refl, sym, ap, subst, ◌∙◌, arith}
+use Rattle.std.proofs.Common.{◌≡◌, ◌≤◌, ◌/◌, ◌*◌, ◌+◌, ℕ, List, ◌++◌, length, take, drop, Option, Some, None, Ok, refl, sym, ap, subst, ◌∙◌, arith}
 use Rattle.std.specs.Prelude.{codes}
 use Rattle.std.specs.Int.{w32, to_le_bytes}
 use Rattle.std.proofs.lemmas.List.{length-take}
@@ -9,10 +9,10 @@ use Rattle.spec_base.proofs.Formats.{u32_below}
 use Rattle.sbpf_verify.specs.Images.{ImageParts, image_bytes, slots_named, constants_named, parts_named, image_in}
 use Rattle.sbpf_verify.proofs.ImageLaws.{parts_of_image, written}
 use Rattle.serde_json.specs.Data.{Data}
-use Rattle.bank_json.specs.Written.{hex_json}
-use Rattle.bank_json.specs.Parts.{data_in, known_in}
+use Rattle.json_parts.specs.Written.{hex_json}
+use Rattle.json_parts.specs.Parts.{data_in, known_in}
 use Rattle.bank_json.specs.ImageJson.{image_json, json_by_image, data_of_image, spelled_in, image_of_data}
-use Rattle.bank_json.proofs.Again.{data_again, member_again}
+use Rattle.json_parts.proofs.Again.{data_again, member_again}
 
 fields_again : (image : ImageParts) → length image.text ≤ 34359738360 → length image.constants ≤ 4294967295 → IsBytes (image_bytes image) → spelled_in (image_json image) ≡ Ok (image_bytes image)
 unfolding spelled_in known_in

@@ -1,12 +1,6 @@
-mod Within
-mod Items
-mod Lists
-mod Names
-mod Again
-mod SnapshotLaws
-mod TransactionLaws
-mod BatchLaws
-mod RecordLaws
-mod ImageLaws
-mod Depths
-mod Texts
+pub mod SnapshotLaws
+pub mod BatchLaws
+pub mod RecordLaws
+pub mod ImageLaws
+pub mod Depths
+pub mod Texts

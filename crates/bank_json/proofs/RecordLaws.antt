@@ -19,17 +19,17 @@ use Rattle.tx_report.proofs.CauseLaws.{code_of-fits, drop_code_of-fits}
 use Rattle.block_record.specs.declared.fault.RecordFault.{RecordFault}
 use Rattle.block_record.specs.declared.block.Entry.{Entry}
 use Rattle.block_record.specs.declared.block.Block.{Block}
-use Rattle.block_record.specs.Record.{bytes_of_lines, entry_bytes, bytes_of_record, AreCountable, IsRecord}
+use Rattle.block_record.specs.Record.{entry_bytes, bytes_of_record, AreCountable, IsRecord}
 use Rattle.block_record.specs.RecordReading.{record_of}
 use Rattle.block_record.proofs.RecordLaws.{takes}
 use Rattle.serde_json.specs.Data.{Data, object, member, no_members}
 use Rattle.serde_json.specs.Find.{get}
-use Rattle.bank_json.specs.Written.{hex_json, number_json, list_json}
-use Rattle.bank_json.specs.Parts.{number_in, digits_in, known_in, member_in, list_in}
-use Rattle.bank_json.specs.TransactionJson.{transaction_json, transaction_in}
+use Rattle.json_parts.specs.Written.{hex_json, number_json, list_json}
+use Rattle.json_parts.specs.Parts.{number_in, digits_in, known_in, member_in, list_in}
+use Rattle.json_parts.specs.TransactionJson.{transaction_json, transaction_in}
 use Rattle.bank_json.specs.RecordJson.{line_json, status_json, entry_json, record_json, json_by_record, data_of_record, line_in, failure_in, failed_in, dropped_in, status_in, entry_in, heading_in, closing_in, record_in, record_of_data}
-use Rattle.bank_json.proofs.Again.{number_again, digits_again, member_again, items_again, list_again}
-use Rattle.bank_json.proofs.TransactionLaws.{transaction_again}
+use Rattle.json_parts.proofs.Again.{number_again, digits_again, member_again, items_again, list_again}
+use Rattle.json_parts.proofs.TransactionLaws.{transaction_again}
 
 -- ---- lines and statuses
 

@@ -1,5 +1,5 @@
 -- Snapshots in JSON: what is written stands for the bytes that it was made of.
-use Rattle.std.proofs.Common.{◌≡◌, ◌≢◌, ◌≤◌, ◌<◌, ◌^◌, ◌-◌, ◌⊎◌, inl, inr, ℕ, List, [], ◌∷◌, ◌++◌, length, take, map, Result, Ok, Err, Some, Bool, true, false, refl, sym, ap, subst, ◌∙◌, append_assoc, arith, lit≤}
+use Rattle.std.proofs.Common.{◌≡◌, ◌≤◌, ◌^◌, ◌-◌, inl, inr, ℕ, List, [], ◌∷◌, ◌++◌, length, take, Result, Ok, Err, Some, Bool, true, false, refl, sym, ap, subst, ◌∙◌, append_assoc, arith, lit≤}
 use Rattle.std.specs.Prelude.{codes, ◌==◌, if◌then◌else◌}
 use Rattle.std.specs.Int.{w32, w64, to_le_bytes}
 use Rattle.std.specs.List.{flat_map, AllByRecursion}
@@ -14,11 +14,11 @@ use Rattle.sol_base.specs.declared.key.Key.{Key}
 use Rattle.sol_base.specs.declared.key.Hash32.{Hash32}
 use Rattle.sol_base.specs.declared.account.Account.{Account}
 use Rattle.sol_base.specs.declared.limits.Limits.{Limits}
-use Rattle.sol_base.specs.Keys.{IsKey, IsHash, key_bytes, hash_bytes}
-use Rattle.sol_base.specs.Limits.{max_transactions, first_limits}
+use Rattle.sol_base.specs.Keys.{IsKey, IsHash, hash_bytes}
+use Rattle.sol_base.specs.Limits.{max_transactions}
 use Rattle.sol_base.specs.Accounts.{max_data_len, IsShort}
 use Rattle.status_cache.specs.declared.recent.Mark.{Mark}
-use Rattle.account_store.specs.State.{State, IsHeld, entries, lamports_of}
+use Rattle.account_store.specs.State.{IsHeld, entries, lamports_of}
 use Rattle.snapshot_codec.specs.declared.snapshot.Snapshot.{Snapshot}
 use Rattle.snapshot_codec.specs.declared.snapshot.Prefix.{Prefix}
 use Rattle.snapshot_codec.specs.declared.fault.SnapshotFault.{SnapshotFault}
@@ -28,12 +28,12 @@ use Rattle.snapshot_codec.proofs.MarkLaws.{MarkFits, MarksFit, fits-from_recent}
 use Rattle.snapshot_codec.proofs.SnapshotLaws.{prefix_takes}
 use Rattle.serde_json.specs.Data.{Data, boolean}
 use Rattle.serde_json.specs.Find.{get}
-use Rattle.bank_json.specs.declared.fault.JsonFault.TheVariants.{Trailing}
-use Rattle.bank_json.specs.Faults.{Read}
-use Rattle.bank_json.specs.Written.{hex_json, number_json, list_json}
-use Rattle.bank_json.specs.Parts.{number_in, digits_in, data_in, flag_in, known_in, member_in, list_in, items_in}
-use Rattle.bank_json.specs.SnapshotJson.{name_json, mark_json, account_json, limits_json, snapshot_json_one, snapshot_json_two, snapshot_json, is_first, hash_in, mark_in, account_in, limits_in, sections_in, first_in, second_in, snapshot_in, json_by_prefix, data_of_snapshot, snapshot_of_data}
-use Rattle.bank_json.proofs.Again.{number_again, digits_again, data_again, member_again, items_again, list_again}
+use Rattle.json_parts.specs.declared.fault.JsonFault.TheVariants.{Trailing}
+use Rattle.json_parts.specs.Faults.{Read}
+use Rattle.json_parts.specs.Written.{hex_json, number_json, list_json}
+use Rattle.json_parts.specs.Parts.{number_in, digits_in, data_in, flag_in, known_in, member_in, list_in}
+use Rattle.bank_json.specs.SnapshotJson.{name_json, mark_json, account_json, limits_json, snapshot_json_one, snapshot_json_two, snapshot_json, hash_in, mark_in, account_in, limits_in, sections_in, first_in, second_in, snapshot_in, json_by_prefix, data_of_snapshot, snapshot_of_data}
+use Rattle.json_parts.proofs.Again.{number_again, digits_again, data_again, member_again, items_again, list_again}
 
 flag_again : (b : Bool) → flag_in (boolean b) ≡ Ok b
 unfolding flag_in

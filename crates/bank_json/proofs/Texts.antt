@@ -1,9 +1,9 @@
 -- Texts that hold what was written.
-use Rattle.std.proofs.Common.{◌≡◌, ℕ, List, Option, Some, None, Result, Ok, Err, refl, subst}
+use Rattle.std.proofs.Common.{◌≡◌, ℕ, List, Option, Some, Ok, Err, refl, subst}
 use Rattle.spec_base.specs.Reading.{Gives}
 use Rattle.serde_json.specs.Data.{Data}
 use Rattle.serde_json.specs.Read.{read}
-use Rattle.bank_json.specs.Faults.{Read, is_json_memory}
+use Rattle.json_parts.specs.Faults.{Read, is_json_memory}
 use Rattle.bank_json.specs.Texts.{shown, TextGives, TextIs}
 
 some_same : (d : Data) (found : Option Data) → (let r : Read (Option Data) = Ok (Some d) in r) ≡ Ok found → found ≡ Some d

@@ -8,11 +8,11 @@ use Rattle.sol_base.specs.Limits.{max_transactions}
 use Rattle.snapshot_codec.specs.declared.fault.BatchFault.{BatchFault}
 use Rattle.snapshot_codec.specs.declared.batch.Batch.{Batch}
 use Rattle.snapshot_codec.specs.BatchReading.{batch_of}
-use Rattle.bank_json.specs.declared.fault.JsonFault.TheVariants.{BadBatch}
-use Rattle.bank_json.specs.Faults.{Read}
-use Rattle.bank_json.specs.Written.{hex_json, number_json, list_json}
-use Rattle.bank_json.specs.Parts.{number_in, digits_in, member_in, known_in, list_in}
-use Rattle.bank_json.specs.TransactionJson.{transaction_json, transaction_in}
+use Rattle.json_parts.specs.declared.fault.JsonFault.TheVariants.{BadBatch}
+use Rattle.json_parts.specs.Faults.{Read}
+use Rattle.json_parts.specs.Written.{hex_json, number_json, list_json}
+use Rattle.json_parts.specs.Parts.{number_in, digits_in, member_in, known_in, list_in}
+use Rattle.json_parts.specs.TransactionJson.{transaction_json, transaction_in}
 
 abbrev pub batch_json : Batch → Data
 batch_json batch =

@@ -1,12 +1,12 @@
 -- Program images as JSON (the project's own form), and the bytes that such JSON stands for.
-use Rattle.std.specs.Prelude.{ℕ, ◌/◌, List, [], ◌∷◌, length, codes, Option, Some, None, Result, Ok, Err}
+use Rattle.std.specs.Prelude.{ℕ, List, [], ◌∷◌, codes, Option, Some, None, Ok, Err}
 use Rattle.spec_base.specs.Reading.{◌>>=◌}
 use Rattle.serde_json.specs.Data.{Data, object, member, no_members}
 use Rattle.sbpf_verify.specs.Images.{ImageParts, image_bytes, image_in}
-use Rattle.bank_json.specs.declared.fault.JsonFault.TheVariants.{BadImage}
-use Rattle.bank_json.specs.Faults.{Read}
-use Rattle.bank_json.specs.Written.{hex_json}
-use Rattle.bank_json.specs.Parts.{data_in, member_in, known_in}
+use Rattle.json_parts.specs.declared.fault.JsonFault.TheVariants.{BadImage}
+use Rattle.json_parts.specs.Faults.{Read}
+use Rattle.json_parts.specs.Written.{hex_json}
+use Rattle.json_parts.specs.Parts.{data_in, member_in, known_in}
 
 abbrev pub image_json : ImageParts → Data
 image_json image =

@@ -1,8 +1,4 @@
-pub mod Faults
-pub mod Parts
-pub mod Written
 pub mod SnapshotJson
-pub mod TransactionJson
 pub mod BatchJson
 pub mod RecordJson
 pub mod ImageJson

@@ -15,12 +15,12 @@ use Rattle.block_record.specs.declared.fault.RecordFault.{RecordFault}
 use Rattle.block_record.specs.declared.block.Entry.{Entry}
 use Rattle.block_record.specs.declared.block.Block.{Block}
 use Rattle.block_record.specs.RecordReading.{record_of}
-use Rattle.bank_json.specs.declared.fault.Wanted.TheVariants.{Text, Ending}
-use Rattle.bank_json.specs.declared.fault.JsonFault.TheVariants.{Refused, BadRecord}
-use Rattle.bank_json.specs.Faults.{Read}
-use Rattle.bank_json.specs.Written.{hex_json, number_json, list_json}
-use Rattle.bank_json.specs.Parts.{or_refused, if_short, number_in, digits_in, member_in, known_in, list_in}
-use Rattle.bank_json.specs.TransactionJson.{transaction_json, transaction_in}
+use Rattle.json_parts.specs.declared.fault.Wanted.TheVariants.{Text, Ending}
+use Rattle.json_parts.specs.declared.fault.JsonFault.TheVariants.{BadRecord}
+use Rattle.json_parts.specs.Faults.{Read}
+use Rattle.json_parts.specs.Written.{hex_json, number_json, list_json}
+use Rattle.json_parts.specs.Parts.{or_refused, if_short, number_in, digits_in, member_in, known_in, list_in}
+use Rattle.json_parts.specs.TransactionJson.{transaction_json, transaction_in}
 
 -- ---- what is written
 
@@ -76,9 +76,10 @@ failed_names = codes "failed" ∷ []
 abbrev pub dropped_names : List (List ℕ)
 dropped_names = codes "dropped" ∷ []
 
+-- a member `shown` is passed over
 abbrev pub entry_names : List (List ℕ)
 entry_names =
-    codes "fee" ∷ codes "lines" ∷ codes "status" ∷ codes "transaction" ∷ codes "units" ∷ []
+    codes "fee" ∷ codes "lines" ∷ codes "shown" ∷ codes "status" ∷ codes "transaction" ∷ codes "units" ∷ []
 
 abbrev pub record_names : List (List ℕ)
 record_names =

@@ -1,6 +1,6 @@
 -- Snapshots as JSON (the project's own form), and the bytes that such JSON stands for. An object's
 -- members are in the order of their names.
-use Rattle.std.specs.Prelude.{ℕ, ◌-◌, ◌^◌, ◌==◌, List, [], ◌∷◌, ◌++◌, length, map, codes, if◌then◌else◌, Bool, true, false, bytes_eq, take, Result, Ok, Err}
+use Rattle.std.specs.Prelude.{ℕ, ◌-◌, ◌^◌, ◌==◌, List, [], ◌∷◌, ◌++◌, length, codes, if◌then◌else◌, Bool, bytes_eq, take, Result, Ok, Err}
 use Rattle.std.specs.Int.{w32, w64, to_le_bytes}
 use Rattle.spec_base.specs.Reading.{◌>>=◌}
 use Rattle.serde_json.specs.Data.{Data, boolean, object, member, no_members}
@@ -17,10 +17,10 @@ use Rattle.snapshot_codec.specs.declared.snapshot.Prefix.{Prefix}
 use Rattle.snapshot_codec.specs.declared.fault.SnapshotFault.{SnapshotFault}
 use Rattle.snapshot_codec.specs.Snapshot.{account_bytes, limits_bytes}
 use Rattle.snapshot_codec.specs.SnapshotReading.{prefix_of}
-use Rattle.bank_json.specs.declared.fault.JsonFault.TheVariants.{BadSnapshot, Trailing}
-use Rattle.bank_json.specs.Faults.{Read}
-use Rattle.bank_json.specs.Written.{hex_json, number_json, list_json}
-use Rattle.bank_json.specs.Parts.{number_in, digits_in, data_in, flag_in, member_in, known_in, list_in}
+use Rattle.json_parts.specs.declared.fault.JsonFault.TheVariants.{BadSnapshot, Trailing}
+use Rattle.json_parts.specs.Faults.{Read}
+use Rattle.json_parts.specs.Written.{hex_json, number_json, list_json}
+use Rattle.json_parts.specs.Parts.{number_in, digits_in, data_in, flag_in, member_in, known_in, list_in}
 
 -- ---- what is written
 
@@ -92,11 +92,13 @@ account_names = codes "data" ∷ codes "executable" ∷ codes "key" ∷ codes "l
 abbrev pub limits_names : List (List ℕ)
 limits_names = codes "block_units" ∷ codes "height" ∷ codes "key_units" ∷ codes "keys" ∷ []
 
+-- a member `shown` is passed over
 abbrev pub first_names : List (List ℕ)
-first_names = codes "accounts" ∷ codes "format" ∷ codes "recent" ∷ codes "slot" ∷ []
+first_names = codes "accounts" ∷ codes "format" ∷ codes "recent" ∷ codes "shown" ∷ codes "slot" ∷ []
 
 abbrev pub second_names : List (List ℕ)
-second_names = codes "accounts" ∷ codes "format" ∷ codes "limits" ∷ codes "recent" ∷ codes "slot" ∷ []
+second_names =
+    codes "accounts" ∷ codes "format" ∷ codes "limits" ∷ codes "recent" ∷ codes "shown" ∷ codes "slot" ∷ []
 
 abbrev pub hash_in : Data → Read (List ℕ)
 hash_in d = digits_in 32 d

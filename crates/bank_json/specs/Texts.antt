@@ -1,11 +1,11 @@
 -- JSON texts, and what stands in them.
-use Rattle.std.specs.Prelude.{◌≡◌, ℕ, List, Bool, true, false, Option, Some, None, Result, Ok, Err, MatchResult}
-use Rattle.spec_base.specs.Reading.{◌>>=◌, Gives}
+use Rattle.std.specs.Prelude.{◌≡◌, ℕ, List, Bool, true, false, Option, Some, None, Ok, Err, MatchResult}
+use Rattle.spec_base.specs.Reading.{Gives}
 use Rattle.serde_json.specs.Data.{Data}
 use Rattle.serde_json.specs.Read.{read}
-use Rattle.bank_json.specs.declared.fault.JsonFault.{JsonFault}
-use Rattle.bank_json.specs.declared.fault.JsonFault.TheVariants.{NoJson, Refused, BadSnapshot, BadBatch, BadRecord, BadImage, Trailing, OutOfMemory}
-use Rattle.bank_json.specs.Faults.{Read, is_json_memory}
+use Rattle.json_parts.specs.declared.fault.JsonFault.{JsonFault}
+use Rattle.json_parts.specs.declared.fault.JsonFault.TheVariants.{NoJson, Refused, BadSnapshot, BadBatch, BadRecord, BadImage, Trailing, OutOfMemory}
+use Rattle.json_parts.specs.Faults.{Read, is_json_memory}
 
 -- what reading a text that holds this value answers
 abbrev pub shown : Read Data → Read (Option Data)

@@ -2,14 +2,13 @@
 ghost use Rattle.std.specs.Prelude.{◌≡◌, IfOk};
 ghost use Rattle.spec_base.specs.Reading.{Gives};
 ghost use Rattle.serde_json.specs.View.{view};
-ghost use Rattle.bank_json.specs.Faults.{is_json_memory};
+ghost use Rattle.json_parts.specs.Faults.{is_json_memory};
 ghost use Rattle.bank_json.specs.BatchJson.{batch_json, data_of_batch, batch_in, batch_of_data};
 
-use crate::fault::JsonFault;
-use crate::list::{Part, list_member, list_value};
-use crate::parts::{Names, digits_member, known, number_member};
-use crate::snapshot_out::hex_value;
-use crate::transaction_in::transaction;
+use json_parts::{
+    InJson, JsonFault, Names, Part, digits_member, hex_value, known, list_member, list_value,
+    number_member, transaction, transaction_value,
+};
 use serde_json::{Value, json};
 use snapshot_codec::{Batch, BatchFault, read_batch};
 use sol_base::Blob;
@@ -31,10 +30,10 @@ impl Names for BatchNames {
     }
 }
 
-/// A transaction behind its length.
-struct Sized;
+/// Transactions, each behind its length.
+pub(crate) struct Transactions;
 
-impl Part for Sized {
+impl Part for Transactions {
     ghost use Rattle.bank_json.specs.BatchJson.{sized_in};
 
     ghost part_in = { sized_in };
@@ -48,11 +47,23 @@ impl Part for Sized {
     }
 }
 
+impl InJson for Transactions {
+    type Item = Blob;
+
+    ghost use Rattle.json_parts.specs.TransactionJson.{transaction_json};
+
+    ghost json_of = { transaction_json };
+
+    fn value(alloc: Global, item: &Blob) -> Result<Value, AllocError> {
+        transaction_value(alloc, item.as_slice())
+    }
+}
+
 fn value_of(alloc: Global, batch: &Batch) -> Result<Value, AllocError>
     ensures { IfOk result (λ v. view v ≡ batch_json batch.now) }
 {
     let collector = hex_value(alloc, &batch.collector.0)?;
-    let transactions = list_value(alloc, batch.wires.as_slice())?;
+    let transactions = list_value::<Transactions>(alloc, batch.wires.as_slice())?;
     json!(in alloc; {
         "collector": collector,
         "slot": batch.slot,
@@ -80,7 +91,7 @@ fn spelled(alloc: Global, value: &Value) -> Result<Blob, JsonFault>
     known::<BatchNames>(alloc, value)?;
     let slot = number_member(alloc, value, "slot", 1, u64::MAX)?;
     let collector = digits_member::<32>(alloc, value, "collector")?;
-    let (count, transactions) = list_member::<Sized>(
+    let (count, transactions) = list_member::<Transactions>(
         alloc,
         value,
         "transactions",

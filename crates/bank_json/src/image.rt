@@ -2,13 +2,10 @@
 ghost use Rattle.std.specs.Prelude.{◌≡◌, IfOk};
 ghost use Rattle.spec_base.specs.Reading.{Gives};
 ghost use Rattle.serde_json.specs.View.{view};
-ghost use Rattle.bank_json.specs.Faults.{is_json_memory};
+ghost use Rattle.json_parts.specs.Faults.{is_json_memory};
 ghost use Rattle.bank_json.specs.ImageJson.{image_json, data_of_image, spelled_in, image_of_data};
 
-use crate::data::data_member;
-use crate::fault::JsonFault;
-use crate::parts::{Names, known};
-use crate::snapshot_out::hex_value;
+use json_parts::{JsonFault, Names, data_member, hex_value, known};
 use sbpf_verify::read_image;
 use serde_json::{Value, json};
 use sol_base::Blob;

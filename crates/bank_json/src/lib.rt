@@ -2,24 +2,17 @@
 #![tactic(auto)]
 
 mod batch;
-mod data;
-mod fault;
 mod image;
 mod laws;
-mod list;
-mod parts;
 mod record_in;
 mod record_out;
-mod show;
 mod snapshot_in;
 mod snapshot_out;
 mod text;
-mod transaction_in;
-mod transaction_out;
 
 pub use batch::{batch_from_value, batch_value};
-pub use fault::{JsonFault, Step, Wanted};
 pub use image::{image_from_value, image_value};
+pub use json_parts::{JsonFault, Step, Wanted};
 pub use laws::{batches_come_back, images_come_back, records_come_back, snapshots_come_back};
 pub use record_in::record_from_value;
 pub use record_out::record_value;

@@ -3,17 +3,17 @@ ghost use Rattle.std.specs.Prelude.{◌≡◌, ◌≤◌, codes, length, IfOk};
 ghost use Rattle.spec_base.specs.Bytes.{max_count};
 ghost use Rattle.spec_base.specs.Reading.{Gives};
 ghost use Rattle.serde_json.specs.View.{view};
-ghost use Rattle.bank_json.specs.Faults.{is_json_memory};
-ghost use Rattle.bank_json.specs.Parts.{or_refused, member_in};
-ghost use Rattle.bank_json.specs.declared.fault.Wanted.TheVariants.{Ending};
-ghost use Rattle.bank_json.specs.TransactionJson.{transaction_in};
+ghost use Rattle.json_parts.specs.Faults.{is_json_memory};
+ghost use Rattle.json_parts.specs.Parts.{or_refused, member_in};
+ghost use Rattle.json_parts.specs.declared.fault.Wanted.TheVariants.{Ending};
+ghost use Rattle.json_parts.specs.TransactionJson.{transaction_in};
 ghost use Rattle.bank_json.specs.RecordJson.{failure_in, failed_in, dropped_in, ending_in, ending_named, status_in, heading_in, closing_in, record_in, record_of_data};
 
-use crate::fault::{JsonFault, Wanted, in_member, refused};
-use crate::list::{Part, list_member};
-use crate::parts::{Names, byte_member, digits_member, found, known, number_member};
-use crate::transaction_in::transaction;
-use block_record::{Entry, RecordFault, read_record};
+use block_record::{RecordFault, read_record};
+use json_parts::{
+    JsonFault, Names, Part, Wanted, byte_member, digits_member, found, in_member, known,
+    list_member, number_member, refused, transaction,
+};
 use serde_json::Value;
 use sol_base::Blob;
 use std::alloc::Global;
@@ -63,7 +63,7 @@ impl Names for DroppedNames {
     }
 }
 
-/// The members of an entry.
+/// The members of an entry, and the one that is passed over.
 struct EntryNames;
 
 impl Names for EntryNames {
@@ -74,6 +74,7 @@ impl Names for EntryNames {
     fn has(name: &str) -> bool {
         "fee" == name
             || "lines" == name
+            || "shown" == name
             || "status" == name
             || "transaction" == name
             || "units" == name
@@ -100,10 +101,10 @@ impl Names for RecordNames {
     }
 }
 
-/// A line behind its length.
-struct Line;
+/// Lines, each behind its length.
+struct Lines;
 
-impl Part for Line {
+impl Part for Lines {
     ghost use Rattle.bank_json.specs.RecordJson.{line_in};
 
     ghost part_in = { line_in };
@@ -135,7 +136,7 @@ fn failure(alloc: Global, value: &Value) -> Result<Blob, JsonFault>
     Ok(out)
 }
 
-#[tactic(auto, unfolding(crate::specs::RecordJson::failed_in, crate::specs::Parts::member_in))]
+#[tactic(auto, unfolding(crate::specs::RecordJson::failed_in, json_parts::specs::Parts::member_in))]
 fn failed(alloc: Global, value: &Value) -> Result<Blob, JsonFault>
     ensures { Gives is_json_memory (λ bytes. bytes) result (failed_in (view value.now)) }
 {
@@ -187,7 +188,7 @@ fn status(alloc: Global, value: &Value) -> Result<Blob, JsonFault>
     }
 }
 
-#[tactic(auto, unfolding(crate::specs::Parts::member_in))]
+#[tactic(auto, unfolding(json_parts::specs::Parts::member_in))]
 fn status_member(alloc: Global, value: &Value) -> Result<Blob, JsonFault>
     ensures { Gives is_json_memory (λ bytes. bytes) result
         (member_in (codes "status") status_in (view value.now)) }
@@ -196,7 +197,7 @@ fn status_member(alloc: Global, value: &Value) -> Result<Blob, JsonFault>
     in_member(alloc, "status", status(alloc, found))
 }
 
-#[tactic(auto, unfolding(crate::specs::Parts::member_in))]
+#[tactic(auto, unfolding(json_parts::specs::Parts::member_in))]
 fn transaction_member(alloc: Global, value: &Value) -> Result<Blob, JsonFault>
     ensures gives { Gives is_json_memory (λ bytes. bytes) result
         (member_in (codes "transaction") transaction_in (view value.now)) }
@@ -206,7 +207,10 @@ fn transaction_member(alloc: Global, value: &Value) -> Result<Blob, JsonFault>
     in_member(alloc, "transaction", transaction(alloc, found))
 }
 
-impl Part for Entry {
+/// Entries.
+pub(crate) struct Entries;
+
+impl Part for Entries {
     ghost use Rattle.bank_json.specs.RecordJson.{entry_in};
 
     ghost part_in = { entry_in };
@@ -218,7 +222,7 @@ impl Part for Entry {
         let status = status_member(alloc, value)?;
         let units = number_member(alloc, value, "units", 0, u64::MAX)?;
         let fee = number_member(alloc, value, "fee", 0, u64::MAX)?;
-        let (count, lines) = list_member::<Line>(alloc, value, "lines", MOST)?;
+        let (count, lines) = list_member::<Lines>(alloc, value, "lines", MOST)?;
         let mut out = Blob::from_slice(alloc, &(transaction.len() as u16).to_le_bytes())?;
         out.append(transaction.as_slice())?;
         out.append(status.as_slice())?;
@@ -267,7 +271,7 @@ fn spelled(alloc: Global, value: &Value) -> Result<Blob, JsonFault>
     ensures { Gives is_json_memory (λ bytes. bytes) result (record_in (view value.now)) }
 {
     let heading = heading(alloc, value)?;
-    let (count, entries) = list_member::<Entry>(alloc, value, "entries", MOST_ENTRIES)?;
+    let (count, entries) = list_member::<Entries>(alloc, value, "entries", MOST_ENTRIES)?;
     let closing = closing(alloc, value)?;
     let mut out = heading;
     out.append(&(count as u32).to_le_bytes())?;
@@ -280,8 +284,8 @@ fn spelled(alloc: Global, value: &Value) -> Result<Blob, JsonFault>
 ///
 /// Its members are `slot`, `collector`, `previous`, `entries`, `burned`, `collected`, `state` and
 /// `hash`, and no others. An entry has the members `transaction` (as in a batch), `status` (the
-/// text `ok`, or an object with `failed` or `dropped`), `units`, `fee` and `lines`. The hashes are
-/// not tested.
+/// text `ok`, or an object with `failed` or `dropped`), `units`, `fee` and `lines`; a member `shown`
+/// beside them is passed over. The hashes are not tested.
 #[tactic(auto, unfolding(crate::specs::RecordJson::record_of_data))]
 pub fn record_from_value(alloc: Global, value: &Value) -> Result<Blob, JsonFault>
     ensures { Gives is_json_memory (λ bytes. bytes) result (record_of_data (view value.now)) }

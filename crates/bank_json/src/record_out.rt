@@ -4,14 +4,13 @@ ghost use Rattle.spec_base.specs.Reading.{Gives};
 ghost use Rattle.serde_json.specs.Data.{string};
 ghost use Rattle.serde_json.specs.View.{view};
 ghost use Rattle.tx_report.specs.declared.status.Status.TheVariants.{Failed};
-ghost use Rattle.bank_json.specs.Faults.{is_json_memory};
-ghost use Rattle.bank_json.specs.Written.{list_json};
+ghost use Rattle.json_parts.specs.Faults.{is_json_memory};
+ghost use Rattle.json_parts.specs.Written.{list_json};
 ghost use Rattle.bank_json.specs.RecordJson.{line_json, status_json, record_json, data_of_record};
 
-use crate::fault::JsonFault;
-use crate::list::{Shown, list_value};
-use crate::snapshot_out::hex_value;
+use crate::record_in::Entries;
 use block_record::{Block, Entry, RecordFault, read_record};
+use json_parts::{InJson, JsonFault, hex_value, list_value, transaction_value};
 use serde_json::{Value, json};
 use sol_base::{Blob, is_text};
 use std::alloc::{AllocError, Global};
@@ -74,21 +73,23 @@ fn status_value(alloc: Global, status: Status) -> Result<Value, AllocError>
     }
 }
 
-impl Shown for Entry {
+impl InJson for Entries {
+    type Item = Entry;
+
     ghost use Rattle.bank_json.specs.RecordJson.{entry_json};
 
     ghost json_of = { entry_json };
 
-    fn value(&self, alloc: Global) -> Result<Value, AllocError> {
-        let lines = lines_value(alloc, self.lines.as_slice())?;
-        let status = status_value(alloc, self.status)?;
-        let transaction = self.wire.value(alloc)?;
+    fn value(alloc: Global, item: &Entry) -> Result<Value, AllocError> {
+        let lines = lines_value(alloc, item.lines.as_slice())?;
+        let status = status_value(alloc, item.status)?;
+        let transaction = transaction_value(alloc, item.wire.as_slice())?;
         json!(in alloc; {
-            "fee": self.fee,
+            "fee": item.fee,
             "lines": lines,
             "status": status,
             "transaction": transaction,
-            "units": self.units,
+            "units": item.units,
         })
     }
 }
@@ -97,7 +98,7 @@ fn block_value(alloc: Global, block: &Block) -> Result<Value, AllocError>
     ensures { IfOk result (λ v. view v ≡ record_json block.now) }
 {
     let collector = hex_value(alloc, &block.collector.0)?;
-    let entries = list_value(alloc, block.entries.as_slice())?;
+    let entries = list_value::<Entries>(alloc, block.entries.as_slice())?;
     let hash = hex_value(alloc, &block.hash.0)?;
     let previous = hex_value(alloc, &block.previous.0)?;
     let state = hex_value(alloc, &block.state.0)?;

@@ -3,22 +3,17 @@ ghost use Rattle.std.specs.Prelude.{◌≡◌, codes, IfOk};
 ghost use Rattle.spec_base.specs.Reading.{Gives};
 ghost use Rattle.serde_json.specs.View.{view};
 ghost use Rattle.snapshot_codec.specs.Snapshot.{limits_bytes};
-ghost use Rattle.bank_json.specs.Faults.{is_json_memory};
-ghost use Rattle.bank_json.specs.Parts.{member_in};
+ghost use Rattle.json_parts.specs.Faults.{is_json_memory};
+ghost use Rattle.json_parts.specs.Parts.{member_in};
 ghost use Rattle.bank_json.specs.SnapshotJson.{limits_in, sections_in, first_in, second_in, snapshot_in, snapshot_of_data};
 
-use crate::data::data_member;
-use crate::fault::{JsonFault, in_member};
-use crate::list::{Part, list_member};
-use crate::parts::{
-    Names, byte_member, digits, digits_member, flag_member, found, known, number_member,
-    short_member,
+use json_parts::{
+    JsonFault, Names, Part, byte_member, data_member, digits, digits_member, flag_member, found,
+    in_member, known, list_member, number_member, short_member,
 };
-use account_store::KeyedAccount;
 use serde_json::Value;
 use snapshot_codec::{SnapshotFault, read_snapshot};
-use sol_base::{Blob, Hash32, Limits, MAX_DATA_LEN, OutOfMemory};
-use status_cache::Mark;
+use sol_base::{Blob, Limits, MAX_DATA_LEN, OutOfMemory};
 use std::alloc::Global;
 
 /// The most blocks of a snapshot.
@@ -76,7 +71,7 @@ impl Names for LimitsNames {
     }
 }
 
-/// The members of a snapshot of format 1.
+/// The members of a snapshot of format 1, and the one that is passed over.
 struct FirstNames;
 
 impl Names for FirstNames {
@@ -85,11 +80,15 @@ impl Names for FirstNames {
     ghost names = { first_names };
 
     fn has(name: &str) -> bool {
-        "accounts" == name || "format" == name || "recent" == name || "slot" == name
+        "accounts" == name
+            || "format" == name
+            || "recent" == name
+            || "shown" == name
+            || "slot" == name
     }
 }
 
-/// The members of a snapshot of format 2.
+/// The members of a snapshot of format 2, and the one that is passed over.
 struct SecondNames;
 
 impl Names for SecondNames {
@@ -102,11 +101,15 @@ impl Names for SecondNames {
             || "format" == name
             || "limits" == name
             || "recent" == name
+            || "shown" == name
             || "slot" == name
     }
 }
 
-impl Part for Hash32 {
+/// Hashes.
+pub(crate) struct Hashes;
+
+impl Part for Hashes {
     ghost use Rattle.bank_json.specs.SnapshotJson.{hash_in};
 
     ghost part_in = { hash_in };
@@ -117,7 +120,10 @@ impl Part for Hash32 {
     }
 }
 
-impl Part for Mark {
+/// Blocks.
+pub(crate) struct Marks;
+
+impl Part for Marks {
     ghost use Rattle.bank_json.specs.SnapshotJson.{mark_in};
 
     ghost part_in = { mark_in };
@@ -126,7 +132,7 @@ impl Part for Mark {
     fn read(alloc: Global, value: &Value) -> Result<Blob, JsonFault> {
         known::<MarkNames>(alloc, value)?;
         let hash = digits_member::<32>(alloc, value, "hash")?;
-        let (count, names) = list_member::<Hash32>(alloc, value, "messages", MOST_MESSAGES)?;
+        let (count, names) = list_member::<Hashes>(alloc, value, "messages", MOST_MESSAGES)?;
         let mut out = Blob::from_slice(alloc, &hash)?;
         out.append(&(count as u32).to_le_bytes())?;
         out.append(names.as_slice())?;
@@ -134,7 +140,10 @@ impl Part for Mark {
     }
 }
 
-impl Part for KeyedAccount {
+/// Accounts under their keys.
+struct KeyedAccounts;
+
+impl Part for KeyedAccounts {
     ghost use Rattle.bank_json.specs.SnapshotJson.{account_in};
 
     ghost part_in = { account_in };
@@ -185,7 +194,7 @@ fn limits(alloc: Global, value: &Value) -> Result<Blob, JsonFault>
     Ok(spelled_limits(alloc, &limits)?)
 }
 
-#[tactic(auto, unfolding(crate::specs::Parts::member_in))]
+#[tactic(auto, unfolding(json_parts::specs::Parts::member_in))]
 fn limits_member(alloc: Global, value: &Value) -> Result<Blob, JsonFault>
     ensures { Gives is_json_memory (λ bytes. bytes) result
         (member_in (codes "limits") limits_in (view value.now)) }
@@ -199,8 +208,8 @@ fn limits_member(alloc: Global, value: &Value) -> Result<Blob, JsonFault>
 fn sections(alloc: Global, value: &Value) -> Result<Blob, JsonFault>
     ensures { Gives is_json_memory (λ bytes. bytes) result (sections_in (view value.now)) }
 {
-    let (mark_count, marks) = list_member::<Mark>(alloc, value, "recent", MOST_MARKS)?;
-    let (count, accounts) = list_member::<KeyedAccount>(alloc, value, "accounts", MOST_ACCOUNTS)?;
+    let (mark_count, marks) = list_member::<Marks>(alloc, value, "recent", MOST_MARKS)?;
+    let (count, accounts) = list_member::<KeyedAccounts>(alloc, value, "accounts", MOST_ACCOUNTS)?;
     let mut out = Blob::from_slice(alloc, &(mark_count as u32).to_le_bytes())?;
     out.append(marks.as_slice())?;
     out.append(&(count as u32).to_le_bytes())?;
@@ -251,7 +260,7 @@ fn spelled(alloc: Global, value: &Value) -> Result<Blob, JsonFault>
 /// The bytes of the snapshot that the JSON value is (the project's own form).
 ///
 /// Its members are `format` (1 or 2), `slot`, `limits` (in format 2 alone), `recent` and
-/// `accounts`, and no others. Keys, hashes and data are hexadecimal digits in either case. The
+/// `accounts`, and no others but `shown`, which is passed over. Keys, hashes and data are hexadecimal digits in either case. The
 /// refusals come in the order of the reading; last, the bytes have to be a snapshot.
 #[tactic(auto, unfolding(crate::specs::SnapshotJson::snapshot_of_data))]
 pub fn snapshot_from_value(alloc: Global, value: &Value) -> Result<Blob, JsonFault>

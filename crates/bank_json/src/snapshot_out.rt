@@ -3,43 +3,41 @@ ghost use Rattle.std.specs.Prelude.{◌≡◌, IfOk};
 ghost use Rattle.spec_base.specs.Reading.{Gives};
 ghost use Rattle.serde_json.specs.View.{view};
 ghost use Rattle.account_store.specs.State.{entries};
-ghost use Rattle.bank_json.specs.Faults.{is_json_memory};
-ghost use Rattle.bank_json.specs.Written.{hex_json, list_json};
+ghost use Rattle.json_parts.specs.Faults.{is_json_memory};
+ghost use Rattle.json_parts.specs.Written.{list_json};
 ghost use Rattle.bank_json.specs.SnapshotJson.{account_json, limits_json, snapshot_json_one, snapshot_json_two, snapshot_json, data_of_snapshot};
 
-use crate::fault::JsonFault;
-use crate::list::{Shown, list_value};
+use crate::snapshot_in::{Hashes, Marks};
 use account_store::Accounts;
+use json_parts::{InJson, JsonFault, hex_value, list_value};
 use serde_json::{Value, json};
 use snapshot_codec::{Snapshot, SnapshotFault, read_snapshot};
 use sol_base::{Account, Hash32, Key, Limits};
 use status_cache::Mark;
 use std::alloc::{AllocError, Global};
 
-pub(crate) fn hex_value(alloc: Global, bytes: &[u8]) -> Result<Value, AllocError>
-    ensures { IfOk result (λ v. view v ≡ hex_json bytes.now) }
-{
-    Ok(Value::String(hex::encode(alloc, bytes)?))
-}
+impl InJson for Hashes {
+    type Item = Hash32;
 
-impl Shown for Hash32 {
     ghost use Rattle.bank_json.specs.SnapshotJson.{name_json};
 
     ghost json_of = { name_json };
 
-    fn value(&self, alloc: Global) -> Result<Value, AllocError> {
-        hex_value(alloc, &self.0)
+    fn value(alloc: Global, item: &Hash32) -> Result<Value, AllocError> {
+        hex_value(alloc, &item.0)
     }
 }
 
-impl Shown for Mark {
+impl InJson for Marks {
+    type Item = Mark;
+
     ghost use Rattle.bank_json.specs.SnapshotJson.{mark_json};
 
     ghost json_of = { mark_json };
 
-    fn value(&self, alloc: Global) -> Result<Value, AllocError> {
-        let hash = hex_value(alloc, &self.hash.0)?;
-        let messages = list_value(alloc, self.messages.as_slice())?;
+    fn value(alloc: Global, item: &Mark) -> Result<Value, AllocError> {
+        let hash = hex_value(alloc, &item.hash.0)?;
+        let messages = list_value::<Hashes>(alloc, item.messages.as_slice())?;
         json!(in alloc; {"hash": hash, "messages": messages})
     }
 }
@@ -85,7 +83,7 @@ fn first_value(alloc: Global, snapshot: &Snapshot) -> Result<Value, AllocError>
     ensures { IfOk result (λ v. view v ≡ snapshot_json_one snapshot.now) }
 {
     let accounts = accounts_value(alloc, &snapshot.accounts)?;
-    let recent = list_value(alloc, snapshot.recent.marks())?;
+    let recent = list_value::<Marks>(alloc, snapshot.recent.marks())?;
     json!(in alloc; {
         "accounts": accounts,
         "format": 1u64,
@@ -99,7 +97,7 @@ fn second_value(alloc: Global, snapshot: &Snapshot) -> Result<Value, AllocError>
 {
     let accounts = accounts_value(alloc, &snapshot.accounts)?;
     let limits = limits_value(alloc, &snapshot.limits)?;
-    let recent = list_value(alloc, snapshot.recent.marks())?;
+    let recent = list_value::<Marks>(alloc, snapshot.recent.marks())?;
     json!(in alloc; {
         "accounts": accounts,
         "format": 2u64,

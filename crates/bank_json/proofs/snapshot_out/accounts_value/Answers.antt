@@ -7,7 +7,7 @@ use Rattle.sol_base.specs.declared.account.Account.{Account}
 use Rattle.account_store.specs.State.{entries}
 use Rattle.account_store.specs.Shared.{seen}
 use Rattle.bank_json.specs.SnapshotJson.{account_json}
-use Rattle.bank_json.proofs.Lists.{shows_on}
+use Rattle.json_parts.proofs.Lists.{shows_on}
 use Rattle.bank_json.proofs.snapshot_out.accounts_value.Goals as goal
 
 pub loop-key-preserved : goal.loop-key-preserved

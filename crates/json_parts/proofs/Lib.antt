@@ -1,0 +1,8 @@
+mod Within
+mod Items
+pub mod Lists
+mod Members
+pub mod Again
+pub mod TransactionLaws
+pub mod ShownLaws
+pub mod Depths

@@ -1,0 +1,146 @@
+//! Why a JSON text stands for no bytes of a format.
+ghost use Rattle.std.specs.Prelude.{◌≡◌, [], ◌∷◌, MatchBool};
+ghost use Rattle.spec_base.specs.Reading.{Gives};
+ghost use Rattle.json_parts.specs.declared.fault.JsonFault.TheVariants.{Refused, OutOfMemory as no_memory};
+ghost use Rattle.json_parts.specs.declared.fault.Step.TheVariants.{Member, Item};
+ghost use Rattle.json_parts.specs.Faults.{is_json_memory, deeper, within as within_step};
+
+use block_record::RecordFault;
+use snapshot_codec::{BatchFault, SnapshotFault};
+use sol_base::{Blob, Items, OutOfMemory};
+use std::alloc::{AllocError, Global};
+
+/// A step of the way to a value in a JSON text.
+#[derive(Drop)]
+pub enum Step {
+    /// To the member of an object that has this name.
+    Member { name: Blob },
+    /// To the item of an array that stands after so many others.
+    Item { at: usize },
+}
+
+/// What is wanted at a place of a JSON text.
+#[derive(Clone, Copy)]
+pub enum Wanted {
+    Object,
+    /// An array of no more items than these.
+    Array { most: usize },
+    /// A number from the least to the greatest.
+    Number { least: u64, most: u64 },
+    /// Two hexadecimal digits for each of so many bytes.
+    Digits { bytes: usize },
+    /// No more bytes than these, in one of their spellings.
+    Bytes { most: usize },
+    /// True or false.
+    Flag,
+    /// A text.
+    Text,
+    /// The version of a message: the text `legacy` or the number 0.
+    Version,
+    /// The members of a transaction of no more than 1,232 bytes (Solana).
+    Transaction,
+    /// How a transaction ended: the text `ok`, or an object with `failed` or `dropped`.
+    Ending,
+    /// The member itself.
+    Presence,
+    /// No member of this name.
+    Absence,
+}
+
+/// Why a JSON text stands for no bytes of a format.
+#[derive(Drop)]
+pub enum JsonFault {
+    /// The text is no JSON from this place on.
+    NoJson { line: usize, column: usize },
+    /// Something else is wanted at the end of this path, whose last step stands first.
+    Refused { path: Items<Step>, wanted: Wanted },
+    /// The members are those of a snapshot that its format refuses.
+    BadSnapshot { fault: SnapshotFault },
+    /// The members are those of a batch that its format refuses.
+    BadBatch { fault: BatchFault },
+    /// The members are those of a record that its format refuses.
+    BadRecord { fault: RecordFault },
+    /// The members are those of no program image.
+    BadImage,
+    /// Other bytes follow from this place on.
+    Trailing { at: usize },
+    OutOfMemory,
+}
+
+impl From<OutOfMemory> for JsonFault {
+    ghost from_gives = { λ _ e. e ≡ no_memory };
+
+    fn from(_e: OutOfMemory) -> JsonFault {
+        JsonFault::OutOfMemory
+    }
+}
+
+impl From<AllocError> for JsonFault {
+    ghost from_gives = { λ _ e. e ≡ no_memory };
+
+    fn from(_e: AllocError) -> JsonFault {
+        JsonFault::OutOfMemory
+    }
+}
+
+/// Something else is wanted at this value.
+pub fn refused(alloc: Global, wanted: Wanted) -> JsonFault
+    ensures { result ≡ Refused [] wanted }
+{
+    JsonFault::Refused {
+        path: Items::new(alloc),
+        wanted,
+    }
+}
+
+/// The fault as it is one step further out.
+fn from_further_out(fault: JsonFault, step: Step) -> JsonFault
+    ensures { MatchBool (is_json_memory result) (Unit {0}) (result ≡ deeper step fault) }
+{
+    match fault {
+        JsonFault::Refused { mut path, wanted } => match path.push(step) {
+            Ok(()) => JsonFault::Refused { path, wanted },
+            Err(OutOfMemory) => JsonFault::OutOfMemory,
+        },
+        other => other,
+    }
+}
+
+/// What was read of a member, or its fault as it is in the object.
+pub fn in_member<T: Drop>(
+    alloc: Global,
+    name: &str,
+    read: Result<T, JsonFault>,
+) -> Result<T, JsonFault>
+    ensures { Gives is_json_memory (λ x. x) result
+        (within_step (Member name.now) read) }
+{
+    match read {
+        Ok(value) => Ok(value),
+        Err(fault) => {
+            let name = Blob::from_slice(alloc, name.as_bytes())?;
+            Err(from_further_out(fault, Step::Member { name }))
+        }
+    }
+}
+
+/// What was read of the item after so many others, or its fault as it is in the array.
+pub(crate) fn in_item<T: Drop>(at: usize, read: Result<T, JsonFault>) -> Result<T, JsonFault>
+    ensures { Gives is_json_memory (λ x. x) result (within_step (Item at) read) }
+{
+    match read {
+        Ok(value) => Ok(value),
+        Err(fault) => Err(from_further_out(fault, Step::Item { at })),
+    }
+}
+
+/// The member of that name is missing, or it is one too many.
+pub(crate) fn no_such_member(alloc: Global, name: &str, wanted: Wanted) -> JsonFault
+    ensures { MatchBool (is_json_memory result) (Unit {0})
+        (result ≡ Refused (Member name.now ∷ []) wanted) }
+{
+    match Blob::from_slice(alloc, name.as_bytes()) {
+        Ok(name) => from_further_out(refused(alloc, wanted), Step::Member { name }),
+        Err(OutOfMemory) => JsonFault::OutOfMemory,
+    }
+}

@@ -1,0 +1,75 @@
+//! Refusals of JSON texts as sentences.
+use crate::fault::{JsonFault, Step, Wanted};
+use std::{fmt, str};
+
+impl fmt::Display for Wanted {
+    fn fmt<W: fmt::Write>(&self, f: &mut fmt::Formatter<W>) -> fmt::Result {
+        match *self {
+            Wanted::Object => write!(f, "an object is wanted"),
+            Wanted::Array { most } => write!(f, "an array of at most {most} items is wanted"),
+            Wanted::Number { least, most } => {
+                write!(f, "a number of {least} to {most} is wanted")
+            }
+            Wanted::Digits { bytes } => {
+                write!(
+                    f,
+                    "two hexadecimal digits for each of {bytes} bytes are wanted"
+                )
+            }
+            Wanted::Bytes { most } => write!(f, "at most {most} bytes are wanted"),
+            Wanted::Flag => write!(f, "true or false is wanted"),
+            Wanted::Text => write!(f, "a text is wanted"),
+            Wanted::Version => write!(f, "the text legacy or the number 0 is wanted"),
+            Wanted::Transaction => { write!(f, "a transaction of at most 1232 bytes is wanted") }
+            Wanted::Ending => { write!(f, "ok, or an object with failed or dropped, is wanted") }
+            Wanted::Presence => write!(f, "this member is wanted"),
+            Wanted::Absence => write!(f, "there is no such member"),
+        }
+    }
+}
+
+/// The way from the whole to a value. It begins with a full stop or a bracket, so that the name of the
+/// whole can stand before it.
+#[derive(Drop)]
+pub struct Way<'a> {
+    /// The last step stands first.
+    pub steps: &'a [Step],
+}
+
+impl fmt::Display for Way<'_> {
+    fn fmt<W: fmt::Write>(&self, f: &mut fmt::Formatter<W>) -> fmt::Result {
+        for step in self.steps.iter().rev() {
+            match step {
+                Step::Member { name } => match str::from_utf8(name.as_slice()) {
+                    Ok(text) => write!(f, ".{text}")?,
+                    Err(_) => write!(f, ".?")?,
+                },
+                Step::Item { at } => write!(f, "[{at}]")?,
+            }
+        }
+        Ok(())
+    }
+}
+
+/// A sentence. Before that of a value that is refused stands the way to it.
+impl fmt::Display for JsonFault {
+    fn fmt<W: fmt::Write>(&self, f: &mut fmt::Formatter<W>) -> fmt::Result {
+        match self {
+            JsonFault::NoJson { line, column } => {
+                write!(f, "no JSON at line {line}, column {column}")
+            }
+            JsonFault::Refused { path, wanted } => {
+                let way = Way {
+                    steps: path.as_slice(),
+                };
+                write!(f, "{way}: {wanted}")
+            }
+            JsonFault::BadSnapshot { fault } => write!(f, "{fault}"),
+            JsonFault::BadBatch { fault } => write!(f, "{fault}"),
+            JsonFault::BadRecord { fault } => write!(f, "{fault}"),
+            JsonFault::BadImage => write!(f, "it is no program image"),
+            JsonFault::Trailing { at } => write!(f, "bytes follow from byte {at} on"),
+            JsonFault::OutOfMemory => write!(f, "out of memory"),
+        }
+    }
+}
