@@ -2,7 +2,7 @@
 use crate::answer::{Answer, DIFFERS, INPUT_REFUSED, WRITE_FAILED, noted, written};
 use crate::compared::compared;
 use crate::files::{Given, standard_input, write_files};
-use crate::json::{shown, told_bytes};
+use crate::json::{told_bytes, told_json};
 use crate::shape::shaped;
 use crate::why::explained;
 use block_record::{RecordFault, read_front};
@@ -48,10 +48,8 @@ pub(crate) fn answer_command<R: Files + Input + AllocGlobal>(
         }
         TextCommand::View { sought } => viewed(rt.alloc(), input.as_slice(), sought),
         TextCommand::Why => explained(rt.alloc(), input.as_slice()),
-        TextCommand::Json { form, pretty } => {
-            shown(rt.alloc(), *form, *pretty, input.as_slice())
-        }
-        TextCommand::Bytes { form } => told_bytes(rt.alloc(), *form, input.as_slice()),
+        TextCommand::Json { form, look } => told_json(rt.alloc(), *form, *look, input.as_slice()),
+        TextCommand::Bytes { form } => told_bytes(rt, *form, input.as_slice()),
         _ => written(rt.alloc(), USAGE.as_bytes()),
     }
 }

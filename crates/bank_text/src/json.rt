@@ -1,14 +1,17 @@
 //! The commands `json` and `bytes`: bytes as JSON, and back.
-use crate::answer::{Answer, INPUT_REFUSED, noted, written};
+use crate::answer::{Answer, INPUT_REFUSED, READ_FAILED, noted, written};
+use crate::forms::{FormFault, Missing, bytes_of, missing_text};
 use crate::lines::line_of;
-use bank_json::{
-    JsonFault, Layout, Step, Wanted, batch_of_json, image_of_json, json_of_batch, json_of_image,
-    json_of_record, json_of_snapshot, record_of_json, snapshot_of_json,
+use bank_json::{Layout, json_of_batch, json_of_image, json_of_record, json_of_snapshot};
+use json_parts::{JsonFault, Step, Wanted};
+use json_shown::{
+    json_of_batch_with_shown, json_of_record_with_shown, json_of_snapshot_with_shown,
 };
 use sol_base::{Blob, OutOfMemory};
 use std::alloc::Global;
+use std::rt::Files;
 use std::str;
-use text_words::Form;
+use text_words::{Form, Look};
 
 fn name_of(form: Form) -> &'static str {
     match form {
@@ -19,126 +22,96 @@ fn name_of(form: Form) -> &'static str {
     }
 }
 
-fn text_of(alloc: Global, form: Form, bytes: &[u8], layout: Layout) -> Result<String, JsonFault> {
-    match form {
-        Form::Snapshot => json_of_snapshot(alloc, bytes, layout),
-        Form::Batch => json_of_batch(alloc, bytes, layout),
-        Form::Record => json_of_record(alloc, bytes, layout),
-        Form::Image => json_of_image(alloc, bytes, layout),
+/// The layout, where no members `shown` are asked for.
+fn layout_of(look: Look) -> Layout {
+    match look {
+        Look::Compact => Layout::Compact,
+        Look::Pretty | Look::Shown => Layout::Pretty,
     }
 }
 
-fn bytes_of(alloc: Global, form: Form, text: &str) -> Result<Blob, JsonFault> {
-    match form {
-        Form::Snapshot => snapshot_of_json(alloc, text),
-        Form::Batch => batch_of_json(alloc, text),
-        Form::Record => record_of_json(alloc, text),
-        Form::Image => image_of_json(alloc, text),
+fn text_of(alloc: Global, form: Form, look: Look, bytes: &[u8]) -> Result<String, JsonFault> {
+    let layout = layout_of(look);
+    match (form, look) {
+        (Form::Snapshot, Look::Shown) => json_of_snapshot_with_shown(alloc, bytes),
+        (Form::Batch, Look::Shown) => json_of_batch_with_shown(alloc, bytes),
+        (Form::Record, Look::Shown) => json_of_record_with_shown(alloc, bytes),
+        (Form::Snapshot, _) => json_of_snapshot(alloc, bytes, layout),
+        (Form::Batch, _) => json_of_batch(alloc, bytes, layout),
+        (Form::Record, _) => json_of_record(alloc, bytes, layout),
+        (Form::Image, _) => json_of_image(alloc, bytes, layout),
     }
 }
 
-/// Adds a step of a path.
-fn add_step(alloc: Global, text: &mut Blob, step: &Step) -> Result<(), OutOfMemory> {
-    match step {
-        Step::Member { name } => {
-            text.append(b".")?;
-            text.append(name.as_slice())
-        }
-        Step::Item { at } => text.append(format!(in alloc; "[{at}]")?.as_bytes()),
+/// The answer where a text or bytes are refused as a whole. Want of memory is no refusal.
+fn refused(alloc: Global, form: Form, fault: &JsonFault) -> Result<Answer, OutOfMemory> {
+    if let JsonFault::OutOfMemory = fault {
+        return Err(OutOfMemory);
     }
+    noted(
+        alloc,
+        INPUT_REFUSED,
+        name_of(form),
+        fault.to_string(alloc)?.as_str(),
+    )
 }
 
-/// The path from the whole to a value. Its last step stands first.
-fn path_text(alloc: Global, form: Form, path: &[Step]) -> Result<Blob, OutOfMemory> {
-    let mut text = Blob::from_slice(alloc, name_of(form).as_bytes())?;
-    for after in 0..path.len() {
-        let at = path.len().saturating_sub(after).saturating_sub(1);
-        if let Some(step) = path.get(at) {
-            add_step(alloc, &mut text, step)?;
-        }
-    }
-    Ok(text)
+/// A note that the way to a value begins, with the name of the whole before it.
+fn told_at(alloc: Global, status: u8, form: Form, note: &str) -> Result<Answer, OutOfMemory> {
+    let name = name_of(form);
+    let note = format!(in alloc; "{name}{note}\n")?;
+    Ok(Answer {
+        status,
+        output: Blob::new(alloc),
+        notes: Blob::from_slice(alloc, note.as_bytes())?,
+    })
 }
 
-/// What is wanted, as a sentence.
-fn wanted_text(alloc: Global, wanted: Wanted) -> Result<String, OutOfMemory> {
-    let text = match wanted {
-        Wanted::Object => String::from_str(alloc, "an object is wanted")?,
-        Wanted::Array { most } => format!(in alloc; "an array of at most {most} items is wanted")?,
-        Wanted::Number { least, most } => {
-            format!(in alloc; "a number of {least} to {most} is wanted")?
-        }
-        Wanted::Digits { bytes } => {
-            format!(in alloc; "two hexadecimal digits for each of {bytes} bytes are wanted")?
-        }
-        Wanted::Bytes { most } => format!(in alloc; "at most {most} bytes are wanted")?,
-        Wanted::Flag => String::from_str(alloc, "true or false is wanted")?,
-        Wanted::Text => String::from_str(alloc, "a text is wanted")?,
-        Wanted::Version => String::from_str(alloc, "the text legacy or the number 0 is wanted")?,
-        Wanted::Transaction => {
-            String::from_str(alloc, "a transaction of at most 1232 bytes is wanted")?
-        }
-        Wanted::Ending => {
-            String::from_str(alloc, "ok, or an object with failed or dropped, is wanted")?
-        }
-        Wanted::Presence => String::from_str(alloc, "this member is wanted")?,
-        Wanted::Absence => String::from_str(alloc, "there is no such member")?,
-    };
-    Ok(text)
-}
-
-/// The answer where something else is wanted at a place of a text.
-fn refused_at(
+/// The answer where a text is refused. Where something else is wanted at a place of it, the way to it
+/// stands first, and its line last.
+fn refused_text(
     alloc: Global,
     form: Form,
     text: &[u8],
-    path: &[Step],
-    wanted: Wanted,
+    fault: &JsonFault,
 ) -> Result<Answer, OutOfMemory> {
-    let line = line_of(alloc, text, path)?;
-    let what = wanted_text(alloc, wanted)?;
+    let (path, wanted) = match fault {
+        JsonFault::Refused { path, wanted } => (path, wanted),
+        other => return refused(alloc, form, other),
+    };
+    let line = line_of(alloc, text, path.as_slice())?;
     let at = match wanted {
         Wanted::Absence => "; it stands at line",
         _ => " at line",
     };
-    let told = format!(in alloc; "{what}{at} {line}")?;
-    let path = path_text(alloc, form, path)?;
-    match str::from_utf8(path.as_slice()) {
-        Ok(path) => noted(alloc, INPUT_REFUSED, path, told.as_str()),
-        Err(_) => noted(alloc, INPUT_REFUSED, name_of(form), told.as_str()),
-    }
+    let note = format!(in alloc; "{fault}{at} {line}")?;
+    told_at(alloc, INPUT_REFUSED, form, note.as_str())
 }
 
-/// The answer where a text or bytes are refused as a whole.
-fn refused(alloc: Global, form: Form, fault: &JsonFault) -> Result<Answer, OutOfMemory> {
-    let text = match fault {
-        JsonFault::NoJson { line, column } => {
-            format!(in alloc; "no JSON at line {line}, column {column}")?
-        }
-        JsonFault::Refused { path: _, wanted } => wanted_text(alloc, *wanted)?,
-        JsonFault::BadSnapshot { fault } => fault.to_string(alloc)?,
-        JsonFault::BadBatch { fault } => fault.to_string(alloc)?,
-        JsonFault::BadRecord { fault } => fault.to_string(alloc)?,
-        JsonFault::BadImage => String::from_str(alloc, "it is no program image")?,
-        JsonFault::Trailing { at } => format!(in alloc; "bytes follow from byte {at} on")?,
-        JsonFault::OutOfMemory => return Err(OutOfMemory),
+/// The answer where data that stand elsewhere are not there.
+fn missing_data(
+    alloc: Global,
+    form: Form,
+    text: &[u8],
+    path: &[Step],
+    why: &Missing,
+) -> Result<Answer, OutOfMemory> {
+    let status = match why {
+        Missing::File(_) => READ_FAILED,
+        Missing::Assembly(_) => INPUT_REFUSED,
     };
-    noted(alloc, INPUT_REFUSED, name_of(form), text.as_str())
+    let note = missing_text(alloc, text, path, why)?;
+    told_at(alloc, status, form, note.as_str())
 }
 
 /// The answer to `json`.
-pub(crate) fn shown(
+pub(crate) fn told_json(
     alloc: Global,
     form: Form,
-    pretty: bool,
+    look: Look,
     bytes: &[u8],
 ) -> Result<Answer, OutOfMemory> {
-    let layout = if pretty {
-        Layout::Pretty
-    } else {
-        Layout::Compact
-    };
-    match text_of(alloc, form, bytes, layout) {
+    match text_of(alloc, form, look, bytes) {
         Ok(mut text) => {
             text.push('\n')?;
             written(alloc, text.as_bytes())
@@ -148,7 +121,12 @@ pub(crate) fn shown(
 }
 
 /// The answer to `bytes`.
-pub(crate) fn told_bytes(alloc: Global, form: Form, input: &[u8]) -> Result<Answer, OutOfMemory> {
+pub(crate) fn told_bytes<R: Files + AllocGlobal>(
+    rt: &R,
+    form: Form,
+    input: &[u8],
+) -> Result<Answer, OutOfMemory> {
+    let alloc = rt.alloc();
     let text = match str::from_utf8(input) {
         Ok(text) => text,
         Err(_) => return noted(
@@ -158,11 +136,10 @@ pub(crate) fn told_bytes(alloc: Global, form: Form, input: &[u8]) -> Result<Answ
             "the input is not UTF-8",
         ),
     };
-    match bytes_of(alloc, form, text) {
+    match bytes_of(rt, form, text) {
         Ok(bytes) => written(alloc, bytes.as_slice()),
-        Err(JsonFault::Refused { path, wanted }) => {
-            refused_at(alloc, form, input, path.as_slice(), wanted)
-        }
-        Err(fault) => refused(alloc, form, &fault),
+        Err(FormFault::Json(fault)) => refused_text(alloc, form, input, &fault),
+        Err(FormFault::At { path, why }) => missing_data(alloc, form, input, path.as_slice(), &why),
+        Err(FormFault::OutOfMemory) => Err(OutOfMemory),
     }
 }

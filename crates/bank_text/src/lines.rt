@@ -1,5 +1,5 @@
 //! On which line of a JSON text a value stands.
-use bank_json::Step;
+use json_parts::Step;
 use serde_json::Value;
 use sol_base::OutOfMemory;
 use std::alloc::Global;

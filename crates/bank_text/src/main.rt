@@ -6,10 +6,12 @@ mod answer;
 mod commands;
 mod compared;
 mod files;
+mod forms;
 mod json;
 mod lines;
 mod picture;
 mod places;
+mod rows;
 mod shape;
 mod why;
 

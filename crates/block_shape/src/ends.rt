@@ -14,7 +14,11 @@ fn end_of(ends: &BTreeMap<Key, u64>, key: &Key) -> u64
 }
 
 /// How long a lock is held up: a reader by the writers of its key, a writer by its readers too.
-fn held_until(written: &BTreeMap<Key, u64>, read: &BTreeMap<Key, u64>, lock: &Lock) -> u64
+pub(crate) fn held_until(
+    written: &BTreeMap<Key, u64>,
+    read: &BTreeMap<Key, u64>,
+    lock: &Lock,
+) -> u64
     ensures { result ≡ held_until written.now read.now lock.now }
 {
     let writers = end_of(written, &lock.key);

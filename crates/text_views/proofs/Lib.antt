@@ -1,4 +1,5 @@
 mod Walk
+mod MergeLaws
 mod PairLaws
 mod PartLaws
 mod EqualLaws

@@ -1,5 +1,5 @@
 -- The parts of an output are a record and a snapshot, and what is both has these parts.
-use Rattle.std.proofs.Common.{◌≡◌, ◌-◌, ◌≤◌, ℕ, nat_eq, Bool, true, false, List, [], ◌∷◌, ◌++◌, length, take, drop, Result, Ok, Err, refl, sym, ap, subst, ◌∙◌, arith, length-drop}
+use Rattle.std.proofs.Common.{◌≡◌, ◌-◌, ℕ, nat_eq, Bool, true, false, List, [], ◌∷◌, ◌++◌, length, take, drop, Result, Ok, Err, refl, sym, subst, arith}
 use Rattle.std.specs.Prelude.{if◌then◌else◌}
 use Rattle.std.proofs.lemmas.Bool.Decides.{nat_tests}
 use Rattle.std.proofs.Math.Seq.{take-append_seam}
@@ -8,17 +8,14 @@ use Rattle.spec_base.specs.Bytes.{IsBytes}
 use Rattle.spec_base.proofs.Binding.{after_bytes}
 use Rattle.snapshot_codec.specs.declared.snapshot.Prefix.{Prefix}
 use Rattle.snapshot_codec.specs.declared.fault.SnapshotFault.{SnapshotFault}
-use Rattle.snapshot_codec.specs.Snapshot.{BeginsWith}
 use Rattle.snapshot_codec.specs.SnapshotReading.{prefix_of}
 use Rattle.snapshot_codec.proofs.SnapshotLaws.{prefix_takes, prefix_again}
-use Rattle.block_record.specs.declared.block.Block.{Block}
 use Rattle.block_record.specs.declared.block.Front.{Front}
 use Rattle.block_record.specs.declared.fault.RecordFault.{RecordFault}
-use Rattle.block_record.specs.Record.{IsRecord, BeginsWithRecord}
+use Rattle.block_record.specs.Record.{IsRecord}
 use Rattle.block_record.specs.RecordReading.{front_of}
 use Rattle.block_record.proofs.RecordLaws.{front_takes, front_again}
-use Rattle.text_views.specs.declared.output.Split.{Split}
-use Rattle.text_views.specs.declared.output.Split.TheVariants.{Parts, NoRecord, NoSnapshot, Trailing}
+use Rattle.text_views.specs.declared.output.Split.TheVariants.{Parts, Trailing}
 use Rattle.text_views.specs.Parts.{parts_at, parts_behind, parts_by, parts_of, IsOfBlock, IsOfSnapshot, PartsAreRead, PartsAreFound}
 
 by_test : (at left n : ℕ) (b : Bool) → (b ≡ true → left ≡ 0) → (if b then Parts at else Trailing left) ≡ Parts n → (at ≡ n) × (left ≡ 0)

@@ -1,6 +1,6 @@
 -- The lines of the accounts of two snapshots that differ (the project's own): first those of the keys
 -- that the first has, then those that the second alone has, each in the order of the keys.
-use Rattle.std.specs.Prelude.{List, [], ◌++◌, codes, Option, Some, None}
+use Rattle.std.specs.Prelude.{[], ◌++◌, codes, Option, Some, None}
 use Rattle.std.specs.List.{flat_map}
 use Rattle.sol_base.specs.declared.key.Key.{Key}
 use Rattle.sol_base.specs.declared.account.Account.{Account}

@@ -1,5 +1,5 @@
 -- The lines of two records that differ (the project's own).
-use Rattle.std.specs.Prelude.{ℕ, List, [], ◌++◌, codes, Option, Some, None}
+use Rattle.std.specs.Prelude.{ℕ, [], ◌++◌, codes, Option, Some, None}
 use Rattle.block_record.specs.declared.block.Entry.{Entry}
 use Rattle.block_record.specs.declared.block.Block.{Block}
 use Rattle.text_views.specs.Fields.{Text, numbered, number_line, bytes_line, text_line, status_line, only_in_a, only_in_b}

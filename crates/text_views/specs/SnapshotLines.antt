@@ -1,5 +1,5 @@
 -- The lines of two snapshots that differ (the project's own).
-use Rattle.std.specs.Prelude.{ℕ, List, [], ◌++◌, codes, Option, Some, None}
+use Rattle.std.specs.Prelude.{ℕ, [], ◌++◌, codes, Option, Some, None}
 use Rattle.std.specs.List.{flat_map}
 use Rattle.sol_base.specs.Keys.{hash_bytes}
 use Rattle.sol_base.specs.declared.limits.Limits.{Limits}

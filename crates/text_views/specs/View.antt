@@ -4,10 +4,8 @@ use Rattle.std.specs.List.{find}
 use Rattle.std.specs.Fmt.{decimal}
 use Rattle.hex.specs.Hex.{encode_lower}
 use Rattle.sol_base.specs.declared.key.Key.{Key}
-use Rattle.sol_base.specs.declared.key.Hash32.{Hash32}
 use Rattle.sol_base.specs.declared.account.Account.{Account}
 use Rattle.message_codec.specs.declared.message.Signature.{Signature}
-use Rattle.message_codec.specs.declared.message.Tx.{Tx}
 use Rattle.message_codec.specs.declared.parsed.Parsed.{Parsed}
 use Rattle.message_codec.specs.declared.parsed.Parsed.TheVariants.{Good, Bad}
 use Rattle.message_codec.specs.Parsing.{parsed_of}

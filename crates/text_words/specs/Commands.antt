@@ -1,11 +1,13 @@
 -- The commands for texts as words (the project's own).
-use Rattle.std.specs.Prelude.{ℕ, Bool, true, false, List, [], ◌∷◌, Option, Some, None, option_map, codes, if◌then◌else◌, Result, Ok, Err}
+use Rattle.std.specs.Prelude.{ℕ, Bool, true, false, List, [], ◌∷◌, Option, Some, None, option_and_then, option_map, codes, if◌then◌else◌, Result, Ok, Err}
 use Rattle.std.specs.Str.{bytes_eq}
 use Rattle.hex.specs.Hex.{decode_sized}
 use Rattle.hex.specs.declared.error.FromHexError.{FromHexError}
 use Rattle.text_words.specs.Files.{Text, two_files_in, option_in}
 use Rattle.text_words.specs.declared.command.Form.{Form}
 use Rattle.text_words.specs.declared.command.Form.TheVariants.{Snapshot, Batch, Record, Image}
+use Rattle.text_words.specs.declared.command.Look.{Look}
+use Rattle.text_words.specs.declared.command.Look.TheVariants.{Compact, Pretty, Shown}
 use Rattle.text_words.specs.declared.command.Sought.{Sought}
 use Rattle.text_words.specs.declared.command.Sought.TheVariants.{Account, Transaction}
 use Rattle.text_words.specs.declared.command.TextCommand.{TextCommand}
@@ -23,21 +25,28 @@ abbrev pub alone : TextCommand → List Text → Option TextCommand
 alone command [] = Some command
 alone command _ = None
 
-abbrev pub pretty_in : Text → Option TextCommand
-pretty_in word = option_map (λ form. Json form true) (form_in word)
+abbrev pub look_in : Text → Option Look
+look_in word =
+    if bytes_eq (codes "--pretty") word then Some Pretty else
+    (if bytes_eq (codes "--shown") word then Some Shown else None)
 
--- a form, and `--pretty` before or after it
+abbrev pub json_as : Look → Text → Option TextCommand
+json_as look word = option_map (λ form. Json form look) (form_in word)
+
+abbrev pub two_by : Option Look → Text → Text → Option TextCommand
+two_by (Some look) first second = json_as look second
+two_by None first second = option_and_then (λ look. json_as look first) (look_in second)
+
+-- a form, and `--pretty` or `--shown` before or after it
 unfoldable pub two_in : Text → Text → Option TextCommand
-two_in first second =
-    if bytes_eq first (codes "--pretty") then pretty_in second else
-    (if bytes_eq second (codes "--pretty") then pretty_in first else None)
+two_in first second = two_by (look_in first) first second
 
 abbrev pub second_in : Text → List Text → Option TextCommand
 second_in first (second ∷ []) = two_in first second
 second_in first _ = None
 
 abbrev pub json_after : Text → List Text → Option TextCommand
-json_after first [] = option_map (λ form. Json form false) (form_in first)
+json_after first [] = json_as Compact first
 json_after first words = second_in first words
 
 abbrev pub json_in : List Text → Option TextCommand

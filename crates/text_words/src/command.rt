@@ -10,6 +10,17 @@ pub enum Form {
     Image,
 }
 
+/// How `json` writes.
+#[derive(Clone, Copy, PartialEq, Eq)]
+pub enum Look {
+    /// On one line.
+    Compact,
+    /// Each member and item on a line of its own.
+    Pretty,
+    /// And with what a person wants to see in members `shown`.
+    Shown,
+}
+
 /// What `view` looks for.
 #[derive(Clone, Copy, PartialEq, Eq)]
 pub enum Sought {
@@ -25,7 +36,7 @@ pub enum TextCommand {
     Help,
     Version,
     /// Bytes to JSON.
-    Json { form: Form, pretty: bool },
+    Json { form: Form, look: Look },
     /// JSON to bytes.
     Bytes { form: Form },
     /// A record and a snapshot to two files.

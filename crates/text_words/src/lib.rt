@@ -6,6 +6,6 @@ mod files;
 mod reading;
 mod usage;
 
-pub use command::{Form, Sought, TextCommand, TextWordsFault};
+pub use command::{Form, Look, Sought, TextCommand, TextWordsFault};
 pub use reading::read_text_words;
 pub use usage::{USAGE, VERSION};

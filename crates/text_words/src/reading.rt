@@ -1,9 +1,9 @@
 //! From words to a command.
 ghost use Rattle.std.specs.Prelude.{◌≡◌, IfOk, MatchResult, Some, map};
-ghost use Rattle.text_words.specs.Commands.{form_in, pretty_in, two_in, second_in, json_after, json_in, bytes_in, split_in, sought_in, view_in, diff_in, shape_in, alone, other_named, file_named, command_named, command_in};
+ghost use Rattle.text_words.specs.Commands.{form_in, look_in, json_as, two_in, second_in, json_after, json_in, bytes_in, split_in, sought_in, view_in, diff_in, shape_in, alone, other_named, file_named, command_named, command_in};
 ghost use Rattle.text_words.specs.Reading.{Explains};
 
-use crate::command::{Form, Sought, TextCommand, TextWordsFault};
+use crate::command::{Form, Look, Sought, TextCommand, TextWordsFault};
 use crate::files::{option_in, two_files_in};
 use hex::FromHex;
 use sol_base::{Key, OutOfMemory};
@@ -98,26 +98,33 @@ fn alone(command: TextCommand, words: &[&str]) -> Option<TextCommand>
     }
 }
 
-fn pretty_in(word: &str) -> Option<TextCommand>
-    ensures { result ≡ pretty_in word.now }
+fn look_in(word: &str) -> Option<Look>
+    ensures { result ≡ look_in word.now }
+{
+    match word {
+        "--pretty" => Some(Look::Pretty),
+        "--shown" => Some(Look::Shown),
+        _ => None,
+    }
+}
+
+fn json_as(look: Look, word: &str) -> Option<TextCommand>
+    ensures { result ≡ json_as look word.now }
 {
     Some(TextCommand::Json {
         form: form_in(word)?,
-        pretty: true,
+        look,
     })
 }
 
-/// A form, and `--pretty` before or after it.
+/// A form, and `--pretty` or `--shown` before or after it.
 #[tactic(auto, unfolding(crate::specs::Commands::two_in))]
 fn two_in(first: &str, second: &str) -> Option<TextCommand>
     ensures { result ≡ two_in first.now second.now }
 {
-    if first == "--pretty" {
-        pretty_in(second)
-    } else if second == "--pretty" {
-        pretty_in(first)
-    } else {
-        None
+    match look_in(first) {
+        Some(look) => json_as(look, second),
+        None => json_as(look_in(second)?, first),
     }
 }
 
@@ -134,10 +141,7 @@ fn json_after(first: &str, words: &[&str]) -> Option<TextCommand>
     ensures { result ≡ json_after first.now (map (λ w. w.now) words.now) }
 {
     match words {
-        [] => Some(TextCommand::Json {
-            form: form_in(first)?,
-            pretty: false,
-        }),
+        [] => json_as(Look::Compact, first),
         _ => second_in(first, words),
     }
 }

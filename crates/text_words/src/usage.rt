@@ -2,7 +2,7 @@
 
 /// How the commands are written, one a line.
 pub const USAGE: &str = "\
-usage: bank_text json FORM [--pretty]          bytes in, JSON out
+usage: bank_text json FORM [--pretty|--shown]  bytes in, JSON out
        bank_text bytes FORM                    JSON in, bytes out
        bank_text split RECORD SNAPSHOT         what `produce` wrote in, two files out
        bank_text view KEY|SIGNATURE            a snapshot or a record in, JSON out
