@@ -1,4 +1,3 @@
 pub mod Sums
-pub mod Owns
 pub mod Moves
 pub mod Ended

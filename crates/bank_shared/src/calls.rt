@@ -1,6 +1,6 @@
 //! What a desk does for its passes.
 ghost use Rattle.std.specs.Prelude.{◌≡◌, ◌<◌, None, Some};
-ghost use Rattle.bank_law.specs.History.{own, holds, returns};
+ghost use Rattle.bank_law.specs.History.{holds, returns};
 ghost use Rattle.bank_law.specs.declared.event.EventKind.TheVariants.{Grant, Commit, Return};
 ghost use Rattle.sol_base.specs.Accounts.{accounts_of};
 ghost use Rattle.bank_core.specs.Effects.{effects_seen};
@@ -12,6 +12,7 @@ ghost use Rattle.bank_shared.specs.Passes.{Adds, Sees, Keeps, Begins, OnlySees, 
 use crate::desk::{Pass, SharedDesk};
 use crate::rule::Parts;
 use bank_core::{Effects, Loan, Split, Take, Work};
+use bank_law::{Event, EventKind};
 use std::sync::Wait;
 
 impl<W: Work> SharedDesk<W> {
@@ -19,7 +20,7 @@ impl<W: Work> SharedDesk<W> {
     pub(crate) fn lend<R: Wait>(&self, rt: &R, pass: &mut Pass<W>) -> Take<W>
         requires table { pass.old.seat.table_id ≡ self.now.table.shared.table_id }
         requires desk { pass.old.seat.me.0.origin ≡ Some self.now.table.shared.key.value }
-        requires free { holds (own pass.old.seat.me.0.seen pass.old.lane) ≡ None }
+        requires free { holds pass.old.seat.me.0.mine ≡ None }
         ensures table { pass.new.seat.table_id ≡ pass.old.seat.table_id }
         ensures lane { pass.new.lane ≡ pass.old.lane }
         ensures kept { Keeps pass.old.seat.me.0 pass.new.seat.me.0 }
@@ -29,9 +30,9 @@ impl<W: Work> SharedDesk<W> {
             (λ loan. Adds pass.old.seat.me.0
             (record { kind = Grant; lane = pass.old.lane; position = loan.position })
             pass.new.seat.me.0)
-            (λ held. Sees pass.old.seat.me.0 pass.old.lane pass.new.seat.me.0)
-            (Sees pass.old.seat.me.0 pass.old.lane pass.new.seat.me.0)
-            (Sees pass.old.seat.me.0 pass.old.lane pass.new.seat.me.0) }
+            (λ held. Sees pass.old.seat.me.0 pass.new.seat.me.0)
+            (Sees pass.old.seat.me.0 pass.new.seat.me.0)
+            (Sees pass.old.seat.me.0 pass.new.seat.me.0) }
         ensures take { MatchTake result
             (λ loan. (loan.lane ≡ pass.old.lane)
             × (loan.origin.value ≡ self.now.table.shared.key.value.origin))
@@ -44,7 +45,12 @@ impl<W: Work> SharedDesk<W> {
         let (word, mut kept) = self.lock(rt, &mut pass.seat);
         match kept.core.take(lane) {
             Take::Loan(loan) => {
-                self.release_more(&mut pass.seat, word + 2, kept);
+                let granted = Event {
+                    kind: EventKind::Grant,
+                    lane,
+                    position: loan.position(),
+                };
+                self.release_more(&mut pass.seat, word + 2, kept, granted);
                 Take::Loan(loan)
             }
             Take::NotNow { held } => {
@@ -74,7 +80,7 @@ impl<W: Work> SharedDesk<W> {
         requires desk { pass.old.seat.me.0.origin ≡ Some self.now.table.shared.key.value }
         requires origin { loan.origin.value ≡ self.now.table.shared.key.value.origin }
         requires lane { loan.lane ≡ pass.old.lane }
-        requires held { holds (own pass.old.seat.me.0.seen pass.old.lane) ≡ Some loan.position }
+        requires held { holds pass.old.seat.me.0.mine ≡ Some loan.position }
         requires right { effects_seen effects
             ≡ (W.job self.now.table.shared.key.value.origin.told).effects loan.position
             (accounts_of loan.values.items) }
@@ -87,9 +93,15 @@ impl<W: Work> SharedDesk<W> {
             (record { kind = Commit; lane = pass.old.lane; position = loan.position })
             pass.new.seat.me.0 }
     {
+        let lane = pass.lane;
+        let event = Event {
+            kind: EventKind::Commit,
+            lane,
+            position: loan.position(),
+        };
         let (word, mut kept) = self.lock(rt, &mut pass.seat);
         kept.core.commit(loan, effects);
-        self.release_more(&mut pass.seat, word + 2, kept);
+        self.release_more(&mut pass.seat, word + 2, kept, event);
     }
 
     /// Puts the values of the pass's loan back.
@@ -98,8 +110,8 @@ impl<W: Work> SharedDesk<W> {
         requires desk { pass.old.seat.me.0.origin ≡ Some self.now.table.shared.key.value }
         requires origin { loan.origin.value ≡ self.now.table.shared.key.value.origin }
         requires lane { loan.lane ≡ pass.old.lane }
-        requires held { holds (own pass.old.seat.me.0.seen pass.old.lane) ≡ Some loan.position }
-        requires once { returns (own pass.old.seat.me.0.seen pass.old.lane) ≡ 0 }
+        requires held { holds pass.old.seat.me.0.mine ≡ Some loan.position }
+        requires once { returns pass.old.seat.me.0.mine ≡ 0 }
         ensures table { pass.new.seat.table_id ≡ pass.old.seat.table_id }
         ensures lane { pass.new.lane ≡ pass.old.lane }
         ensures kept { Keeps pass.old.seat.me.0 pass.new.seat.me.0 }
@@ -109,9 +121,15 @@ impl<W: Work> SharedDesk<W> {
             (record { kind = Return; lane = pass.old.lane; position = loan.position })
             pass.new.seat.me.0 }
     {
+        let lane = pass.lane;
+        let event = Event {
+            kind: EventKind::Return,
+            lane,
+            position: loan.position(),
+        };
         let (word, mut kept) = self.lock(rt, &mut pass.seat);
         kept.core.give_back(loan);
-        self.release_more(&mut pass.seat, word + 2, kept);
+        self.release_more(&mut pass.seat, word + 2, kept, event);
     }
 
     /// A new pass, with a lane of its own.
@@ -120,8 +138,7 @@ impl<W: Work> SharedDesk<W> {
         requires desk { pass.old.seat.me.0.origin ≡ Some self.now.table.shared.key.value }
         ensures table { pass.new.seat.table_id ≡ pass.old.seat.table_id }
         ensures lane { pass.new.lane ≡ pass.old.lane }
-        ensures kept { OnlySees pass.old.seat.me.0 pass.old.lane pass.new.seat.me.0 }
-        ensures lanes { pass.new.seat.me.0.lanes ≡ pass.old.seat.me.0.lanes }
+        ensures kept { OnlySees pass.old.seat.me.0 pass.new.seat.me.0 }
         ensures made { MatchSplit result
             (λ made. (made.seat.table_id ≡ pass.old.seat.table_id)
             × (made.seat.me.0.origin ≡ pass.old.seat.me.0.origin)
@@ -143,14 +160,14 @@ impl<W: Work> SharedDesk<W> {
         }
     }
 
-    /// Joins another pass into this one, with all its lanes.
+    /// Joins another pass into this one.
     pub(crate) fn join_pass(&self, pass: &mut Pass<W>, other: Pass<W>)
         requires table { (pass.old.seat.table_id ≡ self.now.table.shared.table_id)
             × (other.seat.table_id ≡ self.now.table.shared.table_id) }
         requires desk { pass.old.seat.me.0.origin ≡ Some self.now.table.shared.key.value }
         ensures table { pass.new.seat.table_id ≡ pass.old.seat.table_id }
         ensures lane { pass.new.lane ≡ pass.old.lane }
-        ensures kept { OnlySees pass.old.seat.me.0 pass.old.lane pass.new.seat.me.0 }
+        ensures kept { OnlySees pass.old.seat.me.0 pass.new.seat.me.0 }
         ensures other { Learns pass.old.seat.me.0 other.seat.me.0 pass.new.seat.me.0 }
     {
         let Pass { seat, lane: _ } = other;

@@ -5,7 +5,6 @@ use std::sync::Wait;
 
 impl<W: Work> Desk<W> for SharedDesk<W> {
     ghost use Rattle.std.specs.Prelude.{◌≡◌, Some};
-    ghost use Rattle.bank_law.specs.History.{own};
     ghost use Rattle.sol_base.specs.Accounts.{accounts_of};
 
     type Pass = Pass<W>;
@@ -23,7 +22,7 @@ impl<W: Work> Desk<W> for SharedDesk<W> {
     ghost view = { λ pass. record {
       lane = pass.lane;
       seen = pass.seat.me.0.seen;
-      mine = own pass.seat.me.0.seen pass.lane;
+      mine = pass.seat.me.0.mine;
       drawn = pass.seat.me.0.drawn;
       turns = pass.seat.me.0.turns;
     } };

@@ -3,7 +3,6 @@
 #![tactic(auto)]
 
 mod answer;
-mod build;
 mod commands;
 mod compared;
 mod files;

@@ -3,7 +3,7 @@
 ghost use Rattle.std.specs.Prelude.{◌≡◌, ◌<◌, ◌≤◌, [], All, IfOk, None, OnOk, Some, length};
 ghost use Rattle.sol_base.specs.Limits.{max_lanes};
 ghost use Rattle.account_store.specs.State.{at};
-ghost use Rattle.bank_law.specs.History.{holds, own, returns};
+ghost use Rattle.bank_law.specs.History.{holds, returns};
 ghost use Rattle.bank_core.specs.Ends.{outcomes_at_end, serial_outcomes};
 ghost use Rattle.bank_core.specs.Openings.{AreNumbered};
 ghost use Rattle.bank_core.specs.Origins.{AllDoneAfter};
@@ -73,8 +73,7 @@ fn run_beside<W: Work + Sync, G: Gate, R: Threads + Wait + Sync>(
         × (reader.seat.table_id ≡ desk.now.table.shared.table_id) }
     requires desk { (pass.seat.me.0.origin ≡ Some desk.now.table.shared.key.value)
         × (reader.seat.me.0.origin ≡ Some desk.now.table.shared.key.value) }
-    requires idle { (holds (own pass.seat.me.0.seen pass.lane) ≡ None)
-        × (returns (own pass.seat.me.0.seen pass.lane) ≡ 0) }
+    requires idle { (holds pass.seat.me.0.mine ≡ None) × (returns pass.seat.me.0.mine ≡ 0) }
     requires of { AreOf parts.wires.now parts.order.now }
     requires one_each { length parts.order.now
         ≡ (W.job desk.now.table.shared.key.value.origin.told).count }
@@ -104,8 +103,7 @@ fn run_beside<W: Work + Sync, G: Gate, R: Threads + Wait + Sync>(
             requires { (desk.now.table.shared.key.value.origin.told ≡ W.told work.now)
                 × (pass.seat.table_id ≡ desk.now.table.shared.table_id)
                 × (pass.seat.me.0.origin ≡ Some desk.now.table.shared.key.value)
-                × (holds (own pass.seat.me.0.seen pass.lane) ≡ None)
-                × (returns (own pass.seat.me.0.seen pass.lane) ≡ 0) }
+                × (holds pass.seat.me.0.mine ≡ None) × (returns pass.seat.me.0.mine ≡ 0) }
             ensures table { result.1.seat.table_id ≡ desk.entry.now.table.shared.table_id }
             ensures desk { result.1.seat.me.0.origin ≡ Some desk.entry.now.table.shared.key.value }
             ensures done { OnOk result.0 (AllDoneAfter W.job
@@ -127,8 +125,7 @@ fn run_until<W: Work + Sync, G: Gate, R: Threads + Wait + Sync>(
     requires told { desk.now.table.shared.key.value.origin.told ≡ W.told work.now }
     requires table { pass.seat.table_id ≡ desk.now.table.shared.table_id }
     requires desk { pass.seat.me.0.origin ≡ Some desk.now.table.shared.key.value }
-    requires idle { (holds (own pass.seat.me.0.seen pass.lane) ≡ None)
-        × (returns (own pass.seat.me.0.seen pass.lane) ≡ 0) }
+    requires idle { (holds pass.seat.me.0.mine ≡ None) × (returns pass.seat.me.0.mine ≡ 0) }
     ensures table { result.1.seat.table_id ≡ desk.now.table.shared.table_id }
     ensures desk { result.1.seat.me.0.origin ≡ Some desk.now.table.shared.key.value }
     ensures done { OnOk result.0 (AllDoneAfter W.job desk.now.table.shared.key.value.origin

@@ -1,7 +1,7 @@
-pub mod Within
+mod Within
 mod Items
 pub mod Lists
-pub mod Members
+mod Members
 pub mod Again
 pub mod TransactionLaws
 pub mod ShownLaws

@@ -1,4 +1,3 @@
 pub mod Halves
 pub mod Lengths
 pub mod Once
-pub mod BuiltLaws

@@ -3,4 +3,3 @@ pub mod Classes
 pub mod Tables
 pub mod Signing
 pub mod Built
-pub mod Laws

@@ -5,7 +5,6 @@
 mod classes;
 mod draft;
 mod fault;
-mod laws;
 mod mentions;
 mod message;
 mod signing;
@@ -14,5 +13,4 @@ mod wire;
 
 pub use draft::{AccountMeta, Draft, KeyedInstruction, LookupTable, Version};
 pub use fault::BuildFault;
-pub use laws::built_wires_are_read;
 pub use wire::build_wire;

@@ -1,3 +1,0 @@
-mod MemberNames
-pub mod ListItems
-pub mod ShortLaws
