@@ -9,3 +9,4 @@ pub mod Openings
 pub mod Trials
 pub mod Seats
 pub mod Tells
+pub mod Lanes

@@ -1,3 +1,4 @@
 pub mod Sums
+pub mod Owns
 pub mod Moves
 pub mod Ended

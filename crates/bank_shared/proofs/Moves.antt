@@ -1,8 +1,10 @@
 -- Each step keeps the rule of the desk.
-use Rattle.std.proofs.Common.{◌≡◌, ◌≢◌, ℕ, zero, suc, pred, ◌+◌, ◌*◌, ◌%◌, ◌<◌, ◌≤◌, List, [], ◌∷◌, ◌++◌, length, set, Option, Some, None, Bool, cond, eqb, eq-eqb, ne_eqb, refl, sym, ap, ◌∙◌, subst, ⊎_elim, arith, All, IfSome, IfNone, MatchBool, append-nil}
-use Rattle.std.specs.Prelude.{slice_index, option_to_list}
+use Rattle.std.proofs.Common.{◌≡◌, ◌≢◌, ℕ, zero, suc, pred, ◌+◌, ◌*◌, ◌%◌, ◌<◌, ◌≤◌, List, [], ◌∷◌, ◌++◌, length, set, Option, Some, None, Bool, true, false, ◌||◌, max, cond, eqb, eq-eqb, ne_eqb, refl, sym, ap, ◌∙◌, subst, ⊎_elim, arith, le_refl, All, IfSome, IfNone, MatchBool, append-nil}
+use Rattle.std.specs.Prelude.{slice_index}
+use Rattle.std.specs.List.{AllPass}
+use Rattle.std.proofs.lemmas.Grind.{flat_map-append}
 use Rattle.std.proofs.lemmas.Option.{IfSome_then}
-use Rattle.std.proofs.lemmas.List.Elements.{filter-append, All-append, All-cons, All-head, All-tail, All-push, All-weaker}
+use Rattle.std.proofs.lemmas.List.Elements.{filter-append, All-append, All-cons, All-head, All-weaker}
 use mathlib.Core.Option.{some, none, some-ne-none, some-injective}
 use mathlib.Core.List.{IsPrefix}
 use mathlib.Core.Logic.{dite}
@@ -14,27 +16,21 @@ use Rattle.atomic_table.specs.Table.{State, Me, Step, rest, Act, Valid, step, ke
 use Rattle.atomic_table.proofs.Lists.{at_set, at_snoc, set_again}
 use Rattle.spec_base.specs.Sums.{total}
 use Rattle.bank_law.specs.declared.event.Event.{Event}
+use Rattle.bank_law.proofs.Histories.{own_same, own_none}
+use Rattle.bank_core.proofs.Lanes.{is_one_after}
 use Rattle.bank_shared.specs.declared.view.View.{View}
-use Rattle.bank_shared.specs.History.{own, own_if}
-use Rattle.bank_shared.specs.Rule.{stands, first_view, spent_view, new_view, joined_view, Knows, Placed, IsRuled}
+use Rattle.bank_shared.specs.declared.view.Part.{Part}
+use Rattle.bank_shared.specs.History.{own, own_of, is_one_of, Covers, GoesOn}
+use Rattle.bank_shared.specs.Rule.{times, part_lanes, lanes_of, stands, first_view, spent_view, new_view, joined_view, Knows, Placed, IsRuled}
 use Rattle.bank_shared.specs.Plays.{holding, done, seated, caught_up, looked, Gets, Taken, took, released, drew}
-use Rattle.bank_shared.specs.Passes.{Adds, Keeps, Begins}
-use base.Growing.{prefix_refl, prefix_trans}
+use Rattle.bank_shared.specs.Passes.{Adds, Sees, Keeps, Begins, OnlySees, Learns}
+use base.Growing.{prefix_refl}
 use Rattle.bank_shared.proofs.Sums.{sum_set, sum_append, term_le, terms_le}
+use Rattle.bank_shared.proofs.Owns.{prefix_more, none_of, one_stands, no_lanes, own_of_all, grows, parts_grow, covered}
 
--- a list with one item more begins with what the list begins with
-prefix_more : {A : Type 0} (xs ys zs : List A) → IsPrefix xs ys → IsPrefix xs (ys ++ zs)
-prefix_more xs ys zs p = prefix_trans xs ys (ys ++ zs) p (zs, refl)
-
--- the events of another lane stay
-own_other : (l : Option ℕ) (h : List Event) (e : Event) → l ≢ Some e.lane → own_if (h ++ e ∷ []) l ≡ own_if h l
-own_other None h e ne = refl
-own_other (Some k) h e ne = filter-append (λ (x : Event). eqb x.lane k) h (e ∷ []) ∙ ap (λ (b : Bool). own h k ++ cond b (e ∷ []) []) (ne_eqb e.lane k (λ is. ne (ap Some (sym is)))) ∙ append-nil (own h k)
-
--- a lane that is not drawn has no event
-own_none : (h : List Event) (d : ℕ) → All (λ e. e.lane < d) h → own h d ≡ []
-own_none [] d all = refl
-own_none (e ∷ h) d all = let below : e.lane < d = All-head (λ (x : Event). x.lane < d) e h all in ap (λ (b : Bool). cond b (e ∷ own h d) (own h d)) (ne_eqb e.lane d (λ is. omega arith)) ∙ own_none h d (All-tail (λ (x : Event). x.lane < d) e h all)
+-- a history covers itself
+whole : (h : List Event) (lanes : List ℕ) → Covers h lanes h
+whole h lanes = record { longer = prefix_refl h; own = refl }
 
 module _ {C O : Type 0} (origin : C → O) (journal : C → List Event) (drawn : C → ℕ) (o : O) where
   abbrev St : Type 0
@@ -49,11 +45,16 @@ module _ {C O : Type 0} (origin : C → O) (journal : C → List Event) (drawn :
   abbrev Put : Option ℕ → List Event → ℕ → List ℕ → Homes → Type 0
   Put holder h d ws hs = Placed origin journal drawn holder o h d ws hs
 
-  stands_own : (l : ℕ) (v : View O) → v.lane ≡ Some l → 1 ≤ stands l v
-  stands_own l v is =
-      let a : stands l v ≡ total (λ k. cond (eqb k l) 1 0) (l ∷ v.kept) = ap (λ (x : Option ℕ). total (λ k. cond (eqb k l) 1 0) (option_to_list x ++ v.kept)) is in
-      let b : ◌≡◌ {A = ℕ} (cond (eqb l l) 1 0) 1 = ap (λ (b : Bool). cond {A = ℕ} b 1 0) (eq-eqb l l refl) in
-      omega arith
+  -- what a view of other lanes knows stays
+  others : (h more : List Event) (d : ℕ) (u : View O) → Knows o h d u → All (λ e. stands e.lane u ≡ 0) more → Knows o (h ++ more) d u
+  others h more d u q apart =
+      let split : (e : Event) → stands e.lane u ≡ times e.lane (part_lanes u.joined) + times e.lane u.lanes = λ e. sum_append (λ k. cond {A = ℕ} (eqb k e.lane) 1 0) (part_lanes u.joined) u.lanes in
+      record {
+        desk = q.desk;
+        mine = grows h more u.lanes u.seen q.mine (All-weaker (λ (e : Event). stands e.lane u ≡ 0) (λ (e : Event). times e.lane u.lanes ≡ 0) (λ e z. omega (arith, z, split e)) more apart);
+        joined = parts_grow h more u.joined (All-weaker (λ (e : Event). stands e.lane u ≡ 0) (λ (e : Event). times e.lane (part_lanes u.joined) ≡ 0) (λ e z. omega (arith, z, split e)) more apart) q.joined;
+        drawn = q.drawn;
+      }
 
   -- an even word: the core is at home
   at_home : (holder : Option ℕ) (h : List Event) (d : ℕ) (ws : List ℕ) (hs : Homes) → Put holder h d ws hs → slice_index ws 0 % 2 ≡ 0 → (holder ≡ None) × Put None h d ws hs
@@ -102,8 +103,8 @@ module _ {C O : Type 0} (origin : C → O) (journal : C → List Event) (drawn :
         w,
         keeps,
         tt,
-        unmoved s r id me.1 v w at refl (record { desk = k.desk; seen = prefix_refl r.history; olds = λ i d lt. absurd (omega arith); mine = k.mine; drawn = k.drawn }) (λ l. refl),
-        (r.history, refl, k.seen, k.olds, k.mine),
+        unmoved s r id me.1 v w at refl (record { desk = k.desk; mine = whole r.history (lanes_of v); joined = λ i d lt. absurd (omega arith); drawn = k.drawn }) (λ l. refl),
+        (r.history, refl, k.mine, k.joined, λ l. dite (dec_le r.count l) (λ above. let n = r.never l above in omega (arith, n, term_le (stands l) s.views id v at)) (λ not. let n = r.once l (grind (arith, not)) in omega (arith, n, term_le (stands l) s.views id v at))),
       )
 
   -- kind 4
@@ -121,7 +122,7 @@ module _ {C O : Type 0} (origin : C → O) (journal : C → List Event) (drawn :
       let len : slice_index s.words 0 ≡ 2 * length (journal c) = ap (λ (l : List ℕ). slice_index l 0) words ∙ ap (λ (h : List Event). 2 * length h) (sym is_h) in
       let known : Knows (origin c) (journal c) (drawn c) v = subst (λ (x : O × List Event × ℕ). Knows x.0 x.1 x.2 v) (λ i. (sym is_o i, sym is_h i, sym is_d i)) (r.knows id v at) in
       let w = holding v (journal c) (drawn c) in
-      let mine : Knows o (journal c) (drawn c) w = let k = subst (λ (x : List Event × ℕ). Knows o x.0 x.1 v) (λ i. (sym is_h i, sym is_d i)) (r.knows id v at) in record { desk = k.desk; seen = k.seen; olds = k.olds; mine = k.mine; drawn = k.drawn } in (
+      let mine : Knows o (journal c) (drawn c) w = let k = subst (λ (x : List Event × ℕ). Knows o x.0 x.1 v) (λ i. (sym is_h i, sym is_d i)) (r.knows id v at) in record { desk = k.desk; mine = k.mine; joined = k.joined; drawn = k.drawn } in (
         c,
         ap (λ (hs : Homes). get_elem? hs 0) homes,
         stays s r id v w at _ _ (journal c) (drawn c) (Some id) (sym is_h) (sym is_d)
@@ -154,48 +155,25 @@ module _ {C O : Type 0} (origin : C → O) (journal : C → List Event) (drawn :
   slot_is : (c x : C) → ◌≡◌ {A = List (ℕ × Option C)} ((0, Some c) ∷ []) ((0, Some x) ∷ []) → c ≡ x
   slot_is c x e = ap (λ (l : List (ℕ × Option C)). unslot l c) e
 
-  -- kind 8
-  pub releases : (slots id new : ℕ) (v : View O) (c : C) (h : List Event) (d : ℕ) → v.turn ≡ Some (h, d) → v.origin ≡ Some o → origin c ≡ o → journal c ≡ h → drawn c ≡ d → new ≡ 2 * length (journal c)
+  -- kinds 7 and 8: the turn is given up, with some events of the seat's lanes or none
+  pub commits : (slots id new : ℕ) (v : View O) (c : C) (h : List Event) (d : ℕ) → v.turn ≡ Some (h, d) → v.origin ≡ Some o → origin c ≡ o → GoesOn (lanes_of v) h (journal c) → drawn c ≡ d → new ≡ 2 * length (journal c)
       → Allows Rule slots id (v, (0, Some c) ∷ []) 0 (λ _. new) (λ _. released journal drawn (step slots 0 new 0 none) (v, (0, Some c) ∷ []) new)
-  releases slots id new v c h d turn is_desk is_o is_h is_d is_new s r len at small =
+  commits slots id new v c h d turn is_desk is_o goes is_d is_new s r len at small =
       let t = turn_of s r id v (h, d) at turn in
-      let same_h : r.history ≡ journal c = ap (λ (p : List Event × ℕ). p.0) (sym t.1) ∙ sym is_h in
-      let same_d : r.count ≡ drawn c = ap (λ (p : List Event × ℕ). p.1) (sym t.1) ∙ sym is_d in
-      let p = subst (λ (k : Option ℕ). Put k r.history r.count s.words s.homes) t.0 r.placed in
-      let k = r.knows id v at in
-      let w = done v (journal c) (drawn c) in (
-        w,
-        gives,
-        tt,
-        stays s r id v w at _ _ (journal c) (drawn c) None same_h same_d
-            (c, is_o, refl, refl, ap (λ (l : List ℕ). set l 0 new) p.0 ∙ ap (λ (n : ℕ). n ∷ []) is_new, ap (λ (hs : Homes). set hs 0 (some (Some c))) p.1)
-            tt
-            (λ j ne is. absurd (ne (cc (is, t.0))))
-            (record { desk = k.desk; seen = prefix_refl (journal c); olds = λ i d lt. absurd (omega arith); mine = refl; drawn = omega arith })
-            (λ l. refl),
-        λ x is. ap (λ (y : C). (done v (journal y) (drawn y), [])) (slot_is c x is),
-      )
-
-  -- kind 7
-  pub commits : (slots id new : ℕ) (v : View O) (c : C) (h : List Event) (d : ℕ) (e : Event) → v.turn ≡ Some (h, d) → v.origin ≡ Some o → origin c ≡ o → journal c ≡ h ++ e ∷ [] → v.lane ≡ Some e.lane → drawn c ≡ d → new ≡ 2 * length (journal c)
-      → Allows Rule slots id (v, (0, Some c) ∷ []) 0 (λ _. new) (λ _. released journal drawn (step slots 0 new 0 none) (v, (0, Some c) ∷ []) new)
-  commits slots id new v c h d e turn is_desk is_o is_h is_lane is_d is_new s r len at small =
-      let t = turn_of s r id v (h, d) at turn in
+      let more = goes.more in
       let old_h : h ≡ r.history = ap (λ (p : List Event × ℕ). p.0) t.1 in
-      let same_h : journal c ≡ r.history ++ e ∷ [] = is_h ∙ ap (λ (l : List Event). l ++ e ∷ []) old_h in
+      let same_h : journal c ≡ r.history ++ more = goes.after_is ∙ ap (λ (l : List Event). l ++ more) old_h in
       let same_d : r.count ≡ drawn c = ap (λ (p : List Event × ℕ). p.1) (sym t.1) ∙ sym is_d in
       let p = subst (λ (k : Option ℕ). Put k r.history r.count s.words s.homes) t.0 r.placed in
       let k = r.knows id v at in
       let w = done v (journal c) (drawn c) in
-      let mine = stands_own e.lane v is_lane in
-      let drawn_lane : e.lane < r.count = dite (dec_le r.count e.lane) (λ above. let none_yet = r.never e.lane above in absurd (omega (arith, term_le (stands e.lane) s.views id v at))) (λ not. grind (arith, not)) in
-      let one = r.once e.lane drawn_lane in
+      let below : (e : Event) → is_one_of (lanes_of v) e.lane ≡ true → e.lane < r.count = λ e is. let one = one_stands e.lane (lanes_of v) is in dite (dec_le r.count e.lane) (λ above. let none_yet = r.never e.lane above in absurd (omega (arith, term_le (stands e.lane) s.views id v at))) (λ not. grind (arith, not)) in
+      let drawn_lanes : All (λ e. e.lane < r.count) more = All-weaker (λ (e : Event). is_one_of (lanes_of v) e.lane ≡ true) (λ (e : Event). e.lane < r.count) below more goes.theirs in
       let grown : (j : ℕ) (u : View O) → j ≢ id → get_elem? s.views j ≡ some u → Knows o (journal c) (drawn c) u =
       λ j u ne there.
       let q = r.knows j u there in
-      let apart : u.lane ≢ Some e.lane = λ is. let theirs = stands_own e.lane u is in absurd (omega (arith, terms_le (stands e.lane) s.views id j v u ne at there)) in
-      subst (λ (x : List Event × ℕ). Knows o x.0 x.1 u) (λ i. (sym same_h i, same_d i))
-      (record { desk = q.desk; seen = prefix_more u.seen r.history (e ∷ []) q.seen; olds = All-weaker (λ x. IsPrefix x r.history) (λ x. IsPrefix x (r.history ++ e ∷ [])) (λ x y. prefix_more x r.history (e ∷ []) y) u.olds q.olds; mine = q.mine ∙ sym (own_other u.lane r.history e apart); drawn = q.drawn }) in (
+      let apart : All (λ e. stands e.lane u ≡ 0) more = All-weaker (λ (e : Event). is_one_of (lanes_of v) e.lane ≡ true) (λ (e : Event). stands e.lane u ≡ 0) (λ e is. let one = one_stands e.lane (lanes_of v) is in let once = r.once e.lane (below e is) in omega (arith, terms_le (stands e.lane) s.views id j v u ne at there)) more goes.theirs in
+      subst (λ (x : List Event × ℕ). Knows o x.0 x.1 u) (λ i. (sym same_h i, same_d i)) (others r.history more r.count u q apart) in (
         w,
         gives,
         tt,
@@ -209,20 +187,20 @@ module _ {C O : Type 0} (origin : C → O) (journal : C → List Event) (drawn :
               (λ (m : (j ≢ id) × (get_elem? s.views j ≡ some u)). IfSome_then u.turn (r.turn j u m.1) (λ p q. absurd (m.0 (cc (q.0, t.0)))))
               (at_set s.views id j w u there);
           knows = λ j u there. ⊎_elim
-              (λ (m : (j ≡ id) × (w ≡ u)). subst (Knows o (journal c) (drawn c)) m.1 (record { desk = k.desk; seen = prefix_refl (journal c); olds = λ i d lt. absurd (omega arith); mine = refl; drawn = omega arith }))
+              (λ (m : (j ≡ id) × (w ≡ u)). subst (Knows o (journal c) (drawn c)) m.1 (record { desk = k.desk; mine = whole (journal c) (lanes_of v); joined = λ i d lt. absurd (omega arith); drawn = omega arith }))
               (λ (m : (j ≢ id) × (get_elem? s.views j ≡ some u)). grown j u m.0 m.1)
               (at_set s.views id j w u there);
           once = λ l below. let was = r.once l (subst (λ (k : ℕ). l < k) (sym same_d) below) in omega (arith, sum_set (stands l) s.views id v w at);
           never = λ l above. let was = r.never l (subst (λ (k : ℕ). k ≤ l) (sym same_d) above) in omega (arith, sum_set (stands l) s.views id v w at);
-          later = subst (λ (x : List Event × ℕ). All (λ e. e.lane < x.1) x.0) (λ i. (sym same_h i, same_d i)) (All-push (λ (x : Event). x.lane < r.count) r.history e r.later drawn_lane);
+          later = subst (λ (x : List Event × ℕ). All (λ e. e.lane < x.1) x.0) (λ i. (sym same_h i, same_d i)) (All-append (λ (x : Event). x.lane < r.count) r.history more r.later drawn_lanes);
         },
         λ x is. ap (λ (y : C). (done v (journal y) (drawn y), [])) (slot_is c x is),
       )
 
   -- kind 8, where the seat gets its lane
-  pub draws : (slots id new : ℕ) (v : View O) (c : C) (h : List Event) (d : ℕ) → v.turn ≡ Some (h, d) → v.origin ≡ Some o → v.lane ≡ None → origin c ≡ o → journal c ≡ h → drawn c ≡ d + 1 → new ≡ 2 * length (journal c)
+  pub draws : (slots id new : ℕ) (v : View O) (c : C) (h : List Event) (d : ℕ) → v.turn ≡ Some (h, d) → v.origin ≡ Some o → origin c ≡ o → journal c ≡ h → drawn c ≡ d + 1 → new ≡ 2 * length (journal c)
       → Allows Rule slots id (v, (0, Some c) ∷ []) 0 (λ _. new) (λ _. drew journal drawn (step slots 0 new 0 none) (v, (0, Some c) ∷ []) new)
-  draws slots id new v c h d turn is_desk no_lane is_o is_h is_d is_new s r len at small =
+  draws slots id new v c h d turn is_desk is_o is_h is_d is_new s r len at small =
       let t = turn_of s r id v (h, d) at turn in
       let same_h : r.history ≡ journal c = ap (λ (p : List Event × ℕ). p.0) (sym t.1) ∙ sym is_h in
       let same_d : d ≡ r.count = ap (λ (p : List Event × ℕ). p.1) t.1 in
@@ -232,9 +210,7 @@ module _ {C O : Type 0} (origin : C → O) (journal : C → List Event) (drawn :
       let lane : pred (drawn c) ≡ r.count = omega arith in
       let later : All (λ e. e.lane < r.count) (journal c) = subst (λ (l : List Event). All (λ e. e.lane < r.count) l) same_h r.later in
       let count : (l : ℕ) → stands l w ≡ cond (eqb r.count l) 1 0 + stands l v = λ l.
-      let a : stands l v ≡ total (λ k. cond (eqb k l) 1 0) v.kept = ap (λ (x : Option ℕ). total (λ k. cond (eqb k l) 1 0) (option_to_list x ++ v.kept)) no_lane in
-      let b : stands l w ≡ cond (eqb r.count l) 1 0 + total (λ k. cond (eqb k l) 1 0) v.kept = ap (λ (x : ℕ). cond {A = ℕ} (eqb x l) 1 0 + total (λ k. cond (eqb k l) 1 0) v.kept) lane in
-      omega arith in (
+      ap (λ (x : ℕ). cond {A = ℕ} (eqb x l) 1 0 + stands l v) lane in (
         w,
         gives,
         tt,
@@ -249,10 +225,10 @@ module _ {C O : Type 0} (origin : C → O) (journal : C → List Event) (drawn :
               (at_set s.views id j w u there);
           knows = λ j u there. ⊎_elim
               (λ (m : (j ≡ id) × (w ≡ u)). subst (Knows o (journal c) (drawn c)) m.1
-              (record { desk = k.desk; seen = prefix_refl (journal c); olds = λ i d lt. absurd (omega arith); mine = sym (ap (own (journal c)) lane ∙ own_none (journal c) r.count later); drawn = omega arith }))
+              (record { desk = k.desk; mine = whole (journal c) (pred (drawn c) ∷ lanes_of v); joined = λ i d lt. absurd (omega arith); drawn = omega arith }))
               (λ (m : (j ≢ id) × (get_elem? s.views j ≡ some u)).
               let q = r.knows j u m.1 in
-              subst (λ (l : List Event). Knows o l (drawn c) u) same_h (record { desk = q.desk; seen = q.seen; olds = q.olds; mine = q.mine; drawn = (let n = q.drawn in omega arith) }))
+              subst (λ (l : List Event). Knows o l (drawn c) u) same_h (record { desk = q.desk; mine = q.mine; joined = q.joined; drawn = (let n = q.drawn in omega arith) }))
               (at_set s.views id j w u there);
           once = λ l below. dite (ℕ_discrete r.count l)
               (λ is. let was = r.never l (omega arith) in let n : cond {A = ℕ} (eqb r.count l) 1 0 ≡ 1 = ap (λ b. cond {A = ℕ} b 1 0) (eq-eqb r.count l is) in omega (arith, count l, sum_set (stands l) s.views id v w at))
@@ -267,7 +243,7 @@ module _ {C O : Type 0} (origin : C → O) (journal : C → List Event) (drawn :
   pub splits : (id : ℕ) (v : View O) → Splits Rule id v v (new_view v)
   splits id v s r at =
       let k = r.knows id v at in
-      let fresh : Knows o r.history r.count (new_view v) = record { desk = k.desk; seen = k.seen; olds = λ i d lt. absurd (omega arith); mine = refl; drawn = k.drawn } in
+      let fresh : Knows o r.history r.count (new_view v) = record { desk = k.desk; mine = record { longer = k.mine.longer; own = no_lanes r.history ∙ sym (no_lanes v.seen) }; joined = λ i d lt. absurd (omega arith); drawn = k.drawn } in
       let was : (j : ℕ) (u : View O) → get_elem? (set s.views id v) j ≡ some u → get_elem? s.views j ≡ some u = λ j u there. subst (λ (l : List (View O)). get_elem? l j ≡ some u) (set_again s.views id v at) there in
       let count : (l : ℕ) → total (stands l) (set s.views id v ++ new_view v ∷ []) ≡ total (stands l) s.views = λ l. omega (arith, ap (total (stands l)) (set_again s.views id v at), sum_append (stands l) (set s.views id v) (new_view v ∷ [])) in
       record {
@@ -288,15 +264,23 @@ module _ {C O : Type 0} (origin : C → O) (journal : C → List Event) (drawn :
       let k = r.knows id v at in
       let old_w : get_elem? s.views other ≡ some w = ⊎_elim (λ (t : (other ≡ id) × (joined_view v w ≡ w)). absurd (apart t.0)) (λ (t : (other ≢ id) × (get_elem? s.views other ≡ some w)). t.1) (at_set s.views id other (joined_view v w) w there) in
       let q = r.knows other w old_w in
-      let mine : Knows o r.history r.count (joined_view v w) = record { desk = k.desk; seen = k.seen; olds = All-cons (λ x. IsPrefix x r.history) w.seen (w.olds ++ v.olds) q.seen (All-append (λ x. IsPrefix x r.history) w.olds v.olds q.olds k.olds); mine = k.mine; drawn = (let a = k.drawn in let b = q.drawn in omega arith) } in
+      let mine : Knows o r.history r.count (joined_view v w) = record {
+        desk = k.desk;
+        mine = k.mine;
+        joined = All-cons (λ (x : Part). Covers r.history x.lanes x.seen) (record { lanes = w.lanes; seen = w.seen }) (w.joined ++ v.joined) q.mine (All-append (λ (x : Part). Covers r.history x.lanes x.seen) w.joined v.joined q.joined k.joined);
+        drawn = (let a = k.drawn in let b = q.drawn in omega arith);
+      } in
       let count : (l : ℕ) → total (stands l) (set (set s.views id (joined_view v w)) other spent_view) ≡ total (stands l) s.views = λ l.
       let f : ℕ → ℕ = λ x. cond {A = ℕ} (eqb x l) 1 0 in
       let a = sum_set (stands l) s.views id v (joined_view v w) at in
       let b = sum_set (stands l) (set s.views id (joined_view v w)) other w spent_view there in
-      let c : total f (option_to_list v.lane ++ ((option_to_list w.lane ++ w.kept) ++ v.kept)) ≡ total f (option_to_list v.lane) + total f ((option_to_list w.lane ++ w.kept) ++ v.kept) = sum_append f (option_to_list v.lane) _ in
-      let d : total f ((option_to_list w.lane ++ w.kept) ++ v.kept) ≡ total f (option_to_list w.lane ++ w.kept) + total f v.kept = sum_append f (option_to_list w.lane ++ w.kept) v.kept in
-      let e : total f (option_to_list v.lane ++ v.kept) ≡ total f (option_to_list v.lane) + total f v.kept = sum_append f (option_to_list v.lane) v.kept in
-      omega (arith, a, b, c, d, e) in
+      let both : part_lanes (w.joined ++ v.joined) ≡ part_lanes w.joined ++ part_lanes v.joined = flat_map-append (λ (p : Part). p.lanes) w.joined v.joined in
+      let c : stands l (joined_view v w) ≡ total f (w.lanes ++ part_lanes (w.joined ++ v.joined)) + total f v.lanes = sum_append f (w.lanes ++ part_lanes (w.joined ++ v.joined)) v.lanes in
+      let d : total f (w.lanes ++ part_lanes (w.joined ++ v.joined)) ≡ total f w.lanes + total f (part_lanes (w.joined ++ v.joined)) = sum_append f w.lanes (part_lanes (w.joined ++ v.joined)) in
+      let e : total f (part_lanes (w.joined ++ v.joined)) ≡ total f (part_lanes w.joined) + total f (part_lanes v.joined) = ap (total f) both ∙ sum_append f (part_lanes w.joined) (part_lanes v.joined) in
+      let m : stands l v ≡ total f (part_lanes v.joined) + total f v.lanes = sum_append f (part_lanes v.joined) v.lanes in
+      let n : stands l w ≡ total f (part_lanes w.joined) + total f w.lanes = sum_append f (part_lanes w.joined) w.lanes in
+      omega (arith, a, b, c, d, e, m, n) in
       record {
         history = r.history;
         count = r.count;
@@ -310,7 +294,7 @@ module _ {C O : Type 0} (origin : C → O) (journal : C → List Event) (drawn :
             (at_set s.views id j (joined_view v w) u m.1))
             (at_set (set s.views id (joined_view v w)) other j spent_view u at_j);
         knows = λ j u at_j. ⊎_elim
-            (λ (m : (j ≡ other) × (spent_view ≡ u)). subst (Knows o r.history r.count) m.1 (record { desk = tt; seen = (r.history, refl); olds = λ i d lt. absurd (omega arith); mine = refl; drawn = omega arith }))
+            (λ (m : (j ≡ other) × (spent_view ≡ u)). subst (Knows o r.history r.count) m.1 (record { desk = tt; mine = record { longer = (r.history, refl); own = no_lanes r.history }; joined = λ i d lt. absurd (omega arith); drawn = omega arith }))
             (λ (m : (j ≢ other) × (get_elem? (set s.views id (joined_view v w)) j ≡ some u)). ⊎_elim
             (λ (n : (j ≡ id) × (joined_view v w ≡ u)). subst (Knows o r.history r.count) n.1 mine)
             (λ (n : (j ≢ id) × (get_elem? s.views j ≡ some u)). r.knows j u n.1)
@@ -328,7 +312,7 @@ module _ {C O : Type 0} (origin : C → O) (journal : C → List Event) (drawn :
     holder = None;
     placed = (c, is_o, is_h, is_d, refl, refl);
     turn = one (λ j u. IfSome u.turn (λ p. (None ≡ Some j) × (p ≡ ([], 1)))) tt;
-    knows = one (λ j u. Knows o [] 1 u) (record { desk = refl; seen = ([], refl); olds = λ i d lt. absurd (omega arith); mine = refl; drawn = omega arith });
+    knows = one (λ j u. Knows o [] 1 u) (record { desk = refl; mine = whole [] (0 ∷ []); joined = λ i d lt. absurd (omega arith); drawn = omega arith });
     once = λ l below. let z : l ≡ 0 = omega arith in subst (λ (k : ℕ). total (stands k) (first_view o ∷ []) ≡ 1) (sym z) refl;
     never = λ l above. ap (λ b. cond {A = ℕ} b 1 0 + 0 + 0) (ne_eqb 0 l (λ is. omega arith));
     later = λ i d lt. absurd (omega arith);
@@ -347,20 +331,15 @@ module _ {C O : Type 0} (origin : C → O) (journal : C → List Event) (drawn :
   takes_at slots id old me x empty is_desk even =
       subst (λ (cs : List (ℕ × Option C)). Allows Rule slots id (me.0, cs) 0 (λ n. either (eqb n old) (old + 1) n) (took origin journal drawn (step slots 0 old (old + 1) x) (me.0, cs))) (sym empty) (takes_or_not slots id old me.0 x is_desk even)
 
-  pub releases_at : (slots id new : ℕ) (me : Me (Option C) (View O)) (c : C) → me.1 ≡ (0, Some c) ∷ [] → me.0.turn ≡ Some (journal c, drawn c) → me.0.origin ≡ Some o → origin c ≡ o → new ≡ 2 * length (journal c)
+  pub commits_at : (slots id new : ℕ) (me : Me (Option C) (View O)) (c : C) (h : List Event) → me.1 ≡ (0, Some c) ∷ [] → me.0.turn ≡ Some (h, drawn c) → me.0.origin ≡ Some o → origin c ≡ o → GoesOn (lanes_of me.0) h (journal c) → new ≡ 2 * length (journal c)
       → Allows Rule slots id me 0 (λ _. new) (λ _. released journal drawn (step slots 0 new 0 none) me new)
-  releases_at slots id new me c slot turn is_desk is_o is_new =
-      subst (λ (cs : List (ℕ × Option C)). Allows Rule slots id (me.0, cs) 0 (λ _. new) (λ _. released journal drawn (step slots 0 new 0 none) (me.0, cs) new)) (sym slot) (releases slots id new me.0 c (journal c) (drawn c) turn is_desk is_o refl refl is_new)
+  commits_at slots id new me c h slot turn is_desk is_o goes is_new =
+      subst (λ (cs : List (ℕ × Option C)). Allows Rule slots id (me.0, cs) 0 (λ _. new) (λ _. released journal drawn (step slots 0 new 0 none) (me.0, cs) new)) (sym slot) (commits slots id new me.0 c h (drawn c) turn is_desk is_o goes refl is_new)
 
-  pub commits_at : (slots id new : ℕ) (me : Me (Option C) (View O)) (c : C) (h : List Event) (e : Event) → me.1 ≡ (0, Some c) ∷ [] → me.0.turn ≡ Some (h, drawn c) → me.0.origin ≡ Some o → origin c ≡ o → journal c ≡ h ++ e ∷ [] → me.0.lane ≡ Some e.lane → new ≡ 2 * length (journal c)
-      → Allows Rule slots id me 0 (λ _. new) (λ _. released journal drawn (step slots 0 new 0 none) me new)
-  commits_at slots id new me c h e slot turn is_desk is_o is_h is_lane is_new =
-      subst (λ (cs : List (ℕ × Option C)). Allows Rule slots id (me.0, cs) 0 (λ _. new) (λ _. released journal drawn (step slots 0 new 0 none) (me.0, cs) new)) (sym slot) (commits slots id new me.0 c h (drawn c) e turn is_desk is_o is_h is_lane refl is_new)
-
-  pub draws_at : (slots id new : ℕ) (me : Me (Option C) (View O)) (c : C) (d : ℕ) → me.1 ≡ (0, Some c) ∷ [] → me.0.turn ≡ Some (journal c, d) → me.0.origin ≡ Some o → me.0.lane ≡ None → origin c ≡ o → drawn c ≡ d + 1 → new ≡ 2 * length (journal c)
+  pub draws_at : (slots id new : ℕ) (me : Me (Option C) (View O)) (c : C) (d : ℕ) → me.1 ≡ (0, Some c) ∷ [] → me.0.turn ≡ Some (journal c, d) → me.0.origin ≡ Some o → origin c ≡ o → drawn c ≡ d + 1 → new ≡ 2 * length (journal c)
       → Allows Rule slots id me 0 (λ _. new) (λ _. drew journal drawn (step slots 0 new 0 none) me new)
-  draws_at slots id new me c d slot turn is_desk no_lane is_o is_d is_new =
-      subst (λ (cs : List (ℕ × Option C)). Allows Rule slots id (me.0, cs) 0 (λ _. new) (λ _. drew journal drawn (step slots 0 new 0 none) (me.0, cs) new)) (sym slot) (draws slots id new me.0 c (journal c) d turn is_desk no_lane is_o refl is_d is_new)
+  draws_at slots id new me c d slot turn is_desk is_o is_d is_new =
+      subst (λ (cs : List (ℕ × Option C)). Allows Rule slots id (me.0, cs) 0 (λ _. new) (λ _. drew journal drawn (step slots 0 new 0 none) (me.0, cs) new)) (sym slot) (draws slots id new me.0 c (journal c) d turn is_desk is_o refl is_d is_new)
 
   -- what a compare-exchange told
   pub hit : (slots old new : ℕ) (me : Me (Option C) (View O)) (n : ℕ) (me' : Me (Option C) (View O)) → n ≡ old → took origin journal drawn (step slots 0 old new none) me n me' → (c : C) × Taken origin journal drawn me.0 c n me'
@@ -389,44 +368,105 @@ module _ {C O : Type 0} (origin : C → O) (journal : C → List Event) (drawn :
       subst (λ (y : Option C). (IfNone y P) × (IfSome y (λ k. (last ≡ (holding me.0 (journal k) (drawn k), (0, None) ∷ [])) × Gets o (origin k) (journal k) (drawn k) me.0 old))) (sym x_is)
       (tt, (now, record { desk = sym same; word = sym is ∙ t.1.1; knows = subst (λ (p : O). Knows p (journal c) (drawn c) me.0) (sym same) t.1.2; later = t.1.3 }))
 
--- the events of the lane itself grow
-own_same : (k : ℕ) (h : List Event) (e : Event) → e.lane ≡ k → own (h ++ e ∷ []) k ≡ own h k ++ e ∷ []
-own_same k h e is = filter-append (λ (x : Event). eqb x.lane k) h (e ∷ []) ∙ ap (λ (b : Bool). own h k ++ cond b (e ∷ []) []) (eq-eqb e.lane k is)
+-- with nothing more
+pub nothing_more : (lanes : List ℕ) (before after : List Event) → after ≡ before → GoesOn lanes before after
+nothing_more lanes before after is = record { more = []; after_is = is ∙ sym (append-nil before); theirs = λ i d lt. absurd (omega arith) }
+
+-- with one event of a lane more
+pub one_more : (lanes : List ℕ) (before after : List Event) (e : Event) → after ≡ before ++ e ∷ [] → is_one_of lanes e.lane ≡ true → GoesOn lanes before after
+one_more lanes before after e is theirs = record { more = e ∷ []; after_is = is; theirs = All-cons (λ (x : Event). is_one_of lanes x.lane ≡ true) e [] theirs (λ i d lt. absurd (omega arith)) }
+
+-- the events of these lanes grow by all that is added
+own_of_more : (lanes : List ℕ) (h more : List Event) → AllPass (λ e. is_one_of lanes e.lane) more → own_of (h ++ more) lanes ≡ own_of h lanes ++ more
+own_of_more lanes h more theirs = filter-append (λ (e : Event). is_one_of lanes e.lane) h more ∙ ap (λ l. own_of h lanes ++ l) (own_of_all lanes more theirs)
 
 module _ {O : Type 0} where
-  pub adds : (o : O) (h new : List Event) (d d' : ℕ) (e : Event) (v w : View O) → Knows o h d v → v.lane ≡ Some e.lane → new ≡ h ++ e ∷ [] → w ≡ done (holding v h d) new d' → Adds v e w
-  adds o h new d d' e v w k lane is last = record {
-    before = h;
-    seen = ap (λ (u : View O). u.seen) last ∙ is;
-    longer = k.seen;
-    mine = ap (λ (u : View O). u.mine) last ∙ (ap (λ (x : List Event × Option ℕ). own_if x.0 x.1) (λ i. (is i, lane i)) ∙ (own_same e.lane h e refl ∙ ap (λ (l : List Event). l ++ e ∷ []) (sym (k.mine ∙ ap (own_if h) lane))));
-    turn = ap (λ (u : View O). u.turns) last;
-  }
+  lanes_are : (v : View O) → v.joined ≡ [] → lanes_of v ≡ v.lanes
+  lanes_are v no_parts = ap (λ (x : List Part). part_lanes x ++ v.lanes) no_parts
+
+  pub adds : (o : O) (h new : List Event) (d d' : ℕ) (e : Event) (v w : View O) → Knows o h d v → v.joined ≡ [] → is_one_of v.lanes e.lane ≡ true → new ≡ h ++ e ∷ [] → w ≡ done (holding v h d) new d' → Adds v e w
+  adds o h new d d' e v w k no_parts lane is last =
+      let seen : w.seen ≡ h ++ e ∷ [] = ap (λ (u : View O). u.seen) last ∙ is in
+      let lanes : w.lanes ≡ v.lanes = ap (λ (u : View O). u.lanes) last ∙ lanes_are v no_parts in
+      record {
+        before = h;
+        seen = seen;
+        longer = k.mine.longer;
+        mine = ap (λ (es : List Event). own es e.lane) seen ∙ (own_same h e e.lane refl ∙ ap (λ (l : List Event). l ++ e ∷ []) (covered h v.lanes v.seen e.lane k.mine lane));
+        all = ap (λ (es : List Event). own_of es v.lanes) seen ∙ (own_of_more v.lanes h (e ∷ []) (All-cons (λ (x : Event). is_one_of v.lanes x.lane ≡ true) e [] lane (λ i d lt. absurd (omega arith))) ∙ ap (λ (l : List Event). l ++ e ∷ []) k.mine.own);
+        lanes = lanes;
+        turn = ap (λ (u : View O). u.turns) last;
+      }
+
+  pub sees : (o : O) (h new : List Event) (d d' l : ℕ) (v w : View O) → Knows o h d v → v.joined ≡ [] → is_one_of v.lanes l ≡ true → new ≡ h → w ≡ done (holding v h d) new d' → Sees v l w
+  sees o h new d d' l v w k no_parts lane is last =
+      let seen : w.seen ≡ h = ap (λ (u : View O). u.seen) last ∙ is in
+      let lanes : w.lanes ≡ v.lanes = ap (λ (u : View O). u.lanes) last ∙ lanes_are v no_parts in
+      record {
+        longer = subst (IsPrefix v.seen) (sym seen) k.mine.longer;
+        mine = ap (λ (es : List Event). own es l) seen ∙ covered h v.lanes v.seen l k.mine lane;
+        all = ap (λ (es : List Event). own_of es v.lanes) seen ∙ k.mine.own;
+        lanes = lanes;
+        turn = ap (λ (u : View O). u.turns) last;
+      }
 
   pub kept : (o : O) (h new more : List Event) (d d' : ℕ) (v w : View O) → Knows o h d v → new ≡ h ++ more → d ≤ d' → w ≡ done (holding v h d) new d' → Keeps v w
   kept o h new more d d' v w k is grows last = record {
     origin = ap (λ (u : View O). u.origin) last;
-    lane = ap (λ (u : View O). u.lane) last;
-    own = ap (λ (u : View O). u.mine) last ∙ sym (ap (λ (u : View O). own_if u.seen u.lane) last);
-    longer = subst (IsPrefix v.seen) (sym (ap (λ (u : View O). u.seen) last ∙ is)) (prefix_more v.seen h more k.seen);
+    longer = subst (IsPrefix v.seen) (sym (ap (λ (u : View O). u.seen) last ∙ is)) (prefix_more v.seen h more k.mine.longer);
     drawn = (let n = k.drawn in let m : w.drawn ≡ d' = ap (λ (u : View O). u.drawn) last in omega arith);
   }
 
-  pub begins : (o : O) (v w : View O) (h : List Event) (d : ℕ) → Knows o h d (new_view v) → All (λ e. e.lane < d) h → w ≡ seated (holding (new_view v) h d) h (d + 1) → Begins v d w × (w.turn ≡ None) × (w.origin ≡ v.origin) × (w.mine ≡ own w.seen d)
+  pub begins : (o : O) (v w : View O) (h : List Event) (d : ℕ) → Knows o h d (new_view v) → All (λ e. e.lane < d) h → w ≡ seated (holding (new_view v) h d) h (d + 1) → Begins v d w × (w.turn ≡ None) × (w.origin ≡ v.origin) × (w.joined ≡ []) × (is_one_of w.lanes d ≡ true)
   begins o v w h d k later is =
-      let lane : pred (d + 1) ≡ d = omega arith in (
+      let lane : pred (d + 1) ≡ d = omega arith in
+      let lanes : w.lanes ≡ d ∷ [] = ap (λ (u : View O). u.lanes) is ∙ ap (λ (x : ℕ). x ∷ []) lane in (
         record {
-          lane = ap (λ (u : View O). u.lane) is ∙ ap Some lane;
-          mine = ap (λ (u : View O). u.mine) is;
+          above = k.drawn;
+          lanes = lanes;
+          mine = ap (λ (u : View O). own u.seen d) is ∙ own_none d h d later (le_refl d);
           drawn = ap (λ (u : View O). u.drawn) is;
-          longer = subst (IsPrefix v.seen) (sym (ap (λ (u : View O). u.seen) is)) k.seen;
+          longer = subst (IsPrefix v.seen) (sym (ap (λ (u : View O). u.seen) is)) k.mine.longer;
           turns = ap (λ (u : View O). u.turns) is;
         },
         ap (λ (u : View O). u.turn) is,
         ap (λ (u : View O). u.origin) is,
-        ap (λ (u : View O). u.mine) is ∙ (sym (own_none h d later) ∙ sym (ap (λ (u : View O). own u.seen d) is)),
+        ap (λ (u : View O). u.joined) is,
+        ap (λ (x : List ℕ). is_one_of x d) lanes ∙ ap (λ (b : Bool). b || false) (eq-eqb d d refl),
       )
 
--- what a pass knows of its lane's events is all that the history has of it
-pub mine_is : {O : Type 0} (o : O) (h : List Event) (d l : ℕ) (v : View O) → Knows o h d v → v.lane ≡ Some l → own h l ≡ v.mine
-mine_is o h d l v k lane = sym (ap (own_if h) lane) ∙ sym k.mine
+  -- a pass that took in another and looked
+  pub folds : (h : List Event) (l : ℕ) (v other w : View O) → v.joined ≡ [] → other.joined ≡ [] → is_one_of v.lanes l ≡ true → w ≡ caught_up (joined_view v other) h → Covers h v.lanes v.seen → All (λ part. Covers h part.lanes part.seen) (joined_view v other).joined → ((k : ℕ) → stands k (joined_view v other) ≤ 1)
+      → OnlySees v l w × Learns v other w × (w.joined ≡ []) × (is_one_of w.lanes l ≡ true)
+  folds h l v other w no_parts no_parts_too lane last mine all once =
+      let seen : w.seen ≡ h = ap (λ (u : View O). u.seen) last in
+      let theirs : Covers h other.lanes other.seen = All-head (λ (x : Part). Covers h x.lanes x.seen) (record { lanes = other.lanes; seen = other.seen }) (other.joined ++ v.joined) all in
+      let lanes : w.lanes ≡ other.lanes ++ v.lanes = ap (λ (u : View O). u.lanes) last ∙ (ap (λ (x : List Part). (other.lanes ++ part_lanes x) ++ v.lanes) (λ i. no_parts_too i ++ no_parts i) ∙ ap (λ (x : List ℕ). x ++ v.lanes) (append-nil other.lanes)) in (
+        record {
+          keeps = record { origin = ap (λ (u : View O). u.origin) last; longer = subst (IsPrefix v.seen) (sym seen) mine.longer; drawn = (let m : w.drawn ≡ max v.drawn other.drawn = ap (λ (u : View O). u.drawn) last in omega arith) };
+          mine = ap (λ (es : List Event). own es l) seen ∙ covered h v.lanes v.seen l mine lane;
+          all = ap (λ (es : List Event). own_of es v.lanes) seen ∙ mine.own;
+          turns = ap (λ (u : View O). u.turns) last;
+        },
+        record {
+          seen = subst (IsPrefix other.seen) (sym seen) theirs.longer;
+          lanes = lanes;
+          apart = λ k is. none_of k v.lanes (let one = one_stands k other.lanes is in let n = once k in let f : ℕ → ℕ = λ x. cond {A = ℕ} (eqb x k) 1 0 in let rest = part_lanes (other.joined ++ v.joined) in omega (arith, one, n, sum_append f (other.lanes ++ rest) v.lanes, sum_append f other.lanes rest));
+          all = ap (λ (es : List Event). own_of es other.lanes) seen ∙ theirs.own;
+          drawn = ap (λ (u : View O). u.drawn) last;
+        },
+        ap (λ (u : View O). u.joined) last,
+        ap (λ (x : List ℕ). is_one_of x l) lanes ∙ is_one_after l other.lanes v.lanes lane,
+      )
+
+  -- the same, as the calls tell it
+  pub folds_at : {S : Type 0} (l : ℕ) (v other m : View O) (cs : List (ℕ × S)) (last : Me S (View O)) → v.joined ≡ [] → other.joined ≡ [] → is_one_of v.lanes l ≡ true → m ≡ joined_view v other
+      → (h : List Event) × (last ≡ (caught_up m h, cs)) × Covers h m.lanes m.seen × All (λ part. Covers h part.lanes part.seen) m.joined × ((k : ℕ) → stands k m ≤ 1)
+      → OnlySees v l last.0 × Learns v other last.0 × (last.0.joined ≡ []) × (is_one_of last.0.lanes l ≡ true)
+  folds_at l v other m cs last no_parts no_parts_too lane is told =
+      folds told.0 l v other last.0 no_parts no_parts_too lane (ap (λ (x : Me _ (View O)). x.0) told.1 ∙ ap (λ (x : View O). caught_up x told.0) is)
+      (subst (λ (x : View O). Covers told.0 x.lanes x.seen) is told.2) (subst (λ (x : View O). All (λ part. Covers told.0 part.lanes part.seen) x.joined) is told.3) (subst (λ (x : View O). (k : ℕ) → stands k x ≤ 1) is told.4)
+
+-- what a pass knows of a lane's events is all that the history has of it
+pub mine_is : {O : Type 0} (o : O) (h : List Event) (d l : ℕ) (v : View O) → Knows o h d v → is_one_of v.lanes l ≡ true → own h l ≡ own v.seen l
+mine_is o h d l v k lane = covered h v.lanes v.seen l k.mine lane

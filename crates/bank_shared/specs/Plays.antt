@@ -1,11 +1,10 @@
 -- What each step tells its seat.
-use Rattle.std.specs.Prelude.{◌≡◌, ℕ, ◌*◌, ◌<◌, pred, suc, List, [], ◌∷◌, length, ◌==◌, All, Option, Some, None, MatchBool}
-use mathlib.Core.List.{IsPrefix}
+use Rattle.std.specs.Prelude.{◌≡◌, ℕ, ◌*◌, ◌<◌, ◌≤◌, pred, suc, List, [], ◌∷◌, length, ◌==◌, All, Option, Some, None, MatchBool}
 use Rattle.atomic_table.specs.Table.{Me, Step}
 use Rattle.bank_law.specs.declared.event.Event.{Event}
 use Rattle.bank_shared.specs.declared.view.View.{View}
-use Rattle.bank_shared.specs.History.{own_if}
-use Rattle.bank_shared.specs.Rule.{Knows}
+use Rattle.bank_shared.specs.History.{Covers}
+use Rattle.bank_shared.specs.Rule.{Knows, lanes_of, stands}
 
 -- the history that came with the turn
 abbrev pub had : Option (List Event × ℕ) → List Event
@@ -18,11 +17,9 @@ module _ {O : Type 0} where
   holding v h d =
       record {
         origin = v.origin;
-        lane = v.lane;
-        kept = v.kept;
-        olds = v.olds;
+        lanes = v.lanes;
         seen = v.seen;
-        mine = v.mine;
+        joined = v.joined;
         drawn = v.drawn;
         turns = suc v.turns;
         turn = Some (h, d);
@@ -33,11 +30,9 @@ module _ {O : Type 0} where
   done v h d =
       record {
         origin = v.origin;
-        lane = v.lane;
-        kept = v.kept;
-        olds = [];
+        lanes = lanes_of v;
         seen = h;
-        mine = own_if h v.lane;
+        joined = [];
         drawn = d;
         turns = v.turns;
         turn = None;
@@ -48,11 +43,9 @@ module _ {O : Type 0} where
   seated v h d =
       record {
         origin = v.origin;
-        lane = Some (pred d);
-        kept = v.kept;
-        olds = [];
+        lanes = pred d ∷ lanes_of v;
         seen = h;
-        mine = [];
+        joined = [];
         drawn = d;
         turns = v.turns;
         turn = None;
@@ -63,11 +56,9 @@ module _ {O : Type 0} where
   caught_up v h =
       record {
         origin = v.origin;
-        lane = v.lane;
-        kept = v.kept;
-        olds = [];
+        lanes = lanes_of v;
         seen = h;
-        mine = v.mine;
+        joined = [];
         drawn = v.drawn;
         turns = v.turns;
         turn = v.turn;
@@ -75,8 +66,8 @@ module _ {O : Type 0} where
 
   abbrev pub looked : {S : Type 0} → Step S → Me S (View O) → ℕ → Me S (View O) → Type 0
   looked s m n m' =
-      (h : List Event) × (m' ≡ (caught_up m.0 h, m.1)) × IsPrefix m.0.seen h
-      × All (λ old. IsPrefix old h) m.0.olds × (m.0.mine ≡ own_if h m.0.lane)
+      (h : List Event) × (m' ≡ (caught_up m.0 h, m.1)) × Covers h m.0.lanes m.0.seen
+      × All (λ part. Covers h part.lanes part.seen) m.0.joined × ((l : ℕ) → stands l m.0 ≤ 1)
 
   -- what stands in the slot when the turn is taken from a word
   pub record Gets (o p : O) (h : List Event) (d : ℕ) (v : View O) (n : ℕ) : Type 0 where

@@ -1,28 +1,38 @@
 -- The rule of the desk: one word, one slot, and what each seat knows.
-use Rattle.std.specs.Prelude.{◌≡◌, ℕ, ◌+◌, ◌*◌, ◌<◌, ◌≤◌, max, List, [], ◌∷◌, ◌++◌, length, ◌==◌, cond, All, Option, Some, None, IfSome, option_to_list}
+use Rattle.std.specs.Prelude.{◌≡◌, ℕ, ◌+◌, ◌*◌, ◌<◌, ◌≤◌, max, List, [], ◌∷◌, ◌++◌, length, ◌==◌, cond, flat_map, All, Option, Some, None, IfSome}
 use mathlib.Core.Option.{some, none}
-use mathlib.Core.List.{IsPrefix}
 use lib.ListN.{get_elem?}
 use Rattle.atomic_table.specs.Table.{State}
 use Rattle.spec_base.specs.Sums.{total}
 use Rattle.bank_law.specs.declared.event.Event.{Event}
 use Rattle.bank_shared.specs.declared.view.View.{View}
-use Rattle.bank_shared.specs.History.{own_if}
+use Rattle.bank_shared.specs.declared.view.Part.{Part}
+use Rattle.bank_shared.specs.History.{Covers}
+
+-- how often a lane stands among these
+abbrev pub times : ℕ → List ℕ → ℕ
+times l lanes = total (λ k. cond (k == l) 1 0) lanes
+
+-- the lanes of parts
+abbrev pub part_lanes : List Part → List ℕ
+part_lanes parts = flat_map (λ part. part.lanes) parts
 
 module _ {O : Type 0} where
+  -- the lanes of a view, and of the passes that were joined into it since it looked
+  abbrev pub lanes_of : View O → List ℕ
+  lanes_of v = part_lanes v.joined ++ v.lanes
+
   -- how often a lane stands in a view
   abbrev pub stands : ℕ → View O → ℕ
-  stands l v = total (λ k. cond (k == l) 1 0) (option_to_list v.lane ++ v.kept)
+  stands l v = times l (lanes_of v)
 
   abbrev pub first_view : O → View O
   first_view o =
       record {
         origin = Some o;
-        lane = Some 0;
-        kept = [];
-        olds = [];
+        lanes = 0 ∷ [];
         seen = [];
-        mine = [];
+        joined = [];
         drawn = 1;
         turns = 0;
         turn = None;
@@ -33,11 +43,9 @@ module _ {O : Type 0} where
   spent_view =
       record {
         origin = None;
-        lane = None;
-        kept = [];
-        olds = [];
+        lanes = [];
         seen = [];
-        mine = [];
+        joined = [];
         drawn = 0;
         turns = 0;
         turn = None;
@@ -48,11 +56,9 @@ module _ {O : Type 0} where
   new_view v =
       record {
         origin = v.origin;
-        lane = None;
-        kept = [];
-        olds = [];
+        lanes = [];
         seen = v.seen;
-        mine = [];
+        joined = [];
         drawn = v.drawn;
         turns = 0;
         turn = None;
@@ -62,11 +68,9 @@ module _ {O : Type 0} where
   joined_view v w =
       record {
         origin = v.origin;
-        lane = v.lane;
-        kept = (option_to_list w.lane ++ w.kept) ++ v.kept;
-        olds = w.seen ∷ w.olds ++ v.olds;
+        lanes = v.lanes;
         seen = v.seen;
-        mine = v.mine;
+        joined = record { lanes = w.lanes; seen = w.seen } ∷ w.joined ++ v.joined;
         drawn =
             max v.drawn w.drawn;
         turns = v.turns;
@@ -76,9 +80,8 @@ module _ {O : Type 0} where
   -- what a view knows of a history with d lanes drawn
   pub record Knows (o : O) (h : List Event) (d : ℕ) (v : View O) : Type 0 where
     pub desk : IfSome v.origin (λ p. p ≡ o)
-    pub seen : IsPrefix v.seen h
-    pub olds : All (λ s. IsPrefix s h) v.olds
-    pub mine : v.mine ≡ own_if h v.lane
+    pub mine : Covers h v.lanes v.seen
+    pub joined : All (λ part. Covers h part.lanes part.seen) v.joined
     pub drawn : v.drawn ≤ d
 
   module _ {C : Type 0} (origin : C → O) (journal : C → List Event) (drawn : C → ℕ) where

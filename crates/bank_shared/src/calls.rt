@@ -1,26 +1,25 @@
 //! What a desk does for its passes.
-ghost use Rattle.std.specs.Prelude.{◌≡◌, ◌<◌, None, Some};
-ghost use Rattle.bank_law.specs.History.{holds, returns};
+ghost use Rattle.std.specs.Prelude.{⊤, ◌≡◌, ◌<◌, None, Some};
+ghost use Rattle.bank_law.specs.History.{own, holds, returns};
 ghost use Rattle.bank_law.specs.declared.event.EventKind.TheVariants.{Grant, Commit, Return};
 ghost use Rattle.sol_base.specs.Accounts.{accounts_of};
 ghost use Rattle.bank_core.specs.Effects.{effects_seen};
-ghost use Rattle.bank_core.specs.Origins.{IsLegalFor, AllDoneAfter};
+ghost use Rattle.bank_core.specs.Origins.{IsLegalFor, IsLeastReadyAfter, AllDoneAfter};
 ghost use Rattle.bank_core.specs.Takes.{MatchTake, IsNotNowAfter, ReadsLeastAfter};
-ghost use Rattle.bank_core.specs.Desks.{MatchSplit};
+ghost use Rattle.bank_core.specs.Desks.{MatchSplit, before_last};
 ghost use Rattle.bank_shared.specs.Passes.{Adds, Sees, Keeps, Begins, OnlySees, Learns};
 
 use crate::desk::{Pass, SharedDesk};
 use crate::rule::Parts;
 use bank_core::{Effects, Loan, Split, Take, Work};
-use bank_law::{Event, EventKind};
 use std::sync::Wait;
 
 impl<W: Work> SharedDesk<W> {
-    /// Lends a position to the pass's lane.
+    /// Lends the least ready position to the pass's lane.
     pub(crate) fn lend<R: Wait>(&self, rt: &R, pass: &mut Pass<W>) -> Take<W>
         requires table { pass.old.seat.table_id ≡ self.now.table.shared.table_id }
         requires desk { pass.old.seat.me.0.origin ≡ Some self.now.table.shared.key.value }
-        requires free { holds pass.old.seat.me.0.mine ≡ None }
+        requires free { holds (own pass.old.seat.me.0.seen pass.old.lane) ≡ None }
         ensures table { pass.new.seat.table_id ≡ pass.old.seat.table_id }
         ensures lane { pass.new.lane ≡ pass.old.lane }
         ensures kept { Keeps pass.old.seat.me.0 pass.new.seat.me.0 }
@@ -30,9 +29,9 @@ impl<W: Work> SharedDesk<W> {
             (λ loan. Adds pass.old.seat.me.0
             (record { kind = Grant; lane = pass.old.lane; position = loan.position })
             pass.new.seat.me.0)
-            (λ held. Sees pass.old.seat.me.0 pass.new.seat.me.0)
-            (Sees pass.old.seat.me.0 pass.new.seat.me.0)
-            (Sees pass.old.seat.me.0 pass.new.seat.me.0) }
+            (λ held. Sees pass.old.seat.me.0 pass.old.lane pass.new.seat.me.0)
+            (Sees pass.old.seat.me.0 pass.old.lane pass.new.seat.me.0)
+            (Sees pass.old.seat.me.0 pass.old.lane pass.new.seat.me.0) }
         ensures take { MatchTake result
             (λ loan. (loan.lane ≡ pass.old.lane)
             × (loan.origin.value ≡ self.now.table.shared.key.value.origin))
@@ -40,17 +39,15 @@ impl<W: Work> SharedDesk<W> {
             pass.new.seat.me.0.seen held)
             (AllDoneAfter W.job self.now.table.shared.key.value.origin pass.new.seat.me.0.seen)
             (ReadsLeastAfter W.job self.now.table.shared.key.value.origin pass.new.seat.me.0.seen) }
+        ensures least { MatchTake result
+            (λ loan. IsLeastReadyAfter W.job self.now.table.shared.key.value.origin
+            (before_last pass.new.seat.me.0.seen) loan.position) (λ held. ⊤) ⊤ ⊤ }
     {
         let lane = pass.lane;
         let (word, mut kept) = self.lock(rt, &mut pass.seat);
         match kept.core.take(lane) {
             Take::Loan(loan) => {
-                let granted = Event {
-                    kind: EventKind::Grant,
-                    lane,
-                    position: loan.position(),
-                };
-                self.release_more(&mut pass.seat, word + 2, kept, granted);
+                self.release_more(&mut pass.seat, word + 2, kept);
                 Take::Loan(loan)
             }
             Take::NotNow { held } => {
@@ -80,7 +77,7 @@ impl<W: Work> SharedDesk<W> {
         requires desk { pass.old.seat.me.0.origin ≡ Some self.now.table.shared.key.value }
         requires origin { loan.origin.value ≡ self.now.table.shared.key.value.origin }
         requires lane { loan.lane ≡ pass.old.lane }
-        requires held { holds pass.old.seat.me.0.mine ≡ Some loan.position }
+        requires held { holds (own pass.old.seat.me.0.seen pass.old.lane) ≡ Some loan.position }
         requires right { effects_seen effects
             ≡ (W.job self.now.table.shared.key.value.origin.told).effects loan.position
             (accounts_of loan.values.items) }
@@ -93,15 +90,9 @@ impl<W: Work> SharedDesk<W> {
             (record { kind = Commit; lane = pass.old.lane; position = loan.position })
             pass.new.seat.me.0 }
     {
-        let lane = pass.lane;
-        let event = Event {
-            kind: EventKind::Commit,
-            lane,
-            position: loan.position(),
-        };
         let (word, mut kept) = self.lock(rt, &mut pass.seat);
         kept.core.commit(loan, effects);
-        self.release_more(&mut pass.seat, word + 2, kept, event);
+        self.release_more(&mut pass.seat, word + 2, kept);
     }
 
     /// Puts the values of the pass's loan back.
@@ -110,8 +101,8 @@ impl<W: Work> SharedDesk<W> {
         requires desk { pass.old.seat.me.0.origin ≡ Some self.now.table.shared.key.value }
         requires origin { loan.origin.value ≡ self.now.table.shared.key.value.origin }
         requires lane { loan.lane ≡ pass.old.lane }
-        requires held { holds pass.old.seat.me.0.mine ≡ Some loan.position }
-        requires once { returns pass.old.seat.me.0.mine ≡ 0 }
+        requires held { holds (own pass.old.seat.me.0.seen pass.old.lane) ≡ Some loan.position }
+        requires once { returns (own pass.old.seat.me.0.seen pass.old.lane) ≡ 0 }
         ensures table { pass.new.seat.table_id ≡ pass.old.seat.table_id }
         ensures lane { pass.new.lane ≡ pass.old.lane }
         ensures kept { Keeps pass.old.seat.me.0 pass.new.seat.me.0 }
@@ -121,15 +112,9 @@ impl<W: Work> SharedDesk<W> {
             (record { kind = Return; lane = pass.old.lane; position = loan.position })
             pass.new.seat.me.0 }
     {
-        let lane = pass.lane;
-        let event = Event {
-            kind: EventKind::Return,
-            lane,
-            position: loan.position(),
-        };
         let (word, mut kept) = self.lock(rt, &mut pass.seat);
         kept.core.give_back(loan);
-        self.release_more(&mut pass.seat, word + 2, kept, event);
+        self.release_more(&mut pass.seat, word + 2, kept);
     }
 
     /// A new pass, with a lane of its own.
@@ -138,7 +123,8 @@ impl<W: Work> SharedDesk<W> {
         requires desk { pass.old.seat.me.0.origin ≡ Some self.now.table.shared.key.value }
         ensures table { pass.new.seat.table_id ≡ pass.old.seat.table_id }
         ensures lane { pass.new.lane ≡ pass.old.lane }
-        ensures kept { OnlySees pass.old.seat.me.0 pass.new.seat.me.0 }
+        ensures kept { OnlySees pass.old.seat.me.0 pass.old.lane pass.new.seat.me.0 }
+        ensures lanes { pass.new.seat.me.0.lanes ≡ pass.old.seat.me.0.lanes }
         ensures made { MatchSplit result
             (λ made. (made.seat.table_id ≡ pass.old.seat.table_id)
             × (made.seat.me.0.origin ≡ pass.old.seat.me.0.origin)
@@ -160,14 +146,14 @@ impl<W: Work> SharedDesk<W> {
         }
     }
 
-    /// Joins another pass into this one.
+    /// Joins another pass into this one, with all its lanes.
     pub(crate) fn join_pass(&self, pass: &mut Pass<W>, other: Pass<W>)
         requires table { (pass.old.seat.table_id ≡ self.now.table.shared.table_id)
             × (other.seat.table_id ≡ self.now.table.shared.table_id) }
         requires desk { pass.old.seat.me.0.origin ≡ Some self.now.table.shared.key.value }
         ensures table { pass.new.seat.table_id ≡ pass.old.seat.table_id }
         ensures lane { pass.new.lane ≡ pass.old.lane }
-        ensures kept { OnlySees pass.old.seat.me.0 pass.new.seat.me.0 }
+        ensures kept { OnlySees pass.old.seat.me.0 pass.old.lane pass.new.seat.me.0 }
         ensures other { Learns pass.old.seat.me.0 other.seat.me.0 pass.new.seat.me.0 }
     {
         let Pass { seat, lane: _ } = other;

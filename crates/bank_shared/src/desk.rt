@@ -1,8 +1,8 @@
 //! A desk and its passes.
-ghost use Rattle.std.specs.Prelude.{◌≡◌, ◌<◌, ◌≤◌, [], Some, None, IfSome, IfOk};
+ghost use Rattle.std.specs.Prelude.{◌≡◌, ◌<◌, ◌≤◌, true, [], Some, None, IfSome, IfOk};
 ghost use Rattle.std.proofs.Props.{props};
 ghost use mathlib.Core.List.{IsPrefix};
-ghost use Rattle.bank_law.specs.History.{own};
+ghost use Rattle.bank_shared.specs.History.{own, own_of, is_one_of};
 ghost use Rattle.bank_core.specs.Origins.{AllDoneAfter};
 ghost use Rattle.bank_shared.specs.Rule.{first_view};
 
@@ -16,15 +16,16 @@ use sol_base::OutOfMemory;
 use std::alloc::Global;
 use std::sync::Wait;
 
-/// A pass of a desk, with a lane of its own. In no call does it have the turn or the slot.
+/// A pass of a desk: its own lane, and the lanes of the passes that were joined into it. In no call
+/// does it have the turn or the slot.
 #[derive(Drop)]
 pub struct Pass<W: Work> {
     pub(crate) seat: Seat<Option<Kept<W>>, View<DeskOrigin<W::Told>>>,
     pub(crate) lane: u32,
     ghost no_slot: { seat.me.1 ≡ [] },
     ghost no_turn: { seat.me.0.turn ≡ None },
-    ghost lane_is: { seat.me.0.lane ≡ Some lane },
-    ghost own: { seat.me.0.mine ≡ own seat.me.0.seen lane },
+    ghost no_parts: { seat.me.0.joined ≡ [] },
+    ghost lane_is: { is_one_of seat.me.0.lanes lane ≡ true },
     ghost within: { IfSome seat.me.0.origin (λ desk. lane < desk.lanes) } by { Prim.hlevel props },
 }
 
@@ -63,14 +64,18 @@ impl<W: Work> SharedDesk<W> {
         Ok((SharedDesk { table }, Pass { seat, lane: 0 }))
     }
 
-    /// Ends the desk, and answers its core. What other passes hold stays held in it.
+    /// Ends the desk, and answers its core. What other passes hold stays held in it. Of each lane of
+    /// the pass, and of each that was joined into it, the core's journal has what the pass has seen,
+    /// each event once and no further one.
     pub fn close<R: Wait>(self, rt: &R, pass: Pass<W>) -> Core<W>
         requires table { pass.seat.table_id ≡ self.table.shared.table_id }
         requires desk { pass.seat.me.0.origin ≡ Some self.table.shared.key.value }
         ensures origin { self.table.shared.key.value
             ≡ record { origin = result.origin.value; lanes = result.lanes } }
-        ensures history { IsPrefix pass.seat.me.0.seen result.journal.items
-            × (own result.journal.items pass.lane ≡ pass.seat.me.0.mine) }
+        ensures history { IsPrefix pass.seat.me.0.seen result.journal.items }
+        ensures each { own_of result.journal.items pass.seat.me.0.lanes
+            ≡ own_of pass.seat.me.0.seen pass.seat.me.0.lanes }
+        ensures mine { own result.journal.items pass.lane ≡ own pass.seat.me.0.seen pass.lane }
         ensures ended { AllDoneAfter W.job self.table.shared.key.value.origin pass.seat.me.0.seen
             → result.journal.items ≡ pass.seat.me.0.seen }
     {

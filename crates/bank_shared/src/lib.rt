@@ -16,4 +16,4 @@ pub use desk::{Pass, SharedDesk};
 pub use kept::{DeskOrigin, Kept};
 pub use reader::Reader;
 pub use rule::{Draws, Folds, Looks, Parts, Releases, Takes, TurnRule};
-pub use view::View;
+pub use view::{Part, View};

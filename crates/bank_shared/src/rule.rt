@@ -45,7 +45,7 @@ impl<W: Work> Play<Option<Kept<W>>, View<DeskOrigin<W::Told>>> for Looks<W> {
     ghost then = { looked };
 }
 
-/// Kinds 7 and 8: the turn is given up, with one event or none.
+/// Kinds 7 and 8: the turn is given up, with some events of the seat's lanes or none.
 pub struct Releases<W> {
     of: PhantomData<W>,
 }
@@ -56,7 +56,7 @@ impl<W: Work> Play<Option<Kept<W>>, View<DeskOrigin<W::Told>>> for Releases<W> {
     ghost then = { released (λ kept. kept.core.journal.items) (λ kept. kept.drawn) };
 }
 
-/// Kind 8, by a new seat, which gets its lane.
+/// Kind 8, where the seat gets a lane.
 pub struct Draws<W> {
     of: PhantomData<W>,
 }

@@ -5,6 +5,7 @@ use std::sync::Wait;
 
 impl<W: Work> Desk<W> for SharedDesk<W> {
     ghost use Rattle.std.specs.Prelude.{◌≡◌, Some};
+    ghost use Rattle.bank_law.specs.History.{own};
     ghost use Rattle.sol_base.specs.Accounts.{accounts_of};
 
     type Pass = Pass<W>;
@@ -22,10 +23,12 @@ impl<W: Work> Desk<W> for SharedDesk<W> {
     ghost view = { λ pass. record {
       lane = pass.lane;
       seen = pass.seat.me.0.seen;
-      mine = pass.seat.me.0.mine;
+      mine = own pass.seat.me.0.seen pass.lane;
       drawn = pass.seat.me.0.drawn;
       turns = pass.seat.me.0.turns;
     } };
+
+    ghost lanes_of = { λ pass. pass.seat.me.0.lanes };
 
     ghost loan = { λ loan. record {
       position = loan.position;

@@ -1,5 +1,7 @@
 //! The turn: how it is taken with the core, and given up.
-ghost use Rattle.std.specs.Prelude.{◌≡◌, ◌+◌, ◌*◌, ◌<◌, ◌%◌, ◌^◌, ◌++◌, ◌-◌, [], ◌∷◌, length, Some, None, IfSome, IfNone};
+ghost use Rattle.std.specs.Prelude.{◌≡◌, ◌+◌, ◌*◌, ◌<◌, ◌%◌, ◌^◌, ◌-◌, [], ◌∷◌, length, Some, None, IfSome, IfNone};
+ghost use Rattle.bank_shared.specs.History.{GoesOn};
+ghost use Rattle.bank_shared.specs.Rule.{lanes_of};
 ghost use Rattle.bank_shared.specs.Plays.{holding, done, seated, Gets, had};
 ghost use Rattle.bank_shared.specs.Passes.{OnlySees, Learns};
 
@@ -9,7 +11,6 @@ use crate::rule::{Draws, Folds, Looks, Releases, Takes};
 use crate::view::View;
 use atomic_table::Seat;
 use bank_core::Work;
-use bank_law::Event;
 use std::hint;
 use std::sync::Wait;
 
@@ -103,13 +104,13 @@ impl<W: Work> SharedDesk<W> {
         self.table.shared.wake_one(0);
     }
 
-    /// Gives the turn up, with one event.
+    /// Gives the turn up, with what the core's journal has more than it had: events of the seat's
+    /// lanes alone.
     pub(crate) fn release_more(
         &self,
         seat: &mut Seat<Option<Kept<W>>, View<DeskOrigin<W::Told>>>,
         word: u64,
         kept: Kept<W>,
-        event: Event,
     )
         requires table { seat.old.table_id ≡ self.now.table.shared.table_id }
         requires desk { (seat.old.me.0.origin ≡ Some self.now.table.shared.key.value)
@@ -117,14 +118,12 @@ impl<W: Work> SharedDesk<W> {
             ≡ self.now.table.shared.key.value) }
         requires slot { seat.old.me.1 ≡ (0, None) ∷ [] }
         requires turn { seat.old.me.0.turn ≡ Some (had seat.old.me.0.turn, kept.drawn) }
-        requires event { (kept.core.journal.items ≡ had seat.old.me.0.turn ++ event ∷ [])
-            × (seat.old.me.0.lane ≡ Some event.lane) }
+        requires events { GoesOn (lanes_of seat.old.me.0) (had seat.old.me.0.turn)
+            kept.core.journal.items }
         requires word { word ≡ 2 * length kept.core.journal.items }
         ensures table { seat.new.table_id ≡ seat.old.table_id }
         ensures me { seat.new.me ≡ (done seat.old.me.0 kept.core.journal.items kept.drawn, []) }
     {
-        // The contract alone asks for the event: the journal has it already.
-        let _event = event;
         self.table.shared.exchange(seat, 0, Some(kept));
         self.table.shared.store::<Releases<W>>(seat, 0, word);
         self.table.shared.wake_one(0);
@@ -142,7 +141,7 @@ impl<W: Work> SharedDesk<W> {
         requires desk { (seat.old.me.0.origin ≡ Some self.now.table.shared.key.value)
             × ((record { origin = kept.core.origin.value; lanes = kept.core.lanes })
             ≡ self.now.table.shared.key.value) }
-        requires slot { (seat.old.me.1 ≡ (0, None) ∷ []) × (seat.old.me.0.lane ≡ None) }
+        requires slot { seat.old.me.1 ≡ (0, None) ∷ [] }
         requires turn { (seat.old.me.0.turn ≡ Some (kept.core.journal.items, lane))
             × (kept.drawn ≡ lane + 1) }
         requires word { word ≡ 2 * length kept.core.journal.items }
@@ -165,10 +164,10 @@ impl<W: Work> SharedDesk<W> {
         requires table { (pass.old.seat.table_id ≡ self.now.table.shared.table_id)
             × (seat.table_id ≡ self.now.table.shared.table_id) }
         requires desk { pass.old.seat.me.0.origin ≡ Some self.now.table.shared.key.value }
-        requires slot { seat.me.1 ≡ [] }
+        requires slot { (seat.me.1 ≡ []) × (seat.me.0.joined ≡ []) }
         ensures table { pass.new.seat.table_id ≡ pass.old.seat.table_id }
         ensures lane { pass.new.lane ≡ pass.old.lane }
-        ensures kept { OnlySees pass.old.seat.me.0 pass.new.seat.me.0 }
+        ensures kept { OnlySees pass.old.seat.me.0 pass.old.lane pass.new.seat.me.0 }
         ensures other { Learns pass.old.seat.me.0 seat.me.0 pass.new.seat.me.0 }
     {
         self.table.shared.join_seat::<Folds>(&mut pass.seat, seat);

@@ -1,6 +1,6 @@
 -- What a lane holds.
 use Rattle.std.specs.Prelude.{◌≡◌, ℕ, Bool, false, Option, Some, None}
-use Rattle.bank_law.specs.History.{PassView, holds, returns}
+use Rattle.bank_law.specs.History.{PassView, own, holds, returns}
 use Rattle.bank_core.specs.declared.origin.Origin.{Origin}
 use Rattle.bank_core.specs.declared.loan.Loan.{Loan}
 use Rattle.bank_shared.specs.declared.view.View.{View}
@@ -21,4 +21,10 @@ ReturnsOnce gave_back v = gave_back ≡ false → returns v.mine ≡ 0
 module _ {O : Type 0} where
   abbrev pub seen_as : ℕ → View O → PassView
   seen_as lane v =
-      record { lane = lane; seen = v.seen; mine = v.mine; drawn = v.drawn; turns = v.turns }
+      record {
+        lane = lane;
+        seen = v.seen;
+        mine = own v.seen lane;
+        drawn = v.drawn;
+        turns = v.turns;
+      }

@@ -1,4 +1,4 @@
-use Rattle.invoke_engine.proofs.Kept.{calls_by_rules, leaves_by_rules, same_stretch, first_stretch, native_stretch, next_stretch}
+use Rattle.invoke_engine.proofs.Kept.{calls_by_rules, leaves_by_rules, same_stretch, first_stretch, next_stretch}
 use Rattle.invoke_engine.proofs.laws.stretches_keep_the_rules.Goals as goal
 
 pub returns-clause-calls : goal.returns-clause-calls
@@ -15,6 +15,3 @@ returns-clause-first c = first_stretch
 
 pub returns-clause-next : goal.returns-clause-next
 returns-clause-next c = next_stretch
-
-pub returns-clause-native : goal.returns-clause-native
-returns-clause-native c = native_stretch

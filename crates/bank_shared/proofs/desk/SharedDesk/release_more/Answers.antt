@@ -1,5 +1,7 @@
-use Rattle.std.proofs.Common.{rules, [], ◌∷◌, ap, ◌∙◌, Some}
+use Rattle.std.proofs.Common.{rules, [], ◌∷◌, ap, ◌∙◌, Some, subst, sym}
 use Rattle.atomic_table.specs.Table.{rest}
+use Rattle.bank_shared.specs.History.{GoesOn}
+use Rattle.bank_shared.specs.Rule.{lanes_of}
 use Rattle.bank_shared.specs.Plays.{done, had}
 use Rattle.bank_shared.proofs.Moves.{commits_at}
 use Rattle.bank_shared.proofs.desk.SharedDesk.release_more.Goals as goal
@@ -7,7 +9,7 @@ use Rattle.bank_shared.proofs.desk.SharedDesk.release_more.Goals as goal
 pub store-requires : goal.store-requires
 store-requires g c =
     let x = c.exchange.ensures in
-    (search rules, search rules, commits_at _ _ _ _ _ _ _ c.exchange.new.seat.me c.args.kept (had c.args.seat.now.me.0.turn) c.args.event (ap (λ m. m.1) x.3 ∙ ap (λ l. (0, Some c.args.kept) ∷ rest l) c.requires.slot) (ap (λ m. m.0.turn) x.3 ∙ c.requires.turn) (ap (λ m. m.0.origin) x.3 ∙ c.requires.desk.0) c.requires.desk.1 c.requires.event.0 (ap (λ m. m.0.lane) x.3 ∙ c.requires.event.1) c.requires.word)
+    (search rules, search rules, commits_at _ _ _ _ _ _ _ c.exchange.new.seat.me c.args.kept (had c.args.seat.now.me.0.turn) (ap (λ m. m.1) x.3 ∙ ap (λ l. (0, Some c.args.kept) ∷ rest l) c.requires.slot) (ap (λ m. m.0.turn) x.3 ∙ c.requires.turn) (ap (λ m. m.0.origin) x.3 ∙ c.requires.desk.0) c.requires.desk.1 (subst (λ m. GoesOn (lanes_of m.0) (had c.args.seat.now.me.0.turn) c.args.kept.core.journal.items) (sym x.3) c.requires.events) c.requires.word)
 
 pub returns-clause-me : goal.returns-clause-me
 returns-clause-me g c =

@@ -1,13 +1,14 @@
-use Rattle.std.proofs.Common.{◌≡◌, ◌++◌, ◌+◌, ◌*◌, [], ◌∷◌, length, ap, ap₂, sym, subst, subst₂, ◌∙◌, Some, length-append, arith, le_refl}
+use Rattle.std.proofs.Common.{◌≡◌, ◌++◌, ◌+◌, ◌*◌, [], ◌∷◌, length, ap, sym, subst, subst₂, ◌∙◌, Some, length-append, arith, le_refl}
 use Rattle.bank_law.specs.declared.event.Event.{Event}
 use Rattle.bank_law.specs.declared.event.EventKind.TheVariants.{Return}
-use Rattle.bank_shared.specs.History.{own, holds}
+use Rattle.bank_shared.specs.History.{own, holds, is_one_of}
+use Rattle.bank_shared.specs.Rule.{part_lanes, lanes_of}
 use Rattle.bank_law.specs.History.{returns}
 use Rattle.account_store.specs.State.{at}
 use Rattle.bank_law.specs.Machine.{IsLegal}
 use Rattle.bank_shared.specs.declared.kept.DeskOrigin.{DeskOrigin}
 use Rattle.bank_shared.specs.Plays.{had, done}
-use Rattle.bank_shared.proofs.Moves.{mine_is, adds, kept}
+use Rattle.bank_shared.proofs.Moves.{mine_is, one_more, adds, kept}
 use Rattle.bank_shared.proofs.desk.SharedDesk.return_loan.Goals as goal
 
 pub give_back-requires-clause-origin : goal.give_back-requires-clause-origin
@@ -26,17 +27,17 @@ give_back-requires-clause-once g c =
 pub release_more-requires : goal.release_more-requires
 release_more-requires g c =
     let m = c.lock-word.ensures.me in
-    let e : Event = record { kind = Return; lane = c.args.pass.now.lane; position = c.position.result } in
+    let e : Event = record { kind = Return; lane = c.args.pass.now.lane; position = c.args.loan.position } in
     let turn = ap (λ m. m.0.turn) m in
     let n = c.lock-word.ensures.gets.word in
-    let more : c.give_back.new.self.journal.items ≡ c.lock-word.result.1.core.journal.items ++ e ∷ [] = c.give_back.ensures.journal ∙ ap₂ (λ l p. c.lock-word.result.1.core.journal.items ++ record { kind = Return; lane = l; position = p } ∷ []) c.requires.lane (sym c.position.ensures) in
+    let more : c.give_back.new.self.journal.items ≡ c.lock-word.result.1.core.journal.items ++ e ∷ [] = c.give_back.ensures.journal ∙ ap (λ l. c.lock-word.result.1.core.journal.items ++ record { kind = Return; lane = l; position = c.args.loan.position } ∷ []) c.requires.lane in
     let w : c.lock-word.result.0 + 2 ≡ 2 * length c.give_back.new.self.journal.items = omega (arith, n, ap length more, length-append c.lock-word.result.1.core.journal.items (e ∷ [])) in
     record {
       table = c.lock-word.ensures.table ∙ c.requires.table;
       desk = (ap (λ m. m.0.origin) m ∙ c.requires.desk, (λ i. record { origin = c.give_back.ensures.origin i; lanes = c.give_back.ensures.lanes i }) ∙ c.lock-word.ensures.gets.desk);
       slot = ap (λ m. m.1) m;
       turn = turn ∙ ap (λ t. Some (had t, c.lock-word.result.1.drawn)) (sym turn);
-      event = (more ∙ ap (λ t. had t ++ e ∷ []) (sym turn), ap (λ m. m.0.lane) m ∙ c.args.pass.now.lane_is);
+      events = one_more _ _ _ e (more ∙ ap (λ t. had t ++ e ∷ []) (sym turn)) (ap (λ m. is_one_of (lanes_of m.0) c.args.pass.now.lane) m ∙ (ap (λ x. is_one_of (part_lanes x ++ c.args.pass.now.seat.me.0.lanes) c.args.pass.now.lane) c.args.pass.now.no_parts ∙ c.args.pass.now.lane_is));
       word = w;
     }
 
@@ -57,5 +58,5 @@ pub returns-clause-event : goal.returns-clause-event
 returns-clause-event g c =
     let e : Event = record { kind = Return; lane = c.args.pass.now.lane; position = c.args.loan.position } in
     let more : c.give_back.new.self.journal.items ≡ c.lock-word.result.1.core.journal.items ++ e ∷ [] = c.give_back.ensures.journal ∙ ap (λ l. c.lock-word.result.1.core.journal.items ++ record { kind = Return; lane = l; position = c.args.loan.position } ∷ []) c.requires.lane in
-    adds _ c.lock-word.result.1.core.journal.items _ _ _ _ _ _ c.lock-word.ensures.gets.knows c.args.pass.now.lane_is more
+    adds _ c.lock-word.result.1.core.journal.items _ _ _ _ _ _ c.lock-word.ensures.gets.knows c.args.pass.now.no_parts c.args.pass.now.lane_is more
     (ap (λ m. m.0) c.release_more.ensures.me ∙ ap (λ m. done m.0 c.give_back.new.self.journal.items c.lock-word.result.1.drawn) c.lock-word.ensures.me)

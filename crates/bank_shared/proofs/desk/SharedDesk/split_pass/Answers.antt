@@ -1,6 +1,5 @@
 use Rattle.std.proofs.Common.{rules, ◌+◌, [], ◌∷◌, ap, ◌∙◌, None, IfSome, refl, le_refl, ◌≡◌, ◌<◌, sym, subst}
-use Rattle.bank_shared.specs.History.{own_if}
-use Rattle.bank_shared.specs.Passes.{Keeps}
+use Rattle.bank_shared.specs.Passes.{OnlySees}
 use base.Growing.{prefix_refl}
 use Rattle.bank_shared.specs.Rule.{Knows}
 use Rattle.bank_shared.specs.Plays.{holding, seated}
@@ -18,7 +17,7 @@ invariant_of-result g c =
     let fresh = c.split_seat-seat.ensures.4 in
     let me = c.draw.ensures.me ∙ ap (λ m. (seated m.0 h (d + 1), [])) (c.lock-word.ensures.me ∙ ap (λ m. (holding m.0 h d, (0, None) ∷ [])) fresh) in
     let b = begins _ v _ h d (subst (λ m. Knows c.args.self.now.table.shared.key.value h d m.0) fresh c.lock-word.ensures.gets.knows) c.lock-word.ensures.gets.later (ap (λ m. m.0) me) in
-    record { no_slot = ap (λ m. m.1) me; no_turn = b.1; lane_is = b.0.lane; own = b.3; within = subst (λ o. IfSome o (λ root. d < root.lanes)) (sym (b.2 ∙ c.requires.desk)) (subst (λ r. d < r.lanes) c.lock-word.ensures.gets.desk (subst (λ n. d < n) c.lanes.ensures c.if-lane-lanes.true)) }
+    record { no_slot = ap (λ m. m.1) me; no_turn = b.1; no_parts = b.3; lane_is = b.4; within = subst (λ o. IfSome o (λ root. d < root.lanes)) (sym (b.2 ∙ c.requires.desk)) (subst (λ r. d < r.lanes) c.lock-word.ensures.gets.desk (subst (λ n. d < n) c.lanes.ensures c.if-lane-lanes.true)) }
 
 pub returns-then-lane-lanes-clause-made : goal.returns-then-lane-lanes-clause-made
 returns-then-lane-lanes-clause-made g c =
@@ -34,5 +33,5 @@ pub returns-then-lane-lanes-clause-kept : goal.returns-then-lane-lanes-clause-ke
 returns-then-lane-lanes-clause-kept g c =
     let v = c.args.pass.now.seat.me.0 in
     let same : c.split_seat-seat.new.seat.me.0 ≡ v = ap (λ m. m.0) c.split_seat-seat.ensures.2 in
-    subst (λ w. Keeps v w × (w.mine ≡ v.mine) × (w.turns ≡ v.turns)) (sym same)
-    (record { origin = refl; lane = refl; own = c.args.pass.now.own ∙ sym (ap (own_if v.seen) c.args.pass.now.lane_is); longer = prefix_refl v.seen; drawn = le_refl _ }, refl, refl)
+    subst (λ w. OnlySees v c.args.pass.now.lane w) (sym same)
+    (record { keeps = record { origin = refl; longer = prefix_refl v.seen; drawn = le_refl _ }; mine = refl; all = refl; turns = refl })
