@@ -83,15 +83,27 @@ def warn(text):
 
 # ---- Programs
 
+def found(name, words):
+    """The program of that name that ./bank runs, as its last call says."""
+    subprocess.run([TOP / 'bank', *words], stdin=subprocess.DEVNULL, stdout=subprocess.DEVNULL,
+                   stderr=subprocess.DEVNULL)
+    noted = TOP / 'crates' / name / 'out' / 'checked'
+    there = noted.read_text().strip() if noted.exists() else TOP / 'program' / name
+    return str(pathlib.Path(there).resolve())
+
+
 def find_program():
     """The program of the variable PROGRAM, or the one that ./bank runs."""
     if os.environ.get('PROGRAM'):
         return str(pathlib.Path(os.environ['PROGRAM']).resolve())
-    words = [TOP / 'bank', 'make', '--number', '1', '--count', '1', '--run']
-    subprocess.run(words, stdin=subprocess.DEVNULL, stdout=subprocess.DEVNULL, check=True)
-    noted = TOP / 'crates' / 'bank_program' / 'out' / 'checked'
-    found = noted.read_text().strip() if noted.exists() else TOP / 'program' / 'bank_program'
-    return str(pathlib.Path(found).resolve())
+    return found('bank_program', ['make', '--number', '1', '--count', '1', '--run'])
+
+
+def find_text_program():
+    """The program for texts: that of the variable TEXT_PROGRAM, or the one that ./bank runs."""
+    if os.environ.get('TEXT_PROGRAM'):
+        return str(pathlib.Path(os.environ['TEXT_PROGRAM']).resolve())
+    return found('bank_text', ['why'])
 
 
 def plain_program():

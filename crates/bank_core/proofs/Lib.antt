@@ -9,4 +9,3 @@ pub mod Openings
 pub mod Trials
 pub mod Seats
 pub mod Tells
-pub mod Lanes

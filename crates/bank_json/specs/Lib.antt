@@ -2,4 +2,4 @@ pub mod SnapshotJson
 pub mod BatchJson
 pub mod RecordJson
 pub mod ImageJson
-pub mod Texts
+pub use Rattle.json_parts.specs.Texts

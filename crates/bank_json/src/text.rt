@@ -1,5 +1,5 @@
 //! JSON texts.
-ghost use Rattle.std.specs.Prelude.{◌≡◌, ◌≤◌, Some, None, true, false, IfOk, IfErr, string_bytes};
+ghost use Rattle.std.specs.Prelude.{◌≡◌, ◌≤◌, Some, IfOk, string_bytes};
 ghost use Rattle.spec_base.specs.Reading.{Gives};
 ghost use Rattle.serde_json.specs.Data.{depth};
 ghost use Rattle.serde_json.specs.Read.{read, max_depth};
@@ -9,7 +9,7 @@ ghost use Rattle.bank_json.specs.SnapshotJson.{data_of_snapshot, snapshot_of_dat
 ghost use Rattle.bank_json.specs.BatchJson.{data_of_batch, batch_of_data};
 ghost use Rattle.bank_json.specs.RecordJson.{data_of_record, record_of_data};
 ghost use Rattle.bank_json.specs.ImageJson.{data_of_image, image_of_data};
-ghost use Rattle.bank_json.specs.Texts.{shown, is_of_text, TextGives};
+ghost use Rattle.bank_json.specs.Texts.{shown, TextGives};
 
 use crate::batch::{batch_from_value, batch_value};
 use crate::image::{image_from_value, image_value};
@@ -17,7 +17,7 @@ use crate::record_in::record_from_value;
 use crate::record_out::record_value;
 use crate::snapshot_in::snapshot_from_value;
 use crate::snapshot_out::snapshot_value;
-use json_parts::JsonFault;
+use json_parts::{JsonFault, value_of_text};
 use serde_json::Value;
 use sol_base::Blob;
 use std::alloc::{AllocError, Global};
@@ -41,23 +41,6 @@ fn text_of(alloc: Global, value: &Value, layout: Layout) -> Result<String, Alloc
     }
 }
 
-/// The value that the text holds.
-fn value_of(alloc: Global, text: &str) -> Result<Value, JsonFault>
-    ensures ok { IfOk result (λ value. read text.now ≡ Some (view value)) }
-    ensures err { IfErr result (λ fault. is_of_text fault ≡ true) }
-    ensures no_json { IfErr result (λ fault. is_json_memory fault ≡ false
-        → read text.now ≡ None) }
-{
-    match Value::from_str(alloc, text) {
-        Ok(value) => Ok(value),
-        Err(error) if error.is_memory() => Err(JsonFault::OutOfMemory),
-        Err(error) => Err(JsonFault::NoJson {
-            line: error.line(),
-            column: error.column(),
-        }),
-    }
-}
-
 /// The JSON text of the snapshot that the bytes are, all of them (the project's own form): what
 /// `snapshot_of_json` turns into the same bytes. `snapshot_from_value` says which members it has.
 pub fn json_of_snapshot(alloc: Global, bytes: &[u8], layout: Layout) -> Result<String, JsonFault>
@@ -72,7 +55,7 @@ pub fn json_of_snapshot(alloc: Global, bytes: &[u8], layout: Layout) -> Result<S
 pub fn snapshot_of_json(alloc: Global, text: &str) -> Result<Blob, JsonFault>
     ensures { TextGives snapshot_of_data (read text.now) result }
 {
-    let value = value_of(alloc, text)?;
+    let value = value_of_text(alloc, text)?;
     snapshot_from_value(alloc, &value)
 }
 
@@ -90,7 +73,7 @@ pub fn json_of_batch(alloc: Global, bytes: &[u8], layout: Layout) -> Result<Stri
 pub fn batch_of_json(alloc: Global, text: &str) -> Result<Blob, JsonFault>
     ensures { TextGives batch_of_data (read text.now) result }
 {
-    let value = value_of(alloc, text)?;
+    let value = value_of_text(alloc, text)?;
     batch_from_value(alloc, &value)
 }
 
@@ -108,7 +91,7 @@ pub fn json_of_record(alloc: Global, bytes: &[u8], layout: Layout) -> Result<Str
 pub fn record_of_json(alloc: Global, text: &str) -> Result<Blob, JsonFault>
     ensures { TextGives record_of_data (read text.now) result }
 {
-    let value = value_of(alloc, text)?;
+    let value = value_of_text(alloc, text)?;
     record_from_value(alloc, &value)
 }
 
@@ -126,6 +109,6 @@ pub fn json_of_image(alloc: Global, bytes: &[u8], layout: Layout) -> Result<Stri
 pub fn image_of_json(alloc: Global, text: &str) -> Result<Blob, JsonFault>
     ensures { TextGives image_of_data (read text.now) result }
 {
-    let value = value_of(alloc, text)?;
+    let value = value_of_text(alloc, text)?;
     image_from_value(alloc, &value)
 }

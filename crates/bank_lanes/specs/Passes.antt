@@ -1,10 +1,9 @@
 -- What the loop of a lane does to its pass.
-use Rattle.std.specs.Prelude.{◌≡◌, ℕ, List, true, None}
+use Rattle.std.specs.Prelude.{◌≡◌, None}
 use mathlib.Core.List.{IsPrefix}
-use Rattle.bank_law.specs.History.{PassView, own, holds, returns}
+use Rattle.bank_law.specs.History.{PassView, holds, returns}
 use Rattle.sol_base.specs.Accounts.{accounts_of}
 use Rattle.bank_core.specs.declared.loan.Loan.{Loan}
-use Rattle.bank_core.specs.Lanes.{is_one_of}
 use Rattle.bank_core.specs.Desks.{LoanView}
 
 -- the lane holds nothing, and has given nothing back
@@ -17,18 +16,6 @@ pub record WentOn (v w : PassView) : Type 0 where
   pub lane : w.lane ≡ v.lane
   pub longer : IsPrefix v.seen w.seen
   pub free : holds w.mine ≡ None
-
--- no lane of a pass holds anything
-pub record HoldsNothing (lanes : List ℕ) (v : PassView) : Type 0 where
-  pub mine : holds v.mine ≡ None
-  pub all : (lane : ℕ) → is_one_of lanes lane ≡ true → holds (own v.seen lane) ≡ None
-
--- a lane of the pass holds nothing where it held nothing before, or is new
-abbrev pub StaysFree : List ℕ → PassView → List ℕ → PassView → Type 0
-StaysFree old v new w =
-    (lane : ℕ) → is_one_of new lane ≡ true
-    → (is_one_of old lane ≡ true → holds (own v.seen lane) ≡ None)
-    → holds (own w.seen lane) ≡ None
 
 -- a desk sees of its loans what they are
 module _ {W T : Type 0} {G : _} where

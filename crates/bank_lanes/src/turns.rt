@@ -2,7 +2,7 @@
 ghost use Rattle.std.specs.Prelude.{◌≡◌, ◌≢◌};
 ghost use Rattle.bank_core.specs.Origins.{AllDoneAfter};
 ghost use Rattle.bank_law.specs.History.{returns};
-ghost use Rattle.bank_lanes.specs.Passes.{IsIdle, SeesLoans, StaysFree, WentOn};
+ghost use Rattle.bank_lanes.specs.Passes.{IsIdle, SeesLoans, WentOn};
 ghost use Rattle.bank_lanes.specs.declared.turns.LaneEnd.TheVariants.{Finished, GaveBack};
 
 use crate::gate::Gate;
@@ -54,8 +54,6 @@ pub(crate) fn run_lane<W: Work, D: Desk<W, Loan = Loan<W>>, G: Gate, R: Wait>(
     requires idle { IsIdle (D.view pass.old) }
     ensures desk { D.is_of desk.now pass.new }
     ensures on { WentOn (D.view pass.old) (D.view pass.new) }
-    ensures free { StaysFree (D.lanes_of pass.old) (D.view pass.old) (D.lanes_of pass.new)
-        (D.view pass.new) }
     ensures once { result ≢ GaveBack → returns (D.view pass.new).mine ≡ 0 }
     ensures done { result ≡ Finished
         → AllDoneAfter W.job (D.origin desk.now) (D.view pass.new).seen }

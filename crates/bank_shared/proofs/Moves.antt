@@ -17,7 +17,6 @@ use Rattle.atomic_table.proofs.Lists.{at_set, at_snoc, set_again}
 use Rattle.spec_base.specs.Sums.{total}
 use Rattle.bank_law.specs.declared.event.Event.{Event}
 use Rattle.bank_law.proofs.Histories.{own_same, own_none}
-use Rattle.bank_core.proofs.Lanes.{is_one_after}
 use Rattle.bank_shared.specs.declared.view.View.{View}
 use Rattle.bank_shared.specs.declared.view.Part.{Part}
 use Rattle.bank_shared.specs.History.{own, own_of, is_one_of, Covers, GoesOn}
@@ -26,7 +25,7 @@ use Rattle.bank_shared.specs.Plays.{holding, done, seated, caught_up, looked, Ge
 use Rattle.bank_shared.specs.Passes.{Adds, Sees, Keeps, Begins, OnlySees, Learns}
 use base.Growing.{prefix_refl}
 use Rattle.bank_shared.proofs.Sums.{sum_set, sum_append, term_le, terms_le}
-use Rattle.bank_shared.proofs.Owns.{prefix_more, none_of, one_stands, no_lanes, own_of_all, grows, parts_grow, covered}
+use Rattle.bank_shared.proofs.Owns.{prefix_more, none_of, one_stands, no_lanes, own_of_all, grows, parts_grow, covered, is_one_after}
 
 -- a history covers itself
 whole : (h : List Event) (lanes : List ℕ) → Covers h lanes h
@@ -422,7 +421,6 @@ module _ {O : Type 0} where
       let lane : pred (d + 1) ≡ d = omega arith in
       let lanes : w.lanes ≡ d ∷ [] = ap (λ (u : View O). u.lanes) is ∙ ap (λ (x : ℕ). x ∷ []) lane in (
         record {
-          above = k.drawn;
           lanes = lanes;
           mine = ap (λ (u : View O). own u.seen d) is ∙ own_none d h d later (le_refl d);
           drawn = ap (λ (u : View O). u.drawn) is;

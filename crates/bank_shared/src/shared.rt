@@ -28,8 +28,6 @@ impl<W: Work> Desk<W> for SharedDesk<W> {
       turns = pass.seat.me.0.turns;
     } };
 
-    ghost lanes_of = { λ pass. pass.seat.me.0.lanes };
-
     ghost loan = { λ loan. record {
       position = loan.position;
       lane = loan.lane;

@@ -1,5 +1,6 @@
 //! The commands that read one input.
 use crate::answer::{Answer, DIFFERS, INPUT_REFUSED, WRITE_FAILED, noted, written};
+use crate::build::built;
 use crate::compared::compared;
 use crate::files::{Given, standard_input, write_files};
 use crate::json::{told_bytes, told_json};
@@ -38,6 +39,13 @@ pub(crate) fn answer_command<R: Files + Input + AllocGlobal>(
     match command {
         TextCommand::Split { record, snapshot } => {
             parted(rt, input.as_slice(), path_of(record), path_of(snapshot))
+        }
+        TextCommand::Build { snapshot } => {
+            let file = match snapshot {
+                Some(file) => Some(path_of(file)),
+                None => None,
+            };
+            built(rt, input.as_slice(), file)
         }
         TextCommand::Shape { picture } => {
             let file = match picture {

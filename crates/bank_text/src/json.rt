@@ -69,7 +69,7 @@ fn told_at(alloc: Global, status: u8, form: Form, note: &str) -> Result<Answer, 
 
 /// The answer where a text is refused. Where something else is wanted at a place of it, the way to it
 /// stands first, and its line last.
-fn refused_text(
+pub(crate) fn refused_text(
     alloc: Global,
     form: Form,
     text: &[u8],

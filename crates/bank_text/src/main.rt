@@ -3,6 +3,7 @@
 #![tactic(auto)]
 
 mod answer;
+mod build;
 mod commands;
 mod compared;
 mod files;

@@ -1,7 +1,7 @@
-mod Within
+pub mod Within
 mod Items
 pub mod Lists
-mod Members
+pub mod Members
 pub mod Again
 pub mod TransactionLaws
 pub mod ShownLaws

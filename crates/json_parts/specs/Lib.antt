@@ -2,3 +2,4 @@ pub mod Faults
 pub mod Parts
 pub mod Written
 pub mod TransactionJson
+pub mod Texts

@@ -45,6 +45,10 @@ pub enum Wanted {
     Presence,
     /// No member of this name.
     Absence,
+    /// No more than 38 keys of a transaction's own, and no more than 256 with loaded ones (Solana).
+    FewKeys,
+    /// The name of an instruction.
+    Instruction,
 }
 
 /// Why a JSON text stands for no bytes of a format.
@@ -125,7 +129,7 @@ pub fn in_member<T: Drop>(
 }
 
 /// What was read of the item after so many others, or its fault as it is in the array.
-pub(crate) fn in_item<T: Drop>(at: usize, read: Result<T, JsonFault>) -> Result<T, JsonFault>
+pub fn in_item<T: Drop>(at: usize, read: Result<T, JsonFault>) -> Result<T, JsonFault>
     ensures { Gives is_json_memory (λ x. x) result (within_step (Item at) read) }
 {
     match read {
@@ -134,8 +138,8 @@ pub(crate) fn in_item<T: Drop>(at: usize, read: Result<T, JsonFault>) -> Result<
     }
 }
 
-/// The member of that name is missing, or it is one too many.
-pub(crate) fn no_such_member(alloc: Global, name: &str, wanted: Wanted) -> JsonFault
+/// Something else is wanted at the member of that name.
+pub fn refused_member(alloc: Global, name: &str, wanted: Wanted) -> JsonFault
     ensures { MatchBool (is_json_memory result) (Unit {0})
         (result ≡ Refused (Member name.now ∷ []) wanted) }
 {

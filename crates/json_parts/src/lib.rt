@@ -8,19 +8,21 @@ mod laws;
 mod list;
 mod parts;
 mod show;
+mod text;
 mod transaction_in;
 mod transaction_out;
 mod written;
 
 pub use data::data_member;
-pub use fault::{JsonFault, Step, Wanted, in_member, refused};
+pub use fault::{JsonFault, Step, Wanted, in_item, in_member, refused, refused_member};
 pub use laws::{shown_members_are_passed_over, transactions_come_back};
-pub use list::{InJson, Part, list_member, list_value};
+pub use list::{InJson, Part, array, list_member, list_value};
 pub use parts::{
     Names, byte_member, digits, digits_member, flag_member, found, known, number_member,
     short_member,
 };
 pub use show::Way;
+pub use text::value_of_text;
 pub use transaction_in::transaction;
 pub use transaction_out::transaction_value;
 pub use written::hex_value;

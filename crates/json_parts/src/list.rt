@@ -51,8 +51,9 @@ fn few(alloc: Global, values: &[Value], most: usize) -> Result<&[Value], JsonFau
     Ok(values)
 }
 
+/// The items of the array that the value is, where they are no more than these.
 #[tactic(auto, unfolding(crate::specs::Parts::array_in))]
-fn array(alloc: Global, value: &Value, most: usize) -> Result<&[Value], JsonFault>
+pub fn array(alloc: Global, value: &Value, most: usize) -> Result<&[Value], JsonFault>
     ensures gives { Gives is_json_memory (λ items. map view items.now) result
         (array_in most (view value.now)) }
     ensures fits { IfOk result (λ items. length items.now ≤ most) }

@@ -5,7 +5,7 @@ ghost use Rattle.serde_json.specs.View.{view, members_view};
 ghost use Rattle.json_parts.specs.Faults.{is_json_memory};
 ghost use Rattle.json_parts.specs.Parts.{number_in, digits_in, data_in, flag_in, found_in, member_in, names_in, known_in};
 
-use crate::fault::{JsonFault, Wanted, in_member, no_such_member, refused};
+use crate::fault::{JsonFault, Wanted, in_member, refused, refused_member};
 use hex::FromHex;
 use serde_json::{Map, Value};
 use std::alloc::Global;
@@ -53,7 +53,7 @@ pub fn found<'a>(alloc: Global, value: &'a Value, name: &str) -> Result<&'a Valu
 {
     match value.get(name) {
         Some(found) => Ok(found),
-        None => Err(no_such_member(alloc, name, Wanted::Presence)),
+        None => Err(refused_member(alloc, name, Wanted::Presence)),
     }
 }
 
@@ -146,7 +146,7 @@ fn check_names<N: Names>(alloc: Global, members: &Map<String, Value>) -> Result<
     let mut rest = members.iter();
     while let Some((name, _value)) = rest.next() {
         if !N::has(name.as_str()) {
-            return Err(no_such_member(alloc, name.as_str(), Wanted::Absence));
+            return Err(refused_member(alloc, name.as_str(), Wanted::Absence));
         }
     }
     Ok(())

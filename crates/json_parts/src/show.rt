@@ -24,6 +24,11 @@ impl fmt::Display for Wanted {
             Wanted::Ending => { write!(f, "ok, or an object with failed or dropped, is wanted") }
             Wanted::Presence => write!(f, "this member is wanted"),
             Wanted::Absence => write!(f, "there is no such member"),
+            Wanted::FewKeys => write!(
+                f,
+                "at most 38 keys, and 256 with those of lookups, are wanted"
+            ),
+            Wanted::Instruction => write!(f, "the name of an instruction is wanted"),
         }
     }
 }

@@ -11,7 +11,7 @@ use Rattle.text_words.specs.declared.command.Look.TheVariants.{Compact, Pretty, 
 use Rattle.text_words.specs.declared.command.Sought.{Sought}
 use Rattle.text_words.specs.declared.command.Sought.TheVariants.{Account, Transaction}
 use Rattle.text_words.specs.declared.command.TextCommand.{TextCommand}
-use Rattle.text_words.specs.declared.command.TextCommand.TheVariants.{Help, Version, Json, Bytes, Split, View, Diff, Shape, Why}
+use Rattle.text_words.specs.declared.command.TextCommand.TheVariants.{Help, Version, Json, Bytes, Build, Split, View, Diff, Shape, Why}
 
 abbrev pub form_in : Text → Option Form
 form_in word =
@@ -57,6 +57,9 @@ abbrev pub bytes_in : List Text → Option TextCommand
 bytes_in (form ∷ []) = option_map (λ f. Bytes f) (form_in form)
 bytes_in _ = None
 
+abbrev pub build_in : List Text → Option TextCommand
+build_in words = option_map (λ snapshot. Build snapshot) (option_in (codes "--snapshot") words)
+
 abbrev pub split_in : List Text → Option TextCommand
 split_in words = option_map (λ files. Split files.first files.second) (two_files_in words)
 
@@ -81,14 +84,14 @@ abbrev pub shape_in : List Text → Option TextCommand
 shape_in words = option_map (λ picture. Shape picture) (option_in (codes "--svg") words)
 
 -- the command of this name and the words after it
-abbrev pub other_named : Text → List Text → Option TextCommand
+unfoldable pub other_named : Text → List Text → Option TextCommand
 other_named name words =
     if bytes_eq (codes "shape") name then shape_in words else
     (if bytes_eq (codes "why") name then alone Why words else
     (if bytes_eq (codes "--help") name then alone Help words else
     (if bytes_eq (codes "--version") name then alone Version words else None)))
 
-abbrev pub file_named : Text → List Text → Option TextCommand
+unfoldable pub file_named : Text → List Text → Option TextCommand
 file_named name words =
     if bytes_eq (codes "split") name then split_in words else
     (if bytes_eq (codes "view") name then view_in words else
@@ -97,7 +100,8 @@ file_named name words =
 abbrev pub command_named : Text → List Text → Option TextCommand
 command_named name words =
     if bytes_eq (codes "json") name then json_in words else
-    (if bytes_eq (codes "bytes") name then bytes_in words else file_named name words)
+    (if bytes_eq (codes "bytes") name then bytes_in words else
+    (if bytes_eq (codes "build") name then build_in words else file_named name words))
 
 -- the command that the words are, or None where they are none
 abbrev pub command_in : List Text → Option TextCommand

@@ -39,6 +39,8 @@ pub enum TextCommand {
     Json { form: Form, look: Look },
     /// JSON to bytes.
     Bytes { form: Form },
+    /// JSON in the short form to a batch, with the newest blockhash of a snapshot.
+    Build { snapshot: Option<Blob> },
     /// A record and a snapshot to two files.
     Split { record: Blob, snapshot: Blob },
     View { sought: Sought },

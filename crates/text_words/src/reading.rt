@@ -1,6 +1,6 @@
 //! From words to a command.
 ghost use Rattle.std.specs.Prelude.{◌≡◌, IfOk, MatchResult, Some, map};
-ghost use Rattle.text_words.specs.Commands.{form_in, look_in, json_as, two_in, second_in, json_after, json_in, bytes_in, split_in, sought_in, view_in, diff_in, shape_in, alone, other_named, file_named, command_named, command_in};
+ghost use Rattle.text_words.specs.Commands.{form_in, look_in, json_as, two_in, second_in, json_after, json_in, bytes_in, build_in, split_in, sought_in, view_in, diff_in, shape_in, alone, other_named, file_named, command_named, command_in};
 ghost use Rattle.text_words.specs.Reading.{Explains};
 
 use crate::command::{Form, Look, Sought, TextCommand, TextWordsFault};
@@ -41,11 +41,13 @@ fn command_named(
     match name {
         "json" => Ok(json_in(words)),
         "bytes" => Ok(bytes_in(words)),
+        "build" => build_in(alloc, words),
         _ => file_named(alloc, name, words),
     }
 }
 
 /// The commands that write or read files, and `view`.
+#[tactic(auto, unfolding(crate::specs::Commands::file_named))]
 fn file_named(alloc: Global, name: &str, words: &[&str]) -> Result<Option<TextCommand>, OutOfMemory>
     ensures { IfOk result (λ command.
         command ≡ file_named name.now (map (λ w. w.now) words.now)) }
@@ -58,6 +60,7 @@ fn file_named(alloc: Global, name: &str, words: &[&str]) -> Result<Option<TextCo
     }
 }
 
+#[tactic(auto, unfolding(crate::specs::Commands::other_named))]
 fn other_named(
     alloc: Global,
     name: &str,
@@ -187,6 +190,15 @@ fn view_in(words: &[&str]) -> Option<TextCommand>
             sought: sought_in(word)?,
         }),
         _ => None,
+    }
+}
+
+fn build_in(alloc: Global, words: &[&str]) -> Result<Option<TextCommand>, OutOfMemory>
+    ensures { IfOk result (λ command. command ≡ build_in (map (λ w. w.now) words.now)) }
+{
+    match option_in(alloc, "--snapshot", words)? {
+        Some(snapshot) => Ok(Some(TextCommand::Build { snapshot })),
+        None => Ok(None),
     }
 }
 

@@ -4,6 +4,7 @@
 pub const USAGE: &str = "\
 usage: bank_text json FORM [--pretty|--shown]  bytes in, JSON out
        bank_text bytes FORM                    JSON in, bytes out
+       bank_text build [--snapshot FILE]       JSON in the short form in, a batch out
        bank_text split RECORD SNAPSHOT         what `produce` wrote in, two files out
        bank_text view KEY|SIGNATURE            a snapshot or a record in, JSON out
        bank_text diff A B                      two files in, a line for each difference out

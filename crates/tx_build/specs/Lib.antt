@@ -3,3 +3,4 @@ pub mod Classes
 pub mod Tables
 pub mod Signing
 pub mod Built
+pub mod Laws

@@ -5,6 +5,7 @@
 mod classes;
 mod draft;
 mod fault;
+mod laws;
 mod mentions;
 mod message;
 mod signing;
@@ -13,4 +14,5 @@ mod wire;
 
 pub use draft::{AccountMeta, Draft, KeyedInstruction, LookupTable, Version};
 pub use fault::BuildFault;
+pub use laws::built_wires_are_read;
 pub use wire::build_wire;

@@ -1,6 +1,6 @@
 use Rattle.std.proofs.Common.{◌≡◌}
 use mathlib.Core.List.{IsPrefix}
-use Rattle.bank_lanes.specs.Passes.{IsIdle, StaysFree}
+use Rattle.bank_lanes.specs.Passes.{IsIdle}
 use Rattle.bank_lanes.proofs.turns.run_lane.Given as goal
 
 abbrev pub invariant-turns : goal.invariant-turns
@@ -9,5 +9,4 @@ invariant-turns g l = record {
   idle : IsIdle (g.D.Desk.view l.pass);
   lane : (g.D.Desk.view l.pass).lane ≡ (g.D.Desk.view l.initial.pass).lane;
   longer : IsPrefix (g.D.Desk.view l.initial.pass).seen (g.D.Desk.view l.pass).seen;
-  free : StaysFree (g.D.Desk.lanes_of l.initial.pass) (g.D.Desk.view l.initial.pass) (g.D.Desk.lanes_of l.pass) (g.D.Desk.view l.pass);
 }

@@ -11,7 +11,7 @@ use Rattle.json_parts.proofs.parts.check_names.Goals as goal
 pub returns-then-not-has : goal.returns-then-not-has
 returns-then-not-has g c =
     let is = ap (λ (n : List ℕ). has_name g.N.Names.names n) (sym c.as_str.ensures.value) ∙ sym c.has.ensures ∙ c.if-not-has.true in
-    refused_so c.no_such_member.result (Refused (Member c.as_str-then-not-has.result.now ∷ []) Absence) (names_in g.N.Names.names (members_view c.args.members.now.entries)) c.no_such_member.ensures
+    refused_so c.refused_member.result (Refused (Member c.as_str-then-not-has.result.now ∷ []) Absence) (names_in g.N.Names.names (members_view c.args.members.now.entries)) c.refused_member.ensures
     (sym c.loop-name.invariant ∙ name_refused g.N.Names.names c.loop-name.rest c.next.new.self (c.in-Some.name.now, c.in-Some._value.now) c.in-Some.ensures.steps is
     ∙ ap (λ (n : List ℕ). let r : Read Unit = Err (Refused (Member n ∷ []) Absence) in r) (sym c.as_str-then-not-has.ensures.value))
 

@@ -1,0 +1,65 @@
+//! The command `build`: a batch in the short form as bytes.
+use crate::answer::{Answer, INPUT_REFUSED, noted, written};
+use crate::files::{Given, file};
+use crate::json::refused_text;
+use snapshot_codec::{SnapshotFault, read_snapshot};
+use sol_base::{Hash32, OutOfMemory};
+use std::alloc::Global;
+use std::rt::Files;
+use std::str;
+use text_short::short_batch_of_json;
+use text_words::Form;
+
+/// The newest blockhash of a chain, or the answer where there is none.
+#[derive(Drop)]
+enum Found {
+    Hash(Option<Hash32>),
+    Nothing(Answer),
+}
+
+/// The newest blockhash of the snapshot.
+fn newest_in(alloc: Global, bytes: &[u8]) -> Result<Found, OutOfMemory> {
+    match read_snapshot(alloc, bytes) {
+        Ok(prefix) => Ok(Found::Hash(Some(prefix.snapshot.recent.newest()))),
+        Err(SnapshotFault::OutOfMemory) => Err(OutOfMemory),
+        Err(fault) => {
+            let text = fault.to_string(alloc)?;
+            Ok(Found::Nothing(noted(alloc, INPUT_REFUSED, "snapshot", text.as_str())?))
+        }
+    }
+}
+
+/// The newest blockhash of the snapshot in the file, where one is named.
+fn newest<R: Files + AllocGlobal>(rt: &R, path: Option<&str>) -> Result<Found, OutOfMemory> {
+    let path = match path {
+        Some(path) => path,
+        None => return Ok(Found::Hash(None)),
+    };
+    match file(rt, path)? {
+        Given::Bytes(bytes) => newest_in(rt.alloc(), bytes.as_slice()),
+        Given::Nothing(told) => Ok(Found::Nothing(told)),
+    }
+}
+
+fn batch_of(alloc: Global, input: &[u8], newest: Option<Hash32>) -> Result<Answer, OutOfMemory> {
+    let text = match str::from_utf8(input) {
+        Ok(text) => text,
+        Err(_) => return noted(alloc, INPUT_REFUSED, "batch", "the input is not UTF-8"),
+    };
+    match short_batch_of_json(alloc, text, newest) {
+        Ok(bytes) => written(alloc, bytes.as_slice()),
+        Err(fault) => refused_text(alloc, Form::Batch, input, &fault),
+    }
+}
+
+/// The answer to `build`.
+pub(crate) fn built<R: Files + AllocGlobal>(
+    rt: &R,
+    input: &[u8],
+    snapshot: Option<&str>,
+) -> Result<Answer, OutOfMemory> {
+    match newest(rt, snapshot)? {
+        Found::Hash(hash) => batch_of(rt.alloc(), input, hash),
+        Found::Nothing(told) => Ok(told),
+    }
+}

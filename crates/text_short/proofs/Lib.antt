@@ -1,0 +1,3 @@
+mod MemberNames
+pub mod ListItems
+pub mod ShortLaws

@@ -1,0 +1,9 @@
+pub mod Names
+pub mod Calls
+pub mod Members
+pub mod SeededCalls
+pub mod SystemCalls
+pub mod BudgetCalls
+pub mod LoaderCalls
+pub mod ShortForm
+pub mod Laws

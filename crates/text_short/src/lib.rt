@@ -1,0 +1,19 @@
+//! Batches in a short form of JSON, with keys by name and instructions by what they do.
+#![tactic(auto)]
+
+mod accounts;
+mod batch;
+mod budget;
+mod call;
+mod laws;
+mod list;
+mod loader;
+mod members;
+mod names;
+mod seeded;
+mod system;
+mod transaction;
+
+pub use batch::{short_batch, short_batch_of_json};
+pub use laws::built_batches_are_read;
+pub use names::named_key;

@@ -1,0 +1,107 @@
+//! The members of an object in the short form.
+ghost use Rattle.std.specs.Prelude.{◌≡◌, bytes_eq, map};
+ghost use Rattle.std.specs.List.{list_any};
+ghost use Rattle.spec_base.specs.Reading.{Gives};
+ghost use Rattle.serde_json.specs.View.{view, members_view};
+ghost use Rattle.json_parts.specs.Faults.{is_json_memory};
+ghost use Rattle.json_parts.specs.Parts.{names_in, known_in, member_in};
+ghost use Rattle.text_short.specs.Members.{text_in, key_in, no_such_instruction};
+
+use crate::list::Short;
+use crate::names::named_key;
+use json_parts::{JsonFault, Wanted, found, in_member, refused, refused_member};
+use serde_json::{Map, Value};
+use sol_base::Key;
+use std::alloc::Global;
+use tx_build::KeyedInstruction;
+
+/// The text that the value is.
+#[tactic(auto, unfolding(crate::specs::Members::text_in))]
+fn text(alloc: Global, value: &Value) -> Result<&str, JsonFault>
+    ensures { Gives is_json_memory (λ t. t.now) result (text_in (view value.now)) }
+{
+    match value.as_str() {
+        Some(text) => Ok(text),
+        None => Err(refused(alloc, Wanted::Text)),
+    }
+}
+
+/// What the member of that name stands for: a text.
+#[tactic(auto, unfolding(crate::specs::Members::text_in, json_parts::specs::Parts::member_in))]
+pub(crate) fn text_member<'a>(
+    alloc: Global,
+    value: &'a Value,
+    name: &str,
+) -> Result<&'a str, JsonFault>
+    ensures { Gives is_json_memory (λ t. t.now) result
+        (member_in name.now text_in (view value.now)) }
+{
+    let found = found(alloc, value, name)?;
+    match found.as_str() {
+        Some(text) => Ok(text),
+        None => Err(refused_member(alloc, name, Wanted::Text)),
+    }
+}
+
+impl Short for Key {
+    ghost use Rattle.text_short.specs.Members.{key_in};
+
+    ghost item_in = { key_in };
+
+    #[tactic(auto, unfolding(crate::specs::Members::key_in))]
+    fn read(alloc: Global, value: &Value) -> Result<Key, JsonFault> {
+        let text = text(alloc, value)?;
+        Ok(named_key(text))
+    }
+}
+
+/// What the member of that name stands for: a key, by its digits or its name.
+#[tactic(auto, unfolding(json_parts::specs::Parts::member_in))]
+pub(crate) fn key_member(alloc: Global, value: &Value, name: &str) -> Result<Key, JsonFault>
+    ensures { Gives is_json_memory (λ x. x) result (member_in name.now key_in (view value.now)) }
+{
+    let found = found(alloc, value, name)?;
+    in_member(alloc, name, Key::read(alloc, found))
+}
+
+fn has(names: &[&str], name: &str) -> bool
+    ensures { result ≡ list_any (λ one. bytes_eq one.now name.now) names.now }
+{
+    names.iter().any(|one| *one == name)
+}
+
+/// The first member of another name is refused.
+fn check_names(alloc: Global, members: &Map<String, Value>, names: &[&str]) -> Result<(), JsonFault>
+    ensures { Gives is_json_memory (λ x. x) result
+        (names_in (map (λ n. n.now) names.now) (members_view members.now.entries)) }
+{
+    let mut rest = members.iter();
+    while let Some((name, _value)) = rest.next() {
+        if !has(names, name.as_str()) {
+            return Err(refused_member(alloc, name.as_str(), Wanted::Absence));
+        }
+    }
+    Ok(())
+}
+
+/// The value is an object whose members have no other names.
+#[tactic(auto, unfolding(json_parts::specs::Parts::known_in))]
+pub(crate) fn known(alloc: Global, value: &Value, names: &[&str]) -> Result<(), JsonFault>
+    ensures { Gives is_json_memory (λ x. x) result
+        (known_in (map (λ n. n.now) names.now) (view value.now)) }
+{
+    match value.as_object() {
+        Some(members) => check_names(alloc, members, names),
+        None => Err(refused(alloc, Wanted::Object)),
+    }
+}
+
+/// The program that the member names has no instruction of that name.
+pub(crate) fn no_such_instruction(
+    alloc: Global,
+    program: &str,
+) -> Result<KeyedInstruction, JsonFault>
+    ensures { Gives is_json_memory (λ x. x) result (no_such_instruction program.now) }
+{
+    Err(refused_member(alloc, program, Wanted::Instruction))
+}
