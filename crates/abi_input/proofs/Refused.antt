@@ -1,5 +1,5 @@
 -- A region is refused at a place of the list.
-use Rattle.std.proofs.Common.{◌<◌, ℕ, Bool, List, length, map, Option, Some, None, Ok, Err}
+use Rattle.std.proofs.Common.{◌<◌, ℕ, Bool, List, length, map, Option, Some, None}
 use Rattle.std.specs.Prelude.{IfErr, IfSome, find, take, drop, ◌++◌}
 use Rattle.std.specs.List.{enumerate_from, flat_map}
 use Rattle.sol_base.specs.declared.account.Account.{Account}

@@ -1,5 +1,5 @@
 -- A callee is refused at a place of what is asked for, or behind the last.
-use Rattle.std.proofs.Common.{◌+◌, ◌<◌, ◌≤◌, ℕ, suc, Bool, true, false, List, [], ◌∷◌, length, map, Option, Some, None, cond, arith}
+use Rattle.std.proofs.Common.{◌+◌, ◌≤◌, ℕ, suc, Bool, true, false, List, [], ◌∷◌, length, map, Option, Some, None, cond, arith}
 use Rattle.std.specs.Prelude.{IfErr, IfSome}
 use Rattle.std.specs.List.{position_from}
 use Rattle.spec_base.proofs.Refusing.{bind_refuses}

@@ -1,5 +1,5 @@
 -- The numbers that refusals of the loader name: they fit four bytes.
-use Rattle.std.proofs.Common.{◌+◌, ◌<◌, ◌≤◌, ◌^◌, ◌==◌, ℕ, Bool, true, false, not, List, length, Result, Ok, Err, lit<, if◌then◌else◌}
+use Rattle.std.proofs.Common.{◌+◌, ◌<◌, ◌^◌, ◌==◌, ℕ, Bool, true, false, not, List, length, Result, Ok, Err, lit<, if◌then◌else◌}
 use Rattle.std.specs.Prelude.{IfErr, nat_lt}
 use Rattle.std.specs.Int.{w32, w64}
 use Rattle.spec_base.specs.Bytes.{with_bytes}
@@ -19,7 +19,7 @@ use Rattle.loader_prog.specs.declared.fault.LoaderFault.TheVariants.{InvalidInst
 use Rattle.loader_prog.specs.declared.image.Candidate.{Candidate}
 use Rattle.loader_prog.specs.declared.image.Candidate.TheVariants.{NoImage, Unverified, Verified}
 use Rattle.loader_prog.specs.Requests.{Request, Init, Write, Finalize, SetAuthority, accounts_needed, cut, fields_at, init_at, request_in, set_authority_at, write_at}
-use Rattle.loader_prog.specs.Buffers.{authority_at, authority_in, candidate_in, final_magic, image_at, is_blank, is_buffer, rest_in}
+use Rattle.loader_prog.specs.Buffers.{authority_in, candidate_in, final_magic, image_at, is_blank, is_buffer, rest_in}
 use Rattle.loader_prog.specs.Loader.{account_in, data_row, finalize_row, if_verified, init_row, key_in, loader_row, or_rule, owned, ruled, set_authority_row, signs, with_data, write_row}
 
 -- a number that a refusal names fits four bytes; the place of a broken rule is one of so many

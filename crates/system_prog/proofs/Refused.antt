@@ -1,5 +1,5 @@
 -- The numbers that refusals of the system program name: they fit four bytes.
-use Rattle.std.proofs.Common.{◌<◌, ◌≤◌, ◌^◌, ◌==◌, ℕ, Bool, true, false, not, List, length, replicate, Result, Ok, Err, lit<, arith, if◌then◌else◌}
+use Rattle.std.proofs.Common.{◌<◌, ◌^◌, ◌==◌, ℕ, Bool, true, false, not, List, length, Result, Ok, Err, lit<, if◌then◌else◌}
 use Rattle.std.specs.Prelude.{IfErr, nat_lt}
 use Rattle.std.specs.Int.{w32, w64}
 use Rattle.std.specs.Str.{is_utf8}
@@ -24,7 +24,7 @@ use Rattle.system_prog.specs.declared.authority.Authority.TheVariants.{Itself}
 use Rattle.system_prog.specs.declared.instruction.Instruction.{Instruction}
 use Rattle.system_prog.specs.declared.instruction.Instruction.TheVariants.{CreateAccount, Assign, Transfer, CreateAccountWithSeed, Allocate, AllocateWithSeed, AssignWithSeed, TransferWithSeed}
 use Rattle.system_prog.specs.Instructions.{allocate_at, allocate_with_seed_at, assign_at, assign_with_seed_at, create_account_at, create_account_with_seed_at, instruction_in, invalid, tagged, text_at, transfer_at, transfer_with_seed_at}
-use Rattle.system_prog.specs.SystemProgram.{Listed, account_in, allocate, allocate_with_seed, as_rule, assign, assign_with_seed, by_base, counted_row, create, create_with_seed, derived, has_data, is_taken, key_in, least_accounts, moved, ok_derived, pay, place_in, row, rules_kept, signs_in, system_key, system_row, transfer, transfer_with_seed, with_account}
+use Rattle.system_prog.specs.SystemProgram.{Listed, account_in, allocate, allocate_with_seed, as_rule, assign, assign_with_seed, by_base, counted_row, create, create_with_seed, derived, has_data, is_taken, key_in, least_accounts, moved, ok_derived, pay, row, rules_kept, signs_in, system_key, system_row, transfer, transfer_with_seed}
 
 -- a number that a refusal names fits four bytes; the place of a broken rule is one of so many
 abbrev pub Fits : ℕ → SystemFault → Type 0

@@ -1,9 +1,9 @@
 -- Logs that have grown by lines: what holds of a log with one line more holds of them.
-use Rattle.std.proofs.Common.{◌≡◌, ◌+◌, ◌≤◌, ℕ, List, [], ◌∷◌, ◌++◌, length, sum_by, Bool, true, false, nat_le, refl, sym, ap, subst, ◌∙◌, IsUtf8, append-nil, append_assoc, if◌then◌else◌}
+use Rattle.std.proofs.Common.{◌≡◌, ◌+◌, ℕ, List, [], ◌∷◌, ◌++◌, length, sum_by, Bool, true, false, nat_le, refl, sym, ap, subst, ◌∙◌, IsUtf8, append-nil, append_assoc, if◌then◌else◌}
 use Rattle.std.specs.List.{AllByRecursion}
 use Rattle.spec_base.proofs.PlainTexts.{words_text}
 use Rattle.tx_report.specs.LogLines.{AreLogged, HasGrown, IsLine, IsLogOf, IsSmall, Log, max_log_bytes, no_lines, truncated_line, with_line, with_lines}
-use Rattle.tx_report.proofs.LogLaws.{IsLogOf-no_lines, IsLogOf-with_line, IsSmall-no_lines, IsSmall-with_line}
+use Rattle.tx_report.proofs.LogLaws.{IsLogOf-no_lines, IsLogOf-with_line, IsSmall-with_line}
 
 pub HasGrown-none : (log : Log) → HasGrown log log
 HasGrown-none log = record { given = []; lines = tt; is = refl }
