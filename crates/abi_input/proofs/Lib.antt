@@ -7,4 +7,3 @@ pub mod TakeLaws
 pub mod RoundTrips
 pub mod RegionLaws
 pub mod Lent
-pub mod Refused

@@ -1,4 +1,3 @@
 pub mod Rests
 pub mod SeatSteps
 pub mod PassSteps
-pub mod Frees

@@ -6,13 +6,11 @@
 mod calls;
 mod desk;
 mod kept;
-mod onward;
 mod reader;
 mod rule;
 mod shared;
 mod turn;
 mod view;
-mod waiting;
 
 pub use desk::{Pass, SharedDesk};
 pub use kept::{DeskOrigin, Kept};

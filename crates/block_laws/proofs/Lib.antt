@@ -5,5 +5,3 @@ pub mod Alike
 pub mod Replays
 pub mod Keeps
 pub mod Nexts
-pub mod Budgets
-pub mod Records

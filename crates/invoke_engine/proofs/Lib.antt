@@ -9,6 +9,4 @@ pub mod Loops
 pub mod Found
 pub mod Traces
 pub mod Buffers
-pub mod GrownLogs
-pub mod Refused
-pub mod Foreign
+pub mod SmallLogs

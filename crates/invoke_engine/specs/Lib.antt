@@ -1,6 +1,7 @@
 pub mod Reasons
 pub mod Lines
 pub mod Frames
+pub mod Invoked
 pub mod Ends
 pub mod Leaving
 pub mod Calling
@@ -11,7 +12,6 @@ pub mod Native
 pub mod Starting
 pub mod Frame
 pub mod Suspended
-pub mod Programs
 pub mod Given
 pub mod Fits
 pub mod Views

@@ -6,4 +6,3 @@ pub mod Keeping
 pub mod Patches
 pub mod Replacing
 pub mod Listings
-pub mod Refused

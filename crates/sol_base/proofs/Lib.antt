@@ -1,4 +1,2 @@
 mod FrontLaws
 pub mod KeyLaws
-pub mod Places
-pub mod KeyTexts

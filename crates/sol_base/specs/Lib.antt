@@ -4,4 +4,3 @@ pub mod DerivedKeys
 pub mod Limits
 pub mod Locks
 pub mod Metas
-pub mod Base58

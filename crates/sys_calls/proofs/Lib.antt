@@ -8,4 +8,4 @@ pub mod Differences
 pub mod Prepares
 pub mod Hashes
 pub mod Fills
-pub mod GrownLogs
+pub mod SmallLogs

@@ -1,4 +1,3 @@
 pub mod Drafts
 pub mod Keeping
 pub mod Listings
-pub mod Refused
