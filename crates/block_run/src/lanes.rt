@@ -200,7 +200,7 @@ pub(crate) fn run_work<W: Work + Sync, G: Gate, R: Threads + Wait + Sync>(
     if lanes == 1 {
         run_alone(&mut core, work, gate)?;
         let (ended, outcomes) = core.part()?;
-        Ok((ended, outcomes, begin(parts)?))
+        Ok((ended, outcomes, begin(alloc, parts)?))
     } else {
         let (core, begun) = run_shared(rt, alloc, core, work, gate, parts)?;
         let (ended, outcomes) = core.part()?;

@@ -8,70 +8,58 @@ ghost use Rattle.invoke_engine.specs.Views.{ending_as, result_as};
 use crate::call::Ended;
 use crate::carrier::Carrier;
 use crate::ending::End;
-use crate::program::NamedProgram;
 use itoa::Buffer;
-use sol_base::{Blob, OutOfMemory};
+use sol_base::{Blob, Key, OutOfMemory, key_text};
 use std::alloc::Global;
 use tx_report::cause_text;
 
-/// The bytes of a line that names a program and says no more.
-const NAME_LEN: usize = 72;
-
-/// The room for a line, by what it mostly says.
-const INVOKE_ROOM: usize = NAME_LEN + 13;
-
-const CONSUMED_ROOM: usize = NAME_LEN + 44;
-
-const LAST_ROOM: usize = NAME_LEN + 8;
-
-/// The beginning of each line of a frame, with room for a line of so many bytes.
-fn beginning(alloc: Global, program: &NamedProgram, room: usize) -> Result<Blob, OutOfMemory>
+/// The beginning of each line of a frame.
+fn beginning(alloc: Global, program: &Key) -> Result<Blob, OutOfMemory>
     ensures { IfOk result (λ line. line ≡ codes "Program " ++ encode_lower program.now.0) }
 {
-    let mut line = Blob::with_capacity(alloc, room)?;
-    line.append(b"Program ")?;
-    line.append(program.text())?;
+    let mut line = Blob::from_slice(alloc, b"Program ")?;
+    line.append(&key_text(program))?;
     Ok(line)
 }
 
 /// The line of a frame that starts.
 pub(crate) fn say_invoke(
     alloc: Global,
-    program: &NamedProgram,
+    program: &Key,
     height: u8,
     carrier: &mut Carrier,
 ) -> Result<(), OutOfMemory>
     ensures { OnOk result (carrier.new ≡ say (invoke_line program.now height) carrier.old) }
 {
-    let mut line = beginning(alloc, program, INVOKE_ROOM)?;
+    let mut line = beginning(alloc, program)?;
     line.append(b" invoke [")?;
     line.append(Buffer::new().format(height).as_bytes())?;
     line.append(b"]")?;
-    carrier.env.logs.add_line(line)
+    carrier.env.logs.push_line(line.as_slice())
 }
 
 fn say_consumed(
     alloc: Global,
-    program: &NamedProgram,
+    program: &Key,
     used: u64,
     had: u64,
     carrier: &mut Carrier,
 ) -> Result<(), OutOfMemory>
     ensures { OnOk result (carrier.new ≡ say (consumed_line program.now used had) carrier.old) }
 {
-    let mut line = beginning(alloc, program, CONSUMED_ROOM)?;
+    let mut line = beginning(alloc, program)?;
     line.append(b" consumed ")?;
     line.append(Buffer::new().format(used).as_bytes())?;
     line.append(b" of ")?;
     line.append(Buffer::new().format(had).as_bytes())?;
     line.append(b" compute units")?;
-    carrier.env.logs.add_line(line)
+    carrier.env.logs.push_line(line.as_slice())
 }
 
-fn last(alloc: Global, program: &NamedProgram, outcome: &Ended) -> Result<Blob, OutOfMemory>
+fn last(alloc: Global, program: &Key, outcome: &Ended) -> Result<Blob, OutOfMemory>
     ensures { IfOk result (λ line. line ≡ last_line program.now (result_as outcome.now)) }
 {
-    let mut line = beginning(alloc, program, LAST_ROOM)?;
+    let mut line = beginning(alloc, program)?;
     match outcome {
         Ended::Good(_) => line.append(b" success")?,
         Ended::Failed(error) => {
@@ -85,7 +73,7 @@ fn last(alloc: Global, program: &NamedProgram, outcome: &Ended) -> Result<Blob, 
 /// The end of a frame, with its last line.
 pub(crate) fn end(
     alloc: Global,
-    program: &NamedProgram,
+    program: &Key,
     units: u64,
     carrier: &mut Carrier,
     outcome: Ended,
@@ -94,7 +82,7 @@ pub(crate) fn end(
         ≡ ended program.now units carrier.old (result_as outcome)) }
 {
     let line = last(alloc, program, &outcome)?;
-    carrier.env.logs.add_line(line)?;
+    carrier.env.logs.push_line(line.as_slice())?;
     Ok(End {
         units,
         ended: outcome,
@@ -104,7 +92,7 @@ pub(crate) fn end(
 /// The same where the program was ready.
 pub(crate) fn close(
     alloc: Global,
-    program: &NamedProgram,
+    program: &Key,
     had: u64,
     units: u64,
     carrier: &mut Carrier,

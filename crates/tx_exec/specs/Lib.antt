@@ -3,4 +3,5 @@ pub mod Executing
 pub mod Transaction
 pub mod TransactionLaws
 pub mod Told
+pub mod Tables
 pub mod Views

@@ -5,16 +5,7 @@ use Rattle.std.specs.declared.alloc.Global.{Global}
 use Rattle.sol_base.specs.declared.account.Account.{Account}
 use Rattle.sol_base.specs.Accounts.{accounts_of}
 use Rattle.tx_report.specs.LogLines.{Log}
-use Rattle.invoke_engine.specs.Frame.{Fixed}
-use Rattle.tx_exec.specs.Executing.{Executed, Failure, InBlock}
-
--- what is fixed for the block, of what is fixed beside the frames of a transaction
-abbrev pub block_in : Fixed → InBlock
-block_in s = record {
-  programs = s.programs;
-  slot = s.setting.slot;
-  height = s.setting.height;
-}
+use Rattle.tx_exec.specs.Executing.{Executed, Failure}
 
 abbrev pub values_seen : Result (List (Arc Account Global)) Failure → Result (List Account) Failure
 values_seen (Ok accounts) = Ok (accounts_of accounts)

@@ -9,16 +9,17 @@ ghost use Rattle.invoke_engine.specs.Frame.{instruction as run};
 ghost use Rattle.invoke_engine.specs.Given.{AreGiven};
 ghost use Rattle.invoke_engine.specs.Views.{IsRun};
 ghost use Rattle.tx_exec.specs.Executing.{call_of, fixed_for, performed};
+ghost use Rattle.tx_exec.specs.Tables.{IsTableOf};
 ghost use Rattle.tx_exec.specs.Told.{block_of};
-ghost use Rattle.tx_exec.specs.Views.{IsExecuted, block_in};
+ghost use Rattle.tx_exec.specs.Views.{IsExecuted};
 
 use crate::failure::Failure;
-use crate::roles::rights_of;
+use crate::roles::{call_for, rights_of};
 use crate::told::Told;
 use admission::Chosen;
-use invoke_engine::{Context, Ended, Invocation, Ran, Setting, run_invocation};
+use invoke_engine::{Ended, Ran, Setting, run_instruction};
 use message_codec::{Instruction, keys_of};
-use sol_base::{Account, Items, OutOfMemory, share_all};
+use sol_base::{Account, Items, Key, Meta, OutOfMemory, share_all};
 use std::alloc::Global;
 use std::sync::Arc;
 use tx_report::Logs;
@@ -51,49 +52,49 @@ pub fn execute(
         (λ _. Unit {0})) }
 {
     let keys = keys_of(alloc, &chosen.tx.message, &chosen.loaded)?;
-    let context = Context {
-        alloc,
-        programs: &told.programs,
-        setting: Setting {
-            slot: told.slot,
-            heap: chosen.budget.heap,
-            height: told.height,
-        },
-        keys: keys.as_slice(),
-    };
-    run_all(&context, chosen, share_all(alloc, base)?)
+    let table = rights_of(alloc, chosen)?;
+    run_all(alloc, told, chosen, keys.as_slice(), table.as_slice(), base)
 }
 
-/// The same, in the context of the transaction.
+/// The same, where these are the keys of the transaction and the table of their rights.
 fn run_all(
-    context: &Context<'_>,
+    alloc: Global,
+    told: &Told,
     chosen: &Chosen,
-    base: Items<Arc<Account>>,
+    keys: &[Key],
+    table: &[Meta],
+    base: &[Arc<Account>],
 ) -> Result<Executed, OutOfMemory>
-    requires height { (1 ≤ context.now.setting.height)
-        × (context.now.setting.height ≤ max_stack_height) }
+    requires height { (1 ≤ told.now.height) × (told.now.height ≤ max_stack_height) }
     requires chosen { IsChosen chosen.now }
-    requires context { context.now ≡ fixed_for (block_in context.now) chosen.now }
+    requires keys { keys.now ≡ all_keys chosen.now.tx.message chosen.now.loaded }
+    requires table { IsTableOf chosen.now table.now }
     requires base { AreGiven (length (all_keys chosen.now.tx.message chosen.now.loaded))
-        (accounts_of base) }
+        (accounts_of base.now) }
     ensures exact { IfOk result (λ e. IsExecuted
-        (performed (fixed_for (block_in context.now) chosen.now) chosen.now (accounts_of base))
+        (performed (fixed_for (block_of told.now) chosen.now) chosen.now (accounts_of base.now))
         e.units e.result e.logs) }
     ensures fits { IfOk result (λ e. MatchResult e.result (λ after.
         AreGiven (length (all_keys chosen.now.tx.message chosen.now.loaded)) (accounts_of after))
         (λ _. Unit {0})) }
 {
-    let mut logs = Logs::new(context.alloc);
-    let mut accounts = base;
+    let mut logs = Logs::new(alloc);
+    let mut accounts = share_all(alloc, base)?;
     let mut units = u64::from(chosen.budget.limit);
     let mut trace: u8 = 0;
     for (index, instruction) in chosen.tx.message.instructions.as_slice().iter().enumerate() {
-        let standing = Standing {
-            accounts,
+        let ran = run_one(
+            alloc,
+            told,
+            chosen,
+            keys,
+            table,
+            accounts.as_slice(),
+            instruction,
             units,
             trace,
-        };
-        let ran = run_one(context, chosen, instruction, standing, &mut logs)?;
+            &mut logs,
+        )?;
         units = ran.units;
         trace = ran.trace;
         let Ran { ended, .. } = ran;
@@ -120,44 +121,47 @@ fn run_all(
     })
 }
 
-/// What the instructions before have left: the accounts, the units, and the number of started
-/// instructions.
-#[derive(Drop)]
-struct Standing {
-    accounts: Items<Arc<Account>>,
+/// Runs one instruction, after others that came to these accounts, units, trace and log.
+fn run_one(
+    alloc: Global,
+    told: &Told,
+    chosen: &Chosen,
+    keys: &[Key],
+    table: &[Meta],
+    accounts: &[Arc<Account>],
+    instruction: &Instruction,
     units: u64,
     trace: u8,
-}
-
-/// Runs one instruction on what others have left.
-fn run_one(
-    context: &Context<'_>,
-    chosen: &Chosen,
-    instruction: &Instruction,
-    standing: Standing,
     logs: &mut Logs,
 ) -> Result<Ran, OutOfMemory>
-    requires height { (1 ≤ context.now.setting.height)
-        × (context.now.setting.height ≤ max_stack_height) }
+    requires height { (1 ≤ told.now.height) × (told.now.height ≤ max_stack_height) }
     requires chosen { IsChosen chosen.now }
-    requires context { context.now ≡ fixed_for (block_in context.now) chosen.now }
+    requires keys { keys.now ≡ all_keys chosen.now.tx.message chosen.now.loaded }
+    requires table { IsTableOf chosen.now table.now }
     requires accounts { AreGiven (length (all_keys chosen.now.tx.message chosen.now.loaded))
-        (accounts_of standing.accounts) }
+        (accounts_of accounts.now) }
     requires named { AreNamed chosen.now.tx.message chosen.now.loaded instruction.now }
     requires short { IsCountable instruction.now.input }
     ensures { IfOk result (λ ran. IsRun
-        (run (fixed_for (block_in context.now) chosen.now)
-        (call_of chosen.now instruction.now) (accounts_of standing.accounts) standing.units
-        standing.trace logs.old)
+        (run (fixed_for (block_of told.now) chosen.now)
+        (call_of chosen.now instruction.now) (accounts_of accounts.now) units trace logs.old)
         ran logs.new) }
 {
-    let metas = rights_of(context.alloc, chosen, instruction.accounts.as_slice())?;
-    let invocation = Invocation {
-        program: instruction.program,
-        metas: metas.as_slice(),
-        input: instruction.input.as_slice(),
-        accounts: standing.accounts,
-        units: standing.units,
+    let setting = Setting {
+        slot: told.slot,
+        heap: chosen.budget.heap,
+        height: told.height,
     };
-    run_invocation(context, invocation, standing.trace, logs)
+    let call = call_for(alloc, chosen, table, instruction)?;
+    run_instruction(
+        alloc,
+        &told.programs,
+        &setting,
+        keys,
+        accounts,
+        &call,
+        units,
+        trace,
+        logs,
+    )
 }

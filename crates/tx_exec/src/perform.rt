@@ -24,13 +24,6 @@ use std::alloc::Global;
 use std::sync::Arc;
 use tx_report::{Cause, DropCause, Outcome, Status, WHOLE_TRANSACTION};
 
-/// What the instructions of a transaction took and wrote.
-#[derive(Drop)]
-struct Used {
-    units: u64,
-    lines: Items<Blob>,
-}
-
 /// Performs a transaction (Solana; docs/SOLANA.md lists what is the project's own): its fee is
 /// taken, its instructions run one after another, and the rent of what it wrote is looked at. One
 /// that fails leaves its fee alone, one that is dropped nothing.
@@ -105,27 +98,21 @@ fn perform_paid(
             cause: Cause::LoadedDataTooLarge,
             detail: 0,
         };
-        let nothing = Used {
-            units: 0,
-            lines: Items::new(alloc),
-        };
-        return fail(alloc, chosen, base, failure, nothing);
+        return fail(alloc, chosen, base, failure, 0, Items::new(alloc));
     }
     let Executed {
         units: left,
         logs,
         result,
     } = execute(alloc, told, chosen, base)?;
-    let used = Used {
-        units: u64::from(chosen.budget.limit).saturating_sub(left),
-        lines: logs.into_lines(),
-    };
+    let units = u64::from(chosen.budget.limit).saturating_sub(left);
+    let lines = logs.into_lines();
     match result {
-        Err(failure) => fail(alloc, chosen, base, failure, used),
+        Err(failure) => fail(alloc, chosen, base, failure, units, lines),
         Ok(after) => {
             let after = after.as_slice();
             let broken = broken_rent(chosen, base, after);
-            finish(alloc, chosen, base, after, broken, used)
+            finish(alloc, chosen, base, after, broken, units, lines)
         }
     }
 }
@@ -160,12 +147,13 @@ fn fail(
     chosen: &Chosen,
     base: &[Arc<Account>],
     failure: Failure,
-    used: Used,
+    units: u64,
+    lines: Items<Blob>,
 ) -> Result<Effects, OutOfMemory>
     requires chosen { IsChosen chosen.now }
     requires count { length (accounts_of base.now) ≡ length chosen.now.locks }
     ensures { IfOk result (λ e. effects_seen e ≡ effects_as chosen.now
-        (failing chosen.now (accounts_of base.now) failure used.units used.lines)) }
+        (failing chosen.now (accounts_of base.now) failure units lines)) }
 {
     let Failure {
         index,
@@ -177,7 +165,7 @@ fn fail(
         cause,
         detail,
     };
-    leave(alloc, chosen, base, status, used)
+    leave(alloc, chosen, base, status, units, lines)
 }
 
 /// All instructions ended well; the rent decides, which may be broken at a place.
@@ -187,25 +175,25 @@ fn finish(
     base: &[Arc<Account>],
     after: &[Arc<Account>],
     broken: Option<usize>,
-    used: Used,
+    units: u64,
+    lines: Items<Blob>,
 ) -> Result<Effects, OutOfMemory>
     requires chosen { IsChosen chosen.now }
     requires base { length (accounts_of base.now) ≡ length chosen.now.locks }
     requires after { length (accounts_of after.now) ≡ length chosen.now.locks }
     requires within { IfSome broken (λ place. place < length chosen.now.locks) }
     ensures { IfOk result (λ e. effects_seen e ≡ effects_as chosen.now
-        (finishing chosen.now (accounts_of base.now) used.units used.lines
-        (accounts_of after.now) broken)) }
+        (finishing chosen.now (accounts_of base.now) units lines (accounts_of after.now) broken)) }
 {
     match broken {
-        None => leave(alloc, chosen, after, Status::Good, used),
+        None => leave(alloc, chosen, after, Status::Good, units, lines),
         Some(place) => {
             let failure = Failure {
                 index: WHOLE_TRANSACTION,
                 cause: Cause::RentState,
                 detail: place as u32,
             };
-            fail(alloc, chosen, base, failure, used)
+            fail(alloc, chosen, base, failure, units, lines)
         }
     }
 }
@@ -216,20 +204,21 @@ fn leave(
     chosen: &Chosen,
     values: &[Arc<Account>],
     status: Status,
-    used: Used,
+    units: u64,
+    lines: Items<Blob>,
 ) -> Result<Effects, OutOfMemory>
     requires chosen { IsChosen chosen.now }
     requires count { length (accounts_of values.now) ≡ length chosen.now.locks }
     ensures { IfOk result (λ e. effects_seen e ≡ effects_as chosen.now
-        (came_to status used.units chosen.now.fee used.lines (accounts_of values.now))) }
+        (came_to status units chosen.now.fee lines (accounts_of values.now))) }
 {
     Ok(Effects {
         outcome: Outcome {
             status,
-            units: used.units,
+            units,
             base_paid: chosen.fee.base,
             priority_paid: chosen.fee.priority,
-            lines: used.lines,
+            lines,
         },
         written: written_of(alloc, chosen.locks.as_slice(), values)?,
     })

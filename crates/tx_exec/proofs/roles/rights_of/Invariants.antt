@@ -1,6 +1,9 @@
-use Rattle.std.proofs.Common.{◌≡◌, map, take}
-use Rattle.tx_exec.specs.Executing.{meta_of}
+use Rattle.std.proofs.Common.{◌≤◌, length}
+use Rattle.tx_exec.specs.Tables.{IsTableTo}
 use Rattle.tx_exec.proofs.roles.rights_of.Given as goal
 
 abbrev pub invariant-loop-place : goal.invariant-loop-place
-invariant-loop-place l = l.metas ≡ map (meta_of l.chosen) (take l.place-index l.places)
+invariant-loop-place l = record {
+  rows : IsTableTo l.chosen l.place l.table;
+  most : l.place ≤ length l.lock-items;
+}

@@ -1,7 +1,7 @@
 use Rattle.std.proofs.Common.{refl}
 use Rattle.std.proofs.lemmas.Result.{on_ok_weaker}
 use Rattle.format_fields.proofs.Adding.{Adds-then, Adds-as}
-use Rattle.block_record.proofs.writing.write_entry.Goals as goal
+use Rattle.block_record.proofs.writing.write_parts.Goals as goal
 
 pub returns : goal.returns
 returns g c =
