@@ -2,6 +2,7 @@
 ghost use Rattle.std.specs.Prelude.{◌≡◌, ◌≤◌, ◌++◌, length, IfOk, OnOk};
 ghost use Rattle.sol_base.specs.Limits.{max_lanes, max_senders, max_transactions};
 ghost use Rattle.admission.specs.Admission.{AreParsed};
+ghost use Rattle.block_record.specs.Record.{IsCounted, bytes_of_record};
 ghost use Rattle.snapshot_codec.specs.Snapshot.{IsReadable, IsWritable, snapshot_bytes as bytes_of_snapshot};
 ghost use Rattle.block_run.specs.Blocks.{block_result};
 ghost use Rattle.bank_cli.specs.Answer.{produced as produced_of, ran};
@@ -12,14 +13,15 @@ use crate::answer::Answer;
 use crate::texts::{append_number, refuse_batch, refuse_snapshot};
 use admission::{Refused, refusal_text};
 use bank_lanes::Gate;
-use block_run::{Recorded, record_parsed};
+use block_record::{Block, write_record};
+use block_run::{BlockResult, run_parsed};
+use format_fields::ByteCount;
 use intake::SendGate;
 use snapshot_codec::{Snapshot, read_snapshot, write_snapshot};
 use sol_base::{Blob, OutOfMemory};
 use std::alloc::Global;
-use std::mem::forget;
 use std::sync::Wait;
-use std::thread::Threads;
+use std::thread::{Threads, join};
 
 /// The answer to `produce`: a snapshot and a batch after it. On several lanes both are read at once.
 pub(crate) fn produced<G: Gate, H: SendGate, R: Threads + Wait + Sync>(
@@ -54,8 +56,7 @@ pub(crate) fn produced<G: Gate, H: SendGate, R: Threads + Wait + Sync>(
     }
 }
 
-/// Runs a batch, and writes what it comes to. Nothing of the block is given back: a user waits for
-/// the answer, and the program ends with it.
+/// Runs a batch, and writes what it comes to.
 fn produce_block<G: Gate, R: Threads + Wait + Sync>(
     rt: &R,
     alloc: Global,
@@ -71,16 +72,28 @@ fn produce_block<G: Gate, R: Threads + Wait + Sync>(
     ensures { IfOk result (λ told. told ≡ ran (block_result snapshot decoded.batch)) }
 {
     let Decoded { batch, parsed } = decoded;
-    let block = record_parsed(rt, alloc, snapshot, &batch, parsed, lanes, gate)?;
-    let Recorded {
-        record,
+    let block = run_parsed(rt, alloc, snapshot, &batch, parsed, lanes, gate)?;
+    write_block(rt, alloc, lanes, block)
+}
+
+/// The record, then the snapshot; and the transactions that did not run.
+fn write_block<R: Threads + Sync>(
+    rt: &R,
+    alloc: Global,
+    lanes: u32,
+    block: BlockResult,
+) -> Result<Answer, OutOfMemory>
+    requires counted { IsCounted block.block }
+    requires writable { IsWritable block.after }
+    ensures { IfOk result (λ told. told ≡ ran block) }
+{
+    let BlockResult {
+        block,
         after,
         refused,
-        spent,
     } = block;
-    let output = with_snapshot(record, &after)?;
+    let output = output_of(rt, alloc, lanes, block, after)?;
     let notes = refused_notes(alloc, refused.as_slice())?;
-    forget((batch, after, spent));
     Ok(Answer {
         status: 0,
         output,
@@ -88,13 +101,55 @@ fn produce_block<G: Gate, R: Threads + Wait + Sync>(
     })
 }
 
-/// The bytes with those of the snapshot behind them.
-fn with_snapshot(mut output: Blob, after: &Snapshot) -> Result<Blob, OutOfMemory>
-    requires { IsWritable after.now }
-    ensures { IfOk result (λ whole. whole ≡ output ++ bytes_of_snapshot after.now) }
+/// The record of the block, with room behind it for the snapshot.
+fn record_before(alloc: Global, block: &Block, after: &Snapshot) -> Result<Blob, OutOfMemory>
+    requires counted { IsCounted block.now }
+    requires writable { IsWritable after.now }
+    ensures { IfOk result (λ output. output ≡ bytes_of_record block.now) }
 {
-    write_snapshot(&mut output, after)?;
+    let mut count = ByteCount(0);
+    write_record(&mut count, block)?;
+    write_snapshot(&mut count, after)?;
+    let mut output = Blob::with_capacity(alloc, count.0)?;
+    write_record(&mut output, block)?;
     Ok(output)
+}
+
+/// The bytes with those of the snapshot behind them.
+fn with_snapshot(mut output: Blob, after: Snapshot) -> Result<Blob, OutOfMemory>
+    requires { IsWritable after }
+    ensures { IfOk result (λ whole. whole ≡ output ++ bytes_of_snapshot after) }
+{
+    write_snapshot(&mut output, &after)?;
+    Ok(output)
+}
+
+/// The record and the snapshot after it, in one buffer. On several lanes the block's memory is given
+/// back beside the snapshot's writing.
+fn output_of<R: Threads + Sync>(
+    rt: &R,
+    alloc: Global,
+    lanes: u32,
+    block: Block,
+    after: Snapshot,
+) -> Result<Blob, OutOfMemory>
+    requires counted { IsCounted block }
+    requires writable { IsWritable after }
+    ensures { IfOk result (λ output. output ≡ bytes_of_record block ++ bytes_of_snapshot after) }
+{
+    let front = record_before(alloc, &block, &after)?;
+    if lanes == 1 {
+        return with_snapshot(front, after);
+    }
+    let ((), output) = join(
+        rt,
+        move || drop(block),
+        move || -> Result<Blob, OutOfMemory>
+            requires { IsWritable after }
+            ensures { IfOk result (λ whole. whole ≡ front ++ bytes_of_snapshot after) }
+        { with_snapshot(front, after) },
+    );
+    output
 }
 
 /// A line for each transaction that did not run.

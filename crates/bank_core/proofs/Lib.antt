@@ -8,4 +8,6 @@ pub mod Ends
 pub mod Openings
 pub mod Trials
 pub mod Seats
+pub mod Spends
 pub mod Tells
+pub mod Lanes

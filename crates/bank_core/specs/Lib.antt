@@ -6,6 +6,7 @@ pub mod Keeping
 pub mod Facts
 pub mod Takes
 pub mod Ends
+pub mod Lanes
 pub mod Desks
 pub mod Trial
 pub mod TrialLaws

@@ -10,6 +10,8 @@ use Rattle.bank_core.specs.Origins.{state_after}
 use Rattle.bank_core.specs.declared.loan.Loan.{Loan}
 use Rattle.bank_core.specs.declared.loan.Take.{Take}
 use Rattle.bank_core.specs.declared.loan.Take.TheVariants as take
+use Rattle.bank_core.specs.declared.offer.Offer.{Offer}
+use Rattle.bank_core.specs.declared.offer.Offer.TheVariants as offer
 
 -- no position is ready, and so many are held, at least one
 pub record IsNotNow (job : Job) (s : State) (held : ℕ) : Type 0 where
@@ -46,6 +48,12 @@ module _ {W T : Type 0} {G : _} where
   MatchTake (take.NotNow held) f g h short = g held
   MatchTake take.Finished f g h short = h
   MatchTake take.OutOfMemory f g h short = short
+
+-- a fact for each thing that a core may have for a lane
+abbrev pub MatchOffer : Offer → Type 0 → Type 0 → Type 0 → Type 0
+MatchOffer offer.Ready f g h = f
+MatchOffer offer.NotNow f g h = g
+MatchOffer offer.Finished f g h = h
 
 -- the loan that a lane has, if any, is of this core, and its position is the one that the lane
 -- holds

@@ -1,8 +1,10 @@
 //! The core: it lends the values of positions, and takes the effects back.
-ghost use Rattle.std.specs.Prelude.{⊤, ◌≡◌, ◌<◌, ◌≤◌, Some, None, OnOk, OnErr, IfOk, vec_capacity};
+ghost use Rattle.std.specs.Prelude.{⊤, ◌≡◌, ◌<◌, ◌≤◌, map, Some, None, OnOk, OnErr, IfOk, vec_capacity};
 ghost use Rattle.account_store.specs.State.{at};
 ghost use Rattle.bank_law.specs.Machine.{Run, held_count, with_event};
+ghost use Rattle.bank_law.specs.Job.{keys};
 ghost use Rattle.bank_law.specs.Lawful.{IsLawful};
+ghost use Rattle.bank_law.specs.Serial.{serial};
 ghost use Rattle.bank_law.specs.History.{own, holds, returns};
 ghost use Rattle.bank_law.specs.declared.event.EventKind.TheVariants.{Grant, Commit, Return};
 ghost use Rattle.bank_core.specs.Ends.{HasSerialAccounts, state_at_end, outcomes_at_end};
@@ -16,7 +18,7 @@ ghost use Rattle.bank_law.proofs.Props.{IsLawful-prop};
 
 use crate::ended::Ended;
 use crate::finish::{Sealed, all_outcomes};
-use crate::loan::{Loan, Take};
+use crate::loan::{Loan, Spent, Take};
 use crate::origin::Origin;
 use crate::room::{take_at, write_at};
 use crate::slots::{lend, put_back, put_written};
@@ -98,20 +100,35 @@ impl<W: Work> Core<W> {
         ensures journal { self.new.journal.items
             ≡ with_event self.old.journal.items Commit loan.lane loan.position }
     {
-        let Loan {
+        self.commit_spent(loan.spend(), effects);
+    }
+
+    /// Takes the effects of a loan whose values are let go, which the serial run had.
+    pub fn commit_spent(&mut self, spent: Spent<W>, effects: Effects)
+        requires origin { spent.origin.value ≡ self.old.origin.value }
+        requires held { holds (own self.old.journal.items spent.lane) ≡ Some spent.position }
+        requires right { let job = W.job self.old.origin.value.told in effects_seen effects
+            ≡ job.effects spent.position
+            (map (serial job (at self.old.origin.value.start) spent.position)
+            (keys job spent.position)) }
+        ensures origin { self.new.origin.value ≡ self.old.origin.value }
+        ensures lanes { self.new.lanes ≡ self.old.lanes }
+        ensures journal { self.new.journal.items
+            ≡ with_event self.old.journal.items Commit spent.lane spent.position }
+    {
+        let Spent {
             position,
             lane,
-            mut values,
+            buffer,
             origin: _,
-        } = loan;
+        } = spent;
         put_written(
             &mut self.slots,
             self.graph.set(position).items(),
             effects.written,
         );
         write_at(&mut self.outcomes, position as usize, Some(effects.outcome));
-        values.clear();
-        write_at(&mut self.buffers, lane as usize, values);
+        write_at(&mut self.buffers, lane as usize, buffer);
         self.graph.finish(position);
         self.held -= 1;
         push_with_room(

@@ -1,5 +1,5 @@
 //! Loans: the values of a position, lent to a lane.
-ghost use Rattle.std.specs.Prelude.{◌≡◌, ◌<◌, ◌≤◌, ℕ, map, length, vec_capacity};
+ghost use Rattle.std.specs.Prelude.{◌≡◌, ◌<◌, ◌≤◌, ℕ, map, length, vec_len, vec_capacity};
 ghost use Rattle.std.proofs.Props.{props};
 ghost use Rattle.bank_law.specs.Job.{keys};
 ghost use Rattle.bank_law.specs.Serial.{serial};
@@ -51,6 +51,41 @@ impl<W: Work> Loan<W> {
     {
         self.values.as_slice()
     }
+
+    /// Lets the values go, which takes as long as it takes to give their memory back.
+    pub fn spend(self) -> Spent<W>
+        ensures { (result.position ≡ self.position) × (result.lane ≡ self.lane)
+            × (result.origin.value ≡ self.origin.value) }
+    {
+        let Loan {
+            position,
+            lane,
+            mut values,
+            origin,
+        } = self;
+        values.clear();
+        Spent {
+            position,
+            lane,
+            buffer: values,
+            origin,
+        }
+    }
+}
+
+/// A loan whose values are let go: its position is performed, and its effects may be taken.
+pub struct Spent<W: Work> {
+    pub(crate) position: u32,
+    pub(crate) lane: u32,
+    pub(crate) buffer: Vec<Arc<Account>>,
+    pub(crate) origin: Note<Origin<W::Told>>,
+    ghost below: { position < (W.job origin.value.told).count },
+    ghost fits: { Fits ((W.job origin.value.told).locks position)
+        (map (serial (W.job origin.value.told) (at origin.value.start) position)
+        (keys (W.job origin.value.told) position)) } by { Fits-prop _ _ },
+    ghost empty: { vec_len buffer ≡ 0 },
+    ghost room: { (i : ℕ) → i < (W.job origin.value.told).count
+        → length ((W.job origin.value.told).locks i) ≤ vec_capacity buffer },
 }
 
 /// What a take answers: a loan, or how many positions are held where none is ready, or that all are

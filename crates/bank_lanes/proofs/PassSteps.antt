@@ -1,37 +1,50 @@
 -- What a lane's pass knows after each call of a desk.
-use Rattle.std.proofs.Common.{◌≡◌, ℕ, Some, None, ap, ◌∙◌, arith}
-use mathlib.Core.List.{IsPrefix}
-use base.Growing.{prefix_trans}
+use Rattle.std.proofs.Common.{◌≡◌, ℕ, ◌∷◌, [], ◌++◌, Some, None, ap, sym, ◌∙◌, arith, append_assoc}
+use Rattle.bank_law.specs.declared.event.Event.{Event}
 use Rattle.bank_law.specs.declared.event.EventKind.TheVariants.{Grant, Commit, Return}
 use Rattle.bank_law.specs.History.{PassView, holds, returns}
 use Rattle.bank_law.proofs.Histories.{holds_push, returns_push}
-use Rattle.bank_core.specs.Desks.{Stays, OneMore}
+use Rattle.bank_core.specs.Desks.{More, OneMore, turned_over}
 use Rattle.bank_lanes.specs.Passes.{IsIdle}
 
 -- a lane that was lent a position holds it
 pub lent : (v w : PassView) (p : ℕ) → OneMore v Grant p w → holds w.mine ≡ Some p
 lent v w p more = ap holds more.mine ∙ holds_push v.mine (record { kind = Grant; lane = v.lane; position = p })
 
-pub lent_once : (v w : PassView) (p : ℕ) → IsIdle v → OneMore v Grant p w → returns w.mine ≡ 0
-lent_once v w p idle more =
+pub lent_once : (v w : PassView) (p : ℕ) → returns v.mine ≡ 0 → OneMore v Grant p w → returns w.mine ≡ 0
+lent_once v w p once more =
     let a = ap returns more.mine ∙ returns_push v.mine (record { kind = Grant; lane = v.lane; position = p }) in
-    let z = idle.once in
-    omega (arith, a, z)
+    omega (arith, a, once)
 
 -- it is idle again once it committed
-pub committed : (v w x : PassView) (p q : ℕ) → IsIdle v → OneMore v Grant p w → OneMore w Commit q x → IsIdle x
-committed v w x p q idle more end = record {
-  free = ap holds end.mine ∙ holds_push w.mine (record { kind = Commit; lane = w.lane; position = q });
+pub committed : (v w : PassView) (p : ℕ) → returns v.mine ≡ 0 → OneMore v Commit p w → IsIdle w
+committed v w p once more = record {
+  free = ap holds more.mine ∙ holds_push v.mine (record { kind = Commit; lane = v.lane; position = p });
   once =
-      let a = ap returns end.mine ∙ returns_push w.mine (record { kind = Commit; lane = w.lane; position = q }) in
-      let z = lent_once v w p idle more in
-      omega (arith, a, z);
+      let a = ap returns more.mine ∙ returns_push v.mine (record { kind = Commit; lane = v.lane; position = p }) in
+      omega (arith, a, once);
 }
 
--- and holds nothing once it gave back
-pub gave_back : (w x : PassView) (q : ℕ) → OneMore w Return q x → holds x.mine ≡ None
-gave_back w x q end = ap holds end.mine ∙ holds_push w.mine (record { kind = Return; lane = w.lane; position = q })
+-- or holds the next one
+module _ (v w : PassView) (p q : ℕ) (more : More v (turned_over v.lane p q) w) where
+  abbrev first : Event
+  first = record { kind = Commit; lane = v.lane; position = p }
 
--- what one call and another keep
-pub further : (u v w : PassView) → IsPrefix u.seen v.seen → Stays v w → IsPrefix u.seen w.seen
-further u v w longer stays = prefix_trans u.seen v.seen w.seen longer stays.longer
+  abbrev next : Event
+  next = record { kind = Grant; lane = v.lane; position = q }
+
+  mine_is : w.mine ≡ (v.mine ++ first ∷ []) ++ next ∷ []
+  mine_is = more.mine ∙ sym (append_assoc v.mine (first ∷ []) (next ∷ []))
+
+  pub turned : holds w.mine ≡ Some q
+  turned = ap holds mine_is ∙ holds_push (v.mine ++ first ∷ []) next
+
+  pub turned_once : returns v.mine ≡ 0 → returns w.mine ≡ 0
+  turned_once once =
+      let a = ap returns mine_is ∙ returns_push (v.mine ++ first ∷ []) next in
+      let b = returns_push v.mine first in
+      omega (arith, a, b, once)
+
+-- and holds nothing once it gave back
+pub gave_back : (v w : PassView) (p : ℕ) → OneMore v Return p w → holds w.mine ≡ None
+gave_back v w p more = ap holds more.mine ∙ holds_push v.mine (record { kind = Return; lane = v.lane; position = p })

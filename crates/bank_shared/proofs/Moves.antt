@@ -1,5 +1,5 @@
 -- Each step keeps the rule of the desk.
-use Rattle.std.proofs.Common.{◌≡◌, ◌≢◌, ℕ, zero, suc, pred, ◌+◌, ◌*◌, ◌%◌, ◌<◌, ◌≤◌, List, [], ◌∷◌, ◌++◌, length, set, Option, Some, None, Bool, true, false, ◌||◌, max, cond, eqb, eq-eqb, ne_eqb, refl, sym, ap, ◌∙◌, subst, ⊎_elim, arith, le_refl, All, IfSome, IfNone, MatchBool, append-nil}
+use Rattle.std.proofs.Common.{◌≡◌, ◌≢◌, ℕ, zero, suc, pred, ◌+◌, ◌*◌, ◌%◌, ◌<◌, ◌≤◌, List, [], ◌∷◌, ◌++◌, length, set, Option, Some, None, Bool, true, false, ◌||◌, max, cond, eqb, eq-eqb, ne_eqb, refl, sym, ap, ◌∙◌, subst, ⊎_elim, arith, le_refl, All, IfSome, IfNone, MatchBool, append-nil, append_assoc}
 use Rattle.std.specs.Prelude.{slice_index}
 use Rattle.std.specs.List.{AllPass}
 use Rattle.std.proofs.lemmas.Grind.{flat_map-append}
@@ -17,6 +17,7 @@ use Rattle.atomic_table.proofs.Lists.{at_set, at_snoc, set_again}
 use Rattle.spec_base.specs.Sums.{total}
 use Rattle.bank_law.specs.declared.event.Event.{Event}
 use Rattle.bank_law.proofs.Histories.{own_same, own_none}
+use Rattle.bank_core.proofs.Lanes.{is_one_after}
 use Rattle.bank_shared.specs.declared.view.View.{View}
 use Rattle.bank_shared.specs.declared.view.Part.{Part}
 use Rattle.bank_shared.specs.History.{own, own_of, is_one_of, Covers, GoesOn}
@@ -25,7 +26,7 @@ use Rattle.bank_shared.specs.Plays.{holding, done, seated, caught_up, looked, Ge
 use Rattle.bank_shared.specs.Passes.{Adds, Sees, Keeps, Begins, OnlySees, Learns}
 use base.Growing.{prefix_refl}
 use Rattle.bank_shared.proofs.Sums.{sum_set, sum_append, term_le, terms_le}
-use Rattle.bank_shared.proofs.Owns.{prefix_more, none_of, one_stands, no_lanes, own_of_all, grows, parts_grow, covered, is_one_after}
+use Rattle.bank_shared.proofs.Owns.{prefix_more, none_of, one_stands, no_lanes, own_of_all, grows, parts_grow, covered}
 
 -- a history covers itself
 whole : (h : List Event) (lanes : List ℕ) → Covers h lanes h
@@ -371,9 +372,19 @@ module _ {C O : Type 0} (origin : C → O) (journal : C → List Event) (drawn :
 pub nothing_more : (lanes : List ℕ) (before after : List Event) → after ≡ before → GoesOn lanes before after
 nothing_more lanes before after is = record { more = []; after_is = is ∙ sym (append-nil before); theirs = λ i d lt. absurd (omega arith) }
 
--- with one event of a lane more
+-- events of these lanes
+one_theirs : (lanes : List ℕ) (e : Event) → is_one_of lanes e.lane ≡ true → AllPass (λ x. is_one_of lanes x.lane) (e ∷ [])
+one_theirs lanes e theirs = All-cons (λ (x : Event). is_one_of lanes x.lane ≡ true) e [] theirs (λ i d lt. absurd (omega arith))
+
+two_theirs : (lanes : List ℕ) (e f : Event) → is_one_of lanes e.lane ≡ true → is_one_of lanes f.lane ≡ true → AllPass (λ x. is_one_of lanes x.lane) (e ∷ f ∷ [])
+two_theirs lanes e f first second = All-cons (λ (x : Event). is_one_of lanes x.lane ≡ true) e (f ∷ []) first (one_theirs lanes f second)
+
+-- with one event of a lane more, or two
 pub one_more : (lanes : List ℕ) (before after : List Event) (e : Event) → after ≡ before ++ e ∷ [] → is_one_of lanes e.lane ≡ true → GoesOn lanes before after
-one_more lanes before after e is theirs = record { more = e ∷ []; after_is = is; theirs = All-cons (λ (x : Event). is_one_of lanes x.lane ≡ true) e [] theirs (λ i d lt. absurd (omega arith)) }
+one_more lanes before after e is theirs = record { more = e ∷ []; after_is = is; theirs = one_theirs lanes e theirs }
+
+pub two_more : (lanes : List ℕ) (before after : List Event) (e f : Event) → after ≡ before ++ e ∷ f ∷ [] → is_one_of lanes e.lane ≡ true → is_one_of lanes f.lane ≡ true → GoesOn lanes before after
+two_more lanes before after e f is first second = record { more = e ∷ f ∷ []; after_is = is; theirs = two_theirs lanes e f first second }
 
 -- the events of these lanes grow by all that is added
 own_of_more : (lanes : List ℕ) (h more : List Event) → AllPass (λ e. is_one_of lanes e.lane) more → own_of (h ++ more) lanes ≡ own_of h lanes ++ more
@@ -383,19 +394,30 @@ module _ {O : Type 0} where
   lanes_are : (v : View O) → v.joined ≡ [] → lanes_of v ≡ v.lanes
   lanes_are v no_parts = ap (λ (x : List Part). part_lanes x ++ v.lanes) no_parts
 
-  pub adds : (o : O) (h new : List Event) (d d' : ℕ) (e : Event) (v w : View O) → Knows o h d v → v.joined ≡ [] → is_one_of v.lanes e.lane ≡ true → new ≡ h ++ e ∷ [] → w ≡ done (holding v h d) new d' → Adds v e w
-  adds o h new d d' e v w k no_parts lane is last =
-      let seen : w.seen ≡ h ++ e ∷ [] = ap (λ (u : View O). u.seen) last ∙ is in
+  -- some events of one lane of the pass are added
+  adds_some : (o : O) (h new : List Event) (d d' l : ℕ) (es : List Event) (v w : View O) → Knows o h d v → v.joined ≡ [] → is_one_of v.lanes l ≡ true → own (h ++ es) l ≡ own h l ++ es → AllPass (λ e. is_one_of v.lanes e.lane) es → new ≡ h ++ es → w ≡ done (holding v h d) new d' → Adds v l es w
+  adds_some o h new d d' l es v w k no_parts lane mine theirs is last =
+      let seen : w.seen ≡ h ++ es = ap (λ (u : View O). u.seen) last ∙ is in
       let lanes : w.lanes ≡ v.lanes = ap (λ (u : View O). u.lanes) last ∙ lanes_are v no_parts in
       record {
         before = h;
         seen = seen;
         longer = k.mine.longer;
-        mine = ap (λ (es : List Event). own es e.lane) seen ∙ (own_same h e e.lane refl ∙ ap (λ (l : List Event). l ++ e ∷ []) (covered h v.lanes v.seen e.lane k.mine lane));
-        all = ap (λ (es : List Event). own_of es v.lanes) seen ∙ (own_of_more v.lanes h (e ∷ []) (All-cons (λ (x : Event). is_one_of v.lanes x.lane ≡ true) e [] lane (λ i d lt. absurd (omega arith))) ∙ ap (λ (l : List Event). l ++ e ∷ []) k.mine.own);
+        mine = ap (λ (xs : List Event). own xs l) seen ∙ (mine ∙ ap (λ (xs : List Event). xs ++ es) (covered h v.lanes v.seen l k.mine lane));
+        all = ap (λ (xs : List Event). own_of xs v.lanes) seen ∙ (own_of_more v.lanes h es theirs ∙ ap (λ (xs : List Event). xs ++ es) k.mine.own);
         lanes = lanes;
         turn = ap (λ (u : View O). u.turns) last;
       }
+
+  pub adds : (o : O) (h new : List Event) (d d' : ℕ) (e : Event) (v w : View O) → Knows o h d v → v.joined ≡ [] → is_one_of v.lanes e.lane ≡ true → new ≡ h ++ e ∷ [] → w ≡ done (holding v h d) new d' → Adds v e.lane (e ∷ []) w
+  adds o h new d d' e v w k no_parts lane is last = adds_some o h new d d' e.lane (e ∷ []) v w k no_parts lane (own_same h e e.lane refl) (one_theirs v.lanes e lane) is last
+
+  pub adds_two : (o : O) (h new : List Event) (d d' l : ℕ) (e f : Event) (v w : View O) → e.lane ≡ l → f.lane ≡ l → Knows o h d v → v.joined ≡ [] → is_one_of v.lanes l ≡ true → new ≡ h ++ e ∷ f ∷ [] → w ≡ done (holding v h d) new d' → Adds v l (e ∷ f ∷ []) w
+  adds_two o h new d d' l e f v w e_is f_is k no_parts lane is last =
+      let split : h ++ e ∷ f ∷ [] ≡ (h ++ e ∷ []) ++ f ∷ [] = sym (append_assoc h (e ∷ []) (f ∷ [])) in
+      let mine : own (h ++ e ∷ f ∷ []) l ≡ own h l ++ e ∷ f ∷ [] = ap (λ (xs : List Event). own xs l) split ∙ (own_same (h ++ e ∷ []) f l f_is ∙ (ap (λ (xs : List Event). xs ++ f ∷ []) (own_same h e l e_is) ∙ append_assoc (own h l) (e ∷ []) (f ∷ []))) in
+      adds_some o h new d d' l (e ∷ f ∷ []) v w k no_parts lane mine
+      (two_theirs v.lanes e f (ap (is_one_of v.lanes) e_is ∙ lane) (ap (is_one_of v.lanes) f_is ∙ lane)) is last
 
   pub sees : (o : O) (h new : List Event) (d d' l : ℕ) (v w : View O) → Knows o h d v → v.joined ≡ [] → is_one_of v.lanes l ≡ true → new ≡ h → w ≡ done (holding v h d) new d' → Sees v l w
   sees o h new d d' l v w k no_parts lane is last =
@@ -421,6 +443,7 @@ module _ {O : Type 0} where
       let lane : pred (d + 1) ≡ d = omega arith in
       let lanes : w.lanes ≡ d ∷ [] = ap (λ (u : View O). u.lanes) is ∙ ap (λ (x : ℕ). x ∷ []) lane in (
         record {
+          above = k.drawn;
           lanes = lanes;
           mine = ap (λ (u : View O). own u.seen d) is ∙ own_none d h d later (le_refl d);
           drawn = ap (λ (u : View O). u.drawn) is;

@@ -1,11 +1,12 @@
 -- The events of some lanes, as the history grows.
-use Rattle.std.proofs.Common.{◌≡◌, ℕ, ◌+◌, ◌≤◌, List, [], ◌∷◌, ◌++◌, Bool, true, false, ◌||◌, cond, eqb, refl, sym, ap, ◌∙◌, arith, All, append-nil}
+use Rattle.std.proofs.Common.{◌≡◌, ℕ, ◌+◌, ◌≤◌, List, [], ◌∷◌, ◌++◌, Bool, true, false, ◌||◌, cond, eqb, refl, ap, ◌∙◌, arith, All, append-nil}
 use Rattle.std.specs.List.{AllPass}
-use Rattle.std.proofs.lemmas.Bool.{cond-true, cond-false, eqb-true}
+use Rattle.std.proofs.lemmas.Bool.{cond-true, cond-false}
 use Rattle.std.proofs.lemmas.List.Elements.{filter-append, All-cons, All-head, All-tail, All-weaker}
 use mathlib.Core.List.{IsPrefix}
 use base.Growing.{prefix_trans}
 use Rattle.bank_law.specs.declared.event.Event.{Event}
+use Rattle.bank_core.proofs.Lanes.{same_own}
 use Rattle.bank_shared.specs.declared.view.Part.{Part}
 use Rattle.bank_shared.specs.History.{own, own_of, is_one_of, Covers}
 use Rattle.bank_shared.specs.Rule.{times, part_lanes}
@@ -67,24 +68,6 @@ parts_grow h more (p ∷ ps) none all =
     (grows h more p.lanes p.seen (All-head (λ (q : Part). Covers h q.lanes q.seen) p ps all) here)
     (parts_grow h more ps there (All-tail (λ (q : Part). Covers h q.lanes q.seen) p ps all))
 
--- of one of the lanes, their events have all
-pub own_in : (l : ℕ) (lanes : List ℕ) (h : List Event) → is_one_of lanes l ≡ true → own (own_of h lanes) l ≡ own h l
-own_in l lanes [] is = refl
-own_in l lanes (e ∷ h) is = by_case (is_one_of lanes e.lane) (eqb e.lane l) refl refl (own_in l lanes h is)
-  where
-    by_case : (a b : Bool) → is_one_of lanes e.lane ≡ a → eqb e.lane l ≡ b → own (own_of h lanes) l ≡ own h l → own (cond a (e ∷ own_of h lanes) (own_of h lanes)) l ≡ cond b (e ∷ own h l) (own h l)
-    by_case true true p q rest = ap (λ b. cond b (e ∷ own (own_of h lanes) l) (own (own_of h lanes) l)) q ∙ ap (λ es. e ∷ es) rest
-    by_case true false p q rest = ap (λ b. cond b (e ∷ own (own_of h lanes) l) (own (own_of h lanes) l)) q ∙ rest
-    by_case false true p q rest = absurd (cc (p, is, ap (is_one_of lanes) (eqb-true e.lane l q)))
-    by_case false false p q rest = rest
-
+-- of one of the lanes, what covers them has all
 pub covered : (h : List Event) (lanes : List ℕ) (seen : List Event) (l : ℕ) → Covers h lanes seen → is_one_of lanes l ≡ true → own h l ≡ own seen l
-covered h lanes seen l c is = sym (own_in l lanes h is) ∙ (ap (λ es. own es l) c.own ∙ own_in l lanes seen is)
-
-or_after : (b rest : Bool) → rest ≡ true → (b || rest) ≡ true
-or_after true rest is = refl
-or_after false rest is = is
-
-pub is_one_after : (l : ℕ) (xs ys : List ℕ) → is_one_of ys l ≡ true → is_one_of (xs ++ ys) l ≡ true
-is_one_after l [] ys is = is
-is_one_after l (x ∷ xs) ys is = or_after (eqb x l) (is_one_of (xs ++ ys) l) (is_one_after l xs ys is)
+covered h lanes seen l c is = same_own lanes seen h l c.own is

@@ -1,19 +1,19 @@
 -- What a call on the desk does to its pass.
-use Rattle.std.specs.Prelude.{◌≡◌, ℕ, suc, ◌+◌, ◌≤◌, max, true, false, List, [], ◌∷◌, ◌++◌}
+use Rattle.std.specs.Prelude.{◌≡◌, ℕ, suc, ◌+◌, ◌≤◌, max, List, [], ◌∷◌, ◌++◌}
 use mathlib.Core.List.{IsPrefix}
 use Rattle.bank_law.specs.declared.event.Event.{Event}
 use Rattle.bank_shared.specs.declared.view.View.{View}
-use Rattle.bank_shared.specs.History.{own, own_of, is_one_of}
+use Rattle.bank_shared.specs.History.{own, own_of, AreApart}
 
 module _ {O : Type 0} where
-  -- what is seen afterwards is the history up to and with the event, before which no lane of the
-  -- pass had more than was seen
-  pub record Adds (v : View O) (e : Event) (w : View O) : Type 0 where
+  -- what is seen afterwards is the history up to and with these events of the lane, before which no
+  -- lane of the pass had more than was seen
+  pub record Adds (v : View O) (l : ℕ) (es : List Event) (w : View O) : Type 0 where
     pub before : List Event
-    pub seen : w.seen ≡ before ++ e ∷ []
+    pub seen : w.seen ≡ before ++ es
     pub longer : IsPrefix v.seen before
-    pub mine : own w.seen e.lane ≡ own v.seen e.lane ++ e ∷ []
-    pub all : own_of w.seen v.lanes ≡ own_of v.seen v.lanes ++ e ∷ []
+    pub mine : own w.seen l ≡ own v.seen l ++ es
+    pub all : own_of w.seen v.lanes ≡ own_of v.seen v.lanes ++ es
     pub lanes : w.lanes ≡ v.lanes
     pub turn : w.turns ≡ suc v.turns
 
@@ -33,6 +33,7 @@ module _ {O : Type 0} where
 
   -- a new pass of a lane, split from v
   pub record Begins (v : View O) (l : ℕ) (w : View O) : Type 0 where
+    pub above : v.drawn ≤ l
     pub lanes : w.lanes ≡ l ∷ []
     pub mine : own w.seen l ≡ []
     pub drawn : w.drawn ≡ l + 1
@@ -50,6 +51,6 @@ module _ {O : Type 0} where
   pub record Learns (v other w : View O) : Type 0 where
     pub seen : IsPrefix other.seen w.seen
     pub lanes : w.lanes ≡ other.lanes ++ v.lanes
-    pub apart : (l : ℕ) → is_one_of other.lanes l ≡ true → is_one_of v.lanes l ≡ false
+    pub apart : AreApart other.lanes v.lanes
     pub all : own_of w.seen other.lanes ≡ own_of other.seen other.lanes
     pub drawn : w.drawn ≡ max v.drawn other.drawn

@@ -1,12 +1,12 @@
 //! What a desk does for its passes.
-ghost use Rattle.std.specs.Prelude.{◌≡◌, ◌<◌, None, Some};
+ghost use Rattle.std.specs.Prelude.{⊤, ◌≡◌, ◌<◌, [], ◌∷◌, None, Some};
 ghost use Rattle.bank_law.specs.History.{own, holds, returns};
 ghost use Rattle.bank_law.specs.declared.event.EventKind.TheVariants.{Grant, Commit, Return};
 ghost use Rattle.sol_base.specs.Accounts.{accounts_of};
 ghost use Rattle.bank_core.specs.Effects.{effects_seen};
-ghost use Rattle.bank_core.specs.Origins.{IsLegalFor, AllDoneAfter};
+ghost use Rattle.bank_core.specs.Origins.{IsLegalFor, IsLeastReadyAfter, AllDoneAfter};
 ghost use Rattle.bank_core.specs.Takes.{MatchTake, IsNotNowAfter, ReadsLeastAfter};
-ghost use Rattle.bank_core.specs.Desks.{MatchSplit};
+ghost use Rattle.bank_core.specs.Desks.{MatchSplit, before_last};
 ghost use Rattle.bank_shared.specs.Passes.{Adds, Sees, Keeps, Begins, OnlySees, Learns};
 
 use crate::desk::{Pass, SharedDesk};
@@ -15,7 +15,7 @@ use bank_core::{Effects, Loan, Split, Take, Work};
 use std::sync::Wait;
 
 impl<W: Work> SharedDesk<W> {
-    /// Lends a position to the pass's lane.
+    /// Lends the least ready position to the pass's lane.
     pub(crate) fn lend<R: Wait>(&self, rt: &R, pass: &mut Pass<W>) -> Take<W>
         requires table { pass.old.seat.table_id ≡ self.now.table.shared.table_id }
         requires desk { pass.old.seat.me.0.origin ≡ Some self.now.table.shared.key.value }
@@ -26,8 +26,8 @@ impl<W: Work> SharedDesk<W> {
         ensures legal { IsLegalFor W.job self.now.table.shared.key.value.origin
             pass.new.seat.me.0.seen }
         ensures event { MatchTake result
-            (λ loan. Adds pass.old.seat.me.0
-            (record { kind = Grant; lane = pass.old.lane; position = loan.position })
+            (λ loan. Adds pass.old.seat.me.0 pass.old.lane
+            (record { kind = Grant; lane = pass.old.lane; position = loan.position } ∷ [])
             pass.new.seat.me.0)
             (λ held. Sees pass.old.seat.me.0 pass.old.lane pass.new.seat.me.0)
             (Sees pass.old.seat.me.0 pass.old.lane pass.new.seat.me.0)
@@ -39,6 +39,9 @@ impl<W: Work> SharedDesk<W> {
             pass.new.seat.me.0.seen held)
             (AllDoneAfter W.job self.now.table.shared.key.value.origin pass.new.seat.me.0.seen)
             (ReadsLeastAfter W.job self.now.table.shared.key.value.origin pass.new.seat.me.0.seen) }
+        ensures least { MatchTake result
+            (λ loan. IsLeastReadyAfter W.job self.now.table.shared.key.value.origin
+            (before_last pass.new.seat.me.0.seen) loan.position) (λ held. ⊤) ⊤ ⊤ }
     {
         let lane = pass.lane;
         let (word, mut kept) = self.lock(rt, &mut pass.seat);
@@ -83,12 +86,13 @@ impl<W: Work> SharedDesk<W> {
         ensures kept { Keeps pass.old.seat.me.0 pass.new.seat.me.0 }
         ensures legal { IsLegalFor W.job self.now.table.shared.key.value.origin
             pass.new.seat.me.0.seen }
-        ensures event { Adds pass.old.seat.me.0
-            (record { kind = Commit; lane = pass.old.lane; position = loan.position })
+        ensures event { Adds pass.old.seat.me.0 pass.old.lane
+            (record { kind = Commit; lane = pass.old.lane; position = loan.position } ∷ [])
             pass.new.seat.me.0 }
     {
+        let spent = loan.spend();
         let (word, mut kept) = self.lock(rt, &mut pass.seat);
-        kept.core.commit(loan, effects);
+        kept.core.commit_spent(spent, effects);
         self.release_more(&mut pass.seat, word + 2, kept);
     }
 
@@ -105,8 +109,8 @@ impl<W: Work> SharedDesk<W> {
         ensures kept { Keeps pass.old.seat.me.0 pass.new.seat.me.0 }
         ensures legal { IsLegalFor W.job self.now.table.shared.key.value.origin
             pass.new.seat.me.0.seen }
-        ensures event { Adds pass.old.seat.me.0
-            (record { kind = Return; lane = pass.old.lane; position = loan.position })
+        ensures event { Adds pass.old.seat.me.0 pass.old.lane
+            (record { kind = Return; lane = pass.old.lane; position = loan.position } ∷ [])
             pass.new.seat.me.0 }
     {
         let (word, mut kept) = self.lock(rt, &mut pass.seat);

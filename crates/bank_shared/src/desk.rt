@@ -9,6 +9,7 @@ ghost use Rattle.bank_shared.specs.Rule.{first_view};
 use crate::kept::{DeskOrigin, Kept, origin_of};
 use crate::rule::TurnRule;
 use crate::view::View;
+use crate::waiting::Waiting;
 use atomic_table::{Seat, Table};
 use bank_core::{Core, Work};
 use proof_note::Note;
@@ -39,6 +40,7 @@ pub struct SharedDesk<W: Work> {
         TurnRule<W>,
         Global,
     >,
+    pub(crate) waiting: Waiting,
     ghost one_word: { table.shared.table_id.words ≡ 1 },
     ghost one_slot: { table.shared.table_id.slots ≡ 1 },
 }
@@ -61,7 +63,8 @@ impl<W: Work> SharedDesk<W> {
         let Ok((table, seat)) = Table::new(alloc, &[0], slots, &about) else {
             return Err(OutOfMemory);
         };
-        Ok((SharedDesk { table }, Pass { seat, lane: 0 }))
+        let waiting = Waiting::new();
+        Ok((SharedDesk { table, waiting }, Pass { seat, lane: 0 }))
     }
 
     /// Ends the desk, and answers its core. What other passes hold stays held in it. Of each lane of
@@ -88,6 +91,9 @@ impl<W: Work> SharedDesk<W> {
 
 impl<W: Work> Drop for SharedDesk<W> {
     fn drop(self) {
-        let SharedDesk { table: _ } = self;
+        let SharedDesk {
+            table: _,
+            waiting: _,
+        } = self;
     }
 }

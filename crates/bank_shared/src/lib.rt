@@ -6,11 +6,13 @@
 mod calls;
 mod desk;
 mod kept;
+mod onward;
 mod reader;
 mod rule;
 mod shared;
 mod turn;
 mod view;
+mod waiting;
 
 pub use desk::{Pass, SharedDesk};
 pub use kept::{DeskOrigin, Kept};

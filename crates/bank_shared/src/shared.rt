@@ -28,6 +28,8 @@ impl<W: Work> Desk<W> for SharedDesk<W> {
       turns = pass.seat.me.0.turns;
     } };
 
+    ghost lanes_of = { λ pass. pass.seat.me.0.lanes };
+
     ghost loan = { λ loan. record {
       position = loan.position;
       lane = loan.lane;
@@ -41,6 +43,20 @@ impl<W: Work> Desk<W> for SharedDesk<W> {
 
     fn commit<R: Wait>(&self, rt: &R, pass: &mut Pass<W>, loan: Loan<W>, effects: Effects) {
         self.commit_loan(rt, pass, loan, effects)
+    }
+
+    fn turn_over<R: Wait>(
+        &self,
+        rt: &R,
+        pass: &mut Pass<W>,
+        loan: Loan<W>,
+        effects: Effects,
+    ) -> Take<W> {
+        self.turn_pass(rt, pass, loan, effects)
+    }
+
+    fn wait<R: Wait>(&self, rt: &R) {
+        self.waiting.rest(rt)
     }
 
     fn give_back<R: Wait>(&self, rt: &R, pass: &mut Pass<W>, loan: Loan<W>) {

@@ -10,7 +10,7 @@ use crate::kept::{DeskOrigin, Kept};
 use crate::rule::{Draws, Folds, Looks, Releases, Takes};
 use crate::view::View;
 use atomic_table::Seat;
-use bank_core::Work;
+use bank_core::{Offer, Work};
 use std::hint;
 use std::sync::Wait;
 
@@ -27,7 +27,7 @@ impl<W: Work> SharedDesk<W> {
         requires table { seat.old.table_id ≡ self.now.table.shared.table_id }
         requires desk { seat.old.me.0.origin ≡ Some self.now.table.shared.key.value }
         requires empty { seat.old.me.1 ≡ [] }
-        requires word { (word % 2 ≡ 0) × (word < 2 ^ 64 - 2) }
+        requires word { (word % 2 ≡ 0) × (word < 2 ^ 64 - 4) }
         ensures table { seat.new.table_id ≡ seat.old.table_id }
         ensures none { IfNone result (seat.new.me ≡ seat.old.me) }
         ensures some { IfSome result (λ kept.
@@ -60,7 +60,7 @@ impl<W: Work> SharedDesk<W> {
         ensures table { seat.new.table_id ≡ seat.old.table_id }
         ensures me { seat.new.me
             ≡ (holding seat.old.me.0 result.1.core.journal.items result.1.drawn, (0, None) ∷ []) }
-        ensures word { result.0 + 2 < 2 ^ 64 }
+        ensures word { result.0 + 4 < 2 ^ 64 }
         ensures gets { Gets self.now.table.shared.key.value
             (record { origin = result.1.core.origin.value; lanes = result.1.core.lanes })
             result.1.core.journal.items result.1.drawn seat.old.me.0 result.0 }
@@ -68,7 +68,7 @@ impl<W: Work> SharedDesk<W> {
         let mut spins = 0;
         for _ in rt.forever() {
             let word = self.table.shared.peek(0);
-            if word % 2 == 0 && word < u64::MAX - 2 {
+            if word % 2 == 0 && word < u64::MAX - 4 {
                 if let Some(kept) = self.try_lock(seat, word) {
                     return (word, kept);
                 }
@@ -76,7 +76,9 @@ impl<W: Work> SharedDesk<W> {
                 spins += 1;
                 hint::spin_loop();
             } else {
+                self.waiting.queue_up();
                 self.table.shared.park(rt, 0, (word & 0xffff_ffff) as u32);
+                self.waiting.leave_queue();
             }
         }
         unreachable!()
@@ -99,9 +101,7 @@ impl<W: Work> SharedDesk<W> {
         ensures table { seat.new.table_id ≡ seat.old.table_id }
         ensures me { seat.new.me ≡ (done seat.old.me.0 kept.core.journal.items kept.drawn, []) }
     {
-        self.table.shared.exchange(seat, 0, Some(kept));
-        self.table.shared.store::<Releases<W>>(seat, 0, word);
-        self.table.shared.wake_one(0);
+        self.release_more(seat, word, kept);
     }
 
     /// Gives the turn up, with what the core's journal has more than it had: events of the seat's
@@ -124,9 +124,11 @@ impl<W: Work> SharedDesk<W> {
         ensures table { seat.new.table_id ≡ seat.old.table_id }
         ensures me { seat.new.me ≡ (done seat.old.me.0 kept.core.journal.items kept.drawn, []) }
     {
+        let offer = kept.core.offer();
+        self.waiting.show(offer);
         self.table.shared.exchange(seat, 0, Some(kept));
         self.table.shared.store::<Releases<W>>(seat, 0, word);
-        self.table.shared.wake_one(0);
+        self.wake(offer);
     }
 
     /// Gives the turn up, with a lane drawn.
@@ -150,9 +152,19 @@ impl<W: Work> SharedDesk<W> {
     {
         // The contract alone asks for the lane: the count of drawn ones has it already.
         let _lane = lane;
+        let offer = kept.core.offer();
         self.table.shared.exchange(seat, 0, Some(kept));
         self.table.shared.store::<Draws<W>>(seat, 0, word);
-        self.table.shared.wake_one(0);
+        self.wake(offer);
+    }
+
+    /// Wakes those for whom there is something, once the turn is given up: one who sleeps for the
+    /// turn, and a lane. A thread counts as one that sleeps before it looks at the word.
+    fn wake(&self, offer: Offer) {
+        if self.waiting.has_queued() {
+            self.table.shared.wake_one(0);
+        }
+        self.waiting.ring(offer);
     }
 
     /// Joins a seat into a pass, and looks.

@@ -1,7 +1,6 @@
-use Rattle.std.proofs.Common.{ap, ◌∙◌}
-use Rattle.bank_cli.specs.Texts.{refused_lines}
+use Rattle.std.proofs.lemmas.Result.{IfOk-weaker}
 use Rattle.bank_cli.proofs.Blocks.{block_told}
 use Rattle.bank_cli.proofs.produce.produce_block.Goals as goal
 
 pub returns : goal.returns
-returns g c = block_told _ c.in_ok-block.block c.in_ok-output.output c.in_ok-notes.notes c.in_ok-block.ensures c.in_ok-output.ensures (c.in_ok-notes.ensures ∙ ap refused_lines c.as_slice.ensures)
+returns g c = IfOk-weaker _ _ _ (λ told is. block_told _ _ _ told c.in_ok-block.ensures.exact is) c.write_block.ensures

@@ -1,13 +1,8 @@
-use Rattle.std.proofs.Common.{◌≡◌, ◌++◌, ℕ, List, length, drop, All, true, sym, subst, ◌∙◌, arith}
-use Rattle.std.specs.List.{flat_map}
+use Rattle.std.proofs.Common.{length, drop, All, sym, subst, ◌∙◌, arith}
 use Rattle.std.proofs.lemmas.List.Elements.{All-drop, All-take}
-use Rattle.sha2.specs.Hashers.{Holds256}
-use Rattle.tx_report.specs.declared.outcome.Outcome.{Outcome}
-use Rattle.block_record.specs.Record.{entry_bytes}
 use Rattle.tx_exec.specs.TransactionLaws.{IsSmallOutcome}
 use Rattle.bank_core.specs.Ends.{outcomes_at_end}
 use Rattle.bank_core.proofs.Tells.{told_few}
-use Rattle.block_run.specs.Blocks.{entries_of}
 use Rattle.block_run.proofs.Fronts.{goes_on}
 use Rattle.block_run.proofs.front.read_front.Goals as goal
 
@@ -34,7 +29,5 @@ loop-preserved g c =
       table = c.outcomes_from.ensures.table ∙ c.loop.invariant.table;
       desk = c.outcomes_from.ensures.desk ∙ c.loop.invariant.desk;
       begun = goes_on c.args.parts (outcomes_at_end g.W.Work.job c.args.desk.now.table.shared.key.value.origin) c.in_ok-outcomes.outcomes c.loop.begun c.in_ok-begun-2.begun c.loop.invariant.begun
-          c.in_ok-outcomes.ensures.serial (omega (arith, few, least, within)) c.in_ok-begun-2.ensures.count
-          (subst (λ (os : List Outcome). (taken : List ℕ) → Holds256 c.loop.begun.hasher taken → Holds256 c.in_ok-begun-2.begun.hasher (taken ++ flat_map entry_bytes (entries_of c.args.parts.wires.now (drop c.loop.begun.count c.args.parts.order.now) os))) c.as_slice-2.ensures c.in_ok-begun-2.ensures.taken)
-          (subst (λ (os : List Outcome). c.args.parts.kept ≡ true → c.in_ok-begun-2.begun.bytes ≡ c.loop.begun.bytes ++ flat_map entry_bytes (entries_of c.args.parts.wires.now (drop c.loop.begun.count c.args.parts.order.now) os)) c.as_slice-2.ensures c.in_ok-begun-2.ensures.kept);
+          c.in_ok-outcomes.ensures.serial (omega (arith, few, least, within)) c.in_ok-begun-2.ensures.count c.in_ok-begun-2.ensures.taken;
     }

@@ -1,4 +1,9 @@
-use Rattle.std.proofs.Common.{ap, sym, subst, IfSome, ◌<◌, ◌∙◌}
+use Rattle.std.proofs.Common.{ap, sym, subst, subst₂, IfSome, ◌<◌, ◌∙◌}
+use Rattle.bank_law.specs.declared.event.Event.{Event}
+use Rattle.bank_law.specs.declared.event.EventKind.TheVariants.{Grant}
+use Rattle.bank_core.specs.Desks.{before_last}
+use Rattle.bank_core.proofs.Lanes.{before_last_is}
+use Rattle.bank_core.specs.Origins.{IsLeastReadyAfter}
 use Rattle.bank_shared.specs.History.{holds}
 use Rattle.bank_shared.specs.Plays.{done}
 use Rattle.bank_shared.proofs.Moves.{mine_is, adds, sees}
@@ -30,3 +35,10 @@ pub returns-in-OutOfMemory-clause-event : goal.returns-in-OutOfMemory-clause-eve
 returns-in-OutOfMemory-clause-event g c =
     sees _ c.lock-word.result.1.core.journal.items _ _ _ _ _ _ c.lock-word.ensures.gets.knows c.args.pass.now.no_parts c.args.pass.now.lane_is c.in-OutOfMemory.ensures.journal
     (ap (λ m. m.0) c.release-in-OutOfMemory.ensures.me ∙ ap (λ m. done m.0 c.take.new.self.journal.items c.lock-word.result.1.drawn) c.lock-word.ensures.me)
+
+pub returns-in-Loan-clause-least : goal.returns-in-Loan-clause-least
+returns-in-Loan-clause-least g c =
+    let e : Event = record { kind = Grant; lane = c.args.pass.now.lane; position = c.in-Loan.loan.position } in
+    let seen = ap (λ m. m.0.seen) c.release_more.ensures.me ∙ c.in-Loan.ensures.journal in
+    subst₂ (λ o events. IsLeastReadyAfter g.W.Work.job o events c.in-Loan.loan.position) (ap (λ r. r.origin) c.lock-word.ensures.gets.desk)
+    (sym (ap before_last seen ∙ before_last_is c.lock-word.result.1.core.journal.items e)) c.in-Loan.ensures.take.2
