@@ -7,3 +7,4 @@ pub mod TakeLaws
 pub mod RoundTrips
 pub mod RegionLaws
 pub mod Lent
+pub mod Refused

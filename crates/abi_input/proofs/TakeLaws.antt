@@ -13,7 +13,7 @@ use Rattle.std.proofs.Math.ListN.{get_or-append}
 use Rattle.std.proofs.Math.Seq.{get_or-append_seam}
 use Rattle.std.proofs.lemmas.List.Folds.{list_any_more}
 use Rattle.std.proofs.lemmas.List.FromFn.{get_or-enumerate_from, length-enumerate_from}
-use Rattle.std.proofs.lemmas.Option.{slice_get-get_or, slice_get_within, get_or_from_slice_get}
+use Rattle.std.proofs.lemmas.Option.{same_Some, slice_get-get_or, slice_get_within, get_or_from_slice_get}
 use Rattle.std.proofs.Math.Bool.{or-false}
 use Rattle.spec_base.specs.Bytes.{number_from}
 use Rattle.sol_base.specs.declared.key.Key.{Key}
@@ -25,7 +25,7 @@ use Rattle.abi_input.specs.declared.fault.BackFault.{BackFault}
 use Rattle.abi_input.specs.declared.fault.BackFault.TheVariants.{LengthTooLarge, OutOfMemory}
 use Rattle.abi_input.specs.Region.{account_at, account_back, account_in, back, data_len_at, entry_start, first_place, first_size, has_outgrown, is_too_long, room_of, unless_found, IsRegionOf}
 use Rattle.abi_input.specs.Entries.{account_by, entry_among, found_among, AreEntries, IsEntryOf}
-use Rattle.abi_input.specs.Answers.{IsPlaceOf, RefusesBack, TakesBack}
+use Rattle.abi_input.specs.Answers.{DifferWhereTouched, IsPlaceOf, RefusesBack, TakesBack}
 use Rattle.abi_input.proofs.Listed.{first_of_account, place_at_first, IsFirstOf}
 use Rattle.abi_input.proofs.Entries.{first_fits}
 use Rattle.abi_input.proofs.Finding.{found_all, none_passes, refused_back}
@@ -152,6 +152,27 @@ untouched_more touched t before after k a flags long same so_far i e = elim (cas
       where
         some_same : {x y : Bool} → Some x ≡ Some y → x ≡ y
         some_same h = cc
+
+appended_before : {X : Type 0} (xs : List X) (x : X) (i : ℕ) → i < length xs → slice_get (xs ++ x ∷ []) i ≡ slice_get xs i
+appended_before xs x i below = slice_get-get_or (xs ++ x ∷ []) i x (simp length-append (omega arith)) ∙ ap Some (get_or-append xs (x ∷ []) x i below) ∙ sym (slice_get-get_or xs i x below)
+
+appended_last : {X : Type 0} (xs : List X) (x : X) → slice_get (xs ++ x ∷ []) (length xs) ≡ Some x
+appended_last xs x = slice_get-get_or (xs ++ x ∷ []) (length xs) x (rw (length-append xs (x ∷ [])) (omega arith)) ∙ ap Some (get_or-append_seam xs x [] x)
+
+pub touched_more : (touched : List Bool) (t : Bool) (before after : List Account) (k : ℕ) (a : Account) → length touched ≡ k → length after ≡ k → (t ≡ true → ¬ (Some a ≡ slice_get before k)) → DifferWhereTouched touched before after → DifferWhereTouched (touched ++ t ∷ []) before (after ++ a ∷ [])
+touched_more touched t before after k a flags long differs so_far i e = λ same. elim (cases_lt i k) [ inl below ↦ earlier same below | inr past ↦ later same past ]
+  where
+    earlier : slice_get (after ++ a ∷ []) i ≡ slice_get before i → i < k → ⊥
+    earlier same below = so_far i (sym (appended_before touched t i (omega arith)) ∙ e) (sym (appended_before after a i (omega arith)) ∙ same)
+
+    later : slice_get (after ++ a ∷ []) i ≡ slice_get before i → k ≤ i → ⊥
+    later same past =
+        let within : i < length (touched ++ t ∷ []) = slice_get_within (touched ++ t ∷ []) i true e in
+        let total : length (touched ++ t ∷ []) ≡ length touched + 1 = length-append touched (t ∷ []) in
+        let here : i ≡ length touched = omega arith in
+        let there : i ≡ length after = omega arith in
+        let set : t ≡ true = same_Some t true (sym (appended_last touched t) ∙ ap (λ n. slice_get (touched ++ t ∷ []) n) (sym here) ∙ e) in
+        differs set (sym (appended_last after a) ∙ ap (λ n. slice_get (after ++ a ∷ []) n) (sym there) ∙ same ∙ ap (λ n. slice_get before n) (here ∙ flags))
 
 -- all accounts are taken back
 pub back_is : (region : List ℕ) (start now : List Account) (metas : List Meta) (accounts : List Account) → found_among (is_too_long region start metas) metas (length metas) ≡ None → accounts ≡ map (account_back region start metas) (enumerate_from 0 now) → back region start now metas ≡ Ok accounts

@@ -1,5 +1,5 @@
 -- What the calls answer.
-use Rattle.std.specs.Prelude.{◌≡◌, ℕ, List, Option, Some, Result, Ok, Err, option_map}
+use Rattle.std.specs.Prelude.{◌≡◌, ℕ, Bool, true, List, slice_get, Option, Some, Result, Ok, Err, option_map}
 use Rattle.sol_base.specs.declared.account.Account.{Account}
 use Rattle.sol_base.specs.declared.lock.Meta.{Meta}
 use Rattle.sol_base.specs.Accounts.{accounts_of}
@@ -13,6 +13,12 @@ abbrev pub TakesBack : Result (List Account) ℕ → Result TakenBack BackFault 
 TakesBack wanted (Ok taken) = wanted ≡ Ok (accounts_of taken.accounts)
 TakesBack wanted (Err (LengthTooLarge i)) = wanted ≡ Err i
 TakesBack wanted (Err no_memory) = Unit {0}
+
+-- an account whose flag is true has another value after than before
+abbrev pub DifferWhereTouched : List Bool → List Account → List Account → Type 0
+DifferWhereTouched touched before after =
+    (place : ℕ) → slice_get touched place ≡ Some true
+    → ¬ (slice_get after place ≡ slice_get before place)
 
 abbrev pub Patches : Result (List ℕ) ℕ → List ℕ → List ℕ → Result (Unit {0}) PatchFault → Type 0
 Patches wanted old new (Ok _) = wanted ≡ Ok new

@@ -8,7 +8,7 @@ ghost use Rattle.sol_base.specs.Metas.{AreInRange, is_first_listing};
 ghost use Rattle.abi_input.specs.Listing.{IsTableOf};
 ghost use Rattle.abi_input.specs.Region.{account_at, account_back, back, data_len_at, entry_start, has_outgrown, is_too_long, lent_in, max_metas, IsRegionOf};
 ghost use Rattle.abi_input.specs.Entries.{account_by, found_among, AreEntries, AreLent, IsEntryOf};
-ghost use Rattle.abi_input.specs.Answers.{RefusesBack, TakesBack};
+ghost use Rattle.abi_input.specs.Answers.{DifferWhereTouched, RefusesBack, TakesBack};
 
 use crate::entry::{
     DATA_AT, DATA_LEN_AT, FIRST_ENTRY, LAMPORTS_AT, OWNER_AT, entry_len, key_in_region, number_at,
@@ -28,7 +28,7 @@ const PIECE_LEN: usize = 4096;
 #[derive(Drop)]
 pub struct TakenBack {
     pub accounts: Items<Arc<Account>>,
-    /// Of each account, whether it may differ from what it was before.
+    /// Of each account, whether it differs from what it was before.
     pub touched: Items<bool>,
 }
 
@@ -64,7 +64,8 @@ impl TakenBack {
 
 /// The accounts `now`, with owner, lamports and data of the listed ones as they stand in the region
 /// that was laid out from `start` and has the data of `now` lent. An account of which nothing
-/// changed, and whose data are still lent, is shared: its data are neither copied nor read.
+/// changed, and whose data are still lent, is shared: its data are neither copied nor read. One is
+/// told as touched exactly where it differs.
 pub fn take_back(
     alloc: Global,
     region: &Parts,
@@ -83,6 +84,9 @@ pub fn take_back(
     ensures flags { IfOk result (λ taken. length taken.touched ≡ length (accounts_of now.now)) }
     ensures untouched { IfOk result
         (λ taken. SameUnlessTouched taken.touched (accounts_of now.now)
+        (accounts_of taken.accounts)) }
+    ensures touched { IfOk result
+        (λ taken. DifferWhereTouched taken.touched (accounts_of now.now)
         (accounts_of taken.accounts)) }
 {
     let _len = region.len();
@@ -188,6 +192,9 @@ fn taken_by(
     ensures untouched { IfOk result
         (λ taken. SameUnlessTouched taken.touched (accounts_of now.now)
         (accounts_of taken.accounts)) }
+    ensures touched { IfOk result
+        (λ taken. DifferWhereTouched taken.touched (accounts_of now.now)
+        (accounts_of taken.accounts)) }
 {
     let mut back = TakenBack::with_capacity(alloc, now.len())?;
     for (index, account) in now.iter().enumerate() {
@@ -219,6 +226,8 @@ fn take_one(
         ≡ account_by region.now.bytes entry (arc_value account.now)) }
     ensures same { IfOk result (λ taken. taken.touched ≡ false
         → arc_value taken.account ≡ arc_value account.now) }
+    ensures changed { IfOk result (λ taken. taken.touched ≡ true
+        → ¬ (arc_value taken.account ≡ arc_value account.now)) }
 {
     let Some(entry) = entry else {
         return untouched(account);
@@ -227,6 +236,9 @@ fn take_one(
         return untouched(account);
     }
     let taken = account_in_region(alloc, region, entry, account)?;
+    if is_same(&taken, account) {
+        return untouched(account);
+    }
     Ok(Taken {
         account: Arc::new(alloc, taken)?,
         touched: true,
@@ -242,6 +254,15 @@ fn untouched(account: &Arc<Account>) -> Result<Taken, OutOfMemory>
         account: Arc::try_clone(account)?,
         touched: false,
     })
+}
+
+fn is_same(account: &Account, other: &Account) -> bool
+    ensures { IsTrue result ↔ (account.now ≡ other.now) }
+{
+    account.lamports == other.lamports
+        && is_same_key(&account.owner, &other.owner)
+        && account.executable == other.executable
+        && account.bytes.as_slice() == other.bytes.as_slice()
 }
 
 /// The account stands in its entry as it was before, and its data are still lent.

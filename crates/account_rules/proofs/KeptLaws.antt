@@ -1,5 +1,5 @@
 -- What accounts keep of which only some may be written: it holds where nothing is written, it goes on, and more rights leave it so.
-use Rattle.std.proofs.Common.{◌≡◌, ℕ, zero, suc, ◌+◌, ◌<◌, ◌≤◌, Bool, true, false, ◌||◌, List, [], length, take, get_or, nat_eq, refl, sym, ap, ◌∙◌, subst, inl, inr, Some, None, Ok, arith, add-one, slice_get}
+use Rattle.std.proofs.Common.{◌≡◌, ℕ, zero, suc, ◌+◌, ◌<◌, ◌≤◌, Bool, true, false, ◌||◌, List, [], ◌∷◌, length, take, get_or, nat_eq, refl, sym, ap, ◌∙◌, subst, inl, inr, Some, None, Ok, arith, add-one, slice_get}
 use Rattle.std.specs.List.{filter_map}
 use Rattle.std.proofs.lemmas.Bool.{cases_lt}
 use Rattle.std.proofs.lemmas.Bool.Decides.{nat_tests}
@@ -11,9 +11,10 @@ use Rattle.sol_base.specs.declared.lock.Meta.{Meta}
 use Rattle.sol_base.specs.Accounts.{AreShort, IsShort, empty_account, lamports_in}
 use Rattle.sol_base.specs.Metas.{AreInRange, SameUnlessListed, is_listed, is_listed_writable, no_meta}
 use Rattle.account_rules.specs.AccountRules.{afters, befores, broken_by, listed_changes, listed_rules}
-use Rattle.account_rules.specs.KeptAccounts.{AreKeptBy, IsKept}
+use Rattle.account_rules.specs.KeptAccounts.{AreKeptBy, AreForeignKept, IsKept, IsForeignKept}
 use Rattle.account_rules.proofs.Flags.{listed_more}
 use Rattle.account_rules.proofs.Kept.{kept, none_at, none_broken}
+use Rattle.account_rules.proofs.Foreign.{IsForeignKept-kept, IsForeignKept-same}
 use Rattle.account_rules.proofs.Listings.{at_first, fault_of, faults_of, length-listings, listing_at, listings}
 use Rattle.account_rules.proofs.Sums.{one_sum}
 
@@ -137,3 +138,20 @@ module _ (program : Key) (metas : List Meta) (before after : List Account) (coun
         no_new = was_program;
         short = stay_short;
       }
+
+  -- and those that the program does not own
+  pub AreForeignKept-listed_rules : AreForeignKept (program ∷ []) before after
+  AreForeignKept-listed_rules place was is there here foreign = by_test (is_listed metas place) refl
+    where
+      was_at : get_or before place empty_account ≡ was
+      was_at = get_or_from_slice_get before place was empty_account there
+
+      is_at : get_or after place empty_account ≡ is
+      is_at = get_or_from_slice_get after place is empty_account here
+
+      by_test : (t : Bool) → is_listed metas place ≡ t → IsForeignKept was is
+      by_test true listed =
+          let one : IsKept program (is_listed_writable metas place) was (get_or after place empty_account) = subst (λ (a : Account). IsKept program (is_listed_writable metas place) a (get_or after place empty_account)) was_at (kept_at place listed) in
+          let two : IsKept program (is_listed_writable metas place) was is = subst (IsKept program (is_listed_writable metas place) was) is_at one in
+          IsForeignKept-kept program (is_listed_writable metas place) was is two foreign
+      by_test false other = IsForeignKept-same was is (same_Some was is (sym there ∙ sym (same place other) ∙ here))

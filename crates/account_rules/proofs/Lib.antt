@@ -1,7 +1,9 @@
 pub mod Changes
 pub mod Flags
 pub mod Kept
+pub mod Foreign
 pub mod KeptLaws
 pub mod Listings
 pub mod Sums
 pub mod SameListings
+pub mod Places

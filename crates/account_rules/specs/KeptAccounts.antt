@@ -1,5 +1,6 @@
 -- What accounts keep that break no rule.
 use Rattle.std.specs.Prelude.{◌≡◌, ◌⊎◌, ℕ, ◌≤◌, Bool, true, false, All, List, length, slice_get, Some}
+use Rattle.sol_base.specs.Keys.{has_key}
 use Rattle.sol_base.specs.declared.key.Key.{Key}
 use Rattle.sol_base.specs.declared.account.Account.{Account}
 use Rattle.sol_base.specs.Accounts.{AreShort, IsShort, lamports_in}
@@ -37,3 +38,15 @@ pub record AreKeptBy (may_write : ℕ → Bool) (before after : List Account) : 
   pub no_new : (place : ℕ) (account : Account) → slice_get after place ≡ Some account
       → account.executable ≡ true → slice_get before place ≡ Some account
   pub short : AreShort before → AreShort after
+
+-- what an account keeps while its owner does not run: its owner, its data and all its lamports
+pub record IsForeignKept (before after : Account) : Type 0 where
+  pub owner : after.owner ≡ before.owner
+  pub bytes : after.bytes ≡ before.bytes
+  pub lamports : before.lamports ≤ after.lamports
+
+-- each account keeps that whose owner is none of these programs
+abbrev pub AreForeignKept : List Key → List Account → List Account → Type 0
+AreForeignKept programs before after =
+    (place : ℕ) (was is : Account) → slice_get before place ≡ Some was
+    → slice_get after place ≡ Some is → has_key was.owner programs ≡ false → IsForeignKept was is

@@ -1,9 +1,9 @@
 //! The account rules over the accounts that a frame lists.
-ghost use Rattle.std.specs.Prelude.{◌≡◌, ℕ, ◌≤◌, OnOk, length, slice_get};
+ghost use Rattle.std.specs.Prelude.{◌≡◌, ◌∷◌, [], ℕ, ◌≤◌, OnOk, length, slice_get};
 ghost use Rattle.sol_base.specs.Accounts.{accounts_of, SameUnlessTouched};
 ghost use Rattle.sol_base.specs.Metas.{AreInRange, SameUnlessListed, is_listed_writable, max_metas};
 ghost use Rattle.account_rules.specs.AccountRules.{AreFlagsOf, AreParallel, listed_faults, listed_rules};
-ghost use Rattle.account_rules.specs.KeptAccounts.{AreKeptBy};
+ghost use Rattle.account_rules.specs.KeptAccounts.{AreKeptBy, AreForeignKept};
 
 use crate::account::broken_at;
 use crate::rules::{RuleFault, sum_of};
@@ -33,6 +33,8 @@ pub fn check_listed(
     ensures exact { result ≡ listed_rules program.now metas.now
         (accounts_of before.now) (accounts_of after.now) }
     ensures kept { OnOk result (AreKeptBy (is_listed_writable metas.now)
+        (accounts_of before.now) (accounts_of after.now)) }
+    ensures foreign { OnOk result (AreForeignKept (program.now ∷ [])
         (accounts_of before.now) (accounts_of after.now)) }
 {
     if let Some(fault) = first_fault(program, metas, touched, before, after) {

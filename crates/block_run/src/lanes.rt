@@ -1,12 +1,12 @@
 //! A work on its lanes: alone in order, or beside each other over a shared desk, while the front of
 //! the record is hashed.
-ghost use Rattle.std.specs.Prelude.{◌≡◌, ◌<◌, ◌≤◌, [], All, IfOk, OnOk, Some, length};
+ghost use Rattle.std.specs.Prelude.{◌≡◌, ◌<◌, ◌≤◌, [], All, IfOk, None, OnOk, Some, length};
 ghost use Rattle.sol_base.specs.Limits.{max_lanes};
 ghost use Rattle.account_store.specs.State.{at};
+ghost use Rattle.bank_law.specs.History.{holds, own, returns};
 ghost use Rattle.bank_core.specs.Ends.{outcomes_at_end, serial_outcomes};
 ghost use Rattle.bank_core.specs.Openings.{AreNumbered};
 ghost use Rattle.bank_core.specs.Origins.{AllDoneAfter};
-ghost use Rattle.bank_lanes.specs.Passes.{IsIdle};
 ghost use Rattle.tx_exec.specs.TransactionLaws.{IsSmallOutcome};
 ghost use Rattle.block_run.specs.Ending.{AreOf};
 ghost use Rattle.block_run.specs.Front.{IsBegun};
@@ -14,7 +14,7 @@ ghost use Rattle.block_run.specs.Front.{IsBegun};
 use crate::block::RecordParts;
 use crate::front::{Begun, begin, read_front};
 use account_store::Accounts;
-use bank_core::{Core, Desk, Ended, Numbered, Take, Work};
+use bank_core::{Core, Ended, Numbered, Take, Work};
 use bank_lanes::{Gate, run_lanes};
 use bank_shared::{Pass, Reader, SharedDesk};
 use sol_base::{Items, OutOfMemory};
@@ -73,7 +73,8 @@ fn run_beside<W: Work + Sync, G: Gate, R: Threads + Wait + Sync>(
         × (reader.seat.table_id ≡ desk.now.table.shared.table_id) }
     requires desk { (pass.seat.me.0.origin ≡ Some desk.now.table.shared.key.value)
         × (reader.seat.me.0.origin ≡ Some desk.now.table.shared.key.value) }
-    requires idle { IsIdle (⟦<SharedDesk<W> as Desk<W>>⟧.view pass) }
+    requires idle { (holds (own pass.seat.me.0.seen pass.lane) ≡ None)
+        × (returns (own pass.seat.me.0.seen pass.lane) ≡ 0) }
     requires of { AreOf parts.wires.now parts.order.now }
     requires one_each { length parts.order.now
         ≡ (W.job desk.now.table.shared.key.value.origin.told).count }
@@ -103,7 +104,8 @@ fn run_beside<W: Work + Sync, G: Gate, R: Threads + Wait + Sync>(
             requires { (desk.now.table.shared.key.value.origin.told ≡ W.told work.now)
                 × (pass.seat.table_id ≡ desk.now.table.shared.table_id)
                 × (pass.seat.me.0.origin ≡ Some desk.now.table.shared.key.value)
-                × IsIdle (⟦<SharedDesk<W> as Desk<W>>⟧.view pass) }
+                × (holds (own pass.seat.me.0.seen pass.lane) ≡ None)
+                × (returns (own pass.seat.me.0.seen pass.lane) ≡ 0) }
             ensures table { result.1.seat.table_id ≡ desk.entry.now.table.shared.table_id }
             ensures desk { result.1.seat.me.0.origin ≡ Some desk.entry.now.table.shared.key.value }
             ensures done { OnOk result.0 (AllDoneAfter W.job
@@ -125,7 +127,8 @@ fn run_until<W: Work + Sync, G: Gate, R: Threads + Wait + Sync>(
     requires told { desk.now.table.shared.key.value.origin.told ≡ W.told work.now }
     requires table { pass.seat.table_id ≡ desk.now.table.shared.table_id }
     requires desk { pass.seat.me.0.origin ≡ Some desk.now.table.shared.key.value }
-    requires idle { IsIdle (⟦<SharedDesk<W> as Desk<W>>⟧.view pass) }
+    requires idle { (holds (own pass.seat.me.0.seen pass.lane) ≡ None)
+        × (returns (own pass.seat.me.0.seen pass.lane) ≡ 0) }
     ensures table { result.1.seat.table_id ≡ desk.now.table.shared.table_id }
     ensures desk { result.1.seat.me.0.origin ≡ Some desk.now.table.shared.key.value }
     ensures done { OnOk result.0 (AllDoneAfter W.job desk.now.table.shared.key.value.origin
@@ -137,7 +140,7 @@ fn run_until<W: Work + Sync, G: Gate, R: Threads + Wait + Sync>(
 }
 
 /// Shares the core among its lanes, each on a thread of its own, until all positions are done. A
-/// further thread hashes the front of the record; where it finds no memory, its work alone is lost.
+/// further thread hashes the front of the record.
 fn run_shared<W: Work + Sync, G: Gate, R: Threads + Wait + Sync>(
     rt: &R,
     alloc: Global,
@@ -164,11 +167,7 @@ fn run_shared<W: Work + Sync, G: Gate, R: Threads + Wait + Sync>(
         rt, alloc, &desk, pass, reader, &ended, work, gate, parts,
     );
     run?;
-    let begun = match begun {
-        Ok(begun) => begun,
-        Err(_) => begin(parts)?,
-    };
-    Ok((desk.close(rt, pass), begun))
+    Ok((desk.close(rt, pass), begun?))
 }
 
 /// Runs a work on so many lanes over these accounts. It ends as the serial run does; its accounts

@@ -112,9 +112,11 @@ impl Intake {
     }
 
     /// What is left in the ring, in order. With the seats of all senders handed in, each ticket
-    /// that was sent was taken or is left.
-    pub fn close(
+    /// that was sent was taken or is left. A try of the ring may fail, and is made again: so want of
+    /// memory is the only refusal.
+    pub fn close<R: Wait>(
         self,
+        rt: &R,
         seats: Items<SendSeat>,
         taker: TakeSeat,
     ) -> Result<Items<Ticket>, OutOfMemory>
@@ -126,8 +128,7 @@ impl Intake {
     {
         let mut pass = self.joined(seats, taker);
         let mut left = Items::new(self.alloc);
-        // One try for each ticket, and one that finds none: no one else has the ring any more.
-        for _ in 0..=self.ring.capacity() {
+        for _ in rt.forever() {
             match self.ring.try_pop_as::<Taking>(&mut pass) {
                 Some(ticket) => left.push(ticket)?,
                 None => {
@@ -137,7 +138,7 @@ impl Intake {
                 }
             }
         }
-        Err(OutOfMemory)
+        unreachable!()
     }
 
     /// The taker's pass, with those of the senders joined to it.

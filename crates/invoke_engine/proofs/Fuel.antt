@@ -1,10 +1,11 @@
 -- Frames and their units: no frame gains any, each turn takes one, and any bound that is enough serves.
 use Rattle.sbpf_isa.specs.Calls.{invoke_call}
 use Rattle.invoke_engine.specs.declared.begin.TheConstants.{NATIVE_UNITS}
-use Rattle.std.proofs.Common.{◌≡◌, ◌≤◌, ◌<◌, ◌==◌, ◌∷◌, ℕ, zero, suc, length, Bool, true, false, List, Option, Some, None, Result, Ok, Err, refl, ap, ◌∙◌, arith, if◌then◌else◌}
-use Rattle.std.specs.Prelude.{nat_lt, not, ◌&&◌}
+use Rattle.std.proofs.Common.{◌≡◌, ◌≤◌, ◌<◌, ◌==◌, ◌∷◌, [], ℕ, zero, suc, length, Bool, true, false, List, Option, Some, None, Result, Ok, Err, refl, ap, ◌∙◌, arith, if◌then◌else◌}
+use Rattle.std.specs.Prelude.{nat_lt, nat_le, not, ◌&&◌}
 use Rattle.sol_base.specs.declared.key.Key.{Key}
 use Rattle.sol_base.specs.declared.account.Account.{Account}
+use Rattle.tx_report.specs.LogLines.{Log}
 use Rattle.tx_report.specs.declared.status.InstructionError.{InstructionError}
 use Rattle.sbpf_machine.specs.Steps.{State, IsHelper, steps}
 use Rattle.sbpf_machine.specs.declared.stop.Stop.{Stop}
@@ -20,14 +21,14 @@ use Rattle.abi_input.specs.Region.{max_metas}
 use Rattle.invoke_engine.specs.declared.call.Call.{Call}
 use Rattle.invoke_engine.specs.declared.call.Setting.{Setting}
 use Rattle.invoke_engine.specs.declared.stopped.Stopped.{Stopped}
-use Rattle.invoke_engine.specs.Frames.{Fixed, Carried, Running, Ending, Next, Runs, Ends, Callee, Turn, GoesOn, Calls, Leaves, height}
+use Rattle.invoke_engine.specs.Frames.{Fixed, Carried, Running, Ending, Next, Runs, Ends, Callee, Turn, GoesOn, Calls, Leaves, height, max_trace}
 use Rattle.invoke_engine.specs.Calling.{calling, requested, call_turn}
 use Rattle.invoke_engine.specs.Serving.{serving, served, serve_turn}
 use Rattle.invoke_engine.specs.Turns.{at_stop, run_to, turn}
 use Rattle.invoke_engine.specs.Returning.{patching, returning, returned}
 use Rattle.invoke_engine.specs.Native.{is_native, native}
 use Rattle.invoke_engine.specs.Starting.{key_at, program_started, is_ready, crowded, entering, started, begun}
-use Rattle.invoke_engine.specs.Frame.{after, follow, within, go}
+use Rattle.invoke_engine.specs.Frame.{after, follow, within, go, instruction, nothing_returned}
 use Rattle.invoke_engine.specs.Fits.{IsGoing, TurnTakes, NextTakes}
 
 -- what holds of both holds of the one that is chosen
@@ -138,6 +139,12 @@ pub within_units : (s : Fixed) (n : ℕ) → GainsNone (within s n)
 unfolding within
 within_units s zero outer f c going = omega arith
 within_units s (suc n) outer f c going = follow_units s outer (within s n) f.machine.units (turn s.setting s.keys outer f c) (within_units s n) (turn_takes s.setting s.keys outer f c going)
+
+-- no instruction does either
+pub instruction_units : (s : Fixed) (call : Call) (accounts : List Account) (units trace : ℕ) (log : Log) → (instruction s call accounts units trace log).units ≤ units
+instruction_units s call accounts units trace log =
+    either (λ (e : Ending). e.units ≤ units) (nat_le max_trace trace) _ _ (omega arith)
+    (after_units [] (go s) units (begun s [] call accounts units (nothing_returned trace log)) (λ outer f c going. within_units s (suc f.machine.units) outer f c going) (begun_takes s [] call accounts units (nothing_returned trace log)))
 
 -- two are the same below so many units
 abbrev SameBelow : ℕ → (List Key → Running → Carried → Ending) → (List Key → Running → Carried → Ending) → Type 0

@@ -1,9 +1,12 @@
 -- What frames keep of their accounts, and the account rules of their stretches.
 use Rattle.sbpf_isa.specs.Calls.{invoke_call}
 use Rattle.invoke_engine.specs.declared.begin.TheConstants.{NATIVE_UNITS}
-use Rattle.std.proofs.Common.{◌≡◌, ◌==◌, ◌∷◌, ℕ, zero, suc, length, Bool, true, false, List, Option, Some, None, Result, Ok, Err, refl, sym, subst, ◌∙◌}
+use Rattle.std.proofs.Common.{◌≡◌, ◌==◌, ◌⊎◌, inl, inr, ◌∷◌, ℕ, zero, suc, length, Bool, true, false, List, Option, Some, None, Result, Ok, Err, refl, sym, subst, ◌∙◌, if◌then◌else◌}
 use Rattle.std.specs.Prelude.{MatchResult, IfOk, nat_lt, not, ◌&&◌}
 use Rattle.sol_base.specs.declared.key.Key.{Key}
+use Rattle.sol_base.specs.declared.key.TheConstants.{SYSTEM_PROGRAM, LOADER_PROGRAM}
+use Rattle.sol_base.specs.Keys.{same_key}
+use Rattle.sol_base.proofs.KeyLaws.{same_key-true}
 use Rattle.sol_base.specs.declared.account.Account.{Account}
 use Rattle.sol_base.specs.declared.lock.Meta.{Meta}
 use Rattle.sol_base.specs.Metas.{AreInRange, is_listed_writable}
@@ -20,6 +23,10 @@ use Rattle.cpi_calls.specs.Rights.{IsWithin}
 use Rattle.cpi_calls.proofs.Within.{rights-within}
 use Rattle.program_cache.specs.Programs.{Sought, IsReady, IsAbsent, IsNoProgram, IsBad, IsUnverified}
 use Rattle.abi_input.specs.Region.{max_metas}
+use Rattle.system_prog.specs.SystemProgram.{system_key, system_row}
+use Rattle.system_prog.proofs.Keeping.{system_ends}
+use Rattle.loader_prog.specs.Loader.{loader_row}
+use Rattle.loader_prog.proofs.Keeping.{loader_ends}
 use Rattle.invoke_engine.specs.declared.call.Call.{Call}
 use Rattle.invoke_engine.specs.declared.call.Setting.{Setting}
 use Rattle.invoke_engine.specs.declared.stopped.Stopped.{Stopped}
@@ -34,8 +41,9 @@ use Rattle.invoke_engine.specs.Native.{native, native_row, is_native}
 use Rattle.invoke_engine.specs.Starting.{program_started, entering, crowded, is_ready, key_at, started, begun}
 use Rattle.invoke_engine.specs.Frame.{after, follow, within, frame, go}
 use Rattle.invoke_engine.specs.Fits.{AreListed, EndKeeps}
+use Rattle.invoke_engine.specs.Reasons.{by_loader, by_system, refuse}
 use Rattle.invoke_engine.proofs.Fuel.{either}
-use Rattle.invoke_engine.proofs.Keeping.{ComesFrom, Settles, called_from, settles, settled_keeps, left_settled, native_row_keeps}
+use Rattle.invoke_engine.proofs.Keeping.{ComesFrom, Settles, called_from, refuse_ok, settles, settled_keeps, left_settled, native_row_keeps}
 
 -- accounts that a list lets one write
 abbrev Keep : List Meta → List Account → List Account → Type 0
@@ -197,7 +205,7 @@ frame_keeps s outer call accounts units c listed =
 -- a stretch that ends in a call or well breaks no rule
 abbrev TurnRules : Running → Turn → Type 0
 TurnRules f (GoesOn g d) = (g.program ≡ f.program) × (g.metas ≡ f.metas) × (g.before ≡ f.before)
-TurnRules f (Calls g d callee left) = listed_rules f.program f.metas f.before callee.accounts ≡ Ok tt
+TurnRules f (Calls g d callee left) = (g.program ≡ f.program) × (g.metas ≡ f.metas) × (g.before ≡ f.before) × (listed_rules f.program f.metas f.before callee.accounts ≡ Ok tt)
 TurnRules f (Leaves e) = IfOk e.result (λ after. listed_rules f.program f.metas f.before after ≡ Ok tt)
 
 calling_rules : (outer keys : List Key) (f : Running) (c : Carried) (most units : ℕ) (result : Result Callee Stopped) →
@@ -205,7 +213,7 @@ calling_rules : (outer keys : List Key) (f : Running) (c : Carried) (most units 
 calling_rules outer keys f c most units (Ok callee) k =
     let from : ComesFrom most keys outer f c.trace (requested f).answer callee = k callee refl in
     let rules : Settles f from.accounts = settles f from.accounts from.left in
-    subst (λ (x : Callee). listed_rules f.program f.metas f.before x.accounts ≡ Ok tt) from.is rules.rules
+    (refl, refl, refl, subst (λ (x : Callee). listed_rules f.program f.metas f.before x.accounts ≡ Ok tt) from.is rules.rules)
 calling_rules outer keys f c most units (Err stopped) k = tt
 
 serving_rules : (outer : List Key) (f : Running) (c : Carried) (units : ℕ) (result : Result Service SysFault) → TurnRules f (serving outer f c units result)
@@ -233,7 +241,8 @@ turn_rules : (setting : Setting) (keys outer : List Key) (f : Running) (c : Carr
 unfolding turn
 turn_rules setting keys outer f c = run_rules setting keys outer f c (steps f.machine)
 
-pub calls_by_rules : (setting : Setting) (keys outer : List Key) (f g : Running) (c d : Carried) (callee : Callee) (units : ℕ) → turn setting keys outer f c ≡ Calls g d callee units → listed_rules f.program f.metas f.before callee.accounts ≡ Ok tt
+pub calls_by_rules : (setting : Setting) (keys outer : List Key) (f g : Running) (c d : Carried) (callee : Callee) (units : ℕ) → turn setting keys outer f c ≡ Calls g d callee units
+    → (g.program ≡ f.program) × (g.metas ≡ f.metas) × (g.before ≡ f.before) × (listed_rules f.program f.metas f.before callee.accounts ≡ Ok tt)
 calls_by_rules setting keys outer f g c d callee units h = subst (TurnRules f) h (turn_rules setting keys outer f c)
 
 pub leaves_by_rules : (setting : Setting) (keys outer : List Key) (f : Running) (c : Carried) (e : Ending) → turn setting keys outer f c ≡ Leaves e → IfOk e.result (λ after. listed_rules f.program f.metas f.before after ≡ Ok tt)
@@ -243,46 +252,77 @@ leaves_by_rules setting keys outer f c e h = subst (TurnRules f) h (turn_rules s
 pub same_stretch : (setting : Setting) (keys outer : List Key) (f g : Running) (c d : Carried) → turn setting keys outer f c ≡ GoesOn g d → (g.program ≡ f.program) × (g.metas ≡ f.metas) × (g.before ≡ f.before)
 same_stretch setting keys outer f g c d h = subst (TurnRules f) h (turn_rules setting keys outer f c)
 
--- a first stretch begins with the accounts that the frame was given
-abbrev StartsWith : List Account → Next → Type 0
-StartsWith accounts (Runs f c) = f.before ≡ accounts
-StartsWith accounts (Ends e) = Unit {0}
+-- a first stretch begins with what the frame was given, and a native program has but one
+abbrev StartsWith : Key → Call → List Account → Next → Type 0
+StartsWith key call accounts (Runs f c) = (f.program ≡ key) × (f.metas ≡ call.metas) × (f.before ≡ accounts)
+StartsWith key call accounts (Ends e) = IfOk e.result (λ after. (after ≡ accounts) ⊎ (listed_rules key call.metas accounts after ≡ Ok tt))
 
-entered_starts : (s : Fixed) (outer : List Key) (key : Key) (call : Call) (accounts : List Account) (units : ℕ) (c : Carried) (found : Sought) → StartsWith accounts (program_started s.setting s.keys outer key call accounts units c found)
-entered_starts s outer key call accounts units c (IsReady image) = refl
+native_rules : (key : Key) (keys : List Key) (accounts : List Account) (call : Call) (after : List Account) → native_row key keys accounts call ≡ Ok after → (after ≡ accounts) ⊎ (listed_rules key call.metas accounts after ≡ Ok tt)
+unfolding native_row
+native_rules key keys accounts call after h = by_tests (same_key key SYSTEM_PROGRAM) (same_key key LOADER_PROGRAM) refl refl h
+  where
+    by_tests : (a b : Bool) → same_key key SYSTEM_PROGRAM ≡ a → same_key key LOADER_PROGRAM ≡ b → (if a then refuse by_system (system_row keys accounts call.metas call.input) else if b then refuse by_loader (loader_row keys accounts call.metas call.input) else Ok accounts) ≡ Ok after
+        → (after ≡ accounts) ⊎ (listed_rules key call.metas accounts after ≡ Ok tt)
+    by_tests true b is or g =
+        let same : key ≡ system_key = same_key-true key SYSTEM_PROGRAM is in
+        inr (subst (λ (k : Key). listed_rules k call.metas accounts after ≡ Ok tt) (sym same) (system_ends keys accounts call.metas call.input after (refuse_ok by_system _ after g)).unbroken)
+    by_tests false true is or g = inr (subst (λ (k : Key). listed_rules k call.metas accounts after ≡ Ok tt) (sym (same_key-true key LOADER_PROGRAM or)) (loader_ends keys accounts call.metas call.input after (refuse_ok by_loader _ after g)).unbroken)
+    by_tests false false is or g = inl (cc)
+
+or_error_rules : (key : Key) (call : Call) (accounts : List Account) (height : ℕ) (result : Result (List Account) Stopped) → ((after : List Account) → result ≡ Ok after → (after ≡ accounts) ⊎ (listed_rules key call.metas accounts after ≡ Ok tt))
+    → IfOk (or_error height result) (λ after. (after ≡ accounts) ⊎ (listed_rules key call.metas accounts after ≡ Ok tt))
+or_error_rules key call accounts height (Ok after) k = k after refl
+or_error_rules key call accounts height (Err stopped) k = tt
+
+native_starts : (key : Key) (outer keys : List Key) (call : Call) (accounts : List Account) (units : ℕ) (c : Carried) → StartsWith key call accounts (Ends (native key outer keys call accounts units c))
+native_starts key outer keys call accounts units c =
+    either (λ (e : Ending). StartsWith key call accounts (Ends e)) (nat_lt units NATIVE_UNITS) _ _ tt
+    (or_error_rules key call accounts (height outer) (native_row key keys accounts call) (λ after h. native_rules key keys accounts call after h))
+
+entered_starts : (s : Fixed) (outer : List Key) (key : Key) (call : Call) (accounts : List Account) (units : ℕ) (c : Carried) (found : Sought) → StartsWith key call accounts (program_started s.setting s.keys outer key call accounts units c found)
+entered_starts s outer key call accounts units c (IsReady image) = (refl, refl, refl)
 entered_starts s outer key call accounts units c IsAbsent = tt
 entered_starts s outer key call accounts units c IsNoProgram = tt
 entered_starts s outer key call accounts units c IsBad = tt
 entered_starts s outer key call accounts units c (IsUnverified fault) = tt
 
-entering_starts : (s : Fixed) (outer : List Key) (key : Key) (call : Call) (accounts : List Account) (units : ℕ) (c : Carried) → StartsWith accounts (entering s outer key call accounts units c)
+crowded_starts : (key : Key) (call : Call) (accounts : List Account) (s : Fixed) (outer : List Key) (units : ℕ) (c : Carried) → StartsWith key call accounts (Ends (crowded s.programs key outer units c))
+unfolding crowded
+crowded_starts key call accounts s outer units c = either (λ (e : Ending). StartsWith key call accounts (Ends e)) (not (is_native key) && is_ready (s.programs key)) _ _ tt tt
+
+entering_starts : (s : Fixed) (outer : List Key) (key : Key) (call : Call) (accounts : List Account) (units : ℕ) (c : Carried) → StartsWith key call accounts (entering s outer key call accounts units c)
 unfolding entering
 entering_starts s outer key call accounts units c =
-    either (StartsWith accounts) (nat_lt max_metas (length call.metas)) _ _ tt (either (StartsWith accounts) (is_native key) _ _ tt (entered_starts s outer key call accounts units c (s.programs key)))
+    either (StartsWith key call accounts) (nat_lt max_metas (length call.metas)) _ _ (crowded_starts key call accounts s outer units c)
+    (either (StartsWith key call accounts) (is_native key) _ _ (native_starts key outer s.keys call accounts units c) (entered_starts s outer key call accounts units c (s.programs key)))
 
-begun_starts : (s : Fixed) (outer : List Key) (call : Call) (accounts : List Account) (units : ℕ) (c : Carried) → StartsWith accounts (begun s outer call accounts units c)
+begun_starts : (s : Fixed) (outer : List Key) (call : Call) (accounts : List Account) (units : ℕ) (c : Carried) → StartsWith (key_at s.keys call.program) call accounts (begun s outer call accounts units c)
 unfolding begun
 begun_starts s outer call accounts units c = entering_starts s outer (key_at s.keys call.program) call accounts units (started (key_at s.keys call.program) (height outer) c)
 
-pub first_stretch : (s : Fixed) (outer : List Key) (call : Call) (accounts : List Account) (units : ℕ) (c d : Carried) (f : Running) → begun s outer call accounts units c ≡ Runs f d → f.before ≡ accounts
-first_stretch s outer call accounts units c d f h = subst (StartsWith accounts) h (begun_starts s outer call accounts units c)
+pub first_stretch : (s : Fixed) (outer : List Key) (call : Call) (accounts : List Account) (units : ℕ) (c d : Carried) (f : Running) → begun s outer call accounts units c ≡ Runs f d → (f.program ≡ key_at s.keys call.program) × (f.metas ≡ call.metas) × (f.before ≡ accounts)
+first_stretch s outer call accounts units c d f h = subst (StartsWith (key_at s.keys call.program) call accounts) h (begun_starts s outer call accounts units c)
 
--- a next one with those that the callee left
-abbrev StartsAfter : Result (List Account) InstructionError → Next → Type 0
-StartsAfter result (Runs f c) = result ≡ Ok f.before
-StartsAfter result (Ends e) = Unit {0}
+pub native_stretch : (s : Fixed) (outer : List Key) (call : Call) (accounts : List Account) (units : ℕ) (c : Carried) (e : Ending) → begun s outer call accounts units c ≡ Ends e
+    → IfOk e.result (λ after. (after ≡ accounts) ⊎ (listed_rules (key_at s.keys call.program) call.metas accounts after ≡ Ok tt))
+native_stretch s outer call accounts units c e h = subst (StartsWith (key_at s.keys call.program) call accounts) h (begun_starts s outer call accounts units c)
 
-patching_starts : (outer : List Key) (f : Running) (accounts : List Account) (units : ℕ) (c : Carried) (answer : Result (List ℕ) ℕ) → StartsAfter (Ok accounts) (patching outer f accounts units c answer)
-patching_starts outer f accounts units c (Ok region) = refl
+-- a next one with what the callee left
+abbrev StartsAfter : Running → Result (List Account) InstructionError → Next → Type 0
+StartsAfter f result (Runs g c) = (g.program ≡ f.program) × (g.metas ≡ f.metas) × (result ≡ Ok g.before)
+StartsAfter f result (Ends e) = Unit {0}
+
+patching_starts : (outer : List Key) (f : Running) (accounts : List Account) (units : ℕ) (c : Carried) (answer : Result (List ℕ) ℕ) → StartsAfter f (Ok accounts) (patching outer f accounts units c answer)
+patching_starts outer f accounts units c (Ok region) = (refl, refl, refl)
 patching_starts outer f accounts units c (Err i) = tt
 
-returning_starts : (outer : List Key) (f : Running) (units : ℕ) (c : Carried) (result : Result (List Account) InstructionError) → StartsAfter result (returning outer f units c result)
+returning_starts : (outer : List Key) (f : Running) (units : ℕ) (c : Carried) (result : Result (List Account) InstructionError) → StartsAfter f result (returning outer f units c result)
 returning_starts outer f units c (Ok accounts) = patching_starts outer f accounts units c _
 returning_starts outer f units c (Err error) = tt
 
-returned_starts : (outer : List Key) (f : Running) (e : Ending) → StartsAfter e.result (returned outer f e)
+returned_starts : (outer : List Key) (f : Running) (e : Ending) → StartsAfter f e.result (returned outer f e)
 unfolding returned
 returned_starts outer f e = returning_starts outer f e.units e.carried e.result
 
-pub next_stretch : (outer : List Key) (f g : Running) (e : Ending) (d : Carried) → returned outer f e ≡ Runs g d → e.result ≡ Ok g.before
-next_stretch outer f g e d h = subst (StartsAfter e.result) h (returned_starts outer f e)
+pub next_stretch : (outer : List Key) (f g : Running) (e : Ending) (d : Carried) → returned outer f e ≡ Runs g d → (g.program ≡ f.program) × (g.metas ≡ f.metas) × (e.result ≡ Ok g.before)
+next_stretch outer f g e d h = subst (StartsAfter f e.result) h (returned_starts outer f e)

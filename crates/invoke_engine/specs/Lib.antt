@@ -11,6 +11,7 @@ pub mod Native
 pub mod Starting
 pub mod Frame
 pub mod Suspended
+pub mod Programs
 pub mod Given
 pub mod Fits
 pub mod Views

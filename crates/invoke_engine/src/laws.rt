@@ -1,16 +1,18 @@
 //! Laws over frames.
-ghost use Rattle.std.specs.Prelude.{◌≡◌, ◌<◌, ◌≤◌, ◌+◌, ◌∷◌, ℕ, List, Ok, IfOk, length, ◌^◌};
+ghost use Rattle.std.specs.Prelude.{◌≡◌, ◌<◌, ◌≤◌, ◌+◌, ◌∷◌, [], ◌⊎◌, ℕ, List, Ok, IfErr, IfOk, length, ◌^◌};
 ghost use Rattle.sol_base.specs.declared.key.Key.{Key as KeyValue};
 ghost use Rattle.sol_base.specs.declared.key.TheConstants.{LOADER_PROGRAM};
 ghost use Rattle.sol_base.specs.declared.account.Account.{Account as AccountValue};
 ghost use Rattle.account_rules.specs.AccountRules.{listed_rules};
+ghost use Rattle.account_rules.specs.KeptAccounts.{AreForeignKept};
 ghost use Rattle.loader_prog.specs.Laws.{OnlyTheAuthorityWrites};
 ghost use Rattle.program_cache.specs.Programs.{Sought};
-ghost use Rattle.tx_report.specs.LogLines.{IsSmall, Log};
+ghost use Rattle.tx_report.specs.LogLines.{HasGrown, Log};
 ghost use Rattle.invoke_engine.specs.declared.call.Call.{Call as CallValue};
 ghost use Rattle.invoke_engine.specs.declared.call.Setting.{Setting as SettingValue};
 ghost use Rattle.invoke_engine.specs.Fits.{IsGoing, AreListed, EndKeeps, SameFound};
-ghost use Rattle.invoke_engine.specs.Frame.{Fixed, Carried, Running, Ending, Callee, Runs, GoesOn, Calls, Leaves, frame, go, turn, within, begun, returned, after, instruction};
+ghost use Rattle.invoke_engine.specs.Frame.{Fixed, Carried, Running, Ending, Callee, Runs, Ends, GoesOn, Calls, Leaves, frame, go, turn, within, begun, returned, after, instruction};
+ghost use Rattle.invoke_engine.specs.Programs.{programs_of_frame, programs_of_instruction};
 ghost use Rattle.invoke_engine.specs.Starting.{key_at};
 ghost use Rattle.invoke_engine.specs.Suspended.{programs_of, rest};
 ghost use Rattle.invoke_engine.specs.Views.{fixed};
@@ -27,12 +29,16 @@ pub fn numbers_are_as_stated()
     ensures native { NATIVE_UNITS ≡ 150 }
 {}
 
-/// A law: no frame ends with more units than it had, and any bound above them serves.
+/// A law: no frame and no instruction ends with more units than it had, and any bound above those
+/// of a frame serves.
 pub fn frames_take_units()
     ensures gains_none { (s : Fixed) (outer : List KeyValue) (f : Running) (c : Carried) →
         IsGoing f → (go s outer f c).units ≤ f.machine.units }
     ensures enough { (s : Fixed) (n : ℕ) (outer : List KeyValue) (f : Running) (c : Carried) →
         IsGoing f → f.machine.units < n → within s n outer f c ≡ go s outer f c }
+    ensures instructions { (s : Fixed) (call : CallValue) (accounts : List AccountValue)
+        (units trace : ℕ) (log : Log) →
+        (instruction s call accounts units trace log).units ≤ units }
 {}
 
 /// A law: each turn of a frame keeps the ending of the outermost of those that wait. The turn goes
@@ -64,25 +70,60 @@ pub fn frames_keep_accounts()
         EndKeeps call.metas accounts (frame s outer call accounts units c) }
 {}
 
-/// A law: each stretch of a frame of an sBPF program that is followed by a call or by a good end
-/// breaks no account rule. It is measured from the accounts that the frame was given, or from those
-/// that its last callee left.
+/// A law: each stretch of a frame breaks no account rule of its program and its list. A stretch of
+/// an sBPF program ends in a call or in a good end; the first is measured from the accounts that
+/// the frame was given, and the next from those that its callee left. In it an account that the
+/// program does not own keeps its owner, its data and all its lamports. A native program has but
+/// one stretch, which may leave the accounts as they are.
 pub fn stretches_keep_the_rules()
-    ensures calls { (setting : SettingValue) (keys outer : List KeyValue) (f g : Running)
-        (c d : Carried) (callee : Callee) (units : ℕ) →
-        turn setting keys outer f c ≡ Calls g d callee units →
-        listed_rules f.program f.metas f.before callee.accounts ≡ Ok tt }
-    ensures leaves { (setting : SettingValue) (keys outer : List KeyValue) (f : Running)
-        (c : Carried) (e : Ending) → turn setting keys outer f c ≡ Leaves e →
-        IfOk e.result (λ after. listed_rules f.program f.metas f.before after ≡ Ok tt) }
+    ensures first { (s : Fixed) (outer : List KeyValue) (call : CallValue)
+        (accounts : List AccountValue) (units : ℕ) (c d : Carried) (f : Running) →
+        begun s outer call accounts units c ≡ Runs f d →
+        (f.program ≡ key_at s.keys call.program) × (f.metas ≡ call.metas)
+        × (f.before ≡ accounts) }
     ensures goes_on { (setting : SettingValue) (keys outer : List KeyValue) (f g : Running)
         (c d : Carried) → turn setting keys outer f c ≡ GoesOn g d →
         (g.program ≡ f.program) × (g.metas ≡ f.metas) × (g.before ≡ f.before) }
-    ensures first { (s : Fixed) (outer : List KeyValue) (call : CallValue)
-        (accounts : List AccountValue) (units : ℕ) (c d : Carried) (f : Running) →
-        begun s outer call accounts units c ≡ Runs f d → f.before ≡ accounts }
+    ensures calls { (setting : SettingValue) (keys outer : List KeyValue) (f g : Running)
+        (c d : Carried) (callee : Callee) (units : ℕ) →
+        turn setting keys outer f c ≡ Calls g d callee units →
+        (g.program ≡ f.program) × (g.metas ≡ f.metas) × (g.before ≡ f.before)
+        × (listed_rules f.program f.metas f.before callee.accounts ≡ Ok tt) }
     ensures next { (outer : List KeyValue) (f g : Running) (e : Ending) (d : Carried) →
-        returned outer f e ≡ Runs g d → e.result ≡ Ok g.before }
+        returned outer f e ≡ Runs g d →
+        (g.program ≡ f.program) × (g.metas ≡ f.metas) × (e.result ≡ Ok g.before) }
+    ensures leaves { (setting : SettingValue) (keys outer : List KeyValue) (f : Running)
+        (c : Carried) (e : Ending) → turn setting keys outer f c ≡ Leaves e →
+        IfOk e.result (λ after. listed_rules f.program f.metas f.before after ≡ Ok tt) }
+    ensures foreign_at_calls { (setting : SettingValue) (keys outer : List KeyValue)
+        (f g : Running) (c d : Carried) (callee : Callee) (units : ℕ) →
+        AreListed (length keys) f.metas f.before →
+        turn setting keys outer f c ≡ Calls g d callee units →
+        AreForeignKept (f.program ∷ []) f.before callee.accounts }
+    ensures foreign_at_ends { (setting : SettingValue) (keys outer : List KeyValue) (f : Running)
+        (c : Carried) (e : Ending) → AreListed (length keys) f.metas f.before →
+        turn setting keys outer f c ≡ Leaves e →
+        IfOk e.result (AreForeignKept (f.program ∷ []) f.before) }
+    ensures native { (s : Fixed) (outer : List KeyValue) (call : CallValue)
+        (accounts : List AccountValue) (units : ℕ) (c : Carried) (e : Ending) →
+        begun s outer call accounts units c ≡ Ends e →
+        IfOk e.result (λ after. (after ≡ accounts)
+        ⊎ (listed_rules (key_at s.keys call.program) call.metas accounts after ≡ Ok tt)) }
+{}
+
+/// A law: where a frame, or an instruction, ends well, an account whose owner is none of the
+/// programs that ran in it keeps its owner, its data and all its lamports.
+pub fn frames_keep_foreign_accounts()
+    ensures frames { (s : Fixed) (outer : List KeyValue) (call : CallValue)
+        (accounts : List AccountValue) (units : ℕ) (c : Carried) →
+        AreListed (length s.keys) call.metas accounts →
+        IfOk (frame s outer call accounts units c).result
+        (λ after. AreForeignKept (programs_of_frame s outer call accounts units c) accounts after) }
+    ensures instructions { (s : Fixed) (call : CallValue) (accounts : List AccountValue)
+        (units trace : ℕ) (log : Log) → AreListed (length s.keys) call.metas accounts →
+        IfOk (instruction s call accounts units trace log).result
+        (λ after. AreForeignKept (programs_of_instruction s call accounts units trace log) accounts
+        after) }
 {}
 
 /// A law: of the programs, an instruction looks at those under the transaction's keys alone.
@@ -111,9 +152,16 @@ pub fn loader_frames_keep_buffers()
         (λ after. OnlyTheAuthorityWrites s.keys accounts call.metas after) }
 {}
 
-/// A law: a log that is small stays small, since each line of a frame has a byte at least.
-pub fn logs_stay_small()
-    ensures small { (s : Fixed) (call : CallValue) (accounts : List AccountValue) (units trace : ℕ)
-        (log : Log) → IsSmall log
-        → IsSmall (instruction s call accounts units trace log).carried.log }
+/// A law: an instruction lets the log grow by lines, each a text of a byte at least, and changes
+/// nothing else of it.
+pub fn instructions_add_lines()
+    ensures lines { (s : Fixed) (call : CallValue) (accounts : List AccountValue) (units trace : ℕ)
+        (log : Log) → HasGrown log (instruction s call accounts units trace log).carried.log }
+{}
+
+/// A law: the number beside the cause of an instruction that fails fits its four bytes.
+pub fn errors_fit_their_fields()
+    ensures detail { (s : Fixed) (call : CallValue) (accounts : List AccountValue) (units trace : ℕ)
+        (log : Log) → IfErr (instruction s call accounts units trace log).result
+        (λ error. error.detail < 2 ^ 32) }
 {}

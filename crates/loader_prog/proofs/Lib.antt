@@ -6,3 +6,4 @@ pub mod Keeping
 pub mod Patches
 pub mod Replacing
 pub mod Listings
+pub mod Refused

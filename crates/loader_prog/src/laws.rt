@@ -1,21 +1,27 @@
 //! Laws of the loader and of activation.
-ghost use Rattle.std.specs.Prelude.{◌≡◌, ℕ, List, Ok, Some, length};
+ghost use Rattle.std.specs.Prelude.{◌≡◌, ◌∷◌, [], ℕ, List, Ok, Some, length};
 ghost use Rattle.sol_base.specs.declared.key.Key.{Key};
+ghost use Rattle.sol_base.specs.declared.key.TheConstants.{LOADER_PROGRAM};
 ghost use Rattle.sol_base.specs.declared.account.Account.{Account};
 ghost use Rattle.sol_base.specs.declared.lock.Meta.{Meta};
 ghost use Rattle.sol_base.specs.Metas.{AreInRange, is_listed_writable};
-ghost use Rattle.account_rules.specs.KeptAccounts.{AreKeptBy};
+ghost use Rattle.account_rules.specs.KeptAccounts.{AreKeptBy, AreForeignKept};
 ghost use Rattle.account_rules.specs.Listings.{SameListing};
 ghost use Rattle.loader_prog.specs.Loader.{activated, active, loader_row};
 ghost use Rattle.loader_prog.specs.Laws.{IsActivated, OnlyTheAuthorityWrites};
 
 /// A law: an instruction that ends well keeps the number and the lamports of the accounts, the
-/// executable ones and those that its list may not write.
+/// executable ones and those that its list may not write. One of another program keeps its owner,
+/// its data and all its lamports.
 pub fn calls_keep_accounts()
     ensures kept { (keys : List Key) (accounts : List Account) (metas : List Meta) (input : List ℕ)
         (after : List Account) → AreInRange (length accounts) metas →
         loader_row keys accounts metas input ≡ Ok after →
         AreKeptBy (is_listed_writable metas) accounts after }
+    ensures foreign { (keys : List Key) (accounts : List Account) (metas : List Meta)
+        (input : List ℕ) (after : List Account) → AreInRange (length accounts) metas →
+        loader_row keys accounts metas input ≡ Ok after →
+        AreForeignKept (LOADER_PROGRAM ∷ []) accounts after }
 {}
 
 /// A law: where an instruction that ends well leaves an account with other data, either nothing

@@ -1,2 +1,4 @@
 mod FrontLaws
 pub mod KeyLaws
+pub mod Places
+pub mod KeyTexts

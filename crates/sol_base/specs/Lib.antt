@@ -4,3 +4,4 @@ pub mod DerivedKeys
 pub mod Limits
 pub mod Locks
 pub mod Metas
+pub mod Base58

@@ -1,10 +1,13 @@
 //! The values of the constants that definitions cite, here and in other crates.
-ghost use Rattle.std.specs.Prelude.{◌≡◌, replicate};
+ghost use Rattle.std.specs.Prelude.{◌≡◌, codes, replicate};
+ghost use Rattle.sol_base.specs.Base58.{base58_number, number_in};
 ghost use Rattle.sol_base.specs.DerivedKeys.{marker};
 
 use crate::account::MAX_DATA_LEN;
 use crate::derived::{DERIVED_KEY_MARKER, MAX_SEED_LEN, MAX_SEEDS};
-use crate::key::{LOADER_PROGRAM, SYSTEM_PROGRAM};
+use crate::key::{
+    CLOCK_SYSVAR, COMPUTE_BUDGET_PROGRAM, LOADER_PROGRAM, RENT_SYSVAR, SYSTEM_PROGRAM,
+};
 use crate::limits::{
     MAX_BLOCK_UNITS, MAX_LANES, MAX_SENDERS, MAX_STACK_HEIGHT, MAX_TRANSACTION_KEYS,
     MAX_TRANSACTIONS,
@@ -34,4 +37,15 @@ pub fn bounds_of_blocks()
 pub fn native_keys_repeat_one_byte()
     ensures system { SYSTEM_PROGRAM.0 ≡ replicate 32 0 }
     ensures loader { LOADER_PROGRAM.0 ≡ replicate 32 0x1d }
+{}
+
+/// The other fixed keys are those of Solana: the bytes of each, the greatest first, are the number
+/// of its published text.
+pub fn fixed_keys_are_as_published()
+    ensures compute_budget { number_in 256 COMPUTE_BUDGET_PROGRAM.0
+        ≡ base58_number (codes "ComputeBudget111111111111111111111111111111") }
+    ensures clock { number_in 256 CLOCK_SYSVAR.0
+        ≡ base58_number (codes "SysvarC1ock11111111111111111111111111111111") }
+    ensures rent { number_in 256 RENT_SYSVAR.0
+        ≡ base58_number (codes "SysvarRent111111111111111111111111111111111") }
 {}

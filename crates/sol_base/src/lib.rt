@@ -23,7 +23,10 @@ pub use key::{
     CLOCK_SYSVAR, COMPUTE_BUDGET_PROGRAM, Hash32, Key, LOADER_PROGRAM, RENT_SYSVAR, SYSTEM_PROGRAM,
     hash, key_text,
 };
-pub use laws::{bounds_are_as_published, bounds_of_blocks, native_keys_repeat_one_byte};
+pub use laws::{
+    bounds_are_as_published, bounds_of_blocks, fixed_keys_are_as_published,
+    native_keys_repeat_one_byte,
+};
 pub use limits::{
     Limits, MAX_BLOCK_UNITS, MAX_LANES, MAX_SENDERS, MAX_STACK_HEIGHT, MAX_TRANSACTION_KEYS,
     MAX_TRANSACTIONS,

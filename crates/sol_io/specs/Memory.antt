@@ -1,8 +1,9 @@
 -- The devices in memory: what each holds, and what one call does to it.
-use Rattle.std.specs.Prelude.{◌≡◌, ℕ, ◌+◌, ◌-◌, ◌^◌, min, List, ◌++◌, drop, length, Contains, Result, Ok, Err}
+use Rattle.std.specs.Prelude.{◌≡◌, ℕ, min, List, ◌++◌, drop, length, Contains, Result, Ok, Err}
 use Rattle.sol_io.specs.declared.fault.Failed.{Failed}
 use Rattle.sol_io.specs.declared.fault.SinkFault.{SinkFault}
 use Rattle.sol_io.specs.declared.fault.SinkFault.TheVariants as sink
+use Rattle.sol_io.specs.Counts.{next_count}
 
 pub record SourceState : Type 0 where
   pub rest : List ℕ
@@ -15,10 +16,6 @@ pub record SinkState : Type 0 where
   pub failing : List ℕ
   pub calls : ℕ
   pub faults : ℕ
-
--- one more, in a count that stands still at its last value
-abbrev pub next_count : ℕ → ℕ
-next_count n = min (n + 1) (2 ^ 64 - 1)
 
 -- A read fails exactly where its number is listed. Else it moves as many bytes as there is room
 -- for.

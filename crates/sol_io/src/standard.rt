@@ -1,5 +1,7 @@
 //! Devices over the readers and writers of std.
-ghost use Rattle.std.specs.Prelude.{◌≡◌};
+ghost use Rattle.std.specs.Prelude.{◌≡◌, ◌<◌, ◌≤◌, take, length, IfOk, MatchResult};
+ghost use Rattle.sol_io.specs.Counts.{CountsFailures, CountsOnce, SinkCounts};
+ghost use Rattle.sol_io.specs.Bytes.{Consumes, Keeps, Appends, IsAtEnd};
 
 use crate::device::{Sink, Source};
 use crate::fault::{Failed, SinkFault};
@@ -36,7 +38,18 @@ impl<R: Read> Source for StdSource<R> {
 
     ghost faults = { λ s. s.faults };
 
-    fn read(&mut self, buf: &mut [u8]) -> Result<usize, Failed> {
+    fn read(&mut self, buf: &mut [u8]) -> Result<usize, Failed>
+        ensures bound { IfOk result (λ n. n ≤ length buf.old) }
+        ensures bytes { MatchResult result
+            (λ n. Consumes (R.remaining self.old.device) (R.remaining self.new.device)
+            (take n buf.new))
+            (λ _. Keeps (R.remaining self.old.device) (R.remaining self.new.device)) }
+        ensures end { IfOk result
+            (λ n. n ≡ 0 → 0 < length buf.old → IsAtEnd (R.remaining self.new.device)) }
+        ensures counts { CountsFailures result self.old.faults self.new.faults }
+        // Each error of the reader is counted once.
+        ensures once { CountsOnce result self.old.faults self.new.faults }
+    {
         match self.reader.read(buf) {
             Ok(n) => Ok(n),
             Err(_) => {
@@ -78,7 +91,17 @@ impl<W: Write> Sink for StdSink<W> {
 
     ghost faults = { λ s. s.faults };
 
-    fn write(&mut self, piece: &[u8]) -> Result<usize, SinkFault> {
+    fn write(&mut self, piece: &[u8]) -> Result<usize, SinkFault>
+        ensures bound { IfOk result (λ n. n ≤ length piece.now) }
+        ensures some { IfOk result (λ n. 0 < length piece.now → 0 < n) }
+        ensures bytes { MatchResult result
+            (λ n. Appends (W.contents self.old.device) (W.contents self.new.device)
+            (take n piece.now))
+            (λ _. Keeps (W.contents self.old.device) (W.contents self.new.device)) }
+        ensures counts { SinkCounts result self.old.faults self.new.faults }
+        // Each error of the writer is counted once.
+        ensures once { CountsOnce result self.old.faults self.new.faults }
+    {
         if piece.is_empty() {
             return Ok(0);
         }

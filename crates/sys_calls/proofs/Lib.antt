@@ -9,3 +9,4 @@ pub mod Prepares
 pub mod Hashes
 pub mod Fills
 pub mod SmallLogs
+pub mod GrownLogs

@@ -1,6 +1,7 @@
 //! Laws of system calls.
 ghost use Rattle.std.specs.Prelude.{◌≡◌, ℕ, ◌≤◌, List};
 ghost use Rattle.sbpf_memory.specs.Memory.{Ranges};
+ghost use Rattle.tx_report.specs.LogLines.{HasGrown};
 ghost use Rattle.sys_calls.specs.declared.env.Env.{Env};
 ghost use Rattle.sys_calls.specs.SysCalls.{Service, IsServedMemory, sys_row};
 
@@ -32,4 +33,12 @@ pub fn calls_keep_sizes()
     ensures memory { (number : ℕ) (arguments : List ℕ) (m : Ranges) (env : Env)
         (service : Service) → (sys_row number arguments m env).answer ≡ Ok service →
         IsServedMemory m service.memory }
+{}
+
+/// A law: a served call lets the log grow by lines, each a text of a byte at least, and changes
+/// nothing else of it.
+pub fn calls_add_lines()
+    ensures lines { (number : ℕ) (arguments : List ℕ) (m : Ranges) (env : Env)
+        (service : Service) → (sys_row number arguments m env).answer ≡ Ok service →
+        HasGrown env.logs service.log }
 {}

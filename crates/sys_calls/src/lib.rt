@@ -17,5 +17,5 @@ mod table;
 
 pub use env::Env;
 pub use fault::SysFault;
-pub use laws::{calls_gain_no_units, calls_keep_sizes, numbers_are_as_stated};
+pub use laws::{calls_add_lines, calls_gain_no_units, calls_keep_sizes, numbers_are_as_stated};
 pub use serving::serve;

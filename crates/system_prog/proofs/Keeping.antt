@@ -1,5 +1,5 @@
 -- What the accounts of a transaction keep under an instruction of the system program.
-use Rattle.std.proofs.Common.{◌≡◌, ◌≢◌, ◌⊎◌, ℕ, ◌+◌, ◌-◌, ◌<◌, ◌≤◌, ◌==◌, Bool, true, false, not, List, length, replicate, get_or, set, refl, sym, ap, subst, ◌∙◌, inl, inr, Some, Ok, Err, Result, arith, nat_eq, nat_lt, slice_get, get_or-set_other, get_or-set_same, if◌then◌else◌}
+use Rattle.std.proofs.Common.{◌≡◌, ◌≢◌, ◌⊎◌, ℕ, ◌+◌, ◌-◌, ◌<◌, ◌≤◌, ◌==◌, Bool, true, false, not, List, [], ◌∷◌, length, replicate, get_or, set, refl, sym, ap, subst, ◌∙◌, inl, inr, Some, Ok, Err, Result, arith, nat_eq, nat_lt, slice_get, get_or-set_other, get_or-set_same, if◌then◌else◌}
 use Rattle.std.proofs.lemmas.Bool.{both_ways, cases_lt, ltb-false}
 use Rattle.std.proofs.lemmas.Bool.Decides.{nat_tests}
 use Rattle.std.proofs.lemmas.List.{length-replicate, length-set}
@@ -14,8 +14,8 @@ use Rattle.sol_base.specs.Accounts.{empty_account, max_data_len, SameUnlessTouch
 use Rattle.sol_base.specs.Metas.{AreInRange, SameUnlessListed, is_listed, is_listed_writable, no_meta}
 use Rattle.account_rules.specs.declared.rules.RuleFault.{RuleFault}
 use Rattle.account_rules.specs.AccountRules.{listed_rules}
-use Rattle.account_rules.specs.KeptAccounts.{AreKeptBy}
-use Rattle.account_rules.proofs.KeptLaws.{AreKeptBy-listed_rules}
+use Rattle.account_rules.specs.KeptAccounts.{AreKeptBy, AreForeignKept}
+use Rattle.account_rules.proofs.KeptLaws.{AreKeptBy-listed_rules, AreForeignKept-listed_rules}
 use Rattle.system_prog.specs.declared.fault.SystemFault.{SystemFault}
 use Rattle.system_prog.specs.declared.fault.SystemFault.TheVariants.{Custom, InvalidArgument, MissingSignature, NotEnoughAccounts}
 use Rattle.system_prog.specs.declared.authority.Authority.{Authority}
@@ -206,13 +206,34 @@ rule_ok : (answer : Result (Unit {0}) RuleFault) (unit : Unit {0}) → as_rule a
 rule_ok (Ok _) unit holds = refl
 rule_ok (Err fault) unit holds = absurd (cc)
 
--- what the accounts keep where a call ends well
-pub system_keeps : (keys : List Key) (accounts : List Account) (metas : List Meta) (input : List ℕ) (after : List Account) → AreInRange (length accounts) metas → system_row keys accounts metas input ≡ Ok after → AreKeptBy (is_listed_writable metas) accounts after
+-- where a call ends well
+pub record Ends (metas : List Meta) (before after : List Account) : Type 0 where
+  pub count : length after ≡ length before
+  pub others : SameUnlessListed metas before after
+  pub unbroken : listed_rules system_key metas before after ≡ Ok tt
+
+pub system_ends : (keys : List Key) (accounts : List Account) (metas : List Meta) (input : List ℕ) (after : List Account) → system_row keys accounts metas input ≡ Ok after → Ends metas accounts after
 unfolding system_row rules_kept
-system_keeps keys accounts metas input after range ok =
+system_ends keys accounts metas input after ok =
     let listed : Listed = record { keys = keys; metas = metas } in
     let read = bind_ok (instruction_in input) _ after ok in
     let ran = bind_ok (counted_row listed read.0 accounts) _ after read.2 in
     let ruled = bind_ok (as_rule (listed_rules system_key metas accounts ran.0)) _ after ran.2 in
-    let kept = AreKeptBy-listed_rules system_key metas accounts ran.0 (stays listed read.0 accounts ran.0 ran.1).count range (unlisted listed read.0 accounts ran.0 ran.1) (rule_ok (listed_rules system_key metas accounts ran.0) ruled.0 ruled.1) in
-    subst (λ (list : List Account). AreKeptBy (is_listed_writable metas) accounts list) (ok_same ran.0 after ruled.2) kept
+    let ends : Ends metas accounts ran.0 = record {
+      count = (stays listed read.0 accounts ran.0 ran.1).count;
+      others = unlisted listed read.0 accounts ran.0 ran.1;
+      unbroken = rule_ok (listed_rules system_key metas accounts ran.0) ruled.0 ruled.1;
+    } in
+    subst (Ends metas accounts) (ok_same ran.0 after ruled.2) ends
+
+-- what the accounts keep
+pub system_keeps : (keys : List Key) (accounts : List Account) (metas : List Meta) (input : List ℕ) (after : List Account) → AreInRange (length accounts) metas → system_row keys accounts metas input ≡ Ok after → AreKeptBy (is_listed_writable metas) accounts after
+system_keeps keys accounts metas input after range ok =
+    let ends = system_ends keys accounts metas input after ok in
+    AreKeptBy-listed_rules system_key metas accounts after ends.count range ends.others ends.unbroken
+
+-- and those that other programs own
+pub system_foreign : (keys : List Key) (accounts : List Account) (metas : List Meta) (input : List ℕ) (after : List Account) → AreInRange (length accounts) metas → system_row keys accounts metas input ≡ Ok after → AreForeignKept (system_key ∷ []) accounts after
+system_foreign keys accounts metas input after range ok =
+    let ends = system_ends keys accounts metas input after ok in
+    AreForeignKept-listed_rules system_key metas accounts after ends.count range ends.others ends.unbroken

@@ -1,6 +1,6 @@
 -- The log lines of one transaction (Solana's rule; that nothing is kept after the first line that
 -- does not fit is the project's own).
-use Rattle.std.specs.Prelude.{◌≡◌, ℕ, ◌+◌, ◌<◌, ◌≤◌, List, [], ◌∷◌, ◌++◌, length, take, sum_by, codes, Bool, true, false, nat_le, if◌then◌else◌}
+use Rattle.std.specs.Prelude.{◌≡◌, ℕ, ◌+◌, ◌<◌, ◌≤◌, List, [], ◌∷◌, ◌++◌, length, take, sum_by, fold, codes, IsUtf8, Bool, true, false, nat_le, if◌then◌else◌}
 use Rattle.std.specs.List.{AllByRecursion}
 use Rattle.tx_report.specs.declared.logs.TheConstants.{MAX_LOG_BYTES}
 
@@ -48,3 +48,27 @@ pub record IsSmall (log : Log) : Type 0 where
   pub whole : sum_by length log.lines ≤ max_lines_bytes
   pub room : log.truncated ≡ false → sum_by length log.lines ≤ max_log_bytes
   pub filled : AllByRecursion (λ line. 1 ≤ length line) log.lines
+
+-- a line as programs and their frames write it: a text that is not empty
+pub record IsLine (line : List ℕ) : Type 0 where
+  pub filled : 1 ≤ length line
+  pub text : IsUtf8 line
+
+-- the log after more lines, one by one
+abbrev pub with_lines : Log → List (List ℕ) → Log
+with_lines log given = fold with_line log given
+
+-- a log that has come from another by such lines, and by nothing else
+pub record HasGrown (before after : Log) : Type 0 where
+  pub given : List (List ℕ)
+  pub lines : AllByRecursion IsLine given
+  pub is : after ≡ with_lines before given
+
+-- these lines are the log of such lines, and are texts
+pub record AreLogged (kept : List (List ℕ)) : Type 0 where
+  pub given : List (List ℕ)
+  pub lines : AllByRecursion IsLine given
+  pub log : Log
+  pub is : IsLogOf given log
+  pub same : kept ≡ log.lines
+  pub texts : AllByRecursion IsUtf8 kept

@@ -118,7 +118,7 @@ fn by_two<R: Wait>(rt: &R, two: &mut Two) -> ([Option<u8>; 4], [Taken; 4])
 }
 
 /// How many tickets are left.
-fn left_of(alloc: Global, two: Two) -> Result<usize, OutOfMemory> {
+fn left_of<R: Wait>(rt: &R, alloc: Global, two: Two) -> Result<usize, OutOfMemory> {
     let Two {
         intake,
         zero,
@@ -128,7 +128,7 @@ fn left_of(alloc: Global, two: Two) -> Result<usize, OutOfMemory> {
     let mut seats = Items::new(alloc);
     seats.push(one)?;
     seats.push(zero)?;
-    Ok(intake.close(seats, taker)?.len())
+    Ok(intake.close(rt, seats, taker)?.len())
 }
 
 /// What the offers hand back.
@@ -147,7 +147,7 @@ fn a_ring_of_two(rt: HostRuntime) -> Result<(), Fail> {
     let mut two = two_senders(rt.alloc())?;
     let (offered, taken) = by_two(&rt, &mut two);
     assert!(rt; offered == OFFERED && taken == TAKEN);
-    assert!(rt; left_of(rt.alloc(), two)? == 0);
+    assert!(rt; left_of(&rt, rt.alloc(), two)? == 0);
     Ok(())
 }
 
@@ -165,7 +165,7 @@ fn each_sends<R: Wait>(rt: &R, two: &mut Two) -> bool
 fn tickets_that_are_left(rt: HostRuntime) -> Result<(), Fail> {
     let mut two = two_senders(rt.alloc())?;
     assert!(rt; each_sends(&rt, &mut two));
-    assert!(rt; left_of(rt.alloc(), two)? == 2);
+    assert!(rt; left_of(&rt, rt.alloc(), two)? == 2);
     Ok(())
 }
 

@@ -1,12 +1,14 @@
 use Rattle.std.proofs.Common.{◌∷◌, ◌++◌, ◌+◌, [], List, Bool, Some, length, sym, ap, ◌∙◌, subst}
 use Rattle.std.specs.Arc.{arc_value}
 use Rattle.std.proofs.lemmas.List.{length-append, length-map}
+use Rattle.std.proofs.lemmas.Option.{same_Some}
 use Rattle.sol_base.specs.declared.account.Account.{Account}
 use Rattle.sol_base.specs.Accounts.{accounts_of, SameUnlessTouched}
+use Rattle.abi_input.specs.Answers.{DifferWhereTouched}
 use Rattle.abi_input.specs.Region.{account_back}
 use Rattle.abi_input.proofs.Entries.{account_there}
 use Rattle.abi_input.proofs.Lent.{lent_at_entry}
-use Rattle.abi_input.proofs.TakeLaws.{account_by_is, all_taken, entry_holds, pushed, shared_at, taken_more, untouched_more}
+use Rattle.abi_input.proofs.TakeLaws.{account_by_is, all_taken, entry_holds, pushed, shared_at, taken_more, touched_more, untouched_more}
 use Rattle.abi_input.proofs.taking.taken_by.Goals as goal
 
 pub take_one-requires-clause-entry : goal.take_one-requires-clause-entry
@@ -37,6 +39,10 @@ loop-index-preserved c =
           (subst (λ (l : List Account). SameUnlessTouched (c.loop-index.back.touched ++ flag ∷ []) before l) (sym more)
           (untouched_more c.loop-index.back.touched flag before (accounts_of c.loop-index.back.accounts) c.loop-index.index (arc_value t) c.loop-index.invariant.flags long
           (λ unset. there ∙ ap Some (sym (c.in_ok-take_one.ensures.same unset))) c.loop-index.invariant.untouched));
+      touched = subst (λ (l : List Bool). DifferWhereTouched l before (accounts_of c.push.new.self.accounts)) (sym c.in_ok-push.ensures.touched)
+          (subst (λ (l : List Account). DifferWhereTouched (c.loop-index.back.touched ++ flag ∷ []) before l) (sym more)
+          (touched_more c.loop-index.back.touched flag before (accounts_of c.loop-index.back.accounts) c.loop-index.index (arc_value t) c.loop-index.invariant.flags long
+          (λ set same. c.in_ok-take_one.ensures.changed set (same_Some (arc_value t) (arc_value x) (same ∙ there))) c.loop-index.invariant.touched));
     }
 
 pub returns-clause-accounts : goal.returns-clause-accounts

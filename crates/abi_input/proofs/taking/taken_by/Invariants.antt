@@ -1,6 +1,7 @@
 use Rattle.std.proofs.Common.{◌≡◌, length, map, take}
 use Rattle.std.specs.List.{enumerate_from}
 use Rattle.sol_base.specs.Accounts.{accounts_of, SameUnlessTouched}
+use Rattle.abi_input.specs.Answers.{DifferWhereTouched}
 use Rattle.abi_input.specs.Region.{account_back}
 use Rattle.abi_input.proofs.taking.taken_by.Given as goal
 
@@ -11,4 +12,5 @@ invariant-loop-index l = record {
   count : length l.back.accounts ≡ l.index;
   flags : length l.back.touched ≡ l.index;
   untouched : SameUnlessTouched l.back.touched (accounts_of l.now) (accounts_of l.back.accounts);
+  touched : DifferWhereTouched l.back.touched (accounts_of l.now) (accounts_of l.back.accounts);
 }

@@ -4,7 +4,7 @@ use Rattle.intake.proofs.ring.Intake.close.Given as goal
 
 -- what is left so far was taken by the joined pass
 abbrev pub invariant-loop : goal.invariant-loop
-invariant-loop l =
+invariant-loop g l =
     IsPassOf l.self.ring l.pass
     × ((view l.pass).takes ≡ true)
     × ((view l.pass).made ≡ (view l.initial.pass).made)
