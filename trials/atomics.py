@@ -25,6 +25,8 @@ def what_it_tells(name, function):
         return RELEASES
     if name == 'cmpxchg':
         return ACQUIRES if TAKES.search(function) else 0
+    if name.startswith('inc'):  # one more who waits, or a bell: neither hands anything over
+        return 0
     if name.startswith('dec') or name.startswith('sub'):
         return RELEASES | ACQUIRES_AT_ZERO
     raise ValueError(f'{name} in {function}')

@@ -10,7 +10,7 @@ use Rattle.admission.specs.Admission.{listed}
 use Rattle.admission.specs.Chosen.{IsChosen}
 use Rattle.block_run.specs.Blocks.{before_refused, block_result, head_of, listed_result, start_in, wires_of}
 use Rattle.block_run.proofs.Conserved.{activated_are_ready, burned_is_all, executables_stay, fees_leave}
-use Rattle.block_laws.specs.Keeping.{BlocksKeepLamports, NewProgramsAreReady, ProgramsStay, ReplaysKeepLamports, CanRun, TransactionsTakeTheirFees, order_again, order_of}
+use Rattle.block_laws.specs.Keeping.{BlocksKeepLamports, NewProgramsAreReady, NewProgramsAreReadyAgain, ProgramsStay, ProgramsStayAgain, ReplaysKeepLamports, CanRun, TransactionsTakeTheirFees, order_again, order_of}
 use Rattle.block_laws.proofs.Fit.{admitted_are_chosen, listed_are_chosen}
 
 pub admitted_fit : (s : Snapshot) (batch : Batch) → CanRun s batch.wires → All IsChosen (order_of s batch)
@@ -42,3 +42,9 @@ programs_stay s batch runs = executables_stay s batch.slot (order_of s batch) ru
 pub new_programs_ready : NewProgramsAreReady
 unfolding block_result
 new_programs_ready s batch runs = activated_are_ready s (head_of batch) batch.wires (order_of s batch) runs.0 (admitted_fit s batch runs)
+
+pub programs_stay_again : ProgramsStayAgain
+programs_stay_again s given runs = executables_stay s given.slot (order_again s given) runs.0 (listed_fit s given runs)
+
+pub new_programs_ready_again : NewProgramsAreReadyAgain
+new_programs_ready_again s given runs = activated_are_ready s (record { slot = given.slot; collector = given.collector }) (wires_of given) (order_again s given) runs.0 (listed_fit s given runs)

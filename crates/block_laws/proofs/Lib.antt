@@ -5,3 +5,5 @@ pub mod Alike
 pub mod Replays
 pub mod Keeps
 pub mod Nexts
+pub mod Budgets
+pub mod Records

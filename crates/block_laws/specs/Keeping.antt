@@ -64,6 +64,14 @@ ProgramsStay = (s : Snapshot) (batch : Batch) → CanRun s batch.wires → (n : 
     → (get (state_after s batch.slot (order_of s batch) n) key ≡ Some account)
     ↔ (get s.accounts key ≡ Some account)
 
+-- and so when they run again
+abbrev pub ProgramsStayAgain : Type 0
+ProgramsStayAgain = (s : Snapshot) (given : Block) → CanRun s (wires_of given) → (n : ℕ)
+    → n ≤ length (order_again s given) → (key : Key) (account : Account)
+    → account.executable ≡ true
+    → (get (state_after s given.slot (order_again s given) n) key ≡ Some account)
+    ↔ (get s.accounts key ≡ Some account)
+
 -- an account that is executable after it was so before, or it is a program that is ready
 abbrev pub WasOrIsReady : State → State → Type 0
 WasOrIsReady before after = (key : Key) (account : Account) → get after key ≡ Some account
@@ -72,3 +80,7 @@ WasOrIsReady before after = (key : Key) (account : Account) → get after key �
 abbrev pub NewProgramsAreReady : Type 0
 NewProgramsAreReady = (s : Snapshot) (batch : Batch) → CanRun s batch.wires
     → WasOrIsReady s.accounts (block_result s batch).after.accounts
+
+abbrev pub NewProgramsAreReadyAgain : Type 0
+NewProgramsAreReadyAgain = (s : Snapshot) (given : Block) → CanRun s (wires_of given)
+    → WasOrIsReady s.accounts (closed_again s given).after.accounts

@@ -11,6 +11,6 @@ pub use admitted::{
     admitted_transactions_are_admitted_again, admitted_transactions_are_chosen,
     positions_run_or_are_refused,
 };
-pub use chain::next_blocks_can_be_run;
+pub use chain::{next_blocks_can_be_run, records_are_read};
 pub use keeping::{blocks_keep_lamports, blocks_keep_programs};
 pub use replay::{blocks_run_again, replays_match};

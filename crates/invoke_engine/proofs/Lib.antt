@@ -9,7 +9,6 @@ pub mod Loops
 pub mod Found
 pub mod Traces
 pub mod Buffers
-pub mod SmallLogs
 pub mod GrownLogs
 pub mod Refused
 pub mod Foreign

@@ -8,5 +8,4 @@ pub mod Differences
 pub mod Prepares
 pub mod Hashes
 pub mod Fills
-pub mod SmallLogs
 pub mod GrownLogs

@@ -21,11 +21,12 @@ use Rattle.message_codec.specs.declared.message.Instruction.{Instruction}
 use Rattle.message_codec.specs.Roles.{all_keys, lock_of, may_write}
 use Rattle.message_codec.proofs.RoleLaws.{payer_is_writable, are_named}
 use Rattle.tx_report.specs.LogLines.{Log, no_lines}
+use Rattle.tx_report.specs.Statuses.{whole_transaction}
+use Rattle.tx_report.specs.declared.cause.Cause.TheVariants.{RentState, LoadedDataTooLarge}
 use Rattle.tx_report.specs.declared.cause.DropCause.{DropCause}
 use Rattle.tx_report.specs.declared.cause.DropCause.TheVariants.{PayerAbsent, PayerNotSystem, CannotPayFee}
 use Rattle.tx_report.specs.declared.status.InstructionError.{InstructionError}
-use Rattle.tx_report.specs.declared.status.Status.{Status}
-use Rattle.tx_report.specs.declared.status.Status.TheVariants.{Dropped}
+use Rattle.tx_report.specs.declared.status.Status.TheVariants.{Dropped, Good}
 use Rattle.bank_law.specs.Lawful.{lent_for_writing}
 use Rattle.bank_law.proofs.States.{lamports_in-cons}
 use Rattle.bank_law.proofs.Supply.{lent_for_writing-length, lent_for_writing-short}
@@ -37,7 +38,7 @@ use Rattle.invoke_engine.proofs.Kept.{frame_keeps}
 use Rattle.invoke_engine.specs.Frames.{max_trace}
 use Rattle.tx_exec.specs.Payer.{charged, drop_cause, dropped, is_wallet, less, total_fee}
 use Rattle.tx_exec.specs.Executing.{Executed, Failure, InBlock, call_of, executed, fixed_for, following, locks, meta_of, performed, lets_write}
-use Rattle.tx_exec.specs.Transaction.{Transacted, by_drop, came_to, data_in, finished, finishing, no_fee, rent_broken, transaction}
+use Rattle.tx_exec.specs.Transaction.{Transacted, by_drop, came_to, data_in, failing, finished, finishing, no_fee, rent_broken, transaction}
 use Rattle.tx_exec.specs.TransactionLaws.{Keeps, WritesFit}
 use Rattle.tx_exec.proofs.Settled.{all_settled, all_settled_lamports, all_settled_short}
 use Rattle.tx_exec.proofs.Lent.{lent_lamports}
@@ -144,6 +145,7 @@ record IsCharged (t : Chosen) (before after : List Account) : Type 0 where
   pub programs : (place : ℕ) (account : Account) → slice_get before place ≡ Some account → account.executable ≡ true → slice_get after place ≡ Some account
   pub no_new : (place : ℕ) (account : Account) → slice_get after place ≡ Some account → account.executable ≡ true → slice_get before place ≡ Some account
   pub short : AreShort before → AreShort after
+  pub is : after ≡ charged before (total_fee t)
 
 -- only the first value changes
 other_read : (t : Chosen) (payer less : Account) (others : List Account) → lets_write t 0 ≡ true → (place : ℕ) → lets_write t place ≡ false → slice_get (less ∷ others) place ≡ slice_get (payer ∷ others) place
@@ -172,33 +174,54 @@ fee_taken t (payer ∷ others) w h =
       programs = other_program payer (less payer (total_fee t)) others is.0;
       no_new = other_program (less payer (total_fee t)) payer others is.0;
       short = short_less payer (less payer (total_fee t)) others refl;
+      is = refl;
     }
 
 -- ---- the whole
 
-base_keeps : (t : Chosen) (values base : List Account) (status : Status) (units : ℕ) (lines : List (List ℕ)) → IsCharged t values base → Keeps t values (came_to status units t.fee lines base)
-base_keeps t values base status units lines k = record { count = k.count; lamports = omega (arith, k.lamports); read = k.read; programs = k.programs; no_new = k.no_new; short = k.short }
+base_keeps : (t : Chosen) (values base : List Account) (f : Failure) (units : ℕ) (lines : List (List ℕ)) → IsCharged t values base → Keeps t values (failing t base f units lines)
+base_keeps t values base f units lines k = record {
+  count = k.count;
+  lamports = omega (arith, k.lamports);
+  read = k.read;
+  programs = k.programs;
+  no_new = k.no_new;
+  short = k.short;
+  failed = λ index cause detail e. k.is;
+  dropped = λ cause e. absurd (cc);
+}
 
-after_keeps : (t : Chosen) (values base after : List Account) (status : Status) (units : ℕ) (lines : List (List ℕ)) → IsCharged t values base → IsKept t base after → Keeps t values (came_to status units t.fee lines after)
-after_keeps t values base after status units lines k l = record {
+after_keeps : (t : Chosen) (values base after : List Account) (units : ℕ) (lines : List (List ℕ)) → IsCharged t values base → IsKept t base after → Keeps t values (came_to Good units t.fee lines after)
+after_keeps t values base after units lines k l = record {
   count = l.count ∙ k.count;
   lamports = omega (arith, k.lamports, l.lamports);
   read = λ place r. l.readonly place r ∙ k.read place r;
   programs = λ place x h e. l.programs place x (k.programs place x h e) e;
   no_new = λ place x h e. k.no_new place x (l.no_new place x h e) e;
   short = λ h. l.short (k.short h);
+  failed = λ index cause detail e. absurd (cc);
+  dropped = λ cause e. absurd (cc);
 }
 
 finished_keeps : (t : Chosen) (values base : List Account) (units : ℕ) (lines : List (List ℕ)) (result : Result (List Account) Failure) → IsCharged t values base → GoodKeeps t base result → Keeps t values (finished t base units lines result)
-finished_keeps t values base units lines (Err f) k l = base_keeps t values base _ units lines k
+finished_keeps t values base units lines (Err f) k l = base_keeps t values base f units lines k
 finished_keeps t values base units lines (Ok after) k l = by_rent (rent_broken (locks t) base after)
   where
     by_rent : (o : Option ℕ) → Keeps t values (finishing t base units lines after o)
-    by_rent (Some i) = base_keeps t values base _ units lines k
-    by_rent None = after_keeps t values base after _ units lines k l
+    by_rent (Some i) = base_keeps t values base (record { index = whole_transaction; cause = RentState; detail = i }) units lines k
+    by_rent None = after_keeps t values base after units lines k l
 
 dropped_keeps : (t : Chosen) (values : List Account) (cause : DropCause) → Keeps t values (came_to (Dropped cause) 0 no_fee [] values)
-dropped_keeps t values cause = record { count = refl; lamports = omega arith; read = λ place r. refl; programs = λ place x h e. h; no_new = λ place x h e. h; short = λ h. h }
+dropped_keeps t values cause = record {
+  count = refl;
+  lamports = omega arith;
+  read = λ place r. refl;
+  programs = λ place x h e. h;
+  no_new = λ place x h e. h;
+  short = λ h. h;
+  failed = λ index why detail e. absurd (cc);
+  dropped = λ why e. refl;
+}
 
 -- what a transaction keeps
 pub transaction_keeps : (block : InBlock) (t : Chosen) (values : List Account) → IsChosen t → length values ≡ length (all_keys t.tx.message t.loaded) → Keeps t values (transaction block t values)
@@ -210,7 +233,7 @@ transaction_keeps block t values is count = by_cause (dropped values (total_fee 
     by_cause None h =
         let base : List Account = charged values (total_fee t) in
         let k : IsCharged t values base = fee_taken t values (payer_is_writable t.tx max_transaction_keys t.loaded is.sane) h in
-        cond_both (nat_lt t.budget.loaded (data_in base)) _ _ (Keeps t values) (λ _. base_keeps t values base _ 0 [] k)
+        cond_both (nat_lt t.budget.loaded (data_in base)) _ _ (Keeps t values) (λ _. base_keeps t values base (record { index = whole_transaction; cause = LoadedDataTooLarge; detail = 0 }) 0 [] k)
         (λ _. finished_keeps t values base _ _ (performed (fixed_for block t) t base).result k
         (executed_keeps block t 0 t.tx.message.instructions base t.budget.limit 0 no_lines (all_there t is) (k.count ∙ count)))
 

@@ -1,43 +1,27 @@
 -- The outcome of a transaction is small.
-use Rattle.std.proofs.Common.{◌≤◌, ◌<◌, ◌+◌, ◌-◌, ◌*◌, ◌^◌, ℕ, List, [], ◌∷◌, length, sum_by, Option, Some, None, Result, Ok, Err, All, sym, subst, lit≤, arith, min}
+use Rattle.std.proofs.Common.{◌≤◌, ◌<◌, ◌+◌, ◌-◌, ◌^◌, ℕ, List, [], length, sum_by, Option, Some, None, Result, Ok, Err, All, sym, subst, lit≤, arith, min}
 use Rattle.std.specs.Prelude.{nat_lt}
 use Rattle.std.proofs.lemmas.Bool.{cond_both}
 use Rattle.std.proofs.lemmas.List.Elements.{All-nil, All-from_recursion}
 use Rattle.sol_base.specs.declared.account.Account.{Account}
 use Rattle.sol_base.specs.Limits.{max_transaction_keys}
-use Rattle.message_codec.specs.declared.message.Instruction.{Instruction}
 use Rattle.message_codec.specs.declared.message.Message.{Message}
 use Rattle.fee_rules.specs.Charge.{Charge}
 use Rattle.fee_rules.specs.declared.budget.Budget.{Budget}
 use Rattle.fee_rules.specs.Fees.{base_fee, fee_of}
 use Rattle.tx_report.specs.LogLines.{IsSmall, Log, max_lines_bytes, no_lines}
 use Rattle.tx_report.proofs.LogLaws.{IsSmall-no_lines}
+use Rattle.tx_report.proofs.GrownLogs.{HasGrown-small}
 use Rattle.tx_report.specs.declared.cause.DropCause.{DropCause}
-use Rattle.tx_report.specs.declared.status.InstructionError.{InstructionError}
 use Rattle.tx_report.specs.declared.status.Status.{Status}
 use Rattle.tx_report.specs.declared.status.Status.TheVariants.{Dropped}
 use Rattle.admission.specs.declared.chosen.Chosen.{Chosen}
 use Rattle.admission.specs.Chosen.{IsChosen}
-use Rattle.invoke_engine.specs.Frame.{Ending, Fixed, instruction}
-use Rattle.invoke_engine.proofs.SmallLogs.{instruction-small}
 use Rattle.tx_exec.specs.Payer.{charged, dropped, total_fee}
-use Rattle.tx_exec.specs.Executing.{Executed, Failure, InBlock, call_of, executed, fixed_for, following, locks, performed}
+use Rattle.tx_exec.specs.Executing.{Executed, Failure, InBlock, fixed_for, locks, performed}
 use Rattle.tx_exec.specs.Transaction.{Transacted, by_drop, came_to, data_in, finished, finishing, no_fee, rent_broken, transaction}
 use Rattle.tx_exec.specs.TransactionLaws.{IsSmallOutcome}
-
--- ---- the log of the instructions
-follow_small : (index : ℕ) (on : List Account → ℕ → ℕ → Log → Executed) (result : Result (List Account) InstructionError) (e : Ending) →
-    ((b : List Account) (units trace : ℕ) (log : Log) → IsSmall log → IsSmall (on b units trace log).log) → IsSmall e.carried.log → IsSmall (following index on result e).log
-follow_small index on (Ok b) e all is = all b e.units e.carried.trace e.carried.log is
-follow_small index on (Err error) e all is = is
-
-executed_small : (s : Fixed) (t : Chosen) (index : ℕ) (is : List Instruction) (a : List Account) (units trace : ℕ) (log : Log) → IsSmall log → IsSmall (executed s t index is a units trace log).log
-unfolding executed
-executed_small s t index [] a units trace log small = small
-executed_small s t index (i ∷ is) a units trace log small =
-    follow_small index (executed s t (index + 1) is) _ (instruction s (call_of t i) a units trace log)
-    (λ b u n l k. executed_small s t (index + 1) is b u n l k)
-    (instruction-small s (call_of t i) a units trace log small)
+use Rattle.tx_exec.proofs.GrownLogs.{performed_grows}
 
 -- ---- the fee
 min_below : (a b : ℕ) → min a b ≤ b
@@ -90,4 +74,4 @@ transaction_small block t values is = by_cause (dropped values (total_fee t))
         let base : List Account = charged values (total_fee t) in
         let e : Executed = performed (fixed_for block t) t base in
         cond_both (nat_lt t.budget.loaded (data_in base)) _ _ (λ (x : Transacted). IsSmallOutcome x.outcome) (λ _. came_small t is _ 0 [] base none_small)
-        (λ _. finished_small t is base _ _ e.result (lines_small e.log (executed_small (fixed_for block t) t 0 t.tx.message.instructions base t.budget.limit 0 no_lines IsSmall-no_lines)))
+        (λ _. finished_small t is base _ _ e.result (lines_small e.log (HasGrown-small no_lines e.log (performed_grows (fixed_for block t) t base) IsSmall-no_lines)))

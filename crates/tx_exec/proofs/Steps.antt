@@ -47,10 +47,11 @@ stop index on e ran error log run failed =
     let r : e.result ≡ Err error = sym run.ended ∙ ap result_as failed in
     rw (r, run.units, run.lines) refl
 
-refused : {error : InstructionError} {after : List Account} → (let r : Result (List Account) InstructionError = Err error in r) ≡ Ok after → ⊥
+-- an error is no good end
+pub refused : {error : InstructionError} {after : List Account} → (let r : Result (List Account) InstructionError = Err error in r) ≡ Ok after → ⊥
 refused e = absurd (cc)
 
-late : (b : Bool) (x y : Ending) (after : List Account) → (let e : Ending = if b then x else y in e.result) ≡ Ok after → b ≡ true → x.result ≡ Ok after
+pub late : (b : Bool) (x y : Ending) (after : List Account) → (let e : Ending = if b then x else y in e.result) ≡ Ok after → b ≡ true → x.result ≡ Ok after
 late true x y after h e = h
 late false x y after h e = absurd (cc)
 

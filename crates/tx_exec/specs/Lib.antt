@@ -2,6 +2,7 @@ pub mod Payer
 pub mod Executing
 pub mod Transaction
 pub mod TransactionLaws
+pub mod Programs
 pub mod Told
 pub mod Tables
 pub mod Views

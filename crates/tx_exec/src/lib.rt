@@ -13,6 +13,9 @@ mod told;
 mod work;
 
 pub use failure::Failure;
-pub use laws::{transactions_are_lawful_works, transactions_keep_accounts};
+pub use laws::{
+    transactions_are_lawful_works, transactions_have_outcomes, transactions_keep_accounts,
+    transactions_keep_foreign_accounts,
+};
 pub use told::Told;
 pub use work::TxWork;
