@@ -3,16 +3,17 @@ use sha2::{Digest, Sha256};
 use sol_base::{Blob, OutOfMemory};
 
 /// What takes the bytes of a format, piece by piece.
-pub trait Output {
-    ghost use Rattle.std.specs.Prelude.{List, ℕ, OnOk};
+pub trait Output: Sized + Drop {
+    ghost use Rattle.std.specs.Prelude.{List, ℕ, [], OnOk, OnErr};
     ghost use Rattle.format_fields.specs.Output.{Adds};
 
     /// It has taken these bytes.
     ghost holds: { Self → List ℕ → Type 0 };
 
-    /// Takes the piece after what it has taken.
+    /// Takes the piece after what it has taken, and nothing of it where it is refused.
     fn append(&mut self, piece: &[u8]) -> Result<(), OutOfMemory>
-        ensures { OnOk result (Adds holds self.old self.new piece.now) };
+        ensures ok { OnOk result (Adds holds self.old self.new piece.now) }
+        ensures err { OnErr result (Adds holds self.old self.new []) };
 }
 
 impl Output for Blob {
