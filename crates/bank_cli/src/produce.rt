@@ -107,21 +107,18 @@ fn record_before(alloc: Global, block: &Block, after: &Snapshot) -> Result<Blob,
     requires writable { IsWritable after.now }
     ensures { IfOk result (λ output. output ≡ bytes_of_record block.now) }
 {
-    let mut count = ByteCount(0);
-    write_record(&mut count, block)?;
-    write_snapshot(&mut count, after)?;
-    let mut output = Blob::with_capacity(alloc, count.0)?;
-    write_record(&mut output, block)?;
-    Ok(output)
+    let count = write_record(ByteCount(0), block)?;
+    let count = write_snapshot(count, after)?;
+    let output = Blob::with_capacity(alloc, count.0)?;
+    write_record(output, block)
 }
 
 /// The bytes with those of the snapshot behind them.
-fn with_snapshot(mut output: Blob, after: Snapshot) -> Result<Blob, OutOfMemory>
+fn with_snapshot(output: Blob, after: Snapshot) -> Result<Blob, OutOfMemory>
     requires { IsWritable after }
     ensures { IfOk result (λ whole. whole ≡ output ++ bytes_of_snapshot after) }
 {
-    write_snapshot(&mut output, &after)?;
-    Ok(output)
+    write_snapshot(output, &after)
 }
 
 /// The record and the snapshot after it, in one buffer. On several lanes the block's memory is given

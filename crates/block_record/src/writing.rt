@@ -113,15 +113,15 @@ fn write_block<O: Output>(out: &mut O, block: &Block) -> Result<(), OutOfMemory>
     out.append(&block.state.0)
 }
 
-/// Writes the record of the block (the project's own format). The hash that stands in it is the
-/// block's own.
-pub fn write_record<O: Output>(out: &mut O, block: &Block) -> Result<(), OutOfMemory>
+/// The output with the record of the block behind what it has taken (the project's own format). The
+/// hash that stands in it is the block's own.
+pub fn write_record<O: Output>(mut out: O, block: &Block) -> Result<O, OutOfMemory>
     requires { IsCounted block.now }
-    ensures { OnOk result (Adds O.holds out.old out.new (bytes_of_record block.now)) }
+    ensures { IfOk result (λ new. Adds O.holds out new (bytes_of_record block.now)) }
 {
-    write_block(out, block)?;
+    write_block(&mut out, block)?;
     out.append(&block.hash.0)?;
-    Ok(())
+    Ok(out)
 }
 
 /// The record of the block, in one buffer. The hash that stands in it is the block's own.
@@ -129,11 +129,9 @@ pub fn record_bytes(alloc: Global, block: &Block) -> Result<Blob, OutOfMemory>
     requires { IsCounted block.now }
     ensures { IfOk result (λ bytes. bytes ≡ bytes_of_record block.now) }
 {
-    let mut count = ByteCount(0);
-    write_record(&mut count, block)?;
-    let mut out = Blob::with_capacity(alloc, count.0)?;
-    write_record(&mut out, block)?;
-    Ok(out)
+    let count = write_record(ByteCount(0), block)?;
+    let out = Blob::with_capacity(alloc, count.0)?;
+    write_record(out, block)
 }
 
 /// A hash that has taken what stands before the entries in the record of a block, which is to have

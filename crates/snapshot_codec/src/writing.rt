@@ -93,16 +93,17 @@ fn write_state<O: Output>(out: &mut O, accounts: &Accounts) -> Result<(), OutOfM
     write_each_account(out, accounts)
 }
 
-/// Writes the snapshot in version 2 (the project's own format).
-pub fn write_snapshot<O: Output>(out: &mut O, snapshot: &Snapshot) -> Result<(), OutOfMemory>
+/// The output with the snapshot in version 2 behind what it has taken (the project's own format).
+pub fn write_snapshot<O: Output>(mut out: O, snapshot: &Snapshot) -> Result<O, OutOfMemory>
     requires { IsWritable snapshot.now }
-    ensures { OnOk result (Adds O.holds out.old out.new (bytes_of snapshot.now)) }
+    ensures { IfOk result (λ new. Adds O.holds out new (bytes_of snapshot.now)) }
 {
     out.append(b"SOLSNAP2")?;
     out.append(&snapshot.slot.to_le_bytes())?;
-    write_limits(out, &snapshot.limits)?;
-    write_marks(out, snapshot.recent.marks())?;
-    write_state(out, &snapshot.accounts)
+    write_limits(&mut out, &snapshot.limits)?;
+    write_marks(&mut out, snapshot.recent.marks())?;
+    write_state(&mut out, &snapshot.accounts)?;
+    Ok(out)
 }
 
 /// The bytes of the snapshot in version 2, in one buffer.
@@ -110,11 +111,9 @@ pub fn snapshot_bytes(alloc: Global, snapshot: &Snapshot) -> Result<Blob, OutOfM
     requires { IsWritable snapshot.now }
     ensures { IfOk result (λ bytes. bytes ≡ bytes_of snapshot.now) }
 {
-    let mut count = ByteCount(0);
-    write_snapshot(&mut count, snapshot)?;
-    let mut out = Blob::with_capacity(alloc, count.0)?;
-    write_snapshot(&mut out, snapshot)?;
-    Ok(out)
+    let count = write_snapshot(ByteCount(0), snapshot)?;
+    let out = Blob::with_capacity(alloc, count.0)?;
+    write_snapshot(out, snapshot)
 }
 
 /// The SHA-256 of the state section, as a snapshot has it. No copy of the section is made.

@@ -6,6 +6,6 @@ use Rattle.block_record.proofs.writing.write_block.Goals as goal
 pub returns : goal.returns
 returns g c =
     on_ok_weaker c.append-3.result
-    (λ last. Adds-as (Adds-then (Adds-then (Adds-then c.in_ok-write_front.ensures c.in_ok-append.ensures) c.in_ok-append-2.ensures) last)
+    (λ last. Adds-as (Adds-then (Adds-then (Adds-then c.in_ok-write_front.ensures c.in_ok-append.ensures.ok) c.in_ok-append-2.ensures.ok) last)
     (rw (c.to_le_bytes.ensures, c.to_le_bytes-2.ensures) refl))
-    c.append-3.ensures
+    c.append-3.ensures.ok

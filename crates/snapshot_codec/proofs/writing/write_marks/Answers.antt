@@ -5,4 +5,4 @@ use Rattle.snapshot_codec.proofs.writing.write_marks.Goals as goal
 
 pub returns : goal.returns
 returns g c =
-    on_ok_weaker c.write_each_mark.result (λ last. Adds-as (Adds-then c.in_ok-append.ensures last) (rw c.to_le_bytes.ensures refl)) c.write_each_mark.ensures
+    on_ok_weaker c.write_each_mark.result (λ last. Adds-as (Adds-then c.in_ok-append.ensures.ok last) (rw c.to_le_bytes.ensures refl)) c.write_each_mark.ensures

@@ -1,11 +1,9 @@
 use Rattle.std.proofs.Common.{refl}
-use Rattle.std.proofs.lemmas.Result.{on_ok_weaker}
 use Rattle.format_fields.proofs.Adding.{Adds-then, Adds-as}
 use Rattle.snapshot_codec.proofs.writing.write_snapshot.Goals as goal
 
 pub returns : goal.returns
 returns g c =
-    on_ok_weaker c.write_state.result
-    (λ last. Adds-as (Adds-then (Adds-then (Adds-then (Adds-then c.in_ok-append.ensures c.in_ok-append-2.ensures) c.in_ok-write_limits.ensures) c.in_ok-write_marks.ensures) last)
-    (rw (c.to_le_bytes.ensures, c.marks.ensures.marks) refl))
-    c.write_state.ensures
+    Adds-as
+    (Adds-then (Adds-then (Adds-then (Adds-then c.in_ok-append.ensures.ok c.in_ok-append-2.ensures.ok) c.in_ok-write_limits.ensures) c.in_ok-write_marks.ensures) c.in_ok-write_state.ensures)
+    (rw (c.to_le_bytes.ensures, c.marks.ensures.marks) refl)

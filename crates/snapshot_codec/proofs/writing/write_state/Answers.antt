@@ -11,6 +11,6 @@ use Rattle.snapshot_codec.proofs.writing.write_state.Goals as goal
 pub returns : goal.returns
 returns g c =
     on_ok_weaker c.write_each_account.result
-    (λ last. Adds-as (Adds-then c.in_ok-append.ensures last)
+    (λ last. Adds-as (Adds-then c.in_ok-append.ensures.ok last)
     (ap (λ (l : List ℕ). l ++ flat_map account_bytes (entries c.args.accounts.now)) (c.to_le_bytes.ensures ∙ ap (to_le_bytes w32) (c.len.ensures.len ∙ len-entries c.args.accounts.now))))
     c.write_each_account.ensures
