@@ -1,5 +1,5 @@
 -- How a batch is parted into the transactions that run and those that do not.
-use Rattle.std.proofs.Common.{◌≡◌, ℕ, zero, suc, ◌+◌, ◌<◌, ◌≤◌, Bool, true, false, List, [], ◌∷◌, ◌++◌, length, map, take, get_or, set, fold, refl, sym, ap, ◌∙◌, append_assoc, append-nil, length-append, zero-add, arith, subst, Option, Some, None, Result, Ok, Err, All, nat_lt, ne_eqb}
+use Rattle.std.proofs.Common.{◌≡◌, ◌≢◌, ℕ, zero, suc, ◌+◌, ◌<◌, ◌≤◌, Bool, true, false, List, [], ◌∷◌, ◌++◌, length, map, take, get_or, set, fold, refl, sym, ap, ◌∙◌, append_assoc, append-nil, length-append, zero-add, arith, subst, Option, Some, None, Result, Ok, Err, All, nat_lt, ne_eqb}
 use Rattle.std.specs.Prelude.{AllPairs, if◌then◌else◌, nat_eq}
 use Rattle.std.specs.Result.{result_ok}
 use Rattle.std.specs.List.{AllByRecursion, IsDistinct, cons_option, enumerate_from, filter_map}
@@ -8,6 +8,7 @@ use Rattle.std.proofs.lemmas.Bool.{both_ways, false_from_ne_true, or_parts}
 use Rattle.std.proofs.lemmas.Bool.Decides.{nat_tests}
 use Rattle.std.proofs.lemmas.List.{get_or-map, get_or_at, length-map, take_at}
 use Rattle.std.proofs.lemmas.List.Elements.{All-from_recursion, recursion_from_All}
+use Rattle.std.proofs.lemmas.List.Kept.{AllPairs-cons}
 use Rattle.std.proofs.lemmas.List.FromFn.{get_or-enumerate_from, length-enumerate_from}
 use Rattle.std.proofs.lemmas.List.Sorted.{All-permutation, IsPermutation-map, IsPermutation-refl, length_permutation}
 use Rattle.std.proofs.lemmas.Map.Keys.{IsDistinct-IsPermutation}
@@ -157,6 +158,9 @@ module _ (start : Start) (batch : List Parsed) where
   pub standing_names_differ : IsDistinct same_hash (map (λ one. one.name) (sifted_out start batch))
   standing_names_differ = (names_from 0 [] batch refl refl).1
 
+nat_eq_flips : (x y : ℕ) → nat_eq x y ≡ nat_eq y x
+nat_eq_flips x y = grind (arith, nat_tests)
+
 -- ---- what the walk keeps
 -- what holds of a list with one holds of the list without
 abbrev Drops : (List Chosen → Type 0) → Type 0
@@ -182,6 +186,29 @@ names_dropped (other ∷ before) one left differ = (go before differ.0, names_dr
     go [] all = all.1
     go (next ∷ before) all = (all.0, go before all.1)
 
+all_dropped : (P : Chosen → Type 0) → Drops (AllByRecursion P)
+all_dropped P [] one left all = all.1
+all_dropped P (other ∷ before) one left all = (all.0, all_dropped P before one left all.1)
+
+positions_dropped : Drops (λ line. IsDistinct nat_eq (map (λ one. one.position) line))
+unfolding IsDistinct
+positions_dropped [] one left differ = differ.1
+positions_dropped (other ∷ before) one left differ = (go before differ.0, positions_dropped before one left differ.1)
+  where
+    go : (before : List Chosen) → AllByRecursion (λ position. nat_eq other.position position ≡ false) (map (λ one. one.position) (before ++ one ∷ left)) → AllByRecursion (λ position. nat_eq other.position position ≡ false) (map (λ one. one.position) (before ++ left))
+    go [] all = all.1
+    go (next ∷ before) all = (all.0, go before all.1)
+
+-- one of a list whose positions differ is apart from all others
+one_apart : (before : List Chosen) (one : Chosen) (left : List Chosen) → IsDistinct nat_eq (map (λ one. one.position) (before ++ one ∷ left)) → AllByRecursion (λ position. nat_eq one.position position ≡ false) (map (λ one. one.position) (before ++ left))
+unfolding IsDistinct
+one_apart [] one left differ = differ.0
+one_apart (other ∷ before) one left differ = (nat_eq_flips one.position other.position ∙ go before differ.0, one_apart before one left differ.1)
+  where
+    go : (before : List Chosen) → AllByRecursion (λ position. nat_eq other.position position ≡ false) (map (λ one. one.position) (before ++ one ∷ left)) → nat_eq other.position one.position ≡ false
+    go [] all = all.0
+    go (next ∷ before) all = go before all.1
+
 pairs_dropped : Drops Ranked
 pairs_dropped [] one left ranked = ranked.1
 pairs_dropped (other ∷ before) one left ranked = (go before ranked.0, pairs_dropped before one left ranked.1)
@@ -189,6 +216,23 @@ pairs_dropped (other ∷ before) one left ranked = (go before ranked.0, pairs_dr
     go : (before : List Chosen) → AllByRecursion (StandsBefore other) (before ++ one ∷ left) → AllByRecursion (StandsBefore other) (before ++ left)
     go [] all = all.1
     go (next ∷ before) all = (all.0, go before all.1)
+
+-- ---- positions of refused ones
+one_lower : (n : ℕ) (refused : List Refused) → AllByRecursion (λ one. n + 1 ≤ one.position) refused → AllByRecursion (λ one. n ≤ one.position) refused
+one_lower n [] all = tt
+one_lower n (one ∷ others) all = (omega (arith, all.0), one_lower n others all.1)
+
+all_above : (n : ℕ) (refused : List Refused) → AllByRecursion (λ one. n + 1 ≤ one.position) refused → AllByRecursion (λ one. n < one.position) refused
+all_above n [] all = tt
+all_above n (one ∷ others) all = (omega (arith, all.0), all_above n others all.1)
+
+all_differ : (n : ℕ) (refused : List Refused) → AllByRecursion (λ one. n + 1 ≤ one.position) refused → AllByRecursion (λ one. n + 0 ≢ one.position) refused
+all_differ n [] all = tt
+all_differ n (one ∷ others) all = (λ e. omega (arith, e, all.0), all_differ n others all.1)
+
+moved : (n i : ℕ) (refused : List Refused) → AllByRecursion (λ one. n + 1 + i ≢ one.position) refused → AllByRecursion (λ one. n + suc i ≢ one.position) refused
+moved n i [] all = tt
+moved n i (one ∷ others) all = (λ e. all.0 (omega (arith, e)), moved n i others all.1)
 
 -- ---- how many positions have a cause
 -- how many have none
@@ -214,6 +258,28 @@ numbered_below n to [] e = tt
 numbered_below n to (None ∷ causes) e = numbered_below (n + 1) to causes (omega (arith, e))
 numbered_below n to (Some cause ∷ causes) e = (omega (arith, e), numbered_below (n + 1) to causes (omega (arith, e)))
 
+-- they ascend
+numbered_from : (n : ℕ) (causes : List (Option Refusal)) → AllByRecursion (λ refused. n ≤ refused.position) (filter_map numbered_at (enumerate_from n causes))
+numbered_from n [] = tt
+numbered_from n (None ∷ causes) = one_lower n (filter_map numbered_at (enumerate_from (n + 1) causes)) (numbered_from (n + 1) causes)
+numbered_from n (Some cause ∷ causes) = (omega arith, one_lower n (filter_map numbered_at (enumerate_from (n + 1) causes)) (numbered_from (n + 1) causes))
+
+numbered_ascend : (n : ℕ) (causes : List (Option Refusal)) → AllPairs (λ one other. one.position < other.position) (filter_map numbered_at (enumerate_from n causes))
+numbered_ascend n [] = λ i j d before within. absurd (omega (arith, within))
+numbered_ascend n (None ∷ causes) = numbered_ascend (n + 1) causes
+numbered_ascend n (Some cause ∷ causes) =
+    let others = filter_map numbered_at (enumerate_from (n + 1) causes) in
+    let above = all_above n others (numbered_from (n + 1) causes) in
+    AllPairs-cons (λ (one other : Refused). one.position < other.position) (record { position = n; cause = cause }) others (All-from_recursion (λ (other : Refused). n < other.position) others above) (numbered_ascend (n + 1) causes)
+
+-- none of them is at a position that has no cause
+not_numbered : (n i : ℕ) (causes : List (Option Refusal)) → get_or causes i None ≡ None → AllByRecursion (λ refused. n + i ≢ refused.position) (filter_map numbered_at (enumerate_from n causes))
+not_numbered n i [] none = tt
+not_numbered n zero (None ∷ causes) none = all_differ n (filter_map numbered_at (enumerate_from (n + 1) causes)) (numbered_from (n + 1) causes)
+not_numbered n (suc i) (None ∷ causes) none = moved n i (filter_map numbered_at (enumerate_from (n + 1) causes)) (not_numbered (n + 1) i causes none)
+not_numbered n zero (Some cause ∷ causes) none = absurd (cc)
+not_numbered n (suc i) (Some cause ∷ causes) none = (λ e. omega (arith, e), moved n i (filter_map numbered_at (enumerate_from (n + 1) causes)) (not_numbered (n + 1) i causes none))
+
 -- the cause of a position after those of the walk
 late_at : (refused : List Refused) (causes : List (Option Refusal)) (i : ℕ) → i < length causes → get_or (with_late refused causes) i None ≡ or_else (late_cause refused i) (get_or causes i None)
 late_at refused causes i l =
@@ -227,11 +293,14 @@ record IsFree (refused : List Refused) (causes : List (Option Refusal)) (one : C
   pub early : get_or causes one.position None ≡ None
   pub late : late_cause refused one.position ≡ None
 
+free_is_none : (refused : List Refused) (causes : List (Option Refusal)) (one : Chosen) → IsFree refused causes one → get_or (with_late refused causes) one.position None ≡ None
+free_is_none refused causes one is = late_at refused causes one.position is.below ∙ ap (λ (o : Option Refusal). or_else o (get_or causes one.position None)) is.late ∙ is.early
+
 module _ (limits : Limits) (causes : List (Option Refusal)) where
   refused_more : (refused : List Refused) (one : Chosen) (cause : Refusal) → IsFree refused causes one → free (with_late (record { position = one.position; cause = cause } ∷ refused) causes) + 1 ≡ free (with_late refused causes)
   refused_more refused one cause is =
       let within : one.position < length (with_late refused causes) = rw (count_late refused causes) is.below in
-      let none : get_or (with_late refused causes) one.position None ≡ None = late_at refused causes one.position is.below ∙ ap (λ (o : Option Refusal). or_else o (get_or causes one.position None)) is.late ∙ is.early in
+      let none = free_is_none refused causes one is in
       ap (λ cs. free cs + 1) (sym (late_more refused (record { position = one.position; cause = cause }) causes is.below)) ∙ free_set (with_late refused causes) one.position cause within none
 
   others_free : (refused : List Refused) (one : Chosen) (cause : Refusal) (left : List Chosen) → AllByRecursion (λ position. nat_eq one.position position ≡ false) (map (λ other. other.position) left) → AllByRecursion (IsFree refused causes) left
@@ -240,6 +309,27 @@ module _ (limits : Limits) (causes : List (Option Refusal)) where
   others_free refused one cause (other ∷ left) apart all =
       let late : late_cause (record { position = one.position; cause = cause } ∷ refused) other.position ≡ None = ap (λ b. if b then Some cause else late_cause refused other.position) apart.0 ∙ all.0.late in
       (record { below = all.0.below; early = all.0.early; late = late }, others_free refused one cause left apart.1 all.1)
+
+  -- those that run are free of what was refused
+  ran_free : (before : Walk) (left : List Chosen) → AllByRecursion (IsFree before.refused causes) (before.order ++ left) → IsDistinct nat_eq (map (λ one. one.position) (before.order ++ left))
+      → AllByRecursion (IsFree (fold (λ before one. walk_with before one (late limits before.order one)) before left).refused causes) (fold (λ before one. walk_with before one (late limits before.order one)) before left).order
+  ran_free before [] all apart = subst (AllByRecursion (IsFree before.refused causes)) (append-nil before.order) all
+  ran_free before (one ∷ left) all apart = go (late limits before.order one) (λ walk. ran_free walk left)
+    where
+      Free : Walk → Type 0
+      Free walk = AllByRecursion (IsFree walk.refused causes) (walk.order ++ left) → IsDistinct nat_eq (map (λ one. one.position) (walk.order ++ left))
+          → AllByRecursion (IsFree (fold (λ before one. walk_with before one (late limits before.order one)) walk left).refused causes) (fold (λ before one. walk_with before one (late limits before.order one)) walk left).order
+
+      go : (o : Option Refusal) → ((walk : Walk) → Free walk)
+          → AllByRecursion (IsFree (fold (λ before one. walk_with before one (late limits before.order one)) (walk_with before one o) left).refused causes)
+          (fold (λ before one. walk_with before one (late limits before.order one)) (walk_with before one o) left).order
+      go None more =
+          let same : before.order ++ one ∷ left ≡ (before.order ++ one ∷ []) ++ left = sym (append_assoc before.order (one ∷ []) left) in
+          more (walk_with before one None) (subst (AllByRecursion (IsFree before.refused causes)) same all) (subst (λ (line : List Chosen). IsDistinct nat_eq (map (λ one. one.position) line)) same apart)
+      go (Some cause) more =
+          more (walk_with before one (Some cause))
+          (others_free before.refused one cause (before.order ++ left) (one_apart before.order one left apart) (all_dropped (IsFree before.refused causes) before.order one left all))
+          (positions_dropped before.order one left apart)
 
   free_walked : (before : Walk) (left : List Chosen) → AllByRecursion (IsFree before.refused causes) left → IsDistinct nat_eq (map (λ one. one.position) left) → free (with_late before.refused causes) ≡ length before.order + length left
       → free (with_late (fold (λ before one. walk_with before one (late limits before.order one)) before left).refused causes) ≡ length (fold (λ before one. walk_with before one (late limits before.order one)) before left).order
@@ -257,6 +347,18 @@ module _ (limits : Limits) (causes : List (Option Refusal)) where
       go None more = more (walk_with before one None) all.1 apart.1 (omega (arith, count, length-append before.order (one ∷ [])))
       go (Some cause) more = more (walk_with before one (Some cause)) (others_free before.refused one cause left apart.0 all.1) apart.1 (let fewer = refused_more before.refused one cause all.0 in omega (arith, count, fewer))
 
+-- no refused position is one that is free
+apart_from : (refused : List Refused) (causes : List (Option Refusal)) (order : List Chosen) → AllByRecursion (IsFree refused causes) order
+    → All (λ one. All (λ chosen. chosen.position ≢ one.position) order) (numbered_in (with_late refused causes))
+apart_from refused causes order free = λ k d within i e inside. All-from_recursion (λ chosen. All (λ one. chosen.position ≢ one.position) (numbered_in (with_late refused causes))) order (go order free) i e inside k d within
+  where
+    go : (order : List Chosen) → AllByRecursion (IsFree refused causes) order → AllByRecursion (λ chosen. All (λ one. chosen.position ≢ one.position) (numbered_in (with_late refused causes))) order
+    go [] free = tt
+    go (chosen ∷ others) free = (
+      All-from_recursion (λ (one : Refused). chosen.position ≢ one.position) (numbered_in (with_late refused causes)) (rw (← zero-add chosen.position) (not_numbered 0 chosen.position (with_late refused causes) (free_is_none refused causes chosen free.0))),
+      go others free.1,
+    )
+
 -- positions that ascend differ
 positions_differ : (standing : List Chosen) → PositionsAscend standing → IsDistinct nat_eq (map (λ one. one.position) standing)
 unfolding IsDistinct
@@ -266,9 +368,6 @@ positions_differ (one ∷ others) up = (go others up.0, positions_differ others 
     go : (others : List Chosen) → AllByRecursion (λ other. one.position < other.position) others → AllByRecursion (λ position. nat_eq one.position position ≡ false) (map (λ other. other.position) others)
     go [] all = tt
     go (other ∷ others) all = (ne_eqb one.position other.position (λ e. omega (arith, e, all.0)), go others all.1)
-
-nat_eq_flips : (x y : ℕ) → nat_eq x y ≡ nat_eq y x
-nat_eq_flips x y = grind (arith, nat_tests)
 
 hash_flips : (x y : Hash32) → same_hash x y ≡ same_hash y x
 hash_flips x y = by_test (same_hash x y) refl
@@ -324,14 +423,17 @@ module _ (start : Start) (wires : List (List ℕ)) where
       let positions = IsDistinct-IsPermutation nat_eq nat_eq_flips (map (λ one. one.position) (sifted_out start batch)) (map (λ one. one.position) found) (IsPermutation-map (λ one. one.position) (sifted_out start batch) found same) (positions_differ (sifted_out start batch) (standing_positions_ascend start batch)) in
       let stands : free (with_late [] causes) ≡ length found = ap free (sym (none_late causes)) ∙ free_standing 0 batch ∙ sym (length_permutation (sifted_out start batch) found same) in
       let ran : free (with_late after.refused causes) ≡ length after.order = free_walked start.limits causes (record { order = []; refused = [] }) found (in_place (IsFree [] causes) found same each_free) positions (omega (arith, stands)) in
+      let all_free : AllByRecursion (IsFree after.refused causes) after.order = ran_free start.limits causes (record { order = []; refused = [] }) found (in_place (IsFree [] causes) found same each_free) positions in
       let all : length (numbered_in (with_late after.refused causes)) + free (with_late after.refused causes) ≡ length (with_late after.refused causes) = numbered_count 0 (with_late after.refused causes) in
       let late_count : length (with_late after.refused causes) ≡ length wires = count_late after.refused causes ∙ cause_count in
       let lower = All-from_recursion (λ (one : Refused). one.position < length wires) (numbered_in (with_late after.refused causes)) (numbered_below 0 (length wires) (with_late after.refused causes) (omega (arith, late_count))) in
       record {
         each = All-from_recursion (IsOf wires) after.order (all_run (IsOf wires) start.limits found (in_place (IsOf wires) found same each_of));
         apart = kept_run (λ line. IsDistinct same_hash (map (λ one. one.name) line)) names_dropped start.limits found names;
-        count = omega (arith, ran, all, late_count, ap length refused);
         below = subst (All (λ one. one.position < length wires)) refused lower;
+        ascending = subst (AllPairs (λ one other. one.position < other.position)) refused (numbered_ascend 0 (with_late after.refused causes));
+        others = subst (All (λ (one : Refused). All (λ chosen. chosen.position ≢ one.position) after.order)) refused (apart_from after.refused causes after.order all_free);
+        count = omega (arith, ran, all, late_count, ap length refused);
       }
 
 -- a batch by priority is parted
