@@ -18,6 +18,7 @@ use Rattle.sol_base.specs.Keys.{IsKey, IsHash, hash_bytes}
 use Rattle.sol_base.specs.Limits.{max_transactions}
 use Rattle.sol_base.specs.Accounts.{max_data_len, IsShort}
 use Rattle.status_cache.specs.declared.recent.Mark.{Mark}
+use Rattle.status_cache.specs.Recent.{max_marks}
 use Rattle.account_store.specs.State.{IsHeld, entries, lamports_of}
 use Rattle.snapshot_codec.specs.declared.snapshot.Snapshot.{Snapshot}
 use Rattle.snapshot_codec.specs.declared.snapshot.Prefix.{Prefix}
@@ -135,8 +136,8 @@ sections_again s d recent accounts fits marks_are state_are =
     let count = to_le_bytes w32 (length es) in
     let all = flat_map account_bytes es in
     rw (
-      member_again (codes "recent") (list_in 150 mark_in) d (list_json mark_json s.recent) (length s.recent, marks) recent
-          (list_again 150 mark_in mark_json s.recent marks fits.marks.few (items_again mark_in mark_json mark_bytes MarkFits mark_again 0 s.recent fits.marks.each (after_bytes _ mark_count marks marks_are refl))),
+      member_again (codes "recent") (list_in max_marks mark_in) d (list_json mark_json s.recent) (length s.recent, marks) recent
+          (list_again max_marks mark_in mark_json s.recent marks fits.marks.few (items_again mark_in mark_json mark_bytes MarkFits mark_again 0 s.recent fits.marks.each (after_bytes _ mark_count marks marks_are refl))),
       member_again (codes "accounts") (list_in 4194304 account_in) d (list_json account_json es) (length es, all) accounts
           (list_again 4194304 account_in account_json es all fits.few (items_again account_in account_json account_bytes AccountFits account_again 0 es fits.accounts (after_bytes _ count all state_are refl))),
     ) (ap Ok (append_assoc (mark_count ++ marks) count all))

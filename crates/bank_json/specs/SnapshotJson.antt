@@ -11,6 +11,7 @@ use Rattle.sol_base.specs.declared.limits.Limits.{Limits}
 use Rattle.sol_base.specs.Limits.{max_transactions}
 use Rattle.sol_base.specs.Accounts.{max_data_len}
 use Rattle.status_cache.specs.declared.recent.Mark.{Mark}
+use Rattle.status_cache.specs.Recent.{max_marks}
 use Rattle.account_store.specs.State.{entries}
 use Rattle.snapshot_codec.specs.declared.snapshot.Snapshot.{Snapshot}
 use Rattle.snapshot_codec.specs.declared.snapshot.Prefix.{Prefix}
@@ -145,7 +146,7 @@ limits_in d = do
 -- the marks and the accounts, each behind their number
 unfoldable pub sections_in : Data → Read (List ℕ)
 sections_in d = do
-  recent ← member_in (codes "recent") (list_in 150 mark_in) d
+  recent ← member_in (codes "recent") (list_in max_marks mark_in) d
   accounts ← member_in (codes "accounts") (list_in 4194304 account_in) d
   Ok (to_le_bytes w32 recent.0 ++ recent.1 ++ to_le_bytes w32 accounts.0 ++ accounts.1)
 

@@ -11,11 +11,8 @@ use json_parts::{
 };
 use serde_json::{Value, json};
 use snapshot_codec::{Batch, BatchFault, read_batch};
-use sol_base::Blob;
+use sol_base::{Blob, MAX_TRANSACTIONS};
 use std::alloc::{AllocError, Global};
-
-/// The most transactions of a batch.
-const MOST_TRANSACTIONS: usize = 16_384;
 
 /// The members of a batch.
 struct BatchNames;
@@ -95,7 +92,7 @@ fn spelled(alloc: Global, value: &Value) -> Result<Blob, JsonFault>
         alloc,
         value,
         "transactions",
-        MOST_TRANSACTIONS,
+        MAX_TRANSACTIONS,
     )?;
     let mut out = Blob::from_slice(alloc, b"SOLBATC1")?;
     out.append(&slot.to_le_bytes())?;

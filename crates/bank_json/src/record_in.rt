@@ -15,11 +15,8 @@ use json_parts::{
     list_member, number_member, refused, transaction,
 };
 use serde_json::Value;
-use sol_base::Blob;
+use sol_base::{Blob, MAX_TRANSACTIONS};
 use std::alloc::Global;
-
-/// The most entries of a record.
-const MOST_ENTRIES: usize = 16_384;
 
 /// The most lines of an entry, and the most bytes of a line.
 const MOST: usize = 65_535;
@@ -271,7 +268,7 @@ fn spelled(alloc: Global, value: &Value) -> Result<Blob, JsonFault>
     ensures { Gives is_json_memory (λ bytes. bytes) result (record_in (view value.now)) }
 {
     let heading = heading(alloc, value)?;
-    let (count, entries) = list_member::<Entries>(alloc, value, "entries", MOST_ENTRIES)?;
+    let (count, entries) = list_member::<Entries>(alloc, value, "entries", MAX_TRANSACTIONS)?;
     let closing = closing(alloc, value)?;
     let mut out = heading;
     out.append(&(count as u32).to_le_bytes())?;

@@ -12,21 +12,10 @@ use json_parts::{
     in_member, known, list_member, number_member, short_member,
 };
 use serde_json::Value;
-use snapshot_codec::{SnapshotFault, read_snapshot};
-use sol_base::{Blob, Limits, MAX_DATA_LEN, OutOfMemory};
+use snapshot_codec::{MAX_ACCOUNTS, SnapshotFault, read_snapshot};
+use sol_base::{Blob, Limits, MAX_BLOCK_UNITS, MAX_DATA_LEN, MAX_TRANSACTIONS, OutOfMemory};
+use status_cache::MAX_MARKS;
 use std::alloc::Global;
-
-/// The most blocks of a snapshot.
-const MOST_MARKS: usize = 150;
-
-/// The most messages of a block in a snapshot.
-const MOST_MESSAGES: usize = 16_384;
-
-/// The most accounts of a snapshot.
-const MOST_ACCOUNTS: usize = 4_194_304;
-
-/// The most compute units that limits may name.
-const MOST_UNITS: u64 = 1_000_000_000_000;
 
 /// The members of a block.
 struct MarkNames;
@@ -132,7 +121,7 @@ impl Part for Marks {
     fn read(alloc: Global, value: &Value) -> Result<Blob, JsonFault> {
         known::<MarkNames>(alloc, value)?;
         let hash = digits_member::<32>(alloc, value, "hash")?;
-        let (count, names) = list_member::<Hashes>(alloc, value, "messages", MOST_MESSAGES)?;
+        let (count, names) = list_member::<Hashes>(alloc, value, "messages", MAX_TRANSACTIONS)?;
         let mut out = Blob::from_slice(alloc, &hash)?;
         out.append(&(count as u32).to_le_bytes())?;
         out.append(names.as_slice())?;
@@ -183,8 +172,8 @@ fn limits(alloc: Global, value: &Value) -> Result<Blob, JsonFault>
     known::<LimitsNames>(alloc, value)?;
     let keys = short_member(alloc, value, "keys", 1, 128)?;
     let height = byte_member(alloc, value, "height", 1, 9)?;
-    let key_units = number_member(alloc, value, "key_units", 1, MOST_UNITS)?;
-    let block_units = number_member(alloc, value, "block_units", 1, MOST_UNITS)?;
+    let key_units = number_member(alloc, value, "key_units", 1, MAX_BLOCK_UNITS)?;
+    let block_units = number_member(alloc, value, "block_units", 1, MAX_BLOCK_UNITS)?;
     let limits = Limits {
         keys,
         height,
@@ -208,8 +197,8 @@ fn limits_member(alloc: Global, value: &Value) -> Result<Blob, JsonFault>
 fn sections(alloc: Global, value: &Value) -> Result<Blob, JsonFault>
     ensures { Gives is_json_memory (λ bytes. bytes) result (sections_in (view value.now)) }
 {
-    let (mark_count, marks) = list_member::<Marks>(alloc, value, "recent", MOST_MARKS)?;
-    let (count, accounts) = list_member::<KeyedAccounts>(alloc, value, "accounts", MOST_ACCOUNTS)?;
+    let (mark_count, marks) = list_member::<Marks>(alloc, value, "recent", MAX_MARKS)?;
+    let (count, accounts) = list_member::<KeyedAccounts>(alloc, value, "accounts", MAX_ACCOUNTS as usize)?;
     let mut out = Blob::from_slice(alloc, &(mark_count as u32).to_le_bytes())?;
     out.append(marks.as_slice())?;
     out.append(&(count as u32).to_le_bytes())?;

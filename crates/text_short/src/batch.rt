@@ -16,11 +16,8 @@ use crate::transaction::transaction;
 use json_parts::{JsonFault, array, found, in_item, in_member, number_member, value_of_text};
 use serde_json::Value;
 use snapshot_codec::{Batch, batch_bytes};
-use sol_base::{Blob, Hash32, Items};
+use sol_base::{Blob, Hash32, Items, MAX_TRANSACTIONS};
 use std::alloc::Global;
-
-/// The most transactions of a batch.
-const MOST_TRANSACTIONS: usize = 16_384;
 
 /// The transactions that the values stand for.
 fn transactions(
@@ -48,7 +45,7 @@ fn wires(alloc: Global, value: &Value, newest: Option<Hash32>) -> Result<Items<B
     ensures few { IfOk result (λ wires. length wires ≤ max_transactions) }
     ensures short { IfOk result (λ wires. All IsShortWire wires) }
 {
-    let values = array(alloc, value, MOST_TRANSACTIONS)?;
+    let values = array(alloc, value, MAX_TRANSACTIONS)?;
     transactions(alloc, values, newest)
 }
 
