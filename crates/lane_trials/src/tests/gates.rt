@@ -6,6 +6,9 @@ use std::thread;
 
 const TURNS: u64 = 10_000_000;
 
+/// More turns than a lane looks for before it sleeps.
+const DAWDLE: u64 = 2_000;
+
 /// Waits, for at most so many turns, until the flag is up. True where it was.
 pub fn wait_for(flag: &AtomicU64) -> bool {
     for _ in 0..TURNS {
@@ -58,5 +61,52 @@ impl Gate for KeepingGate {
 impl SendGate for KeepingGate {
     fn pass(&self, _sender: u32, position: u32) {
         self.keep(position);
+    }
+}
+
+/// Keeps the second of each three positions until the third has passed: so another lane has to come
+/// for the third. At the first it takes its time, so that the other lane sleeps.
+#[derive(Drop)]
+pub struct PairingGate {
+    passed: AtomicU64,
+    missed: AtomicU64,
+}
+
+impl PairingGate {
+    pub fn new() -> PairingGate {
+        PairingGate {
+            passed: AtomicU64::new(0),
+            missed: AtomicU64::new(0),
+        }
+    }
+
+    /// No turns were over before the third had passed.
+    pub fn were_paired(&self) -> bool {
+        self.missed.load(Ordering::SeqCst) == 0
+    }
+
+    /// Waits, for at most so many turns, until so many have passed.
+    fn wait_until(&self, many: u64) {
+        for _ in 0..TURNS {
+            if self.passed.load(Ordering::SeqCst) >= many {
+                return;
+            }
+            thread::yield_now();
+        }
+        self.missed.store(1, Ordering::SeqCst);
+    }
+}
+
+impl Gate for PairingGate {
+    fn pass(&self, _lane: u32, position: u32) {
+        if position % 3 == 0 {
+            for _ in 0..DAWDLE {
+                thread::yield_now();
+            }
+        } else if position % 3 == 1 {
+            self.wait_until((position / 3) as u64 + 1);
+        } else {
+            self.passed.fetch_add(1, Ordering::SeqCst);
+        }
     }
 }
