@@ -1,0 +1,5 @@
+pub mod Counts
+pub mod Names
+pub mod Files
+pub mod Crash
+pub mod Placing

@@ -1,0 +1,10 @@
+mod Telling
+mod Same
+mod Crashes
+mod Differences
+mod Lists
+mod Files
+mod Added
+mod Begun
+mod MarkTests
+pub mod Survived

@@ -1,0 +1,12 @@
+use Rattle.std.proofs.Common.{ℕ, List, ◌++◌, ap}
+use Rattle.std.specs.List.{flat_map}
+use Rattle.std.proofs.lemmas.Result.{on_ok_weaker}
+use Rattle.sol_base.specs.Keys.{key_bytes}
+use Rattle.format_fields.proofs.Adding.{Adds-then, Adds-as}
+use Rattle.ledger_store.proofs.changes.write_gone.Goals as goal
+
+pub returns : goal.returns
+returns g c =
+    on_ok_weaker c.write_keys.result
+    (λ last. Adds-as (Adds-then c.in_ok-append.ensures.ok last) (ap (λ (l : List ℕ). l ++ flat_map key_bytes c.args.gone.now) c.to_le_bytes.ensures))
+    c.write_keys.ensures

@@ -1,0 +1,41 @@
+-- Files of blocks: the record, and behind it how many microseconds the block took to run (the
+-- project's own).
+use Rattle.std.specs.Prelude.{ℕ, List, ◌++◌, length, drop, Option, Result, Ok}
+use Rattle.std.specs.Int.{w64, to_le_bytes}
+use Rattle.spec_base.specs.Reading.{◌>>=◌, number_at, whole}
+use Rattle.block_record.specs.declared.block.Block.{Block as BlockValue}
+use Rattle.block_record.specs.Record.{bytes_of_record}
+use Rattle.block_record.specs.RecordReading.{front_of}
+use Rattle.ledger_folder.specs.declared.name.Name.TheVariants.{Block}
+use Rattle.ledger_store.specs.declared.block.Kept.{Kept}
+use Rattle.ledger_store.specs.declared.fault.FieldFault.{FieldFault}
+use Rattle.ledger_store.specs.declared.fault.FieldFault.TheVariants.{Field}
+use Rattle.ledger_store.specs.declared.fault.LedgerFault.{LedgerFault}
+use Rattle.ledger_store.specs.declared.fault.LedgerFault.TheVariants.{Missing}
+use Rattle.ledger_store.specs.Faults.{field_fault, record_refusal, found_or, or_fault}
+use Rattle.ledger_store.specs.Seal.{body_of}
+use Rattle.ledger_store.specs.States.{ok_at_slot}
+
+abbrev pub kept_bytes : BlockValue → ℕ → List ℕ
+kept_bytes block micros = bytes_of_record block ++ to_le_bytes w64 micros
+
+unfoldable pub micros_of : ℕ → List ℕ → Result ℕ FieldFault
+micros_of total bytes = do
+  micros ← number_at Field w64 total bytes
+  whole Field total micros
+
+unfoldable pub whole_block : ℕ → List ℕ → Result Kept LedgerFault
+whole_block slot body = do
+  front ← or_fault (record_refusal (Block slot)) (front_of body)
+  block ← ok_at_slot (Block slot) slot front.block.slot front.block
+  micros ← or_fault (field_fault (Block slot)) (micros_of (length body) (drop front.length body))
+  Ok (record { block = block; micros = micros })
+
+-- the file
+unfoldable pub block_from : ℕ → List ℕ → Result Kept LedgerFault
+block_from slot file = do
+  body ← body_of (Block slot) file
+  whole_block slot body
+
+abbrev pub block_in : ℕ → Option (List ℕ) → Result Kept LedgerFault
+block_in slot found = found_or (Missing (Block slot)) found >>= block_from slot

@@ -1,0 +1,139 @@
+-- What a block changed: as a value, as bytes, and put into the state before it (the project's own).
+use Rattle.std.specs.Prelude.{ℕ, ◌+◌, ◌-◌, ◌^◌, ◌==◌, nat_le, nat_eq, List, [], ◌∷◌, ◌++◌, length, take, drop, map, filter, Bool, false, not, is_none, ◌&&◌, if◌then◌else◌, Option, Some, None, Result, Ok}
+use mathlib.Core.Bool.{beq}
+use Rattle.std.specs.Int.{w32, w64, to_le_bytes}
+use Rattle.std.specs.List.{flat_map}
+use Rattle.std.specs.Cmp.Lexicographic.{pointwise}
+use Rattle.std.specs.FinMap as finite
+use Rattle.spec_base.specs.Reading.{◌>>=◌, number_at, many, ok_if, read_if, whole}
+use Rattle.sol_base.specs.declared.key.Key.{Key}
+use Rattle.sol_base.specs.declared.account.Account.{Account}
+use Rattle.sol_base.specs.Keys.{key_bytes, same_key}
+use Rattle.format_fields.specs.Fields.{key_at}
+use Rattle.status_cache.specs.declared.recent.Mark.{Mark}
+use Rattle.status_cache.specs.Recent.{max_marks}
+use Rattle.account_store.specs.State.{State, entries, get, len, put, remove, sum}
+use Rattle.snapshot_codec.specs.declared.snapshot.Snapshot.{Snapshot}
+use Rattle.snapshot_codec.specs.Snapshot.{max_accounts, snapshot_bytes}
+use Rattle.ledger_folder.specs.declared.name.Name.TheVariants.{Changes as changes_name}
+use Rattle.ledger_store.specs.declared.changes.Changes.{Changes}
+use Rattle.ledger_store.specs.declared.fault.FieldFault.{FieldFault}
+use Rattle.ledger_store.specs.declared.fault.FieldFault.TheVariants.{Field}
+use Rattle.ledger_store.specs.declared.fault.LedgerFault.{LedgerFault}
+use Rattle.ledger_store.specs.declared.fault.LedgerFault.TheVariants.{Missing, Damaged}
+use Rattle.ledger_store.specs.Faults.{field_fault, found_or, or_fault}
+use Rattle.ledger_store.specs.Seal.{body_of}
+use Rattle.ledger_store.specs.States.{front_in, ok_at_slot}
+
+-- ---- as a value
+-- all fields are the same
+abbrev pub same_account : Account → Account → Bool
+same_account a b =
+    a.lamports == b.lamports && same_key a.owner b.owner && beq a.executable b.executable
+    && pointwise nat_eq a.bytes b.bytes
+
+-- the account stands there unchanged
+abbrev pub is_kept : Option Account → Account → Bool
+is_kept None account = false
+is_kept (Some before) account = same_account before account
+
+-- the accounts that are new or otherwise than before
+abbrev pub left_by : State → State → List (Key × Account)
+left_by before after = filter (λ e. not (is_kept (get before e.0) e.1)) (entries after)
+
+-- the keys whose accounts are gone
+abbrev pub gone_by : State → State → List Key
+gone_by before after =
+    map (λ e. e.0) (filter (λ e. is_none (get after e.0)) (entries before))
+
+-- what lies between two snapshots; of the head the newest mark alone
+abbrev pub changes_between : Snapshot → Snapshot → Changes
+changes_between before after = record {
+  left = record {
+    slot = after.slot;
+    limits = after.limits;
+    recent = take 1 after.recent;
+    accounts = finite.from_entries (left_by before.accounts after.accounts);
+  };
+  gone = gone_by before.accounts after.accounts;
+}
+
+-- ---- as bytes
+abbrev pub gone_bytes : List Key → List ℕ
+gone_bytes keys = to_le_bytes w32 (length keys) ++ flat_map key_bytes keys
+
+-- with the slot before the block
+abbrev pub changes_bytes : ℕ → Changes → List ℕ
+changes_bytes before changes =
+    snapshot_bytes changes.left ++ (to_le_bytes w64 before ++ gone_bytes changes.gone)
+
+unfoldable pub gone_at : ℕ → List ℕ → Result (List Key × List ℕ) FieldFault
+gone_at total bytes = do
+  count ← number_at Field w32 total bytes
+  many (key_at Field total) count.0 count.1
+
+-- the slot before the block, which is that of the state that the changes are put into
+unfoldable pub before_at : ℕ → ℕ → List ℕ → Result (ℕ × List ℕ) FieldFault
+before_at before total bytes =
+    read_if Field (λ n. n == before) (number_at Field w64 total) total bytes
+
+unfoldable pub gone_of : ℕ → ℕ → List ℕ → Result (List Key) FieldFault
+gone_of before total bytes = do
+  from ← before_at before total bytes
+  gone ← gone_at total from.1
+  whole Field total gone
+
+unfoldable pub whole_changes : ℕ → ℕ → List ℕ → Result Changes LedgerFault
+whole_changes slot before body = do
+  prefix ← front_in (changes_name slot) body
+  left ← ok_at_slot (changes_name slot) slot prefix.snapshot.slot prefix.snapshot
+  gone ← or_fault (field_fault (changes_name slot)) (gone_of before (length body) (drop prefix.length body))
+  Ok (record { left = left; gone = gone })
+
+-- the file
+unfoldable pub changes_from : ℕ → ℕ → List ℕ → Result Changes LedgerFault
+changes_from slot before file = do
+  body ← body_of (changes_name slot) file
+  whole_changes slot before body
+
+abbrev pub changes_in : ℕ → ℕ → Option (List ℕ) → Result Changes LedgerFault
+changes_in slot before found =
+    found_or (Missing (changes_name slot)) found >>= changes_from slot before
+
+-- ---- put into a state
+-- accounts without those of the keys
+abbrev pub without : List Key → State → State
+without [] s = s
+without (key ∷ keys) s = without keys (remove s key)
+
+-- with these accounts, unless they come to more lamports than there can be
+abbrev pub with_accounts : List (Key × Account) → State → Option State
+with_accounts [] s = Some s
+with_accounts (e ∷ es) s =
+    if nat_le (sum s + e.1.lamports) (2 ^ 64 - 1) then with_accounts es (put s e.0 e.1) else None
+
+-- the marks with the newest first
+abbrev pub next_recent : List Mark → List Mark → List Mark
+next_recent [] before = before
+next_recent (mark ∷ _) before = take max_marks (mark ∷ before)
+
+-- All keys that changed are taken out before any account is put in, so that there are never more
+-- lamports than in the end.
+abbrev pub next_accounts : Changes → State → Option State
+next_accounts changes before =
+    with_accounts (entries changes.left.accounts)
+    (without (map (λ e. e.0) (entries changes.left.accounts)) (without changes.gone before))
+
+abbrev pub next_snapshot : Changes → Snapshot → State → Snapshot
+next_snapshot changes before accounts = record {
+  slot = changes.left.slot;
+  limits = changes.left.limits;
+  recent = next_recent changes.left.recent before.recent;
+  accounts = accounts;
+}
+
+-- the snapshot after the block of the slot
+unfoldable pub next_of : ℕ → Changes → Snapshot → Result Snapshot LedgerFault
+next_of slot changes before = do
+  accounts ← found_or (Damaged (changes_name slot) 0) (next_accounts changes before.accounts)
+  ok_if (nat_le (len accounts) max_accounts) (Damaged (changes_name slot) 0) (next_snapshot changes before accounts)

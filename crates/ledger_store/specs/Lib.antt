@@ -1,0 +1,10 @@
+pub mod Faults
+pub mod Seal
+pub mod Heads
+pub mod States
+pub mod Changes
+pub mod Blocks
+pub mod Opening
+pub mod Reading
+pub mod Adding
+pub mod Marks
