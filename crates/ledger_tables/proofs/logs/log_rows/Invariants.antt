@@ -1,0 +1,8 @@
+use Rattle.std.proofs.Common.{◌≡◌, take}
+use Rattle.std.specs.List.{enumerate_from, flat_map}
+use Rattle.ledger_tables.specs.Rows.{lines_of_entry}
+use Rattle.ledger_tables.proofs.logs.log_rows.Given as goal
+
+-- the rows so far
+abbrev pub invariant-loop-position : goal.invariant-loop-position
+invariant-loop-position l = l.rows ≡ flat_map (lines_of_entry l.block.slot) (enumerate_from 0 (take l.position l.entries))

@@ -1,0 +1,6 @@
+pub mod Texts
+pub mod Rows
+pub mod Totals
+pub mod Columns
+pub mod Faults
+pub mod Statements
