@@ -34,8 +34,8 @@ def snapshot(accounts, key_units=KEY_UNITS, block_units=BLOCK_UNITS):
     yield from accounts
 
 
-def batch(count, transactions):
-    yield b'SOLBATC1' + struct.pack('<Q', 1) + key('collector') + struct.pack('<I', count)
+def batch(count, transactions, slot=1):
+    yield b'SOLBATC1' + struct.pack('<Q', slot) + key('collector') + struct.pack('<I', count)
     yield from transactions
 
 
@@ -43,9 +43,9 @@ def wire(message):
     return struct.pack('<H', 65 + len(message)) + b'\x01' + bytes(64) + message
 
 
-def transaction(payer, other, program, accounts, data, units):
+def transaction(payer, other, program, accounts, data, units, mark=MARK):
     """A unit limit, then one instruction of `program`. Keys 0 and 1 are written."""
-    message = bytes([1, 0, 2, 4]) + payer + other + program + BUDGET + MARK
+    message = bytes([1, 0, 2, 4]) + payer + other + program + BUDGET + mark
     message += bytes([2, 3, 0, 5, 2]) + struct.pack('<I', units)
     message += bytes([2, len(accounts)]) + accounts + bytes([len(data)]) + data
     return wire(message)
@@ -56,8 +56,8 @@ def nothing(*keys):
     return wire(bytes([1, 0, 0, len(keys)]) + b''.join(keys) + MARK + b'\x00')
 
 
-def transfer(payer, to):
-    return transaction(payer, to, SYSTEM, bytes([0, 1]), struct.pack('<IQ', 2, 1), TRANSFER_UNITS)
+def transfer(payer, to, mark=MARK):
+    return transaction(payer, to, SYSTEM, bytes([0, 1]), struct.pack('<IQ', 2, 1), TRANSFER_UNITS, mark)
 
 
 def made(program, count):
@@ -66,11 +66,21 @@ def made(program, count):
     yield subprocess.run(words, stdout=subprocess.PIPE, check=True).stdout
 
 
+def users(count):
+    """A snapshot of so many who pay, and so many who are paid."""
+    both = [account(key(kind, n)) for n in range(count) for kind in ('payer', 'payee')]
+    yield from snapshot(both + [account(key('collector'))])
+
+
+def transfers(count, slot=1, mark=MARK):
+    """Transfers from keys of their own to keys of their own, which name a block's hash."""
+    yield from batch(count, (transfer(key('payer', n), key('payee', n), mark) for n in range(count)), slot)
+
+
 def independent(count):
-    """Transfers from keys of their own to keys of their own."""
-    users = [account(key(kind, n)) for n in range(count) for kind in ('payer', 'payee')]
-    yield from snapshot(users + [account(key('collector'))])
-    yield from batch(count, (transfer(key('payer', n), key('payee', n)) for n in range(count)))
+    """The same over their snapshot."""
+    yield from users(count)
+    yield from transfers(count)
 
 
 def hot(count):

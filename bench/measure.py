@@ -106,6 +106,13 @@ def find_text_program():
     return found('bank_text', ['why'])
 
 
+def find_chain_program():
+    """The program for chains: that of the variable CHAIN_PROGRAM, or the one that ./bank runs."""
+    if os.environ.get('CHAIN_PROGRAM'):
+        return str(pathlib.Path(os.environ['CHAIN_PROGRAM']).resolve())
+    return found('bank_ledger', ['chain', '--version'])
+
+
 def plain_program():
     """The plain program, built where its source changed; None where there is no rustc."""
     source, built, mark = BENCH / 'plain' / 'plain.rs', OUT / 'plain', OUT / 'plain.of'

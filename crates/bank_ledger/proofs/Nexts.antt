@@ -1,0 +1,51 @@
+-- The block of a batch, as the one that is added to a chain.
+use Rattle.std.proofs.Common.{◌≡◌, ◌≤◌, ℕ, List, length, refl, sym, subst}
+use Rattle.std.specs.List.{AllByRecursion}
+use Rattle.std.proofs.lemmas.List.Elements.{All-from_recursion}
+use Rattle.spec_base.specs.Bytes.{IsBytes}
+use Rattle.sol_base.specs.Limits.{max_transactions}
+use Rattle.account_store.specs.State.{len}
+use Rattle.snapshot_codec.specs.declared.batch.Batch.{Batch}
+use Rattle.snapshot_codec.specs.declared.snapshot.Snapshot.{Snapshot}
+use Rattle.snapshot_codec.specs.Snapshot.{HasWidths, IsReadable, max_accounts}
+use Rattle.block_run.specs.declared.block.BlockResult.{BlockResult}
+use Rattle.block_run.specs.Answers.{IsBlockResult}
+use Rattle.block_run.specs.Blocks.{block_result, closed}
+use Rattle.block_laws.specs.Chain.{NextBlocksCanBeRun}
+use Rattle.ledger_folder.specs.declared.event.Event.{Event}
+use Rattle.ledger_folder.specs.Crash.{LeavesOnly}
+use Rattle.ledger_store.specs.declared.opening.Ledger.{Ledger}
+use Rattle.ledger_store.specs.Adding.{Follows, IsBeforeOrAfter}
+use Rattle.ledger_store.specs.Reading.{IsOpen}
+use Rattle.ledger_store.proofs.Survived.{unchanged}
+use Rattle.bank_ledger.specs.Batches.{IsWithBatchOrNot}
+
+block_follows : (s : Snapshot) (batch : Batch) → Follows s (block_result s batch).block (block_result s batch).after
+unfolding block_result closed
+block_follows s batch = record { slot = refl; recent = refl }
+
+-- what the batch comes to follows the state that it was run over
+pub result_follows : (s : Snapshot) (batch : Batch) (answer : BlockResult) → IsBlockResult (block_result s batch) answer → Follows s answer.block answer.after
+result_follows s batch answer is = subst (λ (r : BlockResult). Follows s r.block r.after) (sym is.exact) (block_follows s batch)
+
+-- and the next block can be run over it, where it has no more accounts than a snapshot may
+pub result_readable : (law : NextBlocksCanBeRun) (s : Snapshot) (batch : Batch) (answer : BlockResult) → IsReadable s → AllByRecursion IsBytes batch.wires → length batch.wires ≤ max_transactions
+    → IsBlockResult (block_result s batch) answer → len answer.after.accounts ≤ max_accounts → IsReadable answer.after
+result_readable law s batch answer readable bytes few is fits =
+    subst (λ (r : BlockResult). IsReadable r.after) (sym is.exact)
+    (law s batch (readable, All-from_recursion IsBytes batch.wires bytes) few
+    (subst (λ (r : BlockResult). len r.after.accounts ≤ max_accounts) is.exact fits)).readable
+
+-- where nothing was added, a crash leaves the chain as it was
+pub nothing_added : (ledger : Ledger) (batch : Batch) (old : List Event) → IsOpen old ledger → LeavesOnly old old (IsWithBatchOrNot ledger batch)
+nothing_added ledger batch old is_open disk shows later since h crashed leaves =
+    (0, unchanged ledger (block_result ledger.newest batch).block (block_result ledger.newest batch).after 0 old old is_open refl disk shows later since h crashed leaves)
+
+-- where what the batch comes to was added, that of the chain before or after it
+pub batch_added : (ledger : Ledger) (batch : Batch) (answer : BlockResult) (micros : ℕ) (old new : List Event) → IsBlockResult (block_result ledger.newest batch) answer
+    → HasWidths (block_result ledger.newest batch).after
+    → (HasWidths answer.after → LeavesOnly old new (IsBeforeOrAfter ledger answer.block answer.after micros))
+    → LeavesOnly old new (IsWithBatchOrNot ledger batch)
+batch_added ledger batch answer micros old new is has leaves_only disk shows later since h crashed leaves =
+    let had : HasWidths answer.after = subst (λ (r : BlockResult). HasWidths r.after) (sym is.exact) has in
+    (micros, subst (λ (r : BlockResult). IsBeforeOrAfter ledger r.block r.after micros disk crashed) is.exact (leaves_only had disk shows later since h crashed leaves))

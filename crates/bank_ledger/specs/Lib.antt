@@ -1,0 +1,3 @@
+pub mod Batches
+pub mod Crew
+pub mod Given

@@ -1,0 +1,96 @@
+//! The command `new`: a chain that begins with a snapshot.
+ghost use Rattle.std.specs.Prelude.{◌≤◌, IfOk};
+ghost use Rattle.snapshot_codec.specs.Snapshot.{IsReadable};
+ghost use Rattle.bank_ledger.specs.Given.{IfValue};
+
+use crate::answer::{Answer, INPUT_REFUSED, WRITE_FAILED, noted, written};
+use crate::chain::{locked, refused};
+use crate::input::{Given, standard_input};
+use ledger_folder::{Folder, StdFolder, make_folder};
+use ledger_store::{LedgerFault, create};
+use snapshot_codec::{Prefix, Snapshot, SnapshotFault, read_snapshot};
+use sol_base::OutOfMemory;
+use std::alloc::Global;
+use std::io::ErrorKind;
+use std::rt::Files;
+
+/// The snapshot that the bytes are, all of them.
+fn whole_snapshot(alloc: Global, bytes: &[u8]) -> Result<Given<Snapshot>, OutOfMemory>
+    ensures { IfOk result (IfValue IsReadable) }
+{
+    let Prefix { snapshot, length } = match read_snapshot(alloc, bytes) {
+        Ok(prefix) => prefix,
+        Err(SnapshotFault::OutOfMemory) => return Err(OutOfMemory),
+        Err(fault) => {
+            let text = fault.to_string(alloc)?;
+            let told = noted(alloc, INPUT_REFUSED, "snapshot", text.as_str())?;
+            return Ok(Given::Nothing(told));
+        }
+    };
+    if length < bytes.len() {
+        let text = format!(in alloc; "bytes follow it from byte {length} on")?;
+        let told = noted(alloc, INPUT_REFUSED, "snapshot", text.as_str())?;
+        return Ok(Given::Nothing(told));
+    }
+    Ok(Given::Value(snapshot))
+}
+
+/// Begins a chain. What the folder's files are is on the disk before: whoever wrote last may have ended
+/// between a move and the sync of the folder.
+fn create_synced<F: Folder>(
+    alloc: Global,
+    files: &mut F,
+    snapshot: &Snapshot,
+    every: u32,
+) -> Result<(), LedgerFault>
+    requires every { 1 ≤ every }
+    requires readable { IsReadable snapshot.now }
+{
+    files.sync_folder()?;
+    create(alloc, files, snapshot, every)
+}
+
+/// Makes the folder, unless it is there, and what the chain begins with.
+fn begin<R: Files + AllocGlobal + Clone + Drop>(
+    rt: &R,
+    folder: &str,
+    snapshot: &Snapshot,
+    every: u32,
+) -> Result<Answer, OutOfMemory>
+    requires every { 1 ≤ every }
+    requires readable { IsReadable snapshot.now }
+{
+    let alloc = rt.alloc();
+    match make_folder(rt, folder) {
+        Ok(()) => {}
+        Err(e) if e.kind() == ErrorKind::OutOfMemory => return Err(OutOfMemory),
+        Err(_) => return noted(alloc, WRITE_FAILED, "chain", "its folder cannot be made"),
+    }
+    let _lock = match locked(rt, folder)? {
+        Given::Value(lock) => lock,
+        Given::Nothing(told) => return Ok(told),
+    };
+    let mut files = StdFolder::new(rt, folder)?;
+    match create_synced(alloc, &mut files, snapshot, every) {
+        Ok(()) => written(alloc, b""),
+        Err(fault) => refused(alloc, WRITE_FAILED, fault),
+    }
+}
+
+/// The answer to `new`.
+pub(crate) fn begun<R: Files + Input + AllocGlobal + Clone + Drop>(
+    rt: &R,
+    folder: &str,
+    every: u32,
+) -> Result<Answer, OutOfMemory>
+    requires { 1 ≤ every }
+{
+    let input = match standard_input(rt)? {
+        Given::Value(input) => input,
+        Given::Nothing(told) => return Ok(told),
+    };
+    match whole_snapshot(rt.alloc(), input.as_slice())? {
+        Given::Value(snapshot) => begin(rt, folder, &snapshot, every),
+        Given::Nothing(told) => Ok(told),
+    }
+}

@@ -1,0 +1,195 @@
+//! The command `check`: blocks are replayed, several at once, and the first difference is told.
+ghost use Rattle.std.specs.Prelude.{◌≤◌};
+
+use crate::answer::{Answer, DIFFERS, INPUT_REFUSED, noted, written};
+use crate::chain::{OpenChain, open_chain, unread};
+use crate::replaying::{Cause, Range, Shared, Stop, replay_pieces};
+use block_replay::{Field, OF_BLOCK};
+use ledger_store::Head;
+use sol_base::{Blob, OutOfMemory};
+use std::alloc::Global;
+use std::sync::Wait;
+use std::sync::atomic::{AtomicBool, AtomicU64};
+use std::thread::{Threads, for_each_mut};
+
+/// Which blocks are replayed, and how.
+#[derive(Clone, Copy)]
+pub(crate) struct Wanted {
+    /// The slots of the first and the last; those of the chain where none are given.
+    pub(crate) from: Option<u64>,
+    pub(crate) to: Option<u64>,
+    /// How many are replayed at once.
+    pub(crate) jobs: u32,
+    /// Whether it is shown how far the replay has come.
+    pub(crate) shows: bool,
+}
+
+/// How many pieces there are for each of those who replay, so that they end at about the same time.
+const PIECES: usize = 8;
+
+/// The one who replays, and where it stopped.
+#[derive(Drop)]
+struct Seat {
+    stop: Option<Stop>,
+}
+
+/// Whether a slot is within what is wanted.
+fn is_wanted(wanted: &Wanted, slot: u64) -> bool {
+    let from = wanted.from.unwrap_or(0);
+    let to = wanted.to.unwrap_or(u64::MAX);
+    from <= slot && slot <= to
+}
+
+/// The places of the blocks that are wanted: the first, and the one behind the last.
+fn wanted_places(head: &Head, wanted: &Wanted) -> (usize, usize) {
+    let slots = head.slots.as_slice();
+    let first = slots
+        .iter()
+        .take_while(|slot| **slot < wanted.from.unwrap_or(0))
+        .count();
+    let count = slots
+        .iter()
+        .filter(|slot| is_wanted(wanted, **slot))
+        .count();
+    (first, first.saturating_add(count))
+}
+
+/// The stop that comes first in the chain.
+fn first_stop(seats: Vec<Seat>) -> Option<Stop> {
+    let mut first: Option<Stop> = None;
+    for seat in seats {
+        let Seat { stop } = seat;
+        if let Some(stop) = stop {
+            let is_first = match &first {
+                Some(other) => stop.place < other.place,
+                None => true,
+            };
+            if is_first {
+                first = Some(stop);
+            }
+        }
+    }
+    first
+}
+
+/// Replays a range by so many at once.
+fn replay_range<T: Threads + Wait + Sync>(
+    rt: &HostRuntime,
+    threads: &T,
+    range: &Range<'_>,
+    jobs: usize,
+) -> Result<Option<Stop>, OutOfMemory>
+    requires { 1 ≤ range.now.head.now.every }
+{
+    let shared = Shared {
+        taken: AtomicU64::new(0),
+        replayed: AtomicU64::new(0),
+        stopped: AtomicBool::new(false),
+    };
+    let mut seats = Vec::with_capacity(rt.alloc(), jobs)?;
+    for _ in 0..jobs {
+        seats.push(Seat { stop: None })?;
+    }
+    if jobs > 0 {
+        for_each_mut(
+            threads,
+            seats.as_mut_slice(),
+            jobs,
+            &|_at: usize, seat: &mut Seat|
+                requires { 1 ≤ range.now.head.now.every }
+            { seat.stop = replay_pieces(rt, threads, range, &shared) },
+        );
+    }
+    Ok(first_stop(seats))
+}
+
+/// Where a record differs: in the block, or in an entry.
+fn place_text(alloc: Global, entry: u32, field: Field) -> Result<String, OutOfMemory> {
+    let name = field.name();
+    if entry == OF_BLOCK {
+        return Ok(format!(in alloc; "block {name}")?);
+    }
+    Ok(format!(in alloc; "entry {entry} {name}")?)
+}
+
+fn differs(alloc: Global, slot: u64, what: &str) -> Result<Answer, OutOfMemory> {
+    let line = format!(in alloc; "differ slot {slot} {what}\n")?;
+    Ok(Answer {
+        status: DIFFERS,
+        output: Blob::from_slice(alloc, line.as_bytes())?,
+        notes: Blob::new(alloc),
+    })
+}
+
+/// The answer where the replay stopped at the block of a slot.
+fn told_stop(alloc: Global, slot: u64, cause: Cause) -> Result<Answer, OutOfMemory> {
+    match cause {
+        Cause::Record { entry, field } => {
+            let what = place_text(alloc, entry, field)?;
+            differs(alloc, slot, what.as_str())
+        }
+        Cause::Kept => differs(alloc, slot, "kept state"),
+        Cause::Refused(fault) => unread(alloc, fault),
+        Cause::OutOfMemory => Err(OutOfMemory),
+    }
+}
+
+/// Replays what is wanted of an open chain.
+fn check_chain<T: Threads + Wait + Sync>(
+    rt: &HostRuntime,
+    threads: &T,
+    folder: &str,
+    head: &Head,
+    wanted: &Wanted,
+) -> Result<Answer, OutOfMemory>
+    requires { 1 ≤ head.now.every }
+{
+    let alloc = rt.alloc();
+    let (first, end) = wanted_places(head, wanted);
+    let slots = head.slots.as_slice();
+    let (Some(from), Some(to)) = (slots.get(first), slots.get(end.saturating_sub(1))) else {
+        return noted(alloc, INPUT_REFUSED, "chain", "it has no such blocks");
+    };
+    if first >= end {
+        return noted(alloc, INPUT_REFUSED, "chain", "it has no such blocks");
+    }
+    let jobs = wanted.jobs as usize;
+    let range = Range {
+        folder,
+        head,
+        first,
+        end,
+        piece: (end - first)
+            .div_ceil(jobs.saturating_mul(PIECES).max(1))
+            .max(1),
+        shows: wanted.shows,
+    };
+    let stop = replay_range(rt, threads, &range, jobs)?;
+    if wanted.shows {
+        let _ = eprintln!(rt; "");
+    }
+    match stop {
+        Some(Stop { place, cause }) => {
+            let slot = slots.get(place).copied().unwrap_or(0);
+            told_stop(alloc, slot, cause)
+        }
+        None => {
+            let count = range.len();
+            let line = format!(in alloc; "match blocks {count} from {from} to {to}\n")?;
+            written(alloc, line.as_bytes())
+        }
+    }
+}
+
+/// The answer to `check`.
+pub(crate) fn checked<T: Threads + Wait + Sync>(
+    rt: &HostRuntime,
+    threads: &T,
+    folder: &str,
+    wanted: &Wanted,
+) -> Result<Answer, OutOfMemory> {
+    match open_chain(rt, folder) {
+        Ok(OpenChain { files: _, head }) => check_chain(rt, threads, folder, &head, wanted),
+        Err(fault) => unread(rt.alloc(), fault),
+    }
+}

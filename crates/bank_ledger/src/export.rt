@@ -1,0 +1,186 @@
+//! The command `export`: a chain as the tables of a SQLite file.
+ghost use Rattle.std.specs.Prelude.{◌≤◌, IfOk};
+ghost use Rattle.snapshot_codec.specs.Snapshot.{IsReadable};
+
+use crate::answer::{Answer, INPUT_REFUSED, WRITE_FAILED, noted, written};
+use crate::chain::{OpenChain, copied, open_chain, state_after, unread};
+use ledger_folder::Folder;
+use ledger_store::{Changes, Head, Kept, LedgerFault, changes_between, next_state, read_block};
+use ledger_tables::{
+    TablesFault, account_rows, add_accounts, add_block, add_indexes, add_tables, block_rows,
+};
+use snapshot_codec::Snapshot;
+use sol_base::OutOfMemory;
+use sqlite::{Alter, Connection, Error as SqlError, ErrorCode};
+use std::alloc::{AllocError, Global};
+use std::fs;
+use std::rt::Files;
+
+/// Why a chain does not become tables.
+#[derive(Drop)]
+enum Stop {
+    /// A file of the chain cannot be read.
+    Chain(LedgerFault),
+    /// The tables do not take it.
+    Tables(TablesFault),
+}
+
+impl From<LedgerFault> for Stop {
+    fn from(fault: LedgerFault) -> Stop {
+        Stop::Chain(fault)
+    }
+}
+
+impl From<TablesFault> for Stop {
+    fn from(fault: TablesFault) -> Stop {
+        Stop::Tables(fault)
+    }
+}
+
+impl From<OutOfMemory> for Stop {
+    fn from(_e: OutOfMemory) -> Stop {
+        Stop::Tables(TablesFault::OutOfMemory)
+    }
+}
+
+/// Adds the block at a place of the chain, over the state before it, and answers the state after it.
+fn add_place<F: Folder, S: Alter>(
+    alloc: Global,
+    files: &mut F,
+    head: &Head,
+    conn: &mut Connection<S>,
+    place: usize,
+    before: Snapshot,
+) -> Result<Snapshot, Stop>
+    requires every { 1 ≤ head.now.every }
+    requires before { IsReadable before }
+    ensures { IfOk result IsReadable }
+{
+    if head.slots.len() <= place {
+        return Ok(before);
+    }
+    let slot = head.slots.as_slice()[place];
+    let Kept { block, micros } = read_block(alloc, files, slot)?;
+    let start = copied(alloc, &before)?;
+    let after = next_state(alloc, files, head, place, before)?;
+    let Changes { left, gone } = changes_between(alloc, &start, &after)?;
+    let rows = block_rows(
+        alloc,
+        &start.accounts,
+        &block,
+        micros,
+        &left.accounts,
+        gone.as_slice(),
+    )?;
+    add_block(conn, &rows)?;
+    Ok(after)
+}
+
+/// Adds the whole chain: the accounts that it begins with, and then its blocks.
+fn add_chain<F: Folder, S: Alter>(
+    alloc: Global,
+    files: &mut F,
+    head: &Head,
+    conn: &mut Connection<S>,
+) -> Result<(), Stop>
+    requires { 1 ≤ head.now.every }
+{
+    add_tables(conn)?;
+    let mut state = state_after(alloc, files, head, 0)?;
+    let rows = account_rows(alloc, head.start, &state.accounts)?;
+    add_accounts(conn, rows.as_slice())?;
+    drop(rows);
+    for place in 0..head.slots.len() {
+        state = add_place(alloc, files, head, conn, place, state)?;
+    }
+    add_indexes(conn)?;
+    Ok(())
+}
+
+/// Makes a new file with the tables. Its log is copied into it.
+fn make_tables<R: Files + AllocGlobal + Clone + Drop>(
+    host: &HostRuntime,
+    chain: &mut OpenChain<R>,
+    path: &str,
+) -> Result<(), Stop>
+    requires { 1 ≤ chain.old.head.every }
+{
+    let mut conn = match Connection::open(host, path) {
+        Ok(conn) => conn,
+        Err(error) => return Err(Stop::Tables(TablesFault::from(error))),
+    };
+    add_chain(host.alloc(), &mut chain.files, &chain.head, &mut conn)?;
+    match conn.close() {
+        Ok(()) => Ok(()),
+        Err(error) => Err(Stop::Tables(TablesFault::from(error))),
+    }
+}
+
+/// The names of the file that is written, and of the log beside it.
+#[derive(Drop)]
+struct Parts {
+    file: String,
+    log: String,
+}
+
+fn parts_of(alloc: Global, file: &str) -> Result<Parts, AllocError> {
+    Ok(Parts {
+        file: format!(in alloc; "{file}.part")?,
+        log: format!(in alloc; "{file}.part-wal")?,
+    })
+}
+
+/// Removes what an earlier export has left.
+fn remove<R: Files>(rt: &R, parts: &Parts) {
+    let _ = fs::remove_file(rt, parts.file.as_str());
+    let _ = fs::remove_file(rt, parts.log.as_str());
+}
+
+/// The answer where a chain does not become tables.
+fn stopped(alloc: Global, file: &str, stop: Stop) -> Result<Answer, OutOfMemory> {
+    match stop {
+        Stop::Chain(fault) => unread(alloc, fault),
+        Stop::Tables(TablesFault::OutOfMemory) => Err(OutOfMemory),
+        Stop::Tables(
+            TablesFault::Sql {
+                error: SqlError::SqliteFailure(ErrorCode::OutOfMemory),
+            },
+        ) => Err(OutOfMemory),
+        Stop::Tables(TablesFault::TooLarge { number }) => {
+            let text = format!(in alloc; "{number} is above what a table can hold")?;
+            noted(alloc, INPUT_REFUSED, "chain", text.as_str())
+        }
+        Stop::Tables(fault) => {
+            noted(alloc, WRITE_FAILED, file, fault.to_string(alloc)?.as_str())
+        }
+    }
+}
+
+/// The answer to `export`. The file is new, and is there whole or not at all.
+pub(crate) fn exported<R: Files + AllocGlobal + Clone + Drop>(
+    host: &HostRuntime,
+    rt: &R,
+    folder: &str,
+    file: &str,
+) -> Result<Answer, OutOfMemory> {
+    let alloc = rt.alloc();
+    let mut chain = match open_chain(rt, folder) {
+        Ok(chain) => chain,
+        Err(fault) => return unread(alloc, fault),
+    };
+    if let Ok(true) = fs::exists(rt, file) {
+        return noted(alloc, INPUT_REFUSED, file, "it is there already");
+    }
+    let parts = parts_of(alloc, file)?;
+    remove(rt, &parts);
+    if let Err(stop) = make_tables(host, &mut chain, parts.file.as_str()) {
+        remove(rt, &parts);
+        return stopped(alloc, file, stop);
+    }
+    let moved = fs::rename(rt, parts.file.as_str(), file);
+    remove(rt, &parts);
+    match moved {
+        Ok(()) => written(alloc, b""),
+        Err(_) => noted(alloc, WRITE_FAILED, file, "write failed"),
+    }
+}

@@ -1,0 +1,55 @@
+//! The program for chains: words from the command line, a snapshot or a batch from standard input, a
+//! folder of files, the output to standard output, notes to standard error.
+#![tactic(auto)]
+
+mod add;
+mod answer;
+mod begin;
+mod chain;
+mod check;
+mod clock;
+mod commands;
+mod export;
+mod input;
+mod lines;
+mod reads;
+mod replaying;
+mod words;
+
+use answer::{Answer, OUT_OF_MEMORY, WORDS_REFUSED, WRITE_FAILED};
+use commands::answer_words;
+use sol_base::OutOfMemory;
+use sol_io::{Sink, StdSink, WriteFault, write_all};
+use std::alloc::Global;
+use std::io::IsTerminal;
+use std::process::ExitCode;
+use words::{NoWords, texts_of};
+
+/// The status after the bytes were written to a sink.
+fn written_to<O: Sink>(alloc: Global, out: &mut O, bytes: &[u8], status: u8) -> u8 {
+    match write_all(alloc, out, bytes) {
+        Ok(()) => status,
+        Err(WriteFault::Failed { written: _ }) => WRITE_FAILED,
+        Err(WriteFault::OutOfMemory { written: _ }) => OUT_OF_MEMORY,
+    }
+}
+
+fn main(rt: HostRuntime) -> ExitCode {
+    let texts = match texts_of(&rt) {
+        Ok(texts) => texts,
+        Err(NoWords::NotText) => return ExitCode::from(WORDS_REFUSED),
+        Err(NoWords::OutOfMemory) => return ExitCode::from(OUT_OF_MEMORY),
+    };
+    let shows = rt.stderr().is_terminal();
+    let told = match answer_words(&rt, &rt, &rt, texts.as_slice(), shows) {
+        Ok(told) => told,
+        Err(OutOfMemory) => return ExitCode::from(OUT_OF_MEMORY),
+    };
+    let mut out = StdSink::new(rt.stdout());
+    let status = written_to(rt.alloc(), &mut out, told.output.as_slice(), told.status);
+    if status != told.status {
+        return ExitCode::from(status);
+    }
+    let mut notes = StdSink::new(rt.stderr());
+    ExitCode::from(written_to(rt.alloc(), &mut notes, told.notes.as_slice(), status))
+}

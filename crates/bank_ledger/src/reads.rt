@@ -1,0 +1,93 @@
+//! The commands `state`, `block` and `list`.
+use crate::answer::{Answer, written};
+use crate::chain::{OpenChain, no_block, open_chain, state_after, unread};
+use crate::lines::append_listed;
+use block_record::record_bytes;
+use ledger_store::{Head, Kept, LedgerFault, read_block};
+use snapshot_codec::{readable_snapshots_are_writable, snapshot_bytes};
+use sol_base::{Blob, OutOfMemory};
+use std::rt::Files;
+
+/// How many blocks stand up to the state of a slot: that of a block, or the one that the chain begins
+/// with. The newest where no slot is given.
+fn blocks_up_to(head: &Head, slot: Option<u64>) -> Option<usize> {
+    match slot {
+        None => Some(head.slots.len()),
+        Some(slot) if slot == head.start => Some(0),
+        Some(slot) => match head.slots.as_slice().binary_search(&slot) {
+            Ok(place) => Some(place.saturating_add(1)),
+            Err(_) => None,
+        },
+    }
+}
+
+/// The answer to `state`.
+pub(crate) fn state<R: Files + AllocGlobal + Clone + Drop>(
+    rt: &R,
+    folder: &str,
+    slot: Option<u64>,
+) -> Result<Answer, OutOfMemory> {
+    let alloc = rt.alloc();
+    let OpenChain { mut files, head } = match open_chain(rt, folder) {
+        Ok(opened) => opened,
+        Err(fault) => return unread(alloc, fault),
+    };
+    let Some(count) = blocks_up_to(&head, slot) else {
+        return no_block(alloc, slot.unwrap_or(0));
+    };
+    readable_snapshots_are_writable();
+    match state_after(alloc, &mut files, &head, count) {
+        Ok(snapshot) => written(alloc, snapshot_bytes(alloc, &snapshot)?.as_slice()),
+        Err(fault) => unread(alloc, fault),
+    }
+}
+
+/// The answer to `block`.
+pub(crate) fn block<R: Files + AllocGlobal + Clone + Drop>(
+    rt: &R,
+    folder: &str,
+    slot: u64,
+) -> Result<Answer, OutOfMemory> {
+    let alloc = rt.alloc();
+    let OpenChain { mut files, head } = match open_chain(rt, folder) {
+        Ok(opened) => opened,
+        Err(fault) => return unread(alloc, fault),
+    };
+    if head.slots.as_slice().binary_search(&slot).is_err() {
+        return no_block(alloc, slot);
+    }
+    match read_block(alloc, &mut files, slot) {
+        Ok(Kept { block, micros: _ }) => written(alloc, record_bytes(alloc, &block)?.as_slice()),
+        Err(fault) => unread(alloc, fault),
+    }
+}
+
+/// A line for each block.
+fn lines<R: Files + AllocGlobal + Clone + Drop>(
+    rt: &R,
+    chain: &mut OpenChain<R>,
+) -> Result<Blob, LedgerFault> {
+    let alloc = rt.alloc();
+    let mut out = Blob::new(alloc);
+    for slot in chain.head.slots.as_slice() {
+        let Kept { block, micros } = read_block(alloc, &mut chain.files, *slot)?;
+        append_listed(alloc, &mut out, &block, micros)?;
+    }
+    Ok(out)
+}
+
+/// The answer to `list`.
+pub(crate) fn listed<R: Files + AllocGlobal + Clone + Drop>(
+    rt: &R,
+    folder: &str,
+) -> Result<Answer, OutOfMemory> {
+    let alloc = rt.alloc();
+    let told = match open_chain(rt, folder) {
+        Ok(mut chain) => lines(rt, &mut chain),
+        Err(fault) => Err(fault),
+    };
+    match told {
+        Ok(lines) => written(alloc, lines.as_slice()),
+        Err(fault) => unread(alloc, fault),
+    }
+}
