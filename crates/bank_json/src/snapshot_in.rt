@@ -198,7 +198,12 @@ fn sections(alloc: Global, value: &Value) -> Result<Blob, JsonFault>
     ensures { Gives is_json_memory (λ bytes. bytes) result (sections_in (view value.now)) }
 {
     let (mark_count, marks) = list_member::<Marks>(alloc, value, "recent", MAX_MARKS)?;
-    let (count, accounts) = list_member::<KeyedAccounts>(alloc, value, "accounts", MAX_ACCOUNTS as usize)?;
+    let (count, accounts) = list_member::<KeyedAccounts>(
+        alloc,
+        value,
+        "accounts",
+        MAX_ACCOUNTS as usize,
+    )?;
     let mut out = Blob::from_slice(alloc, &(mark_count as u32).to_le_bytes())?;
     out.append(marks.as_slice())?;
     out.append(&(count as u32).to_le_bytes())?;
