@@ -11,7 +11,7 @@ ATOMIC = re.compile(r'lock (\w+) |(xchg) +%\w+,.*\(|(mfence)')
 PLACE = re.compile(r'(-?0x[0-9a-f]+)?\((%\w+)?(?:,(%\w+),(\d))?\)')
 # Where a word is taken by an exchange that compares. Elsewhere that makes a count of owners rise, which
 # puts nothing in order.
-TAKES = re.compile('SharedDesk::lock|run_jobs|read_decoded')
+TAKES = re.compile('SharedDesk::take_turn|run_jobs|read_decoded')
 
 
 class Site(collections.namedtuple('Site', 'function name place length tells base index scale more')):

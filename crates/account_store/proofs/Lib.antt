@@ -5,3 +5,6 @@ pub mod SharedLaws
 pub mod NextLaws
 pub mod SortedLaws
 pub mod Pushes
+pub mod Walks
+pub mod Joins
+pub mod SortedKeys

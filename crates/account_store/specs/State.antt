@@ -1,5 +1,5 @@
 -- A state: the accounts that are there, by their keys, each with at least 1 lamport (Solana).
-use Rattle.std.specs.Prelude.{◌≡◌, ℕ, ◌-◌, ◌^◌, ◌≤◌, ◌==◌, List, sum_by, filter, slice_get, Bool, true, false, if◌then◌else◌, Option, Some, None, unwrap_or}
+use Rattle.std.specs.Prelude.{◌≡◌, ℕ, ◌-◌, ◌^◌, ◌≤◌, ◌==◌, List, ◌++◌, not, sum_by, filter, slice_get, Bool, true, false, if◌then◌else◌, Option, Some, None, unwrap_or}
 use Rattle.std.specs.List.{AllByRecursion}
 use Rattle.std.specs.Ordering.{is_lt}
 use Rattle.std.specs.FinMap as map
@@ -36,6 +36,14 @@ kept account = if account.lamports == 0 then None else Some account
 -- the account that then stands for it
 abbrev pub settled : Account → Account
 settled account = if account.lamports == 0 then empty_account else account
+
+-- the state but for the accounts of these keys
+abbrev pub without : State → List Key → State
+without s keys = map.retain_keys s (λ key. not (has_key key keys))
+
+-- these accounts, and under all other keys those of the state
+abbrev pub with_entries : State → List (Key × Account) → State
+with_entries s es = map.from_entries (es ++ map.entries s)
 
 -- the number of keys
 abbrev pub len : State → ℕ

@@ -21,9 +21,9 @@ use std::sync::Arc;
 /// 2^64 - 1. The accounts are shared, so that a share is handed out at no cost.
 #[derive(Drop)]
 pub struct Accounts {
-    tree: BTreeMap<Key, Arc<Account>>,
+    pub(crate) tree: BTreeMap<Key, Arc<Account>>,
     /// The sum of the lamports.
-    total: u64,
+    pub(crate) total: u64,
 }
 
 impl Model for Accounts {

@@ -4,6 +4,8 @@ pub mod SumLaws
 pub mod LineLaws
 pub mod WalkLaws
 pub mod AnswerLaws
+pub mod WeighLaws
+pub mod BesideLaws
 pub mod BatchLaws
 pub mod PartLaws
 pub mod FaultLaws

@@ -1,5 +1,5 @@
 -- The early causes of a batch, one position after the other.
-use Rattle.std.proofs.Common.{◌≡◌, ℕ, ◌+◌, Bool, true, false, ◌||◌, cond, List, [], ◌∷◌, ◌++◌, length, take, map, refl, sym, ap, ◌∙◌, append_assoc, arith, Option, Some, None, Result, Ok, Err, is_ok, subst, OnOk}
+use Rattle.std.proofs.Common.{◌≡◌, ℕ, ◌+◌, ◌<◌, ◌≤◌, Bool, true, false, ◌||◌, cond, List, [], ◌∷◌, ◌++◌, length, take, map, get_or, refl, sym, ap, ◌∙◌, append_assoc, length-append, zero-add, arith, Option, Some, None, Result, Ok, is_ok, subst}
 use Rattle.std.specs.Prelude.{if◌then◌else◌}
 use Rattle.std.specs.Result.{result_ok}
 use Rattle.std.specs.List.{filter_map, cons_option, enumerate_from}
@@ -8,24 +8,24 @@ use Rattle.std.specs.BTreeSet.{BTreeSet, contains}
 use Rattle.std.specs.Cmp.{Equal-is}
 use Rattle.std.proofs.lemmas.Bool.{false_from_ne_true, both_ways}
 use Rattle.std.proofs.lemmas.Cmp.{eq_by_cmp_equiv}
-use Rattle.std.proofs.lemmas.List.{map-append, length-map, take_at}
+use Rattle.std.proofs.lemmas.List.{get_or_at, get_or-map, map-append, length-map, take_all, take_more}
 use Rattle.std.proofs.lemmas.List.Elements.{filter_map-append}
 use Rattle.std.proofs.lemmas.List.Folds.{list_any-append}
-use Rattle.std.proofs.lemmas.List.FromFn.{length-enumerate_from}
+use Rattle.std.proofs.lemmas.List.FromFn.{get_or-enumerate_from, length-enumerate_from}
 use Rattle.std.proofs.Math.Bool.{or-false}
 use Rattle.sol_base.specs.declared.key.Hash32.{Hash32}
 use Rattle.sol_base.specs.Keys.{hash_cmp, same_hash}
 use Rattle.sol_base.proofs.KeyLaws.{hash_cmp_exact, hash_cmp_total, same_hash-Decides}
-use Rattle.message_codec.specs.declared.fault.WireFault.{WireFault}
 use Rattle.message_codec.specs.declared.message.Loaded.{Loaded}
 use Rattle.message_codec.specs.declared.message.Tx.{Tx}
 use Rattle.message_codec.specs.declared.parsed.Parsed.{Parsed}
-use Rattle.message_codec.specs.declared.parsed.Parsed.TheVariants.{Good, Bad}
+use Rattle.message_codec.specs.declared.parsed.Parsed.TheVariants.{Good}
 use Rattle.status_cache.specs.Recent.{has_hash}
 use Rattle.admission.specs.declared.chosen.Chosen.{Chosen}
 use Rattle.admission.specs.declared.refusal.Refusal.{Refusal}
-use Rattle.admission.specs.declared.refusal.Refusal.TheVariants.{Wire}
-use Rattle.admission.specs.Admission.{Start, budgeted_once, early, has_name, is_name, refusal_in, sifted, sifted_in, standing_name, standing_names, stands}
+use Rattle.admission.specs.declared.weighing.Weighed.{Weighed}
+use Rattle.admission.specs.Admission.{Start, budgeted_once, has_name, is_name, refusal_in, sifted, standing_name, standing_names, stands}
+use Rattle.admission.specs.Weighing.{is_among, is_repeated, name_of, names_of, sifted_among, sifted_when}
 
 -- ---- names
 -- the order and the test of two hashes agree on which are one
@@ -62,19 +62,6 @@ one_name_more start done x q =
     ∙ ap (λ b. has_hash (standing_names start done) q || b) (any_name (standing_name start x) q)
 
 -- ---- one position
--- what follows from what holds of the answer
-pub on_ok : {A E : Type 0} (P Q : Type 0) (r : Result A E) → (P → Q) → OnOk r P → OnOk r Q
-on_ok P Q (Ok x) f p = f p
-on_ok P Q (Err e) f p = tt
-
-pub sifted_bad : (start : Start) (is_before : Hash32 → Bool) (position : ℕ) (fault : WireFault) → sifted start is_before position (Bad fault) ≡ Err (Wire fault)
-unfolding sifted
-sifted_bad start is_before position fault = refl
-
-pub sifted_stopped : (start : Start) (is_before : Hash32 → Bool) (position : ℕ) (tx : Tx) (name : Hash32) (cause : Refusal) → stands start tx name ≡ Err cause → sifted start is_before position (Good tx name) ≡ Err cause
-unfolding sifted
-sifted_stopped start is_before position tx name cause e = rw e refl
-
 pub sifted_once : (start : Start) (is_before : Hash32 → Bool) (position : ℕ) (tx : Tx) (name : Hash32) (loaded : Loaded) → stands start tx name ≡ Ok loaded → sifted start is_before position (Good tx name) ≡ budgeted_once (is_before name) position tx name loaded
 unfolding sifted
 sifted_once start is_before position tx name loaded e = rw e refl
@@ -91,55 +78,86 @@ enumerate-push xs x =
     let e : 0 + length xs ≡ length xs = omega arith in
     enumerate-append 0 xs (x ∷ []) ∙ ap (λ m. enumerate_from 0 xs ++ (m, x) ∷ []) e
 
--- the first positions of a batch are sifted
-pub record AreSifted (start : Start) (batch done left : List Parsed) (standing : List Chosen) (causes : List (Option Refusal)) (has : Hash32 → Bool) : Type 0 where
+-- ---- the names before each position
+-- the first positions are told whether their messages stand before them
+pub record AreTold (batch : List Weighed) (i : ℕ) (tests : List Bool) (has : Hash32 → Bool) : Type 0 where
+  pub told : tests ≡ map (is_repeated batch) (take i (enumerate_from 0 batch))
+  pub named : (q : Hash32) → has q ≡ has_hash (names_of (take i batch)) q
+
+pub told_more : (batch : List Weighed) (i : ℕ) (tests tests' : List Bool) (has next : Hash32 → Bool) → AreTold batch i tests has → (x : Weighed) → i < length batch → x ≡ get_or batch i x
+    → (b : Bool) → b ≡ is_among has (name_of x) → ((q : Hash32) → next q ≡ (has q || is_name (name_of x) q)) → tests' ≡ tests ++ b ∷ [] → AreTold batch (i + 1) tests' next
+told_more batch i tests tests' has next so_far x l is b found names put =
+    let within : i < length (enumerate_from 0 batch) = rw (length-enumerate_from 0 batch) l in
+    let entry : get_or (enumerate_from 0 batch) i (i, x) ≡ (i, x) = get_or-enumerate_from 0 batch i (i, x) l ∙ (λ j. (zero-add i j, sym is j)) in
+    let here : is_repeated batch (i, x) ≡ b = ap (λ (test : Hash32 → Bool). is_among test (name_of x)) (λ j q. sym (so_far.named q) j) ∙ sym found in
+    record {
+      told =
+          put ∙ ap (λ (bs : List Bool). bs ++ b ∷ []) so_far.told
+          ∙ ap (λ a. map (is_repeated batch) (take i (enumerate_from 0 batch)) ++ a ∷ []) (sym here)
+          ∙ sym (ap (map (is_repeated batch)) (take_more (enumerate_from 0 batch) i (i, x) within ∙ ap (λ e. take i (enumerate_from 0 batch) ++ e ∷ []) entry)
+          ∙ map-append (is_repeated batch) (take i (enumerate_from 0 batch)) ((i, x) ∷ []));
+      named = λ q.
+          names q
+          ∙ ap (λ a. a || is_name (name_of x) q) (so_far.named q)
+          ∙ sym (ap (λ hashes. has_hash (names_of hashes) q) (take_more batch i x l ∙ ap (λ e. take i batch ++ e ∷ []) (sym is))
+          ∙ ap (λ hashes. has_hash hashes q) (filter_map-append name_of (take i batch) (x ∷ []))
+          ∙ list_any-append (λ one. same_hash one q) (names_of (take i batch)) (cons_option (name_of x) [])
+          ∙ ap (λ a. has_hash (names_of (take i batch)) q || a) (any_name (name_of x) q));
+    }
+
+pub told_all : (batch : List Weighed) (i : ℕ) (tests : List Bool) (has : Hash32 → Bool) → AreTold batch i tests has → length batch ≤ i → tests ≡ map (is_repeated batch) (enumerate_from 0 batch)
+told_all batch i tests has so_far over =
+    let long : length (enumerate_from 0 batch) ≤ i = rw (length-enumerate_from 0 batch) over in
+    so_far.told ∙ ap (map (is_repeated batch)) (take_all i (enumerate_from 0 batch) long)
+
+-- ---- the batch parted
+-- the first positions are sifted
+pub record AreSifted (batch done left : List Weighed) (standing : List Chosen) (causes : List (Option Refusal)) : Type 0 where
   pub all : done ++ left ≡ batch
-  pub stand : standing ≡ filter_map (λ entry. result_ok (sifted_in start batch entry)) (enumerate_from 0 done)
-  pub caused : causes ≡ map (early start batch) (enumerate_from 0 done)
-  pub named : (q : Hash32) → has q ≡ has_hash (standing_names start done) q
+  pub stand : standing ≡ filter_map (λ entry. result_ok (sifted_among batch entry)) (enumerate_from 0 done)
+  pub caused : causes ≡ map (λ entry. refusal_in (sifted_among batch entry)) (enumerate_from 0 done)
 
-pub cause_count : (start : Start) (batch done left : List Parsed) (standing : List Chosen) (causes : List (Option Refusal)) (has : Hash32 → Bool) → AreSifted start batch done left standing causes has → length causes ≡ length done
-cause_count start batch done left standing causes has so_far = ap length so_far.caused ∙ simp (length-map, length-enumerate_from)
+pub cause_count : (batch done left : List Weighed) (standing : List Chosen) (causes : List (Option Refusal)) → AreSifted batch done left standing causes → length causes ≡ length done
+cause_count batch done left standing causes so_far = ap length so_far.caused ∙ simp (length-map, length-enumerate_from)
 
-module _ (start : Start) (batch done left more : List Parsed) (standing : List Chosen) (causes : List (Option Refusal)) (has next : Hash32 → Bool) (so_far : AreSifted start batch done left standing causes has) (x : Parsed) (split : left ≡ x ∷ more)
-    (position : ℕ) (place : position ≡ length causes) (found : Result Chosen Refusal) (is_found : found ≡ sifted start has position x) (names : (q : Hash32) → next q ≡ (has q || is_name (standing_name start x) q)) where
-  at_place : position ≡ length done
-  at_place = place ∙ cause_count start batch done left standing causes has so_far
+module _ (batch done left more : List Weighed) (standing : List Chosen) (causes : List (Option Refusal)) (so_far : AreSifted batch done left standing causes) (x : Weighed) (split : left ≡ x ∷ more)
+    (told : List Bool) (are_told : told ≡ map (is_repeated batch) (enumerate_from 0 batch)) where
+  whole : done ++ x ∷ more ≡ batch
+  whole = ap (λ (ls : List Weighed). done ++ ls) (sym split) ∙ so_far.all
 
-  before : take (length done) batch ≡ done
-  before = ap (take (length done)) (sym so_far.all) ∙ take_at done left (length done) refl
+  below : length done < length batch
+  below = let w = ap length whole in let a = length-append done (x ∷ more) in omega (arith, w, a)
 
-  here : sifted_in start batch (length done, x) ≡ found
-  here =
-      ap (λ (names : List Parsed). sifted start (has_hash (standing_names start names)) (length done) x) before
-      ∙ ap (λ (test : Hash32 → Bool). sifted start test (length done) x) (λ i q. sym (so_far.named q) i)
-      ∙ ap (λ n. sifted start has n x) (sym at_place) ∙ sym is_found
+  pub has_place : length causes < length told
+  has_place =
+      let n = cause_count batch done left standing causes so_far in
+      let t : length told ≡ length batch = ap length are_told ∙ simp (length-map, length-enumerate_from) in
+      let b = below in
+      omega (arith, n, t, b)
 
-  all_more : (done ++ x ∷ []) ++ more ≡ batch
-  all_more = append_assoc done (x ∷ []) more ∙ ap (λ (ls : List Parsed). done ++ ls) (sym split) ∙ so_far.all
+  told_here : (d : Bool) → get_or told (length causes) d ≡ is_repeated batch (length done, x)
+  told_here d =
+      let within : length done < length (enumerate_from 0 batch) = rw (length-enumerate_from 0 batch) below in
+      let entry : get_or (enumerate_from 0 batch) (length done) (length done, x) ≡ (length done, x) =
+      get_or-enumerate_from 0 batch (length done) (length done, x) below ∙ (λ j. (zero-add (length done) j, (ap (λ (ls : List Weighed). get_or ls (length done) x) (sym whole) ∙ get_or_at done x more x (length done) refl) j)) in
+      ap (λ n. get_or told n d) (cause_count batch done left standing causes so_far)
+      ∙ ap (λ (bs : List Bool). get_or bs (length done) d) are_told
+      ∙ get_or-map (is_repeated batch) (enumerate_from 0 batch) (length done) (length done, x) d within
+      ∙ ap (is_repeated batch) entry
 
-  stand_more : standing ++ cons_option (result_ok found) [] ≡ filter_map (λ entry. result_ok (sifted_in start batch entry)) (enumerate_from 0 (done ++ x ∷ []))
-  stand_more =
-      ap (λ (cs : List Chosen). cs ++ cons_option (result_ok found) []) so_far.stand
-      ∙ ap (λ (r : Result Chosen Refusal). filter_map (λ entry. result_ok (sifted_in start batch entry)) (enumerate_from 0 done) ++ cons_option (result_ok r) []) (sym here)
-      ∙ sym (ap (filter_map (λ entry. result_ok (sifted_in start batch entry))) (enumerate-push done x) ∙ filter_map-append (λ entry. result_ok (sifted_in start batch entry)) (enumerate_from 0 done) ((length done, x) ∷ []))
+  module _ (d repeated : Bool) (is_told : repeated ≡ get_or told (length causes) d) (found : Result Chosen Refusal) (is_found : found ≡ sifted_when repeated x) where
+    here : sifted_among batch (length done, x) ≡ found
+    here = ap (λ b. sifted_when b x) (sym (told_here d) ∙ sym is_told) ∙ sym is_found
 
-  cause_more : causes ++ refusal_in found ∷ [] ≡ map (early start batch) (enumerate_from 0 (done ++ x ∷ []))
-  cause_more =
-      ap (λ (cs : List (Option Refusal)). cs ++ refusal_in found ∷ []) so_far.caused
-      ∙ ap (λ (r : Result Chosen Refusal). map (early start batch) (enumerate_from 0 done) ++ refusal_in r ∷ []) (sym here)
-      ∙ sym (ap (map (early start batch)) (enumerate-push done x) ∙ map-append (early start batch) (enumerate_from 0 done) ((length done, x) ∷ []))
-
-  name_more : (q : Hash32) → next q ≡ has_hash (standing_names start (done ++ x ∷ [])) q
-  name_more q =
-      names q
-      ∙ ap (λ b. b || is_name (standing_name start x) q) (so_far.named q)
-      ∙ sym (one_name_more start done x q)
-
-  pub sifted_more : (standing' : List Chosen) (causes' : List (Option Refusal)) → standing' ≡ standing ++ cons_option (result_ok found) [] → causes' ≡ causes ++ refusal_in found ∷ [] → AreSifted start batch (done ++ x ∷ []) more standing' causes' next
-  sifted_more standing' causes' s c = record {
-    all = all_more;
-    stand = s ∙ stand_more;
-    caused = c ∙ cause_more;
-    named = name_more;
-  }
+    pub sifted_more : (standing' : List Chosen) (causes' : List (Option Refusal)) → standing' ≡ standing ++ cons_option (result_ok found) [] → causes' ≡ causes ++ refusal_in found ∷ [] → AreSifted batch (done ++ x ∷ []) more standing' causes'
+    sifted_more standing' causes' s c = record {
+      all = append_assoc done (x ∷ []) more ∙ whole;
+      stand =
+          s ∙ ap (λ (cs : List Chosen). cs ++ cons_option (result_ok found) []) so_far.stand
+          ∙ ap (λ (r : Result Chosen Refusal). filter_map (λ entry. result_ok (sifted_among batch entry)) (enumerate_from 0 done) ++ cons_option (result_ok r) []) (sym here)
+          ∙ sym (ap (filter_map (λ entry. result_ok (sifted_among batch entry))) (enumerate-push done x) ∙ filter_map-append (λ entry. result_ok (sifted_among batch entry)) (enumerate_from 0 done) ((length done, x) ∷ []));
+      caused =
+          c ∙ ap (λ (cs : List (Option Refusal)). cs ++ refusal_in found ∷ []) so_far.caused
+          ∙ ap (λ (r : Result Chosen Refusal). map (λ entry. refusal_in (sifted_among batch entry)) (enumerate_from 0 done) ++ refusal_in r ∷ []) (sym here)
+          ∙ sym (ap (map (λ entry. refusal_in (sifted_among batch entry))) (enumerate-push done x) ∙ map-append (λ entry. refusal_in (sifted_among batch entry)) (enumerate_from 0 done) ((length done, x) ∷ []));
+    }

@@ -2,6 +2,8 @@ pub mod Lookups
 pub mod Refusals
 pub mod Chosen
 pub mod Admission
+pub mod Weighing
+pub mod Beside
 pub mod Answers
 pub mod Batches
 pub mod Sums

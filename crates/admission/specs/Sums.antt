@@ -1,9 +1,10 @@
 -- What is kept while a line is walked: the sums of units, and the cause of each position.
-use Rattle.std.specs.Prelude.{◌≡◌, ℕ, ◌+◌, Bool, nat_lt, List, map, Option, option_map, unwrap_or}
-use Rattle.std.specs.List.{enumerate_from, filter_map}
+use Rattle.std.specs.Prelude.{◌≡◌, ℕ, ◌+◌, ◌*◌, ◌%◌, ◌<◌, ◌≤◌, max, Bool, nat_lt, List, length, map, slice_index, All, IfSome, Option, option_map, unwrap_or}
+use Rattle.std.specs.List.{IsDistinct, enumerate_from, filter_map}
 use Rattle.std.specs.BTreeMap.{BTreeMap, get}
 use Rattle.sol_base.specs.declared.key.Key.{Key}
-use Rattle.sol_base.specs.Keys.{key_cmp}
+use Rattle.sol_base.specs.Keys.{key_cmp, same_key}
+use Rattle.sol_base.specs.Locks.{lock_keys}
 use Rattle.admission.specs.declared.chosen.Chosen.{Chosen}
 use Rattle.admission.specs.declared.refusal.Refusal.{Refusal}
 use Rattle.admission.specs.declared.refusal.Refused.{Refused}
@@ -17,10 +18,27 @@ sum_at sums key = unwrap_or (get key_cmp sums key) 0
 abbrev pub passes : ℕ → ℕ → ℕ → Bool
 passes sum limit most = nat_lt most (sum + limit)
 
--- the sums are those of the transactions
-pub record HasSums (order : List Chosen) (units : ℕ) (sums : BTreeMap Key ℕ) : Type 0 where
+-- a key's bucket, of so many: its first bytes tell it
+unfoldable pub bucket_of : ℕ → Key → ℕ
+bucket_of count key =
+    (slice_index key.0 0 + 256 * slice_index key.0 1 + 65536 * slice_index key.0 2) % max count 1
+
+-- the sum of a key's bucket
+abbrev pub bucket_sum : List ℕ → Key → ℕ
+bucket_sum buckets key = slice_index buckets (bucket_of (length buckets) key)
+
+-- the sums of single keys, where they are told apart
+abbrev pub AreSums : List Chosen → Option (BTreeMap Key ℕ) → Type 0
+AreSums order sums = IfSome sums (λ sums. (key : Key) → sum_at sums key ≡ units_on key order)
+
+-- the sums are those of the transactions: of all, of each key at most that of its bucket, and of
+-- each key where they are told apart
+pub record HasSums (order : List Chosen) (units : ℕ) (buckets : List ℕ) (sums : Option (BTreeMap Key ℕ)) : Type 0 where
   pub all : units ≡ units_of order
-  pub each : (key : Key) → sum_at sums key ≡ units_on key order
+  pub some : 0 < length buckets
+  pub most : (key : Key) → units_on key order ≤ bucket_sum buckets key
+  pub each : AreSums order sums
+  pub apart : All (λ one. IsDistinct same_key (lock_keys one.locks)) order
 
 -- ---- the causes, one for each position
 

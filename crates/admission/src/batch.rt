@@ -7,17 +7,21 @@ ghost use Rattle.sol_base.specs.Limits.{max_transaction_keys};
 ghost use Rattle.admission.specs.Admission.{AreParsed, admitted, listed, start_of, walk};
 ghost use Rattle.admission.specs.Answers.{IsAnswer};
 ghost use Rattle.admission.specs.Sums.{numbered_in, with_late};
+ghost use Rattle.admission.specs.Weighing.{AreWeighed};
 
+use crate::beside::weigh_on;
 use crate::chosen::{Admitted, Chosen};
 use crate::line::line;
 use crate::refusal::Refusal;
 use crate::sift::{Sifted, sift};
 use crate::walk::{numbered, walk};
+use crate::weighing::{Weighed, weigh_from};
 use account_store::Accounts;
 use message_codec::{Parsed, parse};
 use sol_base::{Blob, Items, Limits, OutOfMemory};
 use status_cache::Recent;
 use std::alloc::Global;
+use std::thread::Threads;
 
 /// Which transactions of a batch run, in the order of their priorities, and why the others do not.
 pub fn admit(
@@ -51,7 +55,49 @@ pub fn admit_parsed(
     ensures { IfOk result (IsAnswer
         (admitted (start_of recent.now accounts.now limits.now) wires.now)) }
 {
-    let Sifted { standing, causes } = sift(alloc, recent, accounts, limits, parsed)?;
+    let weighed = weigh_from(alloc, recent, accounts, limits, 0, parsed)?;
+    admit_weighed(alloc, wires, recent, accounts, limits, weighed)
+}
+
+/// The same on so many lanes, which weigh the wires beside each other. Few wires are weighed by the
+/// caller alone, and on one lane no thread is started.
+pub fn admit_on<R: Threads + Sync>(
+    rt: &R,
+    alloc: Global,
+    lanes: u32,
+    wires: &Items<Blob>,
+    parsed: Items<Parsed>,
+    recent: &Recent,
+    accounts: &Accounts,
+    limits: &Limits,
+) -> Result<Admitted, OutOfMemory>
+    requires read { AreParsed wires.now parsed }
+    requires keys { limits.now.keys ≤ max_transaction_keys }
+    requires few { length wires.now < 2 ^ 32 }
+    ensures { IfOk result (IsAnswer
+        (admitted (start_of recent.now accounts.now limits.now) wires.now)) }
+{
+    let weighed = weigh_on(rt, alloc, lanes, recent, accounts, limits, parsed)?;
+    admit_weighed(alloc, wires, recent, accounts, limits, weighed)
+}
+
+/// The same for wires that were weighed before, each alone. The wires, the blocks that are
+/// remembered and the accounts are not looked at again: they say what was weighed.
+pub fn admit_weighed(
+    alloc: Global,
+    wires: &Items<Blob>,
+    recent: &Recent,
+    accounts: &Accounts,
+    limits: &Limits,
+    weighed: Items<Weighed>,
+) -> Result<Admitted, OutOfMemory>
+    requires weighed { AreWeighed (start_of recent.now accounts.now limits.now) wires.now weighed }
+    requires keys { limits.now.keys ≤ max_transaction_keys }
+    requires few { length wires.now < 2 ^ 32 }
+    ensures { IfOk result (IsAnswer
+        (admitted (start_of recent.now accounts.now limits.now) wires.now)) }
+{
+    let Sifted { standing, causes } = sift(alloc, weighed)?;
     let line = line(standing)?;
     admit_line(alloc, limits, line, causes)
 }
@@ -70,7 +116,8 @@ pub fn admit_listed(
         (listed (start_of recent.now accounts.now limits.now) wires.now)) }
 {
     let parsed = parse_all(alloc, wires)?;
-    let Sifted { standing, causes } = sift(alloc, recent, accounts, limits, parsed)?;
+    let weighed = weigh_from(alloc, recent, accounts, limits, 0, parsed)?;
+    let Sifted { standing, causes } = sift(alloc, weighed)?;
     admit_line(alloc, limits, standing, causes)
 }
 

@@ -3,6 +3,7 @@
 #![tactic(auto)]
 
 mod batch;
+mod beside;
 mod chosen;
 mod laws;
 mod line;
@@ -13,10 +14,12 @@ mod standing;
 mod text;
 mod units;
 mod walk;
+mod weighing;
 
-pub use batch::{admit, admit_listed, admit_parsed};
+pub use batch::{admit, admit_listed, admit_on, admit_parsed, admit_weighed};
 pub use chosen::{Admitted, Chosen};
 pub use laws::{batches_are_parted, lines_are_by_priority, refusals_are_of_the_input};
 pub use lookups::{LookupFault, TABLE_HEADER_LEN, resolve};
 pub use refusal::{Refusal, Refused};
 pub use text::refusal_text;
+pub use weighing::{Weighed, weigh, weigh_from};

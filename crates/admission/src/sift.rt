@@ -1,18 +1,15 @@
-//! The early causes: those that the starting snapshot and the batch before a position show.
-ghost use Rattle.std.specs.Prelude.{◌≡◌, ◌<◌, ◌^◌, ◌||◌, not, All, IfOk, OnOk, length, map};
+//! The early causes: those that the state before the block and the batch before a position show.
+ghost use Rattle.std.specs.Prelude.{◌≡◌, ◌||◌, IfOk, OnOk, map, not};
 ghost use Rattle.std.specs.List.{enumerate_from};
 ghost use Rattle.sol_base.specs.declared.key.Hash32.{Hash32 as HashValue};
 ghost use Rattle.sol_base.specs.Keys.{same_hash};
-ghost use Rattle.message_codec.specs.Wire.{IsCountable};
-ghost use Rattle.admission.specs.Admission.{IsSound, budgeted_once, early, has_name, is_name, sifted, sifted_out, standing_name, start_of};
+ghost use Rattle.admission.specs.Admission.{has_name, is_name};
+ghost use Rattle.admission.specs.Weighing.{causes_among, is_among, is_repeated, name_of, sifted_when, standing_among};
 
 use crate::chosen::Chosen;
 use crate::refusal::Refusal;
-use crate::standing::{budgeted, stands};
-use account_store::Accounts;
-use message_codec::{Loaded, Parsed, Tx};
-use sol_base::{Hash32, Items, Limits, OutOfMemory};
-use status_cache::Recent;
+use crate::weighing::Weighed;
+use sol_base::{Hash32, Items, OutOfMemory};
 use std::alloc::Global;
 use std::collections::BTreeSet;
 
@@ -25,29 +22,16 @@ pub(crate) struct Sifted {
     pub causes: Vec<Option<Refusal>>,
 }
 
-/// Finds the early cause of each position, or all that its transaction runs with.
-pub(crate) fn sift(
-    alloc: Global,
-    recent: &Recent,
-    accounts: &Accounts,
-    limits: &Limits,
-    wires: Items<Parsed>,
-) -> Result<Sifted, OutOfMemory>
-    requires few { length wires < 2 ^ 32 }
-    requires sound { All IsSound wires }
-    ensures standing { IfOk result (λ s.
-        s.standing.items ≡ sifted_out (start_of recent.now accounts.now limits.now) wires) }
-    ensures causes { IfOk result (λ s.
-        s.causes.items
-        ≡ map (early (start_of recent.now accounts.now limits.now) wires)
-        (enumerate_from 0 wires)) }
+/// Parts a batch by its early causes.
+pub(crate) fn sift(alloc: Global, batch: Items<Weighed>) -> Result<Sifted, OutOfMemory>
+    ensures standing { IfOk result (λ s. s.standing.items ≡ standing_among batch) }
+    ensures causes { IfOk result (λ s. s.causes.items ≡ causes_among batch) }
 {
-    let mut names = BTreeSet::new(alloc);
-    let mut standing = Vec::new(alloc);
-    let mut causes = Vec::with_capacity(alloc, wires.len())?;
-    for wire in wires.into_vec() {
-        let position = causes.len() as u32;
-        match sift_one(alloc, &mut names, recent, accounts, limits, position, wire)? {
+    let repeats = repeats(alloc, batch.as_slice())?;
+    let mut standing = Vec::with_capacity(alloc, batch.len())?;
+    let mut causes = Vec::with_capacity(alloc, batch.len())?;
+    for one in batch.into_vec() {
+        match sift_one(one, repeats[causes.len()]) {
             Ok(chosen) => {
                 standing.push(chosen)?;
                 causes.push(None)?;
@@ -58,58 +42,53 @@ pub(crate) fn sift(
     Ok(Sifted { standing, causes })
 }
 
-/// Finds the early cause of one position, or all that its transaction runs with, told the names of
-/// the messages before it that none of the first five causes refuses. Its own is added to them.
-fn sift_one(
-    alloc: Global,
-    names: &mut BTreeSet<Hash32>,
-    recent: &Recent,
-    accounts: &Accounts,
-    limits: &Limits,
-    position: u32,
-    wire: Parsed,
-) -> Result<Result<Chosen, Refusal>, OutOfMemory>
-    requires { IsSound wire }
-    ensures found { IfOk result (λ found.
-        found ≡ sifted (start_of recent.now accounts.now limits.now) (has_name names.old) position
-        wire) }
-    ensures names { OnOk result ((name : HashValue) →
-        has_name names.new name
-        ≡ (has_name names.old name
-        || is_name (standing_name (start_of recent.now accounts.now limits.now) wire) name)) }
+/// The transaction or its first early cause, told whether its message stands before it.
+fn sift_one(one: Weighed, is_repeated: bool) -> Result<Chosen, Refusal>
+    ensures { result ≡ sifted_when is_repeated one }
 {
-    let (tx, name) = match wire {
-        Parsed::Bad(fault) => return Ok(Err(Refusal::Wire(fault))),
-        Parsed::Good { tx, name } => (tx, name),
-    };
-    let loaded = match stands(alloc, recent, accounts, limits, &tx, &name)? {
-        Ok(loaded) => loaded,
-        Err(cause) => return Ok(Err(cause)),
-    };
-    budgeted_once(alloc, names, position, tx, name, loaded)
+    match one {
+        Weighed::Refused(cause) => Err(cause),
+        Weighed::NoBudget { name: _, fault } => {
+            if is_repeated {
+                return Err(Refusal::RepeatedInBatch);
+            }
+            Err(Refusal::Budget(fault))
+        }
+        Weighed::Ready(chosen) => {
+            if is_repeated {
+                return Err(Refusal::RepeatedInBatch);
+            }
+            Ok(chosen)
+        }
+    }
 }
 
-/// The transaction with all that it runs with, or `RepeatedInBatch` or `Budget`, told the names of
-/// the messages before it. Its own is added to them, whatever the answer.
-fn budgeted_once(
-    alloc: Global,
-    names: &mut BTreeSet<Hash32>,
-    position: u32,
-    tx: Tx,
-    name: Hash32,
-    loaded: Loaded,
-) -> Result<Result<Chosen, Refusal>, OutOfMemory>
-    requires programs { All (λ i. i.program < length tx.message.keys) tx.message.instructions }
-    requires most { IsCountable tx.message.instructions }
-    ensures found { IfOk result (λ found.
-        found ≡ budgeted_once (has_name names.old name) position tx name loaded) }
-    ensures names { OnOk result ((other : HashValue) →
-        has_name names.new other ≡ (has_name names.old other || same_hash name other)) }
+/// Whether the message of each position stands before it.
+fn repeats(alloc: Global, batch: &[Weighed]) -> Result<Vec<bool>, OutOfMemory>
+    ensures { IfOk result (λ repeats.
+        repeats.items ≡ map (is_repeated batch.now) (enumerate_from 0 batch.now)) }
 {
-    if !add_name(names, name)? {
-        return Ok(Err(Refusal::RepeatedInBatch));
+    let mut names = BTreeSet::new(alloc);
+    let mut repeats = Vec::with_capacity(alloc, batch.len())?;
+    for one in batch {
+        let is_repeated = repeats_one(&mut names, one)?;
+        repeats.push(is_repeated)?;
     }
-    budgeted(alloc, position, tx, name, loaded)
+    Ok(repeats)
+}
+
+/// Whether the name of a message is there. It is added, if the message has one.
+fn repeats_one(names: &mut BTreeSet<Hash32>, one: &Weighed) -> Result<bool, OutOfMemory>
+    ensures repeated { IfOk result (λ repeated.
+        repeated ≡ is_among (has_name names.old) (name_of one.now)) }
+    ensures names { OnOk result ((other : HashValue) →
+        has_name names.new other ≡ (has_name names.old other || is_name (name_of one.now) other)) }
+{
+    match one {
+        Weighed::Refused(_) => Ok(false),
+        Weighed::NoBudget { name, fault: _ } => Ok(!add_name(names, *name)?),
+        Weighed::Ready(chosen) => Ok(!add_name(names, chosen.name)?),
+    }
 }
 
 /// Adds a name. True where it was not there.

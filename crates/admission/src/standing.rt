@@ -1,11 +1,14 @@
 //! The causes that the starting snapshot shows.
 ghost use Rattle.std.specs.Prelude.{◌≡◌, ◌<◌, ◌≤◌, All, IfOk, length};
 ghost use Rattle.message_codec.specs.Wire.{HasShortLists, IsCountable};
-ghost use Rattle.admission.specs.Admission.{budgeted, stands, start_of};
+ghost use Rattle.fee_rules.specs.Budgets.{budget_in};
+ghost use Rattle.admission.specs.Admission.{stands, start_of};
+ghost use Rattle.admission.specs.Weighing.{with_budget};
 
 use crate::chosen::Chosen;
 use crate::lookups::{LookupFault, resolve};
 use crate::refusal::Refusal;
+use crate::weighing::Weighed;
 use account_store::Accounts;
 use fee_rules::{budget_of, fee};
 use message_codec::{Loaded, Tx, locks, sanitize};
@@ -45,25 +48,26 @@ pub(crate) fn stands(
     Ok(Ok(loaded))
 }
 
-/// The transaction with all that it runs with, or `Budget`.
-pub(crate) fn budgeted(
+/// The transaction with all that it runs with, where it has a budget.
+pub(crate) fn with_budget(
     alloc: Global,
     position: u32,
     tx: Tx,
     name: Hash32,
     loaded: Loaded,
-) -> Result<Result<Chosen, Refusal>, OutOfMemory>
+) -> Result<Weighed, OutOfMemory>
     requires programs { All (λ i. i.program < length tx.message.keys) tx.message.instructions }
     requires most { IsCountable tx.message.instructions }
-    ensures { IfOk result (λ found. found ≡ budgeted position tx name loaded) }
+    ensures { IfOk result (λ found.
+        found ≡ with_budget position tx name loaded (budget_in tx.message)) }
 {
     let budget = match budget_of(&tx.message) {
         Ok(budget) => budget,
-        Err(fault) => return Ok(Err(Refusal::Budget(fault))),
+        Err(fault) => return Ok(Weighed::NoBudget { name, fault }),
     };
     let fee = fee(&tx.message, &budget);
     let locks = locks(alloc, &tx.message, &loaded)?;
-    Ok(Ok(Chosen {
+    Ok(Weighed::Ready(Chosen {
         position,
         tx,
         loaded,

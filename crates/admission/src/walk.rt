@@ -25,9 +25,9 @@ pub(crate) fn walk(
     ensures causes { OnOk result (causes.new.items
         ≡ with_late (walk limits.now line.items).refused causes.old.items) }
 {
-    let mut order = Order::new(alloc);
+    let mut order = Order::new(alloc, line.len())?;
     for one in line {
-        match order.late(limits, &one) {
+        match order.late(limits, &one)? {
             Some(cause) => causes[one.position as usize] = Some(cause),
             None => order.push(one)?,
         }

@@ -1,23 +1,30 @@
 -- What a run and a replay are told by.
-use Rattle.std.proofs.Common.{◌≡◌, ℕ, List, length, ap, ◌∙◌}
+use Rattle.std.proofs.Common.{◌≡◌, ◌++◌, ℕ, List, length, ap, ap₂, ◌∙◌}
 use Rattle.sol_base.specs.declared.key.Hash32.{Hash32}
 use Rattle.snapshot_codec.specs.declared.snapshot.Snapshot.{Snapshot}
-use Rattle.snapshot_codec.specs.declared.batch.Batch.{Batch}
+use Rattle.snapshot_codec.specs.Snapshot.{snapshot_bytes}
 use Rattle.block_record.specs.declared.block.Block.{Block}
 use Rattle.block_record.specs.declared.block.Listed.{Listed}
 use Rattle.status_cache.specs.Recent.{newest_of}
 use Rattle.block_run.specs.declared.block.BlockResult.{BlockResult}
+use Rattle.block_run.specs.declared.block.Recorded.{Recorded}
+use Rattle.block_run.specs.Answers.{IsRecorded}
 use Rattle.block_run.specs.Blocks.{block_result, listed_result}
 use Rattle.block_replay.specs.declared.verdict.Verdict.{Verdict}
 use Rattle.block_replay.specs.Verdict.{verdict}
 use Rattle.batch_gen.specs.declared.made.Made.{Made}
 use Rattle.bank_cli.specs.declared.answer.Answer.{Answer}
 use Rattle.bank_cli.specs.Answer.{ran, judged, replayed_over, run_line, written, made_run}
+use Rattle.bank_cli.specs.Texts.{refused_lines}
 use Rattle.bank_cli.proofs.EntryCount.{entry_count}
 
--- the answer to a block is that to what its batch comes to
-pub block_told : (snapshot : Snapshot) (batch : Batch) (block : BlockResult) (told : Answer) → block ≡ block_result snapshot batch → told ≡ ran block → told ≡ ran (block_result snapshot batch)
-block_told snapshot batch block told done is = is ∙ ap ran done
+-- the answer to a batch is told by its record, the snapshot after it and the transactions that did not run
+pub block_told : (wanted : BlockResult) (block : Recorded) (output notes : List ℕ) → IsRecorded wanted block → output ≡ block.record ++ snapshot_bytes block.after → notes ≡ refused_lines block.refused
+    → ◌≡◌ {A = Answer} (record { status = 0; output = output; notes = notes }) (ran wanted)
+block_told wanted block output notes is written told =
+    ap₂ (λ (o n : List ℕ). let a : Answer = record { status = 0; output = o; notes = n } in a)
+    (written ∙ ap₂ (λ (r : List ℕ) (s : Snapshot). r ++ snapshot_bytes s) is.record_is is.after)
+    (told ∙ ap refused_lines is.refused)
 
 -- the line of a made input, from the block that it came to
 pub line_told : (count : ℕ) (m : Made) (block : BlockResult) (line : List ℕ) → block ≡ block_result m.snapshot m.batch → line ≡ run_line count (length block.block.entries) block.block

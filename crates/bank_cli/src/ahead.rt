@@ -1,5 +1,5 @@
 //! A batch and its transactions, read behind the snapshot or beside it.
-ghost use Rattle.std.specs.Prelude.{◌≤◌, IfOk, IfSome, drop, length};
+ghost use Rattle.std.specs.Prelude.{◌≡◌, ◌≤◌, IfOk, IfSome, drop, length, max, min};
 ghost use Rattle.spec_base.specs.Reading.{Gives};
 ghost use Rattle.sol_base.specs.Limits.{max_senders};
 ghost use Rattle.snapshot_codec.specs.Snapshot.{BeginsWith};
@@ -15,6 +15,13 @@ use sol_base::Items;
 use std::alloc::Global;
 use std::sync::Wait;
 use std::thread::{Threads, join};
+
+/// How many transactions a batch has at least that is read beside the snapshot: for fewer a thread
+/// costs more than it saves.
+const MANY: u32 = 64;
+
+/// Where the number of transactions stands in a batch.
+const COUNT_PLACE: usize = 48;
 
 /// A batch, and its transactions as they were read.
 #[derive(Drop)]
@@ -67,17 +74,26 @@ fn read_decoded<H: SendGate, R: Threads + Wait + Sync>(
     ensures { Decodes before bytes.now result }
 {
     let batch = read_batch(alloc, bytes, before)?;
-    let parsed = gather(rt, alloc, &batch.wires, senders, send)?.parsed;
+    let busy = busy_senders(senders, batch.wires.len());
+    let parsed = gather(rt, alloc, &batch.wires, busy, send)?.parsed;
     Ok(Decoded { batch, parsed })
 }
 
-/// The snapshot that the bytes begin with, and the batch after it if its place is seen at once: one
-/// is read beside the other. The snapshot takes more memory, which costs least on the caller's
-/// thread.
-pub(crate) fn read_beside<H: SendGate, R: Threads + Wait + Sync>(
+/// No more senders than transactions, and one at least.
+fn busy_senders(senders: u32, transactions: usize) -> u32
+    requires { 1 ≤ senders }
+    ensures { result ≡ min senders (max 1 transactions) }
+{
+    (senders as usize).min(transactions.max(1)) as u32
+}
+
+/// The snapshot that the bytes begin with; and on several lanes the batch after it, where it is seen
+/// at once to have many transactions.
+pub(crate) fn read_parts<H: SendGate, R: Threads + Wait + Sync>(
     rt: &R,
     alloc: Global,
     bytes: &[u8],
+    lanes: u32,
     senders: u32,
     send: &H,
 ) -> (Result<Prefix, SnapshotFault>, Option<Ahead>)
@@ -86,12 +102,51 @@ pub(crate) fn read_beside<H: SendGate, R: Threads + Wait + Sync>(
     ensures exact { Gives is_snapshot_memory (λ prefix. prefix) result.0 (prefix_of bytes.now) }
     ensures ahead { IfSome result.1 (IsReadIn bytes.now) }
 {
+    let many = if lanes == 1 {
+        None
+    } else {
+        place_of_many(bytes)
+    };
+    match many {
+        Some(place) => read_beside(rt, alloc, bytes, place, senders, send),
+        None => (read_snapshot(alloc, bytes), None),
+    }
+}
+
+/// Where a batch of many transactions seems to begin.
+fn place_of_many(bytes: &[u8]) -> Option<usize>
+    ensures { IfSome result (λ place. place ≤ length bytes.now) }
+{
+    let place = snapshot_length(bytes)?;
+    let count = *bytes.get(place..)?.get(COUNT_PLACE..)?.first_chunk()?;
+    if u32::from_le_bytes(count) < MANY {
+        return None;
+    }
+    Some(place)
+}
+
+/// Reads the snapshot, and the batch beside it. The snapshot takes more memory, which costs least on
+/// the caller's thread.
+fn read_beside<H: SendGate, R: Threads + Wait + Sync>(
+    rt: &R,
+    alloc: Global,
+    bytes: &[u8],
+    place: usize,
+    senders: u32,
+    send: &H,
+) -> (Result<Prefix, SnapshotFault>, Option<Ahead>)
+    requires senders { (1 ≤ senders) × (senders ≤ max_senders) }
+    requires place { place ≤ length bytes.now }
+    ensures found { IfOk result.0 (BeginsWith bytes.now) }
+    ensures exact { Gives is_snapshot_memory (λ prefix. prefix) result.0 (prefix_of bytes.now) }
+    ensures ahead { IfSome result.1 (IsReadIn bytes.now) }
+{
     let (ahead, read) = join(
         rt,
         || -> Option<Ahead>
-            requires { (1 ≤ senders) × (senders ≤ max_senders) }
+            requires { (1 ≤ senders) × (senders ≤ max_senders) × (place ≤ length bytes.now) }
             ensures { IfSome result (IsReadIn bytes.entry.now) }
-        { read_ahead(rt, alloc, bytes, senders, send) },
+        { read_ahead(rt, alloc, bytes, place, senders, send) },
         || -> Result<Prefix, SnapshotFault>
             ensures found { IfOk result (BeginsWith bytes.entry.now) }
             ensures exact { Gives is_snapshot_memory (λ prefix. prefix) result
@@ -106,14 +161,15 @@ fn read_ahead<H: SendGate, R: Threads + Wait + Sync>(
     rt: &R,
     alloc: Global,
     bytes: &[u8],
+    place: usize,
     senders: u32,
     send: &H,
 ) -> Option<Ahead>
     requires senders { (1 ≤ senders) × (senders ≤ max_senders) }
+    requires place { place ≤ length bytes.now }
     ensures { IfSome result (IsReadIn bytes.now) }
 {
     let slot = u64::from_le_bytes(*bytes.get(8..)?.first_chunk()?);
-    let place = snapshot_length(bytes)?;
-    let read = read_decoded(rt, alloc, bytes.get(place..)?, slot, senders, send);
+    let read = read_decoded(rt, alloc, &bytes[place..], slot, senders, send);
     Some(Ahead { place, slot, read })
 }

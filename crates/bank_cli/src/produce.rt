@@ -2,26 +2,24 @@
 ghost use Rattle.std.specs.Prelude.{◌≡◌, ◌≤◌, ◌++◌, length, IfOk, OnOk};
 ghost use Rattle.sol_base.specs.Limits.{max_lanes, max_senders, max_transactions};
 ghost use Rattle.admission.specs.Admission.{AreParsed};
-ghost use Rattle.block_record.specs.Record.{IsCounted, bytes_of_record};
-ghost use Rattle.snapshot_codec.specs.Snapshot.{IsReadable, IsWritable, snapshot_bytes as bytes_of_snapshot};
+ghost use Rattle.snapshot_codec.specs.Snapshot.{IsReadable};
 ghost use Rattle.block_run.specs.Blocks.{block_result};
 ghost use Rattle.bank_cli.specs.Answer.{produced as produced_of, ran};
 ghost use Rattle.bank_cli.specs.Texts.{refused_line, refused_lines};
 
-use crate::ahead::{Decoded, read_behind, read_beside};
+use crate::ahead::{Decoded, read_behind, read_parts};
 use crate::answer::Answer;
 use crate::texts::{append_number, refuse_batch, refuse_snapshot};
 use admission::{Refused, refusal_text};
 use bank_lanes::Gate;
-use block_record::{Block, write_record};
-use block_run::{BlockResult, run_parsed};
-use format_fields::ByteCount;
+use block_run::{Recorded, record_parsed};
 use intake::SendGate;
-use snapshot_codec::{Snapshot, read_snapshot, write_snapshot};
+use snapshot_codec::{Snapshot, write_snapshot};
 use sol_base::{Blob, OutOfMemory};
 use std::alloc::Global;
+use std::mem::forget;
 use std::sync::Wait;
-use std::thread::{Threads, join};
+use std::thread::Threads;
 
 /// The answer to `produce`: a snapshot and a batch after it. On several lanes both are read at once.
 pub(crate) fn produced<G: Gate, H: SendGate, R: Threads + Wait + Sync>(
@@ -38,11 +36,7 @@ pub(crate) fn produced<G: Gate, H: SendGate, R: Threads + Wait + Sync>(
     ensures { IfOk result (λ told. told ≡ produced_of input) }
 {
     let bytes = input.as_slice();
-    let (read, ahead) = if lanes == 1 {
-        (read_snapshot(alloc, bytes), None)
-    } else {
-        read_beside(rt, alloc, bytes, senders, send)
-    };
+    let (read, ahead) = read_parts(rt, alloc, bytes, lanes, senders, send);
     let prefix = match read {
         Ok(prefix) => prefix,
         Err(fault) => return refuse_snapshot(alloc, fault),
@@ -56,7 +50,8 @@ pub(crate) fn produced<G: Gate, H: SendGate, R: Threads + Wait + Sync>(
     }
 }
 
-/// Runs a batch, and writes what it comes to.
+/// Runs a batch, and writes what it comes to. Nothing of the block is given back: a user waits for
+/// the answer, and the program ends with it.
 fn produce_block<G: Gate, R: Threads + Wait + Sync>(
     rt: &R,
     alloc: Global,
@@ -72,81 +67,21 @@ fn produce_block<G: Gate, R: Threads + Wait + Sync>(
     ensures { IfOk result (λ told. told ≡ ran (block_result snapshot decoded.batch)) }
 {
     let Decoded { batch, parsed } = decoded;
-    let block = run_parsed(rt, alloc, snapshot, &batch, parsed, lanes, gate)?;
-    write_block(rt, alloc, lanes, block)
-}
-
-/// The record, then the snapshot; and the transactions that did not run.
-fn write_block<R: Threads + Sync>(
-    rt: &R,
-    alloc: Global,
-    lanes: u32,
-    block: BlockResult,
-) -> Result<Answer, OutOfMemory>
-    requires counted { IsCounted block.block }
-    requires writable { IsWritable block.after }
-    ensures { IfOk result (λ told. told ≡ ran block) }
-{
-    let BlockResult {
-        block,
+    let block = record_parsed(rt, alloc, snapshot, &batch, parsed, lanes, gate)?;
+    let Recorded {
+        record,
         after,
         refused,
+        spent,
     } = block;
-    let output = output_of(rt, alloc, lanes, block, after)?;
+    let output = write_snapshot(record, &after)?;
     let notes = refused_notes(alloc, refused.as_slice())?;
+    forget((batch, after, spent));
     Ok(Answer {
         status: 0,
         output,
         notes,
     })
-}
-
-/// The record of the block, with room behind it for the snapshot.
-fn record_before(alloc: Global, block: &Block, after: &Snapshot) -> Result<Blob, OutOfMemory>
-    requires counted { IsCounted block.now }
-    requires writable { IsWritable after.now }
-    ensures { IfOk result (λ output. output ≡ bytes_of_record block.now) }
-{
-    let count = write_record(ByteCount(0), block)?;
-    let count = write_snapshot(count, after)?;
-    let output = Blob::with_capacity(alloc, count.0)?;
-    write_record(output, block)
-}
-
-/// The bytes with those of the snapshot behind them.
-fn with_snapshot(output: Blob, after: Snapshot) -> Result<Blob, OutOfMemory>
-    requires { IsWritable after }
-    ensures { IfOk result (λ whole. whole ≡ output ++ bytes_of_snapshot after) }
-{
-    write_snapshot(output, &after)
-}
-
-/// The record and the snapshot after it, in one buffer. On several lanes the block's memory is given
-/// back beside the snapshot's writing.
-fn output_of<R: Threads + Sync>(
-    rt: &R,
-    alloc: Global,
-    lanes: u32,
-    block: Block,
-    after: Snapshot,
-) -> Result<Blob, OutOfMemory>
-    requires counted { IsCounted block }
-    requires writable { IsWritable after }
-    ensures { IfOk result (λ output. output ≡ bytes_of_record block ++ bytes_of_snapshot after) }
-{
-    let front = record_before(alloc, &block, &after)?;
-    if lanes == 1 {
-        return with_snapshot(front, after);
-    }
-    let ((), output) = join(
-        rt,
-        move || drop(block),
-        move || -> Result<Blob, OutOfMemory>
-            requires { IsWritable after }
-            ensures { IfOk result (λ whole. whole ≡ front ++ bytes_of_snapshot after) }
-        { with_snapshot(front, after) },
-    );
-    output
 }
 
 /// A line for each transaction that did not run.

@@ -1,34 +1,36 @@
 -- What a core begins with.
 use Rattle.sol_base.specs.Limits.{max_lanes}
-use Rattle.std.proofs.Common.{◌≡◌, ℕ, zero, suc, ◌+◌, ◌*◌, ◌^◌, ◌<◌, ◌≤◌, Bool, true, false, ◌||◌, cond, inl, inr, ◌⊎◌, List, [], ◌∷◌, ◌++◌, length, get_or, take, replicate, Option, Some, None, refl, sym, ◌∙◌, ap, subst, arith}
-use Rattle.std.specs.Prelude.{unwrap_or, vec_len, vec_capacity}
+use Rattle.std.proofs.Common.{◌≡◌, ℕ, zero, suc, ◌+◌, ◌*◌, ◌^◌, ◌<◌, ◌≤◌, Bool, true, false, ◌||◌, cond, inl, inr, ◌⊎◌, List, [], ◌∷◌, ◌++◌, length, get_or, take, replicate, length-append, Option, Some, None, refl, sym, ◌∙◌, ap, ap₂, subst, arith}
+use Rattle.std.specs.Prelude.{not, map, unwrap_or, vec_len, vec_capacity}
 use Rattle.std.specs.List.{IsDistinct}
 use Rattle.std.specs.Option.{option_map}
+use Rattle.std.specs.Arc.{arc_value}
 use Rattle.std.specs.declared.vec.Vec.{Vec}
 use Rattle.std.specs.declared.alloc.Global.{Global}
-use Rattle.std.proofs.lemmas.Bool.{cases_eq, cond-false}
-use Rattle.std.proofs.lemmas.List.{get_or-replicate, length-replicate, length_push, get_or_push, get_or_append_left, take_more, length-map}
-use Rattle.std.proofs.lemmas.List.Folds.{list_any-append}
+use Rattle.std.proofs.lemmas.Bool.{cases_eq, cond-false, or_left, or_right}
+use Rattle.std.proofs.lemmas.List.{get_or-replicate, length-replicate, length_push, get_or_push, get_or_append_left, length-map, get_or_default}
+use Rattle.std.proofs.Math.ListN.{get_or-map}
+use Rattle.std.proofs.lemmas.List.Folds.{list_any-append, list_any_at}
 use Rattle.sol_base.specs.declared.key.Key.{Key}
 use Rattle.sol_base.specs.declared.account.Account.{Account}
 use Rattle.sol_base.specs.declared.lock.Lock.{Lock}
 use Rattle.sol_base.specs.Accounts.{empty_account}
 use Rattle.tx_report.specs.declared.outcome.Outcome.{Outcome}
-use Rattle.account_store.specs.State.{State, get, at, remove, IsState}
-use Rattle.account_store.proofs.StateLaws.{at-remove, IsState-remove}
+use Rattle.account_store.specs.State.{State, get, at, without, IsState}
+use Rattle.account_store.proofs.Walks.{get-without}
 use Rattle.bank_law.specs.declared.event.Event.{Event}
 use Rattle.bank_law.specs.Job.{Job, same_key, has_key, lock_keys}
 use Rattle.bank_law.specs.Machine.{waiting, is_held, Run, held_count, count_below}
 use Rattle.lock_table.specs.declared.locks.NumberedLock.{NumberedLock}
-use Rattle.lock_table.specs.Numbers.{Numbers, with_keys, numbered_key}
-use Rattle.lock_table.proofs.Numbering.{Numbers-extends, with_keys-extends}
+use Rattle.lock_table.specs.Numbers.{Numbers, numbered_key}
 use Rattle.prio_graph.specs.declared.mark.Mark.TheVariants.{Waiting, Done}
 use Rattle.prio_graph.specs.Ready.{set_at}
-use Rattle.bank_core.specs.Slots.{Shared, value_of, account_at}
+use Rattle.bank_core.specs.Slots.{Shared, value_of, account_at, in_slot}
 use Rattle.bank_core.specs.Counts.{locks_before}
-use Rattle.bank_core.specs.Keeping.{Keeps, HasRoom, HasBuffers}
-use Rattle.bank_core.proofs.Merges.{not_before}
-use Rattle.lock_table.proofs.Tables.{tables_grow, stay_distinct}
+use Rattle.bank_core.specs.Openings.{AreKnown}
+use Rattle.bank_law.proofs.Keys.{same_key-self}
+use Rattle.bank_core.specs.Keeping.{Keeps, IsApart, HasRoom, HasBuffers}
+use Rattle.lock_table.proofs.Numbering.{no_key}
 use Rattle.bank_core.proofs.Numbers.{as_many_locks}
 
 pub locks_more : (job : Job) (i n : ℕ) → i < n → length (job.locks i) + locks_before job i ≤ locks_before job n
@@ -39,83 +41,110 @@ locks_more job i (suc n) l =
       | inr d ↦ let rest = locks_more job i n (omega (arith, l, d)) in omega (arith, rest)
     ]
 
+-- the keys of the first n positions
+pub record KeysSoFar (job : Job) (ks : List Key) (n : ℕ) : Type 0 where
+  pub long : length ks ≡ locks_before job n
+  pub all : (i : ℕ) → i < n → AreKnown ks (job.locks i)
+
+known_more : (ks more : List Key) (locks : List Lock) → AreKnown ks locks → AreKnown (ks ++ more) locks
+known_more ks more locks known k d l = list_any-append (λ x. same_key (get_or locks k d).key x) ks more ∙ or_left _ _ (known k d l)
+
+known_own : (ks : List Key) (locks : List Lock) → AreKnown (ks ++ lock_keys locks) locks
+known_own ks locks k d l =
+    let key : Key = (get_or locks k d).key in
+    list_any-append (λ x. same_key (get_or locks k d).key x) ks (lock_keys locks)
+    ∙ or_right (has_key key ks) _ (list_any_at (λ x. same_key (get_or locks k d).key x) (lock_keys locks) k d.key (let e = length-map locks (λ (lock : Lock). lock.key) in omega (arith, e, l))
+    (ap (same_key key) (get_or-map (λ (lock : Lock). lock.key) locks k d) ∙ same_key-self key))
+
+pub keys_first : (job : Job) (ks : List Key) (n : ℕ) → ks ≡ [] → n ≡ 0 → KeysSoFar job ks n
+keys_first job ks n nil e = record {
+  long = ap length nil ∙ ap (locks_before job) (sym e);
+  all = λ i l. absurd (omega (arith, e, l));
+}
+
+pub keys_next : (job : Job) (ks next : List Key) (n : ℕ) (locks : List Lock) → KeysSoFar job ks n → locks ≡ job.locks n → next ≡ ks ++ lock_keys locks → KeysSoFar job next (n + 1)
+keys_next job ks next n locks K here grown = record {
+  long =
+      let a = K.long in
+      let b = ap length grown in
+      let c = length-append ks (lock_keys locks) in
+      let d = length-map locks (λ (lock : Lock). lock.key) in
+      let f = ap length here in
+      let e : locks_before job (n + 1) ≡ length (job.locks n) + locks_before job n = ap (locks_before job) (let more : n + 1 ≡ suc n = omega arith in more) in
+      omega (arith, a, b, c, d, e, f);
+  all = λ i l. by_case i l (cases_eq i n);
+}
+  where
+    by_case : (i : ℕ) → i < n + 1 → (i ≡ n) ⊎ (i ≡ n → ⊥) → AreKnown next (job.locks i)
+    by_case i l (inl e) = subst (λ x. AreKnown next (job.locks x)) (sym e) (subst (λ ls. AreKnown next ls) here (subst (λ x. AreKnown x locks) (sym grown) (known_own ks locks)))
+    by_case i l (inr d) = subst (λ x. AreKnown x (job.locks i)) (sym grown) (known_more ks (lock_keys locks) (job.locks i) (K.all i (omega (arith, l, d))))
+
 -- the sets of the first n positions
 pub record SetsSoFar (job : Job) (ks : List Key) (sets : List (List NumberedLock)) (n : ℕ) : Type 0 where
   pub long : length sets ≡ n
-  pub few : length ks ≤ locks_before job n
-  pub distinct : IsDistinct same_key ks
   pub numbered : (i : ℕ) → i < n → Numbers ks (job.locks i) (set_at sets i)
 
-pub sets_first : (job : Job) (ks : List Key) (sets : List (List NumberedLock)) (n : ℕ) → ks ≡ [] → sets ≡ [] → n ≡ 0 → SetsSoFar job ks sets n
-unfolding IsDistinct
-sets_first job ks sets n none nil e = record {
+pub sets_first : (job : Job) (ks : List Key) (sets : List (List NumberedLock)) (n : ℕ) → sets ≡ [] → n ≡ 0 → SetsSoFar job ks sets n
+sets_first job ks sets n nil e = record {
   long = ap length nil ∙ sym e;
-  few = let l = ap length none in omega (arith, l);
-  distinct = subst (IsDistinct same_key) (sym none) tt;
   numbered = λ i l. absurd (omega (arith, e, l));
 }
 
-pub sets_next : (job : Job) (ks next : List Key) (sets more : List (List NumberedLock)) (set : List NumberedLock) (n : ℕ) (locks : List Lock) → SetsSoFar job ks sets n → locks ≡ job.locks n → next ≡ with_keys ks (lock_keys locks) → Numbers next locks set → more ≡ sets ++ set ∷ []
-    → SetsSoFar job next more (n + 1)
-sets_next job ks next sets more set n locks S here grown numbers pushed = record {
+pub sets_next : (job : Job) (ks : List Key) (sets more : List (List NumberedLock)) (set : List NumberedLock) (n : ℕ) (locks : List Lock) → SetsSoFar job ks sets n → locks ≡ job.locks n → Numbers ks locks set → more ≡ sets ++ set ∷ []
+    → SetsSoFar job ks more (n + 1)
+sets_next job ks sets more set n locks S here numbers pushed = record {
   long = let l = S.long in ap length pushed ∙ (length_push sets set ∙ ap (λ m. m + 1) l);
-  few = let f = S.few in let a = tables_grow ks (lock_keys locks) in let b = ap length grown in let c = length-map locks (λ (lock : Lock). lock.key) in let d = ap length here in let e : locks_before job (n + 1) ≡ length (job.locks n) + locks_before job n = ap (locks_before job) (let next : n + 1 ≡ suc n = omega arith in next) in omega (arith, f, a, b, c, d, e);
-  distinct = subst (IsDistinct same_key) (sym grown) (stay_distinct ks (lock_keys locks) S.distinct);
   numbered = λ i l. by_case i l (cases_eq i n);
 }
   where
-    by_case : (i : ℕ) → i < n + 1 → (i ≡ n) ⊎ (i ≡ n → ⊥) → Numbers next (job.locks i) (set_at more i)
+    by_case : (i : ℕ) → i < n + 1 → (i ≡ n) ⊎ (i ≡ n → ⊥) → Numbers ks (job.locks i) (set_at more i)
     by_case i l (inl e) =
-        subst (λ s. Numbers next (job.locks i) s) (sym (ap (λ s. set_at s i) pushed ∙ (get_or_push sets set [] i (S.long ∙ sym e))))
-        (subst (λ ls. Numbers next ls set) (here ∙ ap job.locks (sym e)) numbers)
+        subst (λ s. Numbers ks (job.locks i) s) (sym (ap (λ s. set_at s i) pushed ∙ (get_or_push sets set [] i (S.long ∙ sym e))))
+        (subst (λ ls. Numbers ks ls set) (here ∙ ap job.locks (sym e)) numbers)
     by_case i l (inr d) =
-        subst (λ s. Numbers next (job.locks i) s) (sym (ap (λ s. set_at s i) pushed ∙ get_or_append_left sets (set ∷ []) [] i (let m = S.long in omega (arith, l, d, m))))
-        (subst (λ ks'. Numbers ks' (job.locks i) (set_at sets i)) (sym grown) (Numbers-extends ks (with_keys ks (lock_keys locks)) (job.locks i) (set_at sets i) (with_keys-extends ks (lock_keys locks)) (S.numbered i (omega (arith, l, d)))))
+        subst (λ s. Numbers ks (job.locks i) s) (sym (ap (λ s. set_at s i) pushed ∙ get_or_append_left sets (set ∷ []) [] i (let m = S.long in omega (arith, l, d, m))))
+        (S.numbered i (omega (arith, l, d)))
 
--- the first n keys left the accounts, and stand in slots
-pub record TakenSoFar (keys : List Key) (slots : List (Option Shared)) (n : ℕ) (old now : State) : Type 0 where
-  pub long : length slots ≡ n
-  pub is_old : IsState old
-  pub is_now : IsState now
-  pub stored : (k : ℕ) → k < n → account_at slots k ≡ Some (at old (numbered_key keys k))
-  pub rest : (key : Key) → at now key ≡ cond (has_key key (take n keys)) empty_account (at old key)
+same_shown : (o : Option Shared) → option_map value_of o ≡ option_map arc_value o
+same_shown None = refl
+same_shown (Some share) = refl
 
--- the account that a slot gets: what was there, or the empty account
-pub taken_next : (keys : List Key) (slots more : List (Option Shared)) (n : ℕ) (old now next : State) (share : Shared) → IsDistinct same_key keys → n < length keys → TakenSoFar keys slots n old now
-    → value_of share ≡ at now (numbered_key keys n) → next ≡ remove now (numbered_key keys n) → more ≡ slots ++ Some share ∷ [] → TakenSoFar keys more (n + 1) old next
-taken_next keys slots more n old now next share distinct below T value removed pushed = record {
-  long = let l = T.long in ap length pushed ∙ (length_push slots (Some share) ∙ ap (λ m. m + 1) l);
-  is_old = T.is_old;
-  is_now = subst IsState (sym removed) (IsState-remove now (numbered_key keys n) T.is_now);
-  stored = λ k l. by_place k l (cases_eq k n);
-  rest = λ q. ap (λ s. at s q) removed ∙ (at-remove now (numbered_key keys n) q
-      ∙ (ap (λ a. cond (same_key q (numbered_key keys n)) empty_account a) (T.rest q) ∙ (both (at old q) (same_key q (numbered_key keys n)) (has_key q (take n keys)) ∙ ap (λ b. cond b empty_account (at old q)) (sym (longer q)))));
+found_or : (o : Option Account) → in_slot o ≡ unwrap_or o empty_account
+found_or None = refl
+found_or (Some a) = refl
+
+-- the accounts that were taken out of a state, in slots
+module _ (s : State) (keys : List Key) (taken slots : List (Option Shared)) (found : map (option_map arc_value) taken ≡ map (get s) keys) (filled : map (option_map value_of) slots ≡ map (λ o. Some (in_slot (option_map value_of o))) taken) where
+  stand : (os : List (Option Shared)) (ks : List Key) → map (option_map arc_value) os ≡ map (get s) ks → map (λ o. Some (in_slot (option_map value_of o))) os ≡ map (λ k. Some (at s k)) ks
+  stand [] [] e = refl
+  stand [] (k ∷ ks) e = absurd (cc)
+  stand (o ∷ os) [] e = absurd (cc)
+  stand (o ∷ os) (k ∷ ks) e =
+      let here : option_map arc_value o ≡ get s k = cc in
+      let rest : map (option_map arc_value) os ≡ map (get s) ks = cc in
+      ap₂ (λ (a : Account) (rest : List (Option Account)). Some a ∷ rest) (ap in_slot (same_shown o ∙ here) ∙ found_or (get s k)) (stand os ks rest)
+
+  pub taken_long : length slots ≡ length keys
+  taken_long = sym (length-map slots (option_map value_of)) ∙ ap length (filled ∙ stand taken keys found) ∙ length-map keys (λ k. Some (at s k))
+
+  pub taken_stored : (n : ℕ) → n < length keys → account_at slots n ≡ Some (at s (numbered_key keys n))
+  taken_stored n l =
+      sym (get_or-map (option_map value_of) slots n None)
+      ∙ ap (λ (shares : List (Option Account)). get_or shares n None) (filled ∙ stand taken keys found)
+      ∙ get_or_default (map (λ k. Some (at s k)) keys) n None (Some (at s no_key)) (let e = length-map keys (λ k. Some (at s k)) in omega (arith, e, l))
+      ∙ get_or-map (λ k. Some (at s k)) keys n no_key
+
+-- the others stand apart
+pub taken_apart : (s rest : State) (keys : List Key) → IsState s → IsState rest → rest ≡ without s keys → IsApart s rest keys
+taken_apart s rest keys is left same = record {
+  is_start = is;
+  is_rest = left;
+  at_rest = λ q. ap (λ t. at t q) same ∙ ap (λ o. unwrap_or o empty_account) (get-without s keys q) ∙ by_test (has_key q keys) (get s q);
 }
   where
-    both : (a : Account) (b c : Bool) → cond b empty_account (cond c empty_account a) ≡ cond (c || (b || false)) empty_account a
-    both a true true = refl
-    both a true false = refl
-    both a false true = refl
-    both a false false = refl
-
-    longer : (q : Key) → has_key q (take (n + 1) keys) ≡ (has_key q (take n keys) || (same_key q (numbered_key keys n) || false))
-    longer q = ap (has_key q) (take_more keys n (record { 0 = [] }) below) ∙ list_any-append (λ k. same_key q k) (take n keys) (numbered_key keys n ∷ [])
-
-    as_old : at now (numbered_key keys n) ≡ at old (numbered_key keys n)
-    as_old = T.rest (numbered_key keys n) ∙ cond-false _ _ _ (not_before keys n below distinct)
-
-    by_place : (k : ℕ) → k < n + 1 → (k ≡ n) ⊎ (k ≡ n → ⊥) → account_at more k ≡ Some (at old (numbered_key keys k))
-    by_place k l (inl e) =
-        ap (λ s. account_at s k) pushed ∙ (ap (option_map value_of) (get_or_push slots (Some share) None k (T.long ∙ sym e))
-        ∙ ap Some (value ∙ (as_old ∙ ap (λ m. at old (numbered_key keys m)) (sym e))))
-    by_place k l (inr d) =
-        ap (λ s. account_at s k) pushed ∙ (ap (option_map value_of) (get_or_append_left slots (Some share ∷ []) None k (let m = T.long in omega (arith, l, d, m))) ∙ T.stored k (omega (arith, l, d)))
-
-pub value_taken : (s : State) (key : Key) (o : Option Shared) (share : Shared) → option_map value_of o ≡ get s key → o ≡ Some share → value_of share ≡ at s key
-value_taken s key o share found e = ap (λ (x : Option Account). unwrap_or x empty_account) (ap (option_map value_of) (sym e) ∙ found)
-
-pub value_absent : (s : State) (key : Key) (o : Option Shared) (share : Shared) → option_map value_of o ≡ get s key → o ≡ None → value_of share ≡ empty_account → value_of share ≡ at s key
-value_absent s key o share found e empty = empty ∙ ap (λ (x : Option Account). unwrap_or x empty_account) (ap (option_map value_of) (sym e) ∙ found)
+    by_test : (b : Bool) (o : Option Account) → unwrap_or (cond (not b) o None) empty_account ≡ cond b empty_account (unwrap_or o empty_account)
+    by_test true o = refl
+    by_test false o = refl
 
 -- a core that has just begun
 pub opening_keeps : (job : Job) (start : State) (ks : List Key) (sets : List (List NumberedLock)) (slots : List (Option Shared)) (outcomes : List (Option Outcome))

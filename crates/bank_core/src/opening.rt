@@ -1,15 +1,17 @@
 //! What a core is made from: the locks, the graph and the slots.
-ghost use Rattle.std.specs.Prelude.{◌≡◌, ℕ, ◌+◌, ◌*◌, ◌^◌, ◌<◌, ◌≤◌, [], Some, None, IfOk, OnOk, length, replicate, vec_len, vec_capacity, slice_index_or};
+ghost use Rattle.std.specs.Prelude.{◌≡◌, ℕ, ◌+◌, ◌*◌, ◌^◌, ◌<◌, ◌≤◌, ◌++◌, [], Some, None, IfOk, OnOk, length, replicate, vec_len, vec_capacity, slice_index_or, map as each, option_map};
+ghost use Rattle.std.specs.Arc.{arc_value};
+ghost use Rattle.sol_base.specs.Accounts.{empty_account};
 ghost use Rattle.std.specs.List.{IsDistinct};
 ghost use Rattle.std.specs.declared.vec.Vec.{Vec as VecValue};
 ghost use Rattle.std.specs.declared.alloc.Global.{Global as GlobalValue};
 ghost use Rattle.account_store.specs.State.{at};
-ghost use Rattle.bank_law.specs.Job.{same_key, keys};
+ghost use Rattle.bank_law.specs.Job.{same_key, keys, lock_keys};
 ghost use Rattle.lock_table.specs.Numbers.{Numbers, numbered_key};
 ghost use Rattle.prio_graph.specs.Ready.{set_at};
-ghost use Rattle.bank_core.specs.Slots.{Shared, account_at};
+ghost use Rattle.bank_core.specs.Slots.{Shared, account_at, in_slot, value_of};
 ghost use Rattle.bank_core.specs.Keeping.{IsApart};
-ghost use Rattle.bank_core.specs.Openings.{AreNumbered};
+ghost use Rattle.bank_core.specs.Openings.{AreNumbered, AreKnown};
 ghost use Rattle.bank_core.specs.Counts.{locks_before};
 ghost use Rattle.sol_base.specs.Limits.{max_lanes};
 
@@ -17,13 +19,14 @@ use crate::kept::Core;
 use crate::locked::{Locked, OfWork};
 use crate::origin::Origin;
 use crate::work::Work;
-use account_store::Accounts;
+use account_store::{Accounts, TakenOut};
 use bank_law::Event;
-use lock_table::{KeyTable, LockSet, set_of};
+use lock_table::{KeyTable, LockSet, set_of_known};
 use prio_graph::Graph;
 use proof_note::Note;
-use sol_base::{Account, Items, OutOfMemory};
+use sol_base::{Account, Items, Key, LockList, OutOfMemory};
 use std::alloc::Global;
+use std::mem::replace;
 use std::sync::Arc;
 use tx_report::Outcome;
 
@@ -34,24 +37,49 @@ fn origin_of<W: Work>(work: &W, accounts: &Accounts) -> Note<Origin<W::Told>>
     Note::told_by(&(work, accounts))
 }
 
+/// Adds the keys of locks.
+fn push_keys(keys: &mut Vec<Key>, locks: &LockList) -> Result<(), OutOfMemory>
+    ensures { OnOk result (keys.new.items ≡ keys.old.items ++ lock_keys locks.now) }
+{
+    let locks = locks.as_slice();
+    for lock in locks {
+        keys.push(lock.key)?;
+    }
+    Ok(())
+}
+
+/// The keys of all locks.
+fn keys_of<L: Locked>(alloc: Global, locked: &L) -> Result<Vec<Key>, OutOfMemory>
+    ensures long { IfOk result (λ keys.
+        length keys.items ≡ locks_before (L.job locked.now) (L.job locked.now).count) }
+    ensures all { IfOk result (λ keys. (i : ℕ) → i < (L.job locked.now).count
+        → AreKnown keys.items ((L.job locked.now).locks i)) }
+{
+    let mut keys = Vec::new(alloc);
+    for position in 0..locked.count() {
+        push_keys(&mut keys, locked.locks(position))?;
+    }
+    Ok(keys)
+}
+
 /// The locks of each position, over the numbers of their keys.
 fn sets_of<L: Locked>(
     alloc: Global,
     locked: &L,
-    table: &mut KeyTable,
+    table: &KeyTable,
 ) -> Result<Items<LockSet>, OutOfMemory>
-    requires empty { table.old ≡ [] }
     requires apart { (i : ℕ) → i < (L.job locked.now).count
         → IsDistinct same_key (keys (L.job locked.now) i) }
-    requires room { locks_before (L.job locked.now) (L.job locked.now).count < 2 ^ 32 }
+    requires known { (i : ℕ) → i < (L.job locked.now).count
+        → AreKnown table.now ((L.job locked.now).locks i) }
     ensures long { IfOk result (λ sets. length sets ≡ (L.job locked.now).count) }
     ensures numbered { IfOk result (λ sets. (i : ℕ) → i < (L.job locked.now).count
-        → Numbers table.new ((L.job locked.now).locks i) (set_at sets i)) }
-    ensures distinct { OnOk result (IsDistinct same_key table.new) }
+        → Numbers table.now ((L.job locked.now).locks i) (set_at sets i)) }
 {
-    let mut sets = Items::new(alloc);
-    for position in 0..locked.count() {
-        sets.push(set_of(alloc, table, locked.locks(position))?)?;
+    let count = locked.count();
+    let mut sets = Items::with_capacity(alloc, count as usize)?;
+    for position in 0..count {
+        sets.push(set_of_known(alloc, table, locked.locks(position))?)?;
     }
     Ok(sets)
 }
@@ -83,11 +111,42 @@ pub fn number<L: Locked>(alloc: Global, locked: &L) -> Result<Numbered, OutOfMem
     ensures { IfOk result (λ n. AreNumbered (L.job locked.now) n.table n.graph n.room) }
 {
     let _count = locked.count();
-    let mut table = KeyTable::new(alloc);
-    let sets = sets_of(alloc, locked, &mut table)?;
+    let table = KeyTable::of_keys(alloc, keys_of(alloc, locked)?);
+    let _len = table.len();
+    let sets = sets_of(alloc, locked, &table)?;
     let room = most_locks(sets.as_slice());
     let graph = Graph::new(alloc, sets)?;
     Ok(Numbered { table, graph, room })
+}
+
+/// The account, or the empty one where it is absent.
+fn or_empty(
+    account: Option<Arc<Account>>,
+    empty: &Arc<Account>,
+) -> Result<Arc<Account>, OutOfMemory>
+    requires { arc_value empty.now ≡ empty_account }
+    ensures { IfOk result (λ share. value_of share ≡ in_slot (option_map value_of account)) }
+{
+    match account {
+        Some(account) => Ok(account),
+        None => Ok(Arc::try_clone(empty)?),
+    }
+}
+
+/// Accounts in slots, the empty one where one is absent.
+fn in_slots(
+    alloc: Global,
+    accounts: Vec<Option<Arc<Account>>>,
+) -> Result<Vec<Option<Arc<Account>>>, OutOfMemory>
+    ensures { IfOk result (λ slots. each (option_map value_of) slots.items
+        ≡ each (λ account. Some (in_slot (option_map value_of account))) accounts.items) }
+{
+    let empty = Arc::new(alloc, Account::empty(alloc))?;
+    let mut slots = Vec::with_capacity(alloc, accounts.len())?;
+    for account in accounts {
+        slots.push(Some(or_empty(account, &empty)?))?;
+    }
+    Ok(slots)
 }
 
 /// The accounts of the table's keys, which leave the others. An absent one is the empty account.
@@ -103,15 +162,13 @@ fn slots_of(
     ensures apart { OnOk result (IsApart accounts.old accounts.new table.now) }
 {
     let _total = accounts.total();
-    let empty = Arc::new(alloc, Account::empty(alloc))?;
-    let mut slots = Vec::with_capacity(alloc, table.len() as usize)?;
-    for n in 0..table.len() {
-        let account = match accounts.remove(&table.key(n)) {
-            Some(account) => account,
-            None => Arc::try_clone(&empty)?,
-        };
-        slots.push(Some(account))?;
-    }
+    let all = replace(accounts, Accounts::new(alloc));
+    let TakenOut {
+        accounts: taken,
+        rest,
+    } = all.take_out(alloc, table.keys())?;
+    let slots = in_slots(alloc, taken)?;
+    *accounts = rest;
     Ok(slots)
 }
 

@@ -41,13 +41,13 @@ line_again : (line : List ℕ) → LineFits line → IsBytes (sized_bytes line) 
 unfolding line_in
 line_again line fits are = rw (fits.text, fits.short) refl
 
-failure_again : (index code detail : ℕ) (d : Data) → d ≡ object (member (codes "code") (number_json code) (member (codes "detail") (number_json detail) (member (codes "index") (number_json index) no_members))) → index ≤ 255 → code ≤ 65535 → detail ≤ 4294967295
+failure_again : (index code detail : ℕ) (d : Data) → d ≡ object (member (codes "code") (number_json code) (member (codes "detail") (number_json detail) (member (codes "index") (number_json index) no_members))) → index ≤ 2 ^ 8 - 1 → code ≤ 2 ^ 16 - 1 → detail ≤ 2 ^ 32 - 1
     → failure_in d ≡ Ok (part_bytes 1 index code detail)
 unfolding failure_in known_in
 failure_again index code detail d is low mid high = rw is (rw (
-  member_again (codes "index") (number_in 0 255) _ (number_json index) index refl (number_again 0 255 index (omega arith) low),
-  member_again (codes "code") (number_in 0 65535) _ (number_json code) code refl (number_again 0 65535 code (omega arith) mid),
-  member_again (codes "detail") (number_in 0 4294967295) _ (number_json detail) detail refl (number_again 0 4294967295 detail (omega arith) high),
+  member_again (codes "index") (number_in 0 (2 ^ 8 - 1)) _ (number_json index) index refl (number_again 0 (2 ^ 8 - 1) index (omega arith) low),
+  member_again (codes "code") (number_in 0 (2 ^ 16 - 1)) _ (number_json code) code refl (number_again 0 (2 ^ 16 - 1) code (omega arith) mid),
+  member_again (codes "detail") (number_in 0 (2 ^ 32 - 1)) _ (number_json detail) detail refl (number_again 0 (2 ^ 32 - 1) detail (omega arith) high),
 ) refl)
 
 status_again : (status : Status) → IsStatus status → status_in (status_json status) ≡ Ok (status_bytes_of status)
@@ -60,7 +60,7 @@ status_again (Failed index cause detail) fits =
     member_again (codes "failed") failure_in (status_json (Failed index cause detail)) failure (part_bytes 1 index (code_of cause) detail) refl read
 status_again (Dropped cause) fits =
     let code = drop_code_of-fits cause in
-    rw (member_again (codes "dropped") (number_in 0 65535) (status_json (Dropped cause)) (number_json (drop_code_of cause)) (drop_code_of cause) refl (number_again 0 65535 (drop_code_of cause) (omega arith) (omega (arith, code)))) refl
+    rw (member_again (codes "dropped") (number_in 0 (2 ^ 16 - 1)) (status_json (Dropped cause)) (number_json (drop_code_of cause)) (drop_code_of cause) refl (number_again 0 (2 ^ 16 - 1) (drop_code_of cause) (omega arith) (omega (arith, code)))) refl
 
 -- ---- entries
 

@@ -15,7 +15,7 @@ use Rattle.sol_base.specs.declared.key.Hash32.{Hash32}
 use Rattle.sol_base.specs.declared.account.Account.{Account}
 use Rattle.sol_base.specs.declared.limits.Limits.{Limits}
 use Rattle.sol_base.specs.Keys.{IsKey, IsHash, hash_bytes}
-use Rattle.sol_base.specs.Limits.{max_transactions}
+use Rattle.sol_base.specs.Limits.{max_transactions, max_transaction_keys, max_stack_height, max_block_units}
 use Rattle.sol_base.specs.Accounts.{max_data_len, IsShort}
 use Rattle.status_cache.specs.declared.recent.Mark.{Mark}
 use Rattle.status_cache.specs.Recent.{max_marks}
@@ -23,7 +23,7 @@ use Rattle.account_store.specs.State.{IsHeld, entries, lamports_of}
 use Rattle.snapshot_codec.specs.declared.snapshot.Snapshot.{Snapshot}
 use Rattle.snapshot_codec.specs.declared.snapshot.Prefix.{Prefix}
 use Rattle.snapshot_codec.specs.declared.fault.SnapshotFault.{SnapshotFault}
-use Rattle.snapshot_codec.specs.Snapshot.{flag, account_bytes, mark_bytes, marks_bytes, state_bytes, limits_bytes, snapshot_bytes, snapshot_bytes_one, AreAllowed, Spells, BeginsWith}
+use Rattle.snapshot_codec.specs.Snapshot.{max_accounts, flag, account_bytes, mark_bytes, marks_bytes, state_bytes, limits_bytes, snapshot_bytes, snapshot_bytes_one, AreAllowed, Spells, BeginsWith}
 use Rattle.snapshot_codec.specs.SnapshotReading.{prefix_of}
 use Rattle.snapshot_codec.proofs.MarkLaws.{MarkFits, MarksFit, fits-from_recent}
 use Rattle.snapshot_codec.proofs.SnapshotLaws.{prefix_takes}
@@ -90,10 +90,10 @@ unfolding limits_in known_in
 limits_again limits fits =
     let d = limits_json limits in
     rw (
-      member_again (codes "keys") (number_in 1 128) d (number_json limits.keys) limits.keys refl (number_again 1 128 limits.keys fits.keys.0 fits.keys.1),
-      member_again (codes "height") (number_in 1 9) d (number_json limits.height) limits.height refl (number_again 1 9 limits.height fits.height.0 fits.height.1),
-      member_again (codes "key_units") (number_in 1 1000000000000) d (number_json limits.key_units) limits.key_units refl (number_again 1 1000000000000 limits.key_units fits.key_units.0 fits.key_units.1),
-      member_again (codes "block_units") (number_in 1 1000000000000) d (number_json limits.block_units) limits.block_units refl (number_again 1 1000000000000 limits.block_units fits.block_units.0 fits.block_units.1),
+      member_again (codes "keys") (number_in 1 max_transaction_keys) d (number_json limits.keys) limits.keys refl (number_again 1 max_transaction_keys limits.keys fits.keys.0 fits.keys.1),
+      member_again (codes "height") (number_in 1 max_stack_height) d (number_json limits.height) limits.height refl (number_again 1 max_stack_height limits.height fits.height.0 fits.height.1),
+      member_again (codes "key_units") (number_in 1 max_block_units) d (number_json limits.key_units) limits.key_units refl (number_again 1 max_block_units limits.key_units fits.key_units.0 fits.key_units.1),
+      member_again (codes "block_units") (number_in 1 max_block_units) d (number_json limits.block_units) limits.block_units refl (number_again 1 max_block_units limits.block_units fits.block_units.0 fits.block_units.1),
     ) refl
 
 -- each account of a state is such
@@ -110,7 +110,7 @@ record Fits (s : Snapshot) : Type 0 where
   limits : AreAllowed s.limits
   slot : s.slot ≤ 2 ^ 64 - 1
   marks : MarksFit s.recent
-  few : length (entries s.accounts) ≤ 4194304
+  few : length (entries s.accounts) ≤ max_accounts
   accounts : AllByRecursion AccountFits (entries s.accounts)
 
 fits_from : (bytes : List ℕ) (prefix : Prefix) → BeginsWith bytes prefix → Fits prefix.snapshot
@@ -122,7 +122,7 @@ fits_from bytes prefix begins =
       limits = is.limits;
       slot = let t = has.slot in omega arith;
       marks = fits-from_recent s.recent is.recent is.messages has.hashes has.names;
-      few = subst (λ n. n ≤ 4194304) (len-entries s.accounts) is.accounts;
+      few = subst (λ n. n ≤ max_accounts) (len-entries s.accounts) is.accounts;
       accounts = accounts_fit (entries s.accounts) (recursion_from_All (λ e. IsKey e.0) (entries s.accounts) has.keys) (recursion_from_All (λ e. IsKey e.1.owner) (entries s.accounts) has.owners) is.state.held is.state.fits;
     }
 
@@ -138,8 +138,8 @@ sections_again s d recent accounts fits marks_are state_are =
     rw (
       member_again (codes "recent") (list_in max_marks mark_in) d (list_json mark_json s.recent) (length s.recent, marks) recent
           (list_again max_marks mark_in mark_json s.recent marks fits.marks.few (items_again mark_in mark_json mark_bytes MarkFits mark_again 0 s.recent fits.marks.each (after_bytes _ mark_count marks marks_are refl))),
-      member_again (codes "accounts") (list_in 4194304 account_in) d (list_json account_json es) (length es, all) accounts
-          (list_again 4194304 account_in account_json es all fits.few (items_again account_in account_json account_bytes AccountFits account_again 0 es fits.accounts (after_bytes _ count all state_are refl))),
+      member_again (codes "accounts") (list_in max_accounts account_in) d (list_json account_json es) (length es, all) accounts
+          (list_again max_accounts account_in account_json es all fits.few (items_again account_in account_json account_bytes AccountFits account_again 0 es fits.accounts (after_bytes _ count all state_are refl))),
     ) (ap Ok (append_assoc (mark_count ++ marks) count all))
 
 slot_again : (s : Snapshot) (d : Data) → get (codes "slot") d ≡ Some (number_json s.slot) → Fits s → member_in (codes "slot") (number_in 0 (2 ^ 64 - 1)) d ≡ Ok s.slot

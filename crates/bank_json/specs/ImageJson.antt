@@ -1,5 +1,5 @@
 -- Program images as JSON (the project's own form), and the bytes that such JSON stands for.
-use Rattle.std.specs.Prelude.{ℕ, List, [], ◌∷◌, codes, Option, Some, None, Ok, Err}
+use Rattle.std.specs.Prelude.{ℕ, ◌-◌, ◌*◌, ◌^◌, List, [], ◌∷◌, codes, Option, Some, None, Ok, Err}
 use Rattle.spec_base.specs.Reading.{◌>>=◌}
 use Rattle.serde_json.specs.Data.{Data, object, member, no_members}
 use Rattle.sbpf_verify.specs.Images.{ImageParts, image_bytes, image_in}
@@ -28,8 +28,8 @@ image_names = codes "constants" ∷ codes "text" ∷ []
 unfoldable pub spelled_in : Data → Read (List ℕ)
 spelled_in d = do
   known ← known_in image_names d
-  text ← member_in (codes "text") (data_in 34359738360) d
-  constants ← member_in (codes "constants") (data_in 4294967295) d
+  text ← member_in (codes "text") (data_in (8 * (2 ^ 32 - 1))) d
+  constants ← member_in (codes "constants") (data_in (2 ^ 32 - 1)) d
   Ok (image_bytes (record { text = text; constants = constants }))
 
 -- the bytes, where they are an image

@@ -95,9 +95,9 @@ line_in d = do
 unfoldable pub failure_in : Data → Read (List ℕ)
 failure_in d = do
   known ← known_in failure_names d
-  index ← member_in (codes "index") (number_in 0 255) d
-  code ← member_in (codes "code") (number_in 0 65535) d
-  detail ← member_in (codes "detail") (number_in 0 4294967295) d
+  index ← member_in (codes "index") (number_in 0 (2 ^ 8 - 1)) d
+  code ← member_in (codes "code") (number_in 0 (2 ^ 16 - 1)) d
+  detail ← member_in (codes "detail") (number_in 0 (2 ^ 32 - 1)) d
   Ok (part_bytes 1 index code detail)
 
 unfoldable pub failed_in : Data → Read (List ℕ)
@@ -108,7 +108,7 @@ failed_in d = do
 unfoldable pub dropped_in : Data → Read (List ℕ)
 dropped_in d = do
   known ← known_in dropped_names d
-  code ← member_in (codes "dropped") (number_in 0 65535) d
+  code ← member_in (codes "dropped") (number_in 0 (2 ^ 16 - 1)) d
   Ok (part_bytes 2 0 code 0)
 
 abbrev pub ending_in : Data → Read (List ℕ)

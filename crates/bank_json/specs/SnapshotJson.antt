@@ -8,7 +8,7 @@ use Rattle.sol_base.specs.declared.key.Key.{Key}
 use Rattle.sol_base.specs.declared.key.Hash32.{Hash32}
 use Rattle.sol_base.specs.declared.account.Account.{Account}
 use Rattle.sol_base.specs.declared.limits.Limits.{Limits}
-use Rattle.sol_base.specs.Limits.{max_transactions}
+use Rattle.sol_base.specs.Limits.{max_transactions, max_transaction_keys, max_stack_height, max_block_units}
 use Rattle.sol_base.specs.Accounts.{max_data_len}
 use Rattle.status_cache.specs.declared.recent.Mark.{Mark}
 use Rattle.status_cache.specs.Recent.{max_marks}
@@ -16,7 +16,7 @@ use Rattle.account_store.specs.State.{entries}
 use Rattle.snapshot_codec.specs.declared.snapshot.Snapshot.{Snapshot}
 use Rattle.snapshot_codec.specs.declared.snapshot.Prefix.{Prefix}
 use Rattle.snapshot_codec.specs.declared.fault.SnapshotFault.{SnapshotFault}
-use Rattle.snapshot_codec.specs.Snapshot.{account_bytes, limits_bytes}
+use Rattle.snapshot_codec.specs.Snapshot.{account_bytes, limits_bytes, max_accounts}
 use Rattle.snapshot_codec.specs.SnapshotReading.{prefix_of}
 use Rattle.json_parts.specs.declared.fault.JsonFault.TheVariants.{BadSnapshot, Trailing}
 use Rattle.json_parts.specs.Faults.{Read}
@@ -132,10 +132,10 @@ account_in d = do
 unfoldable pub limits_in : Data → Read (List ℕ)
 limits_in d = do
   known ← known_in limits_names d
-  keys ← member_in (codes "keys") (number_in 1 128) d
-  height ← member_in (codes "height") (number_in 1 9) d
-  key_units ← member_in (codes "key_units") (number_in 1 1000000000000) d
-  block_units ← member_in (codes "block_units") (number_in 1 1000000000000) d
+  keys ← member_in (codes "keys") (number_in 1 max_transaction_keys) d
+  height ← member_in (codes "height") (number_in 1 max_stack_height) d
+  key_units ← member_in (codes "key_units") (number_in 1 max_block_units) d
+  block_units ← member_in (codes "block_units") (number_in 1 max_block_units) d
   Ok (limits_bytes (record {
     keys = keys;
     height = height;
@@ -147,7 +147,7 @@ limits_in d = do
 unfoldable pub sections_in : Data → Read (List ℕ)
 sections_in d = do
   recent ← member_in (codes "recent") (list_in max_marks mark_in) d
-  accounts ← member_in (codes "accounts") (list_in 4194304 account_in) d
+  accounts ← member_in (codes "accounts") (list_in max_accounts account_in) d
   Ok (to_le_bytes w32 recent.0 ++ recent.1 ++ to_le_bytes w32 accounts.0 ++ accounts.1)
 
 unfoldable pub first_in : Data → Read (List ℕ)

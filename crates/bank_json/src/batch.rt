@@ -3,29 +3,17 @@ ghost use Rattle.std.specs.Prelude.{◌≡◌, IfOk};
 ghost use Rattle.spec_base.specs.Reading.{Gives};
 ghost use Rattle.serde_json.specs.View.{view};
 ghost use Rattle.json_parts.specs.Faults.{is_json_memory};
-ghost use Rattle.bank_json.specs.BatchJson.{batch_json, data_of_batch, batch_in, batch_of_data};
+ghost use Rattle.json_parts.specs.Parts.{known_in};
+ghost use Rattle.bank_json.specs.BatchJson.{batch_names, batch_json, data_of_batch, batch_in, batch_of_data};
 
 use json_parts::{
-    InJson, JsonFault, Names, Part, digits_member, hex_value, known, list_member, list_value,
+    InJson, JsonFault, Part, digits_member, hex_value, known, list_member, list_value,
     number_member, transaction, transaction_value,
 };
 use serde_json::{Value, json};
 use snapshot_codec::{Batch, BatchFault, read_batch};
 use sol_base::{Blob, MAX_TRANSACTIONS};
 use std::alloc::{AllocError, Global};
-
-/// The members of a batch.
-struct BatchNames;
-
-impl Names for BatchNames {
-    ghost use Rattle.bank_json.specs.BatchJson.{batch_names};
-
-    ghost names = { batch_names };
-
-    fn has(name: &str) -> bool {
-        "collector" == name || "slot" == name || "transactions" == name
-    }
-}
 
 /// Transactions, each behind its length.
 pub(crate) struct Transactions;
@@ -81,11 +69,17 @@ pub fn batch_value(alloc: Global, bytes: &[u8]) -> Result<Value, JsonFault>
     }
 }
 
+fn known_of_batch(alloc: Global, value: &Value) -> Result<(), JsonFault>
+    ensures { Gives is_json_memory (λ x. x) result (known_in batch_names (view value.now)) }
+{
+    known(alloc, value, &["collector", "slot", "transactions"])
+}
+
 #[tactic(auto, unfolding(crate::specs::BatchJson::batch_in))]
 fn spelled(alloc: Global, value: &Value) -> Result<Blob, JsonFault>
     ensures { Gives is_json_memory (λ bytes. bytes) result (batch_in (view value.now)) }
 {
-    known::<BatchNames>(alloc, value)?;
+    known_of_batch(alloc, value)?;
     let slot = number_member(alloc, value, "slot", 1, u64::MAX)?;
     let collector = digits_member::<32>(alloc, value, "collector")?;
     let (count, transactions) = list_member::<Transactions>(
@@ -109,7 +103,7 @@ fn spelled(alloc: Global, value: &Value) -> Result<Blob, JsonFault>
 /// `recent_blockhash`, `instructions` and `lookups`; bytes that are no transaction are the member
 /// `wire` alone. Beside either a member `shown` is passed over.
 #[tactic(auto, unfolding(crate::specs::BatchJson::batch_of_data))]
-pub fn batch_from_value(alloc: Global, value: &Value) -> Result<Blob, JsonFault>
+pub(crate) fn batch_from_value(alloc: Global, value: &Value) -> Result<Blob, JsonFault>
     ensures { Gives is_json_memory (λ bytes. bytes) result (batch_of_data (view value.now)) }
 {
     let bytes = spelled(alloc, value)?;

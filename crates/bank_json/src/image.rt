@@ -5,30 +5,17 @@ ghost use Rattle.serde_json.specs.View.{view};
 ghost use Rattle.json_parts.specs.Faults.{is_json_memory};
 ghost use Rattle.bank_json.specs.ImageJson.{image_json, data_of_image, spelled_in, image_of_data};
 
-use json_parts::{JsonFault, Names, data_member, hex_value, known};
+use json_parts::{JsonFault, data_member, hex_value, known};
 use sbpf_verify::read_image;
 use serde_json::{Value, json};
 use sol_base::Blob;
 use std::alloc::{AllocError, Global};
 
-/// The most bytes of a text.
-const MOST_TEXT: usize = 34_359_738_360;
-
 /// The most bytes of the constants.
-const MOST_CONSTANTS: usize = 4_294_967_295;
+const MAX_CONSTANTS: usize = u32::MAX as usize;
 
-/// The members of an image.
-struct ImageNames;
-
-impl Names for ImageNames {
-    ghost use Rattle.bank_json.specs.ImageJson.{image_names};
-
-    ghost names = { image_names };
-
-    fn has(name: &str) -> bool {
-        "constants" == name || "text" == name
-    }
-}
+/// The most bytes of a text, which has eight for each slot.
+const MAX_TEXT: usize = 8 * (u32::MAX as usize);
 
 fn value_of(alloc: Global, text: &[u8], constants: &[u8]) -> Result<Value, AllocError>
     ensures { IfOk result (λ v. view v
@@ -42,7 +29,7 @@ fn value_of(alloc: Global, text: &[u8], constants: &[u8]) -> Result<Value, Alloc
 /// The program image that the bytes are, as a JSON value (the project's own form): what
 /// `image_from_value` turns into the same bytes.
 #[tactic(auto, unfolding(crate::specs::ImageJson::data_of_image))]
-pub fn image_value(alloc: Global, bytes: &[u8]) -> Result<Value, JsonFault>
+pub(crate) fn image_value(alloc: Global, bytes: &[u8]) -> Result<Value, JsonFault>
     ensures { Gives is_json_memory view result (data_of_image bytes.now) }
 {
     match read_image(bytes) {
@@ -55,9 +42,9 @@ pub fn image_value(alloc: Global, bytes: &[u8]) -> Result<Value, JsonFault>
 fn spelled(alloc: Global, value: &Value) -> Result<Blob, JsonFault>
     ensures { Gives is_json_memory (λ bytes. bytes) result (spelled_in (view value.now)) }
 {
-    known::<ImageNames>(alloc, value)?;
-    let text = data_member(alloc, value, "text", MOST_TEXT)?;
-    let constants = data_member(alloc, value, "constants", MOST_CONSTANTS)?;
+    known(alloc, value, &["constants", "text"])?;
+    let text = data_member(alloc, value, "text", MAX_TEXT)?;
+    let constants = data_member(alloc, value, "constants", MAX_CONSTANTS)?;
     let mut out = Blob::from_slice(alloc, b"SBPFIMG1")?;
     out.append(&((text.len() / 8) as u32).to_le_bytes())?;
     out.append(&(constants.len() as u32).to_le_bytes())?;

@@ -10,11 +10,10 @@ mod snapshot_in;
 mod snapshot_out;
 mod text;
 
-pub use batch::{batch_from_value, batch_value};
-pub use image::{image_from_value, image_value};
+pub use batch::batch_value;
+pub use image::image_from_value;
 pub use json_parts::{JsonFault, Step, Wanted};
 pub use laws::{batches_come_back, images_come_back, records_come_back, snapshots_come_back};
-pub use record_in::record_from_value;
 pub use record_out::record_value;
 pub use snapshot_in::snapshot_from_value;
 pub use snapshot_out::snapshot_value;

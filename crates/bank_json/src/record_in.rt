@@ -1,102 +1,22 @@
 //! From JSON to the bytes of a record.
-ghost use Rattle.std.specs.Prelude.{◌≡◌, ◌≤◌, codes, length, IfOk};
+ghost use Rattle.std.specs.Prelude.{◌≤◌, codes, length, IfOk};
 ghost use Rattle.spec_base.specs.Bytes.{max_count};
 ghost use Rattle.spec_base.specs.Reading.{Gives};
 ghost use Rattle.serde_json.specs.View.{view};
 ghost use Rattle.json_parts.specs.Faults.{is_json_memory};
-ghost use Rattle.json_parts.specs.Parts.{or_refused, member_in};
+ghost use Rattle.json_parts.specs.Parts.{or_refused, member_in, known_in};
 ghost use Rattle.json_parts.specs.declared.fault.Wanted.TheVariants.{Ending};
 ghost use Rattle.json_parts.specs.TransactionJson.{transaction_in};
-ghost use Rattle.bank_json.specs.RecordJson.{failure_in, failed_in, dropped_in, ending_in, ending_named, status_in, heading_in, closing_in, record_in, record_of_data};
+ghost use Rattle.bank_json.specs.RecordJson.{failure_names, entry_names, record_names, failure_in, failed_in, dropped_in, ending_in, ending_named, status_in, heading_in, closing_in, record_in, record_of_data};
 
 use block_record::{RecordFault, read_record};
 use json_parts::{
-    JsonFault, Names, Part, Wanted, byte_member, digits_member, found, in_member, known,
-    list_member, number_member, refused, transaction,
+    JsonFault, MAX_COUNT, Part, Wanted, byte_member, digits_member, found, in_member, known,
+    list_member, number_member, refused, short_member, transaction,
 };
 use serde_json::Value;
 use sol_base::{Blob, MAX_TRANSACTIONS};
 use std::alloc::Global;
-
-/// The most lines of an entry, and the most bytes of a line.
-const MOST: usize = 65_535;
-
-/// The members of how an instruction failed.
-struct FailureNames;
-
-impl Names for FailureNames {
-    ghost use Rattle.bank_json.specs.RecordJson.{failure_names};
-
-    ghost names = { failure_names };
-
-    fn has(name: &str) -> bool {
-        "code" == name || "detail" == name || "index" == name
-    }
-}
-
-/// The members of the ending of a failed transaction.
-struct FailedNames;
-
-impl Names for FailedNames {
-    ghost use Rattle.bank_json.specs.RecordJson.{failed_names};
-
-    ghost names = { failed_names };
-
-    fn has(name: &str) -> bool {
-        "failed" == name
-    }
-}
-
-/// The members of the ending of a dropped transaction.
-struct DroppedNames;
-
-impl Names for DroppedNames {
-    ghost use Rattle.bank_json.specs.RecordJson.{dropped_names};
-
-    ghost names = { dropped_names };
-
-    fn has(name: &str) -> bool {
-        "dropped" == name
-    }
-}
-
-/// The members of an entry, and the one that is passed over.
-struct EntryNames;
-
-impl Names for EntryNames {
-    ghost use Rattle.bank_json.specs.RecordJson.{entry_names};
-
-    ghost names = { entry_names };
-
-    fn has(name: &str) -> bool {
-        "fee" == name
-            || "lines" == name
-            || "shown" == name
-            || "status" == name
-            || "transaction" == name
-            || "units" == name
-    }
-}
-
-/// The members of a record.
-struct RecordNames;
-
-impl Names for RecordNames {
-    ghost use Rattle.bank_json.specs.RecordJson.{record_names};
-
-    ghost names = { record_names };
-
-    fn has(name: &str) -> bool {
-        "burned" == name
-            || "collected" == name
-            || "collector" == name
-            || "entries" == name
-            || "hash" == name
-            || "previous" == name
-            || "slot" == name
-            || "state" == name
-    }
-}
 
 /// Lines, each behind its length.
 struct Lines;
@@ -109,7 +29,7 @@ impl Part for Lines {
     #[tactic(auto, unfolding(crate::specs::RecordJson::line_in))]
     fn read(alloc: Global, value: &Value) -> Result<Blob, JsonFault> {
         match value.as_str() {
-            Some(line) if line.len() <= MOST => {
+            Some(line) if line.len() <= MAX_COUNT => {
                 let mut out = Blob::from_slice(alloc, &(line.len() as u16).to_le_bytes())?;
                 out.append(line.as_bytes())?;
                 Ok(out)
@@ -119,16 +39,22 @@ impl Part for Lines {
     }
 }
 
+fn known_of_failure(alloc: Global, value: &Value) -> Result<(), JsonFault>
+    ensures { Gives is_json_memory (λ x. x) result (known_in failure_names (view value.now)) }
+{
+    known(alloc, value, &["code", "detail", "index"])
+}
+
 #[tactic(auto, unfolding(crate::specs::RecordJson::failure_in))]
 fn failure(alloc: Global, value: &Value) -> Result<Blob, JsonFault>
     ensures { Gives is_json_memory (λ bytes. bytes) result (failure_in (view value.now)) }
 {
-    known::<FailureNames>(alloc, value)?;
-    let index = byte_member(alloc, value, "index", 0, 255)?;
-    let code = number_member(alloc, value, "code", 0, 65_535)?;
-    let detail = number_member(alloc, value, "detail", 0, 4_294_967_295)?;
+    known_of_failure(alloc, value)?;
+    let index = byte_member(alloc, value, "index", 0, u8::MAX)?;
+    let code = short_member(alloc, value, "code", 0, u16::MAX)?;
+    let detail = number_member(alloc, value, "detail", 0, u64::from(u32::MAX))?;
     let mut out = Blob::from_slice(alloc, &[1, index])?;
-    out.append(&(code as u16).to_le_bytes())?;
+    out.append(&code.to_le_bytes())?;
     out.append(&(detail as u32).to_le_bytes())?;
     Ok(out)
 }
@@ -137,7 +63,7 @@ fn failure(alloc: Global, value: &Value) -> Result<Blob, JsonFault>
 fn failed(alloc: Global, value: &Value) -> Result<Blob, JsonFault>
     ensures { Gives is_json_memory (λ bytes. bytes) result (failed_in (view value.now)) }
 {
-    known::<FailedNames>(alloc, value)?;
+    known(alloc, value, &["failed"])?;
     let found = found(alloc, value, "failed")?;
     in_member(alloc, "failed", failure(alloc, found))
 }
@@ -146,10 +72,10 @@ fn failed(alloc: Global, value: &Value) -> Result<Blob, JsonFault>
 fn dropped(alloc: Global, value: &Value) -> Result<Blob, JsonFault>
     ensures { Gives is_json_memory (λ bytes. bytes) result (dropped_in (view value.now)) }
 {
-    known::<DroppedNames>(alloc, value)?;
-    let code = number_member(alloc, value, "dropped", 0, 65_535)?;
+    known(alloc, value, &["dropped"])?;
+    let code = short_member(alloc, value, "dropped", 0, u16::MAX)?;
     let mut out = Blob::from_slice(alloc, &[2, 0])?;
-    out.append(&(code as u16).to_le_bytes())?;
+    out.append(&code.to_le_bytes())?;
     out.append(&[0; 4])?;
     Ok(out)
 }
@@ -204,6 +130,16 @@ fn transaction_member(alloc: Global, value: &Value) -> Result<Blob, JsonFault>
     in_member(alloc, "transaction", transaction(alloc, found))
 }
 
+fn known_of_entry(alloc: Global, value: &Value) -> Result<(), JsonFault>
+    ensures { Gives is_json_memory (λ x. x) result (known_in entry_names (view value.now)) }
+{
+    known(
+        alloc,
+        value,
+        &["fee", "lines", "shown", "status", "transaction", "units"],
+    )
+}
+
 /// Entries.
 pub(crate) struct Entries;
 
@@ -214,12 +150,12 @@ impl Part for Entries {
 
     #[tactic(auto, unfolding(crate::specs::RecordJson::entry_in))]
     fn read(alloc: Global, value: &Value) -> Result<Blob, JsonFault> {
-        known::<EntryNames>(alloc, value)?;
+        known_of_entry(alloc, value)?;
         let transaction = transaction_member(alloc, value)?;
         let status = status_member(alloc, value)?;
         let units = number_member(alloc, value, "units", 0, u64::MAX)?;
         let fee = number_member(alloc, value, "fee", 0, u64::MAX)?;
-        let (count, lines) = list_member::<Lines>(alloc, value, "lines", MOST)?;
+        let (count, lines) = list_member::<Lines>(alloc, value, "lines", MAX_COUNT)?;
         let mut out = Blob::from_slice(alloc, &(transaction.len() as u16).to_le_bytes())?;
         out.append(transaction.as_slice())?;
         out.append(status.as_slice())?;
@@ -231,12 +167,31 @@ impl Part for Entries {
     }
 }
 
+fn known_of_record(alloc: Global, value: &Value) -> Result<(), JsonFault>
+    ensures { Gives is_json_memory (λ x. x) result (known_in record_names (view value.now)) }
+{
+    known(
+        alloc,
+        value,
+        &[
+            "burned",
+            "collected",
+            "collector",
+            "entries",
+            "hash",
+            "previous",
+            "slot",
+            "state",
+        ],
+    )
+}
+
 /// What stands before the entries.
 #[tactic(auto, unfolding(crate::specs::RecordJson::heading_in))]
 fn heading(alloc: Global, value: &Value) -> Result<Blob, JsonFault>
     ensures { Gives is_json_memory (λ bytes. bytes) result (heading_in (view value.now)) }
 {
-    known::<RecordNames>(alloc, value)?;
+    known_of_record(alloc, value)?;
     let slot = number_member(alloc, value, "slot", 0, u64::MAX)?;
     let collector = digits_member::<32>(alloc, value, "collector")?;
     let previous = digits_member::<32>(alloc, value, "previous")?;
@@ -284,7 +239,7 @@ fn spelled(alloc: Global, value: &Value) -> Result<Blob, JsonFault>
 /// text `ok`, or an object with `failed` or `dropped`), `units`, `fee` and `lines`; a member `shown`
 /// beside them is passed over. The hashes are not tested.
 #[tactic(auto, unfolding(crate::specs::RecordJson::record_of_data))]
-pub fn record_from_value(alloc: Global, value: &Value) -> Result<Blob, JsonFault>
+pub(crate) fn record_from_value(alloc: Global, value: &Value) -> Result<Blob, JsonFault>
     ensures { Gives is_json_memory (λ bytes. bytes) result (record_of_data (view value.now)) }
 {
     let bytes = spelled(alloc, value)?;

@@ -4,96 +4,21 @@ ghost use Rattle.spec_base.specs.Reading.{Gives};
 ghost use Rattle.serde_json.specs.View.{view};
 ghost use Rattle.snapshot_codec.specs.Snapshot.{limits_bytes};
 ghost use Rattle.json_parts.specs.Faults.{is_json_memory};
-ghost use Rattle.json_parts.specs.Parts.{member_in};
-ghost use Rattle.bank_json.specs.SnapshotJson.{limits_in, sections_in, first_in, second_in, snapshot_in, snapshot_of_data};
+ghost use Rattle.json_parts.specs.Parts.{member_in, known_in};
+ghost use Rattle.bank_json.specs.SnapshotJson.{account_names, limits_names, first_names, second_names, limits_in, sections_in, first_in, second_in, snapshot_in, snapshot_of_data};
 
 use json_parts::{
-    JsonFault, Names, Part, byte_member, data_member, digits, digits_member, flag_member, found,
+    JsonFault, Part, byte_member, data_member, digits, digits_member, flag_member, found,
     in_member, known, list_member, number_member, short_member,
 };
 use serde_json::Value;
 use snapshot_codec::{MAX_ACCOUNTS, SnapshotFault, read_snapshot};
-use sol_base::{Blob, Limits, MAX_BLOCK_UNITS, MAX_DATA_LEN, MAX_TRANSACTIONS, OutOfMemory};
+use sol_base::{
+    Blob, Limits, MAX_BLOCK_UNITS, MAX_DATA_LEN, MAX_STACK_HEIGHT, MAX_TRANSACTION_KEYS,
+    MAX_TRANSACTIONS, OutOfMemory,
+};
 use status_cache::MAX_MARKS;
 use std::alloc::Global;
-
-/// The members of a block.
-struct MarkNames;
-
-impl Names for MarkNames {
-    ghost use Rattle.bank_json.specs.SnapshotJson.{mark_names};
-
-    ghost names = { mark_names };
-
-    fn has(name: &str) -> bool {
-        "hash" == name || "messages" == name
-    }
-}
-
-/// The members of an account.
-struct AccountNames;
-
-impl Names for AccountNames {
-    ghost use Rattle.bank_json.specs.SnapshotJson.{account_names};
-
-    ghost names = { account_names };
-
-    fn has(name: &str) -> bool {
-        "data" == name
-            || "executable" == name
-            || "key" == name
-            || "lamports" == name
-            || "owner" == name
-    }
-}
-
-/// The members of limits.
-struct LimitsNames;
-
-impl Names for LimitsNames {
-    ghost use Rattle.bank_json.specs.SnapshotJson.{limits_names};
-
-    ghost names = { limits_names };
-
-    fn has(name: &str) -> bool {
-        "block_units" == name || "height" == name || "key_units" == name || "keys" == name
-    }
-}
-
-/// The members of a snapshot of format 1, and the one that is passed over.
-struct FirstNames;
-
-impl Names for FirstNames {
-    ghost use Rattle.bank_json.specs.SnapshotJson.{first_names};
-
-    ghost names = { first_names };
-
-    fn has(name: &str) -> bool {
-        "accounts" == name
-            || "format" == name
-            || "recent" == name
-            || "shown" == name
-            || "slot" == name
-    }
-}
-
-/// The members of a snapshot of format 2, and the one that is passed over.
-struct SecondNames;
-
-impl Names for SecondNames {
-    ghost use Rattle.bank_json.specs.SnapshotJson.{second_names};
-
-    ghost names = { second_names };
-
-    fn has(name: &str) -> bool {
-        "accounts" == name
-            || "format" == name
-            || "limits" == name
-            || "recent" == name
-            || "shown" == name
-            || "slot" == name
-    }
-}
 
 /// Hashes.
 pub(crate) struct Hashes;
@@ -119,7 +44,7 @@ impl Part for Marks {
 
     #[tactic(auto, unfolding(crate::specs::SnapshotJson::mark_in))]
     fn read(alloc: Global, value: &Value) -> Result<Blob, JsonFault> {
-        known::<MarkNames>(alloc, value)?;
+        known(alloc, value, &["hash", "messages"])?;
         let hash = digits_member::<32>(alloc, value, "hash")?;
         let (count, names) = list_member::<Hashes>(alloc, value, "messages", MAX_TRANSACTIONS)?;
         let mut out = Blob::from_slice(alloc, &hash)?;
@@ -127,6 +52,16 @@ impl Part for Marks {
         out.append(names.as_slice())?;
         Ok(out)
     }
+}
+
+fn known_of_account(alloc: Global, value: &Value) -> Result<(), JsonFault>
+    ensures { Gives is_json_memory (λ x. x) result (known_in account_names (view value.now)) }
+{
+    known(
+        alloc,
+        value,
+        &["data", "executable", "key", "lamports", "owner"],
+    )
 }
 
 /// Accounts under their keys.
@@ -139,7 +74,7 @@ impl Part for KeyedAccounts {
 
     #[tactic(auto, unfolding(crate::specs::SnapshotJson::account_in))]
     fn read(alloc: Global, value: &Value) -> Result<Blob, JsonFault> {
-        known::<AccountNames>(alloc, value)?;
+        known_of_account(alloc, value)?;
         let key = digits_member::<32>(alloc, value, "key")?;
         let lamports = number_member(alloc, value, "lamports", 1, u64::MAX)?;
         let owner = digits_member::<32>(alloc, value, "owner")?;
@@ -165,13 +100,23 @@ fn spelled_limits(alloc: Global, limits: &Limits) -> Result<Blob, OutOfMemory>
     Ok(out)
 }
 
+fn known_of_limits(alloc: Global, value: &Value) -> Result<(), JsonFault>
+    ensures { Gives is_json_memory (λ x. x) result (known_in limits_names (view value.now)) }
+{
+    known(
+        alloc,
+        value,
+        &["block_units", "height", "key_units", "keys"],
+    )
+}
+
 #[tactic(auto, unfolding(crate::specs::SnapshotJson::limits_in))]
 fn limits(alloc: Global, value: &Value) -> Result<Blob, JsonFault>
     ensures { Gives is_json_memory (λ bytes. bytes) result (limits_in (view value.now)) }
 {
-    known::<LimitsNames>(alloc, value)?;
-    let keys = short_member(alloc, value, "keys", 1, 128)?;
-    let height = byte_member(alloc, value, "height", 1, 9)?;
+    known_of_limits(alloc, value)?;
+    let keys = short_member(alloc, value, "keys", 1, MAX_TRANSACTION_KEYS)?;
+    let height = byte_member(alloc, value, "height", 1, MAX_STACK_HEIGHT)?;
     let key_units = number_member(alloc, value, "key_units", 1, MAX_BLOCK_UNITS)?;
     let block_units = number_member(alloc, value, "block_units", 1, MAX_BLOCK_UNITS)?;
     let limits = Limits {
@@ -211,11 +156,21 @@ fn sections(alloc: Global, value: &Value) -> Result<Blob, JsonFault>
     Ok(out)
 }
 
+fn known_of_first(alloc: Global, value: &Value) -> Result<(), JsonFault>
+    ensures { Gives is_json_memory (λ x. x) result (known_in first_names (view value.now)) }
+{
+    known(
+        alloc,
+        value,
+        &["accounts", "format", "recent", "shown", "slot"],
+    )
+}
+
 #[tactic(auto, unfolding(crate::specs::SnapshotJson::first_in))]
 fn first(alloc: Global, value: &Value) -> Result<Blob, JsonFault>
     ensures { Gives is_json_memory (λ bytes. bytes) result (first_in (view value.now)) }
 {
-    known::<FirstNames>(alloc, value)?;
+    known_of_first(alloc, value)?;
     let slot = number_member(alloc, value, "slot", 0, u64::MAX)?;
     let sections = sections(alloc, value)?;
     let mut out = Blob::from_slice(alloc, b"SOLSNAP1")?;
@@ -224,11 +179,21 @@ fn first(alloc: Global, value: &Value) -> Result<Blob, JsonFault>
     Ok(out)
 }
 
+fn known_of_second(alloc: Global, value: &Value) -> Result<(), JsonFault>
+    ensures { Gives is_json_memory (λ x. x) result (known_in second_names (view value.now)) }
+{
+    known(
+        alloc,
+        value,
+        &["accounts", "format", "limits", "recent", "shown", "slot"],
+    )
+}
+
 #[tactic(auto, unfolding(crate::specs::SnapshotJson::second_in))]
 fn second(alloc: Global, value: &Value) -> Result<Blob, JsonFault>
     ensures { Gives is_json_memory (λ bytes. bytes) result (second_in (view value.now)) }
 {
-    known::<SecondNames>(alloc, value)?;
+    known_of_second(alloc, value)?;
     let slot = number_member(alloc, value, "slot", 0, u64::MAX)?;
     let limits = limits_member(alloc, value)?;
     let sections = sections(alloc, value)?;

@@ -140,7 +140,7 @@ fn add_batch<R: Clock + AllocGlobal, F: Folder, T: Threads + Wait + Sync>(
     }
     next_blocks_can_be_run();
     let began = now(rt);
-    let added = add(alloc, files, ledger, &block, after, run);
+    let added = add(threads, alloc, files, ledger, &block, after, run);
     let times = Times {
         open: opened,
         run,
@@ -151,13 +151,17 @@ fn add_batch<R: Clock + AllocGlobal, F: Folder, T: Threads + Wait + Sync>(
 
 /// Opens a chain that is to be written to. What its files are is then on the disk: whoever wrote last
 /// may have ended between a move and the sync of the folder.
-fn open_synced<F: Folder>(alloc: Global, files: &mut F) -> Result<Ledger, LedgerFault>
+fn open_synced<F: Folder, T: Threads>(
+    threads: &T,
+    alloc: Global,
+    files: &mut F,
+) -> Result<Ledger, LedgerFault>
     ensures open { IfOk result (IsOpen (F.events files.new)) }
     ensures every { IfOk result (λ ledger. 1 ≤ ledger.head.every) }
     ensures readable { IfOk result (λ ledger. IsReadable ledger.newest) }
 {
     files.sync_folder()?;
-    open_ledger(alloc, files)
+    open_ledger(threads, alloc, files)
 }
 
 /// The batch that the bytes are, for a block after a slot.
@@ -182,7 +186,7 @@ fn add_locked<R: Files + Clock + AllocGlobal + Clone + Drop, T: Threads + Wait +
     let alloc = rt.alloc();
     let began = now(rt);
     let mut files = StdFolder::new(rt, folder)?;
-    let mut ledger = match open_synced(alloc, &mut files) {
+    let mut ledger = match open_synced(threads, alloc, &mut files) {
         Ok(ledger) => ledger,
         Err(fault) => return refused(alloc, READ_FAILED, fault),
     };

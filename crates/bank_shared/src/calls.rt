@@ -44,7 +44,7 @@ impl<W: Work> SharedDesk<W> {
             (before_last pass.new.seat.me.0.seen) loan.position) (λ held. ⊤) ⊤ ⊤ }
     {
         let lane = pass.lane;
-        let (word, mut kept) = self.lock(rt, &mut pass.seat);
+        let (word, mut kept) = self.take_turn(rt, &mut pass.seat);
         match kept.core.take(lane) {
             Take::Loan(loan) => {
                 self.release_more(&mut pass.seat, word + 2, kept);
@@ -91,7 +91,7 @@ impl<W: Work> SharedDesk<W> {
             pass.new.seat.me.0 }
     {
         let spent = loan.spend();
-        let (word, mut kept) = self.lock(rt, &mut pass.seat);
+        let (word, mut kept) = self.take_turn(rt, &mut pass.seat);
         kept.core.commit_spent(spent, effects);
         self.release_more(&mut pass.seat, word + 2, kept);
     }
@@ -113,7 +113,7 @@ impl<W: Work> SharedDesk<W> {
             (record { kind = Return; lane = pass.old.lane; position = loan.position } ∷ [])
             pass.new.seat.me.0 }
     {
-        let (word, mut kept) = self.lock(rt, &mut pass.seat);
+        let (word, mut kept) = self.take_turn(rt, &mut pass.seat);
         kept.core.give_back(loan);
         self.release_more(&mut pass.seat, word + 2, kept);
     }
@@ -134,7 +134,7 @@ impl<W: Work> SharedDesk<W> {
             (pass.new.seat.me.0.drawn ≡ self.now.table.shared.key.value.lanes) }
     {
         let mut seat = self.table.shared.split_seat::<Parts>(&mut pass.seat);
-        let (word, mut kept) = self.lock(rt, &mut seat);
+        let (word, mut kept) = self.take_turn(rt, &mut seat);
         let lane = kept.drawn;
         if lane < kept.core.lanes() {
             kept.drawn = lane + 1;

@@ -5,6 +5,7 @@
 
 mod calls;
 mod desk;
+mod ends;
 mod kept;
 mod onward;
 mod reader;
@@ -14,8 +15,7 @@ mod turn;
 mod view;
 mod waiting;
 
-pub use desk::{Pass, SharedDesk};
+pub use desk::{Pass, Reader, SharedDesk};
 pub use kept::{DeskOrigin, Kept};
-pub use reader::Reader;
 pub use rule::{Draws, Folds, Looks, Parts, Releases, Takes, TurnRule};
 pub use view::{Part, View};

@@ -61,7 +61,7 @@ impl<W: Work> SharedDesk<W> {
     {
         let lane = pass.lane;
         let spent = loan.spend();
-        let (word, mut kept) = self.lock(rt, &mut pass.seat);
+        let (word, mut kept) = self.take_turn(rt, &mut pass.seat);
         kept.core.commit_spent(spent, effects);
         match kept.core.take(lane) {
             Take::Loan(next) => {

@@ -4,31 +4,22 @@ use bank_core::{Desk, Effects, Loan, Split, Take, Work};
 use std::sync::Wait;
 
 impl<W: Work> Desk<W> for SharedDesk<W> {
-    ghost use Rattle.std.specs.Prelude.{◌≡◌, Some};
-    ghost use Rattle.bank_law.specs.History.{own};
+    ghost use Rattle.bank_shared.specs.Face.{desk_origin, desk_lanes, IsPassOf, view_of, pass_lanes};
     ghost use Rattle.sol_base.specs.Accounts.{accounts_of};
 
     type Pass = Pass<W>;
 
     type Loan = Loan<W>;
 
-    ghost origin = { λ desk. desk.table.shared.key.value.origin };
+    ghost origin = { desk_origin };
 
-    ghost lanes = { λ desk. desk.table.shared.key.value.lanes };
+    ghost lanes = { desk_lanes };
 
-    ghost is_of = { λ desk pass.
-        (pass.seat.table_id ≡ desk.table.shared.table_id)
-        × (pass.seat.me.0.origin ≡ Some desk.table.shared.key.value) };
+    ghost is_of = { IsPassOf };
 
-    ghost view = { λ pass. record {
-      lane = pass.lane;
-      seen = pass.seat.me.0.seen;
-      mine = own pass.seat.me.0.seen pass.lane;
-      drawn = pass.seat.me.0.drawn;
-      turns = pass.seat.me.0.turns;
-    } };
+    ghost view = { view_of };
 
-    ghost lanes_of = { λ pass. pass.seat.me.0.lanes };
+    ghost lanes_of = { pass_lanes };
 
     ghost loan = { λ loan. record {
       position = loan.position;

@@ -19,7 +19,7 @@ const SPINS: u32 = 100;
 
 impl<W: Work> SharedDesk<W> {
     /// Takes the turn and the core, if the word is as expected.
-    fn try_lock(
+    fn try_turn(
         &self,
         seat: &mut Seat<Option<Kept<W>>, View<DeskOrigin<W::Told>>>,
         word: u64,
@@ -49,7 +49,7 @@ impl<W: Work> SharedDesk<W> {
 
     /// Waits for the turn, and takes the core out. A turn is short, so the word is looked at some
     /// times before the thread parks.
-    pub(crate) fn lock<R: Wait>(
+    pub(crate) fn take_turn<R: Wait>(
         &self,
         rt: &R,
         seat: &mut Seat<Option<Kept<W>>, View<DeskOrigin<W::Told>>>,
@@ -69,7 +69,7 @@ impl<W: Work> SharedDesk<W> {
         for _ in rt.forever() {
             let word = self.table.shared.peek(0);
             if word % 2 == 0 && word < u64::MAX - 4 {
-                if let Some(kept) = self.try_lock(seat, word) {
+                if let Some(kept) = self.try_turn(seat, word) {
                     return (word, kept);
                 }
             } else if spins < SPINS {

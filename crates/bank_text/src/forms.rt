@@ -15,7 +15,7 @@ use std::rt::Files;
 use text_words::Form;
 
 /// The most bytes of an assembler text.
-const MOST_ASSEMBLY: usize = 4_294_967_295;
+const MAX_ASSEMBLY: usize = u32::MAX as usize;
 
 /// Why data are not there.
 #[derive(Drop)]
@@ -143,7 +143,7 @@ fn assembled<R: Files + AllocGlobal>(rt: &R, value: &Value) -> Result<Option<Blo
         Some(text) => text,
         None => return Ok(None),
     };
-    if text.len() > MOST_ASSEMBLY {
+    if text.len() > MAX_ASSEMBLY {
         return Ok(None);
     }
     match assemble(alloc, text.as_slice()) {

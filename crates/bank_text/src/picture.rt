@@ -23,7 +23,7 @@ const COLUMNS: u64 = 4;
 
 /// The colours of the keys that most wait at, of other keys, and of bars that wait for none.
 const STYLE: &str =
-    "<style>text{font:110px sans-serif}.g{stroke:#ddd;stroke-width:5}.e{fill:none;stroke:#555}.k0{fill:#4e79a7}.k1{fill:#f28e2b}.k2{fill:#e15759}.k3{fill:#76b7b2}.k4{fill:#59a14f}.k5{fill:#edc948}.k6{fill:#b07aa1}.k7{fill:#ff9da7}.k8{fill:#9c755f}.k9{fill:#86bcb6}.other{fill:#9a9a9a}.first{fill:#c6d5e8}</style>\n";
+    "<style>text{font:110px sans-serif}.g{stroke:#ddd;stroke-width:5}.e{fill:none;stroke:#555}.k0{fill:#4e79a7}.k1{fill:#f28e2b}.k2{fill:#e15759}.k3{fill:#76b7b2}.k4{fill:#59a14f}.k5{fill:#edc948}.k6{fill:#b07aa1}.k7{fill:#ff9da7}.k8{fill:#9c755f}.k9{fill:#bcd95f}.other{fill:#9a9a9a}.first{fill:#c6d5e8}</style>\n";
 
 /// How places come from units and rows.
 #[derive(Clone, Copy)]

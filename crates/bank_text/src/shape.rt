@@ -1,5 +1,6 @@
 //! The command `shape`: how parallel the block of a snapshot and a batch can be.
 ghost use Rattle.std.specs.Prelude.{◌<◌, ◌≤◌, ◌^◌, length};
+ghost use Rattle.sol_base.specs.Limits.{max_transaction_keys};
 
 use crate::answer::{Answer, INPUT_REFUSED, WRITE_FAILED, noted, written};
 use crate::files::write_file;
@@ -47,7 +48,7 @@ fn shape_answer<R: Files + AllocGlobal>(
     batch: &Batch,
     file: Option<&str>,
 ) -> Result<Answer, OutOfMemory>
-    requires keys { snapshot.now.limits.keys ≤ 128 }
+    requires keys { snapshot.now.limits.keys ≤ max_transaction_keys }
     requires few { length batch.now.wires < 2 ^ 32 }
 {
     let alloc = rt.alloc();

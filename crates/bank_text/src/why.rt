@@ -3,26 +3,40 @@ use crate::answer::{Answer, INPUT_REFUSED, noted, written};
 use crate::places::{batch_field, image_end, record_field, snapshot_field};
 use block_record::{RecordFault, read_record};
 use sbpf_verify::{VerifyFault, first_refusal, read_image};
-use snapshot_codec::{BatchFault, SnapshotFault, read_batch, read_snapshot};
-use sol_base::OutOfMemory;
+use snapshot_codec::{BatchFault, MAX_ACCOUNTS, SnapshotFault, read_batch, read_snapshot};
+use sol_base::{
+    MAX_BLOCK_UNITS, MAX_STACK_HEIGHT, MAX_TRANSACTION_KEYS, MAX_TRANSACTIONS, OutOfMemory,
+};
+use status_cache::MAX_MARKS;
 use std::alloc::Global;
 
 /// The most bytes that are shown of what stands at a place.
-const MOST_SHOWN: usize = 32;
+const MAX_SHOWN: usize = 32;
 
-/// What is wanted of a field, where it has a range.
-fn wanted(field: &str) -> &'static str {
+/// The least and the greatest number of a field, where it has a range.
+fn range_of(field: &str) -> Option<(u64, u64)> {
     match field {
-        "magic" => "; SOLSNAP1, SOLSNAP2, SOLBATC1, SOLBLCK1 or SBPFIMG1 is wanted",
-        "keys per transaction" => "; 1 to 128 is wanted",
-        "stack height" => "; 1 to 9 is wanted",
-        "units per writable key" => "; 1 to 1000000000000 is wanted",
-        "units per block" => "; 1 to 1000000000000 is wanted",
-        "number of marks" => "; 0 to 150 is wanted",
-        "number of accounts" => "; 0 to 4194304 is wanted",
-        "number of transactions" => "; 0 to 16384 is wanted",
-        "number of entries" => "; 0 to 16384 is wanted",
-        _ => "",
+        "keys per transaction" => Some((1, u64::from(MAX_TRANSACTION_KEYS))),
+        "stack height" => Some((1, u64::from(MAX_STACK_HEIGHT))),
+        "units per writable key" => Some((1, MAX_BLOCK_UNITS)),
+        "units per block" => Some((1, MAX_BLOCK_UNITS)),
+        "number of marks" => Some((0, MAX_MARKS as u64)),
+        "number of accounts" => Some((0, u64::from(MAX_ACCOUNTS))),
+        "number of transactions" => Some((0, MAX_TRANSACTIONS as u64)),
+        "number of entries" => Some((0, MAX_TRANSACTIONS as u64)),
+        _ => None,
+    }
+}
+
+/// What is wanted of a field, where that is known.
+fn wanted(alloc: Global, field: &str) -> Result<String, OutOfMemory> {
+    if field == "magic" {
+        let text = "; SOLSNAP1, SOLSNAP2, SOLBATC1, SOLBLCK1 or SBPFIMG1 is wanted";
+        return Ok(String::from_str(alloc, text)?);
+    }
+    match range_of(field) {
+        Some((least, most)) => Ok(format!(in alloc; "; {least} to {most} is wanted")?),
+        None => Ok(String::new(alloc)),
     }
 }
 
@@ -32,7 +46,7 @@ fn standing(alloc: Global, bytes: &[u8], at: usize) -> Result<String, OutOfMemor
         Some(rest) => rest,
         None => &[],
     };
-    let shown = match rest.get(..MOST_SHOWN) {
+    let shown = match rest.get(..MAX_SHOWN) {
         Some(shown) => shown,
         None => rest,
     };
@@ -49,7 +63,7 @@ fn sentence(
 ) -> Result<Answer, OutOfMemory> {
     let (field, at) = place;
     let stands = standing(alloc, bytes, at)?;
-    let wanted = wanted(field);
+    let wanted = wanted(alloc, field)?;
     let text = if stands.is_empty() {
         format!(in alloc; "{field}, byte {at}: {fault}; nothing stands there{wanted}")?
     } else {

@@ -26,7 +26,7 @@ use Rattle.block_record.specs.declared.fault.RecordFault.TheVariants.{Truncated,
 use Rattle.block_record.specs.declared.block.Entry.{Entry}
 use Rattle.block_record.specs.declared.block.Block.{Block}
 use Rattle.block_record.specs.declared.block.Front.{Front}
-use Rattle.block_record.specs.Record.{bytes_of_lines, entry_bytes, entries_bytes, heading_bytes, front_bytes, bytes_of_record, AreCountable, IsCounted, HasTexts, HasWidths, IsRecord, BeginsWithRecord}
+use Rattle.block_record.specs.Record.{bytes_of_lines, entry_bytes, entries_bytes, heading_bytes, front_bytes, end_bytes, block_bytes, bytes_of_record, AreCountable, IsCounted, HasTexts, HasWidths, IsRecord, BeginsWithRecord}
 use Rattle.block_record.specs.RecordReading.{Read, is_record_memory, magic_at, wire_len_at, wire_at, text_at, line_at, lines_at, entry_at, entry_count_at, entries_at, block_at, record_of, front_of}
 use Rattle.block_record.specs.Laws.{RoundTrip}
 
@@ -332,3 +332,10 @@ front_is_only bytes result h front begins = subst (Gives is_record_memory (λ v.
 -- the entries stand behind the heading
 pub front_is : (b : Block) → heading_bytes b.slot b.collector b.previous (length b.entries) ++ flat_map entry_bytes b.entries ≡ front_bytes b
 front_is b = append_assoc (codes "SOLBLCK1" ++ to_le_bytes w64 b.slot ++ key_bytes b.collector ++ hash_bytes b.previous) (to_le_bytes w32 (length b.entries)) (flat_map entry_bytes b.entries)
+
+-- what stands between the entries and the block hash, behind the front
+pub block_ends : (b : Block) → front_bytes b ++ end_bytes b.burned b.collected b.state ≡ block_bytes b
+block_ends b =
+    sym (append_assoc (front_bytes b ++ to_le_bytes w64 b.burned) (to_le_bytes w64 b.collected) (hash_bytes b.state)
+    ∙ append_assoc (front_bytes b) (to_le_bytes w64 b.burned) (to_le_bytes w64 b.collected ++ hash_bytes b.state)
+    ∙ ap (λ (l : List ℕ). front_bytes b ++ l) (sym (append_assoc (to_le_bytes w64 b.burned) (to_le_bytes w64 b.collected) (hash_bytes b.state))))

@@ -11,12 +11,24 @@ use Rattle.sol_base.specs.declared.key.Hash32.{Hash32}
 use Rattle.message_codec.specs.Wire.{IsCountable, max_wire_len}
 use Rattle.tx_report.specs.Statuses.{IsStatus, status_bytes_of}
 use Rattle.block_record.specs.declared.block.Entry.{Entry}
+use Rattle.block_record.specs.declared.block.EntryParts.{EntryParts}
+use Rattle.block_record.specs.declared.block.WholeRecord.{WholeRecord}
 use Rattle.block_record.specs.declared.block.Block.{Block}
 use Rattle.block_record.specs.declared.block.Front.{Front}
 
 -- the number of lines, and the lines
 abbrev pub bytes_of_lines : List (List ℕ) → List ℕ
 bytes_of_lines lines = to_le_bytes w16 (length lines) ++ flat_map sized_bytes lines
+
+-- the entry that these are the parts of
+abbrev pub entry_in : EntryParts → Entry
+entry_in parts = record {
+  wire = parts.wire.now;
+  status = parts.status.now;
+  units = parts.units;
+  fee = parts.fee;
+  lines = parts.lines.now;
+}
 
 -- a transaction, how it ended, and what it used, paid and said
 abbrev pub entry_bytes : Entry → List ℕ
@@ -41,6 +53,11 @@ front_bytes block =
     ++ hash_bytes block.previous
     ++ entries_bytes block.entries
 
+-- what stands between the entries and the block hash
+abbrev pub end_bytes : ℕ → ℕ → Hash32 → List ℕ
+end_bytes burned collected state =
+    to_le_bytes w64 burned ++ to_le_bytes w64 collected ++ hash_bytes state
+
 -- all that the block hash is of
 abbrev pub block_bytes : Block → List ℕ
 block_bytes block =
@@ -53,6 +70,13 @@ hash_of_block block = record { 0 = sha256 (block_bytes block) }
 -- and then the hash that the block carries
 abbrev pub bytes_of_record : Block → List ℕ
 bytes_of_record block = block_bytes block ++ hash_bytes block.hash
+
+-- a record from its bytes up to the end of its entries, with the block hash at its end
+abbrev pub whole_record : List ℕ → ℕ → ℕ → Hash32 → WholeRecord
+whole_record front burned collected state =
+    let hashed = front ++ end_bytes burned collected state in
+    let hash : Hash32 = record { 0 = sha256 hashed } in
+    record { bytes = hashed ++ hash_bytes hash; hash = hash }
 
 -- lines that have a spelling
 pub record AreCountable (lines : List (List ℕ)) : Type 0 where

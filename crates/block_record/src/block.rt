@@ -2,6 +2,16 @@
 use sol_base::{Blob, Hash32, Items, Key};
 use tx_report::Status;
 
+/// The parts of an entry, each where it stands.
+#[derive(Clone, Copy)]
+pub struct EntryParts<'a> {
+    pub wire: &'a Blob,
+    pub status: &'a Status,
+    pub units: u64,
+    pub fee: u64,
+    pub lines: &'a Items<Blob>,
+}
+
 /// A transaction of a block, and what came of it.
 #[derive(Drop)]
 pub struct Entry {
@@ -32,6 +42,13 @@ pub struct Block {
     /// The hash of the accounts after the block.
     pub state: Hash32,
     /// The hash of all that stands before it in the record.
+    pub hash: Hash32,
+}
+
+/// The record of a block as bytes, and the block hash, with which it ends.
+#[derive(Drop)]
+pub struct WholeRecord {
+    pub bytes: Blob,
     pub hash: Hash32,
 }
 

@@ -5,9 +5,9 @@ ghost use Rattle.sha2.specs.Hashers.{Holds256};
 ghost use Rattle.spec_base.specs.Bytes.{sized_bytes};
 ghost use Rattle.message_codec.specs.Wire.{IsCountable, max_wire_len};
 ghost use Rattle.format_fields.specs.Output.{Adds};
-ghost use Rattle.block_record.specs.Record.{AreCountable, IsCounted, bytes_of_lines, entry_bytes, heading_bytes, front_bytes, block_bytes, hash_of_block, bytes_of_record};
+ghost use Rattle.block_record.specs.Record.{AreCountable, IsCounted, bytes_of_lines, end_bytes, entry_bytes, entry_in, heading_bytes, front_bytes, block_bytes, hash_of_block, bytes_of_record, whole_record};
 
-use crate::block::{Block, Entry};
+use crate::block::{Block, Entry, EntryParts, WholeRecord};
 use format_fields::{ByteCount, Output};
 use sha2::{Digest, Sha256};
 use sol_base::{Blob, Hash32, Items, Key, OutOfMemory};
@@ -45,16 +45,32 @@ fn write_lines<O: Output>(out: &mut O, lines: &Items<Blob>) -> Result<(), OutOfM
     write_each_line(out, lines)
 }
 
+/// Writes an entry whose parts stand apart from each other.
+pub fn write_parts<O: Output>(out: &mut O, parts: EntryParts<'_>) -> Result<(), OutOfMemory>
+    requires wire { length parts.wire.now ≤ max_wire_len }
+    requires lines { AreCountable parts.lines.now }
+    ensures { OnOk result (Adds O.holds out.old out.new (entry_bytes (entry_in parts.entry))) }
+{
+    write_sized(out, parts.wire)?;
+    out.append(&status_bytes(parts.status))?;
+    out.append(&parts.units.to_le_bytes())?;
+    out.append(&parts.fee.to_le_bytes())?;
+    write_lines(out, parts.lines)
+}
+
 fn write_entry<O: Output>(out: &mut O, entry: &Entry) -> Result<(), OutOfMemory>
     requires wire { length entry.now.wire ≤ max_wire_len }
     requires lines { AreCountable entry.now.lines }
     ensures { OnOk result (Adds O.holds out.old out.new (entry_bytes entry.now)) }
 {
-    write_sized(out, &entry.wire)?;
-    out.append(&status_bytes(&entry.status))?;
-    out.append(&entry.units.to_le_bytes())?;
-    out.append(&entry.fee.to_le_bytes())?;
-    write_lines(out, &entry.lines)
+    let parts = EntryParts {
+        wire: &entry.wire,
+        status: &entry.status,
+        units: entry.units,
+        fee: entry.fee,
+        lines: &entry.lines,
+    };
+    write_parts(out, parts)
 }
 
 fn write_each_entry<O: Output>(out: &mut O, entries: &[Entry]) -> Result<(), OutOfMemory>
@@ -69,7 +85,7 @@ fn write_each_entry<O: Output>(out: &mut O, entries: &[Entry]) -> Result<(), Out
 }
 
 /// Writes what stands before the entries, of which there are so many.
-fn write_heading<O: Output>(
+pub fn write_heading<O: Output>(
     out: &mut O,
     slot: u64,
     collector: &Key,
@@ -102,15 +118,27 @@ fn write_front<O: Output>(out: &mut O, block: &Block) -> Result<(), OutOfMemory>
     write_each_entry(out, entries)
 }
 
+/// Writes what stands between the entries and the block hash.
+fn write_end<O: Output>(
+    out: &mut O,
+    burned: u64,
+    collected: u64,
+    state: &Hash32,
+) -> Result<(), OutOfMemory>
+    ensures { OnOk result (Adds O.holds out.old out.new (end_bytes burned collected state.now)) }
+{
+    out.append(&burned.to_le_bytes())?;
+    out.append(&collected.to_le_bytes())?;
+    out.append(&state.0)
+}
+
 /// Writes all of a record but the block hash.
 fn write_block<O: Output>(out: &mut O, block: &Block) -> Result<(), OutOfMemory>
     requires { IsCounted block.now }
     ensures { OnOk result (Adds O.holds out.old out.new (block_bytes block.now)) }
 {
     write_front(out, block)?;
-    out.append(&block.burned.to_le_bytes())?;
-    out.append(&block.collected.to_le_bytes())?;
-    out.append(&block.state.0)
+    write_end(out, block.burned, block.collected, &block.state)
 }
 
 /// The output with the record of the block behind what it has taken (the project's own format). The
@@ -172,7 +200,26 @@ pub fn end_hash(mut hasher: Sha256, block: &Block) -> Hash32
     Hash32(hasher.finalize())
 }
 
-/// The same at once.
+/// The whole record with its block hash, from its bytes up to the end of its entries, which the
+/// hash has taken.
+pub fn end_record(
+    mut front: Blob,
+    mut hasher: Sha256,
+    burned: u64,
+    collected: u64,
+    state: &Hash32,
+) -> Result<WholeRecord, OutOfMemory>
+    requires { Holds256 hasher front }
+    ensures { IfOk result (λ whole. whole ≡ whole_record front burned collected state.now) }
+{
+    write_end(&mut hasher, burned, collected, state)?;
+    write_end(&mut front, burned, collected, state)?;
+    let hash = Hash32(hasher.finalize());
+    front.append(&hash.0)?;
+    Ok(WholeRecord { bytes: front, hash })
+}
+
+/// The SHA-256 of all that stands before the block hash, at once.
 pub fn block_hash(_alloc: Global, block: &Block) -> Result<Hash32, OutOfMemory>
     requires { IsCounted block.now }
     ensures { IfOk result (λ hash. hash ≡ hash_of_block block.now) }

@@ -1,6 +1,9 @@
 -- The record at the end of a block, and the snapshot after it.
-use Rattle.std.proofs.Common.{◌≡◌, ◌≤◌, ◌<◌, ◌+◌, ◌^◌, ◌∷◌, [], ℕ, suc, Bool, true, false, cond, List, length, take, Option, Some, None, All, refl, sym, subst, arith}
-use Rattle.std.specs.Prelude.{sum_by}
+use Rattle.std.proofs.Common.{◌≡◌, ◌≤◌, ◌<◌, ◌+◌, ◌^◌, ◌∷◌, [], ℕ, suc, Bool, true, false, cond, List, length, take, Option, Some, None, All, refl, sym, ap, subst, ◌∙◌, arith}
+use Rattle.std.specs.Prelude.{◌++◌, sum_by}
+use Rattle.sha2.specs.Sha256.{sha256}
+use Rattle.sol_base.specs.Keys.{hash_bytes}
+use Rattle.block_record.proofs.RecordLaws.{block_ends}
 use Rattle.std.specs.List.{AllByRecursion, cons_option, filter_map, zip}
 use Rattle.std.specs.BTreeSet.{insert_key}
 use Rattle.std.specs.Ordering.{match_ordering}
@@ -18,14 +21,16 @@ use Rattle.message_codec.specs.Wire.{IsCountable, max_wire_len}
 use Rattle.fee_rules.specs.declared.split.FeeSplit.{FeeSplit}
 use Rattle.fee_rules.specs.Fees.{split_of}
 use Rattle.status_cache.specs.declared.recent.Mark.{Mark}
-use Rattle.status_cache.specs.Recent.{max_marks, newest_of}
+use Rattle.status_cache.specs.Recent.{Ascends, max_marks, newest_of}
 use Rattle.tx_report.specs.declared.outcome.Outcome.{Outcome}
 use Rattle.account_store.specs.State.{State, at, len, put}
 use Rattle.snapshot_codec.specs.declared.snapshot.Snapshot.{Snapshot}
-use Rattle.snapshot_codec.specs.Snapshot.{hash_of_state}
+use Rattle.snapshot_codec.specs.Snapshot.{AreAllowed, IsWritable, hash_of_state}
+use Rattle.sol_base.specs.declared.limits.Limits.{Limits}
 use Rattle.block_record.specs.declared.block.Block.{Block}
 use Rattle.block_record.specs.declared.block.Entry.{Entry}
-use Rattle.block_record.specs.Record.{AreCountable, IsCounted}
+use Rattle.block_record.specs.declared.block.WholeRecord.{WholeRecord}
+use Rattle.block_record.specs.Record.{AreCountable, IsCounted, bytes_of_record, front_bytes, whole_record}
 use Rattle.admission.specs.declared.chosen.Chosen.{Chosen}
 use Rattle.admission.specs.Batches.{IsOf}
 use Rattle.tx_exec.specs.TransactionLaws.{IsSmallOutcome}
@@ -34,9 +39,13 @@ use Rattle.block_run.specs.BlockEnd.{Shares, base_fees, more, priority_fees, sha
 use Rattle.block_run.specs.declared.block.Closed.{Closed}
 use Rattle.block_run.specs.declared.block.Head.{Head}
 use Rattle.block_run.specs.Blocks.{ascending, closed_with, unsealed, entries_of, entry_of, processed_by, processed_in, sealed}
-use Rattle.block_run.specs.Ending.{AreOf}
+use Rattle.block_run.specs.declared.block.RecordParts.{RecordParts}
+use Rattle.block_run.specs.declared.closing.Ends.{Ends}
+use Rattle.block_run.specs.Closing.{AreEnds, shares_of}
+use Rattle.block_run.specs.Ending.{AreOf, MayEnd}
 use Rattle.block_run.proofs.Runs.{len-put}
 use Rattle.block_run.proofs.Activating.{len-activate_all}
+use Rattle.block_run.proofs.Sorting.{ascending_ascends}
 
 -- ---- the accounts
 either_few : (b : Bool) (n : ℕ) (s t : Shares) → len s.accounts ≤ n → len t.accounts ≤ n → len (cond b s t).accounts ≤ n
@@ -153,3 +162,51 @@ pub closed_is : (s : Snapshot) (head : Head) (wires : List (List ℕ)) (order : 
     → (let end : Closed = record { block = block; after = record { slot = head.slot; limits = s.limits; recent = recent; accounts = shares.accounts } } in end) ≡ closed_with s head wires order ran
 unfolding share_fees
 closed_is s head wires order ran split previous shares state known block names recent e0 e1 e2 e3 e4 e5 e6 e7 = rw (e7, e6, e5, e4, e3, e2, e1, e0) refl
+
+-- the block that a run ends with, and the snapshot after it
+module _ (parts : RecordParts) (limits : Limits) (recent : List Mark) (ran : Ran) (ends : Ends) where
+  abbrev pub known : Block
+  known = unsealed parts.head.now parts.previous parts.wires.now parts.order.now ran.outcomes
+
+  abbrev pub block_at_end : Block
+  block_at_end = sealed (record known { burned = ends.end.burned; collected = ends.end.collected; state = ends.end.state })
+
+  abbrev pub mark_at_end : Mark
+  mark_at_end = record { hash = block_at_end.hash; messages = ends.names }
+
+  abbrev pub after_at_end : Mark → Snapshot
+  after_at_end mark = record { slot = parts.head.now.slot; limits = limits; recent = take max_marks (mark ∷ recent); accounts = ends.end.accounts }
+
+  abbrev pub closed_at_end : Closed
+  closed_at_end = record { block = block_at_end; after = after_at_end mark_at_end }
+
+  pub ends_close : parts.previous ≡ newest_of recent → AreEnds parts ran ends
+      → closed_at_end ≡ closed_with (record { slot = 0; limits = limits; recent = recent; accounts = ran.accounts }) parts.head.now parts.wires.now parts.order.now ran
+  ends_close previous are =
+      closed_is (record { slot = 0; limits = limits; recent = recent; accounts = ran.accounts }) parts.head.now parts.wires.now parts.order.now ran
+      (split_of (base_fees ran.outcomes) (priority_fees ran.outcomes)) parts.previous (shares_of ends.end) ends.end.state known block_at_end ends.names (take max_marks (mark_at_end ∷ recent))
+      refl previous are.end.shares are.end.state refl refl are.names refl
+
+  pub end_writable : AreAllowed limits → All (λ mark. length mark.messages ≤ max_transactions) recent → MayEnd parts.wires.now parts.order.now ran → AreEnds parts ran ends → IsWritable closed_at_end.after
+  end_writable allowed few may are = record {
+    limits = allowed;
+    messages = marks_few mark_at_end recent (subst (λ (names : List Hash32). length names ≤ max_transactions) (sym are.names) (names_few parts.order.now ran.outcomes may.of.few)) few;
+    accounts = subst (λ (s : State). len s < 2 ^ 32) (sym (ap (λ (s : Shares). s.accounts) are.end.shares)) (few_at_end ran.accounts parts.head.now.collector (split_of (base_fees ran.outcomes) (priority_fees ran.outcomes)) may.room);
+  }
+
+  -- the names of the mark ascend
+  pub names_ascend : AreEnds parts ran ends → Ascends ends.names
+  names_ascend are = subst Ascends (sym are.names) (ascending_ascends (processed_in parts.order.now ran.outcomes))
+
+  -- the same from the block that was sealed
+  pub closes_as : (before block : Block) (after : Snapshot) → before ≡ known → block ≡ sealed (record before { burned = ends.end.burned; collected = ends.end.collected; state = ends.end.state })
+      → after ≡ after_at_end (record { hash = block.hash; messages = ends.names }) → ◌≡◌ {A = Closed} (record { block = block; after = after }) closed_at_end
+  closes_as before block after is made then = rw (then, made, is) refl
+
+  -- and from the front of the record
+  pub whole_is : (front : List ℕ) (whole : WholeRecord) → front ≡ front_bytes known → whole ≡ whole_record front ends.end.burned ends.end.collected ends.end.state
+      → whole ≡ record { bytes = bytes_of_record block_at_end; hash = block_at_end.hash }
+  whole_is front whole is made =
+      made ∙ ap (λ (bs : List ℕ). whole_record bs ends.end.burned ends.end.collected ends.end.state) is
+      ∙ ap (λ (bs : List ℕ). let hash : Hash32 = record { 0 = sha256 bs } in let whole : WholeRecord = record { bytes = bs ++ hash_bytes hash; hash = hash } in whole)
+      (block_ends (record known { burned = ends.end.burned; collected = ends.end.collected; state = ends.end.state }))

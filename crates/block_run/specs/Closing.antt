@@ -9,9 +9,13 @@ use Rattle.snapshot_codec.specs.Snapshot.{hash_of_state}
 use Rattle.block_record.specs.Record.{IsCounted, front_bytes}
 use Rattle.block_run.specs.declared.block.RecordParts.{RecordParts}
 use Rattle.block_run.specs.declared.closing.EndState.{EndState}
+use Rattle.block_run.specs.declared.closing.Ends.{Ends}
 use Rattle.block_run.specs.declared.closing.Unsealed.{Unsealed}
-use Rattle.block_run.specs.BlockEnd.{Shares, shares_at_end}
-use Rattle.block_run.specs.Blocks.{unsealed}
+use Rattle.fee_rules.specs.Fees.{split_of}
+use Rattle.block_run.specs.BlockEnd.{Shares, base_fees, priority_fees, shares_at_end}
+use Rattle.block_run.specs.Blocks.{ascending, processed_in, unsealed}
+use Rattle.block_run.specs.Front.{IsWritten}
+use Rattle.block_run.specs.SerialRun.{Ran}
 
 -- how the fees were shared, as the end of a block has it
 abbrev pub shares_of : EndState → Shares
@@ -31,3 +35,11 @@ pub record IsUnsealed (parts : RecordParts) (outcomes : List Outcome) (end : Uns
       ≡ unsealed parts.head.now parts.previous parts.wires.now parts.order.now outcomes
   pub counted : IsCounted end.block
   pub hasher : Holds256 end.hasher (front_bytes end.block)
+
+-- the end of a run, but for the block hash
+pub record AreEnds (parts : RecordParts) (ran : Ran) (ends : Ends) : Type 0 where
+  pub end : IsEndOf ran.accounts parts.head.now.collector
+      (split_of (base_fees ran.outcomes) (priority_fees ran.outcomes))
+      ends.end
+  pub names : ends.names ≡ ascending (processed_in parts.order.now ran.outcomes)
+  pub front : IsWritten parts ran.outcomes ends.front

@@ -2,6 +2,9 @@ use admission::{Chosen, Refused};
 use block_record::Block;
 use snapshot_codec::Snapshot;
 use sol_base::{Blob, Hash32, Items, Key};
+use std::alloc::Global;
+use tx_exec::TxWork;
+use tx_report::Outcome;
 
 /// The slot of a block, and who collects what is not burned of its fees.
 #[derive(Clone, Copy, PartialEq, Eq)]
@@ -18,6 +21,9 @@ pub(crate) struct RecordParts<'a> {
     pub(crate) previous: Hash32,
     pub(crate) wires: &'a [Blob],
     pub(crate) order: &'a [Chosen],
+    /// Whether its bytes are wanted, and not its hash alone.
+    pub(crate) kept: bool,
+    pub(crate) alloc: Global,
 }
 
 /// A block, and the snapshot after it.
@@ -25,6 +31,13 @@ pub(crate) struct RecordParts<'a> {
 pub struct Closed {
     pub block: Block,
     pub after: Snapshot,
+}
+
+/// The record of a block, and the snapshot after it.
+#[derive(Drop)]
+pub(crate) struct ClosedRecord {
+    pub(crate) record: Blob,
+    pub(crate) after: Snapshot,
 }
 
 /// What a batch comes to.
@@ -35,4 +48,24 @@ pub struct BlockResult {
     pub after: Snapshot,
     /// The transactions that did not run, by their positions.
     pub refused: Items<Refused>,
+}
+
+/// What a batch comes to, the block as its record.
+#[derive(Drop)]
+pub struct Recorded {
+    pub record: Blob,
+    /// The snapshot after the block.
+    pub after: Snapshot,
+    /// The transactions that did not run, by their positions.
+    pub refused: Items<Refused>,
+    /// What nothing asks for any more.
+    pub spent: Spent,
+}
+
+/// What a block leaves behind: its transactions and their outcomes. To give them back takes time, so
+/// a program that ends may leave them.
+#[derive(Drop)]
+pub struct Spent {
+    pub(crate) work: TxWork,
+    pub(crate) outcomes: Items<Outcome>,
 }

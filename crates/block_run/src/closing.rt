@@ -1,28 +1,28 @@
 //! The end of a block: its record, and the snapshot after it.
-ghost use Rattle.std.specs.Prelude.{◌≡◌, ◌+◌, ◌<◌, ◌≤◌, ◌^◌, All, IfOk, length};
+ghost use Rattle.std.specs.Prelude.{◌≡◌, ◌+◌, ◌<◌, ◌≤◌, ◌^◌, ◌∷◌, All, IfOk, length, take, true};
 ghost use Rattle.sha2.specs.Hashers.{Holds256};
 ghost use Rattle.sol_base.specs.Limits.{max_transactions};
 ghost use Rattle.account_store.specs.State.{len, sum};
 ghost use Rattle.tx_exec.specs.TransactionLaws.{IsSmallOutcome};
 ghost use Rattle.block_record.specs.Record.{IsCounted, front_bytes};
 ghost use Rattle.snapshot_codec.specs.Snapshot.{AreAllowed};
-ghost use Rattle.status_cache.specs.Recent.{newest_of};
-ghost use Rattle.block_run.specs.Answers.{IsClosed};
+ghost use Rattle.status_cache.specs.Recent.{Ascends, max_marks, newest_of};
+ghost use Rattle.block_run.specs.Answers.{IsClosed, IsClosedRecord};
 ghost use Rattle.block_run.specs.Blocks.{ascending, closed_with, sealed};
-ghost use Rattle.block_run.specs.Closing.{IsEndOf, IsUnsealed};
+ghost use Rattle.block_run.specs.Closing.{AreEnds, IsEndOf, IsUnsealed};
 ghost use Rattle.block_run.specs.Ending.{AreOf, MayEnd, joined_of, ran_of};
-ghost use Rattle.block_run.specs.Front.{IsBegun};
+ghost use Rattle.block_run.specs.Front.{IsBegun, IsWritten};
 
 use crate::activation::activate_all;
-use crate::block::{Closed, RecordParts};
+use crate::block::{Closed, ClosedRecord, RecordParts};
 use crate::entries::entries_of;
 use crate::fees::{Shared, share_split, split_paid};
-use crate::front::Begun;
+use crate::front::{Begun, take_rest};
 use crate::names::{ascending, processed_in};
 use crate::threads::call_both;
 use account_store::Accounts;
 use bank_core::Ended;
-use block_record::{Block, end_hash, hash_entries};
+use block_record::{Block, end_hash, end_record};
 use fee_rules::FeeSplit;
 use sha2::Sha256;
 use snapshot_codec::{Snapshot, state_hash};
@@ -87,44 +87,17 @@ fn end_state_of_run(
     Ok((end, ascending(alloc, names)?))
 }
 
-/// A block as far as it is known by its entries, and its hash so far.
+/// The end of a block, but for its hash: its accounts, its names in ascending order, and its record
+/// up to the end of its entries.
 #[derive(Drop)]
-pub(crate) struct Unsealed {
-    block: Block,
-    hasher: Sha256,
+pub(crate) struct Ends {
+    end: EndState,
+    names: Items<Hash32>,
+    front: Begun,
 }
 
-/// Lists the entries, and hashes those that are not in the hash yet.
-fn list_entries(
-    alloc: Global,
-    parts: RecordParts<'_>,
-    outcomes: Items<Outcome>,
-    begun: Begun,
-) -> Result<Unsealed, OutOfMemory>
-    requires of { AreOf parts.wires.now parts.order.now }
-    requires one_each { length outcomes ≡ length parts.order.now }
-    requires small { All IsSmallOutcome outcomes }
-    requires begun { IsBegun parts outcomes begun }
-    ensures { IfOk result (IsUnsealed parts.entry outcomes) }
-{
-    let Begun { count, hasher } = begun;
-    let entries = entries_of(alloc, parts.wires, parts.order, outcomes)?;
-    let (_, left) = entries.as_slice().split_at(count as usize);
-    let hasher = hash_entries(hasher, left)?;
-    let block = Block {
-        slot: parts.head.slot,
-        collector: parts.head.collector,
-        previous: parts.previous,
-        entries,
-        burned: 0,
-        collected: 0,
-        state: Hash32([0; 32]),
-        hash: Hash32([0; 32]),
-    };
-    Ok(Unsealed { block, hasher })
-}
-
-/// The accounts are ended and the names sorted beside the entries, where there are several lanes.
+/// The accounts are ended and the names sorted beside what is left of the entries, where there are
+/// several lanes.
 fn end_run<R: Threads + Sync>(
     rt: &R,
     alloc: Global,
@@ -133,27 +106,29 @@ fn end_run<R: Threads + Sync>(
     split: FeeSplit,
     names: Vec<Hash32>,
     ended: Ended<TxWork>,
-    outcomes: Items<Outcome>,
+    outcomes: &Items<Outcome>,
     begun: Begun,
-) -> Result<((EndState, Items<Hash32>), Unsealed), OutOfMemory>
+) -> Result<Ends, OutOfMemory>
     requires supply { sum (joined_of ended.origin.value) + split.burned + split.rest < 2 ^ 64 }
     requires room { len (joined_of ended.origin.value) + 1 < 2 ^ 32 }
     requires of { AreOf parts.wires.now parts.order.now }
-    requires one_each { length outcomes ≡ length parts.order.now }
-    requires small { All IsSmallOutcome outcomes }
-    requires begun { IsBegun parts outcomes begun }
-    ensures end { IfOk result (λ end. IsEndOf (joined_of ended.origin.value)
-        parts.entry.head.now.collector split end.0.0) }
-    ensures names { IfOk result (λ end. end.0.1 ≡ ascending names.items) }
-    ensures entries { IfOk result (λ end. IsUnsealed parts.entry outcomes end.1) }
+    requires one_each { length outcomes.now ≡ length parts.order.now }
+    requires small { All IsSmallOutcome outcomes.now }
+    requires begun { IsBegun parts outcomes.now begun }
+    ensures end { IfOk result (λ ends. IsEndOf (joined_of ended.origin.value)
+        parts.entry.head.now.collector split ends.end) }
+    ensures names { IfOk result (λ ends. ends.names ≡ ascending names.items) }
+    ensures front { IfOk result (λ ends. IsWritten parts.entry outcomes.entry.now ends.front) }
 {
     let RecordParts {
         head,
         previous,
         wires,
         order,
+        kept,
+        alloc,
     } = parts;
-    let (end, unsealed) = call_both(
+    let (end, front) = call_both(
         rt,
         lanes,
         move || -> Result<(EndState, Items<Hash32>), OutOfMemory>
@@ -163,33 +138,104 @@ fn end_run<R: Threads + Sync>(
                 head.entry.now.collector split end.0) }
             ensures names { IfOk result (λ end. end.1 ≡ ascending names.items) }
         { end_state_of_run(alloc, ended, &head.collector, split, names) },
-        move || -> Result<Unsealed, OutOfMemory>
-            requires { AreOf wires.now order.now × (length outcomes ≡ length order.now)
-                × All IsSmallOutcome outcomes × IsBegun (record {
+        move || -> Result<Begun, OutOfMemory>
+            requires { AreOf wires.now order.now × (length outcomes.now ≡ length order.now)
+                × All IsSmallOutcome outcomes.now × IsBegun (record {
                   head = head;
                   previous = previous;
                   wires = wires;
                   order = order;
+                  kept = kept;
+                  alloc = alloc;
                 })
-                outcomes begun }
-            ensures { IfOk result (IsUnsealed (record {
+                outcomes.now begun }
+            ensures { IfOk result (IsWritten (record {
               head = head.entry;
               previous = previous;
               wires = wires.entry;
               order = order.entry;
+              kept = kept;
+              alloc = alloc;
             })
-                outcomes) }
+                outcomes.entry.now) }
         {
             let parts = RecordParts {
                 head,
                 previous,
                 wires,
                 order,
+                kept,
+                alloc,
             };
-            list_entries(alloc, parts, outcomes, begun)
+            take_rest(alloc, parts, begun, outcomes)
         },
     );
-    Ok((end?, unsealed?))
+    let (end, names) = end?;
+    Ok(Ends {
+        end,
+        names,
+        front: front?,
+    })
+}
+
+/// Ends a block whose transactions have these outcomes: the fees are shared, then programs become
+/// executable, and the state hash is of these accounts.
+fn end_block<R: Threads + Sync>(
+    rt: &R,
+    alloc: Global,
+    lanes: u32,
+    parts: RecordParts<'_>,
+    ended: Ended<TxWork>,
+    outcomes: &Items<Outcome>,
+    begun: Begun,
+) -> Result<Ends, OutOfMemory>
+    requires run { MayEnd parts.wires.now parts.order.now
+        (ran_of ended.origin.value outcomes.now) }
+    requires begun { IsBegun parts outcomes.now begun }
+    ensures { IfOk result (AreEnds parts.entry (ran_of ended.origin.value outcomes.entry.now)) }
+{
+    let names = processed_in(alloc, parts.order, outcomes.as_slice())?;
+    let split = split_paid(outcomes.as_slice());
+    let ends = end_run(
+        rt, alloc, lanes, parts, split, names, ended, outcomes, begun,
+    )?;
+    Ok(ends)
+}
+
+/// A block as far as it is known by its entries, and its hash so far.
+#[derive(Drop)]
+pub(crate) struct Unsealed {
+    block: Block,
+    hasher: Sha256,
+}
+
+/// Lists the entries.
+fn list_entries(
+    alloc: Global,
+    parts: RecordParts<'_>,
+    outcomes: Items<Outcome>,
+    front: Begun,
+) -> Result<Unsealed, OutOfMemory>
+    requires of { AreOf parts.wires.now parts.order.now }
+    requires one_each { length outcomes ≡ length parts.order.now }
+    requires small { All IsSmallOutcome outcomes }
+    requires front { IsWritten parts outcomes front }
+    ensures { IfOk result (IsUnsealed parts.entry outcomes) }
+{
+    let block = Block {
+        slot: parts.head.slot,
+        collector: parts.head.collector,
+        previous: parts.previous,
+        entries: entries_of(alloc, parts.wires, parts.order, outcomes)?,
+        burned: 0,
+        collected: 0,
+        state: Hash32([0; 32]),
+        hash: Hash32([0; 32]),
+    };
+    Ok(Unsealed {
+        block,
+        hasher: front.hasher,
+    })
 }
 
 /// The block with the accounts' hash, the lamports burned and paid, and its own hash.
@@ -211,8 +257,33 @@ fn seal(unsealed: Unsealed, burned: u64, collected: u64, state: Hash32) -> Block
     block
 }
 
-/// The record of a run, and the snapshot after it: the fees are shared, then programs become
-/// executable, and the state hash is of these accounts.
+/// The snapshot after a block that has this hash.
+fn snapshot_after(
+    slot: u64,
+    limits: Limits,
+    recent: Recent,
+    accounts: Accounts,
+    mark: Mark,
+) -> Result<Snapshot, OutOfMemory>
+    requires { Ascends mark.messages }
+    ensures { IfOk result (λ after. after ≡ record {
+      slot = slot;
+      limits = limits;
+      recent = take max_marks (mark ∷ recent);
+      accounts = accounts;
+    }) }
+{
+    let mut recent = recent;
+    recent.advance(mark)?;
+    Ok(Snapshot {
+        slot,
+        limits,
+        recent,
+        accounts,
+    })
+}
+
+/// The block of a run, and the snapshot after it.
 pub(crate) fn close<R: Threads + Sync>(
     rt: &R,
     alloc: Global,
@@ -238,30 +309,60 @@ pub(crate) fn close<R: Threads + Sync>(
         parts.entry.head.now parts.entry.wires.now parts.entry.order.now
         (ran_of ended.origin.value outcomes))) }
 {
-    let names = processed_in(alloc, parts.order, outcomes.as_slice())?;
-    let split = split_paid(outcomes.as_slice());
-    let ((end, sorted), unsealed) = end_run(
-        rt, alloc, lanes, parts, split, names, ended, outcomes, begun,
-    )?;
-    let EndState {
-        accounts,
-        burned,
-        collected,
-        state,
-    } = end;
-    let block = seal(unsealed, burned, collected, state);
-    let mut recent = recent;
-    recent.advance(Mark {
+    let Ends { end, names, front } = end_block(rt, alloc, lanes, parts, ended, &outcomes, begun)?;
+    let unsealed = list_entries(alloc, parts, outcomes, front)?;
+    let block = seal(unsealed, end.burned, end.collected, end.state);
+    let mark = Mark {
         hash: block.hash,
-        messages: sorted,
-    })?;
-    Ok(Closed {
-        after: Snapshot {
-            slot: parts.head.slot,
-            limits,
-            recent,
-            accounts,
-        },
-        block,
+        messages: names,
+    };
+    let after = snapshot_after(parts.head.slot, limits, recent, end.accounts, mark)?;
+    Ok(Closed { after, block })
+}
+
+/// The same with the block as its record, whose bytes were kept.
+pub(crate) fn close_record<R: Threads + Sync>(
+    rt: &R,
+    alloc: Global,
+    lanes: u32,
+    limits: Limits,
+    recent: Recent,
+    parts: RecordParts<'_>,
+    ended: Ended<TxWork>,
+    outcomes: &Items<Outcome>,
+    begun: Begun,
+) -> Result<ClosedRecord, OutOfMemory>
+    requires limits { AreAllowed limits }
+    requires messages { All (λ mark. length mark.messages ≤ max_transactions) recent }
+    requires previous { parts.previous ≡ newest_of recent }
+    requires run { MayEnd parts.wires.now parts.order.now
+        (ran_of ended.origin.value outcomes.now) }
+    requires begun { IsBegun parts outcomes.now begun }
+    requires kept { parts.kept ≡ true }
+    ensures { IfOk result (IsClosedRecord (closed_with (record {
+      slot = 0;
+      limits = limits;
+      recent = recent;
+      accounts = joined_of ended.origin.value;
+    })
+        parts.entry.head.now parts.entry.wires.now parts.entry.order.now
+        (ran_of ended.origin.value outcomes.entry.now))) }
+{
+    let Ends { end, names, front } = end_block(rt, alloc, lanes, parts, ended, outcomes, begun)?;
+    let whole = end_record(
+        front.bytes,
+        front.hasher,
+        end.burned,
+        end.collected,
+        &end.state,
+    )?;
+    let mark = Mark {
+        hash: whole.hash,
+        messages: names,
+    };
+    let after = snapshot_after(parts.head.slot, limits, recent, end.accounts, mark)?;
+    Ok(ClosedRecord {
+        record: whole.bytes,
+        after,
     })
 }

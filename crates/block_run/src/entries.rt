@@ -1,9 +1,13 @@
-//! The entries of a block.
-ghost use Rattle.std.specs.Prelude.{◌≡◌, ◌+◌, ◌<◌, ◌^◌, All, IfOk, length};
+//! The entries of a block, as values and as the bytes of its record.
+ghost use Rattle.std.specs.Prelude.{◌≡◌, ◌+◌, ◌<◌, ◌^◌, ◌++◌, All, IfOk, OnOk, length};
+ghost use Rattle.std.specs.List.{flat_map};
+ghost use Rattle.admission.specs.Batches.{IsOf};
+ghost use Rattle.block_record.specs.Record.{entry_bytes};
+ghost use Rattle.tx_exec.specs.TransactionLaws.{IsSmallOutcome};
 ghost use Rattle.block_run.specs.Blocks.{entries_of, entry_of};
 
 use admission::Chosen;
-use block_record::Entry;
+use block_record::{Entry, EntryParts, write_parts};
 use sol_base::{Blob, Items, OutOfMemory};
 use std::alloc::Global;
 use tx_report::Outcome;
@@ -49,4 +53,45 @@ pub(crate) fn entries_of(
         entries.push(entry_of(wires, chosen, outcome)?)?;
     }
     Ok(entries)
+}
+
+/// Writes the entry of a transaction with its outcome. Neither is copied.
+fn write_entry(
+    out: &mut Blob,
+    wires: &[Blob],
+    chosen: &Chosen,
+    outcome: &Outcome,
+) -> Result<(), OutOfMemory>
+    requires of { IsOf wires.now chosen.now }
+    requires small { IsSmallOutcome outcome.now }
+    ensures { OnOk result (out.new
+        ≡ out.old ++ entry_bytes (entry_of wires.now (chosen.now, outcome.now))) }
+{
+    let parts = EntryParts {
+        wire: &wires[chosen.position as usize],
+        status: &outcome.status,
+        units: outcome.units,
+        fee: outcome.base_paid + outcome.priority_paid,
+        lines: &outcome.lines,
+    };
+    write_parts(out, parts)
+}
+
+/// Writes the entry of each transaction, in their order.
+pub(crate) fn write_entries(
+    out: &mut Blob,
+    wires: &[Blob],
+    order: &[Chosen],
+    outcomes: &[Outcome],
+) -> Result<(), OutOfMemory>
+    requires one_each { length outcomes.now ≡ length order.now }
+    requires of { All (IsOf wires.now) order.now }
+    requires small { All IsSmallOutcome outcomes.now }
+    ensures { OnOk result (out.new
+        ≡ out.old ++ flat_map entry_bytes (entries_of wires.now order.now outcomes.now)) }
+{
+    for (at, chosen) in order.iter().enumerate() {
+        write_entry(out, wires, chosen, &outcomes[at])?;
+    }
+    Ok(())
 }

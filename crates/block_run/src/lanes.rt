@@ -1,12 +1,13 @@
 //! A work on its lanes: alone in order, or beside each other over a shared desk, while the front of
 //! the record is hashed.
-ghost use Rattle.std.specs.Prelude.{◌≡◌, ◌<◌, ◌≤◌, [], All, IfOk, None, OnOk, Some, length};
+ghost use Rattle.std.specs.Prelude.{◌≡◌, ◌≤◌, [], All, IfOk, OnOk, length};
 ghost use Rattle.sol_base.specs.Limits.{max_lanes};
 ghost use Rattle.account_store.specs.State.{at};
-ghost use Rattle.bank_law.specs.History.{holds, own, returns};
 ghost use Rattle.bank_core.specs.Ends.{outcomes_at_end, serial_outcomes};
 ghost use Rattle.bank_core.specs.Openings.{AreNumbered};
 ghost use Rattle.bank_core.specs.Origins.{AllDoneAfter};
+ghost use Rattle.bank_lanes.specs.Passes.{IsIdle};
+ghost use Rattle.bank_shared.specs.Face.{desk_origin, IsPassOf, IsReaderOf, view_of};
 ghost use Rattle.tx_exec.specs.TransactionLaws.{IsSmallOutcome};
 ghost use Rattle.block_run.specs.Ending.{AreOf};
 ghost use Rattle.block_run.specs.Front.{IsBegun};
@@ -68,48 +69,38 @@ fn run_beside<W: Work + Sync, G: Gate, R: Threads + Wait + Sync>(
     Result<Begun, OutOfMemory>,
     (Result<(), OutOfMemory>, Pass<W>),
 )
-    requires told { desk.now.table.shared.key.value.origin.told ≡ W.told work.now }
-    requires table { (pass.seat.table_id ≡ desk.now.table.shared.table_id)
-        × (reader.seat.table_id ≡ desk.now.table.shared.table_id) }
-    requires desk { (pass.seat.me.0.origin ≡ Some desk.now.table.shared.key.value)
-        × (reader.seat.me.0.origin ≡ Some desk.now.table.shared.key.value) }
-    requires idle { (holds (own pass.seat.me.0.seen pass.lane) ≡ None)
-        × (returns (own pass.seat.me.0.seen pass.lane) ≡ 0) }
+    requires told { (desk_origin desk.now).told ≡ W.told work.now }
+    requires pass { IsPassOf desk.now pass }
+    requires reader { IsReaderOf desk.now reader }
+    requires idle { IsIdle (view_of pass) }
     requires of { AreOf parts.wires.now parts.order.now }
     requires one_each { length parts.order.now
-        ≡ (W.job desk.now.table.shared.key.value.origin.told).count }
+        ≡ (W.job (desk_origin desk.now).told).count }
     requires small { All IsSmallOutcome
-        (outcomes_at_end W.job desk.now.table.shared.key.value.origin) }
+        (outcomes_at_end W.job (desk_origin desk.now)) }
     ensures begun { IfOk result.0 (IsBegun parts.entry
-        (outcomes_at_end W.job desk.now.table.shared.key.value.origin)) }
-    ensures table { result.1.1.seat.table_id ≡ desk.now.table.shared.table_id }
-    ensures desk { result.1.1.seat.me.0.origin ≡ Some desk.now.table.shared.key.value }
-    ensures done { OnOk result.1.0 (AllDoneAfter W.job desk.now.table.shared.key.value.origin
-        result.1.1.seat.me.0.seen) }
+        (outcomes_at_end W.job (desk_origin desk.now))) }
+    ensures pass { IsPassOf desk.now result.1.1 }
+    ensures done { OnOk result.1.0 (AllDoneAfter W.job (desk_origin desk.now)
+        (view_of result.1.1).seen) }
 {
     join(
         rt,
         move || -> Result<Begun, OutOfMemory>
-            requires { (reader.seat.table_id ≡ desk.now.table.shared.table_id)
-                × (reader.seat.me.0.origin ≡ Some desk.now.table.shared.key.value)
+            requires { IsReaderOf desk.now reader
                 × AreOf parts.wires.now parts.order.now
                 × (length parts.order.now
-                ≡ (W.job desk.now.table.shared.key.value.origin.told).count)
-                × All IsSmallOutcome (outcomes_at_end W.job
-                desk.now.table.shared.key.value.origin) }
+                ≡ (W.job (desk_origin desk.now).told).count)
+                × All IsSmallOutcome (outcomes_at_end W.job (desk_origin desk.now)) }
             ensures { IfOk result (IsBegun parts.entry
-                (outcomes_at_end W.job desk.entry.now.table.shared.key.value.origin)) }
+                (outcomes_at_end W.job (desk_origin desk.entry.now))) }
         { read_front(rt, alloc, desk, reader, ended, parts) },
         move || -> (Result<(), OutOfMemory>, Pass<W>)
-            requires { (desk.now.table.shared.key.value.origin.told ≡ W.told work.now)
-                × (pass.seat.table_id ≡ desk.now.table.shared.table_id)
-                × (pass.seat.me.0.origin ≡ Some desk.now.table.shared.key.value)
-                × (holds (own pass.seat.me.0.seen pass.lane) ≡ None)
-                × (returns (own pass.seat.me.0.seen pass.lane) ≡ 0) }
-            ensures table { result.1.seat.table_id ≡ desk.entry.now.table.shared.table_id }
-            ensures desk { result.1.seat.me.0.origin ≡ Some desk.entry.now.table.shared.key.value }
-            ensures done { OnOk result.0 (AllDoneAfter W.job
-                desk.entry.now.table.shared.key.value.origin result.1.seat.me.0.seen) }
+            requires { ((desk_origin desk.now).told ≡ W.told work.now)
+                × IsPassOf desk.now pass × IsIdle (view_of pass) }
+            ensures pass { IsPassOf desk.entry.now result.1 }
+            ensures done { OnOk result.0 (AllDoneAfter W.job (desk_origin desk.entry.now)
+                (view_of result.1).seen) }
         { run_until(rt, alloc, desk, pass, ended, work, gate) },
     )
 }
@@ -124,15 +115,12 @@ fn run_until<W: Work + Sync, G: Gate, R: Threads + Wait + Sync>(
     work: &W,
     gate: &G,
 ) -> (Result<(), OutOfMemory>, Pass<W>)
-    requires told { desk.now.table.shared.key.value.origin.told ≡ W.told work.now }
-    requires table { pass.seat.table_id ≡ desk.now.table.shared.table_id }
-    requires desk { pass.seat.me.0.origin ≡ Some desk.now.table.shared.key.value }
-    requires idle { (holds (own pass.seat.me.0.seen pass.lane) ≡ None)
-        × (returns (own pass.seat.me.0.seen pass.lane) ≡ 0) }
-    ensures table { result.1.seat.table_id ≡ desk.now.table.shared.table_id }
-    ensures desk { result.1.seat.me.0.origin ≡ Some desk.now.table.shared.key.value }
-    ensures done { OnOk result.0 (AllDoneAfter W.job desk.now.table.shared.key.value.origin
-        result.1.seat.me.0.seen) }
+    requires told { (desk_origin desk.now).told ≡ W.told work.now }
+    requires pass { IsPassOf desk.now pass }
+    requires idle { IsIdle (view_of pass) }
+    ensures pass { IsPassOf desk.now result.1 }
+    ensures done { OnOk result.0 (AllDoneAfter W.job (desk_origin desk.now)
+        (view_of result.1).seen) }
 {
     let run = run_lanes(rt, alloc, desk, &mut pass, work, gate);
     ended.store(true, SeqCst);

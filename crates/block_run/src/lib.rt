@@ -3,6 +3,7 @@
 #![tactic(auto)]
 
 mod activation;
+mod admitting;
 mod block;
 mod closing;
 mod entries;
@@ -15,9 +16,9 @@ mod order;
 mod run;
 mod threads;
 
-pub use block::{BlockResult, Closed, Head};
+pub use block::{BlockResult, Closed, Head, Recorded, Spent};
 pub use laws::{
     activated_programs_are_ready, executable_accounts_stay, lamports_are_conserved,
     sorted_names_are_the_same,
 };
-pub use run::{run_block, run_listed, run_parsed};
+pub use run::{record_parsed, run_block, run_listed, run_parsed};

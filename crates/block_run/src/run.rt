@@ -6,15 +6,17 @@ ghost use Rattle.admission.specs.Chosen.{IsChosen};
 ghost use Rattle.block_record.specs.Record.{IsCounted};
 ghost use Rattle.block_record.specs.Replays.{IsReplayOf};
 ghost use Rattle.snapshot_codec.specs.Snapshot.{IsReadable};
-ghost use Rattle.block_run.specs.Answers.{IsBlockResult, IsClosed};
+ghost use Rattle.block_run.specs.Answers.{IsBlockResult, IsClosed, IsClosedRecord, IsRecorded};
 ghost use Rattle.block_run.specs.Blocks.{before_refused, block_result, closed, is_halted, listed_result, start_in};
 ghost use Rattle.block_run.specs.Ending.{AreOf};
 
-use crate::block::{BlockResult, Closed, Head, RecordParts};
-use crate::closing::close;
+use crate::admitting::admit_on;
+use crate::block::{BlockResult, Closed, ClosedRecord, Head, RecordParts, Recorded, Spent};
+use crate::closing::{close, close_record};
 use crate::lanes::run_work;
 use crate::order::work_of;
-use admission::{Admitted, Chosen, Refused, admit, admit_listed, admit_parsed};
+use crate::threads::{busy_lanes, lanes_for_many};
+use admission::{Admitted, Chosen, Refused, admit, admit_listed};
 use bank_lanes::Gate;
 use block_record::{Block, Entry, Listed};
 use message_codec::Parsed;
@@ -42,7 +44,9 @@ fn run_order<G: Gate, R: Threads + Wait + Sync>(
     requires of { AreOf wires.now order }
     ensures { IfOk result (IsClosed (closed snapshot head.now wires.now order)) }
 {
-    let (work, numbered) = work_of(rt, alloc, lanes, &snapshot, head.slot, order)?;
+    let lanes = busy_lanes(lanes, order.len());
+    let beside = lanes_for_many(lanes, order.len());
+    let (work, numbered) = work_of(rt, alloc, beside, &snapshot, head.slot, order)?;
     let Snapshot {
         slot: _,
         limits,
@@ -54,13 +58,61 @@ fn run_order<G: Gate, R: Threads + Wait + Sync>(
         previous: recent.newest(),
         wires: wires.as_slice(),
         order: work.chosen(),
+        kept: false,
+        alloc,
     };
     let (ended, outcomes, begun) = run_work(
         rt, alloc, accounts, &work, numbered, lanes, gate, parts,
     )?;
     close(
-        rt, alloc, lanes, limits, recent, parts, ended, outcomes, begun,
+        rt, alloc, beside, limits, recent, parts, ended, outcomes, begun,
     )
+}
+
+/// Runs transactions in their order over a snapshot, and writes the record of the block. What the
+/// run leaves behind comes with it.
+fn record_order<G: Gate, R: Threads + Wait + Sync>(
+    rt: &R,
+    alloc: Global,
+    snapshot: Snapshot,
+    head: &Head,
+    wires: &Items<Blob>,
+    order: Items<Chosen>,
+    lanes: u32,
+    gate: &G,
+) -> Result<(ClosedRecord, Spent), OutOfMemory>
+    requires some { 1 ≤ lanes }
+    requires most { lanes ≤ max_lanes }
+    requires readable { IsReadable snapshot }
+    requires chosen { All IsChosen order }
+    requires of { AreOf wires.now order }
+    ensures { IfOk result (λ end.
+        IsClosedRecord (closed snapshot head.now wires.now order) end.0) }
+{
+    let lanes = busy_lanes(lanes, order.len());
+    let beside = lanes_for_many(lanes, order.len());
+    let (work, numbered) = work_of(rt, alloc, beside, &snapshot, head.slot, order)?;
+    let Snapshot {
+        slot: _,
+        limits,
+        recent,
+        accounts,
+    } = snapshot;
+    let parts = RecordParts {
+        head,
+        previous: recent.newest(),
+        wires: wires.as_slice(),
+        order: work.chosen(),
+        kept: true,
+        alloc,
+    };
+    let (ended, outcomes, begun) = run_work(
+        rt, alloc, accounts, &work, numbered, lanes, gate, parts,
+    )?;
+    let end = close_record(
+        rt, alloc, beside, limits, recent, parts, ended, &outcomes, begun,
+    )?;
+    Ok((end, Spent { work, outcomes }))
 }
 
 /// Runs the transactions of a batch that are admitted.
@@ -147,15 +199,48 @@ pub fn run_parsed<G: Gate, R: Threads + Wait + Sync>(
     requires read { AreParsed batch.now.wires parsed }
     ensures { IfOk result (IsBlockResult (block_result snapshot batch.now)) }
 {
-    let answer = admit_parsed(
-        alloc,
-        &batch.wires,
-        parsed,
-        &snapshot.recent,
-        &snapshot.accounts,
-        &snapshot.limits,
-    )?;
+    let answer = admit_on(rt, alloc, lanes, &snapshot, &batch.wires, parsed)?;
     run_admitted(rt, alloc, snapshot, batch, answer, lanes, gate)
+}
+
+/// The same with the block as its record: no entry of it is made, and no wire is copied.
+pub fn record_parsed<G: Gate, R: Threads + Wait + Sync>(
+    rt: &R,
+    alloc: Global,
+    snapshot: Snapshot,
+    batch: &Batch,
+    parsed: Items<Parsed>,
+    lanes: u32,
+    gate: &G,
+) -> Result<Recorded, OutOfMemory>
+    requires some { 1 ≤ lanes }
+    requires most { lanes ≤ max_lanes }
+    requires readable { IsReadable snapshot }
+    requires few { length batch.now.wires ≤ max_transactions }
+    requires read { AreParsed batch.now.wires parsed }
+    ensures { IfOk result (IsRecorded (block_result snapshot batch.now)) }
+{
+    let Admitted { order, refused } = admit_on(rt, alloc, lanes, &snapshot, &batch.wires, parsed)?;
+    let head = Head {
+        slot: batch.slot,
+        collector: batch.collector,
+    };
+    let (ClosedRecord { record, after }, spent) = record_order(
+        rt,
+        alloc,
+        snapshot,
+        &head,
+        &batch.wires,
+        order,
+        lanes,
+        gate,
+    )?;
+    Ok(Recorded {
+        record,
+        after,
+        refused,
+        spent,
+    })
 }
 
 /// The transactions of a block as they came.

@@ -1,6 +1,6 @@
 -- Frames and their errors: the number beside a cause fits four bytes.
 use Rattle.std.proofs.Common.{◌≡◌, ◌≤◌, ◌<◌, ◌^◌, ◌==◌, ◌∷◌, [], ℕ, zero, suc, length, Bool, true, false, List, Option, Some, None, Result, Ok, Err, refl, lit<, arith, if◌then◌else◌}
-use Rattle.std.specs.Prelude.{◌-◌, IfErr, nat_lt, nat_le, not, ◌&&◌}
+use Rattle.std.specs.Prelude.{IfErr, nat_lt, nat_le, not, ◌&&◌}
 use Rattle.std.proofs.lemmas.Bool.{ltb-false, ltb-true}
 use Rattle.spec_base.proofs.Refusing.{bind_refuses, if_refuses}
 use Rattle.sol_base.specs.declared.key.Key.{Key}
@@ -13,7 +13,7 @@ use Rattle.account_rules.specs.AccountRules.{listed_rules}
 use Rattle.account_rules.proofs.Places.{NamesWithin, listed_within}
 use Rattle.tx_report.specs.LogLines.{Log}
 use Rattle.tx_report.specs.declared.status.InstructionError.{InstructionError}
-use Rattle.tx_report.specs.declared.cause.Cause.TheVariants.{Abort, Custom, InvalidError, UnitsSpent, Reentrancy, StackHeight, TooManyAccounts, TraceTooLong}
+use Rattle.tx_report.specs.declared.cause.Cause.TheVariants.{Abort, Custom, InvalidError, Reentrancy, StackHeight, TraceTooLong}
 use Rattle.sbpf_isa.specs.Calls.{invoke_call}
 use Rattle.sbpf_machine.specs.Steps.{State, arguments_in, steps}
 use Rattle.sbpf_machine.specs.declared.stop.Stop.{Stop}

@@ -1,6 +1,7 @@
 pub mod Reasons
 pub mod Lines
 pub mod Frames
+pub mod Invoked
 pub mod Ends
 pub mod Leaving
 pub mod Calling

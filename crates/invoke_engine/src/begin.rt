@@ -1,33 +1,36 @@
 //! A frame at its start.
 ghost use Rattle.std.specs.Prelude.{◌≡◌, ◌<◌, ◌≤◌, Ok, Err, MatchResult, length, IfOk, OnOk};
 ghost use Rattle.sol_base.specs.Accounts.{accounts_of};
-ghost use Rattle.abi_input.specs.Region.{max_metas};
 ghost use Rattle.program_cache.specs.Programs.{sought};
+ghost use Rattle.abi_input.specs.Region.{max_metas};
 ghost use Rattle.invoke_engine.specs.Ends.{ended, error_of};
 ghost use Rattle.invoke_engine.specs.Frames.{height, max_height, max_trace};
+ghost use Rattle.invoke_engine.specs.Invoked.{fixed_in};
 ghost use Rattle.invoke_engine.specs.Given.{AreGiven, IsCall, IsFrame};
 ghost use Rattle.invoke_engine.specs.Native as Native;
 ghost use Rattle.invoke_engine.specs.Reasons.{StopsBy};
 ghost use Rattle.invoke_engine.specs.Starting as Starting;
 ghost use Rattle.invoke_engine.specs.Suspended.{programs_of};
-ghost use Rattle.invoke_engine.specs.Views.{fixed, ending_as, next_as, RunsFit};
+ghost use Rattle.invoke_engine.specs.Views.{ending_as, next_as, RunsFit};
 ghost use Rattle.invoke_engine.specs.declared.stopped.Stopped.TheVariants.{Refused};
 
-use crate::call::{Call, Ended, Setting};
+use crate::call::Ended;
 use crate::carrier::Carrier;
+use crate::context::{Context, Invocation};
 use crate::ending::End;
 use crate::frame::{Frame, Stack};
 use crate::lines::{close, end, say_invoke};
+use crate::program::NamedProgram;
 use crate::stopped::{Reason, Stopped};
 use crate::turn::height_in;
 use abi_input::lay_out;
 use loader_prog::run_loader;
-use program_cache::{Found, Image, Programs};
+use program_cache::{Found, Image};
 use sbpf_machine::Machine;
 use sbpf_memory::Memory;
 use sol_base::{
-    Account, Blob, COMPUTE_BUDGET_PROGRAM, Items, Key, LOADER_PROGRAM, MAX_METAS, Meta,
-    OutOfMemory, SYSTEM_PROGRAM, share_all,
+    Account, Blob, COMPUTE_BUDGET_PROGRAM, Items, Key, LOADER_PROGRAM, MAX_METAS, OutOfMemory,
+    SYSTEM_PROGRAM, share_all,
 };
 use std::alloc::Global;
 use std::sync::Arc;
@@ -54,42 +57,60 @@ fn is_native(key: &Key) -> bool
 /// What a native program does.
 #[tactic(auto, unfolding(crate::specs::Native::native_row))]
 fn run_native(
-    alloc: Global,
+    context: &Context<'_>,
     key: &Key,
-    keys: &[Key],
-    call: &Call,
-    accounts: Items<Arc<Account>>,
+    invocation: Invocation<'_>,
 ) -> Result<Items<Arc<Account>>, Stopped>
-    requires call { IsCall (length keys.now) call.now }
-    requires metas { length call.now.metas ≤ max_metas }
-    requires accounts { AreGiven (length keys.now) (accounts_of accounts) }
+    requires call { IsCall (length context.now.keys) invocation.call }
+    requires metas { length invocation.call.metas ≤ max_metas }
+    requires accounts { AreGiven (length context.now.keys) invocation.accounts }
     ensures { MatchResult result
-        (λ after. Native.native_row key.now keys.now (accounts_of accounts) call.now
+        (λ after. Native.native_row key.now context.now.keys invocation.entry.accounts invocation.entry.call
         ≡ Ok (accounts_of after))
-        (λ e. StopsBy e (Native.native_row key.now keys.now (accounts_of accounts) call.now)) }
+        (λ e. StopsBy e (Native.native_row key.now context.now.keys invocation.entry.accounts
+        invocation.entry.call)) }
 {
-    let metas = call.metas.as_slice();
-    let input = call.input.as_slice();
+    let Invocation {
+        metas,
+        input,
+        accounts,
+        ..
+    } = invocation;
     if *key == SYSTEM_PROGRAM {
-        return Ok(run_system(alloc, keys, accounts.as_slice(), metas, input)?);
+        let after = run_system(
+            context.alloc,
+            context.keys,
+            accounts.as_slice(),
+            metas,
+            input,
+        )?;
+        return Ok(after);
     }
     if *key == LOADER_PROGRAM {
-        return Ok(run_loader(alloc, keys, accounts.as_slice(), metas, input)?);
+        let after = run_loader(
+            context.alloc,
+            context.keys,
+            accounts.as_slice(),
+            metas,
+            input,
+        )?;
+        return Ok(after);
     }
     Ok(accounts)
 }
 
 /// The end of a frame whose program does not run.
+#[inline(never)]
 fn refuse(
     alloc: Global,
     outer: &Stack,
-    key: &Key,
+    program: &NamedProgram,
     units: u64,
     carrier: &mut Carrier,
     reason: Reason,
 ) -> Result<End, OutOfMemory>
     requires { length outer.now < max_height }
-    ensures { IfOk result (λ e. ending_as e carrier.new ≡ ended key.now units carrier.old
+    ensures { IfOk result (λ e. ending_as e carrier.new ≡ ended program.now units carrier.old
         (Err (error_of (height (programs_of outer.now)) (Refused reason)))) }
 {
     let error = InstructionError {
@@ -97,83 +118,81 @@ fn refuse(
         detail: reason.detail,
         height: height_in(outer),
     };
-    end(alloc, key, units, carrier, Ended::Failed(error))
+    end(alloc, program, units, carrier, Ended::Failed(error))
 }
 
 /// The frame of a native program.
 fn native(
-    alloc: Global,
-    key: &Key,
+    context: &Context<'_>,
     outer: &Stack,
-    keys: &[Key],
-    call: &Call,
-    accounts: Items<Arc<Account>>,
-    units: u64,
+    program: &NamedProgram,
+    invocation: Invocation<'_>,
     carrier: &mut Carrier,
 ) -> Result<End, OutOfMemory>
     requires outer { length outer.now < max_height }
-    requires call { IsCall (length keys.now) call.now }
-    requires metas { length call.now.metas ≤ max_metas }
-    requires accounts { AreGiven (length keys.now) (accounts_of accounts) }
+    requires call { IsCall (length context.now.keys) invocation.call }
+    requires metas { length invocation.call.metas ≤ max_metas }
+    requires accounts { AreGiven (length context.now.keys) invocation.accounts }
     ensures { IfOk result (λ e. ending_as e carrier.new
-        ≡ Native.native key.now (programs_of outer.now) keys.now call.now (accounts_of accounts)
-        units carrier.old) }
+        ≡ Native.native program.now (programs_of outer.now) context.now.keys invocation.entry.call
+        invocation.entry.accounts invocation.entry.units carrier.old) }
 {
-    if units < NATIVE_UNITS {
+    let alloc = context.alloc;
+    if invocation.units < NATIVE_UNITS {
         let spent = Reason {
             cause: Cause::UnitsSpent,
             detail: 0,
         };
-        return refuse(alloc, outer, key, 0, carrier, spent);
+        return refuse(alloc, outer, program, 0, carrier, spent);
     }
-    let left = units - NATIVE_UNITS;
-    match run_native(alloc, key, keys, call, accounts) {
-        Ok(after) => end(alloc, key, left, carrier, Ended::Good(after)),
-        Err(Stopped::Refused(reason)) => refuse(alloc, outer, key, left, carrier, reason),
+    let left = invocation.units - NATIVE_UNITS;
+    match run_native(context, &program.key(), invocation) {
+        Ok(after) => end(alloc, program, left, carrier, Ended::Good(after)),
+        Err(Stopped::Refused(reason)) => refuse(alloc, outer, program, left, carrier, reason),
         Err(Stopped::OutOfMemory) => Err(OutOfMemory),
     }
 }
 
-/// A list of the same metas.
-fn copy_of(alloc: Global, metas: &[Meta]) -> Result<Items<Meta>, OutOfMemory>
-    ensures { IfOk result (λ copy. copy ≡ metas.now) }
-{
-    Ok(Items::from_vec(Vec::from_slice(alloc, metas)?))
-}
-
-/// A frame at the start of its program.
+/// A frame at the start of its program. Most frames are those of native programs, in whose memory
+/// no machine stands.
+#[inline(never)]
 fn first_frame(
-    alloc: Global,
-    setting: Setting,
-    keys: &[Key],
-    key: Key,
+    context: &Context<'_>,
+    program: Key,
     image: &Image,
-    call: &Call,
-    accounts: Items<Arc<Account>>,
-    units: u64,
+    invocation: Invocation<'_>,
 ) -> Result<Frame, OutOfMemory>
-    requires call { IsCall (length keys.now) call.now }
-    requires metas { length call.now.metas ≤ max_metas }
-    requires accounts { AreGiven (length keys.now) (accounts_of accounts) }
+    requires call { IsCall (length context.now.keys) invocation.call }
+    requires metas { length invocation.call.metas ≤ max_metas }
+    requires accounts { AreGiven (length context.now.keys) invocation.accounts }
     ensures value { IfOk result (λ frame. frame
-        ≡ Starting.first_running setting keys.now key image.now call.now (accounts_of accounts)
-        units) }
-    ensures fits { IfOk result (λ frame. IsFrame (length keys.now) frame) }
+        ≡ Starting.first_running context.now.setting context.now.keys program image.now
+        invocation.entry.call invocation.entry.accounts invocation.entry.units) }
+    ensures fits { IfOk result (λ frame. IsFrame (length context.now.keys) frame) }
 {
+    let alloc = context.alloc;
+    let Invocation {
+        metas,
+        input,
+        accounts,
+        units,
+        ..
+    } = invocation;
     let region = lay_out(
         alloc,
-        keys,
+        context.keys,
         accounts.as_slice(),
-        call.metas.as_slice(),
-        call.input.as_slice(),
-        &key,
+        metas,
+        input,
+        &program,
     )?;
-    let memory = Memory::new(alloc, Arc::try_clone(image.bytes())?, setting.heap, region)?;
+    let bytes = Arc::try_clone(image.bytes())?;
+    let memory = Memory::new(alloc, bytes, context.setting.heap, region)?;
     let machine = Machine::of(Arc::try_clone(image.code())?, memory, units);
     let machine = Box::new(alloc, machine)?;
     Ok(Frame {
-        program: key,
-        metas: copy_of(alloc, call.metas.as_slice())?,
+        program,
+        metas: Items::from_vec(Vec::from_slice(alloc, metas)?),
         start: share_all(alloc, accounts.as_slice())?,
         before: accounts,
         had: units,
@@ -182,78 +201,76 @@ fn first_frame(
 }
 
 /// Whether the program is ready.
-fn is_ready(programs: &Programs, key: &Key) -> bool
-    ensures { result ≡ Starting.is_ready (sought programs.now key.now) }
+fn is_ready(context: &Context<'_>, key: &Key) -> bool
+    ensures { result ≡ Starting.is_ready (sought context.now.programs key.now) }
 {
-    match programs.find(key) {
+    match context.programs.find(key) {
         Found::Ready(_) => true,
         _ => false,
     }
 }
 
 /// The end of a frame that lists too many accounts.
+#[inline(never)]
 #[tactic(auto, unfolding(crate::specs::Starting::crowded))]
 fn crowded(
-    alloc: Global,
-    programs: &Programs,
+    context: &Context<'_>,
     outer: &Stack,
-    key: &Key,
+    program: &NamedProgram,
     units: u64,
     carrier: &mut Carrier,
 ) -> Result<End, OutOfMemory>
     requires { length outer.now < max_height }
     ensures { IfOk result (λ e. ending_as e carrier.new
-        ≡ Starting.crowded (sought programs.now) key.now (programs_of outer.now) units
+        ≡ Starting.crowded (sought context.now.programs) program.now (programs_of outer.now) units
         carrier.old) }
 {
     let reason = Reason {
         cause: Cause::TooManyAccounts,
         detail: 0,
     };
-    if !is_native(key) && is_ready(programs, key) {
+    let key = program.key();
+    if !is_native(&key) && is_ready(context, &key) {
         let error = InstructionError {
             cause: reason.cause,
             detail: reason.detail,
             height: height_in(outer),
         };
-        return close(alloc, key, units, units, carrier, Ended::Failed(error));
+        let failed = Ended::Failed(error);
+        return close(context.alloc, program, units, units, carrier, failed);
     }
-    refuse(alloc, outer, key, units, carrier, reason)
+    refuse(context.alloc, outer, program, units, carrier, reason)
 }
 
 /// A frame after its first line.
 #[tactic(auto, unfolding(crate::specs::Starting::entering))]
 fn enter(
-    alloc: Global,
-    programs: &Programs,
-    setting: Setting,
-    keys: &[Key],
+    context: &Context<'_>,
     outer: &Stack,
-    key: Key,
-    call: &Call,
-    accounts: Items<Arc<Account>>,
-    units: u64,
+    program: &NamedProgram,
+    invocation: Invocation<'_>,
     carrier: &mut Carrier,
 ) -> Result<Next, OutOfMemory>
     requires outer { length outer.now < max_height }
-    requires call { IsCall (length keys.now) call.now }
-    requires accounts { AreGiven (length keys.now) (accounts_of accounts) }
+    requires call { IsCall (length context.now.keys) invocation.call }
+    requires accounts { AreGiven (length context.now.keys) invocation.accounts }
     ensures next { IfOk result (λ next.
-        Starting.entering (fixed (sought programs.now) setting keys.now) (programs_of outer.now)
-        key call.now (accounts_of accounts) units carrier.old
+        Starting.entering (fixed_in context.now) (programs_of outer.now) program.now invocation.entry.call
+        invocation.entry.accounts invocation.entry.units carrier.old
         ≡ next_as next carrier.new) }
-    ensures fits { IfOk result (λ next. RunsFit (length keys.now) next) }
+    ensures fits { IfOk result (λ next. RunsFit (length context.now.keys) next) }
 {
-    if call.metas.len() > MAX_METAS {
-        return Ok(Next::Ends(crowded(alloc, programs, outer, &key, units, carrier)?));
+    let units = invocation.units;
+    if invocation.metas.len() > MAX_METAS {
+        return Ok(Next::Ends(crowded(context, outer, program, units, carrier)?));
     }
+    let key = program.key();
     if is_native(&key) {
-        let end = native(alloc, &key, outer, keys, call, accounts, units, carrier)?;
-        return Ok(Next::Ends(end));
+        return Ok(Next::Ends(native(context, outer, program, invocation, carrier)?));
     }
-    let reason = match programs.find(&key) {
+    let reason = match context.programs.find(&key) {
         Found::Ready(image) => {
-            let frame = first_frame(alloc, setting, keys, key, image, call, accounts, units)?;
+            let frame = first_frame(context, key, image, invocation)?;
             return Ok(Next::Runs(frame));
         }
         Found::NotFound | Found::NotProgram => Reason {
@@ -269,7 +286,7 @@ fn enter(
             detail: u32::from(fault.number()),
         },
     };
-    Ok(Next::Ends(refuse(alloc, outer, &key, units, carrier, reason)?))
+    Ok(Next::Ends(refuse(context.alloc, outer, program, units, carrier, reason)?))
 }
 
 /// The key at a place of the transaction.
@@ -283,43 +300,41 @@ fn key_at(keys: &[Key], place: u8) -> Key
 }
 
 /// One more instruction is started.
-fn start(alloc: Global, key: &Key, outer: &Stack, carrier: &mut Carrier) -> Result<(), OutOfMemory>
+fn start(
+    alloc: Global,
+    program: &NamedProgram,
+    outer: &Stack,
+    carrier: &mut Carrier,
+) -> Result<(), OutOfMemory>
     requires outer { length outer.now < max_height }
     requires trace { carrier.old.trace < max_trace }
     ensures { OnOk result (carrier.new
-        ≡ Starting.started key.now (height (programs_of outer.now)) carrier.old) }
+        ≡ Starting.started program.now (height (programs_of outer.now)) carrier.old) }
 {
     carrier.trace += 1;
     carrier.env.returned = Blob::new(alloc);
-    say_invoke(alloc, key, height_in(outer), carrier)
+    say_invoke(alloc, program, height_in(outer), carrier)
 }
 
 /// A frame at its start.
 #[tactic(auto, unfolding(crate::specs::Starting::begun))]
 pub(crate) fn begin(
-    alloc: Global,
-    programs: &Programs,
-    setting: Setting,
-    keys: &[Key],
+    context: &Context<'_>,
     outer: &Stack,
-    call: &Call,
-    accounts: Items<Arc<Account>>,
-    units: u64,
+    invocation: Invocation<'_>,
     carrier: &mut Carrier,
 ) -> Result<Next, OutOfMemory>
     requires outer { length outer.now < max_height }
-    requires call { IsCall (length keys.now) call.now }
-    requires accounts { AreGiven (length keys.now) (accounts_of accounts) }
+    requires call { IsCall (length context.now.keys) invocation.call }
+    requires accounts { AreGiven (length context.now.keys) invocation.accounts }
     requires trace { carrier.old.trace < max_trace }
     ensures next { IfOk result (λ next.
-        Starting.begun (fixed (sought programs.now) setting keys.now) (programs_of outer.now)
-        call.now (accounts_of accounts) units carrier.old
+        Starting.begun (fixed_in context.now) (programs_of outer.now) invocation.entry.call invocation.entry.accounts
+        invocation.entry.units carrier.old
         ≡ next_as next carrier.new) }
-    ensures fits { IfOk result (λ next. RunsFit (length keys.now) next) }
+    ensures fits { IfOk result (λ next. RunsFit (length context.now.keys) next) }
 {
-    let key = key_at(keys, call.program);
-    start(alloc, &key, outer, carrier)?;
-    enter(
-        alloc, programs, setting, keys, outer, key, call, accounts, units, carrier,
-    )
+    let program = NamedProgram::of(key_at(context.keys, invocation.program));
+    start(context.alloc, &program, outer, carrier)?;
+    enter(context, outer, &program, invocation, carrier)
 }

@@ -8,72 +8,92 @@ ghost use Rattle.invoke_engine.specs.Views.{ending_as, result_as};
 use crate::call::Ended;
 use crate::carrier::Carrier;
 use crate::ending::End;
+use crate::program::NamedProgram;
 use itoa::Buffer;
-use sol_base::{Blob, Key, OutOfMemory, key_text};
+use sol_base::{Blob, OutOfMemory};
 use std::alloc::Global;
 use tx_report::cause_text;
 
-/// The beginning of each line of a frame.
-fn beginning(alloc: Global, program: &Key) -> Result<Blob, OutOfMemory>
+/// The bytes of the beginning of each line of a frame.
+const BEGINNING_LEN: usize = 72;
+
+/// The bytes that follow it where a frame starts: a height has one digit.
+const INVOKE_LEN: usize = 11;
+
+/// Those where a program was ready: units have mostly seven digits at most.
+const CONSUMED_LEN: usize = 42;
+
+const SUCCESS: [u8; 8] = *b" success";
+
+const FAILED: [u8; 9] = *b" failed: ";
+
+/// The beginning of each line of a frame, with room for so many bytes behind it.
+fn beginning(alloc: Global, program: &NamedProgram, len: usize) -> Result<Blob, OutOfMemory>
     ensures { IfOk result (λ line. line ≡ codes "Program " ++ encode_lower program.now.0) }
 {
-    let mut line = Blob::from_slice(alloc, b"Program ")?;
-    line.append(&key_text(program))?;
+    let mut line = Blob::with_capacity(alloc, BEGINNING_LEN.saturating_add(len))?;
+    line.append(b"Program ")?;
+    line.append(program.text())?;
     Ok(line)
 }
 
 /// The line of a frame that starts.
 pub(crate) fn say_invoke(
     alloc: Global,
-    program: &Key,
+    program: &NamedProgram,
     height: u8,
     carrier: &mut Carrier,
 ) -> Result<(), OutOfMemory>
     ensures { OnOk result (carrier.new ≡ say (invoke_line program.now height) carrier.old) }
 {
-    let mut line = beginning(alloc, program)?;
+    let mut line = beginning(alloc, program, INVOKE_LEN)?;
     line.append(b" invoke [")?;
     line.append(Buffer::new().format(height).as_bytes())?;
     line.append(b"]")?;
-    carrier.env.logs.push_line(line.as_slice())
+    carrier.env.logs.add_line(line)
 }
 
 fn say_consumed(
     alloc: Global,
-    program: &Key,
+    program: &NamedProgram,
     used: u64,
     had: u64,
     carrier: &mut Carrier,
 ) -> Result<(), OutOfMemory>
     ensures { OnOk result (carrier.new ≡ say (consumed_line program.now used had) carrier.old) }
 {
-    let mut line = beginning(alloc, program)?;
+    let mut line = beginning(alloc, program, CONSUMED_LEN)?;
     line.append(b" consumed ")?;
     line.append(Buffer::new().format(used).as_bytes())?;
     line.append(b" of ")?;
     line.append(Buffer::new().format(had).as_bytes())?;
     line.append(b" compute units")?;
-    carrier.env.logs.push_line(line.as_slice())
+    carrier.env.logs.add_line(line)
 }
 
-fn last(alloc: Global, program: &Key, outcome: &Ended) -> Result<Blob, OutOfMemory>
+fn last(alloc: Global, program: &NamedProgram, outcome: &Ended) -> Result<Blob, OutOfMemory>
     ensures { IfOk result (λ line. line ≡ last_line program.now (result_as outcome.now)) }
 {
-    let mut line = beginning(alloc, program)?;
     match outcome {
-        Ended::Good(_) => line.append(b" success")?,
+        Ended::Good(_) => {
+            let mut line = beginning(alloc, program, SUCCESS.len())?;
+            line.append(&SUCCESS)?;
+            Ok(line)
+        }
         Ended::Failed(error) => {
-            line.append(b" failed: ")?;
-            line.append(cause_text(alloc, error.cause, error.detail)?.as_slice())?;
+            let text = cause_text(alloc, error.cause, error.detail)?;
+            let mut line = beginning(alloc, program, FAILED.len().saturating_add(text.len()))?;
+            line.append(&FAILED)?;
+            line.append(text.as_slice())?;
+            Ok(line)
         }
     }
-    Ok(line)
 }
 
 /// The end of a frame, with its last line.
 pub(crate) fn end(
     alloc: Global,
-    program: &Key,
+    program: &NamedProgram,
     units: u64,
     carrier: &mut Carrier,
     outcome: Ended,
@@ -82,7 +102,7 @@ pub(crate) fn end(
         ≡ ended program.now units carrier.old (result_as outcome)) }
 {
     let line = last(alloc, program, &outcome)?;
-    carrier.env.logs.push_line(line.as_slice())?;
+    carrier.env.logs.add_line(line)?;
     Ok(End {
         units,
         ended: outcome,
@@ -92,7 +112,7 @@ pub(crate) fn end(
 /// The same where the program was ready.
 pub(crate) fn close(
     alloc: Global,
-    program: &Key,
+    program: &NamedProgram,
     had: u64,
     units: u64,
     carrier: &mut Carrier,

@@ -12,25 +12,25 @@ ghost use Rattle.invoke_engine.specs.Views.{ending_as, next_as, PatchesAs, RunsF
 use crate::begin::Next;
 use crate::call::Ended;
 use crate::carrier::Carrier;
+use crate::context::Context;
 use crate::ending::End;
 use crate::frame::{Frame, Stack};
 use crate::lines::close;
+use crate::program::NamedProgram;
 use crate::stopped::Stopped;
 use crate::turn::fail;
 use abi_input::patch;
-use sol_base::{Account, Items, Key, OutOfMemory};
-use std::alloc::Global;
+use sol_base::{Account, Items, OutOfMemory};
 use std::sync::Arc;
 
 /// Writes the accounts over the frame's region, and makes them the frame's.
 fn write_over(
-    alloc: Global,
+    context: &Context<'_>,
     frame: &mut Frame,
-    keys: &[Key],
     accounts: Items<Arc<Account>>,
 ) -> Result<(), Stopped>
-    requires frame { IsFrame (length keys.now) frame.old }
-    requires accounts { AreGiven (length keys.now) (accounts_of accounts) }
+    requires frame { IsFrame (length context.now.keys) frame.old }
+    requires accounts { AreGiven (length context.now.keys) (accounts_of accounts) }
     ensures answer { PatchesAs
         (patched frame.old.machine.context.memory.input.bytes frame.old.start
         (accounts_of accounts) frame.old.metas)
@@ -38,9 +38,8 @@ fn write_over(
     ensures size { length frame.new.machine.context.memory.input.bytes
         ≡ length frame.old.machine.context.memory.input.bytes }
 {
-    let _keys = keys;
     patch(
-        alloc,
+        context.alloc,
         frame.machine.memory_mut().input_mut(),
         frame.start.as_slice(),
         accounts.as_slice(),
@@ -53,42 +52,40 @@ fn write_over(
 /// The caller goes on where its callee ended well, and fails with it where it failed.
 #[tactic(auto, unfolding(crate::specs::Returning::returned))]
 pub(crate) fn resume(
-    alloc: Global,
-    keys: &[Key],
+    context: &Context<'_>,
     outer: &Stack,
     frame: Frame,
     end: End,
     carrier: &mut Carrier,
 ) -> Result<Next, OutOfMemory>
     requires outer { length outer.now < max_height }
-    requires frame { IsSuspended (length keys.now) frame }
-    requires end { EndFits (length keys.now) (ending_as end carrier.old) }
+    requires frame { IsSuspended (length context.now.keys) frame }
+    requires end { EndFits (length context.now.keys) (ending_as end carrier.old) }
     requires units { end.units ≤ frame.machine.units }
     ensures next { IfOk result (λ next.
         returned (programs_of outer.now) frame (ending_as end carrier.old)
         ≡ next_as next carrier.new) }
-    ensures fits { IfOk result (λ next. RunsFit (length keys.now) next) }
+    ensures fits { IfOk result (λ next. RunsFit (length context.now.keys) next) }
 {
     let mut frame = frame;
     let End { units, ended } = end;
     match ended {
-        Ended::Failed(error) => Ok(Next::Ends(close(
-            alloc,
-            &frame.program,
-            frame.had,
-            units,
-            carrier,
-            Ended::Failed(error),
-        )?)),
-        Ended::Good(accounts) => match write_over(alloc, &mut frame, keys, accounts) {
+        Ended::Failed(error) => {
+            let program = NamedProgram::of(frame.program);
+            let failed = Ended::Failed(error);
+            let end = close(context.alloc, &program, frame.had, units, carrier, failed)?;
+            Ok(Next::Ends(end))
+        }
+        Ended::Good(accounts) => match write_over(context, &mut frame, accounts) {
             Ok(()) => {
                 frame.machine.set_units(units);
                 frame.machine.resume(0);
                 Ok(Next::Runs(frame))
             }
-            Err(Stopped::Refused(reason)) => Ok(Next::Ends(fail(
-                alloc, outer, &frame, units, carrier, reason,
-            )?)),
+            Err(Stopped::Refused(reason)) => {
+                let end = fail(context.alloc, outer, &frame, units, carrier, reason)?;
+                Ok(Next::Ends(end))
+            }
             Err(Stopped::OutOfMemory) => Err(OutOfMemory),
         },
     }

@@ -7,6 +7,7 @@ ghost use Rattle.invoke_engine.specs.Fits.{Works, Stands, Steps, ending_in};
 ghost use Rattle.invoke_engine.specs.Frame as Spec;
 ghost use Rattle.invoke_engine.specs.Frame.{Carried};
 ghost use Rattle.invoke_engine.specs.Frames.{max_height, max_trace};
+ghost use Rattle.invoke_engine.specs.Invoked.{fixed_in};
 ghost use Rattle.invoke_engine.specs.Given.{AreGiven, IsCall, IsFrame};
 ghost use Rattle.invoke_engine.specs.Suspended.{programs_of};
 ghost use Rattle.invoke_engine.specs.Views.{fixed, ending_as, next_as, work_as, IsRun};
@@ -14,6 +15,7 @@ ghost use Rattle.invoke_engine.specs.Views.{fixed, ending_as, next_as, work_as, 
 use crate::begin::{Next, begin};
 use crate::call::{Call, Ended, Ran, Setting};
 use crate::carrier::Carrier;
+use crate::context::{Context, Invocation};
 use crate::ending::{Callee, End};
 use crate::frame::{Frame, Stack};
 use crate::resume::resume;
@@ -37,24 +39,20 @@ enum Work {
 
 /// Runs the frame until it calls another program or ends.
 fn work_on(
-    alloc: Global,
-    programs: &Programs,
-    setting: Setting,
-    keys: &[Key],
+    context: &Context<'_>,
     outer: &Stack,
     frame: &mut Frame,
     carrier: &mut Carrier,
 ) -> Result<Work, OutOfMemory>
-    requires keys { length keys.now ≤ max_keys }
+    requires keys { length context.now.keys ≤ max_keys }
     requires outer { length outer.now < max_height }
-    requires frame { IsFrame (length keys.now) frame.old }
+    requires frame { IsFrame (length context.now.keys) frame.old }
     requires going { frame.old.machine.stop ≡ None }
-    ensures { IfOk result (λ w. Works (fixed (sought programs.now) setting keys.now)
-        (programs_of outer.now) frame.old carrier.old (work_as w frame.new carrier.new)) }
+    ensures { IfOk result (λ w. Works (fixed_in context.now) (programs_of outer.now) frame.old carrier.old
+        (work_as w frame.new carrier.new)) }
 {
-    let _programs = programs;
     loop {
-        match take_turn(alloc, setting, keys, outer, frame, carrier)? {
+        match take_turn(context, outer, frame, carrier)? {
             Turn::GoesOn => {}
             Turn::Calls(callee, units) => return Ok(Work::Calls(callee, units)),
             Turn::Leaves(end) => return Ok(Work::Leaves(end)),
@@ -64,59 +62,55 @@ fn work_on(
 
 /// Runs the frame until it ends or another is begun.
 fn advance(
-    alloc: Global,
-    programs: &Programs,
-    setting: Setting,
-    keys: &[Key],
+    context: &Context<'_>,
     stack: &mut Stack,
     frame: Frame,
     carrier: &mut Carrier,
 ) -> Result<Next, OutOfMemory>
-    requires keys { length keys.now ≤ max_keys }
-    requires most { setting.height ≤ 9 }
-    requires stands { Stands (fixed (sought programs.now) setting keys.now) stack.old
-        (Spec.Runs frame carrier.old) }
-    ensures { IfOk result (λ next. Steps (fixed (sought programs.now) setting keys.now) stack.old
-        (Spec.Runs frame carrier.old) stack.new (next_as next carrier.new)) }
+    requires keys { length context.now.keys ≤ max_keys }
+    requires most { context.now.setting.height ≤ 9 }
+    requires stands { Stands (fixed_in context.now) stack.old (Spec.Runs frame carrier.old) }
+    ensures { IfOk result (λ next. Steps (fixed_in context.now) stack.old (Spec.Runs frame carrier.old)
+        stack.new (next_as next carrier.new)) }
 {
     let mut frame = frame;
-    match work_on(alloc, programs, setting, keys, stack, &mut frame, carrier)? {
+    match work_on(context, stack, &mut frame, carrier)? {
         Work::Leaves(end) => Ok(Next::Ends(end)),
         Work::Calls(callee, units) => {
             stack.push(frame)?;
             let Callee { call, accounts } = callee;
-            begin(
-                alloc, programs, setting, keys, stack, &call, accounts, units, carrier,
-            )
+            let invocation = Invocation {
+                program: call.program,
+                metas: call.metas.as_slice(),
+                input: call.input.as_slice(),
+                accounts,
+                units,
+            };
+            begin(context, stack, invocation, carrier)
         }
     }
 }
 
 /// Runs all frames to the end of the outermost.
 fn drive(
-    alloc: Global,
-    programs: &Programs,
-    setting: Setting,
-    keys: &[Key],
+    context: &Context<'_>,
     stack: &mut Stack,
     first: Next,
     carrier: &mut Carrier,
 ) -> Result<End, OutOfMemory>
-    requires keys { length keys.now ≤ max_keys }
-    requires most { setting.height ≤ 9 }
-    requires stands { Stands (fixed (sought programs.now) setting keys.now) stack.old
-        (next_as first carrier.old) }
+    requires keys { length context.now.keys ≤ max_keys }
+    requires most { context.now.setting.height ≤ 9 }
+    requires stands { Stands (fixed_in context.now) stack.old (next_as first carrier.old) }
     ensures { IfOk result (λ e. ending_as e carrier.new
-        ≡ ending_in (fixed (sought programs.now) setting keys.now) stack.old
-        (next_as first carrier.old)) }
+        ≡ ending_in (fixed_in context.now) stack.old (next_as first carrier.old)) }
 {
     let mut next = first;
     loop {
         next = match next {
-            Next::Runs(frame) => advance(alloc, programs, setting, keys, stack, frame, carrier)?,
+            Next::Runs(frame) => advance(context, stack, frame, carrier)?,
             Next::Ends(end) => match stack.pop() {
                 None => return Ok(end),
-                Some(frame) => resume(alloc, keys, stack, frame, end, carrier)?,
+                Some(frame) => resume(context, stack, frame, end, carrier)?,
             },
         };
     }
@@ -124,29 +118,22 @@ fn drive(
 
 /// A frame that starts and runs to its end, with those that it calls.
 fn run_frame(
-    alloc: Global,
-    programs: &Programs,
-    setting: Setting,
-    keys: &[Key],
-    call: &Call,
-    accounts: Items<Arc<Account>>,
-    units: u64,
+    context: &Context<'_>,
+    invocation: Invocation<'_>,
     carrier: &mut Carrier,
 ) -> Result<End, OutOfMemory>
-    requires keys { length keys.now ≤ max_keys }
-    requires height { (1 ≤ setting.height) × (setting.height ≤ 9) }
-    requires call { IsCall (length keys.now) call.now }
-    requires accounts { AreGiven (length keys.now) (accounts_of accounts) }
+    requires keys { length context.now.keys ≤ max_keys }
+    requires height { (1 ≤ context.now.setting.height) × (context.now.setting.height ≤ 9) }
+    requires call { IsCall (length context.now.keys) invocation.call }
+    requires accounts { AreGiven (length context.now.keys) invocation.accounts }
     requires trace { carrier.old.trace < max_trace }
     ensures { IfOk result (λ e. ending_as e carrier.new
-        ≡ Spec.frame (fixed (sought programs.now) setting keys.now) [] call.now
-        (accounts_of accounts) units carrier.old) }
+        ≡ Spec.frame (fixed_in context.now) [] invocation.entry.call invocation.entry.accounts invocation.entry.units
+        carrier.old) }
 {
-    let mut stack = Stack::new(alloc);
-    let first = begin(
-        alloc, programs, setting, keys, &stack, call, accounts, units, carrier,
-    )?;
-    drive(alloc, programs, setting, keys, &mut stack, first, carrier)
+    let mut stack = Stack::new(context.alloc);
+    let first = begin(context, &stack, invocation, carrier)?;
+    drive(context, &mut stack, first, carrier)
 }
 
 /// What an instruction did that ended so.
@@ -163,52 +150,68 @@ fn ran_of(end: End, trace: u8) -> Ran
 
 /// Runs an instruction that is started.
 fn run_started(
-    alloc: Global,
-    programs: &Programs,
-    setting: Setting,
-    keys: &[Key],
-    call: &Call,
-    accounts: Items<Arc<Account>>,
-    units: u64,
+    context: &Context<'_>,
+    invocation: Invocation<'_>,
     trace: u8,
     logs: &mut Logs,
 ) -> Result<Ran, OutOfMemory>
-    requires keys { length keys.now ≤ max_keys }
-    requires height { (1 ≤ setting.height) × (setting.height ≤ 9) }
-    requires call { IsCall (length keys.now) call.now }
-    requires accounts { AreGiven (length keys.now) (accounts_of accounts) }
+    requires keys { length context.now.keys ≤ max_keys }
+    requires height { (1 ≤ context.now.setting.height) × (context.now.setting.height ≤ 9) }
+    requires call { IsCall (length context.now.keys) invocation.call }
+    requires accounts { AreGiven (length context.now.keys) invocation.accounts }
     requires trace { trace < max_trace }
     ensures { IfOk result (λ ran. IsRun
-        (Spec.frame (fixed (sought programs.now) setting keys.now) [] call.now
-        (accounts_of accounts) units (Spec.nothing_returned trace logs.old))
+        (Spec.frame (fixed_in context.now) [] invocation.entry.call invocation.entry.accounts invocation.entry.units
+        (Spec.nothing_returned trace logs.old))
         ran logs.new) }
 {
     let mut carrier = Carrier {
         trace,
         env: Env {
-            slot: setting.slot,
+            slot: context.setting.slot,
             program: SYSTEM_PROGRAM,
             height: 1,
-            units,
-            returned: Blob::new(alloc),
+            units: invocation.units,
+            returned: Blob::new(context.alloc),
             returned_by: SYSTEM_PROGRAM,
-            logs: mem::replace(logs, Logs::new(alloc)),
+            logs: mem::replace(logs, Logs::new(context.alloc)),
         },
     };
-    let answer = run_frame(
-        alloc,
-        programs,
-        setting,
-        keys,
-        call,
-        accounts,
-        units,
-        &mut carrier,
-    );
+    let answer = run_frame(context, invocation, &mut carrier);
     let Carrier { trace, env } = carrier;
     let Env { logs: lines, .. } = env;
     *logs = lines;
     Ok(ran_of(answer?, trace))
+}
+
+/// What `run_instruction` does, for one who hands the accounts over and lends the lists of the call.
+pub fn run_invocation(
+    context: &Context<'_>,
+    invocation: Invocation<'_>,
+    trace: u8,
+    logs: &mut Logs,
+) -> Result<Ran, OutOfMemory>
+    requires keys { length context.now.keys ≤ max_keys }
+    requires height { (1 ≤ context.now.setting.height) × (context.now.setting.height ≤ 9) }
+    requires call { IsCall (length context.now.keys) invocation.call }
+    requires accounts { AreGiven (length context.now.keys) invocation.accounts }
+    ensures { IfOk result (λ ran. IsRun
+        (Spec.instruction (fixed_in context.now) invocation.entry.call invocation.entry.accounts invocation.entry.units trace
+        logs.old)
+        ran logs.new) }
+{
+    if trace >= MAX_TRACE {
+        return Ok(Ran {
+            units: invocation.units,
+            trace,
+            ended: Ended::Failed(InstructionError {
+                cause: Cause::TraceTooLong,
+                detail: 0,
+                height: 1,
+            }),
+        });
+    }
+    run_started(context, invocation, trace, logs)
 }
 
 /// Runs one top instruction with its cross-program calls (Solana; docs/SOLANA.md lists what is the
@@ -235,19 +238,18 @@ pub fn run_instruction(
         (accounts_of accounts.now) units trace logs.old)
         ran logs.new) }
 {
-    if trace >= MAX_TRACE {
-        return Ok(Ran {
-            units,
-            trace,
-            ended: Ended::Failed(InstructionError {
-                cause: Cause::TraceTooLong,
-                detail: 0,
-                height: 1,
-            }),
-        });
-    }
-    let shared = share_all(alloc, accounts)?;
-    run_started(
-        alloc, programs, *setting, keys, call, shared, units, trace, logs,
-    )
+    let context = Context {
+        alloc,
+        programs,
+        setting: *setting,
+        keys,
+    };
+    let invocation = Invocation {
+        program: call.program,
+        metas: call.metas.as_slice(),
+        input: call.input.as_slice(),
+        accounts: share_all(alloc, accounts)?,
+        units,
+    };
+    run_invocation(&context, invocation, trace, logs)
 }

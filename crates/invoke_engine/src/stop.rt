@@ -11,7 +11,8 @@ ghost use Rattle.invoke_engine.specs.Reasons.{StopsBy, refuse, by_rights};
 ghost use Rattle.invoke_engine.specs.Suspended.{programs_of};
 ghost use Rattle.invoke_engine.specs.Views.{Asks, Comes};
 
-use crate::call::{Call, Setting};
+use crate::call::Call;
+use crate::context::Context;
 use crate::ending::Callee;
 use crate::frame::{Frame, Stack};
 use crate::stopped::Stopped;
@@ -32,20 +33,14 @@ pub const CUSTOM_ZERO: u64 = 0x1_0000_0000;
 
 /// The accounts as the frame leaves them, where it breaks no rule.
 #[tactic(auto, unfolding(crate::specs::Leaving::lawful_accounts))]
-fn lawful_accounts(
-    alloc: Global,
-    keys: &[Key],
-    frame: &Frame,
-) -> Result<Items<Arc<Account>>, Stopped>
-    requires { IsFrame (length keys.now) frame.now }
+fn lawful_accounts(context: &Context<'_>, frame: &Frame) -> Result<Items<Arc<Account>>, Stopped>
+    requires { IsFrame (length context.now.keys) frame.now }
     ensures { MatchResult result
         (λ accounts. Leaving.lawful_accounts frame.now ≡ Ok (accounts_of accounts))
         (λ e. StopsBy e (Leaving.lawful_accounts frame.now)) }
 {
-    // The contract speaks of the number of the keys.
-    let _keys = keys;
     let taken = take_back(
-        alloc,
+        context.alloc,
         frame.machine.memory().input(),
         frame.start.as_slice(),
         frame.before.as_slice(),
@@ -81,17 +76,16 @@ fn exited(r0: u64) -> Result<(), Stopped>
 /// The accounts after the exit of a frame's program.
 #[tactic(auto, unfolding(crate::specs::Leaving::left))]
 pub(crate) fn left(
-    alloc: Global,
-    keys: &[Key],
+    context: &Context<'_>,
     frame: &Frame,
     r0: u64,
 ) -> Result<Items<Arc<Account>>, Stopped>
-    requires { IsFrame (length keys.now) frame.now }
+    requires { IsFrame (length context.now.keys) frame.now }
     ensures { MatchResult result
         (λ accounts. Leaving.left frame.now r0 ≡ Ok (accounts_of accounts))
         (λ e. StopsBy e (Leaving.left frame.now r0)) }
 {
-    let after = lawful_accounts(alloc, keys, frame)?;
+    let after = lawful_accounts(context, frame)?;
     exited(r0)?;
     Ok(after)
 }
@@ -99,7 +93,7 @@ pub(crate) fn left(
 /// Whether a program may be called now.
 #[tactic(auto, unfolding(crate::specs::Calling::may_start))]
 fn may_start(
-    setting: Setting,
+    context: &Context<'_>,
     outer: &Stack,
     frame: &Frame,
     trace: u8,
@@ -107,12 +101,13 @@ fn may_start(
 ) -> Result<(), Stopped>
     requires { length outer.now < max_height }
     ensures { result
-        ≡ Calling.may_start setting.height (programs_of outer.now) frame.now trace program.now }
+        ≡ Calling.may_start context.now.setting.height (programs_of outer.now) frame.now trace
+        program.now }
 {
     if trace >= MAX_TRACE {
         return Err(Stopped::plainly(Cause::TraceTooLong));
     }
-    if outer.len() + 1 >= setting.height as usize {
+    if outer.len() + 1 >= context.setting.height as usize {
         return Err(Stopped::plainly(Cause::StackHeight));
     }
     if *program != frame.program && outer.has(program) {
@@ -136,46 +131,40 @@ fn ask(alloc: Global, frame: &Frame, units: &mut u64) -> Result<CallRequest, Sto
 }
 
 /// The rights of the callee.
-fn grant(
-    alloc: Global,
-    keys: &[Key],
-    frame: &Frame,
-    request: &CallRequest,
-) -> Result<Granted, Stopped>
-    requires keys { length keys.now ≤ max_keys }
+fn grant(context: &Context<'_>, frame: &Frame, request: &CallRequest) -> Result<Granted, Stopped>
+    requires keys { length context.now.keys ≤ max_keys }
     requires metas { length request.now.metas ≤ max_metas }
     ensures { MatchResult result
-        (λ granted. rights_of request.now keys.now frame.now.metas ≡ Ok granted)
-        (λ e. StopsBy e (refuse by_rights (rights_of request.now keys.now frame.now.metas))) }
+        (λ granted. rights_of request.now context.now.keys frame.now.metas ≡ Ok granted)
+        (λ e. StopsBy e (refuse by_rights (rights_of request.now context.now.keys frame.now.metas))) }
 {
-    Ok(grant_rights(alloc, request, keys, frame.metas.as_slice())?)
+    Ok(grant_rights(context.alloc, request, context.keys, frame.metas.as_slice())?)
 }
 
 /// The callee of a request: its rights, then the accounts as the frame leaves them, then whether it
 /// may be called.
 #[tactic(auto, unfolding(crate::specs::Calling::called))]
 pub(crate) fn called(
-    alloc: Global,
-    setting: Setting,
-    keys: &[Key],
+    context: &Context<'_>,
     outer: &Stack,
     frame: &Frame,
     trace: u8,
     units: &mut u64,
 ) -> Result<Callee, Stopped>
-    requires keys { length keys.now ≤ max_keys }
-    requires frame { IsFrame (length keys.now) frame.now }
+    requires keys { length context.now.keys ≤ max_keys }
+    requires frame { IsFrame (length context.now.keys) frame.now }
     requires outer { length outer.now < max_height }
     requires units { units.old ≡ frame.now.machine.units }
     ensures { Comes
-        (Calling.called setting.height keys.now (programs_of outer.now) frame.now trace
+        (Calling.called context.now.setting.height context.now.keys (programs_of outer.now)
+        frame.now trace
         (Calling.requested frame.now).answer)
         (Calling.requested frame.now).units units.new result }
 {
-    let request = ask(alloc, frame, units)?;
-    let granted = grant(alloc, keys, frame, &request)?;
-    let accounts = lawful_accounts(alloc, keys, frame)?;
-    may_start(setting, outer, frame, trace, &request.program)?;
+    let request = ask(context.alloc, frame, units)?;
+    let granted = grant(context, frame, &request)?;
+    let accounts = lawful_accounts(context, frame)?;
+    may_start(context, outer, frame, trace, &request.program)?;
     Ok(Callee {
         call: Call {
             program: granted.program,

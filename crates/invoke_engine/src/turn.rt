@@ -18,16 +18,18 @@ ghost use Rattle.invoke_engine.specs.Turns as Turns;
 ghost use Rattle.invoke_engine.specs.Views.{ending_as, turn_as, ServesAs};
 ghost use Rattle.invoke_engine.specs.declared.stopped.Stopped.TheVariants.{Refused};
 
-use crate::call::{Ended, Setting};
+use crate::call::Ended;
 use crate::carrier::Carrier;
+use crate::context::Context;
 use crate::ending::{Callee, End};
 use crate::frame::{Frame, Stack};
 use crate::lines::close;
+use crate::program::NamedProgram;
 use crate::stop::{called, left};
 use crate::stopped::{Reason, Stopped};
 use sbpf_isa::INVOKE_CALL;
 use sbpf_machine::{Fault, Stop};
-use sol_base::{Key, OutOfMemory};
+use sol_base::OutOfMemory;
 use std::alloc::Global;
 use sys_calls::{Env, serve};
 use tx_report::{Cause, InstructionError};
@@ -67,9 +69,10 @@ pub(crate) fn fail(
         detail: reason.detail,
         height: height_in(outer),
     };
+    let program = NamedProgram::of(frame.program);
     close(
         alloc,
-        &frame.program,
+        &program,
         frame.had,
         units,
         carrier,
@@ -79,29 +82,32 @@ pub(crate) fn fail(
 
 /// The end of a frame whose program has ended.
 fn leave(
-    alloc: Global,
-    keys: &[Key],
+    context: &Context<'_>,
     outer: &Stack,
     frame: &Frame,
     r0: u64,
     carrier: &mut Carrier,
 ) -> Result<End, OutOfMemory>
     requires outer { length outer.now < max_height }
-    requires frame { IsFrame (length keys.now) frame.now }
+    requires frame { IsFrame (length context.now.keys) frame.now }
     ensures { IfOk result (λ e. ending_as e carrier.new
         ≡ closes (programs_of outer.now) frame.now frame.now.machine.units carrier.old
         (Leaving.left frame.now r0)) }
 {
+    let alloc = context.alloc;
     let units = frame.machine.units();
-    match left(alloc, keys, frame, r0) {
-        Ok(accounts) => close(
-            alloc,
-            &frame.program,
-            frame.had,
-            units,
-            carrier,
-            Ended::Good(accounts),
-        ),
+    match left(context, frame, r0) {
+        Ok(accounts) => {
+            let program = NamedProgram::of(frame.program);
+            close(
+                alloc,
+                &program,
+                frame.had,
+                units,
+                carrier,
+                Ended::Good(accounts),
+            )
+        }
         Err(Stopped::Refused(reason)) => fail(alloc, outer, frame, units, carrier, reason),
         Err(Stopped::OutOfMemory) => Err(OutOfMemory),
     }
@@ -138,8 +144,7 @@ fn serve_for(alloc: Global, frame: &mut Frame, number: u32, env: &mut Env) -> Re
 }
 
 fn serve_turn(
-    alloc: Global,
-    setting: Setting,
+    context: &Context<'_>,
     outer: &Stack,
     frame: &mut Frame,
     carrier: &mut Carrier,
@@ -149,10 +154,11 @@ fn serve_turn(
     requires helper { IsHelper frame.old.machine.stop }
     requires number { IsServed number }
     ensures { IfOk result (λ t.
-        Serving.serve_turn setting (programs_of outer.now) frame.old carrier.old number
+        Serving.serve_turn context.now.setting (programs_of outer.now) frame.old carrier.old number
         ≡ turn_as t frame.new carrier.new) }
 {
-    carrier.env.slot = setting.slot;
+    let alloc = context.alloc;
+    carrier.env.slot = context.setting.slot;
     carrier.env.program = frame.program;
     carrier.env.height = height_in(outer);
     carrier.env.units = frame.machine.units();
@@ -171,65 +177,57 @@ fn serve_turn(
 }
 
 fn call_turn(
-    alloc: Global,
-    setting: Setting,
-    keys: &[Key],
+    context: &Context<'_>,
     outer: &Stack,
     frame: &Frame,
     carrier: &mut Carrier,
 ) -> Result<Turn, OutOfMemory>
-    requires keys { length keys.now ≤ max_keys }
+    requires keys { length context.now.keys ≤ max_keys }
     requires outer { length outer.now < max_height }
-    requires frame { IsFrame (length keys.now) frame.now }
+    requires frame { IsFrame (length context.now.keys) frame.now }
     ensures { IfOk result (λ t.
-        Calling.call_turn setting keys.now (programs_of outer.now) frame.now carrier.old
+        Calling.call_turn context.now.setting context.now.keys (programs_of outer.now) frame.now
+        carrier.old
         ≡ turn_as t frame.now carrier.new) }
 {
     let mut units = frame.machine.units();
-    match called(
-        alloc,
-        setting,
-        keys,
-        outer,
-        frame,
-        carrier.trace,
-        &mut units,
-    ) {
+    match called(context, outer, frame, carrier.trace, &mut units) {
         Ok(callee) => Ok(Turn::Calls(callee, units)),
-        Err(Stopped::Refused(reason)) => Ok(Turn::Leaves(fail(
-            alloc, outer, frame, units, carrier, reason,
-        )?)),
+        Err(Stopped::Refused(reason)) => {
+            let end = fail(context.alloc, outer, frame, units, carrier, reason)?;
+            Ok(Turn::Leaves(end))
+        }
         Err(Stopped::OutOfMemory) => Err(OutOfMemory),
     }
 }
 
 /// One turn of a frame.
 pub(crate) fn take_turn(
-    alloc: Global,
-    setting: Setting,
-    keys: &[Key],
+    context: &Context<'_>,
     outer: &Stack,
     frame: &mut Frame,
     carrier: &mut Carrier,
 ) -> Result<Turn, OutOfMemory>
-    requires keys { length keys.now ≤ max_keys }
+    requires keys { length context.now.keys ≤ max_keys }
     requires outer { length outer.now < max_height }
-    requires frame { IsFrame (length keys.now) frame.old }
+    requires frame { IsFrame (length context.now.keys) frame.old }
     ensures { IfOk result (λ t.
-        Turns.turn setting keys.now (programs_of outer.now) frame.old carrier.old
+        Turns.turn context.now.setting context.now.keys (programs_of outer.now) frame.old
+        carrier.old
         ≡ turn_as t frame.new carrier.new) }
 {
     match run(frame)? {
-        Stop::Exit { r0 } => Ok(Turn::Leaves(leave(alloc, keys, outer, frame, r0, carrier)?)),
+        Stop::Exit { r0 } => Ok(Turn::Leaves(leave(context, outer, frame, r0, carrier)?)),
         Stop::Fault(fault) => {
             let units = frame.machine.units();
-            Ok(Turn::Leaves(fail(alloc, outer, frame, units, carrier, reason_of(fault))?))
+            let reason = reason_of(fault);
+            Ok(Turn::Leaves(fail(context.alloc, outer, frame, units, carrier, reason)?))
         }
         Stop::Helper { number } => {
             if number == INVOKE_CALL {
-                call_turn(alloc, setting, keys, outer, frame, carrier)
+                call_turn(context, outer, frame, carrier)
             } else {
-                serve_turn(alloc, setting, outer, frame, carrier, number)
+                serve_turn(context, outer, frame, carrier, number)
             }
         }
     }

@@ -1,5 +1,5 @@
 -- Transactions in JSON: what is written stands for the bytes that it was made of.
-use Rattle.std.proofs.Common.{◌≡◌, ◌≤◌, ◌<◌, ℕ, List, [], ◌∷◌, ◌++◌, length, Result, Ok, Err, refl, sym, ap, subst, ◌∙◌, append_assoc, arith, lit≤}
+use Rattle.std.proofs.Common.{◌≡◌, ◌≤◌, ◌<◌, ◌-◌, ◌^◌, ℕ, List, [], ◌∷◌, ◌++◌, length, Result, Ok, Err, refl, sym, ap, subst, ◌∙◌, append_assoc, arith, lit≤}
 use Rattle.std.specs.Prelude.{codes}
 use Rattle.std.specs.List.{flat_map, AllByRecursion}
 use Rattle.std.proofs.lemmas.List.Elements.{recursion_from_All}
@@ -40,7 +40,7 @@ anything (n ∷ ns) = (tt, anything ns)
 
 byte_again : (n : ℕ) → Unit {0} → IsBytes (alone n) → byte_in (number_json n) ≡ Ok (alone n)
 unfolding byte_in
-byte_again n fits are = let below : n < 256 = are 0 in rw (number_again 0 255 n (omega arith) (omega arith)) refl
+byte_again n fits are = let below : n < 256 = are 0 in rw (number_again 0 (2 ^ 8 - 1) n (omega arith) (omega arith)) refl
 
 bytes_again : (ns : List ℕ) → length ns ≤ max_count → IsBytes ns → list_in max_count byte_in (list_json number_json ns) ≡ Ok (length ns, ns)
 bytes_again ns few are =
@@ -61,9 +61,9 @@ unfolding header_in known_in
 header_again header required signed unsigned =
     let d = header_json header in
     rw (
-      member_again (codes "required") (number_in 0 255) d (number_json header.required) header.required refl (number_again 0 255 header.required (omega arith) (omega arith)),
-      member_again (codes "readonly_signed") (number_in 0 255) d (number_json header.readonly_signed) header.readonly_signed refl (number_again 0 255 header.readonly_signed (omega arith) (omega arith)),
-      member_again (codes "readonly_unsigned") (number_in 0 255) d (number_json header.readonly_unsigned) header.readonly_unsigned refl (number_again 0 255 header.readonly_unsigned (omega arith) (omega arith)),
+      member_again (codes "required") (number_in 0 (2 ^ 8 - 1)) d (number_json header.required) header.required refl (number_again 0 (2 ^ 8 - 1) header.required (omega arith) (omega arith)),
+      member_again (codes "readonly_signed") (number_in 0 (2 ^ 8 - 1)) d (number_json header.readonly_signed) header.readonly_signed refl (number_again 0 (2 ^ 8 - 1) header.readonly_signed (omega arith) (omega arith)),
+      member_again (codes "readonly_unsigned") (number_in 0 (2 ^ 8 - 1)) d (number_json header.readonly_unsigned) header.readonly_unsigned refl (number_again 0 (2 ^ 8 - 1) header.readonly_unsigned (omega arith) (omega arith)),
     ) refl
 
 record InstructionFits (instruction : Instruction) : Type 0 where
@@ -82,7 +82,7 @@ instruction_again instruction fits are =
     let accounts_are = after_bytes _ (program ∷ compact (length accounts)) accounts (before_bytes head (blob_bytes input) are) refl in
     let input_are = after_bytes _ (compact (length input)) input (after_bytes _ head (blob_bytes input) are refl) refl in
     rw (
-      member_again (codes "program") (number_in 0 255) d (number_json program) program refl (number_again 0 255 program (omega arith) (let t = fits.program in omega arith)),
+      member_again (codes "program") (number_in 0 (2 ^ 8 - 1)) d (number_json program) program refl (number_again 0 (2 ^ 8 - 1) program (omega arith) (let t = fits.program in omega arith)),
       member_again (codes "accounts") (list_in max_count byte_in) d (list_json number_json accounts) (length accounts, accounts) refl (bytes_again accounts fits.accounts accounts_are),
       member_again (codes "data") (data_in max_count) d (hex_json input) input refl (data_again max_count input fits.input input_are),
     ) (ap Ok (append_assoc head (compact (length input)) input))

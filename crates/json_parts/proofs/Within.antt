@@ -1,12 +1,9 @@
 -- What is read of a member or an item.
-use Rattle.std.proofs.Common.{◌≡◌, ℕ, List, Ok, Err}
+use Rattle.std.proofs.Common.{Ok, Err}
 use Rattle.spec_base.specs.Reading.{Gives}
-use Rattle.serde_json.specs.Data.{Data}
 use Rattle.json_parts.specs.declared.fault.Step.{Step}
-use Rattle.json_parts.specs.declared.fault.Step.TheVariants.{Member}
 use Rattle.json_parts.specs.declared.fault.JsonFault.TheVariants.{NoJson, Refused, BadSnapshot, BadBatch, BadRecord, BadImage, Trailing, OutOfMemory}
 use Rattle.json_parts.specs.Faults.{Read, is_json_memory, within}
-use Rattle.json_parts.specs.Parts.{found_in, member_in}
 
 -- where memory ran out, nothing is said of what is read
 pub want : {X : Type 0} (outer read : Read X) → Gives is_json_memory (λ x. x) outer (Err OutOfMemory) → Gives is_json_memory (λ x. x) outer read
@@ -31,9 +28,3 @@ within_gives step (Err (BadBatch fault)) outer read h g = rw h g
 within_gives step (Err (BadRecord fault)) outer read h g = rw h g
 within_gives step (Err BadImage) outer read h g = rw h g
 within_gives step (Err (Trailing at)) outer read h g = rw h g
-
--- the member that was found
-pub member_gives : {X : Type 0} (name : List ℕ) (one : Data → Read X) (d found : Data) (inner outer : Read X) → found_in name d ≡ Ok found → Gives is_json_memory (λ x. x) inner (one found) → Gives is_json_memory (λ x. x) outer (within (Member name) inner)
-    → Gives is_json_memory (λ x. x) outer (member_in name one d)
-unfolding member_in
-member_gives name one d found inner outer h i o = rw h (within_gives (Member name) inner outer (one found) i o)

@@ -86,30 +86,21 @@ names_in names (member name d ms) =
 unfoldable pub known_in : List (List ℕ) → Data → Read Unit
 known_in names d = or_refused (as_object d) Object >>= names_in names
 
-abbrev pub hex_names : List (List ℕ)
-hex_names = codes "hex" ∷ []
-
-abbrev pub base64_names : List (List ℕ)
-base64_names = codes "base64" ∷ []
-
-abbrev pub text_names : List (List ℕ)
-text_names = codes "text" ∷ []
-
--- a member of an object that has no others than these
-unfoldable pub alone_in : {X : Type 0} → List (List ℕ) → List ℕ → (Data → Read X) → Data → Read X
-alone_in names name one d = do
-  known ← known_in names d
+-- the one member of an object
+unfoldable pub alone_in : {X : Type 0} → List ℕ → (Data → Read X) → Data → Read X
+alone_in name one d = do
+  known ← known_in (name ∷ []) d
   member_in name one d
 
 -- No more bytes than these: hexadecimal digits, or an object whose one member `hex`, `base64` or
 -- `text` says how they are spelled.
 unfoldable pub data_in : ℕ → Data → Read (List ℕ)
 data_in most d =
-    if is_some (get (codes "hex") d) then alone_in hex_names (codes "hex") (spelled_in hex_bytes most) d
+    if is_some (get (codes "hex") d) then alone_in (codes "hex") (spelled_in hex_bytes most) d
     else if is_some (get (codes "base64") d) then
-    alone_in base64_names (codes "base64") (spelled_in base64_bytes most) d
+    alone_in (codes "base64") (spelled_in base64_bytes most) d
     else if is_some (get (codes "text") d) then
-    alone_in text_names (codes "text") (spelled_in text_bytes most) d
+    alone_in (codes "text") (spelled_in text_bytes most) d
     else spelled_in hex_bytes most d
 
 -- the items of an array

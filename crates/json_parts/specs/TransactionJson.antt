@@ -1,6 +1,6 @@
 -- Transactions as JSON (the project's own form), and the bytes that such JSON stands for. An
 -- object's members are in the order of their names.
-use Rattle.std.specs.Prelude.{ℕ, List, [], ◌∷◌, ◌++◌, length, codes, bytes_eq, is_some, if◌then◌else◌, ◌==◌, Option, Some, None, option_and_then, Result, Ok, Err}
+use Rattle.std.specs.Prelude.{ℕ, ◌-◌, ◌^◌, List, [], ◌∷◌, ◌++◌, length, codes, bytes_eq, is_some, if◌then◌else◌, ◌==◌, Option, Some, None, option_and_then, Result, Ok, Err}
 use Rattle.spec_base.specs.Bytes.{max_count}
 use Rattle.spec_base.specs.Reading.{◌>>=◌}
 use Rattle.serde_json.specs.Data.{Data, string, object, member, no_members}
@@ -93,7 +93,7 @@ wire_names = codes "shown" ∷ codes "wire" ∷ []
 
 unfoldable pub byte_in : Data → Read (List ℕ)
 byte_in d = do
-  n ← number_in 0 255 d
+  n ← number_in 0 (2 ^ 8 - 1) d
   Ok (n ∷ [])
 
 abbrev pub key_in : Data → Read (List ℕ)
@@ -105,15 +105,15 @@ signature_in d = digits_in 64 d
 unfoldable pub header_in : Data → Read (List ℕ)
 header_in d = do
   known ← known_in header_names d
-  required ← member_in (codes "required") (number_in 0 255) d
-  signed ← member_in (codes "readonly_signed") (number_in 0 255) d
-  unsigned ← member_in (codes "readonly_unsigned") (number_in 0 255) d
+  required ← member_in (codes "required") (number_in 0 (2 ^ 8 - 1)) d
+  signed ← member_in (codes "readonly_signed") (number_in 0 (2 ^ 8 - 1)) d
+  unsigned ← member_in (codes "readonly_unsigned") (number_in 0 (2 ^ 8 - 1)) d
   Ok (required ∷ signed ∷ unsigned ∷ [])
 
 unfoldable pub instruction_in : Data → Read (List ℕ)
 instruction_in d = do
   known ← known_in instruction_names d
-  program ← member_in (codes "program") (number_in 0 255) d
+  program ← member_in (codes "program") (number_in 0 (2 ^ 8 - 1)) d
   accounts ← member_in (codes "accounts") (list_in max_count byte_in) d
   content ← member_in (codes "data") (data_in max_count) d
   Ok (program ∷ [] ++ compact accounts.0 ++ accounts.1 ++ compact (length content) ++ content)

@@ -1,12 +1,12 @@
 //! Bytes of any number in a JSON text.
-ghost use Rattle.std.specs.Prelude.{◌≡◌, ◌≤◌, IfOk, codes, length};
+ghost use Rattle.std.specs.Prelude.{◌≡◌, ◌≤◌, IfOk, length};
 ghost use Rattle.spec_base.specs.Reading.{Gives};
 ghost use Rattle.serde_json.specs.View.{view};
 ghost use Rattle.json_parts.specs.Faults.{is_json_memory};
-ghost use Rattle.json_parts.specs.Parts.{hex_names, base64_names, text_names, hex_bytes, base64_bytes, text_bytes, spelled_in, alone_in, data_in, member_in};
+ghost use Rattle.json_parts.specs.Parts.{spelled_in, alone_in, data_in, member_in};
 
 use crate::fault::{JsonFault, Wanted, in_member, refused};
-use crate::parts::{Names, found, known};
+use crate::parts::{found, known};
 use base64::DecodeAllocError;
 use base64::engine::general_purpose::STANDARD;
 use hex::FromHexError;
@@ -73,36 +73,6 @@ impl Spelling for Plain {
     }
 }
 
-impl Names for Hex {
-    ghost use Rattle.json_parts.specs.Parts.{hex_names};
-
-    ghost names = { hex_names };
-
-    fn has(name: &str) -> bool {
-        "hex" == name
-    }
-}
-
-impl Names for Base64 {
-    ghost use Rattle.json_parts.specs.Parts.{base64_names};
-
-    ghost names = { base64_names };
-
-    fn has(name: &str) -> bool {
-        "base64" == name
-    }
-}
-
-impl Names for Plain {
-    ghost use Rattle.json_parts.specs.Parts.{text_names};
-
-    ghost names = { text_names };
-
-    fn has(name: &str) -> bool {
-        "text" == name
-    }
-}
-
 /// No more bytes than these, which a text spells.
 #[tactic(auto, unfolding(crate::specs::Parts::spelled_in))]
 fn spelled<S: Spelling>(alloc: Global, value: &Value, most: usize) -> Result<Blob, JsonFault>
@@ -120,37 +90,21 @@ fn spelled<S: Spelling>(alloc: Global, value: &Value, most: usize) -> Result<Blo
     }
 }
 
+/// The same, as the one member of that name.
 #[tactic(auto, unfolding(crate::specs::Parts::alone_in, crate::specs::Parts::member_in))]
-fn alone_as_hex(alloc: Global, value: &Value, most: usize) -> Result<Blob, JsonFault>
+fn alone<S: Spelling>(
+    alloc: Global,
+    value: &Value,
+    name: &str,
+    most: usize,
+) -> Result<Blob, JsonFault>
     ensures gives { Gives is_json_memory (λ bytes. bytes) result
-        (alone_in hex_names (codes "hex") (spelled_in hex_bytes most) (view value.now)) }
+        (alone_in name.now (spelled_in S.bytes_of most) (view value.now)) }
     ensures fits { IfOk result (λ bytes. length bytes ≤ most) }
 {
-    known::<Hex>(alloc, value)?;
-    let found = found(alloc, value, "hex")?;
-    in_member(alloc, "hex", spelled::<Hex>(alloc, found, most))
-}
-
-#[tactic(auto, unfolding(crate::specs::Parts::alone_in, crate::specs::Parts::member_in))]
-fn alone_as_base64(alloc: Global, value: &Value, most: usize) -> Result<Blob, JsonFault>
-    ensures gives { Gives is_json_memory (λ bytes. bytes) result
-        (alone_in base64_names (codes "base64") (spelled_in base64_bytes most) (view value.now)) }
-    ensures fits { IfOk result (λ bytes. length bytes ≤ most) }
-{
-    known::<Base64>(alloc, value)?;
-    let found = found(alloc, value, "base64")?;
-    in_member(alloc, "base64", spelled::<Base64>(alloc, found, most))
-}
-
-#[tactic(auto, unfolding(crate::specs::Parts::alone_in, crate::specs::Parts::member_in))]
-fn alone_as_text(alloc: Global, value: &Value, most: usize) -> Result<Blob, JsonFault>
-    ensures gives { Gives is_json_memory (λ bytes. bytes) result
-        (alone_in text_names (codes "text") (spelled_in text_bytes most) (view value.now)) }
-    ensures fits { IfOk result (λ bytes. length bytes ≤ most) }
-{
-    known::<Plain>(alloc, value)?;
-    let found = found(alloc, value, "text")?;
-    in_member(alloc, "text", spelled::<Plain>(alloc, found, most))
+    known(alloc, value, &[name])?;
+    let found = found(alloc, value, name)?;
+    in_member(alloc, name, spelled::<S>(alloc, found, most))
 }
 
 #[tactic(auto, unfolding(crate::specs::Parts::data_in))]
@@ -159,11 +113,11 @@ fn data(alloc: Global, value: &Value, most: usize) -> Result<Blob, JsonFault>
     ensures fits { IfOk result (λ bytes. length bytes ≤ most) }
 {
     if value.get("hex").is_some() {
-        alone_as_hex(alloc, value, most)
+        alone::<Hex>(alloc, value, "hex", most)
     } else if value.get("base64").is_some() {
-        alone_as_base64(alloc, value, most)
+        alone::<Base64>(alloc, value, "base64", most)
     } else if value.get("text").is_some() {
-        alone_as_text(alloc, value, most)
+        alone::<Plain>(alloc, value, "text", most)
     } else {
         spelled::<Hex>(alloc, value, most)
     }

@@ -1,9 +1,10 @@
 //! The values of a JSON text: numbers, flags, digits and members.
-ghost use Rattle.std.specs.Prelude.{◌≡◌, ◌≤◌, IfOk};
+ghost use Rattle.std.specs.Prelude.{◌≡◌, ◌≤◌, IfOk, bytes_eq, map};
+ghost use Rattle.std.specs.List.{list_any};
 ghost use Rattle.spec_base.specs.Reading.{Gives};
 ghost use Rattle.serde_json.specs.View.{view, members_view};
 ghost use Rattle.json_parts.specs.Faults.{is_json_memory};
-ghost use Rattle.json_parts.specs.Parts.{number_in, digits_in, data_in, flag_in, found_in, member_in, names_in, known_in};
+ghost use Rattle.json_parts.specs.Parts.{number_in, digits_in, flag_in, found_in, member_in, names_in, known_in};
 
 use crate::fault::{JsonFault, Wanted, in_member, refused, refused_member};
 use hex::FromHex;
@@ -127,25 +128,20 @@ pub fn digits_member<const N: usize>(
     in_member(alloc, name, digits::<N>(alloc, found))
 }
 
-/// The names of an object's members.
-pub trait Names {
-    ghost use Rattle.std.specs.Prelude.{List, ℕ};
-    ghost use Rattle.json_parts.specs.Parts.{has_name};
-
-    ghost names: { List (List ℕ) };
-
-    fn has(name: &str) -> bool
-        ensures { result ≡ has_name names name.now };
+fn has(names: &[&str], name: &str) -> bool
+    ensures { result ≡ list_any (λ one. bytes_eq one.now name.now) names.now }
+{
+    names.iter().any(|one| *one == name)
 }
 
 /// The first member of another name is refused.
-fn check_names<N: Names>(alloc: Global, members: &Map<String, Value>) -> Result<(), JsonFault>
+fn check_names(alloc: Global, members: &Map<String, Value>, names: &[&str]) -> Result<(), JsonFault>
     ensures { Gives is_json_memory (λ x. x) result
-        (names_in N.names (members_view members.now.entries)) }
+        (names_in (map (λ n. n.now) names.now) (members_view members.now.entries)) }
 {
     let mut rest = members.iter();
     while let Some((name, _value)) = rest.next() {
-        if !N::has(name.as_str()) {
+        if !has(names, name.as_str()) {
             return Err(refused_member(alloc, name.as_str(), Wanted::Absence));
         }
     }
@@ -154,11 +150,12 @@ fn check_names<N: Names>(alloc: Global, members: &Map<String, Value>) -> Result<
 
 /// The value is an object whose members have no other names.
 #[tactic(auto, unfolding(crate::specs::Parts::known_in))]
-pub fn known<N: Names>(alloc: Global, value: &Value) -> Result<(), JsonFault>
-    ensures { Gives is_json_memory (λ x. x) result (known_in N.names (view value.now)) }
+pub fn known(alloc: Global, value: &Value, names: &[&str]) -> Result<(), JsonFault>
+    ensures { Gives is_json_memory (λ x. x) result
+        (known_in (map (λ n. n.now) names.now) (view value.now)) }
 {
     match value.as_object() {
-        Some(members) => check_names::<N>(alloc, members),
+        Some(members) => check_names(alloc, members, names),
         None => Err(refused(alloc, Wanted::Object)),
     }
 }

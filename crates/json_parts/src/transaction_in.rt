@@ -6,20 +6,20 @@ ghost use Rattle.serde_json.specs.View.{view};
 ghost use Rattle.message_codec.specs.Compact.{compact};
 ghost use Rattle.message_codec.specs.Wire.{kind_bytes};
 ghost use Rattle.json_parts.specs.Faults.{is_json_memory};
-ghost use Rattle.json_parts.specs.Parts.{member_in, list_in};
-ghost use Rattle.json_parts.specs.TransactionJson.{kind_in, header_in, most_lookups, lookup_in, lookups_part, message_in, tx_in, whole_tx_in, wire_in, transaction_in};
+ghost use Rattle.json_parts.specs.Parts.{member_in, list_in, known_in};
+ghost use Rattle.json_parts.specs.TransactionJson.{kind_in, header_names, transaction_names, header_in, most_lookups, lookup_in, lookups_part, message_in, tx_in, whole_tx_in, wire_in, transaction_in};
 
 use crate::data::data_member;
 use crate::fault::{JsonFault, Wanted, in_member, refused};
 use crate::list::{Part, list_member};
-use crate::parts::{Names, byte_member, digits, digits_member, found, known, number};
+use crate::parts::{byte_member, digits, digits_member, found, known, number};
 use message_codec::{MessageKind, WireFault, read_wire};
 use serde_json::Value;
 use sol_base::{Blob, OutOfMemory};
 use std::alloc::Global;
 
-/// The most items of a list, and the most bytes of a field, of a transaction.
-const MOST: usize = 65_535;
+/// The most items of a list, and the most bytes of a field, whose count has two bytes.
+pub const MAX_COUNT: usize = u16::MAX as usize;
 
 /// Bytes as numbers.
 pub(crate) struct Bytes;
@@ -35,78 +35,6 @@ pub(crate) struct Instructions;
 
 /// Lookups.
 pub(crate) struct Lookups;
-
-/// The members of a header.
-struct HeaderNames;
-
-impl Names for HeaderNames {
-    ghost use Rattle.json_parts.specs.TransactionJson.{header_names};
-
-    ghost names = { header_names };
-
-    fn has(name: &str) -> bool {
-        "readonly_signed" == name || "readonly_unsigned" == name || "required" == name
-    }
-}
-
-/// The members of an instruction.
-struct InstructionNames;
-
-impl Names for InstructionNames {
-    ghost use Rattle.json_parts.specs.TransactionJson.{instruction_names};
-
-    ghost names = { instruction_names };
-
-    fn has(name: &str) -> bool {
-        "accounts" == name || "data" == name || "program" == name
-    }
-}
-
-/// The members of a lookup.
-struct LookupNames;
-
-impl Names for LookupNames {
-    ghost use Rattle.json_parts.specs.TransactionJson.{lookup_names};
-
-    ghost names = { lookup_names };
-
-    fn has(name: &str) -> bool {
-        "readonly" == name || "table" == name || "writable" == name
-    }
-}
-
-/// The members of a transaction, and the one that is passed over.
-struct TransactionNames;
-
-impl Names for TransactionNames {
-    ghost use Rattle.json_parts.specs.TransactionJson.{transaction_names};
-
-    ghost names = { transaction_names };
-
-    fn has(name: &str) -> bool {
-        "header" == name
-            || "instructions" == name
-            || "keys" == name
-            || "lookups" == name
-            || "recent_blockhash" == name
-            || "shown" == name
-            || "signatures" == name
-            || "version" == name
-    }
-}
-
-/// The members of bytes that are given as they are, and the one that is passed over.
-struct WireNames;
-
-impl Names for WireNames {
-    ghost use Rattle.json_parts.specs.TransactionJson.{wire_names};
-
-    ghost names = { wire_names };
-
-    fn has(name: &str) -> bool {
-        "shown" == name || "wire" == name
-    }
-}
 
 /// Adds a compact length (Solana).
 #[tactic(auto, unfolding(message_codec::specs::Compact::compact))]
@@ -134,7 +62,7 @@ impl Part for Bytes {
 
     #[tactic(auto, unfolding(crate::specs::TransactionJson::byte_in))]
     fn read(alloc: Global, value: &Value) -> Result<Blob, JsonFault> {
-        let byte = number(alloc, value, 0, 255)?;
+        let byte = number(alloc, value, 0, u64::from(u8::MAX))?;
         Ok(Blob::from_slice(alloc, &[byte as u8])?)
     }
 }
@@ -168,10 +96,10 @@ impl Part for Instructions {
 
     #[tactic(auto, unfolding(crate::specs::TransactionJson::instruction_in))]
     fn read(alloc: Global, value: &Value) -> Result<Blob, JsonFault> {
-        known::<InstructionNames>(alloc, value)?;
-        let program = byte_member(alloc, value, "program", 0, 255)?;
-        let (count, accounts) = list_member::<Bytes>(alloc, value, "accounts", MOST)?;
-        let data = data_member(alloc, value, "data", MOST)?;
+        known(alloc, value, &["accounts", "data", "program"])?;
+        let program = byte_member(alloc, value, "program", 0, u8::MAX)?;
+        let (count, accounts) = list_member::<Bytes>(alloc, value, "accounts", MAX_COUNT)?;
+        let data = data_member(alloc, value, "data", MAX_COUNT)?;
         let mut out = Blob::from_slice(alloc, &[program])?;
         append_length(&mut out, count)?;
         out.append(accounts.as_slice())?;
@@ -188,10 +116,10 @@ impl Part for Lookups {
 
     #[tactic(auto, unfolding(crate::specs::TransactionJson::lookup_in))]
     fn read(alloc: Global, value: &Value) -> Result<Blob, JsonFault> {
-        known::<LookupNames>(alloc, value)?;
+        known(alloc, value, &["readonly", "table", "writable"])?;
         let table = digits_member::<32>(alloc, value, "table")?;
-        let (writable_count, writable) = list_member::<Bytes>(alloc, value, "writable", MOST)?;
-        let (readonly_count, readonly) = list_member::<Bytes>(alloc, value, "readonly", MOST)?;
+        let (writable_count, writable) = list_member::<Bytes>(alloc, value, "writable", MAX_COUNT)?;
+        let (readonly_count, readonly) = list_member::<Bytes>(alloc, value, "readonly", MAX_COUNT)?;
         let mut out = Blob::from_slice(alloc, &table)?;
         append_length(&mut out, writable_count)?;
         out.append(writable.as_slice())?;
@@ -201,14 +129,24 @@ impl Part for Lookups {
     }
 }
 
+fn known_of_header(alloc: Global, value: &Value) -> Result<(), JsonFault>
+    ensures { Gives is_json_memory (λ x. x) result (known_in header_names (view value.now)) }
+{
+    known(
+        alloc,
+        value,
+        &["readonly_signed", "readonly_unsigned", "required"],
+    )
+}
+
 #[tactic(auto, unfolding(crate::specs::TransactionJson::header_in))]
 fn header(alloc: Global, value: &Value) -> Result<Blob, JsonFault>
     ensures { Gives is_json_memory (λ bytes. bytes) result (header_in (view value.now)) }
 {
-    known::<HeaderNames>(alloc, value)?;
-    let required = byte_member(alloc, value, "required", 0, 255)?;
-    let signed = byte_member(alloc, value, "readonly_signed", 0, 255)?;
-    let unsigned = byte_member(alloc, value, "readonly_unsigned", 0, 255)?;
+    known_of_header(alloc, value)?;
+    let required = byte_member(alloc, value, "required", 0, u8::MAX)?;
+    let signed = byte_member(alloc, value, "readonly_signed", 0, u8::MAX)?;
+    let unsigned = byte_member(alloc, value, "readonly_unsigned", 0, u8::MAX)?;
     let bytes = [required, signed, unsigned];
     Ok(Blob::from_slice(alloc, &bytes)?)
 }
@@ -290,7 +228,7 @@ fn lookups_member(
 {
     match kind {
         MessageKind::Legacy => list_member::<Lookups>(alloc, value, "lookups", 0),
-        MessageKind::Zero => list_member::<Lookups>(alloc, value, "lookups", MOST),
+        MessageKind::Zero => list_member::<Lookups>(alloc, value, "lookups", MAX_COUNT),
     }
 }
 
@@ -344,9 +282,14 @@ fn message(alloc: Global, value: &Value) -> Result<Blob, JsonFault>
 {
     let kind = kind_member(alloc, value)?;
     let header = header_member(alloc, value)?;
-    let (key_count, keys) = list_member::<Keys>(alloc, value, "keys", MOST)?;
+    let (key_count, keys) = list_member::<Keys>(alloc, value, "keys", MAX_COUNT)?;
     let blockhash = digits_member::<32>(alloc, value, "recent_blockhash")?;
-    let (count, instructions) = list_member::<Instructions>(alloc, value, "instructions", MOST)?;
+    let (count, instructions) = list_member::<Instructions>(
+        alloc,
+        value,
+        "instructions",
+        MAX_COUNT,
+    )?;
     let (lookup_count, lookups) = lookups_member(alloc, value, kind)?;
     let fields = Fields {
         kind,
@@ -362,12 +305,31 @@ fn message(alloc: Global, value: &Value) -> Result<Blob, JsonFault>
     Ok(spelled_message(alloc, &fields)?)
 }
 
+fn known_of_transaction(alloc: Global, value: &Value) -> Result<(), JsonFault>
+    ensures { Gives is_json_memory (λ x. x) result (known_in transaction_names (view value.now)) }
+{
+    known(
+        alloc,
+        value,
+        &[
+            "header",
+            "instructions",
+            "keys",
+            "lookups",
+            "recent_blockhash",
+            "shown",
+            "signatures",
+            "version",
+        ],
+    )
+}
+
 #[tactic(auto, unfolding(crate::specs::TransactionJson::tx_in))]
 fn tx(alloc: Global, value: &Value) -> Result<Blob, JsonFault>
     ensures { Gives is_json_memory (λ bytes. bytes) result (tx_in (view value.now)) }
 {
-    known::<TransactionNames>(alloc, value)?;
-    let (count, signatures) = list_member::<Signatures>(alloc, value, "signatures", MOST)?;
+    known_of_transaction(alloc, value)?;
+    let (count, signatures) = list_member::<Signatures>(alloc, value, "signatures", MAX_COUNT)?;
     let message = message(alloc, value)?;
     let mut out = Blob::new(alloc);
     append_length(&mut out, count)?;
@@ -394,8 +356,8 @@ fn wire(alloc: Global, value: &Value) -> Result<Blob, JsonFault>
     ensures gives { Gives is_json_memory (λ bytes. bytes) result (wire_in (view value.now)) }
     ensures fits { IfOk result (λ bytes. length bytes ≤ max_count) }
 {
-    known::<WireNames>(alloc, value)?;
-    data_member(alloc, value, "wire", MOST)
+    known(alloc, value, &["shown", "wire"])?;
+    data_member(alloc, value, "wire", MAX_COUNT)
 }
 
 /// The bytes of the transaction that the JSON value is (the project's own form): by its members, or

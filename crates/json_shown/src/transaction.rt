@@ -6,11 +6,8 @@ use fee_rules::{Budget, budget_of, fee, priority};
 use json_parts::hex_value;
 use message_codec::{Message, Parsed, Tx, parse, sanitize};
 use serde_json::{Value, json};
-use sol_base::{Hash32, OutOfMemory};
+use sol_base::{Hash32, MAX_TRANSACTION_KEYS, OutOfMemory};
 use std::alloc::{AllocError, Global};
-
-/// The most keys of a message.
-const MOST_KEYS: u16 = 128;
 
 fn instructions_value(alloc: Global, message: &Message) -> Result<Value, AllocError> {
     let instructions = message.instructions.as_slice();
@@ -58,7 +55,7 @@ fn refused_value(
 fn tx_value(alloc: Global, tx: &Tx, name: &Hash32) -> Result<Value, AllocError>
     requires { HasShortLists tx.now.message }
 {
-    if let Err(fault) = sanitize(tx, MOST_KEYS) {
+    if let Err(fault) = sanitize(tx, MAX_TRANSACTION_KEYS) {
         return refused_value(alloc, &tx.message, name, fault.to_string(alloc)?);
     }
     match budget_of(&tx.message) {

@@ -1,9 +1,8 @@
 -- What a lane holds.
-use Rattle.std.specs.Prelude.{◌≡◌, ℕ, Bool, false, Option, Some, None}
-use Rattle.bank_law.specs.History.{PassView, own, holds, returns}
+use Rattle.std.specs.Prelude.{◌≡◌, Bool, false, Option, Some, None}
+use Rattle.bank_law.specs.History.{PassView, holds, returns}
 use Rattle.bank_core.specs.declared.origin.Origin.{Origin}
 use Rattle.bank_core.specs.declared.loan.Loan.{Loan}
-use Rattle.bank_shared.specs.declared.view.View.{View}
 
 -- the loan that a lane has, if any, is of this desk, and its position is the one that the lane
 -- holds
@@ -16,15 +15,3 @@ module _ {W T : Type 0} {G : _} where
 -- a lane that has not given anything back had no return
 abbrev pub ReturnsOnce : Bool → PassView → Type 0
 ReturnsOnce gave_back v = gave_back ≡ false → returns v.mine ≡ 0
-
--- what a pass of a shared desk is seen as
-module _ {O : Type 0} where
-  abbrev pub seen_as : ℕ → View O → PassView
-  seen_as lane v =
-      record {
-        lane = lane;
-        seen = v.seen;
-        mine = own v.seen lane;
-        drawn = v.drawn;
-        turns = v.turns;
-      }

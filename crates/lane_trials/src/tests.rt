@@ -7,6 +7,7 @@ mod gates;
 mod graphs;
 mod intakes;
 mod lanes;
+mod meets;
 mod notes;
 mod readers;
 mod tables;

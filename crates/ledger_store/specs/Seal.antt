@@ -15,7 +15,11 @@ seal_at bytes = length bytes - 32
 abbrev pub is_sealed : List ℕ → Bool
 is_sealed bytes = bytes_eq (sha256 (take (seal_at bytes) bytes)) (drop (seal_at bytes) bytes)
 
--- what stands before the hash, where that is its hash
+-- what stands before the hash
+abbrev pub unsealed : List ℕ → List ℕ
+unsealed bytes = take (seal_at bytes) bytes
+
+-- the same, where that is its hash
 unfoldable pub body_of : Name → List ℕ → Result (List ℕ) LedgerFault
 body_of name bytes =
-    if is_sealed bytes then Ok (take (seal_at bytes) bytes) else Err (Damaged name (seal_at bytes))
+    if is_sealed bytes then Ok (unsealed bytes) else Err (Damaged name (seal_at bytes))

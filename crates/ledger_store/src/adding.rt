@@ -9,6 +9,7 @@ ghost use Rattle.ledger_folder.specs.declared.event.Event.TheVariants.{Listed, R
 ghost use Rattle.ledger_folder.specs.declared.name.Name.TheVariants.{Block as block_name, Chain, State};
 ghost use Rattle.ledger_store.specs.Faults.{LedgerCounts, is_free};
 ghost use Rattle.ledger_store.specs.Seal.{sealed};
+ghost use Rattle.ledger_store.specs.Blocks.{kept_bytes};
 ghost use Rattle.ledger_store.specs.Reading.{IsOpen};
 ghost use Rattle.ledger_store.specs.Adding.{Follows, HasChain, IsAfter, IsBeforeOrAfter, IsBegunOrNot, OnlyReads, beginning, begun, is_later, new_files, state_body, with_block};
 ghost use Rattle.ledger_store.specs.declared.fault.LedgerFault.TheVariants.{Exists, SlotNotLater};
@@ -26,6 +27,7 @@ use ledger_folder::{Folder, Name};
 use snapshot_codec::{Snapshot, readable_snapshots_are_writable};
 use sol_base::{Blob, OutOfMemory};
 use std::alloc::Global;
+use std::thread::{Threads, join};
 
 /// The files of a block: its state and its record, each with its bytes.
 #[derive(Drop)]
@@ -72,8 +74,9 @@ fn kept_state(
     }
 }
 
-/// The files of the block that is to be added.
-fn files_of(
+/// The files of the block that is to be added. One is made beside the other.
+fn files_of<T: Threads>(
+    threads: &T,
     alloc: Global,
     ledger: &Ledger,
     block: &Block,
@@ -93,12 +96,22 @@ fn files_of(
     } else {
         Name::Changes { slot }
     };
-    let state = kept_state(alloc, full, &ledger.newest, after)?;
-    let record_file = block_file(alloc, block, micros)?;
+    let (record_file, state) = join(
+        threads,
+        || -> Result<Blob, OutOfMemory>
+            requires { IsCounted block.now }
+            ensures { IfOk result (λ bytes. bytes ≡ sealed (kept_bytes block.entry.now micros)) }
+        { block_file(alloc, block, micros) },
+        || -> Result<Blob, OutOfMemory>
+            requires { IsReadable ledger.now.newest × IsReadable after.now }
+            ensures { IfOk result (λ bytes. bytes
+                ≡ sealed (state_body full ledger.entry.now.newest after.entry.now)) }
+        { kept_state(alloc, full, &ledger.newest, after) },
+    );
     Ok(NewFiles {
         name,
-        state,
-        record_file,
+        state: state?,
+        record_file: record_file?,
     })
 }
 
@@ -122,7 +135,8 @@ fn place_block<F: Folder>(folder: &mut F, slot: u64, files: &NewFiles) -> Result
 /// microseconds that it took to run. The caller holds the folder's lock.
 ///
 /// The chain is to be opened again for the next block, and after every refusal but that of the slot.
-pub fn add<F: Folder>(
+pub fn add<T: Threads, F: Folder>(
+    threads: &T,
     alloc: Global,
     folder: &mut F,
     ledger: &mut Ledger,
@@ -155,7 +169,7 @@ pub fn add<F: Folder>(
     if !ledger.head.is_later(slot) {
         return Err(LedgerFault::SlotNotLater);
     }
-    let files = files_of(alloc, ledger, block, &after, micros)?;
+    let files = files_of(threads, alloc, ledger, block, &after, micros)?;
     ledger.head.slots.push(slot)?;
     place_block(folder, slot, &files)?;
     ledger.newest = after;

@@ -35,7 +35,7 @@ pub(crate) fn front_in(alloc: Global, name: Name, body: &[u8]) -> Result<Prefix,
 
 /// A snapshot of the slot, and nothing behind it.
 #[tactic(auto, unfolding(crate::specs::States::whole_state))]
-fn whole_state(alloc: Global, slot: u64, body: &[u8]) -> Result<Snapshot, LedgerFault>
+pub(crate) fn whole_state(alloc: Global, slot: u64, body: &[u8]) -> Result<Snapshot, LedgerFault>
     ensures gives { Gives is_ledger_memory (λ s. s) result (whole_state slot body.now) }
     ensures readable { IfOk result IsReadable }
     ensures quiet { NeverFails result }

@@ -1,7 +1,7 @@
 -- A table of keys that grows, and what is numbered by it.
 use Rattle.std.proofs.Common.{◌≡◌, ℕ, ◌+◌, ◌<◌, ◌≤◌, ◌==◌, true, false, List, [], ◌∷◌, ◌++◌, map, length, get_or, take, All, Some, refl, sym, ◌∙◌, ap, ap₂, subst, arith, eqb-true, length-append}
 use Rattle.std.specs.List.{IsDistinct, AllByRecursion}
-use Rattle.std.proofs.lemmas.Bool.{eqb-false, both_ways, cond_both, false_from_ne_true}
+use Rattle.std.proofs.lemmas.Bool.{eqb-false, both_ways, cond_both, cond-true, false_from_ne_true}
 use Rattle.std.proofs.lemmas.List.{map_more, map-append, length-map, get_or-map, get_or_append_left}
 use Rattle.std.proofs.lemmas.List.Elements.{All-head, All-tail, All-push}
 use Rattle.std.proofs.lemmas.List.Sums.{fold_push}
@@ -79,6 +79,10 @@ Numbers-push keys more locks set lock n e h numbers =
           map-append (keyed_lock more) set (added ∷ [])
           ∙ ap₂ (λ (ls : List Lock) (key : Key). let last : Lock = record { key = key; write = lock.write } in ls ++ last ∷ []) before.stands_for found.1;
     }
+
+-- one lock more on a key that has a number
+pub Numbers-known : (keys : List Key) (locks : List Lock) (set : List NumberedLock) (lock : Lock) (n : ℕ) → has_key lock.key keys ≡ true → number_of keys lock.key ≡ Some n → Numbers keys locks set → Numbers keys (locks ++ lock ∷ []) (set ++ record { number = n; write = lock.write } ∷ [])
+Numbers-known keys locks set lock n there h numbers = Numbers-push keys keys locks set lock n (sym (cond-true (has_key lock.key keys) keys (keys ++ lock.key ∷ []) there)) h numbers
 
 -- one key more
 pub with_keys-more : (keys : List Key) (locks : List Lock) (i : ℕ) (d : Lock) → i < length locks → with_keys keys (lock_keys (take (i + 1) locks)) ≡ with_key (with_keys keys (lock_keys (take i locks))) (get_or locks i d).key

@@ -1,14 +1,19 @@
 -- A table that gets one key more, or one fewer.
-use Rattle.std.proofs.Common.{◌≡◌, ℕ, ◌+◌, ◌-◌, ◌^◌, ◌<◌, ◌≤◌, Bool, true, false, ◌||◌, cond, ◌⊎◌, inl, inr, List, [], ◌∷◌, ◌++◌, length, get_or, take, drop, Some, None, refl, sym, ◌∙◌, ap, ap₂, subst, arith, ne_eqb, eq-eqb, length-append}
-use Rattle.std.specs.List.{IsDistinct, AllByRecursion, list_any, position_or_len}
+use Rattle.std.proofs.Common.{◌≡◌, ℕ, zero, suc, min, ◌+◌, ◌-◌, ◌^◌, ◌<◌, ◌≤◌, Bool, true, false, ◌||◌, cond, ◌⊎◌, inl, inr, List, [], ◌∷◌, ◌++◌, length, get_or, take, drop, Option, Some, None, refl, sym, ◌∙◌, ap, ap₂, subst, arith, ne_eqb, eq-eqb, length-append}
+use Rattle.std.specs.List.{IsDistinct, AllByRecursion, HoldsAt, list_any, position_or_len}
 use Rattle.std.specs.BTreeMap.{BTreeMap, get, is_at}
 use Rattle.std.specs.Map.{lookup}
 use Rattle.std.proofs.lemmas.Bool.{both_ways, cond_both, cond-false, cases_order, cases_lt, false_from_ne_true, or_from}
-use Rattle.std.proofs.lemmas.List.{take-take, take_all, take_at, map_more, map-append, take-append-drop}
-use Rattle.std.proofs.lemmas.List.Folds.{list_any_at, list_any_none}
-use Rattle.std.proofs.lemmas.List.Sums.{fails_before_first}
+use Rattle.std.proofs.lemmas.List.{take-take, take-append-le, length-take-le, get_or-take, take_all, take_at, map_more, map-append, take-append-drop}
+use Rattle.std.proofs.lemmas.List.Folds.{list_any_at, list_any_none, list_any-append}
+use Rattle.std.proofs.lemmas.List.Sums.{fails_before_first, position_or_len_is}
 use Rattle.std.proofs.lemmas.List.Quantifiers.{position-Some}
-use Rattle.std.proofs.lemmas.Map.Keys.{IsDistinct-push, apart_from_distinct}
+use Rattle.std.proofs.lemmas.Map.Keys.{IsDistinct-push, IsDistinct-from_sorted, apart_from_distinct}
+use Rattle.std.specs.List.Sorted.{IsStrictlySortedBy}
+use Rattle.std.specs.Ordering.{eq_by_cmp}
+use Rattle.std.specs.declared.cmp.Ordering.TheVariants.{Less, Equal}
+use Rattle.std.specs.Prelude.{IsSome}
+use Rattle.account_store.proofs.SortedKeys.{search_found}
 use Rattle.sol_base.specs.declared.key.Key.{Key}
 use Rattle.sol_base.specs.declared.lock.Lock.{Lock}
 use Rattle.sol_base.specs.Keys.{key_cmp}
@@ -65,33 +70,74 @@ absent keys key none =
 is_at-same : (key q : Key) → is_at (key_cmp key) q ≡ same_key q key
 is_at-same key q = same_cmp key q ∙ same_key-sym key q
 
-pub IsTable-nil : (numbers : BTreeMap Key ℕ) → numbers.entries ≡ [] → IsTable [] numbers
-unfolding IsDistinct
+pub IsTable-nil : (numbers : BTreeMap Key ℕ) → numbers.entries ≡ [] → IsTable [] 0 numbers
+unfolding IsDistinct IsStrictlySortedBy
 IsTable-nil numbers e = record {
   few = omega arith;
   distinct = tt;
-  numbered = λ key. ap (lookup (is_at (key_cmp key))) e;
+  within = omega arith;
+  ascend = tt;
+  numbered = λ key out. ap (lookup (is_at (key_cmp key))) e;
 }
 
-pub IsTable-push : (keys more : List Key) (numbers next : BTreeMap Key ℕ) (key : Key) (n : ℕ) → IsTable keys numbers → number_of keys key ≡ None → length keys < 2 ^ 32 - 1 → n ≡ length keys
-    → ((q : Key) → get key_cmp next q ≡ cond (is_at (key_cmp key) q) (Some n) (get key_cmp numbers q)) → more ≡ keys ++ key ∷ [] → IsTable more next
-IsTable-push keys more numbers next key n T none room e puts grown = subst (λ ks. IsTable ks next) (sym grown) (record {
+distinct_keys : (keys : List Key) → IsDistinct (eq_by_cmp key_cmp) keys → IsDistinct same_key keys
+unfolding IsDistinct
+distinct_keys [] d = tt
+distinct_keys (k ∷ ks) d = (apart ks d.0, distinct_keys ks d.1)
+  where
+    apart : (xs : List Key) → AllByRecursion (λ y. eq_by_cmp key_cmp k y ≡ false) xs → AllByRecursion (λ y. same_key k y ≡ false) xs
+    apart [] h = tt
+    apart (x ∷ xs) h = (sym (same_cmp k x) ∙ h.0, apart xs h.1)
+
+-- keys that ascend, by their places
+pub IsTable-ascending : (keys : List Key) (n : ℕ) (numbers : BTreeMap Key ℕ) → n ≡ length keys → length keys < 2 ^ 32 → IsStrictlySortedBy key_cmp keys → numbers.entries ≡ [] → IsTable keys n numbers
+IsTable-ascending keys n numbers long few up nil = record {
+  few = few;
+  distinct = distinct_keys keys (IsDistinct-from_sorted key_cmp keys up);
+  within = omega (arith, long);
+  ascend = subst (IsStrictlySortedBy key_cmp) (sym (take_all n keys (omega (arith, long)))) up;
+  numbered = λ key out. ap (lookup (is_at (key_cmp key))) nil ∙ sym (position-none (λ k. same_key key k) keys no_key (sym (ap (has_key key) (take_all n keys (omega (arith, long)))) ∙ out));
+}
+
+pub IsTable-push : (keys more : List Key) (asc : ℕ) (numbers next : BTreeMap Key ℕ) (key : Key) (n : ℕ) → IsTable keys asc numbers → number_of keys key ≡ None → length keys < 2 ^ 32 - 1 → n ≡ length keys
+    → ((q : Key) → get key_cmp next q ≡ cond (is_at (key_cmp key) q) (Some n) (get key_cmp numbers q)) → more ≡ keys ++ key ∷ [] → IsTable more asc next
+IsTable-push keys more asc numbers next key n T none room e puts grown = subst (λ ks. IsTable ks asc next) (sym grown) (record {
   few = let l = length-append keys (key ∷ []) in omega (arith, l, room);
   distinct = IsDistinct-push same_key-equiv keys key T.distinct apart;
-  numbered = λ q. puts q
-      ∙ (ap₂ (λ b o. cond b (Some n) o) (is_at-same key q) (T.numbered q)
+  within = let l = length-append keys (key ∷ []) in let w = T.within in omega (arith, l, w);
+  ascend = subst (IsStrictlySortedBy key_cmp) (sym front) T.ascend;
+  numbered = λ q out. puts q
+      ∙ (ap₂ (λ b o. cond b (Some n) o) (is_at-same key q) (T.numbered q (sym (ap (has_key q) front) ∙ out))
       ∙ (ap (λ m. cond (same_key q key) (Some m) (number_of keys q)) e ∙ sym (number_of_push keys key q apart)));
 })
   where
     apart : has_key key keys ≡ false
     apart = absent keys key none
 
-pub IsTable-pop : (keys fewer : List Key) (numbers next : BTreeMap Key ℕ) (key : Key) → IsTable keys numbers → keys ≡ fewer ++ key ∷ []
-    → ((q : Key) → get key_cmp next q ≡ cond (is_at (key_cmp key) q) None (get key_cmp numbers q)) → IsTable fewer next
-IsTable-pop keys fewer numbers next key T e takes = record {
+    front : take asc (keys ++ key ∷ []) ≡ take asc keys
+    front = take-append-le asc keys (key ∷ []) T.within
+
+sorted_take : (ks : List Key) (n : ℕ) → IsStrictlySortedBy key_cmp ks → IsStrictlySortedBy key_cmp (take n ks)
+unfolding IsStrictlySortedBy
+sorted_take [] zero h = tt
+sorted_take [] (suc n) h = tt
+sorted_take (k ∷ ks) zero h = tt
+sorted_take (k ∷ ks) (suc n) h = (below ks n h.0, sorted_take ks n h.1)
+  where
+    below : (xs : List Key) (m : ℕ) → AllByRecursion (λ y. key_cmp k y ≡ Less) xs → AllByRecursion (λ y. key_cmp k y ≡ Less) (take m xs)
+    below [] zero a = tt
+    below [] (suc m) a = tt
+    below (x ∷ xs) zero a = tt
+    below (x ∷ xs) (suc m) a = (a.0, below xs m a.1)
+
+pub IsTable-pop : (keys fewer : List Key) (asc less : ℕ) (numbers next : BTreeMap Key ℕ) (key : Key) → IsTable keys asc numbers → keys ≡ fewer ++ key ∷ [] → less ≡ min asc (length fewer)
+    → ((q : Key) → get key_cmp next q ≡ cond (is_at (key_cmp key) q) None (get key_cmp numbers q)) → IsTable fewer less next
+IsTable-pop keys fewer asc less numbers next key T e least takes = record {
   few = let l = ap length e ∙ length-append fewer (key ∷ []) in let f = T.few in omega (arith, l, f);
   distinct = distinct_front fewer (key ∷ []) distinct;
-  numbered = λ q. takes q ∙ (ap₂ (λ b o. cond b None o) (is_at-same key q) (T.numbered q ∙ (ap (λ ks. number_of ks q) e ∙ number_of_push fewer key q apart)) ∙ by_case q (same_key q key) refl);
+  within = omega (arith, least);
+  ascend = subst (IsStrictlySortedBy key_cmp) (take-take less asc keys (omega (arith, least)) ∙ ap (take less) e ∙ take-append-le less fewer (key ∷ []) (omega (arith, least))) (sorted_take (take asc keys) less T.ascend);
+  numbered = λ q out. takes q ∙ (ap (λ b. cond b None (get key_cmp numbers q)) (is_at-same key q) ∙ by_case q out (same_key q key) refl);
 }
   where
     distinct : IsDistinct same_key (fewer ++ key ∷ [])
@@ -100,13 +146,47 @@ IsTable-pop keys fewer numbers next key T e takes = record {
     apart : has_key key fewer ≡ false
     apart = last_apart fewer key distinct
 
-    by_case : (q : Key) (b : Bool) → same_key q key ≡ b → cond b None (cond b (Some (length fewer)) (number_of fewer q)) ≡ number_of fewer q
-    by_case q true t = sym (position-none (λ k. same_key q k) fewer no_key (subst (λ k. has_key k fewer ≡ false) (sym (same_key-true q key t)) apart))
-    by_case q false t = refl
+    out_of : (q : Key) → has_key q (take less fewer) ≡ false → same_key q key ≡ false → has_key q (take asc keys) ≡ false
+    out_of q out other = elim (cases_lt (length fewer) asc) [
+      | inl u ↦
+          let l = ap length e ∙ length-append fewer (key ∷ []) in
+          ap (has_key q) (take_all asc keys (omega (arith, l, u)) ∙ e) ∙ list_any-append (λ k. same_key q k) fewer (key ∷ [])
+          ∙ ap₂ (λ a b. a || (b || false)) (sym (ap (has_key q) (take_all less fewer (omega (arith, least, u)))) ∙ out) other
+      | inr m ↦
+          let same : less ≡ asc = omega (arith, least, m) in
+          ap (has_key q) (ap (take asc) e ∙ take-append-le asc fewer (key ∷ []) m) ∙ ap (λ n. has_key q (take n fewer)) (sym same) ∙ out
+    ]
+
+    by_case : (q : Key) → has_key q (take less fewer) ≡ false → (b : Bool) → same_key q key ≡ b → cond b None (get key_cmp numbers q) ≡ number_of fewer q
+    by_case q out true t = sym (position-none (λ k. same_key q k) fewer no_key (subst (λ k. has_key k fewer ≡ false) (sym (same_key-true q key t)) apart))
+    by_case q out false t = T.numbered q (out_of q out t) ∙ ap (λ ks. number_of ks q) e ∙ number_of_push fewer key q apart ∙ ap (λ b. cond b (Some (length fewer)) (number_of fewer q)) t
+
+-- the number of the key at a place
+pub number_at : (keys : List Key) (q : Key) (at : ℕ) (d : Key) → IsDistinct same_key keys → at < length keys → get_or keys at d ≡ q → number_of keys q ≡ Some at
+number_at keys q at d distinct below is = position-some (λ k. same_key q k) keys (omega (arith, place, below)) ∙ ap Some place
+  where
+    place : position_or_len (λ k. same_key q k) keys ≡ at
+    place = position_or_len_is (λ k. same_key q k) keys at d (omega (arith, below))
+        (λ k l. same_key-sym q (get_or keys k d) ∙ ap (same_key (get_or keys k d)) (sym is) ∙ apart_from_distinct same_key keys k at d distinct l below)
+        (λ l. subst (λ k. same_key q k ≡ true) (sym is) (same_key-self q))
 
 -- a key that has a number is among the keys
 pub present : (keys : List Key) (key : Key) (n : ℕ) → number_of keys key ≡ Some n → has_key key keys ≡ true
 present keys key n e = let found = position-Some (λ k. same_key key k) keys n no_key e in list_any_at (λ k. same_key key k) keys n no_key found.0 found.1
+
+-- and the other way round
+pub has_number : (keys : List Key) (key : Key) (o : Option ℕ) → has_key key keys ≡ true → o ≡ number_of keys key → IsSome o
+has_number keys key None there e = absurd (both_ways _ (absent keys key (sym e)) there)
+has_number keys key (Some n) there e = refl
+
+-- what a search among the first keys says
+pub found_number : (shown keys : List Key) (asc : ℕ) (q : Key) (at : ℕ) (d : Key) → shown ≡ keys → asc ≤ length keys → IsDistinct same_key keys → at < length (take asc shown) → HoldsAt (λ k. key_cmp k q ≡ Equal) (take asc shown) at → Some at ≡ number_of keys q
+found_number shown keys asc q at d same within distinct below holds =
+    let long = length-take-le asc keys within in
+    let lower = ap (λ ks. length (take asc ks)) same in
+    let first : at < asc = omega (arith, long, lower, below) in
+    sym (number_at keys q at d distinct (omega (arith, first, within)) (
+    sym (get_or-take asc keys at d first) ∙ ap (λ ks. get_or (take asc ks) at d) (sym same) ∙ search_found (λ k. k) (take asc shown) q at d holds))
 
 -- one key more leaves the keys before it
 take-with_key : (keys : List Key) (key : Key) → take (length keys) (with_key keys key) ≡ keys

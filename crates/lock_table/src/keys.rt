@@ -1,19 +1,26 @@
 //! Keys as numbers.
-ghost use Rattle.std.specs.Prelude.{◌≡◌, ◌-◌, ◌^◌, ◌<◌, ◌≤◌, [], Some, None, length, slice_get, take, IfOk, OnOk, OnErr};
+ghost use Rattle.std.specs.Prelude.{◌≡◌, ◌-◌, ◌^◌, ◌<◌, ◌≤◌, [], true, Some, None, length, slice_get, take, IfOk, OnOk, OnErr};
 ghost use Rattle.std.specs.List.{IsDistinct};
-ghost use Rattle.bank_law.specs.Job.{same_key};
+ghost use Rattle.std.specs.List.Sorted.{IsStrictlySortedBy};
+ghost use Rattle.sol_base.specs.declared.key.Key.{Key as KeyValue};
+ghost use Rattle.sol_base.specs.Keys.{key_cmp};
+ghost use Rattle.bank_law.specs.Job.{same_key, has_key};
 ghost use Rattle.lock_table.specs.Numbers.{number_of, with_key};
 
+use account_store::sort_keys;
 use sol_base::{Key, OutOfMemory, push_with_room};
 use std::alloc::Global;
 use std::collections::BTreeMap;
 use std::marker::Model;
 
-/// Distinct keys, each with a number: its place in the order of first occurrence. The numbers are
-/// found by the order of the keys, so no choice of keys makes a look-up slow.
+/// Distinct keys, each with a number: its place. The numbers are found by the order of the keys, so
+/// no choice of keys makes a look-up slow.
 #[derive(Drop)]
 pub struct KeyTable {
     keys: Vec<Key>,
+    /// So many of the first keys ascend.
+    ascending: usize,
+    /// The numbers of the other keys.
     numbers: BTreeMap<Key, u32>,
 }
 
@@ -26,7 +33,7 @@ impl Model for KeyTable {
 
     ghost view = { λ t. t.keys.items };
 
-    ghost invariant = { λ t. IsTable t.keys.items t.numbers };
+    ghost invariant = { λ t. IsTable t.keys.items t.ascending t.numbers };
 }
 
 impl KeyTable {
@@ -36,6 +43,22 @@ impl KeyTable {
     {
         KeyTable {
             keys: Vec::new(alloc),
+            ascending: 0,
+            numbers: BTreeMap::new(alloc),
+        }
+    }
+
+    /// The keys of a list, each once. They ascend, and take no memory beside the list's.
+    pub fn of_keys(alloc: Global, mut keys: Vec<Key>) -> KeyTable
+        requires { length keys.items < 2 ^ 32 }
+        ensures ascend { IsStrictlySortedBy key_cmp result }
+        ensures same { (key : KeyValue) → has_key key result ≡ has_key key keys.items }
+    {
+        sort_keys(&mut keys);
+        let ascending = keys.len();
+        KeyTable {
+            keys,
+            ascending,
             numbers: BTreeMap::new(alloc),
         }
     }
@@ -62,7 +85,18 @@ impl KeyTable {
     pub fn find(&self, key: &Key) -> Option<u32>
         ensures { result ≡ number_of self.now key.now }
     {
-        self.numbers.get(key).copied()
+        match self.keys[..self.ascending].binary_search(key) {
+            Ok(at) => Some(at as u32),
+            Err(_) => self.numbers.get(key).copied(),
+        }
+    }
+
+    /// The number of a key that has one.
+    pub(crate) fn known(&self, key: &Key) -> u32
+        requires { has_key key.now self.now ≡ true }
+        ensures { number_of self.now key.now ≡ Some result }
+    {
+        self.find(key).unwrap()
     }
 
     /// The key of a number.
@@ -71,6 +105,14 @@ impl KeyTable {
         ensures { slice_get self.now number ≡ Some result }
     {
         self.keys[number as usize]
+    }
+
+    /// The keys by their numbers.
+    pub fn keys(&self) -> &[Key]
+        ensures keys { result.now ≡ self.now }
+        ensures distinct { IsDistinct same_key self.now }
+    {
+        &self.keys
     }
 
     /// How many keys there are.
@@ -97,6 +139,7 @@ impl KeyTable {
         ensures { self.new ≡ take (length self.old - 1) self.old }
     {
         if let Some(key) = self.keys.pop() {
+            self.ascending = self.ascending.min(self.keys.len());
             let _number = self.numbers.remove(&key);
         }
     }

@@ -10,4 +10,4 @@ mod sets;
 pub use keys::KeyTable;
 pub use laws::{conflict_is_clash, equal_keys_have_equal_numbers, tables_grow_by_what_is_put_in};
 pub use locks::{NumberedLock, has_distinct_keys};
-pub use sets::{LockSet, conflict, set_of};
+pub use sets::{LockSet, conflict, set_of, set_of_known};

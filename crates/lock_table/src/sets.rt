@@ -1,7 +1,7 @@
 //! The locks of a position over numbers, and when two sets conflict.
-ghost use Rattle.std.specs.Prelude.{◌≡◌, ◌+◌, ◌^◌, ◌<◌, IfOk, OnOk, OnErr, length};
+ghost use Rattle.std.specs.Prelude.{◌≡◌, ◌+◌, ◌^◌, ◌<◌, true, All, IfOk, OnOk, OnErr, length};
 ghost use Rattle.std.specs.List.{IsDistinct, list_any};
-ghost use Rattle.bank_law.specs.Job.{same_key, lock_keys};
+ghost use Rattle.bank_law.specs.Job.{same_key, has_key, lock_keys};
 ghost use Rattle.lock_table.specs.Numbers.{Numbers, EachOnce, meets, conflicts, with_keys};
 
 use crate::keys::KeyTable;
@@ -60,6 +60,27 @@ pub fn set_of(alloc: Global, table: &mut KeyTable, locks: &LockList) -> Result<L
                 return Err(e);
             }
         }
+    }
+    Ok(LockSet { locks: numbered })
+}
+
+/// The set of locks whose keys all have numbers.
+pub fn set_of_known(
+    alloc: Global,
+    table: &KeyTable,
+    locks: &LockList,
+) -> Result<LockSet, OutOfMemory>
+    requires distinct { IsDistinct same_key (lock_keys locks.now) }
+    requires known { All (λ lock. has_key lock.key table.now ≡ true) locks.now }
+    ensures { IfOk result (λ set. Numbers table.now locks.now set) }
+{
+    let _len = table.len();
+    let locks = locks.as_slice();
+    let mut numbered = Vec::with_capacity(alloc, locks.len())?;
+    for lock in locks {
+        let number = table.known(&lock.key);
+        let write = lock.write;
+        push_with_room(&mut numbered, NumberedLock { number, write });
     }
     Ok(LockSet { locks: numbered })
 }

@@ -1,21 +1,24 @@
 -- What is kept for keys, and what is found among it.
-use Rattle.std.proofs.Common.{◌≡◌, ◌<◌, ◌+◌, ℕ, length, take, get_or, List, [], ◌∷◌, ◌++◌, Option, Some, None, Bool, true, false, cond, ◌||◌, refl, sym, ap, subst, ◌∙◌}
-use Rattle.std.specs.Prelude.{map as each, is_some, unwrap_or, option_map, if◌then◌else◌}
-use Rattle.std.proofs.lemmas.List.{nil_from_length, take_more}
-use Rattle.std.specs.Map.{lookup}
-use Rattle.std.specs.BTreeMap.{is_at, insert_entry}
-use Rattle.std.specs.Ordering.{eq_by_cmp, match_ordering}
-use Rattle.std.specs.declared.cmp.Ordering.TheVariants.{Less, Equal, Greater}
+use Rattle.std.proofs.Common.{◌≡◌, ◌<◌, ℕ, zero, suc, length, get_or, List, [], ◌∷◌, Option, Some, None, Bool, true, false, cond, ◌||◌, refl, sym, ap, subst, ◌∙◌, arith}
+use Rattle.std.specs.Prelude.{map as each, unwrap_or, if◌then◌else◌}
+use Rattle.std.specs.List.{zip}
+use Rattle.std.specs.List.Sorted.{IsStrictlySortedBy}
+use Rattle.std.specs.Cmp.{eq_by_cmp_equiv}
+use Rattle.std.proofs.lemmas.List.{length-map}
+use Rattle.std.proofs.Math.ListN.{get_or-map}
+use Rattle.std.proofs.lemmas.Map.Keys.{Less-from_sorted, sorted_tail}
+use Rattle.std.specs.Map.{keys_of}
+use Rattle.std.specs.Ordering.{eq_by_cmp, is_eq}
 use Rattle.std.specs.FinMap as finite
-use Rattle.std.specs.FinMap.{find, get-from_entries, get-entries, get-insert, len-entries, len-empty, same_map}
+use Rattle.std.specs.FinMap.{find, get-from_entries, get-entries, same_map}
 use Rattle.sol_base.specs.declared.key.Key.{Key}
 use Rattle.sol_base.specs.Keys.{key_cmp, same_key, has_key}
-use Rattle.sol_base.proofs.KeyLaws.{key_cmp_exact, key_cmp_total, same_cmp, same_key-true}
+use Rattle.sol_base.proofs.KeyLaws.{key_cmp_exact, key_cmp_total, same_cmp, same_key-true, same_key-self}
 use Rattle.account_store.specs.State.{State}
-use Rattle.account_store.proofs.EntryLists.{entries-insert_entry}
+use Rattle.account_store.proofs.EntryLists.{entries-from_entries}
 use Rattle.program_cache.specs.Programs.{Sought, Listing, IsAbsent, sought_in, programs_of, sought}
 use Rattle.program_cache.specs.declared.kept.Kept.{Kept}
-use Rattle.program_cache.specs.Kept.{kept_as, listing, with_key}
+use Rattle.program_cache.specs.Kept.{kept_as, listing, AreKept}
 
 -- the keys, each with what is found under it
 abbrev pairs : State → List Key → List (Key × Sought)
@@ -54,98 +57,60 @@ sought-among s keys q h = sought-programs s keys q ∙ ap (λ (b : Bool). unwrap
 pub sought-other : (s : State) (keys : List Key) (q : Key) → has_key q keys ≡ false → sought (programs_of s keys) q ≡ IsAbsent
 sought-other s keys q h = sought-programs s keys q ∙ ap (λ (b : Bool). unwrap_or (if_among s q b) IsAbsent) h
 
-among-append : (q k : Key) (keys : List Key) → has_key q (keys ++ k ∷ []) ≡ (same_key q k || has_key q keys)
-among-append q k [] = refl
-among-append q k (x ∷ keys) = ap (λ (b : Bool). same_key q x || b) (among-append q k keys) ∙ swapped (same_key q x) (same_key q k) (has_key q keys)
-  where
-    swapped : (a b c : Bool) → (a || (b || c)) ≡ (b || (a || c))
-    swapped true true c = refl
-    swapped true false c = refl
-    swapped false b c = refl
-
--- one more key
-kept_map-push : (s : State) (keys : List Key) (k : Key) → kept_map s (keys ++ k ∷ []) ≡ finite.insert (kept_map s keys) k (sought_in s k)
-kept_map-push s keys k = same_map key_cmp_total key_cmp_exact _ _ (λ q.
-    get-kept s (keys ++ k ∷ []) q
-    ∙ ap (λ (b : Bool). if_among s q b) (among-append q k keys)
-    ∙ sym (found_pair s k q (has_key q keys) (same_key q k) refl)
-    ∙ ap (λ (b : Bool). cond b (Some (sought_in s k)) (if_among s q (has_key q keys))) (sym (same_cmp q k))
-    ∙ ap (λ (o : Option Sought). cond (eq_by_cmp key_cmp q k) (Some (sought_in s k)) o) (sym (get-kept s keys q))
-    ∙ sym (get-insert key_cmp_total (kept_map s keys) k (sought_in s k) q))
-
--- a key that is there already
-kept_map-again : (s : State) (keys : List Key) (k : Key) → has_key k keys ≡ true → kept_map s (keys ++ k ∷ []) ≡ kept_map s keys
-kept_map-again s keys k h = same_map key_cmp_total key_cmp_exact _ _ (λ q.
-    get-kept s (keys ++ k ∷ []) q
-    ∙ ap (λ (b : Bool). if_among s q b) (among-append q k keys ∙ still q (same_key q k) refl)
-    ∙ sym (get-kept s keys q))
-  where
-    still : (q : Key) (b : Bool) → same_key q k ≡ b → (b || has_key q keys) ≡ has_key q keys
-    still q true e = sym (subst (λ (key : Key). has_key key keys ≡ true) (sym (same_key-true q k e)) h)
-    still q false e = refl
-
-some_among : (s : State) (q : Key) (b : Bool) → is_some (if_among s q b) ≡ b
-some_among s q true = refl
-some_among s q false = refl
-
--- a listing with one more key is that of the keys with it
-pub with_key-programs : (s : State) (keys : List Key) (k : Key) → with_key (programs_of s keys) k (sought_in s k) ≡ programs_of s (keys ++ k ∷ [])
-unfolding with_key programs_of
-with_key-programs s keys k =
-    let m = kept_map s keys in
-    ap (λ (b : Bool). cond b (finite.entries m) (insert_entry key_cmp (finite.entries m) k (sought_in s k))) (ap is_some (sym (get-entries m k) ∙ get-kept s keys k) ∙ some_among s k (has_key k keys))
-    ∙ by_test (has_key k keys) refl
-  where
-    by_test : (b : Bool) → has_key k keys ≡ b → cond b (finite.entries (kept_map s keys)) (insert_entry key_cmp (finite.entries (kept_map s keys)) k (sought_in s k)) ≡ finite.entries (kept_map s (keys ++ k ∷ []))
-    by_test true e = ap finite.entries (sym (kept_map-again s keys k e))
-    by_test false e = sym (entries-insert_entry key_cmp_total (kept_map s keys) k (sought_in s k)) ∙ ap finite.entries (sym (kept_map-push s keys k))
-
--- what is kept for the keys so far, and for one more
-pub programs-next : (s : State) (keys : List Key) (i : ℕ) (d : Key) (kept after : Listing) → i < length keys → kept ≡ programs_of s (take i keys) → after ≡ with_key kept (get_or keys i d) (sought_in s (get_or keys i d)) → after ≡ programs_of s (take (i + 1) keys)
-programs-next s keys i d kept after below so_far e =
-    let key : Key = get_or keys i d in
-    e ∙ ap (λ (l : Listing). with_key l key (sought_in s key)) so_far ∙ with_key-programs s (take i keys) key ∙ ap (programs_of s) (sym (take_more keys i d below))
-
--- no keys
-pub programs-none : (s : State) → programs_of s [] ≡ []
+-- what is kept for lists with the same keys is the same
+pub programs-same : (s : State) (some keys : List Key) → ((key : Key) → has_key key some ≡ has_key key keys) → programs_of s some ≡ programs_of s keys
 unfolding programs_of
-programs-none s = nil_from_length (finite.entries (kept_map s [])) (sym (len-entries (kept_map s [])) ∙ len-empty key_cmp Sought)
+programs-same s some keys same =
+    ap finite.entries (same_map key_cmp_total key_cmp_exact (kept_map s some) (kept_map s keys) (λ q. get-kept s some q ∙ ap (λ (b : Bool). if_among s q b) (same q) ∙ sym (get-kept s keys q)))
 
--- the entries of the tree as a listing
+keys-pairs : (s : State) (keys : List Key) → keys_of (pairs s keys) ≡ keys
+keys-pairs s [] = refl
+keys-pairs s (k ∷ keys) = ap (λ (ks : List Key). k ∷ ks) (keys-pairs s keys)
 
-pub listing-insert_entry : (es : List (Key × Kept)) (k : Key) (v : Kept) → listing (insert_entry key_cmp es k v) ≡ insert_entry key_cmp (listing es) k (kept_as v)
-listing-insert_entry [] k v = refl
-listing-insert_entry (e ∷ es) k v = elim (key_cmp k e.0) as (λ o. listing (match_ordering o ((k, v) ∷ e ∷ es) ((e.0, v) ∷ es) (e ∷ insert_entry key_cmp es k v)) ≡ match_ordering o ((k, kept_as v) ∷ listing (e ∷ es)) ((e.0, kept_as v) ∷ listing es) ((e.0, kept_as e.1) ∷ insert_entry key_cmp (listing es) k (kept_as v))) [
-  | Less ↦ refl
-  | Equal ↦ refl
-  | Greater ↦ ap (λ (l : Listing). (e.0, kept_as e.1) ∷ l) (listing-insert_entry es k v)
-]
+-- where the keys ascend, it is what is found under each of them
+pub programs-ascend : (s : State) (keys : List Key) → IsStrictlySortedBy key_cmp keys → programs_of s keys ≡ each (λ key. (key, sought_in s key)) keys
+unfolding programs_of
+programs-ascend s keys up = entries-from_entries key_cmp_total key_cmp_exact (pairs s keys) (subst (IsStrictlySortedBy key_cmp) (sym (keys-pairs s keys)) up)
 
-shown : (o : Option Kept) (b : Bool) (v : Kept) → option_map kept_as (cond b (Some v) o) ≡ cond b (Some (kept_as v)) (option_map kept_as o)
-shown o true v = refl
-shown o false v = refl
+missing : (keys : List Key) (found : List Sought) (q : Key) → has_key q keys ≡ false → find key_cmp q (zip keys found) ≡ None
+missing [] found q none = refl
+missing (k ∷ keys) [] q none = refl
+missing (k ∷ keys) (f ∷ found) q none = by_test (same_key q k) refl none (missing keys found q)
+  where
+    by_test : (b : Bool) → same_key q k ≡ b → (b || has_key q keys) ≡ false → (has_key q keys ≡ false → find key_cmp q (zip keys found) ≡ None) → find key_cmp q ((k, f) ∷ zip keys found) ≡ None
+    by_test true t n rest = absurd (cc)
+    by_test false t n rest = ap (λ (b : Bool). cond b (Some f) (find key_cmp q (zip keys found))) (same_cmp q k ∙ t) ∙ rest n
 
-find-listing : (es : List (Key × Kept)) (k : Key) → find key_cmp k (listing es) ≡ option_map kept_as (lookup (is_at (key_cmp k)) es)
-find-listing [] k = refl
-find-listing (e ∷ es) k = ap (λ (o : Option Sought). cond (is_at (key_cmp k) e.0) (Some (kept_as e.1)) o) (find-listing es k) ∙ sym (shown (lookup (is_at (key_cmp k)) es) (is_at (key_cmp k) e.0) e.1)
+found : (keys : List Key) (fs : List Sought) (at : ℕ) (d : Key) (e : Sought) → IsStrictlySortedBy key_cmp keys → at < length keys → at < length fs → find key_cmp (get_or keys at d) (zip keys fs) ≡ Some (get_or fs at e)
+found [] fs at d e up l m = absurd (omega (arith, l))
+found (k ∷ keys) [] at d e up l m = absurd (omega (arith, m))
+found (k ∷ keys) (f ∷ fs) zero d e up l m = ap (λ (b : Bool). cond b (Some f) (find key_cmp k (zip keys fs))) (same_cmp k k ∙ same_key-self k)
+found (k ∷ keys) (f ∷ fs) (suc at) d e up l m =
+    ap (λ (b : Bool). cond b (Some f) (find key_cmp (get_or keys at d) (zip keys fs))) ((eq_by_cmp_equiv key_cmp_total).symm (get_or keys at d) k ∙ ap is_eq (Less-from_sorted key_cmp (k ∷ keys) 0 (suc at) d up (omega arith) l))
+    ∙ found keys fs at d e (sorted_tail key_cmp k keys up) (omega (arith, l)) (omega (arith, m))
 
-some_shown : (o : Option Kept) → is_some (option_map kept_as o) ≡ is_some o
-some_shown None = refl
-some_shown (Some v) = refl
+-- what is kept for keys that ascend
+pub listing-programs : (s : State) (keys : List Key) (kept : List Kept) → IsStrictlySortedBy key_cmp keys → each kept_as kept ≡ each (sought_in s) keys → listing keys kept ≡ programs_of s keys
+listing-programs s keys kept up e = ap (zip keys) e ∙ beside keys ∙ sym (programs-ascend s keys up)
+  where
+    beside : (ks : List Key) → zip ks (each (sought_in s) ks) ≡ each (λ key. (key, sought_in s key)) ks
+    beside [] = refl
+    beside (k ∷ ks) = ap (λ (l : Listing). (k, sought_in s k) ∷ l) (beside ks)
 
--- the tree with a key that it has
-pub with_key-there : (es : List (Key × Kept)) (k : Key) (found : Sought) → is_some (lookup (is_at (key_cmp k)) es) ≡ true → listing es ≡ with_key (listing es) k found
-unfolding with_key
-with_key-there es k found h = sym (ap (λ (b : Bool). cond b (listing es) (insert_entry key_cmp (listing es) k found)) (ap is_some (find-listing es k) ∙ some_shown (lookup (is_at (key_cmp k)) es) ∙ h))
+pub are_kept : (s : State) (keys : List Key) (kept : List Kept) → IsStrictlySortedBy key_cmp keys → each kept_as kept ≡ each (sought_in s) keys → AreKept keys kept
+are_kept s keys kept up e = record {
+  long = sym (length-map kept kept_as) ∙ ap length e ∙ length-map keys (sought_in s);
+  ascend = up;
+}
 
--- and with one that it has not
-pub with_key-new : (es after : List (Key × Kept)) (k : Key) (v : Kept) (found : Sought) → is_some (lookup (is_at (key_cmp k)) es) ≡ false → after ≡ insert_entry key_cmp es k v → kept_as v ≡ found → listing after ≡ with_key (listing es) k found
-unfolding with_key
-with_key-new es after k v found h e same =
-    ap listing e ∙ listing-insert_entry es k v ∙ ap (λ (f : Sought). insert_entry key_cmp (listing es) k f) same
-    ∙ sym (ap (λ (b : Bool). cond b (listing es) (insert_entry key_cmp (listing es) k found)) (ap is_some (find-listing es k) ∙ some_shown (lookup (is_at (key_cmp k)) es) ∙ h))
-
--- what is found in the tree
-pub sought-listing : (es : List (Key × Kept)) (k : Key) (o : Option Kept) → o ≡ lookup (is_at (key_cmp k)) es → unwrap_or (option_map kept_as o) IsAbsent ≡ sought (listing es) k
+-- a key that is none of the keys
+pub sought-none : (keys : List Key) (kept : List Kept) (q : Key) → has_key q keys ≡ false → IsAbsent ≡ sought (listing keys kept) q
 unfolding sought
-sought-listing es k o e = ap (λ (p : Option Kept). unwrap_or (option_map kept_as p) IsAbsent) e ∙ ap (λ (p : Option Sought). unwrap_or p IsAbsent) (sym (find-listing es k))
+sought-none keys kept q none = sym (ap (λ (p : Option Sought). unwrap_or p IsAbsent) (missing keys (each kept_as kept) q none))
+
+-- and one that is
+pub sought-found : (keys : List Key) (kept : List Kept) (q : Key) (at : ℕ) (d : Key) (v : Kept) → AreKept keys kept → at < length keys → get_or keys at d ≡ q → v ≡ get_or kept at v → kept_as v ≡ sought (listing keys kept) q
+unfolding sought
+sought-found keys kept q at d v are below here is =
+    sym (ap (λ (p : Option Sought). unwrap_or p IsAbsent) (subst (λ k. find key_cmp k (listing keys kept) ≡ Some (get_or (each kept_as kept) at (kept_as v))) here (found keys (each kept_as kept) at d (kept_as v) are.ascend below (let e = are.long in let l = length-map kept kept_as in omega (arith, e, l, below)))
+    ∙ ap Some (get_or-map kept_as kept at v ∙ ap kept_as (sym is))))

@@ -1,7 +1,7 @@
 -- What is kept in memory for keys, as what is found under them.
-use Rattle.std.specs.Prelude.{List, map as each, is_some, if◌then◌else◌}
-use Rattle.std.specs.FinMap.{find}
-use Rattle.std.specs.BTreeMap.{insert_entry}
+use Rattle.std.specs.Prelude.{◌≡◌, List, length, map as each}
+use Rattle.std.specs.List.{zip}
+use Rattle.std.specs.List.Sorted.{IsStrictlySortedBy}
 use Rattle.sol_base.specs.declared.key.Key.{Key}
 use Rattle.sol_base.specs.Keys.{key_cmp}
 use Rattle.program_cache.specs.Programs.{Sought, Listing, IsReady, IsAbsent, IsNoProgram, IsBad, IsUnverified}
@@ -15,11 +15,11 @@ kept_as NotProgram = IsNoProgram
 kept_as Bad = IsBad
 kept_as (Unverified fault) = IsUnverified fault
 
-abbrev pub listing : List (Key × Kept) → Listing
-listing entries = each (λ entry. (entry.0, kept_as entry.1)) entries
+-- keys, each with what is kept for it
+abbrev pub listing : List Key → List Kept → Listing
+listing keys kept = zip keys (each kept_as kept)
 
--- the listing with one more key; what is there already stays
-unfoldable pub with_key : Listing → Key → Sought → Listing
-with_key programs key found =
-    if is_some (find key_cmp key programs) then programs
-    else insert_entry key_cmp programs key found
+-- something is kept for each key, and the keys ascend
+pub record AreKept (keys : List Key) (kept : List Kept) : Type 0 where
+  pub long : length kept ≡ length keys
+  pub ascend : IsStrictlySortedBy key_cmp keys

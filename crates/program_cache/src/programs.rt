@@ -1,48 +1,44 @@
 //! The programs under some keys.
-ghost use Rattle.std.specs.Prelude.{◌≡◌, IfOk, OnOk};
+ghost use Rattle.std.specs.Prelude.{◌≡◌, map as each, IfOk};
 ghost use Rattle.program_cache.specs.Programs.{found_as, sought_in, programs_of, sought};
-ghost use Rattle.program_cache.specs.Kept.{listing, with_key};
+ghost use Rattle.program_cache.specs.Kept.{kept_as};
 
 use crate::found::Found;
 use crate::kept::{Kept, found_under};
-use account_store::Accounts;
+use account_store::{Accounts, sort_keys};
 use sol_base::{Items, Key, OutOfMemory};
 use std::alloc::Global;
-use std::collections::BTreeMap;
-use std::collections::btree_map::Entry;
 use std::marker::Model;
 
-/// For each of some keys a program that is ready, or why there is none. The keys stand in their
-/// order, so that no choice of keys makes a look-up long.
+/// For each of some keys a program that is ready, or why there is none. The keys ascend, so that no
+/// choice of keys makes a look-up long.
 #[derive(Drop)]
 pub struct Programs {
-    tree: BTreeMap<Key, Kept>,
+    keys: Vec<Key>,
+    /// What is kept for each key.
+    kept: Vec<Kept>,
 }
 
 impl Model for Programs {
     ghost use Rattle.program_cache.specs.Programs.{Listing};
+    ghost use Rattle.program_cache.specs.Kept.{listing, AreKept};
 
     ghost Value = { Listing };
 
-    ghost use Rattle.program_cache.specs.Kept.{listing};
+    ghost view = { λ p. listing p.keys.items p.kept.items };
 
-    ghost view = { λ p. listing p.tree.entries };
+    ghost invariant = { λ p. AreKept p.keys.items p.kept.items };
 }
 
-/// Adds a key with what is found under it. A key that is there already is not looked at again.
-fn add_key(
-    tree: &mut BTreeMap<Key, Kept>,
-    alloc: Global,
-    accounts: &Accounts,
-    key: &Key,
-) -> Result<(), OutOfMemory>
-    ensures { OnOk result (listing tree.new.entries
-        ≡ with_key (listing tree.old.entries) key.now (sought_in accounts.now key.now)) }
+/// What is found under each of some keys.
+fn kept_for(alloc: Global, accounts: &Accounts, keys: &[Key]) -> Result<Vec<Kept>, OutOfMemory>
+    ensures { IfOk result (λ kept. each kept_as kept.items ≡ each (sought_in accounts.now) keys.now) }
 {
-    if let Entry::Vacant(place) = tree.entry(*key)? {
-        place.insert(found_under(alloc, accounts, key)?);
+    let mut kept = Vec::with_capacity(alloc, keys.len())?;
+    for key in keys {
+        kept.push(found_under(alloc, accounts, key)?)?;
     }
-    Ok(())
+    Ok(kept)
 }
 
 impl Programs {
@@ -55,21 +51,20 @@ impl Programs {
     ) -> Result<Programs, OutOfMemory>
         ensures { IfOk result (λ programs. programs ≡ programs_of accounts.now keys.now) }
     {
-        let mut tree = BTreeMap::new(alloc);
-        let asked = keys.as_slice();
-        for key in asked {
-            add_key(&mut tree, alloc, accounts, key)?;
-        }
-        Ok(Programs { tree })
+        let mut asked = Vec::with_capacity(alloc, keys.len())?;
+        asked.extend_from_slice(keys.as_slice())?;
+        sort_keys(&mut asked);
+        let kept = kept_for(alloc, accounts, &asked)?;
+        Ok(Programs { keys: asked, kept })
     }
 
     /// What is kept for a key; for one that was not asked for, that nothing was found.
     pub fn find(&self, key: &Key) -> Found<'_>
         ensures { found_as result ≡ sought self.now key.now }
     {
-        match self.tree.get(key) {
-            Some(kept) => kept.found(),
-            None => Found::NotFound,
+        match self.keys.binary_search(key) {
+            Ok(at) => self.kept[at].found(),
+            Err(_) => Found::NotFound,
         }
     }
 }

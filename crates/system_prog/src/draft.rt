@@ -2,10 +2,10 @@
 ghost use Rattle.std.specs.Prelude.{◌≡◌, ◌+◌, ◌<◌, ◌≤◌, IfOk, OnOk, length, slice_set};
 ghost use Rattle.std.specs.Arc.{arc_value};
 ghost use Rattle.sol_base.specs.Accounts.{accounts_of, lamports_in};
-ghost use Rattle.system_prog.specs.Drafts.{changed, held_account};
+ghost use Rattle.system_prog.specs.Drafts.{changed};
 ghost use Rattle.system_prog.specs.SystemProgram.{account_at};
 
-use sol_base::{Account, Blob, Items, Key, OutOfMemory};
+use sol_base::{Account, Blob, Items, Key, OutOfMemory, share_all};
 use std::alloc::Global;
 use std::marker::Model;
 use std::sync::Arc;
@@ -30,73 +30,46 @@ impl Change {
     }
 }
 
-/// An account that is as it was, or one that was changed.
-#[derive(Drop)]
-enum Held {
-    Shared(Arc<Account>),
-    Own(Account),
-}
-
-impl Held {
-    fn account(&self) -> &Account
-        ensures { result.now ≡ held_account self.now }
-    {
-        match self {
-            Held::Shared(share) => share,
-            Held::Own(account) => account,
+/// Gives one field a new value. An account that others share is copied first.
+fn change_one(alloc: Global, share: &mut Arc<Account>, change: Change) -> Result<(), OutOfMemory>
+    ensures { OnOk result (arc_value share.new ≡ changed change (arc_value share.old)) }
+{
+    match Arc::get_mut(share) {
+        Some(account) => change.apply(account),
+        None => {
+            let mut account = share.try_copy()?;
+            change.apply(&mut account);
+            *share = Arc::new(alloc, account)?;
         }
     }
-
-    fn into_share(self, alloc: Global) -> Result<Arc<Account>, OutOfMemory>
-        ensures { IfOk result (λ share. arc_value share ≡ held_account self) }
-    {
-        match self {
-            Held::Shared(share) => Ok(share),
-            Held::Own(account) => Ok(Arc::new(alloc, account)?),
-        }
-    }
-
-    /// Copies the account where it is still shared.
-    fn change(&mut self, change: Change) -> Result<(), OutOfMemory>
-        ensures { OnOk result (held_account self.new ≡ changed change (held_account self.old)) }
-    {
-        match self {
-            Held::Shared(share) => {
-                let mut account = share.try_copy()?;
-                change.apply(&mut account);
-                *self = Held::Own(account);
-            }
-            Held::Own(account) => change.apply(account),
-        }
-        Ok(())
-    }
+    Ok(())
 }
 
 /// A list of accounts.
 #[derive(Drop)]
 pub(crate) struct Draft {
-    held: Vec<Held>,
+    shares: Vec<Arc<Account>>,
+    alloc: Global,
 }
 
 impl Model for Draft {
     ghost use Rattle.std.specs.Prelude.{List};
     ghost use Rattle.sol_base.specs.declared.account.Account.{Account};
-    ghost use Rattle.system_prog.specs.Drafts.{held_accounts};
+    ghost use Rattle.sol_base.specs.Accounts.{accounts_of};
 
     ghost Value = { List Account };
 
-    ghost view = { λ d. held_accounts d.held.items };
+    ghost view = { λ d. accounts_of d.shares.items };
 }
 
 impl Draft {
     pub(crate) fn new(alloc: Global, accounts: &[Arc<Account>]) -> Result<Draft, OutOfMemory>
         ensures { IfOk result (λ draft. draft ≡ accounts_of accounts.now) }
     {
-        let mut held = Vec::with_capacity(alloc, accounts.len())?;
-        for account in accounts {
-            held.push(Held::Shared(Arc::try_clone(account)?))?;
-        }
-        Ok(Draft { held })
+        Ok(Draft {
+            shares: share_all(alloc, accounts)?.into_vec(),
+            alloc,
+        })
     }
 
     pub(crate) fn account(&self, place: usize) -> &Account
@@ -104,7 +77,7 @@ impl Draft {
         ensures value { result.now ≡ account_at self.now place }
         ensures part { result.now.lamports ≤ lamports_in self.now }
     {
-        self.held[place].account()
+        &self.shares[place]
     }
 
     /// Gives one field of an account a new value.
@@ -117,19 +90,14 @@ impl Draft {
             ≡
             lamports_in self.old + (changed change (account_at self.old place)).lamports) }
     {
-        self.held[place].change(change)?;
-        Ok(())
+        change_one(self.alloc, &mut self.shares[place], change)
     }
 
     /// The accounts, those that were not changed as they were shared.
-    pub(crate) fn finish(self, alloc: Global) -> Result<Items<Arc<Account>>, OutOfMemory>
-        ensures { IfOk result (λ accounts. accounts_of accounts ≡ self) }
+    pub(crate) fn finish(self) -> Items<Arc<Account>>
+        ensures { accounts_of result ≡ self }
     {
-        let Draft { held } = self;
-        let mut accounts = Items::with_capacity(alloc, held.len())?;
-        for one in held {
-            accounts.push(one.into_share(alloc)?)?;
-        }
-        Ok(accounts)
+        let Draft { shares, .. } = self;
+        Items::from_vec(shares)
     }
 }

@@ -74,7 +74,7 @@ fn run_counted(
     }
     let mut draft = Draft::new(alloc, accounts)?;
     frame.run(alloc, &mut draft, instruction)?;
-    Ok(draft.finish(alloc)?)
+    Ok(draft.finish())
 }
 
 /// The account rules, where an instruction ended well.

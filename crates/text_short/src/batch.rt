@@ -11,9 +11,11 @@ ghost use Rattle.json_parts.specs.Texts.{TextGives};
 ghost use Rattle.text_short.specs.Members.{items_of, list_of};
 ghost use Rattle.text_short.specs.ShortForm.{transaction_in, batch_names, short_batch_in};
 
-use crate::members::{key_member, known};
+use crate::members::key_member;
 use crate::transaction::transaction;
-use json_parts::{JsonFault, array, found, in_item, in_member, number_member, value_of_text};
+use json_parts::{
+    JsonFault, array, found, in_item, in_member, known, number_member, value_of_text,
+};
 use serde_json::Value;
 use snapshot_codec::{Batch, batch_bytes};
 use sol_base::{Blob, Hash32, Items, MAX_TRANSACTIONS};
@@ -82,7 +84,7 @@ fn known_of_batch(alloc: Global, value: &Value) -> Result<(), JsonFault>
 /// `loader`, or one with the members `program`, `accounts` and `data`. A key is a text, which
 /// `named_key` reads. No other members are allowed, and `build_wire` builds the transactions.
 #[tactic(auto, unfolding(crate::specs::ShortForm::short_batch_in))]
-pub fn short_batch(alloc: Global, value: &Value, newest: Option<Hash32>) -> Result<Blob, JsonFault>
+fn short_batch(alloc: Global, value: &Value, newest: Option<Hash32>) -> Result<Blob, JsonFault>
     ensures { Gives is_json_memory (λ x. x) result (short_batch_in newest (view value.now)) }
 {
     known_of_batch(alloc, value)?;

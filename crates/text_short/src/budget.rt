@@ -5,15 +5,12 @@ ghost use Rattle.json_parts.specs.Faults.{is_json_memory};
 ghost use Rattle.text_short.specs.BudgetCalls.{budget_in, budget_named, size_named, numbered_in, price_in};
 
 use crate::call::call;
-use crate::members::{known, no_such_instruction, text_member};
-use json_parts::{JsonFault, number_member};
+use crate::members::{no_such_instruction, text_member};
+use json_parts::{JsonFault, known, number_member};
 use serde_json::Value;
 use sol_base::COMPUTE_BUDGET_PROGRAM;
 use std::alloc::Global;
 use tx_build::KeyedInstruction;
-
-/// The greatest number of four bytes.
-const MOST: u64 = 4_294_967_295;
 
 /// The instruction of the compute budget program that the member `budget` names.
 #[tactic(auto, unfolding(crate::specs::BudgetCalls::budget_in))]
@@ -61,7 +58,7 @@ fn with_number(
     ensures { Gives is_json_memory (λ x. x) result (numbered_in tag name.now (view value.now)) }
 {
     known(alloc, value, &["budget", name])?;
-    let number = number_member(alloc, value, name, 0, MOST)?;
+    let number = number_member(alloc, value, name, 0, u64::from(u32::MAX))?;
     let fields: [&[u8]; 2] = [&[tag], &(number as u32).to_le_bytes()];
     Ok(call(alloc, COMPUTE_BUDGET_PROGRAM, &[], &fields)?)
 }

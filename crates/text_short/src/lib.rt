@@ -14,6 +14,6 @@ mod seeded;
 mod system;
 mod transaction;
 
-pub use batch::{short_batch, short_batch_of_json};
+pub use batch::short_batch_of_json;
 pub use laws::built_batches_are_read;
 pub use names::named_key;

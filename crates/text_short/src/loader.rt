@@ -6,18 +6,12 @@ ghost use Rattle.text_short.specs.LoaderCalls.{loader_in, loader_named, init_in,
 
 use crate::accounts::{signs, signs_and_writes, writes};
 use crate::call::call;
-use crate::members::{key_member, known, no_such_instruction, text_member};
-use json_parts::{JsonFault, data_member, number_member};
+use crate::members::{key_member, no_such_instruction, text_member};
+use json_parts::{JsonFault, MAX_COUNT, data_member, known, number_member};
 use serde_json::Value;
 use sol_base::LOADER_PROGRAM;
 use std::alloc::Global;
 use tx_build::KeyedInstruction;
-
-/// The greatest number of four bytes.
-const MOST: u64 = 4_294_967_295;
-
-/// The most bytes of an instruction's input.
-const MOST_BYTES: usize = 65_535;
 
 /// The instruction of the loader that the member `loader` names.
 #[tactic(auto, unfolding(crate::specs::LoaderCalls::loader_in))]
@@ -66,8 +60,8 @@ fn write(alloc: Global, value: &Value) -> Result<KeyedInstruction, JsonFault>
     )?;
     let buffer = key_member(alloc, value, "buffer")?;
     let authority = key_member(alloc, value, "authority")?;
-    let offset = number_member(alloc, value, "offset", 0, MOST)?;
-    let bytes = data_member(alloc, value, "bytes", MOST_BYTES)?;
+    let offset = number_member(alloc, value, "offset", 0, u64::from(u32::MAX))?;
+    let bytes = data_member(alloc, value, "bytes", MAX_COUNT)?;
     let fields: [&[u8]; 4] = [
         &1u32.to_le_bytes(),
         &(offset as u32).to_le_bytes(),

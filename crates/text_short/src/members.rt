@@ -1,16 +1,14 @@
 //! The members of an object in the short form.
-ghost use Rattle.std.specs.Prelude.{◌≡◌, bytes_eq, map};
-ghost use Rattle.std.specs.List.{list_any};
 ghost use Rattle.spec_base.specs.Reading.{Gives};
-ghost use Rattle.serde_json.specs.View.{view, members_view};
+ghost use Rattle.serde_json.specs.View.{view};
 ghost use Rattle.json_parts.specs.Faults.{is_json_memory};
-ghost use Rattle.json_parts.specs.Parts.{names_in, known_in, member_in};
+ghost use Rattle.json_parts.specs.Parts.{member_in};
 ghost use Rattle.text_short.specs.Members.{text_in, key_in, no_such_instruction};
 
 use crate::list::Short;
 use crate::names::named_key;
 use json_parts::{JsonFault, Wanted, found, in_member, refused, refused_member};
-use serde_json::{Map, Value};
+use serde_json::Value;
 use sol_base::Key;
 use std::alloc::Global;
 use tx_build::KeyedInstruction;
@@ -62,38 +60,6 @@ pub(crate) fn key_member(alloc: Global, value: &Value, name: &str) -> Result<Key
 {
     let found = found(alloc, value, name)?;
     in_member(alloc, name, Key::read(alloc, found))
-}
-
-fn has(names: &[&str], name: &str) -> bool
-    ensures { result ≡ list_any (λ one. bytes_eq one.now name.now) names.now }
-{
-    names.iter().any(|one| *one == name)
-}
-
-/// The first member of another name is refused.
-fn check_names(alloc: Global, members: &Map<String, Value>, names: &[&str]) -> Result<(), JsonFault>
-    ensures { Gives is_json_memory (λ x. x) result
-        (names_in (map (λ n. n.now) names.now) (members_view members.now.entries)) }
-{
-    let mut rest = members.iter();
-    while let Some((name, _value)) = rest.next() {
-        if !has(names, name.as_str()) {
-            return Err(refused_member(alloc, name.as_str(), Wanted::Absence));
-        }
-    }
-    Ok(())
-}
-
-/// The value is an object whose members have no other names.
-#[tactic(auto, unfolding(json_parts::specs::Parts::known_in))]
-pub(crate) fn known(alloc: Global, value: &Value, names: &[&str]) -> Result<(), JsonFault>
-    ensures { Gives is_json_memory (λ x. x) result
-        (known_in (map (λ n. n.now) names.now) (view value.now)) }
-{
-    match value.as_object() {
-        Some(members) => check_names(alloc, members, names),
-        None => Err(refused(alloc, Wanted::Object)),
-    }
 }
 
 /// The program that the member names has no instruction of that name.

@@ -10,8 +10,8 @@ ghost use Rattle.text_short.specs.SeededCalls.{create_names, transfer_names, all
 
 use crate::accounts::{signs, signs_and_writes, writes};
 use crate::call::call;
-use crate::members::{key_member, known, no_such_instruction, text_member};
-use json_parts::{JsonFault, number_member};
+use crate::members::{key_member, no_such_instruction, text_member};
+use json_parts::{JsonFault, known, number_member};
 use serde_json::Value;
 use sol_base::{Blob, Key, OutOfMemory, SYSTEM_PROGRAM};
 use std::alloc::Global;

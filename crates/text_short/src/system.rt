@@ -6,9 +6,9 @@ ghost use Rattle.text_short.specs.SystemCalls.{system_in, system_named, create_a
 
 use crate::accounts::{signs_and_writes, writes};
 use crate::call::call;
-use crate::members::{key_member, known, text_member};
+use crate::members::{key_member, text_member};
 use crate::seeded::paid_with_seed;
-use json_parts::{JsonFault, number_member};
+use json_parts::{JsonFault, known, number_member};
 use serde_json::Value;
 use sol_base::SYSTEM_PROGRAM;
 use std::alloc::Global;

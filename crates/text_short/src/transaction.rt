@@ -11,9 +11,12 @@ ghost use Rattle.text_short.specs.ShortForm.{plain_in, version_in, tables_in, ha
 use crate::budget::budget_instruction;
 use crate::list::{Short, list_member};
 use crate::loader::loader_instruction;
-use crate::members::{key_member, known};
+use crate::members::key_member;
 use crate::system::system_instruction;
-use json_parts::{JsonFault, Wanted, data_member, digits, flag_member, found, in_member, refused};
+use json_parts::{
+    JsonFault, MAX_COUNT, Wanted, data_member, digits, flag_member, found, in_member, known,
+    refused,
+};
 use serde_json::Value;
 use sol_base::{Blob, Hash32, Key};
 use std::alloc::Global;
@@ -21,11 +24,8 @@ use tx_build::{
     AccountMeta, BuildFault, Draft, KeyedInstruction, LookupTable, Version, build_wire,
 };
 
-/// The most items of a list, and the most bytes of a field, of a transaction.
-const MOST: usize = 65_535;
-
 /// The most addresses of a lookup table (Solana).
-const MOST_ADDRESSES: usize = 256;
+const MAX_ADDRESSES: usize = 256;
 
 impl Short for AccountMeta {
     ghost use Rattle.text_short.specs.ShortForm.{account_in};
@@ -53,8 +53,8 @@ fn plain_instruction(alloc: Global, value: &Value) -> Result<KeyedInstruction, J
 {
     known(alloc, value, &["program", "accounts", "data"])?;
     let program = key_member(alloc, value, "program")?;
-    let accounts = list_member::<AccountMeta>(alloc, value, "accounts", MOST)?;
-    let input = data_member(alloc, value, "data", MOST)?;
+    let accounts = list_member::<AccountMeta>(alloc, value, "accounts", MAX_COUNT)?;
+    let input = data_member(alloc, value, "data", MAX_COUNT)?;
     Ok(KeyedInstruction {
         program,
         accounts,
@@ -90,7 +90,7 @@ impl Short for LookupTable {
     fn read(alloc: Global, value: &Value) -> Result<LookupTable, JsonFault> {
         known(alloc, value, &["table", "addresses"])?;
         let key = key_member(alloc, value, "table")?;
-        let addresses = list_member::<Key>(alloc, value, "addresses", MOST_ADDRESSES)?;
+        let addresses = list_member::<Key>(alloc, value, "addresses", MAX_ADDRESSES)?;
         Ok(LookupTable { key, addresses })
     }
 }
@@ -99,7 +99,7 @@ impl Short for LookupTable {
 fn tables(alloc: Global, value: &Value) -> Result<Version, JsonFault>
     ensures { Gives is_json_memory (λ x. x) result (tables_in (view value.now)) }
 {
-    let tables = list_member::<LookupTable>(alloc, value, "lookups", MOST)?;
+    let tables = list_member::<LookupTable>(alloc, value, "lookups", MAX_COUNT)?;
     Ok(Version::Zero { tables })
 }
 
@@ -181,7 +181,7 @@ fn draft(alloc: Global, value: &Value, newest: Option<Hash32>) -> Result<Draft, 
     known_of_draft(alloc, value)?;
     let payer = key_member(alloc, value, "payer")?;
     let blockhash = blockhash_member(alloc, value, newest)?;
-    let instructions = list_member::<KeyedInstruction>(alloc, value, "instructions", MOST)?;
+    let instructions = list_member::<KeyedInstruction>(alloc, value, "instructions", MAX_COUNT)?;
     let version = version(alloc, value)?;
     Ok(Draft {
         version,

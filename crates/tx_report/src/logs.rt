@@ -53,12 +53,24 @@ impl Logs {
         ensures ok { OnOk result (self.new ≡ with_line self.old line.now) }
         ensures err { OnErr result (self.new ≡ self.old) }
     {
+        if !self.truncated {
+            self.add_line(Blob::from_slice(self.alloc, line)?)?;
+        }
+        Ok(())
+    }
+
+    /// The same, where the line is handed over.
+    pub fn add_line(&mut self, line: Blob) -> Result<(), OutOfMemory>
+        ensures ok { OnOk result (self.new ≡ with_line self.old line) }
+        ensures err { OnErr result (self.new ≡ self.old) }
+    {
         if self.truncated {
             return Ok(());
         }
-        if line.len() <= MAX_LOG_BYTES - self.used {
-            self.lines.push(Blob::from_slice(self.alloc, line)?)?;
-            self.used += line.len();
+        let len = line.len();
+        if len <= MAX_LOG_BYTES - self.used {
+            self.lines.push(line)?;
+            self.used += len;
         } else {
             self.lines.push(Blob::from_slice(self.alloc, &TRUNCATED)?)?;
             self.truncated = true;

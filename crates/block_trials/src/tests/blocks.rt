@@ -1,6 +1,7 @@
 //! Blocks on two lanes: lanes at once, no barrier, a buffer that becomes a program, a list that
-//! halts, and a wire that was read before.
+//! halts, a wire that was read before, and a record.
 ghost use Rattle.std.specs.Prelude.{◌≡◌, ◌<◌, ◌≤◌, IfOk, length};
+ghost use Rattle.sol_base.specs.Limits.{max_lanes};
 ghost use Rattle.snapshot_codec.specs.Snapshot.{IsReadable};
 
 use crate::tests::gates::KeepingGate;
@@ -9,8 +10,8 @@ use crate::tests::inputs::{
     append_transfer, input_of, joined,
 };
 use bank_lanes::{Gate, OpenGate};
-use block_record::{Block, Entry, Listed};
-use block_run::{BlockResult, run_block, run_listed, run_parsed};
+use block_record::{Block, Entry, Listed, read_record};
+use block_run::{BlockResult, Recorded, record_parsed, run_block, run_listed, run_parsed};
 use message_codec::parse;
 use snapshot_codec::{Batch, Prefix, Snapshot, read_batch, read_snapshot};
 use sol_base::{Account, Blob, Hash32, Items, Key, OutOfMemory};
@@ -291,5 +292,44 @@ fn is_run_read<R: Threads + Wait + Sync>(rt: &R, alloc: Global) -> Result<bool, 
 #[test]
 fn a_wire_that_was_read_before(rt: HostRuntime) -> Result<(), Fail> {
     assert!(rt; is_run_read(&rt, rt.alloc())?);
+    Ok(())
+}
+
+/// The same with the block as its record.
+fn run_recorded<R: Threads + Wait + Sync>(
+    rt: &R,
+    alloc: Global,
+    lanes: u32,
+) -> Result<Recorded, Fail>
+    requires { (1 ≤ lanes) × (lanes ≤ max_lanes) }
+{
+    let wire = wire(alloc)?;
+    let mut parsed = Items::new(alloc);
+    parsed.push(parse(alloc, wire.as_slice())?)?;
+    let mut wires = Items::new(alloc);
+    wires.push(wire)?;
+    let mut snapshot = start(alloc)?;
+    snapshot.slot = 7;
+    let batch = Batch {
+        slot: 8,
+        collector: Key([0xc0; 32]),
+        wires,
+    };
+    Ok(record_parsed(rt, alloc, snapshot, &batch, parsed, lanes, &OpenGate)?)
+}
+
+/// Whether that transfer alone stands in the record.
+fn is_recorded<R: Threads + Wait + Sync>(rt: &R, alloc: Global, lanes: u32) -> Result<bool, Fail>
+    requires { (1 ≤ lanes) × (lanes ≤ max_lanes) }
+{
+    let told = run_recorded(rt, alloc, lanes)?;
+    let block = read_record(alloc, told.record.as_slice())?;
+    Ok(block.entries.len() == 1 && lamports_of(&told.after, 0x11) == 1_000_000_000)
+}
+
+#[test]
+fn a_record_while_its_block_runs(rt: HostRuntime) -> Result<(), Fail> {
+    assert!(rt; is_recorded(&rt, rt.alloc(), 1)?);
+    assert!(rt; is_recorded(&rt, rt.alloc(), 2)?);
     Ok(())
 }

@@ -1,7 +1,8 @@
 //! A desk of two lanes that is driven by a list of steps.
-ghost use Rattle.std.specs.Prelude.{◌≡◌, None, Some};
+ghost use Rattle.std.specs.Prelude.{◌≡◌, None};
 ghost use Rattle.bank_law.specs.History.{holds};
 ghost use Rattle.bank_lanes.specs.Passes.{IsIdle};
+ghost use Rattle.bank_shared.specs.Face.{desk_origin, IsPassOf, IsReaderOf, view_of};
 ghost use Rattle.lane_trials.specs.Held.{Holds, ReturnsOnce};
 
 use crate::tests::desk::{Answer, Lane, finds_end, make_step, second_of, settled};
@@ -47,11 +48,9 @@ fn tells<R: Wait>(
     range: (u32, u32),
     units: &[u64],
 ) -> bool
-    requires trial { desk.now.table.shared.key.value.origin.told ≡ trial.now.locks }
-    requires table { reader.old.seat.table_id ≡ desk.now.table.shared.table_id }
-    requires desk { reader.old.seat.me.0.origin ≡ Some desk.now.table.shared.key.value }
-    ensures table { reader.new.seat.table_id ≡ desk.now.table.shared.table_id }
-    ensures desk { reader.new.seat.me.0.origin ≡ Some desk.now.table.shared.key.value }
+    requires trial { (desk_origin desk.now).told ≡ trial.now.locks }
+    requires reader { IsReaderOf desk.now reader.old }
+    ensures reader { IsReaderOf desk.now reader.new }
 {
     let (from, most) = range;
     let count = trial.count();
@@ -73,21 +72,19 @@ fn follow_row<R: Wait>(
     lane: TrialLane,
     row: &Row,
 ) -> (TrialLane, bool)
-    requires told { desk.now.table.shared.key.value.origin.told ≡ trial.now.locks }
-    requires reader { reader.old.seat.table_id ≡ desk.now.table.shared.table_id }
-    requires origin { reader.old.seat.me.0.origin ≡ Some desk.now.table.shared.key.value }
-    requires lane { ⟦<SharedDesk<Trial> as Desk<Trial>>⟧.is_of desk.now lane.pass }
-    requires lane_loan { Holds lane.loan desk.now.table.shared.key.value.origin
-        (⟦<SharedDesk<Trial> as Desk<Trial>>⟧.view lane.pass) }
+    requires told { (desk_origin desk.now).told ≡ trial.now.locks }
+    requires reader { IsReaderOf desk.now reader.old }
+    requires lane { IsPassOf desk.now lane.pass }
+    requires lane_loan { Holds lane.loan (desk_origin desk.now)
+        (view_of lane.pass) }
     requires lane_once { ReturnsOnce lane.gave_back
-        (⟦<SharedDesk<Trial> as Desk<Trial>>⟧.view lane.pass) }
-    ensures reader { reader.new.seat.table_id ≡ desk.now.table.shared.table_id }
-    ensures origin { reader.new.seat.me.0.origin ≡ Some desk.now.table.shared.key.value }
-    ensures lane { ⟦<SharedDesk<Trial> as Desk<Trial>>⟧.is_of desk.now result.0.pass }
-    ensures lane_loan { Holds result.0.loan desk.now.table.shared.key.value.origin
-        (⟦<SharedDesk<Trial> as Desk<Trial>>⟧.view result.0.pass) }
+        (view_of lane.pass) }
+    ensures reader { IsReaderOf desk.now reader.new }
+    ensures lane { IsPassOf desk.now result.0.pass }
+    ensures lane_loan { Holds result.0.loan (desk_origin desk.now)
+        (view_of result.0.pass) }
     ensures lane_once { ReturnsOnce result.0.gave_back
-        (⟦<SharedDesk<Trial> as Desk<Trial>>⟧.view result.0.pass) }
+        (view_of result.0.pass) }
 {
     let (on, answer) = make_step::<Trial, SharedDesk<Trial>, R>(rt, desk, trial, lane, row.1);
     let so = match row.2 {
@@ -108,21 +105,20 @@ fn follow_two<R: Wait>(
     lanes: (TrialLane, TrialLane),
     rows: &[Row],
 ) -> (Pass<Trial>, bool)
-    requires told { desk.now.table.shared.key.value.origin.told ≡ trial.now.locks }
-    requires reader { reader.old.seat.table_id ≡ desk.now.table.shared.table_id }
-    requires origin { reader.old.seat.me.0.origin ≡ Some desk.now.table.shared.key.value }
-    requires first { ⟦<SharedDesk<Trial> as Desk<Trial>>⟧.is_of desk.now lanes.0.pass }
-    requires first_loan { Holds lanes.0.loan desk.now.table.shared.key.value.origin
-        (⟦<SharedDesk<Trial> as Desk<Trial>>⟧.view lanes.0.pass) }
+    requires told { (desk_origin desk.now).told ≡ trial.now.locks }
+    requires reader { IsReaderOf desk.now reader.old }
+    requires first { IsPassOf desk.now lanes.0.pass }
+    requires first_loan { Holds lanes.0.loan (desk_origin desk.now)
+        (view_of lanes.0.pass) }
     requires first_once { ReturnsOnce lanes.0.gave_back
-        (⟦<SharedDesk<Trial> as Desk<Trial>>⟧.view lanes.0.pass) }
-    requires second { ⟦<SharedDesk<Trial> as Desk<Trial>>⟧.is_of desk.now lanes.1.pass }
-    requires second_loan { Holds lanes.1.loan desk.now.table.shared.key.value.origin
-        (⟦<SharedDesk<Trial> as Desk<Trial>>⟧.view lanes.1.pass) }
+        (view_of lanes.0.pass) }
+    requires second { IsPassOf desk.now lanes.1.pass }
+    requires second_loan { Holds lanes.1.loan (desk_origin desk.now)
+        (view_of lanes.1.pass) }
     requires second_once { ReturnsOnce lanes.1.gave_back
-        (⟦<SharedDesk<Trial> as Desk<Trial>>⟧.view lanes.1.pass) }
-    ensures desk { ⟦<SharedDesk<Trial> as Desk<Trial>>⟧.is_of desk.now result.0 }
-    ensures free { holds (⟦<SharedDesk<Trial> as Desk<Trial>>⟧.view result.0).mine ≡ None }
+        (view_of lanes.1.pass) }
+    ensures desk { IsPassOf desk.now result.0 }
+    ensures free { holds (view_of result.0).mine ≡ None }
 {
     let (mut first, mut second) = lanes;
     let mut right = true;
@@ -152,11 +148,11 @@ fn follow_all<R: Wait>(
     row: &Row,
     rows: &[Row],
 ) -> (Pass<Trial>, bool)
-    requires told { desk.now.table.shared.key.value.origin.told ≡ trial.now.locks }
-    requires desk { ⟦<SharedDesk<Trial> as Desk<Trial>>⟧.is_of desk.now pass }
-    requires idle { IsIdle (⟦<SharedDesk<Trial> as Desk<Trial>>⟧.view pass) }
-    ensures desk { ⟦<SharedDesk<Trial> as Desk<Trial>>⟧.is_of desk.now result.0 }
-    ensures free { holds (⟦<SharedDesk<Trial> as Desk<Trial>>⟧.view result.0).mine ≡ None }
+    requires told { (desk_origin desk.now).told ≡ trial.now.locks }
+    requires desk { IsPassOf desk.now pass }
+    requires idle { IsIdle (view_of pass) }
+    ensures desk { IsPassOf desk.now result.0 }
+    ensures free { holds (view_of result.0).mine ≡ None }
 {
     let mut reader = desk.reader(&mut pass);
     let lane = Lane {
@@ -189,9 +185,9 @@ fn end_of<R: Wait>(
     mut pass: Pass<Trial>,
     trial: &Trial,
 ) -> Result<Sealed, Fail>
-    requires told { desk.table.shared.key.value.origin.told ≡ trial.now.locks }
-    requires desk { ⟦<SharedDesk<Trial> as Desk<Trial>>⟧.is_of desk pass }
-    requires free { holds (⟦<SharedDesk<Trial> as Desk<Trial>>⟧.view pass).mine ≡ None }
+    requires told { (desk_origin desk).told ≡ trial.now.locks }
+    requires desk { IsPassOf desk pass }
+    requires free { holds (view_of pass).mine ≡ None }
 {
     let done = finds_end::<Trial, SharedDesk<Trial>, R>(rt, &desk, &mut pass, trial);
     let core = desk.close(rt, pass);

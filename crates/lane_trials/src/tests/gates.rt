@@ -110,3 +110,39 @@ impl Gate for PairingGate {
         }
     }
 }
+
+/// Keeps each position until so many have passed.
+#[derive(Drop)]
+pub struct MeetingGate {
+    many: u64,
+    passed: AtomicU64,
+    missed: AtomicU64,
+}
+
+impl MeetingGate {
+    pub fn new(many: u64) -> MeetingGate {
+        MeetingGate {
+            many,
+            passed: AtomicU64::new(0),
+            missed: AtomicU64::new(0),
+        }
+    }
+
+    /// All of them met, before anybody's turns were over.
+    pub fn all_met(&self) -> bool {
+        self.passed.load(Ordering::SeqCst) >= self.many && self.missed.load(Ordering::SeqCst) == 0
+    }
+}
+
+impl Gate for MeetingGate {
+    fn pass(&self, _lane: u32, _position: u32) {
+        self.passed.fetch_add(1, Ordering::SeqCst);
+        for _ in 0..TURNS {
+            if self.passed.load(Ordering::SeqCst) >= self.many {
+                return;
+            }
+            thread::yield_now();
+        }
+        self.missed.store(1, Ordering::SeqCst);
+    }
+}

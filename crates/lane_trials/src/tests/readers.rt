@@ -1,6 +1,6 @@
 //! A desk of a trial, and what its reader is told.
-ghost use Rattle.std.specs.Prelude.{◌≡◌, ◌+◌, ◌≤◌, IfOk, Some, length};
-ghost use Rattle.bank_shared.specs.Rule.{first_view};
+ghost use Rattle.std.specs.Prelude.{◌≡◌, ◌+◌, ◌≤◌, IfOk, length};
+ghost use Rattle.bank_shared.specs.Face.{desk_origin, first_pass, IsPassOf, IsReaderOf, view_of};
 
 use crate::tests::trial::Trial;
 use account_store::Accounts;
@@ -17,12 +17,9 @@ pub fn desk_of_two(
     accounts: Accounts,
     trial: &Trial,
 ) -> Result<(SharedDesk<Trial>, Pass<Trial>), OutOfMemory>
-    ensures told { IfOk result
-        (λ made. made.0.table.shared.key.value.origin.told ≡ trial.now.locks) }
-    ensures table { IfOk result
-        (λ made. made.1.seat.table_id ≡ made.0.table.shared.table_id) }
-    ensures view { IfOk result
-        (λ made. made.1.seat.me.0 ≡ first_view made.0.table.shared.key.value) }
+    ensures told { IfOk result (λ made. (desk_origin made.0).told ≡ trial.now.locks) }
+    ensures pass { IfOk result (λ made. IsPassOf made.0 made.1) }
+    ensures view { IfOk result (λ made. view_of made.1 ≡ first_pass) }
 {
     let core = Core::new(alloc, accounts, trial, 2)?;
     SharedDesk::new(alloc, core)
@@ -37,12 +34,10 @@ pub fn told<R: Wait>(
     from: u32,
     most: u32,
 ) -> Result<Items<Outcome>, OutOfMemory>
-    requires trial { desk.now.table.shared.key.value.origin.told ≡ trial.now.locks }
+    requires trial { (desk_origin desk.now).told ≡ trial.now.locks }
     requires within { from + most ≤ length trial.now.locks }
-    requires table { reader.old.seat.table_id ≡ desk.now.table.shared.table_id }
-    requires desk { reader.old.seat.me.0.origin ≡ Some desk.now.table.shared.key.value }
-    ensures table { reader.new.seat.table_id ≡ desk.now.table.shared.table_id }
-    ensures desk { reader.new.seat.me.0.origin ≡ Some desk.now.table.shared.key.value }
+    requires reader { IsReaderOf desk.now reader.old }
+    ensures reader { IsReaderOf desk.now reader.new }
 {
     desk.outcomes_from(rt, reader, from, most)
 }

@@ -8,15 +8,16 @@ use ledger_store::{
 };
 use std::alloc::Global;
 use std::test::Fail;
+use std::thread::Threads;
 
 /// Whether each chain of up to nine blocks opens as it was made.
-fn grows(alloc: Global, every: u32) -> Result<bool, Fail>
+fn grows<T: Threads>(threads: &T, alloc: Global, every: u32) -> Result<bool, Fail>
     requires { 1 ≤ every }
 {
-    let mut folder = chain(alloc, every, 0)?;
+    let mut folder = chain(threads, alloc, every, 0)?;
     for before in 0..9 {
-        add_block(alloc, &mut folder, before + 1)??;
-        let ledger = open_ledger(alloc, &mut folder)?;
+        add_block(threads, alloc, &mut folder, before + 1)??;
+        let ledger = open_ledger(threads, alloc, &mut folder)?;
         if !stands_at(alloc, &ledger, before + 1)? {
             return Ok(false);
         }
@@ -26,10 +27,10 @@ fn grows(alloc: Global, every: u32) -> Result<bool, Fail>
 
 #[test]
 fn a_chain_opens_as_it_was_made(rt: HostRuntime) -> Result<(), Fail> {
-    assert!(rt; grows(rt.alloc(), 1)?);
-    assert!(rt; grows(rt.alloc(), 2)?);
-    assert!(rt; grows(rt.alloc(), 3)?);
-    assert!(rt; grows(rt.alloc(), 16)?);
+    assert!(rt; grows(&rt, rt.alloc(), 1)?);
+    assert!(rt; grows(&rt, rt.alloc(), 2)?);
+    assert!(rt; grows(&rt, rt.alloc(), 3)?);
+    assert!(rt; grows(&rt, rt.alloc(), 16)?);
     Ok(())
 }
 
@@ -57,7 +58,7 @@ fn is_read(alloc: Global, folder: &mut MemFolder, head: &Head, before: u8) -> Re
 #[test]
 fn each_state_and_block_is_read(rt: HostRuntime) -> Result<(), Fail> {
     let alloc = rt.alloc();
-    let mut folder = chain(alloc, 4, 10)?;
+    let mut folder = chain(&rt, alloc, 4, 10)?;
     let head = read_head(&mut folder)?;
     for before in 0..10 {
         assert!(rt; is_read(alloc, &mut folder, &head, before)?);
@@ -68,9 +69,9 @@ fn each_state_and_block_is_read(rt: HostRuntime) -> Result<(), Fail> {
 #[test]
 fn a_slot_that_is_not_later_is_refused(rt: HostRuntime) -> Result<(), Fail> {
     let alloc = rt.alloc();
-    let mut folder = chain(alloc, 4, 3)?;
+    let mut folder = chain(&rt, alloc, 4, 3)?;
     for number in 0..4 {
-        let added = add_at(alloc, &mut folder, slot_of(number), 4)?;
+        let added = add_at(&rt, alloc, &mut folder, slot_of(number), 4)?;
         assert!(rt; added == Err(LedgerFault::SlotNotLater));
     }
     assert!(rt; begin(alloc, &mut folder, 4)? == Err(LedgerFault::Exists));

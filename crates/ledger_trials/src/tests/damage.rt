@@ -7,6 +7,7 @@ use ledger_store::{Head, LedgerFault, open_ledger, read_block, read_head, read_s
 use sol_base::{Blob, OutOfMemory};
 use std::alloc::Global;
 use std::test::Fail;
+use std::thread::Threads;
 
 /// The bytes with the one at a place changed, or without it and all behind it.
 fn damaged(alloc: Global, bytes: &[u8], at: usize, cut: bool) -> Result<Blob, OutOfMemory> {
@@ -22,59 +23,70 @@ fn damaged(alloc: Global, bytes: &[u8], at: usize, cut: bool) -> Result<Blob, Ou
 }
 
 /// What reading the file's part of the chain refuses.
-fn refusal(alloc: Global, folder: &mut MemFolder, name: Name) -> Option<LedgerFault> {
+fn refusal<T: Threads>(
+    threads: &T,
+    alloc: Global,
+    folder: &mut MemFolder,
+    name: Name,
+) -> Option<LedgerFault> {
     match name {
         Name::Block { slot } => read_block(alloc, folder, slot).err(),
-        _ => open_ledger(alloc, folder).err(),
+        _ => open_ledger(threads, alloc, folder).err(),
     }
 }
 
 /// Whether it is refused as damaged, by its name.
-fn is_named(alloc: Global, folder: &mut MemFolder, wanted: Name) -> bool {
-    match refusal(alloc, folder, wanted) {
+fn is_named<T: Threads>(threads: &T, alloc: Global, folder: &mut MemFolder, wanted: Name) -> bool {
+    match refusal(threads, alloc, folder, wanted) {
         Some(LedgerFault::Damaged { name, .. }) => name == wanted,
         _ => false,
     }
 }
 
 /// Whether each cut and each changed byte of the file is refused by its name.
-fn is_told(alloc: Global, folder: &mut MemFolder, name: Name) -> Result<bool, OutOfMemory> {
+fn is_told<T: Threads>(
+    threads: &T,
+    alloc: Global,
+    folder: &mut MemFolder,
+    name: Name,
+) -> Result<bool, OutOfMemory> {
     let Some(bytes) = folder.bytes(name)? else {
         return Ok(false);
     };
     for at in 0..bytes.len() {
         for cut in [true, false] {
             folder.put(name, damaged(alloc, bytes.as_slice(), at, cut)?.as_slice())?;
-            if !is_named(alloc, folder, name) {
+            if !is_named(threads, alloc, folder, name) {
                 return Ok(false);
             }
         }
     }
     folder.put(name, bytes.as_slice())?;
-    Ok(refusal(alloc, folder, name).is_none())
+    Ok(refusal(threads, alloc, folder, name).is_none())
 }
 
 #[test]
 fn a_damaged_file_is_named(rt: HostRuntime) -> Result<(), Fail> {
     let alloc = rt.alloc();
-    let mut folder = chain(alloc, 3, 4)?;
-    assert!(rt; is_told(alloc, &mut folder, Name::Chain)?);
-    assert!(rt; is_told(alloc, &mut folder, Name::State { slot: slot_of(3) })?);
-    assert!(rt; is_told(alloc, &mut folder, Name::Changes { slot: slot_of(4) })?);
-    assert!(rt; is_told(alloc, &mut folder, Name::Block { slot: slot_of(4) })?);
+    let mut folder = chain(&rt, alloc, 3, 4)?;
+    assert!(rt; is_told(&rt, alloc, &mut folder, Name::Chain)?);
+    assert!(rt; is_told(&rt, alloc, &mut folder, Name::State { slot: slot_of(3) })?);
+    assert!(rt; is_told(&rt, alloc, &mut folder, Name::Changes { slot: slot_of(4) })?);
+    assert!(rt; is_told(&rt, alloc, &mut folder, Name::Block { slot: slot_of(4) })?);
     Ok(())
 }
 
 #[test]
 fn a_missing_file_is_named(rt: HostRuntime) -> Result<(), Fail> {
     let alloc = rt.alloc();
-    let mut folder = chain(alloc, 3, 4)?;
+    let mut folder = chain(&rt, alloc, 3, 4)?;
     let name = Name::Changes { slot: slot_of(4) };
     folder.remove(name);
-    assert!(rt; open_ledger(alloc, &mut folder).err() == Some(LedgerFault::Missing { name }));
+    assert!(rt; open_ledger(&rt, alloc, &mut folder).err() == Some(LedgerFault::Missing { name }));
     folder.remove(Name::Chain);
     assert!(rt;
-        open_ledger(alloc, &mut folder).err() == Some(LedgerFault::Missing { name: Name::Chain })
+        open_ledger(&rt, alloc, &mut folder).err()
+            == Some(LedgerFault::Missing { name: Name::Chain })
     );
     Ok(())
 }
@@ -101,8 +113,8 @@ fn is_right(
 
 /// Whether each state of a chain of nine blocks that lost the file of one of them is refused, or is
 /// what it was.
-fn gap_is_told(alloc: Global, lost: u8) -> Result<bool, Fail> {
-    let mut folder = chain(alloc, 4, 9)?;
+fn gap_is_told<T: Threads>(threads: &T, alloc: Global, lost: u8) -> Result<bool, Fail> {
+    let mut folder = chain(threads, alloc, 4, 9)?;
     folder.remove(Name::Block {
         slot: slot_of(lost),
     });
@@ -119,7 +131,7 @@ fn gap_is_told(alloc: Global, lost: u8) -> Result<bool, Fail> {
 #[test]
 fn a_lost_block_is_told(rt: HostRuntime) -> Result<(), Fail> {
     for lost in 1..9 {
-        assert!(rt; gap_is_told(rt.alloc(), lost)?);
+        assert!(rt; gap_is_told(&rt, rt.alloc(), lost)?);
     }
     Ok(())
 }

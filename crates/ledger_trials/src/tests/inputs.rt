@@ -12,6 +12,7 @@ use snapshot_codec::{
 use sol_base::{Blob, OutOfMemory};
 use std::alloc::Global;
 use std::test::Fail;
+use std::thread::Threads;
 
 /// What follows the slot in a snapshot with the first limits.
 const FIRST_LIMITS: [u8; 19] = [
@@ -96,29 +97,32 @@ fn block(alloc: Global, slot: u64, number: u8) -> Result<Block, Fail>
 }
 
 /// Adds the block of a number to the chain of a folder, at the slot.
-pub(crate) fn add_at<F: Folder>(
+pub(crate) fn add_at<T: Threads, F: Folder>(
+    threads: &T,
     alloc: Global,
     folder: &mut F,
     slot: u64,
     number: u8,
 ) -> Result<Result<(), LedgerFault>, Fail> {
-    let mut ledger = open_ledger(alloc, folder)?;
+    let mut ledger = open_ledger(threads, alloc, folder)?;
     let block = block(alloc, slot, number)?;
     let after = snapshot(alloc, slot, number)?;
     if follows(&ledger.newest, &block, &after) {
-        return Ok(add(alloc, folder, &mut ledger, &block, after, u64::from(number)));
+        let micros = u64::from(number);
+        return Ok(add(threads, alloc, folder, &mut ledger, &block, after, micros));
     }
     let nothing: Option<Result<(), LedgerFault>> = None;
     Ok(nothing.ok_or("the block does not follow")?)
 }
 
 /// The same at its own slot.
-pub(crate) fn add_block<F: Folder>(
+pub(crate) fn add_block<T: Threads, F: Folder>(
+    threads: &T,
     alloc: Global,
     folder: &mut F,
     number: u8,
 ) -> Result<Result<(), LedgerFault>, Fail> {
-    add_at(alloc, folder, slot_of(number), number)
+    add_at(threads, alloc, folder, slot_of(number), number)
 }
 
 /// Begins a chain.
@@ -133,13 +137,18 @@ pub(crate) fn begin<F: Folder>(
 }
 
 /// A chain of so many blocks.
-pub(crate) fn chain(alloc: Global, every: u32, blocks: u8) -> Result<MemFolder, Fail>
+pub(crate) fn chain<T: Threads>(
+    threads: &T,
+    alloc: Global,
+    every: u32,
+    blocks: u8,
+) -> Result<MemFolder, Fail>
     requires { 1 ≤ every }
 {
     let mut folder = MemFolder::new(alloc, 1000);
     begin(alloc, &mut folder, every)??;
     for before in 0..blocks {
-        add_block(alloc, &mut folder, before + 1)??;
+        add_block(threads, alloc, &mut folder, before + 1)??;
     }
     Ok(folder)
 }

@@ -5,15 +5,20 @@ use ledger_store::{LedgerFault, open_ledger};
 use std::fs;
 use std::rt::Files;
 use std::test::Fail;
+use std::thread::Threads;
 
 /// Where the chain stands while the test runs.
 const PATH: &str = "ledger_trial";
 
 /// Adds a block to the chain of the folder, and answers whether it then stands.
-fn grows<R: Files + AllocGlobal + Clone + Drop>(rt: &R, number: u8) -> Result<bool, Fail> {
+fn grows<T: Threads, R: Files + AllocGlobal + Clone + Drop>(
+    threads: &T,
+    rt: &R,
+    number: u8,
+) -> Result<bool, Fail> {
     let alloc = rt.alloc();
-    add_block(alloc, &mut StdFolder::new(rt, PATH)?, number)??;
-    let ledger = open_ledger(alloc, &mut StdFolder::new(rt, PATH)?)?;
+    add_block(threads, alloc, &mut StdFolder::new(rt, PATH)?, number)??;
+    let ledger = open_ledger(threads, alloc, &mut StdFolder::new(rt, PATH)?)?;
     stands_at(alloc, &ledger, number)
 }
 
@@ -27,7 +32,7 @@ fn a_chain_stands_in_files(rt: HostRuntime) -> Result<(), Fail> {
     let again = begin(alloc, &mut StdFolder::new(&rt, PATH)?, 2)?;
     assert!(rt; again == Err(LedgerFault::Exists));
     for before in 0..5 {
-        assert!(rt; grows(&rt, before + 1)?);
+        assert!(rt; grows(&rt, &rt, before + 1)?);
     }
     drop(lock);
     drop(lock_folder(&rt, PATH)?);

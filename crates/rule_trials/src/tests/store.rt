@@ -165,3 +165,49 @@ fn crosses_threads<T: Send + Sync>(_value: &T) {}
 fn a_store_may_cross_threads(rt: HostRuntime) {
     crosses_threads(&Accounts::new(rt.alloc()));
 }
+
+/// Keys, each with the lamports of its account, or 0 where it is absent.
+const TAKEN: [(&[u8], &[u64]); 6] = [
+    (&[], &[]),
+    (&[1, 2, 3, 4, 5, 6], &[0, 20, 0, 40, 0, 60]),
+    (&[4], &[40]),
+    (&[6, 5, 2], &[60, 0, 20]),
+    (&[2, 4, 6], &[20, 40, 60]),
+    (&[7, 8], &[0, 0]),
+];
+
+/// Three accounts.
+fn three(alloc: Global) -> Result<Accounts, OutOfMemory> {
+    let mut entries = Vec::new(alloc);
+    for byte in [2, 4, 6] {
+        let account = account(alloc, 10 * u64::from(byte))?;
+        entries.push((Key([byte; 32]), Arc::new(alloc, account)?))?;
+    }
+    Accounts::new(alloc).put_in(alloc, entries)
+}
+
+/// The lamports of accounts that were taken out.
+fn lamports_in(alloc: Global, accounts: &[Option<Arc<Account>>]) -> Result<Vec<u64>, OutOfMemory> {
+    let mut all = Vec::new(alloc);
+    for account in accounts {
+        all.push(account.as_ref().map_or(0, |account| account.lamports))?;
+    }
+    Ok(all)
+}
+
+#[test]
+fn accounts_leave_with_their_keys(rt: HostRuntime) -> Result<(), Fail> {
+    let alloc = rt.alloc();
+    for (bytes, lamports) in TAKEN {
+        let mut keys = Vec::new(alloc);
+        for byte in bytes {
+            keys.push(Key([*byte; 32]))?;
+        }
+        let out = three(alloc)?.take_out(alloc, &keys)?;
+        let taken = lamports_in(alloc, &out.accounts)?;
+        assert!(rt; taken.as_slice() == lamports);
+        let sum: u64 = taken.iter().sum();
+        assert!(rt; out.rest.total() + sum == 120);
+    }
+    Ok(())
+}

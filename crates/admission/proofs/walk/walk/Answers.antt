@@ -1,14 +1,17 @@
-use Rattle.std.proofs.Common.{◌<◌, ◌∙◌, length, refl, set, sym, arith, Some}
+use Rattle.std.proofs.Common.{◌+◌, ◌<◌, ◌∙◌, List, Option, IfNone, length, refl, set, sym, subst, arith, Some}
+use Rattle.std.specs.Prelude.{◌^◌}
 use Rattle.std.specs.Vec.Iter.{into_iter_items}
 use Rattle.account_store.proofs.SortedLaws.{next-of-all}
 use Rattle.admission.specs.declared.chosen.Chosen.{Chosen}
+use Rattle.admission.specs.declared.refusal.Refusal.{Refusal}
+use Rattle.admission.specs.Admission.{units_of}
 use Rattle.admission.proofs.WalkLaws.{AreWalked, none_late, same_count, split, walked_late}
 use Rattle.admission.proofs.walk.walk.Goals as goal
 
 pub loop-one-init : goal.loop-one-init
 loop-one-init c = record {
   all = c.into_iter-one-iterator.ensures.into_iter_gives.0;
-  ordered = c.new-order.ensures;
+  ordered = c.in_ok-order.ensures;
   caused = none_late c.args.causes.now.items;
 }
 
@@ -24,8 +27,8 @@ index_mut-requires c =
     let below = next-of-all (λ (one : Chosen). one.position < length first) c.loop-one.yielded more line c.in-Some.one c.requires.places whole in
     omega (arith, below, count)
 
-pub loop-one-preserved-in-Some-late : goal.loop-one-preserved-in-Some-late
-loop-one-preserved-in-Some-late c =
+pub loop-one-preserved-in-Some-branch-3 : goal.loop-one-preserved-in-Some-branch-3
+loop-one-preserved-in-Some-branch-3 c =
     let line = c.args.line.items in
     let first = c.args.causes.now.items in
     let left = into_iter_items c.loop-one.one-iterator in
@@ -34,8 +37,10 @@ loop-one-preserved-in-Some-late c =
     let whole = split c.args.limits.now line c.loop-one.yielded left more c.loop-one.order first c.loop-one.causes.items so_far c.in-Some.one c.in-Some.ensures.steps.0 in
     let below = next-of-all (λ (one : Chosen). one.position < length first) c.loop-one.yielded more line c.in-Some.one c.requires.places whole in
     let next = walked_late c.args.limits.now line c.loop-one.yielded left more c.loop-one.order first c.loop-one.causes.items so_far c.in-Some.one c.in-Some.ensures.steps.0
-    c.in-Some-late.cause (set c.loop-one.causes.items c.in-Some.one.position (Some c.in-Some-late.cause)) (sym c.late.ensures.exact ∙ c.in-Some-late.is) below refl in
-    record { all = next.all; ordered = next.ordered; caused = next.caused }
+    c.in-Some-2.cause (set c.loop-one.causes.items c.in-Some.one.position (Some c.in-Some-2.cause)) (sym c.in_ok-cause.ensures.exact ∙ c.in-Some-2.is) below refl in
+    record { all = next.all; ordered = c.in_ok-cause.ensures.same ∙ next.ordered; caused = next.caused }
 
 pub push-requires-clause-fits : goal.push-requires-clause-fits
-push-requires-clause-fits c = c.in-None-late.ensures.fits
+push-requires-clause-fits c =
+    subst (λ (order : List Chosen). units_of order + c.in-Some.one.budget.limit < 2 ^ 64) (sym c.in_ok-cause.ensures.same)
+    (subst (λ (late : Option Refusal). IfNone late (units_of c.loop-one.order + c.in-Some.one.budget.limit < 2 ^ 64)) c.in-None-2.is c.in_ok-cause.ensures.fits)

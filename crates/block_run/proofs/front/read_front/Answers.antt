@@ -1,8 +1,9 @@
-use Rattle.std.proofs.Common.{length, drop, All, sym, subst, ◌∙◌, arith}
+use Rattle.std.proofs.Common.{length, drop, All, sym, subst, arith}
 use Rattle.std.proofs.lemmas.List.Elements.{All-drop, All-take}
 use Rattle.tx_exec.specs.TransactionLaws.{IsSmallOutcome}
 use Rattle.bank_core.specs.Ends.{outcomes_at_end}
 use Rattle.bank_core.proofs.Tells.{told_few}
+use Rattle.bank_shared.specs.Face.{desk_origin}
 use Rattle.block_run.proofs.Fronts.{goes_on}
 use Rattle.block_run.proofs.front.read_front.Goals as goal
 
@@ -15,7 +16,7 @@ take_in-requires-clause-within g c =
 
 pub take_in-requires-clause-small : goal.take_in-requires-clause-small
 take_in-requires-clause-small g c =
-    let all = outcomes_at_end g.W.Work.job c.args.desk.now.table.shared.key.value.origin in
+    let all = outcomes_at_end g.W.Work.job (desk_origin c.args.desk.now) in
     subst (All IsSmallOutcome) (sym c.in_ok-outcomes.ensures.serial)
     (All-take IsSmallOutcome (length c.in_ok-outcomes.outcomes) (drop c.loop.begun.count all) (All-drop IsSmallOutcome c.loop.begun.count all c.requires.small))
 
@@ -26,8 +27,7 @@ loop-preserved g c =
     let within = c.loop.invariant.begun.within in
     record {
       again = (tt, tt);
-      table = c.outcomes_from.ensures.table ∙ c.loop.invariant.table;
-      desk = c.outcomes_from.ensures.desk ∙ c.loop.invariant.desk;
-      begun = goes_on c.args.parts (outcomes_at_end g.W.Work.job c.args.desk.now.table.shared.key.value.origin) c.in_ok-outcomes.outcomes c.loop.begun c.in_ok-begun-2.begun c.loop.invariant.begun
-          c.in_ok-outcomes.ensures.serial (omega (arith, few, least, within)) c.in_ok-begun-2.ensures.count c.in_ok-begun-2.ensures.taken;
+      reader = c.outcomes_from.ensures.reader;
+      begun = goes_on c.args.parts (outcomes_at_end g.W.Work.job (desk_origin c.args.desk.now)) c.in_ok-outcomes.outcomes c.loop.begun c.in_ok-begun-2.begun c.loop.invariant.begun
+          c.in_ok-outcomes.ensures.serial (omega (arith, few, least, within)) c.in_ok-begun-2.ensures.count c.in_ok-begun-2.ensures.taken c.in_ok-begun-2.ensures.kept;
     }

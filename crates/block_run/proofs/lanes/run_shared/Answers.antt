@@ -1,14 +1,15 @@
-use Rattle.std.proofs.Common.{All, ap, sym, subst}
+use Rattle.std.proofs.Common.{All, sym, subst}
 use Rattle.std.specs.Prelude.{IfOk}
 use Rattle.tx_exec.specs.TransactionLaws.{IsSmallOutcome}
 use Rattle.bank_core.specs.Ends.{outcomes_at_end}
+use Rattle.bank_shared.specs.Face.{desk_origin}
 use Rattle.block_run.specs.Front.{IsBegun}
 use Rattle.block_run.proofs.lanes.run_shared.Goals as goal
 
 pub run_beside-begun-requires-clause-small : goal.run_beside-begun-requires-clause-small
-run_beside-begun-requires-clause-small g c κs within = subst (λ o. All IsSmallOutcome (outcomes_at_end g.W.Work.job o)) (sym (ap (λ d. d.origin) c.in_ok-desk.ensures.origin)) c.requires.small
+run_beside-begun-requires-clause-small g c κs within = subst (λ o. All IsSmallOutcome (outcomes_at_end g.W.Work.job o)) (sym c.in_ok-desk.ensures.origin) c.requires.small
 
 pub returns-clause-begun : goal.returns-clause-begun
 returns-clause-begun g c =
-    subst (λ o. IsBegun c.args.parts (outcomes_at_end g.W.Work.job o) c.in_ok-begun.field-0) (ap (λ d. d.origin) c.in_ok-desk.ensures.origin)
-    (subst (λ r. IfOk r (IsBegun c.args.parts (outcomes_at_end g.W.Work.job c.in_ok-desk.desk.table.shared.key.value.origin))) c.in_ok-begun.was c.run_beside-begun.ensures.begun)
+    subst (λ o. IsBegun c.args.parts (outcomes_at_end g.W.Work.job o) c.in_ok-begun.field-0) c.in_ok-desk.ensures.origin
+    (subst (λ r. IfOk r (IsBegun c.args.parts (outcomes_at_end g.W.Work.job (desk_origin c.in_ok-desk.desk)))) c.in_ok-begun.was c.run_beside-begun.ensures.begun)

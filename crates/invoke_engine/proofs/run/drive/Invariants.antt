@@ -1,13 +1,13 @@
-use Rattle.program_cache.specs.Programs.{sought}
 use Rattle.std.proofs.Common.{◌≡◌}
+use Rattle.invoke_engine.specs.Invoked.{fixed_in}
 use Rattle.invoke_engine.specs.Fits.{Stands, ending_in, measure}
-use Rattle.invoke_engine.specs.Views.{fixed, next_as}
+use Rattle.invoke_engine.specs.Views.{next_as}
 use Rattle.invoke_engine.proofs.run.drive.Given as goal
 
 abbrev pub invariant-loop-next : goal.invariant-loop-next
 invariant-loop-next l = record {
-  stands : Stands (fixed (sought l.programs) l.setting l.keys) l.stack (next_as l.next l.carrier);
-  same : ending_in (fixed (sought l.programs) l.setting l.keys) l.stack (next_as l.next l.carrier) ≡ ending_in (fixed (sought l.programs) l.setting l.keys) l.fn.stack (next_as l.fn.first l.fn.carrier);
+  stands : Stands (fixed_in l.context) l.stack (next_as l.next l.carrier);
+  same : ending_in (fixed_in l.context) l.stack (next_as l.next l.carrier) ≡ ending_in (fixed_in l.context) l.fn.stack (next_as l.fn.first l.fn.carrier);
 }
 
 abbrev pub decreases-loop-next : goal.decreases-loop-next

@@ -4,4 +4,4 @@ use Rattle.json_parts.proofs.transaction_in.header.Goals as goal
 
 pub returns : goal.returns
 unfolding header_in
-returns c = rw (c.in_ok-known.ensures, c.in_ok-required.ensures, c.in_ok-signed.ensures, c.in_ok-unsigned.ensures) (ap Ok (sym c.in_ok-from_slice.ensures))
+returns c = rw (c.in_ok-known_of_header.ensures, c.in_ok-required.ensures, c.in_ok-signed.ensures, c.in_ok-unsigned.ensures) (ap Ok (sym c.in_ok-from_slice.ensures))

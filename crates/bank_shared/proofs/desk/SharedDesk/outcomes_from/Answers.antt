@@ -8,8 +8,8 @@ use Rattle.bank_shared.proofs.desk.SharedDesk.outcomes_from.Goals as goal
 
 pub returns-clause-serial : goal.returns-clause-serial
 returns-clause-serial g c =
-    subst (λ o. IfOk c.outcomes_from-told.result (λ (told : List Outcome). told ≡ take (length told) (drop c.args.from (outcomes_at_end g.W.Work.job o)))) (ap (λ r. r.origin) c.lock-word.ensures.gets.desk) c.outcomes_from-told.ensures.serial
+    subst (λ o. IfOk c.outcomes_from-told.result (λ (told : List Outcome). told ≡ take (length told) (drop c.args.from (outcomes_at_end g.W.Work.job o)))) (ap (λ r. r.origin) c.take_turn-word.ensures.gets.desk) c.outcomes_from-told.ensures.serial
 
 pub returns-clause-exact : goal.returns-clause-exact
 returns-clause-exact g c =
-    subst₂ (λ o h. IfOk c.outcomes_from-told.result (λ (told : List Outcome). told ≡ done_from (state_after g.W.Work.job o h).stage c.args.from c.args.most)) (ap (λ r. r.origin) c.lock-word.ensures.gets.desk) (sym (ap (λ m. m.0.seen) c.release.ensures.me)) c.outcomes_from-told.ensures.exact
+    subst₂ (λ o h. IfOk c.outcomes_from-told.result (λ (told : List Outcome). told ≡ done_from (state_after g.W.Work.job o h).stage c.args.from c.args.most)) (ap (λ r. r.origin) c.take_turn-word.ensures.gets.desk) (sym (ap (λ m. m.0.seen) c.release.ensures.me)) c.outcomes_from-told.ensures.exact

@@ -12,31 +12,31 @@ use Rattle.bank_shared.proofs.Moves.{mine_is, one_more, adds, kept}
 use Rattle.bank_shared.proofs.desk.SharedDesk.return_loan.Goals as goal
 
 pub give_back-requires-clause-origin : goal.give_back-requires-clause-origin
-give_back-requires-clause-origin g c = c.requires.origin ∙ sym (ap (λ r. r.origin) c.lock-word.ensures.gets.desk)
+give_back-requires-clause-origin g c = c.requires.origin ∙ sym (ap (λ r. r.origin) c.take_turn-word.ensures.gets.desk)
 
 pub give_back-requires-clause-held : goal.give_back-requires-clause-held
 give_back-requires-clause-held g c =
-    subst (λ l. holds (own c.lock-word.result.1.core.journal.items l) ≡ Some c.args.loan.position) (sym c.requires.lane)
-    (ap holds (mine_is _ _ _ c.args.pass.now.lane _ c.lock-word.ensures.gets.knows c.args.pass.now.lane_is) ∙ c.requires.held)
+    subst (λ l. holds (own c.take_turn-word.result.1.core.journal.items l) ≡ Some c.args.loan.position) (sym c.requires.lane)
+    (ap holds (mine_is _ _ _ c.args.pass.now.lane _ c.take_turn-word.ensures.gets.knows c.args.pass.now.lane_is) ∙ c.requires.held)
 
 pub give_back-requires-clause-once : goal.give_back-requires-clause-once
 give_back-requires-clause-once g c =
-    subst (λ l. returns (own c.lock-word.result.1.core.journal.items l) ≡ 0) (sym c.requires.lane)
-    (ap returns (mine_is _ _ _ c.args.pass.now.lane _ c.lock-word.ensures.gets.knows c.args.pass.now.lane_is) ∙ c.requires.once)
+    subst (λ l. returns (own c.take_turn-word.result.1.core.journal.items l) ≡ 0) (sym c.requires.lane)
+    (ap returns (mine_is _ _ _ c.args.pass.now.lane _ c.take_turn-word.ensures.gets.knows c.args.pass.now.lane_is) ∙ c.requires.once)
 
 pub release_more-requires : goal.release_more-requires
 release_more-requires g c =
-    let m = c.lock-word.ensures.me in
+    let m = c.take_turn-word.ensures.me in
     let e : Event = record { kind = Return; lane = c.args.pass.now.lane; position = c.args.loan.position } in
     let turn = ap (λ m. m.0.turn) m in
-    let n = c.lock-word.ensures.gets.word in
-    let more : c.give_back.new.self.journal.items ≡ c.lock-word.result.1.core.journal.items ++ e ∷ [] = c.give_back.ensures.journal ∙ ap (λ l. c.lock-word.result.1.core.journal.items ++ record { kind = Return; lane = l; position = c.args.loan.position } ∷ []) c.requires.lane in
-    let w : c.lock-word.result.0 + 2 ≡ 2 * length c.give_back.new.self.journal.items = omega (arith, n, ap length more, length-append c.lock-word.result.1.core.journal.items (e ∷ [])) in
+    let n = c.take_turn-word.ensures.gets.word in
+    let more : c.give_back.new.self.journal.items ≡ c.take_turn-word.result.1.core.journal.items ++ e ∷ [] = c.give_back.ensures.journal ∙ ap (λ l. c.take_turn-word.result.1.core.journal.items ++ record { kind = Return; lane = l; position = c.args.loan.position } ∷ []) c.requires.lane in
+    let w : c.take_turn-word.result.0 + 2 ≡ 2 * length c.give_back.new.self.journal.items = omega (arith, n, ap length more, length-append c.take_turn-word.result.1.core.journal.items (e ∷ [])) in
     record {
-      table = c.lock-word.ensures.table ∙ c.requires.table;
-      desk = (ap (λ m. m.0.origin) m ∙ c.requires.desk, (λ i. record { origin = c.give_back.ensures.origin i; lanes = c.give_back.ensures.lanes i }) ∙ c.lock-word.ensures.gets.desk);
+      table = c.take_turn-word.ensures.table ∙ c.requires.table;
+      desk = (ap (λ m. m.0.origin) m ∙ c.requires.desk, (λ i. record { origin = c.give_back.ensures.origin i; lanes = c.give_back.ensures.lanes i }) ∙ c.take_turn-word.ensures.gets.desk);
       slot = ap (λ m. m.1) m;
-      turn = turn ∙ ap (λ t. Some (had t, c.lock-word.result.1.drawn)) (sym turn);
+      turn = turn ∙ ap (λ t. Some (had t, c.take_turn-word.result.1.drawn)) (sym turn);
       events = one_more _ _ _ e (more ∙ ap (λ t. had t ++ e ∷ []) (sym turn)) (ap (λ m. is_one_of (lanes_of m.0) c.args.pass.now.lane) m ∙ (ap (λ x. is_one_of (part_lanes x ++ c.args.pass.now.seat.me.0.lanes) c.args.pass.now.lane) c.args.pass.now.no_parts ∙ c.args.pass.now.lane_is));
       word = w;
     }
@@ -44,19 +44,19 @@ release_more-requires g c =
 pub returns-clause-kept : goal.returns-clause-kept
 returns-clause-kept g c =
     let e : Event = record { kind = Return; lane = c.args.pass.now.lane; position = c.args.loan.position } in
-    let more : c.give_back.new.self.journal.items ≡ c.lock-word.result.1.core.journal.items ++ e ∷ [] = c.give_back.ensures.journal ∙ ap (λ l. c.lock-word.result.1.core.journal.items ++ record { kind = Return; lane = l; position = c.args.loan.position } ∷ []) c.requires.lane in
-    kept _ c.lock-word.result.1.core.journal.items _ _ _ _ _ _ c.lock-word.ensures.gets.knows more (le_refl _)
-    (ap (λ m. m.0) c.release_more.ensures.me ∙ ap (λ m. done m.0 c.give_back.new.self.journal.items c.lock-word.result.1.drawn) c.lock-word.ensures.me)
+    let more : c.give_back.new.self.journal.items ≡ c.take_turn-word.result.1.core.journal.items ++ e ∷ [] = c.give_back.ensures.journal ∙ ap (λ l. c.take_turn-word.result.1.core.journal.items ++ record { kind = Return; lane = l; position = c.args.loan.position } ∷ []) c.requires.lane in
+    kept _ c.take_turn-word.result.1.core.journal.items _ _ _ _ _ _ c.take_turn-word.ensures.gets.knows more (le_refl _)
+    (ap (λ m. m.0) c.release_more.ensures.me ∙ ap (λ m. done m.0 c.give_back.new.self.journal.items c.take_turn-word.result.1.drawn) c.take_turn-word.ensures.me)
 
 pub returns-clause-legal : goal.returns-clause-legal
 returns-clause-legal g c =
     let root : DeskOrigin _ = record { origin = c.give_back.new.self.origin.value; lanes = c.give_back.new.self.lanes } in
-    let same : root ≡ c.args.self.now.table.shared.key.value = (λ i. record { origin = c.give_back.ensures.origin i; lanes = c.give_back.ensures.lanes i }) ∙ c.lock-word.ensures.gets.desk in
+    let same : root ≡ c.args.self.now.table.shared.key.value = (λ i. record { origin = c.give_back.ensures.origin i; lanes = c.give_back.ensures.lanes i }) ∙ c.take_turn-word.ensures.gets.desk in
     subst₂ (λ r j. IsLegal (g.W.Work.job r.origin.told) (at r.origin.start) j) same (sym (ap (λ m. m.0.seen) c.release_more.ensures.me)) c.give_back.new.self.runs.legal
 
 pub returns-clause-event : goal.returns-clause-event
 returns-clause-event g c =
     let e : Event = record { kind = Return; lane = c.args.pass.now.lane; position = c.args.loan.position } in
-    let more : c.give_back.new.self.journal.items ≡ c.lock-word.result.1.core.journal.items ++ e ∷ [] = c.give_back.ensures.journal ∙ ap (λ l. c.lock-word.result.1.core.journal.items ++ record { kind = Return; lane = l; position = c.args.loan.position } ∷ []) c.requires.lane in
-    adds _ c.lock-word.result.1.core.journal.items _ _ _ _ _ _ c.lock-word.ensures.gets.knows c.args.pass.now.no_parts c.args.pass.now.lane_is more
-    (ap (λ m. m.0) c.release_more.ensures.me ∙ ap (λ m. done m.0 c.give_back.new.self.journal.items c.lock-word.result.1.drawn) c.lock-word.ensures.me)
+    let more : c.give_back.new.self.journal.items ≡ c.take_turn-word.result.1.core.journal.items ++ e ∷ [] = c.give_back.ensures.journal ∙ ap (λ l. c.take_turn-word.result.1.core.journal.items ++ record { kind = Return; lane = l; position = c.args.loan.position } ∷ []) c.requires.lane in
+    adds _ c.take_turn-word.result.1.core.journal.items _ _ _ _ _ _ c.take_turn-word.ensures.gets.knows c.args.pass.now.no_parts c.args.pass.now.lane_is more
+    (ap (λ m. m.0) c.release_more.ensures.me ∙ ap (λ m. done m.0 c.give_back.new.self.journal.items c.take_turn-word.result.1.drawn) c.take_turn-word.ensures.me)

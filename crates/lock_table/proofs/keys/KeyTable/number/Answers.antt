@@ -21,7 +21,7 @@ none c = sym c.find.ensures ∙ c.in_default.is
 
 pub invariant_of-self-2 : goal.invariant_of-self-2
 invariant_of-self-2 c =
-    IsTable-push c.self.inside.keys.items c.push_with_room.new.list.items c.self.inside.numbers c.insert.new.self c.args.key c.len-number.result c.self.invariant
+    IsTable-push c.self.inside.keys.items c.push_with_room.new.list.items c.self.inside.ascending c.self.inside.numbers c.insert.new.self c.args.key c.len-number.result c.self.invariant
     (ap (λ ks. number_of ks c.args.key) c.self.view_is ∙ none c)
     (let e = ap length c.self.view_is in omega (arith, e, c.requires))
     (c.len-number.ensures.len ∙ sym (ap length c.self.view_is))

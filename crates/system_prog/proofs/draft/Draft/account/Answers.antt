@@ -6,5 +6,5 @@ use Rattle.system_prog.proofs.draft.Draft.account.Goals as goal
 
 pub returns-clause-part : goal.returns-clause-part
 returns-clause-part c =
-    let is : c.account.result.now ≡ account_at c.args.self.now c.args.place = first_of (search rules, grind (arith, common_steps)) in
-    part_of c.args.self.now c.args.place c.account.result.now c.requires is
+    let is : c.deref.result.now ≡ account_at c.args.self.now c.args.place = first_of (search rules, grind (arith, common_steps)) in
+    part_of c.args.self.now c.args.place c.deref.result.now c.requires is

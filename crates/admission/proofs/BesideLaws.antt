@@ -1,0 +1,64 @@
+-- Wires that are weighed beside each other weigh what they weigh alone.
+use Rattle.std.proofs.Common.{◌≡◌, ℕ, suc, ◌+◌, ◌<◌, List, [], ◌∷◌, ◌++◌, length, map, get_or, refl, sym, ap, ◌∙◌, append_assoc, subst, arith, Option, Some, IfSome, Result, Ok, Err, IfOk, All}
+use Rattle.std.proofs.lemmas.List.{length-map, map-append}
+use Rattle.std.proofs.lemmas.List.Elements.{All-map}
+use Rattle.sol_base.specs.declared.memory.OutOfMemory.{OutOfMemory}
+use Rattle.message_codec.specs.declared.parsed.Parsed.{Parsed}
+use Rattle.admission.specs.declared.beside.Slot.{Slot}
+use Rattle.admission.specs.declared.weighing.Weighed.{Weighed}
+use Rattle.admission.specs.Admission.{IsSound, Start}
+use Rattle.admission.specs.Beside.{IsFresh, WeighsAt, fresh}
+use Rattle.admission.specs.Weighing.{weighed, weighed_from}
+
+pub all_fresh : (wires : List Parsed) (slots : List Slot) → slots ≡ map fresh wires → All IsSound wires → All IsFresh slots
+all_fresh wires slots e sound = subst (All IsFresh) (sym e) (All-map IsFresh fresh wires sound)
+
+alone_from : (start : Start) (n : ℕ) (wires : List Parsed) (new : List Slot) (found : List Weighed) → length new ≡ length wires
+    → ((i : ℕ) (d : Slot) → i < length wires → WeighsAt start (n + i) (get_or (map fresh wires) i d) (get_or new i d)) → map (λ (one : Weighed). Some one) found ≡ map (λ (slot : Slot). slot.weighed) new → found ≡ weighed_from start n wires
+alone_from start n [] [] [] count each is = refl
+alone_from start n [] [] (one ∷ found) count each is = absurd (cc)
+alone_from start n [] (slot ∷ new) found count each is = absurd (omega arith)
+alone_from start n (wire ∷ wires) [] found count each is = absurd (omega arith)
+alone_from start n (wire ∷ wires) (slot ∷ new) [] count each is = absurd (cc)
+alone_from start n (wire ∷ wires) (slot ∷ new) (one ∷ found) count each is =
+    let head : slot.weighed ≡ Some one = cc in
+    let tail : map (λ (one : Weighed). Some one) found ≡ map (λ (slot : Slot). slot.weighed) new = cc in
+    let here : IfSome slot.weighed (λ w. w ≡ weighed start (n + 0) wire) = each 0 slot (omega arith) in
+    let at : n + 0 ≡ n = omega arith in
+    let first : one ≡ weighed start n wire = subst (λ (o : Option Weighed). IfSome o (λ w. w ≡ weighed start (n + 0) wire)) head here ∙ ap (λ k. weighed start k wire) at in
+    let others : found ≡ weighed_from start (n + 1) wires =
+    alone_from start (n + 1) wires new found (omega arith) (λ k d below. subst (λ m. WeighsAt start m (get_or (map fresh wires) k d) (get_or new k d)) (onward k) (each (suc k) d (omega arith))) tail in
+    λ i. first i ∷ others i
+  where
+    onward : (k : ℕ) → n + suc k ≡ n + 1 + k
+    onward k = omega arith
+
+pub found_alone : (start : Start) (wires : List Parsed) (old new : List Slot) (found : List Weighed) → old ≡ map fresh wires → length new ≡ length wires
+    → ((i : ℕ) (d : Slot) → i < length old → WeighsAt start i (get_or old i d) (get_or new i d)) → map (λ (one : Weighed). Some one) found ≡ map (λ (slot : Slot). slot.weighed) new → found ≡ weighed_from start 0 wires
+found_alone start wires old new found e count each is =
+    alone_from start 0 wires new found count (λ k d below. subst (λ m. WeighsAt start m (get_or (map fresh wires) k d) (get_or new k d)) (zeroth k) (subst (λ (slots : List Slot). WeighsAt start k (get_or slots k d) (get_or new k d)) e (each k d (subst (λ n. k < n) (sym (ap length e ∙ simp length-map)) below)))) is
+  where
+    zeroth : (k : ℕ) → k ≡ 0 + k
+    zeroth k = omega arith
+
+pub found_all : (start : Start) (wires : List Parsed) (old new slots : List Slot) (result : Result (List Weighed) OutOfMemory) → old ≡ map fresh wires → length new ≡ length wires
+    → ((i : ℕ) (d : Slot) → i < length old → WeighsAt start i (get_or old i d) (get_or new i d)) → slots ≡ new → IfOk result (λ found. map (λ (one : Weighed). Some one) found ≡ map (λ (slot : Slot). slot.weighed) slots)
+    → IfOk result (λ found. found ≡ weighed_from start 0 wires)
+found_all start wires old new slots (Ok found) e count each same is = found_alone start wires old new found e count each (is ∙ ap (map (λ (slot : Slot). slot.weighed)) same)
+found_all start wires old new slots (Err _) e count each same is = tt
+
+-- what the first slots have is taken out
+pub record AreTaken (slots done left : List Slot) (found : List Weighed) : Type 0 where
+  pub all : done ++ left ≡ slots
+  pub each : map (λ (one : Weighed). Some one) found ≡ map (λ (slot : Slot). slot.weighed) done
+
+pub taken_more : (slots done left more : List Slot) (found found' : List Weighed) → AreTaken slots done left found → (slot : Slot) → left ≡ slot ∷ more → (one : Weighed) → slot.weighed ≡ Some one
+    → found' ≡ found ++ one ∷ [] → AreTaken slots (done ++ slot ∷ []) more found'
+taken_more slots done left more found found' so_far slot split one has put = record {
+  all = append_assoc done (slot ∷ []) more ∙ ap (λ (ls : List Slot). done ++ ls) (sym split) ∙ so_far.all;
+  each =
+      ap (map (λ (one : Weighed). Some one)) put ∙ map-append (λ (one : Weighed). Some one) found (one ∷ [])
+      ∙ ap (λ (os : List (Option Weighed)). os ++ Some one ∷ []) so_far.each
+      ∙ ap (λ (o : Option Weighed). map (λ (slot : Slot). slot.weighed) done ++ o ∷ []) (sym has)
+      ∙ sym (map-append (λ (slot : Slot). slot.weighed) done (slot ∷ []));
+}

@@ -1,0 +1,136 @@
+//! Wires that are weighed beside each other.
+ghost use Rattle.std.specs.Prelude.{◌≡◌, ◌<◌, ◌≤◌, ◌^◌, ℕ, All, IfOk, IfSome, Some, length, map, slice_index_or};
+ghost use Rattle.admission.specs.declared.beside.Slot.{Slot as SlotValue};
+ghost use Rattle.admission.specs.Admission.{IsSound, start_of};
+ghost use Rattle.admission.specs.Beside.{IsFresh, WeighsAt, fresh};
+ghost use Rattle.admission.specs.Weighing.{weighed_from};
+
+use crate::weighing::{Weighed, weigh, weigh_from};
+use account_store::Accounts;
+use message_codec::Parsed;
+use sol_base::{Items, Limits, OutOfMemory};
+use status_cache::Recent;
+use std::alloc::Global;
+use std::thread;
+use std::thread::Threads;
+
+/// So many wires are worth a thread.
+const WORTH_A_THREAD: usize = 256;
+
+/// A wire, until it is weighed, and what it weighs then. None where memory ran short.
+#[derive(Drop)]
+pub(crate) struct Slot {
+    wire: Option<Parsed>,
+    weighed: Option<Weighed>,
+}
+
+impl Slot {
+    /// Weighs the wire.
+    fn weigh(
+        &mut self,
+        alloc: Global,
+        recent: &Recent,
+        accounts: &Accounts,
+        limits: &Limits,
+        position: u32,
+    )
+        requires { IsFresh self.old }
+        ensures { WeighsAt (start_of recent.now accounts.now limits.now) position self.old self.new }
+    {
+        if let Some(wire) = self.wire.take() {
+            self.weighed = weigh(alloc, recent, accounts, limits, position, wire).ok();
+        }
+    }
+}
+
+/// Weighs the wires of a batch on so many threads, in equal parts beside each other. Few wires are
+/// weighed by the caller alone, and on one lane no thread is started.
+pub(crate) fn weigh_on<R: Threads + Sync>(
+    rt: &R,
+    alloc: Global,
+    lanes: u32,
+    recent: &Recent,
+    accounts: &Accounts,
+    limits: &Limits,
+    wires: Items<Parsed>,
+) -> Result<Items<Weighed>, OutOfMemory>
+    requires few { length wires < 2 ^ 32 }
+    requires sound { All IsSound wires }
+    ensures { IfOk result (λ found.
+        found ≡ weighed_from (start_of recent.now accounts.now limits.now) 0 wires) }
+{
+    if lanes < 2 || wires.len() < WORTH_A_THREAD {
+        return weigh_from(alloc, recent, accounts, limits, 0, wires);
+    }
+    let mut slots = slots_of(alloc, wires)?;
+    weigh_each(
+        rt,
+        alloc,
+        lanes as usize,
+        recent,
+        accounts,
+        limits,
+        slots.as_mut_slice(),
+    );
+    weighed_in(alloc, slots)
+}
+
+/// A slot for each wire.
+fn slots_of(alloc: Global, wires: Items<Parsed>) -> Result<Vec<Slot>, OutOfMemory>
+    ensures { IfOk result (λ slots. slots.items ≡ map fresh wires) }
+{
+    let slots = wires
+        .into_vec()
+        .into_iter()
+        .map(|wire| Slot {
+            wire: Some(wire),
+            weighed: None,
+        })
+        .collect(alloc)?;
+    Ok(slots)
+}
+
+/// Weighs the wire of each slot.
+fn weigh_each<R: Threads + Sync>(
+    rt: &R,
+    alloc: Global,
+    threads: usize,
+    recent: &Recent,
+    accounts: &Accounts,
+    limits: &Limits,
+    slots: &mut [Slot],
+)
+    requires some { 0 < threads }
+    requires few { length slots.old < 2 ^ 32 }
+    requires fresh { All IsFresh slots.old }
+    ensures { (i : ℕ) (d : SlotValue) → i < length slots.old →
+        WeighsAt (start_of recent.now accounts.now limits.now) i (slice_index_or slots.old i d)
+        (slice_index_or slots.new i d) }
+{
+    thread::for_each_mut(
+        rt,
+        slots,
+        threads,
+        &|at: usize, slot: &mut Slot|
+            requires { (at < 2 ^ 32) × IsFresh slot.old }
+            ensures { WeighsAt (start_of recent.entry.now accounts.entry.now limits.entry.now) at
+                slot.old slot.new }
+        { slot.weigh(alloc, recent, accounts, limits, at as u32) },
+    );
+}
+
+/// What the wires of all slots weigh.
+fn weighed_in(alloc: Global, slots: Vec<Slot>) -> Result<Items<Weighed>, OutOfMemory>
+    ensures { IfOk result (λ found.
+        map (λ one. Some one) found ≡ map (λ slot. slot.weighed) slots.items) }
+{
+    let mut found = Items::with_capacity(alloc, slots.len())?;
+    for slot in slots {
+        let Slot { wire: _, weighed } = slot;
+        let Some(weighed) = weighed else {
+            return Err(OutOfMemory);
+        };
+        found.push(weighed)?;
+    }
+    Ok(found)
+}

@@ -1,0 +1,52 @@
+-- What callers state of a desk, its passes and its readers.
+use Rattle.std.specs.Prelude.{◌≡◌, ℕ, List, [], ◌∷◌, Some}
+use Rattle.bank_law.specs.declared.event.Event.{Event}
+use Rattle.bank_law.specs.History.{PassView, own}
+use Rattle.bank_core.specs.declared.origin.Origin.{Origin}
+use Rattle.bank_shared.specs.declared.desk.Pass.{Pass}
+use Rattle.bank_shared.specs.declared.desk.SharedDesk.{SharedDesk}
+use Rattle.bank_shared.specs.declared.desk.Reader.{Reader}
+
+-- the first pass of a desk
+abbrev pub first_pass : PassView
+first_pass = record { lane = 0; seen = []; mine = []; drawn = 1; turns = 0 }
+
+module _ {W T : Type 0} {G : _} where
+  -- what the desk's core began with
+  abbrev pub desk_origin : SharedDesk W T G → Origin T
+  desk_origin desk = desk.table.shared.key.value.origin
+
+  -- how many lanes it has
+  abbrev pub desk_lanes : SharedDesk W T G → ℕ
+  desk_lanes desk = desk.table.shared.key.value.lanes
+
+  -- the pass is of this desk
+  abbrev pub IsPassOf : SharedDesk W T G → Pass W T G → Type 0
+  IsPassOf desk pass =
+      (pass.seat.table_id ≡ desk.table.shared.table_id)
+      × (pass.seat.me.0.origin ≡ Some desk.table.shared.key.value)
+
+  -- what a pass knows
+  abbrev pub view_of : Pass W T G → PassView
+  view_of pass =
+      record {
+        lane = pass.lane;
+        seen = pass.seat.me.0.seen;
+        mine = own pass.seat.me.0.seen pass.lane;
+        drawn = pass.seat.me.0.drawn;
+        turns = pass.seat.me.0.turns;
+      }
+
+  -- its own lane, and those of the passes that were joined into it
+  abbrev pub pass_lanes : Pass W T G → List ℕ
+  pass_lanes pass = pass.seat.me.0.lanes
+
+  -- the reader is of this desk
+  abbrev pub IsReaderOf : SharedDesk W T G → Reader W T G → Type 0
+  IsReaderOf desk reader =
+      (reader.seat.table_id ≡ desk.table.shared.table_id)
+      × (reader.seat.me.0.origin ≡ Some desk.table.shared.key.value)
+
+  -- the beginning of the history that a reader has seen
+  abbrev pub seen_by : Reader W T G → List Event
+  seen_by reader = reader.seat.me.0.seen

@@ -1,0 +1,11 @@
+use Rattle.std.proofs.Common.{refl}
+use Rattle.std.proofs.lemmas.Result.{on_ok_weaker}
+use Rattle.format_fields.proofs.Adding.{Adds-then, Adds-as}
+use Rattle.block_record.proofs.writing.write_end.Goals as goal
+
+pub returns : goal.returns
+returns g c =
+    on_ok_weaker c.append-3.result
+    (λ last. Adds-as (Adds-then (Adds-then c.in_ok-append.ensures.ok c.in_ok-append-2.ensures.ok) last)
+    (rw (c.to_le_bytes.ensures, c.to_le_bytes-2.ensures) refl))
+    c.append-3.ensures.ok
