@@ -2,8 +2,10 @@
 ghost use Rattle.std.specs.Prelude.{◌≡◌, ◌+◌, ◌-◌, ◌^◌, ◌≤◌, All, length, IfOk};
 ghost use Rattle.sol_base.specs.Accounts.{IsShort};
 ghost use Rattle.account_store.specs.State as state;
+ghost use Rattle.sol_base.specs.Keys.{key_cmp};
+ghost use Rattle.std.specs.List.Sorted.{IsStrictlySortedBy};
 
-use account_store::{Accounts, KeyedAccount, StoreFault};
+use account_store::{Accounts, KeyedAccount, StoreFault, TakenOut, sort_keys};
 use sol_base::{Account, Blob, Items, Key, OutOfMemory};
 use std::alloc::Global;
 use std::sync::Arc;
@@ -166,48 +168,60 @@ fn a_store_may_cross_threads(rt: HostRuntime) {
     crosses_threads(&Accounts::new(rt.alloc()));
 }
 
-/// Keys, each with the lamports of its account, or 0 where it is absent.
-const TAKEN: [(&[u8], &[u64]); 6] = [
-    (&[], &[]),
-    (&[1, 2, 3, 4, 5, 6], &[0, 20, 0, 40, 0, 60]),
-    (&[4], &[40]),
-    (&[6, 5, 2], &[60, 0, 20]),
-    (&[2, 4, 6], &[20, 40, 60]),
-    (&[7, 8], &[0, 0]),
+/// Bytes of keys that ascend, with the lamports of their accounts, or 0 where one is absent, and what is
+/// left.
+const TAKEN: [(&[u8], &[u64], u64); 6] = [
+    (&[], &[], 12),
+    (&[1, 2, 3, 4, 5], &[0, 5, 0, 7, 0], 0),
+    (&[4], &[7], 5),
+    (&[2, 5], &[5, 0], 7),
+    (&[2, 4], &[5, 7], 0),
+    (&[6, 7], &[0, 0], 12),
 ];
 
-/// Three accounts.
-fn three(alloc: Global) -> Result<Accounts, OutOfMemory> {
-    let mut entries = Vec::new(alloc);
-    for byte in [2, 4, 6] {
-        let account = account(alloc, 10 * u64::from(byte))?;
-        entries.push((Key([byte; 32]), Arc::new(alloc, account)?))?;
+/// The keys of these bytes, in their order.
+fn keys_of(alloc: Global, bytes: &[u8]) -> Result<Vec<Key>, OutOfMemory>
+    ensures { IfOk result (λ keys. IsStrictlySortedBy key_cmp keys.items) }
+{
+    let mut keys = Vec::new(alloc);
+    for byte in bytes {
+        keys.push(Key([*byte; 32]))?;
     }
-    Accounts::new(alloc).put_in(alloc, entries)
+    sort_keys(&mut keys);
+    Ok(keys)
 }
 
-/// The lamports of accounts that were taken out.
-fn lamports_in(alloc: Global, accounts: &[Option<Arc<Account>>]) -> Result<Vec<u64>, OutOfMemory> {
-    let mut all = Vec::new(alloc);
-    for account in accounts {
-        all.push(account.as_ref().map_or(0, |account| account.lamports))?;
+/// Takes the accounts of these keys out of those of two.
+fn taken_out(alloc: Global, keys: &[Key]) -> Result<TakenOut, StoreFault>
+    requires { IsStrictlySortedBy key_cmp keys.now }
+{
+    let accounts = Accounts::from_sorted(alloc, pair(alloc, (2, 5), (4, 7))?)?;
+    Ok(accounts.take_out(alloc, keys)?)
+}
+
+/// Whether an account has these lamports, or none is there for 0.
+fn has_lamports(account: &Option<Arc<Account>>, lamports: u64) -> bool {
+    match account {
+        Some(account) => account.lamports == lamports,
+        None => lamports == 0,
     }
-    Ok(all)
+}
+
+/// Whether the accounts of a row leave with their lamports.
+fn leave(alloc: Global, (bytes, lamports, left): (&[u8], &[u64], u64)) -> Result<bool, StoreFault> {
+    let keys = keys_of(alloc, bytes)?;
+    let out = taken_out(alloc, keys.as_slice())?;
+    for (account, lamports) in out.accounts.iter().zip(lamports) {
+        if !has_lamports(account, *lamports) {
+            return Ok(false);
+        }
+    }
+    Ok(out.accounts.len() == lamports.len() && out.rest.total() == left)
 }
 
 #[test]
-fn accounts_leave_with_their_keys(rt: HostRuntime) -> Result<(), Fail> {
-    let alloc = rt.alloc();
-    for (bytes, lamports) in TAKEN {
-        let mut keys = Vec::new(alloc);
-        for byte in bytes {
-            keys.push(Key([*byte; 32]))?;
-        }
-        let out = three(alloc)?.take_out(alloc, &keys)?;
-        let taken = lamports_in(alloc, &out.accounts)?;
-        assert!(rt; taken.as_slice() == lamports);
-        let sum: u64 = taken.iter().sum();
-        assert!(rt; out.rest.total() + sum == 120);
+fn accounts_leave_with_their_keys(rt: HostRuntime) {
+    for row in TAKEN {
+        assert!(rt; leave(rt.alloc(), row) == Ok(true));
     }
-    Ok(())
 }
