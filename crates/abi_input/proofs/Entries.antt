@@ -5,12 +5,12 @@ use Rattle.std.specs.List.{enumerate_from, flat_map}
 use Rattle.std.specs.Arc.{arc_value}
 use Rattle.std.specs.declared.sync.Arc.{Arc}
 use Rattle.std.specs.declared.alloc.Global.{Global}
-use Rattle.std.proofs.lemmas.List.{take_more, take_all, append-nil, length-map}
+use Rattle.std.proofs.lemmas.List.{take_more, take_all, append-nil}
 use Rattle.std.proofs.lemmas.List.Elements.{All-get_or, All-from_get_or}
 use Rattle.std.proofs.lemmas.List.Concat.{flat_map-append}
 use Rattle.std.proofs.lemmas.List.FromFn.{get_or-enumerate_from, length-enumerate_from}
 use Rattle.std.proofs.lemmas.List.Sums.{sum_by_more, sum_by-take-le, sum_by-le}
-use Rattle.std.proofs.lemmas.Bool.{ltb-false, cond-false}
+use Rattle.std.proofs.lemmas.Bool.{ltb-false, cond-true, cond-false}
 use Rattle.std.proofs.lemmas.Option.{slice_get-get_or, slice_get_within, get_or_from_slice_get, slice_get-map, slice_get_read, slice_get_cases}
 use Rattle.sol_base.specs.declared.key.Key.{Key}
 use Rattle.sol_base.specs.declared.account.Account.{Account}
@@ -93,25 +93,13 @@ index_in count metas k meta range e =
     let there : get_or metas k meta ≡ meta = get_or_from_slice_get metas k meta meta e in
     subst (λ (m : Meta). m.index < count) there (All-get_or (λ (m : Meta). m.index < count) metas k meta lt range)
 
--- the account of a meta, as the code finds it
-pub account_of_meta : (shares : List (Arc Account Global)) (metas : List Meta) (k : ℕ) (meta : Meta) (i : ℕ) (x : Arc Account Global) (a : Account) → AreInRange (length (accounts_of shares)) metas → slice_get metas k ≡ Some meta
-    → i ≡ meta.index → x ≡ get_or shares i x → a ≡ arc_value x → account_in (accounts_of shares) meta.index ≡ a
-account_of_meta shares metas k meta i x a range e is there same =
-    let count : length (accounts_of shares) ≡ length shares = length-map shares (λ (share : Arc Account Global). arc_value share) in
-    let below : meta.index < length (accounts_of shares) = index_in (length (accounts_of shares)) metas k meta range e in
-    ap (λ n. account_in (accounts_of shares) n) (sym is) ∙ account_there shares i x (omega arith) there ∙ sym same
-
-pub cond_true : {X : Type 0} (b : Bool) (x y : X) → b ≡ true → cond b x y ≡ x
-cond_true true x y e = refl
-cond_true false x y e = absurd (cc)
-
 -- an entry at a first listing
-pub entry_first : (keys : List Key) (accounts : List Account) (metas : List Meta) (k : ℕ) (meta : Meta) (key : Key) (account : Account) → is_first_listing metas (k, meta) ≡ true
+entry_first : (keys : List Key) (accounts : List Account) (metas : List Meta) (k : ℕ) (meta : Meta) (key : Key) (account : Account) → is_first_listing metas (k, meta) ≡ true
     → key_in keys meta.index ≡ key → account_in accounts meta.index ≡ account → entry_of keys accounts metas (k, meta) ≡ first_entry (is_listed_signer metas meta.index) (is_listed_writable metas meta.index) key account
 entry_first keys accounts metas k meta key account first same_key same_account =
     let signer : Bool = is_listed_signer metas meta.index in
     let writable : Bool = is_listed_writable metas meta.index in
-    cond_true (is_first_listing metas (k, meta)) (first_entry signer writable (key_in keys meta.index) (account_in accounts meta.index)) (repeated_entry (first_place metas meta.index)) first
+    cond-true (is_first_listing metas (k, meta)) (first_entry signer writable (key_in keys meta.index) (account_in accounts meta.index)) (repeated_entry (first_place metas meta.index)) first
     ∙ ap (λ (x : Key). first_entry signer writable x (account_in accounts meta.index)) same_key ∙ ap (λ (x : Account). first_entry signer writable key x) same_account
 
 pub entry_again : (keys : List Key) (accounts : List Account) (metas : List Meta) (k : ℕ) (meta : Meta) (i : ℕ) → is_first_listing metas (k, meta) ≡ false → i ≡ first_place metas meta.index → entry_of keys accounts metas (k, meta) ≡ repeated_entry i
@@ -120,7 +108,7 @@ entry_again keys accounts metas k meta i again is =
 
 pub size_first : (start : List Account) (metas : List Meta) (k : ℕ) (meta : Meta) (account : Account) → is_first_listing metas (k, meta) ≡ true → account_in start meta.index ≡ account → entry_size start metas (k, meta) ≡ first_size account
 size_first start metas k meta account first same =
-    cond_true (is_first_listing metas (k, meta)) (first_size (account_in start meta.index)) 8 first ∙ ap (λ (x : Account). first_size x) same
+    cond-true (is_first_listing metas (k, meta)) (first_size (account_in start meta.index)) 8 first ∙ ap (λ (x : Account). first_size x) same
 
 pub size_again : (start : List Account) (metas : List Meta) (k : ℕ) (meta : Meta) → is_first_listing metas (k, meta) ≡ false → entry_size start metas (k, meta) ≡ 8
 size_again start metas k meta again = cond-false (is_first_listing metas (k, meta)) (first_size (account_in start meta.index)) 8 again
@@ -194,7 +182,7 @@ patched_first region start now metas k meta s n entry first same_start same_now 
     let whole : List ℕ = take (entry_size start metas (k, meta)) (drop (entry_start start metas k) region) in
     let same : whole ≡ take (first_size s) (drop entry region) =
     ap (λ m. take m (drop (entry_start start metas k) region)) (size_first start metas k meta s first same_start) ∙ ap (λ m. take (first_size s) (drop m region)) (sym at) in
-    sym (cond_true (is_first_listing metas (k, meta)) (over_entry (account_in start meta.index) (account_in now meta.index) whole) whole first
+    sym (cond-true (is_first_listing metas (k, meta)) (over_entry (account_in start meta.index) (account_in now meta.index) whole) whole first
     ∙ ap (λ (x : Account). over_entry x (account_in now meta.index) whole) same_start ∙ ap (λ (x : Account). over_entry s x whole) same_now ∙ ap (λ (l : List ℕ). over_entry s n l) same)
 
 -- whether a length is refused, as the code finds it

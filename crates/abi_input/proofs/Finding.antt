@@ -14,7 +14,7 @@ use Rattle.abi_input.specs.Answers.{IsPlaceOf}
 use Rattle.abi_input.proofs.Entries.{item_at, item_within, all_items}
 
 -- one meta more
-pub found_step : (test : ℕ × Meta → Bool) (metas : List Meta) (k : ℕ) (meta : Meta) → slice_get metas k ≡ Some meta
+found_step : (test : ℕ × Meta → Bool) (metas : List Meta) (k : ℕ) (meta : Meta) → slice_get metas k ≡ Some meta
     → found_among test metas (k + 1) ≡ option_or (found_among test metas k) (cond (is_first_listing metas (k, meta) && test (k, meta)) (Some (k, meta)) None)
 found_step test metas k meta e =
     let items : List (ℕ × Meta) = enumerate_from 0 metas in
@@ -35,7 +35,7 @@ none_more test metas k meta d e is fails none =
     ∙ ap (λ b. cond b (Some (k, meta)) None) (sym is ∙ fails)
 
 -- what is found among the first metas is found among all
-pub found_stays : (test : ℕ × Meta → Bool) (metas : List Meta) (k : ℕ) (x : ℕ × Meta) → found_among test metas k ≡ Some x → found_among test metas (length metas) ≡ Some x
+found_stays : (test : ℕ × Meta → Bool) (metas : List Meta) (k : ℕ) (x : ℕ × Meta) → found_among test metas k ≡ Some x → found_among test metas (length metas) ≡ Some x
 found_stays test metas k x found =
     let items : List (ℕ × Meta) = enumerate_from 0 metas in
     let first : ℕ × Meta → Bool = is_first_listing metas in

@@ -3,7 +3,7 @@ use Rattle.std.proofs.Common.{◌≡◌, ◌<◌, ◌≤◌, ◌+◌, ℕ, zero,
 use Rattle.std.specs.Prelude.{Option, cond, nat_eq}
 use Rattle.std.specs.Option.{option_or}
 use Rattle.std.specs.List.{enumerate_from, find, flat_map}
-use Rattle.std.proofs.lemmas.Bool.{cond-false}
+use Rattle.std.proofs.lemmas.Bool.{cond-true, cond-false}
 use Rattle.std.proofs.lemmas.Bool.Decides.{nat_tests}
 use Rattle.std.proofs.lemmas.List.{drop_more, take-append-drop, take_all}
 use Rattle.std.proofs.lemmas.List.Concat.{flat_map-append}
@@ -14,7 +14,7 @@ use Rattle.sol_base.specs.declared.lock.Meta.{Meta}
 use Rattle.sol_base.specs.Metas.{is_first_listing, is_listed}
 use Rattle.abi_input.specs.Entries.{entry_among, AreLent}
 use Rattle.abi_input.specs.Region.{account_in, entry_size, entry_start, first_place, first_size, lent_entry, lent_in, lent_of}
-use Rattle.abi_input.proofs.Entries.{cond_true, flat_all, flat_more, item_at, item_within, start_more}
+use Rattle.abi_input.proofs.Entries.{flat_all, flat_more, item_at, item_within, start_more}
 use Rattle.abi_input.proofs.Listed.{first_of_account, IsFirstOf}
 
 -- what is lent for a first listing, as the code lends it
@@ -22,7 +22,7 @@ pub lent_first : (start now : List Account) (metas : List Meta) (k : ℕ) (meta 
     → lent_of (entry + 88) account ≡ lent_entry start now metas (k, meta)
 lent_first start now metas k meta entry account first at same =
     ap (λ n. lent_of (n + 88) account) at ∙ ap (λ (a : Account). lent_of (entry_start start metas k + 88) a) (sym same)
-    ∙ sym (cond_true (is_first_listing metas (k, meta)) (lent_of (entry_start start metas k + 88) (account_in now meta.index)) [] first)
+    ∙ sym (cond-true (is_first_listing metas (k, meta)) (lent_of (entry_start start metas k + 88) (account_in now meta.index)) [] first)
 
 pub lent_again : (start now : List Account) (metas : List Meta) (k : ℕ) (meta : Meta) → is_first_listing metas (k, meta) ≡ false → lent_entry start now metas (k, meta) ≡ []
 lent_again start now metas k meta again = cond-false (is_first_listing metas (k, meta)) (lent_of (entry_start start metas k + 88) (account_in now meta.index)) [] again

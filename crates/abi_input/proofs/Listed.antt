@@ -41,7 +41,7 @@ no_more None = refl
 no_more (Some x) = refl
 
 -- one meta more, which lists the account or not
-pub listing_more : (metas : List Meta) (k : ℕ) (d : Meta) (index : ℕ) → k < length metas
+listing_more : (metas : List Meta) (k : ℕ) (d : Meta) (index : ℕ) → k < length metas
     → listing_in (take (k + 1) metas) index ≡ cond (nat_eq (get_or metas k d).index index) (listed_again (listing_in (take k metas) index) k (get_or metas k d)) (listing_in (take k metas) index)
 listing_more metas k d index lt =
     let x : Meta = get_or metas k d in
@@ -131,7 +131,7 @@ some_is true n i e = cc
 some_is false n i e = absurd (cc)
 
 -- the first place is that of the listing
-pub first_is : (metas : List Meta) (index i : ℕ) → (listing_in metas index).first ≡ Some i → i ≡ first_place metas index
+first_is : (metas : List Meta) (index i : ℕ) → (listing_in metas index).first ≡ Some i → i ≡ first_place metas index
 first_is metas index i e = some_is _ _ i e
 
 -- whether a meta is the first listing of its account, by the place of the first

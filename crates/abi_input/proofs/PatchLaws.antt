@@ -1,5 +1,5 @@
 -- A region that is written over, as the code builds it.
-use Rattle.std.proofs.Common.{◌≡◌, ◌-◌, ℕ, List, [], ◌++◌, length, take, drop, None, Result, Ok, Err, refl, sym, ap, ◌∙◌}
+use Rattle.std.proofs.Common.{◌≡◌, ◌-◌, ℕ, List, [], ◌++◌, length, take, drop, None, Result, Ok, Err, refl, sym, ap, subst, ◌∙◌}
 use Rattle.std.specs.Prelude.{Option}
 use Rattle.std.specs.List.{enumerate_from, flat_map}
 use Rattle.std.proofs.lemmas.List.{take_rest}
@@ -25,9 +25,16 @@ patched_whole region start now metas d d1 d2 d3 end n fits none one two three at
     ap (λ (o : Option (ℕ × Meta)). unless_found o ((take 8 region ++ entries) ++ drop (entry_start start metas (length metas)) region)) (sym (found_all (is_outgrown start now) metas) ∙ fits)
     ∙ ap (λ (l : List ℕ). let r : Result (List ℕ) ℕ = Ok l in r) (sym whole)
 
-pub patch_refused : (region : List ℕ) (start now : List Account) (metas : List Meta) (fault : PatchFault) → RefusesPatch (found_among (is_outgrown start now) metas (length metas)) fault → Patches (patched region start now metas) region region (Err fault)
+refused : (region : List ℕ) (start now : List Account) (metas : List Meta) (fault : PatchFault) → RefusesPatch (found_among (is_outgrown start now) metas (length metas)) fault → Patches (patched region start now metas) region region (Err fault)
 unfolding patched
-patch_refused region start now metas (LengthTooLarge i) h =
+refused region start now metas (LengthTooLarge i) h =
     let whole : List ℕ = (take 8 region ++ flat_map (patched_entry region start now metas) (enumerate_from 0 metas)) ++ drop (entry_start start metas (length metas)) region in
     (ap (λ (o : Option (ℕ × Meta)). unless_found o whole) (sym (found_all (is_outgrown start now) metas)) ∙ refused_back (found_among (is_outgrown start now) metas (length metas)) i whole h, refl)
-patch_refused region start now metas OutOfMemory h = refl
+refused region start now metas OutOfMemory h = refl
+
+-- the same, of what the region was laid out from
+pub patch_refused : (region : List ℕ) (start laid_start now : List Account) (metas laid_metas : List Meta) (fault : PatchFault) → laid_start ≡ start → laid_metas ≡ metas
+    → RefusesPatch (found_among (is_outgrown laid_start now) laid_metas (length laid_metas)) fault → Patches (patched region start now metas) region region (Err fault)
+patch_refused region start laid_start now metas laid_metas fault same_start same_metas h =
+    subst (λ (s : List Account). Patches (patched region s now metas) region region (Err fault)) same_start
+    (subst (λ (m : List Meta). Patches (patched region laid_start now m) region region (Err fault)) same_metas (refused region laid_start now laid_metas fault h))

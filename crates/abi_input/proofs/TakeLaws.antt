@@ -128,36 +128,28 @@ taken_more f now shares k x t lt there is so_far =
     length_map : length (accounts_of now) ≡ length now
     length_map = length-map now (λ (share : Arc Account Global). arc_value share)
 
--- one flag more
-pub untouched_more : (touched : List Bool) (t : Bool) (before after : List Account) (k : ℕ) (a : Account) → length touched ≡ k → length after ≡ k → (t ≡ false → slice_get before k ≡ Some a) → SameUnlessTouched touched before after → SameUnlessTouched (touched ++ t ∷ []) before (after ++ a ∷ [])
-untouched_more touched t before after k a flags long same so_far i e = elim (cases_lt i k) [ inl below ↦ earlier below | inr past ↦ later past ]
-  where
-    earlier : i < k → slice_get (after ++ a ∷ []) i ≡ slice_get before i
-    earlier below =
-        let flag : slice_get (touched ++ t ∷ []) i ≡ Some (get_or touched i t) = slice_get-get_or (touched ++ t ∷ []) i t (simp length-append (omega arith)) ∙ ap Some (get_or-append touched (t ∷ []) t i (omega arith)) in
-        let was : slice_get touched i ≡ Some false = slice_get-get_or touched i t (omega arith) ∙ sym flag ∙ e in
-        slice_get-get_or (after ++ a ∷ []) i a (simp length-append (omega arith)) ∙ ap Some (get_or-append after (a ∷ []) a i (omega arith)) ∙ sym (slice_get-get_or after i a (omega arith)) ∙ so_far i was
-
-    later : k ≤ i → slice_get (after ++ a ∷ []) i ≡ slice_get before i
-    later past =
-        let within : i < length (touched ++ t ∷ []) = slice_get_within (touched ++ t ∷ []) i false e in
-        let total : length (touched ++ t ∷ []) ≡ length touched + 1 = length-append touched (t ∷ []) in
-        let here : i ≡ k = omega arith in
-        let flag : slice_get (touched ++ t ∷ []) (length touched) ≡ Some t = slice_get-get_or (touched ++ t ∷ []) (length touched) t (omega arith) ∙ ap Some (get_or-append_seam touched t [] t) in
-        let same_place : i ≡ length touched = omega arith in
-        let unset : t ≡ false = some_same (sym flag ∙ ap (λ n. slice_get (touched ++ t ∷ []) n) (sym same_place) ∙ e) in
-        let seam : slice_get (after ++ a ∷ []) (length after) ≡ Some a = slice_get-get_or (after ++ a ∷ []) (length after) a (rw (length-append after (a ∷ [])) (omega arith)) ∙ ap Some (get_or-append_seam after a [] a) in
-        let after_place : i ≡ length after = omega arith in
-        ap (λ n. slice_get (after ++ a ∷ []) n) after_place ∙ seam ∙ sym (same unset) ∙ ap (λ n. slice_get before n) (sym here)
-      where
-        some_same : {x y : Bool} → Some x ≡ Some y → x ≡ y
-        some_same h = cc
-
+-- one item more, behind others
 appended_before : {X : Type 0} (xs : List X) (x : X) (i : ℕ) → i < length xs → slice_get (xs ++ x ∷ []) i ≡ slice_get xs i
 appended_before xs x i below = slice_get-get_or (xs ++ x ∷ []) i x (simp length-append (omega arith)) ∙ ap Some (get_or-append xs (x ∷ []) x i below) ∙ sym (slice_get-get_or xs i x below)
 
 appended_last : {X : Type 0} (xs : List X) (x : X) → slice_get (xs ++ x ∷ []) (length xs) ≡ Some x
 appended_last xs x = slice_get-get_or (xs ++ x ∷ []) (length xs) x (rw (length-append xs (x ∷ [])) (omega arith)) ∙ ap Some (get_or-append_seam xs x [] x)
+
+-- one flag more
+pub untouched_more : (touched : List Bool) (t : Bool) (before after : List Account) (k : ℕ) (a : Account) → length touched ≡ k → length after ≡ k → (t ≡ false → slice_get before k ≡ Some a) → SameUnlessTouched touched before after → SameUnlessTouched (touched ++ t ∷ []) before (after ++ a ∷ [])
+untouched_more touched t before after k a flags long same so_far i e = elim (cases_lt i k) [ inl below ↦ earlier below | inr past ↦ later past ]
+  where
+    earlier : i < k → slice_get (after ++ a ∷ []) i ≡ slice_get before i
+    earlier below = appended_before after a i (omega arith) ∙ so_far i (sym (appended_before touched t i (omega arith)) ∙ e)
+
+    later : k ≤ i → slice_get (after ++ a ∷ []) i ≡ slice_get before i
+    later past =
+        let within : i < length (touched ++ t ∷ []) = slice_get_within (touched ++ t ∷ []) i false e in
+        let total : length (touched ++ t ∷ []) ≡ length touched + 1 = length-append touched (t ∷ []) in
+        let here : i ≡ length touched = omega arith in
+        let there : i ≡ length after = omega arith in
+        let unset : t ≡ false = same_Some t false (sym (appended_last touched t) ∙ ap (λ n. slice_get (touched ++ t ∷ []) n) (sym here) ∙ e) in
+        ap (λ n. slice_get (after ++ a ∷ []) n) there ∙ appended_last after a ∙ sym (same unset) ∙ ap (λ n. slice_get before n) (sym (here ∙ flags))
 
 pub touched_more : (touched : List Bool) (t : Bool) (before after : List Account) (k : ℕ) (a : Account) → length touched ≡ k → length after ≡ k → (t ≡ true → ¬ (Some a ≡ slice_get before k)) → DifferWhereTouched touched before after → DifferWhereTouched (touched ++ t ∷ []) before (after ++ a ∷ [])
 touched_more touched t before after k a flags long differs so_far i e = λ same. elim (cases_lt i k) [ inl below ↦ earlier same below | inr past ↦ later same past ]
@@ -181,15 +173,26 @@ back_is region start now metas accounts fits is =
     ap (λ (o : Option (ℕ × Meta)). unless_found o (map (account_back region start metas) (enumerate_from 0 now))) (sym (found_all (is_too_long region start metas) metas) ∙ fits)
     ∙ ap (λ (l : List Account). let r : Result (List Account) ℕ = Ok l in r) (sym is)
 
-pub back_refused : (region : List ℕ) (start now : List Account) (metas : List Meta) (i : ℕ) → IsPlaceOf (found_among (is_too_long region start metas) metas (length metas)) i → back region start now metas ≡ Err i
+back_refused : (region : List ℕ) (start now : List Account) (metas : List Meta) (i : ℕ) → IsPlaceOf (found_among (is_too_long region start metas) metas (length metas)) i → back region start now metas ≡ Err i
 unfolding back
 back_refused region start now metas i h =
     ap (λ (o : Option (ℕ × Meta)). unless_found o (map (account_back region start metas) (enumerate_from 0 now))) (sym (found_all (is_too_long region start metas) metas))
     ∙ refused_back (found_among (is_too_long region start metas) metas (length metas)) i (map (account_back region start metas) (enumerate_from 0 now)) h
 
-pub take_back_refused : (region : List ℕ) (start now : List Account) (metas : List Meta) (fault : BackFault) → RefusesBack (found_among (is_too_long region start metas) metas (length metas)) fault → TakesBack (back region start now metas) (Err fault)
-take_back_refused region start now metas (LengthTooLarge i) h = back_refused region start now metas i h
-take_back_refused region start now metas OutOfMemory h = tt
+refused : (region : List ℕ) (start now : List Account) (metas : List Meta) (fault : BackFault) → RefusesBack (found_among (is_too_long region start metas) metas (length metas)) fault → TakesBack (back region start now metas) (Err fault)
+refused region start now metas (LengthTooLarge i) h = back_refused region start now metas i h
+refused region start now metas OutOfMemory h = tt
+
+-- the accounts of a region are those of what it was laid out from
+pub same_back : (region laid_region : List ℕ) (start laid_start now : List Account) (metas laid_metas : List Meta) → laid_region ≡ region → laid_start ≡ start → laid_metas ≡ metas → back laid_region laid_start now laid_metas ≡ back region start now metas
+same_back region laid_region start laid_start now metas laid_metas same_region same_start same_metas =
+    ap (λ (r : List ℕ). back r laid_start now laid_metas) same_region ∙ ap (λ (s : List Account). back region s now laid_metas) same_start ∙ ap (λ (m : List Meta). back region start now m) same_metas
+
+pub take_back_refused : (region laid_region : List ℕ) (start laid_start now : List Account) (metas laid_metas : List Meta) (fault : BackFault) → laid_region ≡ region → laid_start ≡ start → laid_metas ≡ metas
+    → RefusesBack (found_among (is_too_long laid_region laid_start laid_metas) laid_metas (length laid_metas)) fault → TakesBack (back region start now metas) (Err fault)
+take_back_refused region laid_region start laid_start now metas laid_metas fault same_region same_start same_metas h =
+    subst (λ (wanted : Result (List Account) ℕ). TakesBack wanted (Err fault)) (same_back region laid_region start laid_start now metas laid_metas same_region same_start same_metas)
+    (refused laid_region laid_start now laid_metas fault h)
 
 -- a share among others, as a value
 pub shared_at : (now : List (Arc Account Global)) (k : ℕ) (x : Arc Account Global) → k < length now → x ≡ get_or now k x → slice_get (accounts_of now) k ≡ Some (arc_value x)

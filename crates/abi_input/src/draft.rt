@@ -18,6 +18,7 @@ const OWN_LEN: usize = 104;
 /// A list of parts while it is made: those that are done, and bytes of its own that may go on.
 #[derive(Drop)]
 pub struct Draft {
+    alloc: Global,
     done: Items<Part>,
     last: Blob,
 }
@@ -39,6 +40,7 @@ impl Draft {
         ensures lent { IfOk result (λ draft. draft.lent ≡ []) }
     {
         Ok(Draft {
+            alloc,
             done: Items::with_capacity(alloc, parts)?,
             last: Blob::with_capacity(alloc, OWN_LEN)?,
         })
@@ -52,41 +54,45 @@ impl Draft {
     }
 
     /// Adds the data of an account, which are lent.
-    pub fn lend(&mut self, alloc: Global, account: &Arc<Account>) -> Result<(), OutOfMemory>
+    pub fn lend(&mut self, account: &Arc<Account>) -> Result<(), OutOfMemory>
         ensures bytes { OnOk result
             (let value : AccountValue = arc_value account.now in
             self.new.bytes ≡ self.old.bytes ++ value.bytes) }
         ensures lent { OnOk result (self.new.lent
             ≡ self.old.lent ++ lent_of (length self.old.bytes) (arc_value account.now)) }
     {
-        self.add(alloc, Part::Lent(Arc::try_clone(account)?))
+        self.add(Part::Lent(Arc::try_clone(account)?))
     }
 
     /// Adds so many zeros, which stand nowhere yet.
-    pub fn zeros(&mut self, alloc: Global, count: u32) -> Result<(), OutOfMemory>
+    pub fn zeros(&mut self, count: u32) -> Result<(), OutOfMemory>
         ensures bytes { OnOk result (self.new.bytes ≡ self.old.bytes ++ replicate count 0) }
         ensures lent { OnOk result (self.new.lent ≡ self.old.lent) }
     {
-        self.add(alloc, Part::Zeros(count))
+        self.add(Part::Zeros(count))
     }
 
     /// Adds a part behind the bytes that came so far.
-    fn add(&mut self, alloc: Global, part: Part) -> Result<(), OutOfMemory>
+    fn add(&mut self, part: Part) -> Result<(), OutOfMemory>
         ensures bytes { OnOk result (self.new.bytes ≡ self.old.bytes ++ part_bytes part) }
         ensures lent { OnOk result
             (self.new.lent ≡ self.old.lent ++ lent_by (length self.old.bytes) part) }
     {
-        close(alloc, &mut self.done, &mut self.last)?;
+        close(self.alloc, &mut self.done, &mut self.last)?;
         self.done.push(part)?;
         Ok(())
     }
 
     /// The list of the parts.
-    pub fn finish(self, alloc: Global) -> Result<Parts, OutOfMemory>
+    pub fn finish(self) -> Result<Parts, OutOfMemory>
         requires { length self.bytes < 2 ^ 32 }
         ensures { IfOk result (λ region. region ≡ unprepared self.bytes self.lent) }
     {
-        let Draft { mut done, last } = self;
+        let Draft {
+            alloc,
+            mut done,
+            last,
+        } = self;
         done.push(Part::Bytes(last))?;
         Parts::from_items(alloc, done)
     }

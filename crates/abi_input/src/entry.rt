@@ -9,10 +9,9 @@ ghost use Rattle.abi_input.specs.Listing.{IsTableOf};
 ghost use Rattle.abi_input.specs.Region.{entry_size, entry_start, first_entry, first_size, lent_of, padding, repeated_entry, room_of, state_bytes};
 
 use crate::draft::Draft;
-use crate::listing::{Listing, PLACES, is_first};
+use crate::listing::Listing;
 use data_parts::Parts;
-use sol_base::{Account, Key, Meta, OutOfMemory};
-use std::alloc::Global;
+use sol_base::{Account, Key, OutOfMemory};
 use std::sync::Arc;
 
 /// By how many bytes a program may make an account longer in one frame (Solana; that a transaction
@@ -65,12 +64,7 @@ pub fn first_len(account: &Account) -> usize
 
 /// Adds what a program may change of an account, its data lent, and zeros up to the end of the
 /// room.
-pub fn add_state(
-    alloc: Global,
-    draft: &mut Draft,
-    room: usize,
-    account: &Arc<Account>,
-) -> Result<(), OutOfMemory>
+pub fn add_state(draft: &mut Draft, room: usize, account: &Arc<Account>) -> Result<(), OutOfMemory>
     requires room { room < 2 ^ 32 }
     requires fits { let value : AccountValue = arc_value account.now in length value.bytes ≤ room }
     ensures bytes { OnOk result (draft.new.bytes
@@ -84,23 +78,22 @@ pub fn add_state(
     draft.append(&value.owner.0)?;
     draft.append(&value.lamports.to_le_bytes())?;
     draft.append(&(len as u64).to_le_bytes())?;
-    draft.lend(alloc, account)?;
-    draft.zeros(alloc, (room - len) as u32)?;
+    draft.lend(account)?;
+    draft.zeros((room - len) as u32)?;
     Ok(())
 }
 
 /// Adds the entry of an account where it is listed first.
 pub fn add_first(
-    alloc: Global,
     draft: &mut Draft,
-    signer: bool,
-    writable: bool,
+    listing: Listing,
     key: &Key,
     account: &Arc<Account>,
 ) -> Result<(), OutOfMemory>
     requires { IsShort (arc_value account.now) }
     ensures bytes { OnOk result (draft.new.bytes
-        ≡ draft.old.bytes ++ first_entry signer writable key.now (arc_value account.now)) }
+        ≡ draft.old.bytes ++ first_entry listing.signer listing.writable key.now
+        (arc_value account.now)) }
     ensures lent { OnOk result (draft.new.lent
         ≡ draft.old.lent ++ lent_of (length draft.old.bytes + 88) (arc_value account.now)) }
     ensures size { OnOk result (length draft.new.bytes
@@ -109,38 +102,17 @@ pub fn add_first(
     let value: &Account = account;
     let flags = [
         NOT_LISTED_BEFORE,
-        u8::from(signer),
-        u8::from(writable),
+        u8::from(listing.signer),
+        u8::from(listing.writable),
         u8::from(value.executable),
     ];
     draft.append(&flags)?;
     draft.append(&[0; 4])?;
     draft.append(&key.0)?;
-    add_state(alloc, draft, room_for(value), account)?;
+    add_state(draft, room_for(value), account)?;
     draft.append(&[0; 8][..padding_for(value)])?;
     draft.append(&u64::MAX.to_le_bytes())?;
     Ok(())
-}
-
-/// How many bytes the region has of a meta.
-pub fn entry_len(
-    start: &[Arc<Account>],
-    metas: &[Meta],
-    table: &[Listing; PLACES],
-    place: usize,
-    meta: &Meta,
-) -> usize
-    requires range { AreInRange (length (accounts_of start.now)) metas.now }
-    requires table { IsTableOf metas.now table.now }
-    requires there { slice_get metas.now place ≡ Some meta.now }
-    requires most { entry_start (accounts_of start.now) metas.now (length metas.now) < 2 ^ 32 }
-    ensures { result ≡ entry_size (accounts_of start.now) metas.now (place, meta.now) }
-{
-    if is_first(metas, table, place, meta) {
-        first_len(&start[usize::from(meta.index)])
-    } else {
-        REPEATED_LEN
-    }
 }
 
 /// Adds the entry of an account that was listed before, first at this place.

@@ -4,12 +4,12 @@ ghost use Rattle.std.specs.List.{enumerate_from, flat_map};
 ghost use Rattle.sol_base.specs.Accounts.{accounts_of, AreShort};
 ghost use Rattle.sol_base.specs.Metas.{AreInRange};
 ghost use Rattle.data_parts.specs.Parts.{unprepared};
-ghost use Rattle.abi_input.specs.Listing.{IsTableOf};
 ghost use Rattle.abi_input.specs.Region.{entry_of, entry_size, entry_start, input_of, lent_entry, lent_in, max_input_len, max_metas, number_bytes, IsRegionOf};
 
 use crate::draft::Draft;
 use crate::entry::{add_first, add_repeated};
-use crate::listing::{Listing, PLACES, is_first, listing_of, listings};
+use crate::listing::Listings;
+use crate::region::account_of;
 use data_parts::Parts;
 use sol_base::{Account, Key, Meta, OutOfMemory};
 use std::alloc::Global;
@@ -40,7 +40,7 @@ pub fn lay_out(
 {
     let mut draft = draft_accounts(alloc, keys, accounts, metas)?;
     add_instruction(&mut draft, input, program)?;
-    draft.finish(alloc)
+    draft.finish()
 }
 
 /// The first half of a region: how many accounts are listed, and what the region has of each.
@@ -68,7 +68,7 @@ fn draft_accounts(
 {
     let mut draft = Draft::new(alloc, parts_for(metas))?;
     draft.append(&(metas.len() as u64).to_le_bytes())?;
-    add_entries(alloc, &mut draft, keys, accounts, metas)?;
+    add_entries(&mut draft, keys, accounts, &Listings::of(metas))?;
     Ok(draft)
 }
 
@@ -93,68 +93,64 @@ pub fn parts_for(metas: &[Meta]) -> usize {
 
 /// Adds what the region has of each meta.
 fn add_entries(
-    alloc: Global,
     draft: &mut Draft,
     keys: &[Key],
     accounts: &[Arc<Account>],
-    metas: &[Meta],
+    listings: &Listings<'_>,
 ) -> Result<(), OutOfMemory>
     requires count { length (accounts_of accounts.now) ≡ length keys.now }
-    requires most { length metas.now ≤ max_metas }
-    requires range { AreInRange (length (accounts_of accounts.now)) metas.now }
+    requires range { AreInRange (length (accounts_of accounts.now)) listings.now.metas.now }
     requires short { AreShort (accounts_of accounts.now) }
     requires start { length draft.old.bytes ≡ 8 }
     ensures bytes { OnOk result (draft.new.bytes
-        ≡ draft.old.bytes ++ flat_map (entry_of keys.now (accounts_of accounts.now) metas.now)
-        (enumerate_from 0 metas.now)) }
+        ≡ draft.old.bytes
+        ++ flat_map (entry_of keys.now (accounts_of accounts.now) listings.now.metas.now)
+        (enumerate_from 0 listings.now.metas.now)) }
     ensures lent { OnOk result (draft.new.lent
         ≡ draft.old.lent
-        ++ lent_in (accounts_of accounts.now) (accounts_of accounts.now) metas.now) }
+        ++ lent_in (accounts_of accounts.now) (accounts_of accounts.now)
+        listings.now.metas.now) }
     ensures size { OnOk result (length draft.new.bytes
-        ≡ entry_start (accounts_of accounts.now) metas.now (length metas.now)) }
+        ≡ entry_start (accounts_of accounts.now) listings.now.metas.now
+        (length listings.now.metas.now)) }
 {
-    let table = listings(metas);
-    for (place, meta) in metas.iter().enumerate() {
-        add_entry(alloc, draft, keys, accounts, metas, &table, place, meta)?;
+    for (place, meta) in listings.metas.iter().enumerate() {
+        add_entry(draft, keys, accounts, listings, place, meta)?;
     }
     Ok(())
 }
 
 /// Adds what the region has of one meta.
 fn add_entry(
-    alloc: Global,
     draft: &mut Draft,
     keys: &[Key],
     accounts: &[Arc<Account>],
-    metas: &[Meta],
-    table: &[Listing; PLACES],
+    listings: &Listings<'_>,
     place: usize,
     meta: &Meta,
 ) -> Result<(), OutOfMemory>
     requires count { length (accounts_of accounts.now) ≡ length keys.now }
-    requires range { AreInRange (length (accounts_of accounts.now)) metas.now }
+    requires range { AreInRange (length (accounts_of accounts.now)) listings.now.metas.now }
     requires short { AreShort (accounts_of accounts.now) }
-    requires table { IsTableOf metas.now table.now }
-    requires there { slice_get metas.now place ≡ Some meta.now }
+    requires there { slice_get listings.now.metas.now place ≡ Some meta.now }
     requires start { length draft.old.bytes
-        ≡ entry_start (accounts_of accounts.now) metas.now place }
+        ≡ entry_start (accounts_of accounts.now) listings.now.metas.now place }
     ensures bytes { OnOk result (draft.new.bytes
         ≡ draft.old.bytes
-        ++ entry_of keys.now (accounts_of accounts.now) metas.now (place, meta.now)) }
+        ++ entry_of keys.now (accounts_of accounts.now) listings.now.metas.now
+        (place, meta.now)) }
     ensures lent { OnOk result (draft.new.lent
         ≡ draft.old.lent
-        ++ lent_entry (accounts_of accounts.now) (accounts_of accounts.now) metas.now
-        (place, meta.now)) }
+        ++ lent_entry (accounts_of accounts.now) (accounts_of accounts.now)
+        listings.now.metas.now (place, meta.now)) }
     ensures size { OnOk result (length draft.new.bytes
         ≡ length draft.old.bytes
-        + entry_size (accounts_of accounts.now) metas.now (place, meta.now)) }
+        + entry_size (accounts_of accounts.now) listings.now.metas.now (place, meta.now)) }
 {
-    let index = usize::from(meta.index);
-    let listing = listing_of(metas, table, meta);
-    if is_first(metas, table, place, meta) {
-        let key = &keys[index];
-        let account = &accounts[index];
-        add_first(alloc, draft, listing.signer, listing.writable, key, account)
+    let listing = listings.listing_of(meta);
+    if listings.is_first(place, meta) {
+        let key = &keys[usize::from(meta.index)];
+        add_first(draft, listing, key, account_of(accounts, meta))
     } else {
         add_repeated(draft, listing.first.unwrap_or(0))
     }

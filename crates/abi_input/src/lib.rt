@@ -9,6 +9,7 @@ mod laws;
 mod laying;
 mod listing;
 mod patching;
+mod region;
 mod taking;
 
 pub use fault::{BackFault, PatchFault};

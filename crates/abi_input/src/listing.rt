@@ -31,8 +31,47 @@ impl Listing {
     }
 }
 
+/// A list of metas, with how it lists each account.
+#[derive(Drop)]
+pub struct Listings<'a> {
+    pub metas: &'a [Meta],
+    table: [Listing; PLACES],
+    ghost few: { length metas.now ≤ max_metas },
+    ghost listed: { IsTableOf metas.now table },
+}
+
+impl<'a> Listings<'a> {
+    pub fn of(metas: &'a [Meta]) -> Listings<'a>
+        requires { length metas.now ≤ max_metas }
+        ensures { result.metas.now ≡ metas.now }
+    {
+        Listings {
+            metas,
+            table: table_of(metas),
+        }
+    }
+
+    /// How the list lists the account of a meta.
+    pub fn listing_of(&self, meta: &Meta) -> Listing
+        ensures { result ≡ listing_in self.now.metas.now meta.now.index }
+    {
+        self.table[usize::from(meta.index)]
+    }
+
+    /// No meta before this one lists its account. `place` is that of the meta in the list.
+    pub fn is_first(&self, place: usize, meta: &Meta) -> bool
+        requires { slice_get self.now.metas.now place ≡ Some meta.now }
+        ensures { result ≡ is_first_listing self.now.metas.now (place, meta.now) }
+    {
+        match self.listing_of(meta).first {
+            Some(first) => usize::from(first) >= place,
+            None => true,
+        }
+    }
+}
+
 /// How the list lists each account, by its place among the transaction's keys.
-pub fn listings(metas: &[Meta]) -> [Listing; PLACES]
+fn table_of(metas: &[Meta]) -> [Listing; PLACES]
     requires { length metas.now ≤ max_metas }
     ensures { IsTableOf metas.now result }
 {
@@ -46,24 +85,4 @@ pub fn listings(metas: &[Meta]) -> [Listing; PLACES]
         table[index] = table[index].with(place as u8, meta);
     }
     table
-}
-
-/// How the list lists the account of a meta.
-pub fn listing_of(metas: &[Meta], table: &[Listing; PLACES], meta: &Meta) -> Listing
-    requires { IsTableOf metas.now table.now }
-    ensures { result ≡ listing_in metas.now meta.now.index }
-{
-    table[usize::from(meta.index)]
-}
-
-/// No meta before this one lists its account. `place` is that of the meta in the list.
-pub fn is_first(metas: &[Meta], table: &[Listing; PLACES], place: usize, meta: &Meta) -> bool
-    requires table { IsTableOf metas.now table.now }
-    requires there { slice_get metas.now place ≡ Some meta.now }
-    ensures { result ≡ is_first_listing metas.now (place, meta.now) }
-{
-    match listing_of(metas, table, meta).first {
-        Some(first) => usize::from(first) >= place,
-        None => true,
-    }
 }

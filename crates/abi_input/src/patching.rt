@@ -5,19 +5,17 @@ ghost use Rattle.std.specs.List.{enumerate_from, flat_map};
 ghost use Rattle.sol_base.specs.declared.account.Account.{Account as AccountValue};
 ghost use Rattle.sol_base.specs.Accounts.{accounts_of};
 ghost use Rattle.sol_base.specs.Metas.{AreInRange, is_first_listing};
-ghost use Rattle.abi_input.specs.Listing.{IsTableOf};
 ghost use Rattle.abi_input.specs.Region.{entry_size, entry_start, first_size, is_outgrown, lent_entry, lent_in, lent_of, max_metas, over_entry, patched, patched_entry, room_of, IsRegionOf};
 ghost use Rattle.abi_input.specs.Entries.{found_among};
 ghost use Rattle.abi_input.specs.Answers.{Patches, RefusesPatch};
 
 use crate::draft::Draft;
 use crate::entry::{
-    DATA_AT, FIRST_ENTRY, LAST_LEN, OWNER_AT, REPEATED_LEN, add_state, entry_len, padding_for,
-    room_for,
+    DATA_AT, FIRST_ENTRY, LAST_LEN, OWNER_AT, REPEATED_LEN, add_state, padding_for, room_for,
 };
 use crate::fault::PatchFault;
 use crate::laying::parts_for;
-use crate::listing::{Listing, PLACES, is_first, listings};
+use crate::region::{LaidOut, account_of};
 use data_parts::Parts;
 use sol_base::{Account, Meta, OutOfMemory};
 use std::alloc::Global;
@@ -47,35 +45,26 @@ pub fn patch(
     ensures kept { OnErr result (region.new.lent ≡ region.old.lent) }
     ensures size { length region.new.bytes ≡ length region.old.bytes }
 {
-    let _len = region.len();
-    let table = listings(metas);
-    check_rooms(start, now, metas, &table)?;
-    let next = patched_region(alloc, region, start, now, metas, &table)?;
+    let laid = LaidOut::of(region, start, metas);
+    check_rooms(&laid, now)?;
+    let next = patched_region(alloc, &laid, now)?;
     *region = next;
     Ok(())
 }
 
 /// No account has outgrown its place in the region.
-fn check_rooms(
-    start: &[Arc<Account>],
-    now: &[Arc<Account>],
-    metas: &[Meta],
-    table: &[Listing; PLACES],
-) -> Result<(), PatchFault>
-    requires count { length (accounts_of now.now) ≡ length (accounts_of start.now) }
-    requires most { length metas.now ≤ max_metas }
-    requires range { AreInRange (length (accounts_of start.now)) metas.now }
-    requires table { IsTableOf metas.now table.now }
-    requires sizes { entry_start (accounts_of start.now) metas.now (length metas.now) < 2 ^ 32 }
+fn check_rooms(laid: &LaidOut<'_>, now: &[Arc<Account>]) -> Result<(), PatchFault>
+    requires count { length (accounts_of now.now) ≡ length (accounts_of laid.now.start.now) }
     ensures ok { OnOk result
-        (found_among (is_outgrown (accounts_of start.now) (accounts_of now.now)) metas.now
-        (length metas.now) ≡ None) }
+        (found_among (is_outgrown (accounts_of laid.now.start.now) (accounts_of now.now))
+        laid.now.listings.metas.now (length laid.now.listings.metas.now) ≡ None) }
     ensures err { IfErr result
-        (RefusesPatch (found_among (is_outgrown (accounts_of start.now) (accounts_of now.now))
-        metas.now (length metas.now))) }
+        (RefusesPatch
+        (found_among (is_outgrown (accounts_of laid.now.start.now) (accounts_of now.now))
+        laid.now.listings.metas.now (length laid.now.listings.metas.now))) }
 {
-    for (place, meta) in metas.iter().enumerate() {
-        if outgrows(start, now, metas, table, place, meta) {
+    for (place, meta) in laid.listings.metas.iter().enumerate() {
+        if outgrows(laid, now, place, meta) {
             return Err(PatchFault::LengthTooLarge { i: place as u8 });
         }
     }
@@ -83,99 +72,78 @@ fn check_rooms(
 }
 
 /// The meta is the first listing of an account that has outgrown its place.
-fn outgrows(
-    start: &[Arc<Account>],
-    now: &[Arc<Account>],
-    metas: &[Meta],
-    table: &[Listing; PLACES],
-    place: usize,
-    meta: &Meta,
-) -> bool
-    requires count { length (accounts_of now.now) ≡ length (accounts_of start.now) }
-    requires range { AreInRange (length (accounts_of start.now)) metas.now }
-    requires table { IsTableOf metas.now table.now }
-    requires there { slice_get metas.now place ≡ Some meta.now }
-    requires most { entry_start (accounts_of start.now) metas.now (length metas.now) < 2 ^ 32 }
-    ensures { result ≡ (is_first_listing metas.now (place, meta.now)
-        && is_outgrown (accounts_of start.now) (accounts_of now.now) (place, meta.now)) }
+fn outgrows(laid: &LaidOut<'_>, now: &[Arc<Account>], place: usize, meta: &Meta) -> bool
+    requires count { length (accounts_of now.now) ≡ length (accounts_of laid.now.start.now) }
+    requires there { slice_get laid.now.listings.metas.now place ≡ Some meta.now }
+    ensures { result ≡ (is_first_listing laid.now.listings.metas.now (place, meta.now)
+        && is_outgrown (accounts_of laid.now.start.now) (accounts_of now.now)
+        (place, meta.now)) }
 {
-    if !is_first(metas, table, place, meta) {
+    if !laid.listings.is_first(place, meta) {
         return false;
     }
-    let index = usize::from(meta.index);
-    let start: &Account = &start[index];
-    let now: &Account = &now[index];
+    let start: &Account = account_of(laid.start, meta);
+    let now: &Account = account_of(now, meta);
     now.bytes.len() > room_for(start)
 }
 
 /// The region with the states of the accounts written over it.
 fn patched_region(
     alloc: Global,
-    region: &Parts,
-    start: &[Arc<Account>],
+    laid: &LaidOut<'_>,
     now: &[Arc<Account>],
-    metas: &[Meta],
-    table: &[Listing; PLACES],
 ) -> Result<Parts, OutOfMemory>
-    requires count { length (accounts_of now.now) ≡ length (accounts_of start.now) }
-    requires most { length metas.now ≤ max_metas }
-    requires range { AreInRange (length (accounts_of start.now)) metas.now }
-    requires region { IsRegionOf (accounts_of start.now) metas.now region.now.bytes }
-    requires most_bytes { length region.now.bytes < 2 ^ 32 }
-    requires table { IsTableOf metas.now table.now }
-    requires rooms { found_among (is_outgrown (accounts_of start.now) (accounts_of now.now))
-        metas.now (length metas.now) ≡ None }
+    requires count { length (accounts_of now.now) ≡ length (accounts_of laid.now.start.now) }
+    requires rooms { found_among (is_outgrown (accounts_of laid.now.start.now) (accounts_of now.now))
+        laid.now.listings.metas.now (length laid.now.listings.metas.now) ≡ None }
     ensures bytes { IfOk result
-        (λ next. patched region.now.bytes (accounts_of start.now) (accounts_of now.now) metas.now
-        ≡ Ok next.bytes) }
+        (λ next. patched laid.now.region.now.bytes (accounts_of laid.now.start.now)
+        (accounts_of now.now) laid.now.listings.metas.now ≡ Ok next.bytes) }
     ensures lent { IfOk result
-        (λ next. next.lent ≡ lent_in (accounts_of start.now) (accounts_of now.now) metas.now) }
-    ensures size { IfOk result (λ next. length next.bytes ≡ length region.now.bytes) }
+        (λ next. next.lent
+        ≡ lent_in (accounts_of laid.now.start.now) (accounts_of now.now)
+        laid.now.listings.metas.now) }
+    ensures size { IfOk result
+        (λ next. length next.bytes ≡ length laid.now.region.now.bytes) }
 {
-    let mut draft = Draft::new(alloc, parts_for(metas))?;
-    copy(&mut draft, region, 0, FIRST_ENTRY)?;
-    let end = patch_entries(alloc, &mut draft, region, start, now, metas, table)?;
-    copy(&mut draft, region, end, region.len() - end)?;
-    draft.finish(alloc)
+    let mut draft = Draft::new(alloc, parts_for(laid.listings.metas))?;
+    copy(&mut draft, laid.region, 0, FIRST_ENTRY)?;
+    let end = patch_entries(&mut draft, laid, now)?;
+    copy(&mut draft, laid.region, end, laid.region.len() - end)?;
+    draft.finish()
 }
 
 /// Adds all entries, the states of the accounts written over them. Answers where they end.
 fn patch_entries(
-    alloc: Global,
     draft: &mut Draft,
-    region: &Parts,
-    start: &[Arc<Account>],
+    laid: &LaidOut<'_>,
     now: &[Arc<Account>],
-    metas: &[Meta],
-    table: &[Listing; PLACES],
 ) -> Result<usize, OutOfMemory>
-    requires count { length (accounts_of now.now) ≡ length (accounts_of start.now) }
-    requires most { length metas.now ≤ max_metas }
-    requires range { AreInRange (length (accounts_of start.now)) metas.now }
-    requires region { IsRegionOf (accounts_of start.now) metas.now region.now.bytes }
-    requires most_bytes { length region.now.bytes < 2 ^ 32 }
-    requires table { IsTableOf metas.now table.now }
-    requires rooms { found_among (is_outgrown (accounts_of start.now) (accounts_of now.now))
-        metas.now (length metas.now) ≡ None }
+    requires count { length (accounts_of now.now) ≡ length (accounts_of laid.now.start.now) }
+    requires rooms { found_among (is_outgrown (accounts_of laid.now.start.now) (accounts_of now.now))
+        laid.now.listings.metas.now (length laid.now.listings.metas.now) ≡ None }
     requires start { length draft.old.bytes ≡ 8 }
     ensures bytes { OnOk result (draft.new.bytes
         ≡ draft.old.bytes ++ flat_map
-        (patched_entry region.now.bytes (accounts_of start.now) (accounts_of now.now) metas.now)
-        (enumerate_from 0 metas.now)) }
+        (patched_entry laid.now.region.now.bytes (accounts_of laid.now.start.now)
+        (accounts_of now.now) laid.now.listings.metas.now)
+        (enumerate_from 0 laid.now.listings.metas.now)) }
     ensures lent { OnOk result (draft.new.lent
         ≡ draft.old.lent
-        ++ lent_in (accounts_of start.now) (accounts_of now.now) metas.now) }
+        ++ lent_in (accounts_of laid.now.start.now) (accounts_of now.now)
+        laid.now.listings.metas.now) }
     ensures size { OnOk result (length draft.new.bytes
-        ≡ entry_start (accounts_of start.now) metas.now (length metas.now)) }
+        ≡ entry_start (accounts_of laid.now.start.now) laid.now.listings.metas.now
+        (length laid.now.listings.metas.now)) }
     ensures end { IfOk result
-        (λ end. end ≡ entry_start (accounts_of start.now) metas.now (length metas.now)) }
+        (λ end. end
+        ≡ entry_start (accounts_of laid.now.start.now) laid.now.listings.metas.now
+        (length laid.now.listings.metas.now)) }
 {
     let mut entry = FIRST_ENTRY;
-    for (place, meta) in metas.iter().enumerate() {
-        patch_entry(
-            alloc, draft, region, start, now, metas, table, place, meta, entry,
-        )?;
-        entry += entry_len(start, metas, table, place, meta);
+    for (place, meta) in laid.listings.metas.iter().enumerate() {
+        patch_entry(draft, laid, now, place, meta, entry)?;
+        entry += laid.entry_len(place, meta);
     }
     Ok(entry)
 }
@@ -183,51 +151,43 @@ fn patch_entries(
 /// Adds what the region has of a meta, whose entry starts at `entry`, the state of the account
 /// written over it.
 fn patch_entry(
-    alloc: Global,
     draft: &mut Draft,
-    region: &Parts,
-    start: &[Arc<Account>],
+    laid: &LaidOut<'_>,
     now: &[Arc<Account>],
-    metas: &[Meta],
-    table: &[Listing; PLACES],
     place: usize,
     meta: &Meta,
     entry: usize,
 ) -> Result<(), OutOfMemory>
-    requires count { length (accounts_of now.now) ≡ length (accounts_of start.now) }
-    requires range { AreInRange (length (accounts_of start.now)) metas.now }
-    requires region { IsRegionOf (accounts_of start.now) metas.now region.now.bytes }
-    requires most_bytes { length region.now.bytes < 2 ^ 32 }
-    requires table { IsTableOf metas.now table.now }
-    requires there { slice_get metas.now place ≡ Some meta.now }
-    requires rooms { found_among (is_outgrown (accounts_of start.now) (accounts_of now.now))
-        metas.now (length metas.now) ≡ None }
-    requires entry { entry ≡ entry_start (accounts_of start.now) metas.now place }
+    requires count { length (accounts_of now.now) ≡ length (accounts_of laid.now.start.now) }
+    requires there { slice_get laid.now.listings.metas.now place ≡ Some meta.now }
+    requires rooms { found_among (is_outgrown (accounts_of laid.now.start.now) (accounts_of now.now))
+        laid.now.listings.metas.now (length laid.now.listings.metas.now) ≡ None }
+    requires entry { entry
+        ≡ entry_start (accounts_of laid.now.start.now) laid.now.listings.metas.now place }
     requires start { length draft.old.bytes ≡ entry }
     ensures bytes { OnOk result (draft.new.bytes
         ≡ draft.old.bytes
-        ++ patched_entry region.now.bytes (accounts_of start.now) (accounts_of now.now)
-        metas.now (place, meta.now)) }
+        ++ patched_entry laid.now.region.now.bytes (accounts_of laid.now.start.now)
+        (accounts_of now.now) laid.now.listings.metas.now (place, meta.now)) }
     ensures lent { OnOk result (draft.new.lent
         ≡ draft.old.lent
-        ++ lent_entry (accounts_of start.now) (accounts_of now.now) metas.now (place, meta.now)) }
+        ++ lent_entry (accounts_of laid.now.start.now) (accounts_of now.now)
+        laid.now.listings.metas.now (place, meta.now)) }
     ensures size { OnOk result (length draft.new.bytes
         ≡ length draft.old.bytes
-        + entry_size (accounts_of start.now) metas.now (place, meta.now)) }
+        + entry_size (accounts_of laid.now.start.now) laid.now.listings.metas.now
+        (place, meta.now)) }
 {
-    if is_first(metas, table, place, meta) {
-        let index = usize::from(meta.index);
-        patch_first(alloc, draft, region, entry, &start[index], &now[index])?;
-        Ok(())
+    if laid.listings.is_first(place, meta) {
+        let start = account_of(laid.start, meta);
+        patch_first(draft, laid.region, entry, start, account_of(now, meta))
     } else {
-        copy(draft, region, entry, REPEATED_LEN)?;
-        Ok(())
+        copy(draft, laid.region, entry, REPEATED_LEN)
     }
 }
 
 /// Adds an entry, the state of the account written over it.
 fn patch_first(
-    alloc: Global,
     draft: &mut Draft,
     region: &Parts,
     entry: usize,
@@ -248,7 +208,7 @@ fn patch_first(
 {
     let room = room_for(start);
     copy(draft, region, entry, OWNER_AT)?;
-    add_state(alloc, draft, room, now)?;
+    add_state(draft, room, now)?;
     copy(
         draft,
         region,

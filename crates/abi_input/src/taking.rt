@@ -5,17 +5,16 @@ ghost use Rattle.std.specs.Arc.{arc_value};
 ghost use Rattle.std.specs.List.{enumerate_from, slice_index_or};
 ghost use Rattle.sol_base.specs.Accounts.{accounts_of, max_data_len, SameUnlessTouched};
 ghost use Rattle.sol_base.specs.Metas.{AreInRange, is_first_listing};
-ghost use Rattle.abi_input.specs.Listing.{IsTableOf};
 ghost use Rattle.abi_input.specs.Region.{account_at, account_back, back, data_len_at, entry_start, has_outgrown, is_too_long, lent_in, max_metas, IsRegionOf};
 ghost use Rattle.abi_input.specs.Entries.{account_by, found_among, AreEntries, AreLent, IsEntryOf};
 ghost use Rattle.abi_input.specs.Answers.{DifferWhereTouched, RefusesBack, TakesBack};
 
 use crate::entry::{
-    DATA_AT, DATA_LEN_AT, FIRST_ENTRY, LAMPORTS_AT, OWNER_AT, entry_len, key_in_region, number_at,
-    room_for,
+    DATA_AT, DATA_LEN_AT, FIRST_ENTRY, LAMPORTS_AT, OWNER_AT, key_in_region, number_at, room_for,
 };
 use crate::fault::BackFault;
-use crate::listing::{Listing, PLACES, is_first, listings};
+use crate::listing::PLACES;
+use crate::region::{LaidOut, account_of};
 use data_parts::Parts;
 use sol_base::{Account, Blob, Items, Key, MAX_DATA_LEN, Meta, OutOfMemory};
 use std::alloc::Global;
@@ -89,69 +88,56 @@ pub fn take_back(
         (λ taken. DifferWhereTouched taken.touched (accounts_of now.now)
         (accounts_of taken.accounts)) }
 {
-    let _len = region.len();
-    let entries = checked_entries(region, start, metas)?;
-    Ok(taken_by(alloc, region, start, now, metas, &entries)?)
+    let laid = LaidOut::of(region, start, metas);
+    let entries = checked_entries(&laid)?;
+    Ok(taken_by(alloc, &laid, now, &entries)?)
 }
 
 /// Where the entry of each listed account starts. Refused at the first that has a length that it
 /// may not have.
-fn checked_entries(
-    region: &Parts,
-    start: &[Arc<Account>],
-    metas: &[Meta],
-) -> Result<[Option<usize>; PLACES], BackFault>
-    requires most { length metas.now ≤ max_metas }
-    requires range { AreInRange (length (accounts_of start.now)) metas.now }
-    requires region { IsRegionOf (accounts_of start.now) metas.now region.now.bytes }
-    requires bytes { length region.now.bytes < 2 ^ 32 }
+fn checked_entries(laid: &LaidOut<'_>) -> Result<[Option<usize>; PLACES], BackFault>
     ensures ok { IfOk result
-        (λ entries. AreEntries (accounts_of start.now) metas.now (length metas.now) entries) }
+        (λ entries. AreEntries (accounts_of laid.now.start.now) laid.now.listings.metas.now
+        (length laid.now.listings.metas.now) entries) }
     ensures none { IfOk result
-        (λ entries. found_among (is_too_long region.now.bytes (accounts_of start.now) metas.now)
-        metas.now (length metas.now) ≡ None) }
+        (λ entries. found_among
+        (is_too_long laid.now.region.now.bytes (accounts_of laid.now.start.now)
+        laid.now.listings.metas.now)
+        laid.now.listings.metas.now (length laid.now.listings.metas.now) ≡ None) }
     ensures err { IfErr result
-        (RefusesBack (found_among (is_too_long region.now.bytes (accounts_of start.now) metas.now)
-        metas.now (length metas.now))) }
+        (RefusesBack
+        (found_among
+        (is_too_long laid.now.region.now.bytes (accounts_of laid.now.start.now)
+        laid.now.listings.metas.now)
+        laid.now.listings.metas.now (length laid.now.listings.metas.now))) }
 {
-    let table = listings(metas);
     let mut entries = [None; PLACES];
     let mut entry = FIRST_ENTRY;
-    for (place, meta) in metas.iter().enumerate() {
-        if is_refused(region, start, metas, &table, place, meta, entry) {
+    for (place, meta) in laid.listings.metas.iter().enumerate() {
+        if is_refused(laid, place, meta, entry) {
             return Err(BackFault::LengthTooLarge { i: place as u8 });
         }
         let index = usize::from(meta.index);
         entries[index] = entries[index].or(Some(entry));
-        entry += entry_len(start, metas, &table, place, meta);
+        entry += laid.entry_len(place, meta);
     }
     Ok(entries)
 }
 
 /// The meta, whose entry starts at `entry`, is the first listing of an account that has a length
 /// there that it may not have.
-fn is_refused(
-    region: &Parts,
-    start: &[Arc<Account>],
-    metas: &[Meta],
-    table: &[Listing; PLACES],
-    place: usize,
-    meta: &Meta,
-    entry: usize,
-) -> bool
-    requires range { AreInRange (length (accounts_of start.now)) metas.now }
-    requires region { IsRegionOf (accounts_of start.now) metas.now region.now.bytes }
-    requires most { length region.now.bytes < 2 ^ 32 }
-    requires table { IsTableOf metas.now table.now }
-    requires there { slice_get metas.now place ≡ Some meta.now }
-    requires entry { entry ≡ entry_start (accounts_of start.now) metas.now place }
-    ensures { result ≡ (is_first_listing metas.now (place, meta.now)
-        && is_too_long region.now.bytes (accounts_of start.now) metas.now (place, meta.now)) }
+fn is_refused(laid: &LaidOut<'_>, place: usize, meta: &Meta, entry: usize) -> bool
+    requires there { slice_get laid.now.listings.metas.now place ≡ Some meta.now }
+    requires entry { entry
+        ≡ entry_start (accounts_of laid.now.start.now) laid.now.listings.metas.now place }
+    ensures { result ≡ (is_first_listing laid.now.listings.metas.now (place, meta.now)
+        && is_too_long laid.now.region.now.bytes (accounts_of laid.now.start.now)
+        laid.now.listings.metas.now (place, meta.now)) }
 {
-    if !is_first(metas, table, place, meta) {
+    if !laid.listings.is_first(place, meta) {
         return false;
     }
-    has_long_data(region, entry, &start[usize::from(meta.index)])
+    has_long_data(laid.region, entry, account_of(laid.start, meta))
 }
 
 /// The length that stands in the entry is one that the account may not have.
@@ -169,24 +155,25 @@ fn has_long_data(region: &Parts, entry: usize, start: &Account) -> bool
 /// The accounts as they stand in their entries.
 fn taken_by(
     alloc: Global,
-    region: &Parts,
-    start: &[Arc<Account>],
+    laid: &LaidOut<'_>,
     now: &[Arc<Account>],
-    metas: &[Meta],
     entries: &[Option<usize>; PLACES],
 ) -> Result<TakenBack, OutOfMemory>
-    requires count { length (accounts_of now.now) ≡ length (accounts_of start.now) }
-    requires range { AreInRange (length (accounts_of start.now)) metas.now }
-    requires region { IsRegionOf (accounts_of start.now) metas.now region.now.bytes }
-    requires most { length region.now.bytes < 2 ^ 32 }
-    requires entries { AreEntries (accounts_of start.now) metas.now (length metas.now) entries.now }
-    requires lengths { found_among (is_too_long region.now.bytes (accounts_of start.now) metas.now)
-        metas.now (length metas.now) ≡ None }
-    requires lent { region.now.lent
-        ≡ lent_in (accounts_of start.now) (accounts_of now.now) metas.now }
+    requires count { length (accounts_of now.now) ≡ length (accounts_of laid.now.start.now) }
+    requires entries { AreEntries (accounts_of laid.now.start.now) laid.now.listings.metas.now
+        (length laid.now.listings.metas.now) entries.now }
+    requires lengths { found_among
+        (is_too_long laid.now.region.now.bytes (accounts_of laid.now.start.now)
+        laid.now.listings.metas.now)
+        laid.now.listings.metas.now (length laid.now.listings.metas.now) ≡ None }
+    requires lent { laid.now.region.now.lent
+        ≡ lent_in (accounts_of laid.now.start.now) (accounts_of now.now)
+        laid.now.listings.metas.now }
     ensures accounts { IfOk result
         (λ taken. accounts_of taken.accounts
-        ≡ map (account_back region.now.bytes (accounts_of start.now) metas.now)
+        ≡ map
+        (account_back laid.now.region.now.bytes (accounts_of laid.now.start.now)
+        laid.now.listings.metas.now)
         (enumerate_from 0 (accounts_of now.now))) }
     ensures flags { IfOk result (λ taken. length taken.touched ≡ length (accounts_of now.now)) }
     ensures untouched { IfOk result
@@ -198,7 +185,7 @@ fn taken_by(
 {
     let mut back = TakenBack::with_capacity(alloc, now.len())?;
     for (index, account) in now.iter().enumerate() {
-        back.push(take_one(alloc, region, entry_at(entries, index), account)?)?;
+        back.push(take_one(alloc, laid.region, entry_at(entries, index), account)?)?;
     }
     Ok(back)
 }

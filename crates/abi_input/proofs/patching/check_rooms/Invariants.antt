@@ -6,4 +6,4 @@ use Rattle.abi_input.proofs.patching.check_rooms.Given as goal
 
 -- none of the metas so far is one that must not be
 abbrev pub invariant-loop-place : goal.invariant-loop-place
-invariant-loop-place l = found_among (is_outgrown (accounts_of l.start) (accounts_of l.now)) l.metas l.place ≡ None
+invariant-loop-place l = found_among (is_outgrown (accounts_of l.laid.start.now) (accounts_of l.now)) l.laid.listings.metas.now l.place ≡ None

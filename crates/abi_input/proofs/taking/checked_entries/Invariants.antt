@@ -8,7 +8,7 @@ use Rattle.abi_input.proofs.taking.checked_entries.Given as goal
 abbrev pub invariant-loop-place : goal.invariant-loop-place
 invariant-loop-place l = record {
   long : length l.entries ≡ 256;
-  entry : l.entry ≡ entry_start (accounts_of l.start) l.metas l.place;
-  entries : AreEntries (accounts_of l.start) l.metas l.place l.entries;
-  none : found_among (is_too_long l.region.bytes (accounts_of l.start) l.metas) l.metas l.place ≡ None;
+  entry : l.entry ≡ entry_start (accounts_of l.laid.start.now) l.laid.listings.metas.now l.place;
+  entries : AreEntries (accounts_of l.laid.start.now) l.laid.listings.metas.now l.place l.entries;
+  none : found_among (is_too_long l.laid.region.now.bytes (accounts_of l.laid.start.now) l.laid.listings.metas.now) l.laid.listings.metas.now l.place ≡ None;
 }

@@ -1,7 +1,7 @@
 use Rattle.std.proofs.Common.{refl, arith, ◌∙◌}
 use Rattle.std.proofs.lemmas.List.{length-set}
 use Rattle.abi_input.proofs.Listed.{fresh_table, table_more}
-use Rattle.abi_input.proofs.listing.listings.Goals as goal
+use Rattle.abi_input.proofs.listing.table_of.Goals as goal
 
 pub loop-place-init : goal.loop-place-init
 loop-place-init c = record { long = refl; seen = fresh_table 256 }
