@@ -18,7 +18,7 @@ use Rattle.bank_law.specs.Job.{Job}
 use Rattle.invoke_engine.specs.Frame.{Ending, Fixed, instruction}
 use Rattle.tx_exec.specs.Executing.{Executed, InBlock, call_of, executed, fixed_for, following}
 use Rattle.tx_exec.specs.Payer.{charged, dropped, total_fee}
-use Rattle.tx_exec.specs.Told.{effects_at, job_of, locks_at}
+use Rattle.tx_exec.specs.AdmittedBlock.{effects_at, job_of, locks_at}
 use Rattle.tx_exec.specs.Transaction.{by_drop, data_in, effects_as, failing, ran, transaction}
 use Rattle.block_run.specs.SerialRun.{keys_in, ran as ran_by, serial_run, told_in}
 use Rattle.block_laws.specs.Again.{renumbered}

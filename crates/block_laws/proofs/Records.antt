@@ -26,8 +26,8 @@ use Rattle.admission.specs.Chosen.{IsChosen}
 use Rattle.bank_law.specs.Job.{keys}
 use Rattle.bank_law.specs.Serial.{result, serial}
 use Rattle.bank_core.specs.Ends.{serial_outcomes}
-use Rattle.tx_exec.specs.declared.told.Told.{Told}
-use Rattle.tx_exec.specs.Told.{block_of as in_block, effects_at, job_of}
+use Rattle.tx_exec.specs.declared.admitted.AdmittedBlock.{AdmittedBlock}
+use Rattle.tx_exec.specs.AdmittedBlock.{block_of as in_block, effects_at, job_of}
 use Rattle.tx_exec.specs.Transaction.{transaction}
 use Rattle.tx_exec.specs.TransactionLaws.{IsOutcomeOf, IsSmallOutcome}
 use Rattle.tx_exec.proofs.Outcomes.{transaction_outcome}
@@ -54,7 +54,7 @@ record IsWritten (outcome : Outcome) : Type 0 where
   pub units : outcome.units < 2 ^ 64
   pub small : IsSmallOutcome outcome
 
-module _ (told : Told) (all : All IsChosen told.chosen) (start : State) where
+module _ (told : AdmittedBlock) (all : All IsChosen told.chosen) (start : State) where
   written : (t : Chosen) → IsChosen t → (vs : List Account) → IsWritten (effects_at (in_block told) (Some t) vs).outcome
   written t is vs =
       let of : IsOutcomeOf t (transaction (in_block told) t vs).outcome = transaction_outcome (in_block told) t vs is in

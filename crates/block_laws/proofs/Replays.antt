@@ -24,7 +24,7 @@ use Rattle.admission.specs.declared.chosen.Chosen.{Chosen}
 use Rattle.admission.specs.Admission.{admitted, listed}
 use Rattle.admission.specs.Batches.{wire_in}
 use Rattle.bank_law.specs.Serial.{result}
-use Rattle.tx_exec.specs.Told.{job_of}
+use Rattle.tx_exec.specs.AdmittedBlock.{job_of}
 use Rattle.block_run.specs.declared.block.Head.{Head}
 use Rattle.block_run.specs.SerialRun.{Ran, serial_run, told_in}
 use Rattle.block_run.specs.BlockEnd.{activate_all, share_fees}

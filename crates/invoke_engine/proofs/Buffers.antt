@@ -13,12 +13,12 @@ use Rattle.abi_input.specs.Region.{max_metas}
 use Rattle.invoke_engine.specs.declared.call.Call.{Call}
 use Rattle.invoke_engine.specs.declared.stopped.Stopped.{Stopped}
 use Rattle.invoke_engine.specs.Reasons.{refuse, by_loader}
-use Rattle.invoke_engine.specs.Frames.{Fixed, Carried, Ending, Next, Runs, Ends, height}
-use Rattle.invoke_engine.specs.Ends.{or_error}
+use Rattle.invoke_engine.specs.Frames.{Fixed, Carried, Ending, Next, Runs, Done, height}
+use Rattle.invoke_engine.specs.Endings.{or_error}
 use Rattle.invoke_engine.specs.Native.{is_native, native_row, native}
 use Rattle.invoke_engine.specs.Starting.{key_at, is_ready, crowded, entering, started, begun}
 use Rattle.invoke_engine.specs.Frame.{after, go, frame}
-use Rattle.invoke_engine.specs.Fits.{AreListed}
+use Rattle.invoke_engine.specs.FrameLaws.{AreListed}
 use Rattle.invoke_engine.proofs.Fuel.{either}
 use Rattle.invoke_engine.proofs.Keeping.{refuse_ok, in_range}
 
@@ -28,7 +28,7 @@ Writes keys accounts metas e = IfOk e.result (λ after. OnlyTheAuthorityWrites k
 
 abbrev NextWrites : List Key → List Account → List Meta → Next → Type 0
 NextWrites keys accounts metas (Runs f c) = ⊥
-NextWrites keys accounts metas (Ends e) = Writes keys accounts metas e
+NextWrites keys accounts metas (Done e) = Writes keys accounts metas e
 
 or_error_writes : (keys : List Key) (accounts : List Account) (metas : List Meta) (height : ℕ) (result : Result (List Account) Stopped) → ((after : List Account) → result ≡ Ok after → OnlyTheAuthorityWrites keys accounts metas after) → IfOk (or_error height result) (λ after. OnlyTheAuthorityWrites keys accounts metas after)
 or_error_writes keys accounts metas height (Ok after) k = k after refl
@@ -63,7 +63,7 @@ begun_writes s outer call accounts units c listed is =
 
 after_writes : (keys : List Key) (accounts : List Account) (metas : List Meta) (s : Fixed) (outer : List Key) (next : Next) → NextWrites keys accounts metas next → Writes keys accounts metas (after outer (go s) next)
 after_writes keys accounts metas s outer (Runs f c) h = absurd h
-after_writes keys accounts metas s outer (Ends e) h = h
+after_writes keys accounts metas s outer (Done e) h = h
 
 -- a frame of the loader that ends well
 pub loader_frame_writes : (s : Fixed) (outer : List Key) (call : Call) (accounts : List Account) (units : ℕ) (c : Carried) → AreListed (length s.keys) call.metas accounts → key_at s.keys call.program ≡ LOADER_PROGRAM →

@@ -32,8 +32,8 @@ use Rattle.invoke_engine.specs.declared.begin.TheConstants.{NATIVE_UNITS}
 use Rattle.invoke_engine.specs.declared.call.Call.{Call}
 use Rattle.invoke_engine.specs.declared.call.Setting.{Setting}
 use Rattle.invoke_engine.specs.declared.stopped.Stopped.{Stopped}
-use Rattle.invoke_engine.specs.Frames.{Fixed, Carried, Running, Ending, Next, Runs, Ends, Callee, Turn, GoesOn, Calls, Leaves, height, max_trace}
-use Rattle.invoke_engine.specs.Ends.{closes, error_of, or_error}
+use Rattle.invoke_engine.specs.Frames.{Fixed, Carried, Running, Ending, Next, Runs, Done, Callee, Turn, GoesOn, Calls, Leaves, height, max_trace}
+use Rattle.invoke_engine.specs.Endings.{closes, error_of, or_error}
 use Rattle.invoke_engine.specs.Leaving.{lawful_accounts, left}
 use Rattle.invoke_engine.specs.Calling.{called, calling, requested, call_turn}
 use Rattle.invoke_engine.specs.Serving.{serving, served, serve_turn}
@@ -42,7 +42,7 @@ use Rattle.invoke_engine.specs.Returning.{patching, returning, returned}
 use Rattle.invoke_engine.specs.Native.{native, native_row, is_native}
 use Rattle.invoke_engine.specs.Starting.{program_started, entering, crowded, is_ready, key_at, started, begun}
 use Rattle.invoke_engine.specs.Frame.{after, follow, within, frame, go, instruction, nothing_returned}
-use Rattle.invoke_engine.specs.Fits.{AreListed}
+use Rattle.invoke_engine.specs.FrameLaws.{AreListed}
 use Rattle.invoke_engine.specs.Programs.{called_by_turn, called_in, called_next, called_within, programs_of_frame, programs_of_instruction}
 use Rattle.invoke_engine.specs.Reasons.{plainly, by_loader, by_system, refuse}
 use Rattle.invoke_engine.proofs.Fuel.{either}
@@ -53,8 +53,8 @@ record Foreign (programs : List Key) (before after : List Account) : Type 0 wher
   pub count : length after ≡ length before
   pub kept : AreForeignKept programs before after
 
-abbrev EndForeign : List Key → List Account → Result (List Account) InstructionError → Type 0
-EndForeign programs before result = IfOk result (λ after. Foreign programs before after)
+abbrev EndingForeign : List Key → List Account → Result (List Account) InstructionError → Type 0
+EndingForeign programs before result = IfOk result (λ after. Foreign programs before after)
 
 foreign_trans : (programs : List Key) (a b c : List Account) → Foreign programs a b → Foreign programs b c → Foreign programs a c
 foreign_trans programs a b c one two = record { count = two.count ∙ one.count; kept = AreForeignKept-trans programs a b c one.count one.kept two.kept }
@@ -76,7 +76,7 @@ settled_foreign n f after listed h =
 abbrev TurnForeign : ℕ → Running → Turn → Type 0
 TurnForeign n f (GoesOn g d) = (g.program ≡ f.program) × (g.metas ≡ f.metas) × (g.before ≡ f.before)
 TurnForeign n f (Calls g d callee units) = (g.program ≡ f.program) × (g.metas ≡ f.metas) × Foreign (f.program ∷ []) f.before callee.accounts × AreInRange n callee.call.metas
-TurnForeign n f (Leaves e) = EndForeign (f.program ∷ []) f.before e.result
+TurnForeign n f (Leaves e) = EndingForeign (f.program ∷ []) f.before e.result
 
 callee_foreign : (most : ℕ) (keys outer : List Key) (f : Running) (c : Carried) (units : ℕ) (callee : Callee) → AreListed (length keys) f.metas f.before → ComesFrom most keys outer f c.trace (requested f).answer callee → TurnForeign (length keys) f (Calls f c callee units)
 callee_foreign most keys outer f c units callee listed from =
@@ -96,7 +96,7 @@ serving_foreign : (n : ℕ) (outer : List Key) (f : Running) (c : Carried) (unit
 serving_foreign n outer f c units (Ok service) = (refl, refl, refl)
 serving_foreign n outer f c units (Err fault) = tt
 
-leaving_foreign : (outer : List Key) (f : Running) (c : Carried) (units : ℕ) (result : Result (List Account) Stopped) → ((accounts : List Account) → result ≡ Ok accounts → Foreign (f.program ∷ []) f.before accounts) → EndForeign (f.program ∷ []) f.before (closes outer f units c result).result
+leaving_foreign : (outer : List Key) (f : Running) (c : Carried) (units : ℕ) (result : Result (List Account) Stopped) → ((accounts : List Account) → result ≡ Ok accounts → Foreign (f.program ∷ []) f.before accounts) → EndingForeign (f.program ∷ []) f.before (closes outer f units c result).result
 leaving_foreign outer f c units (Ok accounts) k = k accounts refl
 leaving_foreign outer f c units (Err stopped) k = tt
 
@@ -126,7 +126,7 @@ calls_foreign setting keys outer f g c d callee units listed h =
     let kept : Foreign (f.program ∷ []) f.before callee.accounts = both.2 in
     kept.kept
 
-kept_of : (programs : List Key) (before : List Account) (result : Result (List Account) InstructionError) → EndForeign programs before result → IfOk result (AreForeignKept programs before)
+kept_of : (programs : List Key) (before : List Account) (result : Result (List Account) InstructionError) → EndingForeign programs before result → IfOk result (AreForeignKept programs before)
 kept_of programs before (Ok after) k = k.kept
 kept_of programs before (Err error) k = tt
 
@@ -137,12 +137,12 @@ leaves_foreign setting keys outer f c e listed h = kept_of (f.program ∷ []) f.
 -- ---- frames at their starts, and after a callee
 abbrev NextForeign : Key → List Meta → List Account → Next → Type 0
 NextForeign program metas before (Runs f c) = (f.program ≡ program) × (f.metas ≡ metas) × (f.before ≡ before)
-NextForeign program metas before (Ends e) = EndForeign (program ∷ []) before e.result
+NextForeign program metas before (Done e) = EndingForeign (program ∷ []) before e.result
 
 abbrev ReturnForeign : Key → List Meta → Result (List Account) InstructionError → Next → Type 0
 ReturnForeign program metas (Ok accounts) next = NextForeign program metas accounts next
 ReturnForeign program metas (Err error) (Runs f c) = ⊥
-ReturnForeign program metas (Err error) (Ends e) = (before : List Account) (programs : List Key) → EndForeign programs before e.result
+ReturnForeign program metas (Err error) (Done e) = (before : List Account) (programs : List Key) → EndingForeign programs before e.result
 
 patching_foreign : (outer : List Key) (f : Running) (accounts : List Account) (units : ℕ) (c : Carried) (answer : Result (List ℕ) ℕ) → NextForeign f.program f.metas accounts (patching outer f accounts units c answer)
 patching_foreign outer f accounts units c (Ok region) = (refl, refl, refl)
@@ -180,13 +180,13 @@ native_row_foreign n key keys accounts call after listed h = by_tests (same_key 
     by_tests false true is or g = by_loader_program or (refuse_ok by_loader _ after g)
     by_tests false false is or g = let same : accounts ≡ after = cc in subst (Foreign (key ∷ []) accounts) same (record { count = refl; kept = AreForeignKept-refl (key ∷ []) accounts })
 
-or_error_foreign : (programs : List Key) (before : List Account) (height : ℕ) (result : Result (List Account) Stopped) → ((after : List Account) → result ≡ Ok after → Foreign programs before after) → EndForeign programs before (or_error height result)
+or_error_foreign : (programs : List Key) (before : List Account) (height : ℕ) (result : Result (List Account) Stopped) → ((after : List Account) → result ≡ Ok after → Foreign programs before after) → EndingForeign programs before (or_error height result)
 or_error_foreign programs before height (Ok after) k = k after refl
 or_error_foreign programs before height (Err stopped) k = tt
 
-native_end_foreign : (n : ℕ) (key : Key) (outer keys : List Key) (call : Call) (accounts : List Account) (units : ℕ) (c : Carried) → AreListed n call.metas accounts → EndForeign (key ∷ []) accounts (native key outer keys call accounts units c).result
+native_end_foreign : (n : ℕ) (key : Key) (outer keys : List Key) (call : Call) (accounts : List Account) (units : ℕ) (c : Carried) → AreListed n call.metas accounts → EndingForeign (key ∷ []) accounts (native key outer keys call accounts units c).result
 native_end_foreign n key outer keys call accounts units c listed =
-    either (λ (e : Ending). EndForeign (key ∷ []) accounts e.result) (nat_lt units NATIVE_UNITS) _ _ tt
+    either (λ (e : Ending). EndingForeign (key ∷ []) accounts e.result) (nat_lt units NATIVE_UNITS) _ _ tt
     (or_error_foreign (key ∷ []) accounts (height outer) (native_row key keys accounts call) (λ after h. native_row_foreign n key keys accounts call after listed h))
 
 entered_foreign : (s : Fixed) (outer : List Key) (key : Key) (call : Call) (accounts : List Account) (units : ℕ) (c : Carried) (found : Sought) → NextForeign key call.metas accounts (program_started s.setting s.keys outer key call accounts units c found)
@@ -196,9 +196,9 @@ entered_foreign s outer key call accounts units c IsNoProgram = tt
 entered_foreign s outer key call accounts units c IsBad = tt
 entered_foreign s outer key call accounts units c (IsUnverified fault) = tt
 
-crowded_foreign : (programs : List Key) (accounts : List Account) (s : Fixed) (key : Key) (outer : List Key) (units : ℕ) (c : Carried) → EndForeign programs accounts (crowded s.programs key outer units c).result
+crowded_foreign : (programs : List Key) (accounts : List Account) (s : Fixed) (key : Key) (outer : List Key) (units : ℕ) (c : Carried) → EndingForeign programs accounts (crowded s.programs key outer units c).result
 unfolding crowded
-crowded_foreign programs accounts s key outer units c = either (λ (e : Ending). EndForeign programs accounts e.result) (not (is_native key) && is_ready (s.programs key)) _ _ tt tt
+crowded_foreign programs accounts s key outer units c = either (λ (e : Ending). EndingForeign programs accounts e.result) (not (is_native key) && is_ready (s.programs key)) _ _ tt tt
 
 entering_foreign : (n : ℕ) (s : Fixed) (outer : List Key) (key : Key) (call : Call) (accounts : List Account) (units : ℕ) (c : Carried) → AreListed n call.metas accounts → NextForeign key call.metas accounts (entering s outer key call accounts units c)
 unfolding entering
@@ -219,22 +219,22 @@ abbrev Lists : Type 0
 Lists = List Key → Running → Carried → List Key
 
 abbrev AllForeign : ℕ → Goes → Lists → Type 0
-AllForeign n goo calls = (outer : List Key) (f : Running) (c : Carried) → AreListed n f.metas f.before → EndForeign (f.program ∷ calls outer f c) f.before (goo outer f c).result
+AllForeign n goo calls = (outer : List Key) (f : Running) (c : Carried) → AreListed n f.metas f.before → EndingForeign (f.program ∷ calls outer f c) f.before (goo outer f c).result
 
 after_foreign : (n : ℕ) (outer : List Key) (goo : Goes) (calls : Lists) (program : Key) (metas : List Meta) (before : List Account) (next : Next) → AllForeign n goo calls → AreListed n metas before → NextForeign program metas before next
-    → EndForeign (program ∷ called_next outer calls next) before (after outer goo next).result
+    → EndingForeign (program ∷ called_next outer calls next) before (after outer goo next).result
 after_foreign n outer goo calls program metas before (Runs f c) all listed k =
     let here : AreListed n f.metas f.before = subst (λ (ms : List Meta). AreListed n ms f.before) (sym k.1) (subst (λ (b : List Account). AreListed n metas b) (sym k.2) listed) in
-    subst (λ (p : Key). EndForeign (p ∷ calls outer f c) before (goo outer f c).result) k.0
-    (subst (λ (b : List Account). EndForeign (f.program ∷ calls outer f c) b (goo outer f c).result) k.2 (all outer f c here))
-after_foreign n outer goo calls program metas before (Ends e) all listed k = k
+    subst (λ (p : Key). EndingForeign (p ∷ calls outer f c) before (goo outer f c).result) k.0
+    (subst (λ (b : List Account). EndingForeign (f.program ∷ calls outer f c) b (goo outer f c).result) k.2 (all outer f c here))
+after_foreign n outer goo calls program metas before (Done e) all listed k = k
 
 -- from a callee's end on
-end_then : (programs : List Key) (a b : List Account) (result : Result (List Account) InstructionError) → Foreign programs a b → EndForeign programs b result → EndForeign programs a result
+end_then : (programs : List Key) (a b : List Account) (result : Result (List Account) InstructionError) → Foreign programs a b → EndingForeign programs b result → EndingForeign programs a result
 end_then programs a b (Ok after) k l = foreign_trans programs a b after k l
 end_then programs a b (Err error) k l = tt
 
-end_fewer : (fewer more : List Key) (before : List Account) (result : Result (List Account) InstructionError) → ((owner : Key) → has_key owner more ≡ false → has_key owner fewer ≡ false) → EndForeign fewer before result → EndForeign more before result
+end_fewer : (fewer more : List Key) (before : List Account) (result : Result (List Account) InstructionError) → ((owner : Key) → has_key owner more ≡ false → has_key owner fewer ≡ false) → EndingForeign fewer before result → EndingForeign more before result
 end_fewer fewer more before (Ok after) each k = foreign_fewer fewer more before after each k
 end_fewer fewer more before (Err error) each k = tt
 
@@ -243,19 +243,19 @@ module _ (n : ℕ) (outer : List Key) (goo : Goes) (calls : Lists) (all : AllFor
   abbrev programs : Next → List Key
   programs next = caller ∷ callee ∷ (inner ++ called_next outer calls next)
 
-  resumed_foreign : (result : Result (List Account) InstructionError) (next : Next) → EndForeign (callee ∷ inner) accounts result → ReturnForeign caller metas result next → EndForeign (programs next) start (after outer goo next).result
+  resumed_foreign : (result : Result (List Account) InstructionError) (next : Next) → EndingForeign (callee ∷ inner) accounts result → ReturnForeign caller metas result next → EndingForeign (programs next) start (after outer goo next).result
   resumed_foreign (Ok now) next l r =
       let later : List Key = called_next outer calls next in
       let mine : Foreign (programs next) start accounts = foreign_fewer (caller ∷ []) (programs next) start accounts (λ owner none. (are_others owner caller callee inner later none).own) so_far in
       let its : Foreign (programs next) accounts now = foreign_fewer (callee ∷ inner) (programs next) accounts now (λ owner none. (are_others owner caller callee inner later none).called) l in
       let both : Foreign (programs next) start now = foreign_trans (programs next) start accounts now mine its in
-      let rest : EndForeign (caller ∷ later) now (after outer goo next).result = after_foreign n outer goo calls caller metas now next all (listed_by n metas start now both.count listed) r in
+      let rest : EndingForeign (caller ∷ later) now (after outer goo next).result = after_foreign n outer goo calls caller metas now next all (listed_by n metas start now both.count listed) r in
       end_then (programs next) start now (after outer goo next).result both
       (end_fewer (caller ∷ later) (programs next) now (after outer goo next).result (λ owner none. (are_others owner caller callee inner later none).rest) rest)
   resumed_foreign (Err error) (Runs f c) l r = absurd r
-  resumed_foreign (Err error) (Ends e) l r = r start (programs (Ends e))
+  resumed_foreign (Err error) (Done e) l r = r start (programs (Done e))
 
-follow_foreign : (n : ℕ) (s : Fixed) (outer : List Key) (goo : Goes) (calls : Lists) (f : Running) (t : Turn) → AllForeign n goo calls → AreListed n f.metas f.before → TurnForeign n f t → EndForeign (f.program ∷ called_by_turn s outer goo calls t) f.before (follow s outer goo t).result
+follow_foreign : (n : ℕ) (s : Fixed) (outer : List Key) (goo : Goes) (calls : Lists) (f : Running) (t : Turn) → AllForeign n goo calls → AreListed n f.metas f.before → TurnForeign n f t → EndingForeign (f.program ∷ called_by_turn s outer goo calls t) f.before (follow s outer goo t).result
 follow_foreign n s outer goo calls f (GoesOn g d) all listed k = after_foreign n outer goo calls f.program f.metas f.before (Runs g d) all listed k
 follow_foreign n s outer goo calls f (Calls g d callee units) all listed k =
     let inner : List Key = g.program ∷ outer in
@@ -263,7 +263,7 @@ follow_foreign n s outer goo calls f (Calls g d callee units) all listed k =
     let e : Ending = after inner goo next in
     let program : Key = key_at s.keys callee.call.program in
     let there : AreListed n callee.call.metas callee.accounts = record { count = k.2.count ∙ listed.count; range = k.3 } in
-    let its : EndForeign (program ∷ called_next inner calls next) callee.accounts e.result = after_foreign n inner goo calls program callee.call.metas callee.accounts next all there (begun_foreign n s inner callee.call callee.accounts units d there) in
+    let its : EndingForeign (program ∷ called_next inner calls next) callee.accounts e.result = after_foreign n inner goo calls program callee.call.metas callee.accounts next all there (begun_foreign n s inner callee.call callee.accounts units d there) in
     let back : ReturnForeign f.program f.metas e.result (returned outer g e) = subst (λ (p : Key). ReturnForeign p f.metas e.result (returned outer g e)) k.0 (subst (λ (ms : List Meta). ReturnForeign g.program ms e.result (returned outer g e)) k.1 (returned_foreign outer g e)) in
     resumed_foreign n outer goo calls all f.program program f.metas f.before callee.accounts listed k.2 (called_next inner calls next) e.result (returned outer g e) its back
 follow_foreign n s outer goo calls f (Leaves e) all listed k = k
@@ -273,7 +273,7 @@ unfolding within called_within
 within_foreign s zero outer f c listed = tt
 within_foreign s (suc n) outer f c listed = follow_foreign (length s.keys) s outer (within s n) (called_within s n) f (turn s.setting s.keys outer f c) (within_foreign s n) listed (turn_foreign s.setting s.keys outer f c listed)
 
-frame_result : (s : Fixed) (outer : List Key) (call : Call) (accounts : List Account) (units : ℕ) (c : Carried) → AreListed (length s.keys) call.metas accounts → EndForeign (programs_of_frame s outer call accounts units c) accounts (frame s outer call accounts units c).result
+frame_result : (s : Fixed) (outer : List Key) (call : Call) (accounts : List Account) (units : ℕ) (c : Carried) → AreListed (length s.keys) call.metas accounts → EndingForeign (programs_of_frame s outer call accounts units c) accounts (frame s outer call accounts units c).result
 frame_result s outer call accounts units c listed =
     after_foreign (length s.keys) outer (go s) (called_in s) (key_at s.keys call.program) call.metas accounts (begun s outer call accounts units c) (λ o f d here. within_foreign s (suc f.machine.units) o f d here) listed
     (begun_foreign (length s.keys) s outer call accounts units c listed)

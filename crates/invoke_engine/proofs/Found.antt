@@ -9,13 +9,13 @@ use Rattle.program_cache.specs.Programs.{Sought}
 use Rattle.abi_input.specs.Region.{max_metas}
 use Rattle.invoke_engine.specs.declared.call.Call.{Call}
 use Rattle.invoke_engine.specs.declared.call.Setting.{Setting}
-use Rattle.invoke_engine.specs.Frames.{Carried, Running, Ending, Next, Runs, Ends, Turn, GoesOn, Calls, Leaves, height, max_trace}
+use Rattle.invoke_engine.specs.Frames.{Carried, Running, Ending, Next, Runs, Done, Turn, GoesOn, Calls, Leaves, height, max_trace}
 use Rattle.invoke_engine.specs.Turns.{turn}
 use Rattle.invoke_engine.specs.Returning.{returned}
 use Rattle.invoke_engine.specs.Native.{is_native}
 use Rattle.invoke_engine.specs.Starting.{is_ready, crowded, program_started, entering, key_at, begun, started}
 use Rattle.invoke_engine.specs.Frame.{after, follow, within, frame, go, instruction, nothing_returned}
-use Rattle.invoke_engine.specs.Fits.{SameFound}
+use Rattle.invoke_engine.specs.FrameLaws.{SameFound}
 use Rattle.invoke_engine.specs.Views.{fixed}
 
 by_test : {X : Type 0} (b : Bool) (x y x' y' : X) → x ≡ x' → (b ≡ false → y ≡ y') → (if b then x else y) ≡ (if b then x' else y')
@@ -49,7 +49,7 @@ module _ (one other : Key → Sought) (setting : Setting) (keys : List Key) (sam
       entering (fixed one setting keys) outer (key_at keys place) call accounts units c ≡ entering (fixed other setting keys) outer (key_at keys place) call accounts units c
   unfolding entering
   same_entering place outer call accounts units c =
-      by_test (nat_lt max_metas (length call.metas)) _ _ _ _ (ap Ends (same_crowded place outer units c))
+      by_test (nat_lt max_metas (length call.metas)) _ _ _ _ (ap Done (same_crowded place outer units c))
       (λ few. by_test (is_native (key_at keys place)) _ _ _ _ refl (λ native. ap (program_started setting keys outer (key_at keys place) call accounts units c) (same_at place native)))
 
   same_begun : (outer : List Key) (call : Call) (accounts : List Account) (units : ℕ) (c : Carried) → begun (fixed one setting keys) outer call accounts units c ≡ begun (fixed other setting keys) outer call accounts units c
@@ -61,7 +61,7 @@ module _ (one other : Key → Sought) (setting : Setting) (keys : List Key) (sam
     where
       there : (n : Next) → after outer goo n ≡ after outer hoo n
       there (Runs f c) = h outer f c
-      there (Ends end) = refl
+      there (Done ending) = refl
 
   same_follow : (outer : List Key) (goo hoo : List Key → Running → Carried → Ending) (t : Turn) → ((o : List Key) (f : Running) (c : Carried) → goo o f c ≡ hoo o f c) → follow (fixed one setting keys) outer goo t ≡ follow (fixed other setting keys) outer hoo t
   same_follow outer goo hoo (GoesOn f c) h = h outer f c

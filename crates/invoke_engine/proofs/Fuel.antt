@@ -21,7 +21,7 @@ use Rattle.abi_input.specs.Region.{max_metas}
 use Rattle.invoke_engine.specs.declared.call.Call.{Call}
 use Rattle.invoke_engine.specs.declared.call.Setting.{Setting}
 use Rattle.invoke_engine.specs.declared.stopped.Stopped.{Stopped}
-use Rattle.invoke_engine.specs.Frames.{Fixed, Carried, Running, Ending, Next, Runs, Ends, Callee, Turn, GoesOn, Calls, Leaves, height, max_trace}
+use Rattle.invoke_engine.specs.Frames.{Fixed, Carried, Running, Ending, Next, Runs, Done, Callee, Turn, GoesOn, Calls, Leaves, height, max_trace}
 use Rattle.invoke_engine.specs.Calling.{calling, requested, call_turn}
 use Rattle.invoke_engine.specs.Serving.{serving, served, serve_turn}
 use Rattle.invoke_engine.specs.Turns.{at_stop, run_to, turn}
@@ -29,7 +29,8 @@ use Rattle.invoke_engine.specs.Returning.{patching, returning, returned}
 use Rattle.invoke_engine.specs.Native.{is_native, native}
 use Rattle.invoke_engine.specs.Starting.{key_at, program_started, is_ready, crowded, entering, started, begun}
 use Rattle.invoke_engine.specs.Frame.{after, follow, within, go, instruction, nothing_returned}
-use Rattle.invoke_engine.specs.Fits.{IsGoing, TurnTakes, NextTakes}
+use Rattle.invoke_engine.specs.Conditions.{IsGoing}
+use Rattle.invoke_engine.specs.FrameLoop.{TurnTakes, NextTakes}
 
 -- what holds of both holds of the one that is chosen
 pub either : {A : Type 0} (P : A → Type 0) (b : Bool) (one other : A) → P one → P other → P (if b then one else other)
@@ -117,7 +118,7 @@ GainsNone goo = (outer : List Key) (f : Running) (c : Carried) → IsGoing f →
 
 after_units : (outer : List Key) (goo : List Key → Running → Carried → Ending) (u : ℕ) (next : Next) → GainsNone goo → NextTakes u next → (after outer goo next).units ≤ u
 after_units outer goo u (Runs f c) none h = let k : (goo outer f c).units ≤ f.machine.units = none outer f c h.1 in omega (arith, h.0)
-after_units outer goo u (Ends e) none h = h
+after_units outer goo u (Done e) none h = h
 
 abbrev callee_end : Fixed → List Key → (List Key → Running → Carried → Ending) → Running → Carried → Callee → ℕ → Ending
 callee_end s outer goo f c callee left = after (f.program ∷ outer) goo (begun s (f.program ∷ outer) callee.call callee.accounts left c)
@@ -152,7 +153,7 @@ SameBelow u goo other = (outer : List Key) (f : Running) (c : Carried) → IsGoi
 
 after_same : (outer : List Key) (goo other : List Key → Running → Carried → Ending) (u v : ℕ) (next : Next) → SameBelow u goo other → v < u → NextTakes v next → after outer goo next ≡ after outer other next
 after_same outer goo other u v (Runs f c) same less h = same outer f c h.1 (omega (arith, h.0))
-after_same outer goo other u v (Ends e) same less h = refl
+after_same outer goo other u v (Done e) same less h = refl
 
 follow_same : (s : Fixed) (outer : List Key) (goo other : List Key → Running → Carried → Ending) (u : ℕ) (t : Turn) → GainsNone goo → SameBelow u goo other → TurnTakes u t → follow s outer goo t ≡ follow s outer other t
 follow_same s outer goo other u (GoesOn f c) none same h = same outer f c h.1 h.0

@@ -27,8 +27,8 @@ use Rattle.invoke_engine.specs.declared.call.Call.{Call}
 use Rattle.invoke_engine.specs.declared.call.Setting.{Setting}
 use Rattle.invoke_engine.specs.declared.stopped.Stopped.{Stopped}
 use Rattle.invoke_engine.specs.Lines.{program_line, invoke_line, consumed_line, last_line}
-use Rattle.invoke_engine.specs.Frames.{Fixed, Carried, Running, Ending, Next, Runs, Ends, Callee, Turn, GoesOn, Calls, Leaves, height, max_trace}
-use Rattle.invoke_engine.specs.Ends.{say, error_of, or_error, ended, closed, closes}
+use Rattle.invoke_engine.specs.Frames.{Fixed, Carried, Running, Ending, Next, Runs, Done, Callee, Turn, GoesOn, Calls, Leaves, height, max_trace}
+use Rattle.invoke_engine.specs.Endings.{say, error_of, or_error, ending_of, closed, closes}
 use Rattle.invoke_engine.specs.Leaving.{left}
 use Rattle.invoke_engine.specs.Calling.{called, calling, requested, call_turn}
 use Rattle.invoke_engine.specs.Serving.{serving, served, serve_turn, env_of}
@@ -71,12 +71,12 @@ module _ (before : Log) where
   said-grows : (c : Carried) (line : List ℕ) → HasGrown before c.log → IsLine line → HasGrown before (say line c).log
   said-grows c line grown one = HasGrown-with_line before c.log line one grown
 
-  ended-grows : (program : Key) (units : ℕ) (c : Carried) (result : Result (List Account) InstructionError) → HasGrown before c.log → HasGrown before (ended program units c result).carried.log
-  ended-grows program units c result grown = said-grows c (last_line program result) grown (last-written program result)
+  ending_of-grows : (program : Key) (units : ℕ) (c : Carried) (result : Result (List Account) InstructionError) → HasGrown before c.log → HasGrown before (ending_of program units c result).carried.log
+  ending_of-grows program units c result grown = said-grows c (last_line program result) grown (last-written program result)
 
   closed-grows : (program : Key) (had units : ℕ) (c : Carried) (result : Result (List Account) InstructionError) → HasGrown before c.log → HasGrown before (closed program had units c result).carried.log
   closed-grows program had units c result grown =
-      ended-grows program units (say (consumed_line program (had - units) had) c) result
+      ending_of-grows program units (say (consumed_line program (had - units) had) c) result
       (said-grows c (consumed_line program (had - units) had) grown (consumed_line-written program (had - units) had))
 
   closes-grows : (outer : List Key) (f : Running) (units : ℕ) (c : Carried) (result : Result (List Account) Stopped) → HasGrown before c.log → HasGrown before (closes outer f units c result).carried.log
@@ -88,7 +88,7 @@ module _ (before : Log) where
   -- the log that is handed on
   abbrev NextGrows : Next → Type 0
   NextGrows (Runs f c) = HasGrown before c.log
-  NextGrows (Ends e) = HasGrown before e.carried.log
+  NextGrows (Done e) = HasGrown before e.carried.log
 
   abbrev TurnGrows : Turn → Type 0
   TurnGrows (GoesOn f c) = HasGrown before c.log
@@ -133,14 +133,14 @@ module _ (before : Log) where
   unfolding returned
   returned-grows outer f e grown = returning-grows outer f e.units e.carried e.result grown
 
-  native-grows : (key : Key) (outer keys : List Key) (call : Call) (accounts : List Account) (units : ℕ) (c : Carried) → HasGrown before c.log → NextGrows (Ends (native key outer keys call accounts units c))
+  native-grows : (key : Key) (outer keys : List Key) (call : Call) (accounts : List Account) (units : ℕ) (c : Carried) → HasGrown before c.log → NextGrows (Done (native key outer keys call accounts units c))
   native-grows key outer keys call accounts units c grown =
       either (λ (e : Ending). HasGrown before e.carried.log) (nat_lt units NATIVE_UNITS) _ _
-      (ended-grows key 0 c (Err (error_of (height outer) (plainly UnitsSpent))) grown)
-      (ended-grows key (units - NATIVE_UNITS) c (or_error (height outer) (native_row key keys accounts call)) grown)
+      (ending_of-grows key 0 c (Err (error_of (height outer) (plainly UnitsSpent))) grown)
+      (ending_of-grows key (units - NATIVE_UNITS) c (or_error (height outer) (native_row key keys accounts call)) grown)
 
   refusing-grows : (key : Key) (outer : List Key) (units : ℕ) (c : Carried) (stopped : Stopped) → HasGrown before c.log → HasGrown before (refusing key outer units c stopped).carried.log
-  refusing-grows key outer units c stopped grown = ended-grows key units c (Err (error_of (height outer) stopped)) grown
+  refusing-grows key outer units c stopped grown = ending_of-grows key units c (Err (error_of (height outer) stopped)) grown
 
   entered-grows : (setting : Setting) (keys outer : List Key) (key : Key) (call : Call) (accounts : List Account) (units : ℕ) (c : Carried) (found : Sought) → HasGrown before c.log → NextGrows (program_started setting keys outer key call accounts units c found)
   entered-grows setting keys outer key call accounts units c (IsReady image) grown = grown
@@ -149,7 +149,7 @@ module _ (before : Log) where
   entered-grows setting keys outer key call accounts units c IsBad grown = refusing-grows key outer units c (plainly BadImage) grown
   entered-grows setting keys outer key call accounts units c (IsUnverified fault) grown = refusing-grows key outer units c (at Unverified (fault_number fault)) grown
 
-  crowded-grows : (programs : Key → Sought) (key : Key) (outer : List Key) (units : ℕ) (c : Carried) → HasGrown before c.log → NextGrows (Ends (crowded programs key outer units c))
+  crowded-grows : (programs : Key → Sought) (key : Key) (outer : List Key) (units : ℕ) (c : Carried) → HasGrown before c.log → NextGrows (Done (crowded programs key outer units c))
   unfolding crowded
   crowded-grows programs key outer units c grown =
       either (λ (e : Ending). HasGrown before e.carried.log) (not (is_native key) && is_ready (programs key)) _ _
@@ -174,7 +174,7 @@ module _ (before : Log) where
 
   after-grows : (outer : List Key) (goo : List Key → Running → Carried → Ending) (next : Next) → Grow goo → NextGrows next → HasGrown before (after outer goo next).carried.log
   after-grows outer goo (Runs f c) keeps grown = keeps outer f c grown
-  after-grows outer goo (Ends e) keeps grown = grown
+  after-grows outer goo (Done e) keeps grown = grown
 
   follow-grows : (s : Fixed) (outer : List Key) (goo : List Key → Running → Carried → Ending) (t : Turn) → Grow goo → TurnGrows t → HasGrown before (follow s outer goo t).carried.log
   follow-grows s outer goo (GoesOn f c) keeps grown = keeps outer f c grown

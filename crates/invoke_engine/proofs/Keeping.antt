@@ -42,14 +42,14 @@ use Rattle.invoke_engine.specs.declared.call.Setting.{Setting}
 use Rattle.invoke_engine.specs.declared.stopped.Stopped.{Stopped}
 use Rattle.invoke_engine.specs.Reasons.{plainly, refuse, by_length, by_rule, by_call, by_rights, by_system, by_loader}
 use Rattle.invoke_engine.specs.Frames.{Carried, Running, Callee, height, max_trace}
-use Rattle.invoke_engine.specs.Ends.{closes}
+use Rattle.invoke_engine.specs.Endings.{closes}
 use Rattle.invoke_engine.specs.Leaving.{lawful_accounts, left, exited}
 use Rattle.invoke_engine.specs.Calling.{may_start, called, callee_of, calling, requested, call_turn}
 use Rattle.invoke_engine.specs.Serving.{serving, served, serve_turn, env_of}
 use Rattle.invoke_engine.specs.Turns.{at_stop, run_to, turn}
 use Rattle.invoke_engine.specs.Native.{native_row}
-use Rattle.invoke_engine.specs.Given.{AreGiven, IsFrame, IsSuspended}
-use Rattle.invoke_engine.specs.Fits.{AreListed, EndFits, CallFits, TurnFits}
+use Rattle.invoke_engine.specs.Conditions.{AreAccountsOf, IsFrame, IsSuspended, EndingFits, CallFits, TurnFits}
+use Rattle.invoke_engine.specs.FrameLaws.{AreListed}
 use Rattle.invoke_engine.proofs.Fuel.{either}
 
 -- a run keeps what holds of a frame
@@ -105,7 +105,7 @@ pub in_range : (n m : ℕ) (metas : List Meta) → m ≡ n → AreInRange n meta
 in_range n m metas e h = subst (λ k. AreInRange k metas) (sym e) h
 
 -- accounts that are kept fit
-pub kept_given : (n : ℕ) (may_write : ℕ → Bool) (before after : List Account) → AreGiven n before → AreKeptBy may_write before after → AreGiven n after
+pub kept_given : (n : ℕ) (may_write : ℕ → Bool) (before after : List Account) → AreAccountsOf n before → AreKeptBy may_write before after → AreAccountsOf n after
 kept_given n may_write before after g k = record { count = k.count ∙ g.count; short = k.short g.short; supply = rw k.lamports g.supply }
 
 -- where the accounts of a frame come from that leaves them
@@ -215,11 +215,11 @@ serving_fits n most outer f c units (Ok service) h k =
     record { most = h.most; range = h.range; start = h.start; before = h.before; region = omega (arith, h.region, m.input) }
 serving_fits n most outer f c units (Err fault) h k = tt
 
-leaving_fits : (n : ℕ) (outer : List Key) (f : Running) (c : Carried) (units : ℕ) (result : Result (List Account) Stopped) → ((accounts : List Account) → result ≡ Ok accounts → AreGiven n accounts) → EndFits n (closes outer f units c result)
+leaving_fits : (n : ℕ) (outer : List Key) (f : Running) (c : Carried) (units : ℕ) (result : Result (List Account) Stopped) → ((accounts : List Account) → result ≡ Ok accounts → AreAccountsOf n accounts) → EndingFits n (closes outer f units c result)
 leaving_fits n outer f c units (Ok accounts) k = k accounts refl
 leaving_fits n outer f c units (Err stopped) k = tt
 
-exit_fits : (n : ℕ) (f : Running) (r0 : ℕ) (accounts : List Account) → IsFrame n f → left f r0 ≡ Ok accounts → AreGiven n accounts
+exit_fits : (n : ℕ) (f : Running) (r0 : ℕ) (accounts : List Account) → IsFrame n f → left f r0 ≡ Ok accounts → AreAccountsOf n accounts
 exit_fits n f r0 accounts h k =
     let listed : AreListed n f.metas f.before = record { count = h.before.count; range = h.range } in
     kept_given n (is_listed_writable f.metas) f.before accounts h.before (settled_keeps n f accounts listed (left_settled f r0 accounts k))

@@ -30,8 +30,8 @@ use Rattle.loader_prog.proofs.Keeping.{loader_ends}
 use Rattle.invoke_engine.specs.declared.call.Call.{Call}
 use Rattle.invoke_engine.specs.declared.call.Setting.{Setting}
 use Rattle.invoke_engine.specs.declared.stopped.Stopped.{Stopped}
-use Rattle.invoke_engine.specs.Frames.{Fixed, Carried, Running, Ending, Next, Runs, Ends, Callee, Turn, GoesOn, Calls, Leaves, height}
-use Rattle.invoke_engine.specs.Ends.{closes, or_error}
+use Rattle.invoke_engine.specs.Frames.{Fixed, Carried, Running, Ending, Next, Runs, Done, Callee, Turn, GoesOn, Calls, Leaves, height}
+use Rattle.invoke_engine.specs.Endings.{closes, or_error}
 use Rattle.invoke_engine.specs.Leaving.{left}
 use Rattle.invoke_engine.specs.Calling.{called, calling, requested, call_turn}
 use Rattle.invoke_engine.specs.Serving.{serving, served, serve_turn}
@@ -40,7 +40,7 @@ use Rattle.invoke_engine.specs.Returning.{patching, returning, returned}
 use Rattle.invoke_engine.specs.Native.{native, native_row, is_native}
 use Rattle.invoke_engine.specs.Starting.{program_started, entering, crowded, is_ready, key_at, started, begun}
 use Rattle.invoke_engine.specs.Frame.{after, follow, within, frame, go}
-use Rattle.invoke_engine.specs.Fits.{AreListed, EndKeeps}
+use Rattle.invoke_engine.specs.FrameLaws.{AreListed, EndingKeeps}
 use Rattle.invoke_engine.specs.Reasons.{by_loader, by_system, refuse}
 use Rattle.invoke_engine.proofs.Fuel.{either}
 use Rattle.invoke_engine.proofs.Keeping.{ComesFrom, Settles, called_from, refuse_ok, settles, settled_keeps, left_settled, native_row_keeps}
@@ -61,7 +61,7 @@ not_given false own h none = refl
 abbrev TurnKeeps : ℕ → Running → Turn → Type 0
 TurnKeeps n f (GoesOn g d) = (g.metas ≡ f.metas) × (g.before ≡ f.before)
 TurnKeeps n f (Calls g d callee left) = (g.metas ≡ f.metas) × Keep f.metas f.before callee.accounts × NoMore f.metas callee.call.metas × AreInRange n callee.call.metas
-TurnKeeps n f (Leaves e) = EndKeeps f.metas f.before e
+TurnKeeps n f (Leaves e) = EndingKeeps f.metas f.before e
 
 callee_keeps : (most : ℕ) (keys outer : List Key) (f g : Running) (c : Carried) (left : ℕ) (callee : Callee) → AreListed (length keys) f.metas f.before → g.metas ≡ f.metas → ComesFrom most keys outer f c.trace (requested f).answer callee → TurnKeeps (length keys) f (Calls g c callee left)
 callee_keeps most keys outer f g c left callee listed same from =
@@ -81,7 +81,7 @@ serving_keeps : (n : ℕ) (outer : List Key) (f : Running) (c : Carried) (units 
 serving_keeps n outer f c units (Ok service) = (refl, refl)
 serving_keeps n outer f c units (Err fault) = tt
 
-leaving_keeps : (outer : List Key) (f : Running) (c : Carried) (units : ℕ) (result : Result (List Account) Stopped) → ((accounts : List Account) → result ≡ Ok accounts → Keep f.metas f.before accounts) → EndKeeps f.metas f.before (closes outer f units c result)
+leaving_keeps : (outer : List Key) (f : Running) (c : Carried) (units : ℕ) (result : Result (List Account) Stopped) → ((accounts : List Account) → result ≡ Ok accounts → Keep f.metas f.before accounts) → EndingKeeps f.metas f.before (closes outer f units c result)
 leaving_keeps outer f c units (Ok accounts) k = k accounts refl
 leaving_keeps outer f c units (Err stopped) k = tt
 
@@ -106,12 +106,12 @@ turn_keeps setting keys outer f c listed = run_keeps setting keys outer f c (ste
 -- a frame that starts, or goes on after its callee: what it keeps from here on
 abbrev NextKeeps : List Meta → List Account → Next → Type 0
 NextKeeps metas before (Runs f c) = (f.metas ≡ metas) × (f.before ≡ before)
-NextKeeps metas before (Ends e) = EndKeeps metas before e
+NextKeeps metas before (Done e) = EndingKeeps metas before e
 
 abbrev ReturnKeeps : List Meta → Result (List Account) InstructionError → Next → Type 0
 ReturnKeeps metas (Ok accounts) next = NextKeeps metas accounts next
 ReturnKeeps metas (Err error) (Runs f c) = ⊥
-ReturnKeeps metas (Err error) (Ends e) = (before : List Account) → EndKeeps metas before e
+ReturnKeeps metas (Err error) (Done e) = (before : List Account) → EndingKeeps metas before e
 
 patching_keeps : (outer : List Key) (f : Running) (accounts : List Account) (units : ℕ) (c : Carried) (answer : Result (List ℕ) ℕ) → NextKeeps f.metas accounts (patching outer f accounts units c answer)
 patching_keeps outer f accounts units c (Ok region) = (refl, refl)
@@ -125,13 +125,13 @@ returned_keeps : (outer : List Key) (f : Running) (e : Ending) → ReturnKeeps f
 unfolding returned
 returned_keeps outer f e = returning_keeps outer f e.units e.carried e.result
 
-or_error_keeps : (metas : List Meta) (before : List Account) (units : ℕ) (c : Carried) (height : ℕ) (result : Result (List Account) Stopped) → ((after : List Account) → result ≡ Ok after → Keep metas before after) → (let e : Ending = record { units = units; carried = c; result = or_error height result } in EndKeeps metas before e)
+or_error_keeps : (metas : List Meta) (before : List Account) (units : ℕ) (c : Carried) (height : ℕ) (result : Result (List Account) Stopped) → ((after : List Account) → result ≡ Ok after → Keep metas before after) → (let e : Ending = record { units = units; carried = c; result = or_error height result } in EndingKeeps metas before e)
 or_error_keeps metas before units c height (Ok after) k = k after refl
 or_error_keeps metas before units c height (Err stopped) k = tt
 
-native_keeps : (n : ℕ) (key : Key) (outer keys : List Key) (call : Call) (accounts : List Account) (units : ℕ) (c : Carried) → AreListed n call.metas accounts → EndKeeps call.metas accounts (native key outer keys call accounts units c)
+native_keeps : (n : ℕ) (key : Key) (outer keys : List Key) (call : Call) (accounts : List Account) (units : ℕ) (c : Carried) → AreListed n call.metas accounts → EndingKeeps call.metas accounts (native key outer keys call accounts units c)
 native_keeps n key outer keys call accounts units c listed =
-    either (EndKeeps call.metas accounts) (nat_lt units NATIVE_UNITS) _ _ tt
+    either (EndingKeeps call.metas accounts) (nat_lt units NATIVE_UNITS) _ _ tt
     (or_error_keeps call.metas accounts units c (height outer) (native_row key keys accounts call) (λ after h. native_row_keeps n key keys accounts call after listed h))
 
 entered_keeps : (s : Fixed) (outer : List Key) (key : Key) (call : Call) (accounts : List Account) (units : ℕ) (c : Carried) (found : Sought) → NextKeeps call.metas accounts (program_started s.setting s.keys outer key call accounts units c found)
@@ -141,9 +141,9 @@ entered_keeps s outer key call accounts units c IsNoProgram = tt
 entered_keeps s outer key call accounts units c IsBad = tt
 entered_keeps s outer key call accounts units c (IsUnverified fault) = tt
 
-crowded_keeps : (metas : List Meta) (accounts : List Account) (s : Fixed) (key : Key) (outer : List Key) (units : ℕ) (c : Carried) → EndKeeps metas accounts (crowded s.programs key outer units c)
+crowded_keeps : (metas : List Meta) (accounts : List Account) (s : Fixed) (key : Key) (outer : List Key) (units : ℕ) (c : Carried) → EndingKeeps metas accounts (crowded s.programs key outer units c)
 unfolding crowded
-crowded_keeps metas accounts s key outer units c = either (EndKeeps metas accounts) (not (is_native key) && is_ready (s.programs key)) _ _ tt tt
+crowded_keeps metas accounts s key outer units c = either (EndingKeeps metas accounts) (not (is_native key) && is_ready (s.programs key)) _ _ tt tt
 
 entering_keeps : (n : ℕ) (s : Fixed) (outer : List Key) (key : Key) (call : Call) (accounts : List Account) (units : ℕ) (c : Carried) → AreListed n call.metas accounts → NextKeeps call.metas accounts (entering s outer key call accounts units c)
 unfolding entering
@@ -157,13 +157,13 @@ unfolding begun
 begun_keeps n s outer call accounts units c listed = entering_keeps n s outer (key_at s.keys call.program) call accounts units (started (key_at s.keys call.program) (height outer) c) listed
 
 abbrev AllKeep : ℕ → (List Key → Running → Carried → Ending) → Type 0
-AllKeep n goo = (outer : List Key) (f : Running) (c : Carried) → AreListed n f.metas f.before → EndKeeps f.metas f.before (goo outer f c)
+AllKeep n goo = (outer : List Key) (f : Running) (c : Carried) → AreListed n f.metas f.before → EndingKeeps f.metas f.before (goo outer f c)
 
-after_keeps : (n : ℕ) (outer : List Key) (goo : List Key → Running → Carried → Ending) (metas : List Meta) (before : List Account) (next : Next) → AllKeep n goo → AreListed n metas before → NextKeeps metas before next → EndKeeps metas before (after outer goo next)
+after_keeps : (n : ℕ) (outer : List Key) (goo : List Key → Running → Carried → Ending) (metas : List Meta) (before : List Account) (next : Next) → AllKeep n goo → AreListed n metas before → NextKeeps metas before next → EndingKeeps metas before (after outer goo next)
 after_keeps n outer goo metas before (Runs f c) all listed k =
     let here : AreListed n f.metas f.before = subst (λ (ms : List Meta). AreListed n ms f.before) (sym k.0) (subst (λ (b : List Account). AreListed n metas b) (sym k.1) listed) in
-    subst (λ (ms : List Meta). EndKeeps ms before (goo outer f c)) k.0 (subst (λ (b : List Account). EndKeeps f.metas b (goo outer f c)) k.1 (all outer f c here))
-after_keeps n outer goo metas before (Ends e) all listed k = k
+    subst (λ (ms : List Meta). EndingKeeps ms before (goo outer f c)) k.0 (subst (λ (b : List Account). EndingKeeps f.metas b (goo outer f c)) k.1 (all outer f c here))
+after_keeps n outer goo metas before (Done e) all listed k = k
 
 -- from a callee's end on
 end_then : (metas : List Meta) (a b : List Account) (result : Result (List Account) InstructionError) → Keep metas a b → MatchResult result (λ after. Keep metas b after) (λ _. Unit {0}) → MatchResult result (λ after. Keep metas a after) (λ _. Unit {0})
@@ -171,7 +171,7 @@ end_then metas a b (Ok after) k l = AreKeptBy-trans (is_listed_writable metas) a
 end_then metas a b (Err error) k l = tt
 
 resumed_keeps : (n : ℕ) (outer : List Key) (goo : List Key → Running → Carried → Ending) (metas fewer : List Meta) (start accounts : List Account) (result : Result (List Account) InstructionError) (next : Next) → AllKeep n goo → AreListed n metas start → NoMore metas fewer → Keep metas start accounts →
-    MatchResult result (λ after. Keep fewer accounts after) (λ _. Unit {0}) → ReturnKeeps metas result next → EndKeeps metas start (after outer goo next)
+    MatchResult result (λ after. Keep fewer accounts after) (λ _. Unit {0}) → ReturnKeeps metas result next → EndingKeeps metas start (after outer goo next)
 resumed_keeps n outer goo metas fewer start accounts (Ok now) next all listed rights k l r =
     let e : Ending = after outer goo next in
     let wide : Keep metas accounts now = AreKeptBy-weaker (is_listed_writable fewer) (is_listed_writable metas) accounts now rights l in
@@ -179,9 +179,9 @@ resumed_keeps n outer goo metas fewer start accounts (Ok now) next all listed ri
     let here : AreListed n metas now = record { count = so_far.count ∙ listed.count; range = listed.range } in
     end_then metas start now e.result so_far (after_keeps n outer goo metas now next all here r)
 resumed_keeps n outer goo metas fewer start accounts (Err error) (Runs f c) all listed rights k l r = absurd r
-resumed_keeps n outer goo metas fewer start accounts (Err error) (Ends e) all listed rights k l r = r start
+resumed_keeps n outer goo metas fewer start accounts (Err error) (Done e) all listed rights k l r = r start
 
-follow_keeps : (n : ℕ) (s : Fixed) (outer : List Key) (goo : List Key → Running → Carried → Ending) (f : Running) (t : Turn) → AllKeep n goo → AreListed n f.metas f.before → TurnKeeps n f t → EndKeeps f.metas f.before (follow s outer goo t)
+follow_keeps : (n : ℕ) (s : Fixed) (outer : List Key) (goo : List Key → Running → Carried → Ending) (f : Running) (t : Turn) → AllKeep n goo → AreListed n f.metas f.before → TurnKeeps n f t → EndingKeeps f.metas f.before (follow s outer goo t)
 follow_keeps n s outer goo f (GoesOn g d) all listed k = after_keeps n outer goo f.metas f.before (Runs g d) all listed k
 follow_keeps n s outer goo f (Calls g d callee left) all listed k =
     let e : Ending = after (g.program ∷ outer) goo (begun s (g.program ∷ outer) callee.call callee.accounts left d) in
@@ -197,7 +197,7 @@ within_keeps s zero outer f c listed = tt
 within_keeps s (suc n) outer f c listed = follow_keeps (length s.keys) s outer (within s n) f (turn s.setting s.keys outer f c) (within_keeps s n) listed (turn_keeps s.setting s.keys outer f c listed)
 
 -- a frame that ends well keeps the accounts that it was given
-pub frame_keeps : (s : Fixed) (outer : List Key) (call : Call) (accounts : List Account) (units : ℕ) (c : Carried) → AreListed (length s.keys) call.metas accounts → EndKeeps call.metas accounts (frame s outer call accounts units c)
+pub frame_keeps : (s : Fixed) (outer : List Key) (call : Call) (accounts : List Account) (units : ℕ) (c : Carried) → AreListed (length s.keys) call.metas accounts → EndingKeeps call.metas accounts (frame s outer call accounts units c)
 frame_keeps s outer call accounts units c listed =
     after_keeps (length s.keys) outer (go s) call.metas accounts _ (λ o f d. within_keeps s (suc f.machine.units) o f d) listed (begun_keeps (length s.keys) s outer call accounts units c listed)
 
@@ -255,7 +255,7 @@ same_stretch setting keys outer f g c d h = subst (TurnRules f) h (turn_rules se
 -- a first stretch begins with what the frame was given, and a native program has but one
 abbrev StartsWith : Key → Call → List Account → Next → Type 0
 StartsWith key call accounts (Runs f c) = (f.program ≡ key) × (f.metas ≡ call.metas) × (f.before ≡ accounts)
-StartsWith key call accounts (Ends e) = IfOk e.result (λ after. (after ≡ accounts) ⊎ (listed_rules key call.metas accounts after ≡ Ok tt))
+StartsWith key call accounts (Done e) = IfOk e.result (λ after. (after ≡ accounts) ⊎ (listed_rules key call.metas accounts after ≡ Ok tt))
 
 native_rules : (key : Key) (keys : List Key) (accounts : List Account) (call : Call) (after : List Account) → native_row key keys accounts call ≡ Ok after → (after ≡ accounts) ⊎ (listed_rules key call.metas accounts after ≡ Ok tt)
 unfolding native_row
@@ -274,9 +274,9 @@ or_error_rules : (key : Key) (call : Call) (accounts : List Account) (height : �
 or_error_rules key call accounts height (Ok after) k = k after refl
 or_error_rules key call accounts height (Err stopped) k = tt
 
-native_starts : (key : Key) (outer keys : List Key) (call : Call) (accounts : List Account) (units : ℕ) (c : Carried) → StartsWith key call accounts (Ends (native key outer keys call accounts units c))
+native_starts : (key : Key) (outer keys : List Key) (call : Call) (accounts : List Account) (units : ℕ) (c : Carried) → StartsWith key call accounts (Done (native key outer keys call accounts units c))
 native_starts key outer keys call accounts units c =
-    either (λ (e : Ending). StartsWith key call accounts (Ends e)) (nat_lt units NATIVE_UNITS) _ _ tt
+    either (λ (e : Ending). StartsWith key call accounts (Done e)) (nat_lt units NATIVE_UNITS) _ _ tt
     (or_error_rules key call accounts (height outer) (native_row key keys accounts call) (λ after h. native_rules key keys accounts call after h))
 
 entered_starts : (s : Fixed) (outer : List Key) (key : Key) (call : Call) (accounts : List Account) (units : ℕ) (c : Carried) (found : Sought) → StartsWith key call accounts (program_started s.setting s.keys outer key call accounts units c found)
@@ -286,9 +286,9 @@ entered_starts s outer key call accounts units c IsNoProgram = tt
 entered_starts s outer key call accounts units c IsBad = tt
 entered_starts s outer key call accounts units c (IsUnverified fault) = tt
 
-crowded_starts : (key : Key) (call : Call) (accounts : List Account) (s : Fixed) (outer : List Key) (units : ℕ) (c : Carried) → StartsWith key call accounts (Ends (crowded s.programs key outer units c))
+crowded_starts : (key : Key) (call : Call) (accounts : List Account) (s : Fixed) (outer : List Key) (units : ℕ) (c : Carried) → StartsWith key call accounts (Done (crowded s.programs key outer units c))
 unfolding crowded
-crowded_starts key call accounts s outer units c = either (λ (e : Ending). StartsWith key call accounts (Ends e)) (not (is_native key) && is_ready (s.programs key)) _ _ tt tt
+crowded_starts key call accounts s outer units c = either (λ (e : Ending). StartsWith key call accounts (Done e)) (not (is_native key) && is_ready (s.programs key)) _ _ tt tt
 
 entering_starts : (s : Fixed) (outer : List Key) (key : Key) (call : Call) (accounts : List Account) (units : ℕ) (c : Carried) → StartsWith key call accounts (entering s outer key call accounts units c)
 unfolding entering
@@ -303,14 +303,14 @@ begun_starts s outer call accounts units c = entering_starts s outer (key_at s.k
 pub first_stretch : (s : Fixed) (outer : List Key) (call : Call) (accounts : List Account) (units : ℕ) (c d : Carried) (f : Running) → begun s outer call accounts units c ≡ Runs f d → (f.program ≡ key_at s.keys call.program) × (f.metas ≡ call.metas) × (f.before ≡ accounts)
 first_stretch s outer call accounts units c d f h = subst (StartsWith (key_at s.keys call.program) call accounts) h (begun_starts s outer call accounts units c)
 
-pub native_stretch : (s : Fixed) (outer : List Key) (call : Call) (accounts : List Account) (units : ℕ) (c : Carried) (e : Ending) → begun s outer call accounts units c ≡ Ends e
+pub native_stretch : (s : Fixed) (outer : List Key) (call : Call) (accounts : List Account) (units : ℕ) (c : Carried) (e : Ending) → begun s outer call accounts units c ≡ Done e
     → IfOk e.result (λ after. (after ≡ accounts) ⊎ (listed_rules (key_at s.keys call.program) call.metas accounts after ≡ Ok tt))
 native_stretch s outer call accounts units c e h = subst (StartsWith (key_at s.keys call.program) call accounts) h (begun_starts s outer call accounts units c)
 
 -- a next one with what the callee left
 abbrev StartsAfter : Running → Result (List Account) InstructionError → Next → Type 0
 StartsAfter f result (Runs g c) = (g.program ≡ f.program) × (g.metas ≡ f.metas) × (result ≡ Ok g.before)
-StartsAfter f result (Ends e) = Unit {0}
+StartsAfter f result (Done e) = Unit {0}
 
 patching_starts : (outer : List Key) (f : Running) (accounts : List Account) (units : ℕ) (c : Carried) (answer : Result (List ℕ) ℕ) → StartsAfter f (Ok accounts) (patching outer f accounts units c answer)
 patching_starts outer f accounts units c (Ok region) = (refl, refl, refl)

@@ -7,21 +7,21 @@ use Rattle.tx_report.specs.LogLines.{Log}
 use Rattle.invoke_engine.specs.declared.call.Call.{Call}
 use Rattle.std.proofs.lemmas.List.{length-map}
 use Rattle.sol_base.specs.declared.key.Key.{Key}
-use Rattle.invoke_engine.specs.Frames.{Fixed, Carried, Running, Ending, Next, Runs, Ends, Callee, Turn, GoesOn, Calls, Leaves}
+use Rattle.invoke_engine.specs.Frames.{Fixed, Carried, Running, Ending, Next, Runs, Done, Callee, Turn, GoesOn, Calls, Leaves}
 use Rattle.invoke_engine.specs.Turns.{turn}
 use Rattle.invoke_engine.specs.Returning.{returned}
 use Rattle.invoke_engine.specs.Starting.{begun}
 use Rattle.invoke_engine.specs.Frame.{frame, nothing_returned, go, after, follow}
-use Rattle.invoke_engine.specs.Fits.{NextFits, TurnFits, IsGoing, TurnTakes, NextTakes, Works, Stands, Steps, Goes, units_in, ending_in, measure}
-use Rattle.invoke_engine.specs.Given.{AreGiven, IsFrame, AreSuspended}
+use Rattle.invoke_engine.specs.Conditions.{NextFits, TurnFits, IsGoing, AreAccountsOf, IsFrame, AreSuspended}
+use Rattle.invoke_engine.specs.FrameLoop.{TurnTakes, NextTakes, Works, Stands, Steps, Goes, units_in, ending_in, measure}
 use Rattle.invoke_engine.specs.Suspended.{programs_of, rest}
 use Rattle.invoke_engine.specs.Views.{next_as, ending_as, RunsFit, IsRun}
 use Rattle.invoke_engine.specs.declared.call.Ran.{Ran}
 use Rattle.sol_base.specs.declared.key.TheConstants.{SYSTEM_PROGRAM}
-use Rattle.invoke_engine.specs.declared.ending.End.{End}
+use Rattle.invoke_engine.specs.declared.ending.Ending.{Ending as EndingValue}
 use Rattle.invoke_engine.specs.declared.begin.Next.{Next as NextValue}
-use Rattle.invoke_engine.specs.declared.begin.Next.TheVariants.{Runs as RunsValue, Ends as EndsValue}
-use Rattle.invoke_engine.proofs.Begins.{EndsFit, begun_fits, returned_fits}
+use Rattle.invoke_engine.specs.declared.begin.Next.TheVariants.{Runs as RunsValue, Done as DoneValue}
+use Rattle.invoke_engine.proofs.Begins.{DoneFits, begun_fits, returned_fits}
 use Rattle.invoke_engine.proofs.Fuel.{go_turn, turn_takes, returned_takes, begun_takes}
 use Rattle.invoke_engine.proofs.Keeping.{turn_fits}
 
@@ -67,18 +67,18 @@ fewer n u v (f ∷ fs) h k = (k.0, omega (arith, k.1), k.2)
 
 goes_on : (u : ℕ) (next : Next) → NextTakes u next → Goes next
 goes_on u (Runs f c) h = h.1
-goes_on u (Ends e) h = tt
+goes_on u (Done e) h = tt
 
 units_most : (u : ℕ) (next : Next) → NextTakes u next → units_in next ≤ u
 units_most u (Runs f c) h = h.0
-units_most u (Ends e) h = h
+units_most u (Done e) h = h
 
 measured : (fs : List Running) (next : Next) → measure fs next ≤ 3 * units_in next + 2 * length fs + 1
 measured fs (Runs f c) = omega arith
-measured fs (Ends e) = omega arith
+measured fs (Done e) = omega arith
 
 -- a caller after its callee
-pub step_returned : (s : Fixed) (fs : List Running) (f : Running) (e : Ending) → Stands s (f ∷ fs) (Ends e) → NextFits (length s.keys) (returned (programs_of fs) f e) → Steps s (f ∷ fs) (Ends e) fs (returned (programs_of fs) f e)
+pub step_returned : (s : Fixed) (fs : List Running) (f : Running) (e : Ending) → Stands s (f ∷ fs) (Done e) → NextFits (length s.keys) (returned (programs_of fs) f e) → Steps s (f ∷ fs) (Done e) fs (returned (programs_of fs) f e)
 unfolding rest
 step_returned s fs f e h fits =
     let takes : NextTakes e.units (returned (programs_of fs) f e) = returned_takes (programs_of fs) f e in
@@ -97,7 +97,7 @@ step_returned s fs f e h fits =
     }
 
 -- a frame that leaves
-pub step_leaves : (s : Fixed) (fs : List Running) (f : Running) (c : Carried) (e : Ending) → Stands s fs (Runs f c) → Works s (programs_of fs) f c (Leaves e) → Steps s fs (Runs f c) fs (Ends e)
+pub step_leaves : (s : Fixed) (fs : List Running) (f : Running) (c : Carried) (e : Ending) → Stands s fs (Runs f c) → Works s (programs_of fs) f c (Leaves e) → Steps s fs (Runs f c) fs (Done e)
 step_leaves s fs f c e h w =
     let most : e.units ≤ f.machine.units = w.takes in
     record {
@@ -131,7 +131,7 @@ step_calls s fs f c g d callee left next h w e fits =
     }
 
 -- where the outermost has ended
-pub stands_end : (s : Fixed) (fs : List Running) (e : Ending) → fs ≡ [] → ending_in s fs (Ends e) ≡ e
+pub stands_end : (s : Fixed) (fs : List Running) (e : Ending) → fs ≡ [] → ending_in s fs (Done e) ≡ e
 unfolding rest
 stands_end s fs e h = ap (λ (gs : List Running). rest s gs e) h
 
@@ -141,38 +141,38 @@ pub both_ok : {A E : Type 0} (r : Result A E) (P Q R : A → Type 0) → IfOk r 
 both_ok (Ok a) P Q R p q h = h a p q
 both_ok (Err e) P Q R p q h = q
 
-next_fits : (n : ℕ) (next : NextValue) (c : Carried) → RunsFit n next → EndsFit n (next_as next c) → NextFits n (next_as next c)
+next_fits : (n : ℕ) (next : NextValue) (c : Carried) → RunsFit n next → DoneFits n (next_as next c) → NextFits n (next_as next c)
 next_fits n (RunsValue f) c h k = h
-next_fits n (EndsValue e) c h k = k
+next_fits n (DoneValue e) c h k = k
 
 pub step_begun : (s : Fixed) (fs : List Running) (f : Running) (c : Carried) (g : Running) (d : Carried) (callee : Callee) (left : ℕ) (gs : List Running) (next : NextValue) (e : Carried) →
     gs ≡ g ∷ fs → Stands s fs (Runs f c) → Works s (programs_of fs) f c (Calls g d callee left) → begun s (programs_of gs) callee.call callee.accounts left d ≡ next_as next e → RunsFit (length s.keys) next → Steps s fs (Runs f c) gs (next_as next e)
 step_begun s fs f c g d callee left gs next e same h w begins fits =
-    let ends : EndsFit (length s.keys) (next_as next e) = subst (EndsFit (length s.keys)) begins (begun_fits (length s.keys) s (programs_of gs) callee.call callee.accounts left d w.fits.call.range w.fits.accounts) in
+    let ends : DoneFits (length s.keys) (next_as next e) = subst (DoneFits (length s.keys)) begins (begun_fits (length s.keys) s (programs_of gs) callee.call callee.accounts left d w.fits.call.range w.fits.accounts) in
     subst (λ (hs : List Running). begun s (programs_of hs) callee.call callee.accounts left d ≡ next_as next e → Steps s fs (Runs f c) hs (next_as next e)) (sym same)
     (λ (k : begun s (programs_of (g ∷ fs)) callee.call callee.accounts left d ≡ next_as next e). step_calls s fs f c g d callee left (next_as next e) h w k (next_fits (length s.keys) next e fits ends)) begins
 
-pub step_resumed : (s : Fixed) (stack : List Running) (now : NextValue) (c : Carried) (f : Running) (fs : List Running) (end : End) (next : NextValue) (d : Carried) →
-    Stands s stack (next_as now c) → stack ≡ f ∷ fs → now ≡ EndsValue end → returned (programs_of fs) f (ending_as end c) ≡ next_as next d → RunsFit (length s.keys) next → Steps s stack (next_as now c) fs (next_as next d)
-step_resumed s stack now c f fs end next d h same is r runs =
-    let ends : EndsFit (length s.keys) (next_as next d) = subst (EndsFit (length s.keys)) r (returned_fits (length s.keys) (programs_of fs) f (ending_as end c)) in
-    let fits : NextFits (length s.keys) (returned (programs_of fs) f (ending_as end c)) = subst (NextFits (length s.keys)) (sym r) (next_fits (length s.keys) next d runs ends) in
+pub step_resumed : (s : Fixed) (stack : List Running) (now : NextValue) (c : Carried) (f : Running) (fs : List Running) (ending : EndingValue) (next : NextValue) (d : Carried) →
+    Stands s stack (next_as now c) → stack ≡ f ∷ fs → now ≡ DoneValue ending → returned (programs_of fs) f (ending_as ending c) ≡ next_as next d → RunsFit (length s.keys) next → Steps s stack (next_as now c) fs (next_as next d)
+step_resumed s stack now c f fs ending next d h same is r runs =
+    let ends : DoneFits (length s.keys) (next_as next d) = subst (DoneFits (length s.keys)) r (returned_fits (length s.keys) (programs_of fs) f (ending_as ending c)) in
+    let fits : NextFits (length s.keys) (returned (programs_of fs) f (ending_as ending c)) = subst (NextFits (length s.keys)) (sym r) (next_fits (length s.keys) next d runs ends) in
     subst (λ (gs : List Running). Stands s gs (next_as now c) → Steps s gs (next_as now c) fs (next_as next d)) (sym same)
     (subst (λ (n : NextValue). Stands s (f ∷ fs) (next_as n c) → Steps s (f ∷ fs) (next_as n c) fs (next_as next d)) (sym is)
-    (λ (k : Stands s (f ∷ fs) (Ends (ending_as end c))). subst (Steps s (f ∷ fs) (Ends (ending_as end c)) fs) r (step_returned s fs f (ending_as end c) k fits))) h
+    (λ (k : Stands s (f ∷ fs) (Done (ending_as ending c))). subst (Steps s (f ∷ fs) (Done (ending_as ending c)) fs) r (step_returned s fs f (ending_as ending c) k fits))) h
 
-pub end_of_all : (s : Fixed) (stack : List Running) (now : NextValue) (c : Carried) (end : End) (total : Ending) → stack ≡ [] → now ≡ EndsValue end → ending_in s stack (next_as now c) ≡ total → ending_as end c ≡ total
-end_of_all s stack now c end total none is h =
-    sym (stands_end s stack (ending_as end c) none) ∙ ap (λ (n : NextValue). ending_in s stack (next_as n c)) (sym is) ∙ h
+pub end_of_all : (s : Fixed) (stack : List Running) (now : NextValue) (c : Carried) (ending : EndingValue) (total : Ending) → stack ≡ [] → now ≡ DoneValue ending → ending_in s stack (next_as now c) ≡ total → ending_as ending c ≡ total
+end_of_all s stack now c ending total none is h =
+    sym (stands_end s stack (ending_as ending c) none) ∙ ap (λ (n : NextValue). ending_in s stack (next_as n c)) (sym is) ∙ h
 
 -- the first frame
 
 pub first_stands : (s : Fixed) (stack : List Running) (call : Call) (accounts : List Account) (units : ℕ) (c : Carried) (next : NextValue) (e : Carried) →
-    stack ≡ [] → 1 ≤ s.setting.height → AreInRange (length s.keys) call.metas → AreGiven (length s.keys) accounts → begun s (programs_of stack) call accounts units c ≡ next_as next e → RunsFit (length s.keys) next → Stands s stack (next_as next e)
+    stack ≡ [] → 1 ≤ s.setting.height → AreInRange (length s.keys) call.metas → AreAccountsOf (length s.keys) accounts → begun s (programs_of stack) call accounts units c ≡ next_as next e → RunsFit (length s.keys) next → Stands s stack (next_as next e)
 first_stands s stack call accounts units c next e none some range given begins fits =
     let empty : length stack ≡ 0 = ap length none in
     record {
-      fits = next_fits (length s.keys) next e fits (subst (EndsFit (length s.keys)) begins (begun_fits (length s.keys) s (programs_of stack) call accounts units c range given));
+      fits = next_fits (length s.keys) next e fits (subst (DoneFits (length s.keys)) begins (begun_fits (length s.keys) s (programs_of stack) call accounts units c range given));
       goes = goes_on units (next_as next e) (subst (NextTakes units) begins (begun_takes s (programs_of stack) call accounts units c));
       waiting = subst (AreSuspended (length s.keys) (units_in (next_as next e))) (sym none) tt;
       height = omega arith;
@@ -189,6 +189,6 @@ pub carried_first : (trace : ℕ) (kept : List ℕ) (log given : Log) → kept �
 carried_first trace kept log given h k = rw (h, k) refl
 
 -- what a run answers, by the code's own first values
-pub run_is : (f : Carried → Ending) (ran : Ran) (before first after : Carried) (end : End) (log : Log) → ending_as end after ≡ f before → before ≡ first → after.log ≡ log → IsRun (ending_as end after) ran after.log → IsRun (f first) ran log
-run_is f ran before first after end log h k l run =
+pub run_is : (f : Carried → Ending) (ran : Ran) (before first after : Carried) (ending : EndingValue) (log : Log) → ending_as ending after ≡ f before → before ≡ first → after.log ≡ log → IsRun (ending_as ending after) ran after.log → IsRun (f first) ran log
+run_is f ran before first after ending log h k l run =
     subst (λ (x : Log). IsRun (f first) ran x) l (subst (λ (e : Ending). IsRun e ran after.log) (h ∙ ap f k) run)

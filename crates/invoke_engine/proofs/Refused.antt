@@ -51,8 +51,8 @@ use Rattle.invoke_engine.specs.declared.call.Call.{Call as CallValue}
 use Rattle.invoke_engine.specs.declared.call.Setting.{Setting}
 use Rattle.invoke_engine.specs.declared.stopped.Stopped.{Stopped}
 use Rattle.invoke_engine.specs.declared.stopped.Stopped.TheVariants.{Refused, OutOfMemory as no_memory}
-use Rattle.invoke_engine.specs.Frames.{Fixed, Carried, Running, Ending, Next, Runs, Ends, Callee, Turn, GoesOn, Calls, Leaves, height, max_trace}
-use Rattle.invoke_engine.specs.Ends.{error_of, or_error, closes}
+use Rattle.invoke_engine.specs.Frames.{Fixed, Carried, Running, Ending, Next, Runs, Done, Callee, Turn, GoesOn, Calls, Leaves, height, max_trace}
+use Rattle.invoke_engine.specs.Endings.{error_of, or_error, closes}
 use Rattle.invoke_engine.specs.Leaving.{custom_zero, exited, lawful_accounts, left}
 use Rattle.invoke_engine.specs.Calling.{called, calling, may_start, requested, call_turn}
 use Rattle.invoke_engine.specs.Serving.{serving, served, serve_turn}
@@ -73,14 +73,14 @@ Fits no_memory = Unit {0}
 abbrev ErrorFits : InstructionError → Type 0
 ErrorFits error = error.detail < 2 ^ 32
 
-abbrev EndFits : Result (List Account) InstructionError → Type 0
-EndFits result = IfErr result ErrorFits
+abbrev EndingFits : Result (List Account) InstructionError → Type 0
+EndingFits result = IfErr result ErrorFits
 
 error_fits : (height : ℕ) (stopped : Stopped) → Fits stopped → ErrorFits (error_of height stopped)
 error_fits height (Refused reason) h = h
 error_fits height no_memory h = lit< tt
 
-or_error_fits : (height : ℕ) (result : Result (List Account) Stopped) → IfErr result Fits → EndFits (or_error height result)
+or_error_fits : (height : ℕ) (result : Result (List Account) Stopped) → IfErr result Fits → EndingFits (or_error height result)
 or_error_fits height (Ok accounts) h = tt
 or_error_fits height (Err stopped) h = error_fits height stopped h
 
@@ -217,14 +217,14 @@ called_fits most keys outer f trace answer asked short =
 -- ---- turns
 abbrev NextFits : Next → Type 0
 NextFits (Runs f c) = Short f
-NextFits (Ends e) = EndFits e.result
+NextFits (Done e) = EndingFits e.result
 
 abbrev TurnFits : Turn → Type 0
 TurnFits (GoesOn f c) = Short f
 TurnFits (Calls f c callee units) = Short f
-TurnFits (Leaves e) = EndFits e.result
+TurnFits (Leaves e) = EndingFits e.result
 
-closes_fits : (outer : List Key) (f : Running) (units : ℕ) (c : Carried) (result : Result (List Account) Stopped) → IfErr result Fits → EndFits (closes outer f units c result).result
+closes_fits : (outer : List Key) (f : Running) (units : ℕ) (c : Carried) (result : Result (List Account) Stopped) → IfErr result Fits → EndingFits (closes outer f units c result).result
 closes_fits outer f units c result h = or_error_fits (height outer) result h
 
 calling_fits : (outer : List Key) (f : Running) (c : Carried) (units : ℕ) (answer : Result Callee Stopped) → Short f → IfErr answer Fits → TurnFits (calling outer f c units answer)
@@ -258,12 +258,12 @@ patching_fits : (outer : List Key) (f : Running) (accounts : List Account) (unit
 patching_fits outer f accounts units c (Ok region) short h = short
 patching_fits outer f accounts units c (Err i) short h = closes_fits outer f units c (Err (by_length i)) (small (length f.metas) i short h)
 
-returning_fits : (outer : List Key) (f : Running) (units : ℕ) (c : Carried) (result : Result (List Account) InstructionError) → Short f → EndFits result → NextFits (returning outer f units c result)
+returning_fits : (outer : List Key) (f : Running) (units : ℕ) (c : Carried) (result : Result (List Account) InstructionError) → Short f → EndingFits result → NextFits (returning outer f units c result)
 returning_fits outer f units c (Ok accounts) short h =
     patching_fits outer f accounts units c (patched f.machine.context.memory.input.bytes f.start accounts f.metas) short (patched_within f.machine.context.memory.input.bytes f.start accounts f.metas)
 returning_fits outer f units c (Err error) short h = h
 
-returned_fits : (outer : List Key) (f : Running) (e : Ending) → Short f → EndFits e.result → NextFits (returned outer f e)
+returned_fits : (outer : List Key) (f : Running) (e : Ending) → Short f → EndingFits e.result → NextFits (returned outer f e)
 unfolding returned
 returned_fits outer f e short h = returning_fits outer f e.units e.carried e.result short h
 
@@ -275,9 +275,9 @@ native_row_fits key keys accounts call most =
     (either (λ (r : Result (List Account) Stopped). IfErr r Fits) (same_key key LOADER_PROGRAM) _ _
     (refuse_fits by_loader (LoaderFits (length call.metas)) (loader_row keys accounts call.metas call.input) (loader_fault_fits (length call.metas) most) (loader_fits keys accounts call.metas call.input)) tt)
 
-native_fits : (key : Key) (outer keys : List Key) (call : CallValue) (accounts : List Account) (units : ℕ) (c : Carried) → length call.metas ≤ max_metas → NextFits (Ends (native key outer keys call accounts units c))
+native_fits : (key : Key) (outer keys : List Key) (call : CallValue) (accounts : List Account) (units : ℕ) (c : Carried) → length call.metas ≤ max_metas → NextFits (Done (native key outer keys call accounts units c))
 native_fits key outer keys call accounts units c most =
-    either (λ (e : Ending). EndFits e.result) (nat_lt units NATIVE_UNITS) _ _ (lit< tt)
+    either (λ (e : Ending). EndingFits e.result) (nat_lt units NATIVE_UNITS) _ _ (lit< tt)
     (or_error_fits (height outer) (native_row key keys accounts call) (native_row_fits key keys accounts call most))
 
 entered_fits : (setting : Setting) (keys outer : List Key) (key : Key) (call : CallValue) (accounts : List Account) (units : ℕ) (c : Carried) (found : Sought) → length call.metas ≤ max_metas → NextFits (program_started setting keys outer key call accounts units c found)
@@ -287,15 +287,15 @@ entered_fits setting keys outer key call accounts units c IsNoProgram most = lit
 entered_fits setting keys outer key call accounts units c IsBad most = lit< tt
 entered_fits setting keys outer key call accounts units c (IsUnverified fault) most = number_fits fault
 
-crowded_fits : (programs : Key → Sought) (key : Key) (outer : List Key) (units : ℕ) (c : Carried) → EndFits (crowded programs key outer units c).result
+crowded_fits : (programs : Key → Sought) (key : Key) (outer : List Key) (units : ℕ) (c : Carried) → EndingFits (crowded programs key outer units c).result
 unfolding crowded
-crowded_fits programs key outer units c = either (λ (e : Ending). EndFits e.result) (not (is_native key) && is_ready (programs key)) _ _ (lit< tt) (lit< tt)
+crowded_fits programs key outer units c = either (λ (e : Ending). EndingFits e.result) (not (is_native key) && is_ready (programs key)) _ _ (lit< tt) (lit< tt)
 
 entering_fits : (s : Fixed) (outer : List Key) (key : Key) (call : CallValue) (accounts : List Account) (units : ℕ) (c : Carried) → NextFits (entering s outer key call accounts units c)
 unfolding entering
 entering_fits s outer key call accounts units c = by_count (nat_lt max_metas (length call.metas)) refl
   where
-    by_count : (b : Bool) → nat_lt max_metas (length call.metas) ≡ b → NextFits (if b then Ends (crowded s.programs key outer units c) else if is_native key then Ends (native key outer s.keys call accounts units c) else program_started s.setting s.keys outer key call accounts units c (s.programs key))
+    by_count : (b : Bool) → nat_lt max_metas (length call.metas) ≡ b → NextFits (if b then Done (crowded s.programs key outer units c) else if is_native key then Done (native key outer s.keys call accounts units c) else program_started s.setting s.keys outer key call accounts units c (s.programs key))
     by_count true e = crowded_fits s.programs key outer units c
     by_count false e =
         let most : length call.metas ≤ max_metas = ltb-false max_metas (length call.metas) e in
@@ -307,13 +307,13 @@ begun_fits s outer call accounts units c = entering_fits s outer (key_at s.keys 
 
 -- ---- whole frames
 abbrev AllFit : (List Key → Running → Carried → Ending) → Type 0
-AllFit goo = (outer : List Key) (f : Running) (c : Carried) → Short f → EndFits (goo outer f c).result
+AllFit goo = (outer : List Key) (f : Running) (c : Carried) → Short f → EndingFits (goo outer f c).result
 
-after_fits : (outer : List Key) (goo : List Key → Running → Carried → Ending) (next : Next) → AllFit goo → NextFits next → EndFits (after outer goo next).result
+after_fits : (outer : List Key) (goo : List Key → Running → Carried → Ending) (next : Next) → AllFit goo → NextFits next → EndingFits (after outer goo next).result
 after_fits outer goo (Runs f c) all h = all outer f c h
-after_fits outer goo (Ends e) all h = h
+after_fits outer goo (Done e) all h = h
 
-follow_fits : (s : Fixed) (outer : List Key) (goo : List Key → Running → Carried → Ending) (t : Turn) → AllFit goo → TurnFits t → EndFits (follow s outer goo t).result
+follow_fits : (s : Fixed) (outer : List Key) (goo : List Key → Running → Carried → Ending) (t : Turn) → AllFit goo → TurnFits t → EndingFits (follow s outer goo t).result
 follow_fits s outer goo (GoesOn f c) all h = all outer f c h
 follow_fits s outer goo (Calls f c callee left) all h =
     let inner : List Key = f.program ∷ outer in
@@ -330,5 +330,5 @@ within_fits s (suc n) outer f c short = follow_fits s outer (within s n) (turn s
 -- the number beside the cause of an instruction that fails
 pub instruction-error : (s : Fixed) (call : CallValue) (accounts : List Account) (units trace : ℕ) (log : Log) → IfErr (instruction s call accounts units trace log).result (λ error. error.detail < 2 ^ 32)
 instruction-error s call accounts units trace log =
-    either (λ (e : Ending). EndFits e.result) (nat_le max_trace trace) (record { units = units; carried = nothing_returned trace log; result = Err (error_of 1 (plainly TraceTooLong)) }) (frame s [] call accounts units (nothing_returned trace log)) (lit< tt)
+    either (λ (e : Ending). EndingFits e.result) (nat_le max_trace trace) (record { units = units; carried = nothing_returned trace log; result = Err (error_of 1 (plainly TraceTooLong)) }) (frame s [] call accounts units (nothing_returned trace log)) (lit< tt)
     (after_fits [] (go s) (begun s [] call accounts units (nothing_returned trace log)) (λ outer f c short. within_fits s (suc f.machine.units) outer f c short) (begun_fits s [] call accounts units (nothing_returned trace log)))

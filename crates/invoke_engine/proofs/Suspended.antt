@@ -5,7 +5,7 @@ use Rattle.invoke_engine.specs.Frames.{Fixed, Carried, Running, Ending, Callee, 
 use Rattle.invoke_engine.specs.Turns.{turn}
 use Rattle.invoke_engine.specs.Returning.{returned}
 use Rattle.invoke_engine.specs.Frame.{frame, go, after, follow, within}
-use Rattle.invoke_engine.specs.Fits.{IsGoing}
+use Rattle.invoke_engine.specs.Conditions.{IsGoing}
 use Rattle.invoke_engine.specs.Suspended.{programs_of, rest}
 use Rattle.invoke_engine.proofs.Fuel.{go_turn, enough}
 

@@ -18,7 +18,7 @@ use Rattle.abi_input.specs.Region.{max_metas}
 use Rattle.invoke_engine.specs.declared.call.Call.{Call}
 use Rattle.invoke_engine.specs.declared.call.Setting.{Setting}
 use Rattle.invoke_engine.specs.declared.stopped.Stopped.{Stopped}
-use Rattle.invoke_engine.specs.Frames.{Fixed, Carried, Running, Ending, Next, Runs, Ends, Callee, Turn, GoesOn, Calls, Leaves, height, max_trace}
+use Rattle.invoke_engine.specs.Frames.{Fixed, Carried, Running, Ending, Next, Runs, Done, Callee, Turn, GoesOn, Calls, Leaves, height, max_trace}
 use Rattle.invoke_engine.specs.Calling.{calling, requested, call_turn}
 use Rattle.invoke_engine.specs.Serving.{serving, served, serve_turn}
 use Rattle.invoke_engine.specs.Turns.{at_stop, run_to, turn}
@@ -27,14 +27,14 @@ use Rattle.invoke_engine.specs.Native.{is_native, native}
 use Rattle.invoke_engine.specs.Starting.{key_at, program_started, is_ready, crowded, entering, started, begun}
 use Rattle.invoke_engine.specs.Frame.{after, follow, within, go, frame, instruction, nothing_returned}
 use Rattle.invoke_engine.specs.Reasons.{plainly}
-use Rattle.invoke_engine.specs.Ends.{error_of}
+use Rattle.invoke_engine.specs.Endings.{error_of}
 use Rattle.tx_report.specs.declared.cause.Cause.TheVariants.{TraceTooLong}
 use Rattle.invoke_engine.proofs.Fuel.{either}
 
 -- at least so many instructions were started
 abbrev NextCounts : ℕ → Next → Type 0
 NextCounts t (Runs f c) = t ≤ c.trace
-NextCounts t (Ends e) = t ≤ e.carried.trace
+NextCounts t (Done e) = t ≤ e.carried.trace
 
 abbrev TurnCounts : ℕ → Turn → Type 0
 TurnCounts t (GoesOn f c) = t ≤ c.trace
@@ -78,7 +78,7 @@ returned_counts : (outer : List Key) (f : Running) (e : Ending) → NextCounts e
 unfolding returned
 returned_counts outer f e = returning_counts outer f e.units e.carried e.result
 
-native_counts : (key : Key) (outer keys : List Key) (call : Call) (accounts : List Account) (units : ℕ) (c : Carried) → NextCounts c.trace (Ends (native key outer keys call accounts units c))
+native_counts : (key : Key) (outer keys : List Key) (call : Call) (accounts : List Account) (units : ℕ) (c : Carried) → NextCounts c.trace (Done (native key outer keys call accounts units c))
 native_counts key outer keys call accounts units c =
     either (λ (e : Ending). c.trace ≤ e.carried.trace) (nat_lt units NATIVE_UNITS) _ _ (omega arith) (omega arith)
 
@@ -89,7 +89,7 @@ entered_counts setting keys outer key call accounts units c IsNoProgram = omega 
 entered_counts setting keys outer key call accounts units c IsBad = omega arith
 entered_counts setting keys outer key call accounts units c (IsUnverified fault) = omega arith
 
-crowded_counts : (programs : Key → Sought) (key : Key) (outer : List Key) (units : ℕ) (c : Carried) → NextCounts c.trace (Ends (crowded programs key outer units c))
+crowded_counts : (programs : Key → Sought) (key : Key) (outer : List Key) (units : ℕ) (c : Carried) → NextCounts c.trace (Done (crowded programs key outer units c))
 unfolding crowded
 crowded_counts programs key outer units c =
     either (λ (e : Ending). c.trace ≤ e.carried.trace) (not (is_native key) && is_ready (programs key)) _ _ (omega arith) (omega arith)
@@ -113,7 +113,7 @@ ForgetsNone goo = (outer : List Key) (f : Running) (c : Carried) → c.trace ≤
 
 after_counts : (outer : List Key) (goo : List Key → Running → Carried → Ending) (t : ℕ) (next : Next) → ForgetsNone goo → NextCounts t next → t ≤ (after outer goo next).carried.trace
 after_counts outer goo t (Runs f c) none h = let k : c.trace ≤ (goo outer f c).carried.trace = none outer f c in omega arith
-after_counts outer goo t (Ends e) none h = h
+after_counts outer goo t (Done e) none h = h
 
 follow_counts : (s : Fixed) (outer : List Key) (goo : List Key → Running → Carried → Ending) (t : ℕ) (turn : Turn) → ForgetsNone goo → TurnCounts t turn → t ≤ (follow s outer goo turn).carried.trace
 follow_counts s outer goo t (GoesOn f c) none h = let k : c.trace ≤ (goo outer f c).carried.trace = none outer f c in omega arith

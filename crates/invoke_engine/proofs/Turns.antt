@@ -14,7 +14,7 @@ use Rattle.invoke_engine.specs.Frames.{Carried, Running, Turn}
 use Rattle.invoke_engine.specs.Calling.{call_turn}
 use Rattle.invoke_engine.specs.Serving.{serve_turn}
 use Rattle.invoke_engine.specs.Turns.{turn, at_stop, run_to}
-use Rattle.invoke_engine.specs.Given.{IsFrame}
+use Rattle.invoke_engine.specs.Conditions.{IsFrame}
 use Rattle.sbpf_machine.proofs.Keeping.{steps_keep, ways_keep}
 use Rattle.sbpf_machine.proofs.Plain.{steps_plain}
 use Rattle.invoke_engine.proofs.Keeping.{run_keeps}

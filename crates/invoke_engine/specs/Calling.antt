@@ -17,7 +17,7 @@ use Rattle.invoke_engine.specs.declared.call.Setting.{Setting}
 use Rattle.invoke_engine.specs.declared.stopped.Stopped.{Stopped}
 use Rattle.invoke_engine.specs.Reasons.{plainly, refuse, by_call, by_rights}
 use Rattle.invoke_engine.specs.Frames.{Carried, Running, Callee, Turn, Calls, Leaves, height, max_trace}
-use Rattle.invoke_engine.specs.Ends.{closes}
+use Rattle.invoke_engine.specs.Endings.{closes}
 use Rattle.invoke_engine.specs.Leaving.{lawful_accounts}
 
 -- whether a program may be called now, under this greatest height and with so many instructions

@@ -8,9 +8,9 @@ use Rattle.tx_report.specs.LogLines.{Log}
 use Rattle.tx_report.specs.declared.cause.Cause.TheVariants.{UnitsSpent, TraceTooLong}
 use Rattle.invoke_engine.specs.declared.call.Call.{Call}
 use Rattle.invoke_engine.specs.Reasons.{plainly}
-use Rattle.invoke_engine.specs.Ends.{error_of}
+use Rattle.invoke_engine.specs.Endings.{error_of}
 use Rattle.invoke_engine.specs.Frames.{max_trace}
-pub use Rattle.invoke_engine.specs.Frames.{Fixed, Carried, Running, Ending, Next, Runs, Ends, Callee, Turn, GoesOn, Calls, Leaves, height}
+pub use Rattle.invoke_engine.specs.Frames.{Fixed, Carried, Running, Ending, Next, Runs, Done, Callee, Turn, GoesOn, Calls, Leaves, height}
 pub use Rattle.invoke_engine.specs.Turns.{turn}
 pub use Rattle.invoke_engine.specs.Returning.{returned}
 pub use Rattle.invoke_engine.specs.Starting.{begun}
@@ -18,7 +18,7 @@ pub use Rattle.invoke_engine.specs.Starting.{begun}
 -- the ending of what is next, where go is that of a frame in its middle with fewer units
 abbrev pub after : List Key → (List Key → Running → Carried → Ending) → Next → Ending
 after outer go (Runs f c) = go outer f c
-after outer go (Ends e) = e
+after outer go (Done e) = e
 
 -- the ending of a frame by its next turn; the frame of a callee has its caller around it
 abbrev pub follow : Fixed → List Key → (List Key → Running → Carried → Ending) → Turn → Ending

@@ -46,7 +46,7 @@ pub record Ending : Type 0 where
 -- a frame that starts, or whose callee has ended, runs or has ended itself
 pub data Next : Type 0 where
   Runs : Running → Carried → Next
-  Ends : Ending → Next
+  Done : Ending → Next
 
 -- a call of another program, and the accounts that it finds
 pub record Callee : Type 0 where

@@ -2,7 +2,7 @@ pub mod Reasons
 pub mod Lines
 pub mod Frames
 pub mod Invoked
-pub mod Ends
+pub mod Endings
 pub mod Leaving
 pub mod Calling
 pub mod Serving
@@ -13,6 +13,7 @@ pub mod Starting
 pub mod Frame
 pub mod Suspended
 pub mod Programs
-pub mod Given
-pub mod Fits
+pub mod Conditions
+pub mod FrameLoop
+pub mod FrameLaws
 pub mod Views

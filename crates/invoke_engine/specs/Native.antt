@@ -12,7 +12,7 @@ use Rattle.invoke_engine.specs.declared.call.Call.{Call}
 use Rattle.invoke_engine.specs.declared.stopped.Stopped.{Stopped}
 use Rattle.invoke_engine.specs.Reasons.{plainly, refuse, by_system, by_loader}
 use Rattle.invoke_engine.specs.Frames.{Carried, Ending, height}
-use Rattle.invoke_engine.specs.Ends.{error_of, or_error, ended}
+use Rattle.invoke_engine.specs.Endings.{error_of, or_error, ending_of}
 use Rattle.invoke_engine.specs.declared.begin.TheConstants.{NATIVE_UNITS}
 
 abbrev pub is_native : Key → Bool
@@ -32,5 +32,5 @@ native_row key keys accounts call =
 -- the units of a native program are taken first; where fewer are left, they become 0
 abbrev pub native : Key → List Key → List Key → Call → List Account → ℕ → Carried → Ending
 native key outer keys call accounts units c =
-    if nat_lt units NATIVE_UNITS then ended key 0 c (Err (error_of (height outer) (plainly UnitsSpent))) else
-    ended key (units - NATIVE_UNITS) c (or_error (height outer) (native_row key keys accounts call))
+    if nat_lt units NATIVE_UNITS then ending_of key 0 c (Err (error_of (height outer) (plainly UnitsSpent))) else
+    ending_of key (units - NATIVE_UNITS) c (or_error (height outer) (native_row key keys accounts call))

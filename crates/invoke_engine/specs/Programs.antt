@@ -5,13 +5,13 @@ use Rattle.sol_base.specs.declared.account.Account.{Account}
 use Rattle.tx_report.specs.LogLines.{Log}
 use Rattle.invoke_engine.specs.declared.call.Call.{Call}
 use Rattle.invoke_engine.specs.Frames.{max_trace}
-use Rattle.invoke_engine.specs.Frame.{Fixed, Carried, Running, Ending, Next, Runs, Ends, Turn, GoesOn, Calls, Leaves, after, begun, nothing_returned, returned, turn, within}
+use Rattle.invoke_engine.specs.Frame.{Fixed, Carried, Running, Ending, Next, Runs, Done, Turn, GoesOn, Calls, Leaves, after, begun, nothing_returned, returned, turn, within}
 use Rattle.invoke_engine.specs.Starting.{key_at}
 
 -- those that what is next calls, where calls are the programs that a frame in its middle calls
 abbrev pub called_next : List Key → (List Key → Running → Carried → List Key) → Next → List Key
 called_next outer calls (Runs f c) = calls outer f c
-called_next outer calls (Ends e) = []
+called_next outer calls (Done e) = []
 
 -- those that a frame calls by its next turn and after it: a callee, those that the callee calls,
 -- and those that the frame calls once it has returned

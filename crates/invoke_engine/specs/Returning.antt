@@ -6,12 +6,12 @@ use Rattle.sol_base.specs.declared.account.Account.{Account}
 use Rattle.abi_input.specs.Region.{patched}
 use Rattle.tx_report.specs.declared.status.InstructionError.{InstructionError}
 use Rattle.invoke_engine.specs.Reasons.{by_length}
-use Rattle.invoke_engine.specs.Frames.{Carried, Running, Ending, Next, Runs, Ends}
-use Rattle.invoke_engine.specs.Ends.{closed, closes}
+use Rattle.invoke_engine.specs.Frames.{Carried, Running, Ending, Next, Runs, Done}
+use Rattle.invoke_engine.specs.Endings.{closed, closes}
 use Rattle.invoke_engine.specs.Serving.{onward}
 
 abbrev pub patching : List Key → Running → List Account → ℕ → Carried → Result (List ℕ) ℕ → Next
-patching outer f accounts units c (Err i) = Ends (closes outer f units c (Err (by_length i)))
+patching outer f accounts units c (Err i) = Done (closes outer f units c (Err (by_length i)))
 patching outer f accounts units c (Ok region) =
     let memory = f.machine.context.memory in
     Runs (record (onward f (record memory { input = record memory.input { bytes = region } }) units
@@ -19,7 +19,7 @@ patching outer f accounts units c (Ok region) =
 
 abbrev pub returning : List Key → Running → ℕ → Carried → Result (List Account) InstructionError
     → Next
-returning outer f units c (Err error) = Ends (closed f.program f.had units c (Err error))
+returning outer f units c (Err error) = Done (closed f.program f.had units c (Err error))
 returning outer f units c (Ok accounts) =
     patching outer f accounts units c
     (patched f.machine.context.memory.input.bytes f.start accounts f.metas)

@@ -10,7 +10,7 @@ use Rattle.sys_calls.specs.declared.fault.SysFault.{SysFault}
 use Rattle.invoke_engine.specs.declared.call.Setting.{Setting}
 use Rattle.invoke_engine.specs.Reasons.{by_sys}
 use Rattle.invoke_engine.specs.Frames.{Carried, Running, Turn, GoesOn, Leaves, height}
-use Rattle.invoke_engine.specs.Ends.{closes}
+use Rattle.invoke_engine.specs.Endings.{closes}
 
 -- the surroundings of a system call
 abbrev pub env_of : Setting → List Key → Running → Carried → Env

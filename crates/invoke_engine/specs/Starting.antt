@@ -18,8 +18,8 @@ use Rattle.invoke_engine.specs.declared.call.Setting.{Setting}
 use Rattle.invoke_engine.specs.declared.stopped.Stopped.{Stopped}
 use Rattle.invoke_engine.specs.Reasons.{at, plainly}
 use Rattle.invoke_engine.specs.Lines.{invoke_line}
-use Rattle.invoke_engine.specs.Frames.{Fixed, Carried, Running, Ending, Next, Runs, Ends, height}
-use Rattle.invoke_engine.specs.Ends.{error_of, ended, closed}
+use Rattle.invoke_engine.specs.Frames.{Fixed, Carried, Running, Ending, Next, Runs, Done, height}
+use Rattle.invoke_engine.specs.Endings.{error_of, ending_of, closed}
 use Rattle.invoke_engine.specs.Native.{is_native, native}
 
 -- the key at a place of the transaction
@@ -52,10 +52,10 @@ first_running setting keys key image call accounts units =
 
 -- the end of a frame whose program does not run
 abbrev pub refusing : Key → List Key → ℕ → Carried → Stopped → Ending
-refusing key outer units c stopped = ended key units c (Err (error_of (height outer) stopped))
+refusing key outer units c stopped = ending_of key units c (Err (error_of (height outer) stopped))
 
 abbrev pub refused : Key → List Key → ℕ → Carried → Stopped → Next
-refused key outer units c stopped = Ends (refusing key outer units c stopped)
+refused key outer units c stopped = Done (refusing key outer units c stopped)
 
 -- a program that is not native: it runs where it is ready
 abbrev pub program_started : Setting → List Key → List Key → Key → Call → List Account → ℕ → Carried
@@ -86,8 +86,8 @@ crowded programs key outer units c =
 -- a frame after its first line
 unfoldable pub entering : Fixed → List Key → Key → Call → List Account → ℕ → Carried → Next
 entering s outer key call accounts units c =
-    if nat_lt max_metas (length call.metas) then Ends (crowded s.programs key outer units c) else
-    if is_native key then Ends (native key outer s.keys call accounts units c) else
+    if nat_lt max_metas (length call.metas) then Done (crowded s.programs key outer units c) else
+    if is_native key then Done (native key outer s.keys call accounts units c) else
     program_started s.setting s.keys outer key call accounts units c (s.programs key)
 
 -- a started instruction: one more is counted, nothing is returned yet, and its first line stands

@@ -9,7 +9,7 @@ use Rattle.sbpf_machine.specs.declared.stop.Stop.TheVariants.{Exit, Helper, Faul
 use Rattle.invoke_engine.specs.declared.call.Setting.{Setting}
 use Rattle.invoke_engine.specs.Reasons.{plainly, by_fault}
 use Rattle.invoke_engine.specs.Frames.{Carried, Running, Turn, Leaves}
-use Rattle.invoke_engine.specs.Ends.{closes}
+use Rattle.invoke_engine.specs.Endings.{closes}
 use Rattle.invoke_engine.specs.Leaving.{left}
 use Rattle.invoke_engine.specs.Calling.{call_turn}
 use Rattle.invoke_engine.specs.Serving.{serve_turn}

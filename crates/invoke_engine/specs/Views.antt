@@ -15,19 +15,19 @@ use Rattle.program_cache.specs.Programs.{Sought}
 use Rattle.invoke_engine.specs.declared.turn.Turn.{Turn as TurnValue}
 use Rattle.invoke_engine.specs.declared.turn.Turn.TheVariants.{GoesOn as GoesOnValue, Calls as CallsValue, Leaves as LeavesValue}
 use Rattle.invoke_engine.specs.declared.begin.Next.{Next as NextValue}
-use Rattle.invoke_engine.specs.declared.begin.Next.TheVariants.{Runs as RunsValue, Ends as EndsValue}
+use Rattle.invoke_engine.specs.declared.begin.Next.TheVariants.{Runs as RunsValue, Done as DoneValue}
 use Rattle.invoke_engine.specs.declared.run.Work.{Work}
 use Rattle.invoke_engine.specs.declared.run.Work.TheVariants.{Calls as WorkCalls, Leaves as WorkLeaves}
 use Rattle.invoke_engine.specs.declared.call.Ended.{Ended}
 use Rattle.invoke_engine.specs.declared.call.Ended.TheVariants.{Good, Failed}
 use Rattle.invoke_engine.specs.declared.call.Ran.{Ran}
 use Rattle.invoke_engine.specs.declared.call.Setting.{Setting}
-use Rattle.invoke_engine.specs.declared.ending.End.{End}
+use Rattle.invoke_engine.specs.declared.ending.Ending.{Ending as EndingValue}
 use Rattle.invoke_engine.specs.declared.ending.Callee.{Callee as CalleeValue}
 use Rattle.invoke_engine.specs.declared.stopped.Stopped.{Stopped}
 use Rattle.invoke_engine.specs.declared.stopped.Stopped.TheVariants.{Refused, OutOfMemory as no_memory}
-use Rattle.invoke_engine.specs.Frame.{Fixed, Carried, Running, Ending, Callee, Next, Runs, Ends, Turn, GoesOn, Calls, Leaves}
-use Rattle.invoke_engine.specs.Given.{IsFrame}
+use Rattle.invoke_engine.specs.Frame.{Fixed, Carried, Running, Ending, Callee, Next, Runs, Done, Turn, GoesOn, Calls, Leaves}
+use Rattle.invoke_engine.specs.Conditions.{IsFrame}
 use Rattle.invoke_engine.specs.Reasons.{refuse, by_call, by_sys, by_length}
 
 abbrev pub fixed : (Key → Sought) → Setting → List Key → Fixed
@@ -37,7 +37,7 @@ abbrev pub result_as : Ended → Result (List Account) InstructionError
 result_as (Good accounts) = Ok (accounts_of accounts)
 result_as (Failed error) = Err error
 
-abbrev pub ending_as : End → Carried → Ending
+abbrev pub ending_as : EndingValue → Carried → Ending
 ending_as e c = record { units = e.units; carried = c; result = result_as e.ended }
 
 abbrev pub callee_as : CalleeValue → Callee
@@ -54,12 +54,12 @@ work_as (WorkLeaves e) f c = Leaves (ending_as e c)
 
 abbrev pub next_as : NextValue → Carried → Next
 next_as (RunsValue f) c = Runs f c
-next_as (EndsValue e) c = Ends (ending_as e c)
+next_as (DoneValue e) c = Done (ending_as e c)
 
 -- a frame that runs is as it has to be
 abbrev pub RunsFit : ℕ → NextValue → Type 0
 RunsFit n (RunsValue f) = IsFrame n f
-RunsFit n (EndsValue e) = Unit {0}
+RunsFit n (DoneValue e) = Unit {0}
 
 -- a call came to a callee, or stopped as the definition says with the units then left, or found no
 -- memory

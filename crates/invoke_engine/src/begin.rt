@@ -3,10 +3,10 @@ ghost use Rattle.std.specs.Prelude.{◌≡◌, ◌<◌, ◌≤◌, Ok, Err, Matc
 ghost use Rattle.sol_base.specs.Accounts.{accounts_of};
 ghost use Rattle.program_cache.specs.Programs.{sought};
 ghost use Rattle.abi_input.specs.Region.{max_metas};
-ghost use Rattle.invoke_engine.specs.Ends.{ended, error_of};
+ghost use Rattle.invoke_engine.specs.Endings.{ending_of, error_of};
 ghost use Rattle.invoke_engine.specs.Frames.{height, max_height, max_trace};
 ghost use Rattle.invoke_engine.specs.Invoked.{fixed_in};
-ghost use Rattle.invoke_engine.specs.Given.{AreGiven, IsCall, IsFrame};
+ghost use Rattle.invoke_engine.specs.Conditions.{AreAccountsOf, IsCall, IsFrame};
 ghost use Rattle.invoke_engine.specs.Native as Native;
 ghost use Rattle.invoke_engine.specs.Reasons.{StopsBy};
 ghost use Rattle.invoke_engine.specs.Starting as Starting;
@@ -17,9 +17,9 @@ ghost use Rattle.invoke_engine.specs.declared.stopped.Stopped.TheVariants.{Refus
 use crate::call::Ended;
 use crate::carrier::Carrier;
 use crate::context::{Context, Invocation};
-use crate::ending::End;
+use crate::ending::Ending;
 use crate::frame::{Frame, Stack};
-use crate::lines::{close, end, say_invoke};
+use crate::lines::{close, ending_of, say_invoke};
 use crate::program::NamedProgram;
 use crate::stopped::{Reason, Stopped};
 use crate::turn::height_in;
@@ -44,7 +44,7 @@ pub(crate) const NATIVE_UNITS: u64 = 150;
 #[derive(Drop)]
 pub(crate) enum Next {
     Runs(Frame),
-    Ends(End),
+    Done(Ending),
 }
 
 /// Whether the program is one of those that are no sBPF programs.
@@ -63,7 +63,7 @@ fn run_native(
 ) -> Result<Items<Arc<Account>>, Stopped>
     requires call { IsCall (length context.now.keys) invocation.call }
     requires metas { length invocation.call.metas ≤ max_metas }
-    requires accounts { AreGiven (length context.now.keys) invocation.accounts }
+    requires accounts { AreAccountsOf (length context.now.keys) invocation.accounts }
     ensures { MatchResult result
         (λ after. Native.native_row key.now context.now.keys invocation.entry.accounts invocation.entry.call
         ≡ Ok (accounts_of after))
@@ -108,9 +108,9 @@ fn refuse(
     units: u64,
     carrier: &mut Carrier,
     reason: Reason,
-) -> Result<End, OutOfMemory>
+) -> Result<Ending, OutOfMemory>
     requires { length outer.now < max_height }
-    ensures { IfOk result (λ e. ending_as e carrier.new ≡ ended program.now units carrier.old
+    ensures { IfOk result (λ e. ending_as e carrier.new ≡ ending_of program.now units carrier.old
         (Err (error_of (height (programs_of outer.now)) (Refused reason)))) }
 {
     let error = InstructionError {
@@ -118,7 +118,7 @@ fn refuse(
         detail: reason.detail,
         height: height_in(outer),
     };
-    end(alloc, program, units, carrier, Ended::Failed(error))
+    ending_of(alloc, program, units, carrier, Ended::Failed(error))
 }
 
 /// The frame of a native program.
@@ -128,11 +128,11 @@ fn native(
     program: &NamedProgram,
     invocation: Invocation<'_>,
     carrier: &mut Carrier,
-) -> Result<End, OutOfMemory>
+) -> Result<Ending, OutOfMemory>
     requires outer { length outer.now < max_height }
     requires call { IsCall (length context.now.keys) invocation.call }
     requires metas { length invocation.call.metas ≤ max_metas }
-    requires accounts { AreGiven (length context.now.keys) invocation.accounts }
+    requires accounts { AreAccountsOf (length context.now.keys) invocation.accounts }
     ensures { IfOk result (λ e. ending_as e carrier.new
         ≡ Native.native program.now (programs_of outer.now) context.now.keys invocation.entry.call
         invocation.entry.accounts invocation.entry.units carrier.old) }
@@ -147,7 +147,7 @@ fn native(
     }
     let left = invocation.units - NATIVE_UNITS;
     match run_native(context, &program.key(), invocation) {
-        Ok(after) => end(alloc, program, left, carrier, Ended::Good(after)),
+        Ok(after) => ending_of(alloc, program, left, carrier, Ended::Good(after)),
         Err(Stopped::Refused(reason)) => refuse(alloc, outer, program, left, carrier, reason),
         Err(Stopped::OutOfMemory) => Err(OutOfMemory),
     }
@@ -164,7 +164,7 @@ fn first_frame(
 ) -> Result<Frame, OutOfMemory>
     requires call { IsCall (length context.now.keys) invocation.call }
     requires metas { length invocation.call.metas ≤ max_metas }
-    requires accounts { AreGiven (length context.now.keys) invocation.accounts }
+    requires accounts { AreAccountsOf (length context.now.keys) invocation.accounts }
     ensures value { IfOk result (λ frame. frame
         ≡ Starting.first_running context.now.setting context.now.keys program image.now
         invocation.entry.call invocation.entry.accounts invocation.entry.units) }
@@ -219,7 +219,7 @@ fn crowded(
     program: &NamedProgram,
     units: u64,
     carrier: &mut Carrier,
-) -> Result<End, OutOfMemory>
+) -> Result<Ending, OutOfMemory>
     requires { length outer.now < max_height }
     ensures { IfOk result (λ e. ending_as e carrier.new
         ≡ Starting.crowded (sought context.now.programs) program.now (programs_of outer.now) units
@@ -253,7 +253,7 @@ fn enter(
 ) -> Result<Next, OutOfMemory>
     requires outer { length outer.now < max_height }
     requires call { IsCall (length context.now.keys) invocation.call }
-    requires accounts { AreGiven (length context.now.keys) invocation.accounts }
+    requires accounts { AreAccountsOf (length context.now.keys) invocation.accounts }
     ensures next { IfOk result (λ next.
         Starting.entering (fixed_in context.now) (programs_of outer.now) program.now invocation.entry.call
         invocation.entry.accounts invocation.entry.units carrier.old
@@ -262,11 +262,11 @@ fn enter(
 {
     let units = invocation.units;
     if invocation.metas.len() > MAX_METAS {
-        return Ok(Next::Ends(crowded(context, outer, program, units, carrier)?));
+        return Ok(Next::Done(crowded(context, outer, program, units, carrier)?));
     }
     let key = program.key();
     if is_native(&key) {
-        return Ok(Next::Ends(native(context, outer, program, invocation, carrier)?));
+        return Ok(Next::Done(native(context, outer, program, invocation, carrier)?));
     }
     let reason = match context.programs.find(&key) {
         Found::Ready(image) => {
@@ -286,7 +286,7 @@ fn enter(
             detail: u32::from(fault.number()),
         },
     };
-    Ok(Next::Ends(refuse(context.alloc, outer, program, units, carrier, reason)?))
+    Ok(Next::Done(refuse(context.alloc, outer, program, units, carrier, reason)?))
 }
 
 /// The key at a place of the transaction.
@@ -326,7 +326,7 @@ pub(crate) fn begin(
 ) -> Result<Next, OutOfMemory>
     requires outer { length outer.now < max_height }
     requires call { IsCall (length context.now.keys) invocation.call }
-    requires accounts { AreGiven (length context.now.keys) invocation.accounts }
+    requires accounts { AreAccountsOf (length context.now.keys) invocation.accounts }
     requires trace { carrier.old.trace < max_trace }
     ensures next { IfOk result (λ next.
         Starting.begun (fixed_in context.now) (programs_of outer.now) invocation.entry.call invocation.entry.accounts

@@ -6,7 +6,7 @@ use std::sync::Arc;
 
 /// How a frame ends: the units left, and the accounts or why it failed.
 #[derive(Drop)]
-pub struct End {
+pub struct Ending {
     pub units: u64,
     pub ended: Ended,
 }

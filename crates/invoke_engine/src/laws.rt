@@ -10,8 +10,9 @@ ghost use Rattle.program_cache.specs.Programs.{Sought};
 ghost use Rattle.tx_report.specs.LogLines.{HasGrown, Log};
 ghost use Rattle.invoke_engine.specs.declared.call.Call.{Call as CallValue};
 ghost use Rattle.invoke_engine.specs.declared.call.Setting.{Setting as SettingValue};
-ghost use Rattle.invoke_engine.specs.Fits.{IsGoing, AreListed, EndKeeps, SameFound};
-ghost use Rattle.invoke_engine.specs.Frame.{Fixed, Carried, Running, Ending, Callee, Runs, Ends, GoesOn, Calls, Leaves, frame, go, turn, within, begun, returned, after, instruction};
+ghost use Rattle.invoke_engine.specs.Conditions.{IsGoing};
+ghost use Rattle.invoke_engine.specs.FrameLaws.{AreListed, EndingKeeps, SameFound};
+ghost use Rattle.invoke_engine.specs.Frame.{Fixed, Carried, Running, Ending, Callee, Runs, Done, GoesOn, Calls, Leaves, frame, go, turn, within, begun, returned, after, instruction};
 ghost use Rattle.invoke_engine.specs.Programs.{programs_of_frame, programs_of_instruction};
 ghost use Rattle.invoke_engine.specs.Starting.{key_at};
 ghost use Rattle.invoke_engine.specs.Suspended.{programs_of, rest};
@@ -67,7 +68,7 @@ pub fn turns_keep_the_ending()
 pub fn frames_keep_accounts()
     ensures kept { (s : Fixed) (outer : List KeyValue) (call : CallValue) (accounts : List AccountValue)
         (units : ℕ) (c : Carried) → AreListed (length s.keys) call.metas accounts →
-        EndKeeps call.metas accounts (frame s outer call accounts units c) }
+        EndingKeeps call.metas accounts (frame s outer call accounts units c) }
 {}
 
 /// A law: each stretch of a frame breaks no account rule of its program and its list. A stretch of
@@ -106,7 +107,7 @@ pub fn stretches_keep_the_rules()
         IfOk e.result (AreForeignKept (f.program ∷ []) f.before) }
     ensures native { (s : Fixed) (outer : List KeyValue) (call : CallValue)
         (accounts : List AccountValue) (units : ℕ) (c : Carried) (e : Ending) →
-        begun s outer call accounts units c ≡ Ends e →
+        begun s outer call accounts units c ≡ Done e →
         IfOk e.result (λ after. (after ≡ accounts)
         ⊎ (listed_rules (key_at s.keys call.program) call.metas accounts after ≡ Ok tt)) }
 {}

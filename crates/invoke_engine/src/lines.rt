@@ -1,13 +1,13 @@
 //! The lines of frames, and their ends.
 ghost use Rattle.std.specs.Prelude.{◌≡◌, ◌++◌, ◌-◌, IfOk, OnOk, codes};
 ghost use Rattle.hex.specs.Hex.{encode_lower};
-ghost use Rattle.invoke_engine.specs.Ends.{say, ended, closed};
+ghost use Rattle.invoke_engine.specs.Endings.{say, ending_of, closed};
 ghost use Rattle.invoke_engine.specs.Lines.{invoke_line, consumed_line, last_line};
 ghost use Rattle.invoke_engine.specs.Views.{ending_as, result_as};
 
 use crate::call::Ended;
 use crate::carrier::Carrier;
-use crate::ending::End;
+use crate::ending::Ending;
 use crate::program::NamedProgram;
 use itoa::Buffer;
 use sol_base::{Blob, OutOfMemory};
@@ -91,19 +91,19 @@ fn last(alloc: Global, program: &NamedProgram, outcome: &Ended) -> Result<Blob, 
 }
 
 /// The end of a frame, with its last line.
-pub(crate) fn end(
+pub(crate) fn ending_of(
     alloc: Global,
     program: &NamedProgram,
     units: u64,
     carrier: &mut Carrier,
     outcome: Ended,
-) -> Result<End, OutOfMemory>
+) -> Result<Ending, OutOfMemory>
     ensures { IfOk result (λ e. ending_as e carrier.new
-        ≡ ended program.now units carrier.old (result_as outcome)) }
+        ≡ ending_of program.now units carrier.old (result_as outcome)) }
 {
     let line = last(alloc, program, &outcome)?;
     carrier.env.logs.add_line(line)?;
-    Ok(End {
+    Ok(Ending {
         units,
         ended: outcome,
     })
@@ -117,10 +117,10 @@ pub(crate) fn close(
     units: u64,
     carrier: &mut Carrier,
     outcome: Ended,
-) -> Result<End, OutOfMemory>
+) -> Result<Ending, OutOfMemory>
     ensures { IfOk result (λ e. ending_as e carrier.new
         ≡ closed program.now had units carrier.old (result_as outcome)) }
 {
     say_consumed(alloc, program, had.saturating_sub(units), had, carrier)?;
-    end(alloc, program, units, carrier, outcome)
+    ending_of(alloc, program, units, carrier, outcome)
 }

@@ -2,8 +2,15 @@
 ghost use Rattle.std.specs.Prelude.{◌≡◌};
 ghost use Rattle.hex.specs.Hex.{encode_lower};
 
-use sol_base::{Key, key_text};
+use sol_base::{COMPUTE_BUDGET_PROGRAM, Key, SYSTEM_PROGRAM, key_text};
 use std::marker::Model;
+
+/// The text of the system program's key.
+const SYSTEM_TEXT: [u8; 64] = [b'0'; 64];
+
+/// The text of the compute budget program's key.
+const COMPUTE_BUDGET_TEXT: [u8; 64] =
+    *b"0306466fe5211732ffecadba72c39be7bc8ce5bbc5f7126b2c439b3a40000000";
 
 /// The key of a program, and its text, which each line of a frame has.
 #[derive(Drop)]
@@ -30,7 +37,7 @@ impl NamedProgram {
     {
         NamedProgram {
             key,
-            text: key_text(&key),
+            text: text_of(&key),
         }
     }
 
@@ -44,5 +51,18 @@ impl NamedProgram {
         ensures { result.now ≡ encode_lower self.now.0 }
     {
         &self.text
+    }
+}
+
+/// The text of a key. Those of the programs that most instructions name are at hand.
+fn text_of(key: &Key) -> [u8; 64]
+    ensures { result ≡ encode_lower key.now.0 }
+{
+    if *key == SYSTEM_PROGRAM {
+        SYSTEM_TEXT
+    } else if *key == COMPUTE_BUDGET_PROGRAM {
+        COMPUTE_BUDGET_TEXT
+    } else {
+        key_text(key)
     }
 }

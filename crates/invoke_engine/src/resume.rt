@@ -2,9 +2,8 @@
 ghost use Rattle.std.specs.Prelude.{◌≡◌, ◌<◌, ◌≤◌, Ok, Err, length, IfOk};
 ghost use Rattle.sol_base.specs.Accounts.{accounts_of};
 ghost use Rattle.abi_input.specs.Region.{patched};
-ghost use Rattle.invoke_engine.specs.Fits.{EndFits};
+ghost use Rattle.invoke_engine.specs.Conditions.{EndingFits, AreAccountsOf, IsFrame, IsSuspended};
 ghost use Rattle.invoke_engine.specs.Frames.{max_height};
-ghost use Rattle.invoke_engine.specs.Given.{AreGiven, IsFrame, IsSuspended};
 ghost use Rattle.invoke_engine.specs.Returning.{returned};
 ghost use Rattle.invoke_engine.specs.Suspended.{programs_of};
 ghost use Rattle.invoke_engine.specs.Views.{ending_as, next_as, PatchesAs, RunsFit};
@@ -13,7 +12,7 @@ use crate::begin::Next;
 use crate::call::Ended;
 use crate::carrier::Carrier;
 use crate::context::Context;
-use crate::ending::End;
+use crate::ending::Ending;
 use crate::frame::{Frame, Stack};
 use crate::lines::close;
 use crate::program::NamedProgram;
@@ -30,7 +29,7 @@ fn write_over(
     accounts: Items<Arc<Account>>,
 ) -> Result<(), Stopped>
     requires frame { IsFrame (length context.now.keys) frame.old }
-    requires accounts { AreGiven (length context.now.keys) (accounts_of accounts) }
+    requires accounts { AreAccountsOf (length context.now.keys) (accounts_of accounts) }
     ensures answer { PatchesAs
         (patched frame.old.machine.context.memory.input.bytes frame.old.start
         (accounts_of accounts) frame.old.metas)
@@ -55,26 +54,26 @@ pub(crate) fn resume(
     context: &Context<'_>,
     outer: &Stack,
     frame: Frame,
-    end: End,
+    ending: Ending,
     carrier: &mut Carrier,
 ) -> Result<Next, OutOfMemory>
     requires outer { length outer.now < max_height }
     requires frame { IsSuspended (length context.now.keys) frame }
-    requires end { EndFits (length context.now.keys) (ending_as end carrier.old) }
-    requires units { end.units ≤ frame.machine.units }
+    requires ending { EndingFits (length context.now.keys) (ending_as ending carrier.old) }
+    requires units { ending.units ≤ frame.machine.units }
     ensures next { IfOk result (λ next.
-        returned (programs_of outer.now) frame (ending_as end carrier.old)
+        returned (programs_of outer.now) frame (ending_as ending carrier.old)
         ≡ next_as next carrier.new) }
     ensures fits { IfOk result (λ next. RunsFit (length context.now.keys) next) }
 {
     let mut frame = frame;
-    let End { units, ended } = end;
+    let Ending { units, ended } = ending;
     match ended {
         Ended::Failed(error) => {
             let program = NamedProgram::of(frame.program);
             let failed = Ended::Failed(error);
-            let end = close(context.alloc, &program, frame.had, units, carrier, failed)?;
-            Ok(Next::Ends(end))
+            let ending = close(context.alloc, &program, frame.had, units, carrier, failed)?;
+            Ok(Next::Done(ending))
         }
         Ended::Good(accounts) => match write_over(context, &mut frame, accounts) {
             Ok(()) => {
@@ -83,8 +82,8 @@ pub(crate) fn resume(
                 Ok(Next::Runs(frame))
             }
             Err(Stopped::Refused(reason)) => {
-                let end = fail(context.alloc, outer, &frame, units, carrier, reason)?;
-                Ok(Next::Ends(end))
+                let ending = fail(context.alloc, outer, &frame, units, carrier, reason)?;
+                Ok(Next::Done(ending))
             }
             Err(Stopped::OutOfMemory) => Err(OutOfMemory),
         },

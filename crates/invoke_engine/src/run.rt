@@ -3,12 +3,12 @@ ghost use Rattle.std.specs.Prelude.{◌≡◌, ◌<◌, ◌≤◌, None, [], len
 ghost use Rattle.sol_base.specs.Accounts.{accounts_of};
 ghost use Rattle.cpi_calls.specs.Limits.{max_keys};
 ghost use Rattle.program_cache.specs.Programs.{sought};
-ghost use Rattle.invoke_engine.specs.Fits.{Works, Stands, Steps, ending_in};
+ghost use Rattle.invoke_engine.specs.FrameLoop.{Works, Stands, Steps, ending_in};
 ghost use Rattle.invoke_engine.specs.Frame as Spec;
 ghost use Rattle.invoke_engine.specs.Frame.{Carried};
 ghost use Rattle.invoke_engine.specs.Frames.{max_height, max_trace};
 ghost use Rattle.invoke_engine.specs.Invoked.{fixed_in};
-ghost use Rattle.invoke_engine.specs.Given.{AreGiven, IsCall, IsFrame};
+ghost use Rattle.invoke_engine.specs.Conditions.{AreAccountsOf, IsCall, IsFrame};
 ghost use Rattle.invoke_engine.specs.Suspended.{programs_of};
 ghost use Rattle.invoke_engine.specs.Views.{fixed, ending_as, next_as, work_as, IsRun};
 
@@ -16,7 +16,7 @@ use crate::begin::{Next, begin};
 use crate::call::{Call, Ended, Ran, Setting};
 use crate::carrier::Carrier;
 use crate::context::{Context, Invocation};
-use crate::ending::{Callee, End};
+use crate::ending::{Callee, Ending};
 use crate::frame::{Frame, Stack};
 use crate::resume::resume;
 use crate::stop::MAX_TRACE;
@@ -34,7 +34,7 @@ use tx_report::{Cause, InstructionError, Logs};
 enum Work {
     /// It calls another program, with the units then left.
     Calls(Callee, u64),
-    Leaves(End),
+    Leaves(Ending),
 }
 
 /// Runs the frame until it calls another program or ends.
@@ -55,7 +55,7 @@ fn work_on(
         match take_turn(context, outer, frame, carrier)? {
             Turn::GoesOn => {}
             Turn::Calls(callee, units) => return Ok(Work::Calls(callee, units)),
-            Turn::Leaves(end) => return Ok(Work::Leaves(end)),
+            Turn::Leaves(ending) => return Ok(Work::Leaves(ending)),
         }
     }
 }
@@ -75,7 +75,7 @@ fn advance(
 {
     let mut frame = frame;
     match work_on(context, stack, &mut frame, carrier)? {
-        Work::Leaves(end) => Ok(Next::Ends(end)),
+        Work::Leaves(ending) => Ok(Next::Done(ending)),
         Work::Calls(callee, units) => {
             stack.push(frame)?;
             let Callee { call, accounts } = callee;
@@ -97,7 +97,7 @@ fn drive(
     stack: &mut Stack,
     first: Next,
     carrier: &mut Carrier,
-) -> Result<End, OutOfMemory>
+) -> Result<Ending, OutOfMemory>
     requires keys { length context.now.keys ≤ max_keys }
     requires most { context.now.setting.height ≤ 9 }
     requires stands { Stands (fixed_in context.now) stack.old (next_as first carrier.old) }
@@ -108,9 +108,9 @@ fn drive(
     loop {
         next = match next {
             Next::Runs(frame) => advance(context, stack, frame, carrier)?,
-            Next::Ends(end) => match stack.pop() {
-                None => return Ok(end),
-                Some(frame) => resume(context, stack, frame, end, carrier)?,
+            Next::Done(ending) => match stack.pop() {
+                None => return Ok(ending),
+                Some(frame) => resume(context, stack, frame, ending, carrier)?,
             },
         };
     }
@@ -121,11 +121,11 @@ fn run_frame(
     context: &Context<'_>,
     invocation: Invocation<'_>,
     carrier: &mut Carrier,
-) -> Result<End, OutOfMemory>
+) -> Result<Ending, OutOfMemory>
     requires keys { length context.now.keys ≤ max_keys }
     requires height { (1 ≤ context.now.setting.height) × (context.now.setting.height ≤ 9) }
     requires call { IsCall (length context.now.keys) invocation.call }
-    requires accounts { AreGiven (length context.now.keys) invocation.accounts }
+    requires accounts { AreAccountsOf (length context.now.keys) invocation.accounts }
     requires trace { carrier.old.trace < max_trace }
     ensures { IfOk result (λ e. ending_as e carrier.new
         ≡ Spec.frame (fixed_in context.now) [] invocation.entry.call invocation.entry.accounts invocation.entry.units
@@ -137,10 +137,10 @@ fn run_frame(
 }
 
 /// What an instruction did that ended so.
-fn ran_of(end: End, trace: u8) -> Ran
-    ensures { (c : Carried) → c.trace ≡ trace → IsRun (ending_as end c) result c.log }
+fn ran_of(ending: Ending, trace: u8) -> Ran
+    ensures { (c : Carried) → c.trace ≡ trace → IsRun (ending_as ending c) result c.log }
 {
-    let End { units, ended } = end;
+    let Ending { units, ended } = ending;
     Ran {
         units,
         trace,
@@ -158,7 +158,7 @@ fn run_started(
     requires keys { length context.now.keys ≤ max_keys }
     requires height { (1 ≤ context.now.setting.height) × (context.now.setting.height ≤ 9) }
     requires call { IsCall (length context.now.keys) invocation.call }
-    requires accounts { AreGiven (length context.now.keys) invocation.accounts }
+    requires accounts { AreAccountsOf (length context.now.keys) invocation.accounts }
     requires trace { trace < max_trace }
     ensures { IfOk result (λ ran. IsRun
         (Spec.frame (fixed_in context.now) [] invocation.entry.call invocation.entry.accounts invocation.entry.units
@@ -194,7 +194,7 @@ pub fn run_invocation(
     requires keys { length context.now.keys ≤ max_keys }
     requires height { (1 ≤ context.now.setting.height) × (context.now.setting.height ≤ 9) }
     requires call { IsCall (length context.now.keys) invocation.call }
-    requires accounts { AreGiven (length context.now.keys) invocation.accounts }
+    requires accounts { AreAccountsOf (length context.now.keys) invocation.accounts }
     ensures { IfOk result (λ ran. IsRun
         (Spec.instruction (fixed_in context.now) invocation.entry.call invocation.entry.accounts invocation.entry.units trace
         logs.old)
@@ -232,7 +232,7 @@ pub fn run_instruction(
     requires keys { length keys.now ≤ max_keys }
     requires height { (1 ≤ setting.now.height) × (setting.now.height ≤ 9) }
     requires call { IsCall (length keys.now) call.now }
-    requires accounts { AreGiven (length keys.now) (accounts_of accounts.now) }
+    requires accounts { AreAccountsOf (length keys.now) (accounts_of accounts.now) }
     ensures { IfOk result (λ ran. IsRun
         (Spec.instruction (fixed (sought programs.now) setting.now keys.now) call.now
         (accounts_of accounts.now) units trace logs.old)

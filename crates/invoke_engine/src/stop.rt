@@ -6,7 +6,7 @@ ghost use Rattle.cpi_calls.specs.Rights.{rights_of};
 ghost use Rattle.invoke_engine.specs.Calling as Calling;
 ghost use Rattle.invoke_engine.specs.Leaving as Leaving;
 ghost use Rattle.invoke_engine.specs.Frames.{max_height};
-ghost use Rattle.invoke_engine.specs.Given.{IsFrame};
+ghost use Rattle.invoke_engine.specs.Conditions.{IsFrame};
 ghost use Rattle.invoke_engine.specs.Reasons.{StopsBy, refuse, by_rights};
 ghost use Rattle.invoke_engine.specs.Suspended.{programs_of};
 ghost use Rattle.invoke_engine.specs.Views.{Asks, Comes};

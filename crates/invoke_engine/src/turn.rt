@@ -7,9 +7,9 @@ ghost use Rattle.sbpf_machine.specs.Lending.{with_memory};
 ghost use Rattle.sbpf_isa.specs.Calls.{IsServed};
 ghost use Rattle.sys_calls.specs.SysCalls.{sys_row};
 ghost use Rattle.invoke_engine.specs.Calling as Calling;
-ghost use Rattle.invoke_engine.specs.Ends.{closes};
+ghost use Rattle.invoke_engine.specs.Endings.{closes};
 ghost use Rattle.invoke_engine.specs.Frames.{height, max_height};
-ghost use Rattle.invoke_engine.specs.Given.{IsFrame};
+ghost use Rattle.invoke_engine.specs.Conditions.{IsFrame};
 ghost use Rattle.invoke_engine.specs.Leaving as Leaving;
 ghost use Rattle.invoke_engine.specs.Reasons.{by_fault};
 ghost use Rattle.invoke_engine.specs.Serving as Serving;
@@ -21,7 +21,7 @@ ghost use Rattle.invoke_engine.specs.declared.stopped.Stopped.TheVariants.{Refus
 use crate::call::Ended;
 use crate::carrier::Carrier;
 use crate::context::Context;
-use crate::ending::{Callee, End};
+use crate::ending::{Callee, Ending};
 use crate::frame::{Frame, Stack};
 use crate::lines::close;
 use crate::program::NamedProgram;
@@ -40,7 +40,7 @@ pub(crate) enum Turn {
     GoesOn,
     /// It calls another program, with the units then left.
     Calls(Callee, u64),
-    Leaves(End),
+    Leaves(Ending),
 }
 
 /// The height of the frame that has these around it.
@@ -59,7 +59,7 @@ pub(crate) fn fail(
     units: u64,
     carrier: &mut Carrier,
     reason: Reason,
-) -> Result<End, OutOfMemory>
+) -> Result<Ending, OutOfMemory>
     requires { length outer.now < max_height }
     ensures { IfOk result (λ e. ending_as e carrier.new
         ≡ closes (programs_of outer.now) frame.now units carrier.old (Err (Refused reason))) }
@@ -87,7 +87,7 @@ fn leave(
     frame: &Frame,
     r0: u64,
     carrier: &mut Carrier,
-) -> Result<End, OutOfMemory>
+) -> Result<Ending, OutOfMemory>
     requires outer { length outer.now < max_height }
     requires frame { IsFrame (length context.now.keys) frame.now }
     ensures { IfOk result (λ e. ending_as e carrier.new
@@ -194,8 +194,8 @@ fn call_turn(
     match called(context, outer, frame, carrier.trace, &mut units) {
         Ok(callee) => Ok(Turn::Calls(callee, units)),
         Err(Stopped::Refused(reason)) => {
-            let end = fail(context.alloc, outer, frame, units, carrier, reason)?;
-            Ok(Turn::Leaves(end))
+            let ending = fail(context.alloc, outer, frame, units, carrier, reason)?;
+            Ok(Turn::Leaves(ending))
         }
         Err(Stopped::OutOfMemory) => Err(OutOfMemory),
     }

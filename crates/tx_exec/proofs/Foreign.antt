@@ -16,7 +16,7 @@ use Rattle.tx_report.specs.declared.cause.DropCause.{DropCause}
 use Rattle.tx_report.specs.declared.status.InstructionError.{InstructionError}
 use Rattle.admission.specs.declared.chosen.Chosen.{Chosen}
 use Rattle.admission.specs.Chosen.{IsChosen}
-use Rattle.invoke_engine.specs.Fits.{AreListed}
+use Rattle.invoke_engine.specs.FrameLaws.{AreListed}
 use Rattle.invoke_engine.specs.Frame.{Ending, Fixed, instruction}
 use Rattle.invoke_engine.specs.Programs.{programs_of_instruction}
 use Rattle.invoke_engine.proofs.Foreign.{instruction_foreign}
@@ -56,7 +56,7 @@ executed_foreign block t index (i ∷ is) a units trace log there count =
     let listed : AreListed (length s.keys) (call_of t i).metas a = record { count = count; range = metas_there t (length (all_keys t.tx.message t.loaded)) i.accounts (All-head (IsThere t) i is there) } in
     follow_foreign t index (executed s t (index + 1) is) (programs_of_all s t is) (programs_of_instruction s (call_of t i) a units trace log) a e.result e
     (λ b u n l same. executed_foreign block t (index + 1) is b u n l (All-tail (IsThere t) i is there) (same ∙ count))
-    (instruction_keeps block t i a units trace log (All-head (IsThere t) i is there) count)
+    (instruction_keeps s t i a units trace log refl (All-head (IsThere t) i is there) count)
     (instruction_foreign s (call_of t i) a units trace log listed)
 
 -- ---- the fee

@@ -32,8 +32,8 @@ use Rattle.bank_law.proofs.States.{lamports_in-cons}
 use Rattle.bank_law.proofs.Supply.{lent_for_writing-length, lent_for_writing-short}
 use Rattle.admission.specs.declared.chosen.Chosen.{Chosen}
 use Rattle.admission.specs.Chosen.{IsChosen}
-use Rattle.invoke_engine.specs.Fits.{AreListed}
-use Rattle.invoke_engine.specs.Frame.{Ending, frame, instruction, nothing_returned}
+use Rattle.invoke_engine.specs.FrameLaws.{AreListed}
+use Rattle.invoke_engine.specs.Frame.{Ending, Fixed, frame, instruction, nothing_returned}
 use Rattle.invoke_engine.proofs.Kept.{frame_keeps}
 use Rattle.invoke_engine.specs.Frames.{max_trace}
 use Rattle.tx_exec.specs.Payer.{charged, drop_cause, dropped, is_wallet, less, total_fee}
@@ -95,11 +95,12 @@ of_end : (t : Chosen) (i : Instruction) (a : List Account) (result : Result (Lis
 of_end t i a (Ok b) k = AreKeptBy-weaker (is_listed_writable (call_of t i).metas) (lets_write t) a b (no_right t i.accounts) k
 of_end t i a (Err error) k = tt
 
-pub instruction_keeps : (block : InBlock) (t : Chosen) (i : Instruction) (a : List Account) (units trace : ℕ) (log : Log) → IsThere t i → length a ≡ length (all_keys t.tx.message t.loaded) → GoodKeeps t a (instruction (fixed_for block t) (call_of t i) a units trace log).result
-instruction_keeps block t i a units trace log there count =
+pub instruction_keeps : (s : Fixed) (t : Chosen) (i : Instruction) (a : List Account) (units trace : ℕ) (log : Log) → s.keys ≡ all_keys t.tx.message t.loaded → IsThere t i → length a ≡ length (all_keys t.tx.message t.loaded) → GoodKeeps t a (instruction s (call_of t i) a units trace log).result
+instruction_keeps s t i a units trace log keys there count =
     let listed : AreListed (length (all_keys t.tx.message t.loaded)) (call_of t i).metas a = record { count = count; range = metas_there t (length (all_keys t.tx.message t.loaded)) i.accounts there } in
     cond_both (nat_le max_trace trace) _ _ (λ (e : Ending). GoodKeeps t a e.result) (λ _. tt)
-    (λ _. of_end t i a (frame (fixed_for block t) [] (call_of t i) a units (nothing_returned trace log)).result (frame_keeps (fixed_for block t) [] (call_of t i) a units (nothing_returned trace log) listed))
+    (λ _. of_end t i a (frame s [] (call_of t i) a units (nothing_returned trace log)).result
+    (frame_keeps s [] (call_of t i) a units (nothing_returned trace log) (subst (λ (ks : List Key). AreListed (length ks) (call_of t i).metas a) (sym keys) listed)))
 
 follow_keeps : (t : Chosen) (index : ℕ) (on : List Account → ℕ → ℕ → Log → Executed) (a : List Account) (result : Result (List Account) InstructionError) (e : Ending) →
     ((b : List Account) (units trace : ℕ) (log : Log) → length b ≡ length a → GoodKeeps t b (on b units trace log).result) → GoodKeeps t a result → GoodKeeps t a (following index on result e).result
@@ -116,7 +117,7 @@ executed_keeps block t index [] a units trace log there count = AreKeptBy-refl (
 executed_keeps block t index (i ∷ is) a units trace log there count =
     follow_keeps t index (executed (fixed_for block t) t (index + 1) is) a _ (instruction (fixed_for block t) (call_of t i) a units trace log)
     (λ b u s l same. executed_keeps block t (index + 1) is b u s l (All-tail (IsThere t) i is there) (same ∙ count))
-    (instruction_keeps block t i a units trace log (All-head (IsThere t) i is there) count)
+    (instruction_keeps (fixed_for block t) t i a units trace log refl (All-head (IsThere t) i is there) count)
 
 -- ---- the fee
 

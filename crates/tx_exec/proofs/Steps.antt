@@ -14,26 +14,26 @@ use Rattle.tx_report.specs.declared.status.InstructionError.{InstructionError}
 use Rattle.admission.specs.declared.chosen.Chosen.{Chosen}
 use Rattle.invoke_engine.specs.declared.call.Ended.TheVariants.{Good, Failed}
 use Rattle.invoke_engine.specs.declared.call.Ran.{Ran}
-use Rattle.invoke_engine.specs.Frame.{Ending, instruction}
-use Rattle.invoke_engine.specs.Given.{AreGiven}
+use Rattle.invoke_engine.specs.Frame.{Ending, Fixed, instruction}
+use Rattle.invoke_engine.specs.Conditions.{AreAccountsOf}
 use Rattle.invoke_engine.specs.Views.{IsRun, result_as}
 use Rattle.invoke_engine.proofs.Traces.{instruction_counts}
 use Rattle.invoke_engine.specs.Frames.{max_trace}
-use Rattle.tx_exec.specs.Executing.{Executed, Failure, InBlock, call_of, executed, fixed_for, following, performed}
+use Rattle.tx_exec.specs.Executing.{Executed, Failure, call_of, executed, following, performed}
 use Rattle.tx_exec.specs.Views.{IsExecuted, values_seen}
 use Rattle.tx_exec.proofs.Keeping.{GoodKeeps, instruction_keeps}
 
 -- where the loop over the instructions stands
-pub record Stands (block : InBlock) (t : Chosen) (base : List Account) (index : ℕ) (accounts : List Account) (units trace : ℕ) (log : Log) : Type 0 where
-  pub same : executed (fixed_for block t) t index (drop index t.tx.message.instructions) accounts units trace log ≡ performed (fixed_for block t) t base
-  pub given : AreGiven (length (all_keys t.tx.message t.loaded)) accounts
+pub record Stands (s : Fixed) (t : Chosen) (base : List Account) (index : ℕ) (accounts : List Account) (units trace : ℕ) (log : Log) : Type 0 where
+  pub same : executed s t index (drop index t.tx.message.instructions) accounts units trace log ≡ performed s t base
+  pub given : AreAccountsOf (length s.keys) accounts
   pub counted : index ≤ trace
 
 -- all instructions ended well
-pub all_done : (block : InBlock) (t : Chosen) (base : List Account) (index : ℕ) (accounts : List Account) (units trace : ℕ) (log : Log) → Stands block t base index accounts units trace log → length t.tx.message.instructions ≤ index
-    → performed (fixed_for block t) t base ≡ record { units = units; log = log; result = Ok accounts }
+pub all_done : (s : Fixed) (t : Chosen) (base : List Account) (index : ℕ) (accounts : List Account) (units trace : ℕ) (log : Log) → Stands s t base index accounts units trace log → length t.tx.message.instructions ≤ index
+    → performed s t base ≡ record { units = units; log = log; result = Ok accounts }
 unfolding executed
-all_done block t base index accounts units trace log stands past = sym stands.same ∙ rw (drop_all index t.tx.message.instructions past) refl
+all_done s t base index accounts units trace log stands past = sym stands.same ∙ rw (drop_all index t.tx.message.instructions past) refl
 
 go_on : (index : ℕ) (on : List Account → ℕ → ℕ → Log → Executed) (e : Ending) (ran : Ran) (after : List (Arc Account Global)) (log : Log) → IsRun e ran log → ran.ended ≡ Good after
     → following index on e.result e ≡ on (accounts_of after) ran.units ran.trace log
@@ -55,11 +55,11 @@ pub late : (b : Bool) (x y : Ending) (after : List Account) → (let e : Ending 
 late true x y after h e = h
 late false x y after h e = absurd (cc)
 
-module _ (block : InBlock) (t : Chosen) (base : List Account) (index : ℕ) (accounts : List Account) (units trace : ℕ) (log : Log) (stands : Stands block t base index accounts units trace log) (i : Instruction) (below : index < length t.tx.message.instructions) (here : i ≡ get_or t.tx.message.instructions index i) where
+module _ (s : Fixed) (t : Chosen) (keys : s.keys ≡ all_keys t.tx.message t.loaded) (base : List Account) (index : ℕ) (accounts : List Account) (units trace : ℕ) (log : Log) (stands : Stands s t base index accounts units trace log) (i : Instruction) (below : index < length t.tx.message.instructions) (here : i ≡ get_or t.tx.message.instructions index i) where
   abbrev pub ending : Ending
-  ending = instruction (fixed_for block t) (call_of t i) accounts units trace log
+  ending = instruction s (call_of t i) accounts units trace log
 
-  next : performed (fixed_for block t) t base ≡ following index (executed (fixed_for block t) t (index + 1) (drop (index + 1) t.tx.message.instructions)) ending.result ending
+  next : performed s t base ≡ following index (executed s t (index + 1) (drop (index + 1) t.tx.message.instructions)) ending.result ending
   unfolding executed
   next = sym stands.same ∙ rw (drop_more t.tx.message.instructions index i below, ← here) refl
 
@@ -69,7 +69,7 @@ module _ (block : InBlock) (t : Chosen) (base : List Account) (index : ℕ) (acc
     no_start {after} e good = refused (late (nat_le max_trace trace) _ _ after good e)
 
     kept : GoodKeeps t accounts ending.result
-    kept = instruction_keeps block t i accounts units trace log named.accounts stands.given.count
+    kept = instruction_keeps s t i accounts units trace log keys named.accounts (stands.given.count ∙ ap length keys)
 
     counts : (after : List Account) → ending.result ≡ Ok after → index + 1 ≤ ran.trace
     counts after good = by_test (nat_le max_trace trace) refl
@@ -78,12 +78,12 @@ module _ (block : InBlock) (t : Chosen) (base : List Account) (index : ℕ) (acc
         by_test true e = absurd (no_start e good)
         by_test false e =
             let few : trace < max_trace = grind (arith, nat_tests) in
-            let more = instruction_counts (fixed_for block t) (call_of t i) accounts units trace log few in
+            let more = instruction_counts s (call_of t i) accounts units trace log few in
             let same = run.trace in
             let old = stands.counted in
             omega (arith, more, same, old)
 
-    pub good : (after : List (Arc Account Global)) → ran.ended ≡ Good after → Stands block t base (index + 1) (accounts_of after) ran.units ran.trace log'
+    pub good : (after : List (Arc Account Global)) → ran.ended ≡ Good after → Stands s t base (index + 1) (accounts_of after) ran.units ran.trace log'
     good after well =
         let r : ending.result ≡ Ok (accounts_of after) = sym run.ended ∙ ap result_as well in
         let k = subst (λ (result : Result (List Account) InstructionError). GoodKeeps t accounts result) r kept in
@@ -95,7 +95,7 @@ module _ (block : InBlock) (t : Chosen) (base : List Account) (index : ℕ) (acc
           counted = counts (accounts_of after) r;
         }
 
-    pub bad : (error : InstructionError) → ran.ended ≡ Failed error → performed (fixed_for block t) t base ≡ record { units = ran.units; log = log'; result = Err (record { index = index; cause = error.cause; detail = error.detail }) }
+    pub bad : (error : InstructionError) → ran.ended ≡ Failed error → performed s t base ≡ record { units = ran.units; log = log'; result = Err (record { index = index; cause = error.cause; detail = error.detail }) }
     bad error failed = next ∙ stop index _ ending ran error log' run failed
 
 -- what the code tells of what instructions did

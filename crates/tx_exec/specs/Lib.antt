@@ -3,6 +3,5 @@ pub mod Executing
 pub mod Transaction
 pub mod TransactionLaws
 pub mod Programs
-pub mod Told
-pub mod Tables
+pub mod AdmittedBlock
 pub mod Views

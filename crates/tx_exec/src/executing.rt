@@ -6,21 +6,18 @@ ghost use Rattle.message_codec.specs.Roles.{AreNamed, all_keys};
 ghost use Rattle.message_codec.specs.Wire.{IsCountable};
 ghost use Rattle.admission.specs.Chosen.{IsChosen};
 ghost use Rattle.invoke_engine.specs.Frame.{instruction as run};
-ghost use Rattle.invoke_engine.specs.Given.{AreGiven};
+ghost use Rattle.invoke_engine.specs.Conditions.{AreAccountsOf};
+ghost use Rattle.invoke_engine.specs.Invoked.{fixed_in};
 ghost use Rattle.invoke_engine.specs.Views.{IsRun};
-ghost use Rattle.tx_exec.specs.Executing.{call_of, fixed_for, performed};
-ghost use Rattle.tx_exec.specs.Tables.{IsTableOf};
-ghost use Rattle.tx_exec.specs.Told.{block_of};
+ghost use Rattle.tx_exec.specs.Executing.{call_of, performed};
 ghost use Rattle.tx_exec.specs.Views.{IsExecuted};
 
 use crate::failure::Failure;
-use crate::roles::{call_for, rights_of};
-use crate::told::Told;
-use admission::Chosen;
-use invoke_engine::{Ended, Ran, Setting, run_instruction};
-use message_codec::{Instruction, keys_of};
-use sol_base::{Account, Items, Key, Meta, OutOfMemory, share_all};
-use std::alloc::Global;
+use crate::roles::metas_of;
+use crate::transaction::Transaction;
+use invoke_engine::{Ended, Invocation, Ran, run_invocation};
+use message_codec::Instruction;
+use sol_base::{Account, Items, OutOfMemory, share_all};
 use std::sync::Arc;
 use tx_report::Logs;
 
@@ -35,66 +32,30 @@ pub struct Executed {
 
 /// Runs all instructions on these accounts, with the units of the budget.
 pub fn execute(
-    alloc: Global,
-    told: &Told,
-    chosen: &Chosen,
+    transaction: &Transaction<'_>,
     base: &[Arc<Account>],
 ) -> Result<Executed, OutOfMemory>
-    requires height { (1 ≤ told.now.height) × (told.now.height ≤ max_stack_height) }
-    requires chosen { IsChosen chosen.now }
-    requires base { AreGiven (length (all_keys chosen.now.tx.message chosen.now.loaded))
-        (accounts_of base.now) }
+    requires height { (1 ≤ transaction.now.context.setting.height)
+        × (transaction.now.context.setting.height ≤ max_stack_height) }
+    requires chosen { IsChosen transaction.now.chosen.now }
+    requires keys { transaction.now.context.keys
+        ≡ all_keys transaction.now.chosen.now.tx.message transaction.now.chosen.now.loaded }
+    requires base { AreAccountsOf (length transaction.now.context.keys) (accounts_of base.now) }
     ensures exact { IfOk result (λ e. IsExecuted
-        (performed (fixed_for (block_of told.now) chosen.now) chosen.now (accounts_of base.now))
+        (performed (fixed_in transaction.now.context) transaction.now.chosen.now
+        (accounts_of base.now))
         e.units e.result e.logs) }
-    ensures fits { IfOk result (λ e. MatchResult e.result (λ after.
-        AreGiven (length (all_keys chosen.now.tx.message chosen.now.loaded)) (accounts_of after))
+    ensures fits { IfOk result (λ e. MatchResult e.result
+        (λ after. AreAccountsOf (length transaction.now.context.keys) (accounts_of after))
         (λ _. Unit {0})) }
 {
-    let keys = keys_of(alloc, &chosen.tx.message, &chosen.loaded)?;
-    let table = rights_of(alloc, chosen)?;
-    run_all(alloc, told, chosen, keys.as_slice(), table.as_slice(), base)
-}
-
-/// The same, where these are the keys of the transaction and the table of their rights.
-fn run_all(
-    alloc: Global,
-    told: &Told,
-    chosen: &Chosen,
-    keys: &[Key],
-    table: &[Meta],
-    base: &[Arc<Account>],
-) -> Result<Executed, OutOfMemory>
-    requires height { (1 ≤ told.now.height) × (told.now.height ≤ max_stack_height) }
-    requires chosen { IsChosen chosen.now }
-    requires keys { keys.now ≡ all_keys chosen.now.tx.message chosen.now.loaded }
-    requires table { IsTableOf chosen.now table.now }
-    requires base { AreGiven (length (all_keys chosen.now.tx.message chosen.now.loaded))
-        (accounts_of base.now) }
-    ensures exact { IfOk result (λ e. IsExecuted
-        (performed (fixed_for (block_of told.now) chosen.now) chosen.now (accounts_of base.now))
-        e.units e.result e.logs) }
-    ensures fits { IfOk result (λ e. MatchResult e.result (λ after.
-        AreGiven (length (all_keys chosen.now.tx.message chosen.now.loaded)) (accounts_of after))
-        (λ _. Unit {0})) }
-{
-    let mut logs = Logs::new(alloc);
-    let mut accounts = share_all(alloc, base)?;
-    let mut units = u64::from(chosen.budget.limit);
+    let mut logs = Logs::new(transaction.context.alloc);
+    let mut accounts = share_all(transaction.context.alloc, base)?;
+    let mut units = u64::from(transaction.chosen.budget.limit);
     let mut trace: u8 = 0;
-    for (index, instruction) in chosen.tx.message.instructions.as_slice().iter().enumerate() {
-        let ran = run_one(
-            alloc,
-            told,
-            chosen,
-            keys,
-            table,
-            accounts.as_slice(),
-            instruction,
-            units,
-            trace,
-            &mut logs,
-        )?;
+    let message = &transaction.chosen.tx.message;
+    for (index, instruction) in message.instructions.as_slice().iter().enumerate() {
+        let ran = run_one(transaction, instruction, accounts, units, trace, &mut logs)?;
         units = ran.units;
         trace = ran.trace;
         let Ran { ended, .. } = ran;
@@ -123,45 +84,34 @@ fn run_all(
 
 /// Runs one instruction, after others that came to these accounts, units, trace and log.
 fn run_one(
-    alloc: Global,
-    told: &Told,
-    chosen: &Chosen,
-    keys: &[Key],
-    table: &[Meta],
-    accounts: &[Arc<Account>],
+    transaction: &Transaction<'_>,
     instruction: &Instruction,
+    accounts: Items<Arc<Account>>,
     units: u64,
     trace: u8,
     logs: &mut Logs,
 ) -> Result<Ran, OutOfMemory>
-    requires height { (1 ≤ told.now.height) × (told.now.height ≤ max_stack_height) }
-    requires chosen { IsChosen chosen.now }
-    requires keys { keys.now ≡ all_keys chosen.now.tx.message chosen.now.loaded }
-    requires table { IsTableOf chosen.now table.now }
-    requires accounts { AreGiven (length (all_keys chosen.now.tx.message chosen.now.loaded))
-        (accounts_of accounts.now) }
-    requires named { AreNamed chosen.now.tx.message chosen.now.loaded instruction.now }
+    requires height { (1 ≤ transaction.now.context.setting.height)
+        × (transaction.now.context.setting.height ≤ max_stack_height) }
+    requires chosen { IsChosen transaction.now.chosen.now }
+    requires keys { transaction.now.context.keys
+        ≡ all_keys transaction.now.chosen.now.tx.message transaction.now.chosen.now.loaded }
+    requires accounts { AreAccountsOf (length transaction.now.context.keys) (accounts_of accounts) }
+    requires named { AreNamed transaction.now.chosen.now.tx.message
+        transaction.now.chosen.now.loaded instruction.now }
     requires short { IsCountable instruction.now.input }
     ensures { IfOk result (λ ran. IsRun
-        (run (fixed_for (block_of told.now) chosen.now)
-        (call_of chosen.now instruction.now) (accounts_of accounts.now) units trace logs.old)
+        (run (fixed_in transaction.now.context) (call_of transaction.now.chosen.now instruction.now)
+        (accounts_of accounts) units trace logs.old)
         ran logs.new) }
 {
-    let setting = Setting {
-        slot: told.slot,
-        heap: chosen.budget.heap,
-        height: told.height,
-    };
-    let call = call_for(alloc, chosen, table, instruction)?;
-    run_instruction(
-        alloc,
-        &told.programs,
-        &setting,
-        keys,
+    let metas = metas_of(transaction.context.alloc, transaction.chosen, instruction)?;
+    let invocation = Invocation {
+        program: instruction.program,
+        metas: metas.as_slice(),
+        input: instruction.input.as_slice(),
         accounts,
-        &call,
         units,
-        trace,
-        logs,
-    )
+    };
+    run_invocation(&transaction.context, invocation, trace, logs)
 }

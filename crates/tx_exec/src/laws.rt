@@ -5,10 +5,10 @@ ghost use Rattle.message_codec.specs.Roles.{all_keys};
 ghost use Rattle.bank_law.specs.Lawful.{IsLawful};
 ghost use Rattle.admission.specs.declared.chosen.Chosen.{Chosen as ChosenValue};
 ghost use Rattle.admission.specs.Chosen.{IsChosen};
-ghost use Rattle.tx_exec.specs.declared.told.Told.{Told as ToldValue};
+ghost use Rattle.tx_exec.specs.declared.admitted.AdmittedBlock.{AdmittedBlock as BlockValue};
 ghost use Rattle.tx_exec.specs.Executing.{InBlock, fixed_for, performed};
 ghost use Rattle.tx_exec.specs.Programs.{KeepsForeign, programs_of};
-ghost use Rattle.tx_exec.specs.Told.{job_of};
+ghost use Rattle.tx_exec.specs.AdmittedBlock.{job_of};
 ghost use Rattle.tx_exec.specs.Transaction.{transaction};
 ghost use Rattle.tx_exec.specs.TransactionLaws.{IsOutcomeOf, IsSmallOutcome, Keeps, UnitsAddUp, WritesFit};
 
@@ -47,5 +47,5 @@ pub fn transactions_have_outcomes()
 
 /// A law: the transactions of a block, a position for each, are a lawful work.
 pub fn transactions_are_lawful_works()
-    ensures lawful { (told : ToldValue) → All IsChosen told.chosen → IsLawful (job_of told) }
+    ensures lawful { (block : BlockValue) → All IsChosen block.chosen → IsLawful (job_of block) }
 {}

@@ -2,6 +2,7 @@
 //! a work has to keep.
 #![tactic(auto)]
 
+mod admitted;
 mod ending;
 mod executing;
 mod failure;
@@ -9,13 +10,13 @@ mod laws;
 mod payer;
 mod perform;
 mod roles;
-mod told;
+mod transaction;
 mod work;
 
+pub use admitted::AdmittedBlock;
 pub use failure::Failure;
 pub use laws::{
     transactions_are_lawful_works, transactions_have_outcomes, transactions_keep_accounts,
     transactions_keep_foreign_accounts,
 };
-pub use told::Told;
 pub use work::TxWork;

@@ -6,10 +6,10 @@ ghost use Rattle.sol_base.specs.Limits.{max_stack_height};
 ghost use Rattle.bank_law.specs.Lawful.{IsLawful};
 ghost use Rattle.bank_law.proofs.Props.{IsLawful-prop};
 ghost use Rattle.admission.specs.Chosen.{IsChosen};
-ghost use Rattle.tx_exec.specs.Told.{job_of};
+ghost use Rattle.tx_exec.specs.AdmittedBlock.{job_of};
 
+use crate::admitted::AdmittedBlock;
 use crate::perform::perform_one;
-use crate::told::Told;
 use admission::Chosen;
 use bank_core::{Effects, Work};
 use program_cache::Programs;
@@ -20,7 +20,7 @@ use std::sync::Arc;
 /// The transactions of a block as the work of lanes, a position for each.
 #[derive(Drop)]
 pub struct TxWork {
-    told: Told,
+    told: AdmittedBlock,
     alloc: Global,
     ghost few: { length told.chosen < 2 ^ 32 },
     ghost height: { (1 ≤ told.height) × (told.height ≤ max_stack_height) } by { Prim.hlevel props },
@@ -44,7 +44,7 @@ impl TxWork {
             ≡ record { chosen = chosen; programs = programs; slot = slot; height = height }) }
     {
         Ok(TxWork {
-            told: Told {
+            told: AdmittedBlock {
                 chosen,
                 programs,
                 slot,
@@ -63,7 +63,7 @@ impl TxWork {
 }
 
 impl Work for TxWork {
-    type Told = Told;
+    type Told = AdmittedBlock;
 
     ghost told = { λ work. work.told };
 

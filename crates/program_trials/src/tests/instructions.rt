@@ -4,7 +4,7 @@ ghost use Rattle.std.specs.Prelude.{◌≡◌, ◌+◌, ◌<◌, ◌≤◌, ◌^
 ghost use Rattle.std.specs.Arc.{arc_value};
 ghost use Rattle.sol_base.specs.Accounts.{accounts_of, empty_account, max_data_len, IsShort};
 ghost use Rattle.sol_base.specs.Metas.{AreInRange};
-ghost use Rattle.invoke_engine.specs.Given.{AreGiven, IsCall};
+ghost use Rattle.invoke_engine.specs.Conditions.{AreAccountsOf, IsCall};
 
 use super::texts::{Text, VAULT, image};
 use account_store::{Accounts, KeyedAccount, StoreFault};
@@ -88,7 +88,7 @@ fn run(
     trace: u8,
 ) -> Result<(Ran, usize), OutOfMemory>
     requires height { (1 ≤ height) × (height ≤ 9) }
-    requires accounts { AreGiven 4 (accounts_of accounts.now) }
+    requires accounts { AreAccountsOf 4 (accounts_of accounts.now) }
     requires call { IsCall 4 call.now }
 {
     let setting = Setting {
@@ -193,7 +193,7 @@ fn absent(alloc: Global) -> Result<Arc<Account>, OutOfMemory>
 
 /// Four accounts that are absent.
 fn no_accounts(alloc: Global) -> Result<[Arc<Account>; 4], OutOfMemory>
-    ensures { IfOk result (λ accounts. AreGiven 4 (accounts_of accounts)) }
+    ensures { IfOk result (λ accounts. AreAccountsOf 4 (accounts_of accounts)) }
 {
     Ok([
         absent(alloc)?,
@@ -429,7 +429,7 @@ fn accounts_with(
     requires program { IsShort program }
     requires second { IsShort second }
     requires lamports { program.lamports + second.lamports < 2 ^ 64 }
-    ensures { IfOk result (λ accounts. AreGiven 4 (accounts_of accounts)) }
+    ensures { IfOk result (λ accounts. AreAccountsOf 4 (accounts_of accounts)) }
 {
     Ok([
         Arc::new(alloc, program)?,
@@ -446,7 +446,7 @@ fn given(
     number: u8,
     second: Second,
 ) -> Result<[Arc<Account>; 4], OutOfMemory>
-    ensures { IfOk result (λ accounts. AreGiven 4 (accounts_of accounts)) }
+    ensures { IfOk result (λ accounts. AreAccountsOf 4 (accounts_of accounts)) }
 {
     let first = program(alloc, text, number)?;
     accounts_with(alloc, first, second_account(alloc, second)?)

@@ -5,7 +5,7 @@ use Rattle.sbpf_machine.specs.Steps.{State}
 use Rattle.sbpf_machine.specs.declared.stop.Stop.TheVariants.{Exit, Helper, Fault as Faulted}
 use Rattle.invoke_engine.specs.declared.stopped.Stopped.TheVariants.{Refused}
 use Rattle.invoke_engine.specs.Frames.{Running, Leaves}
-use Rattle.invoke_engine.specs.Ends.{closes}
+use Rattle.invoke_engine.specs.Endings.{closes}
 use Rattle.invoke_engine.specs.Suspended.{programs_of}
 use Rattle.invoke_engine.specs.declared.stopped.Stopped.{Stopped}
 use Rattle.std.proofs.Common.{Err}

@@ -1,11 +1,11 @@
-//! What is fixed for the transactions of a block.
+//! The admitted transactions of a block.
 use admission::Chosen;
 use program_cache::Programs;
 use sol_base::Items;
 
-/// What is fixed for the transactions of a block, and the transactions themselves.
+/// The admitted transactions of a block, and what is fixed for all of them.
 #[derive(Drop)]
-pub struct Told {
+pub struct AdmittedBlock {
     /// The transactions, in the order in which they count.
     pub chosen: Items<Chosen>,
     /// The programs among their keys.

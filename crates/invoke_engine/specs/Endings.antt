@@ -25,15 +25,15 @@ or_error height (Ok accounts) = Ok accounts
 or_error height (Err stopped) = Err (error_of height stopped)
 
 -- the end of a frame, with its last line
-abbrev pub ended : Key → ℕ → Carried → Result (List Account) InstructionError → Ending
-ended program units c result =
+abbrev pub ending_of : Key → ℕ → Carried → Result (List Account) InstructionError → Ending
+ending_of program units c result =
     record { units = units; carried = say (last_line program result) c; result = result }
 
 -- the same where its program was ready: the line of the units that it and its callees used stands
 -- before the last
 abbrev pub closed : Key → ℕ → ℕ → Carried → Result (List Account) InstructionError → Ending
 closed program had units c result =
-    ended program units (say (consumed_line program (had - units) had) c) result
+    ending_of program units (say (consumed_line program (had - units) had) c) result
 
 -- the end of a frame that ran, by its own accounts or its own refusal
 abbrev pub closes : List Key → Running → ℕ → Carried → Result (List Account) Stopped → Ending

@@ -1,4 +1,4 @@
--- The transactions of a block as a work: what it tells, and the job that this is.
+-- The admitted transactions of a block as a work, and the job that this is.
 use Rattle.std.specs.Prelude.{List, [], length, slice_get, Option, Some, None}
 use Rattle.sol_base.specs.declared.account.Account.{Account}
 use Rattle.sol_base.specs.declared.lock.Lock.{Lock}
@@ -6,12 +6,12 @@ use Rattle.tx_report.specs.declared.status.Status.TheVariants.{Good}
 use Rattle.bank_law.specs.Job.{Job, JobEffects}
 use Rattle.program_cache.specs.Programs.{sought}
 use Rattle.admission.specs.declared.chosen.Chosen.{Chosen}
-use Rattle.tx_exec.specs.declared.told.Told.{Told}
+use Rattle.tx_exec.specs.declared.admitted.AdmittedBlock.{AdmittedBlock}
 use Rattle.tx_exec.specs.Executing.{InBlock}
 use Rattle.tx_exec.specs.Transaction.{effects}
 
-abbrev pub block_of : Told → InBlock
-block_of told = record { programs = sought told.programs; slot = told.slot; height = told.height }
+abbrev pub block_of : AdmittedBlock → InBlock
+block_of block = record { programs = sought block.programs; slot = block.slot; height = block.height }
 
 -- the locks of a position, and the effects of its transaction
 abbrev pub locks_at : Option Chosen → List Lock
@@ -29,9 +29,9 @@ effects_at block None values = no_effects
 effects_at block (Some t) values = effects block t values
 
 -- a position for each transaction
-abbrev pub job_of : Told → Job
-job_of told = record {
-  count = length told.chosen;
-  locks = λ i. locks_at (slice_get told.chosen i);
-  effects = λ i values. effects_at (block_of told) (slice_get told.chosen i) values;
+abbrev pub job_of : AdmittedBlock → Job
+job_of block = record {
+  count = length block.chosen;
+  locks = λ i. locks_at (slice_get block.chosen i);
+  effects = λ i values. effects_at (block_of block) (slice_get block.chosen i) values;
 }
