@@ -1,8 +1,9 @@
 -- Accounts in slots by number.
 use Rattle.std.specs.Prelude.{◌≡◌, ℕ, ◌==◌, Bool, true, not, ◌&&◌, if◌then◌else◌, List, [], ◌∷◌, map, filter, slice_index_or, All, Option, Some, None, IsSome, option_map, sum_by}
-use Rattle.std.specs.List.{list_any, IsDistinct}
+use Rattle.std.specs.List.{list_any, filter_map, IsDistinct}
 use Rattle.std.specs.Arc.{arc_value}
 use Rattle.sol_base.specs.Accounts.{empty_account}
+use Rattle.sol_base.specs.declared.key.Key.{Key}
 use Rattle.sol_base.specs.declared.account.Account.{Account}
 pub use Rattle.account_store.specs.Shared.{Shared}
 use Rattle.lock_table.specs.declared.locks.NumberedLock.{NumberedLock}
@@ -72,3 +73,13 @@ found locks slots = map (λ lock. in_slot (slots lock.number)) locks
 -- the lamports of the accounts in slots
 abbrev pub slot_lamports : List (Option Shared) → ℕ
 slot_lamports slots = sum_by (λ slot. (in_slot (option_map value_of slot)).lamports) slots
+
+-- the account of a slot beside its key, where it has lamports
+abbrev pub held_entry : Key × Option Shared → Option (Key × Shared)
+held_entry (key, None) = None
+held_entry (key, Some share) =
+    if (value_of share).lamports == 0 then None else Some (key, share)
+
+-- the accounts that have lamports
+abbrev pub held_in : List (Key × Option Shared) → List (Key × Shared)
+held_in slots = filter_map held_entry slots

@@ -4,13 +4,14 @@ ghost use Rattle.bank_core.specs.Ends.{HasSerialAccounts, state_at_end};
 ghost use Rattle.bank_core.specs.Keeping.{AreEnds};
 ghost use Rattle.bank_core.specs.Facts.{AreEnds-prop};
 
-use crate::finish::put_all;
+use crate::finish::held_of;
 use crate::origin::Origin;
 use crate::work::Work;
 use account_store::Accounts;
 use lock_table::KeyTable;
 use proof_note::Note;
 use sol_base::{Account, OutOfMemory};
+use std::alloc::Global;
 use std::sync::Arc;
 
 /// What is left of a core whose positions are all done, but for the outcomes. The accounts of its
@@ -20,6 +21,7 @@ pub struct Ended<W: Work> {
     pub(crate) table: KeyTable,
     pub(crate) slots: Vec<Option<Arc<Account>>>,
     pub(crate) rest: Accounts,
+    pub(crate) alloc: Global,
     ghost ends: { AreEnds (W.job origin.value.told) origin.value.start rest table
         slots.items } by { AreEnds-prop _ _ _ _ _ },
 }
@@ -31,6 +33,7 @@ impl<W: Work> Drop for Ended<W> {
             table: _,
             slots: _,
             rest: _,
+            alloc: _,
         } = self;
     }
 }
@@ -46,10 +49,11 @@ impl<W: Work> Ended<W> {
         let Ended {
             origin: _,
             table,
-            mut slots,
-            mut rest,
+            slots,
+            rest,
+            alloc,
         } = self;
-        put_all(&mut rest, &table, &mut slots)?;
-        Ok(rest)
+        let held = held_of(alloc, table.keys(), slots)?;
+        rest.put_in(alloc, held)
     }
 }

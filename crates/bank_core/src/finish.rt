@@ -1,17 +1,10 @@
 //! What a core ends with.
-ghost use Rattle.std.specs.Prelude.{◌≡◌, ℕ, ◌+◌, ◌-◌, ◌^◌, ◌<◌, ◌≤◌, true, false, IfOk, OnOk, length, option_to_list};
-ghost use Rattle.std.specs.List.{IsDistinct, flat_map};
-ghost use Rattle.sol_base.specs.declared.key.Key.{Key as KeyValue};
-ghost use Rattle.sol_base.specs.Accounts.{empty_account};
-ghost use Rattle.account_store.specs.State.{at, sum, IsState};
-ghost use Rattle.bank_law.specs.Job.{same_key, has_key};
-ghost use Rattle.bank_law.specs.Lawful.{IsShort, IsSettled};
-ghost use Rattle.bank_core.specs.Slots.{account_at, in_slot, slot_lamports};
-ghost use Rattle.lock_table.specs.Numbers.{numbered_key};
+ghost use Rattle.std.specs.Prelude.{◌≡◌, ◌++◌, ◌∷◌, [], IfOk, OnOk, length, option_to_list};
+ghost use Rattle.std.specs.List.{flat_map, zip};
+ghost use Rattle.bank_core.specs.Slots.{held_in};
 
 use account_store::Accounts;
-use lock_table::KeyTable;
-use sol_base::{Account, Items, OutOfMemory};
+use sol_base::{Account, Items, Key, OutOfMemory};
 use std::alloc::Global;
 use std::sync::Arc;
 use tx_report::Outcome;
@@ -23,33 +16,38 @@ pub struct Sealed {
     pub outcomes: Items<Outcome>,
 }
 
-/// Puts the account of each slot under the key of its number.
-pub(crate) fn put_all(
-    accounts: &mut Accounts,
-    table: &KeyTable,
-    slots: &mut [Option<Arc<Account>>],
+/// Adds the account of a slot beside its key, where it has lamports.
+fn push_held(
+    held: &mut Vec<(Key, Arc<Account>)>,
+    key: Key,
+    slot: Option<Arc<Account>>,
 ) -> Result<(), OutOfMemory>
-    requires long { length slots.old ≡ length table.now }
-    requires distinct { IsDistinct same_key table.now }
-    requires fit { (n : ℕ) → n < length table.now
-        → IsShort (in_slot (account_at slots.old n))
-        × IsSettled (in_slot (account_at slots.old n)) }
-    requires state { IsState accounts.old }
-    requires fresh { (key : KeyValue) → has_key key table.now ≡ true
-        → at accounts.old key ≡ empty_account }
-    requires supply { sum accounts.old + slot_lamports slots.old ≤ 2 ^ 64 - 1 }
-    ensures state { OnOk result (IsState accounts.new) }
-    ensures within { OnOk result ((n : ℕ) → n < length table.now
-        → at accounts.new (numbered_key table.now n) ≡ in_slot (account_at slots.old n)) }
-    ensures others { OnOk result ((key : KeyValue) → has_key key table.now ≡ false
-        → at accounts.new key ≡ at accounts.old key) }
+    ensures { OnOk result (held.new.items ≡ held.old.items ++ held_in ((key, slot) ∷ [])) }
 {
-    for n in 0..table.len() {
-        if let Some(account) = slots[n as usize].take() {
-            accounts.put(table.key(n), account)?;
+    if let Some(account) = slot {
+        if account.lamports > 0 {
+            held.push((key, account))?;
         }
     }
     Ok(())
+}
+
+/// The accounts of slots that have lamports, each beside the key of its number.
+pub(crate) fn held_of(
+    alloc: Global,
+    keys: &[Key],
+    slots: Vec<Option<Arc<Account>>>,
+) -> Result<Vec<(Key, Arc<Account>)>, OutOfMemory>
+    requires { length slots.items ≡ length keys.now }
+    ensures { IfOk result (λ held. held.items ≡ held_in (zip keys.now slots.items)) }
+{
+    let mut held = Vec::new(alloc);
+    let mut at = 0;
+    for slot in slots {
+        push_held(&mut held, keys[at], slot)?;
+        at += 1;
+    }
+    Ok(held)
 }
 
 /// The outcomes that are there.

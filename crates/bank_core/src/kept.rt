@@ -1,5 +1,5 @@
 //! The core: it lends the values of positions, and takes the effects back.
-ghost use Rattle.std.specs.Prelude.{⊤, ◌≡◌, ◌<◌, ◌≤◌, map, Some, None, OnOk, OnErr, IfOk, vec_capacity};
+ghost use Rattle.std.specs.Prelude.{⊤, ◌≡◌, ◌^◌, ◌<◌, ◌≤◌, ◌∷◌, ◌++◌, [], length, map, slice_set, Some, None, OnOk, OnErr, IfOk, vec_capacity};
 ghost use Rattle.account_store.specs.State.{at};
 ghost use Rattle.bank_law.specs.Machine.{Run, held_count, with_event};
 ghost use Rattle.bank_law.specs.Job.{keys};
@@ -80,12 +80,37 @@ impl<W: Work> Drop for Core<W> {
     }
 }
 
+/// Writes the event that ends a lane's loan, and puts the lane's buffer back.
+fn end_loan(
+    buffers: &mut Vec<Vec<Arc<Account>>>,
+    journal: &mut Vec<Event>,
+    event: Event,
+    buffer: Vec<Arc<Account>>,
+)
+    requires lane { event.lane < length buffers.old.items }
+    requires room { length journal.old.items < vec_capacity journal.old }
+    ensures buffers { buffers.new.items ≡ slice_set buffers.old.items event.lane buffer }
+    ensures journal { journal.new.items ≡ journal.old.items ++ event ∷ [] }
+    ensures capacity { vec_capacity journal.old ≤ vec_capacity journal.new }
+{
+    write_at(buffers, event.lane as usize, buffer);
+    push_with_room(journal, event);
+}
+
 impl<W: Work> Core<W> {
     /// The number of lanes.
     pub fn lanes(&self) -> u32
         ensures { result ≡ self.now.lanes }
     {
         self.lanes
+    }
+
+    /// The number of its events.
+    pub fn event_count(&self) -> usize
+        ensures count { result ≡ length self.now.journal.items }
+        ensures few { result < 2 ^ 63 }
+    {
+        self.journal.len()
     }
 
     /// Takes the effects of a loan.
@@ -128,17 +153,14 @@ impl<W: Work> Core<W> {
             effects.written,
         );
         write_at(&mut self.outcomes, position as usize, Some(effects.outcome));
-        write_at(&mut self.buffers, lane as usize, buffer);
         self.graph.finish(position);
         self.held -= 1;
-        push_with_room(
-            &mut self.journal,
-            Event {
-                kind: EventKind::Commit,
-                lane,
-                position,
-            },
-        );
+        let event = Event {
+            kind: EventKind::Commit,
+            lane,
+            position,
+        };
+        end_loan(&mut self.buffers, &mut self.journal, event, buffer);
     }
 
     /// Puts the values of a loan back, so that its position waits again.
@@ -162,17 +184,14 @@ impl<W: Work> Core<W> {
             self.graph.set(position).items(),
             &mut values,
         );
-        write_at(&mut self.buffers, lane as usize, values);
         self.graph.unstart(position);
         self.held -= 1;
-        push_with_room(
-            &mut self.journal,
-            Event {
-                kind: EventKind::Return,
-                lane,
-                position,
-            },
-        );
+        let event = Event {
+            kind: EventKind::Return,
+            lane,
+            position,
+        };
+        end_loan(&mut self.buffers, &mut self.journal, event, values);
     }
 
     /// Lends the least ready position to a lane that holds nothing.
@@ -277,6 +296,7 @@ impl<W: Work> Core<W> {
             table,
             slots,
             rest,
+            alloc,
         };
         Ok((ended, outcomes))
     }

@@ -110,6 +110,7 @@ pub fn number<L: Locked>(alloc: Global, locked: &L) -> Result<Numbered, OutOfMem
     requires room { locks_before (L.job locked.now) (L.job locked.now).count < 2 ^ 32 }
     ensures { IfOk result (λ n. AreNumbered (L.job locked.now) n.table n.graph n.room) }
 {
+    // The contracts of these two tell that the count is small, and that the keys are distinct.
     let _count = locked.count();
     let table = KeyTable::of_keys(alloc, keys_of(alloc, locked)?);
     let _len = table.len();
@@ -161,6 +162,7 @@ fn slots_of(
         → account_at slots.items n ≡ Some (at accounts.old (numbered_key table.now n))) }
     ensures apart { OnOk result (IsApart accounts.old accounts.new table.now) }
 {
+    // Its contract tells that the accounts are a state.
     let _total = accounts.total();
     let all = replace(accounts, Accounts::new(alloc));
     let TakenOut {

@@ -3,7 +3,7 @@ use Rattle.std.proofs.Common.{◌≡◌, ℕ, List, [], ◌∷◌, ◌++◌, Boo
 use Rattle.std.proofs.lemmas.Bool.{eqb-true}
 use mathlib.Core.Logic.{dite}
 use native.Mathlib.Decide.{ℕ_discrete}
-use base.Growing.{prefix_refl, prefix_trans}
+use base.Growing.{prefix_trans}
 use Rattle.bank_law.specs.declared.event.Event.{Event}
 use Rattle.bank_law.specs.declared.event.EventKind.{EventKind}
 use Rattle.bank_law.specs.History.{PassView, own, holds}
@@ -17,10 +17,7 @@ one_of_two : (b c : Bool) (P : Type 0) → (b || c) ≡ true → (b ≡ true →
 one_of_two true c P is f g = f refl
 one_of_two false c P is f g = g is
 
--- no call, one call, and another
-pub keeps_none : (ls : List ℕ) (v : PassView) → KeepsTo ls v ls v
-keeps_none ls v = record { lane = refl; lanes = refl; longer = prefix_refl v.seen; others = λ l one not. refl }
-
+-- one call, and another
 pub keeps_then : (ls ms ns : List ℕ) (u v w : PassView) → KeepsTo ls u ms v → KeepsTo ms v ns w → KeepsTo ls u ns w
 keeps_then ls ms ns u v w one two = record {
   lane = two.lane ∙ one.lane;
@@ -67,9 +64,6 @@ keeps_free ls ms v w keeps own_is free l one was =
 -- one call, and another
 pub free_then : (ls ms ns : List ℕ) (u v w : PassView) → StaysFree ls u ms v → StaysFree ms v ns w → StaysFree ls u ns w
 free_then ls ms ns u v w f g l one was = g l one (λ there. f l there was)
-
-pub all_free : (ls ms : List ℕ) (v w : PassView) → StaysFree ls v ms w → holds w.mine ≡ None → HoldsNothing ls v → HoldsNothing ms w
-all_free ls ms v w f mine nothing = record { mine = mine; all = λ l one. f l one (nothing.all l) }
 
 -- no event of its lanes
 pub free_none : (ls ms : List ℕ) (v w : PassView) → ms ≡ ls → SeesNoneOf ls v w → StaysFree ls v ms w

@@ -1,4 +1,5 @@
 pub mod Sums
 pub mod Owns
 pub mod Moves
+pub mod Turns
 pub mod Ended

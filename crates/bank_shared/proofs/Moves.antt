@@ -1,12 +1,11 @@
 -- Each step keeps the rule of the desk.
-use Rattle.std.proofs.Common.{◌≡◌, ◌≢◌, ℕ, zero, suc, pred, ◌+◌, ◌*◌, ◌%◌, ◌<◌, ◌≤◌, List, [], ◌∷◌, ◌++◌, length, set, Option, Some, None, Bool, true, false, ◌||◌, max, cond, eqb, eq-eqb, ne_eqb, refl, sym, ap, ◌∙◌, subst, ⊎_elim, arith, le_refl, All, IfSome, IfNone, MatchBool, append-nil, append_assoc}
+use Rattle.std.proofs.Common.{◌≡◌, ◌≢◌, ℕ, zero, suc, ◌+◌, ◌-◌, ◌*◌, ◌%◌, ◌<◌, ◌≤◌, List, [], ◌∷◌, ◌++◌, length, set, Option, Some, None, Bool, true, cond, eqb, eq-eqb, ne_eqb, refl, sym, ap, ◌∙◌, subst, ⊎_elim, arith, All, IfSome, IfNone, MatchBool}
 use Rattle.std.specs.Prelude.{slice_index}
-use Rattle.std.specs.List.{AllPass}
+use Rattle.std.specs.List.{range_with_len}
 use Rattle.std.proofs.lemmas.Grind.{flat_map-append}
 use Rattle.std.proofs.lemmas.Option.{IfSome_then}
-use Rattle.std.proofs.lemmas.List.Elements.{filter-append, All-append, All-cons, All-head, All-weaker}
+use Rattle.std.proofs.lemmas.List.Elements.{All-append, All-cons, All-weaker}
 use mathlib.Core.Option.{some, none, some-ne-none, some-injective}
-use mathlib.Core.List.{IsPrefix}
 use mathlib.Core.Logic.{dite}
 use native.Mathlib.Decide.{ℕ_discrete, dec_le}
 use lib.ListN.{get_elem?}
@@ -16,17 +15,14 @@ use Rattle.atomic_table.specs.Table.{State, Me, Step, rest, Act, Valid, step, ke
 use Rattle.atomic_table.proofs.Lists.{at_set, at_snoc, set_again}
 use Rattle.spec_base.specs.Sums.{total}
 use Rattle.bank_law.specs.declared.event.Event.{Event}
-use Rattle.bank_law.proofs.Histories.{own_same, own_none}
-use Rattle.bank_core.proofs.Lanes.{is_one_after}
 use Rattle.bank_shared.specs.declared.view.View.{View}
 use Rattle.bank_shared.specs.declared.view.Part.{Part}
-use Rattle.bank_shared.specs.History.{own, own_of, is_one_of, Covers, GoesOn}
+use Rattle.bank_shared.specs.History.{is_one_of, Covers}
 use Rattle.bank_shared.specs.Rule.{times, part_lanes, lanes_of, stands, first_view, spent_view, new_view, joined_view, Knows, Placed, IsRuled}
-use Rattle.bank_shared.specs.Plays.{holding, done, seated, caught_up, looked, Gets, Taken, took, released, drew}
-use Rattle.bank_shared.specs.Passes.{Adds, Sees, Keeps, Begins, OnlySees, Learns}
+use Rattle.bank_shared.specs.Plays.{holding, done, drawn_since, caught_up, looked, HasTurn, Gets, Taken, took, released}
 use base.Growing.{prefix_refl}
 use Rattle.bank_shared.proofs.Sums.{sum_set, sum_append, term_le, terms_le}
-use Rattle.bank_shared.proofs.Owns.{prefix_more, none_of, one_stands, no_lanes, own_of_all, grows, parts_grow, covered}
+use Rattle.bank_shared.proofs.Owns.{times_before, times_behind, times_in, one_stands, no_lanes, grows, parts_grow}
 
 -- a history covers itself
 whole : (h : List Event) (lanes : List ℕ) → Covers h lanes h
@@ -155,25 +151,31 @@ module _ {C O : Type 0} (origin : C → O) (journal : C → List Event) (drawn :
   slot_is : (c x : C) → ◌≡◌ {A = List (ℕ × Option C)} ((0, Some c) ∷ []) ((0, Some x) ∷ []) → c ≡ x
   slot_is c x e = ap (λ (l : List (ℕ × Option C)). unslot l c) e
 
-  -- kinds 7 and 8: the turn is given up, with some events of the seat's lanes or none
-  pub commits : (slots id new : ℕ) (v : View O) (c : C) (h : List Event) (d : ℕ) → v.turn ≡ Some (h, d) → v.origin ≡ Some o → origin c ≡ o → GoesOn (lanes_of v) h (journal c) → drawn c ≡ d → new ≡ 2 * length (journal c)
+  -- kinds 7 and 8: the turn is given up, with some events of the seat's lanes or none, and the seat
+  -- gets the lanes that were drawn
+  pub releases : (slots id new : ℕ) (v : View O) (c : C) → HasTurn v (journal c) (drawn c) → origin c ≡ o → new ≡ 2 * length (journal c)
       → Allows Rule slots id (v, (0, Some c) ∷ []) 0 (λ _. new) (λ _. released journal drawn (step slots 0 new 0 none) (v, (0, Some c) ∷ []) new)
-  commits slots id new v c h d turn is_desk is_o goes is_d is_new s r len at small =
-      let t = turn_of s r id v (h, d) at turn in
-      let more = goes.more in
-      let old_h : h ≡ r.history = ap (λ (p : List Event × ℕ). p.0) t.1 in
-      let same_h : journal c ≡ r.history ++ more = goes.after_is ∙ ap (λ (l : List Event). l ++ more) old_h in
-      let same_d : r.count ≡ drawn c = ap (λ (p : List Event × ℕ). p.1) (sym t.1) ∙ sym is_d in
+  releases slots id new v c mine is_o is_new s r len at small =
+      let t = turn_of s r id v mine.came at mine.turn in
+      let more = mine.events.more in
+      let theirs = mine.events.theirs in
+      let same_h : journal c ≡ r.history ++ more = mine.events.after_is ∙ ap (λ (p : List Event × ℕ). p.0 ++ more) t.1 in
+      let grown_d : r.count ≤ drawn c = subst (λ (p : List Event × ℕ). p.1 ≤ drawn c) t.1 mine.drawn in
       let p = subst (λ (k : Option ℕ). Put k r.history r.count s.words s.homes) t.0 r.placed in
       let k = r.knows id v at in
       let w = done v (journal c) (drawn c) in
+      let fresh = range_with_len r.count (drawn c - r.count) in
+      let fresh_is : drawn_since v.turn (drawn c) ≡ fresh = ap (λ (x : Option (List Event × ℕ)). drawn_since x (drawn c)) mine.turn ∙ ap (λ (p : List Event × ℕ). range_with_len p.1 (drawn c - p.1)) t.1 in
+      let count : (l : ℕ) → stands l w ≡ times l fresh + stands l v = λ l. ap (λ (x : List ℕ). times l (x ++ lanes_of v)) fresh_is ∙ sum_append (λ x. cond {A = ℕ} (eqb x l) 1 0) fresh (lanes_of v) in
       let below : (e : Event) → is_one_of (lanes_of v) e.lane ≡ true → e.lane < r.count = λ e is. let one = one_stands e.lane (lanes_of v) is in dite (dec_le r.count e.lane) (λ above. let none_yet = r.never e.lane above in absurd (omega (arith, term_le (stands e.lane) s.views id v at))) (λ not. grind (arith, not)) in
-      let drawn_lanes : All (λ e. e.lane < r.count) more = All-weaker (λ (e : Event). is_one_of (lanes_of v) e.lane ≡ true) (λ (e : Event). e.lane < r.count) below more goes.theirs in
+      let drawn_lanes : All (λ e. e.lane < r.count) more = All-weaker (λ (e : Event). is_one_of (lanes_of v) e.lane ≡ true) (λ (e : Event). e.lane < r.count) below more theirs in
+      let later : All (λ e. e.lane < r.count) (journal c) = subst (λ (l : List Event). All (λ e. e.lane < r.count) l) (sym same_h) (All-append (λ (x : Event). x.lane < r.count) r.history more r.later drawn_lanes) in
       let grown : (j : ℕ) (u : View O) → j ≢ id → get_elem? s.views j ≡ some u → Knows o (journal c) (drawn c) u =
       λ j u ne there.
       let q = r.knows j u there in
-      let apart : All (λ e. stands e.lane u ≡ 0) more = All-weaker (λ (e : Event). is_one_of (lanes_of v) e.lane ≡ true) (λ (e : Event). stands e.lane u ≡ 0) (λ e is. let one = one_stands e.lane (lanes_of v) is in let once = r.once e.lane (below e is) in omega (arith, terms_le (stands e.lane) s.views id j v u ne at there)) more goes.theirs in
-      subst (λ (x : List Event × ℕ). Knows o x.0 x.1 u) (λ i. (sym same_h i, same_d i)) (others r.history more r.count u q apart) in (
+      let apart : All (λ e. stands e.lane u ≡ 0) more = All-weaker (λ (e : Event). is_one_of (lanes_of v) e.lane ≡ true) (λ (e : Event). stands e.lane u ≡ 0) (λ e is. let one = one_stands e.lane (lanes_of v) is in let once = r.once e.lane (below e is) in omega (arith, terms_le (stands e.lane) s.views id j v u ne at there)) more theirs in
+      let known = others r.history more r.count u q apart in
+      subst (λ (x : List Event). Knows o x (drawn c) u) (sym same_h) (record { desk = known.desk; mine = known.mine; joined = known.joined; drawn = (let n = known.drawn in omega (arith, n, grown_d)) }) in (
         w,
         gives,
         tt,
@@ -187,56 +189,16 @@ module _ {C O : Type 0} (origin : C → O) (journal : C → List Event) (drawn :
               (λ (m : (j ≢ id) × (get_elem? s.views j ≡ some u)). IfSome_then u.turn (r.turn j u m.1) (λ p q. absurd (m.0 (cc (q.0, t.0)))))
               (at_set s.views id j w u there);
           knows = λ j u there. ⊎_elim
-              (λ (m : (j ≡ id) × (w ≡ u)). subst (Knows o (journal c) (drawn c)) m.1 (record { desk = k.desk; mine = whole (journal c) (lanes_of v); joined = λ i d lt. absurd (omega arith); drawn = omega arith }))
+              (λ (m : (j ≡ id) × (w ≡ u)). subst (Knows o (journal c) (drawn c)) m.1 (record { desk = k.desk; mine = whole (journal c) (drawn_since v.turn (drawn c) ++ lanes_of v); joined = λ i d lt. absurd (omega arith); drawn = omega arith }))
               (λ (m : (j ≢ id) × (get_elem? s.views j ≡ some u)). grown j u m.0 m.1)
               (at_set s.views id j w u there);
-          once = λ l below. let was = r.once l (subst (λ (k : ℕ). l < k) (sym same_d) below) in omega (arith, sum_set (stands l) s.views id v w at);
-          never = λ l above. let was = r.never l (subst (λ (k : ℕ). k ≤ l) (sym same_d) above) in omega (arith, sum_set (stands l) s.views id v w at);
-          later = subst (λ (x : List Event × ℕ). All (λ e. e.lane < x.1) x.0) (λ i. (sym same_h i, same_d i)) (All-append (λ (x : Event). x.lane < r.count) r.history more r.later drawn_lanes);
+          once = λ l under. dite (dec_le r.count l)
+              (λ above. let was = r.never l above in let n = times_in l r.count (drawn c - r.count) above (omega (arith, under, grown_d)) in omega (arith, was, n, count l, sum_set (stands l) s.views id v w at))
+              (λ not. let lower : l < r.count = grind (arith, not) in let was = r.once l lower in let n = times_before l r.count (drawn c - r.count) lower in omega (arith, was, n, count l, sum_set (stands l) s.views id v w at));
+          never = λ l above. let was = r.never l (omega (arith, above, grown_d)) in let n = times_behind l r.count (drawn c - r.count) (omega (arith, above, grown_d)) in omega (arith, was, n, count l, sum_set (stands l) s.views id v w at);
+          later = All-weaker (λ (e : Event). e.lane < r.count) (λ (e : Event). e.lane < drawn c) (λ e lt. omega (arith, lt, grown_d)) (journal c) later;
         },
         λ x is. ap (λ (y : C). (done v (journal y) (drawn y), [])) (slot_is c x is),
-      )
-
-  -- kind 8, where the seat gets its lane
-  pub draws : (slots id new : ℕ) (v : View O) (c : C) (h : List Event) (d : ℕ) → v.turn ≡ Some (h, d) → v.origin ≡ Some o → origin c ≡ o → journal c ≡ h → drawn c ≡ d + 1 → new ≡ 2 * length (journal c)
-      → Allows Rule slots id (v, (0, Some c) ∷ []) 0 (λ _. new) (λ _. drew journal drawn (step slots 0 new 0 none) (v, (0, Some c) ∷ []) new)
-  draws slots id new v c h d turn is_desk is_o is_h is_d is_new s r len at small =
-      let t = turn_of s r id v (h, d) at turn in
-      let same_h : r.history ≡ journal c = ap (λ (p : List Event × ℕ). p.0) (sym t.1) ∙ sym is_h in
-      let same_d : d ≡ r.count = ap (λ (p : List Event × ℕ). p.1) t.1 in
-      let p = subst (λ (k : Option ℕ). Put k r.history r.count s.words s.homes) t.0 r.placed in
-      let k = r.knows id v at in
-      let w = seated v (journal c) (drawn c) in
-      let lane : pred (drawn c) ≡ r.count = omega arith in
-      let later : All (λ e. e.lane < r.count) (journal c) = subst (λ (l : List Event). All (λ e. e.lane < r.count) l) same_h r.later in
-      let count : (l : ℕ) → stands l w ≡ cond (eqb r.count l) 1 0 + stands l v = λ l.
-      ap (λ (x : ℕ). cond {A = ℕ} (eqb x l) 1 0 + stands l v) lane in (
-        w,
-        gives,
-        tt,
-        record {
-          history = journal c;
-          count = drawn c;
-          holder = None;
-          placed = (c, is_o, refl, refl, ap (λ (l : List ℕ). set l 0 new) p.0 ∙ ap (λ (n : ℕ). n ∷ []) is_new, ap (λ (hs : Homes). set hs 0 (some (Some c))) p.1);
-          turn = λ j u there. ⊎_elim
-              (λ (m : (j ≡ id) × (w ≡ u)). subst (λ (x : View O). IfSome x.turn (λ p. (None ≡ Some j) × (p ≡ (journal c, drawn c)))) m.1 tt)
-              (λ (m : (j ≢ id) × (get_elem? s.views j ≡ some u)). IfSome_then u.turn (r.turn j u m.1) (λ p q. absurd (m.0 (cc (q.0, t.0)))))
-              (at_set s.views id j w u there);
-          knows = λ j u there. ⊎_elim
-              (λ (m : (j ≡ id) × (w ≡ u)). subst (Knows o (journal c) (drawn c)) m.1
-              (record { desk = k.desk; mine = whole (journal c) (pred (drawn c) ∷ lanes_of v); joined = λ i d lt. absurd (omega arith); drawn = omega arith }))
-              (λ (m : (j ≢ id) × (get_elem? s.views j ≡ some u)).
-              let q = r.knows j u m.1 in
-              subst (λ (l : List Event). Knows o l (drawn c) u) same_h (record { desk = q.desk; mine = q.mine; joined = q.joined; drawn = (let n = q.drawn in omega arith) }))
-              (at_set s.views id j w u there);
-          once = λ l below. dite (ℕ_discrete r.count l)
-              (λ is. let was = r.never l (omega arith) in let n : cond {A = ℕ} (eqb r.count l) 1 0 ≡ 1 = ap (λ b. cond {A = ℕ} b 1 0) (eq-eqb r.count l is) in omega (arith, count l, sum_set (stands l) s.views id v w at))
-              (λ not. let was = r.once l (omega arith) in let n : cond {A = ℕ} (eqb r.count l) 1 0 ≡ 0 = ap (λ b. cond {A = ℕ} b 1 0) (ne_eqb r.count l not) in omega (arith, count l, sum_set (stands l) s.views id v w at));
-          never = λ l above. let was = r.never l (omega arith) in let n : cond {A = ℕ} (eqb r.count l) 1 0 ≡ 0 = ap (λ b. cond {A = ℕ} b 1 0) (ne_eqb r.count l (λ is. omega arith)) in omega (arith, count l, sum_set (stands l) s.views id v w at);
-          later = All-weaker (λ (e : Event). e.lane < r.count) (λ (e : Event). e.lane < drawn c) (λ e lt. omega arith) (journal c) later;
-        },
-        λ x is. ap (λ (y : C). (seated v (journal y) (drawn y), [])) (slot_is c x is),
       )
 
   -- kind 1
@@ -331,15 +293,10 @@ module _ {C O : Type 0} (origin : C → O) (journal : C → List Event) (drawn :
   takes_at slots id old me x empty is_desk even =
       subst (λ (cs : List (ℕ × Option C)). Allows Rule slots id (me.0, cs) 0 (λ n. either (eqb n old) (old + 1) n) (took origin journal drawn (step slots 0 old (old + 1) x) (me.0, cs))) (sym empty) (takes_or_not slots id old me.0 x is_desk even)
 
-  pub commits_at : (slots id new : ℕ) (me : Me (Option C) (View O)) (c : C) (h : List Event) → me.1 ≡ (0, Some c) ∷ [] → me.0.turn ≡ Some (h, drawn c) → me.0.origin ≡ Some o → origin c ≡ o → GoesOn (lanes_of me.0) h (journal c) → new ≡ 2 * length (journal c)
+  pub releases_at : (slots id new : ℕ) (me : Me (Option C) (View O)) (c : C) → me.1 ≡ (0, Some c) ∷ [] → HasTurn me.0 (journal c) (drawn c) → origin c ≡ o → new ≡ 2 * length (journal c)
       → Allows Rule slots id me 0 (λ _. new) (λ _. released journal drawn (step slots 0 new 0 none) me new)
-  commits_at slots id new me c h slot turn is_desk is_o goes is_new =
-      subst (λ (cs : List (ℕ × Option C)). Allows Rule slots id (me.0, cs) 0 (λ _. new) (λ _. released journal drawn (step slots 0 new 0 none) (me.0, cs) new)) (sym slot) (commits slots id new me.0 c h (drawn c) turn is_desk is_o goes refl is_new)
-
-  pub draws_at : (slots id new : ℕ) (me : Me (Option C) (View O)) (c : C) (d : ℕ) → me.1 ≡ (0, Some c) ∷ [] → me.0.turn ≡ Some (journal c, d) → me.0.origin ≡ Some o → origin c ≡ o → drawn c ≡ d + 1 → new ≡ 2 * length (journal c)
-      → Allows Rule slots id me 0 (λ _. new) (λ _. drew journal drawn (step slots 0 new 0 none) me new)
-  draws_at slots id new me c d slot turn is_desk is_o is_d is_new =
-      subst (λ (cs : List (ℕ × Option C)). Allows Rule slots id (me.0, cs) 0 (λ _. new) (λ _. drew journal drawn (step slots 0 new 0 none) (me.0, cs) new)) (sym slot) (draws slots id new me.0 c (journal c) d turn is_desk is_o refl is_d is_new)
+  releases_at slots id new me c slot mine is_o is_new =
+      subst (λ (cs : List (ℕ × Option C)). Allows Rule slots id (me.0, cs) 0 (λ _. new) (λ _. released journal drawn (step slots 0 new 0 none) (me.0, cs) new)) (sym slot) (releases slots id new me.0 c mine is_o is_new)
 
   -- what a compare-exchange told
   pub hit : (slots old new : ℕ) (me : Me (Option C) (View O)) (n : ℕ) (me' : Me (Option C) (View O)) → n ≡ old → took origin journal drawn (step slots 0 old new none) me n me' → (c : C) × Taken origin journal drawn me.0 c n me'
@@ -357,7 +314,7 @@ module _ {C O : Type 0} (origin : C → O) (journal : C → List Event) (drawn :
 
   -- the turn was taken, and the core taken out
   pub gets_some : (slots old new : ℕ) (me : Me (Option C) (View O)) (n : ℕ) (me' : Me (Option C) (View O)) → me.0.origin ≡ Some o → n ≡ old → took origin journal drawn (step slots 0 old new none) me n me'
-      → (x : Option C) (last : Me (Option C) (View O)) → me'.1 ≡ (0, x) ∷ rest me'.1 → last ≡ (me'.0, (0, None) ∷ rest me'.1) → (P : Type 0) → (IfNone x P) × (IfSome x (λ k. (last ≡ (holding me.0 (journal k) (drawn k), (0, None) ∷ [])) × Gets o (origin k) (journal k) (drawn k) me.0 old))
+      → (x : Option C) (last : Me (Option C) (View O)) → me'.1 ≡ (0, x) ∷ rest me'.1 → last ≡ (me'.0, (0, None) ∷ rest me'.1) → (P : Type 0) → (IfNone x P) × (IfSome x (λ k. (last ≡ (holding me.0 (journal k) (drawn k), (0, None) ∷ [])) × Gets o (origin k) (journal k) (drawn k) me.0))
   gets_some slots old new me n me' is_desk is told x last out then P =
       let t = hit slots old new me n me' is told in
       let c = t.0 in
@@ -365,129 +322,5 @@ module _ {C O : Type 0} (origin : C → O) (journal : C → List Event) (drawn :
       let same : o ≡ origin c = subst (λ (y : Option O). IfSome y (λ p. p ≡ origin c)) is_desk t.1.2.desk in
       let x_is : x ≡ Some c = ap front (sym out ∙ e) in
       let now : last ≡ (holding me.0 (journal c) (drawn c), (0, None) ∷ []) = then ∙ ap (λ (m : Me (Option C) (View O)). (m.0, (0, None) ∷ rest m.1)) t.1.0 in
-      subst (λ (y : Option C). (IfNone y P) × (IfSome y (λ k. (last ≡ (holding me.0 (journal k) (drawn k), (0, None) ∷ [])) × Gets o (origin k) (journal k) (drawn k) me.0 old))) (sym x_is)
-      (tt, (now, record { desk = sym same; word = sym is ∙ t.1.1; knows = subst (λ (p : O). Knows p (journal c) (drawn c) me.0) (sym same) t.1.2; later = t.1.3 }))
-
--- with nothing more
-pub nothing_more : (lanes : List ℕ) (before after : List Event) → after ≡ before → GoesOn lanes before after
-nothing_more lanes before after is = record { more = []; after_is = is ∙ sym (append-nil before); theirs = λ i d lt. absurd (omega arith) }
-
--- events of these lanes
-one_theirs : (lanes : List ℕ) (e : Event) → is_one_of lanes e.lane ≡ true → AllPass (λ x. is_one_of lanes x.lane) (e ∷ [])
-one_theirs lanes e theirs = All-cons (λ (x : Event). is_one_of lanes x.lane ≡ true) e [] theirs (λ i d lt. absurd (omega arith))
-
-two_theirs : (lanes : List ℕ) (e f : Event) → is_one_of lanes e.lane ≡ true → is_one_of lanes f.lane ≡ true → AllPass (λ x. is_one_of lanes x.lane) (e ∷ f ∷ [])
-two_theirs lanes e f first second = All-cons (λ (x : Event). is_one_of lanes x.lane ≡ true) e (f ∷ []) first (one_theirs lanes f second)
-
--- with one event of a lane more, or two
-pub one_more : (lanes : List ℕ) (before after : List Event) (e : Event) → after ≡ before ++ e ∷ [] → is_one_of lanes e.lane ≡ true → GoesOn lanes before after
-one_more lanes before after e is theirs = record { more = e ∷ []; after_is = is; theirs = one_theirs lanes e theirs }
-
-pub two_more : (lanes : List ℕ) (before after : List Event) (e f : Event) → after ≡ before ++ e ∷ f ∷ [] → is_one_of lanes e.lane ≡ true → is_one_of lanes f.lane ≡ true → GoesOn lanes before after
-two_more lanes before after e f is first second = record { more = e ∷ f ∷ []; after_is = is; theirs = two_theirs lanes e f first second }
-
--- the events of these lanes grow by all that is added
-own_of_more : (lanes : List ℕ) (h more : List Event) → AllPass (λ e. is_one_of lanes e.lane) more → own_of (h ++ more) lanes ≡ own_of h lanes ++ more
-own_of_more lanes h more theirs = filter-append (λ (e : Event). is_one_of lanes e.lane) h more ∙ ap (λ l. own_of h lanes ++ l) (own_of_all lanes more theirs)
-
-module _ {O : Type 0} where
-  lanes_are : (v : View O) → v.joined ≡ [] → lanes_of v ≡ v.lanes
-  lanes_are v no_parts = ap (λ (x : List Part). part_lanes x ++ v.lanes) no_parts
-
-  -- some events of one lane of the pass are added
-  adds_some : (o : O) (h new : List Event) (d d' l : ℕ) (es : List Event) (v w : View O) → Knows o h d v → v.joined ≡ [] → is_one_of v.lanes l ≡ true → own (h ++ es) l ≡ own h l ++ es → AllPass (λ e. is_one_of v.lanes e.lane) es → new ≡ h ++ es → w ≡ done (holding v h d) new d' → Adds v l es w
-  adds_some o h new d d' l es v w k no_parts lane mine theirs is last =
-      let seen : w.seen ≡ h ++ es = ap (λ (u : View O). u.seen) last ∙ is in
-      let lanes : w.lanes ≡ v.lanes = ap (λ (u : View O). u.lanes) last ∙ lanes_are v no_parts in
-      record {
-        before = h;
-        seen = seen;
-        longer = k.mine.longer;
-        mine = ap (λ (xs : List Event). own xs l) seen ∙ (mine ∙ ap (λ (xs : List Event). xs ++ es) (covered h v.lanes v.seen l k.mine lane));
-        all = ap (λ (xs : List Event). own_of xs v.lanes) seen ∙ (own_of_more v.lanes h es theirs ∙ ap (λ (xs : List Event). xs ++ es) k.mine.own);
-        lanes = lanes;
-        turn = ap (λ (u : View O). u.turns) last;
-      }
-
-  pub adds : (o : O) (h new : List Event) (d d' : ℕ) (e : Event) (v w : View O) → Knows o h d v → v.joined ≡ [] → is_one_of v.lanes e.lane ≡ true → new ≡ h ++ e ∷ [] → w ≡ done (holding v h d) new d' → Adds v e.lane (e ∷ []) w
-  adds o h new d d' e v w k no_parts lane is last = adds_some o h new d d' e.lane (e ∷ []) v w k no_parts lane (own_same h e e.lane refl) (one_theirs v.lanes e lane) is last
-
-  pub adds_two : (o : O) (h new : List Event) (d d' l : ℕ) (e f : Event) (v w : View O) → e.lane ≡ l → f.lane ≡ l → Knows o h d v → v.joined ≡ [] → is_one_of v.lanes l ≡ true → new ≡ h ++ e ∷ f ∷ [] → w ≡ done (holding v h d) new d' → Adds v l (e ∷ f ∷ []) w
-  adds_two o h new d d' l e f v w e_is f_is k no_parts lane is last =
-      let split : h ++ e ∷ f ∷ [] ≡ (h ++ e ∷ []) ++ f ∷ [] = sym (append_assoc h (e ∷ []) (f ∷ [])) in
-      let mine : own (h ++ e ∷ f ∷ []) l ≡ own h l ++ e ∷ f ∷ [] = ap (λ (xs : List Event). own xs l) split ∙ (own_same (h ++ e ∷ []) f l f_is ∙ (ap (λ (xs : List Event). xs ++ f ∷ []) (own_same h e l e_is) ∙ append_assoc (own h l) (e ∷ []) (f ∷ []))) in
-      adds_some o h new d d' l (e ∷ f ∷ []) v w k no_parts lane mine
-      (two_theirs v.lanes e f (ap (is_one_of v.lanes) e_is ∙ lane) (ap (is_one_of v.lanes) f_is ∙ lane)) is last
-
-  pub sees : (o : O) (h new : List Event) (d d' l : ℕ) (v w : View O) → Knows o h d v → v.joined ≡ [] → is_one_of v.lanes l ≡ true → new ≡ h → w ≡ done (holding v h d) new d' → Sees v l w
-  sees o h new d d' l v w k no_parts lane is last =
-      let seen : w.seen ≡ h = ap (λ (u : View O). u.seen) last ∙ is in
-      let lanes : w.lanes ≡ v.lanes = ap (λ (u : View O). u.lanes) last ∙ lanes_are v no_parts in
-      record {
-        longer = subst (IsPrefix v.seen) (sym seen) k.mine.longer;
-        mine = ap (λ (es : List Event). own es l) seen ∙ covered h v.lanes v.seen l k.mine lane;
-        all = ap (λ (es : List Event). own_of es v.lanes) seen ∙ k.mine.own;
-        lanes = lanes;
-        turn = ap (λ (u : View O). u.turns) last;
-      }
-
-  pub kept : (o : O) (h new more : List Event) (d d' : ℕ) (v w : View O) → Knows o h d v → new ≡ h ++ more → d ≤ d' → w ≡ done (holding v h d) new d' → Keeps v w
-  kept o h new more d d' v w k is grows last = record {
-    origin = ap (λ (u : View O). u.origin) last;
-    longer = subst (IsPrefix v.seen) (sym (ap (λ (u : View O). u.seen) last ∙ is)) (prefix_more v.seen h more k.mine.longer);
-    drawn = (let n = k.drawn in let m : w.drawn ≡ d' = ap (λ (u : View O). u.drawn) last in omega arith);
-  }
-
-  pub begins : (o : O) (v w : View O) (h : List Event) (d : ℕ) → Knows o h d (new_view v) → All (λ e. e.lane < d) h → w ≡ seated (holding (new_view v) h d) h (d + 1) → Begins v d w × (w.turn ≡ None) × (w.origin ≡ v.origin) × (w.joined ≡ []) × (is_one_of w.lanes d ≡ true)
-  begins o v w h d k later is =
-      let lane : pred (d + 1) ≡ d = omega arith in
-      let lanes : w.lanes ≡ d ∷ [] = ap (λ (u : View O). u.lanes) is ∙ ap (λ (x : ℕ). x ∷ []) lane in (
-        record {
-          above = k.drawn;
-          lanes = lanes;
-          mine = ap (λ (u : View O). own u.seen d) is ∙ own_none d h d later (le_refl d);
-          drawn = ap (λ (u : View O). u.drawn) is;
-          longer = subst (IsPrefix v.seen) (sym (ap (λ (u : View O). u.seen) is)) k.mine.longer;
-          turns = ap (λ (u : View O). u.turns) is;
-        },
-        ap (λ (u : View O). u.turn) is,
-        ap (λ (u : View O). u.origin) is,
-        ap (λ (u : View O). u.joined) is,
-        ap (λ (x : List ℕ). is_one_of x d) lanes ∙ ap (λ (b : Bool). b || false) (eq-eqb d d refl),
-      )
-
-  -- a pass that took in another and looked
-  pub folds : (h : List Event) (l : ℕ) (v other w : View O) → v.joined ≡ [] → other.joined ≡ [] → is_one_of v.lanes l ≡ true → w ≡ caught_up (joined_view v other) h → Covers h v.lanes v.seen → All (λ part. Covers h part.lanes part.seen) (joined_view v other).joined → ((k : ℕ) → stands k (joined_view v other) ≤ 1)
-      → OnlySees v l w × Learns v other w × (w.joined ≡ []) × (is_one_of w.lanes l ≡ true)
-  folds h l v other w no_parts no_parts_too lane last mine all once =
-      let seen : w.seen ≡ h = ap (λ (u : View O). u.seen) last in
-      let theirs : Covers h other.lanes other.seen = All-head (λ (x : Part). Covers h x.lanes x.seen) (record { lanes = other.lanes; seen = other.seen }) (other.joined ++ v.joined) all in
-      let lanes : w.lanes ≡ other.lanes ++ v.lanes = ap (λ (u : View O). u.lanes) last ∙ (ap (λ (x : List Part). (other.lanes ++ part_lanes x) ++ v.lanes) (λ i. no_parts_too i ++ no_parts i) ∙ ap (λ (x : List ℕ). x ++ v.lanes) (append-nil other.lanes)) in (
-        record {
-          keeps = record { origin = ap (λ (u : View O). u.origin) last; longer = subst (IsPrefix v.seen) (sym seen) mine.longer; drawn = (let m : w.drawn ≡ max v.drawn other.drawn = ap (λ (u : View O). u.drawn) last in omega arith) };
-          mine = ap (λ (es : List Event). own es l) seen ∙ covered h v.lanes v.seen l mine lane;
-          all = ap (λ (es : List Event). own_of es v.lanes) seen ∙ mine.own;
-          turns = ap (λ (u : View O). u.turns) last;
-        },
-        record {
-          seen = subst (IsPrefix other.seen) (sym seen) theirs.longer;
-          lanes = lanes;
-          apart = λ k is. none_of k v.lanes (let one = one_stands k other.lanes is in let n = once k in let f : ℕ → ℕ = λ x. cond {A = ℕ} (eqb x k) 1 0 in let rest = part_lanes (other.joined ++ v.joined) in omega (arith, one, n, sum_append f (other.lanes ++ rest) v.lanes, sum_append f other.lanes rest));
-          all = ap (λ (es : List Event). own_of es other.lanes) seen ∙ theirs.own;
-          drawn = ap (λ (u : View O). u.drawn) last;
-        },
-        ap (λ (u : View O). u.joined) last,
-        ap (λ (x : List ℕ). is_one_of x l) lanes ∙ is_one_after l other.lanes v.lanes lane,
-      )
-
-  -- the same, as the calls tell it
-  pub folds_at : {S : Type 0} (l : ℕ) (v other m : View O) (cs : List (ℕ × S)) (last : Me S (View O)) → v.joined ≡ [] → other.joined ≡ [] → is_one_of v.lanes l ≡ true → m ≡ joined_view v other
-      → (h : List Event) × (last ≡ (caught_up m h, cs)) × Covers h m.lanes m.seen × All (λ part. Covers h part.lanes part.seen) m.joined × ((k : ℕ) → stands k m ≤ 1)
-      → OnlySees v l last.0 × Learns v other last.0 × (last.0.joined ≡ []) × (is_one_of last.0.lanes l ≡ true)
-  folds_at l v other m cs last no_parts no_parts_too lane is told =
-      folds told.0 l v other last.0 no_parts no_parts_too lane (ap (λ (x : Me _ (View O)). x.0) told.1 ∙ ap (λ (x : View O). caught_up x told.0) is)
-      (subst (λ (x : View O). Covers told.0 x.lanes x.seen) is told.2) (subst (λ (x : View O). All (λ part. Covers told.0 part.lanes part.seen) x.joined) is told.3) (subst (λ (x : View O). (k : ℕ) → stands k x ≤ 1) is told.4)
-
--- what a pass knows of a lane's events is all that the history has of it
-pub mine_is : {O : Type 0} (o : O) (h : List Event) (d l : ℕ) (v : View O) → Knows o h d v → is_one_of v.lanes l ≡ true → own h l ≡ own v.seen l
-mine_is o h d l v k lane = covered h v.lanes v.seen l k.mine lane
+      subst (λ (y : Option C). (IfNone y P) × (IfSome y (λ k. (last ≡ (holding me.0 (journal k) (drawn k), (0, None) ∷ [])) × Gets o (origin k) (journal k) (drawn k) me.0))) (sym x_is)
+      (tt, (now, record { desk = sym same; knows = subst (λ (p : O). Knows p (journal c) (drawn c) me.0) (sym same) t.1.2; later = t.1.3 }))

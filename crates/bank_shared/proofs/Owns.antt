@@ -1,9 +1,11 @@
 -- The events of some lanes, as the history grows.
-use Rattle.std.proofs.Common.{◌≡◌, ℕ, ◌+◌, ◌≤◌, List, [], ◌∷◌, ◌++◌, Bool, true, false, ◌||◌, cond, eqb, refl, ap, ◌∙◌, arith, All, append-nil}
-use Rattle.std.specs.List.{AllPass}
+use Rattle.std.proofs.Common.{◌≡◌, ℕ, zero, suc, ◌+◌, ◌<◌, ◌≤◌, List, [], ◌∷◌, ◌++◌, Bool, true, false, ◌||◌, cond, eqb, eq-eqb, ne_eqb, refl, ap, ◌∙◌, arith, All, append-nil}
+use Rattle.std.specs.List.{AllPass, range_with_len}
 use Rattle.std.proofs.lemmas.Bool.{cond-true, cond-false}
 use Rattle.std.proofs.lemmas.List.Elements.{filter-append, All-cons, All-head, All-tail, All-weaker}
 use mathlib.Core.List.{IsPrefix}
+use mathlib.Core.Logic.{dite}
+use native.Mathlib.Decide.{ℕ_discrete}
 use base.Growing.{prefix_trans}
 use Rattle.bank_law.specs.declared.event.Event.{Event}
 use Rattle.bank_core.proofs.Lanes.{same_own}
@@ -32,6 +34,21 @@ none_of l (k ∷ ks) z = none_step (eqb k l) (is_one_of ks l) (times l ks) z (no
 pub one_stands : (l : ℕ) (lanes : List ℕ) → is_one_of lanes l ≡ true → 1 ≤ times l lanes
 one_stands l [] is = absurd (cc is)
 one_stands l (k ∷ ks) is = some_step (eqb k l) (is_one_of ks l) (times l ks) is (one_stands l ks)
+
+-- how often a lane stands among some in a row
+pub times_before : (l a n : ℕ) → l < a → times l (range_with_len a n) ≡ 0
+times_before l a zero less = refl
+times_before l a (suc n) less = omega (arith, ap (λ b. cond {A = ℕ} b 1 0) (ne_eqb a l (λ is. omega (arith, is, less))), times_before l (a + 1) n (omega (arith, less)))
+
+pub times_behind : (l a n : ℕ) → a + n ≤ l → times l (range_with_len a n) ≡ 0
+times_behind l a zero past = refl
+times_behind l a (suc n) past = omega (arith, ap (λ b. cond {A = ℕ} b 1 0) (ne_eqb a l (λ is. omega (arith, is, past))), times_behind l (a + 1) n (omega (arith, past)))
+
+pub times_in : (l a n : ℕ) → a ≤ l → l < a + n → times l (range_with_len a n) ≡ 1
+times_in l a zero from below = absurd (omega (arith, from, below))
+times_in l a (suc n) from below = dite (ℕ_discrete a l)
+    (λ is. omega (arith, ap (λ b. cond {A = ℕ} b 1 0) (eq-eqb a l is), times_before l (a + 1) n (omega (arith, is))))
+    (λ not. omega (arith, ap (λ b. cond {A = ℕ} b 1 0) (ne_eqb a l not), times_in l (a + 1) n (omega (arith, not, from)) (omega (arith, below))))
 
 -- no lanes have no events
 pub no_lanes : (h : List Event) → own_of h [] ≡ []

@@ -1,5 +1,5 @@
 -- What callers state of a desk, its passes and its readers.
-use Rattle.std.specs.Prelude.{◌≡◌, ℕ, List, [], ◌∷◌, Some}
+use Rattle.std.specs.Prelude.{◌≡◌, ℕ, List, [], Some}
 use Rattle.bank_law.specs.declared.event.Event.{Event}
 use Rattle.bank_law.specs.History.{PassView, own}
 use Rattle.bank_core.specs.declared.origin.Origin.{Origin}

@@ -1,15 +1,16 @@
 -- What each step tells its seat.
-use Rattle.std.specs.Prelude.{◌≡◌, ℕ, ◌*◌, ◌<◌, ◌≤◌, pred, suc, List, [], ◌∷◌, length, ◌==◌, All, Option, Some, None, MatchBool}
+use Rattle.std.specs.Prelude.{◌≡◌, ℕ, ◌-◌, ◌*◌, ◌<◌, ◌≤◌, suc, List, [], ◌∷◌, ◌++◌, length, ◌==◌, All, Option, Some, None, MatchBool}
+use Rattle.std.specs.List.{range_with_len}
 use Rattle.atomic_table.specs.Table.{Me, Step}
 use Rattle.bank_law.specs.declared.event.Event.{Event}
 use Rattle.bank_shared.specs.declared.view.View.{View}
-use Rattle.bank_shared.specs.History.{Covers}
+use Rattle.bank_shared.specs.History.{Covers, GoesOn}
 use Rattle.bank_shared.specs.Rule.{Knows, lanes_of, stands}
 
--- the history that came with the turn
-abbrev pub had : Option (List Event × ℕ) → List Event
-had None = []
-had (Some p) = p.0
+-- the lanes that were drawn under the turn, once d are drawn
+abbrev pub drawn_since : Option (List Event × ℕ) → ℕ → List ℕ
+drawn_since None d = []
+drawn_since (Some p) d = range_with_len p.1 (d - p.1)
 
 module _ {O : Type 0} where
   -- a seat that has the turn
@@ -25,25 +26,12 @@ module _ {O : Type 0} where
         turn = Some (h, d);
       }
 
-  -- a seat that has given it up
+  -- a seat that has given it up, with the lanes that were drawn under it
   abbrev pub done : View O → List Event → ℕ → View O
   done v h d =
       record {
         origin = v.origin;
-        lanes = lanes_of v;
-        seen = h;
-        joined = [];
-        drawn = d;
-        turns = v.turns;
-        turn = None;
-      }
-
-  -- a seat that has drawn the last of d lanes
-  abbrev pub seated : View O → List Event → ℕ → View O
-  seated v h d =
-      record {
-        origin = v.origin;
-        lanes = pred d ∷ lanes_of v;
+        lanes = drawn_since v.turn d ++ lanes_of v;
         seen = h;
         joined = [];
         drawn = d;
@@ -69,10 +57,17 @@ module _ {O : Type 0} where
       (h : List Event) × (m' ≡ (caught_up m.0 h, m.1)) × Covers h m.0.lanes m.0.seen
       × All (λ part. Covers h part.lanes part.seen) m.0.joined × ((l : ℕ) → stands l m.0 ≤ 1)
 
-  -- what stands in the slot when the turn is taken from a word
-  pub record Gets (o p : O) (h : List Event) (d : ℕ) (v : View O) (n : ℕ) : Type 0 where
+  -- a seat that has the turn, after which the history goes on by events of its lanes alone, and no
+  -- fewer lanes are drawn
+  pub record HasTurn (v : View O) (after : List Event) (d : ℕ) : Type 0 where
+    pub came : List Event × ℕ
+    pub turn : v.turn ≡ Some came
+    pub events : GoesOn (lanes_of v) came.0 after
+    pub drawn : came.1 ≤ d
+
+  -- what stands in the slot when the turn is taken
+  pub record Gets (o p : O) (h : List Event) (d : ℕ) (v : View O) : Type 0 where
     pub desk : p ≡ o
-    pub word : n ≡ 2 * length h
     pub knows : Knows o h d v
     pub later : All (λ e. e.lane < d) h
 
@@ -91,6 +86,3 @@ module _ {O : Type 0} where
         → Type 0
     released s m n m' =
         (c : C) → (m.1 ≡ (0, Some c) ∷ []) → m' ≡ (done m.0 (journal c) (drawn c), [])
-
-    abbrev pub drew : Step (Option C) → Me (Option C) (View O) → ℕ → Me (Option C) (View O) → Type 0
-    drew s m n m' = (c : C) → (m.1 ≡ (0, Some c) ∷ []) → m' ≡ (seated m.0 (journal c) (drawn c), [])

@@ -44,25 +44,10 @@ impl<W: Work> SharedDesk<W> {
             (before_last pass.new.seat.me.0.seen) loan.position) (λ held. ⊤) ⊤ ⊤ }
     {
         let lane = pass.lane;
-        let (word, mut kept) = self.take_turn(rt, &mut pass.seat);
-        match kept.core.take(lane) {
-            Take::Loan(loan) => {
-                self.release_more(&mut pass.seat, word + 2, kept);
-                Take::Loan(loan)
-            }
-            Take::NotNow { held } => {
-                self.release(&mut pass.seat, word, kept);
-                Take::NotNow { held }
-            }
-            Take::Finished => {
-                self.release(&mut pass.seat, word, kept);
-                Take::Finished
-            }
-            Take::OutOfMemory => {
-                self.release(&mut pass.seat, word, kept);
-                Take::OutOfMemory
-            }
-        }
+        let mut kept = self.take_turn(rt, &mut pass.seat);
+        let take = kept.core.take(lane);
+        self.release(&mut pass.seat, kept);
+        take
     }
 
     /// Takes the effects of the pass's loan.
@@ -91,9 +76,9 @@ impl<W: Work> SharedDesk<W> {
             pass.new.seat.me.0 }
     {
         let spent = loan.spend();
-        let (word, mut kept) = self.take_turn(rt, &mut pass.seat);
+        let mut kept = self.take_turn(rt, &mut pass.seat);
         kept.core.commit_spent(spent, effects);
-        self.release_more(&mut pass.seat, word + 2, kept);
+        self.release(&mut pass.seat, kept);
     }
 
     /// Puts the values of the pass's loan back.
@@ -113,9 +98,9 @@ impl<W: Work> SharedDesk<W> {
             (record { kind = Return; lane = pass.old.lane; position = loan.position } ∷ [])
             pass.new.seat.me.0 }
     {
-        let (word, mut kept) = self.take_turn(rt, &mut pass.seat);
+        let mut kept = self.take_turn(rt, &mut pass.seat);
         kept.core.give_back(loan);
-        self.release_more(&mut pass.seat, word + 2, kept);
+        self.release(&mut pass.seat, kept);
     }
 
     /// A new pass, with a lane of its own.
@@ -134,14 +119,14 @@ impl<W: Work> SharedDesk<W> {
             (pass.new.seat.me.0.drawn ≡ self.now.table.shared.key.value.lanes) }
     {
         let mut seat = self.table.shared.split_seat::<Parts>(&mut pass.seat);
-        let (word, mut kept) = self.take_turn(rt, &mut seat);
+        let mut kept = self.take_turn(rt, &mut seat);
         let lane = kept.drawn;
         if lane < kept.core.lanes() {
             kept.drawn = lane + 1;
-            self.draw(&mut seat, word, kept, lane);
+            self.release(&mut seat, kept);
             Split::Made(Pass { seat, lane })
         } else {
-            self.release(&mut seat, word, kept);
+            self.release(&mut seat, kept);
             self.fold(pass, seat);
             Split::AllMade
         }

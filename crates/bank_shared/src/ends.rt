@@ -27,6 +27,7 @@ impl<W: Work> SharedDesk<W> {
     {
         let about = origin_of(&core);
         let mut slots = Vec::new(alloc);
+        let core = Box::new(alloc, core)?;
         slots.push(Some(Kept { core, drawn: 1 }))?;
         let Ok((table, seat)) = Table::new(alloc, &[0], slots, &about) else {
             return Err(OutOfMemory);
@@ -50,8 +51,7 @@ impl<W: Work> SharedDesk<W> {
             → result.journal.items ≡ (view_of pass).seen }
     {
         let Pass { mut seat, lane: _ } = pass;
-        let (_, kept) = self.take_turn(rt, &mut seat);
-        let Kept { core, drawn: _ } = kept;
-        core
+        let Kept { core, drawn: _ } = self.take_turn(rt, &mut seat);
+        Box::into_inner(core)
     }
 }

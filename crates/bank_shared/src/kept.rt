@@ -10,12 +10,13 @@ pub struct DeskOrigin<T> {
     pub lanes: u32,
 }
 
-/// What stands in the slot: the core, and how many lanes are drawn.
+/// What stands in the slot: the core, and how many lanes are drawn. The core is boxed, so that a
+/// turn moves a pointer.
 #[derive(Drop)]
 pub struct Kept<W: Work> {
-    pub core: Core<W>,
+    pub core: Box<Core<W>>,
     pub drawn: u32,
-    ghost below: { drawn ≤ core.lanes },
+    ghost below: { drawn ≤ core.value.lanes },
 }
 
 /// What the desk of a core tells.

@@ -17,5 +17,5 @@ mod waiting;
 
 pub use desk::{Pass, Reader, SharedDesk};
 pub use kept::{DeskOrigin, Kept};
-pub use rule::{Draws, Folds, Looks, Parts, Releases, Takes, TurnRule};
+pub use rule::{Folds, Looks, Parts, Releases, Takes, TurnRule};
 pub use view::{Part, View};

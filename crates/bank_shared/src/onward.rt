@@ -61,25 +61,11 @@ impl<W: Work> SharedDesk<W> {
     {
         let lane = pass.lane;
         let spent = loan.spend();
-        let (word, mut kept) = self.take_turn(rt, &mut pass.seat);
-        kept.core.commit_spent(spent, effects);
-        match kept.core.take(lane) {
-            Take::Loan(next) => {
-                self.release_more(&mut pass.seat, word + 4, kept);
-                Take::Loan(next)
-            }
-            Take::NotNow { held } => {
-                self.release_more(&mut pass.seat, word + 2, kept);
-                Take::NotNow { held }
-            }
-            Take::Finished => {
-                self.release_more(&mut pass.seat, word + 2, kept);
-                Take::Finished
-            }
-            Take::OutOfMemory => {
-                self.release_more(&mut pass.seat, word + 2, kept);
-                Take::OutOfMemory
-            }
-        }
+        let mut kept = self.take_turn(rt, &mut pass.seat);
+        let core = kept.core.as_mut();
+        core.commit_spent(spent, effects);
+        let next = core.take(lane);
+        self.release(&mut pass.seat, kept);
+        next
     }
 }

@@ -47,9 +47,9 @@ impl<W: Work> SharedDesk<W> {
         ensures serial { IfOk result (λ told. told
             ≡ take (length told) (drop from (outcomes_at_end W.job (desk_origin self.now)))) }
     {
-        let (word, kept) = self.take_turn(rt, &mut reader.seat);
+        let kept = self.take_turn(rt, &mut reader.seat);
         let told = kept.core.outcomes_from(from, most);
-        self.release(&mut reader.seat, word, kept);
+        self.release(&mut reader.seat, kept);
         told
     }
 }

@@ -13,11 +13,10 @@ pub struct TurnRule<W> {
 
 impl<W: Work> TableRule<Option<Kept<W>>, View<DeskOrigin<W::Told>>, Note<DeskOrigin<W::Told>>>
     for TurnRule<W> {
+    ghost use Rattle.bank_shared.specs.Kept.{told_of, journal_of};
     ghost use Rattle.bank_shared.specs.Rule.{IsRuled, first_view};
 
-    ghost holds = { λ note s. IsRuled
-        (λ kept. (record { origin = kept.core.origin.value; lanes = kept.core.lanes }))
-        (λ kept. kept.core.journal.items) (λ kept. kept.drawn) note.value s };
+    ghost holds = { λ note s. IsRuled told_of journal_of (λ kept. kept.drawn) note.value s };
 
     ghost first = { λ note. first_view note.value };
 }
@@ -28,10 +27,10 @@ pub struct Takes<W> {
 }
 
 impl<W: Work> Play<Option<Kept<W>>, View<DeskOrigin<W::Told>>> for Takes<W> {
+    ghost use Rattle.bank_shared.specs.Kept.{told_of, journal_of};
     ghost use Rattle.bank_shared.specs.Plays.{took};
 
-    ghost then = { took (λ kept. (record { origin = kept.core.origin.value; lanes = kept.core.lanes }))
-        (λ kept. kept.core.journal.items) (λ kept. kept.drawn) };
+    ghost then = { took told_of journal_of (λ kept. kept.drawn) };
 }
 
 /// Kind 3: a look, by which more may be seen.
@@ -45,26 +44,17 @@ impl<W: Work> Play<Option<Kept<W>>, View<DeskOrigin<W::Told>>> for Looks<W> {
     ghost then = { looked };
 }
 
-/// Kinds 7 and 8: the turn is given up, with some events of the seat's lanes or none.
+/// Kinds 7 and 8: the turn is given up, with some events of the seat's lanes or none, and the seat
+/// gets the lanes that were drawn.
 pub struct Releases<W> {
     of: PhantomData<W>,
 }
 
 impl<W: Work> Play<Option<Kept<W>>, View<DeskOrigin<W::Told>>> for Releases<W> {
+    ghost use Rattle.bank_shared.specs.Kept.{journal_of};
     ghost use Rattle.bank_shared.specs.Plays.{released};
 
-    ghost then = { released (λ kept. kept.core.journal.items) (λ kept. kept.drawn) };
-}
-
-/// Kind 8, where the seat gets a lane.
-pub struct Draws<W> {
-    of: PhantomData<W>,
-}
-
-impl<W: Work> Play<Option<Kept<W>>, View<DeskOrigin<W::Told>>> for Draws<W> {
-    ghost use Rattle.bank_shared.specs.Plays.{drew};
-
-    ghost then = { drew (λ kept. kept.core.journal.items) (λ kept. kept.drawn) };
+    ghost then = { released journal_of (λ kept. kept.drawn) };
 }
 
 /// Kind 1: a seat is split.

@@ -1,13 +1,12 @@
 //! The turn: how it is taken with the core, and given up.
-ghost use Rattle.std.specs.Prelude.{◌≡◌, ◌+◌, ◌*◌, ◌<◌, ◌%◌, ◌^◌, ◌-◌, [], ◌∷◌, length, Some, None, IfSome, IfNone};
-ghost use Rattle.bank_shared.specs.History.{GoesOn};
-ghost use Rattle.bank_shared.specs.Rule.{lanes_of};
-ghost use Rattle.bank_shared.specs.Plays.{holding, done, seated, Gets, had};
+ghost use Rattle.std.specs.Prelude.{◌≡◌, ◌%◌, [], ◌∷◌, Some, None, IfSome, IfNone};
+ghost use Rattle.bank_shared.specs.Kept.{told_of, journal_of};
+ghost use Rattle.bank_shared.specs.Plays.{holding, done, HasTurn, Gets};
 ghost use Rattle.bank_shared.specs.Passes.{OnlySees, Learns};
 
 use crate::desk::{Pass, SharedDesk};
 use crate::kept::{DeskOrigin, Kept};
-use crate::rule::{Draws, Folds, Looks, Releases, Takes};
+use crate::rule::{Folds, Looks, Releases, Takes};
 use crate::view::View;
 use atomic_table::Seat;
 use bank_core::{Offer, Work};
@@ -27,15 +26,13 @@ impl<W: Work> SharedDesk<W> {
         requires table { seat.old.table_id ≡ self.now.table.shared.table_id }
         requires desk { seat.old.me.0.origin ≡ Some self.now.table.shared.key.value }
         requires empty { seat.old.me.1 ≡ [] }
-        requires word { (word % 2 ≡ 0) × (word < 2 ^ 64 - 4) }
+        requires word { word % 2 ≡ 0 }
         ensures table { seat.new.table_id ≡ seat.old.table_id }
         ensures none { IfNone result (seat.new.me ≡ seat.old.me) }
         ensures some { IfSome result (λ kept.
-            (seat.new.me
-            ≡ (holding seat.old.me.0 kept.core.journal.items kept.drawn, (0, None) ∷ []))
-            × Gets self.now.table.shared.key.value
-            (record { origin = kept.core.origin.value; lanes = kept.core.lanes })
-            kept.core.journal.items kept.drawn seat.old.me.0 word) }
+            (seat.new.me ≡ (holding seat.old.me.0 (journal_of kept) kept.drawn, (0, None) ∷ []))
+            × Gets self.now.table.shared.key.value (told_of kept) (journal_of kept) kept.drawn
+            seat.old.me.0) }
     {
         let found = self
             .table
@@ -53,24 +50,22 @@ impl<W: Work> SharedDesk<W> {
         &self,
         rt: &R,
         seat: &mut Seat<Option<Kept<W>>, View<DeskOrigin<W::Told>>>,
-    ) -> (u64, Kept<W>)
+    ) -> Kept<W>
         requires table { seat.old.table_id ≡ self.now.table.shared.table_id }
         requires desk { seat.old.me.0.origin ≡ Some self.now.table.shared.key.value }
         requires empty { seat.old.me.1 ≡ [] }
         ensures table { seat.new.table_id ≡ seat.old.table_id }
         ensures me { seat.new.me
-            ≡ (holding seat.old.me.0 result.1.core.journal.items result.1.drawn, (0, None) ∷ []) }
-        ensures word { result.0 + 4 < 2 ^ 64 }
-        ensures gets { Gets self.now.table.shared.key.value
-            (record { origin = result.1.core.origin.value; lanes = result.1.core.lanes })
-            result.1.core.journal.items result.1.drawn seat.old.me.0 result.0 }
+            ≡ (holding seat.old.me.0 (journal_of result) result.drawn, (0, None) ∷ []) }
+        ensures gets { Gets self.now.table.shared.key.value (told_of result) (journal_of result)
+            result.drawn seat.old.me.0 }
     {
         let mut spins = 0;
         for _ in rt.forever() {
             let word = self.table.shared.peek(0);
-            if word % 2 == 0 && word < u64::MAX - 4 {
+            if word % 2 == 0 {
                 if let Some(kept) = self.try_turn(seat, word) {
-                    return (word, kept);
+                    return kept;
                 }
             } else if spins < SPINS {
                 spins += 1;
@@ -84,77 +79,25 @@ impl<W: Work> SharedDesk<W> {
         unreachable!()
     }
 
-    /// Gives the turn up, with no event.
+    /// Gives the turn up, with what the core's journal has more than it had, events of the seat's
+    /// lanes alone, and with the lanes that were drawn, which the seat gets.
     pub(crate) fn release(
         &self,
         seat: &mut Seat<Option<Kept<W>>, View<DeskOrigin<W::Told>>>,
-        word: u64,
         kept: Kept<W>,
     )
         requires table { seat.old.table_id ≡ self.now.table.shared.table_id }
-        requires desk { (seat.old.me.0.origin ≡ Some self.now.table.shared.key.value)
-            × ((record { origin = kept.core.origin.value; lanes = kept.core.lanes })
-            ≡ self.now.table.shared.key.value) }
+        requires desk { told_of kept ≡ self.now.table.shared.key.value }
         requires slot { seat.old.me.1 ≡ (0, None) ∷ [] }
-        requires turn { seat.old.me.0.turn ≡ Some (kept.core.journal.items, kept.drawn) }
-        requires word { word ≡ 2 * length kept.core.journal.items }
+        requires turn { HasTurn seat.old.me.0 (journal_of kept) kept.drawn }
         ensures table { seat.new.table_id ≡ seat.old.table_id }
-        ensures me { seat.new.me ≡ (done seat.old.me.0 kept.core.journal.items kept.drawn, []) }
+        ensures me { seat.new.me ≡ (done seat.old.me.0 (journal_of kept) kept.drawn, []) }
     {
-        self.release_more(seat, word, kept);
-    }
-
-    /// Gives the turn up, with what the core's journal has more than it had: events of the seat's
-    /// lanes alone.
-    pub(crate) fn release_more(
-        &self,
-        seat: &mut Seat<Option<Kept<W>>, View<DeskOrigin<W::Told>>>,
-        word: u64,
-        kept: Kept<W>,
-    )
-        requires table { seat.old.table_id ≡ self.now.table.shared.table_id }
-        requires desk { (seat.old.me.0.origin ≡ Some self.now.table.shared.key.value)
-            × ((record { origin = kept.core.origin.value; lanes = kept.core.lanes })
-            ≡ self.now.table.shared.key.value) }
-        requires slot { seat.old.me.1 ≡ (0, None) ∷ [] }
-        requires turn { seat.old.me.0.turn ≡ Some (had seat.old.me.0.turn, kept.drawn) }
-        requires events { GoesOn (lanes_of seat.old.me.0) (had seat.old.me.0.turn)
-            kept.core.journal.items }
-        requires word { word ≡ 2 * length kept.core.journal.items }
-        ensures table { seat.new.table_id ≡ seat.old.table_id }
-        ensures me { seat.new.me ≡ (done seat.old.me.0 kept.core.journal.items kept.drawn, []) }
-    {
+        let word = 2 * kept.core.event_count() as u64;
         let offer = kept.core.offer();
         self.waiting.show(offer);
         self.table.shared.exchange(seat, 0, Some(kept));
         self.table.shared.store::<Releases<W>>(seat, 0, word);
-        self.wake(offer);
-    }
-
-    /// Gives the turn up, with a lane drawn.
-    pub(crate) fn draw(
-        &self,
-        seat: &mut Seat<Option<Kept<W>>, View<DeskOrigin<W::Told>>>,
-        word: u64,
-        kept: Kept<W>,
-        lane: u32,
-    )
-        requires table { seat.old.table_id ≡ self.now.table.shared.table_id }
-        requires desk { (seat.old.me.0.origin ≡ Some self.now.table.shared.key.value)
-            × ((record { origin = kept.core.origin.value; lanes = kept.core.lanes })
-            ≡ self.now.table.shared.key.value) }
-        requires slot { seat.old.me.1 ≡ (0, None) ∷ [] }
-        requires turn { (seat.old.me.0.turn ≡ Some (kept.core.journal.items, lane))
-            × (kept.drawn ≡ lane + 1) }
-        requires word { word ≡ 2 * length kept.core.journal.items }
-        ensures table { seat.new.table_id ≡ seat.old.table_id }
-        ensures me { seat.new.me ≡ (seated seat.old.me.0 kept.core.journal.items kept.drawn, []) }
-    {
-        // The contract alone asks for the lane: the count of drawn ones has it already.
-        let _lane = lane;
-        let offer = kept.core.offer();
-        self.table.shared.exchange(seat, 0, Some(kept));
-        self.table.shared.store::<Draws<W>>(seat, 0, word);
         self.wake(offer);
     }
 

@@ -31,8 +31,8 @@ put_written-requires-clause-one_each g c =
     ∙ (self.lawful.one_each c.args.spent.position due below fits
     ∙ (as_many_written _ job c.args.spent.position _ (K.of.numbered c.args.spent.position below) ∙ ap (λ s. length (write_numbers s)) (sym row))))
 
-pub write_at-requires-2 : goal.write_at-requires-2
-write_at-requires-2 g c =
+pub end_loan-requires-clause-lane : goal.end_loan-requires-clause-lane
+end_loan-requires-clause-lane g c =
     let self = c.args.self.now in
     let l = holder_below _ _ _ _ _ _ self.room c.requires.held in
     let m = self.buffered.buffers_length in
@@ -52,8 +52,8 @@ overflow_sub-self g c =
     let b = self.counted in
     omega (arith, a, b)
 
-pub push_with_room-requires : goal.push_with_room-requires
-push_with_room-requires g c =
+pub end_loan-requires-clause-room : goal.end_loan-requires-clause-room
+end_loan-requires-clause-room g c =
     let self = c.args.self.now in
     let K = self.runs in
     let h = holder _ _ _ K.legal _ _ c.requires.held in
@@ -73,22 +73,22 @@ invariant_of-self g c = record {
       let position = c.args.spent.position in
       let row = c.items.ensures.items ∙ c.set.ensures.set in
       let filled = with_items_is self.slots c.put_written.new.slots (c.put_written.auto.slots ∙ c.deref_mut.ensures.len) in
-      keeps_same _ _ _ _ _ _ _ _ _ _ _ c.finish.ensures filled c.write_at.ensures c.push_with_room.ensures.items
+      keeps_same _ _ _ _ _ _ _ _ _ _ _ c.finish.ensures filled c.write_at.ensures c.end_loan.ensures.journal
       (commit_keeps _ _ _ _ _ _ _ K c.args.spent.lane position h (effects_seen c.args.effects) c.requires.right c.put_written.new.slots (c.put_written.auto.slots ∙ ap length c.deref_mut.ensures.value)
       (λ n. c.put_written.ensures n ∙ ap₂ (λ s sl. put_at (write_numbers s) (accounts_of c.args.effects.written) (account_at sl) n) row c.deref_mut.ensures.value)));
   apart = c.args.self.now.apart;
   room = (let self = c.args.self.now in
-      room_after _ _ _ _ _ _ (record { kind = Commit; lane = c.args.spent.lane; position = c.args.spent.position }) self.room (holder_below _ _ _ _ _ _ self.room c.requires.held) (λ t. absurd (cc)) c.push_with_room.ensures.items c.push_with_room.ensures.capacity);
+      room_after _ _ _ _ _ _ (record { kind = Commit; lane = c.args.spent.lane; position = c.args.spent.position }) self.room (holder_below _ _ _ _ _ _ self.room c.requires.held) (λ t. absurd (cc)) c.end_loan.ensures.journal c.end_loan.ensures.capacity);
   buffered = (let self = c.args.self.now in
       let job = g.W.Work.job self.origin.value.told in
       let wide = subst (λ o. IsWide (g.W.Work.job o.told) (vec_capacity c.args.spent.buffer)) c.requires.origin c.args.spent.room in
-      subst₂ (λ j b. HasBuffers job self.lanes j b) (sym c.push_with_room.ensures.items) (sym c.write_at-2.ensures)
+      subst₂ (λ j b. HasBuffers job self.lanes j b) (sym c.end_loan.ensures.journal) (sym c.end_loan.ensures.buffers)
       (ended_buffers job self.lanes self.journal.items self.buffers.items self.buffered c.args.spent.lane c.args.spent.buffer c.args.spent.empty wide Commit c.args.spent.position));
   counted = (let self = c.args.self.now in
       let K = self.runs in
       let job = g.W.Work.job self.origin.value.told in
       let a = committed_count _ _ _ _ _ K.legal (holder _ _ _ K.legal _ _ c.requires.held) in
       let b = self.counted in
-      let e = ap (λ j. held_count job (Run job (at self.origin.value.start) j)) c.push_with_room.ensures.items in
+      let e = ap (λ j. held_count job (Run job (at self.origin.value.start) j)) c.end_loan.ensures.journal in
       omega (arith, a, b, e));
 }

@@ -15,8 +15,8 @@ use Rattle.bank_core.proofs.Moves.{holder, holder_below, held_below_count, held_
 use Rattle.prio_graph.specs.Ready.{set_at}
 use Rattle.bank_core.proofs.kept.Core.give_back.Goals as goal
 
-pub write_at-requires : goal.write_at-requires
-write_at-requires g c =
+pub end_loan-requires-clause-lane : goal.end_loan-requires-clause-lane
+end_loan-requires-clause-lane g c =
     let self = c.args.self.now in
     let l = holder_below _ _ _ _ _ _ self.room c.requires.held in
     let m = self.buffered.buffers_length in
@@ -35,8 +35,8 @@ overflow_sub-self g c =
     let b = self.counted in
     omega (arith, a, b)
 
-pub push_with_room-requires : goal.push_with_room-requires
-push_with_room-requires g c =
+pub end_loan-requires-clause-room : goal.end_loan-requires-clause-room
+end_loan-requires-clause-room g c =
     let self = c.args.self.now in
     let K = self.runs in
     let h = holder _ _ _ K.legal _ _ c.requires.held in
@@ -60,24 +60,24 @@ invariant_of-self g c = record {
       let many = lent_many (g.W.Work.job self.origin.value.told) (at self.origin.value.start) self.table position (set_at self.graph.sets position) c.args.loan.values.items N lent in
       let all = take_all (length c.args.loan.values.items) c.items.result.now (let e = ap length row in omega (arith, many, e)) in
       let filled = with_items_is self.slots c.put_back.new.slots (c.put_back.auto.slots ∙ c.deref_mut.ensures.len) in
-      keeps_same _ _ _ _ _ _ _ _ _ _ _ c.unstart.ensures filled refl c.push_with_room.ensures.items
+      keeps_same _ _ _ _ _ _ _ _ _ _ _ c.unstart.ensures filled refl c.end_loan.ensures.journal
       (return_keeps _ _ _ _ _ _ _ K c.args.loan.lane position h self.lawful (accounts_of c.args.loan.values.items) lent c.put_back.new.slots (c.put_back.auto.slots ∙ ap length c.deref_mut.ensures.value)
       (λ n. c.put_back.ensures.back n ∙ ap₂ (λ s sl. put_back_at s (accounts_of c.args.loan.values.items) (account_at sl) n) (all ∙ row) c.deref_mut.ensures.value)));
   apart = c.args.self.now.apart;
   room = (let self = c.args.self.now in
-      room_after _ _ _ _ _ _ (record { kind = Return; lane = c.args.loan.lane; position = c.args.loan.position }) self.room (holder_below _ _ _ _ _ _ self.room c.requires.held) (λ t. c.requires.once) c.push_with_room.ensures.items c.push_with_room.ensures.capacity);
+      room_after _ _ _ _ _ _ (record { kind = Return; lane = c.args.loan.lane; position = c.args.loan.position }) self.room (holder_below _ _ _ _ _ _ self.room c.requires.held) (λ t. c.requires.once) c.end_loan.ensures.journal c.end_loan.ensures.capacity);
   buffered = (let self = c.args.self.now in
       let job = g.W.Work.job self.origin.value.told in
       let wide = subst (λ o. IsWide (g.W.Work.job o.told) (vec_capacity c.args.loan.values)) c.requires.origin c.args.loan.room in
       let none = ap length c.put_back.ensures.emptied in
       let long = c.put_back.new.values.ok.0 in
-      subst₂ (λ j b. HasBuffers job self.lanes j b) (sym c.push_with_room.ensures.items) (sym c.write_at.ensures)
+      subst₂ (λ j b. HasBuffers job self.lanes j b) (sym c.end_loan.ensures.journal) (sym c.end_loan.ensures.buffers)
       (ended_buffers job self.lanes self.journal.items self.buffers.items self.buffered c.args.loan.lane c.put_back.new.values (omega (arith, none, long)) (wide_as job _ _ c.put_back.ensures.capacity wide) Return c.args.loan.position));
   counted = (let self = c.args.self.now in
       let K = self.runs in
       let job = g.W.Work.job self.origin.value.told in
       let a = returned_count _ _ _ _ _ K.legal (holder _ _ _ K.legal _ _ c.requires.held) in
       let b = self.counted in
-      let e = ap (λ j. held_count job (Run job (at self.origin.value.start) j)) c.push_with_room.ensures.items in
+      let e = ap (λ j. held_count job (Run job (at self.origin.value.start) j)) c.end_loan.ensures.journal in
       omega (arith, a, b, e));
 }

@@ -1,7 +1,8 @@
 use Rattle.std.proofs.Common.{rules, ap}
 use mathlib.Core.Option.{none}
 use Rattle.atomic_table.specs.Table.{step}
-use Rattle.bank_shared.proofs.Moves.{joins, looks, folds_at}
+use Rattle.bank_shared.proofs.Moves.{joins, looks}
+use Rattle.bank_shared.proofs.Turns.{folds_at}
 use Rattle.bank_shared.proofs.desk.SharedDesk.fold.Goals as goal
 
 pub join_seat-requires : goal.join_seat-requires

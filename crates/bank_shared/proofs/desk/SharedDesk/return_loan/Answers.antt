@@ -1,62 +1,49 @@
-use Rattle.std.proofs.Common.{◌≡◌, ◌++◌, ◌+◌, ◌*◌, [], ◌∷◌, length, ap, sym, subst, subst₂, ◌∙◌, Some, length-append, arith, le_refl}
+use Rattle.std.proofs.Common.{◌≡◌, [], ◌∷◌, ap, refl, sym, subst, subst₂, ◌∙◌, Some}
 use Rattle.bank_law.specs.declared.event.Event.{Event}
 use Rattle.bank_law.specs.declared.event.EventKind.TheVariants.{Return}
-use Rattle.bank_shared.specs.History.{own, holds, is_one_of}
-use Rattle.bank_shared.specs.Rule.{part_lanes, lanes_of}
 use Rattle.bank_law.specs.History.{returns}
-use Rattle.account_store.specs.State.{at}
-use Rattle.bank_law.specs.Machine.{IsLegal}
-use Rattle.bank_shared.specs.declared.kept.DeskOrigin.{DeskOrigin}
-use Rattle.bank_shared.specs.Plays.{had, done}
-use Rattle.bank_shared.proofs.Moves.{mine_is, one_more, adds, kept}
+use Rattle.bank_core.specs.Origins.{IsLegalFor}
+use Rattle.bank_shared.specs.History.{own, holds}
+use Rattle.bank_shared.specs.Plays.{done}
+use Rattle.bank_shared.proofs.Turns.{mine_is, event_is, has_turn, turn_adds, turn_keeps}
 use Rattle.bank_shared.proofs.desk.SharedDesk.return_loan.Goals as goal
 
 pub give_back-requires-clause-origin : goal.give_back-requires-clause-origin
-give_back-requires-clause-origin g c = c.requires.origin ∙ sym (ap (λ r. r.origin) c.take_turn-word.ensures.gets.desk)
+give_back-requires-clause-origin g c = c.requires.origin ∙ sym (ap (λ k. k.origin.value) c.deref_mut.ensures.value ∙ ap (λ r. r.origin) c.take_turn-kept.ensures.gets.desk)
 
 pub give_back-requires-clause-held : goal.give_back-requires-clause-held
 give_back-requires-clause-held g c =
-    subst (λ l. holds (own c.take_turn-word.result.1.core.journal.items l) ≡ Some c.args.loan.position) (sym c.requires.lane)
-    (ap holds (mine_is _ _ _ c.args.pass.now.lane _ c.take_turn-word.ensures.gets.knows c.args.pass.now.lane_is) ∙ c.requires.held)
+    subst (λ l. holds (own c.deref_mut.result.now.journal.items l) ≡ Some c.args.loan.position) (sym c.requires.lane)
+    (ap (λ k. holds (own k.journal.items c.args.pass.now.lane)) c.deref_mut.ensures.value ∙ ap holds (mine_is _ _ _ c.args.pass.now.lane _ c.take_turn-kept.ensures.gets.knows c.args.pass.now.lane_is) ∙ c.requires.held)
 
 pub give_back-requires-clause-once : goal.give_back-requires-clause-once
 give_back-requires-clause-once g c =
-    subst (λ l. returns (own c.take_turn-word.result.1.core.journal.items l) ≡ 0) (sym c.requires.lane)
-    (ap returns (mine_is _ _ _ c.args.pass.now.lane _ c.take_turn-word.ensures.gets.knows c.args.pass.now.lane_is) ∙ c.requires.once)
+    subst (λ l. returns (own c.deref_mut.result.now.journal.items l) ≡ 0) (sym c.requires.lane)
+    (ap (λ k. returns (own k.journal.items c.args.pass.now.lane)) c.deref_mut.ensures.value ∙ ap returns (mine_is _ _ _ c.args.pass.now.lane _ c.take_turn-kept.ensures.gets.knows c.args.pass.now.lane_is) ∙ c.requires.once)
 
-pub release_more-requires : goal.release_more-requires
-release_more-requires g c =
-    let m = c.take_turn-word.ensures.me in
+pub release-requires : goal.release-requires
+release-requires g c =
     let e : Event = record { kind = Return; lane = c.args.pass.now.lane; position = c.args.loan.position } in
-    let turn = ap (λ m. m.0.turn) m in
-    let n = c.take_turn-word.ensures.gets.word in
-    let more : c.give_back.new.self.journal.items ≡ c.take_turn-word.result.1.core.journal.items ++ e ∷ [] = c.give_back.ensures.journal ∙ ap (λ l. c.take_turn-word.result.1.core.journal.items ++ record { kind = Return; lane = l; position = c.args.loan.position } ∷ []) c.requires.lane in
-    let w : c.take_turn-word.result.0 + 2 ≡ 2 * length c.give_back.new.self.journal.items = omega (arith, n, ap length more, length-append c.take_turn-word.result.1.core.journal.items (e ∷ [])) in
     record {
-      table = c.take_turn-word.ensures.table ∙ c.requires.table;
-      desk = (ap (λ m. m.0.origin) m ∙ c.requires.desk, (λ i. record { origin = c.give_back.ensures.origin i; lanes = c.give_back.ensures.lanes i }) ∙ c.take_turn-word.ensures.gets.desk);
-      slot = ap (λ m. m.1) m;
-      turn = turn ∙ ap (λ t. Some (had t, c.take_turn-word.result.1.drawn)) (sym turn);
-      events = one_more _ _ _ e (more ∙ ap (λ t. had t ++ e ∷ []) (sym turn)) (ap (λ m. is_one_of (lanes_of m.0) c.args.pass.now.lane) m ∙ (ap (λ x. is_one_of (part_lanes x ++ c.args.pass.now.seat.me.0.lanes) c.args.pass.now.lane) c.args.pass.now.no_parts ∙ c.args.pass.now.lane_is));
-      word = w;
+      table = c.take_turn-kept.ensures.table ∙ c.requires.table;
+      desk = (λ i. record { origin = c.give_back.ensures.origin i; lanes = c.give_back.ensures.lanes i }) ∙ ((λ i. record { origin = (c.deref_mut.ensures.value i).origin.value; lanes = (c.deref_mut.ensures.value i).lanes }) ∙ c.take_turn-kept.ensures.gets.desk);
+      slot = ap (λ m. m.1) c.take_turn-kept.ensures.me;
+      turn = has_turn _ _ _ _ c.args.pass.now.lane (e ∷ []) c.args.pass.now.seat.me.0 _ c.take_turn-kept.ensures.me c.args.pass.now.no_parts c.args.pass.now.lane_is (refl, tt)
+          (event_is _ _ _ Return _ _ _ _ c.give_back.ensures.journal (ap (λ k. k.journal.items) c.deref_mut.ensures.value) c.requires.lane refl);
     }
 
 pub returns-clause-kept : goal.returns-clause-kept
 returns-clause-kept g c =
     let e : Event = record { kind = Return; lane = c.args.pass.now.lane; position = c.args.loan.position } in
-    let more : c.give_back.new.self.journal.items ≡ c.take_turn-word.result.1.core.journal.items ++ e ∷ [] = c.give_back.ensures.journal ∙ ap (λ l. c.take_turn-word.result.1.core.journal.items ++ record { kind = Return; lane = l; position = c.args.loan.position } ∷ []) c.requires.lane in
-    kept _ c.take_turn-word.result.1.core.journal.items _ _ _ _ _ _ c.take_turn-word.ensures.gets.knows more (le_refl _)
-    (ap (λ m. m.0) c.release_more.ensures.me ∙ ap (λ m. done m.0 c.give_back.new.self.journal.items c.take_turn-word.result.1.drawn) c.take_turn-word.ensures.me)
+    turn_keeps _ _ _ _ c.args.pass.now.lane (e ∷ []) _ _ c.take_turn-kept.ensures.gets.knows c.args.pass.now.no_parts c.args.pass.now.lane_is (refl, tt) (event_is _ _ _ Return _ _ _ _ c.give_back.ensures.journal (ap (λ k. k.journal.items) c.deref_mut.ensures.value) c.requires.lane refl)
+    (ap (λ m. m.0) c.release.ensures.me ∙ ap (λ m. done m.0 c.give_back.new.self.journal.items c.take_turn-kept.result.drawn) c.take_turn-kept.ensures.me)
 
 pub returns-clause-legal : goal.returns-clause-legal
 returns-clause-legal g c =
-    let root : DeskOrigin _ = record { origin = c.give_back.new.self.origin.value; lanes = c.give_back.new.self.lanes } in
-    let same : root ≡ c.args.self.now.table.shared.key.value = (λ i. record { origin = c.give_back.ensures.origin i; lanes = c.give_back.ensures.lanes i }) ∙ c.take_turn-word.ensures.gets.desk in
-    subst₂ (λ r j. IsLegal (g.W.Work.job r.origin.told) (at r.origin.start) j) same (sym (ap (λ m. m.0.seen) c.release_more.ensures.me)) c.give_back.new.self.runs.legal
+    subst₂ (λ o j. IsLegalFor g.W.Work.job o j) (c.give_back.ensures.origin ∙ (ap (λ k. k.origin.value) c.deref_mut.ensures.value ∙ ap (λ r. r.origin) c.take_turn-kept.ensures.gets.desk)) (sym (ap (λ m. m.0.seen) c.release.ensures.me)) c.give_back.new.self.runs.legal
 
 pub returns-clause-event : goal.returns-clause-event
 returns-clause-event g c =
     let e : Event = record { kind = Return; lane = c.args.pass.now.lane; position = c.args.loan.position } in
-    let more : c.give_back.new.self.journal.items ≡ c.take_turn-word.result.1.core.journal.items ++ e ∷ [] = c.give_back.ensures.journal ∙ ap (λ l. c.take_turn-word.result.1.core.journal.items ++ record { kind = Return; lane = l; position = c.args.loan.position } ∷ []) c.requires.lane in
-    adds _ c.take_turn-word.result.1.core.journal.items _ _ _ _ _ _ c.take_turn-word.ensures.gets.knows c.args.pass.now.no_parts c.args.pass.now.lane_is more
-    (ap (λ m. m.0) c.release_more.ensures.me ∙ ap (λ m. done m.0 c.give_back.new.self.journal.items c.take_turn-word.result.1.drawn) c.take_turn-word.ensures.me)
+    turn_adds _ _ _ _ c.args.pass.now.lane (e ∷ []) _ _ c.take_turn-kept.ensures.gets.knows c.args.pass.now.no_parts c.args.pass.now.lane_is (refl, tt) (event_is _ _ _ Return _ _ _ _ c.give_back.ensures.journal (ap (λ k. k.journal.items) c.deref_mut.ensures.value) c.requires.lane refl)
+    (ap (λ m. m.0) c.release.ensures.me ∙ ap (λ m. done m.0 c.give_back.new.self.journal.items c.take_turn-kept.result.drawn) c.take_turn-kept.ensures.me)

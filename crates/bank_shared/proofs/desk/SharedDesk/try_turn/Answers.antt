@@ -5,7 +5,7 @@ use Rattle.bank_shared.proofs.desk.SharedDesk.try_turn.Goals as goal
 
 pub compare_exchange-found-requires : goal.compare_exchange-found-requires
 compare_exchange-found-requires g c =
-    (search rules, search rules, takes_at _ _ _ _ _ _ _ c.args.seat.now.me none c.requires.empty c.requires.desk c.requires.word.0)
+    (search rules, search rules, takes_at _ _ _ _ _ _ _ c.args.seat.now.me none c.requires.empty c.requires.desk c.requires.word)
 
 pub exchange-requires : goal.exchange-requires
 exchange-requires g c =
