@@ -5,7 +5,7 @@ use Rattle.admission.specs.Admission.{AreParsed}
 use Rattle.snapshot_codec.specs.Batch.{IsBatch}
 use Rattle.snapshot_codec.specs.BatchReading.{batch_of, is_batch_memory}
 use Rattle.snapshot_codec.specs.declared.fault.BatchFault.{BatchFault}
-use Rattle.bank_cli.specs.declared.ahead.Decoded.{Decoded}
+use Rattle.block_run.specs.declared.block.Decoded.{Decoded}
 use Rattle.bank_cli.specs.declared.ahead.Ahead.{Ahead}
 
 -- what is read of the bytes is their batch, with its transactions, or why they are none

@@ -6,29 +6,24 @@ ghost use Rattle.snapshot_codec.specs.Snapshot.{BeginsWith};
 ghost use Rattle.snapshot_codec.specs.SnapshotReading.{is_snapshot_memory, prefix_of};
 ghost use Rattle.bank_cli.specs.Ahead.{Decodes, IsReadIn};
 
+use block_run::{Decoded, MANY_TRANSACTIONS};
 use intake::{SendGate, gather};
-use message_codec::Parsed;
+use message_codec::MAX_WIRE_LEN;
 use snapshot_codec::{
-    Batch, BatchFault, Prefix, SnapshotFault, read_batch, read_snapshot, snapshot_length,
+    BatchFault, Prefix, SnapshotFault, read_batch, read_snapshot, snapshot_length,
 };
-use sol_base::Items;
 use std::alloc::Global;
 use std::sync::Wait;
 use std::thread::{Threads, join};
 
-/// How many transactions a batch has at least that is read beside the snapshot: for fewer a thread
-/// costs more than it saves.
-const MANY: u32 = 64;
+/// The first bytes of a batch.
+const BATCH_FRONT: &[u8] = b"SOLBATC1";
 
 /// Where the number of transactions stands in a batch.
 const COUNT_PLACE: usize = 48;
 
-/// A batch, and its transactions as they were read.
-#[derive(Drop)]
-pub(crate) struct Decoded {
-    pub(crate) batch: Batch,
-    pub(crate) parsed: Items<Parsed>,
-}
+/// The bytes that a batch of few transactions takes at most.
+const FEW_ROOM: usize = COUNT_PLACE + 4 + MANY_TRANSACTIONS * (2 + MAX_WIRE_LEN);
 
 /// A batch that was read where one seemed to begin, for a block after the slot that seemed to be
 /// the snapshot's.
@@ -113,13 +108,39 @@ pub(crate) fn read_parts<H: SendGate, R: Threads + Wait + Sync>(
     }
 }
 
+/// How many transactions a batch says that it has.
+fn count_of(batch: &[u8]) -> Option<usize> {
+    let count = *batch.get(COUNT_PLACE..)?.first_chunk()?;
+    Some(u32::from_le_bytes(count) as usize)
+}
+
+/// What stands behind the last place, near the end, where a batch seems to begin.
+fn last_batch(bytes: &[u8]) -> Option<&[u8]> {
+    let tail = bytes.get(bytes.len().saturating_sub(FEW_ROOM)..)?;
+    let place = tail
+        .windows(BATCH_FRONT.len())
+        .rposition(|front| front == BATCH_FRONT)?;
+    tail.get(place..)
+}
+
+/// Whether the bytes seem to end with a batch of few transactions. No snapshot is walked over for
+/// that.
+fn ends_with_few(bytes: &[u8]) -> bool {
+    match last_batch(bytes) {
+        Some(batch) => count_of(batch).is_some_and(|count| count < MANY_TRANSACTIONS),
+        None => false,
+    }
+}
+
 /// Where a batch of many transactions seems to begin.
 fn place_of_many(bytes: &[u8]) -> Option<usize>
     ensures { IfSome result (λ place. place ≤ length bytes.now) }
 {
+    if ends_with_few(bytes) {
+        return None;
+    }
     let place = snapshot_length(bytes)?;
-    let count = *bytes.get(place..)?.get(COUNT_PLACE..)?.first_chunk()?;
-    if u32::from_le_bytes(count) < MANY {
+    if count_of(bytes.get(place..)?)? < MANY_TRANSACTIONS {
         return None;
     }
     Some(place)

@@ -7,12 +7,12 @@ ghost use Rattle.block_run.specs.Blocks.{block_result};
 ghost use Rattle.bank_cli.specs.Answer.{produced as produced_of, ran};
 ghost use Rattle.bank_cli.specs.Texts.{refused_line, refused_lines};
 
-use crate::ahead::{Decoded, read_behind, read_parts};
+use crate::ahead::{read_behind, read_parts};
 use crate::answer::Answer;
 use crate::texts::{append_number, refuse_batch, refuse_snapshot};
 use admission::{Refused, refusal_text};
 use bank_lanes::Gate;
-use block_run::{Recorded, record_parsed};
+use block_run::{Decoded, Recorded, record_parsed};
 use intake::SendGate;
 use snapshot_codec::{Snapshot, write_snapshot};
 use sol_base::{Blob, OutOfMemory};
@@ -66,8 +66,7 @@ fn produce_block<G: Gate, R: Threads + Wait + Sync>(
     requires read { AreParsed decoded.batch.wires decoded.parsed }
     ensures { IfOk result (λ told. told ≡ ran (block_result snapshot decoded.batch)) }
 {
-    let Decoded { batch, parsed } = decoded;
-    let block = record_parsed(rt, alloc, snapshot, &batch, parsed, lanes, gate)?;
+    let block = record_parsed(rt, alloc, snapshot, decoded, lanes, gate)?;
     let Recorded {
         record,
         after,
@@ -76,7 +75,7 @@ fn produce_block<G: Gate, R: Threads + Wait + Sync>(
     } = block;
     let output = write_snapshot(record, &after)?;
     let notes = refused_notes(alloc, refused.as_slice())?;
-    forget((batch, after, spent));
+    forget((after, spent));
     Ok(Answer {
         status: 0,
         output,

@@ -10,7 +10,7 @@ use Rattle.sol_base.specs.Limits.{max_transactions}
 use Rattle.account_store.specs.State.{at}
 use Rattle.tx_report.specs.declared.outcome.Outcome.{Outcome}
 use Rattle.bank_law.specs.Serial.{result}
-use Rattle.bank_core.specs.Ends.{serial_outcomes}
+use Rattle.bank_core.specs.Ends.{outcomes_at_end, serial_outcomes}
 use Rattle.bank_core.specs.declared.origin.Origin.{Origin}
 use Rattle.snapshot_codec.specs.declared.batch.Batch.{Batch}
 use Rattle.snapshot_codec.specs.declared.snapshot.Snapshot.{Snapshot}
@@ -23,10 +23,11 @@ use Rattle.admission.specs.declared.chosen.Chosen.{Chosen}
 use Rattle.admission.specs.declared.refusal.Refused.{Refused}
 use Rattle.admission.specs.Admission.{admitted, listed}
 use Rattle.admission.specs.Batches.{IsParted}
-use Rattle.tx_exec.specs.declared.told.Told.{Told}
-use Rattle.tx_exec.specs.Told.{job_of}
+use Rattle.tx_exec.specs.declared.admitted.AdmittedBlock.{AdmittedBlock}
+use Rattle.tx_exec.specs.AdmittedBlock.{job_of}
 use Rattle.tx_exec.specs.TransactionLaws.{IsSmallOutcome}
 use Rattle.block_run.specs.declared.block.BlockResult.{BlockResult}
+use Rattle.block_run.specs.declared.block.Chain.{Chain}
 use Rattle.block_run.specs.declared.block.Closed.{Closed}
 use Rattle.block_run.specs.declared.block.Head.{Head}
 use Rattle.block_run.specs.SerialRun.{Ran, ran, serial_run, told_in}
@@ -36,23 +37,33 @@ use Rattle.admission.proofs.PartLaws.{admitted_batches_are_parted, listed_batche
 use Rattle.block_run.proofs.Orders.{length-take-least, parted_are_of}
 
 -- ---- one run
--- what a core ends with is the serial run
-pub same_run : (s : Snapshot) (slot : ℕ) (order : List Chosen) (told : Told) (origin : Origin Told) (outcomes : List Outcome) → told ≡ told_in s slot order
-    → origin ≡ record { start = s.accounts; told = told } → outcomes ≡ serial_outcomes (job_of told) (at s.accounts) → ran_of origin outcomes ≡ serial_run s slot order
+-- a core over the accounts of a snapshot, for these transactions
+abbrev pub origin_in : Snapshot → ℕ → List Chosen → Origin AdmittedBlock
+origin_in s slot order = record { start = s.accounts; told = told_in s slot order }
+
+-- what it ends with is the serial run
+pub same_run : (s : Snapshot) (slot : ℕ) (order : List Chosen) (opened origin : Origin AdmittedBlock) (outcomes : List Outcome) → opened ≡ origin_in s slot order
+    → origin ≡ opened → outcomes ≡ outcomes_at_end job_of opened → ran_of origin outcomes ≡ serial_run s slot order
 unfolding serial_run
-same_run s slot order told origin outcomes is began ended = ap₂ ran_of began ended ∙ ap (λ (t : Told). ran (job_of t) s.accounts) is
+same_run s slot order opened origin outcomes is began ended = ap₂ ran_of began ended ∙ ap (λ (o : Origin AdmittedBlock). ran_of o (outcomes_at_end job_of o)) is
 
 -- its outcomes are small
-pub small_run : (s : Snapshot) (slot : ℕ) (wires : List (List ℕ)) (order : List Chosen) (told : Told) → told ≡ told_in s slot order → MayEnd wires order (serial_run s slot order) → All IsSmallOutcome (serial_outcomes (job_of told) (at s.accounts))
+pub small_run : (s : Snapshot) (slot : ℕ) (wires : List (List ℕ)) (order : List Chosen) (opened : Origin AdmittedBlock) → opened ≡ origin_in s slot order → MayEnd wires order (serial_run s slot order) → All IsSmallOutcome (outcomes_at_end job_of opened)
 unfolding serial_run
-small_run s slot wires order told is may = subst (λ (t : Told). All IsSmallOutcome (serial_outcomes (job_of t) (at s.accounts))) (sym is) may.small
+small_run s slot wires order opened is may = subst (λ (o : Origin AdmittedBlock). All IsSmallOutcome (outcomes_at_end job_of o)) (sym is) may.small
+
+-- a block may end with it
+pub same_may_end : (wires given : List (List ℕ)) (order chosen : List Chosen) (serial end : Ran) → given ≡ wires → chosen ≡ order → end ≡ serial → MayEnd wires order serial → MayEnd given chosen end
+same_may_end wires given order chosen serial end read same is may = rw (read, same, is) may
 
 -- and the block is that of the order
-pub same_end : (s : Snapshot) (head : Head) (wires given : List (List ℕ)) (order chosen : List Chosen) (origin : Origin Told) (outcomes : List Outcome) → given ≡ wires → chosen ≡ order → ran_of origin outcomes ≡ serial_run s head.slot order
-    → closed_with (record { slot = 0; limits = s.limits; recent = s.recent; accounts = joined_of origin }) head given chosen (ran_of origin outcomes) ≡ closed s head wires order
+pub same_end : (s : Snapshot) (head : Head) (wires given : List (List ℕ)) (order chosen : List Chosen) (chain : Chain) (origin : Origin AdmittedBlock) (outcomes : List Outcome) → given ≡ wires → chosen ≡ order → chain ≡ record { limits = s.limits; recent = s.recent }
+    → ran_of origin outcomes ≡ serial_run s head.slot order
+    → closed_with (record { slot = 0; limits = chain.limits; recent = chain.recent; accounts = joined_of origin }) head given chosen (ran_of origin outcomes) ≡ closed s head wires order
 unfolding closed
-same_end s head wires given order chosen origin outcomes read same ran_is =
-    ap (λ (w : List (List ℕ)). closed_with s head w chosen (ran_of origin outcomes)) read ∙ ap₂ (λ (o : List Chosen) (r : Ran). closed_with s head wires o r) same ran_is
+same_end s head wires given order chosen chain origin outcomes read same kept ran_is =
+    ap (λ (c : Chain). closed_with (record { slot = 0; limits = c.limits; recent = c.recent; accounts = joined_of origin }) head given chosen (ran_of origin outcomes)) kept
+    ∙ ap (λ (w : List (List ℕ)). closed_with s head w chosen (ran_of origin outcomes)) read ∙ ap₂ (λ (o : List Chosen) (r : Ran). closed_with s head wires o r) same ran_is
 
 -- it has an entry for each transaction
 pub entry_each : (s : Snapshot) (head : Head) (wires : List (List ℕ)) (order : List Chosen) → length (closed s head wires order).block.entries ≡ length order

@@ -18,8 +18,8 @@ use Rattle.bank_law.specs.SerialState.{serial_state}
 use Rattle.bank_law.proofs.States.{at_fits, serial_states, states_run}
 use Rattle.admission.specs.declared.chosen.Chosen.{Chosen}
 use Rattle.admission.specs.Chosen.{IsChosen}
-use Rattle.tx_exec.specs.declared.told.Told.{Told}
-use Rattle.tx_exec.specs.Told.{block_of, effects_at, job_of, locks_at}
+use Rattle.tx_exec.specs.declared.admitted.AdmittedBlock.{AdmittedBlock}
+use Rattle.tx_exec.specs.AdmittedBlock.{block_of, effects_at, job_of, locks_at}
 use Rattle.tx_exec.specs.Transaction.{transaction}
 use Rattle.tx_exec.specs.TransactionLaws.{Keeps}
 use Rattle.tx_exec.proofs.Keeping.{transaction_keeps}
@@ -80,7 +80,7 @@ stays_settled a executable fine = by_case (a.lamports == 0) refl
     by_case false e = refl
 
 -- ---- one transaction
-module _ (told : Told) (t : Chosen) (is : IsChosen t) (f : Key → Account) (fine : (key : Key) → IsSettled (f key)) (key : Key) where
+module _ (told : AdmittedBlock) (t : Chosen) (is : IsChosen t) (f : Key → Account) (fine : (key : Key) → IsSettled (f key)) (key : Key) where
   keeps : Keeps t (map f (lock_keys t.locks)) (transaction (block_of told) t (map f (lock_keys t.locks)))
   keeps = transaction_keeps (block_of told) t (map f (lock_keys t.locks)) is
       (length-map (lock_keys t.locks) f ∙ length-map t.locks (λ (lock : Lock). lock.key) ∙ ap length is.locked ∙ lock_count t.tx.message t.loaded)
@@ -118,7 +118,7 @@ module _ (told : Told) (t : Chosen) (is : IsChosen t) (f : Key → Account) (fin
           is_value ∙ ap settled v ∙ stays_settled (f key) x (fine key) ∙ e
 
 -- ---- the serial run
-module _ (told : Told) (all : All IsChosen told.chosen) (start : State) (is : IsState start) where
+module _ (told : AdmittedBlock) (all : All IsChosen told.chosen) (start : State) (is : IsState start) where
   fine_run : (n : ℕ) → n ≤ length told.chosen → (key : Key) → IsSettled (serial (job_of told) (at start) n key)
   fine_run n l key =
       subst IsSettled (states_run (job_of told) start (works_are_lawful told all) is n l key)

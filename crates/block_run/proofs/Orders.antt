@@ -1,10 +1,11 @@
 -- Transactions of a batch, and the first of them.
-use Rattle.std.proofs.Common.{◌≤◌, ◌∷◌, [], ℕ, zero, suc, List, length, take, arith}
+use Rattle.std.proofs.Common.{◌≤◌, ◌∷◌, [], ℕ, zero, suc, List, length, take, All, arith}
 use Rattle.std.proofs.lemmas.List.Elements.{All-take}
 use Rattle.sol_base.specs.Limits.{max_transactions}
 use Rattle.admission.specs.declared.chosen.Chosen.{Chosen}
 use Rattle.admission.specs.declared.chosen.Admitted.{Admitted}
 use Rattle.admission.specs.declared.refusal.Refused.{Refused}
+use Rattle.admission.specs.Chosen.{IsChosen}
 use Rattle.admission.specs.Batches.{IsOf, IsParted}
 use Rattle.block_run.specs.Blocks.{before_refused}
 use Rattle.block_run.specs.Ending.{AreOf}
@@ -36,3 +37,7 @@ first_are_of wires n order of = record {
 pub before_are_of : (wires : List (List ℕ)) (refused : List Refused) (order : List Chosen) → AreOf wires order → AreOf wires (before_refused refused order)
 before_are_of wires [] order of = of
 before_are_of wires (one ∷ others) order of = first_are_of wires one.position order of
+
+pub before_are_chosen : (refused : List Refused) (order : List Chosen) → All IsChosen order → All IsChosen (before_refused refused order)
+before_are_chosen [] order chosen = chosen
+before_are_chosen (one ∷ others) order chosen = All-take IsChosen one.position order chosen

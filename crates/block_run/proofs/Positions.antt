@@ -17,15 +17,15 @@ use Rattle.prio_graph.specs.Ready.{Positions}
 use Rattle.block_run.specs.SerialRun.{locked_in}
 use Rattle.admission.specs.declared.chosen.Chosen.{Chosen}
 use Rattle.admission.specs.Chosen.{IsChosen}
-use Rattle.tx_exec.specs.declared.told.Told.{Told}
-use Rattle.tx_exec.specs.Told.{block_of, effects_at, job_of, locks_at}
+use Rattle.tx_exec.specs.declared.admitted.AdmittedBlock.{AdmittedBlock}
+use Rattle.tx_exec.specs.AdmittedBlock.{block_of, effects_at, job_of, locks_at}
 use Rattle.tx_exec.specs.TransactionLaws.{IsSmallOutcome}
 use Rattle.tx_exec.proofs.Keeping.{transaction_fits}
 use Rattle.tx_exec.proofs.Small.{transaction_small}
 use Rattle.tx_exec.proofs.Works.{there}
 
 -- what holds of each transaction holds of its position
-pub at_position : (told : Told) → All IsChosen told.chosen → (P : Option Chosen → Type 0) → ((t : Chosen) → IsChosen t → P (Some t)) → (i : ℕ) → i < length told.chosen → P (slice_get told.chosen i)
+pub at_position : (told : AdmittedBlock) → All IsChosen told.chosen → (P : Option Chosen → Type 0) → ((t : Chosen) → IsChosen t → P (Some t)) → (i : ℕ) → i < length told.chosen → P (slice_get told.chosen i)
 at_position told all P each i below = let x = there told.chosen i below all in subst P (sym x.1) (each x.0 x.2)
 
 -- a transaction has at most as many locks as keys
@@ -44,7 +44,7 @@ abbrev pub paid_in : JobEffects → ℕ
 paid_in effects = effects.outcome.base_paid + effects.outcome.priority_paid
 
 -- with the fees paid, what a transaction writes has the lamports that were lent for writing
-pays : (told : Told) (t : Chosen) → IsChosen t → (vs : List Account) → length vs ≡ length t.locks
+pays : (told : AdmittedBlock) (t : Chosen) → IsChosen t → (vs : List Account) → length vs ≡ length t.locks
     → lamports_in (effects_at (block_of told) (Some t) vs).written + paid_in (effects_at (block_of told) (Some t) vs) ≡ lamports_in (lent_for_writing t.locks vs)
 pays told t is vs count =
     let fits = transaction_fits (block_of told) t vs is (count ∙ ap length is.locked ∙ lock_count t.tx.message t.loaded) (count ∙ ap length is.locked) in
@@ -52,7 +52,7 @@ pays told t is vs count =
     let b = ap (λ (ls : List Lock). lamports_in (lent_for_writing ls vs)) is.locked in
     omega (arith, a, b)
 
-module _ (told : Told) (all : All IsChosen told.chosen) where
+module _ (told : AdmittedBlock) (all : All IsChosen told.chosen) where
   pub locks_most : (i : ℕ) → i < length told.chosen → length ((job_of told).locks i) ≤ max_transaction_keys
   locks_most = at_position told all (λ o. length (locks_at o) ≤ max_transaction_keys) few_locks
 
@@ -84,7 +84,7 @@ written_keys_few job i =
     omega (arith, a, b)
 
 -- the keys that transactions lock are numbered alike in every work of them
-pub numbered_alike : (told : Told) (order : List Chosen) (ks : List Key) (p : Positions) (room : ℕ) → told.chosen ≡ order → AreNumbered (job_of (locked_in order)) ks p room → AreNumbered (job_of told) ks p room
+pub numbered_alike : (told : AdmittedBlock) (order : List Chosen) (ks : List Key) (p : Positions) (room : ℕ) → told.chosen ≡ order → AreNumbered (job_of (locked_in order)) ks p room → AreNumbered (job_of told) ks p room
 numbered_alike told order ks p room same are =
     let n = subst (λ (o : List Chosen). AreNumbered (job_of (locked_in o)) ks p room) (sym same) are in
     record { distinct = n.distinct; waiting = n.waiting; long = n.long; numbered = n.numbered; wide = n.wide }

@@ -22,8 +22,8 @@ use Rattle.snapshot_codec.specs.declared.snapshot.Snapshot.{Snapshot}
 use Rattle.snapshot_codec.specs.Snapshot.{IsReadable}
 use Rattle.admission.specs.declared.chosen.Chosen.{Chosen}
 use Rattle.admission.specs.Chosen.{IsChosen}
-use Rattle.tx_exec.specs.declared.told.Told.{Told}
-use Rattle.tx_exec.specs.Told.{job_of}
+use Rattle.tx_exec.specs.declared.admitted.AdmittedBlock.{AdmittedBlock}
+use Rattle.tx_exec.specs.AdmittedBlock.{job_of}
 use Rattle.tx_exec.specs.TransactionLaws.{IsSmallOutcome}
 use Rattle.block_run.specs.SerialRun.{serial_run, told_in}
 use Rattle.block_run.specs.BlockEnd.{base_fees, priority_fees}
@@ -52,7 +52,7 @@ len-put_each s [] vs = omega arith
 len-put_each s (k ∷ ks) [] = omega arith
 len-put_each s (k ∷ ks) (v ∷ vs) = let a = len-put s k v in let b = len-put_each (put s k v) ks vs in omega (arith, a, b)
 
-module _ (told : Told) (all : All IsChosen told.chosen) (start : State) (is : IsState start) where
+module _ (told : AdmittedBlock) (all : All IsChosen told.chosen) (start : State) (is : IsState start) where
   W : IsLawful (job_of told)
   W = works_are_lawful told all
 

@@ -7,18 +7,18 @@ use Rattle.admission.specs.Batches.{IsOf}
 use Rattle.bank_core.specs.declared.origin.Origin.{Origin}
 use Rattle.bank_core.specs.Ends.{state_at_end}
 use Rattle.tx_report.specs.declared.outcome.Outcome.{Outcome}
-use Rattle.tx_exec.specs.declared.told.Told.{Told}
-use Rattle.tx_exec.specs.Told.{job_of}
+use Rattle.tx_exec.specs.declared.admitted.AdmittedBlock.{AdmittedBlock}
+use Rattle.tx_exec.specs.AdmittedBlock.{job_of}
 use Rattle.tx_exec.specs.TransactionLaws.{IsSmallOutcome}
 use Rattle.block_run.specs.SerialRun.{Ran}
 use Rattle.block_run.specs.BlockEnd.{base_fees, priority_fees}
 
 -- the accounts that a core with this origin ends with
-abbrev pub joined_of : Origin Told → State
+abbrev pub joined_of : Origin AdmittedBlock → State
 joined_of origin = state_at_end job_of origin
 
 -- with the outcomes of its positions, what a run leaves
-abbrev pub ran_of : Origin Told → List Outcome → Ran
+abbrev pub ran_of : Origin AdmittedBlock → List Outcome → Ran
 ran_of origin outcomes = record { accounts = joined_of origin; outcomes = outcomes }
 
 -- transactions of these wires, no more than a block may have

@@ -1,6 +1,6 @@
 -- The serial run of a block (Solana): its transactions one after another, in their order, over the
 -- accounts of a snapshot.
-use Rattle.std.specs.Prelude.{ℕ, List, []}
+use Rattle.std.specs.Prelude.{ℕ, Bool, List, [], length, nat_lt}
 use Rattle.std.specs.List.{flat_map}
 use Rattle.sol_base.specs.declared.key.Key.{Key}
 use Rattle.message_codec.specs.Roles.{all_keys}
@@ -12,15 +12,19 @@ use Rattle.admission.specs.declared.chosen.Chosen.{Chosen}
 use Rattle.bank_law.specs.Job.{Job}
 use Rattle.bank_law.specs.SerialState.{serial_state}
 use Rattle.bank_core.specs.Ends.{serial_outcomes}
-use Rattle.tx_exec.specs.declared.told.Told.{Told}
-use Rattle.tx_exec.specs.Told.{job_of}
+use Rattle.tx_exec.specs.declared.admitted.AdmittedBlock.{AdmittedBlock}
+use Rattle.tx_exec.specs.AdmittedBlock.{job_of}
+
+-- a transaction has an instruction at least
+abbrev pub has_instruction : Chosen → Bool
+has_instruction t = nat_lt 0 (length t.tx.message.instructions)
 
 -- the keys that the transactions declare
 abbrev pub keys_in : List Chosen → List Key
 keys_in order = flat_map (λ t. all_keys t.tx.message t.loaded) order
 
 -- the transactions as a work, with the programs that the snapshot has under their keys
-abbrev pub told_in : Snapshot → ℕ → List Chosen → Told
+abbrev pub told_in : Snapshot → ℕ → List Chosen → AdmittedBlock
 told_in s slot order = record {
   chosen = order;
   programs = programs_of s.accounts (keys_in order);
@@ -29,7 +33,7 @@ told_in s slot order = record {
 }
 
 -- the same as far as their locks are asked for
-abbrev pub locked_in : List Chosen → Told
+abbrev pub locked_in : List Chosen → AdmittedBlock
 locked_in order = record {
   chosen = order;
   programs = [];

@@ -1,37 +1,34 @@
 //! Which transactions of a batch run, over the snapshot before the block.
 ghost use Rattle.std.specs.Prelude.{◌<◌, ◌≤◌, ◌^◌, IfOk, length};
-ghost use Rattle.sol_base.specs.Limits.{max_lanes, max_transaction_keys};
+ghost use Rattle.sol_base.specs.Limits.{max_transaction_keys};
 ghost use Rattle.admission.specs.Admission.{AreParsed, admitted};
 ghost use Rattle.admission.specs.Answers.{IsAnswer};
 ghost use Rattle.block_run.specs.Blocks.{start_in};
 
+use crate::crew::Crew;
 use admission::Admitted;
+use bank_lanes::Gate;
 use message_codec::Parsed;
 use snapshot_codec::Snapshot;
 use sol_base::{Blob, Items, OutOfMemory};
-use std::alloc::Global;
 use std::thread::Threads;
 
-/// Which transactions of a batch run over a snapshot, whose wires were read before; on so many
-/// lanes.
-pub(crate) fn admit_on<R: Threads + Sync>(
-    rt: &R,
-    alloc: Global,
-    lanes: u32,
+/// Which transactions of a batch run over a snapshot, whose wires were read before.
+pub(crate) fn admit_on<G: Gate, R: Threads + Sync>(
+    crew: &Crew<'_, G, R>,
     snapshot: &Snapshot,
     wires: &Items<Blob>,
     parsed: Items<Parsed>,
 ) -> Result<Admitted, OutOfMemory>
-    requires lanes { (1 ≤ lanes) × (lanes ≤ max_lanes) }
     requires read { AreParsed wires.now parsed }
     requires keys { snapshot.now.limits.keys ≤ max_transaction_keys }
     requires few { length wires.now < 2 ^ 32 }
     ensures { IfOk result (IsAnswer (admitted (start_in snapshot.now) wires.now)) }
 {
     admission::admit_on(
-        rt,
-        alloc,
-        lanes,
+        crew.rt,
+        crew.alloc,
+        crew.lanes,
         wires,
         parsed,
         &snapshot.recent,

@@ -1,8 +1,9 @@
 use admission::{Chosen, Refused};
 use block_record::Block;
-use snapshot_codec::Snapshot;
-use sol_base::{Blob, Hash32, Items, Key};
-use std::alloc::Global;
+use message_codec::Parsed;
+use snapshot_codec::{Batch, Snapshot};
+use sol_base::{Blob, Hash32, Items, Key, Limits};
+use status_cache::Recent;
 use tx_exec::TxWork;
 use tx_report::Outcome;
 
@@ -23,7 +24,20 @@ pub(crate) struct RecordParts<'a> {
     pub(crate) order: &'a [Chosen],
     /// Whether its bytes are wanted, and not its hash alone.
     pub(crate) kept: bool,
-    pub(crate) alloc: Global,
+}
+
+/// What a snapshot has beside its slot and its accounts.
+#[derive(Drop)]
+pub(crate) struct Chain {
+    pub(crate) limits: Limits,
+    pub(crate) recent: Recent,
+}
+
+/// A batch, and its transactions as they were read.
+#[derive(Drop)]
+pub struct Decoded {
+    pub batch: Batch,
+    pub parsed: Items<Parsed>,
 }
 
 /// A block, and the snapshot after it.
@@ -62,10 +76,11 @@ pub struct Recorded {
     pub spent: Spent,
 }
 
-/// What a block leaves behind: its transactions and their outcomes. To give them back takes time, so
-/// a program that ends may leave them.
+/// What a block leaves behind: its batch, its transactions and their outcomes. To give them back
+/// takes time, so a program that ends may leave them.
 #[derive(Drop)]
 pub struct Spent {
+    pub(crate) batch: Batch,
     pub(crate) work: TxWork,
     pub(crate) outcomes: Items<Outcome>,
 }

@@ -8,26 +8,31 @@ ghost use Rattle.block_record.specs.Record.{IsCounted, front_bytes};
 ghost use Rattle.snapshot_codec.specs.Snapshot.{AreAllowed};
 ghost use Rattle.status_cache.specs.Recent.{Ascends, max_marks, newest_of};
 ghost use Rattle.block_run.specs.Answers.{IsClosed, IsClosedRecord};
-ghost use Rattle.block_run.specs.Blocks.{ascending, closed_with, sealed};
-ghost use Rattle.block_run.specs.Closing.{AreEnds, IsEndOf, IsUnsealed};
+ghost use Rattle.fee_rules.specs.Fees.{split_of};
+ghost use Rattle.block_run.specs.BlockEnd.{base_fees, priority_fees};
+ghost use Rattle.block_run.specs.Blocks.{ascending, closed_with, processed_in, sealed};
+ghost use Rattle.block_run.specs.Closing.{IsEndOf, IsUnsealed};
 ghost use Rattle.block_run.specs.Ending.{AreOf, MayEnd, joined_of, ran_of};
 ghost use Rattle.block_run.specs.Front.{IsBegun, IsWritten};
 
 use crate::activation::activate_all;
-use crate::block::{Closed, ClosedRecord, RecordParts};
+use crate::block::{Chain, Closed, ClosedRecord, RecordParts};
+use crate::crew::Crew;
 use crate::entries::entries_of;
 use crate::fees::{Shared, share_split, split_paid};
 use crate::front::{Begun, take_rest};
 use crate::names::{ascending, processed_in};
 use crate::threads::call_both;
 use account_store::Accounts;
+use admission::Chosen;
 use bank_core::Ended;
+use bank_lanes::Gate;
 use block_record::{Block, end_hash, end_record};
 use fee_rules::FeeSplit;
 use sha2::Sha256;
 use snapshot_codec::{Snapshot, state_hash};
-use sol_base::{Hash32, Items, Key, Limits, OutOfMemory};
-use status_cache::{Mark, Recent};
+use sol_base::{Hash32, Items, Key, OutOfMemory};
+use status_cache::Mark;
 use std::alloc::Global;
 use std::thread::Threads;
 use tx_exec::TxWork;
@@ -68,20 +73,26 @@ fn end_state(
     })
 }
 
-/// The same of the accounts that a run leaves, once they are joined; and the names, sorted.
+/// The same of the accounts that a run leaves, once they are joined; and the names of messages that
+/// were processed, in ascending order.
 fn end_state_of_run(
     alloc: Global,
-    ended: Ended<TxWork>,
     collector: &Key,
-    split: FeeSplit,
-    names: Vec<Hash32>,
+    order: &[Chosen],
+    ended: Ended<TxWork>,
+    outcomes: &Items<Outcome>,
 ) -> Result<(EndState, Items<Hash32>), OutOfMemory>
-    requires supply { sum (joined_of ended.origin.value) + split.burned + split.rest < 2 ^ 64 }
+    requires one_each { length outcomes.now ≡ length order.now }
+    requires supply { sum (joined_of ended.origin.value) + base_fees outcomes.now
+        + priority_fees outcomes.now < 2 ^ 64 }
     requires room { len (joined_of ended.origin.value) + 1 < 2 ^ 32 }
-    ensures end { IfOk result (λ end.
-        IsEndOf (joined_of ended.origin.value) collector.now split end.0) }
-    ensures names { IfOk result (λ end. end.1 ≡ ascending names.items) }
+    ensures end { IfOk result (λ end. IsEndOf (joined_of ended.origin.value) collector.now
+        (split_of (base_fees outcomes.now) (priority_fees outcomes.now)) end.0) }
+    ensures names { IfOk result (λ end.
+        end.1 ≡ ascending (processed_in order.now outcomes.now)) }
 {
+    let names = processed_in(alloc, order, outcomes.as_slice())?;
+    let split = split_paid(outcomes.as_slice());
     let accounts = ended.joined()?;
     let end = end_state(alloc, accounts, collector, split)?;
     Ok((end, ascending(alloc, names)?))
@@ -96,28 +107,24 @@ pub(crate) struct Ends {
     front: Begun,
 }
 
-/// The accounts are ended and the names sorted beside what is left of the entries, where there are
-/// several lanes.
-fn end_run<R: Threads + Sync>(
-    rt: &R,
-    alloc: Global,
-    lanes: u32,
+/// Ends a block whose transactions have these outcomes: the fees are shared, then programs become
+/// executable, and the state hash is of these accounts. That is done beside what is left of the
+/// entries, where there are several lanes.
+fn end_block<G: Gate, R: Threads + Sync>(
+    crew: &Crew<'_, G, R>,
     parts: RecordParts<'_>,
-    split: FeeSplit,
-    names: Vec<Hash32>,
     ended: Ended<TxWork>,
     outcomes: &Items<Outcome>,
     begun: Begun,
 ) -> Result<Ends, OutOfMemory>
-    requires supply { sum (joined_of ended.origin.value) + split.burned + split.rest < 2 ^ 64 }
-    requires room { len (joined_of ended.origin.value) + 1 < 2 ^ 32 }
-    requires of { AreOf parts.wires.now parts.order.now }
-    requires one_each { length outcomes.now ≡ length parts.order.now }
-    requires small { All IsSmallOutcome outcomes.now }
+    requires run { MayEnd parts.wires.now parts.order.now
+        (ran_of ended.origin.value outcomes.now) }
     requires begun { IsBegun parts outcomes.now begun }
     ensures end { IfOk result (λ ends. IsEndOf (joined_of ended.origin.value)
-        parts.entry.head.now.collector split ends.end) }
-    ensures names { IfOk result (λ ends. ends.names ≡ ascending names.items) }
+        parts.entry.head.now.collector (split_of (base_fees outcomes.entry.now)
+        (priority_fees outcomes.entry.now)) ends.end) }
+    ensures names { IfOk result (λ ends. ends.names
+        ≡ ascending (processed_in parts.entry.order.now outcomes.entry.now)) }
     ensures front { IfOk result (λ ends. IsWritten parts.entry outcomes.entry.now ends.front) }
 {
     let RecordParts {
@@ -126,18 +133,22 @@ fn end_run<R: Threads + Sync>(
         wires,
         order,
         kept,
-        alloc,
     } = parts;
+    let alloc = crew.alloc;
     let (end, front) = call_both(
-        rt,
-        lanes,
+        crew.rt,
+        crew.lanes_for_many(order.len()),
         move || -> Result<(EndState, Items<Hash32>), OutOfMemory>
-            requires { (sum (joined_of ended.origin.value) + split.burned + split.rest < 2 ^ 64)
+            requires { (length outcomes.now ≡ length order.now)
+                × (sum (joined_of ended.origin.value) + base_fees outcomes.now
+                + priority_fees outcomes.now < 2 ^ 64)
                 × (len (joined_of ended.origin.value) + 1 < 2 ^ 32) }
             ensures end { IfOk result (λ end. IsEndOf (joined_of ended.origin.value)
-                head.entry.now.collector split end.0) }
-            ensures names { IfOk result (λ end. end.1 ≡ ascending names.items) }
-        { end_state_of_run(alloc, ended, &head.collector, split, names) },
+                head.entry.now.collector (split_of (base_fees outcomes.entry.now)
+                (priority_fees outcomes.entry.now)) end.0) }
+            ensures names { IfOk result (λ end.
+                end.1 ≡ ascending (processed_in order.entry.now outcomes.entry.now)) }
+        { end_state_of_run(alloc, &head.collector, order, ended, outcomes) },
         move || -> Result<Begun, OutOfMemory>
             requires { AreOf wires.now order.now × (length outcomes.now ≡ length order.now)
                 × All IsSmallOutcome outcomes.now × IsBegun (record {
@@ -146,7 +157,6 @@ fn end_run<R: Threads + Sync>(
                   wires = wires;
                   order = order;
                   kept = kept;
-                  alloc = alloc;
                 })
                 outcomes.now begun }
             ensures { IfOk result (IsWritten (record {
@@ -155,7 +165,6 @@ fn end_run<R: Threads + Sync>(
               wires = wires.entry;
               order = order.entry;
               kept = kept;
-              alloc = alloc;
             })
                 outcomes.entry.now) }
         {
@@ -165,7 +174,6 @@ fn end_run<R: Threads + Sync>(
                 wires,
                 order,
                 kept,
-                alloc,
             };
             take_rest(alloc, parts, begun, outcomes)
         },
@@ -176,30 +184,6 @@ fn end_run<R: Threads + Sync>(
         names,
         front: front?,
     })
-}
-
-/// Ends a block whose transactions have these outcomes: the fees are shared, then programs become
-/// executable, and the state hash is of these accounts.
-fn end_block<R: Threads + Sync>(
-    rt: &R,
-    alloc: Global,
-    lanes: u32,
-    parts: RecordParts<'_>,
-    ended: Ended<TxWork>,
-    outcomes: &Items<Outcome>,
-    begun: Begun,
-) -> Result<Ends, OutOfMemory>
-    requires run { MayEnd parts.wires.now parts.order.now
-        (ran_of ended.origin.value outcomes.now) }
-    requires begun { IsBegun parts outcomes.now begun }
-    ensures { IfOk result (AreEnds parts.entry (ran_of ended.origin.value outcomes.entry.now)) }
-{
-    let names = processed_in(alloc, parts.order, outcomes.as_slice())?;
-    let split = split_paid(outcomes.as_slice());
-    let ends = end_run(
-        rt, alloc, lanes, parts, split, names, ended, outcomes, begun,
-    )?;
-    Ok(ends)
 }
 
 /// A block as far as it is known by its entries, and its hash so far.
@@ -260,20 +244,19 @@ fn seal(unsealed: Unsealed, burned: u64, collected: u64, state: Hash32) -> Block
 /// The snapshot after a block that has this hash.
 fn snapshot_after(
     slot: u64,
-    limits: Limits,
-    recent: Recent,
+    chain: Chain,
     accounts: Accounts,
     mark: Mark,
 ) -> Result<Snapshot, OutOfMemory>
     requires { Ascends mark.messages }
     ensures { IfOk result (λ after. after ≡ record {
       slot = slot;
-      limits = limits;
-      recent = take max_marks (mark ∷ recent);
+      limits = chain.limits;
+      recent = take max_marks (mark ∷ chain.recent);
       accounts = accounts;
     }) }
 {
-    let mut recent = recent;
+    let Chain { limits, mut recent } = chain;
     recent.advance(mark)?;
     Ok(Snapshot {
         slot,
@@ -284,71 +267,67 @@ fn snapshot_after(
 }
 
 /// The block of a run, and the snapshot after it.
-pub(crate) fn close<R: Threads + Sync>(
-    rt: &R,
-    alloc: Global,
-    lanes: u32,
-    limits: Limits,
-    recent: Recent,
+pub(crate) fn close<G: Gate, R: Threads + Sync>(
+    crew: &Crew<'_, G, R>,
+    chain: Chain,
     parts: RecordParts<'_>,
     ended: Ended<TxWork>,
     outcomes: Items<Outcome>,
     begun: Begun,
 ) -> Result<Closed, OutOfMemory>
-    requires limits { AreAllowed limits }
-    requires messages { All (λ mark. length mark.messages ≤ max_transactions) recent }
-    requires previous { parts.previous ≡ newest_of recent }
+    requires limits { AreAllowed chain.limits }
+    requires messages { All (λ mark. length mark.messages ≤ max_transactions)
+        chain.recent }
+    requires previous { parts.previous ≡ newest_of chain.recent }
     requires run { MayEnd parts.wires.now parts.order.now (ran_of ended.origin.value outcomes) }
     requires begun { IsBegun parts outcomes begun }
     ensures { IfOk result (IsClosed (closed_with (record {
       slot = 0;
-      limits = limits;
-      recent = recent;
+      limits = chain.limits;
+      recent = chain.recent;
       accounts = joined_of ended.origin.value;
     })
         parts.entry.head.now parts.entry.wires.now parts.entry.order.now
         (ran_of ended.origin.value outcomes))) }
 {
-    let Ends { end, names, front } = end_block(rt, alloc, lanes, parts, ended, &outcomes, begun)?;
-    let unsealed = list_entries(alloc, parts, outcomes, front)?;
+    let Ends { end, names, front } = end_block(crew, parts, ended, &outcomes, begun)?;
+    let unsealed = list_entries(crew.alloc, parts, outcomes, front)?;
     let block = seal(unsealed, end.burned, end.collected, end.state);
     let mark = Mark {
         hash: block.hash,
         messages: names,
     };
-    let after = snapshot_after(parts.head.slot, limits, recent, end.accounts, mark)?;
+    let after = snapshot_after(parts.head.slot, chain, end.accounts, mark)?;
     Ok(Closed { after, block })
 }
 
 /// The same with the block as its record, whose bytes were kept.
-pub(crate) fn close_record<R: Threads + Sync>(
-    rt: &R,
-    alloc: Global,
-    lanes: u32,
-    limits: Limits,
-    recent: Recent,
+pub(crate) fn close_record<G: Gate, R: Threads + Sync>(
+    crew: &Crew<'_, G, R>,
+    chain: Chain,
     parts: RecordParts<'_>,
     ended: Ended<TxWork>,
     outcomes: &Items<Outcome>,
     begun: Begun,
 ) -> Result<ClosedRecord, OutOfMemory>
-    requires limits { AreAllowed limits }
-    requires messages { All (λ mark. length mark.messages ≤ max_transactions) recent }
-    requires previous { parts.previous ≡ newest_of recent }
+    requires limits { AreAllowed chain.limits }
+    requires messages { All (λ mark. length mark.messages ≤ max_transactions)
+        chain.recent }
+    requires previous { parts.previous ≡ newest_of chain.recent }
     requires run { MayEnd parts.wires.now parts.order.now
         (ran_of ended.origin.value outcomes.now) }
     requires begun { IsBegun parts outcomes.now begun }
     requires kept { parts.kept ≡ true }
     ensures { IfOk result (IsClosedRecord (closed_with (record {
       slot = 0;
-      limits = limits;
-      recent = recent;
+      limits = chain.limits;
+      recent = chain.recent;
       accounts = joined_of ended.origin.value;
     })
         parts.entry.head.now parts.entry.wires.now parts.entry.order.now
         (ran_of ended.origin.value outcomes.entry.now))) }
 {
-    let Ends { end, names, front } = end_block(rt, alloc, lanes, parts, ended, outcomes, begun)?;
+    let Ends { end, names, front } = end_block(crew, parts, ended, outcomes, begun)?;
     let whole = end_record(
         front.bytes,
         front.hasher,
@@ -360,7 +339,7 @@ pub(crate) fn close_record<R: Threads + Sync>(
         hash: whole.hash,
         messages: names,
     };
-    let after = snapshot_after(parts.head.slot, limits, recent, end.accounts, mark)?;
+    let after = snapshot_after(parts.head.slot, chain, end.accounts, mark)?;
     Ok(ClosedRecord {
         record: whole.bytes,
         after,

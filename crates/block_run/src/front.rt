@@ -46,14 +46,14 @@ pub(crate) struct Begun {
 }
 
 /// A record that is to have an entry for each transaction, up to the first of them.
-pub(crate) fn begin(parts: RecordParts<'_>) -> Result<Begun, OutOfMemory>
+pub(crate) fn begin(alloc: Global, parts: RecordParts<'_>) -> Result<Begun, OutOfMemory>
     requires few { length parts.order.now ≤ max_transactions }
     ensures { IfOk result (λ begun. (outcomes : List OutcomeValue)
         → IsBegun parts.entry outcomes begun) }
 {
     let count = parts.order.len();
     let room = if parts.kept { count * ENTRY_ROOM } else { 0 };
-    let mut bytes = Blob::with_capacity(parts.alloc, room)?;
+    let mut bytes = Blob::with_capacity(alloc, room)?;
     write_heading(
         &mut bytes,
         parts.head.slot,
@@ -180,7 +180,7 @@ pub(crate) fn read_front<W: Work, R: Wait>(
     ensures { IfOk result (IsBegun parts.entry
         (outcomes_at_end W.job (desk_origin desk.now))) }
 {
-    let mut begun = begin(parts)?;
+    let mut begun = begin(alloc, parts)?;
     for _ in rt.forever() {
         let left = parts.order.len() as u32 - begun.count;
         if left == 0 || ended.load(SeqCst) {

@@ -1,10 +1,7 @@
 //! A work on its lanes: alone in order, or beside each other over a shared desk, while the front of
 //! the record is hashed.
-ghost use Rattle.std.specs.Prelude.{◌≡◌, ◌≤◌, [], All, IfOk, OnOk, length};
-ghost use Rattle.sol_base.specs.Limits.{max_lanes};
-ghost use Rattle.account_store.specs.State.{at};
-ghost use Rattle.bank_core.specs.Ends.{outcomes_at_end, serial_outcomes};
-ghost use Rattle.bank_core.specs.Openings.{AreNumbered};
+ghost use Rattle.std.specs.Prelude.{◌≡◌, [], All, IfOk, OnOk, length};
+ghost use Rattle.bank_core.specs.Ends.{outcomes_at_end};
 ghost use Rattle.bank_core.specs.Origins.{AllDoneAfter};
 ghost use Rattle.bank_lanes.specs.Passes.{IsIdle};
 ghost use Rattle.bank_shared.specs.Face.{desk_origin, IsPassOf, IsReaderOf, view_of};
@@ -13,11 +10,11 @@ ghost use Rattle.block_run.specs.Ending.{AreOf};
 ghost use Rattle.block_run.specs.Front.{IsBegun};
 
 use crate::block::RecordParts;
+use crate::crew::Crew;
 use crate::front::{Begun, begin, read_front};
-use account_store::Accounts;
-use bank_core::{Core, Ended, Numbered, Take, Work};
+use bank_core::{Core, Ended, Take, Work};
 use bank_lanes::{Gate, run_lanes};
-use bank_shared::{Pass, Reader, SharedDesk};
+use bank_shared::{Pass, SharedDesk};
 use sol_base::{Items, OutOfMemory};
 use std::alloc::Global;
 use std::sync::Wait;
@@ -56,14 +53,10 @@ fn run_alone<W: Work, G: Gate>(core: &mut Core<W>, work: &W, gate: &G) -> Result
 
 /// Runs the lanes of a desk, and hashes the front of the record beside them, until they have ended.
 fn run_beside<W: Work + Sync, G: Gate, R: Threads + Wait + Sync>(
-    rt: &R,
-    alloc: Global,
+    crew: &Crew<'_, G, R>,
     desk: &SharedDesk<W>,
-    pass: Pass<W>,
-    reader: Reader<W>,
-    ended: &AtomicBool,
+    mut pass: Pass<W>,
     work: &W,
-    gate: &G,
     parts: RecordParts<'_>,
 ) -> (
     Result<Begun, OutOfMemory>,
@@ -71,7 +64,6 @@ fn run_beside<W: Work + Sync, G: Gate, R: Threads + Wait + Sync>(
 )
     requires told { (desk_origin desk.now).told ≡ W.told work.now }
     requires pass { IsPassOf desk.now pass }
-    requires reader { IsReaderOf desk.now reader }
     requires idle { IsIdle (view_of pass) }
     requires of { AreOf parts.wires.now parts.order.now }
     requires one_each { length parts.order.now
@@ -84,6 +76,10 @@ fn run_beside<W: Work + Sync, G: Gate, R: Threads + Wait + Sync>(
     ensures done { OnOk result.1.0 (AllDoneAfter W.job (desk_origin desk.now)
         (view_of result.1.1).seen) }
 {
+    let (rt, alloc, gate) = (crew.rt, crew.alloc, crew.gate);
+    let flag = AtomicBool::new(false);
+    let ended = &flag;
+    let reader = desk.reader(&mut pass);
     join(
         rt,
         move || -> Result<Begun, OutOfMemory>
@@ -101,17 +97,20 @@ fn run_beside<W: Work + Sync, G: Gate, R: Threads + Wait + Sync>(
             ensures pass { IsPassOf desk.entry.now result.1 }
             ensures done { OnOk result.0 (AllDoneAfter W.job (desk_origin desk.entry.now)
                 (view_of result.1).seen) }
-        { run_until(rt, alloc, desk, pass, ended, work, gate) },
+        {
+            let end = run_pass(rt, alloc, desk, pass, work, gate);
+            ended.store(true, SeqCst);
+            end
+        },
     )
 }
 
-/// Runs the lanes of a desk, and says when they have ended.
-fn run_until<W: Work + Sync, G: Gate, R: Threads + Wait + Sync>(
+/// Runs the lanes of a desk, whose pass is handed back.
+fn run_pass<W: Work + Sync, G: Gate, R: Threads + Wait + Sync>(
     rt: &R,
     alloc: Global,
     desk: &SharedDesk<W>,
     mut pass: Pass<W>,
-    ended: &AtomicBool,
     work: &W,
     gate: &G,
 ) -> (Result<(), OutOfMemory>, Pass<W>)
@@ -123,18 +122,15 @@ fn run_until<W: Work + Sync, G: Gate, R: Threads + Wait + Sync>(
         (view_of result.1).seen) }
 {
     let run = run_lanes(rt, alloc, desk, &mut pass, work, gate);
-    ended.store(true, SeqCst);
     (run, pass)
 }
 
 /// Shares the core among its lanes, each on a thread of its own, until all positions are done. A
 /// further thread hashes the front of the record.
 fn run_shared<W: Work + Sync, G: Gate, R: Threads + Wait + Sync>(
-    rt: &R,
-    alloc: Global,
+    crew: &Crew<'_, G, R>,
     core: Core<W>,
     work: &W,
-    gate: &G,
     parts: RecordParts<'_>,
 ) -> Result<(Core<W>, Begun), OutOfMemory>
     requires told { core.origin.value.told ≡ W.told work.now }
@@ -148,49 +144,37 @@ fn run_shared<W: Work + Sync, G: Gate, R: Threads + Wait + Sync>(
     ensures begun { IfOk result (λ end. IsBegun parts.entry
         (outcomes_at_end W.job core.origin.value) end.1) }
 {
-    let (desk, mut pass) = SharedDesk::new(alloc, core)?;
-    let reader = desk.reader(&mut pass);
-    let ended = AtomicBool::new(false);
-    let (begun, (run, pass)) = run_beside(
-        rt, alloc, &desk, pass, reader, &ended, work, gate, parts,
-    );
+    let (desk, pass) = SharedDesk::new(crew.alloc, core)?;
+    let (begun, (run, pass)) = run_beside(crew, &desk, pass, work, parts);
     run?;
-    Ok((desk.close(rt, pass), begun?))
+    Ok((desk.close(crew.rt, pass), begun?))
 }
 
-/// Runs a work on so many lanes over these accounts. It ends as the serial run does; its accounts
-/// stand apart yet, and the front of its record is hashed as far as that was known. With one lane
-/// no thread is started.
+/// Runs a work on the lanes of a core. It ends as the serial run does; its accounts stand apart
+/// yet, and the front of its record is hashed as far as that was known. With one lane no thread is
+/// started.
 pub(crate) fn run_work<W: Work + Sync, G: Gate, R: Threads + Wait + Sync>(
-    rt: &R,
-    alloc: Global,
-    accounts: Accounts,
+    crew: &Crew<'_, G, R>,
+    mut core: Core<W>,
     work: &W,
-    numbered: Numbered,
-    lanes: u32,
-    gate: &G,
     parts: RecordParts<'_>,
 ) -> Result<(Ended<W>, Items<Outcome>, Begun), OutOfMemory>
-    requires some { 1 ≤ lanes }
-    requires most { lanes ≤ max_lanes }
-    requires numbered { AreNumbered (W.job (W.told work.now)) numbered.table numbered.graph
-        numbered.room }
+    requires told { core.origin.value.told ≡ W.told work.now }
+    requires journal { core.journal.items ≡ [] }
     requires of { AreOf parts.wires.now parts.order.now }
-    requires one_each { length parts.order.now ≡ (W.job (W.told work.now)).count }
-    requires small { All IsSmallOutcome (serial_outcomes (W.job (W.told work.now)) (at accounts)) }
-    ensures origin { IfOk result (λ end.
-        end.0.origin.value ≡ record { start = accounts; told = W.told work.now }) }
-    ensures outcomes { IfOk result (λ end. let job = W.job (W.told work.now) in
-        end.1 ≡ serial_outcomes job (at accounts)) }
+    requires one_each { length parts.order.now ≡ (W.job core.origin.value.told).count }
+    requires small { All IsSmallOutcome (outcomes_at_end W.job core.origin.value) }
+    ensures origin { IfOk result (λ end. end.0.origin.value ≡ core.origin.value) }
+    ensures outcomes { IfOk result (λ end.
+        end.1 ≡ outcomes_at_end W.job core.origin.value) }
     ensures begun { IfOk result (λ end. IsBegun parts.entry end.1 end.2) }
 {
-    let mut core = Core::over(alloc, accounts, work, lanes, numbered)?;
-    if lanes == 1 {
-        run_alone(&mut core, work, gate)?;
+    if core.lanes() == 1 {
+        run_alone(&mut core, work, crew.gate)?;
         let (ended, outcomes) = core.part()?;
-        Ok((ended, outcomes, begin(parts)?))
+        Ok((ended, outcomes, begin(crew.alloc, parts)?))
     } else {
-        let (core, begun) = run_shared(rt, alloc, core, work, gate, parts)?;
+        let (core, begun) = run_shared(crew, core, work, parts)?;
         let (ended, outcomes) = core.part()?;
         Ok((ended, outcomes, begun))
     }

@@ -6,6 +6,7 @@ mod activation;
 mod admitting;
 mod block;
 mod closing;
+mod crew;
 mod entries;
 mod fees;
 mod front;
@@ -16,7 +17,8 @@ mod order;
 mod run;
 mod threads;
 
-pub use block::{BlockResult, Closed, Head, Recorded, Spent};
+pub use block::{BlockResult, Closed, Decoded, Head, Recorded, Spent};
+pub use crew::MANY_TRANSACTIONS;
 pub use laws::{
     activated_programs_are_ready, executable_accounts_stay, lamports_are_conserved,
     sorted_names_are_the_same,

@@ -1,18 +1,20 @@
 //! Transactions in their order, as a work with the programs that they may call.
-ghost use Rattle.std.specs.Prelude.{◌≡◌, ◌<◌, ◌≤◌, ◌++◌, All, IfOk, OnOk, length, slice_get};
+ghost use Rattle.std.specs.Prelude.{◌≡◌, ◌<◌, ◌≤◌, ◌++◌, All, IfOk, OnOk, filter, length, slice_get};
 ghost use Rattle.sol_base.specs.Limits.{max_stack_height, max_transactions};
 ghost use Rattle.message_codec.specs.Roles.{all_keys};
 ghost use Rattle.snapshot_codec.specs.Snapshot.{IsUpTo};
 ghost use Rattle.admission.specs.Chosen.{IsChosen};
 ghost use Rattle.program_cache.specs.Programs.{programs_of};
 ghost use Rattle.bank_core.specs.Openings.{AreNumbered};
-ghost use Rattle.tx_exec.specs.Told.{job_of, locks_at};
-ghost use Rattle.block_run.specs.SerialRun.{keys_in, locked_in, told_in};
+ghost use Rattle.tx_exec.specs.AdmittedBlock.{job_of, locks_at};
+ghost use Rattle.block_run.specs.SerialRun.{has_instruction, keys_in, locked_in, told_in};
 
+use crate::crew::Crew;
 use crate::threads::call_both;
 use account_store::Accounts;
 use admission::Chosen;
 use bank_core::{Locked, Numbered, number};
+use bank_lanes::Gate;
 use message_codec::{Loaded, Message};
 use program_cache::Programs;
 use snapshot_codec::Snapshot;
@@ -29,6 +31,26 @@ fn push_keys(keys: &mut Vec<Key>, message: &Message, loaded: &Loaded) -> Result<
     keys.extend_from_slice(loaded.writable.as_slice())?;
     keys.extend_from_slice(loaded.readonly.as_slice())?;
     Ok(())
+}
+
+/// Whether a transaction has an instruction.
+fn has_instruction(chosen: &Chosen) -> bool
+    ensures { result ≡ has_instruction chosen.now }
+{
+    !chosen.tx.message.instructions.is_empty()
+}
+
+/// How many of the transactions have an instruction: one without any is no work for a lane.
+pub(crate) fn working_in(order: &[Chosen]) -> usize
+    ensures { result ≡ length (filter has_instruction order.now) }
+{
+    let mut working = 0;
+    for chosen in order {
+        if has_instruction(chosen) {
+            working += 1;
+        }
+    }
+    working
 }
 
 /// The keys that the transactions declare.
@@ -51,7 +73,7 @@ struct InOrder<'a> {
 
 impl<'a> Locked for InOrder<'a> {
     ghost use Rattle.block_run.specs.SerialRun.{locked_in};
-    ghost use Rattle.tx_exec.specs.Told.{job_of};
+    ghost use Rattle.tx_exec.specs.AdmittedBlock.{job_of};
 
     ghost job = { λ locked. job_of (locked_in locked.order.now) };
 
@@ -96,10 +118,8 @@ fn numbered_in(alloc: Global, order: &[Chosen]) -> Result<Numbered, OutOfMemory>
 
 /// The programs among the keys of the transactions, and the keys that they lock as numbers. Where
 /// there are several lanes, one is made beside the other.
-fn prepare<R: Threads + Sync>(
-    rt: &R,
-    alloc: Global,
-    lanes: u32,
+fn prepare<G: Gate, R: Threads + Sync>(
+    crew: &Crew<'_, G, R>,
     accounts: &Accounts,
     order: &[Chosen],
 ) -> Result<(Programs, Numbered), OutOfMemory>
@@ -110,9 +130,10 @@ fn prepare<R: Threads + Sync>(
     ensures numbered { IfOk result (λ made.
         AreNumbered (job_of (locked_in order.now)) made.1.table made.1.graph made.1.room) }
 {
+    let alloc = crew.alloc;
     let (numbered, programs) = call_both(
-        rt,
-        lanes,
+        crew.rt,
+        crew.lanes_for_many(order.len()),
         || -> Result<Numbered, OutOfMemory>
             requires { (length order.now ≤ max_transactions) × All IsChosen order.now }
             ensures { IfOk result (λ n.
@@ -128,10 +149,8 @@ fn prepare<R: Threads + Sync>(
 
 /// The transactions as a work, with the programs that the snapshot has under their keys; and the
 /// keys that they lock, as numbers.
-pub(crate) fn work_of<R: Threads + Sync>(
-    rt: &R,
-    alloc: Global,
-    lanes: u32,
+pub(crate) fn work_of<G: Gate, R: Threads + Sync>(
+    crew: &Crew<'_, G, R>,
     snapshot: &Snapshot,
     slot: u64,
     order: Items<Chosen>,
@@ -143,7 +162,7 @@ pub(crate) fn work_of<R: Threads + Sync>(
     ensures numbered { IfOk result (λ work.
         AreNumbered (job_of work.0.told) work.1.table work.1.graph work.1.room) }
 {
-    let (programs, numbered) = prepare(rt, alloc, lanes, &snapshot.accounts, order.as_slice())?;
-    let work = TxWork::new(alloc, order, programs, slot, snapshot.limits.height)?;
+    let (programs, numbered) = prepare(crew, &snapshot.accounts, order.as_slice())?;
+    let work = TxWork::new(crew.alloc, order, programs, slot, snapshot.limits.height)?;
     Ok((work, numbered))
 }

@@ -1,22 +1,26 @@
 //! The calls that run a block.
-ghost use Rattle.std.specs.Prelude.{◌≡◌, ◌≤◌, All, IfOk, length, map};
-ghost use Rattle.sol_base.specs.Limits.{max_lanes, max_transactions};
+ghost use Rattle.std.specs.Prelude.{◌≡◌, ◌≤◌, [], All, IfOk, length, map};
+ghost use Rattle.sol_base.specs.Limits.{max_lanes, max_stack_height, max_transactions};
 ghost use Rattle.admission.specs.Admission.{AreParsed, admitted};
 ghost use Rattle.admission.specs.Chosen.{IsChosen};
 ghost use Rattle.block_record.specs.Record.{IsCounted};
 ghost use Rattle.block_record.specs.Replays.{IsReplayOf};
-ghost use Rattle.snapshot_codec.specs.Snapshot.{IsReadable};
+ghost use Rattle.snapshot_codec.specs.Snapshot.{IsReadable, IsUpTo};
 ghost use Rattle.block_run.specs.Answers.{IsBlockResult, IsClosed, IsClosedRecord, IsRecorded};
-ghost use Rattle.block_run.specs.Blocks.{before_refused, block_result, closed, is_halted, listed_result, start_in};
+ghost use Rattle.block_run.specs.Blocks.{before_refused, block_result, closed, head_of, is_halted, listed_result, start_in};
 ghost use Rattle.block_run.specs.Ending.{AreOf};
+ghost use Rattle.block_run.specs.SerialRun.{told_in};
 
 use crate::admitting::admit_on;
-use crate::block::{BlockResult, Closed, ClosedRecord, Head, RecordParts, Recorded, Spent};
+use crate::block::{
+    BlockResult, Chain, Closed, ClosedRecord, Decoded, Head, RecordParts, Recorded, Spent,
+};
 use crate::closing::{close, close_record};
+use crate::crew::Crew;
 use crate::lanes::run_work;
-use crate::order::work_of;
-use crate::threads::{busy_lanes, lanes_for_many};
+use crate::order::{work_of, working_in};
 use admission::{Admitted, Chosen, Refused, admit, admit_listed};
+use bank_core::Core;
 use bank_lanes::Gate;
 use block_record::{Block, Entry, Listed};
 use message_codec::Parsed;
@@ -25,108 +29,127 @@ use sol_base::{Blob, Items, OutOfMemory};
 use std::alloc::Global;
 use std::sync::Wait;
 use std::thread::Threads;
+use tx_exec::TxWork;
+
+/// A block before its transactions run: they as a work, a core over the accounts, and what else the
+/// snapshot has.
+#[derive(Drop)]
+struct Opened {
+    work: TxWork,
+    core: Core<TxWork>,
+    chain: Chain,
+}
+
+/// Opens a block of these transactions, in their order, over a snapshot.
+fn open<G: Gate, R: Threads + Sync>(
+    crew: &Crew<'_, G, R>,
+    snapshot: Snapshot,
+    slot: u64,
+    order: Items<Chosen>,
+) -> Result<Opened, OutOfMemory>
+    requires few { length order ≤ max_transactions }
+    requires height { IsUpTo max_stack_height snapshot.limits.height }
+    requires chosen { All IsChosen order }
+    ensures told { IfOk result (λ opened. opened.work.told ≡ told_in snapshot slot order) }
+    ensures origin { IfOk result (λ opened. opened.core.origin.value
+        ≡ record { start = snapshot.accounts; told = told_in snapshot slot order }) }
+    ensures journal { IfOk result (λ opened. opened.core.journal.items ≡ []) }
+    ensures chain { IfOk result (λ opened. opened.chain
+        ≡ record { limits = snapshot.limits; recent = snapshot.recent }) }
+{
+    let (work, numbered) = work_of(crew, &snapshot, slot, order)?;
+    let Snapshot {
+        slot: _,
+        limits,
+        recent,
+        accounts,
+    } = snapshot;
+    Ok(Opened {
+        core: Core::over(crew.alloc, accounts, &work, crew.lanes, numbered)?,
+        work,
+        chain: Chain { limits, recent },
+    })
+}
 
 /// Runs transactions in their order over a snapshot, and ends the block.
 fn run_order<G: Gate, R: Threads + Wait + Sync>(
-    rt: &R,
-    alloc: Global,
+    crew: &Crew<'_, G, R>,
     snapshot: Snapshot,
     head: &Head,
     wires: &Items<Blob>,
     order: Items<Chosen>,
-    lanes: u32,
-    gate: &G,
 ) -> Result<Closed, OutOfMemory>
-    requires some { 1 ≤ lanes }
-    requires most { lanes ≤ max_lanes }
     requires readable { IsReadable snapshot }
     requires chosen { All IsChosen order }
     requires of { AreOf wires.now order }
     ensures { IfOk result (IsClosed (closed snapshot head.now wires.now order)) }
 {
-    let lanes = busy_lanes(lanes, order.len());
-    let beside = lanes_for_many(lanes, order.len());
-    let (work, numbered) = work_of(rt, alloc, beside, &snapshot, head.slot, order)?;
-    let Snapshot {
-        slot: _,
-        limits,
-        recent,
-        accounts,
-    } = snapshot;
+    let crew = crew.busy(working_in(order.as_slice()));
+    let Opened { work, core, chain } = open(&crew, snapshot, head.slot, order)?;
     let parts = RecordParts {
         head,
-        previous: recent.newest(),
+        previous: chain.recent.newest(),
         wires: wires.as_slice(),
         order: work.chosen(),
         kept: false,
-        alloc,
     };
-    let (ended, outcomes, begun) = run_work(
-        rt, alloc, accounts, &work, numbered, lanes, gate, parts,
-    )?;
-    close(
-        rt, alloc, beside, limits, recent, parts, ended, outcomes, begun,
-    )
+    let (ended, outcomes, begun) = run_work(&crew, core, &work, parts)?;
+    close(&crew, chain, parts, ended, outcomes, begun)
 }
 
 /// Runs transactions in their order over a snapshot, and writes the record of the block. What the
 /// run leaves behind comes with it.
 fn record_order<G: Gate, R: Threads + Wait + Sync>(
-    rt: &R,
-    alloc: Global,
+    crew: &Crew<'_, G, R>,
     snapshot: Snapshot,
-    head: &Head,
-    wires: &Items<Blob>,
+    batch: Batch,
     order: Items<Chosen>,
-    lanes: u32,
-    gate: &G,
 ) -> Result<(ClosedRecord, Spent), OutOfMemory>
-    requires some { 1 ≤ lanes }
-    requires most { lanes ≤ max_lanes }
     requires readable { IsReadable snapshot }
     requires chosen { All IsChosen order }
-    requires of { AreOf wires.now order }
-    ensures { IfOk result (λ end.
-        IsClosedRecord (closed snapshot head.now wires.now order) end.0) }
+    requires of { AreOf batch.wires order }
+    ensures { IfOk result (λ end. IsClosedRecord
+        (closed snapshot (head_of batch) batch.wires order) end.0) }
 {
-    let lanes = busy_lanes(lanes, order.len());
-    let beside = lanes_for_many(lanes, order.len());
-    let (work, numbered) = work_of(rt, alloc, beside, &snapshot, head.slot, order)?;
-    let Snapshot {
-        slot: _,
-        limits,
-        recent,
-        accounts,
-    } = snapshot;
+    let crew = crew.busy(working_in(order.as_slice()));
+    let head = head_of(&batch);
+    let Opened { work, core, chain } = open(&crew, snapshot, head.slot, order)?;
     let parts = RecordParts {
-        head,
-        previous: recent.newest(),
-        wires: wires.as_slice(),
+        head: &head,
+        previous: chain.recent.newest(),
+        wires: batch.wires.as_slice(),
         order: work.chosen(),
         kept: true,
-        alloc,
     };
-    let (ended, outcomes, begun) = run_work(
-        rt, alloc, accounts, &work, numbered, lanes, gate, parts,
-    )?;
-    let end = close_record(
-        rt, alloc, beside, limits, recent, parts, ended, &outcomes, begun,
-    )?;
-    Ok((end, Spent { work, outcomes }))
+    let (ended, outcomes, begun) = run_work(&crew, core, &work, parts)?;
+    let end = close_record(&crew, chain, parts, ended, &outcomes, begun)?;
+    Ok((
+        end,
+        Spent {
+            batch,
+            work,
+            outcomes,
+        },
+    ))
+}
+
+/// The head of the block of a batch.
+fn head_of(batch: &Batch) -> Head
+    ensures { result ≡ head_of batch.now }
+{
+    Head {
+        slot: batch.slot,
+        collector: batch.collector,
+    }
 }
 
 /// Runs the transactions of a batch that are admitted.
 fn run_admitted<G: Gate, R: Threads + Wait + Sync>(
-    rt: &R,
-    alloc: Global,
+    crew: &Crew<'_, G, R>,
     snapshot: Snapshot,
     batch: &Batch,
     answer: Admitted,
-    lanes: u32,
-    gate: &G,
 ) -> Result<BlockResult, OutOfMemory>
-    requires some { 1 ≤ lanes }
-    requires most { lanes ≤ max_lanes }
     requires readable { IsReadable snapshot }
     requires few { length batch.now.wires ≤ max_transactions }
     requires answer { answer ≡ admitted (start_in snapshot) batch.now.wires }
@@ -134,20 +157,7 @@ fn run_admitted<G: Gate, R: Threads + Wait + Sync>(
     ensures { IfOk result (IsBlockResult (block_result snapshot batch.now)) }
 {
     let Admitted { order, refused } = answer;
-    let head = Head {
-        slot: batch.slot,
-        collector: batch.collector,
-    };
-    let Closed { block, after } = run_order(
-        rt,
-        alloc,
-        snapshot,
-        &head,
-        &batch.wires,
-        order,
-        lanes,
-        gate,
-    )?;
+    let Closed { block, after } = run_order(crew, snapshot, &head_of(batch), &batch.wires, order)?;
     Ok(BlockResult {
         block,
         after,
@@ -179,7 +189,13 @@ pub fn run_block<G: Gate, R: Threads + Wait + Sync>(
         &snapshot.accounts,
         &snapshot.limits,
     )?;
-    run_admitted(rt, alloc, snapshot, batch, answer, lanes, gate)
+    let crew = Crew {
+        rt,
+        alloc,
+        lanes,
+        gate,
+    };
+    run_admitted(&crew, snapshot, batch, answer)
 }
 
 /// The same for a batch whose wires were read before.
@@ -199,8 +215,14 @@ pub fn run_parsed<G: Gate, R: Threads + Wait + Sync>(
     requires read { AreParsed batch.now.wires parsed }
     ensures { IfOk result (IsBlockResult (block_result snapshot batch.now)) }
 {
-    let answer = admit_on(rt, alloc, lanes, &snapshot, &batch.wires, parsed)?;
-    run_admitted(rt, alloc, snapshot, batch, answer, lanes, gate)
+    let crew = Crew {
+        rt,
+        alloc,
+        lanes,
+        gate,
+    };
+    let answer = admit_on(&crew, &snapshot, &batch.wires, parsed)?;
+    run_admitted(&crew, snapshot, batch, answer)
 }
 
 /// The same with the block as its record: no entry of it is made, and no wire is copied.
@@ -208,33 +230,26 @@ pub fn record_parsed<G: Gate, R: Threads + Wait + Sync>(
     rt: &R,
     alloc: Global,
     snapshot: Snapshot,
-    batch: &Batch,
-    parsed: Items<Parsed>,
+    decoded: Decoded,
     lanes: u32,
     gate: &G,
 ) -> Result<Recorded, OutOfMemory>
     requires some { 1 ≤ lanes }
     requires most { lanes ≤ max_lanes }
     requires readable { IsReadable snapshot }
-    requires few { length batch.now.wires ≤ max_transactions }
-    requires read { AreParsed batch.now.wires parsed }
-    ensures { IfOk result (IsRecorded (block_result snapshot batch.now)) }
+    requires few { length decoded.batch.wires ≤ max_transactions }
+    requires read { AreParsed decoded.batch.wires decoded.parsed }
+    ensures { IfOk result (IsRecorded (block_result snapshot decoded.batch)) }
 {
-    let Admitted { order, refused } = admit_on(rt, alloc, lanes, &snapshot, &batch.wires, parsed)?;
-    let head = Head {
-        slot: batch.slot,
-        collector: batch.collector,
-    };
-    let (ClosedRecord { record, after }, spent) = record_order(
+    let crew = Crew {
         rt,
         alloc,
-        snapshot,
-        &head,
-        &batch.wires,
-        order,
         lanes,
         gate,
-    )?;
+    };
+    let Decoded { batch, parsed } = decoded;
+    let Admitted { order, refused } = admit_on(&crew, &snapshot, &batch.wires, parsed)?;
+    let (ClosedRecord { record, after }, spent) = record_order(&crew, snapshot, batch, order)?;
     Ok(Recorded {
         record,
         after,
@@ -302,9 +317,13 @@ pub fn run_listed<G: Gate, R: Threads + Wait + Sync>(
         collector: given.collector,
     };
     let order = before_refused(order, refused.as_slice());
-    let Closed { block, after: _ } = run_order(
-        rt, alloc, snapshot, &head, &wires, order, lanes, gate,
-    )?;
+    let crew = Crew {
+        rt,
+        alloc,
+        lanes,
+        gate,
+    };
+    let Closed { block, after: _ } = run_order(&crew, snapshot, &head, &wires, order)?;
     Ok(Listed {
         block,
         halted: is_halted(refused.as_slice()),

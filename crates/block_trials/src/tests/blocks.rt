@@ -11,7 +11,7 @@ use crate::tests::inputs::{
 };
 use bank_lanes::{Gate, OpenGate};
 use block_record::{Block, Entry, Listed, read_record};
-use block_run::{BlockResult, Recorded, record_parsed, run_block, run_listed, run_parsed};
+use block_run::{BlockResult, Decoded, Recorded, record_parsed, run_block, run_listed, run_parsed};
 use message_codec::parse;
 use snapshot_codec::{Batch, Prefix, Snapshot, read_batch, read_snapshot};
 use sol_base::{Account, Blob, Hash32, Items, Key, OutOfMemory};
@@ -315,7 +315,8 @@ fn run_recorded<R: Threads + Wait + Sync>(
         collector: Key([0xc0; 32]),
         wires,
     };
-    Ok(record_parsed(rt, alloc, snapshot, &batch, parsed, lanes, &OpenGate)?)
+    let decoded = Decoded { batch, parsed };
+    Ok(record_parsed(rt, alloc, snapshot, decoded, lanes, &OpenGate)?)
 }
 
 /// Whether that transfer alone stands in the record.

@@ -1,7 +1,7 @@
 use Rattle.std.proofs.Common.{◌*◌, ◌≤◌, length, arith}
 use Rattle.sol_base.specs.Limits.{max_transaction_keys}
 use Rattle.bank_core.specs.Counts.{locks_before}
-use Rattle.tx_exec.specs.Told.{job_of}
+use Rattle.tx_exec.specs.AdmittedBlock.{job_of}
 use Rattle.tx_exec.proofs.Works.{works_are_lawful}
 use Rattle.block_run.specs.SerialRun.{locked_in}
 use Rattle.block_run.proofs.Positions.{locks_few}

@@ -6,12 +6,12 @@ use Rattle.block_run.proofs.Calls.{admitted_are_of, admitted_result}
 use Rattle.block_run.proofs.run.record_parsed.Goals as goal
 
 pub record_order-requires-clause-of : goal.record_order-requires-clause-of
-record_order-requires-clause-of g c κs within = admitted_are_of c.args.snapshot c.args.batch.now.wires c.in_ok-order.field-0 c.requires.readable c.requires.few c.in_ok-order.ensures.exact
+record_order-requires-clause-of g c κs within = admitted_are_of c.args.snapshot c.args.decoded.batch.wires c.in_ok-order.field-0 c.requires.readable c.requires.few c.in_ok-order.ensures.exact
 
 pub returns : goal.returns
 returns g c =
     let s = c.args.snapshot in
-    let batch = c.args.batch.now in
+    let batch = c.args.decoded.batch in
     let answer = c.in_ok-order.field-0 in
     let same = admitted_result s batch answer (closed s (head_of batch) batch.wires answer.order) c.in_ok-order.ensures.exact refl in
     record {

@@ -1,3 +1,6 @@
+use Rattle.std.proofs.Common.{◌∙◌, ap}
+use Rattle.block_run.specs.declared.block.Head.{Head}
+use Rattle.block_run.specs.Blocks.{closed}
 use Rattle.block_run.proofs.Calls.{admitted_are_of, admitted_result}
 use Rattle.block_run.proofs.run.run_admitted.Goals as goal
 
@@ -6,7 +9,8 @@ run_order-requires-clause-of g c κs within = admitted_are_of c.args.snapshot c.
 
 pub returns : goal.returns
 returns g c = record {
-  exact = admitted_result c.args.snapshot c.args.batch.now c.args.answer c.in_ok-block.field-0 c.requires.answer c.in_ok-block.ensures.exact;
+  exact = admitted_result c.args.snapshot c.args.batch.now c.args.answer c.in_ok-block.field-0 c.requires.answer
+      (c.in_ok-block.ensures.exact ∙ ap (λ (head : Head). closed c.args.snapshot head c.args.batch.now.wires c.args.answer.order) c.head_of.ensures);
   counted = c.in_ok-block.ensures.counted;
   writable = c.in_ok-block.ensures.writable;
 }

@@ -1,12 +1,13 @@
-use Rattle.std.proofs.Common.{◌≡◌, ◌≤◌, ◌∙◌, List, length, map, sym, ap, subst, arith}
+use Rattle.std.proofs.Common.{◌≡◌, ◌≤◌, ◌∙◌, All, List, length, map, sym, ap, subst, arith}
 use Rattle.std.proofs.lemmas.List.{length-map}
 use Rattle.sol_base.specs.Limits.{max_transactions}
 use Rattle.block_record.specs.declared.block.Entry.{Entry}
 use Rattle.admission.specs.declared.chosen.Chosen.{Chosen}
+use Rattle.admission.specs.Chosen.{IsChosen}
 use Rattle.block_run.specs.Blocks.{before_refused, closed, is_halted, wires_of}
 use Rattle.block_run.specs.Ending.{AreOf}
 use Rattle.block_run.proofs.Calls.{head_again, listed_are_of, listed_cut, listed_is}
-use Rattle.block_run.proofs.Orders.{before_are_of}
+use Rattle.block_run.proofs.Orders.{before_are_chosen, before_are_of}
 use Rattle.block_run.proofs.run.run_listed.Goals as goal
 
 pub run_order-requires-clause-of : goal.run_order-requires-clause-of
@@ -16,6 +17,11 @@ run_order-requires-clause-of g c κs within =
     let few : length c.in_ok-wires.wires ≤ max_transactions = omega (arith, long, c.requires.few) in
     subst (AreOf c.in_ok-wires.wires) (sym c.before_refused-order.ensures)
     (before_are_of c.in_ok-wires.wires _ _ (listed_are_of c.args.snapshot c.in_ok-wires.wires c.in_ok-order.field-0 c.requires.readable few c.in_ok-order.ensures.exact))
+
+pub run_order-requires-clause-chosen : goal.run_order-requires-clause-chosen
+run_order-requires-clause-chosen g c κs within =
+    subst (All IsChosen) (sym c.before_refused-order.ensures)
+    (before_are_chosen _ _ c.in_ok-order.ensures.chosen)
 
 pub returns-clause-exact : goal.returns-clause-exact
 returns-clause-exact g c =

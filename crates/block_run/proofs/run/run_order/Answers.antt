@@ -1,36 +1,33 @@
-use Rattle.std.proofs.Common.{List, ℕ, sym, ap, subst, ◌∙◌, IfOk}
-use Rattle.admission.specs.declared.chosen.Chosen.{Chosen}
-use Rattle.tx_exec.specs.declared.told.Told.{Told}
+use Rattle.std.proofs.Common.{◌∙◌, ap, subst, IfOk}
+use Rattle.tx_exec.specs.declared.admitted.AdmittedBlock.{AdmittedBlock}
 use Rattle.block_run.specs.declared.block.Closed.{Closed}
 use Rattle.block_run.specs.Answers.{IsClosed}
-use Rattle.block_run.specs.SerialRun.{Ran}
-use Rattle.block_run.specs.Ending.{MayEnd, ran_of}
-use Rattle.block_run.proofs.Calls.{same_end, same_run, small_run}
+use Rattle.block_run.proofs.Calls.{same_end, same_may_end, same_run, small_run}
 use Rattle.block_run.proofs.Runs.{run_may_end}
 use Rattle.block_run.proofs.run.run_order.Goals as goal
 
 pub run_work-requires-clause-small : goal.run_work-requires-clause-small
 run_work-requires-clause-small g c κs within =
     let s = c.args.snapshot in
-    small_run s c.args.head.now.slot c.args.wires.now c.args.order c.in_ok-work.work.told c.in_ok-work.ensures.told
+    small_run s c.args.head.now.slot c.args.wires.now c.args.order c.in_ok-work.field-0.core.origin.value c.in_ok-work.ensures.origin
     (run_may_end s c.args.head.now.slot c.args.wires.now c.args.order c.requires.readable c.requires.chosen c.requires.of)
 
 pub close-requires-clause-run : goal.close-requires-clause-run
 close-requires-clause-run g c κs within =
     let s = c.args.snapshot in
-    let order = c.args.order in
-    let same = same_run s c.args.head.now.slot order c.in_ok-work.work.told c.in_ok-ended.ended.origin.value c.in_ok-ended.outcomes c.in_ok-work.ensures.told c.in_ok-ended.ensures.origin c.in_ok-ended.ensures.outcomes in
-    let chosen = c.chosen.ensures ∙ ap (λ (t : Told). t.chosen) c.in_ok-work.ensures.told in
-    subst (λ (w : List (List ℕ)). MayEnd w c.chosen.result.now (ran_of c.in_ok-ended.ended.origin.value c.in_ok-ended.outcomes)) (sym c.as_slice.ensures)
-    (subst (λ (o : List Chosen). MayEnd c.args.wires.now o (ran_of c.in_ok-ended.ended.origin.value c.in_ok-ended.outcomes)) (sym chosen)
-    (subst (λ (r : Ran). MayEnd c.args.wires.now order r) (sym same)
-    (run_may_end s c.args.head.now.slot c.args.wires.now order c.requires.readable c.requires.chosen c.requires.of)))
+    let opened = c.in_ok-work in
+    let ended = c.in_ok-ended in
+    let same = same_run s c.args.head.now.slot c.args.order opened.field-0.core.origin.value ended.ended.origin.value ended.outcomes opened.ensures.origin ended.ensures.origin ended.ensures.outcomes in
+    let chosen = c.chosen.ensures ∙ ap (λ (t : AdmittedBlock). t.chosen) opened.ensures.told in
+    same_may_end c.args.wires.now c.as_slice-2.result.now c.args.order c.chosen.result.now _ _ c.as_slice-2.ensures chosen same
+    (run_may_end s c.args.head.now.slot c.args.wires.now c.args.order c.requires.readable c.requires.chosen c.requires.of)
 
 pub returns : goal.returns
 returns g c =
     let s = c.args.snapshot in
-    let order = c.args.order in
-    let same = same_run s c.args.head.now.slot order c.in_ok-work.work.told c.in_ok-ended.ended.origin.value c.in_ok-ended.outcomes c.in_ok-work.ensures.told c.in_ok-ended.ensures.origin c.in_ok-ended.ensures.outcomes in
-    let chosen = c.chosen.ensures ∙ ap (λ (t : Told). t.chosen) c.in_ok-work.ensures.told in
-    let end = same_end s c.args.head.now c.args.wires.now c.as_slice.result.now order c.chosen.result.now c.in_ok-ended.ended.origin.value c.in_ok-ended.outcomes c.as_slice.ensures chosen same in
+    let opened = c.in_ok-work in
+    let ended = c.in_ok-ended in
+    let same = same_run s c.args.head.now.slot c.args.order opened.field-0.core.origin.value ended.ended.origin.value ended.outcomes opened.ensures.origin ended.ensures.origin ended.ensures.outcomes in
+    let chosen = c.chosen.ensures ∙ ap (λ (t : AdmittedBlock). t.chosen) opened.ensures.told in
+    let end = same_end s c.args.head.now c.args.wires.now c.as_slice-2.result.now c.args.order c.chosen.result.now opened.field-0.chain ended.ended.origin.value ended.outcomes c.as_slice-2.ensures chosen opened.ensures.chain same in
     subst (λ (wanted : Closed). IfOk c.close.result (IsClosed wanted)) end c.close.ensures

@@ -1,0 +1,45 @@
+//! What runs a block.
+ghost use Rattle.std.specs.Prelude.{◌≡◌, ◌≤◌, if◌then◌else◌, max, min, nat_lt};
+ghost use Rattle.sol_base.specs.Limits.{max_lanes};
+
+use std::alloc::Global;
+
+/// How many transactions a block has at least before whose run, and after it, a thread is started:
+/// for fewer it costs more than it saves.
+pub const MANY_TRANSACTIONS: usize = 64;
+
+/// What runs a block: so many lanes, on threads of this runtime, and the gate that they pass.
+#[derive(Drop)]
+pub(crate) struct Crew<'a, G, R> {
+    pub(crate) rt: &'a R,
+    pub(crate) alloc: Global,
+    pub(crate) lanes: u32,
+    pub(crate) gate: &'a G,
+    ghost some: { 1 ≤ lanes },
+    ghost most: { lanes ≤ max_lanes },
+}
+
+impl<'a, G, R> Crew<'a, G, R> {
+    /// The same with no more lanes than transactions that are work for one, and one at least.
+    pub(crate) fn busy(&self, working: usize) -> Crew<'a, G, R>
+        ensures { result.lanes ≡ min self.now.lanes (max 1 working) }
+    {
+        Crew {
+            rt: self.rt,
+            alloc: self.alloc,
+            lanes: (self.lanes as usize).min(working.max(1)) as u32,
+            gate: self.gate,
+        }
+    }
+
+    /// The lanes, or one alone where the transactions are few.
+    pub(crate) fn lanes_for_many(&self, transactions: usize) -> u32
+        ensures { result ≡ (if nat_lt transactions MANY_TRANSACTIONS then 1 else self.now.lanes) }
+    {
+        if transactions < MANY_TRANSACTIONS {
+            1
+        } else {
+            self.lanes
+        }
+    }
+}
