@@ -1,5 +1,5 @@
 -- The block of a batch, as the one that is added to a chain.
-use Rattle.std.proofs.Common.{◌≤◌, ℕ, List, length, refl, sym, subst}
+use Rattle.std.proofs.Common.{◌≡◌, ◌≤◌, ℕ, List, length, refl, sym, subst}
 use Rattle.std.specs.List.{AllByRecursion}
 use Rattle.std.proofs.lemmas.List.Elements.{All-from_recursion}
 use Rattle.spec_base.specs.Bytes.{IsBytes}
@@ -49,3 +49,12 @@ pub batch_added : (ledger : Ledger) (batch : Batch) (answer : BlockResult) (micr
 batch_added ledger batch answer micros old new is has leaves_only disk shows later since h crashed leaves =
     let had : HasWidths answer.after = subst (λ (r : BlockResult). HasWidths r.after) (sym is.exact) has in
     (micros, subst (λ (r : BlockResult). IsBeforeOrAfter ledger r.block r.after micros disk crashed) is.exact (leaves_only had disk shows later since h crashed leaves))
+
+-- the same where the chain that it was added to is the one that was opened
+pub opened_added : (ledger finished : Ledger) (batch : Batch) (answer : BlockResult) (micros : ℕ) (old new : List Event) → finished ≡ ledger → IsBlockResult (block_result ledger.newest batch) answer
+    → HasWidths ledger.newest → HasWidths (block_result ledger.newest batch).after
+    → (HasWidths finished.newest → HasWidths answer.after → LeavesOnly old new (IsBeforeOrAfter finished answer.block answer.after micros))
+    → LeavesOnly old new (IsWithBatchOrNot ledger batch)
+opened_added ledger finished batch answer micros old new same is had has leaves_only =
+    batch_added ledger batch answer micros old new is has
+    (λ has_it. subst (λ (l : Ledger). HasWidths l.newest → HasWidths answer.after → LeavesOnly old new (IsBeforeOrAfter l answer.block answer.after micros)) same leaves_only had has_it)

@@ -1,15 +1,16 @@
 //! The command `add`: a batch is run over the newest state, and the block is written.
-ghost use Rattle.std.specs.Prelude.{◌≡◌, ◌≤◌, ◌<◌, false, true, IfOk, length};
+ghost use Rattle.std.specs.Prelude.{◌≡◌, ◌≤◌, ◌<◌, false, true, Ok, IfErr, IfOk, length, map};
 ghost use Rattle.std.specs.List.{AllByRecursion};
 ghost use Rattle.spec_base.specs.Bytes.{IsBytes};
-ghost use Rattle.sol_base.specs.Limits.{max_transactions};
+ghost use Rattle.sol_base.specs.Limits.{max_senders, max_transactions};
+ghost use Rattle.message_codec.specs.Parsing.{parsed_of};
 ghost use Rattle.account_store.specs.State.{len};
 ghost use Rattle.snapshot_codec.specs.Snapshot.{HasWidths, IsReadable, max_accounts};
 ghost use Rattle.block_record.specs.Record.{IsCounted};
 ghost use Rattle.block_run.specs.Answers.{IsBlockResult};
 ghost use Rattle.block_run.specs.Blocks.{block_result};
 ghost use Rattle.ledger_folder.specs.Crash.{LeavesOnly};
-ghost use Rattle.ledger_store.specs.Reading.{IsOpen};
+ghost use Rattle.ledger_store.specs.Watching.{IsOpening, finished};
 ghost use Rattle.bank_ledger.specs.Batches.{IsWithBatchOrNot};
 ghost use Rattle.bank_ledger.specs.Crew.{IsCrew};
 
@@ -25,13 +26,15 @@ use block_record::Block;
 use block_run::{BlockResult, run_parsed};
 use intake::{OpenSend, gather};
 use ledger_folder::{Folder, StdFolder};
-use ledger_store::{Ledger, LedgerFault, add, open_ledger};
+use ledger_store::{LedgerFault, Opening, add, begin_opening};
+use message_codec::Parsed;
 use snapshot_codec::{Batch, BatchFault, MAX_ACCOUNTS, Snapshot, read_batch};
-use sol_base::{Blob, OutOfMemory};
+use sol_base::{Blob, Items, OutOfMemory};
 use std::alloc::Global;
+use std::mem::forget;
 use std::rt::{Clock, Files};
 use std::sync::Wait;
-use std::thread::Threads;
+use std::thread::{Threads, join};
 
 /// What runs a block.
 #[derive(Clone, Copy)]
@@ -53,6 +56,36 @@ fn refused_notes(alloc: Global, refused: &[Refused]) -> Result<Blob, OutOfMemory
     Ok(notes)
 }
 
+/// The transactions of a batch as they are read, and beside that a copy of the state, since a run
+/// takes its state away.
+fn prepared<T: Threads + Wait + Sync>(
+    threads: &T,
+    alloc: Global,
+    newest: &Snapshot,
+    batch: &Batch,
+    senders: u32,
+) -> Result<(Items<Parsed>, Snapshot), OutOfMemory>
+    requires senders { (1 ≤ senders) × (senders ≤ max_senders) }
+    requires readable { IsReadable newest.now }
+    requires few { length batch.now.wires ≤ max_transactions }
+    ensures parsed { IfOk result (λ both. both.0 ≡ map parsed_of batch.now.wires) }
+    ensures same { IfOk result (λ both. both.1 ≡ newest.now) }
+{
+    let (parsed, snapshot) = join(
+        threads,
+        || -> Result<Items<Parsed>, OutOfMemory>
+            requires { (1 ≤ senders) × (senders ≤ max_senders)
+                × (length batch.now.wires ≤ max_transactions) }
+            ensures { IfOk result (λ parsed. parsed ≡ map parsed_of batch.entry.now.wires) }
+        { Ok(gather(threads, alloc, &batch.wires, senders, &OpenSend)?.parsed) },
+        || -> Result<Snapshot, OutOfMemory>
+            requires { IsReadable newest.now }
+            ensures { IfOk result (λ snapshot. snapshot ≡ newest.entry.now) }
+        { copied(alloc, newest) },
+    );
+    Ok((parsed?, snapshot?))
+}
+
 /// Runs a batch over a state: what it comes to, and how many microseconds the run took.
 fn run_batch<R: Clock + AllocGlobal, T: Threads + Wait + Sync>(
     rt: &R,
@@ -68,8 +101,7 @@ fn run_batch<R: Clock + AllocGlobal, T: Threads + Wait + Sync>(
     ensures { IfOk result (λ ran. IsBlockResult (block_result newest.now batch.now) ran.0) }
 {
     let alloc = rt.alloc();
-    let parsed = gather(threads, alloc, &batch.wires, crew.senders, &OpenSend)?.parsed;
-    let snapshot = copied(alloc, newest)?;
+    let (parsed, snapshot) = prepared(threads, alloc, newest, batch, crew.senders)?;
     let began = now(rt);
     let ran = run_parsed(
         threads, alloc, snapshot, batch, parsed, crew.lanes, &OpenGate,
@@ -106,30 +138,40 @@ fn has_room(after: &Snapshot) -> bool
     after.accounts.len() <= MAX_ACCOUNTS as usize
 }
 
-/// Runs a batch over the newest state of an open chain, and adds the block.
+/// Runs a batch over the newest state of a chain, and adds the block once the chain's files are known to
+/// be what was written. Nothing of the block is given back: a user waits for the answer, and the program
+/// ends with it.
 fn add_batch<R: Clock + AllocGlobal, F: Folder, T: Threads + Wait + Sync>(
     rt: &R,
     threads: &T,
     files: &mut F,
-    ledger: &mut Ledger,
+    opening: Opening,
     batch: &Batch,
     crew: &Crew,
     opened: u64,
 ) -> Result<Answer, OutOfMemory>
     requires crew { IsCrew crew.now }
-    requires open { IsOpen (F.events files.old) ledger.old }
-    requires every { 1 ≤ ledger.old.head.every }
-    requires readable { IsReadable ledger.old.newest }
+    requires opening { IsOpening (F.events files.old) opening }
+    requires every { 1 ≤ opening.ledger.head.every }
+    requires readable { IsReadable opening.ledger.newest }
     requires few { length batch.now.wires ≤ max_transactions }
     requires bytes { AllByRecursion IsBytes batch.now.wires }
     // A crash at any moment leaves the chain before the block of the batch or after it.
-    ensures any_moment { HasWidths ledger.old.newest →
-        HasWidths (block_result ledger.old.newest batch.now).after →
+    ensures any_moment { finished opening ≡ Ok opening.ledger → HasWidths opening.ledger.newest →
+        HasWidths (block_result opening.ledger.newest batch.now).after →
         LeavesOnly (F.events files.old) (F.events files.new)
-        (IsWithBatchOrNot ledger.old batch.now) }
+        (IsWithBatchOrNot opening.ledger batch.now) }
+    // Where the files are not what was written, nothing is done.
+    ensures refused { IfErr (finished opening) (λ _. F.events files.new ≡ F.events files.old) }
 {
     let alloc = rt.alloc();
-    let (ran, run) = run_batch(rt, threads, &ledger.newest, batch, crew)?;
+    let (ran, run) = run_batch(rt, threads, &opening.ledger.newest, batch, crew)?;
+    let waits = now(rt);
+    let mut ledger = match opening.finish(threads) {
+        Ok(ledger) => ledger,
+        Err(fault) => return refused(alloc, READ_FAILED, fault),
+    };
+    let open = opened.saturating_add(since(rt, &waits));
     let BlockResult {
         block,
         after,
@@ -140,28 +182,44 @@ fn add_batch<R: Clock + AllocGlobal, F: Folder, T: Threads + Wait + Sync>(
     }
     next_blocks_can_be_run();
     let began = now(rt);
-    let added = add(threads, alloc, files, ledger, &block, after, run);
-    let times = Times {
-        open: opened,
-        run,
-        keep: since(rt, &began),
-    };
-    told(alloc, added, &block, unrun.as_slice(), &times)
+    let added = add(threads, alloc, files, &mut ledger, &block, after, run);
+    let keep = since(rt, &began);
+    let times = Times { open, run, keep };
+    let answer = told(alloc, added, &block, unrun.as_slice(), &times)?;
+    forget((ledger, block, unrun));
+    Ok(answer)
 }
 
-/// Opens a chain that is to be written to. What its files are is then on the disk: whoever wrote last
-/// may have ended between a move and the sync of the folder.
+/// Begins to open a chain that is to be written to. What its files are is then on the disk: whoever wrote
+/// last may have ended between a move and the sync of the folder.
 fn open_synced<F: Folder, T: Threads>(
     threads: &T,
     alloc: Global,
     files: &mut F,
-) -> Result<Ledger, LedgerFault>
-    ensures open { IfOk result (IsOpen (F.events files.new)) }
-    ensures every { IfOk result (λ ledger. 1 ≤ ledger.head.every) }
-    ensures readable { IfOk result (λ ledger. IsReadable ledger.newest) }
+) -> Result<Opening, LedgerFault>
+    ensures opening { IfOk result (IsOpening (F.events files.new)) }
+    ensures every { IfOk result (λ opening. 1 ≤ opening.ledger.head.every) }
+    ensures readable { IfOk result (λ opening. IsReadable opening.ledger.newest) }
 {
     files.sync_folder()?;
-    open_ledger(threads, alloc, files)
+    begin_opening(threads, alloc, files)
+}
+
+/// The answer to a batch that is refused, unless the chain is: its files come before.
+fn refused_batch<T: Threads>(
+    threads: &T,
+    alloc: Global,
+    opening: Opening,
+    fault: BatchFault,
+) -> Result<Answer, OutOfMemory> {
+    if let BatchFault::OutOfMemory = fault {
+        return Err(OutOfMemory);
+    }
+    if let Err(fault) = opening.finish(threads) {
+        return refused(alloc, READ_FAILED, fault);
+    }
+    let text = fault.to_string(alloc)?;
+    noted(alloc, INPUT_REFUSED, "batch", text.as_str())
 }
 
 /// The batch that the bytes are, for a block after a slot.
@@ -186,19 +244,18 @@ fn add_locked<R: Files + Clock + AllocGlobal + Clone + Drop, T: Threads + Wait +
     let alloc = rt.alloc();
     let began = now(rt);
     let mut files = StdFolder::new(rt, folder)?;
-    let mut ledger = match open_synced(threads, alloc, &mut files) {
-        Ok(ledger) => ledger,
+    let opening = match open_synced(threads, alloc, &mut files) {
+        Ok(opening) => opening,
         Err(fault) => return refused(alloc, READ_FAILED, fault),
     };
     let opened = since(rt, &began);
-    match batch_in(alloc, bytes, ledger.newest.slot) {
-        Ok(batch) => add_batch(rt, threads, &mut files, &mut ledger, &batch, crew, opened),
-        Err(BatchFault::OutOfMemory) => Err(OutOfMemory),
-        Err(fault) => {
-            let text = fault.to_string(alloc)?;
-            noted(alloc, INPUT_REFUSED, "batch", text.as_str())
-        }
-    }
+    let batch = match batch_in(alloc, bytes, opening.ledger.newest.slot) {
+        Ok(batch) => batch,
+        Err(fault) => return refused_batch(threads, alloc, opening, fault),
+    };
+    let answer = add_batch(rt, threads, &mut files, opening, &batch, crew, opened)?;
+    forget(batch);
+    Ok(answer)
 }
 
 /// The answer to `add`. The lock is held from before the chain is opened until the block stands.

@@ -1,7 +1,8 @@
 //! The command `new`: a chain that begins with a snapshot.
-ghost use Rattle.std.specs.Prelude.{◌≤◌, IfOk};
-ghost use Rattle.snapshot_codec.specs.Snapshot.{IsReadable};
-ghost use Rattle.bank_ledger.specs.Given.{IfValue};
+ghost use Rattle.std.specs.Prelude.{◌≡◌, ◌≤◌, IfOk, Ok};
+ghost use Rattle.snapshot_codec.specs.Snapshot.{BeginsWith, IsReadable};
+ghost use Rattle.snapshot_codec.specs.SnapshotReading.{prefix_of};
+ghost use Rattle.bank_ledger.specs.Given.{IfValue, IsReadWhole};
 
 use crate::answer::{Answer, INPUT_REFUSED, WRITE_FAILED, noted, written};
 use crate::chain::{locked, refused};
@@ -14,25 +15,37 @@ use std::alloc::Global;
 use std::io::ErrorKind;
 use std::rt::Files;
 
-/// The snapshot that the bytes are, all of them.
-fn whole_snapshot(alloc: Global, bytes: &[u8]) -> Result<Given<Snapshot>, OutOfMemory>
-    ensures { IfOk result (IfValue IsReadable) }
+/// The snapshot that the bytes begin with, unless others follow it.
+fn all_of(alloc: Global, bytes: &[u8], prefix: Prefix) -> Result<Given<Snapshot>, OutOfMemory>
+    requires exact { prefix_of bytes.now ≡ Ok prefix }
+    requires begins { BeginsWith bytes.now prefix }
+    ensures readable { IfOk result (IfValue IsReadable) }
+    ensures whole { IfOk result (IfValue (IsReadWhole bytes.now)) }
 {
-    let Prefix { snapshot, length } = match read_snapshot(alloc, bytes) {
-        Ok(prefix) => prefix,
-        Err(SnapshotFault::OutOfMemory) => return Err(OutOfMemory),
-        Err(fault) => {
-            let text = fault.to_string(alloc)?;
-            let told = noted(alloc, INPUT_REFUSED, "snapshot", text.as_str())?;
-            return Ok(Given::Nothing(told));
-        }
-    };
+    let Prefix { snapshot, length } = prefix;
     if length < bytes.len() {
         let text = format!(in alloc; "bytes follow it from byte {length} on")?;
         let told = noted(alloc, INPUT_REFUSED, "snapshot", text.as_str())?;
         return Ok(Given::Nothing(told));
     }
     Ok(Given::Value(snapshot))
+}
+
+/// The snapshot that the bytes are, all of them.
+fn whole_snapshot(alloc: Global, bytes: &[u8]) -> Result<Given<Snapshot>, OutOfMemory>
+    ensures readable { IfOk result (IfValue IsReadable) }
+    // It is what all the bytes are read as: nothing stands behind it.
+    ensures whole { IfOk result (IfValue (IsReadWhole bytes.now)) }
+{
+    match read_snapshot(alloc, bytes) {
+        Ok(prefix) => all_of(alloc, bytes, prefix),
+        Err(SnapshotFault::OutOfMemory) => Err(OutOfMemory),
+        Err(fault) => {
+            let text = fault.to_string(alloc)?;
+            let told = noted(alloc, INPUT_REFUSED, "snapshot", text.as_str())?;
+            Ok(Given::Nothing(told))
+        }
+    }
 }
 
 /// Begins a chain. What the folder's files are is on the disk before: whoever wrote last may have ended

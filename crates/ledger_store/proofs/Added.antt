@@ -60,9 +60,6 @@ module _ (every count : ℕ) (some : 1 ≤ every) where
       let more : (count + 1) % every ≡ count % every + 1 = ap (λ n. n % every) next ∙ mod-mul-add (count / every) every (count % every + 1) (omega (arith, below, apart)) in
       omega (arith, more)
 
-  pub full_within : full_before every count ≤ count
-  full_within = omega arith
-
 -- ---- what lies between two snapshots is readable
 module _ (before after : Snapshot) (was : IsReadable before) (is : IsReadable after) where
   abbrev changes : Changes

@@ -1,5 +1,5 @@
 -- A chain that is begun is opened.
-use Rattle.std.proofs.Common.{◌≡◌, ◌⊎◌, inl, inr, ⊎_elim, ◌<◌, ◌≤◌, ◌^◌, ℕ, List, [], ◌∷◌, ◌++◌, take, drop, true, false, Option, Some, None, option_map, is_some, Result, Ok, Err, OnOk, OnErr, refl, sym, ◌∙◌, ap, subst, arith}
+use Rattle.std.proofs.Common.{◌≡◌, ◌⊎◌, inl, inr, ⊎_elim, ◌<◌, ◌≤◌, ◌^◌, ℕ, List, [], ◌∷◌, ◌++◌, take, drop, false, Option, Some, None, option_map, is_some, Result, Ok, Err, OnOk, OnErr, refl, sym, ◌∙◌, ap, subst, arith}
 use Rattle.std.proofs.lemmas.Bool.{cond-true}
 use Rattle.std.proofs.lemmas.Option.{same_Some}
 use Rattle.spec_base.specs.Reading.{◌>>=◌}
@@ -16,7 +16,7 @@ use Rattle.ledger_folder.proofs.Slots.{one_listing, same_name-self}
 use Rattle.ledger_folder.proofs.Moments.{AtEach, Done, Done-then, at_each_moment}
 use Rattle.ledger_folder.proofs.Stages.{IsStage, one_fits, stands_then, with_file}
 use Rattle.ledger_folder.proofs.Twice.{Survives, done_placed, done_stopped}
-use Rattle.ledger_folder.proofs.Showing.{shows-listed, shows-read}
+use Rattle.ledger_folder.proofs.Showing.{shows-listed}
 use Rattle.ledger_store.specs.declared.head.Head.{Head}
 use Rattle.ledger_store.specs.declared.fault.LedgerFault.{LedgerFault}
 use Rattle.ledger_store.specs.Seal.{sealed}
@@ -202,35 +202,16 @@ pub begins_open : (snapshot : Snapshot) (every : ℕ) (some : 1 ≤ every) (few 
 begins_open snapshot every some few is has (Ok x) old new made = begun_opens snapshot every some few is has old new made
 begins_open snapshot every some few is has (Err e) old new made = tt
 
--- a folder that has a chain's file has a chain
-pub chain_there : (events : List Event) (bytes : List ℕ) → HasChain (Read Chain (Some bytes) ∷ events)
-chain_there events bytes disk shows both = let read = (shows-read events Chain (Some bytes) disk shows).1 in absurd (none (read ∙ both.0))
-  where
-    none : (let o : Option (List ℕ) = Some bytes in o) ≡ None → ⊥
-    none h = cc
-
--- and so has one that has a block
+-- a folder that has a block
 pub block_there : (events : List Event) (slots : List ℕ) → (slots ≡ [] → ⊥) → HasChain (Listed slots ∷ events)
 block_there events slots some disk shows both = some (one_listing disk slots [] (shows-listed events slots disk shows).1 both.1)
 
 -- ---- what was only read
-pub reads_none : (old new : List Event) → new ≡ old → OnlyReads old new
-reads_none old new e = ([], tt, e)
-
 pub reads_chain : (old new : List Event) (found : Option (List ℕ)) → new ≡ Read Chain found ∷ old → OnlyReads old new
 reads_chain old new found e = (Read Chain found ∷ [], tt, e)
 
 pub reads_both : (old mid new : List Event) (found : Option (List ℕ)) (slots : List ℕ) → mid ≡ Read Chain found ∷ old → new ≡ Listed slots ∷ mid → OnlyReads old new
 reads_both old mid new found slots first second = (Listed slots ∷ Read Chain found ∷ [], tt, second ∙ ap (λ (l : List Event). Listed slots ∷ l) first)
 
--- where the list was empty, and where it was not
-pub none_listed : (old mid new : List Event) (found : Option (List ℕ)) (slots : List ℕ) → is_some found ≡ false → mid ≡ Read Chain found ∷ old → new ≡ Listed slots ∷ mid → slots ≡ [] → new ≡ Listed [] ∷ Read Chain None ∷ old
-none_listed old mid new None slots absent first e none = e ∙ ap (λ (l : List ℕ). Listed l ∷ mid) none ∙ ap (λ (l : List Event). Listed [] ∷ l) first
-none_listed old mid new (Some bytes) slots absent first e none = absurd (cc)
-
 pub some_listed : (mid new : List Event) (slots : List ℕ) → new ≡ Listed slots ∷ mid → (slots ≡ [] → ⊥) → HasChain new
 some_listed mid new slots e some = subst HasChain (sym e) (block_there mid slots some)
-
-pub chain_read : (old new : List Event) (found : Option (List ℕ)) → is_some found ≡ true → new ≡ Read Chain found ∷ old → HasChain new
-chain_read old new None there e = absurd (cc)
-chain_read old new (Some bytes) there e = subst HasChain (sym e) (chain_there old bytes)

@@ -1,4 +1,5 @@
 mod Telling
+mod Beside
 mod Same
 mod Crashes
 mod Differences

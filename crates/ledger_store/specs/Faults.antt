@@ -92,8 +92,3 @@ or_fault fault (Err e) = Err (fault e)
 abbrev pub found_or : {X E : Type 0} → E → Option X → Result X E
 found_or fault None = Err fault
 found_or fault (Some x) = Ok x
-
--- an answer is a failure of the folder
-abbrev pub has_failed : {A : Type 0} → Result A LedgerFault → Bool
-has_failed (Ok _) = false
-has_failed (Err fault) = is_failed fault

@@ -9,8 +9,7 @@ use Rattle.ledger_store.specs.declared.head.Head.{Head}
 use Rattle.ledger_store.specs.declared.opening.Ledger.{Ledger}
 use Rattle.ledger_store.specs.declared.fault.LedgerFault.{LedgerFault}
 use Rattle.ledger_store.specs.Heads.{head_in}
-use Rattle.ledger_store.specs.Seal.{unsealed}
-use Rattle.ledger_store.specs.States.{state_in, whole_state}
+use Rattle.ledger_store.specs.States.{state_in}
 use Rattle.ledger_store.specs.Changes.{changes_in, next_of}
 
 -- after how many of so many blocks the newest full state is
@@ -32,12 +31,6 @@ stepped disk slot before = do
 abbrev pub walked : Disk → List ℕ → Snapshot → Result Snapshot LedgerFault
 walked disk [] before = Ok before
 walked disk (slot ∷ slots) before = stepped disk slot before >>= walked disk slots
-
--- from the file of a full state, whatever the hash is that it ends in
-abbrev pub walked_from : Disk → ℕ → List ℕ → List ℕ → Result Snapshot LedgerFault
-walked_from disk slot file slots = do
-  full ← whole_state slot (unsealed file)
-  walked disk slots full
 
 -- the slots of the blocks behind the newest full state
 abbrev pub slots_behind : Head → ℕ → List ℕ

@@ -104,7 +104,12 @@ fn gone_in(
 
 /// The changes of the slot's block, and nothing behind them.
 #[tactic(auto, unfolding(crate::specs::Changes::whole_changes))]
-fn whole_changes(alloc: Global, slot: u64, before: u64, body: &[u8]) -> Result<Changes, LedgerFault>
+pub(crate) fn whole_changes(
+    alloc: Global,
+    slot: u64,
+    before: u64,
+    body: &[u8],
+) -> Result<Changes, LedgerFault>
     ensures gives { Gives is_ledger_memory (λ x. x) result (whole_changes slot before body.now) }
     ensures readable { IfOk result (λ changes. IsReadable changes.left) }
     ensures quiet { NeverFails result }

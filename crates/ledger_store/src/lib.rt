@@ -16,6 +16,7 @@ mod opening;
 mod place;
 mod seal;
 mod state;
+mod watching;
 
 pub use adding::{add, create};
 pub use block::{Kept, read_block};
@@ -25,4 +26,5 @@ pub use copy::copy_snapshot;
 pub use fault::LedgerFault;
 pub use following::follows;
 pub use head::{Head, read_head};
-pub use opening::{Ledger, next_state, open_ledger, read_state};
+pub use opening::{Ledger, next_state, read_state};
+pub use watching::{Opening, begin_opening, open_ledger};

@@ -71,6 +71,7 @@ impl Promise<bool> for SealOf {
 /// A file whose hash is looked at in a thread of its own, if one could be made, while the file is read.
 #[derive(Drop)]
 pub(crate) struct Watched {
+    name: Name,
     bytes: Arc<Blob>,
     child: Option<PromisedHandle<bool, SealOf>>,
     ghost same: { ForSome child (λ h. arc_value h.promise.0.value ≡ arc_value bytes) },
@@ -81,15 +82,24 @@ impl Watched {
     pub(crate) fn begin<T: Threads>(
         threads: &T,
         alloc: Global,
+        name: Name,
         bytes: Blob,
     ) -> Result<Watched, OutOfMemory>
-        ensures { IfOk result (λ watched. arc_value watched.bytes ≡ bytes) }
+        ensures name { IfOk result (λ file. file.name ≡ name) }
+        ensures bytes { IfOk result (λ file. arc_value file.bytes ≡ bytes) }
     {
         let bytes = Arc::new(alloc, bytes)?;
         let theirs = Arc::try_clone(&bytes)?;
         let seal = SealOf(Snapshot::of(&theirs));
         let child = thread::spawn_with(threads, seal, move || is_sealed(theirs.as_slice())).ok();
-        Ok(Watched { bytes, child })
+        Ok(Watched { name, bytes, child })
+    }
+
+    /// What the file is.
+    pub(crate) fn name(&self) -> Name
+        ensures { result ≡ self.now.name }
+    {
+        self.name
     }
 
     /// The bytes of the file.

@@ -14,6 +14,7 @@ use Rattle.ledger_words.specs.declared.command.ChainOption.TheVariants.{Every, L
 use Rattle.ledger_words.specs.declared.command.ChainWordsFault.{ChainWordsFault}
 use Rattle.ledger_words.specs.declared.command.ChainWordsFault.TheVariants.{Command, Folder, Options, Missing, Value, OutOfMemory}
 use Rattle.ledger_words.specs.declared.numbers.TheConstants.{MAX_EVERY, MAX_JOBS}
+use Rattle.ledger_words.specs.declared.reading.TheConstants.{EVERY}
 
 -- want of memory, which no word shows
 abbrev pub is_words_memory : ChainWordsFault → Bool
@@ -44,11 +45,11 @@ folder_in options (folder ∷ words) =
 abbrev pub seen_folder : Bor Text × Bor (List (Bor Text)) → Text × List Text
 seen_folder found = (found.0.now, map (λ w. w.now) found.1.now)
 
--- 16 blocks stand between full states where nothing is said
+-- how many blocks stand between full states where nothing is said
 unfoldable pub new_in : List Text → Read ChainCommand
 new_in words = do
   found ← folder_in (Every ∷ []) words
-  every ← count_given Every MAX_EVERY 16 found.1
+  every ← count_given Every MAX_EVERY EVERY found.1
   Ok (New found.0 every)
 
 unfoldable pub add_in : List Text → Read ChainCommand

@@ -8,6 +8,5 @@ mod reading;
 mod usage;
 
 pub use command::{ChainCommand, ChainOption, ChainWordsFault};
-pub use numbers::{MAX_EVERY, MAX_JOBS};
 pub use reading::read_chain_words;
 pub use usage::{USAGE, VERSION};

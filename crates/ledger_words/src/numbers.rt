@@ -6,10 +6,10 @@ ghost use Rattle.std.specs.Str.Parse.{digits_value};
 ghost use Rattle.ledger_words.specs.Numbers.{is_number_text, number_in};
 
 /// The most blocks from one full state of a chain to the next (the project's own).
-pub const MAX_EVERY: u32 = 65_536;
+pub(crate) const MAX_EVERY: u32 = 65_536;
 
 /// The most blocks that are replayed at once (the project's own).
-pub const MAX_JOBS: u32 = 64;
+pub(crate) const MAX_JOBS: u32 = 64;
 
 fn are_digits(text: &[u8]) -> bool
     ensures { result ≡ list_all is_ascii_digit text.now }

@@ -1,6 +1,5 @@
 //! The options that follow a folder.
-ghost use Rattle.std.specs.Prelude.{◌≡◌, ◌≤◌, IfOk, map, option_map};
-ghost use Rattle.std.specs.List.{list_any};
+ghost use Rattle.std.specs.Prelude.{◌≡◌, IfOk, map, option_map};
 ghost use Rattle.ledger_words.specs.Options.{IsFrom1, are_options, count_given, is_among, is_new, slot_given, value_in};
 
 use crate::command::{ChainOption, ChainWordsFault};

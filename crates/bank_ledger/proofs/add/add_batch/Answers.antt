@@ -1,23 +1,34 @@
-use Rattle.bank_ledger.proofs.Nexts.{batch_added, nothing_added, result_follows, result_readable}
+use Rattle.std.proofs.Common.{sym, subst}
+use Rattle.ledger_store.specs.declared.opening.Ledger.{Ledger}
+use Rattle.ledger_store.specs.Adding.{Follows}
+use Rattle.bank_ledger.proofs.Nexts.{nothing_added, opened_added, result_follows, result_readable}
 use Rattle.bank_ledger.proofs.add.add_batch.Goals as goal
 
-pub returns-in_err-ran : goal.returns-in_err-ran
-returns-in_err-ran g c = record { any_moment = λ had has. nothing_added c.args.ledger.now c.args.batch.now (g.F.Folder.events c.args.files.now) c.requires.open }
+pub returns-in_err-ran-clause-any_moment : goal.returns-in_err-ran-clause-any_moment
+returns-in_err-ran-clause-any_moment g c done had has = nothing_added c.args.opening.ledger c.args.batch.now (g.F.Folder.events c.args.files.now) (c.requires.opening c.args.opening.ledger done)
 
-pub returns-then-not-has_room : goal.returns-then-not-has_room
-returns-then-not-has_room g c = record { any_moment = λ had has. nothing_added c.args.ledger.now c.args.batch.now (g.F.Folder.events c.args.files.now) c.requires.open }
+pub returns-then-not-has_room-clause-any_moment : goal.returns-then-not-has_room-clause-any_moment
+returns-then-not-has_room-clause-any_moment g c done had has = nothing_added c.args.opening.ledger c.args.batch.now (g.F.Folder.events c.args.files.now) (c.requires.opening c.args.opening.ledger done)
+
+pub add-added-requires-clause-opens : goal.add-added-requires-clause-opens
+add-added-requires-clause-opens g c = c.requires.opening c.in-Ok.ledger (sym c.in-Ok.ensures.finished)
 
 pub add-added-requires-clause-after : goal.add-added-requires-clause-after
 add-added-requires-clause-after g c =
-    result_readable c.next_blocks_can_be_run.ensures.next c.args.ledger.now.newest c.args.batch.now c.in_ok-ran.ran c.requires.readable c.requires.bytes c.requires.few c.in_ok-ran.ensures
+    result_readable c.next_blocks_can_be_run.ensures.next c.args.opening.ledger.newest c.args.batch.now c.in_ok-ran.ran c.requires.readable c.requires.bytes c.requires.few c.in_ok-ran.ensures
     (c.has_room.ensures.fits c.if-not-has_room.false)
 
 pub add-added-requires-clause-follows : goal.add-added-requires-clause-follows
-add-added-requires-clause-follows g c = result_follows c.args.ledger.now.newest c.args.batch.now c.in_ok-ran.ran c.in_ok-ran.ensures
+add-added-requires-clause-follows g c =
+    subst (λ (l : Ledger). Follows l.newest c.in_ok-ran.ran.block c.in_ok-ran.ran.after) (sym c.in-Ok.ensures.same)
+    (result_follows c.args.opening.ledger.newest c.args.batch.now c.in_ok-ran.ran c.in_ok-ran.ensures)
 
-pub returns : goal.returns
-returns g c = record {
-  any_moment = λ had has.
-      batch_added c.args.ledger.now c.args.batch.now c.in_ok-ran.ran c.in_ok-ran.run' (g.F.Folder.events c.args.files.now) (g.F.Folder.events c.add-added.new.folder) c.in_ok-ran.ensures has
-      (λ has_it. c.add-added.ensures.any_moment had has_it);
-}
+pub returns-in_err-answer-clause-any_moment : goal.returns-in_err-answer-clause-any_moment
+returns-in_err-answer-clause-any_moment g c done had has =
+    opened_added c.args.opening.ledger c.in-Ok.ledger c.args.batch.now c.in_ok-ran.ran c.in_ok-ran.run' (g.F.Folder.events c.args.files.now) (g.F.Folder.events c.add-added.new.folder) c.in-Ok.ensures.same c.in_ok-ran.ensures had has
+    c.add-added.ensures.any_moment
+
+pub returns-clause-any_moment : goal.returns-clause-any_moment
+returns-clause-any_moment g c done had has =
+    opened_added c.args.opening.ledger c.in-Ok.ledger c.args.batch.now c.in_ok-ran.ran c.in_ok-ran.run' (g.F.Folder.events c.args.files.now) (g.F.Folder.events c.add-added.new.folder) c.in-Ok.ensures.same c.in_ok-ran.ensures had has
+    c.add-added.ensures.any_moment

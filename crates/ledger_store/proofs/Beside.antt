@@ -1,0 +1,264 @@
+-- What is told of files whose hashes are looked at beside the reading.
+use Rattle.std.proofs.Common.{◌≡◌, ℕ, List, [], ◌∷◌, ◌++◌, length, Bool, true, false, MatchBool, Option, None, Some, Result, Ok, Err, refl, sym, ◌∙◌, ap, subst, unwrap_or}
+use Rattle.std.specs.Prelude.{if◌then◌else◌, IfOk}
+use Rattle.std.specs.Option.{option_or}
+use Rattle.std.specs.Arc.{arc_value}
+use Rattle.spec_base.specs.Faults.{Rose}
+use Rattle.spec_base.specs.Reading.{◌>>=◌, Gives}
+use Rattle.snapshot_codec.specs.declared.snapshot.Snapshot.{Snapshot}
+use Rattle.ledger_folder.specs.declared.event.Event.{Event}
+use Rattle.ledger_folder.specs.declared.name.Name.{Name}
+use Rattle.ledger_folder.specs.declared.name.Name.TheVariants.{State, Changes}
+use Rattle.ledger_folder.specs.Files.{Disk, Lists}
+use Rattle.ledger_folder.specs.Crash.{Shows}
+use Rattle.ledger_store.specs.declared.head.Head.{Head}
+use Rattle.ledger_store.specs.declared.fault.LedgerFault.{LedgerFault}
+use Rattle.ledger_store.specs.declared.fault.LedgerFault.TheVariants.{Failed, Missing, Damaged, SlotNotLater, Exists, OutOfMemory}
+use Rattle.ledger_store.specs.declared.opening.Ledger.{Ledger}
+use Rattle.ledger_store.specs.declared.seal.Watched.{Watched}
+use Rattle.ledger_store.specs.declared.watching.Opening.{Opening}
+use Rattle.ledger_store.specs.Faults.{LedgerCounts, found_or, is_failed, is_free, is_ledger_memory}
+use Rattle.ledger_store.specs.Seal.{body_of, is_sealed, seal_at, unsealed}
+use Rattle.ledger_store.specs.States.{state_from, state_in, whole_state}
+use Rattle.ledger_store.specs.Changes.{changes_from, next_of}
+use Rattle.ledger_store.specs.Opening.{full_before, full_state, slot_after, slots_behind, state_after, stepped, walked}
+use Rattle.ledger_store.specs.Reading.{IsOpen, Tells, TellsListed, heading}
+use Rattle.ledger_store.specs.Watching.{IsOpening, changed, finished, first_unsealed, refusal, settled, told_unless, unsealed_fault}
+use Rattle.ledger_store.proofs.Telling.{err_so, err_then, freer, is_open, ok_so}
+
+-- ---- the first of several
+or_none : (one : Option LedgerFault) → option_or one None ≡ one
+or_none None = refl
+or_none (Some fault) = refl
+
+or_or : (one two three : Option LedgerFault) → option_or one (option_or two three) ≡ option_or (option_or one two) three
+or_or None two three = refl
+or_or (Some fault) two three = refl
+
+first_push : (files : List Watched) (file : Watched) → first_unsealed (files ++ file ∷ []) ≡ option_or (first_unsealed files) (unsealed_fault file)
+first_push [] file = or_none (unsealed_fault file)
+first_push (one ∷ files) file = ap (option_or (unsealed_fault one)) (first_push files file) ∙ or_or (unsealed_fault one) (first_unsealed files) (unsealed_fault file)
+
+-- the last file is looked at before those that stand before it
+pub first_popped : (all before files : List Watched) (file : Watched) (found : Option LedgerFault) → option_or (first_unsealed before) found ≡ first_unsealed all → before ≡ files ++ file ∷ []
+    → option_or (first_unsealed files) (option_or (unsealed_fault file) found) ≡ first_unsealed all
+first_popped all before files file found same popped =
+    or_or (first_unsealed files) (unsealed_fault file) found
+    ∙ ap (λ (o : Option LedgerFault). option_or o found) (sym (first_push files file))
+    ∙ ap (λ (l : List Watched). option_or (first_unsealed l) found) (sym popped)
+    ∙ same
+
+-- it is damaged
+record IsDamage (fault : LedgerFault) : Type 0 where
+  free : is_free fault ≡ false
+  failed : is_failed fault ≡ false
+
+damage_or : (seal : Bool) (name : Name) (at : ℕ) (rest : Option LedgerFault) (fault : LedgerFault) → (rest ≡ Some fault → IsDamage fault)
+    → option_or (if seal then None else Some (Damaged name at)) rest ≡ Some fault → IsDamage fault
+damage_or true name at rest fault later h = later h
+damage_or false name at rest fault later h =
+    let same : Damaged name at ≡ fault = cc in subst IsDamage same (record { free = refl; failed = refl })
+
+damage : (files : List Watched) (fault : LedgerFault) → first_unsealed files ≡ Some fault → IsDamage fault
+damage [] fault h = absurd (cc)
+damage (file ∷ files) fault h =
+    damage_or (is_sealed (arc_value file.bytes)) file.name (seal_at (arc_value file.bytes)) (first_unsealed files) fault (damage files fault) h
+
+-- so it is no failure of the folder
+pub never_failed : (files : List Watched) (fault : LedgerFault) → first_unsealed files ≡ Some fault → is_failed fault ≡ false
+never_failed files fault h = (damage files fault h).failed
+
+-- ---- what is told where each file ends in its hash
+unless_then : {X Y : Type 0} (first : Option LedgerFault) (told : Result X LedgerFault) (more : X → Result Y LedgerFault) → told_unless first (told >>= more) ≡ (told_unless first told >>= more)
+unless_then None told more = refl
+unless_then (Some fault) told more = refl
+
+pub settled_then : {X Y : Type 0} (files : List Watched) (told : Result X LedgerFault) (more : X → Result Y LedgerFault) → settled files (told >>= more) ≡ (settled files told >>= more)
+settled_then files told more = unless_then (first_unsealed files) told more
+
+unless_or : {X : Type 0} (one two : Option LedgerFault) (told : Result X LedgerFault) → told_unless (option_or one two) told ≡ told_unless one (told_unless two told)
+unless_or None two told = refl
+unless_or (Some fault) two told = refl
+
+settled_push : {X : Type 0} (files : List Watched) (file : Watched) (told : Result X LedgerFault) → settled (files ++ file ∷ []) told ≡ settled files (told_unless (unsealed_fault file) told)
+settled_push {X = X} files file told =
+    ap (λ (first : Option LedgerFault). told_unless {X = X} first told) (first_push files file) ∙ unless_or (first_unsealed files) (unsealed_fault file) told
+
+same_refusal : {X : Type 0} (free : Bool) (told : Result X LedgerFault) → MatchBool free (Unit {0}) (told ≡ told)
+same_refusal true told = tt
+same_refusal false told = refl
+
+unless_gives : {X : Type 0} (first : Option LedgerFault) (told answer : Result X LedgerFault) → Gives is_free (λ x. x) told answer → Gives is_free (λ x. x) (told_unless first told) (told_unless first answer)
+unless_gives None told answer h = h
+unless_gives {X = X} (Some fault) told answer h = same_refusal {X = X} (is_free fault) (Err fault)
+
+-- ---- a file that was read and is looked at
+pub tells_watched : {X : Type 0} (files later : List Watched) (file : Watched) (old new : List Event) (bytes : List ℕ) (read : Disk → Result (List ℕ) LedgerFault) (told : Result X LedgerFault)
+    (answer : Disk → Result X LedgerFault) → Tells old new (Ok bytes) read → later ≡ files ++ file ∷ []
+    → ((disk : Disk) → read disk ≡ Ok bytes → Gives is_free (λ x. x) (told_unless (unsealed_fault file) told) (answer disk))
+    → Tells old new (settled later told) (λ disk. settled files (answer disk))
+tells_watched {X = X} files later file old new bytes read told answer h pushed so disk shows =
+    let t = h disk shows in
+    let here = unless_gives (first_unsealed files) (told_unless (unsealed_fault file) told) (answer disk) (so disk t.1) in (
+      t.0,
+      subst (λ (r : Result X LedgerFault). Gives is_free (λ (x : X). x) r (settled files (answer disk))) (sym (ap (λ (l : List Watched). settled l told) pushed ∙ settled_push files file told)) here,
+    )
+
+-- the full state
+sealed_state : (slot : ℕ) (bytes : List ℕ) (seal : Bool) → is_sealed bytes ≡ seal
+    → state_from slot bytes ≡ told_unless (if seal then None else Some (Damaged (State slot) (seal_at bytes))) (whole_state slot (unsealed bytes))
+unfolding state_from body_of
+sealed_state slot bytes true e = rw e refl
+sealed_state slot bytes false e = rw e refl
+
+pub watched_state : (file : Watched) (slot : ℕ) (bytes : List ℕ) (told : Result Snapshot LedgerFault) (disk : Disk) → file.name ≡ State slot → arc_value file.bytes ≡ bytes
+    → Gives is_ledger_memory (λ s. s) told (whole_state slot (unsealed bytes)) → found_or (Missing (State slot)) (disk (State slot)) ≡ Ok bytes
+    → Gives is_free (λ s. s) (told_unless (unsealed_fault file) told) (state_in slot (disk (State slot)))
+watched_state file slot bytes told disk name holds gives read =
+    let first : Option LedgerFault = if is_sealed bytes then None else Some (Damaged (State slot) (seal_at bytes)) in
+    let own : unsealed_fault file ≡ first =
+    ap (λ (l : List ℕ). if is_sealed l then None else Some (Damaged file.name (seal_at l))) holds ∙ ap (λ (n : Name). if is_sealed bytes then None else Some (Damaged n (seal_at bytes))) name in
+    let whole : state_in slot (disk (State slot)) ≡ told_unless first (whole_state slot (unsealed bytes)) = ap (λ (r : Result (List ℕ) LedgerFault). r >>= state_from slot) read ∙ sealed_state slot bytes (is_sealed bytes) refl in
+    subst (λ (o : Option LedgerFault). Gives is_free (λ (s : Snapshot). s) (told_unless o told) (state_in slot (disk (State slot)))) (sym own)
+    (subst (λ (r : Result Snapshot LedgerFault). Gives is_free (λ (s : Snapshot). s) (told_unless first told) r) (sym whole)
+    (unless_gives first told (whole_state slot (unsealed bytes)) (freer told (whole_state slot (unsealed bytes)) gives)))
+
+-- what a block changed
+sealed_changes : (slot : ℕ) (bytes : List ℕ) (before : Snapshot) (seal : Bool) → is_sealed bytes ≡ seal
+    → (changes_from slot before.slot bytes >>= λ changes. next_of slot changes before) ≡ told_unless (if seal then None else Some (Damaged (Changes slot) (seal_at bytes))) (changed slot bytes before)
+unfolding changes_from body_of
+sealed_changes slot bytes before true e = rw e refl
+sealed_changes slot bytes before false e = rw e refl
+
+pub watched_changes : (file : Watched) (slot : ℕ) (bytes : List ℕ) (before : Snapshot) (told : Result Snapshot LedgerFault) (disk : Disk) → file.name ≡ Changes slot → arc_value file.bytes ≡ bytes
+    → Gives is_ledger_memory (λ s. s) told (changed slot bytes before) → found_or (Missing (Changes slot)) (disk (Changes slot)) ≡ Ok bytes
+    → Gives is_free (λ s. s) (told_unless (unsealed_fault file) told) (stepped disk slot before)
+watched_changes file slot bytes before told disk name holds gives read =
+    let first : Option LedgerFault = if is_sealed bytes then None else Some (Damaged (Changes slot) (seal_at bytes)) in
+    let own : unsealed_fault file ≡ first =
+    ap (λ (l : List ℕ). if is_sealed l then None else Some (Damaged file.name (seal_at l))) holds ∙ ap (λ (n : Name). if is_sealed bytes then None else Some (Damaged n (seal_at bytes))) name in
+    let whole : stepped disk slot before ≡ told_unless first (changed slot bytes before) =
+    ap (λ (r : Result (List ℕ) LedgerFault). (r >>= changes_from slot before.slot) >>= λ changes. next_of slot changes before) read ∙ sealed_changes slot bytes before (is_sealed bytes) refl in
+    subst (λ (o : Option LedgerFault). Gives is_free (λ (s : Snapshot). s) (told_unless o told) (stepped disk slot before)) (sym own)
+    (subst (λ (r : Result Snapshot LedgerFault). Gives is_free (λ (s : Snapshot). s) (told_unless first told) r) (sym whole)
+    (unless_gives first told (changed slot bytes before) (freer told (changed slot bytes before) gives)))
+
+-- ---- one call after another
+exact_unless : {X : Type 0} (first : Option LedgerFault) (x : X) (answer : Result X LedgerFault) → ((fault : LedgerFault) → first ≡ Some fault → is_free fault ≡ false)
+    → Gives is_free (λ x. x) (told_unless first (Ok x)) answer → answer ≡ told_unless first (Ok x)
+exact_unless None x answer never h = h
+exact_unless (Some fault) x answer never h = subst (λ (b : Bool). MatchBool b (Unit {0}) (answer ≡ Err fault)) (never fault refl) h
+
+-- a value is told exactly
+pub exact_settled : {X : Type 0} (files : List Watched) (x : X) (answer : Result X LedgerFault) → Gives is_free (λ x. x) (settled files (Ok x)) answer → answer ≡ settled files (Ok x)
+exact_settled files x answer h = exact_unless (first_unsealed files) x answer (λ fault e. (damage files fault e).free) h
+
+-- what follows a call that told a value
+pub more_settled : {X Y : Type 0} (before after : List Watched) (x : X) (answer : Result X LedgerFault) (more : X → Result Y LedgerFault) → Gives is_free (λ x. x) (settled after (Ok x)) (settled before answer)
+    → settled before (answer >>= more) ≡ settled after (more x)
+more_settled {X = X} {Y = Y} before after x answer more h =
+    settled_then before answer more ∙ ap (λ (r : Result X LedgerFault). r >>= more) (exact_settled after x (settled before answer) h) ∙ sym (settled_then {X = X} after (Ok x) more)
+
+stays_unless : {X Y : Type 0} (first : Option LedgerFault) (fault : LedgerFault) (answer : Result X LedgerFault) (more : X → Result Y LedgerFault) → Gives is_free (λ x. x) (told_unless {X = X} first (Err fault)) answer
+    → Gives is_free (λ y. y) (told_unless {X = Y} first (Err fault)) (answer >>= more)
+stays_unless None fault answer more h = err_then (is_free fault) fault answer more h
+stays_unless (Some other) fault answer more h = err_then (is_free other) other answer more h
+
+-- and one that was refused
+pub stays_settled : {X Y : Type 0} (before after : List Watched) (fault : LedgerFault) (answer : Result X LedgerFault) (more : X → Result Y LedgerFault)
+    → Gives is_free (λ x. x) (settled {X = X} after (Err fault)) (settled before answer) → Gives is_free (λ y. y) (settled {X = Y} after (Err fault)) (settled before (answer >>= more))
+stays_settled {X = X} {Y = Y} before after fault answer more h =
+    subst (λ (r : Result Y LedgerFault). Gives is_free (λ (y : Y). y) (settled {X = Y} after (Err fault)) r) (sym (settled_then before answer more))
+    (stays_unless {X = X} {Y = Y} (first_unsealed after) fault (settled before answer) more h)
+
+-- a full state that is refused
+pub tells_refused : (files later : List Watched) (old new : List Event) (head : Head) (count slot : ℕ) (fault : LedgerFault)
+    → Tells old new (settled {X = Snapshot} later (Err fault)) (λ disk. settled files (state_in slot (disk (State slot)))) → slot ≡ slot_after head (full_before head.every count)
+    → Tells old new (settled {X = Snapshot} later (Err fault)) (λ disk. settled files (state_after disk head count))
+unfolding state_after
+tells_refused files later old new head count slot fault told at disk shows =
+    let t = told disk shows in (
+      t.0,
+      subst (λ (n : ℕ). Gives is_free (λ (s : Snapshot). s) (settled {X = Snapshot} later (Err fault)) (settled files (state_in n (disk (State n)) >>= walked disk (slots_behind head count)))) at
+          (stays_settled files later fault (state_in slot (disk (State slot))) (walked disk (slots_behind head count)) t.1),
+    )
+
+-- one that is read, and what is walked from there
+pub tells_beside : (files between later : List Watched) (old mid new : List Event) (head : Head) (count slot : ℕ) (slots : List ℕ) (before : Snapshot) (result : Result Snapshot LedgerFault)
+    → Tells old mid (settled between (Ok before)) (λ disk. settled files (state_in slot (disk (State slot)))) → Tells mid new (settled later result) (λ disk. settled between (walked disk slots before))
+    → slot ≡ slot_after head (full_before head.every count) → slots ≡ slots_behind head count → Tells old new (settled later result) (λ disk. settled files (state_after disk head count))
+unfolding state_after
+tells_beside files between later old mid new head count slot slots before result first second at behind disk shows =
+    let s = second disk shows in
+    let f = first disk s.0 in
+    let more = more_settled files between before (state_in slot (disk (State slot))) (walked disk slots) f.1 in
+    let here = subst (λ (r : Result Snapshot LedgerFault). Gives is_free (λ (x : Snapshot). x) (settled later result) r) (sym more) s.1 in (
+      f.0,
+      subst (λ (l : List ℕ). Gives is_free (λ (x : Snapshot). x) (settled later result) (settled files (full_state disk head count >>= walked disk l))) behind
+          (subst (λ (n : ℕ). Gives is_free (λ (x : Snapshot). x) (settled later result) (settled files (state_in n (disk (State n)) >>= walked disk slots))) at here),
+    )
+
+-- no file was read before
+pub tells_alone : (files later : List Watched) (old new : List Event) (head : Head) (count : ℕ) (result : Result Snapshot LedgerFault) → files ≡ [] → count ≡ length head.slots
+    → Tells old new (settled later result) (λ disk. settled files (state_after disk head count)) → Tells old new (settled later result) (λ disk. state_after disk head (length head.slots))
+tells_alone files later old new head count result none all told =
+    subst (λ (l : List Watched). Tells old new (settled later result) (λ disk. settled l (state_after disk head (length head.slots)))) none
+    (subst (λ (n : ℕ). Tells old new (settled later result) (λ disk. settled files (state_after disk head n))) all told)
+
+-- ---- a chain that is opened
+so_unless : (first : Option LedgerFault) (head : Head) (newest : Snapshot) (answer : Result Snapshot LedgerFault) → Gives is_free (λ x. x) (told_unless first (Ok newest)) answer
+    → Gives is_free (λ x. x) (told_unless {X = Ledger} first (Ok (record { head = head; newest = newest }))) (answer >>= λ newest. Ok (record { head = head; newest = newest }))
+so_unless None head newest answer h = ok_so head newest answer h
+so_unless (Some fault) head newest answer h = err_so head fault answer h
+
+pub so_settled : (files : List Watched) (head : Head) (newest : Snapshot) (answer : Result Snapshot LedgerFault) → Gives is_free (λ x. x) (settled files (Ok newest)) answer
+    → Gives is_free (λ x. x) (settled {X = Ledger} files (Ok (record { head = head; newest = newest }))) (answer >>= λ newest. Ok (record { head = head; newest = newest }))
+so_settled files head newest answer h = so_unless (first_unsealed files) head newest answer h
+
+failure_is_free : {X : Type 0} (fault : LedgerFault) (answer : Result X LedgerFault) → is_failed fault ≡ true → Gives {X = X} is_free (λ x. x) (Err fault) answer
+failure_is_free Failed answer h = tt
+failure_is_free (Missing name) answer h = absurd (cc)
+failure_is_free (Damaged name at) answer h = absurd (cc)
+failure_is_free SlotNotLater answer h = absurd (cc)
+failure_is_free Exists answer h = absurd (cc)
+failure_is_free OutOfMemory answer h = absurd (cc)
+
+refusal_unless : (first : Option LedgerFault) (failed : Bool) (fault : LedgerFault) (head : Head) (answer : Result Snapshot LedgerFault) → is_failed fault ≡ failed
+    → Gives is_free (λ x. x) (told_unless {X = Snapshot} first (Err fault)) answer
+    → Gives is_free (λ x. x) (let r : Result Ledger LedgerFault = Err (if failed then fault else unwrap_or first fault) in r) (answer >>= λ newest. Ok (record { head = head; newest = newest }))
+refusal_unless first true fault head answer e h = failure_is_free fault (answer >>= λ newest. Ok (record { head = head; newest = newest })) e
+refusal_unless None false fault head answer e h = err_so head fault answer h
+refusal_unless (Some other) false fault head answer e h = err_so head other answer h
+
+-- a refusal of the chain
+pub so_refused : (files : List Watched) (head : Head) (fault : LedgerFault) (answer : Result Snapshot LedgerFault) → Gives is_free (λ x. x) (settled {X = Snapshot} files (Err fault)) answer
+    → Gives is_free (λ x. x) (let r : Result Ledger LedgerFault = Err (refusal files fault) in r) (answer >>= λ newest. Ok (record { head = head; newest = newest }))
+so_refused files head fault answer h = refusal_unless (first_unsealed files) (is_failed fault) fault head answer refl h
+
+counts_unless : (first : Option LedgerFault) (failed : Bool) (fault : LedgerFault) (old new : ℕ) → ((other : LedgerFault) → first ≡ Some other → is_failed other ≡ false) → is_failed fault ≡ failed
+    → LedgerCounts {A = Snapshot} (Err fault) old new → LedgerCounts {A = Ledger} (Err (if failed then fault else unwrap_or first fault)) old new
+counts_unless first true fault old new never e counts = counts
+counts_unless None false fault old new never e counts = counts
+counts_unless (Some other) false fault old new never e counts =
+    subst (λ (b : Bool). MatchBool b (Rose old new) (new ≡ old)) (sym (never other refl)) (subst (λ (b : Bool). MatchBool b (Rose old new) (new ≡ old)) e counts)
+
+-- the count of failures after it
+pub refusal_counts : (files : List Watched) (fault : LedgerFault) (old new : ℕ) → LedgerCounts {A = Snapshot} (Err fault) old new → LedgerCounts {A = Ledger} (Err (refusal files fault)) old new
+refusal_counts files fault old new counts = counts_unless (first_unsealed files) (is_failed fault) fault old new (λ other e. (damage files other e).failed) refl counts
+
+opening_unless : (first : Option LedgerFault) (old mid new : List Event) (head : Head) (newest : Snapshot) → TellsListed old mid (Ok head) heading → ((disk : Disk) → Shows mid disk → Lists disk head.slots)
+    → Tells mid new (told_unless first (Ok newest)) (λ disk. state_after disk head (length head.slots)) → (ledger : Ledger)
+    → told_unless first (Ok (record { head = head; newest = newest })) ≡ Ok ledger → IsOpen new ledger
+opening_unless None old mid new head newest told listed second ledger done =
+    let same : (let l : Ledger = record { head = head; newest = newest } in l) ≡ ledger = cc in subst (IsOpen new) same (is_open old mid new head newest told listed second)
+opening_unless (Some fault) old mid new head newest told listed second ledger done = absurd (cc)
+
+-- once it is finished it is open
+pub is_opening : (files : List Watched) (old mid new : List Event) (head : Head) (newest : Snapshot) → TellsListed old mid (Ok head) heading → ((disk : Disk) → Shows mid disk → Lists disk head.slots)
+    → Tells mid new (settled files (Ok newest)) (λ disk. state_after disk head (length head.slots)) → (ledger : Ledger)
+    → settled files (Ok (record { head = head; newest = newest })) ≡ Ok ledger → IsOpen new ledger
+is_opening files old mid new head newest told listed second ledger done = opening_unless (first_unsealed files) old mid new head newest told listed second ledger done
+
+pub is_open_finished : (events : List Event) (opening : Opening) (result : Result Ledger LedgerFault) → result ≡ finished opening → IsOpening events opening → IfOk result (IsOpen events)
+is_open_finished events opening (Ok ledger) same opens = opens ledger (sym same)
+is_open_finished events opening (Err fault) same opens = tt
