@@ -101,16 +101,8 @@ AreWaited-moved order xs ys moved A =
 
 -- ---- one entry after the other
 
-waited_in-some : (e : Entry) (after : List Entry) → is_waited e ≡ true → waited_in (e ∷ after) ≡ waited_of e ∷ waited_in after
-waited_in-some e after so = rw so refl
-
 waited_in-none : (e : Entry) (after : List Entry) → is_waited e ≡ false → waited_in (e ∷ after) ≡ waited_in after
 waited_in-none e after so = rw so refl
-
-pub one_listed : (e : Entry) (before after : List Entry) (items next all : List Waited) → before ≡ e ∷ after → is_waited e ≡ true → next ≡ items ++ waited_of e ∷ [] → items ++ waited_in before ≡ all → next ++ waited_in after ≡ all
-one_listed e before after items next all is so pushed h =
-    ap (λ (l : List Waited). l ++ waited_in after) pushed ∙ (append_assoc items (waited_of e ∷ []) (waited_in after)
-    ∙ (ap (λ (l : List Waited). items ++ l) (sym (waited_in-some e after so)) ∙ (ap (λ (l : List Entry). items ++ waited_in l) (sym is) ∙ h)))
 
 pub none_listed : (e : Entry) (before after : List Entry) (items all : List Waited) → before ≡ e ∷ after → is_waited e ≡ false → items ++ waited_in before ≡ all → items ++ waited_in after ≡ all
 none_listed e before after items all is so h =

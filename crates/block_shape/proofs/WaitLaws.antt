@@ -119,17 +119,6 @@ pub record Counted (order : List Chosen) (waits : BTreeMap Key Wait) (written re
   pub counts : (key : Key) → (wait_of waits key).count ≡ waits_before order key i
   pub places : (key : Key) → (wait_of waits key).place ≤ i
 
-pub Counted-none : (order : List Chosen) (waits : BTreeMap Key Wait) (written read : BTreeMap Key ℕ) → waits.entries ≡ [] → written.entries ≡ [] → read.entries ≡ [] → Counted order waits written read 0
-Counted-none order waits written read c w r = record {
-  writers = Ends-none true (locks_at order) one written w;
-  readers = Ends-none false (locks_at order) one read r;
-  counts = λ key. ap (λ (x : Wait). x.count) (none key);
-  places = λ key. let e = ap (λ (x : Wait). x.place) (none key) in omega (arith, e);
-}
-  where
-    none : (key : Key) → wait_of waits key ≡ record { count = 0; place = 0 }
-    none key = rw c refl
-
 one_more : (b : Bool) (n i : ℕ) → n ≤ i → n + cond b 1 0 ≤ suc i
 one_more true n i l = omega (arith, l)
 one_more false n i l = omega (arith, l)

@@ -1,5 +1,5 @@
 //! How many transactions wait at each key.
-ghost use Rattle.std.specs.Prelude.{◌≡◌, ◌<◌, ◌^◌, IfOk, OnOk, length, nat_lt};
+ghost use Rattle.std.specs.Prelude.{◌≡◌, ◌<◌, ◌^◌, IfOk, OnOk, length};
 ghost use Rattle.sol_base.specs.declared.key.Key.{Key as KeyValue};
 ghost use Rattle.block_shape.specs.Ends.{held_until};
 ghost use Rattle.block_shape.specs.Waits.{counted, counted_if, is_held_at, wait_of, waits_at};

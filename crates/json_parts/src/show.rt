@@ -1,5 +1,6 @@
 //! Refusals of JSON texts as sentences.
 use crate::fault::{JsonFault, Step, Wanted};
+use message_codec::MAX_WIRE_LEN;
 use std::{fmt, str};
 
 impl fmt::Display for Wanted {
@@ -20,7 +21,10 @@ impl fmt::Display for Wanted {
             Wanted::Flag => write!(f, "true or false is wanted"),
             Wanted::Text => write!(f, "a text is wanted"),
             Wanted::Version => write!(f, "the text legacy or the number 0 is wanted"),
-            Wanted::Transaction => { write!(f, "a transaction of at most 1232 bytes is wanted") }
+            Wanted::Transaction => write!(
+                f,
+                "a transaction of at most {MAX_WIRE_LEN} bytes is wanted"
+            ),
             Wanted::Ending => { write!(f, "ok, or an object with failed or dropped, is wanted") }
             Wanted::Presence => write!(f, "this member is wanted"),
             Wanted::Absence => write!(f, "there is no such member"),

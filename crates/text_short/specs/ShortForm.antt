@@ -15,6 +15,7 @@ use Rattle.tx_build.specs.declared.draft.Version.TheVariants.{Legacy, Zero}
 use Rattle.tx_build.specs.declared.draft.Draft.{Draft}
 use Rattle.tx_build.specs.declared.fault.BuildFault.{BuildFault}
 use Rattle.tx_build.specs.declared.fault.BuildFault.TheVariants.{TooManyKeys, TooLong, OutOfMemory}
+use Rattle.tx_build.specs.declared.tables.TheConstants.{MAX_ADDRESSES}
 use Rattle.tx_build.specs.Built.{built}
 use Rattle.json_parts.specs.declared.fault.Wanted.TheVariants.{FewKeys, Transaction}
 use Rattle.json_parts.specs.declared.fault.JsonFault.TheVariants.{Refused, OutOfMemory as no_memory}
@@ -50,12 +51,12 @@ instruction_in d =
     (if is_some (get (codes "budget") d) then budget_in d else
     (if is_some (get (codes "loader") d) then loader_in d else plain_in d))
 
--- a table, of which an index can name 256 addresses
+-- a table, with no more addresses than an index can name
 unfoldable pub table_in : Data → Read LookupTable
 table_in d = do
   known ← known_in (codes "table" ∷ codes "addresses" ∷ []) d
   table ← member_in (codes "table") key_in d
-  addresses ← member_in (codes "addresses") (list_of 256 key_in) d
+  addresses ← member_in (codes "addresses") (list_of MAX_ADDRESSES key_in) d
   Ok (record { key = table; addresses = addresses })
 
 unfoldable pub tables_in : Data → Read Version

@@ -21,11 +21,9 @@ use serde_json::Value;
 use sol_base::{Blob, Hash32, Key};
 use std::alloc::Global;
 use tx_build::{
-    AccountMeta, BuildFault, Draft, KeyedInstruction, LookupTable, Version, build_wire,
+    AccountMeta, BuildFault, Draft, KeyedInstruction, LookupTable, MAX_ADDRESSES, Version,
+    build_wire,
 };
-
-/// The most addresses of a lookup table (Solana).
-const MAX_ADDRESSES: usize = 256;
 
 impl Short for AccountMeta {
     ghost use Rattle.text_short.specs.ShortForm.{account_in};

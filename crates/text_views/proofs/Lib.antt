@@ -1,5 +1,4 @@
 mod Walk
 mod MergeLaws
-mod PairLaws
 mod PartLaws
 mod EqualLaws

@@ -1,6 +1,6 @@
 -- What is built is read as a transaction.
-use Rattle.std.proofs.Common.{◌≡◌, ◌≤◌, ◌<◌, ◌+◌, ℕ, zero, suc, List, [], ◌∷◌, ◌++◌, length, map, filter, take, Some, None, Result, Ok, Err, Bool, true, false, if◌then◌else◌, ◌||◌, not, nat_lt, refl, sym, ap, subst, ◌∙◌, length-append, arith, lit<, lit≤}
-use Rattle.std.specs.Prelude.{All, count_by, position, unwrap_or}
+use Rattle.std.proofs.Common.{◌≡◌, ◌≤◌, ◌<◌, ◌+◌, ℕ, zero, suc, List, [], ◌∷◌, ◌++◌, length, map, filter, take, Some, None, Result, Ok, Err, Bool, true, false, if◌then◌else◌, ◌||◌, not, nat_lt, refl, sym, subst, length-append, arith, lit<, lit≤}
+use Rattle.std.specs.Prelude.{All, unwrap_or}
 use Rattle.std.specs.List.{AllByRecursion, flat_map, list_any, enumerate_from, position_or_len}
 use Rattle.std.proofs.lemmas.Bool.{or_parts}
 use Rattle.std.proofs.lemmas.Bool.Decides.{nat_tests}
@@ -30,8 +30,8 @@ use Rattle.tx_build.specs.declared.fault.BuildFault.TheVariants.{TooManyKeys, To
 use Rattle.tx_build.specs.declared.mentions.Mention.{Mention}
 use Rattle.tx_build.specs.declared.tables.Share.{Share}
 use Rattle.tx_build.specs.Mentions.{account_mention, instruction_mentions, mentions_of, is_of, strongest, added, listed}
-use Rattle.tx_build.specs.Classes.{is_writable_signer, is_readonly_signer, is_writable_other, is_readonly_other, keys_where, ordered_keys, header_of}
-use Rattle.tx_build.specs.Tables.{holds, is_loaded, shares_of, is_used, lookups_of}
+use Rattle.tx_build.specs.Classes.{is_writable_signer, is_readonly_signer, is_writable_other, is_readonly_other, keys_where, ordered_keys}
+use Rattle.tx_build.specs.Tables.{holds, is_loaded, shares_of, is_used}
 use Rattle.tx_build.specs.Signing.{signature_of, signer_keys, signed}
 use Rattle.tx_build.specs.Built.{kind_of, tables_of, lookups_by, place_of, placed, draft_mentions, own_keys, draft_shares, keys_of, message_of, has_too_many_keys, is_long, has_long_instructions, has_long_lookups, is_long_message, sized, message_in, built}
 use Rattle.tx_build.specs.Laws.{HasDraftWidths, BuiltWiresAreRead}

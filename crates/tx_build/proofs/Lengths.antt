@@ -1,5 +1,5 @@
 -- Lists that are not too long are countable.
-use Rattle.std.proofs.Common.{◌≡◌, ◌||◌, ℕ, Bool, false, List, length, get_or, All, arith}
+use Rattle.std.proofs.Common.{◌≡◌, ◌||◌, Bool, false, List, get_or, All, arith}
 use Rattle.std.specs.List.{list_any}
 use Rattle.std.proofs.lemmas.Bool.{or_parts, false_from_ne_true}
 use Rattle.std.proofs.lemmas.Bool.Decides.{nat_tests}

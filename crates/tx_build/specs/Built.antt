@@ -9,9 +9,7 @@ use Rattle.message_codec.specs.declared.message.Lookup.{Lookup}
 use Rattle.message_codec.specs.declared.message.MessageKind.{MessageKind}
 use Rattle.message_codec.specs.declared.message.MessageKind.TheVariants.{Legacy, Zero}
 use Rattle.message_codec.specs.declared.message.Message.{Message}
-use Rattle.message_codec.specs.declared.message.Tx.{Tx}
 use Rattle.message_codec.specs.Wire.{max_wire_len, tx_bytes}
-use Rattle.tx_build.specs.declared.draft.AccountMeta.{AccountMeta}
 use Rattle.tx_build.specs.declared.draft.KeyedInstruction.{KeyedInstruction}
 use Rattle.tx_build.specs.declared.draft.LookupTable.{LookupTable}
 use Rattle.tx_build.specs.declared.draft.Version.{Version}
@@ -19,6 +17,7 @@ use Rattle.tx_build.specs.declared.draft.Version.TheVariants.{Legacy as first_ve
 use Rattle.tx_build.specs.declared.draft.Draft.{Draft}
 use Rattle.tx_build.specs.declared.fault.BuildFault.{BuildFault}
 use Rattle.tx_build.specs.declared.fault.BuildFault.TheVariants.{TooManyKeys, TooLong, OutOfMemory}
+use Rattle.tx_build.specs.declared.message.TheConstants.{MAX_OWN_KEYS, MAX_KEYS}
 use Rattle.tx_build.specs.declared.mentions.Mention.{Mention}
 use Rattle.tx_build.specs.declared.tables.Share.{Share}
 use Rattle.tx_build.specs.Mentions.{listed}
@@ -84,7 +83,7 @@ message_of draft = record {
 
 -- more keys of its own than fit into a transaction, or more in all than a byte can number
 abbrev pub has_too_many_keys : Draft → Bool
-has_too_many_keys draft = nat_lt 38 (length (draft_mentions draft)) || nat_lt 256 (length (keys_of draft))
+has_too_many_keys draft = nat_lt MAX_OWN_KEYS (length (draft_mentions draft)) || nat_lt MAX_KEYS (length (keys_of draft))
 
 -- more items than a transaction has bytes
 abbrev pub is_long : {X : Type 0} → List X → Bool

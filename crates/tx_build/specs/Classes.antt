@@ -1,6 +1,6 @@
 -- The order of a message's own keys, and its header (Solana): signers first, and of those that
 -- sign, and of those that do not, the writable ones first.
-use Rattle.std.specs.Prelude.{ℕ, ◌&&◌, ◌==◌, not, Bool, List, [], ◌∷◌, ◌++◌, map, filter, count_by, if◌then◌else◌}
+use Rattle.std.specs.Prelude.{◌&&◌, not, Bool, List, ◌++◌, map, filter, count_by}
 use Rattle.sol_base.specs.declared.key.Key.{Key}
 use Rattle.message_codec.specs.declared.message.Header.{Header}
 use Rattle.tx_build.specs.declared.mentions.Mention.{Mention}

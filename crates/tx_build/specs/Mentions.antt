@@ -1,5 +1,5 @@
 -- The keys that a draft mentions, each once, with all the rights that it asks for them (Solana).
-use Rattle.std.specs.Prelude.{◌≡◌, ℕ, ◌&&◌, Bool, true, false, List, [], ◌∷◌, ◌++◌, map, take, if◌then◌else◌}
+use Rattle.std.specs.Prelude.{ℕ, ◌&&◌, ◌||◌, Bool, true, false, List, [], ◌∷◌, Option, None, Some, map, take, if◌then◌else◌}
 use Rattle.std.specs.List.{flat_map, list_any, enumerate_from}
 use Rattle.sol_base.specs.declared.key.Key.{Key}
 use Rattle.sol_base.specs.Keys.{same_key}
@@ -44,6 +44,21 @@ strongest mentions key = record {
   signer = list_any (λ mention. is_of key mention && mention.signer) mentions;
   writable = list_any (λ mention. is_of key mention && mention.writable) mentions;
   program = list_any (λ mention. is_of key mention && mention.program) mentions;
+}
+
+-- the same, where the key is mentioned
+abbrev pub mentioned : List Mention → Key → Option Mention
+mentioned mentions key =
+    if list_any (is_of key) mentions then Some (strongest mentions key) else None
+
+-- what is asked of a key, with what one more mention of it asks
+abbrev pub joined : Option Mention → Mention → Mention
+joined None mention = mention
+joined (Some before) mention = record {
+  key = mention.key;
+  signer = before.signer || mention.signer;
+  writable = before.writable || mention.writable;
+  program = before.program || mention.program;
 }
 
 -- the key of a mention, where no mention before its place is of that key

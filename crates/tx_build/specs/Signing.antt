@@ -1,6 +1,6 @@
 -- Signatures that are filled in by a rule (the project's own), since none is tested: for each
 -- signer the hash of the message, and the hash of that hash and the signer's key.
-use Rattle.std.specs.Prelude.{ℕ, List, ◌++◌, map, take}
+use Rattle.std.specs.Prelude.{List, ◌++◌, map, take}
 use Rattle.spec_base.specs.Sha256.{sha256}
 use Rattle.sol_base.specs.declared.key.Key.{Key}
 use Rattle.sol_base.specs.declared.key.Hash32.{Hash32}

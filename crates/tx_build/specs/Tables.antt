@@ -1,17 +1,18 @@
 -- Which keys a version 0 message loads from lookup tables (Solana): those that neither sign nor are
 -- programs, each from the first table that holds it.
-use Rattle.std.specs.Prelude.{ℕ, ◌&&◌, ◌||◌, ◌==◌, not, Bool, List, [], ◌∷◌, ◌++◌, length, map, take, filter, position, Option, option_to_list}
+use Rattle.std.specs.Prelude.{ℕ, ◌&&◌, ◌==◌, not, Bool, List, [], ◌∷◌, ◌++◌, length, map, take, filter, position, Option, option_to_list}
 use Rattle.std.specs.List.{flat_map, list_any}
 use Rattle.sol_base.specs.declared.key.Key.{Key}
 use Rattle.sol_base.specs.Keys.{same_key}
 use Rattle.message_codec.specs.declared.message.Lookup.{Lookup}
 use Rattle.tx_build.specs.declared.draft.LookupTable.{LookupTable}
 use Rattle.tx_build.specs.declared.mentions.Mention.{Mention}
+use Rattle.tx_build.specs.declared.tables.TheConstants.{MAX_ADDRESSES}
 use Rattle.tx_build.specs.declared.tables.Share.{Share}
 
 -- the addresses that an index can name: it is one byte
 abbrev pub addressable : LookupTable → List Key
-addressable table = take 256 table.addresses
+addressable table = take MAX_ADDRESSES table.addresses
 
 -- the first place of the key in the table
 unfoldable pub place_in : LookupTable → Key → Option ℕ

@@ -1,5 +1,6 @@
 //! The order of a message's own keys, and its header.
 ghost use Rattle.std.specs.Prelude.{◌≡◌, ◌≤◌, ◌++◌, IfOk, OnOk, length, count_by};
+ghost use Rattle.tx_build.specs.declared.message.TheConstants.{MAX_OWN_KEYS};
 ghost use Rattle.tx_build.specs.Classes.{is_writable_signer, is_readonly_signer, is_writable_other, is_readonly_other, keys_where, ordered_keys, header_of};
 
 use crate::mentions::Mention;
@@ -80,14 +81,14 @@ pub(crate) fn ordered_keys(alloc: Global, mentions: &[Mention]) -> Result<Items<
 }
 
 fn signer_count(mentions: &[Mention]) -> u8
-    requires { length mentions.now ≤ 38 }
+    requires { length mentions.now ≤ MAX_OWN_KEYS }
     ensures { result ≡ count_by (λ mention. mention.signer) mentions.now }
 {
     mentions.iter().filter(|mention| mention.signer).count() as u8
 }
 
 fn readonly_signer_count(mentions: &[Mention]) -> u8
-    requires { length mentions.now ≤ 38 }
+    requires { length mentions.now ≤ MAX_OWN_KEYS }
     ensures { result ≡ count_by is_readonly_signer mentions.now }
 {
     mentions
@@ -97,7 +98,7 @@ fn readonly_signer_count(mentions: &[Mention]) -> u8
 }
 
 fn readonly_other_count(mentions: &[Mention]) -> u8
-    requires { length mentions.now ≤ 38 }
+    requires { length mentions.now ≤ MAX_OWN_KEYS }
     ensures { result ≡ count_by is_readonly_other mentions.now }
 {
     mentions
@@ -106,9 +107,9 @@ fn readonly_other_count(mentions: &[Mention]) -> u8
         .count() as u8
 }
 
-/// How many keys sign, and how many of either kind are only read. There are at most 38.
+/// How many keys sign, and how many of either kind are only read.
 pub(crate) fn header_of(mentions: &[Mention]) -> Header
-    requires { length mentions.now ≤ 38 }
+    requires { length mentions.now ≤ MAX_OWN_KEYS }
     ensures { result ≡ header_of mentions.now }
 {
     Header {

@@ -15,4 +15,5 @@ mod wire;
 pub use draft::{AccountMeta, Draft, KeyedInstruction, LookupTable, Version};
 pub use fault::BuildFault;
 pub use laws::built_wires_are_read;
+pub use tables::MAX_ADDRESSES;
 pub use wire::build_wire;

@@ -1,11 +1,14 @@
 //! The keys that a draft mentions, each once, with their rights.
-ghost use Rattle.std.specs.Prelude.{◌≡◌, ◌++◌, ◌&&◌, IfOk, OnOk, take};
-ghost use Rattle.std.specs.List.{list_any};
-ghost use Rattle.tx_build.specs.Mentions.{account_mention, is_of, strongest, added, instruction_mentions, mentions_of, listed};
+ghost use Rattle.std.specs.Prelude.{◌≡◌, ◌++◌, if◌then◌else◌, IfOk, OnOk, None, Some, option_to_list};
+ghost use Rattle.std.specs.BTreeMap.{get};
+ghost use Rattle.sol_base.specs.declared.key.Key.{Key as KeyValue};
+ghost use Rattle.sol_base.specs.Keys.{key_cmp, same_key};
+ghost use Rattle.tx_build.specs.Mentions.{account_mention, is_of, joined, mentioned, instruction_mentions, mentions_of, listed};
 
 use crate::draft::{AccountMeta, Draft, KeyedInstruction};
 use sol_base::{Items, Key, OutOfMemory};
 use std::alloc::Global;
+use std::collections::BTreeMap;
 
 /// A key that a draft mentions, and what is asked of it there.
 #[derive(Clone, Copy)]
@@ -64,65 +67,62 @@ fn mentions_of(alloc: Global, draft: &Draft) -> Result<Items<Mention>, OutOfMemo
     Ok(mentions)
 }
 
-/// Whether a mention before this place is of the key.
-fn is_mentioned(mentions: &[Mention], at: usize, key: &Key) -> bool
-    ensures { result ≡ list_any (is_of key.now) (take at mentions.now) }
+/// What is asked of a key, with what one more mention of it asks.
+fn joined(before: Option<Mention>, mention: Mention) -> Mention
+    ensures { result ≡ joined before mention }
 {
-    mentions.iter().take(at).any(|mention| mention.key == *key)
-}
-
-/// Whether some mention has the key sign.
-fn signs(mentions: &[Mention], key: &Key) -> bool
-    ensures { result ≡ list_any (λ mention. is_of key.now mention && mention.signer) mentions.now }
-{
-    mentions
-        .iter()
-        .any(|mention| mention.key == *key && mention.signer)
-}
-
-/// Whether some mention has the key be written.
-fn is_written(mentions: &[Mention], key: &Key) -> bool
-    ensures { result ≡ list_any (λ mention. is_of key.now mention && mention.writable) mentions.now }
-{
-    mentions
-        .iter()
-        .any(|mention| mention.key == *key && mention.writable)
-}
-
-/// Whether some mention has the key as a program.
-fn is_program(mentions: &[Mention], key: &Key) -> bool
-    ensures { result ≡ list_any (λ mention. is_of key.now mention && mention.program) mentions.now }
-{
-    mentions
-        .iter()
-        .any(|mention| mention.key == *key && mention.program)
-}
-
-/// The key with all that is asked of it anywhere.
-fn strongest(mentions: &[Mention], key: &Key) -> Mention
-    ensures { result ≡ strongest mentions.now key.now }
-{
-    Mention {
-        key: *key,
-        signer: signs(mentions, key),
-        writable: is_written(mentions, key),
-        program: is_program(mentions, key),
+    match before {
+        Some(before) => Mention {
+            key: mention.key,
+            signer: before.signer || mention.signer,
+            writable: before.writable || mention.writable,
+            program: before.program || mention.program,
+        },
+        None => mention,
     }
 }
 
-/// Adds the key of the mention after so many others, where no mention before it is of that key.
-fn add_first(
+/// Joins the mention with those of its key.
+fn join(strongest: &mut BTreeMap<Key, Mention>, mention: &Mention) -> Result<(), OutOfMemory>
+    ensures { OnOk result ((key : KeyValue) →
+        get key_cmp strongest.new key
+        ≡ (if is_of key mention.now
+        then Some (joined (get key_cmp strongest.old mention.now.key) mention.now)
+        else get key_cmp strongest.old key)) }
+{
+    let before = strongest.get(&mention.key).copied();
+    strongest.insert(mention.key, joined(before, *mention))?;
+    Ok(())
+}
+
+/// Each key that is mentioned, with all that is asked of it anywhere.
+fn strongest_of(alloc: Global, mentions: &[Mention]) -> Result<BTreeMap<Key, Mention>, OutOfMemory>
+    ensures { IfOk result (λ strongest. (key : KeyValue) →
+        get key_cmp strongest key ≡ mentioned mentions.now key) }
+{
+    let mut strongest = BTreeMap::new(alloc);
+    for mention in mentions {
+        join(&mut strongest, mention)?;
+    }
+    Ok(strongest)
+}
+
+/// Moves the key from those that are not listed yet to the list, unless it is there.
+fn list_once(
     once: &mut Items<Mention>,
-    mentions: &[Mention],
-    at: usize,
-    mention: &Mention,
+    unlisted: &mut BTreeMap<Key, Mention>,
+    key: &Key,
 ) -> Result<(), OutOfMemory>
-    ensures { OnOk result (once.new ≡ once.old ++ added mentions.now (at, mention.now)) }
+    ensures moved { OnOk result (once.new
+        ≡ once.old ++ option_to_list (get key_cmp unlisted.old key.now)) }
+    ensures left { (other : KeyValue) →
+        get key_cmp unlisted.new other
+        ≡ (if same_key key.now other then None else get key_cmp unlisted.old other) }
 {
-    if is_mentioned(mentions, at, &mention.key) {
-        return Ok(());
+    match unlisted.remove(key) {
+        Some(mention) => once.push(mention),
+        None => Ok(()),
     }
-    once.push(strongest(mentions, &mention.key))
 }
 
 /// Each key that the draft mentions once, in the order of their first mentions.
@@ -132,9 +132,10 @@ pub(crate) fn listed(alloc: Global, draft: &Draft) -> Result<Items<Mention>, Out
 {
     let mentions = mentions_of(alloc, draft)?;
     let mentions = mentions.as_slice();
+    let mut unlisted = strongest_of(alloc, mentions)?;
     let mut once = Items::new(alloc);
-    for (at, mention) in mentions.iter().enumerate() {
-        add_first(&mut once, mentions, at, mention)?;
+    for mention in mentions {
+        list_once(&mut once, &mut unlisted, &mention.key)?;
     }
     Ok(once)
 }

@@ -3,6 +3,8 @@ ghost use Rattle.std.specs.Prelude.{◌≡◌, ◌≤◌, ◌<◌, IfOk, IfSome,
 ghost use Rattle.spec_base.specs.Reading.{Gives};
 ghost use Rattle.sol_base.specs.Keys.{same_key};
 ghost use Rattle.message_codec.specs.Wire.{AllowsLookups};
+ghost use Rattle.tx_build.specs.declared.message.TheConstants.{MAX_KEYS};
+ghost use Rattle.tx_build.specs.Mentions.{listed};
 ghost use Rattle.tx_build.specs.Built.{is_build_memory, kind_of, tables_of, lookups_by, place_of, placed, draft_mentions, draft_shares, own_keys, keys_of, message_in};
 
 use crate::classes::{header_of, ordered_keys};
@@ -15,10 +17,10 @@ use sol_base::{Blob, Items, Key, OutOfMemory};
 use std::alloc::Global;
 
 /// The most keys of its own for which a transaction of 1,232 bytes has room.
-const MAX_OWN_KEYS: usize = 38;
+pub(crate) const MAX_OWN_KEYS: usize = 38;
 
 /// The most keys that instructions can name: a place is one byte.
-const MAX_KEYS: usize = 256;
+pub(crate) const MAX_KEYS: usize = 256;
 
 fn kind_of(version: &Version) -> MessageKind
     ensures { result ≡ kind_of version.now }
@@ -46,10 +48,10 @@ fn position_of(keys: &[Key], key: &Key) -> Option<usize>
     keys.iter().position(|k| *k == *key)
 }
 
-/// Where the key stands, which is one of no more than 256.
+/// Where the key stands.
 #[tactic(auto, unfolding(crate::specs::Built::place_of))]
 fn place_of(keys: &[Key], key: &Key) -> u8
-    requires { length keys.now ≤ 256 }
+    requires { length keys.now ≤ MAX_KEYS }
     ensures { result ≡ place_of keys.now key.now }
 {
     match position_of(keys, key) {
@@ -60,7 +62,7 @@ fn place_of(keys: &[Key], key: &Key) -> u8
 
 /// Where the accounts' keys stand.
 fn places_of(alloc: Global, keys: &[Key], accounts: &[AccountMeta]) -> Result<Blob, OutOfMemory>
-    requires { length keys.now ≤ 256 }
+    requires { length keys.now ≤ MAX_KEYS }
     ensures { IfOk result (λ places. places
         ≡ map (λ account. place_of keys.now account.key) accounts.now) }
 {
@@ -78,7 +80,7 @@ fn placed(
     keys: &[Key],
     instruction: &KeyedInstruction,
 ) -> Result<Instruction, OutOfMemory>
-    requires { length keys.now ≤ 256 }
+    requires { length keys.now ≤ MAX_KEYS }
     ensures { IfOk result (λ i. i ≡ placed keys.now instruction.now) }
 {
     Ok(Instruction {
@@ -93,7 +95,7 @@ fn all_placed(
     keys: &[Key],
     instructions: &[KeyedInstruction],
 ) -> Result<Items<Instruction>, OutOfMemory>
-    requires { length keys.now ≤ 256 }
+    requires { length keys.now ≤ MAX_KEYS }
     ensures { IfOk result (λ all. all ≡ map (placed keys.now) instructions.now) }
 {
     let mut all = Items::new(alloc);
@@ -128,16 +130,16 @@ struct Parts {
 }
 
 #[tactic(auto, unfolding(crate::specs::Built::draft_mentions, crate::specs::Built::own_keys, crate::specs::Built::draft_shares, crate::specs::Built::keys_of))]
-fn parts_of(alloc: Global, draft: &Draft) -> Result<Parts, OutOfMemory>
+fn parts_of(alloc: Global, draft: &Draft, mentions: &[Mention]) -> Result<Parts, OutOfMemory>
+    requires { mentions.now ≡ listed draft.now }
     ensures own { IfOk result (λ parts. parts.own ≡ draft_mentions draft.now) }
     ensures shares { IfOk result (λ parts. parts.shares ≡ draft_shares draft.now) }
     ensures keys { IfOk result (λ parts. parts.keys ≡ own_keys draft.now) }
     ensures all { IfOk result (λ parts. parts.all ≡ keys_of draft.now) }
 {
-    let mentions = listed(alloc, draft)?;
     let tables = tables_of(&draft.version);
-    let own = own_mentions(alloc, tables, mentions.as_slice())?;
-    let shares = shares_of(alloc, tables, mentions.as_slice())?;
+    let own = own_mentions(alloc, tables, mentions)?;
+    let shares = shares_of(alloc, tables, mentions)?;
     let keys = ordered_keys(alloc, own.as_slice())?;
     let all = all_keys(alloc, keys.as_slice(), shares.as_slice())?;
     Ok(Parts {
@@ -148,14 +150,19 @@ fn parts_of(alloc: Global, draft: &Draft) -> Result<Parts, OutOfMemory>
     })
 }
 
-/// The message of the draft, where it has few enough keys.
-#[tactic(auto, unfolding(crate::specs::Built::message_in))]
+/// The message of the draft, where it has few enough keys. They are counted before the tables are
+/// looked through: each stands in the message once.
+#[tactic(auto, using(crate::proofs::Counts::keys_are_listed), unfolding(crate::specs::Built::message_in))]
 pub(crate) fn message_of(alloc: Global, draft: &Draft) -> Result<Message, BuildFault>
     ensures exact { Gives is_build_memory (λ message. message) result (message_in draft.now) }
     ensures allows { IfOk result (λ message. AllowsLookups message.kind message.lookups) }
 {
-    let parts = parts_of(alloc, draft)?;
-    if parts.own.len() > MAX_OWN_KEYS || parts.all.len() > MAX_KEYS {
+    let mentions = listed(alloc, draft)?;
+    if mentions.len() > MAX_KEYS {
+        return Err(BuildFault::TooManyKeys);
+    }
+    let parts = parts_of(alloc, draft, mentions.as_slice())?;
+    if parts.own.len() > MAX_OWN_KEYS {
         return Err(BuildFault::TooManyKeys);
     }
     let all = parts.all.as_slice();

@@ -2,7 +2,7 @@
 ghost use Rattle.std.specs.Prelude.{◌≡◌, ◌<◌, ◌++◌, not, IfOk, IfSome, OnOk, filter, map, option_to_list, position, take};
 ghost use Rattle.std.specs.List.{list_any};
 ghost use Rattle.sol_base.specs.Keys.{same_key};
-ghost use Rattle.tx_build.specs.declared.tables.TheConstants.{ADDRESSABLE};
+ghost use Rattle.tx_build.specs.declared.tables.TheConstants.{MAX_ADDRESSES};
 ghost use Rattle.tx_build.specs.Tables.{place_in, holds, is_loaded, own_mentions, loaded_mentions, written_in, read_in, places_in, share_of, shares_of, is_used, lookups_of, loaded_keys};
 
 use crate::draft::LookupTable;
@@ -11,8 +11,8 @@ use message_codec::Lookup;
 use sol_base::{Blob, Items, Key, OutOfMemory};
 use std::alloc::Global;
 
-/// How many addresses of a table an index can name: it is one byte.
-const ADDRESSABLE: usize = 256;
+/// The most addresses of a table that a message can name: an index is one byte (Solana).
+pub const MAX_ADDRESSES: usize = 256;
 
 /// What a message loads from one table: the lookup, and the keys that it stands for.
 #[derive(Drop)]
@@ -24,12 +24,12 @@ pub(crate) struct Share {
 
 fn position_in(addresses: &[Key], key: &Key) -> Option<usize>
     ensures exact { result ≡ position (λ address. same_key address key.now)
-        (take ADDRESSABLE addresses.now) }
-    ensures fits { IfSome result (λ place. place < 256) }
+        (take MAX_ADDRESSES addresses.now) }
+    ensures fits { IfSome result (λ place. place < MAX_ADDRESSES) }
 {
     addresses
         .iter()
-        .take(ADDRESSABLE)
+        .take(MAX_ADDRESSES)
         .position(|address| *address == *key)
 }
 
@@ -50,7 +50,7 @@ fn holds(table: &LookupTable, mention: &Mention) -> bool
         .addresses
         .as_slice()
         .iter()
-        .take(ADDRESSABLE)
+        .take(MAX_ADDRESSES)
         .any(|address| *address == mention.key)
 }
 

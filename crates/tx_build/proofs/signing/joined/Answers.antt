@@ -1,4 +1,4 @@
-use Rattle.std.proofs.Common.{ℕ, refl, replicate}
+use Rattle.std.proofs.Common.{refl, replicate}
 use Rattle.std.proofs.lemmas.Slice.{take-put_mid, drop-put_mid}
 use Rattle.tx_build.proofs.Halves.{halves}
 use Rattle.tx_build.proofs.signing.joined.Goals as goal
