@@ -12,4 +12,5 @@ mod notes;
 mod readers;
 mod tables;
 mod trial;
+mod watches;
 mod works;

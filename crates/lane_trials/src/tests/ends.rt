@@ -4,6 +4,7 @@ ghost use Rattle.bank_core.specs.Counts.{locks_before};
 ghost use Rattle.bank_core.specs.Ends.{outcomes_at_end};
 ghost use Rattle.bank_lanes.specs.Passes.{IsIdle};
 
+use crate::tests::trial::Trial;
 use account_store::Accounts;
 use bank_core::{Core, Desk, Sealed, Work};
 use bank_lanes::{Gate, run_lanes, run_waves};
@@ -76,4 +77,19 @@ pub fn end_by_lanes<W: Work + Sync, G: Gate, R: Threads + Wait + Sync>(
     let core = Core::new(alloc, accounts, work, lanes)?;
     let (desk, pass) = SharedDesk::new(alloc, core)?;
     end_of_desk(rt, alloc, desk, pass, work, gate)
+}
+
+/// The same of a small work.
+pub fn end_of_trial<G: Gate, R: Threads + Wait + Sync>(
+    rt: &R,
+    alloc: Global,
+    accounts: Accounts,
+    lanes: u32,
+    trial: &Trial,
+    gate: &G,
+) -> Result<Sealed, OutOfMemory>
+    requires some { 1 ≤ lanes }
+    requires most { lanes ≤ 64 }
+{
+    end_by_lanes(rt, alloc, accounts, lanes, trial, gate)
 }

@@ -4,15 +4,13 @@ use intake::SendGate;
 use std::sync::atomic::{AtomicU64, Ordering};
 use std::thread;
 
-const TURNS: u64 = 10_000_000;
+/// The most turns that anybody waits.
+const TURNS: u64 = 5_000_000;
 
-/// More turns than a lane looks for before it sleeps.
-const DAWDLE: u64 = 2_000;
-
-/// Waits, for at most so many turns, until the flag is up. True where it was.
-pub fn wait_for(flag: &AtomicU64) -> bool {
+/// Waits, for at most so many turns, until so many have come. True where they have.
+pub fn wait_for(come: &AtomicU64, many: u64) -> bool {
     for _ in 0..TURNS {
-        if flag.load(Ordering::SeqCst) != 0 {
+        if come.load(Ordering::SeqCst) >= many {
             return true;
         }
         thread::yield_now();
@@ -46,7 +44,7 @@ impl KeepingGate {
         if position == self.until {
             self.passed.store(1, Ordering::SeqCst);
         }
-        if position == 0 && wait_for(&self.passed) {
+        if position == 0 && wait_for(&self.passed, 1) {
             self.within.store(1, Ordering::SeqCst);
         }
     }
@@ -65,16 +63,18 @@ impl SendGate for KeepingGate {
 }
 
 /// Keeps the second of each three positions until the third has passed: so another lane has to come
-/// for the third. At the first it takes its time, so that the other lane sleeps.
+/// for the third. The first is kept for so many turns.
 #[derive(Drop)]
 pub struct PairingGate {
+    dawdle: u64,
     passed: AtomicU64,
     missed: AtomicU64,
 }
 
 impl PairingGate {
-    pub fn new() -> PairingGate {
+    pub fn new(dawdle: u64) -> PairingGate {
         PairingGate {
+            dawdle,
             passed: AtomicU64::new(0),
             missed: AtomicU64::new(0),
         }
@@ -84,29 +84,18 @@ impl PairingGate {
     pub fn were_paired(&self) -> bool {
         self.missed.load(Ordering::SeqCst) == 0
     }
-
-    /// Waits, for at most so many turns, until so many have passed.
-    fn wait_until(&self, many: u64) {
-        for _ in 0..TURNS {
-            if self.passed.load(Ordering::SeqCst) >= many {
-                return;
-            }
-            thread::yield_now();
-        }
-        self.missed.store(1, Ordering::SeqCst);
-    }
 }
 
 impl Gate for PairingGate {
     fn pass(&self, _lane: u32, position: u32) {
         if position % 3 == 0 {
-            for _ in 0..DAWDLE {
+            for _ in 0..self.dawdle {
                 thread::yield_now();
             }
-        } else if position % 3 == 1 {
-            self.wait_until((position / 3) as u64 + 1);
-        } else {
+        } else if position % 3 == 2 {
             self.passed.fetch_add(1, Ordering::SeqCst);
+        } else if !wait_for(&self.passed, u64::from(position / 3) + 1) {
+            self.missed.store(1, Ordering::SeqCst);
         }
     }
 }
@@ -137,12 +126,8 @@ impl MeetingGate {
 impl Gate for MeetingGate {
     fn pass(&self, _lane: u32, _position: u32) {
         self.passed.fetch_add(1, Ordering::SeqCst);
-        for _ in 0..TURNS {
-            if self.passed.load(Ordering::SeqCst) >= self.many {
-                return;
-            }
-            thread::yield_now();
+        if !wait_for(&self.passed, self.many) {
+            self.missed.store(1, Ordering::SeqCst);
         }
-        self.missed.store(1, Ordering::SeqCst);
     }
 }

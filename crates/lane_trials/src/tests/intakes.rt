@@ -3,6 +3,7 @@ ghost use Rattle.std.specs.Prelude.{◌≡◌, ◌+◌, ◌≤◌, ◌<◌, [], 
 ghost use Rattle.intake.specs.Seats.{IsSendSeatOf, IsTakeSeatOf, sent_by};
 
 use crate::tests::gates::KeepingGate;
+use crate::tests::watches::watched;
 use intake::{Gathered, Intake, OpenSend, Opened, SendSeat, TakeSeat, gather};
 use message_codec::{Parsed, WireFault};
 use sol_base::{Blob, Items, OutOfMemory};
@@ -231,14 +232,18 @@ fn has_both(gathered: &Gathered) -> bool {
         && gathered.arrivals.len() == 2
 }
 
-#[test]
-fn senders_at_once(rt: HostRuntime) -> Result<(), Fail> {
-    let wires = transfers(rt.alloc())?;
+/// Whether two senders parse the two transfers, of which the first is kept until the second passes.
+fn senders_meet<R: Threads + Wait + Abort + Sync>(rt: &R, alloc: Global) -> Result<bool, Fail> {
+    let wires = transfers(alloc)?;
     let gate = KeepingGate::new(1);
     assert!(rt; wires.len() == 2);
-    let gathered = gather(&rt, rt.alloc(), &wires, 2, &gate)?;
-    assert!(rt; gate.was_passed_within());
-    assert!(rt; has_both(&gathered));
+    let gathered = gather(rt, alloc, &wires, 2, &gate)?;
+    Ok(gate.was_passed_within() && has_both(&gathered))
+}
+
+#[test]
+fn senders_at_once(rt: HostRuntime) -> Result<(), Fail> {
+    assert!(rt; watched(&rt, || senders_meet(&rt, rt.alloc()))?);
     Ok(())
 }
 

@@ -1,7 +1,7 @@
 //! Lanes that really run beside each other, by waves and over a shared desk.
 use crate::tests::drives::have_units;
 use crate::tests::ends::{end_by_lanes, end_by_waves};
-use crate::tests::gates::{KeepingGate, PairingGate};
+use crate::tests::gates::KeepingGate;
 use crate::tests::trial::{Trial, WRITE, accounts_of_ten, trial_of};
 use crate::tests::works::{Refusing, Waiting};
 use account_store::Accounts;
@@ -14,7 +14,6 @@ use std::sync::Wait;
 use std::sync::atomic::{AtomicU64, Ordering};
 use std::test::Fail;
 use std::thread::Threads;
-use std::time::Instant;
 
 /// The lanes run by waves.
 const WAVES: bool = false;
@@ -151,41 +150,5 @@ fn lanes_without_memory_give_back(rt: HostRuntime) -> Result<(), Fail> {
     for (lanes, refusals) in REFUSALS {
         assert!(rt; ends_so(&rt, rt.alloc(), lanes, refusals)?);
     }
-    Ok(())
-}
-
-const BOTH: &[(u8, bool)] = &[(1, WRITE), (2, WRITE)];
-
-const ONE: &[(u8, bool)] = &[(1, WRITE)];
-
-const OTHER: &[(u8, bool)] = &[(2, WRITE)];
-
-/// Eight times: a position, and two that wait for it and that the next one waits for.
-const PAIRS: [&[(u8, bool)]; 24] = [
-    BOTH, ONE, OTHER, BOTH, ONE, OTHER, BOTH, ONE, OTHER, BOTH, ONE, OTHER, BOTH, ONE, OTHER, BOTH,
-    ONE, OTHER, BOTH, ONE, OTHER, BOTH, ONE, OTHER,
-];
-
-fn end_of_pairs<R: Threads + Wait + Sync>(
-    rt: &R,
-    alloc: Global,
-    accounts: Accounts,
-    trial: &Trial,
-    gate: &PairingGate,
-) -> Result<Sealed, OutOfMemory> {
-    end_by_lanes(rt, alloc, accounts, 2, trial, gate)
-}
-
-/// A lane that sleeps is woken by the commit that leaves it a position. It would sleep for a second
-/// eight times, if nothing woke it.
-#[test]
-fn a_commit_wakes_a_lane(rt: HostRuntime) -> Result<(), Fail> {
-    let trial = trial_of(&rt, rt.alloc(), &PAIRS)?;
-    let accounts = accounts_of_ten(&rt, rt.alloc(), &[1, 2])?;
-    let gate = PairingGate::new();
-    let start = Instant::now(&rt)?;
-    let end = end_of_pairs(&rt, rt.alloc(), accounts, &trial, &gate)?;
-    let took = start.elapsed(&rt)?;
-    assert!(rt; gate.were_paired() && end.outcomes.len() == 24 && took.as_secs() < 5);
     Ok(())
 }

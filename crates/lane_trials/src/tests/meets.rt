@@ -1,72 +1,42 @@
 //! Lanes that must all come, and runs that must end.
-use crate::tests::ends::end_by_lanes;
-use crate::tests::gates::MeetingGate;
-use crate::tests::trial::{READ, Trial, WRITE, accounts_of_ten, trial_of};
-use account_store::Accounts;
-use bank_core::Sealed;
+use crate::tests::ends::end_of_trial;
+use crate::tests::gates::{MeetingGate, PairingGate};
+use crate::tests::trial::{READ, WRITE, accounts_of_ten, trial_of};
+use crate::tests::watches::watched;
 use bank_lanes::OpenGate;
-use sol_base::OutOfMemory;
 use std::alloc::Global;
 use std::process::Abort;
 use std::sync::Wait;
 use std::test::Fail;
 use std::thread::Threads;
-use std::time::Instant;
-
-fn end_of_meeting<R: Threads + Wait + Sync>(
-    rt: &R,
-    alloc: Global,
-    accounts: Accounts,
-    trial: &Trial,
-    gate: &MeetingGate,
-) -> Result<Sealed, OutOfMemory> {
-    end_by_lanes(rt, alloc, accounts, 64, trial, gate)
-}
-
-fn end_of_four<R: Threads + Wait + Sync>(
-    rt: &R,
-    alloc: Global,
-    accounts: Accounts,
-    trial: &Trial,
-    gate: &MeetingGate,
-) -> Result<Sealed, OutOfMemory> {
-    end_by_lanes(rt, alloc, accounts, 4, trial, gate)
-}
-
-fn end_of_crowd<R: Threads + Wait + Sync>(
-    rt: &R,
-    alloc: Global,
-    accounts: Accounts,
-    trial: &Trial,
-) -> Result<Sealed, OutOfMemory> {
-    end_by_lanes(rt, alloc, accounts, 64, trial, &OpenGate)
-}
 
 const READER: &[(u8, bool)] = &[(1, READ)];
 
-const FOUR: [&[(u8, bool)]; 4] = [READER; 4];
-
+/// 64 positions that wait for nobody.
 const CROWD: [&[(u8, bool)]; 64] = [READER; 64];
 
-/// Four positions that wait for nobody, each of which is held until all four are.
+/// Whether so many positions are all held at once, by as many lanes.
+fn meet<R: Threads + Wait + Abort + Sync>(rt: &R, alloc: Global, many: u32) -> Result<bool, Fail>
+    requires { (1 ≤ many) × (many ≤ 64) }
+{
+    let trial = trial_of(rt, alloc, &CROWD[..many as usize])?;
+    let accounts = accounts_of_ten(rt, alloc, &[1])?;
+    let gate = MeetingGate::new(u64::from(many));
+    let end = end_of_trial(rt, alloc, accounts, many, &trial, &gate)?;
+    Ok(gate.all_met() && end.outcomes.len() == many as usize)
+}
+
+/// Each of four positions is held until all four are.
 #[test]
 fn four_lanes_meet(rt: HostRuntime) -> Result<(), Fail> {
-    let trial = trial_of(&rt, rt.alloc(), &FOUR)?;
-    let accounts = accounts_of_ten(&rt, rt.alloc(), &[1])?;
-    let gate = MeetingGate::new(4);
-    let end = end_of_four(&rt, rt.alloc(), accounts, &trial, &gate)?;
-    assert!(rt; gate.all_met() && end.outcomes.len() == 4);
+    assert!(rt; watched(&rt, || meet(&rt, rt.alloc(), 4))?);
     Ok(())
 }
 
 /// The same of 64.
 #[test]
 fn sixty_four_lanes_meet(rt: HostRuntime) -> Result<(), Fail> {
-    let trial = trial_of(&rt, rt.alloc(), &CROWD)?;
-    let accounts = accounts_of_ten(&rt, rt.alloc(), &[1])?;
-    let gate = MeetingGate::new(64);
-    let end = end_of_meeting(&rt, rt.alloc(), accounts, &trial, &gate)?;
-    assert!(rt; gate.all_met() && end.outcomes.len() == 64);
+    assert!(rt; watched(&rt, || meet(&rt, rt.alloc(), 64))?);
     Ok(())
 }
 
@@ -75,17 +45,95 @@ const ONE: &[(u8, bool)] = &[(1, WRITE)];
 /// Positions that all wait for the one before them.
 const CHAIN: [&[(u8, bool)]; 96] = [ONE; 96];
 
-/// 64 lanes come for one position after the other: whoever gives the turn up has to wake who sleeps
-/// for it, and who sleeps for it must have seen it taken.
+/// Whether 64 lanes come for one position after the other, 20 times.
+fn crowds_end<R: Threads + Wait + Abort + Sync>(rt: &R, alloc: Global) -> Result<bool, Fail> {
+    let trial = trial_of(rt, alloc, &CHAIN)?;
+    for _ in 0..20 {
+        let accounts = accounts_of_ten(rt, alloc, &[1])?;
+        let end = end_of_trial(rt, alloc, accounts, 64, &trial, &OpenGate)?;
+        if end.outcomes.len() != 96 {
+            return Ok(false);
+        }
+    }
+    Ok(true)
+}
+
+/// Whoever gives the turn up has to wake who sleeps for it, and who sleeps for it must have seen it
+/// taken.
 #[test]
 fn a_crowd_ends(rt: HostRuntime) -> Result<(), Fail> {
-    let trial = trial_of(&rt, rt.alloc(), &CHAIN)?;
-    let start = Instant::now(&rt)?;
-    for _ in 0..40 {
-        let accounts = accounts_of_ten(&rt, rt.alloc(), &[1])?;
-        let end = end_of_crowd(&rt, rt.alloc(), accounts, &trial)?;
-        assert!(rt; end.outcomes.len() == 96);
+    assert!(rt; watched(&rt, || crowds_end(&rt, rt.alloc()))?);
+    Ok(())
+}
+
+/// More turns than a lane looks for before it sleeps.
+const LONG: u64 = 2_000;
+
+/// Fewer than that.
+const SHORT: u64 = 8;
+
+const ALONE: [&[(u8, bool)]; 1] = [ONE];
+
+/// Whether four lanes end 30 times, three of which sleep while one has the only position.
+fn sleepers_end<R: Threads + Wait + Abort + Sync>(rt: &R, alloc: Global) -> Result<bool, Fail> {
+    let trial = trial_of(rt, alloc, &ALONE)?;
+    for _ in 0..30 {
+        let accounts = accounts_of_ten(rt, alloc, &[1])?;
+        let gate = PairingGate::new(LONG);
+        let end = end_of_trial(rt, alloc, accounts, 4, &trial, &gate)?;
+        if end.outcomes.len() != 1 {
+            return Ok(false);
+        }
     }
-    assert!(rt; start.elapsed(&rt)?.as_secs() < 20);
+    Ok(true)
+}
+
+/// The end wakes all lanes that sleep. One would sleep for a second each time, if nothing woke it.
+#[test]
+fn the_end_wakes_all_lanes(rt: HostRuntime) -> Result<(), Fail> {
+    assert!(rt; watched(&rt, || sleepers_end(&rt, rt.alloc()))?);
+    Ok(())
+}
+
+const BOTH: &[(u8, bool)] = &[(1, WRITE), (2, WRITE)];
+
+const OTHER: &[(u8, bool)] = &[(2, WRITE)];
+
+/// Eight times: a position, and two that wait for it and that the next one waits for.
+const PAIRS: [&[(u8, bool)]; 24] = [
+    BOTH, ONE, OTHER, BOTH, ONE, OTHER, BOTH, ONE, OTHER, BOTH, ONE, OTHER, BOTH, ONE, OTHER, BOTH,
+    ONE, OTHER, BOTH, ONE, OTHER, BOTH, ONE, OTHER,
+];
+
+/// Whether two lanes share those, four times.
+fn pairs_end<R: Threads + Wait + Abort + Sync>(
+    rt: &R,
+    alloc: Global,
+    dawdle: u64,
+) -> Result<bool, Fail> {
+    let trial = trial_of(rt, alloc, &PAIRS)?;
+    for _ in 0..4 {
+        let accounts = accounts_of_ten(rt, alloc, &[1, 2])?;
+        let gate = PairingGate::new(dawdle);
+        let end = end_of_trial(rt, alloc, accounts, 2, &trial, &gate)?;
+        if !gate.were_paired() || end.outcomes.len() != 24 {
+            return Ok(false);
+        }
+    }
+    Ok(true)
+}
+
+/// A lane that sleeps is woken by the commit that leaves it a position. It would sleep for a second
+/// 32 times, if nothing woke it.
+#[test]
+fn a_commit_wakes_a_lane(rt: HostRuntime) -> Result<(), Fail> {
+    assert!(rt; watched(&rt, || pairs_end(&rt, rt.alloc(), LONG))?);
+    Ok(())
+}
+
+/// A lane that is about to sleep sees that a commit leaves it a position.
+#[test]
+fn a_commit_is_seen(rt: HostRuntime) -> Result<(), Fail> {
+    assert!(rt; watched(&rt, || pairs_end(&rt, rt.alloc(), SHORT))?);
     Ok(())
 }

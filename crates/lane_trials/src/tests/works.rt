@@ -82,7 +82,7 @@ impl Work for Waiting {
         if position == 1 {
             self.begun.store(1, Ordering::SeqCst);
         }
-        if position == 0 && wait_for(&self.begun) {
+        if position == 0 && wait_for(&self.begun, 1) {
             self.within.store(1, Ordering::SeqCst);
         }
         self.trial.perform(position, values)

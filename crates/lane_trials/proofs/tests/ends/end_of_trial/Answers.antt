@@ -1,5 +1,5 @@
 use Rattle.bank_core.proofs.Trials.{few_locks}
-use Rattle.lane_trials.proofs.tests.meets.end_of_four.Goals as goal
+use Rattle.lane_trials.proofs.tests.ends.end_of_trial.Goals as goal
 
 pub end_by_lanes-requires-clause-room : goal.end_by_lanes-requires-clause-room
 end_by_lanes-requires-clause-room g c = λ κs live. few_locks c.args.trial.now.locks c.args.trial.now.small
