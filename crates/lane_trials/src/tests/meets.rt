@@ -1,4 +1,6 @@
 //! Lanes that must all come, and runs that must end.
+ghost use Rattle.std.specs.Prelude.{◌≤◌};
+
 use crate::tests::ends::end_of_trial;
 use crate::tests::gates::{MeetingGate, PairingGate};
 use crate::tests::trial::{READ, WRITE, accounts_of_ten, trial_of};
