@@ -1,6 +1,5 @@
-use Rattle.std.proofs.Common.{subst, ◌≡◌, true, List, ap}
+use Rattle.std.proofs.Common.{subst}
 use Rattle.std.specs.List.Sorted.{IsStrictlySortedBy}
-use Rattle.sol_base.specs.declared.key.Hash32.{Hash32}
 use Rattle.sol_base.specs.Keys.{hash_cmp}
 use Rattle.admission.proofs.SiftLaws.{distinct_sorted}
 use Rattle.admission.proofs.sift.are_distinct.Goals as goal

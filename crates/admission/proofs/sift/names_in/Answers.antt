@@ -1,4 +1,4 @@
-use Rattle.std.proofs.Common.{◌++◌, List, Option, ap, sym, ◌∙◌}
+use Rattle.std.proofs.Common.{◌++◌, List, ap, sym, ◌∙◌}
 use Rattle.std.specs.Prelude.{option_to_list}
 use Rattle.sol_base.specs.declared.key.Hash32.{Hash32}
 use Rattle.admission.specs.Weighing.{name_of}
