@@ -5,6 +5,7 @@ ghost use Rattle.bank_cli.specs.Answer.{answer, answer_to, input_limit, reads_in
 ghost use Rattle.bank_cli.specs.Ending.{TellsAnswer, TellsFault, Stops};
 ghost use Rattle.sol_io.specs.Bytes.{Keeps};
 
+use crate::ahead::Senders;
 use crate::asm::{assembled, listed};
 use crate::make::made;
 use crate::produce::produced;
@@ -110,7 +111,11 @@ fn answer_input<G: Gate, H: SendGate, R: Threads + Wait + Sync>(
 {
     match command {
         Command::Produce { lanes, senders } => {
-            produced(rt, alloc, lanes, senders, input, gate, send)
+            let senders = Senders {
+                count: senders,
+                gate: send,
+            };
+            produced(rt, alloc, lanes, &senders, input, gate)
         }
         Command::Replay { lanes } => replayed(rt, alloc, lanes, input, gate),
         Command::Show => shown(alloc, input),
@@ -119,7 +124,10 @@ fn answer_input<G: Gate, H: SendGate, R: Threads + Wait + Sync>(
             count,
             run,
             lanes,
-        } => made(rt, alloc, number, count, run, lanes, gate),
+        } => {
+            let lanes = if run { Some(lanes) } else { None };
+            made(rt, alloc, number, count, lanes, gate)
+        }
         Command::Assemble => assembled(alloc, input),
         Command::List => listed(alloc, input),
     }

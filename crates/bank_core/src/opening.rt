@@ -6,7 +6,7 @@ ghost use Rattle.std.specs.List.{IsDistinct};
 ghost use Rattle.std.specs.declared.vec.Vec.{Vec as VecValue};
 ghost use Rattle.std.specs.declared.alloc.Global.{Global as GlobalValue};
 ghost use Rattle.account_store.specs.State.{at};
-ghost use Rattle.bank_law.specs.Job.{same_key, keys, lock_keys};
+ghost use Rattle.bank_law.specs.Job.{same_key, keys as keys_at, lock_keys};
 ghost use Rattle.lock_table.specs.Numbers.{Numbers, numbered_key};
 ghost use Rattle.prio_graph.specs.Ready.{set_at};
 ghost use Rattle.bank_core.specs.Slots.{Shared, account_at, in_slot, value_of};
@@ -69,7 +69,7 @@ fn sets_of<L: Locked>(
     table: &KeyTable,
 ) -> Result<Items<LockSet>, OutOfMemory>
     requires apart { (i : ℕ) → i < (L.job locked.now).count
-        → IsDistinct same_key (keys (L.job locked.now) i) }
+        → IsDistinct same_key (keys_at (L.job locked.now) i) }
     requires known { (i : ℕ) → i < (L.job locked.now).count
         → AreKnown table.now ((L.job locked.now).locks i) }
     ensures long { IfOk result (λ sets. length sets ≡ (L.job locked.now).count) }
@@ -106,13 +106,30 @@ pub struct Numbered {
 /// Numbers the keys that positions lock, and makes the graph of the positions.
 pub fn number<L: Locked>(alloc: Global, locked: &L) -> Result<Numbered, OutOfMemory>
     requires apart { (i : ℕ) → i < (L.job locked.now).count
-        → IsDistinct same_key (keys (L.job locked.now) i) }
+        → IsDistinct same_key (keys_at (L.job locked.now) i) }
     requires room { locks_before (L.job locked.now) (L.job locked.now).count < 2 ^ 32 }
+    ensures { IfOk result (λ n. AreNumbered (L.job locked.now) n.table n.graph n.room) }
+{
+    number_among(alloc, locked, keys_of(alloc, locked)?)
+}
+
+/// The same where the keys of all locks stand in a list. Where the list ascends, it is not sorted
+/// again.
+pub fn number_among<L: Locked>(
+    alloc: Global,
+    locked: &L,
+    keys: Vec<Key>,
+) -> Result<Numbered, OutOfMemory>
+    requires apart { (i : ℕ) → i < (L.job locked.now).count
+        → IsDistinct same_key (keys_at (L.job locked.now) i) }
+    requires few { length keys.items < 2 ^ 32 }
+    requires known { (i : ℕ) → i < (L.job locked.now).count
+        → AreKnown keys.items ((L.job locked.now).locks i) }
     ensures { IfOk result (λ n. AreNumbered (L.job locked.now) n.table n.graph n.room) }
 {
     // The contracts of these two tell that the count is small, and that the keys are distinct.
     let _count = locked.count();
-    let table = KeyTable::of_keys(alloc, keys_of(alloc, locked)?);
+    let table = KeyTable::of_keys(alloc, keys);
     let _len = table.len();
     let sets = sets_of(alloc, locked, &table)?;
     let room = most_locks(sets.as_slice());

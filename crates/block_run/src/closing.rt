@@ -13,15 +13,15 @@ ghost use Rattle.block_run.specs.BlockEnd.{base_fees, priority_fees};
 ghost use Rattle.block_run.specs.Blocks.{ascending, closed_with, processed_in, sealed};
 ghost use Rattle.block_run.specs.Closing.{IsEndOf, IsUnsealed};
 ghost use Rattle.block_run.specs.Ending.{AreOf, MayEnd, joined_of, ran_of};
-ghost use Rattle.block_run.specs.Front.{IsBegun, IsWritten};
+ghost use Rattle.block_run.specs.RecordPrefix.{IsBegun, IsWritten};
 
 use crate::activation::activate_all;
 use crate::block::{Chain, Closed, ClosedRecord, RecordParts};
 use crate::crew::Crew;
 use crate::entries::entries_of;
 use crate::fees::{Shared, share_split, split_paid};
-use crate::front::{Begun, take_rest};
 use crate::names::{ascending, processed_in};
+use crate::record_prefix::{RecordPrefix, take_rest};
 use crate::threads::call_both;
 use account_store::Accounts;
 use admission::Chosen;
@@ -104,7 +104,7 @@ fn end_state_of_run(
 pub(crate) struct Ends {
     end: EndState,
     names: Items<Hash32>,
-    front: Begun,
+    front: RecordPrefix,
 }
 
 /// Ends a block whose transactions have these outcomes: the fees are shared, then programs become
@@ -115,7 +115,7 @@ fn end_block<G: Gate, R: Threads + Sync>(
     parts: RecordParts<'_>,
     ended: Ended<TxWork>,
     outcomes: &Items<Outcome>,
-    begun: Begun,
+    begun: RecordPrefix,
 ) -> Result<Ends, OutOfMemory>
     requires run { MayEnd parts.wires.now parts.order.now
         (ran_of ended.origin.value outcomes.now) }
@@ -149,7 +149,7 @@ fn end_block<G: Gate, R: Threads + Sync>(
             ensures names { IfOk result (λ end.
                 end.1 ≡ ascending (processed_in order.entry.now outcomes.entry.now)) }
         { end_state_of_run(alloc, &head.collector, order, ended, outcomes) },
-        move || -> Result<Begun, OutOfMemory>
+        move || -> Result<RecordPrefix, OutOfMemory>
             requires { AreOf wires.now order.now × (length outcomes.now ≡ length order.now)
                 × All IsSmallOutcome outcomes.now × IsBegun (record {
                   head = head;
@@ -198,7 +198,7 @@ fn list_entries(
     alloc: Global,
     parts: RecordParts<'_>,
     outcomes: Items<Outcome>,
-    front: Begun,
+    front: RecordPrefix,
 ) -> Result<Unsealed, OutOfMemory>
     requires of { AreOf parts.wires.now parts.order.now }
     requires one_each { length outcomes ≡ length parts.order.now }
@@ -273,7 +273,7 @@ pub(crate) fn close<G: Gate, R: Threads + Sync>(
     parts: RecordParts<'_>,
     ended: Ended<TxWork>,
     outcomes: Items<Outcome>,
-    begun: Begun,
+    begun: RecordPrefix,
 ) -> Result<Closed, OutOfMemory>
     requires limits { AreAllowed chain.limits }
     requires messages { All (λ mark. length mark.messages ≤ max_transactions)
@@ -308,7 +308,7 @@ pub(crate) fn close_record<G: Gate, R: Threads + Sync>(
     parts: RecordParts<'_>,
     ended: Ended<TxWork>,
     outcomes: &Items<Outcome>,
-    begun: Begun,
+    begun: RecordPrefix,
 ) -> Result<ClosedRecord, OutOfMemory>
     requires limits { AreAllowed chain.limits }
     requires messages { All (λ mark. length mark.messages ≤ max_transactions)

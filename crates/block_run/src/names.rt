@@ -27,7 +27,7 @@ pub(crate) fn processed_in(
     requires { length outcomes.now ≡ length order.now }
     ensures { IfOk result (λ names. names.items ≡ processed_in order.now outcomes.now) }
 {
-    let mut names = Vec::new(alloc);
+    let mut names = Vec::with_capacity(alloc, order.len())?;
     for (at, chosen) in order.iter().enumerate() {
         if let Some(name) = processed_by(chosen.name, &outcomes[at].status) {
             names.push(name)?;

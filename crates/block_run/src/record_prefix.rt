@@ -1,4 +1,4 @@
-//! The front of a record, which is hashed while transactions still run.
+//! A record up to some entry, which is hashed while transactions still run.
 ghost use Rattle.std.specs.Prelude.{◌≡◌, ◌+◌, ◌≤◌, ◌++◌, ℕ, All, IfOk, List, Some, drop, length, true};
 ghost use Rattle.std.specs.List.{flat_map};
 ghost use Rattle.sha2.specs.Hashers.{Holds256};
@@ -10,7 +10,7 @@ ghost use Rattle.bank_shared.specs.Face.{desk_origin, IsReaderOf};
 ghost use Rattle.block_record.specs.Record.{entry_bytes};
 ghost use Rattle.block_run.specs.Blocks.{entries_of};
 ghost use Rattle.block_run.specs.Ending.{AreOf};
-ghost use Rattle.block_run.specs.Front.{IsBegun, IsWritten};
+ghost use Rattle.block_run.specs.RecordPrefix.{IsBegun, IsWritten};
 
 use crate::block::RecordParts;
 use crate::entries::write_entries;
@@ -39,14 +39,14 @@ const ENTRY_ROOM: usize = 768;
 
 /// A record up to the end of so many entries: its hash, and its bytes where they are wanted.
 #[derive(Drop)]
-pub(crate) struct Begun {
+pub(crate) struct RecordPrefix {
     pub(crate) count: u32,
     pub(crate) hasher: Sha256,
     pub(crate) bytes: Blob,
 }
 
 /// A record that is to have an entry for each transaction, up to the first of them.
-pub(crate) fn begin(alloc: Global, parts: RecordParts<'_>) -> Result<Begun, OutOfMemory>
+pub(crate) fn begin(alloc: Global, parts: RecordParts<'_>) -> Result<RecordPrefix, OutOfMemory>
     requires few { length parts.order.now ≤ max_transactions }
     ensures { IfOk result (λ begun. (outcomes : List OutcomeValue)
         → IsBegun parts.entry outcomes begun) }
@@ -63,7 +63,7 @@ pub(crate) fn begin(alloc: Global, parts: RecordParts<'_>) -> Result<Begun, OutO
     )?;
     let mut hasher = Sha256::new();
     hasher.update(bytes.as_slice());
-    Ok(Begun {
+    Ok(RecordPrefix {
         count: 0,
         hasher,
         bytes,
@@ -84,9 +84,9 @@ fn buffer_of(alloc: Global, kept: bool, bytes: Blob) -> Result<Blob, OutOfMemory
 fn take_next(
     alloc: Global,
     parts: RecordParts<'_>,
-    begun: Begun,
+    begun: RecordPrefix,
     outcomes: &[Outcome],
-) -> Result<Begun, OutOfMemory>
+) -> Result<RecordPrefix, OutOfMemory>
     requires of { AreOf parts.wires.now parts.order.now }
     requires within { begun.count + length outcomes.now ≤ length parts.order.now }
     requires small { All IsSmallOutcome outcomes.now }
@@ -100,7 +100,7 @@ fn take_next(
         (entries_of parts.entry.wires.now (drop begun.count parts.entry.order.now)
         outcomes.entry.now)) }
 {
-    let Begun {
+    let RecordPrefix {
         count,
         mut hasher,
         bytes,
@@ -111,7 +111,7 @@ fn take_next(
     let from = buffer.len();
     write_entries(&mut buffer, parts.wires, order, outcomes)?;
     hasher.update(&buffer.as_slice()[from..]);
-    Ok(Begun {
+    Ok(RecordPrefix {
         count: next,
         hasher,
         bytes: buffer,
@@ -122,9 +122,9 @@ fn take_next(
 fn take_in(
     alloc: Global,
     parts: RecordParts<'_>,
-    begun: Begun,
+    begun: RecordPrefix,
     outcomes: Items<Outcome>,
-) -> Result<Begun, OutOfMemory>
+) -> Result<RecordPrefix, OutOfMemory>
     requires of { AreOf parts.wires.now parts.order.now }
     requires within { begun.count + length outcomes ≤ length parts.order.now }
     requires small { All IsSmallOutcome outcomes }
@@ -143,9 +143,9 @@ fn take_in(
 pub(crate) fn take_rest(
     alloc: Global,
     parts: RecordParts<'_>,
-    begun: Begun,
+    begun: RecordPrefix,
     outcomes: &Items<Outcome>,
-) -> Result<Begun, OutOfMemory>
+) -> Result<RecordPrefix, OutOfMemory>
     requires of { AreOf parts.wires.now parts.order.now }
     requires one_each { length outcomes.now ≡ length parts.order.now }
     requires small { All IsSmallOutcome outcomes.now }
@@ -163,14 +163,14 @@ pub(crate) fn take_rest(
 }
 
 /// Hashes entries as their outcomes come to be known, until all are or the lanes have ended.
-pub(crate) fn read_front<W: Work, R: Wait>(
+pub(crate) fn read_prefix<W: Work, R: Wait>(
     rt: &R,
     alloc: Global,
     desk: &SharedDesk<W>,
     mut reader: Reader<W>,
     ended: &AtomicBool,
     parts: RecordParts<'_>,
-) -> Result<Begun, OutOfMemory>
+) -> Result<RecordPrefix, OutOfMemory>
     requires reader { IsReaderOf desk.now reader }
     requires of { AreOf parts.wires.now parts.order.now }
     requires one_each { length parts.order.now

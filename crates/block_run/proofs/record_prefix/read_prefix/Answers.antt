@@ -4,8 +4,8 @@ use Rattle.tx_exec.specs.TransactionLaws.{IsSmallOutcome}
 use Rattle.bank_core.specs.Ends.{outcomes_at_end}
 use Rattle.bank_core.proofs.Tells.{told_few}
 use Rattle.bank_shared.specs.Face.{desk_origin}
-use Rattle.block_run.proofs.Fronts.{goes_on}
-use Rattle.block_run.proofs.front.read_front.Goals as goal
+use Rattle.block_run.proofs.RecordPrefixes.{goes_on}
+use Rattle.block_run.proofs.record_prefix.read_prefix.Goals as goal
 
 pub take_in-requires-clause-within : goal.take_in-requires-clause-within
 take_in-requires-clause-within g c =

@@ -1,7 +1,7 @@
 use Rattle.std.proofs.Common.{[], ℕ, List, refl, ap, subst, sym, ◌∙◌}
 use Rattle.sha2.specs.Hashers.{Holds256}
-use Rattle.block_run.proofs.Fronts.{begins}
-use Rattle.block_run.proofs.front.begin.Goals as goal
+use Rattle.block_run.proofs.RecordPrefixes.{begins}
+use Rattle.block_run.proofs.record_prefix.begin.Goals as goal
 
 pub returns : goal.returns
 returns c =

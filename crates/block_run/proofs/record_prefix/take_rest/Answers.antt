@@ -3,8 +3,8 @@ use Rattle.std.proofs.lemmas.List.{length-take-le, length-drop}
 use Rattle.std.proofs.lemmas.List.Elements.{All-drop, All-take}
 use Rattle.tx_report.specs.declared.outcome.Outcome.{Outcome}
 use Rattle.tx_exec.specs.TransactionLaws.{IsSmallOutcome}
-use Rattle.block_run.proofs.Fronts.{goes_on, is_written, told_part}
-use Rattle.block_run.proofs.front.take_rest.Goals as goal
+use Rattle.block_run.proofs.RecordPrefixes.{goes_on, is_written, told_part}
+use Rattle.block_run.proofs.record_prefix.take_rest.Goals as goal
 
 pub loop-begun-preserved : goal.loop-begun-preserved
 loop-begun-preserved c =

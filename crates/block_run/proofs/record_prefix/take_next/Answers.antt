@@ -4,8 +4,8 @@ use Rattle.sha2.specs.Hashers.{Holds256}
 use Rattle.block_record.specs.declared.block.Entry.{Entry}
 use Rattle.block_record.specs.Record.{entry_bytes}
 use Rattle.block_run.specs.Blocks.{entries_of}
-use Rattle.block_run.proofs.Fronts.{next_entries, tail_is}
-use Rattle.block_run.proofs.front.take_next.Goals as goal
+use Rattle.block_run.proofs.RecordPrefixes.{next_entries, tail_is}
+use Rattle.block_run.proofs.record_prefix.take_next.Goals as goal
 
 pub returns-clause-taken : goal.returns-clause-taken
 returns-clause-taken c =

@@ -1,7 +1,7 @@
 use Rattle.bank_core.specs.Ends.{outcomes_at_end}
 use Rattle.bank_shared.specs.Face.{desk_origin, IsReaderOf}
-use Rattle.block_run.specs.Front.{IsBegun}
-use Rattle.block_run.proofs.front.read_front.Given as goal
+use Rattle.block_run.specs.RecordPrefix.{IsBegun}
+use Rattle.block_run.proofs.record_prefix.read_prefix.Given as goal
 
 -- the reader stays with its desk, and the hash has the entries so far
 abbrev pub invariant-loop : goal.invariant-loop

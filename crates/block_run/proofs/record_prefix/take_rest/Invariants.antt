@@ -1,6 +1,6 @@
 use Rattle.std.proofs.Common.{◌-◌, ℕ, length}
-use Rattle.block_run.specs.Front.{IsBegun}
-use Rattle.block_run.proofs.front.take_rest.Given as goal
+use Rattle.block_run.specs.RecordPrefix.{IsBegun}
+use Rattle.block_run.proofs.record_prefix.take_rest.Given as goal
 
 -- the record has the entries so far
 abbrev pub invariant-loop-begun : goal.invariant-loop-begun

@@ -11,9 +11,9 @@ use Rattle.block_record.specs.declared.block.Entry.{Entry}
 use Rattle.block_record.specs.Record.{entry_bytes, front_bytes, heading_bytes}
 use Rattle.block_record.proofs.RecordLaws.{front_is}
 use Rattle.block_run.specs.declared.block.RecordParts.{RecordParts}
-use Rattle.block_run.specs.declared.front.Begun.{Begun}
+use Rattle.block_run.specs.declared.record_prefix.RecordPrefix.{RecordPrefix}
 use Rattle.block_run.specs.Blocks.{entries_of, entry_of, unsealed}
-use Rattle.block_run.specs.Front.{IsBegun, IsWritten, bytes_up_to}
+use Rattle.block_run.specs.RecordPrefix.{IsBegun, IsWritten, bytes_up_to}
 
 -- ---- lists beside each other
 zip-nil : {X Y : Type 0} (xs : List X) → ◌≡◌ {A = List (X × Y)} (zip xs []) []
@@ -60,7 +60,7 @@ module _ (parts : RecordParts) where
   heading = heading_bytes parts.head.now.slot parts.head.now.collector parts.previous (length order)
 
   -- it begins with none
-  pub begins : (outcomes : List Outcome) (begun : Begun) → begun.count ≡ 0 → Holds256 begun.hasher heading → begun.bytes ≡ heading → IsBegun parts outcomes begun
+  pub begins : (outcomes : List Outcome) (begun : RecordPrefix) → begun.count ≡ 0 → Holds256 begun.hasher heading → begun.bytes ≡ heading → IsBegun parts outcomes begun
   begins outcomes begun none taken kept = record {
     within = subst (λ n. n ≤ length order) (sym none) (omega arith);
     taken = subst (Holds256 begun.hasher) (sym nothing) taken;
@@ -74,7 +74,7 @@ module _ (parts : RecordParts) where
           ∙ append-nil heading
 
   -- it goes on with the outcomes that come next
-  pub goes_on : (all told : List Outcome) (begun next : Begun) → IsBegun parts all begun
+  pub goes_on : (all told : List Outcome) (begun next : RecordPrefix) → IsBegun parts all begun
       → told ≡ take (length told) (drop begun.count all) → begun.count + length told ≤ length order → next.count ≡ begun.count + length told
       → ((taken : List ℕ) → Holds256 begun.hasher taken → Holds256 next.hasher (taken ++ flat_map entry_bytes (entries_of wires (drop begun.count order) told)))
       → (parts.kept ≡ true → next.bytes ≡ begun.bytes ++ flat_map entry_bytes (entries_of wires (drop begun.count order) told))
@@ -103,7 +103,7 @@ module _ (parts : RecordParts) where
           ∙ ap (λ bs. heading ++ bs) (sym (flat_map-append entry_bytes one two) ∙ ap (flat_map entry_bytes) both)
 
   -- it is written once it has all
-  pub is_written : (all : List Outcome) (begun : Begun) → IsBegun parts all begun → length all ≤ begun.count → IsWritten parts all begun
+  pub is_written : (all : List Outcome) (begun : RecordPrefix) → IsBegun parts all begun → length all ≤ begun.count → IsWritten parts all begun
   is_written all begun is whole = record {
     taken = subst (λ (os : List Outcome). Holds256 begun.hasher (bytes_up_to parts os)) (take_all begun.count all whole) is.taken;
     kept = λ wanted. is.kept wanted ∙ ap (bytes_up_to parts) (take_all begun.count all whole);
