@@ -13,7 +13,7 @@ ghost use Rattle.invoke_engine.specs.Suspended.{programs_of};
 ghost use Rattle.invoke_engine.specs.Views.{fixed, ending_as, next_as, work_as, IsRun};
 
 use crate::begin::{Next, begin};
-use crate::call::{Call, Ended, Ran, Setting};
+use crate::call::{Call, Ended, Ran, Setting, StoppedAt};
 use crate::carrier::Carrier;
 use crate::context::{Context, Invocation};
 use crate::ending::{Callee, Ending};
@@ -137,14 +137,16 @@ fn run_frame(
 }
 
 /// What an instruction did that ended so.
-fn ran_of(ending: Ending, trace: u8) -> Ran
-    ensures { (c : Carried) → c.trace ≡ trace → IsRun (ending_as ending c) result c.log }
+fn ran_of(ending: Ending, trace: u8, stopped_at: Option<StoppedAt>) -> Ran
+    ensures { (c : Carried) → c.trace ≡ trace → c.stopped_at ≡ stopped_at
+        → IsRun (ending_as ending c) result c.log }
 {
     let Ending { units, ended } = ending;
     Ran {
         units,
         trace,
         ended,
+        stopped_at,
     }
 }
 
@@ -167,6 +169,7 @@ fn run_started(
 {
     let mut carrier = Carrier {
         trace,
+        stopped_at: None,
         env: Env {
             slot: context.setting.slot,
             program: SYSTEM_PROGRAM,
@@ -178,10 +181,14 @@ fn run_started(
         },
     };
     let answer = run_frame(context, invocation, &mut carrier);
-    let Carrier { trace, env } = carrier;
+    let Carrier {
+        trace,
+        stopped_at,
+        env,
+    } = carrier;
     let Env { logs: lines, .. } = env;
     *logs = lines;
-    Ok(ran_of(answer?, trace))
+    Ok(ran_of(answer?, trace, stopped_at))
 }
 
 /// What `run_instruction` does, for one who hands the accounts over and lends the lists of the call.
@@ -209,6 +216,7 @@ pub fn run_invocation(
                 detail: 0,
                 height: 1,
             }),
+            stopped_at: None,
         });
     }
     run_started(context, invocation, trace, logs)
