@@ -3,7 +3,7 @@ ghost use Rattle.std.specs.Prelude.{◌≡◌, ◌≤◌, ◌^◌, IfSome, Match
 ghost use Rattle.std.specs.List.{list_all};
 ghost use Rattle.std.specs.Char.{is_ascii_digit};
 ghost use Rattle.std.specs.Str.Parse.{digits_value};
-ghost use Rattle.bank_words.specs.Numbers.{is_number_text, number_in};
+ghost use Rattle.command_parts.specs.Numbers.{is_number_text, number_in};
 
 fn are_digits(text: &[u8]) -> bool
     ensures { result ≡ list_all is_ascii_digit text.now }
@@ -30,10 +30,10 @@ fn value_of(text: &str) -> Option<u64>
     }
 }
 
-/// The number from `low` to `high` that the text is.
-pub(crate) fn number_in(low: u64, high: u64, text: &str) -> Option<u64>
+/// The number from `low` to `high`, both among them, that the text is: 1 to 20 decimal digits.
+pub fn number_in(low: u64, high: u64, text: &str) -> Option<u64>
     ensures value { result ≡ number_in low high text.now }
-    ensures bound { IfSome result (λ n. n ≤ high) }
+    ensures range { IfSome result (λ n. (low ≤ n) × (n ≤ high)) }
 {
     if !is_number_text(text) {
         return None;
