@@ -12,12 +12,13 @@ ghost use Rattle.prio_graph.specs.Ready.{set_at};
 ghost use Rattle.bank_core.specs.Slots.{Shared, account_at, in_slot, value_of};
 ghost use Rattle.bank_core.specs.Keeping.{IsApart};
 ghost use Rattle.bank_core.specs.Openings.{AreNumbered, AreKnown};
-ghost use Rattle.bank_core.specs.Counts.{locks_before};
+ghost use Rattle.bank_core.specs.Counts.{locks_before, max_lane_numbers};
 ghost use Rattle.sol_base.specs.Limits.{max_lanes};
 
 use crate::kept::Core;
 use crate::locked::{Locked, OfWork};
 use crate::origin::Origin;
+use crate::shared_outcome::SharedOutcome;
 use crate::work::Work;
 use account_store::{Accounts, TakenOut};
 use bank_law::Event;
@@ -28,7 +29,9 @@ use sol_base::{Account, Items, Key, LockList, OutOfMemory};
 use std::alloc::Global;
 use std::mem::replace;
 use std::sync::Arc;
-use tx_report::Outcome;
+
+/// The most lanes of a core (the project's own): a thread drives up to 16 of them.
+pub const MAX_LANE_NUMBERS: u32 = 1_024;
 
 /// What a core begins with.
 fn origin_of<W: Work>(work: &W, accounts: &Accounts) -> Note<Origin<W::Told>>
@@ -192,7 +195,7 @@ fn slots_of(
 }
 
 /// An outcome for each position, none of them there yet.
-fn no_outcomes(alloc: Global, count: usize) -> Result<Vec<Option<Outcome>>, OutOfMemory>
+fn no_outcomes(alloc: Global, count: usize) -> Result<Vec<Option<SharedOutcome>>, OutOfMemory>
     ensures { IfOk result (λ outcomes. outcomes.items ≡ replicate count None) }
 {
     let mut outcomes = Vec::with_capacity(alloc, count)?;
@@ -242,7 +245,7 @@ impl<W: Work> Core<W> {
         Core::over(alloc, accounts, work, lanes, numbered)
     }
 
-    /// The same where the keys of the work's locks were numbered before.
+    /// The same where the keys of the work's locks were numbered before, and for more lanes.
     pub fn over(
         alloc: Global,
         accounts: Accounts,
@@ -251,7 +254,7 @@ impl<W: Work> Core<W> {
         numbered: Numbered,
     ) -> Result<Core<W>, OutOfMemory>
         requires some { 1 ≤ lanes }
-        requires most { lanes ≤ max_lanes }
+        requires most { lanes ≤ max_lane_numbers }
         requires numbered { AreNumbered (W.job (W.told work.now)) numbered.table numbered.graph
             numbered.room }
         ensures origin { IfOk result
@@ -266,7 +269,7 @@ impl<W: Work> Core<W> {
         let slots = slots_of(alloc, &mut rest, &table)?;
         let outcomes = no_outcomes(alloc, count)?;
         let buffers = buffers_of(alloc, lanes as usize, room)?;
-        let journal = Vec::with_capacity(alloc, 4 * count + 256)?;
+        let journal = Vec::with_capacity(alloc, 4 * count + (4 * lanes as usize).max(256))?;
         Ok(Core {
             origin,
             lanes,

@@ -25,7 +25,7 @@ use crate::record_prefix::{RecordPrefix, take_rest};
 use crate::threads::call_both;
 use account_store::Accounts;
 use admission::Chosen;
-use bank_core::Ended;
+use bank_core::{Ended, SharedOutcome};
 use bank_lanes::Gate;
 use block_record::{Block, end_hash, end_record};
 use fee_rules::FeeSplit;
@@ -36,7 +36,6 @@ use status_cache::Mark;
 use std::alloc::Global;
 use std::thread::Threads;
 use tx_exec::TxWork;
-use tx_report::Outcome;
 
 /// The accounts after a block with their hash, and the lamports burned and paid.
 #[derive(Drop)]
@@ -80,7 +79,7 @@ fn end_state_of_run(
     collector: &Key,
     order: &[Chosen],
     ended: Ended<TxWork>,
-    outcomes: &Items<Outcome>,
+    outcomes: &Items<SharedOutcome>,
 ) -> Result<(EndState, Items<Hash32>), OutOfMemory>
     requires one_each { length outcomes.now ≡ length order.now }
     requires supply { sum (joined_of ended.origin.value) + base_fees outcomes.now
@@ -114,7 +113,7 @@ fn end_block<G: Gate, R: Threads + Sync>(
     crew: &Crew<'_, G, R>,
     parts: RecordParts<'_>,
     ended: Ended<TxWork>,
-    outcomes: &Items<Outcome>,
+    outcomes: &Items<SharedOutcome>,
     begun: RecordPrefix,
 ) -> Result<Ends, OutOfMemory>
     requires run { MayEnd parts.wires.now parts.order.now
@@ -197,7 +196,7 @@ pub(crate) struct Unsealed {
 fn list_entries(
     alloc: Global,
     parts: RecordParts<'_>,
-    outcomes: Items<Outcome>,
+    outcomes: Items<SharedOutcome>,
     front: RecordPrefix,
 ) -> Result<Unsealed, OutOfMemory>
     requires of { AreOf parts.wires.now parts.order.now }
@@ -272,7 +271,7 @@ pub(crate) fn close<G: Gate, R: Threads + Sync>(
     chain: Chain,
     parts: RecordParts<'_>,
     ended: Ended<TxWork>,
-    outcomes: Items<Outcome>,
+    outcomes: Items<SharedOutcome>,
     begun: RecordPrefix,
 ) -> Result<Closed, OutOfMemory>
     requires limits { AreAllowed chain.limits }
@@ -307,7 +306,7 @@ pub(crate) fn close_record<G: Gate, R: Threads + Sync>(
     chain: Chain,
     parts: RecordParts<'_>,
     ended: Ended<TxWork>,
-    outcomes: &Items<Outcome>,
+    outcomes: &Items<SharedOutcome>,
     begun: RecordPrefix,
 ) -> Result<ClosedRecord, OutOfMemory>
     requires limits { AreAllowed chain.limits }

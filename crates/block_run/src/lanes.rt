@@ -12,7 +12,7 @@ ghost use Rattle.block_run.specs.RecordPrefix.{IsBegun};
 use crate::block::RecordParts;
 use crate::crew::Crew;
 use crate::record_prefix::{RecordPrefix, begin, read_prefix};
-use bank_core::{Core, Ended, Take, Work};
+use bank_core::{Core, Ended, SharedOutcome, Take, Work};
 use bank_lanes::{Gate, run_lanes};
 use bank_shared::{Pass, SharedDesk};
 use sol_base::{Items, OutOfMemory};
@@ -21,7 +21,6 @@ use std::sync::Wait;
 use std::sync::atomic::AtomicBool;
 use std::sync::atomic::Ordering::SeqCst;
 use std::thread::{Threads, join};
-use tx_report::Outcome;
 
 /// Takes, passes the gate, performs and commits on the one lane of a core, until all positions are
 /// done. Where the work finds no memory the loan goes back, and the run ends.
@@ -158,7 +157,7 @@ pub(crate) fn run_work<W: Work + Sync, G: Gate, R: Threads + Wait + Sync>(
     mut core: Core<W>,
     work: &W,
     parts: RecordParts<'_>,
-) -> Result<(Ended<W>, Items<Outcome>, RecordPrefix), OutOfMemory>
+) -> Result<(Ended<W>, Items<SharedOutcome>, RecordPrefix), OutOfMemory>
     requires told { core.origin.value.told ≡ W.told work.now }
     requires journal { core.journal.items ≡ [] }
     requires of { AreOf parts.wires.now parts.order.now }

@@ -14,7 +14,7 @@ ghost use Rattle.block_run.specs.RecordPrefix.{IsBegun, IsWritten};
 
 use crate::block::RecordParts;
 use crate::entries::write_entries;
-use bank_core::Work;
+use bank_core::{SharedOutcome, Work};
 use bank_shared::{Reader, SharedDesk};
 use block_record::write_heading;
 use sha2::{Digest, Sha256};
@@ -25,7 +25,6 @@ use std::sync::atomic::AtomicBool;
 use std::sync::atomic::Ordering::SeqCst;
 use std::thread::Parker;
 use std::time::Duration;
-use tx_report::Outcome;
 
 /// How many outcomes are taken at once: a reader's turn is short, and the bytes that are hashed are
 /// still near.
@@ -85,7 +84,7 @@ fn take_next(
     alloc: Global,
     parts: RecordParts<'_>,
     begun: RecordPrefix,
-    outcomes: &[Outcome],
+    outcomes: &[SharedOutcome],
 ) -> Result<RecordPrefix, OutOfMemory>
     requires of { AreOf parts.wires.now parts.order.now }
     requires within { begun.count + length outcomes.now ≤ length parts.order.now }
@@ -123,7 +122,7 @@ fn take_in(
     alloc: Global,
     parts: RecordParts<'_>,
     begun: RecordPrefix,
-    outcomes: Items<Outcome>,
+    outcomes: Items<SharedOutcome>,
 ) -> Result<RecordPrefix, OutOfMemory>
     requires of { AreOf parts.wires.now parts.order.now }
     requires within { begun.count + length outcomes ≤ length parts.order.now }
@@ -144,7 +143,7 @@ pub(crate) fn take_rest(
     alloc: Global,
     parts: RecordParts<'_>,
     begun: RecordPrefix,
-    outcomes: &Items<Outcome>,
+    outcomes: &Items<SharedOutcome>,
 ) -> Result<RecordPrefix, OutOfMemory>
     requires of { AreOf parts.wires.now parts.order.now }
     requires one_each { length outcomes.now ≡ length parts.order.now }

@@ -1,5 +1,5 @@
 use Rattle.std.proofs.Common.{◌≡◌, take}
-use Rattle.bank_core.proofs.told.copy_of_lines.Given as goal
+use Rattle.bank_core.proofs.shared_outcome.copy_of_lines.Given as goal
 
 -- the lines so far
 abbrev pub invariant-loop-line : goal.invariant-loop-line
