@@ -13,7 +13,7 @@ ghost use Rattle.bank_core.specs.Effects.{effects_seen};
 ghost use Rattle.bank_core.specs.Keeping.{Keeps, IsApart, HasRoom, HasBuffers};
 ghost use Rattle.bank_core.specs.Origins.{IsLegalFor, AllDoneAfter, IsLeastReadyAfter};
 ghost use Rattle.bank_core.specs.Takes.{IsNotNowAfter, ReadsLeastAfter, SomeLaneHolds, MatchTake};
-ghost use Rattle.bank_core.specs.Facts.{Keeps-prop, IsApart-prop, HasRoom-prop, HasBuffers-prop};
+ghost use Rattle.bank_core.specs.Propositions.{Keeps-prop, IsApart-prop, HasRoom-prop, HasBuffers-prop};
 ghost use Rattle.bank_law.proofs.Props.{IsLawful-prop};
 
 use crate::ended::Ended;

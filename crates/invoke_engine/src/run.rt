@@ -1,6 +1,7 @@
 //! Instructions: the loop over the frames.
 ghost use Rattle.std.specs.Prelude.{◌≡◌, ◌<◌, ◌≤◌, None, [], length, IfOk};
 ghost use Rattle.sol_base.specs.Accounts.{accounts_of};
+ghost use Rattle.sol_base.specs.Limits.{max_stack_height};
 ghost use Rattle.cpi_calls.specs.Limits.{max_keys};
 ghost use Rattle.program_cache.specs.Programs.{sought};
 ghost use Rattle.invoke_engine.specs.FrameLoop.{Works, Stands, Steps, ending_in};
@@ -68,7 +69,7 @@ fn advance(
     carrier: &mut Carrier,
 ) -> Result<Next, OutOfMemory>
     requires keys { length context.now.keys ≤ max_keys }
-    requires most { context.now.setting.height ≤ 9 }
+    requires most { context.now.setting.height ≤ max_stack_height }
     requires stands { Stands (fixed_in context.now) stack.old (Spec.Runs frame carrier.old) }
     ensures { IfOk result (λ next. Steps (fixed_in context.now) stack.old (Spec.Runs frame carrier.old)
         stack.new (next_as next carrier.new)) }
@@ -99,7 +100,7 @@ fn drive(
     carrier: &mut Carrier,
 ) -> Result<Ending, OutOfMemory>
     requires keys { length context.now.keys ≤ max_keys }
-    requires most { context.now.setting.height ≤ 9 }
+    requires most { context.now.setting.height ≤ max_stack_height }
     requires stands { Stands (fixed_in context.now) stack.old (next_as first carrier.old) }
     ensures { IfOk result (λ e. ending_as e carrier.new
         ≡ ending_in (fixed_in context.now) stack.old (next_as first carrier.old)) }
@@ -123,7 +124,7 @@ fn run_frame(
     carrier: &mut Carrier,
 ) -> Result<Ending, OutOfMemory>
     requires keys { length context.now.keys ≤ max_keys }
-    requires height { (1 ≤ context.now.setting.height) × (context.now.setting.height ≤ 9) }
+    requires height { (1 ≤ context.now.setting.height) × (context.now.setting.height ≤ max_stack_height) }
     requires call { IsCall (length context.now.keys) invocation.call }
     requires accounts { AreAccountsOf (length context.now.keys) invocation.accounts }
     requires trace { carrier.old.trace < max_trace }
@@ -158,7 +159,7 @@ fn run_started(
     logs: &mut Logs,
 ) -> Result<Ran, OutOfMemory>
     requires keys { length context.now.keys ≤ max_keys }
-    requires height { (1 ≤ context.now.setting.height) × (context.now.setting.height ≤ 9) }
+    requires height { (1 ≤ context.now.setting.height) × (context.now.setting.height ≤ max_stack_height) }
     requires call { IsCall (length context.now.keys) invocation.call }
     requires accounts { AreAccountsOf (length context.now.keys) invocation.accounts }
     requires trace { trace < max_trace }
@@ -199,7 +200,7 @@ pub fn run_invocation(
     logs: &mut Logs,
 ) -> Result<Ran, OutOfMemory>
     requires keys { length context.now.keys ≤ max_keys }
-    requires height { (1 ≤ context.now.setting.height) × (context.now.setting.height ≤ 9) }
+    requires height { (1 ≤ context.now.setting.height) × (context.now.setting.height ≤ max_stack_height) }
     requires call { IsCall (length context.now.keys) invocation.call }
     requires accounts { AreAccountsOf (length context.now.keys) invocation.accounts }
     ensures { IfOk result (λ ran. IsRun
@@ -238,7 +239,7 @@ pub fn run_instruction(
     logs: &mut Logs,
 ) -> Result<Ran, OutOfMemory>
     requires keys { length keys.now ≤ max_keys }
-    requires height { (1 ≤ setting.now.height) × (setting.now.height ≤ 9) }
+    requires height { (1 ≤ setting.now.height) × (setting.now.height ≤ max_stack_height) }
     requires call { IsCall (length keys.now) call.now }
     requires accounts { AreAccountsOf (length keys.now) (accounts_of accounts.now) }
     ensures { IfOk result (λ ran. IsRun
