@@ -12,26 +12,15 @@ use crate::produce::produced;
 use crate::replay::replayed;
 use crate::show::shown;
 use crate::texts::refuse;
-use crate::top::{INPUT_REFUSED, READ_FAILED, WORDS_REFUSED};
 use bank_lanes::Gate;
 use bank_words::{Command, Words, WordsFault, read_words};
+use command_parts::{Answer, INPUT_LIMIT, INPUT_REFUSED, READ_FAILED, WORDS_REFUSED};
 use intake::SendGate;
 use sol_base::{Blob, OutOfMemory};
 use sol_io::{ReadFault, Source, read_all};
 use std::alloc::Global;
 use std::sync::Wait;
 use std::thread::Threads;
-
-/// The most bytes of an input.
-pub const INPUT_LIMIT: usize = 536_870_912;
-
-/// A status, and what is written for it.
-#[derive(Drop)]
-pub struct Answer {
-    pub status: u8,
-    pub output: Blob,
-    pub notes: Blob,
-}
 
 /// The answer to the words, which takes the input from the source where they ask for it.
 pub(crate) fn answer_of<S: Source, G: Gate, H: SendGate, R: Threads + Wait + Sync>(
