@@ -163,12 +163,13 @@ fn read_beside<H: SendGate, R: Threads + Wait + Sync>(
     ensures exact { Gives is_snapshot_memory (λ prefix. prefix) result.0 (prefix_of bytes.now) }
     ensures ahead { IfSome result.1 (IsReadIn bytes.now) }
 {
+    let (count, gate) = (senders.count, senders.gate);
     let (ahead, read) = join(
         rt,
         || -> Option<Ahead>
-            requires { place ≤ length bytes.now }
+            requires { (1 ≤ count) × (count ≤ max_senders) × (place ≤ length bytes.now) }
             ensures { IfSome result (IsReadIn bytes.entry.now) }
-        { read_ahead(rt, alloc, bytes, place, senders) },
+        { read_ahead(rt, alloc, bytes, place, &Senders { count, gate }) },
         || -> Result<Prefix, SnapshotFault>
             ensures found { IfOk result (BeginsWith bytes.entry.now) }
             ensures exact { Gives is_snapshot_memory (λ prefix. prefix) result
