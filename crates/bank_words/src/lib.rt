@@ -4,6 +4,7 @@
 mod command;
 mod command_line;
 mod laws;
+mod numbers;
 mod reading;
 mod words;
 

@@ -2,6 +2,7 @@
 #![tactic(auto)]
 
 mod command;
+mod numbers;
 mod options;
 mod reading;
 mod usage;

@@ -1,4 +1,0 @@
-pub mod Numbers
-pub mod Statuses
-pub mod Answers
-pub mod Inputs
