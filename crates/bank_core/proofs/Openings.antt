@@ -33,14 +33,6 @@ use Rattle.bank_core.specs.Keeping.{Keeps, IsApart, HasRoom, HasBuffers}
 use Rattle.lock_table.proofs.Numbering.{no_key}
 use Rattle.bank_core.proofs.Numbers.{as_many_locks}
 
-pub locks_more : (job : Job) (i n : ℕ) → i < n → length (job.locks i) + locks_before job i ≤ locks_before job n
-locks_more job i zero l = absurd (omega arith)
-locks_more job i (suc n) l =
-    elim (cases_eq i n) [
-      | inl e ↦ subst (λ m. length (job.locks i) + locks_before job i ≤ length (job.locks m) + locks_before job m) e (omega arith)
-      | inr d ↦ let rest = locks_more job i n (omega (arith, l, d)) in omega (arith, rest)
-    ]
-
 -- the keys of the first n positions
 pub record KeysSoFar (job : Job) (ks : List Key) (n : ℕ) : Type 0 where
   pub long : length ks ≡ locks_before job n

@@ -1,4 +1,3 @@
 pub mod Steps
 pub mod Seats
 pub mod Passes
-pub mod Groups

@@ -5,7 +5,8 @@ use Rattle.std.specs.Str.Parse.{digits_value}
 use Rattle.std.proofs.lemmas.Bool.{and_parts, leb-true}
 use Rattle.sol_base.specs.Limits.{max_lanes, max_senders, max_transactions}
 use Rattle.bank_words.specs.Options.{Text, Use, has_use, given, uses_in}
-use Rattle.bank_words.specs.Numbers.{is_number_text, number_in, lanes_in, senders_in, seed_in, count_in}
+use Rattle.command_parts.specs.Numbers.{is_number_text, number_in}
+use Rattle.bank_words.specs.Numbers.{lanes_in, senders_in, seed_in, count_in}
 use Rattle.bank_words.specs.Commands.{no_options, produce_options, replay_options, make_options, produce_from, replay_from, make_from, produce_by, replay_by, make_by, command_in, IsFrom, IsInRange}
 use Rattle.bank_words.specs.Reading.{Explains}
 use Rattle.bank_words.specs.declared.command.Command.{Command}

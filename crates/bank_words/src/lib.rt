@@ -4,7 +4,6 @@
 mod command;
 mod command_line;
 mod laws;
-mod numbers;
 mod reading;
 mod words;
 

@@ -9,10 +9,10 @@ ghost use Rattle.bank_words.specs.Reading.{Explains, is_plain, produce_found, re
 
 use crate::command::{Command, WordsFault};
 use crate::command_line::bank_command;
-use crate::numbers::number_in;
 use crate::words::Words;
 use clap::error::ErrorKind;
 use clap::{ArgMatches, Error};
+use command_parts::number_in;
 use sol_base::{MAX_LANES, MAX_SENDERS, MAX_TRANSACTIONS};
 use std::alloc::Global;
 

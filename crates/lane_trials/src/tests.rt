@@ -5,7 +5,6 @@ mod drives;
 mod ends;
 mod gates;
 mod graphs;
-mod groups;
 mod intakes;
 mod lanes;
 mod meets;

@@ -1,25 +1,13 @@
 -- What a call that only reads tells.
-use Rattle.std.proofs.Common.{◌≡◌, ℕ, List, ◌∷◌, Option, subst}
-use Rattle.ledger_folder.specs.declared.name.Name.{Name}
+use Rattle.std.proofs.Common.{ℕ, List, ◌∷◌, subst}
 use Rattle.ledger_folder.specs.declared.name.Name.TheVariants.{Block}
 use Rattle.ledger_folder.specs.declared.event.Event.{Event}
-use Rattle.ledger_folder.specs.declared.event.Event.TheVariants.{Read, Listed}
+use Rattle.ledger_folder.specs.declared.event.Event.TheVariants.{Listed}
 use Rattle.ledger_folder.specs.Names.{has_slot}
-use Rattle.ledger_folder.specs.Files.{Disk, Known, Allows, AllowsBlock, Lists}
+use Rattle.ledger_folder.specs.Files.{Disk, Known, AllowsBlock, Lists}
 use Rattle.ledger_folder.specs.Crash.{Shows}
 
--- what was read is what the files say
-pub shows-read : (events : List Event) (name : Name) (found : Option (List ℕ)) (disk : Disk) → Shows (Read name found ∷ events) disk → Shows events disk × (found ≡ disk name)
-shows-read events name found disk shows = (
-  record {
-    start = shows.start;
-    honest = shows.honest.0;
-    stands = record { holds = shows.stands.holds; lasts = shows.stands.lasts };
-  },
-  subst (λ (k : Known). Allows k found) (shows.stands.holds name) shows.honest.1,
-)
-
--- and so is a list of slots
+-- a list of slots that was read is that of the files
 pub shows-listed : (events : List Event) (slots : List ℕ) (disk : Disk) → Shows (Listed slots ∷ events) disk → Shows events disk × Lists disk slots
 shows-listed events slots disk shows = (
   record {

@@ -1,7 +1,7 @@
 -- Lists of slots that ascend, and names.
 use Rattle.std.proofs.Common.{◌≡◌, ℕ, ◌<◌, List, [], ◌∷◌, ◌++◌, true, false, ◌||◌, ◌==◌, ⊎_elim, refl, sym, ◌∙◌, ap, subst, arith, eq-eqb, eqb-true, ne_eqb}
 use Rattle.std.specs.List.{AllByRecursion}
-use Rattle.std.proofs.lemmas.Bool.{false≢true, or_cases, or_from, or_left, cases_Bool, cases_order, both_ways}
+use Rattle.std.proofs.lemmas.Bool.{false≢true, or_from, or_left, cases_Bool, cases_order, both_ways}
 use Rattle.std.proofs.lemmas.List.Folds.{list_any-append}
 use Rattle.ledger_folder.specs.declared.name.Name.{Name}
 use Rattle.ledger_folder.specs.declared.name.Name.TheVariants.{Chain, State, Changes, Block}
@@ -13,12 +13,6 @@ use Rattle.ledger_folder.specs.Files.{Disk, Lists}
 pub absent_below : (low : ℕ) (slots : List ℕ) (slot : ℕ) → AllByRecursion (λ later. low < later) slots → slot < low → has_slot slots slot ≡ false
 absent_below low [] slot above below = refl
 absent_below low (one ∷ slots) slot above below = or_from (one == slot) (has_slot slots slot) (ne_eqb one slot (λ e. omega (arith, e, above.0, below))) (absent_below low slots slot above.1 below)
-
--- one that is there is above what all are above
-pub member_above : (low : ℕ) (slots : List ℕ) (slot : ℕ) → AllByRecursion (λ later. low < later) slots → has_slot slots slot ≡ true → low < slot
-member_above low [] slot above there = absurd (false≢true there)
-member_above low (one ∷ slots) slot above there =
-    ⊎_elim (λ e. omega (arith, eqb-true one slot e, above.0)) (λ t. member_above low slots slot above.1 t) (or_cases (one == slot) (has_slot slots slot) there)
 
 -- the first is there
 first_there : (slot : ℕ) (slots : List ℕ) → has_slot (slot ∷ slots) slot ≡ true
@@ -72,10 +66,6 @@ ascends-push (one ∷ slots) slot a below = (above slots a.0, ascends-push slots
     above : (zs : List ℕ) → AllByRecursion (λ later. one < later) zs → AllByRecursion (λ later. one < later) (zs ++ slot ∷ [])
     above [] h = (below.0, tt)
     above (z ∷ zs) h = (h.0, above zs h.1)
-
-pub absent_above : (slots : List ℕ) (slot : ℕ) → AllByRecursion (λ one. one < slot) slots → has_slot slots slot ≡ false
-absent_above [] slot below = refl
-absent_above (one ∷ slots) slot below = or_from (one == slot) (has_slot slots slot) (ne_eqb one slot (λ e. omega (arith, e, below.0))) (absent_above slots slot below.1)
 
 pub has_slot-push : (slots : List ℕ) (slot one : ℕ) → has_slot (slots ++ slot ∷ []) one ≡ (has_slot slots one || ((slot == one) || false))
 has_slot-push slots slot one = list_any-append (λ other. other == one) slots (slot ∷ [])

@@ -8,7 +8,6 @@ use Rattle.ledger_folder.specs.Names.{same_name}
 use Rattle.ledger_folder.specs.Files.{Disk, Known, written, synced, moved, placed}
 use Rattle.ledger_folder.specs.Crash.{left, Fits, Stands}
 use Rattle.ledger_folder.proofs.Slots.{same_name-self, same_name-true}
-use Rattle.ledger_folder.proofs.Moments.{AtEach}
 
 -- the files with one more
 abbrev pub with_file : Disk → Name → List ℕ → Disk
@@ -107,22 +106,3 @@ module _ (start disk : Disk) (old : List Event) (stands : Stands start old disk)
     file = λ found fits. inr (one_fits (Some bytes) found (subst (λ (l : List Known). Fits l found) (stands_then.lasts name
         ∙ ap (λ (f : Option (List ℕ)). Some f ∷ []) (cond-true (same_name name name) (Some bytes) (disk name) self)) fits));
   }
-
-  -- each step up to one that failed, and all four
-  abbrev Stage : List Event → Type 0
-  Stage = IsStage start disk name bytes
-
-  pub each_1 : AtEach Stage (Spoiled name ∷ []) old
-  each_1 = (at_spoiled, at_start)
-
-  pub each_2 : AtEach Stage (Spoiled name ∷ Wrote name bytes ∷ []) old
-  each_2 = (at_spoiled_sync, (at_wrote, at_start))
-
-  pub each_3 : AtEach Stage (RenameFailed name ∷ Synced name ∷ Wrote name bytes ∷ []) old
-  each_3 = (at_rename_failed, (at_synced, (at_wrote, at_start)))
-
-  pub each_4 : AtEach Stage (Renamed name ∷ Synced name ∷ Wrote name bytes ∷ []) old
-  each_4 = (at_renamed, (at_synced, (at_wrote, at_start)))
-
-  pub each_placed : AtEach Stage (FolderSynced ∷ Renamed name ∷ Synced name ∷ Wrote name bytes ∷ []) old
-  each_placed = (at_placed, each_4)

@@ -40,10 +40,6 @@ module _ (start disk : Disk) (old : List Event) (stands : Stands start old disk)
   each_renamed : AtEach Kept (Renamed name ∷ Synced name ∷ Wrote name bytes ∷ []) old
   each_renamed = (survives renamed (at_renamed start disk old stands name bytes), each_synced)
 
-  -- where no step was made
-  pub done_nothing : (new : List Event) → new ≡ old → Done Kept old new
-  done_nothing new e = record { done = []; each = nothing; is = e }
-
   -- up to a step that failed
   pub done_stopped : (new : List Event) → StoppedPlacing name bytes old new → Done Kept old new
   done_stopped new stopped =

@@ -88,11 +88,6 @@ impl MemFolder {
         bytes_in(&self.files, name)
     }
 
-    /// The bytes that stand beside a file, for a test to look at.
-    pub fn bytes_beside(&self, name: Name) -> Result<Option<Blob>, OutOfMemory> {
-        bytes_in(&self.beside, name)
-    }
-
     /// Puts a file as a test wants it. This is no step.
     pub fn put(&mut self, name: Name, bytes: &[u8]) -> Result<(), OutOfMemory>
         ensures { self.new ≡ self.old }

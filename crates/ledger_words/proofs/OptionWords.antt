@@ -4,9 +4,8 @@ use Rattle.std.specs.Prelude.{◌==◌, codes}
 use Rattle.std.specs.Str.{bytes_eq}
 use Rattle.std.proofs.lemmas.Slice.Eq.{bytes_eq-Decides}
 use Rattle.std.specs.Borrow.{Bor}
-use Rattle.ledger_words.specs.Numbers.{Text}
 use Rattle.ledger_words.specs.Commands.{command_named, other_named}
-use Rattle.ledger_words.specs.Options.{value_in, are_options, name_of}
+use Rattle.ledger_words.specs.Options.{Text, value_in, are_options, name_of}
 use Rattle.ledger_words.specs.declared.command.ChainOption.{ChainOption}
 
 -- fewer than two words have no option

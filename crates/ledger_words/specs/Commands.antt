@@ -1,20 +1,17 @@
 -- The commands for chains as words (the project's own): `chain`, the name of the command, a folder,
 -- and then its options with their values, in any order, each at most once.
-use Rattle.std.specs.Prelude.{◌==◌, Bool, true, false, not, codes, map, List, [], ◌∷◌, Option, Some, None, Result, Ok, Err, if◌then◌else◌}
+use Rattle.std.specs.Prelude.{ℕ, ◌==◌, Bool, true, false, not, codes, map, List, [], ◌∷◌, Option, Some, None, Result, Ok, Err, if◌then◌else◌}
 use Rattle.std.specs.Borrow.{Bor}
 use Rattle.std.specs.Str.{bytes_eq}
 use Rattle.spec_base.specs.Reading.{◌>>=◌}
 use Rattle.sol_base.specs.Limits.{max_lanes, max_senders}
-use Rattle.ledger_words.specs.Numbers.{Text}
-use Rattle.ledger_words.specs.Options.{name_of, value_in, are_options, IsFrom1, count_given, slot_given}
+use Rattle.ledger_words.specs.Options.{Text, name_of, value_in, are_options, IsFrom1, count_given, slot_given}
 use Rattle.ledger_words.specs.declared.command.ChainCommand.{ChainCommand}
 use Rattle.ledger_words.specs.declared.command.ChainCommand.TheVariants.{Help, Version, New, Add, State, Block, Check, List as ListBlocks, Export}
 use Rattle.ledger_words.specs.declared.command.ChainOption.{ChainOption}
 use Rattle.ledger_words.specs.declared.command.ChainOption.TheVariants.{Every, Lanes, Senders, Slot, From, To, Jobs, Sqlite}
 use Rattle.ledger_words.specs.declared.command.ChainWordsFault.{ChainWordsFault}
 use Rattle.ledger_words.specs.declared.command.ChainWordsFault.TheVariants.{Command, Folder, Options, Missing, Value, OutOfMemory}
-use Rattle.ledger_words.specs.declared.numbers.TheConstants.{MAX_EVERY, MAX_JOBS}
-use Rattle.ledger_words.specs.declared.reading.TheConstants.{EVERY}
 
 -- want of memory, which no word shows
 abbrev pub is_words_memory : ChainWordsFault → Bool
@@ -45,11 +42,21 @@ folder_in options (folder ∷ words) =
 abbrev pub seen_folder : Bor Text × Bor (List (Bor Text)) → Text × List Text
 seen_folder found = (found.0.now, map (λ w. w.now) found.1.now)
 
--- how many blocks stand between full states where nothing is said
+-- how many blocks stand at most from one full state to the next, and how many where nothing is said
+abbrev pub max_every : ℕ
+max_every = 65536
+
+abbrev pub default_every : ℕ
+default_every = 16
+
+-- how many blocks are replayed at once at most
+abbrev pub max_jobs : ℕ
+max_jobs = 64
+
 unfoldable pub new_in : List Text → Read ChainCommand
 new_in words = do
   found ← folder_in (Every ∷ []) words
-  every ← count_given Every MAX_EVERY EVERY found.1
+  every ← count_given Every max_every default_every found.1
   Ok (New found.0 every)
 
 unfoldable pub add_in : List Text → Read ChainCommand
@@ -82,7 +89,7 @@ check_in words = do
   found ← folder_in (From ∷ To ∷ Jobs ∷ []) words
   first ← slot_given From found.1
   last ← slot_given To found.1
-  jobs ← count_given Jobs MAX_JOBS 1 found.1
+  jobs ← count_given Jobs max_jobs 1 found.1
   Ok (Check found.0 first last jobs)
 
 unfoldable pub list_in : List Text → Read ChainCommand
@@ -134,9 +141,9 @@ command_of [] = Err Command
 
 -- the counts of a command are in their ranges
 abbrev pub IsInRange : ChainCommand → Type 0
-IsInRange (New folder every) = IsFrom1 MAX_EVERY every
+IsInRange (New folder every) = IsFrom1 max_every every
 IsInRange (Add folder lanes senders) = IsFrom1 max_lanes lanes × IsFrom1 max_senders senders
-IsInRange (Check folder first last jobs) = IsFrom1 MAX_JOBS jobs
+IsInRange (Check folder first last jobs) = IsFrom1 max_jobs jobs
 IsInRange Help = Unit {0}
 IsInRange Version = Unit {0}
 IsInRange (State folder slot) = Unit {0}

@@ -2,11 +2,14 @@
 use Rattle.std.specs.Prelude.{ℕ, ◌≤◌, ◌^◌, ◌-◌, ◌&&◌, Bool, true, false, is_none, codes, List, [], ◌∷◌, Option, Some, None, Result, Ok, Err, if◌then◌else◌}
 use Rattle.std.specs.List.{list_any}
 use Rattle.std.specs.Str.{bytes_eq}
-use Rattle.ledger_words.specs.Numbers.{Text, number_in}
+use Rattle.command_parts.specs.Numbers.{number_in}
 use Rattle.ledger_words.specs.declared.command.ChainOption.{ChainOption}
 use Rattle.ledger_words.specs.declared.command.ChainOption.TheVariants.{Every, Lanes, Senders, Slot, From, To, Jobs, Sqlite}
 use Rattle.ledger_words.specs.declared.command.ChainWordsFault.{ChainWordsFault}
 use Rattle.ledger_words.specs.declared.command.ChainWordsFault.TheVariants.{Value}
+
+abbrev pub Text : Type 0
+Text = List ℕ
 
 -- the word that an option is
 abbrev pub name_of : ChainOption → Text

@@ -2,7 +2,6 @@
 #![tactic(auto)]
 
 mod command;
-mod numbers;
 mod options;
 mod reading;
 mod usage;

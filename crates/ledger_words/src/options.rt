@@ -3,7 +3,7 @@ ghost use Rattle.std.specs.Prelude.{◌≡◌, IfOk, map, option_map};
 ghost use Rattle.ledger_words.specs.Options.{IsFrom1, are_options, count_given, is_among, is_new, slot_given, value_in};
 
 use crate::command::{ChainOption, ChainWordsFault};
-use crate::numbers::number_in;
+use command_parts::number_in;
 
 /// The value of the option of this name, where the words are options with their values.
 pub(crate) fn value_of<'a>(name: &str, words: &'a [&'a str]) -> Option<&'a str>

@@ -4,10 +4,15 @@ ghost use Rattle.spec_base.specs.Reading.{Gives};
 ghost use Rattle.ledger_words.specs.Commands.{IsInRange, add_in, alone, block_in, check_in, command_named, command_of, export_in, file_in, folder_in, is_path, is_words_memory, list_in, new_in, other_named, seen_folder, state_in};
 
 use crate::command::{ChainCommand, ChainOption, ChainWordsFault};
-use crate::numbers::{MAX_EVERY, MAX_JOBS};
 use crate::options::{are_options, count_of, slot_of, value_of};
 use sol_base::{Blob, MAX_LANES, MAX_SENDERS};
 use std::alloc::Global;
+
+/// The most blocks from one full state of a chain to the next (the project's own).
+const MAX_EVERY: u32 = 65_536;
+
+/// The most blocks that are replayed at once (the project's own).
+const MAX_JOBS: u32 = 64;
 
 /// How many blocks stand between full states where nothing is said.
 const EVERY: u32 = 16;

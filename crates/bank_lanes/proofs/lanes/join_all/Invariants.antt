@@ -1,14 +1,15 @@
-use Rattle.std.proofs.Common.{All}
-use Rattle.bank_lanes.specs.Groups.{IsOver}
-use Rattle.bank_lanes.specs.Passes.{Widened}
+use Rattle.std.proofs.Common.{◌≡◌, All}
+use Rattle.bank_lanes.specs.Passes.{HoldsNothing, StaysFree, WentOn}
 use Rattle.bank_lanes.proofs.lanes.join_all.Given as goal
 
-abbrev pub invariant-loop-group : goal.invariant-loop-group
-invariant-loop-group g l = record {
+abbrev pub invariant-loop-other : goal.invariant-loop-other
+invariant-loop-other g l = record {
   desk : g.D.Desk.is_of l.desk l.pass;
-  groups : All (IsOver (g.D.Desk.is_of l.desk) g.D.Desk.lanes_of g.D.Desk.view) l.groups.items;
-  wider : Widened (g.D.Desk.lanes_of l.initial.pass) (g.D.Desk.view l.initial.pass) (g.D.Desk.lanes_of l.pass) (g.D.Desk.view l.pass);
+  passes : All (λ p. g.D.Desk.is_of l.desk p × HoldsNothing (g.D.Desk.lanes_of p) (g.D.Desk.view p)) l.passes.items;
+  free : StaysFree (g.D.Desk.lanes_of l.initial.pass) (g.D.Desk.view l.initial.pass) (g.D.Desk.lanes_of l.pass) (g.D.Desk.view l.pass);
+  on : WentOn (g.D.Desk.view l.initial.pass) (g.D.Desk.view l.pass);
+  mine : (g.D.Desk.view l.pass).mine ≡ (g.D.Desk.view l.initial.pass).mine;
 }
 
-abbrev pub decreases-loop-group : goal.decreases-loop-group
-decreases-loop-group g l = goal.left-loop-group g l
+abbrev pub decreases-loop-other : goal.decreases-loop-other
+decreases-loop-other g l = goal.left-loop-other g l

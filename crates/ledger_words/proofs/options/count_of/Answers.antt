@@ -1,5 +1,5 @@
 use Rattle.std.proofs.Common.{map, ap, sym, ◌∙◌}
-use Rattle.ledger_words.specs.Numbers.{number_in}
+use Rattle.command_parts.specs.Numbers.{number_in}
 use Rattle.ledger_words.specs.Options.{count_by, count_from}
 use Rattle.ledger_words.proofs.OptionWords.{found_in}
 use Rattle.ledger_words.proofs.options.count_of.Goals as goal

@@ -1,0 +1,4 @@
+pub mod Numbers
+pub mod Statuses
+pub mod Answers
+pub mod Inputs
