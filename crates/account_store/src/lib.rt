@@ -3,7 +3,6 @@
 #![tactic(auto)]
 
 mod accounts;
-mod ascending;
 mod keys;
 mod laws;
 mod many;

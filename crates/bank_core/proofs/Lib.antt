@@ -11,4 +11,3 @@ pub mod Seats
 pub mod Spends
 pub mod Tells
 pub mod Lanes
-pub mod ReadyCounts

@@ -5,9 +5,8 @@ pub mod Sorting
 pub mod Beside
 pub mod Orders
 pub mod Closings
-pub mod RecordPrefixes
+pub mod Fronts
 pub mod Executables
 pub mod Turns
 pub mod Calls
 pub mod Conserved
-pub mod Declared

@@ -5,6 +5,5 @@ pub mod Closing
 pub mod Answers
 pub mod Activation
 pub mod Ending
-pub mod RecordPrefix
+pub mod Front
 pub mod Laws
-pub mod Crew

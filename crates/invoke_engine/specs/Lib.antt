@@ -16,5 +16,4 @@ pub mod Programs
 pub mod Conditions
 pub mod FrameLoop
 pub mod FrameLaws
-pub mod Stops
 pub mod Views

@@ -139,7 +139,10 @@ fn native(
 {
     let alloc = context.alloc;
     if invocation.units < NATIVE_UNITS {
-        let spent = Reason::plainly(Cause::UnitsSpent);
+        let spent = Reason {
+            cause: Cause::UnitsSpent,
+            detail: 0,
+        };
         return refuse(alloc, outer, program, 0, carrier, spent);
     }
     let left = invocation.units - NATIVE_UNITS;
@@ -222,7 +225,10 @@ fn crowded(
         ≡ Starting.crowded (sought context.now.programs) program.now (programs_of outer.now) units
         carrier.old) }
 {
-    let reason = Reason::plainly(Cause::TooManyAccounts);
+    let reason = Reason {
+        cause: Cause::TooManyAccounts,
+        detail: 0,
+    };
     let key = program.key();
     if !is_native(&key) && is_ready(context, &key) {
         let error = InstructionError {
@@ -267,9 +273,18 @@ fn enter(
             let frame = first_frame(context, key, image, invocation)?;
             return Ok(Next::Runs(frame));
         }
-        Found::NotFound | Found::NotProgram => Reason::plainly(Cause::UnknownProgram),
-        Found::Bad => Reason::plainly(Cause::BadImage),
-        Found::Unverified(fault) => Reason::with(Cause::Unverified, u32::from(fault.number())),
+        Found::NotFound | Found::NotProgram => Reason {
+            cause: Cause::UnknownProgram,
+            detail: 0,
+        },
+        Found::Bad => Reason {
+            cause: Cause::BadImage,
+            detail: 0,
+        },
+        Found::Unverified(fault) => Reason {
+            cause: Cause::Unverified,
+            detail: u32::from(fault.number()),
+        },
     };
     Ok(Next::Done(refuse(context.alloc, outer, program, units, carrier, reason)?))
 }

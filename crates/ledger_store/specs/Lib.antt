@@ -6,8 +6,6 @@ pub mod Changes
 pub mod Blocks
 pub mod Opening
 pub mod Reading
-pub mod Told
-pub mod Ahead
 pub mod Watching
 pub mod Adding
 pub mod Marks

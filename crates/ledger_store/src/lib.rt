@@ -4,7 +4,6 @@
 #![tactic(auto)]
 
 mod adding;
-mod ahead;
 mod block;
 mod changes;
 mod compared;
@@ -15,10 +14,8 @@ mod head;
 mod next;
 mod opening;
 mod place;
-mod reading;
 mod seal;
 mod state;
-mod told;
 mod watching;
 
 pub use adding::{add, create};

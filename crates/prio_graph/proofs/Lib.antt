@@ -7,4 +7,3 @@ pub mod Releases
 pub mod Chaining
 pub mod Openings
 pub mod MachineLaws
-pub mod Counting

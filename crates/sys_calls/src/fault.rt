@@ -1,6 +1,6 @@
 //! The refusals of system calls.
 use compute_meter::UnitsFault;
-use sbpf_memory::{AccessViolation, MemFault, ReadFault};
+use sbpf_memory::{MemFault, ReadFault};
 use sol_base::OutOfMemory;
 use std::alloc::AllocError;
 use thiserror::Error;
@@ -10,8 +10,8 @@ use thiserror::Error;
 pub enum SysFault {
     #[error("the program aborted")]
     Abort,
-    #[error("{0}")]
-    AccessViolation(AccessViolation),
+    #[error("an access is refused")]
+    AccessViolation,
     #[error("the ranges of a copy meet")]
     Overlap,
     #[error("the compute units are spent")]
@@ -51,14 +51,15 @@ impl From<AllocError> for SysFault {
 }
 
 impl ReadFault for SysFault {
-    ghost use Rattle.sys_calls.specs.Access.{is_sys_memory, violated_by};
+    ghost use Rattle.sys_calls.specs.declared.fault.SysFault.TheVariants.{AccessViolation as refused};
+    ghost use Rattle.sys_calls.specs.Access.{is_sys_memory};
 
-    ghost violated = { violated_by };
+    ghost violation = { refused };
 
     ghost is_memory = { is_sys_memory };
 
-    fn access_violation(violation: AccessViolation) -> SysFault {
-        SysFault::AccessViolation(violation)
+    fn access_violation() -> SysFault {
+        SysFault::AccessViolation
     }
 
     fn out_of_memory() -> SysFault {
@@ -84,9 +85,7 @@ impl From<MemFault> for SysFault {
 
     fn from(fault: MemFault) -> SysFault {
         match fault {
-            MemFault::AccessViolation { addr, len, write } => {
-                SysFault::AccessViolation(AccessViolation { addr, len, write })
-            }
+            MemFault::AccessViolation { .. } => SysFault::AccessViolation,
             MemFault::Overlap => SysFault::Overlap,
             MemFault::OutOfMemory => SysFault::OutOfMemory,
         }
