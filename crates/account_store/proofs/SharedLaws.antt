@@ -21,7 +21,7 @@ use Rattle.account_store.specs.Shared.{Shared, seen, state_seen, shared_lamports
 use Rattle.account_store.proofs.StateLaws.{put-more, entries-empty, sum-insert, sum-remove, lamports-at-le, IsState-empty, IsState-insert, IsState-remove}
 use Rattle.account_store.proofs.EntryLists.{find-lookup, put-insert_entry, entries-from_entries, sorted-remove_entry, entries-remove_entry}
 
-keys-seen : (es : List (Key × Shared)) → keys_of (seen es) ≡ keys_of es
+pub keys-seen : (es : List (Key × Shared)) → keys_of (seen es) ≡ keys_of es
 keys-seen [] = refl
 keys-seen (e ∷ es) = ap (λ (ks : List Key). e.0 ∷ ks) (keys-seen es)
 

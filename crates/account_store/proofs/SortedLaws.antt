@@ -88,12 +88,12 @@ last_above [] k below = refl
 last_above (e ∷ []) k below = ap is_lt below.0
 last_above (e ∷ f ∷ es) k below = ap (λ (o : Option Key). is_above o k) (last_key-cons e f es) ∙ last_above (f ∷ es) k below.1
 
-keys_pushed : (P : Key → Type 0) (es : List Entry) (e : Entry) → AllByRecursion P (keys_of es) → P e.0 → AllByRecursion P (keys_of (es ++ e ∷ []))
+keys_pushed : {X : Type 0} (P : Key → Type 0) (es : List (Key × X)) (e : Key × X) → AllByRecursion P (keys_of es) → P e.0 → AllByRecursion P (keys_of (es ++ e ∷ []))
 keys_pushed P [] e all one = (one, tt)
 keys_pushed P (d ∷ es) e all one = (all.0, keys_pushed P es e all.1 one)
 
 -- keys that ascend and one more above them
-Ascend-push : (es : List Entry) (e : Entry) → Ascend es → AllByRecursion (λ (q : Key). key_cmp q e.0 ≡ Less) (keys_of es) → Ascend (es ++ e ∷ [])
+pub Ascend-push : {X : Type 0} (es : List (Key × X)) (e : Key × X) → IsStrictlySortedBy key_cmp (keys_of es) → AllByRecursion (λ (q : Key). key_cmp q e.0 ≡ Less) (keys_of es) → IsStrictlySortedBy key_cmp (keys_of (es ++ e ∷ []))
 unfolding IsStrictlySortedBy
 Ascend-push [] e ascend below = (tt, tt)
 Ascend-push (d ∷ es) e ascend below = (keys_pushed (λ (q : Key). key_cmp d.0 q ≡ Less) es e ascend.0 below.0, Ascend-push es e ascend.1 below.1)

@@ -229,9 +229,6 @@ module _ (keys : List Key) (sorted : IsStrictlySortedBy key_cmp keys) (all : Ent
         within (k ∷ ks) zero e = omega arith
         within (k ∷ ks) (suc m) e = let l = within ks m e in omega (arith, l)
 
-  pub walk_fits : (let a : Account = arc_value share in a.lamports ≤ total)
-  walk_fits = let w = weight-cons (key, share) es in let t = W.counted in omega (arith, w, t)
-
 found_in-none : (keys : List Key) (n : ℕ) → found_in [] (drop n keys) ≡ replicate (length keys - n) None
 found_in-none [] zero = refl
 found_in-none [] (suc n) = let none : 0 ≡ 0 - suc n = omega arith in ap (λ m. replicate m None) none

@@ -1,13 +1,14 @@
 //! Accounts by key, and their sum.
-ghost use Rattle.std.specs.Prelude.{◌≡◌, ◌≤◌, ◌+◌, ◌-◌, ◌^◌, ◌<◌, ◌∷◌, ◌++◌, [], None, Some, All, OnOk, OnErr, IfOk, IfErr, option_map, option_copied, length};
+ghost use Rattle.std.specs.Prelude.{◌≡◌, ◌≤◌, ◌+◌, ◌-◌, ◌^◌, ◌<◌, All, OnOk, OnErr, option_map, option_copied, length};
 ghost use Rattle.std.specs.Arc.{arc_value};
 ghost use Rattle.spec_base.specs.Reading.{Gives};
 ghost use Rattle.sol_base.specs.Accounts.{IsShort};
 ghost use Rattle.account_store.specs.State as state;
-ghost use Rattle.account_store.specs.State.{IsState, is_above};
+ghost use Rattle.account_store.specs.State.{IsState};
 ghost use Rattle.account_store.specs.Shared.{shared_lamports, seen, seen_entry};
-ghost use Rattle.account_store.specs.Sorted.{state_of, is_store_memory, entry_of, entry_fault, last_key, IsFaultOr};
+ghost use Rattle.account_store.specs.Sorted.{state_of, is_store_memory};
 
+use crate::ascending::Ascending;
 use crate::sorted::{KeyedAccount, StoreFault};
 use sol_base::{Account, Items, Key, OutOfMemory};
 use std::alloc::Global;
@@ -59,60 +60,11 @@ impl Accounts {
         requires short { All (λ e. IsShort e.account) entries }
         ensures { Gives is_store_memory (λ accounts. accounts) result (state_of entries) }
     {
-        let mut accounts = Accounts::new(alloc);
+        let mut ascending = Ascending::with_capacity(alloc, entries.len())?;
         for entry in entries.into_vec() {
-            accounts.push_entry(alloc, entry)?;
+            ascending.push(alloc, entry)?;
         }
-        Ok(accounts)
-    }
-
-    /// Adds the entry that follows all that are there.
-    fn push_entry(&mut self, alloc: Global, entry: KeyedAccount) -> Result<(), StoreFault>
-        requires few { state.len self.old < 2 ^ 32 }
-        requires short { IsShort entry.account }
-        ensures fine { OnOk result (entry_fault (state.entries self.old) (entry_of entry) ≡ None) }
-        ensures pushed { OnOk result
-            (state.entries self.new ≡ state.entries self.old ++ entry_of entry ∷ []) }
-        ensures err { IfErr result
-            (IsFaultOr (entry_fault (state.entries self.old) (entry_of entry))) }
-    {
-        let total = self.total_with(self.len() as u32, &entry)?;
-        let KeyedAccount { key, account } = entry;
-        self.tree.insert(key, Arc::new(alloc, account)?)?;
-        self.total = total;
-        Ok(())
-    }
-
-    /// The sum of the lamports with an entry that follows the `at` accounts that are there, or what
-    /// is wrong with that entry.
-    fn total_with(&self, at: u32, entry: &KeyedAccount) -> Result<u64, StoreFault>
-        requires { at ≡ length (state.entries self.now) }
-        ensures ok { IfOk result
-            (λ total. total ≡ state.sum self.now + entry.now.account.lamports) }
-        ensures fine { OnOk result
-            (entry_fault (state.entries self.now) (entry_of entry.now) ≡ None) }
-        ensures err { IfErr result
-            (λ fault. entry_fault (state.entries self.now) (entry_of entry.now) ≡ Some fault) }
-    {
-        if !is_above(self.last_key(), &entry.key) {
-            return Err(StoreFault::OutOfOrder { at });
-        }
-        if entry.account.lamports == 0 {
-            return Err(StoreFault::Empty { at });
-        }
-        self.total
-            .checked_add(entry.account.lamports)
-            .ok_or(StoreFault::SupplyTooLarge)
-    }
-
-    /// The key of the last account, if there is one.
-    fn last_key(&self) -> Option<Key>
-        ensures { result ≡ last_key (state.entries self.now) }
-    {
-        match self.tree.last_key_value() {
-            Some((key, _account)) => Some(*key),
-            None => None,
-        }
+        Ok(ascending.into_accounts(alloc)?)
     }
 
     /// The account of the key. None where it is absent.
@@ -194,16 +146,6 @@ impl Accounts {
                 .next(),
             None => self.tree.first_key_value(),
         }
-    }
-}
-
-/// Whether a key is above the given one; where none is given, each is.
-fn is_above(given: Option<Key>, key: &Key) -> bool
-    ensures { result ≡ is_above given key.now }
-{
-    match given {
-        None => true,
-        Some(given) => given.cmp(key).is_lt(),
     }
 }
 

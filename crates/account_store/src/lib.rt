@@ -3,6 +3,7 @@
 #![tactic(auto)]
 
 mod accounts;
+mod ascending;
 mod keys;
 mod laws;
 mod many;

@@ -164,7 +164,7 @@ fn fill(accounts: &mut Vec<Option<Arc<Account>>>, len: usize) -> Result<(), OutO
 }
 
 /// Entries as a map.
-fn tree_of(
+pub(crate) fn tree_of(
     alloc: Global,
     entries: Vec<(Key, Arc<Account>)>,
 ) -> Result<BTreeMap<Key, Arc<Account>>, OutOfMemory>

@@ -51,14 +51,3 @@ found_all start wires old new slots (Err _) e count each same is = tt
 pub record AreTaken (slots done left : List Slot) (found : List Weighed) : Type 0 where
   pub all : done ++ left ≡ slots
   pub each : map (λ (one : Weighed). Some one) found ≡ map (λ (slot : Slot). slot.weighed) done
-
-pub taken_more : (slots done left more : List Slot) (found found' : List Weighed) → AreTaken slots done left found → (slot : Slot) → left ≡ slot ∷ more → (one : Weighed) → slot.weighed ≡ Some one
-    → found' ≡ found ++ one ∷ [] → AreTaken slots (done ++ slot ∷ []) more found'
-taken_more slots done left more found found' so_far slot split one has put = record {
-  all = append_assoc done (slot ∷ []) more ∙ ap (λ (ls : List Slot). done ++ ls) (sym split) ∙ so_far.all;
-  each =
-      ap (map (λ (one : Weighed). Some one)) put ∙ map-append (λ (one : Weighed). Some one) found (one ∷ [])
-      ∙ ap (λ (os : List (Option Weighed)). os ++ Some one ∷ []) so_far.each
-      ∙ ap (λ (o : Option Weighed). map (λ (slot : Slot). slot.weighed) done ++ o ∷ []) (sym has)
-      ∙ sym (map-append (λ (slot : Slot). slot.weighed) done (slot ∷ []));
-}

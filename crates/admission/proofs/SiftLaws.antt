@@ -1,14 +1,18 @@
 -- The early causes of a batch, one position after the other.
-use Rattle.std.proofs.Common.{◌≡◌, ℕ, ◌+◌, ◌<◌, ◌≤◌, Bool, true, false, ◌||◌, cond, List, [], ◌∷◌, ◌++◌, length, take, map, get_or, refl, sym, ap, ◌∙◌, append_assoc, length-append, zero-add, arith, Option, Some, None, Result, Ok, is_ok, subst}
-use Rattle.std.specs.Prelude.{if◌then◌else◌}
+use Rattle.std.proofs.Common.{◌≡◌, ℕ, ◌+◌, ◌<◌, ◌≤◌, Bool, true, false, ◌||◌, cond, List, [], ◌∷◌, ◌++◌, length, take, map, get_or, refl, sym, ap, ap₂, ◌∙◌, append_assoc, length-append, zero-add, arith, Option, Some, None, Result, Ok, is_ok, subst}
+use Rattle.std.specs.Prelude.{if◌then◌else◌, option_to_list, replicate}
 use Rattle.std.specs.Result.{result_ok}
-use Rattle.std.specs.List.{filter_map, cons_option, enumerate_from}
+use Rattle.std.specs.List.{AllByRecursion, IsDistinct, filter_map, cons_option, enumerate_from}
+use Rattle.std.specs.List.Sorted.{IsPermutation, IsStrictlySortedBy}
 use Rattle.std.specs.BTreeMap.{is_at}
 use Rattle.std.specs.BTreeSet.{BTreeSet, contains}
 use Rattle.std.specs.Cmp.{Equal-is}
-use Rattle.std.proofs.lemmas.Bool.{false_from_ne_true, both_ways}
+use Rattle.std.proofs.lemmas.Bool.{false_from_ne_true, both_ways, or_from}
+use Rattle.std.proofs.lemmas.Bool.Decides.{same_from_decides}
 use Rattle.std.proofs.lemmas.Cmp.{eq_by_cmp_equiv}
-use Rattle.std.proofs.lemmas.List.{get_or_at, get_or-map, map-append, length-map, take_all, take_more}
+use Rattle.std.proofs.lemmas.List.{get_or_at, get_or-map, map-append, length-map, take_all, take_at, take_more}
+use Rattle.std.proofs.lemmas.List.Sorted.{IsPermutation-sym}
+use Rattle.std.proofs.lemmas.Map.Keys.{IsDistinct-IsPermutation, IsDistinct-from_sorted}
 use Rattle.std.proofs.lemmas.List.Elements.{filter_map-append}
 use Rattle.std.proofs.lemmas.List.Folds.{list_any-append}
 use Rattle.std.proofs.lemmas.List.FromFn.{get_or-enumerate_from, length-enumerate_from}
@@ -109,6 +113,57 @@ pub told_all : (batch : List Weighed) (i : ℕ) (tests : List Bool) (has : Hash3
 told_all batch i tests has so_far over =
     let long : length (enumerate_from 0 batch) ≤ i = rw (length-enumerate_from 0 batch) over in
     so_far.told ∙ ap (map (is_repeated batch)) (take_all i (enumerate_from 0 batch) long)
+
+-- ---- names that stand once
+names_single : (o : Option Hash32) → cons_option o [] ≡ option_to_list o
+names_single None = refl
+names_single (Some name) = refl
+
+-- the names of one position more
+pub names_more : (batch : List Weighed) (i : ℕ) (x : Weighed) → i < length batch → x ≡ get_or batch i x → names_of (take (i + 1) batch) ≡ names_of (take i batch) ++ option_to_list (name_of x)
+names_more batch i x below is =
+    ap names_of (take_more batch i x below ∙ ap (λ (y : Weighed). take i batch ++ y ∷ []) (sym is))
+    ∙ filter_map-append name_of (take i batch) (x ∷ [])
+    ∙ ap (λ (l : List Hash32). names_of (take i batch) ++ l) (names_single (name_of x))
+
+same_hash-flips : (a b : Hash32) → same_hash a b ≡ same_hash b a
+same_hash-flips a b = same_from_decides (same_hash a b) (same_hash b a) (same_hash-Decides a b) (λ t. sym ((same_hash-Decides b a).0 t), λ e. (same_hash-Decides b a).1 (sym e))
+
+-- names are distinct where they ascend once they are sorted
+pub distinct_sorted : (names sorted : List Hash32) → IsPermutation names sorted → IsStrictlySortedBy hash_cmp sorted → IsDistinct same_hash names
+distinct_sorted names sorted moved up =
+    IsDistinct-IsPermutation same_hash same_hash-flips sorted names (IsPermutation-sym names sorted moved)
+    (subst (λ (test : Hash32 → Hash32 → Bool). IsDistinct test sorted) (λ i a b. same_name a b i) (IsDistinct-from_sorted hash_cmp sorted up))
+
+-- a name that stands once is none of those before it
+stands_once : (names : List Hash32) (name : Hash32) (more : List Hash32) → IsDistinct same_hash (names ++ name ∷ more) → has_hash names name ≡ false
+unfolding IsDistinct
+stands_once [] name more d = refl
+stands_once (n ∷ ns) name more d = or_from (same_hash n name) (has_hash ns name) (at_name ns d.0) (stands_once ns name more d.1)
+  where
+    at_name : (ms : List Hash32) → AllByRecursion (λ q. same_hash n q ≡ false) (ms ++ name ∷ more) → same_hash n name ≡ false
+    at_name [] all = all.0
+    at_name (m ∷ ms) all = at_name ms all.1
+
+not_before : (before after : List Hash32) (o : Option Hash32) → IsDistinct same_hash (before ++ cons_option o after) → is_among (has_hash before) o ≡ false
+not_before before after None d = refl
+not_before before after (Some name) d = stands_once before name after d
+
+none_behind : (done left : List Weighed) → IsDistinct same_hash (names_of (done ++ left)) → map (is_repeated (done ++ left)) (enumerate_from (length done) left) ≡ replicate (length left) false
+none_behind done [] d = refl
+none_behind done (x ∷ xs) d =
+    let split = append_assoc done (x ∷ []) xs in
+    let long : length (done ++ x ∷ []) ≡ length done + 1 = length-append done (x ∷ []) in
+    let rest = none_behind (done ++ x ∷ []) xs (subst (λ (l : List Weighed). IsDistinct same_hash (names_of l)) (sym split) d) in
+    let here : is_repeated (done ++ x ∷ xs) (length done, x) ≡ false =
+    ap (λ (l : List Weighed). is_among (has_hash (names_of l)) (name_of x)) (take_at done (x ∷ xs) (length done) refl)
+    ∙ not_before (names_of done) (names_of xs) (name_of x) (subst (IsDistinct same_hash) (filter_map-append name_of done (x ∷ xs)) d) in
+    ap₂ (λ (b : Bool) (bs : List Bool). b ∷ bs) here
+    (ap₂ (λ (l : List Weighed) (n : ℕ). map (is_repeated l) (enumerate_from n xs)) (sym split) (sym long) ∙ rest)
+
+-- where all names are distinct, none is repeated
+pub none_repeated : (batch : List Weighed) → IsDistinct same_hash (names_of batch) → replicate (length batch) false ≡ map (is_repeated batch) (enumerate_from 0 batch)
+none_repeated batch d = sym (none_behind [] batch d)
 
 -- ---- the batch parted
 -- the first positions are sifted

@@ -50,9 +50,6 @@ units_on_more key order one = ap units_of (filter-append (may_write_key key) ord
     go true = zero-add one.budget.limit
     go false = refl
 
-pub sums_of_none : (buckets : List ℕ) → 0 < length buckets → HasSums [] 0 buckets None
-sums_of_none buckets some = record { all = refl; some = some; most = λ key. omega arith; each = tt; apart = λ k d below. absurd (omega (arith, below)) }
-
 pub sums_more : (order : List Chosen) (units : ℕ) (buckets buckets' : List ℕ) (sums sums' : Option (BTreeMap Key ℕ)) (one : Chosen) → HasSums order units buckets sums → units + one.budget.limit < 2 ^ 64
     → IsDistinct same_key (lock_keys one.locks) → length buckets' ≡ length buckets
     → ((key : Key) → min (2 ^ 64 - 1) (bucket_sum buckets key + (if locks_write one.locks key then one.budget.limit else 0)) ≤ bucket_sum buckets' key)

@@ -1,10 +1,11 @@
 //! The early causes: those that the state before the block and the batch before a position show.
-ghost use Rattle.std.specs.Prelude.{◌≡◌, ◌||◌, IfOk, OnOk, map, not};
-ghost use Rattle.std.specs.List.{enumerate_from};
+ghost use Rattle.std.specs.Prelude.{◌≡◌, ◌||◌, ◌++◌, true, IfOk, OnOk, map, not, option_to_list};
+ghost use Rattle.std.specs.List.{IsDistinct, enumerate_from};
+ghost use Rattle.std.specs.List.Sorted.{IsStrictlySortedBy};
 ghost use Rattle.sol_base.specs.declared.key.Hash32.{Hash32 as HashValue};
-ghost use Rattle.sol_base.specs.Keys.{same_hash};
+ghost use Rattle.sol_base.specs.Keys.{hash_cmp, same_hash};
 ghost use Rattle.admission.specs.Admission.{has_name, is_name};
-ghost use Rattle.admission.specs.Weighing.{causes_among, is_among, is_repeated, name_of, sifted_when, standing_among};
+ghost use Rattle.admission.specs.Weighing.{causes_among, is_among, is_repeated, name_of, names_of, sifted_when, standing_among};
 
 use crate::chosen::Chosen;
 use crate::refusal::Refusal;
@@ -68,6 +69,17 @@ fn repeats(alloc: Global, batch: &[Weighed]) -> Result<Vec<bool>, OutOfMemory>
     ensures { IfOk result (λ repeats.
         repeats.items ≡ map (is_repeated batch.now) (enumerate_from 0 batch.now)) }
 {
+    if are_distinct(names_in(alloc, batch)?) {
+        return Ok(vec![in alloc; false; batch.len()]?);
+    }
+    find_repeats(alloc, batch)
+}
+
+/// The same where a message may stand twice.
+fn find_repeats(alloc: Global, batch: &[Weighed]) -> Result<Vec<bool>, OutOfMemory>
+    ensures { IfOk result (λ repeats.
+        repeats.items ≡ map (is_repeated batch.now) (enumerate_from 0 batch.now)) }
+{
     let mut names = BTreeSet::new(alloc);
     let mut repeats = Vec::with_capacity(alloc, batch.len())?;
     for one in batch {
@@ -77,6 +89,58 @@ fn repeats(alloc: Global, batch: &[Weighed]) -> Result<Vec<bool>, OutOfMemory>
     Ok(repeats)
 }
 
+/// The name of a message that none of the first causes refuses.
+fn name_of(one: &Weighed) -> Option<Hash32>
+    ensures { result ≡ name_of one.now }
+{
+    match one {
+        Weighed::Refused(_) => None,
+        Weighed::NoBudget { name, fault: _ } => Some(*name),
+        Weighed::Ready(chosen) => Some(chosen.name),
+    }
+}
+
+fn push_name(names: &mut Vec<Hash32>, one: &Weighed) -> Result<(), OutOfMemory>
+    ensures { OnOk result (names.new.items
+        ≡ names.old.items ++ option_to_list (name_of one.now)) }
+{
+    match name_of(one) {
+        None => Ok(()),
+        Some(name) => Ok(names.push(name)?),
+    }
+}
+
+/// The names in a batch.
+fn names_in(alloc: Global, batch: &[Weighed]) -> Result<Vec<Hash32>, OutOfMemory>
+    ensures { IfOk result (λ names. names.items ≡ names_of batch.now) }
+{
+    let mut names = Vec::with_capacity(alloc, batch.len())?;
+    for one in batch {
+        push_name(&mut names, one)?;
+    }
+    Ok(names)
+}
+
+/// Whether no name stands twice.
+fn are_distinct(mut names: Vec<Hash32>) -> bool
+    ensures { result ≡ true → IsDistinct same_hash names.items }
+{
+    names.sort_unstable();
+    ascend(&names)
+}
+
+/// Whether each name is above the one before.
+fn ascend(names: &[Hash32]) -> bool
+    ensures { result ≡ true → IsStrictlySortedBy hash_cmp names.now }
+{
+    for at in 1..names.len() {
+        if !names[at - 1].cmp(&names[at]).is_lt() {
+            return false;
+        }
+    }
+    true
+}
+
 /// Whether the name of a message is there. It is added, if the message has one.
 fn repeats_one(names: &mut BTreeSet<Hash32>, one: &Weighed) -> Result<bool, OutOfMemory>
     ensures repeated { IfOk result (λ repeated.
@@ -84,10 +148,9 @@ fn repeats_one(names: &mut BTreeSet<Hash32>, one: &Weighed) -> Result<bool, OutO
     ensures names { OnOk result ((other : HashValue) →
         has_name names.new other ≡ (has_name names.old other || is_name (name_of one.now) other)) }
 {
-    match one {
-        Weighed::Refused(_) => Ok(false),
-        Weighed::NoBudget { name, fault: _ } => Ok(!add_name(names, *name)?),
-        Weighed::Ready(chosen) => Ok(!add_name(names, chosen.name)?),
+    match name_of(one) {
+        None => Ok(false),
+        Some(name) => Ok(!add_name(names, name)?),
     }
 }
 

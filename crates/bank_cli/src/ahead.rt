@@ -25,6 +25,15 @@ const COUNT_PLACE: usize = 48;
 /// The bytes that a batch of few transactions takes at most.
 const FEW_ROOM: usize = COUNT_PLACE + 4 + MANY_TRANSACTIONS * (2 + MAX_WIRE_LEN);
 
+/// So many senders, and the gate that each passes before it parses.
+#[derive(Drop)]
+pub(crate) struct Senders<'a, H> {
+    pub(crate) count: u32,
+    pub(crate) gate: &'a H,
+    ghost some: { 1 ≤ count },
+    ghost most: { count ≤ max_senders },
+}
+
 /// A batch that was read where one seemed to begin, for a block after the slot that seemed to be
 /// the snapshot's.
 #[derive(Drop)]
@@ -41,10 +50,8 @@ pub(crate) fn read_behind<H: SendGate, R: Threads + Wait + Sync>(
     bytes: &[u8],
     prefix: &Prefix,
     ahead: Option<Ahead>,
-    senders: u32,
-    send: &H,
+    senders: &Senders<'_, H>,
 ) -> Result<Decoded, BatchFault>
-    requires senders { (1 ≤ senders) × (senders ≤ max_senders) }
     requires within { prefix.now.length ≤ length bytes.now }
     requires ahead { IfSome ahead (IsReadIn bytes.now) }
     ensures { Decodes prefix.now.snapshot.slot (drop prefix.now.length bytes.now) result }
@@ -52,7 +59,7 @@ pub(crate) fn read_behind<H: SendGate, R: Threads + Wait + Sync>(
     let (place, slot) = (prefix.length, prefix.snapshot.slot);
     match ahead {
         Some(ahead) if ahead.place == place && ahead.slot == slot => ahead.read,
-        _ => read_decoded(rt, alloc, &bytes[place..], slot, senders, send),
+        _ => read_decoded(rt, alloc, &bytes[place..], slot, senders),
     }
 }
 
@@ -62,15 +69,13 @@ fn read_decoded<H: SendGate, R: Threads + Wait + Sync>(
     alloc: Global,
     bytes: &[u8],
     before: u64,
-    senders: u32,
-    send: &H,
+    senders: &Senders<'_, H>,
 ) -> Result<Decoded, BatchFault>
-    requires senders { (1 ≤ senders) × (senders ≤ max_senders) }
     ensures { Decodes before bytes.now result }
 {
     let batch = read_batch(alloc, bytes, before)?;
-    let busy = busy_senders(senders, batch.wires.len());
-    let parsed = gather(rt, alloc, &batch.wires, busy, send)?.parsed;
+    let busy = busy_senders(senders.count, batch.wires.len());
+    let parsed = gather(rt, alloc, &batch.wires, busy, senders.gate)?.parsed;
     Ok(Decoded { batch, parsed })
 }
 
@@ -89,10 +94,8 @@ pub(crate) fn read_parts<H: SendGate, R: Threads + Wait + Sync>(
     alloc: Global,
     bytes: &[u8],
     lanes: u32,
-    senders: u32,
-    send: &H,
+    senders: &Senders<'_, H>,
 ) -> (Result<Prefix, SnapshotFault>, Option<Ahead>)
-    requires senders { (1 ≤ senders) × (senders ≤ max_senders) }
     ensures found { IfOk result.0 (BeginsWith bytes.now) }
     ensures exact { Gives is_snapshot_memory (λ prefix. prefix) result.0 (prefix_of bytes.now) }
     ensures ahead { IfSome result.1 (IsReadIn bytes.now) }
@@ -103,7 +106,7 @@ pub(crate) fn read_parts<H: SendGate, R: Threads + Wait + Sync>(
         place_of_many(bytes)
     };
     match many {
-        Some(place) => read_beside(rt, alloc, bytes, place, senders, send),
+        Some(place) => read_beside(rt, alloc, bytes, place, senders),
         None => (read_snapshot(alloc, bytes), None),
     }
 }
@@ -153,21 +156,20 @@ fn read_beside<H: SendGate, R: Threads + Wait + Sync>(
     alloc: Global,
     bytes: &[u8],
     place: usize,
-    senders: u32,
-    send: &H,
+    senders: &Senders<'_, H>,
 ) -> (Result<Prefix, SnapshotFault>, Option<Ahead>)
-    requires senders { (1 ≤ senders) × (senders ≤ max_senders) }
     requires place { place ≤ length bytes.now }
     ensures found { IfOk result.0 (BeginsWith bytes.now) }
     ensures exact { Gives is_snapshot_memory (λ prefix. prefix) result.0 (prefix_of bytes.now) }
     ensures ahead { IfSome result.1 (IsReadIn bytes.now) }
 {
+    let (count, gate) = (senders.count, senders.gate);
     let (ahead, read) = join(
         rt,
         || -> Option<Ahead>
-            requires { (1 ≤ senders) × (senders ≤ max_senders) × (place ≤ length bytes.now) }
+            requires { (1 ≤ count) × (count ≤ max_senders) × (place ≤ length bytes.now) }
             ensures { IfSome result (IsReadIn bytes.entry.now) }
-        { read_ahead(rt, alloc, bytes, place, senders, send) },
+        { read_ahead(rt, alloc, bytes, place, &Senders { count, gate }) },
         || -> Result<Prefix, SnapshotFault>
             ensures found { IfOk result (BeginsWith bytes.entry.now) }
             ensures exact { Gives is_snapshot_memory (λ prefix. prefix) result
@@ -183,14 +185,12 @@ fn read_ahead<H: SendGate, R: Threads + Wait + Sync>(
     alloc: Global,
     bytes: &[u8],
     place: usize,
-    senders: u32,
-    send: &H,
+    senders: &Senders<'_, H>,
 ) -> Option<Ahead>
-    requires senders { (1 ≤ senders) × (senders ≤ max_senders) }
     requires place { place ≤ length bytes.now }
     ensures { IfSome result (IsReadIn bytes.now) }
 {
     let slot = u64::from_le_bytes(*bytes.get(8..)?.first_chunk()?);
-    let read = read_decoded(rt, alloc, &bytes[place..], slot, senders, send);
+    let read = read_decoded(rt, alloc, &bytes[place..], slot, senders);
     Some(Ahead { place, slot, read })
 }

@@ -5,32 +5,22 @@ ghost use Rattle.bank_cli.specs.Answer.{answer, answer_to, input_limit, reads_in
 ghost use Rattle.bank_cli.specs.Ending.{TellsAnswer, TellsFault, Stops};
 ghost use Rattle.sol_io.specs.Bytes.{Keeps};
 
+use crate::ahead::Senders;
 use crate::asm::{assembled, listed};
 use crate::make::made;
 use crate::produce::produced;
 use crate::replay::replayed;
 use crate::show::shown;
 use crate::texts::refuse;
-use crate::top::{INPUT_REFUSED, READ_FAILED, WORDS_REFUSED};
 use bank_lanes::Gate;
 use bank_words::{Command, Words, WordsFault, read_words};
+use command_parts::{Answer, INPUT_LIMIT, INPUT_REFUSED, READ_FAILED, WORDS_REFUSED};
 use intake::SendGate;
 use sol_base::{Blob, OutOfMemory};
 use sol_io::{ReadFault, Source, read_all};
 use std::alloc::Global;
 use std::sync::Wait;
 use std::thread::Threads;
-
-/// The most bytes of an input.
-pub const INPUT_LIMIT: usize = 536_870_912;
-
-/// A status, and what is written for it.
-#[derive(Drop)]
-pub struct Answer {
-    pub status: u8,
-    pub output: Blob,
-    pub notes: Blob,
-}
 
 /// The answer to the words, which takes the input from the source where they ask for it.
 pub(crate) fn answer_of<S: Source, G: Gate, H: SendGate, R: Threads + Wait + Sync>(
@@ -110,7 +100,11 @@ fn answer_input<G: Gate, H: SendGate, R: Threads + Wait + Sync>(
 {
     match command {
         Command::Produce { lanes, senders } => {
-            produced(rt, alloc, lanes, senders, input, gate, send)
+            let senders = Senders {
+                count: senders,
+                gate: send,
+            };
+            produced(rt, alloc, lanes, &senders, input, gate)
         }
         Command::Replay { lanes } => replayed(rt, alloc, lanes, input, gate),
         Command::Show => shown(alloc, input),
@@ -119,7 +113,10 @@ fn answer_input<G: Gate, H: SendGate, R: Threads + Wait + Sync>(
             count,
             run,
             lanes,
-        } => made(rt, alloc, number, count, run, lanes, gate),
+        } => {
+            let lanes = if run { Some(lanes) } else { None };
+            made(rt, alloc, number, count, lanes, gate)
+        }
         Command::Assemble => assembled(alloc, input),
         Command::List => listed(alloc, input),
     }

@@ -12,9 +12,5 @@ mod show;
 mod texts;
 mod top;
 
-pub use answer::{Answer, INPUT_LIMIT};
 pub use delivery::Undelivered;
-pub use top::{
-    INPUT_REFUSED, OUT_OF_MEMORY, READ_FAILED, REPLAY_DIFFERS, WORDS_REFUSED, WRITE_FAILED,
-    bank_main,
-};
+pub use top::bank_main;

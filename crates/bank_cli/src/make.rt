@@ -1,17 +1,18 @@
 //! The command `make`: an input that a number draws, or what it comes to.
-ghost use Rattle.std.specs.Prelude.{◌≡◌, ◌≤◌, ◌++◌, length, All, IfOk, OnOk};
+ghost use Rattle.std.specs.Prelude.{◌≡◌, ◌≤◌, ◌++◌, length, All, IfOk, IfSome, OnOk};
+ghost use Rattle.std.specs.Option.{is_some};
 ghost use Rattle.sol_base.specs.Limits.{max_lanes, max_transactions};
 ghost use Rattle.batch_gen.specs.Generator.{made};
 ghost use Rattle.snapshot_codec.specs.Batch.{IsShortWire};
 ghost use Rattle.snapshot_codec.specs.Snapshot.{IsReadable};
 ghost use Rattle.bank_cli.specs.Answer.{count_of, counts_text, input_bytes, is_dropped, is_failed, is_good, made_answer, made_run, run_line, written};
 
-use crate::answer::Answer;
 use crate::texts::{append_hash, append_number, tell};
 use bank_lanes::Gate;
 use batch_gen::{Made, make};
 use block_record::{Block, Entry};
 use block_run::run_block;
+use command_parts::Answer;
 use snapshot_codec::{batch_bytes, snapshot_bytes};
 use sol_base::{Blob, OutOfMemory};
 use std::alloc::Global;
@@ -19,25 +20,24 @@ use std::sync::Wait;
 use std::thread::Threads;
 use tx_report::Status;
 
-/// The answer to `make`: the input that the number draws, or one line of what it comes to.
+/// The answer to `make`: the input that the number draws; or, with a number of lanes, one line of
+/// what it comes to on them.
 pub(crate) fn made<G: Gate, R: Threads + Wait + Sync>(
     rt: &R,
     alloc: Global,
     number: u64,
     count: u32,
-    run: bool,
-    lanes: u32,
+    lanes: Option<u32>,
     gate: &G,
 ) -> Result<Answer, OutOfMemory>
     requires count { (1 ≤ count) × (count ≤ max_transactions) }
-    requires lanes { (1 ≤ lanes) × (lanes ≤ max_lanes) }
-    ensures { IfOk result (λ told. told ≡ made_answer number count run) }
+    requires lanes { IfSome lanes (λ lanes. (1 ≤ lanes) × (lanes ≤ max_lanes)) }
+    ensures { IfOk result (λ told. told ≡ made_answer number count (is_some lanes)) }
 {
     let input = make(alloc, number, count)?;
-    if run {
-        run_made(rt, alloc, count, input, lanes, gate)
-    } else {
-        write_input(alloc, &input)
+    match lanes {
+        Some(lanes) => run_made(rt, alloc, count, input, lanes, gate),
+        None => write_input(alloc, &input),
     }
 }
 

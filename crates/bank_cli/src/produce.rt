@@ -1,18 +1,18 @@
 //! The command `produce`: a block is run, and its record and the snapshot after it are written.
 ghost use Rattle.std.specs.Prelude.{◌≡◌, ◌≤◌, ◌++◌, length, IfOk, OnOk};
-ghost use Rattle.sol_base.specs.Limits.{max_lanes, max_senders, max_transactions};
+ghost use Rattle.sol_base.specs.Limits.{max_lanes, max_transactions};
 ghost use Rattle.admission.specs.Admission.{AreParsed};
 ghost use Rattle.snapshot_codec.specs.Snapshot.{IsReadable};
 ghost use Rattle.block_run.specs.Blocks.{block_result};
 ghost use Rattle.bank_cli.specs.Answer.{produced as produced_of, ran};
 ghost use Rattle.bank_cli.specs.Texts.{refused_line, refused_lines};
 
-use crate::ahead::{read_behind, read_parts};
-use crate::answer::Answer;
+use crate::ahead::{Senders, read_behind, read_parts};
 use crate::texts::{append_number, refuse_batch, refuse_snapshot};
 use admission::{Refused, refusal_text};
 use bank_lanes::Gate;
 use block_run::{Decoded, Recorded, record_parsed};
+use command_parts::Answer;
 use intake::SendGate;
 use snapshot_codec::{Snapshot, write_snapshot};
 use sol_base::{Blob, OutOfMemory};
@@ -26,22 +26,20 @@ pub(crate) fn produced<G: Gate, H: SendGate, R: Threads + Wait + Sync>(
     rt: &R,
     alloc: Global,
     lanes: u32,
-    senders: u32,
+    senders: &Senders<'_, H>,
     input: Blob,
     gate: &G,
-    send: &H,
 ) -> Result<Answer, OutOfMemory>
     requires lanes { (1 ≤ lanes) × (lanes ≤ max_lanes) }
-    requires senders { (1 ≤ senders) × (senders ≤ max_senders) }
     ensures { IfOk result (λ told. told ≡ produced_of input) }
 {
     let bytes = input.as_slice();
-    let (read, ahead) = read_parts(rt, alloc, bytes, lanes, senders, send);
+    let (read, ahead) = read_parts(rt, alloc, bytes, lanes, senders);
     let prefix = match read {
         Ok(prefix) => prefix,
         Err(fault) => return refuse_snapshot(alloc, fault),
     };
-    match read_behind(rt, alloc, bytes, &prefix, ahead, senders, send) {
+    match read_behind(rt, alloc, bytes, &prefix, ahead, senders) {
         Ok(decoded) => {
             drop(input);
             produce_block(rt, alloc, lanes, prefix.snapshot, decoded, gate)

@@ -11,9 +11,8 @@ ghost use Rattle.admission.specs.Refusals.{at_place};
 ghost use Rattle.bank_cli.specs.Answer.{input_refused, refused, written};
 ghost use Rattle.bank_cli.specs.Texts.{asm_text, batch_text, line, list_text, record_text, snapshot_text, verify_text};
 
-use crate::answer::Answer;
-use crate::top::INPUT_REFUSED;
 use block_record::RecordFault;
+use command_parts::{Answer, INPUT_REFUSED};
 use hex::encode_to_slice;
 use itoa::Buffer;
 use sbpf_asm::{AsmFault, ListFault};

@@ -9,30 +9,13 @@ use crate::answer::answer_of;
 use crate::delivery::{Undelivered, deliver};
 use bank_lanes::Gate;
 use bank_words::Words;
+use command_parts::{OUT_OF_MEMORY, WRITE_FAILED};
 use intake::SendGate;
 use sol_base::OutOfMemory;
 use sol_io::{Sink, Source};
 use std::alloc::Global;
 use std::sync::Wait;
 use std::thread::Threads;
-
-/// The status where a replayed record differs.
-pub const REPLAY_DIFFERS: u8 = 1;
-
-/// The status where the words are not in form.
-pub const WORDS_REFUSED: u8 = 2;
-
-/// The status where the input is refused.
-pub const INPUT_REFUSED: u8 = 3;
-
-/// The status where the source failed.
-pub const READ_FAILED: u8 = 4;
-
-/// The status where a sink failed.
-pub const WRITE_FAILED: u8 = 5;
-
-/// The status where memory ran out.
-pub const OUT_OF_MEMORY: u8 = 6;
 
 /// Answers the words and the input: the output and the notes are written, and the status is
 /// answered (Solana for what a block comes to; the commands, texts and formats are the project's

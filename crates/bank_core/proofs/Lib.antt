@@ -11,3 +11,4 @@ pub mod Seats
 pub mod Spends
 pub mod Tells
 pub mod Lanes
+pub mod ReadyCounts

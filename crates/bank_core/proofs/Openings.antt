@@ -1,5 +1,5 @@
 -- What a core begins with.
-use Rattle.sol_base.specs.Limits.{max_lanes}
+use Rattle.bank_core.specs.Counts.{max_lane_numbers}
 use Rattle.std.proofs.Common.{◌≡◌, ℕ, zero, suc, ◌+◌, ◌*◌, ◌^◌, ◌<◌, ◌≤◌, Bool, true, false, cond, inl, inr, ◌⊎◌, List, [], ◌∷◌, ◌++◌, length, get_or, replicate, length-append, Option, Some, None, refl, sym, ◌∙◌, ap, ap₂, subst, arith}
 use Rattle.std.specs.Prelude.{not, map, unwrap_or, vec_len, vec_capacity}
 use Rattle.std.specs.List.{IsDistinct}
@@ -32,14 +32,6 @@ use Rattle.bank_law.proofs.Keys.{same_key-self}
 use Rattle.bank_core.specs.Keeping.{Keeps, IsApart, HasRoom, HasBuffers}
 use Rattle.lock_table.proofs.Numbering.{no_key}
 use Rattle.bank_core.proofs.Numbers.{as_many_locks}
-
-pub locks_more : (job : Job) (i n : ℕ) → i < n → length (job.locks i) + locks_before job i ≤ locks_before job n
-locks_more job i zero l = absurd (omega arith)
-locks_more job i (suc n) l =
-    elim (cases_eq i n) [
-      | inl e ↦ subst (λ m. length (job.locks i) + locks_before job i ≤ length (job.locks m) + locks_before job m) e (omega arith)
-      | inr d ↦ let rest = locks_more job i n (omega (arith, l, d)) in omega (arith, rest)
-    ]
 
 -- the keys of the first n positions
 pub record KeysSoFar (job : Job) (ks : List Key) (n : ℕ) : Type 0 where
@@ -169,7 +161,7 @@ pub opening_unheld : (n : ℕ) → count_below (λ i. is_held waiting) n ≡ 0
 opening_unheld zero = refl
 opening_unheld (suc n) = let rest = opening_unheld n in omega (arith, rest)
 
-pub opening_room : (count lanes capacity : ℕ) (journal : List Event) → journal ≡ [] → count < 2 ^ 32 → lanes ≤ max_lanes → 4 * count + 256 ≤ capacity → HasRoom count lanes capacity journal
+pub opening_room : (count lanes capacity : ℕ) (journal : List Event) → journal ≡ [] → count < 2 ^ 32 → lanes ≤ max_lane_numbers → 4 * count + 4 * lanes ≤ capacity → HasRoom count lanes capacity journal
 opening_room count lanes capacity journal nil few most room = subst (HasRoom count lanes capacity) (sym nil) (record {
   few = few;
   most = most;

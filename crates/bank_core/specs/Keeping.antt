@@ -19,7 +19,7 @@ use Rattle.bank_law.specs.History.{returns}
 use Rattle.prio_graph.specs.Ready.{Positions}
 use Rattle.prio_graph.specs.Laws.{IsOf}
 use Rattle.bank_core.specs.Slots.{Shared, account_at, in_slot}
-use Rattle.sol_base.specs.Limits.{max_lanes}
+use Rattle.bank_core.specs.Counts.{max_lane_numbers}
 
 -- the outcome of a position, once it is done
 abbrev pub outcome_of : Stage → Option Outcome
@@ -51,8 +51,8 @@ pub record IsApart (start rest : State) (ks : List Key) : Type 0 where
 -- returned at most once
 pub record HasRoom (count lanes capacity : ℕ) (journal : List Event) : Type 0 where
   pub few : count < 2 ^ 32
-  pub most : lanes ≤ max_lanes
-  pub room : 4 * count + 256 ≤ capacity
+  pub most : lanes ≤ max_lane_numbers
+  pub room : 4 * count + 4 * lanes ≤ capacity
   pub lanes_below : All (λ event. event.lane < lanes) journal
   pub once : (lane : ℕ) → returns (own journal lane) ≤ 1
 

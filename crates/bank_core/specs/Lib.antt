@@ -3,7 +3,7 @@ pub mod Slots
 pub mod Effects
 pub mod Counts
 pub mod Keeping
-pub mod Facts
+pub mod Propositions
 pub mod Takes
 pub mod Ends
 pub mod Lanes

@@ -2,7 +2,7 @@
 ghost use Rattle.std.specs.Prelude.{◌≡◌, IfOk};
 ghost use Rattle.bank_core.specs.Ends.{HasSerialAccounts, state_at_end};
 ghost use Rattle.bank_core.specs.Keeping.{AreEnds};
-ghost use Rattle.bank_core.specs.Facts.{AreEnds-prop};
+ghost use Rattle.bank_core.specs.Propositions.{AreEnds-prop};
 
 use crate::finish::held_of;
 use crate::origin::Origin;

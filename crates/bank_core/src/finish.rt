@@ -3,17 +3,17 @@ ghost use Rattle.std.specs.Prelude.{◌≡◌, ◌++◌, ◌∷◌, [], IfOk, On
 ghost use Rattle.std.specs.List.{flat_map, zip};
 ghost use Rattle.bank_core.specs.Slots.{held_in};
 
+use crate::shared_outcome::SharedOutcome;
 use account_store::Accounts;
 use sol_base::{Account, Items, Key, OutOfMemory};
 use std::alloc::Global;
 use std::sync::Arc;
-use tx_report::Outcome;
 
 /// What a core ends with: the accounts, and the outcome of each position.
 #[derive(Drop)]
 pub struct Sealed {
     pub accounts: Accounts,
-    pub outcomes: Items<Outcome>,
+    pub outcomes: Items<SharedOutcome>,
 }
 
 /// Adds the account of a slot beside its key, where it has lamports.
@@ -53,8 +53,8 @@ pub(crate) fn held_of(
 /// The outcomes that are there.
 pub(crate) fn all_outcomes(
     alloc: Global,
-    outcomes: Vec<Option<Outcome>>,
-) -> Result<Items<Outcome>, OutOfMemory>
+    outcomes: Vec<Option<SharedOutcome>>,
+) -> Result<Items<SharedOutcome>, OutOfMemory>
     ensures { IfOk result (λ all. all ≡ flat_map option_to_list outcomes.items) }
 {
     let mut all = Items::with_capacity(alloc, outcomes.len())?;

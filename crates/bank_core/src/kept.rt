@@ -13,7 +13,7 @@ ghost use Rattle.bank_core.specs.Effects.{effects_seen};
 ghost use Rattle.bank_core.specs.Keeping.{Keeps, IsApart, HasRoom, HasBuffers};
 ghost use Rattle.bank_core.specs.Origins.{IsLegalFor, AllDoneAfter, IsLeastReadyAfter};
 ghost use Rattle.bank_core.specs.Takes.{IsNotNowAfter, ReadsLeastAfter, SomeLaneHolds, MatchTake};
-ghost use Rattle.bank_core.specs.Facts.{Keeps-prop, IsApart-prop, HasRoom-prop, HasBuffers-prop};
+ghost use Rattle.bank_core.specs.Propositions.{Keeps-prop, IsApart-prop, HasRoom-prop, HasBuffers-prop};
 ghost use Rattle.bank_law.proofs.Props.{IsLawful-prop};
 
 use crate::ended::Ended;
@@ -21,6 +21,7 @@ use crate::finish::{Sealed, all_outcomes};
 use crate::loan::{Loan, Spent, Take};
 use crate::origin::Origin;
 use crate::room::{take_at, write_at};
+use crate::shared_outcome::SharedOutcome;
 use crate::slots::{lend, put_back, put_written};
 use crate::work::{Effects, Work};
 use account_store::Accounts;
@@ -31,7 +32,6 @@ use proof_note::Note;
 use sol_base::{Account, Items, OutOfMemory, push_with_room};
 use std::alloc::Global;
 use std::sync::Arc;
-use tx_report::Outcome;
 
 /// Lends the values of positions, and takes the effects back.
 pub struct Core<W: Work> {
@@ -41,7 +41,7 @@ pub struct Core<W: Work> {
     pub(crate) graph: Graph,
     pub(crate) slots: Vec<Option<Arc<Account>>>,
     pub(crate) rest: Accounts,
-    pub(crate) outcomes: Vec<Option<Outcome>>,
+    pub(crate) outcomes: Vec<Option<SharedOutcome>>,
     pub(crate) buffers: Vec<Vec<Arc<Account>>>,
     pub(crate) held: u32,
     pub(crate) journal: Vec<Event>,
@@ -272,7 +272,7 @@ impl<W: Work> Core<W> {
 
     /// Ends a core whose positions are all done: its accounts, which stand apart yet, and the
     /// outcomes.
-    pub fn part(self) -> Result<(Ended<W>, Items<Outcome>), OutOfMemory>
+    pub fn part(self) -> Result<(Ended<W>, Items<SharedOutcome>), OutOfMemory>
         requires { AllDoneAfter W.job self.origin.value self.journal.items }
         ensures origin { IfOk result (λ end. end.0.origin.value ≡ self.origin.value) }
         ensures outcomes { IfOk result (λ end. end.1 ≡ outcomes_at_end W.job self.origin.value) }

@@ -1,6 +1,7 @@
 //! What a core has for a lane, without a take.
-ghost use Rattle.std.specs.Prelude.{ℕ};
-ghost use Rattle.bank_core.specs.Origins.{AllDoneAfter, IsLeastReadyAfter};
+ghost use Rattle.std.specs.Prelude.{◌≡◌, ℕ};
+ghost use Rattle.bank_core.specs.Counts.{ready_count};
+ghost use Rattle.bank_core.specs.Origins.{AllDoneAfter, IsLeastReadyAfter, state_after};
 ghost use Rattle.bank_core.specs.Takes.{IsNotNowAfter, MatchOffer};
 
 use crate::kept::Core;
@@ -28,5 +29,14 @@ impl<W: Work> Core<W> {
             None if self.held == 0 => Offer::Finished,
             None => Offer::NotNow,
         }
+    }
+
+    /// How many positions are ready.
+    pub fn ready_count(&self) -> u32
+        ensures { result
+            ≡ ready_count (W.job self.now.origin.value.told)
+            (state_after W.job self.now.origin.value self.now.journal.items) }
+    {
+        self.graph.ready_count()
     }
 }

@@ -6,18 +6,19 @@ ghost use Rattle.std.specs.List.{IsDistinct};
 ghost use Rattle.std.specs.declared.vec.Vec.{Vec as VecValue};
 ghost use Rattle.std.specs.declared.alloc.Global.{Global as GlobalValue};
 ghost use Rattle.account_store.specs.State.{at};
-ghost use Rattle.bank_law.specs.Job.{same_key, keys, lock_keys};
+ghost use Rattle.bank_law.specs.Job.{same_key, keys as keys_at, lock_keys};
 ghost use Rattle.lock_table.specs.Numbers.{Numbers, numbered_key};
 ghost use Rattle.prio_graph.specs.Ready.{set_at};
 ghost use Rattle.bank_core.specs.Slots.{Shared, account_at, in_slot, value_of};
 ghost use Rattle.bank_core.specs.Keeping.{IsApart};
 ghost use Rattle.bank_core.specs.Openings.{AreNumbered, AreKnown};
-ghost use Rattle.bank_core.specs.Counts.{locks_before};
+ghost use Rattle.bank_core.specs.Counts.{locks_before, max_lane_numbers};
 ghost use Rattle.sol_base.specs.Limits.{max_lanes};
 
 use crate::kept::Core;
 use crate::locked::{Locked, OfWork};
 use crate::origin::Origin;
+use crate::shared_outcome::SharedOutcome;
 use crate::work::Work;
 use account_store::{Accounts, TakenOut};
 use bank_law::Event;
@@ -28,7 +29,9 @@ use sol_base::{Account, Items, Key, LockList, OutOfMemory};
 use std::alloc::Global;
 use std::mem::replace;
 use std::sync::Arc;
-use tx_report::Outcome;
+
+/// The most lanes of a core (the project's own): a thread drives up to 16 of them.
+pub const MAX_LANE_NUMBERS: u32 = 1_024;
 
 /// What a core begins with.
 fn origin_of<W: Work>(work: &W, accounts: &Accounts) -> Note<Origin<W::Told>>
@@ -69,7 +72,7 @@ fn sets_of<L: Locked>(
     table: &KeyTable,
 ) -> Result<Items<LockSet>, OutOfMemory>
     requires apart { (i : ℕ) → i < (L.job locked.now).count
-        → IsDistinct same_key (keys (L.job locked.now) i) }
+        → IsDistinct same_key (keys_at (L.job locked.now) i) }
     requires known { (i : ℕ) → i < (L.job locked.now).count
         → AreKnown table.now ((L.job locked.now).locks i) }
     ensures long { IfOk result (λ sets. length sets ≡ (L.job locked.now).count) }
@@ -106,13 +109,30 @@ pub struct Numbered {
 /// Numbers the keys that positions lock, and makes the graph of the positions.
 pub fn number<L: Locked>(alloc: Global, locked: &L) -> Result<Numbered, OutOfMemory>
     requires apart { (i : ℕ) → i < (L.job locked.now).count
-        → IsDistinct same_key (keys (L.job locked.now) i) }
+        → IsDistinct same_key (keys_at (L.job locked.now) i) }
     requires room { locks_before (L.job locked.now) (L.job locked.now).count < 2 ^ 32 }
+    ensures { IfOk result (λ n. AreNumbered (L.job locked.now) n.table n.graph n.room) }
+{
+    number_among(alloc, locked, keys_of(alloc, locked)?)
+}
+
+/// The same where the keys of all locks stand in a list. Where the list ascends, it is not sorted
+/// again.
+pub fn number_among<L: Locked>(
+    alloc: Global,
+    locked: &L,
+    keys: Vec<Key>,
+) -> Result<Numbered, OutOfMemory>
+    requires apart { (i : ℕ) → i < (L.job locked.now).count
+        → IsDistinct same_key (keys_at (L.job locked.now) i) }
+    requires few { length keys.items < 2 ^ 32 }
+    requires known { (i : ℕ) → i < (L.job locked.now).count
+        → AreKnown keys.items ((L.job locked.now).locks i) }
     ensures { IfOk result (λ n. AreNumbered (L.job locked.now) n.table n.graph n.room) }
 {
     // The contracts of these two tell that the count is small, and that the keys are distinct.
     let _count = locked.count();
-    let table = KeyTable::of_keys(alloc, keys_of(alloc, locked)?);
+    let table = KeyTable::of_keys(alloc, keys);
     let _len = table.len();
     let sets = sets_of(alloc, locked, &table)?;
     let room = most_locks(sets.as_slice());
@@ -175,7 +195,7 @@ fn slots_of(
 }
 
 /// An outcome for each position, none of them there yet.
-fn no_outcomes(alloc: Global, count: usize) -> Result<Vec<Option<Outcome>>, OutOfMemory>
+fn no_outcomes(alloc: Global, count: usize) -> Result<Vec<Option<SharedOutcome>>, OutOfMemory>
     ensures { IfOk result (λ outcomes. outcomes.items ≡ replicate count None) }
 {
     let mut outcomes = Vec::with_capacity(alloc, count)?;
@@ -225,7 +245,7 @@ impl<W: Work> Core<W> {
         Core::over(alloc, accounts, work, lanes, numbered)
     }
 
-    /// The same where the keys of the work's locks were numbered before.
+    /// The same where the keys of the work's locks were numbered before, and for more lanes.
     pub fn over(
         alloc: Global,
         accounts: Accounts,
@@ -234,7 +254,7 @@ impl<W: Work> Core<W> {
         numbered: Numbered,
     ) -> Result<Core<W>, OutOfMemory>
         requires some { 1 ≤ lanes }
-        requires most { lanes ≤ max_lanes }
+        requires most { lanes ≤ max_lane_numbers }
         requires numbered { AreNumbered (W.job (W.told work.now)) numbered.table numbered.graph
             numbered.room }
         ensures origin { IfOk result
@@ -249,7 +269,7 @@ impl<W: Work> Core<W> {
         let slots = slots_of(alloc, &mut rest, &table)?;
         let outcomes = no_outcomes(alloc, count)?;
         let buffers = buffers_of(alloc, lanes as usize, room)?;
-        let journal = Vec::with_capacity(alloc, 4 * count + 256)?;
+        let journal = Vec::with_capacity(alloc, 4 * count + (4 * lanes as usize).max(256))?;
         Ok(Core {
             origin,
             lanes,

@@ -5,43 +5,22 @@ ghost use Rattle.bank_core.specs.Origins.{state_after};
 ghost use Rattle.bank_core.specs.Told.{done_from, up_to_none};
 
 use crate::kept::Core;
+use crate::shared_outcome::SharedOutcome;
 use crate::work::Work;
-use sol_base::{Blob, Items, OutOfMemory};
+use sol_base::{Items, OutOfMemory};
 use std::alloc::Global;
-use tx_report::Outcome;
 
-/// The same lines once more.
-fn copy_of_lines(alloc: Global, lines: &[Blob]) -> Result<Items<Blob>, OutOfMemory>
-    ensures { IfOk result (λ copy. copy ≡ lines.now) }
-{
-    let mut copy = Items::with_capacity(alloc, lines.len())?;
-    for line in lines {
-        copy.push(line.try_copy()?)?;
-    }
-    Ok(copy)
-}
-
-/// The same outcome once more.
-fn copy_of(alloc: Global, outcome: &Outcome) -> Result<Outcome, OutOfMemory>
-    ensures { IfOk result (λ copy. copy ≡ outcome.now) }
-{
-    Ok(Outcome {
-        status: outcome.status,
-        units: outcome.units,
-        base_paid: outcome.base_paid,
-        priority_paid: outcome.priority_paid,
-        lines: copy_of_lines(alloc, outcome.lines.as_slice())?,
-    })
-}
-
-/// Copies of the outcomes up to the first that is not there.
-fn copies_of(alloc: Global, outcomes: &[Option<Outcome>]) -> Result<Items<Outcome>, OutOfMemory>
+/// Shares of the outcomes up to the first that is not there.
+fn shares_of(
+    alloc: Global,
+    outcomes: &[Option<SharedOutcome>],
+) -> Result<Items<SharedOutcome>, OutOfMemory>
     ensures { IfOk result (λ told. told ≡ up_to_none outcomes.now) }
 {
     let mut told = Items::new(alloc);
     for outcome in outcomes {
         match outcome.as_ref() {
-            Some(outcome) => told.push(copy_of(alloc, outcome)?)?,
+            Some(outcome) => told.push(outcome.again()?)?,
             None => return Ok(told),
         }
     }
@@ -49,9 +28,9 @@ fn copies_of(alloc: Global, outcomes: &[Option<Outcome>]) -> Result<Items<Outcom
 }
 
 impl<W: Work> Core<W> {
-    /// Copies of the outcomes of so many positions from one on, up to the first that is not done:
+    /// Shares of the outcomes of so many positions from one on, up to the first that is not done:
     /// the serial run gives the same.
-    pub fn outcomes_from(&self, from: u32, most: u32) -> Result<Items<Outcome>, OutOfMemory>
+    pub fn outcomes_from(&self, from: u32, most: u32) -> Result<Items<SharedOutcome>, OutOfMemory>
         requires { from + most ≤ (W.job self.now.origin.value.told).count }
         ensures exact { IfOk result (λ told. told
             ≡ done_from (state_after W.job self.now.origin.value self.now.journal.items).stage
@@ -60,7 +39,7 @@ impl<W: Work> Core<W> {
             ≡ take (length told) (drop from (outcomes_at_end W.job self.now.origin.value))) }
     {
         let from = from as usize;
-        copies_of(
+        shares_of(
             self.alloc,
             &self.outcomes.as_slice()[from..from + most as usize],
         )

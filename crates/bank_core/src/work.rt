@@ -5,15 +5,15 @@ ghost use Rattle.bank_law.specs.Lawful.{IsLawful, Fits};
 ghost use Rattle.sol_base.specs.Accounts.{accounts_of};
 ghost use Rattle.bank_core.specs.Effects.{effects_seen};
 
+use crate::shared_outcome::SharedOutcome;
 use sol_base::{Account, Items, LockList, OutOfMemory};
 use std::sync::Arc;
-use tx_report::Outcome;
 
 /// What performing a position gives: its outcome, and one account for each write lock, in their
 /// order.
 #[derive(Drop)]
 pub struct Effects {
-    pub outcome: Outcome,
+    pub outcome: SharedOutcome,
     pub written: Items<Arc<Account>>,
 }
 

@@ -2,8 +2,8 @@
 use Rattle.std.specs.Prelude.{◌≡◌, ℕ, List, length, Ok}
 use Rattle.snapshot_codec.specs.declared.snapshot.Snapshot.{Snapshot}
 use Rattle.snapshot_codec.specs.SnapshotReading.{prefix_of}
-use Rattle.bank_ledger.specs.declared.input.Given.{Given}
-use Rattle.bank_ledger.specs.declared.input.Given.TheVariants.{Value, Nothing}
+use Rattle.command_parts.specs.declared.input.Given.{Given}
+use Rattle.command_parts.specs.declared.input.Given.TheVariants.{Value, Nothing}
 
 -- a fact of the value, where there is one
 abbrev pub IfValue : {X : Type 0} → (X → Type 0) → Given X → Type 0

@@ -14,16 +14,16 @@ ghost use Rattle.ledger_store.specs.Watching.{IsOpening, finished};
 ghost use Rattle.bank_ledger.specs.Batches.{IsWithBatchOrNot};
 ghost use Rattle.bank_ledger.specs.Crew.{IsCrew};
 
-use crate::answer::{Answer, INPUT_REFUSED, READ_FAILED, WRITE_FAILED, noted};
 use crate::chain::{copied, locked, refused};
 use crate::clock::{now, since};
-use crate::input::{Given, standard_input};
+use crate::input::standard_input;
 use crate::lines::{Times, added_line};
 use admission::{Refused, refusal_text};
 use bank_lanes::OpenGate;
 use block_laws::next_blocks_can_be_run;
 use block_record::Block;
 use block_run::{BlockResult, run_parsed};
+use command_parts::{Answer, Given, INPUT_REFUSED, READ_FAILED, WRITE_FAILED, noted};
 use intake::{OpenSend, gather};
 use ledger_folder::{Folder, StdFolder};
 use ledger_store::{LedgerFault, Opening, add, begin_opening};

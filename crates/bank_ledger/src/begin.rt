@@ -4,9 +4,9 @@ ghost use Rattle.snapshot_codec.specs.Snapshot.{BeginsWith, IsReadable};
 ghost use Rattle.snapshot_codec.specs.SnapshotReading.{prefix_of};
 ghost use Rattle.bank_ledger.specs.Given.{IfValue, IsReadWhole};
 
-use crate::answer::{Answer, INPUT_REFUSED, WRITE_FAILED, noted, written};
 use crate::chain::{locked, refused};
-use crate::input::{Given, standard_input};
+use crate::input::standard_input;
+use command_parts::{Answer, Given, INPUT_REFUSED, WRITE_FAILED, noted, written};
 use ledger_folder::{Folder, StdFolder, make_folder};
 use ledger_store::{LedgerFault, create};
 use snapshot_codec::{Prefix, Snapshot, SnapshotFault, read_snapshot};

@@ -2,8 +2,7 @@
 ghost use Rattle.std.specs.Prelude.{◌≡◌, ◌≤◌, IfOk};
 ghost use Rattle.snapshot_codec.specs.Snapshot.{IsReadable};
 
-use crate::answer::{Answer, INPUT_REFUSED, READ_FAILED, WRITE_FAILED, noted};
-use crate::input::Given;
+use command_parts::{Answer, Given, INPUT_REFUSED, READ_FAILED, WRITE_FAILED, noted};
 use ledger_folder::{Folder, FolderLock, LockFault, StdFolder, lock_folder};
 use ledger_store::{Head, LedgerFault, copy_snapshot, read_head, read_state};
 use snapshot_codec::Snapshot;

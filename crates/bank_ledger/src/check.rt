@@ -1,10 +1,10 @@
 //! The command `check`: blocks are replayed, several at once, and the first difference is told.
 ghost use Rattle.std.specs.Prelude.{◌≤◌};
 
-use crate::answer::{Answer, DIFFERS, INPUT_REFUSED, noted, written};
 use crate::chain::{OpenChain, open_chain, unread};
 use crate::replaying::{Cause, Range, Shared, Stop, replay_pieces};
 use block_replay::{Field, OF_BLOCK};
+use command_parts::{Answer, DIFFERS, INPUT_REFUSED, noted, written};
 use ledger_store::Head;
 use sol_base::{Blob, OutOfMemory};
 use std::alloc::Global;

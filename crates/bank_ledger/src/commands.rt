@@ -2,12 +2,12 @@
 ghost use Rattle.ledger_words.specs.Commands.{IsInRange};
 
 use crate::add::{Crew, added};
-use crate::answer::{Answer, WORDS_REFUSED, written};
 use crate::begin::begun;
 use crate::check::{Wanted, checked};
 use crate::export::exported;
 use crate::reads::{block, listed, state};
 use crate::words::words_of;
+use command_parts::{Answer, WORDS_REFUSED, written};
 use ledger_words::{ChainCommand, ChainWordsFault, USAGE, VERSION, read_chain_words};
 use sol_base::{Blob, OutOfMemory};
 use std::alloc::Global;

@@ -2,8 +2,8 @@
 ghost use Rattle.std.specs.Prelude.{◌≤◌, IfOk};
 ghost use Rattle.snapshot_codec.specs.Snapshot.{IsReadable};
 
-use crate::answer::{Answer, INPUT_REFUSED, WRITE_FAILED, noted, written};
 use crate::chain::{OpenChain, copied, open_chain, state_after, unread};
+use command_parts::{Answer, INPUT_REFUSED, WRITE_FAILED, noted, written};
 use ledger_folder::Folder;
 use ledger_store::{Changes, Head, Kept, LedgerFault, changes_between, next_state, read_block};
 use ledger_tables::{

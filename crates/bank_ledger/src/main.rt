@@ -3,7 +3,6 @@
 #![tactic(auto)]
 
 mod add;
-mod answer;
 mod begin;
 mod chain;
 mod check;
@@ -16,23 +15,13 @@ mod reads;
 mod replaying;
 mod words;
 
-use answer::{Answer, OUT_OF_MEMORY, WORDS_REFUSED, WRITE_FAILED};
+use command_parts::{Answer, OUT_OF_MEMORY, WORDS_REFUSED, status_after};
 use commands::answer_words;
 use sol_base::OutOfMemory;
-use sol_io::{Sink, StdSink, WriteFault, write_all};
-use std::alloc::Global;
+use sol_io::{StdSink, write_all};
 use std::io::IsTerminal;
 use std::process::ExitCode;
 use words::{NoWords, texts_of};
-
-/// The status after the bytes were written to a sink.
-fn written_to<O: Sink>(alloc: Global, out: &mut O, bytes: &[u8], status: u8) -> u8 {
-    match write_all(alloc, out, bytes) {
-        Ok(()) => status,
-        Err(WriteFault::Failed { written: _ }) => WRITE_FAILED,
-        Err(WriteFault::OutOfMemory { written: _ }) => OUT_OF_MEMORY,
-    }
-}
 
 fn main(rt: HostRuntime) -> ExitCode {
     let texts = match texts_of(&rt) {
@@ -46,10 +35,16 @@ fn main(rt: HostRuntime) -> ExitCode {
         Err(OutOfMemory) => return ExitCode::from(OUT_OF_MEMORY),
     };
     let mut out = StdSink::new(rt.stdout());
-    let status = written_to(rt.alloc(), &mut out, told.output.as_slice(), told.status);
+    let status = status_after(
+        write_all(rt.alloc(), &mut out, told.output.as_slice()),
+        told.status,
+    );
     if status != told.status {
         return ExitCode::from(status);
     }
     let mut notes = StdSink::new(rt.stderr());
-    ExitCode::from(written_to(rt.alloc(), &mut notes, told.notes.as_slice(), status))
+    ExitCode::from(status_after(
+        write_all(rt.alloc(), &mut notes, told.notes.as_slice()),
+        status,
+    ))
 }

@@ -1,8 +1,8 @@
 //! The commands `state`, `block` and `list`.
-use crate::answer::{Answer, written};
 use crate::chain::{OpenChain, no_block, open_chain, state_after, unread};
 use crate::lines::append_listed;
 use block_record::record_bytes;
+use command_parts::{Answer, written};
 use ledger_store::{Head, Kept, LedgerFault, read_block};
 use snapshot_codec::{readable_snapshots_are_writable, snapshot_bytes};
 use sol_base::{Blob, OutOfMemory};

@@ -2,9 +2,10 @@
 //! output, notes to standard error.
 #![tactic(auto)]
 
-use bank_cli::{OUT_OF_MEMORY, WORDS_REFUSED, bank_main};
+use bank_cli::bank_main;
 use bank_lanes::OpenGate;
 use bank_words::Words;
+use command_parts::{OUT_OF_MEMORY, WORDS_REFUSED};
 use intake::OpenSend;
 use sol_base::{Blob, Items, OutOfMemory};
 use sol_io::{StdSink, StdSource};

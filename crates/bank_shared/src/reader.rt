@@ -8,10 +8,9 @@ ghost use Rattle.bank_shared.specs.Face.{desk_origin, IsPassOf, IsReaderOf, view
 
 use crate::desk::{Pass, Reader, SharedDesk};
 use crate::rule::Parts;
-use bank_core::Work;
+use bank_core::{SharedOutcome, Work};
 use sol_base::{Items, OutOfMemory};
 use std::sync::Wait;
-use tx_report::Outcome;
 
 impl<W: Work> SharedDesk<W> {
     /// A reader, which leaves all that the pass knows.
@@ -27,7 +26,7 @@ impl<W: Work> SharedDesk<W> {
         }
     }
 
-    /// Copies of the outcomes of so many positions from one on, up to the first that is not done
+    /// Shares of the outcomes of so many positions from one on, up to the first that is not done
     /// when the reader has the turn: the serial run gives the same.
     pub fn outcomes_from<R: Wait>(
         &self,
@@ -35,7 +34,7 @@ impl<W: Work> SharedDesk<W> {
         reader: &mut Reader<W>,
         from: u32,
         most: u32,
-    ) -> Result<Items<Outcome>, OutOfMemory>
+    ) -> Result<Items<SharedOutcome>, OutOfMemory>
         requires reader { IsReaderOf self.now reader.old }
         requires within { from + most ≤ (W.job (desk_origin self.now).told).count }
         ensures reader { IsReaderOf self.now reader.new }

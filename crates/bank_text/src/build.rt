@@ -1,7 +1,7 @@
 //! The command `build`: a batch in the short form as bytes.
-use crate::answer::{Answer, INPUT_REFUSED, noted, written};
-use crate::files::{Given, file};
+use crate::files::file;
 use crate::json::refused_text;
+use command_parts::{Answer, Given, INPUT_REFUSED, noted, written};
 use snapshot_codec::{SnapshotFault, read_snapshot};
 use sol_base::{Hash32, OutOfMemory};
 use std::alloc::Global;
@@ -36,7 +36,7 @@ fn newest<R: Files + AllocGlobal>(rt: &R, path: Option<&str>) -> Result<Found, O
         None => return Ok(Found::Hash(None)),
     };
     match file(rt, path)? {
-        Given::Bytes(bytes) => newest_in(rt.alloc(), bytes.as_slice()),
+        Given::Value(bytes) => newest_in(rt.alloc(), bytes.as_slice()),
         Given::Nothing(told) => Ok(Found::Nothing(told)),
     }
 }

@@ -1,12 +1,12 @@
 //! The commands that read one input.
-use crate::answer::{Answer, DIFFERS, INPUT_REFUSED, WRITE_FAILED, noted, written};
 use crate::build::built;
 use crate::compared::compared;
-use crate::files::{Given, standard_input, write_files};
+use crate::files::{standard_input, write_files};
 use crate::json::{told_bytes, told_json};
 use crate::shape::shaped;
 use crate::why::explained;
 use block_record::{RecordFault, read_front};
+use command_parts::{Answer, DIFFERS, Given, INPUT_REFUSED, WRITE_FAILED, noted, written};
 use message_codec::Signature;
 use snapshot_codec::{SnapshotFault, read_snapshot};
 use sol_base::{Blob, Key, OutOfMemory};
@@ -33,7 +33,7 @@ pub(crate) fn answer_command<R: Files + Input + AllocGlobal>(
         return compared(rt, path_of(left), path_of(right));
     }
     let input = match standard_input(rt)? {
-        Given::Bytes(input) => input,
+        Given::Value(input) => input,
         Given::Nothing(told) => return Ok(told),
     };
     match command {

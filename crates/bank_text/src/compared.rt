@@ -1,7 +1,7 @@
 //! The command `diff`: two snapshots or two records.
-use crate::answer::{Answer, DIFFERS, INPUT_REFUSED, noted};
-use crate::files::{Given, file};
+use crate::files::file;
 use block_record::{RecordFault, read_record};
+use command_parts::{Answer, DIFFERS, Given, INPUT_REFUSED, noted};
 use snapshot_codec::{Prefix, Snapshot, SnapshotFault, read_snapshot};
 use sol_base::{Blob, OutOfMemory};
 use std::alloc::Global;
@@ -15,11 +15,11 @@ pub(crate) fn compared<R: Files + AllocGlobal>(
     right: &str,
 ) -> Result<Answer, OutOfMemory> {
     let first = match file(rt, left)? {
-        Given::Bytes(bytes) => bytes,
+        Given::Value(bytes) => bytes,
         Given::Nothing(told) => return Ok(told),
     };
     let second = match file(rt, right)? {
-        Given::Bytes(bytes) => bytes,
+        Given::Value(bytes) => bytes,
         Given::Nothing(told) => return Ok(told),
     };
     let (one, two) = (first.as_slice(), second.as_slice());

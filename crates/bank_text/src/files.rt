@@ -1,37 +1,21 @@
 //! Whole files and the whole standard input.
-use crate::answer::{Answer, INPUT_REFUSED, READ_FAILED, noted};
+use command_parts::{Given, INPUT_LIMIT, READ_FAILED, given_of, noted};
 use sol_base::{Blob, OutOfMemory};
-use sol_io::{ReadFault, StdSource, read_all};
+use sol_io::{StdSource, read_all};
 use std::io::ErrorKind;
 use std::rt::Files;
 use std::{fs, io};
 
-/// The most bytes of an input.
-const INPUT_LIMIT: usize = 536_870_912;
-
-/// An input, or the answer where there is none.
-#[derive(Drop)]
-pub(crate) enum Given {
-    Bytes(Blob),
-    Nothing(Answer),
-}
-
 /// The whole standard input.
-pub(crate) fn standard_input<R: Input + AllocGlobal>(rt: &R) -> Result<Given, OutOfMemory> {
+pub(crate) fn standard_input<R: Input + AllocGlobal>(rt: &R) -> Result<Given<Blob>, OutOfMemory> {
     let mut source = StdSource::new(rt.reader());
-    let told = match read_all(rt.alloc(), &mut source, INPUT_LIMIT) {
-        Ok(bytes) => return Ok(Given::Bytes(bytes)),
-        Err(ReadFault::TooLong) => noted(rt.alloc(), INPUT_REFUSED, "input", "TooLong")?,
-        Err(ReadFault::Failed) => noted(rt.alloc(), READ_FAILED, "input", "read failed")?,
-        Err(ReadFault::OutOfMemory) => return Err(OutOfMemory),
-    };
-    Ok(Given::Nothing(told))
+    given_of(rt.alloc(), read_all(rt.alloc(), &mut source, INPUT_LIMIT))
 }
 
 /// The whole file.
-pub(crate) fn file<R: Files + AllocGlobal>(rt: &R, path: &str) -> Result<Given, OutOfMemory> {
+pub(crate) fn file<R: Files + AllocGlobal>(rt: &R, path: &str) -> Result<Given<Blob>, OutOfMemory> {
     match fs::read(rt, path) {
-        Ok(bytes) => Ok(Given::Bytes(Blob::from_slice(rt.alloc(), bytes.as_slice())?)),
+        Ok(bytes) => Ok(Given::Value(Blob::from_slice(rt.alloc(), bytes.as_slice())?)),
         Err(e) if e.kind() == ErrorKind::OutOfMemory => Err(OutOfMemory),
         Err(_) => Ok(Given::Nothing(noted(rt.alloc(), READ_FAILED, path, "read failed")?)),
     }

@@ -1,8 +1,8 @@
 //! The commands `json` and `bytes`: bytes as JSON, and back.
-use crate::answer::{Answer, INPUT_REFUSED, READ_FAILED, noted, written};
 use crate::forms::{FormFault, Missing, bytes_of, missing_text};
 use crate::lines::line_of;
 use bank_json::{Layout, json_of_batch, json_of_image, json_of_record, json_of_snapshot};
+use command_parts::{Answer, INPUT_REFUSED, READ_FAILED, noted, written};
 use json_parts::{JsonFault, Step, Wanted};
 use json_shown::{
     json_of_batch_with_shown, json_of_record_with_shown, json_of_snapshot_with_shown,

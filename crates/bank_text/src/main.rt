@@ -2,7 +2,6 @@
 //! output to standard output or files, notes to standard error.
 #![tactic(auto)]
 
-mod answer;
 mod build;
 mod commands;
 mod compared;
@@ -16,10 +15,10 @@ mod rows;
 mod shape;
 mod why;
 
-use answer::{Answer, OUT_OF_MEMORY, WORDS_REFUSED, WRITE_FAILED, written};
+use command_parts::{Answer, OUT_OF_MEMORY, WORDS_REFUSED, status_after, written};
 use commands::answer_command;
 use sol_base::{Blob, OutOfMemory};
-use sol_io::{Sink, StdSink, WriteFault, write_all};
+use sol_io::{StdSink, write_all};
 use std::alloc::Global;
 use std::env;
 use std::io::ErrorKind;
@@ -77,15 +76,6 @@ fn answer_of<R: Files + Input + AllocGlobal>(
     }
 }
 
-/// The status after the bytes were written to a sink.
-fn written_to<O: Sink>(alloc: Global, out: &mut O, bytes: &[u8], status: u8) -> u8 {
-    match write_all(alloc, out, bytes) {
-        Ok(()) => status,
-        Err(WriteFault::Failed { written: _ }) => WRITE_FAILED,
-        Err(WriteFault::OutOfMemory { written: _ }) => OUT_OF_MEMORY,
-    }
-}
-
 fn main(rt: HostRuntime) -> ExitCode {
     let texts = match texts_of(&rt) {
         Ok(texts) => texts,
@@ -97,10 +87,16 @@ fn main(rt: HostRuntime) -> ExitCode {
         Err(OutOfMemory) => return ExitCode::from(OUT_OF_MEMORY),
     };
     let mut out = StdSink::new(rt.stdout());
-    let status = written_to(rt.alloc(), &mut out, told.output.as_slice(), told.status);
+    let status = status_after(
+        write_all(rt.alloc(), &mut out, told.output.as_slice()),
+        told.status,
+    );
     if status != told.status {
         return ExitCode::from(status);
     }
     let mut notes = StdSink::new(rt.stderr());
-    ExitCode::from(written_to(rt.alloc(), &mut notes, told.notes.as_slice(), status))
+    ExitCode::from(status_after(
+        write_all(rt.alloc(), &mut notes, told.notes.as_slice()),
+        status,
+    ))
 }

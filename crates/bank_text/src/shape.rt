@@ -2,11 +2,11 @@
 ghost use Rattle.std.specs.Prelude.{◌<◌, ◌≤◌, ◌^◌, length};
 ghost use Rattle.sol_base.specs.Limits.{max_transaction_keys};
 
-use crate::answer::{Answer, INPUT_REFUSED, WRITE_FAILED, noted, written};
 use crate::files::write_file;
 use crate::picture::picture;
 use admission::admit;
 use block_shape::{Shape, Waited, most_waited, shape_of};
+use command_parts::{Answer, INPUT_REFUSED, WRITE_FAILED, noted, written};
 use snapshot_codec::{Batch, BatchFault, Snapshot, SnapshotFault, read_batch, read_snapshot};
 use sol_base::{Blob, OutOfMemory, key_text};
 use std::alloc::Global;

@@ -1,7 +1,7 @@
 //! The command `why`: the refusal of an input as a sentence.
-use crate::answer::{Answer, INPUT_REFUSED, noted, written};
 use crate::places::{batch_field, image_end, record_field, snapshot_field};
 use block_record::{RecordFault, read_record};
+use command_parts::{Answer, INPUT_REFUSED, noted, written};
 use sbpf_verify::{VerifyFault, first_refusal, read_image};
 use snapshot_codec::{BatchFault, MAX_ACCOUNTS, SnapshotFault, read_batch, read_snapshot};
 use sol_base::{

@@ -54,22 +54,22 @@ record IsWritten (outcome : Outcome) : Type 0 where
   pub units : outcome.units < 2 ^ 64
   pub small : IsSmallOutcome outcome
 
-module _ (told : AdmittedBlock) (all : All IsChosen told.chosen) (start : State) where
-  written : (t : Chosen) → IsChosen t → (vs : List Account) → IsWritten (effects_at (in_block told) (Some t) vs).outcome
+module _ (block : AdmittedBlock) (all : All IsChosen block.chosen) (start : State) where
+  written : (t : Chosen) → IsChosen t → (vs : List Account) → IsWritten (effects_at (in_block block) (Some t) vs).outcome
   written t is vs =
-      let of : IsOutcomeOf t (transaction (in_block told) t vs).outcome = transaction_outcome (in_block told) t vs is in
+      let of : IsOutcomeOf t (transaction (in_block block) t vs).outcome = transaction_outcome (in_block block) t vs is in
       let most : t.budget.limit < 2 ^ 64 = limit_fits t.tx.message t.budget is.budgeted in
-      let used : (transaction (in_block told) t vs).outcome.units ≤ t.budget.limit = of.units in
-      record { texts = of.lines.texts; status = of.status; units = omega (arith, used, most); small = transaction_small (in_block told) t vs is }
+      let used : (transaction (in_block block) t vs).outcome.units ≤ t.budget.limit = of.units in
+      record { texts = of.lines.texts; status = of.status; units = omega (arith, used, most); small = transaction_small (in_block block) t vs is }
 
-  written_at : (i : ℕ) → i < length told.chosen → (vs : List Account) → IsWritten ((job_of told).effects i vs).outcome
-  written_at i l vs = at_position told all (λ o. IsWritten (effects_at (in_block told) o vs).outcome) (λ t is. written t is vs) i l
+  written_at : (i : ℕ) → i < length block.chosen → (vs : List Account) → IsWritten ((job_of block).effects i vs).outcome
+  written_at i l vs = at_position block all (λ o. IsWritten (effects_at (in_block block) o vs).outcome) (λ t is. written t is vs) i l
 
-  all_written : All IsWritten (serial_outcomes (job_of told) (at start))
+  all_written : All IsWritten (serial_outcomes (job_of block) (at start))
   all_written i d l =
-      let here : i < length told.chosen = omega (arith, l, length-map-range_with_len (result (job_of told) (at start)) 0 (length told.chosen)) in
-      subst IsWritten (sym (get_or-map-range_with_len (result (job_of told) (at start)) 0 (length told.chosen) i i d here (omega arith)))
-      (written_at i here (map (serial (job_of told) (at start) i) (keys (job_of told) i)))
+      let here : i < length block.chosen = omega (arith, l, length-map-range_with_len (result (job_of block) (at start)) 0 (length block.chosen)) in
+      subst IsWritten (sym (get_or-map-range_with_len (result (job_of block) (at start)) 0 (length block.chosen) i i d here (omega arith)))
+      (written_at i here (map (serial (job_of block) (at start) i) (keys (job_of block) i)))
 
 -- ---- the entries
 entries_all : (P : Entry → Type 0) (wires : List (List ℕ)) → ((t : Chosen) (o : Outcome) → IsWritten o → P (entry_of wires (t, o))) → (order : List Chosen) (os : List Outcome) → AllByRecursion IsWritten os → AllByRecursion P (entries_of wires order os)
@@ -106,8 +106,8 @@ module _ (s : Snapshot) (head : Head) (wires : List (List ℕ)) (order : List Ch
   outcomes_written : AllByRecursion IsWritten run.outcomes
   unfolding serial_run
   outcomes_written =
-      let told = told_in s head.slot order in
-      recursion_from_All IsWritten (serial_outcomes (job_of told) (at s.accounts)) (all_written told all s.accounts)
+      let block = told_in s head.slot order in
+      recursion_from_All IsWritten (serial_outcomes (job_of block) (at s.accounts)) (all_written block all s.accounts)
 
   each_entry : (P : Entry → Type 0) → ((t : Chosen) (o : Outcome) → IsWritten o → P (entry_of wires (t, o))) → All P (entries_of wires order run.outcomes)
   each_entry P each = All-from_recursion P (entries_of wires order run.outcomes) (entries_all P wires each order run.outcomes outcomes_written)

@@ -80,37 +80,37 @@ stays_settled a executable fine = by_case (a.lamports == 0) refl
     by_case false e = refl
 
 -- ---- one transaction
-module _ (told : AdmittedBlock) (t : Chosen) (is : IsChosen t) (f : Key → Account) (fine : (key : Key) → IsSettled (f key)) (key : Key) where
-  keeps : Keeps t (map f (lock_keys t.locks)) (transaction (block_of told) t (map f (lock_keys t.locks)))
-  keeps = transaction_keeps (block_of told) t (map f (lock_keys t.locks)) is
+module _ (admitted : AdmittedBlock) (t : Chosen) (is : IsChosen t) (f : Key → Account) (fine : (key : Key) → IsSettled (f key)) (key : Key) where
+  keeps : Keeps t (map f (lock_keys t.locks)) (transaction (block_of admitted) t (map f (lock_keys t.locks)))
+  keeps = transaction_keeps (block_of admitted) t (map f (lock_keys t.locks)) is
       (length-map (lock_keys t.locks) f ∙ length-map t.locks (λ (lock : Lock). lock.key) ∙ ap length is.locked ∙ lock_count t.tx.message t.loaded)
 
-  count : length (transaction (block_of told) t (map f (lock_keys t.locks))).values ≡ length t.locks
+  count : length (transaction (block_of admitted) t (map f (lock_keys t.locks))).values ≡ length t.locks
   count = keeps.count ∙ length-map (lock_keys t.locks) f ∙ length-map t.locks (λ (lock : Lock). lock.key)
 
-  by_locks : (effects_at (block_of told) (Some t) (map f (lock_keys t.locks))).written ≡ map settled (lent_for_writing t.locks (transaction (block_of told) t (map f (lock_keys t.locks))).values)
-  by_locks = ap (λ (ls : List Lock). map settled (lent_for_writing ls (transaction (block_of told) t (map f (lock_keys t.locks))).values)) (sym is.locked)
+  by_locks : (effects_at (block_of admitted) (Some t) (map f (lock_keys t.locks))).written ≡ map settled (lent_for_writing t.locks (transaction (block_of admitted) t (map f (lock_keys t.locks))).values)
+  by_locks = ap (λ (ls : List Lock). map settled (lent_for_writing ls (transaction (block_of admitted) t (map f (lock_keys t.locks))).values)) (sym is.locked)
 
-  at_place : has_key key (written_keys t.locks) ≡ true → Placed f key t.locks (transaction (block_of told) t (map f (lock_keys t.locks))).values
-  at_place has = placed f key t.locks (transaction (block_of told) t (map f (lock_keys t.locks))).values count has
+  at_place : has_key key (written_keys t.locks) ≡ true → Placed f key t.locks (transaction (block_of admitted) t (map f (lock_keys t.locks))).values
+  at_place has = placed f key t.locks (transaction (block_of admitted) t (map f (lock_keys t.locks))).values count has
 
   stays_one : has_key key (written_keys t.locks) ≡ true → (a : Account) → a.executable ≡ true
-      → (beside key (written_keys t.locks) (effects_at (block_of told) (Some t) (map f (lock_keys t.locks))).written ≡ a) ↔ (f key ≡ a)
+      → (beside key (written_keys t.locks) (effects_at (block_of admitted) (Some t) (map f (lock_keys t.locks))).written ≡ a) ↔ (f key ≡ a)
   stays_one has a executable = (to, from)
     where
-      p : Placed f key t.locks (transaction (block_of told) t (map f (lock_keys t.locks))).values
+      p : Placed f key t.locks (transaction (block_of admitted) t (map f (lock_keys t.locks))).values
       p = at_place has
 
-      is_value : beside key (written_keys t.locks) (effects_at (block_of told) (Some t) (map f (lock_keys t.locks))).written ≡ settled p.value
+      is_value : beside key (written_keys t.locks) (effects_at (block_of admitted) (Some t) (map f (lock_keys t.locks))).written ≡ settled p.value
       is_value = ap (beside key (written_keys t.locks)) by_locks ∙ p.beside_is
 
-      to : beside key (written_keys t.locks) (effects_at (block_of told) (Some t) (map f (lock_keys t.locks))).written ≡ a → f key ≡ a
+      to : beside key (written_keys t.locks) (effects_at (block_of admitted) (Some t) (map f (lock_keys t.locks))).written ≡ a → f key ≡ a
       to e =
           let v : p.value ≡ a = settled_is p.value a executable (sym is_value ∙ e) in
           let was = keeps.no_new p.place p.value p.there (ap (λ (x : Account). x.executable) v ∙ executable) in
           same_Some (f key) p.value (sym p.before ∙ was) ∙ v
 
-      from : f key ≡ a → beside key (written_keys t.locks) (effects_at (block_of told) (Some t) (map f (lock_keys t.locks))).written ≡ a
+      from : f key ≡ a → beside key (written_keys t.locks) (effects_at (block_of admitted) (Some t) (map f (lock_keys t.locks))).written ≡ a
       from e =
           let x = ap (λ (y : Account). y.executable) e ∙ executable in
           let now = keeps.programs p.place (f key) p.before x in
@@ -118,32 +118,32 @@ module _ (told : AdmittedBlock) (t : Chosen) (is : IsChosen t) (f : Key → Acco
           is_value ∙ ap settled v ∙ stays_settled (f key) x (fine key) ∙ e
 
 -- ---- the serial run
-module _ (told : AdmittedBlock) (all : All IsChosen told.chosen) (start : State) (is : IsState start) where
-  fine_run : (n : ℕ) → n ≤ length told.chosen → (key : Key) → IsSettled (serial (job_of told) (at start) n key)
+module _ (admitted : AdmittedBlock) (all : All IsChosen admitted.chosen) (start : State) (is : IsState start) where
+  fine_run : (n : ℕ) → n ≤ length admitted.chosen → (key : Key) → IsSettled (serial (job_of admitted) (at start) n key)
   fine_run n l key =
-      subst IsSettled (states_run (job_of told) start (works_are_lawful told all) is n l key)
-      (at_fits (serial_state (job_of told) start n) (serial_states (job_of told) start (works_are_lawful told all) is n l) key).1
+      subst IsSettled (states_run (job_of admitted) start (works_are_lawful admitted all) is n l key)
+      (at_fits (serial_state (job_of admitted) start n) (serial_states (job_of admitted) start (works_are_lawful admitted all) is n l) key).1
 
-  stays_next : (n : ℕ) → n < length told.chosen → (key : Key) (a : Account) → a.executable ≡ true
-      → (serial (job_of told) (at start) (suc n) key ≡ a) ↔ (serial (job_of told) (at start) n key ≡ a)
-  stays_next n l key a executable = by_case (writes (job_of told) n key) refl
+  stays_next : (n : ℕ) → n < length admitted.chosen → (key : Key) (a : Account) → a.executable ≡ true
+      → (serial (job_of admitted) (at start) (suc n) key ≡ a) ↔ (serial (job_of admitted) (at start) n key ≡ a)
+  stays_next n l key a executable = by_case (writes (job_of admitted) n key) refl
     where
       now : Key → Account
-      now = serial (job_of told) (at start) n
+      now = serial (job_of admitted) (at start) n
 
-      here : has_key key (written_keys ((job_of told).locks n)) ≡ true
-          → (beside key (write_keys (job_of told) n) (performed (job_of told) (serial (job_of told) (at start) n) n).written ≡ a) ↔ (serial (job_of told) (at start) n key ≡ a)
-      here has = at_position told all
-          (λ o. has_key key (written_keys (locks_at o)) ≡ true → (beside key (written_keys (locks_at o)) (effects_at (block_of told) o (map (serial (job_of told) (at start) n) (lock_keys (locks_at o)))).written ≡ a) ↔ (serial (job_of told) (at start) n key ≡ a))
-          (λ t fits has. stays_one told t fits (serial (job_of told) (at start) n) (fine_run n (omega (arith, l))) key has a executable) n l has
+      here : has_key key (written_keys ((job_of admitted).locks n)) ≡ true
+          → (beside key (write_keys (job_of admitted) n) (performed (job_of admitted) (serial (job_of admitted) (at start) n) n).written ≡ a) ↔ (serial (job_of admitted) (at start) n key ≡ a)
+      here has = at_position admitted all
+          (λ o. has_key key (written_keys (locks_at o)) ≡ true → (beside key (written_keys (locks_at o)) (effects_at (block_of admitted) o (map (serial (job_of admitted) (at start) n) (lock_keys (locks_at o)))).written ≡ a) ↔ (serial (job_of admitted) (at start) n key ≡ a))
+          (λ t fits has. stays_one admitted t fits (serial (job_of admitted) (at start) n) (fine_run n (omega (arith, l))) key has a executable) n l has
 
-      by_case : (b : Bool) → writes (job_of told) n key ≡ b
-          → (cond b (beside key (write_keys (job_of told) n) (performed (job_of told) (serial (job_of told) (at start) n) n).written) (serial (job_of told) (at start) n key) ≡ a) ↔ (serial (job_of told) (at start) n key ≡ a)
+      by_case : (b : Bool) → writes (job_of admitted) n key ≡ b
+          → (cond b (beside key (write_keys (job_of admitted) n) (performed (job_of admitted) (serial (job_of admitted) (at start) n) n).written) (serial (job_of admitted) (at start) n key) ≡ a) ↔ (serial (job_of admitted) (at start) n key ≡ a)
       by_case true w = here w
       by_case false w = (λ e. e, λ e. e)
 
-  stays_all : (n : ℕ) → n ≤ length told.chosen → (key : Key) (a : Account) → a.executable ≡ true
-      → (serial (job_of told) (at start) n key ≡ a) ↔ (at start key ≡ a)
+  stays_all : (n : ℕ) → n ≤ length admitted.chosen → (key : Key) (a : Account) → a.executable ≡ true
+      → (serial (job_of admitted) (at start) n key ≡ a) ↔ (at start key ≡ a)
   stays_all zero l key a executable = (λ e. e, λ e. e)
   stays_all (suc n) l key a executable =
       let one = stays_next n (omega (arith, l)) key a executable in
@@ -159,11 +159,11 @@ module _ (told : AdmittedBlock) (all : All IsChosen told.chosen) (start : State)
       by_case (Some b) h g = ap Some g
 
   -- the executable accounts of every state of the run are those of the start
-  pub executable_stay : (n : ℕ) → n ≤ length told.chosen → (key : Key) (a : Account) → a.executable ≡ true
-      → (get (serial_state (job_of told) start n) key ≡ Some a) ↔ (get start key ≡ Some a)
+  pub executable_stay : (n : ℕ) → n ≤ length admitted.chosen → (key : Key) (a : Account) → a.executable ≡ true
+      → (get (serial_state (job_of admitted) start n) key ≡ Some a) ↔ (get start key ≡ Some a)
   executable_stay n l key a executable =
-      let same = states_run (job_of told) start (works_are_lawful told all) is n l key in
+      let same = states_run (job_of admitted) start (works_are_lawful admitted all) is n l key in
       let stays = stays_all n l key a executable in (
         λ e. there_if start key a executable (stays.0 (sym same ∙ ap (λ (o : Option Account). unwrap_or o empty_account) e)),
-        λ e. there_if (serial_state (job_of told) start n) key a executable (same ∙ stays.1 (ap (λ (o : Option Account). unwrap_or o empty_account) e)),
+        λ e. there_if (serial_state (job_of admitted) start n) key a executable (same ∙ stays.1 (ap (λ (o : Option Account). unwrap_or o empty_account) e)),
       )

@@ -5,8 +5,9 @@ pub mod Sorting
 pub mod Beside
 pub mod Orders
 pub mod Closings
-pub mod Fronts
+pub mod RecordPrefixes
 pub mod Executables
 pub mod Turns
 pub mod Calls
 pub mod Conserved
+pub mod Declared

@@ -25,52 +25,58 @@ use Rattle.tx_exec.proofs.Small.{transaction_small}
 use Rattle.tx_exec.proofs.Works.{there}
 
 -- what holds of each transaction holds of its position
-pub at_position : (told : AdmittedBlock) → All IsChosen told.chosen → (P : Option Chosen → Type 0) → ((t : Chosen) → IsChosen t → P (Some t)) → (i : ℕ) → i < length told.chosen → P (slice_get told.chosen i)
-at_position told all P each i below = let x = there told.chosen i below all in subst P (sym x.1) (each x.0 x.2)
+pub at_position : (admitted : AdmittedBlock) → All IsChosen admitted.chosen → (P : Option Chosen → Type 0) → ((t : Chosen) → IsChosen t → P (Some t)) → (i : ℕ) → i < length admitted.chosen → P (slice_get admitted.chosen i)
+at_position admitted all P each i below = let x = there admitted.chosen i below all in subst P (sym x.1) (each x.0 x.2)
 
--- a transaction has at most as many locks as keys
-few_locks : (t : Chosen) → IsChosen t → length t.locks ≤ max_transaction_keys
-few_locks t is =
-    let a = ap length is.locked in
-    let b = lock_count t.tx.message t.loaded in
+-- a transaction has few keys
+pub few_keys : (t : Chosen) → IsChosen t → length (all_keys t.tx.message t.loaded) ≤ max_transaction_keys
+few_keys t is =
     let c : length (all_keys t.tx.message t.loaded) ≡ length (t.tx.message.keys ++ t.loaded.writable) + length t.loaded.readonly = length-append (t.tx.message.keys ++ t.loaded.writable) t.loaded.readonly in
     let d = length-append t.tx.message.keys t.loaded.writable in
     let e : length t.loaded.writable + length t.loaded.readonly ≡ sum_by load_count t.tx.message.lookups = is.loaded in
     let f : length t.tx.message.keys + sum_by load_count t.tx.message.lookups ≤ max_transaction_keys = is.sane.keys in
-    omega (arith, a, b, c, d, e, f)
+    omega (arith, c, d, e, f)
+
+-- and as many locks
+few_locks : (t : Chosen) → IsChosen t → length t.locks ≤ max_transaction_keys
+few_locks t is =
+    let a = ap length is.locked in
+    let b = lock_count t.tx.message t.loaded in
+    let c = few_keys t is in
+    omega (arith, a, b, c)
 
 -- what effects paid
 abbrev pub paid_in : JobEffects → ℕ
 paid_in effects = effects.outcome.base_paid + effects.outcome.priority_paid
 
 -- with the fees paid, what a transaction writes has the lamports that were lent for writing
-pays : (told : AdmittedBlock) (t : Chosen) → IsChosen t → (vs : List Account) → length vs ≡ length t.locks
-    → lamports_in (effects_at (block_of told) (Some t) vs).written + paid_in (effects_at (block_of told) (Some t) vs) ≡ lamports_in (lent_for_writing t.locks vs)
-pays told t is vs count =
-    let fits = transaction_fits (block_of told) t vs is (count ∙ ap length is.locked ∙ lock_count t.tx.message t.loaded) (count ∙ ap length is.locked) in
+pays : (admitted : AdmittedBlock) (t : Chosen) → IsChosen t → (vs : List Account) → length vs ≡ length t.locks
+    → lamports_in (effects_at (block_of admitted) (Some t) vs).written + paid_in (effects_at (block_of admitted) (Some t) vs) ≡ lamports_in (lent_for_writing t.locks vs)
+pays admitted t is vs count =
+    let fits = transaction_fits (block_of admitted) t vs is (count ∙ ap length is.locked ∙ lock_count t.tx.message t.loaded) (count ∙ ap length is.locked) in
     let a = fits.lamports in
     let b = ap (λ (ls : List Lock). lamports_in (lent_for_writing ls vs)) is.locked in
     omega (arith, a, b)
 
-module _ (told : AdmittedBlock) (all : All IsChosen told.chosen) where
-  pub locks_most : (i : ℕ) → i < length told.chosen → length ((job_of told).locks i) ≤ max_transaction_keys
-  locks_most = at_position told all (λ o. length (locks_at o) ≤ max_transaction_keys) few_locks
+module _ (admitted : AdmittedBlock) (all : All IsChosen admitted.chosen) where
+  pub locks_most : (i : ℕ) → i < length admitted.chosen → length ((job_of admitted).locks i) ≤ max_transaction_keys
+  locks_most = at_position admitted all (λ o. length (locks_at o) ≤ max_transaction_keys) few_locks
 
-  pub locks_few : (n : ℕ) → n ≤ length told.chosen → locks_before (job_of told) n ≤ max_transaction_keys * n
+  pub locks_few : (n : ℕ) → n ≤ length admitted.chosen → locks_before (job_of admitted) n ≤ max_transaction_keys * n
   locks_few zero l = omega arith
   locks_few (suc n) l =
       let here = locks_most n (omega (arith, l)) in
       let rest = locks_few n (omega (arith, l)) in
       omega (arith, here, rest)
 
-  pub position_pays : (i : ℕ) → i < length told.chosen → (vs : List Account) → length vs ≡ length ((job_of told).locks i)
-      → lamports_in ((job_of told).effects i vs).written + paid_in ((job_of told).effects i vs) ≡ lamports_in (lent_for_writing ((job_of told).locks i) vs)
-  position_pays i l vs = at_position told all
-      (λ o. length vs ≡ length (locks_at o) → lamports_in (effects_at (block_of told) o vs).written + paid_in (effects_at (block_of told) o vs) ≡ lamports_in (lent_for_writing (locks_at o) vs))
-      (λ t is. pays told t is vs) i l
+  pub position_pays : (i : ℕ) → i < length admitted.chosen → (vs : List Account) → length vs ≡ length ((job_of admitted).locks i)
+      → lamports_in ((job_of admitted).effects i vs).written + paid_in ((job_of admitted).effects i vs) ≡ lamports_in (lent_for_writing ((job_of admitted).locks i) vs)
+  position_pays i l vs = at_position admitted all
+      (λ o. length vs ≡ length (locks_at o) → lamports_in (effects_at (block_of admitted) o vs).written + paid_in (effects_at (block_of admitted) o vs) ≡ lamports_in (lent_for_writing (locks_at o) vs))
+      (λ t is. pays admitted t is vs) i l
 
-  pub position_is_small : (i : ℕ) → i < length told.chosen → (vs : List Account) → IsSmallOutcome ((job_of told).effects i vs).outcome
-  position_is_small i l vs = at_position told all (λ o. IsSmallOutcome (effects_at (block_of told) o vs).outcome) (λ t is. transaction_small (block_of told) t vs is) i l
+  pub position_is_small : (i : ℕ) → i < length admitted.chosen → (vs : List Account) → IsSmallOutcome ((job_of admitted).effects i vs).outcome
+  position_is_small i l vs = at_position admitted all (λ o. IsSmallOutcome (effects_at (block_of admitted) o vs).outcome) (λ t is. transaction_small (block_of admitted) t vs is) i l
 
 length-filter-le : {X : Type 0} (p : X → Bool) (xs : List X) → length (filter p xs) ≤ length xs
 length-filter-le p [] = omega arith
@@ -84,7 +90,7 @@ written_keys_few job i =
     omega (arith, a, b)
 
 -- the keys that transactions lock are numbered alike in every work of them
-pub numbered_alike : (told : AdmittedBlock) (order : List Chosen) (ks : List Key) (p : Positions) (room : ℕ) → told.chosen ≡ order → AreNumbered (job_of (locked_in order)) ks p room → AreNumbered (job_of told) ks p room
-numbered_alike told order ks p room same are =
+pub numbered_alike : (admitted : AdmittedBlock) (order : List Chosen) (ks : List Key) (p : Positions) (room : ℕ) → admitted.chosen ≡ order → AreNumbered (job_of (locked_in order)) ks p room → AreNumbered (job_of admitted) ks p room
+numbered_alike admitted order ks p room same are =
     let n = subst (λ (o : List Chosen). AreNumbered (job_of (locked_in o)) ks p room) (sym same) are in
     record { distinct = n.distinct; waiting = n.waiting; long = n.long; numbered = n.numbered; wide = n.wide }

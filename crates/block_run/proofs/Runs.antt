@@ -52,42 +52,42 @@ len-put_each s [] vs = omega arith
 len-put_each s (k ∷ ks) [] = omega arith
 len-put_each s (k ∷ ks) (v ∷ vs) = let a = len-put s k v in let b = len-put_each (put s k v) ks vs in omega (arith, a, b)
 
-module _ (told : AdmittedBlock) (all : All IsChosen told.chosen) (start : State) (is : IsState start) where
-  W : IsLawful (job_of told)
-  W = works_are_lawful told all
+module _ (admitted : AdmittedBlock) (all : All IsChosen admitted.chosen) (start : State) (is : IsState start) where
+  W : IsLawful (job_of admitted)
+  W = works_are_lawful admitted all
 
   -- the outcomes of the first positions
   abbrev outcomes_to : ℕ → List Outcome
-  outcomes_to n = map (result (job_of told) (at start)) (range_with_len 0 n)
+  outcomes_to n = map (result (job_of admitted) (at start)) (range_with_len 0 n)
 
-  pub len_grows : (n : ℕ) → n ≤ length told.chosen → len (serial_state (job_of told) start n) ≤ len start + max_transaction_keys * n
+  pub len_grows : (n : ℕ) → n ≤ length admitted.chosen → len (serial_state (job_of admitted) start n) ≤ len start + max_transaction_keys * n
   len_grows zero l = omega arith
   len_grows (suc n) l =
-      let s = serial_state (job_of told) start n in
-      let a = len-put_each s (write_keys (job_of told) n) (performed (job_of told) (at s) n).written in
-      let b = written_keys_few (job_of told) n in
-      let c = locks_most told all n (omega (arith, l)) in
+      let s = serial_state (job_of admitted) start n in
+      let a = len-put_each s (write_keys (job_of admitted) n) (performed (job_of admitted) (at s) n).written in
+      let b = written_keys_few (job_of admitted) n in
+      let c = locks_most admitted all n (omega (arith, l)) in
       let rest = len_grows n (omega (arith, l)) in
       omega (arith, a, b, c, rest)
 
   -- a position takes its fees out of the accounts
-  pub pays_once : (n : ℕ) → n < length told.chosen
-      → sum (serial_state (job_of told) start (suc n)) + (result (job_of told) (at start) n).base_paid + (result (job_of told) (at start) n).priority_paid ≡ sum (serial_state (job_of told) start n)
+  pub pays_once : (n : ℕ) → n < length admitted.chosen
+      → sum (serial_state (job_of admitted) start (suc n)) + (result (job_of admitted) (at start) n).base_paid + (result (job_of admitted) (at start) n).priority_paid ≡ sum (serial_state (job_of admitted) start n)
   pays_once n l =
-      let vs = map (serial (job_of told) (at start) n) (keys (job_of told) n) in
-      let a = sums_move (job_of told) start W is n l in
-      let b = position_pays told all n l vs (length-map (keys (job_of told) n) (serial (job_of told) (at start) n) ∙ length-map ((job_of told).locks n) (λ (lock : Lock). lock.key)) in
+      let vs = map (serial (job_of admitted) (at start) n) (keys (job_of admitted) n) in
+      let a = sums_move (job_of admitted) start W is n l in
+      let b = position_pays admitted all n l vs (length-map (keys (job_of admitted) n) (serial (job_of admitted) (at start) n) ∙ length-map ((job_of admitted).locks n) (λ (lock : Lock). lock.key)) in
       omega (arith, a, b)
 
-  more_paid : (paid : Outcome → ℕ) (n : ℕ) → sum_by paid (outcomes_to (suc n)) ≡ sum_by paid (outcomes_to n) + paid (result (job_of told) (at start) n)
+  more_paid : (paid : Outcome → ℕ) (n : ℕ) → sum_by paid (outcomes_to (suc n)) ≡ sum_by paid (outcomes_to n) + paid (result (job_of admitted) (at start) n)
   more_paid paid n =
       let z : 0 + n ≡ n = omega arith in
-      subst (λ m. sum_by paid (map (result (job_of told) (at start)) (range_with_len 0 m)) ≡ sum_by paid (map (result (job_of told) (at start)) (range_with_len 0 n)) + paid (result (job_of told) (at start) n)) (add-one n)
-      (sum_by-map-range_with_len_more paid (result (job_of told) (at start)) 0 n n z)
+      subst (λ m. sum_by paid (map (result (job_of admitted) (at start)) (range_with_len 0 m)) ≡ sum_by paid (map (result (job_of admitted) (at start)) (range_with_len 0 n)) + paid (result (job_of admitted) (at start) n)) (add-one n)
+      (sum_by-map-range_with_len_more paid (result (job_of admitted) (at start)) 0 n n z)
 
   -- and all of them theirs
-  pub pays_all : (n : ℕ) → n ≤ length told.chosen
-      → sum (serial_state (job_of told) start n) + base_fees (outcomes_to n) + priority_fees (outcomes_to n) ≡ sum start
+  pub pays_all : (n : ℕ) → n ≤ length admitted.chosen
+      → sum (serial_state (job_of admitted) start n) + base_fees (outcomes_to n) + priority_fees (outcomes_to n) ≡ sum start
   pays_all zero l = omega arith
   pays_all (suc n) l =
       let one = pays_once n (omega (arith, l)) in
@@ -96,23 +96,23 @@ module _ (told : AdmittedBlock) (all : All IsChosen told.chosen) (start : State)
       let p = more_paid (λ (o : Outcome). o.priority_paid) n in
       omega (arith, one, rest, b, p)
 
-  pub all_small : All IsSmallOutcome (serial_outcomes (job_of told) (at start))
+  pub all_small : All IsSmallOutcome (serial_outcomes (job_of admitted) (at start))
   all_small i d l =
-      let here : i < length told.chosen = omega (arith, l, length-map-range_with_len (result (job_of told) (at start)) 0 (length told.chosen)) in
-      subst IsSmallOutcome (sym (get_or-map-range_with_len (result (job_of told) (at start)) 0 (length told.chosen) i i d here (omega arith)))
-      (position_is_small told all i here (map (serial (job_of told) (at start) i) (keys (job_of told) i)))
+      let here : i < length admitted.chosen = omega (arith, l, length-map-range_with_len (result (job_of admitted) (at start)) 0 (length admitted.chosen)) in
+      subst IsSmallOutcome (sym (get_or-map-range_with_len (result (job_of admitted) (at start)) 0 (length admitted.chosen) i i d here (omega arith)))
+      (position_is_small admitted all i here (map (serial (job_of admitted) (at start) i) (keys (job_of admitted) i)))
 
 -- a block may end with the serial run of its transactions
 pub run_may_end : (s : Snapshot) (slot : ℕ) (wires : List (List ℕ)) (order : List Chosen) → IsReadable s → All IsChosen order → AreOf wires order → MayEnd wires order (serial_run s slot order)
 unfolding serial_run
 run_may_end s slot wires order readable all of =
-    let told = told_in s slot order in
+    let admitted = told_in s slot order in
     let n = length order in
     record {
       of = of;
-      one_each = length-map-range_with_len (result (job_of told) (at s.accounts)) 0 n;
-      small = all_small told all s.accounts readable.state;
-      state = serial_states (job_of told) s.accounts (works_are_lawful told all) readable.state n (omega arith);
-      supply = omega (arith, pays_all told all s.accounts readable.state n (omega arith), readable.state.fits);
-      room = omega (arith, len_grows told all s.accounts readable.state n (omega arith), readable.accounts, of.few);
+      one_each = length-map-range_with_len (result (job_of admitted) (at s.accounts)) 0 n;
+      small = all_small admitted all s.accounts readable.state;
+      state = serial_states (job_of admitted) s.accounts (works_are_lawful admitted all) readable.state n (omega arith);
+      supply = omega (arith, pays_all admitted all s.accounts readable.state n (omega arith), readable.state.fits);
+      room = omega (arith, len_grows admitted all s.accounts readable.state n (omega arith), readable.accounts, of.few);
     }

@@ -14,7 +14,7 @@ use Rattle.block_run.specs.declared.closing.Unsealed.{Unsealed}
 use Rattle.fee_rules.specs.Fees.{split_of}
 use Rattle.block_run.specs.BlockEnd.{Shares, base_fees, priority_fees, shares_at_end}
 use Rattle.block_run.specs.Blocks.{ascending, processed_in, unsealed}
-use Rattle.block_run.specs.Front.{IsWritten}
+use Rattle.block_run.specs.RecordPrefix.{IsWritten}
 use Rattle.block_run.specs.SerialRun.{Ran}
 
 -- how the fees were shared, as the end of a block has it

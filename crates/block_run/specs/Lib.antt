@@ -5,5 +5,6 @@ pub mod Closing
 pub mod Answers
 pub mod Activation
 pub mod Ending
-pub mod Front
+pub mod RecordPrefix
 pub mod Laws
+pub mod Crew

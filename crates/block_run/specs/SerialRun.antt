@@ -1,8 +1,9 @@
 -- The serial run of a block (Solana): its transactions one after another, in their order, over the
 -- accounts of a snapshot.
-use Rattle.std.specs.Prelude.{ℕ, Bool, List, [], length, nat_lt}
+use Rattle.std.specs.Prelude.{◌≡◌, ℕ, ◌≤◌, List, [], length}
 use Rattle.std.specs.List.{flat_map}
 use Rattle.sol_base.specs.declared.key.Key.{Key}
+use Rattle.sol_base.specs.Keys.{has_key}
 use Rattle.message_codec.specs.Roles.{all_keys}
 use Rattle.tx_report.specs.declared.outcome.Outcome.{Outcome}
 use Rattle.account_store.specs.State.{State, at}
@@ -15,13 +16,14 @@ use Rattle.bank_core.specs.Ends.{serial_outcomes}
 use Rattle.tx_exec.specs.declared.admitted.AdmittedBlock.{AdmittedBlock}
 use Rattle.tx_exec.specs.AdmittedBlock.{job_of}
 
--- a transaction has an instruction at least
-abbrev pub has_instruction : Chosen → Bool
-has_instruction t = nat_lt 0 (length t.tx.message.instructions)
-
 -- the keys that the transactions declare
 abbrev pub keys_in : List Chosen → List Key
 keys_in order = flat_map (λ t. all_keys t.tx.message t.loaded) order
+
+-- these are the keys that the transactions declare, in some order and maybe not as often
+pub record AreKeysIn (order : List Chosen) (keys : List Key) : Type 0 where
+  pub same : (key : Key) → has_key key keys ≡ has_key key (keys_in order)
+  pub fewer : length keys ≤ length (keys_in order)
 
 -- the transactions as a work, with the programs that the snapshot has under their keys
 abbrev pub told_in : Snapshot → ℕ → List Chosen → AdmittedBlock

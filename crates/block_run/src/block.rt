@@ -1,11 +1,11 @@
 use admission::{Chosen, Refused};
+use bank_core::SharedOutcome;
 use block_record::Block;
 use message_codec::Parsed;
 use snapshot_codec::{Batch, Snapshot};
 use sol_base::{Blob, Hash32, Items, Key, Limits};
 use status_cache::Recent;
 use tx_exec::TxWork;
-use tx_report::Outcome;
 
 /// The slot of a block, and who collects what is not burned of its fees.
 #[derive(Clone, Copy, PartialEq, Eq)]
@@ -82,5 +82,5 @@ pub struct Recorded {
 pub struct Spent {
     pub(crate) batch: Batch,
     pub(crate) work: TxWork,
-    pub(crate) outcomes: Items<Outcome>,
+    pub(crate) outcomes: Items<SharedOutcome>,
 }

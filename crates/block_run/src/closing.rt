@@ -13,19 +13,19 @@ ghost use Rattle.block_run.specs.BlockEnd.{base_fees, priority_fees};
 ghost use Rattle.block_run.specs.Blocks.{ascending, closed_with, processed_in, sealed};
 ghost use Rattle.block_run.specs.Closing.{IsEndOf, IsUnsealed};
 ghost use Rattle.block_run.specs.Ending.{AreOf, MayEnd, joined_of, ran_of};
-ghost use Rattle.block_run.specs.Front.{IsBegun, IsWritten};
+ghost use Rattle.block_run.specs.RecordPrefix.{IsBegun, IsWritten};
 
 use crate::activation::activate_all;
 use crate::block::{Chain, Closed, ClosedRecord, RecordParts};
 use crate::crew::Crew;
 use crate::entries::entries_of;
 use crate::fees::{Shared, share_split, split_paid};
-use crate::front::{Begun, take_rest};
 use crate::names::{ascending, processed_in};
+use crate::record_prefix::{RecordPrefix, take_rest};
 use crate::threads::call_both;
 use account_store::Accounts;
 use admission::Chosen;
-use bank_core::Ended;
+use bank_core::{Ended, SharedOutcome};
 use bank_lanes::Gate;
 use block_record::{Block, end_hash, end_record};
 use fee_rules::FeeSplit;
@@ -36,7 +36,6 @@ use status_cache::Mark;
 use std::alloc::Global;
 use std::thread::Threads;
 use tx_exec::TxWork;
-use tx_report::Outcome;
 
 /// The accounts after a block with their hash, and the lamports burned and paid.
 #[derive(Drop)]
@@ -80,7 +79,7 @@ fn end_state_of_run(
     collector: &Key,
     order: &[Chosen],
     ended: Ended<TxWork>,
-    outcomes: &Items<Outcome>,
+    outcomes: &Items<SharedOutcome>,
 ) -> Result<(EndState, Items<Hash32>), OutOfMemory>
     requires one_each { length outcomes.now ≡ length order.now }
     requires supply { sum (joined_of ended.origin.value) + base_fees outcomes.now
@@ -104,7 +103,7 @@ fn end_state_of_run(
 pub(crate) struct Ends {
     end: EndState,
     names: Items<Hash32>,
-    front: Begun,
+    front: RecordPrefix,
 }
 
 /// Ends a block whose transactions have these outcomes: the fees are shared, then programs become
@@ -114,8 +113,8 @@ fn end_block<G: Gate, R: Threads + Sync>(
     crew: &Crew<'_, G, R>,
     parts: RecordParts<'_>,
     ended: Ended<TxWork>,
-    outcomes: &Items<Outcome>,
-    begun: Begun,
+    outcomes: &Items<SharedOutcome>,
+    begun: RecordPrefix,
 ) -> Result<Ends, OutOfMemory>
     requires run { MayEnd parts.wires.now parts.order.now
         (ran_of ended.origin.value outcomes.now) }
@@ -149,7 +148,7 @@ fn end_block<G: Gate, R: Threads + Sync>(
             ensures names { IfOk result (λ end.
                 end.1 ≡ ascending (processed_in order.entry.now outcomes.entry.now)) }
         { end_state_of_run(alloc, &head.collector, order, ended, outcomes) },
-        move || -> Result<Begun, OutOfMemory>
+        move || -> Result<RecordPrefix, OutOfMemory>
             requires { AreOf wires.now order.now × (length outcomes.now ≡ length order.now)
                 × All IsSmallOutcome outcomes.now × IsBegun (record {
                   head = head;
@@ -197,8 +196,8 @@ pub(crate) struct Unsealed {
 fn list_entries(
     alloc: Global,
     parts: RecordParts<'_>,
-    outcomes: Items<Outcome>,
-    front: Begun,
+    outcomes: Items<SharedOutcome>,
+    front: RecordPrefix,
 ) -> Result<Unsealed, OutOfMemory>
     requires of { AreOf parts.wires.now parts.order.now }
     requires one_each { length outcomes ≡ length parts.order.now }
@@ -272,8 +271,8 @@ pub(crate) fn close<G: Gate, R: Threads + Sync>(
     chain: Chain,
     parts: RecordParts<'_>,
     ended: Ended<TxWork>,
-    outcomes: Items<Outcome>,
-    begun: Begun,
+    outcomes: Items<SharedOutcome>,
+    begun: RecordPrefix,
 ) -> Result<Closed, OutOfMemory>
     requires limits { AreAllowed chain.limits }
     requires messages { All (λ mark. length mark.messages ≤ max_transactions)
@@ -307,8 +306,8 @@ pub(crate) fn close_record<G: Gate, R: Threads + Sync>(
     chain: Chain,
     parts: RecordParts<'_>,
     ended: Ended<TxWork>,
-    outcomes: &Items<Outcome>,
-    begun: Begun,
+    outcomes: &Items<SharedOutcome>,
+    begun: RecordPrefix,
 ) -> Result<ClosedRecord, OutOfMemory>
     requires limits { AreAllowed chain.limits }
     requires messages { All (λ mark. length mark.messages ≤ max_transactions)

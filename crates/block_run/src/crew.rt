@@ -1,7 +1,9 @@
 //! What runs a block.
-ghost use Rattle.std.specs.Prelude.{◌≡◌, ◌≤◌, if◌then◌else◌, max, min, nat_lt};
+ghost use Rattle.std.specs.Prelude.{◌≡◌, ◌≤◌, filter, if◌then◌else◌, length, max, min, nat_lt};
 ghost use Rattle.sol_base.specs.Limits.{max_lanes};
+ghost use Rattle.block_run.specs.Crew.{has_instruction};
 
+use admission::Chosen;
 use std::alloc::Global;
 
 /// How many transactions a block has at least before whose run, and after it, a thread is started:
@@ -42,4 +44,24 @@ impl<'a, G, R> Crew<'a, G, R> {
             self.lanes
         }
     }
+}
+
+/// Whether a transaction has an instruction.
+fn has_instruction(chosen: &Chosen) -> bool
+    ensures { result ≡ has_instruction chosen.now }
+{
+    !chosen.tx.message.instructions.is_empty()
+}
+
+/// How many of the transactions have an instruction: one without any is no work for a lane.
+pub(crate) fn working_in(order: &[Chosen]) -> usize
+    ensures { result ≡ length (filter has_instruction order.now) }
+{
+    let mut working = 0;
+    for chosen in order {
+        if has_instruction(chosen) {
+            working += 1;
+        }
+    }
+    working
 }

@@ -7,13 +7,19 @@ ghost use Rattle.tx_exec.specs.TransactionLaws.{IsSmallOutcome};
 ghost use Rattle.block_run.specs.Blocks.{entries_of, entry_of};
 
 use admission::Chosen;
+use bank_core::SharedOutcome;
 use block_record::{Entry, EntryParts, write_parts};
 use sol_base::{Blob, Items, OutOfMemory};
 use std::alloc::Global;
 use tx_report::Outcome;
 
 /// A transaction as it came, with its outcome.
-fn entry_of(wires: &[Blob], chosen: &Chosen, outcome: Outcome) -> Result<Entry, OutOfMemory>
+fn entry_of(
+    alloc: Global,
+    wires: &[Blob],
+    chosen: &Chosen,
+    outcome: SharedOutcome,
+) -> Result<Entry, OutOfMemory>
     requires below { chosen.now.position < length wires.now }
     requires fee { outcome.base_paid + outcome.priority_paid < 2 ^ 64 }
     ensures { IfOk result (λ entry. entry ≡ entry_of wires.now (chosen.now, outcome)) }
@@ -24,7 +30,7 @@ fn entry_of(wires: &[Blob], chosen: &Chosen, outcome: Outcome) -> Result<Entry, 
         base_paid,
         priority_paid,
         lines,
-    } = outcome;
+    } = outcome.into_outcome(alloc)?;
     Ok(Entry {
         wire: wires[chosen.position as usize].try_copy()?,
         status,
@@ -39,7 +45,7 @@ pub(crate) fn entries_of(
     alloc: Global,
     wires: &[Blob],
     order: &[Chosen],
-    outcomes: Items<Outcome>,
+    outcomes: Items<SharedOutcome>,
 ) -> Result<Items<Entry>, OutOfMemory>
     requires one_each { length outcomes ≡ length order.now }
     requires below { All (λ chosen. chosen.position < length wires.now) order.now }
@@ -50,7 +56,7 @@ pub(crate) fn entries_of(
     let mut entries = Items::with_capacity(alloc, order.len())?;
     for outcome in outcomes.into_vec() {
         let chosen = &order[entries.len()];
-        entries.push(entry_of(wires, chosen, outcome)?)?;
+        entries.push(entry_of(alloc, wires, chosen, outcome)?)?;
     }
     Ok(entries)
 }
@@ -82,7 +88,7 @@ pub(crate) fn write_entries(
     out: &mut Blob,
     wires: &[Blob],
     order: &[Chosen],
-    outcomes: &[Outcome],
+    outcomes: &[SharedOutcome],
 ) -> Result<(), OutOfMemory>
     requires one_each { length outcomes.now ≡ length order.now }
     requires of { All (IsOf wires.now) order.now }
@@ -91,7 +97,7 @@ pub(crate) fn write_entries(
         ≡ out.old ++ flat_map entry_bytes (entries_of wires.now order.now outcomes.now)) }
 {
     for (at, chosen) in order.iter().enumerate() {
-        write_entry(out, wires, chosen, &outcomes[at])?;
+        write_entry(out, wires, chosen, outcomes[at].value())?;
     }
     Ok(())
 }

@@ -5,13 +5,13 @@ ghost use Rattle.fee_rules.specs.Fees.{split_of};
 ghost use Rattle.block_run.specs.BlockEnd.{base_fees, priority_fees, may_collect, more, share};
 
 use account_store::Accounts;
+use bank_core::SharedOutcome;
 use fee_rules::{FeeSplit, split_fees};
 use message_codec::reserved;
 use rent_rules::minimum;
 use sol_base::{Account, Key, OutOfMemory, SYSTEM_PROGRAM};
 use std::alloc::Global;
 use std::sync::Arc;
-use tx_report::Outcome;
 
 /// How the fees of a block were shared: the accounts then, and the lamports burned and paid.
 #[derive(Drop)]
@@ -23,13 +23,14 @@ pub(crate) struct Shared {
 
 /// The fees that were paid, split (Solana; the rounding is the project's own). They are summed
 /// once.
-pub(crate) fn split_paid(outcomes: &[Outcome]) -> FeeSplit
+pub(crate) fn split_paid(outcomes: &[SharedOutcome]) -> FeeSplit
     requires { base_fees outcomes.now + priority_fees outcomes.now < 2 ^ 64 }
     ensures { result ≡ split_of (base_fees outcomes.now) (priority_fees outcomes.now) }
 {
     let mut base = 0;
     let mut priority = 0;
-    for outcome in outcomes {
+    for share in outcomes {
+        let outcome = share.value();
         base += outcome.base_paid;
         priority += outcome.priority_paid;
     }

@@ -7,12 +7,12 @@ ghost use Rattle.bank_lanes.specs.Passes.{IsIdle};
 ghost use Rattle.bank_shared.specs.Face.{desk_origin, IsPassOf, IsReaderOf, view_of};
 ghost use Rattle.tx_exec.specs.TransactionLaws.{IsSmallOutcome};
 ghost use Rattle.block_run.specs.Ending.{AreOf};
-ghost use Rattle.block_run.specs.Front.{IsBegun};
+ghost use Rattle.block_run.specs.RecordPrefix.{IsBegun};
 
 use crate::block::RecordParts;
 use crate::crew::Crew;
-use crate::front::{Begun, begin, read_front};
-use bank_core::{Core, Ended, Take, Work};
+use crate::record_prefix::{RecordPrefix, begin, read_prefix};
+use bank_core::{Core, Ended, SharedOutcome, Take, Work};
 use bank_lanes::{Gate, run_lanes};
 use bank_shared::{Pass, SharedDesk};
 use sol_base::{Items, OutOfMemory};
@@ -21,7 +21,6 @@ use std::sync::Wait;
 use std::sync::atomic::AtomicBool;
 use std::sync::atomic::Ordering::SeqCst;
 use std::thread::{Threads, join};
-use tx_report::Outcome;
 
 /// Takes, passes the gate, performs and commits on the one lane of a core, until all positions are
 /// done. Where the work finds no memory the loan goes back, and the run ends.
@@ -59,7 +58,7 @@ fn run_beside<W: Work + Sync, G: Gate, R: Threads + Wait + Sync>(
     work: &W,
     parts: RecordParts<'_>,
 ) -> (
-    Result<Begun, OutOfMemory>,
+    Result<RecordPrefix, OutOfMemory>,
     (Result<(), OutOfMemory>, Pass<W>),
 )
     requires told { (desk_origin desk.now).told ≡ W.told work.now }
@@ -82,7 +81,7 @@ fn run_beside<W: Work + Sync, G: Gate, R: Threads + Wait + Sync>(
     let reader = desk.reader(&mut pass);
     join(
         rt,
-        move || -> Result<Begun, OutOfMemory>
+        move || -> Result<RecordPrefix, OutOfMemory>
             requires { IsReaderOf desk.now reader
                 × AreOf parts.wires.now parts.order.now
                 × (length parts.order.now
@@ -90,7 +89,7 @@ fn run_beside<W: Work + Sync, G: Gate, R: Threads + Wait + Sync>(
                 × All IsSmallOutcome (outcomes_at_end W.job (desk_origin desk.now)) }
             ensures { IfOk result (IsBegun parts.entry
                 (outcomes_at_end W.job (desk_origin desk.entry.now))) }
-        { read_front(rt, alloc, desk, reader, ended, parts) },
+        { read_prefix(rt, alloc, desk, reader, ended, parts) },
         move || -> (Result<(), OutOfMemory>, Pass<W>)
             requires { ((desk_origin desk.now).told ≡ W.told work.now)
                 × IsPassOf desk.now pass × IsIdle (view_of pass) }
@@ -132,7 +131,7 @@ fn run_shared<W: Work + Sync, G: Gate, R: Threads + Wait + Sync>(
     core: Core<W>,
     work: &W,
     parts: RecordParts<'_>,
-) -> Result<(Core<W>, Begun), OutOfMemory>
+) -> Result<(Core<W>, RecordPrefix), OutOfMemory>
     requires told { core.origin.value.told ≡ W.told work.now }
     requires journal { core.journal.items ≡ [] }
     requires of { AreOf parts.wires.now parts.order.now }
@@ -158,7 +157,7 @@ pub(crate) fn run_work<W: Work + Sync, G: Gate, R: Threads + Wait + Sync>(
     mut core: Core<W>,
     work: &W,
     parts: RecordParts<'_>,
-) -> Result<(Ended<W>, Items<Outcome>, Begun), OutOfMemory>
+) -> Result<(Ended<W>, Items<SharedOutcome>, RecordPrefix), OutOfMemory>
     requires told { core.origin.value.told ≡ W.told work.now }
     requires journal { core.journal.items ≡ [] }
     requires of { AreOf parts.wires.now parts.order.now }

@@ -9,11 +9,11 @@ mod closing;
 mod crew;
 mod entries;
 mod fees;
-mod front;
 mod lanes;
 mod laws;
 mod names;
 mod order;
+mod record_prefix;
 mod run;
 mod threads;
 

@@ -3,10 +3,11 @@ ghost use Rattle.std.specs.Prelude.{◌≡◌, IfOk, length};
 ghost use Rattle.block_run.specs.Blocks.{ascending, processed_by, processed_in};
 
 use admission::Chosen;
+use bank_core::SharedOutcome;
 use sol_base::{Hash32, Items, OutOfMemory};
 use std::alloc::Global;
 use std::collections::BTreeSet;
-use tx_report::{Outcome, Status};
+use tx_report::Status;
 
 /// The name, unless the transaction was dropped.
 fn processed_by(name: Hash32, status: &Status) -> Option<Hash32>
@@ -22,14 +23,14 @@ fn processed_by(name: Hash32, status: &Status) -> Option<Hash32>
 pub(crate) fn processed_in(
     alloc: Global,
     order: &[Chosen],
-    outcomes: &[Outcome],
+    outcomes: &[SharedOutcome],
 ) -> Result<Vec<Hash32>, OutOfMemory>
     requires { length outcomes.now ≡ length order.now }
     ensures { IfOk result (λ names. names.items ≡ processed_in order.now outcomes.now) }
 {
-    let mut names = Vec::new(alloc);
+    let mut names = Vec::with_capacity(alloc, order.len())?;
     for (at, chosen) in order.iter().enumerate() {
-        if let Some(name) = processed_by(chosen.name, &outcomes[at].status) {
+        if let Some(name) = processed_by(chosen.name, &outcomes[at].value().status) {
             names.push(name)?;
         }
     }

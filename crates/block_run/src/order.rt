@@ -1,5 +1,5 @@
 //! Transactions in their order, as a work with the programs that they may call.
-ghost use Rattle.std.specs.Prelude.{◌≡◌, ◌<◌, ◌≤◌, ◌++◌, All, IfOk, OnOk, filter, length, slice_get};
+ghost use Rattle.std.specs.Prelude.{◌≡◌, ◌<◌, ◌≤◌, ◌++◌, All, IfOk, OnOk, length, slice_get};
 ghost use Rattle.sol_base.specs.Limits.{max_stack_height, max_transactions};
 ghost use Rattle.message_codec.specs.Roles.{all_keys};
 ghost use Rattle.snapshot_codec.specs.Snapshot.{IsUpTo};
@@ -7,13 +7,13 @@ ghost use Rattle.admission.specs.Chosen.{IsChosen};
 ghost use Rattle.program_cache.specs.Programs.{programs_of};
 ghost use Rattle.bank_core.specs.Openings.{AreNumbered};
 ghost use Rattle.tx_exec.specs.AdmittedBlock.{job_of, locks_at};
-ghost use Rattle.block_run.specs.SerialRun.{has_instruction, keys_in, locked_in, told_in};
+ghost use Rattle.block_run.specs.SerialRun.{AreKeysIn, keys_in, locked_in, told_in};
 
 use crate::crew::Crew;
 use crate::threads::call_both;
-use account_store::Accounts;
+use account_store::{Accounts, sort_keys};
 use admission::Chosen;
-use bank_core::{Locked, Numbered, number};
+use bank_core::{Locked, Numbered, number_among};
 use bank_lanes::Gate;
 use message_codec::{Loaded, Message};
 use program_cache::Programs;
@@ -33,34 +33,32 @@ fn push_keys(keys: &mut Vec<Key>, message: &Message, loaded: &Loaded) -> Result<
     Ok(())
 }
 
-/// Whether a transaction has an instruction.
-fn has_instruction(chosen: &Chosen) -> bool
-    ensures { result ≡ has_instruction chosen.now }
-{
-    !chosen.tx.message.instructions.is_empty()
-}
-
-/// How many of the transactions have an instruction: one without any is no work for a lane.
-pub(crate) fn working_in(order: &[Chosen]) -> usize
-    ensures { result ≡ length (filter has_instruction order.now) }
-{
-    let mut working = 0;
+/// How many locks the transactions have: room for their keys.
+fn lock_count(order: &[Chosen]) -> usize {
+    let mut count: usize = 0;
     for chosen in order {
-        if has_instruction(chosen) {
-            working += 1;
-        }
+        count = count.saturating_add(chosen.locks.len());
     }
-    working
+    count
 }
 
 /// The keys that the transactions declare.
-fn keys_in(alloc: Global, order: &[Chosen]) -> Result<Items<Key>, OutOfMemory>
-    ensures { IfOk result (λ keys. keys ≡ keys_in order.now) }
+fn keys_in(alloc: Global, order: &[Chosen]) -> Result<Vec<Key>, OutOfMemory>
+    ensures { IfOk result (λ keys. keys.items ≡ keys_in order.now) }
 {
-    let mut keys = Vec::new(alloc);
+    let mut keys = Vec::with_capacity(alloc, lock_count(order))?;
     for chosen in order {
         push_keys(&mut keys, &chosen.tx.message, &chosen.loaded)?;
     }
+    Ok(keys)
+}
+
+/// The same in ascending order, each once.
+fn sorted_keys_in(alloc: Global, order: &[Chosen]) -> Result<Items<Key>, OutOfMemory>
+    ensures { IfOk result (AreKeysIn order.now) }
+{
+    let mut keys = keys_in(alloc, order)?;
+    sort_keys(&mut keys);
     Ok(Items::from_vec(keys))
 }
 
@@ -94,30 +92,22 @@ fn locks_at(order: &[Chosen], position: u32) -> &LockList
     &order[position as usize].locks
 }
 
-/// The programs that the accounts have under the keys of the transactions.
-fn programs_in(
-    alloc: Global,
-    accounts: &Accounts,
-    order: &[Chosen],
-) -> Result<Programs, OutOfMemory>
-    ensures { IfOk result (λ programs. programs ≡ programs_of accounts.now (keys_in order.now)) }
-{
-    let keys = keys_in(alloc, order)?;
-    Programs::from_accounts(alloc, accounts, &keys)
-}
-
-/// The keys that the transactions lock, as numbers.
-fn numbered_in(alloc: Global, order: &[Chosen]) -> Result<Numbered, OutOfMemory>
+/// The keys that the transactions lock, as numbers. They are among those that the transactions
+/// declare.
+fn numbered_in(alloc: Global, order: &[Chosen], keys: &Items<Key>) -> Result<Numbered, OutOfMemory>
     requires few { length order.now ≤ max_transactions }
     requires chosen { All IsChosen order.now }
+    requires keys { AreKeysIn order.now keys.now }
     ensures { IfOk result (λ n.
         AreNumbered (job_of (locked_in order.now)) n.table n.graph n.room) }
 {
-    number(alloc, &InOrder { order })
+    let mut known = Vec::with_capacity(alloc, keys.len())?;
+    known.extend_from_slice(keys.as_slice())?;
+    number_among(alloc, &InOrder { order }, known)
 }
 
-/// The programs among the keys of the transactions, and the keys that they lock as numbers. Where
-/// there are several lanes, one is made beside the other.
+/// The programs among the keys of the transactions, and the keys that they lock as numbers. The
+/// keys are sorted once for both. Where there are several lanes, one is made beside the other.
 fn prepare<G: Gate, R: Threads + Sync>(
     crew: &Crew<'_, G, R>,
     accounts: &Accounts,
@@ -131,18 +121,21 @@ fn prepare<G: Gate, R: Threads + Sync>(
         AreNumbered (job_of (locked_in order.now)) made.1.table made.1.graph made.1.room) }
 {
     let alloc = crew.alloc;
+    let sorted = sorted_keys_in(alloc, order)?;
+    let keys = &sorted;
     let (numbered, programs) = call_both(
         crew.rt,
         crew.lanes_for_many(order.len()),
         || -> Result<Numbered, OutOfMemory>
-            requires { (length order.now ≤ max_transactions) × All IsChosen order.now }
+            requires { (length order.now ≤ max_transactions) × All IsChosen order.now
+                × AreKeysIn order.now keys.now }
             ensures { IfOk result (λ n.
                 AreNumbered (job_of (locked_in order.entry.now)) n.table n.graph n.room) }
-        { numbered_in(alloc, order) },
+        { numbered_in(alloc, order, keys) },
         || -> Result<Programs, OutOfMemory>
             ensures { IfOk result (λ programs.
-                programs ≡ programs_of accounts.entry.now (keys_in order.entry.now)) }
-        { programs_in(alloc, accounts, order) },
+                programs ≡ programs_of accounts.entry.now keys.entry.now) }
+        { Programs::from_accounts(alloc, accounts, keys) },
     );
     Ok((programs?, numbered?))
 }

@@ -16,9 +16,9 @@ use crate::block::{
     BlockResult, Chain, Closed, ClosedRecord, Decoded, Head, RecordParts, Recorded, Spent,
 };
 use crate::closing::{close, close_record};
-use crate::crew::Crew;
+use crate::crew::{Crew, working_in};
 use crate::lanes::run_work;
-use crate::order::{work_of, working_in};
+use crate::order::work_of;
 use admission::{Admitted, Chosen, Refused, admit, admit_listed};
 use bank_core::Core;
 use bank_lanes::Gate;

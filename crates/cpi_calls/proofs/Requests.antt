@@ -15,9 +15,9 @@ use Rattle.cpi_calls.specs.declared.request.Call.{Call}
 use Rattle.cpi_calls.specs.declared.request.KeyMeta.{KeyMeta}
 use Rattle.cpi_calls.specs.declared.request.CallRequest.{CallRequest}
 use Rattle.cpi_calls.specs.declared.fault.CallFault.{CallFault}
-use Rattle.cpi_calls.specs.declared.fault.CallFault.TheVariants.{AccessViolation, UnitsSpent, TooManyAccounts, DataTooLong}
+use Rattle.cpi_calls.specs.declared.fault.CallFault.TheVariants.{UnitsSpent, TooManyAccounts, DataTooLong}
 use Rattle.cpi_calls.specs.Limits.{max_metas, max_call_data, call_cost, bytes_of_unit}
-use Rattle.cpi_calls.specs.Reads.{bytes_read, metas_read, signers_read}
+use Rattle.cpi_calls.specs.Reads.{bytes_read, violated_by, metas_read, signers_read}
 use Rattle.cpi_calls.specs.Calls.{Requested, IsSmallRequest, refused, after_cost, header_read, lists_read, limited, by_header, request_of}
 
 -- a refusal, or a request of a size that is allowed
@@ -33,11 +33,11 @@ abbrev AtMost : ℕ → Result (List ℕ) CallFault → Type 0
 AtMost len (Ok bytes) = length bytes ≤ len
 AtMost len (Err fault) = Unit {0}
 
-place-most : (m : Ranges) (addr len : ℕ) (place : Option Place) → AtMost len (refused_as AccessViolation (bytes_at m addr len place))
+place-most : (m : Ranges) (addr len : ℕ) (place : Option Place) → AtMost len (refused_as violated_by (bytes_at m addr len place))
 place-most m addr len None = tt
 place-most m addr len (Some place) = omega (arith, length-take len (drop place.at (range_bytes m place.region)))
 
-none-most : (len : ℕ) (none : Bool) (r : Result (List ℕ) Violation) → AtMost len (refused_as AccessViolation r) → AtMost len (refused_as AccessViolation (if none then Ok [] else r))
+none-most : (len : ℕ) (none : Bool) (r : Result (List ℕ) Violation) → AtMost len (refused_as violated_by r) → AtMost len (refused_as violated_by (if none then Ok [] else r))
 none-most len true r most = omega arith
 none-most len false r most = most
 

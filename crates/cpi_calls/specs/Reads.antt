@@ -8,6 +8,7 @@ use Rattle.sol_base.specs.declared.derived.SeedsFault.{SeedsFault}
 use Rattle.sol_base.specs.DerivedKeys.{max_seed_len, max_seeds, program_key_of}
 use Rattle.sbpf_memory.specs.Memory.{Ranges}
 use Rattle.sbpf_memory.specs.Reads.{bytes_or}
+use Rattle.sbpf_memory.specs.declared.fault.AccessViolation.{AccessViolation as Violation}
 use Rattle.cpi_calls.specs.Limits.{max_signers}
 use Rattle.cpi_calls.specs.declared.request.KeyMeta.{KeyMeta}
 use Rattle.cpi_calls.specs.declared.request.Call.{Call}
@@ -19,9 +20,13 @@ abbrev pub is_call_memory : CallFault → Bool
 is_call_memory no_memory = true
 is_call_memory _ = false
 
+-- an access that is refused
+abbrev pub violated_by : Violation → CallFault
+violated_by violation = AccessViolation violation
+
 -- the bytes of a range of addresses
 abbrev pub bytes_read : Ranges → ℕ → ℕ → Result (List ℕ) CallFault
-bytes_read m addr len = bytes_or AccessViolation m addr len
+bytes_read m addr len = bytes_or violated_by m addr len
 
 -- the bytes of a call, and of each item of a list
 abbrev pub call_len : ℕ

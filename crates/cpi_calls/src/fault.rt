@@ -1,6 +1,6 @@
 //! The refusals of requests and of rights.
 use compute_meter::UnitsFault;
-use sbpf_memory::ReadFault;
+use sbpf_memory::{AccessViolation, ReadFault};
 use sol_base::OutOfMemory;
 use std::alloc::AllocError;
 use thiserror::Error;
@@ -8,8 +8,8 @@ use thiserror::Error;
 /// Why the request of a cross-program call is refused.
 #[derive(Clone, Copy, Debug, PartialEq, Eq, Error)]
 pub enum CallFault {
-    #[error("an access is refused")]
-    AccessViolation,
+    #[error("{0}")]
+    AccessViolation(AccessViolation),
     #[error("there are more than 255 metas")]
     TooManyAccounts,
     #[error("the data are more than 10,240 bytes")]
@@ -49,15 +49,14 @@ impl From<AllocError> for CallFault {
 }
 
 impl ReadFault for CallFault {
-    ghost use Rattle.cpi_calls.specs.declared.fault.CallFault.TheVariants.{AccessViolation as refused};
-    ghost use Rattle.cpi_calls.specs.Reads.{is_call_memory};
+    ghost use Rattle.cpi_calls.specs.Reads.{is_call_memory, violated_by};
 
-    ghost violation = { refused };
+    ghost violated = { violated_by };
 
     ghost is_memory = { is_call_memory };
 
-    fn access_violation() -> CallFault {
-        CallFault::AccessViolation
+    fn access_violation(violation: AccessViolation) -> CallFault {
+        CallFault::AccessViolation(violation)
     }
 
     fn out_of_memory() -> CallFault {

@@ -11,4 +11,5 @@ pub mod Traces
 pub mod Buffers
 pub mod GrownLogs
 pub mod Refused
+pub mod Stops
 pub mod Foreign

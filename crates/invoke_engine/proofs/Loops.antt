@@ -1,5 +1,5 @@
 -- The loop over the frames: each step keeps the ending of the outermost.
-use Rattle.std.proofs.Common.{◌≡◌, ◌≤◌, ◌<◌, ◌+◌, ◌*◌, ◌∷◌, [], ℕ, List, length, Result, Ok, Err, refl, ap, sym, subst, ◌∙◌, arith}
+use Rattle.std.proofs.Common.{◌≡◌, ◌≤◌, ◌<◌, ◌+◌, ◌*◌, ◌∷◌, [], ℕ, List, length, None, Result, Ok, Err, refl, ap, sym, subst, ◌∙◌, arith}
 use Rattle.std.specs.Prelude.{IfOk}
 use Rattle.sol_base.specs.declared.account.Account.{Account}
 use Rattle.sol_base.specs.Metas.{AreInRange}
@@ -185,7 +185,7 @@ first_ending s stack call accounts units c next none begins =
     subst (λ (gs : List Running). begun s (programs_of gs) call accounts units c ≡ next → ending_in s gs next ≡ frame s [] call accounts units c) (sym none)
     (λ (k : begun s [] call accounts units c ≡ next). ap (after [] (go s)) (sym k)) begins
 
-pub carried_first : (trace : ℕ) (kept : List ℕ) (log given : Log) → kept ≡ [] → log ≡ given → (let c : Carried = record { trace = trace; returned = kept; keeper = SYSTEM_PROGRAM; log = log } in c) ≡ nothing_returned trace given
+pub carried_first : (trace : ℕ) (kept : List ℕ) (log given : Log) → kept ≡ [] → log ≡ given → (let c : Carried = record { trace = trace; returned = kept; keeper = SYSTEM_PROGRAM; log = log; stopped_at = None } in c) ≡ nothing_returned trace given
 carried_first trace kept log given h k = rw (h, k) refl
 
 -- what a run answers, by the code's own first values

@@ -101,7 +101,7 @@ fault_fits (Machine.BadCallTarget value) = lit< tt
 
 sys_fits : (fault : SysFault) → Fits (by_sys fault)
 sys_fits Sys.Abort = lit< tt
-sys_fits Sys.AccessViolation = lit< tt
+sys_fits (Sys.AccessViolation access) = lit< tt
 sys_fits Sys.Overlap = lit< tt
 sys_fits Sys.UnitsSpent = lit< tt
 sys_fits Sys.TooManySeeds = lit< tt
@@ -111,7 +111,7 @@ sys_fits Sys.TooManySlices = lit< tt
 sys_fits Sys.OutOfMemory = tt
 
 call_fits : (fault : CallFault) → Fits (by_call fault)
-call_fits Call.AccessViolation = lit< tt
+call_fits (Call.AccessViolation access) = lit< tt
 call_fits Call.TooManyAccounts = lit< tt
 call_fits Call.DataTooLong = lit< tt
 call_fits Call.TooManySigners = lit< tt

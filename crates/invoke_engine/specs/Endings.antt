@@ -1,10 +1,11 @@
 -- How frames end: with their last lines, and an error with the height of the frame that failed.
-use Rattle.std.specs.Prelude.{ℕ, ◌-◌, List, Result, Ok, Err}
+use Rattle.std.specs.Prelude.{ℕ, ◌-◌, List, Option, Some, Result, Ok, Err}
 use Rattle.sol_base.specs.declared.key.Key.{Key}
 use Rattle.sol_base.specs.declared.account.Account.{Account}
 use Rattle.tx_report.specs.LogLines.{with_line}
 use Rattle.tx_report.specs.declared.cause.Cause.TheVariants.{Abort}
 use Rattle.tx_report.specs.declared.status.InstructionError.{InstructionError}
+use Rattle.invoke_engine.specs.declared.call.StoppedAt.{StoppedAt}
 use Rattle.invoke_engine.specs.declared.stopped.Stopped.{Stopped}
 use Rattle.invoke_engine.specs.declared.stopped.Stopped.TheVariants.{Refused, OutOfMemory as no_memory}
 use Rattle.invoke_engine.specs.Lines.{consumed_line, last_line}
@@ -35,6 +36,16 @@ abbrev pub closed : Key → ℕ → ℕ → Carried → Result (List Account) In
 closed program had units c result =
     ending_of program units (say (consumed_line program (had - units) had) c) result
 
+-- Where the program of a frame stopped, by its own accounts or its own refusal: the instruction
+-- that its machine stands at, and the access that was refused, if that is why.
+abbrev pub stop_of : Running → Option StoppedAt → Result (List Account) Stopped → Option StoppedAt
+stop_of f earlier (Ok accounts) = earlier
+stop_of f earlier (Err no_memory) = earlier
+stop_of f earlier (Err (Refused reason)) =
+    Some (record { program = f.program; slot = f.machine.place; access = reason.access })
+
 -- the end of a frame that ran, by its own accounts or its own refusal
 abbrev pub closes : List Key → Running → ℕ → Carried → Result (List Account) Stopped → Ending
-closes outer f units c result = closed f.program f.had units c (or_error (height outer) result)
+closes outer f units c result =
+    closed f.program f.had units (record c { stopped_at = stop_of f c.stopped_at result })
+    (or_error (height outer) result)

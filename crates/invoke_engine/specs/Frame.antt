@@ -1,6 +1,6 @@
 -- One frame with the frames that it calls, and a top instruction (Solana; the causes of failures
 -- are the project's own).
-use Rattle.std.specs.Prelude.{ℕ, zero, suc, nat_le, List, [], ◌∷◌, Err, if◌then◌else◌}
+use Rattle.std.specs.Prelude.{ℕ, zero, suc, nat_le, List, [], ◌∷◌, None, Err, if◌then◌else◌}
 use Rattle.sol_base.specs.declared.key.Key.{Key}
 use Rattle.sol_base.specs.declared.key.TheConstants.{SYSTEM_PROGRAM}
 use Rattle.sol_base.specs.declared.account.Account.{Account}
@@ -47,7 +47,13 @@ frame s outer call accounts units c = after outer (go s) (begun s outer call acc
 
 abbrev pub nothing_returned : ℕ → Log → Carried
 nothing_returned trace log =
-    record { trace = trace; returned = []; keeper = SYSTEM_PROGRAM; log = log }
+    record {
+      trace = trace;
+      returned = [];
+      keeper = SYSTEM_PROGRAM;
+      log = log;
+      stopped_at = None;
+    }
 
 -- a top instruction: the 65th of a transaction is not started, and has no line
 abbrev pub instruction : Fixed → Call → List Account → ℕ → ℕ → Log → Ending

@@ -1,6 +1,6 @@
 -- What frames are made of: a frame runs one program with a list of accounts, and may call other
 -- programs, each in a frame of its own (Solana).
-use Rattle.std.specs.Prelude.{ℕ, ◌+◌, List, length, Result}
+use Rattle.std.specs.Prelude.{ℕ, ◌+◌, List, length, Option, Result}
 use Rattle.sol_base.specs.declared.key.Key.{Key}
 use Rattle.sol_base.specs.declared.account.Account.{Account}
 use Rattle.sol_base.specs.declared.lock.Meta.{Meta}
@@ -10,6 +10,7 @@ use Rattle.sbpf_machine.specs.Steps.{State}
 use Rattle.program_cache.specs.Programs.{Sought}
 use Rattle.invoke_engine.specs.declared.call.Call.{Call}
 use Rattle.invoke_engine.specs.declared.call.Setting.{Setting}
+use Rattle.invoke_engine.specs.declared.call.StoppedAt.{StoppedAt}
 use Rattle.invoke_engine.specs.declared.stop.TheConstants.{MAX_TRACE}
 
 -- what is fixed beside the frames of a transaction: what is found under the key of a program, the
@@ -20,12 +21,13 @@ pub record Fixed : Type 0 where
   pub keys : List Key
 
 -- what frames hand on to each other beside accounts and units: the number of started instructions,
--- the returned bytes with their keeper, and the log
+-- the returned bytes with their keeper, the log, and where the program stopped that failed first
 pub record Carried : Type 0 where
   pub trace : ℕ
   pub returned : List ℕ
   pub keeper : Key
   pub log : Log
+  pub stopped_at : Option StoppedAt
 
 -- A frame of a program in its middle: its list, the accounts at its start, those at its start or at
 -- the last return of a callee, the units at its start, and its machine.

@@ -16,4 +16,5 @@ pub mod Programs
 pub mod Conditions
 pub mod FrameLoop
 pub mod FrameLaws
+pub mod Stops
 pub mod Views

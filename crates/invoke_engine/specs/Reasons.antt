@@ -1,9 +1,11 @@
 -- Why a frame fails, by what the definitions below refuse.
-use Rattle.std.specs.Prelude.{◌≡◌, ℕ, Result, Ok, Err}
+use Rattle.std.specs.Prelude.{◌≡◌, ℕ, Some, None, Result, Ok, Err}
 use Rattle.account_rules.specs.declared.rules.RuleFault.{RuleFault}
 use Rattle.account_rules.specs.declared.rules.RuleFault.TheVariants as Rule
 use Rattle.tx_report.specs.declared.cause.Cause.{Cause}
 use Rattle.tx_report.specs.declared.cause.Cause.TheVariants as Causes
+use Rattle.sbpf_memory.specs.Memory.{violation_of}
+use Rattle.sbpf_memory.specs.declared.fault.AccessViolation.{AccessViolation}
 use Rattle.sbpf_machine.specs.declared.stop.Fault.{Fault}
 use Rattle.sbpf_machine.specs.declared.stop.Fault.TheVariants as Machine
 use Rattle.sys_calls.specs.declared.fault.SysFault.{SysFault}
@@ -20,25 +22,38 @@ use Rattle.system_prog.specs.declared.fault.SystemFault.{SystemFault}
 use Rattle.system_prog.specs.declared.fault.SystemFault.TheVariants as System
 use Rattle.loader_prog.specs.declared.fault.LoaderFault.{LoaderFault}
 use Rattle.loader_prog.specs.declared.fault.LoaderFault.TheVariants as Loader
+use Rattle.invoke_engine.specs.declared.stopped.Reason.{Reason}
 use Rattle.invoke_engine.specs.declared.stopped.Stopped.{Stopped}
 use Rattle.invoke_engine.specs.declared.stopped.Stopped.TheVariants.{Refused, OutOfMemory as no_memory}
 
+-- a cause with its detail, where no access was refused
+abbrev pub reason : Cause → ℕ → Reason
+reason cause detail = record { cause = cause; detail = detail; access = None }
+
 abbrev pub at : Cause → ℕ → Stopped
-at cause i = Refused (record { cause = cause; detail = i })
+at cause i = Refused (reason cause i)
 
 abbrev pub plainly : Cause → Stopped
 plainly cause = at cause 0
 
+-- an access that is refused
+abbrev pub violated : AccessViolation → Stopped
+violated access = Refused (record {
+  cause = Causes.AccessViolation;
+  detail = 0;
+  access = Some access;
+})
+
 abbrev pub by_fault : Fault → Stopped
 by_fault Machine.UnitsSpent = plainly Causes.UnitsSpent
 by_fault Machine.DivideByZero = plainly Causes.DivideByZero
-by_fault (Machine.AccessViolation addr len write) = plainly Causes.AccessViolation
+by_fault (Machine.AccessViolation addr len write) = violated (violation_of addr len write)
 by_fault Machine.CallDepth = plainly Causes.CallDepth
 by_fault (Machine.BadCallTarget value) = plainly Causes.BadCallTarget
 
 abbrev pub by_sys : SysFault → Stopped
 by_sys Sys.Abort = plainly Causes.Abort
-by_sys Sys.AccessViolation = plainly Causes.AccessViolation
+by_sys (Sys.AccessViolation access) = violated access
 by_sys Sys.Overlap = plainly Causes.Overlap
 by_sys Sys.UnitsSpent = plainly Causes.UnitsSpent
 by_sys Sys.TooManySeeds = plainly Causes.TooManySeeds
@@ -48,7 +63,7 @@ by_sys Sys.TooManySlices = plainly Causes.TooManySlices
 by_sys Sys.OutOfMemory = no_memory
 
 abbrev pub by_call : CallFault → Stopped
-by_call Calls.AccessViolation = plainly Causes.AccessViolation
+by_call (Calls.AccessViolation access) = violated access
 by_call Calls.TooManyAccounts = plainly Causes.TooManyAccounts
 by_call Calls.DataTooLong = plainly Causes.DataTooLong
 by_call Calls.TooManySigners = plainly Causes.TooManySigners

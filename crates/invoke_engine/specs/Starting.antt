@@ -93,12 +93,7 @@ entering s outer key call accounts units c =
 -- a started instruction: one more is counted, nothing is returned yet, and its first line stands
 abbrev pub started : Key → ℕ → Carried → Carried
 started key height c =
-    record {
-      trace = c.trace + 1;
-      returned = [];
-      keeper = c.keeper;
-      log = with_line c.log (invoke_line key height);
-    }
+    record c { trace = c.trace + 1; returned = []; log = with_line c.log (invoke_line key height) }
 
 -- a frame at its start, with the frames of these programs around it
 unfoldable pub begun : Fixed → List Key → Call → List Account → ℕ → Carried → Next

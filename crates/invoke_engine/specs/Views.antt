@@ -96,10 +96,12 @@ PatchesAs wanted accounts f g (Ok _) =
 PatchesAs wanted accounts f g (Err no_memory) = Unit {0}
 PatchesAs wanted accounts f g (Err (Refused reason)) =
     (refuse by_length wanted ≡ Err (Refused reason)) × (g.program ≡ f.program) × (g.had ≡ f.had)
+    × (g.machine.place ≡ f.machine.place)
 
--- what an instruction did is the ending, with its log
+-- what an instruction did is the ending, with its log and where the program stopped that failed
 pub record IsRun (e : Ending) (ran : Ran) (log : Log) : Type 0 where
   pub units : ran.units ≡ e.units
   pub trace : ran.trace ≡ e.carried.trace
   pub ended : result_as ran.ended ≡ e.result
   pub lines : log ≡ e.carried.log
+  pub stopped : ran.stopped_at ≡ e.carried.stopped_at

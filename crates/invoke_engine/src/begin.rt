@@ -139,10 +139,7 @@ fn native(
 {
     let alloc = context.alloc;
     if invocation.units < NATIVE_UNITS {
-        let spent = Reason {
-            cause: Cause::UnitsSpent,
-            detail: 0,
-        };
+        let spent = Reason::plainly(Cause::UnitsSpent);
         return refuse(alloc, outer, program, 0, carrier, spent);
     }
     let left = invocation.units - NATIVE_UNITS;
@@ -225,10 +222,7 @@ fn crowded(
         ≡ Starting.crowded (sought context.now.programs) program.now (programs_of outer.now) units
         carrier.old) }
 {
-    let reason = Reason {
-        cause: Cause::TooManyAccounts,
-        detail: 0,
-    };
+    let reason = Reason::plainly(Cause::TooManyAccounts);
     let key = program.key();
     if !is_native(&key) && is_ready(context, &key) {
         let error = InstructionError {
@@ -273,18 +267,9 @@ fn enter(
             let frame = first_frame(context, key, image, invocation)?;
             return Ok(Next::Runs(frame));
         }
-        Found::NotFound | Found::NotProgram => Reason {
-            cause: Cause::UnknownProgram,
-            detail: 0,
-        },
-        Found::Bad => Reason {
-            cause: Cause::BadImage,
-            detail: 0,
-        },
-        Found::Unverified(fault) => Reason {
-            cause: Cause::Unverified,
-            detail: u32::from(fault.number()),
-        },
+        Found::NotFound | Found::NotProgram => Reason::plainly(Cause::UnknownProgram),
+        Found::Bad => Reason::plainly(Cause::BadImage),
+        Found::Unverified(fault) => Reason::with(Cause::Unverified, u32::from(fault.number())),
     };
     Ok(Next::Done(refuse(context.alloc, outer, program, units, carrier, reason)?))
 }

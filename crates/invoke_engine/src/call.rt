@@ -1,6 +1,7 @@
 //! A call of a program, and what comes of it.
 
-use sol_base::{Account, Blob, Items, Meta};
+use sbpf_memory::AccessViolation;
+use sol_base::{Account, Blob, Items, Key, Meta};
 use std::sync::Arc;
 use tx_report::InstructionError;
 
@@ -30,6 +31,16 @@ pub enum Ended {
     Failed(InstructionError),
 }
 
+/// Where a program stopped that failed.
+#[derive(Clone, Copy, PartialEq, Eq)]
+pub struct StoppedAt {
+    pub program: Key,
+    /// The place of the instruction in the program's text, in slots of 8 bytes.
+    pub slot: u32,
+    /// The access that was refused, where that is why it failed.
+    pub access: Option<AccessViolation>,
+}
+
 /// What an instruction did.
 #[derive(Drop)]
 pub struct Ran {
@@ -38,4 +49,7 @@ pub struct Ran {
     /// The instructions started in the transaction.
     pub trace: u8,
     pub ended: Ended,
+    /// Where the program stopped that failed first. There is none where the instruction ended well,
+    /// and where no machine stopped: a native program failed, or one that did not start.
+    pub stopped_at: Option<StoppedAt>,
 }

@@ -1,13 +1,15 @@
 //! What frames hand on to each other.
 
+use crate::call::StoppedAt;
 use std::marker::Model;
 use sys_calls::Env;
 
-/// The instructions started, and the surroundings of system calls, which hold the log and the
-/// returned bytes.
+/// The instructions started, where the program stopped that failed first, and the surroundings of
+/// system calls, which hold the log and the returned bytes.
 #[derive(Drop)]
 pub struct Carrier {
     pub trace: u8,
+    pub stopped_at: Option<StoppedAt>,
     pub env: Env,
 }
 
@@ -21,5 +23,6 @@ impl Model for Carrier {
       returned = c.env.returned;
       keeper = c.env.returned_by;
       log = c.env.logs;
+      stopped_at = c.stopped_at;
     } };
 }

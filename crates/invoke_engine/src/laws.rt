@@ -15,6 +15,7 @@ ghost use Rattle.invoke_engine.specs.FrameLaws.{AreListed, EndingKeeps, SameFoun
 ghost use Rattle.invoke_engine.specs.Frame.{Fixed, Carried, Running, Ending, Callee, Runs, Done, GoesOn, Calls, Leaves, frame, go, turn, within, begun, returned, after, instruction};
 ghost use Rattle.invoke_engine.specs.Programs.{programs_of_frame, programs_of_instruction};
 ghost use Rattle.invoke_engine.specs.Starting.{key_at};
+ghost use Rattle.invoke_engine.specs.Stops.{TellsStop};
 ghost use Rattle.invoke_engine.specs.Suspended.{programs_of, rest};
 ghost use Rattle.invoke_engine.specs.Views.{fixed};
 ghost use Rattle.invoke_engine.specs.Frames.{max_trace};
@@ -165,4 +166,11 @@ pub fn errors_fit_their_fields()
     ensures detail { (s : Fixed) (call : CallValue) (accounts : List AccountValue) (units trace : ℕ)
         (log : Log) → IfErr (instruction s call accounts units trace log).result
         (λ error. error.detail < 2 ^ 32) }
+{}
+
+/// A law: an instruction that ends well tells of no stop, and one that fails tells of an access
+/// exactly where the refusal of that access is the cause.
+pub fn stops_are_told()
+    ensures stop { (s : Fixed) (call : CallValue) (accounts : List AccountValue) (units trace : ℕ)
+        (log : Log) → TellsStop (instruction s call accounts units trace log) }
 {}

@@ -1,6 +1,7 @@
 //! Instructions: the loop over the frames.
 ghost use Rattle.std.specs.Prelude.{◌≡◌, ◌<◌, ◌≤◌, None, [], length, IfOk};
 ghost use Rattle.sol_base.specs.Accounts.{accounts_of};
+ghost use Rattle.sol_base.specs.Limits.{max_stack_height};
 ghost use Rattle.cpi_calls.specs.Limits.{max_keys};
 ghost use Rattle.program_cache.specs.Programs.{sought};
 ghost use Rattle.invoke_engine.specs.FrameLoop.{Works, Stands, Steps, ending_in};
@@ -13,7 +14,7 @@ ghost use Rattle.invoke_engine.specs.Suspended.{programs_of};
 ghost use Rattle.invoke_engine.specs.Views.{fixed, ending_as, next_as, work_as, IsRun};
 
 use crate::begin::{Next, begin};
-use crate::call::{Call, Ended, Ran, Setting};
+use crate::call::{Call, Ended, Ran, Setting, StoppedAt};
 use crate::carrier::Carrier;
 use crate::context::{Context, Invocation};
 use crate::ending::{Callee, Ending};
@@ -68,7 +69,7 @@ fn advance(
     carrier: &mut Carrier,
 ) -> Result<Next, OutOfMemory>
     requires keys { length context.now.keys ≤ max_keys }
-    requires most { context.now.setting.height ≤ 9 }
+    requires most { context.now.setting.height ≤ max_stack_height }
     requires stands { Stands (fixed_in context.now) stack.old (Spec.Runs frame carrier.old) }
     ensures { IfOk result (λ next. Steps (fixed_in context.now) stack.old (Spec.Runs frame carrier.old)
         stack.new (next_as next carrier.new)) }
@@ -99,7 +100,7 @@ fn drive(
     carrier: &mut Carrier,
 ) -> Result<Ending, OutOfMemory>
     requires keys { length context.now.keys ≤ max_keys }
-    requires most { context.now.setting.height ≤ 9 }
+    requires most { context.now.setting.height ≤ max_stack_height }
     requires stands { Stands (fixed_in context.now) stack.old (next_as first carrier.old) }
     ensures { IfOk result (λ e. ending_as e carrier.new
         ≡ ending_in (fixed_in context.now) stack.old (next_as first carrier.old)) }
@@ -123,7 +124,7 @@ fn run_frame(
     carrier: &mut Carrier,
 ) -> Result<Ending, OutOfMemory>
     requires keys { length context.now.keys ≤ max_keys }
-    requires height { (1 ≤ context.now.setting.height) × (context.now.setting.height ≤ 9) }
+    requires height { (1 ≤ context.now.setting.height) × (context.now.setting.height ≤ max_stack_height) }
     requires call { IsCall (length context.now.keys) invocation.call }
     requires accounts { AreAccountsOf (length context.now.keys) invocation.accounts }
     requires trace { carrier.old.trace < max_trace }
@@ -137,14 +138,16 @@ fn run_frame(
 }
 
 /// What an instruction did that ended so.
-fn ran_of(ending: Ending, trace: u8) -> Ran
-    ensures { (c : Carried) → c.trace ≡ trace → IsRun (ending_as ending c) result c.log }
+fn ran_of(ending: Ending, trace: u8, stopped_at: Option<StoppedAt>) -> Ran
+    ensures { (c : Carried) → c.trace ≡ trace → c.stopped_at ≡ stopped_at
+        → IsRun (ending_as ending c) result c.log }
 {
     let Ending { units, ended } = ending;
     Ran {
         units,
         trace,
         ended,
+        stopped_at,
     }
 }
 
@@ -156,7 +159,7 @@ fn run_started(
     logs: &mut Logs,
 ) -> Result<Ran, OutOfMemory>
     requires keys { length context.now.keys ≤ max_keys }
-    requires height { (1 ≤ context.now.setting.height) × (context.now.setting.height ≤ 9) }
+    requires height { (1 ≤ context.now.setting.height) × (context.now.setting.height ≤ max_stack_height) }
     requires call { IsCall (length context.now.keys) invocation.call }
     requires accounts { AreAccountsOf (length context.now.keys) invocation.accounts }
     requires trace { trace < max_trace }
@@ -167,6 +170,7 @@ fn run_started(
 {
     let mut carrier = Carrier {
         trace,
+        stopped_at: None,
         env: Env {
             slot: context.setting.slot,
             program: SYSTEM_PROGRAM,
@@ -178,10 +182,14 @@ fn run_started(
         },
     };
     let answer = run_frame(context, invocation, &mut carrier);
-    let Carrier { trace, env } = carrier;
+    let Carrier {
+        trace,
+        stopped_at,
+        env,
+    } = carrier;
     let Env { logs: lines, .. } = env;
     *logs = lines;
-    Ok(ran_of(answer?, trace))
+    Ok(ran_of(answer?, trace, stopped_at))
 }
 
 /// What `run_instruction` does, for one who hands the accounts over and lends the lists of the call.
@@ -192,7 +200,7 @@ pub fn run_invocation(
     logs: &mut Logs,
 ) -> Result<Ran, OutOfMemory>
     requires keys { length context.now.keys ≤ max_keys }
-    requires height { (1 ≤ context.now.setting.height) × (context.now.setting.height ≤ 9) }
+    requires height { (1 ≤ context.now.setting.height) × (context.now.setting.height ≤ max_stack_height) }
     requires call { IsCall (length context.now.keys) invocation.call }
     requires accounts { AreAccountsOf (length context.now.keys) invocation.accounts }
     ensures { IfOk result (λ ran. IsRun
@@ -209,6 +217,7 @@ pub fn run_invocation(
                 detail: 0,
                 height: 1,
             }),
+            stopped_at: None,
         });
     }
     run_started(context, invocation, trace, logs)
@@ -230,7 +239,7 @@ pub fn run_instruction(
     logs: &mut Logs,
 ) -> Result<Ran, OutOfMemory>
     requires keys { length keys.now ≤ max_keys }
-    requires height { (1 ≤ setting.now.height) × (setting.now.height ≤ 9) }
+    requires height { (1 ≤ setting.now.height) × (setting.now.height ≤ max_stack_height) }
     requires call { IsCall (length keys.now) call.now }
     requires accounts { AreAccountsOf (length keys.now) (accounts_of accounts.now) }
     ensures { IfOk result (λ ran. IsRun

@@ -1,22 +1,52 @@
 //! Why a frame fails, by what the crates below refuse.
 ghost use Rattle.std.specs.Prelude.{◌≡◌};
 ghost use Rattle.invoke_engine.specs.Reasons as Reasons;
+ghost use Rattle.invoke_engine.specs.declared.stopped.Stopped.TheVariants.{Refused};
 
 use abi_input::{BackFault, PatchFault};
 use account_rules::RuleFault;
 use cpi_calls::{CallFault, RightsFault};
 use loader_prog::LoaderFault;
-use sbpf_machine::Fault;
+use sbpf_memory::AccessViolation;
 use sol_base::OutOfMemory;
 use sys_calls::SysFault;
 use system_prog::SystemFault;
 use tx_report::Cause;
 
-/// A cause with its detail.
+/// A cause with its detail, and the access that was refused, where that is the cause.
 #[derive(Clone, Copy)]
 pub struct Reason {
     pub cause: Cause,
     pub detail: u32,
+    pub access: Option<AccessViolation>,
+}
+
+impl Reason {
+    pub fn with(cause: Cause, detail: u32) -> Reason
+        ensures { result ≡ Reasons.reason cause detail }
+    {
+        Reason {
+            cause,
+            detail,
+            access: None,
+        }
+    }
+
+    pub fn plainly(cause: Cause) -> Reason
+        ensures { result ≡ Reasons.reason cause 0 }
+    {
+        Reason::with(cause, 0)
+    }
+
+    pub fn violated(access: AccessViolation) -> Reason
+        ensures { Refused result ≡ Reasons.violated access }
+    {
+        Reason {
+            cause: Cause::AccessViolation,
+            detail: 0,
+            access: Some(access),
+        }
+    }
 }
 
 /// Why a frame does not go on.
@@ -53,7 +83,13 @@ impl Stopped {
     pub fn with(cause: Cause, detail: u32) -> Stopped
         ensures { result ≡ Reasons.at cause detail }
     {
-        Stopped::Refused(Reason { cause, detail })
+        Stopped::Refused(Reason::with(cause, detail))
+    }
+
+    pub fn violated(access: AccessViolation) -> Stopped
+        ensures { result ≡ Reasons.violated access }
+    {
+        Stopped::Refused(Reason::violated(access))
     }
 }
 
@@ -65,7 +101,7 @@ impl From<CallFault> for Stopped {
 
     fn from(fault: CallFault) -> Stopped {
         match fault {
-            CallFault::AccessViolation => Stopped::plainly(Cause::AccessViolation),
+            CallFault::AccessViolation(access) => Stopped::violated(access),
             CallFault::TooManyAccounts => Stopped::plainly(Cause::TooManyAccounts),
             CallFault::DataTooLong => Stopped::plainly(Cause::DataTooLong),
             CallFault::TooManySigners => Stopped::plainly(Cause::TooManySigners),
@@ -148,7 +184,7 @@ impl From<SysFault> for Stopped {
     fn from(fault: SysFault) -> Stopped {
         match fault {
             SysFault::Abort => Stopped::plainly(Cause::Abort),
-            SysFault::AccessViolation => Stopped::plainly(Cause::AccessViolation),
+            SysFault::AccessViolation(access) => Stopped::violated(access),
             SysFault::Overlap => Stopped::plainly(Cause::Overlap),
             SysFault::UnitsSpent => Stopped::plainly(Cause::UnitsSpent),
             SysFault::TooManySeeds => Stopped::plainly(Cause::TooManySeeds),

@@ -18,7 +18,7 @@ ghost use Rattle.invoke_engine.specs.Turns as Turns;
 ghost use Rattle.invoke_engine.specs.Views.{ending_as, turn_as, ServesAs};
 ghost use Rattle.invoke_engine.specs.declared.stopped.Stopped.TheVariants.{Refused};
 
-use crate::call::Ended;
+use crate::call::{Ended, StoppedAt};
 use crate::carrier::Carrier;
 use crate::context::Context;
 use crate::ending::{Callee, Ending};
@@ -29,6 +29,7 @@ use crate::stop::{called, left};
 use crate::stopped::{Reason, Stopped};
 use sbpf_isa::INVOKE_CALL;
 use sbpf_machine::{Fault, Stop};
+use sbpf_memory::AccessViolation;
 use sol_base::OutOfMemory;
 use std::alloc::Global;
 use sys_calls::{Env, serve};
@@ -69,6 +70,11 @@ pub(crate) fn fail(
         detail: reason.detail,
         height: height_in(outer),
     };
+    carrier.stopped_at = Some(StoppedAt {
+        program: frame.program,
+        slot: frame.machine.place(),
+        access: reason.access,
+    });
     let program = NamedProgram::of(frame.program);
     close(
         alloc,
@@ -116,14 +122,15 @@ fn leave(
 fn reason_of(fault: Fault) -> Reason
     ensures { by_fault fault ≡ Refused result }
 {
-    let cause = match fault {
-        Fault::UnitsSpent => Cause::UnitsSpent,
-        Fault::DivideByZero => Cause::DivideByZero,
-        Fault::AccessViolation { .. } => Cause::AccessViolation,
-        Fault::CallDepth => Cause::CallDepth,
-        Fault::BadCallTarget { .. } => Cause::BadCallTarget,
-    };
-    Reason { cause, detail: 0 }
+    match fault {
+        Fault::UnitsSpent => Reason::plainly(Cause::UnitsSpent),
+        Fault::DivideByZero => Reason::plainly(Cause::DivideByZero),
+        Fault::AccessViolation { addr, len, write } => {
+            Reason::violated(AccessViolation { addr, len, write })
+        }
+        Fault::CallDepth => Reason::plainly(Cause::CallDepth),
+        Fault::BadCallTarget { .. } => Reason::plainly(Cause::BadCallTarget),
+    }
 }
 
 /// Serves the system call that the frame's machine stands at.

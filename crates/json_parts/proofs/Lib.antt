@@ -1,5 +1,5 @@
 pub mod Within
-pub mod Items
+mod Items
 pub mod Lists
 pub mod Members
 pub mod Again

@@ -6,6 +6,7 @@ use Rattle.std.specs.Arc.{arc_value}
 use Rattle.spec_base.specs.Faults.{Rose}
 use Rattle.spec_base.specs.Reading.{◌>>=◌, Gives}
 use Rattle.snapshot_codec.specs.declared.snapshot.Snapshot.{Snapshot}
+use Rattle.spec_base.proofs.Binding.{bind_ok, ok_same}
 use Rattle.ledger_folder.specs.declared.event.Event.{Event}
 use Rattle.ledger_folder.specs.declared.name.Name.{Name}
 use Rattle.ledger_folder.specs.declared.name.Name.TheVariants.{State, Changes}
@@ -20,10 +21,12 @@ use Rattle.ledger_store.specs.declared.watching.Opening.{Opening}
 use Rattle.ledger_store.specs.Faults.{LedgerCounts, found_or, is_failed, is_free, is_ledger_memory}
 use Rattle.ledger_store.specs.Seal.{body_of, is_sealed, seal_at, unsealed}
 use Rattle.ledger_store.specs.States.{state_from, state_in, whole_state}
-use Rattle.ledger_store.specs.Changes.{changes_from, next_of}
+use Rattle.ledger_store.specs.declared.changes.Changes.{Changes as Changed}
+use Rattle.ledger_store.specs.Changes.{changes_from, next_of, whole_changes}
+use Rattle.ledger_store.specs.Ahead.{files_of, found_in, stepped_by, told_by, walked_by}
 use Rattle.ledger_store.specs.Opening.{full_before, full_state, slot_after, slots_behind, state_after, stepped, walked}
 use Rattle.ledger_store.specs.Reading.{IsOpen, Tells, TellsListed, heading}
-use Rattle.ledger_store.specs.Watching.{IsOpening, changed, finished, first_unsealed, refusal, settled, told_unless, unsealed_fault}
+use Rattle.ledger_store.specs.Watching.{IsOpening, finished, first_unsealed, refusal, settled, told_unless, unsealed_fault}
 use Rattle.ledger_store.proofs.Telling.{err_so, err_then, freer, is_open, ok_so}
 
 -- ---- the first of several
@@ -93,17 +96,6 @@ unless_gives None told answer h = h
 unless_gives {X = X} (Some fault) told answer h = same_refusal {X = X} (is_free fault) (Err fault)
 
 -- ---- a file that was read and is looked at
-pub tells_watched : {X : Type 0} (files later : List Watched) (file : Watched) (old new : List Event) (bytes : List ℕ) (read : Disk → Result (List ℕ) LedgerFault) (told : Result X LedgerFault)
-    (answer : Disk → Result X LedgerFault) → Tells old new (Ok bytes) read → later ≡ files ++ file ∷ []
-    → ((disk : Disk) → read disk ≡ Ok bytes → Gives is_free (λ x. x) (told_unless (unsealed_fault file) told) (answer disk))
-    → Tells old new (settled later told) (λ disk. settled files (answer disk))
-tells_watched {X = X} files later file old new bytes read told answer h pushed so disk shows =
-    let t = h disk shows in
-    let here = unless_gives (first_unsealed files) (told_unless (unsealed_fault file) told) (answer disk) (so disk t.1) in (
-      t.0,
-      subst (λ (r : Result X LedgerFault). Gives is_free (λ (x : X). x) r (settled files (answer disk))) (sym (ap (λ (l : List Watched). settled l told) pushed ∙ settled_push files file told)) here,
-    )
-
 -- the full state
 sealed_state : (slot : ℕ) (bytes : List ℕ) (seal : Bool) → is_sealed bytes ≡ seal
     → state_from slot bytes ≡ told_unless (if seal then None else Some (Damaged (State slot) (seal_at bytes))) (whole_state slot (unsealed bytes))
@@ -111,37 +103,71 @@ unfolding state_from body_of
 sealed_state slot bytes true e = rw e refl
 sealed_state slot bytes false e = rw e refl
 
-pub watched_state : (file : Watched) (slot : ℕ) (bytes : List ℕ) (told : Result Snapshot LedgerFault) (disk : Disk) → file.name ≡ State slot → arc_value file.bytes ≡ bytes
-    → Gives is_ledger_memory (λ s. s) told (whole_state slot (unsealed bytes)) → found_or (Missing (State slot)) (disk (State slot)) ≡ Ok bytes
-    → Gives is_free (λ s. s) (told_unless (unsealed_fault file) told) (state_in slot (disk (State slot)))
-watched_state file slot bytes told disk name holds gives read =
+pub watched_state : (file : Watched) (slot : ℕ) (bytes : List ℕ) (told : Result Snapshot LedgerFault) → file.name ≡ State slot → arc_value file.bytes ≡ bytes
+    → Gives is_ledger_memory (λ s. s) told (whole_state slot (unsealed bytes)) → Gives is_free (λ s. s) (told_unless (unsealed_fault file) told) (state_from slot bytes)
+watched_state file slot bytes told name holds gives =
     let first : Option LedgerFault = if is_sealed bytes then None else Some (Damaged (State slot) (seal_at bytes)) in
     let own : unsealed_fault file ≡ first =
     ap (λ (l : List ℕ). if is_sealed l then None else Some (Damaged file.name (seal_at l))) holds ∙ ap (λ (n : Name). if is_sealed bytes then None else Some (Damaged n (seal_at bytes))) name in
-    let whole : state_in slot (disk (State slot)) ≡ told_unless first (whole_state slot (unsealed bytes)) = ap (λ (r : Result (List ℕ) LedgerFault). r >>= state_from slot) read ∙ sealed_state slot bytes (is_sealed bytes) refl in
-    subst (λ (o : Option LedgerFault). Gives is_free (λ (s : Snapshot). s) (told_unless o told) (state_in slot (disk (State slot)))) (sym own)
-    (subst (λ (r : Result Snapshot LedgerFault). Gives is_free (λ (s : Snapshot). s) (told_unless first told) r) (sym whole)
+    subst (λ (o : Option LedgerFault). Gives is_free (λ (s : Snapshot). s) (told_unless o told) (state_from slot bytes)) (sym own)
+    (subst (λ (r : Result Snapshot LedgerFault). Gives is_free (λ (s : Snapshot). s) (told_unless first told) r) (sym (sealed_state slot bytes (is_sealed bytes) refl))
     (unless_gives first told (whole_state slot (unsealed bytes)) (freer told (whole_state slot (unsealed bytes)) gives)))
 
 -- what a block changed
+abbrev changed : ℕ → List ℕ → Snapshot → Result Snapshot LedgerFault
+changed slot file before = whole_changes slot before.slot (unsealed file) >>= λ changes. next_of slot changes before
+
 sealed_changes : (slot : ℕ) (bytes : List ℕ) (before : Snapshot) (seal : Bool) → is_sealed bytes ≡ seal
     → (changes_from slot before.slot bytes >>= λ changes. next_of slot changes before) ≡ told_unless (if seal then None else Some (Damaged (Changes slot) (seal_at bytes))) (changed slot bytes before)
 unfolding changes_from body_of
 sealed_changes slot bytes before true e = rw e refl
 sealed_changes slot bytes before false e = rw e refl
 
-pub watched_changes : (file : Watched) (slot : ℕ) (bytes : List ℕ) (before : Snapshot) (told : Result Snapshot LedgerFault) (disk : Disk) → file.name ≡ Changes slot → arc_value file.bytes ≡ bytes
-    → Gives is_ledger_memory (λ s. s) told (changed slot bytes before) → found_or (Missing (Changes slot)) (disk (Changes slot)) ≡ Ok bytes
-    → Gives is_free (λ s. s) (told_unless (unsealed_fault file) told) (stepped disk slot before)
-watched_changes file slot bytes before told disk name holds gives read =
+-- what follows a call is told by what the call told
+gives_then : {X Y : Type 0} (read answer : Result X LedgerFault) (told : Result Y LedgerFault) (more : X → Result Y LedgerFault)
+    → Gives is_ledger_memory (λ x. x) read answer → Gives is_ledger_memory (λ y. y) told (read >>= more) → Gives is_ledger_memory (λ y. y) told (answer >>= more)
+gives_then {X = X} {Y = Y} (Ok x) answer told more h g = subst (λ (r : Result X LedgerFault). Gives is_ledger_memory (λ (y : Y). y) told (r >>= more)) (sym h) g
+gives_then (Err e) answer (Ok y) more h g = absurd (cc)
+gives_then {X = X} {Y = Y} (Err e) answer (Err f) more h g = by_test (is_ledger_memory f) refl g
+  where
+    by_test : (b : Bool) → is_ledger_memory f ≡ b → MatchBool b (Unit {0}) (let r : Result Y LedgerFault = Err e in r ≡ Err f) → MatchBool b (Unit {0}) ((answer >>= more) ≡ Err f)
+    by_test true is same = tt
+    by_test false is same =
+        let faults : e ≡ f = cc in
+        let read : answer ≡ Err e = subst (λ (b : Bool). MatchBool b (Unit {0}) (answer ≡ Err e)) (ap is_ledger_memory faults ∙ is) h in ap (λ (r : Result X LedgerFault). r >>= more) read ∙ same
+
+pub watched_changes : (file : Watched) (slot : ℕ) (bytes : List ℕ) (before : Snapshot) (read : Result Changed LedgerFault) (told : Result Snapshot LedgerFault) → file.name ≡ Changes slot → arc_value file.bytes ≡ bytes
+    → Gives is_ledger_memory (λ c. c) read (whole_changes slot before.slot (unsealed bytes)) → Gives is_ledger_memory (λ s. s) told (read >>= λ changes. next_of slot changes before)
+    → Gives is_free (λ s. s) (told_unless (unsealed_fault file) told) (stepped_by (slot, Some bytes) before)
+watched_changes file slot bytes before read told name holds gives next =
     let first : Option LedgerFault = if is_sealed bytes then None else Some (Damaged (Changes slot) (seal_at bytes)) in
     let own : unsealed_fault file ≡ first =
     ap (λ (l : List ℕ). if is_sealed l then None else Some (Damaged file.name (seal_at l))) holds ∙ ap (λ (n : Name). if is_sealed bytes then None else Some (Damaged n (seal_at bytes))) name in
-    let whole : stepped disk slot before ≡ told_unless first (changed slot bytes before) =
-    ap (λ (r : Result (List ℕ) LedgerFault). (r >>= changes_from slot before.slot) >>= λ changes. next_of slot changes before) read ∙ sealed_changes slot bytes before (is_sealed bytes) refl in
-    subst (λ (o : Option LedgerFault). Gives is_free (λ (s : Snapshot). s) (told_unless o told) (stepped disk slot before)) (sym own)
-    (subst (λ (r : Result Snapshot LedgerFault). Gives is_free (λ (s : Snapshot). s) (told_unless first told) r) (sym whole)
-    (unless_gives first told (changed slot bytes before) (freer told (changed slot bytes before) gives)))
+    let whole : stepped_by (slot, Some bytes) before ≡ told_unless first (changed slot bytes before) = sealed_changes slot bytes before (is_sealed bytes) refl in
+    let both : Gives is_ledger_memory (λ (s : Snapshot). s) told (changed slot bytes before) = gives_then read (whole_changes slot before.slot (unsealed bytes)) told (λ changes. next_of slot changes before) gives next in
+    subst (λ (o : Option LedgerFault). Gives is_free (λ (s : Snapshot). s) (told_unless o told) (stepped_by (slot, Some bytes) before)) (sym own)
+    (subst (λ (r : Result Snapshot LedgerFault). Gives is_free (λ (s : Snapshot). s) (told_unless first told) r) (sym whole) (unless_gives first told (changed slot bytes before) (freer told (changed slot bytes before) both)))
+
+-- a file that is put behind the others
+pub settled_gives : {X : Type 0} (files later : List Watched) (file : Watched) (told answer : Result X LedgerFault) → later ≡ files ++ file ∷ []
+    → Gives is_free (λ x. x) (told_unless (unsealed_fault file) told) answer → Gives is_free (λ x. x) (settled later told) (settled files answer)
+settled_gives {X = X} files later file told answer pushed so =
+    subst (λ (r : Result X LedgerFault). Gives is_free (λ (x : X). x) r (settled files answer)) (sym (ap (λ (l : List Watched). settled l told) pushed ∙ settled_push files file told))
+    (unless_gives (first_unsealed files) (told_unless (unsealed_fault file) told) answer so)
+
+-- a refusal with which no file was put behind the others
+pub settled_same : {X : Type 0} (files later : List Watched) (told answer : Result X LedgerFault) → later ≡ files → Gives is_free (λ x. x) told answer → Gives is_free (λ x. x) (settled later told) (settled files answer)
+settled_same {X = X} files later told answer same h =
+    subst (λ (l : List Watched). Gives is_free (λ (x : X). x) (settled l told) (settled files answer)) (sym same) (unless_gives (first_unsealed files) told answer h)
+
+then_same : {X Y : Type 0} (read : Result X LedgerFault) (f g : X → Result Y LedgerFault) → ((x : X) → f x ≡ g x) → (read >>= f) ≡ (read >>= g)
+then_same (Ok x) f g h = h x
+then_same (Err e) f g h = refl
+
+-- the files of what blocks changed come to what is walked
+pub walked_same : (disk : Disk) (slots : List ℕ) (before : Snapshot) → walked_by (files_of disk slots) before ≡ walked disk slots before
+walked_same disk [] before = refl
+walked_same disk (slot ∷ slots) before = then_same (stepped disk slot before) (walked_by (files_of disk slots)) (walked disk slots) (walked_same disk slots)
 
 -- ---- one call after another
 exact_unless : {X : Type 0} (first : Option LedgerFault) (x : X) (answer : Result X LedgerFault) → ((fault : LedgerFault) → first ≡ Some fault → is_free fault ≡ false)
@@ -171,32 +197,44 @@ stays_settled {X = X} {Y = Y} before after fault answer more h =
     subst (λ (r : Result Y LedgerFault). Gives is_free (λ (y : Y). y) (settled {X = Y} after (Err fault)) r) (sym (settled_then before answer more))
     (stays_unless {X = X} {Y = Y} (first_unsealed after) fault (settled before answer) more h)
 
--- a full state that is refused
-pub tells_refused : (files later : List Watched) (old new : List Event) (head : Head) (count slot : ℕ) (fault : LedgerFault)
-    → Tells old new (settled {X = Snapshot} later (Err fault)) (λ disk. settled files (state_in slot (disk (State slot)))) → slot ≡ slot_after head (full_before head.every count)
-    → Tells old new (settled {X = Snapshot} later (Err fault)) (λ disk. settled files (state_after disk head count))
-unfolding state_after
-tells_refused files later old new head count slot fault told at disk shows =
-    let t = told disk shows in (
-      t.0,
-      subst (λ (n : ℕ). Gives is_free (λ (s : Snapshot). s) (settled {X = Snapshot} later (Err fault)) (settled files (state_in n (disk (State n)) >>= walked disk (slots_behind head count)))) at
-          (stays_settled files later fault (state_in slot (disk (State slot))) (walked disk (slots_behind head count)) t.1),
-    )
-
--- one that is read, and what is walked from there
-pub tells_beside : (files between later : List Watched) (old mid new : List Event) (head : Head) (count slot : ℕ) (slots : List ℕ) (before : Snapshot) (result : Result Snapshot LedgerFault)
-    → Tells old mid (settled between (Ok before)) (λ disk. settled files (state_in slot (disk (State slot)))) → Tells mid new (settled later result) (λ disk. settled between (walked disk slots before))
+-- the files of a state and of what is behind it, and what they come to
+pub tells_beside : (files later : List Watched) (old new : List Event) (head : Head) (count slot : ℕ) (slots : List ℕ) (found : List ℕ × List (ℕ × Option (List ℕ))) (result : Result Snapshot LedgerFault)
+    → ((disk : Disk) → Shows new disk → Shows old disk × (found_in disk slot slots ≡ Ok found)) → Gives is_free (λ s. s) (settled later result) (settled files (told_by slot found.0 found.1))
     → slot ≡ slot_after head (full_before head.every count) → slots ≡ slots_behind head count → Tells old new (settled later result) (λ disk. settled files (state_after disk head count))
 unfolding state_after
-tells_beside files between later old mid new head count slot slots before result first second at behind disk shows =
-    let s = second disk shows in
-    let f = first disk s.0 in
-    let more = more_settled files between before (state_in slot (disk (State slot))) (walked disk slots) f.1 in
-    let here = subst (λ (r : Result Snapshot LedgerFault). Gives is_free (λ (x : Snapshot). x) (settled later result) r) (sym more) s.1 in (
+tells_beside files later old new head count slot slots found result first told at behind disk shows =
+    let f = first disk shows in
+    let parts = bind_ok (found_or (Missing (State slot)) (disk (State slot))) (λ full. let r : Result (List ℕ × List (ℕ × Option (List ℕ))) LedgerFault = Ok (full, files_of disk slots) in r) found f.1 in
+    let both : (let x : List ℕ × List (ℕ × Option (List ℕ)) = (parts.0, files_of disk slots) in x) ≡ found = ok_same {E = LedgerFault} (parts.0, files_of disk slots) found parts.2 in
+    let here : (state_in slot (disk (State slot)) >>= walked disk slots) ≡ told_by slot found.0 found.1 =
+    ap (λ (r : Result (List ℕ) LedgerFault). (r >>= state_from slot) >>= walked disk slots) parts.1
+    ∙ sym (then_same (state_from slot parts.0) (walked_by (files_of disk slots)) (walked disk slots) (walked_same disk slots))
+    ∙ ap (λ (x : List ℕ × List (ℕ × Option (List ℕ))). told_by slot x.0 x.1) both in
+    let given = subst (λ (r : Result Snapshot LedgerFault). Gives is_free (λ (s : Snapshot). s) (settled later result) (settled files r)) (sym here) told in (
       f.0,
       subst (λ (l : List ℕ). Gives is_free (λ (x : Snapshot). x) (settled later result) (settled files (full_state disk head count >>= walked disk l))) behind
-          (subst (λ (n : ℕ). Gives is_free (λ (x : Snapshot). x) (settled later result) (settled files (state_in n (disk (State n)) >>= walked disk slots))) at here),
+          (subst (λ (n : ℕ). Gives is_free (λ (x : Snapshot). x) (settled later result) (settled files (state_in n (disk (State n)) >>= walked disk slots))) at given),
     )
+
+-- files that are not there to be read
+pub tells_refused : (files later : List Watched) (old new : List Event) (head : Head) (count slot : ℕ) (slots : List ℕ) (fault : LedgerFault) → later ≡ files
+    → ((disk : Disk) → Shows new disk → Shows old disk × Gives is_free (λ x. x) (let r : Result (List ℕ × List (ℕ × Option (List ℕ))) LedgerFault = Err fault in r) (found_in disk slot slots))
+    → slot ≡ slot_after head (full_before head.every count) → Tells old new (settled {X = Snapshot} later (Err fault)) (λ disk. settled files (state_after disk head count))
+unfolding state_after
+tells_refused files later old new head count slot slots fault same first at disk shows =
+    let f = first disk shows in
+    let refused : MatchBool (is_free fault) (Unit {0}) (found_or (Missing (State slot)) (disk (State slot)) ≡ Err fault) = not_found (is_free fault) (found_or (Missing (State slot)) (disk (State slot))) f.1 in
+    let here : MatchBool (is_free fault) (Unit {0}) ((state_in slot (disk (State slot)) >>= walked disk (slots_behind head count)) ≡ Err fault) =
+    err_then (is_free fault) fault (state_in slot (disk (State slot))) (walked disk (slots_behind head count)) (err_then (is_free fault) fault (found_or (Missing (State slot)) (disk (State slot))) (state_from slot) refused) in (
+      f.0,
+      settled_same {X = Snapshot} files later (Err fault) (state_after disk head count) same
+          (subst (λ (n : ℕ). MatchBool (is_free fault) (Unit {0}) ((state_in n (disk (State n)) >>= walked disk (slots_behind head count)) ≡ Err fault)) at here),
+    )
+  where
+    not_found : (free : Bool) (read : Result (List ℕ) LedgerFault) → MatchBool free (Unit {0}) ((read >>= λ full. let r : Result (List ℕ × List (ℕ × Option (List ℕ))) LedgerFault = Ok (full, files_of disk slots) in r) ≡ Err fault) → MatchBool free (Unit {0}) (read ≡ Err fault)
+    not_found true read h = tt
+    not_found false (Ok full) h = absurd (cc)
+    not_found false (Err e) h = let e_is : e ≡ fault = cc in ap (λ (x : LedgerFault). let r : Result (List ℕ) LedgerFault = Err x in r) e_is
 
 -- no file was read before
 pub tells_alone : (files later : List Watched) (old new : List Event) (head : Head) (count : ℕ) (result : Result Snapshot LedgerFault) → files ≡ [] → count ≡ length head.slots

@@ -20,8 +20,8 @@ use Rattle.sol_base.specs.Accounts.{empty_account}
 use Rattle.sol_base.proofs.KeyLaws.{key_cmp_exact, key_cmp_total, same_cmp, same_key-true, same_key-self, same_key-false}
 use Rattle.account_store.specs.State.{State, IsHeld, IsState, at, entries, get, len, lamports_of, put, remove, sum, kept}
 use Rattle.account_store.proofs.EntryLists.{sorted-entries, entries-from_entries}
-use Rattle.account_store.proofs.StateLaws.{same_state, get-put_key, get-remove_key, sum-put}
-use Rattle.ledger_store.specs.Changes.{same_account, is_kept, left_by, gone_by, without, with_accounts}
+use Rattle.account_store.proofs.StateLaws.{same_state, get-put_key, get-remove_key, sum-put, sum-put-le}
+use Rattle.ledger_store.specs.Changes.{same_account, is_kept, left_by, gone_by, puts, without, with_accounts}
 
 abbrev pub Entry : Type 0
 Entry = Key × Account
@@ -60,10 +60,6 @@ get-without (k ∷ ks) s q =
     get-without ks (remove s k) q ∙ ap (λ (x : Option Account). cond (has_key q ks) None x) (get-remove_key s k q) ∙ out_twice (same_key q k) (has_key q ks) (get s q)
 
 -- ---- what is put in
-abbrev pub puts : List Entry → State → State
-puts [] s = s
-puts (e ∷ es) s = puts es (put s e.0 e.1)
-
 in_twice : (a b : Bool) (v x : Option Account) → cond b v (cond a v x) ≡ cond (a || b) v x
 in_twice true true v x = refl
 in_twice true false v x = refl
@@ -187,6 +183,82 @@ few_gone before after =
     length_keys [] = refl
     length_keys (e ∷ es) = ap suc (length_keys es)
 
+-- ---- what is put in was not there
+abbrev Absent : State → List Entry → Type 0
+Absent s es = AllByRecursion (λ e. get s e.0 ≡ None) es
+
+key_there : (es : List Entry) (k : Key) → has_key k (k ∷ keys_of es) ≡ true
+key_there es k = or_left (same_key k k) (has_key k (keys_of es)) (same_key-self k)
+
+-- once all keys are taken out none is there
+absent_without : (all : List Key) (s : State) (es : List Entry) → ((k : Key) → has_key k (keys_of es) ≡ true → has_key k all ≡ true) → AllByRecursion (λ e. get (without all s) e.0 ≡ None) es
+absent_without all s [] within = tt
+absent_without all s (e ∷ es) within = (
+  get-without all s e.0 ∙ cond-true (has_key e.0 all) None (get s e.0) (within e.0 (key_there es e.0)),
+  absent_without all s es (λ k h. within k (or_right (same_key k e.0) (has_key k (keys_of es)) h)),
+)
+
+absent_then : (s : State) (e : Entry) (es : List Entry) → AllByRecursion (λ (y : Key). key_cmp e.0 y ≡ Less) (keys_of es) → Absent s es → Absent (put s e.0 e.1) es
+absent_then s e [] less h = tt
+absent_then s e (d ∷ es) less h = (
+  get-put_key s e.0 e.1 d.0 ∙ cond-false (same_key d.0 e.0) (kept e.1) (get s d.0) (less_apart e.0 d.0 less.0) ∙ h.0,
+  absent_then s e es less.1 h.1,
+)
+
+sum_put_absent : (s : State) (k : Key) (a : Account) → get s k ≡ None → sum (put s k a) ≡ sum s + a.lamports
+sum_put_absent s k a none =
+    let empty : (at s k).lamports ≡ 0 = ap (λ (x : Option Account). (unwrap_or x empty_account).lamports) none in
+    omega (arith, sum-put s k a, empty)
+
+sum_puts : (es : List Entry) (s : State) → Ascend es → Absent s es → sum (puts es s) ≡ sum s + lamports_of es
+unfolding IsStrictlySortedBy
+sum_puts [] s h absent = omega arith
+sum_puts (e ∷ es) s h absent =
+    let rest = sum_puts es (put s e.0 e.1) h.1 (absent_then s e es h.0 absent.1) in
+    let one = sum_put_absent s e.0 e.1 absent.0 in
+    let more = sum_by-cons (λ (d : Entry). d.1.lamports) e es in
+    omega (arith, rest, one, more)
+
+-- so there are never more lamports than in the end
+fits_each : (es : List Entry) (s : State) → Ascend es → Absent s es → sum (puts es s) ≤ 2 ^ 64 - 1 → with_accounts es s ≡ Some (puts es s)
+unfolding IsStrictlySortedBy
+fits_each [] s h absent fits = refl
+fits_each (e ∷ es) s h absent fits =
+    let next = absent_then s e es h.0 absent.1 in
+    let rest = sum_puts es (put s e.0 e.1) h.1 next in
+    let one = sum_put_absent s e.0 e.1 absent.0 in
+    let test : nat_le (sum s + e.1.lamports) (2 ^ 64 - 1) ≡ true = le-leb (sum s + e.1.lamports) (2 ^ 64 - 1) (omega (arith, rest, one, fits)) in
+    cond-true (nat_le (sum s + e.1.lamports) (2 ^ 64 - 1)) (with_accounts es (put s e.0 e.1)) None test ∙ fits_each es (put s e.0 e.1) h.1 next fits
+
+-- the entries of a state are found in it
+found_in : (s : State) → AllByRecursion (λ e. get s e.0 ≡ Some e.1) (entries s)
+found_in s = all_weaker (λ e. find key_cmp e.0 (entries s) ≡ Some e.1) (λ e. get s e.0 ≡ Some e.1) (λ e h. get-entries s e.0 ∙ h) (entries s) (found_each (entries s) (sorted-entries key_cmp s))
+
+held_in : (s : State) → IsState s → AllByRecursion (λ e. (get s e.0 ≡ Some e.1) × (1 ≤ e.1.lamports)) (entries s)
+held_in s is = all_both (λ e. get s e.0 ≡ Some e.1) (λ e. 1 ≤ e.1.lamports) (entries s) (found_in s) (all_weaker (λ e. IsHeld e.1) (λ e. 1 ≤ e.1.lamports) (λ e h. h.0) (entries s) is.held)
+
+-- ---- accounts that are put in over those that are there
+over : (b : Bool) (a x : Option Account) → cond b a (cond b None x) ≡ cond b a x
+over true a x = refl
+over false a x = refl
+
+puts_over : (s t : State) → IsState t → puts (entries t) (without (keys_of (entries t)) s) ≡ puts (entries t) s
+puts_over s t is = same_state (puts (entries t) (without (keys_of (entries t)) s)) (puts (entries t) s) (λ q.
+    get-puts t (entries t) (without (keys_of (entries t)) s) q (held_in t is)
+    ∙ ap (λ (x : Option Account). cond (has_key q (keys_of (entries t))) (get t q) x) (get-without (keys_of (entries t)) s q)
+    ∙ over (has_key q (keys_of (entries t))) (get t q) (get s q) ∙ sym (get-puts t (entries t) s q (held_in t is)))
+
+pub sum-puts-le : (es : List Entry) (s : State) → sum (puts es s) ≤ sum s + lamports_of es
+sum-puts-le [] s = omega arith
+sum-puts-le (e ∷ es) s = omega (arith, sum-puts-le es (put s e.0 e.1), sum-put-le s e.0 e.1, sum_by-cons (λ (d : Entry). d.1.lamports) e es)
+
+-- it is the same as taking their keys out first
+pub over_is_with : (s t : State) → IsState t → sum s + sum t ≤ 2 ^ 64 - 1 → with_accounts (entries t) (without (keys_of (entries t)) s) ≡ Some (puts (entries t) s)
+over_is_with s t is fits =
+    let few : sum (puts (entries t) s) ≤ 2 ^ 64 - 1 = omega (arith, sum-puts-le (entries t) s, fits) in
+    fits_each (entries t) (without (keys_of (entries t)) s) (sorted-entries key_cmp t) (absent_without (keys_of (entries t)) s (entries t) (λ k h. h)) (subst (λ (u : State). sum u ≤ 2 ^ 64 - 1) (sym (puts_over s t is)) few)
+    ∙ ap (λ (u : State). Some u) (puts_over s t is)
+
 -- ---- the law
 module _ (before after : State) (was : IsState before) (is : IsState after) where
   abbrev changed : Entry → Bool
@@ -202,13 +274,8 @@ module _ (before after : State) (was : IsState before) (is : IsState after) wher
   gone = gone_by before after
 
   -- the entries that are left are those of the second state
-  found_after : AllByRecursion (λ e. get after e.0 ≡ Some e.1) (entries after)
-  found_after = all_weaker (λ e. find key_cmp e.0 (entries after) ≡ Some e.1) (λ e. get after e.0 ≡ Some e.1) (λ e h. get-entries after e.0 ∙ h) (entries after) (found_each (entries after) (sorted-entries key_cmp after))
-
   new_found : AllByRecursion (λ e. (get after e.0 ≡ Some e.1) × (1 ≤ e.1.lamports)) new
-  new_found =
-      all_passed (λ e. (get after e.0 ≡ Some e.1) × (1 ≤ e.1.lamports)) changed (entries after)
-      (all_both (λ e. get after e.0 ≡ Some e.1) (λ e. 1 ≤ e.1.lamports) (entries after) found_after (all_weaker (λ e. IsHeld e.1) (λ e. 1 ≤ e.1.lamports) (λ e h. h.0) (entries after) is.held))
+  new_found = all_passed (λ e. (get after e.0 ≡ Some e.1) × (1 ≤ e.1.lamports)) changed (entries after) (held_in after is)
 
   gone_absent : AllByRecursion (λ k. get after k ≡ None) gone
   gone_absent = absent (entries before)
@@ -258,55 +325,6 @@ module _ (before after : State) (was : IsState before) (is : IsState after) wher
       ∙ ap (λ (x : Option Account). cond (has_key q (keys_of new)) (get after q) x) (get-without (keys_of new) (without gone before) q ∙ ap (λ (x : Option Account). cond (has_key q (keys_of new)) None x) (get-without gone before q))
       ∙ whole (has_key q (keys_of new)) (has_key q gone) q refl refl)
 
-  -- what is put in was not there
-  abbrev Absent : State → List Entry → Type 0
-  Absent s es = AllByRecursion (λ e. get s e.0 ≡ None) es
-
-  absent_base : Absent base new
-  absent_base = each new (λ e there. there)
-    where
-      key_there : (es : List Entry) (k : Key) → has_key k (k ∷ keys_of es) ≡ true
-      key_there es k = or_left (same_key k k) (has_key k (keys_of es)) (same_key-self k)
-
-      each : (es : List Entry) → ((k : Key) → has_key k (keys_of es) ≡ true → has_key k (keys_of new) ≡ true) → AllByRecursion (λ e. get base e.0 ≡ None) es
-      each [] within = tt
-      each (e ∷ es) within = (
-        get-without (keys_of new) (without gone before) e.0 ∙ cond-true (has_key e.0 (keys_of new)) None (get (without gone before) e.0) (within e.0 (key_there es e.0)),
-        each es (λ k h. within k (or_right (same_key k e.0) (has_key k (keys_of es)) h)),
-      )
-
-  absent_then : (s : State) (e : Entry) (es : List Entry) → AllByRecursion (λ (y : Key). key_cmp e.0 y ≡ Less) (keys_of es) → Absent s es → Absent (put s e.0 e.1) es
-  absent_then s e [] less h = tt
-  absent_then s e (d ∷ es) less h = (
-    get-put_key s e.0 e.1 d.0 ∙ cond-false (same_key d.0 e.0) (kept e.1) (get s d.0) (less_apart e.0 d.0 less.0) ∙ h.0,
-    absent_then s e es less.1 h.1,
-  )
-
-  sum_put_absent : (s : State) (k : Key) (a : Account) → get s k ≡ None → sum (put s k a) ≡ sum s + a.lamports
-  sum_put_absent s k a none =
-      let empty : (at s k).lamports ≡ 0 = ap (λ (x : Option Account). (unwrap_or x empty_account).lamports) none in
-      omega (arith, sum-put s k a, empty)
-
-  sum_puts : (es : List Entry) (s : State) → Ascend es → Absent s es → sum (puts es s) ≡ sum s + lamports_of es
-  unfolding IsStrictlySortedBy
-  sum_puts [] s h absent = omega arith
-  sum_puts (e ∷ es) s h absent =
-      let rest = sum_puts es (put s e.0 e.1) h.1 (absent_then s e es h.0 absent.1) in
-      let one = sum_put_absent s e.0 e.1 absent.0 in
-      let more = sum_by-cons (λ (d : Entry). d.1.lamports) e es in
-      omega (arith, rest, one, more)
-
-  -- so there are never more lamports than in the end
-  fits_each : (es : List Entry) (s : State) → Ascend es → Absent s es → sum (puts es s) ≤ 2 ^ 64 - 1 → with_accounts es s ≡ Some (puts es s)
-  unfolding IsStrictlySortedBy
-  fits_each [] s h absent fits = refl
-  fits_each (e ∷ es) s h absent fits =
-      let next = absent_then s e es h.0 absent.1 in
-      let rest = sum_puts es (put s e.0 e.1) h.1 next in
-      let one = sum_put_absent s e.0 e.1 absent.0 in
-      let test : nat_le (sum s + e.1.lamports) (2 ^ 64 - 1) ≡ true = le-leb (sum s + e.1.lamports) (2 ^ 64 - 1) (omega (arith, rest, one, fits)) in
-      cond-true (nat_le (sum s + e.1.lamports) (2 ^ 64 - 1)) (with_accounts es (put s e.0 e.1)) None test ∙ fits_each es (put s e.0 e.1) h.1 next fits
-
   pub changes_back : with_accounts new base ≡ Some after
   changes_back =
-      fits_each new base (new_ascends before after) absent_base (subst (λ (s : State). sum s ≤ 2 ^ 64 - 1) (sym puts_back) is.fits) ∙ ap (λ (s : State). Some s) puts_back
+      fits_each new base (new_ascends before after) (absent_without (keys_of new) (without gone before) new (λ k h. h)) (subst (λ (s : State). sum s ≤ 2 ^ 64 - 1) (sym puts_back) is.fits) ∙ ap (λ (s : State). Some s) puts_back

@@ -106,6 +106,11 @@ abbrev pub without : List Key → State → State
 without [] s = s
 without (key ∷ keys) s = without keys (remove s key)
 
+-- with these accounts, over those that are there
+abbrev pub puts : List (Key × Account) → State → State
+puts [] s = s
+puts (e ∷ es) s = puts es (put s e.0 e.1)
+
 -- with these accounts, unless they come to more lamports than there can be
 abbrev pub with_accounts : List (Key × Account) → State → Option State
 with_accounts [] s = Some s

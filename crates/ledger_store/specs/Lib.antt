@@ -6,6 +6,8 @@ pub mod Changes
 pub mod Blocks
 pub mod Opening
 pub mod Reading
+pub mod Told
+pub mod Ahead
 pub mod Watching
 pub mod Adding
 pub mod Marks

@@ -1,19 +1,19 @@
 -- Files whose hashes threads look at, and a chain that is opened meanwhile.
-use Rattle.std.specs.Prelude.{◌≡◌, ℕ, List, [], ◌∷◌, Option, None, Some, if◌then◌else◌, Result, Ok, Err}
+use Rattle.std.specs.Prelude.{◌≡◌, ℕ, List, [], ◌∷◌, map, Option, None, Some, if◌then◌else◌, Result, Ok, Err}
 use Rattle.std.specs.Prelude.{unwrap_or}
 use Rattle.std.specs.Option.{option_or}
 use Rattle.std.specs.Arc.{arc_value}
 use Rattle.spec_base.specs.Reading.{◌>>=◌}
-use Rattle.snapshot_codec.specs.declared.snapshot.Snapshot.{Snapshot}
 use Rattle.ledger_folder.specs.declared.event.Event.{Event}
 use Rattle.ledger_store.specs.declared.fault.LedgerFault.{LedgerFault}
 use Rattle.ledger_store.specs.declared.fault.LedgerFault.TheVariants.{Damaged}
 use Rattle.ledger_store.specs.declared.opening.Ledger.{Ledger}
 use Rattle.ledger_store.specs.declared.seal.Watched.{Watched}
+use Rattle.ledger_store.specs.declared.watching.Begun.{Begun}
 use Rattle.ledger_store.specs.declared.watching.Opening.{Opening}
 use Rattle.ledger_store.specs.Faults.{is_failed}
-use Rattle.ledger_store.specs.Seal.{is_sealed, seal_at, unsealed}
-use Rattle.ledger_store.specs.Changes.{next_of, whole_changes}
+use Rattle.ledger_store.specs.Seal.{is_sealed, seal_at}
+use Rattle.ledger_store.specs.Ahead.{seen}
 use Rattle.ledger_store.specs.Reading.{IsOpen}
 
 -- why a file is refused, if it does not end in its hash
@@ -41,11 +41,9 @@ abbrev pub refusal : List Watched → LedgerFault → LedgerFault
 refusal files fault =
     if is_failed fault then fault else unwrap_or (first_unsealed files) fault
 
--- the snapshot after the block of a slot, whatever the hash is that the file of what it changed ends in
-abbrev pub changed : ℕ → List ℕ → Snapshot → Result Snapshot LedgerFault
-changed slot file before = do
-  changes ← whole_changes slot before.slot (unsealed file)
-  next_of slot changes before
+-- the file of the full state, and the files of what the blocks behind it changed
+abbrev pub seen_files : Begun → List ℕ × List (ℕ × Option (List ℕ))
+seen_files begun = (arc_value begun.full.bytes, map seen begun.ahead)
 
 -- the chain, once all threads have told
 abbrev pub finished : Opening → Result Ledger LedgerFault

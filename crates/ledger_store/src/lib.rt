@@ -4,6 +4,7 @@
 #![tactic(auto)]
 
 mod adding;
+mod ahead;
 mod block;
 mod changes;
 mod compared;
@@ -14,8 +15,10 @@ mod head;
 mod next;
 mod opening;
 mod place;
+mod reading;
 mod seal;
 mod state;
+mod told;
 mod watching;
 
 pub use adding::{add, create};

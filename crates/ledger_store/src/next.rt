@@ -1,12 +1,12 @@
 //! The snapshot after a block, from the one before it and what the block changed.
-ghost use Rattle.std.specs.Prelude.{◌≡◌, ◌≤◌, ◌+◌, ◌-◌, ◌^◌, Some, None, IfOk, MatchBool, OnOk, map};
+ghost use Rattle.std.specs.Prelude.{◌≡◌, ◌≤◌, ◌+◌, ◌-◌, ◌^◌, Some, None, true, IfOk, MatchBool, OnOk, map};
 ghost use Rattle.spec_base.specs.Reading.{Gives};
-ghost use Rattle.account_store.specs.State.{entries, put, sum};
+ghost use Rattle.account_store.specs.State.{IsState, entries, put, sum};
 ghost use Rattle.sol_base.specs.Accounts.{IsShort};
 ghost use Rattle.std.specs.Arc.{arc_value};
 ghost use Rattle.snapshot_codec.specs.Snapshot.{IsReadable};
 ghost use Rattle.ledger_store.specs.Faults.{NeverFails, is_ledger_memory};
-ghost use Rattle.ledger_store.specs.Changes.{next_accounts, next_of, next_recent, with_accounts, without};
+ghost use Rattle.ledger_store.specs.Changes.{next_accounts, next_of, next_recent, puts, with_accounts, without};
 
 use crate::changes::Changes;
 use crate::copy::copy_mark;
@@ -71,6 +71,36 @@ fn put_in(accounts: &mut Accounts, others: &Accounts) -> Result<bool, OutOfMemor
     Ok(true)
 }
 
+/// Whether the lamports of both together are never more than there can be.
+fn fit_together(accounts: &Accounts, others: &Accounts) -> bool
+    ensures fits { result ≡ true → sum accounts.now + sum others.now ≤ 2 ^ 64 - 1 }
+    ensures state { IsState others.now }
+{
+    accounts.total().checked_add(others.total()).is_some()
+}
+
+/// Puts an account in, in place of the one that is there.
+fn put_shared(accounts: &mut Accounts, key: &Key, account: &Arc<Account>) -> Result<(), OutOfMemory>
+    requires short { IsShort (arc_value account.now) }
+    requires fits { sum accounts.old + (arc_value account.now).lamports ≤ 2 ^ 64 - 1 }
+    ensures { OnOk result (accounts.new ≡ put accounts.old key.now (arc_value account.now)) }
+{
+    accounts.put(*key, Arc::try_clone(account)?)?;
+    Ok(())
+}
+
+/// Puts the accounts in, in place of those that are there.
+fn put_over(accounts: &mut Accounts, others: &Accounts) -> Result<(), OutOfMemory>
+    requires { sum accounts.old + sum others.now ≤ 2 ^ 64 - 1 }
+    ensures { OnOk result (accounts.new ≡ puts (entries others.now) accounts.old) }
+{
+    let mut rest = others.iter();
+    while let Some((key, account)) = rest.next() {
+        put_shared(accounts, key, account)?;
+    }
+    Ok(())
+}
+
 /// Puts what a block changed into the accounts before it.
 fn change(accounts: &mut Accounts, changes: &Changes) -> Result<bool, OutOfMemory>
     ensures { IfOk result (λ fits. MatchBool fits
@@ -78,8 +108,13 @@ fn change(accounts: &mut Accounts, changes: &Changes) -> Result<bool, OutOfMemor
         (next_accounts changes.now accounts.old ≡ None)) }
 {
     take_out(accounts, changes.gone.as_slice());
-    take_out_keys_of(accounts, &changes.left.accounts);
-    put_in(accounts, &changes.left.accounts)
+    let left = &changes.left.accounts;
+    if fit_together(accounts, left) {
+        put_over(accounts, left)?;
+        return Ok(true);
+    }
+    take_out_keys_of(accounts, left);
+    put_in(accounts, left)
 }
 
 /// Adds the newest mark of the changes, if they have one.

@@ -34,7 +34,7 @@ pub(crate) fn unsealed(bytes: &[u8]) -> &[u8]
 }
 
 /// Whether the hash is that of what stands before it.
-fn is_sealed(bytes: &[u8]) -> bool
+pub(crate) fn is_sealed(bytes: &[u8]) -> bool
     ensures { result ≡ is_sealed bytes.now }
 {
     let (body, seal) = bytes.split_at(seal_at(bytes));
@@ -68,13 +68,16 @@ impl Promise<bool> for SealOf {
     ghost kept_by = { λ p told. told ≡ is_sealed (arc_value p.0.value) };
 }
 
-/// A file whose hash is looked at in a thread of its own, if one could be made, while the file is read.
+/// A file whose hash is looked at in a thread of its own, if one could be made, while the file is read,
+/// or was looked at already.
 #[derive(Drop)]
 pub(crate) struct Watched {
     name: Name,
     bytes: Arc<Blob>,
     child: Option<PromisedHandle<bool, SealOf>>,
+    sealed: Option<bool>,
     ghost same: { ForSome child (λ h. arc_value h.promise.0.value ≡ arc_value bytes) },
+    ghost looked: { ForSome sealed (λ told. told ≡ is_sealed (arc_value bytes)) },
 }
 
 impl Watched {
@@ -92,7 +95,26 @@ impl Watched {
         let theirs = Arc::try_clone(&bytes)?;
         let seal = SealOf(Snapshot::of(&theirs));
         let child = thread::spawn_with(threads, seal, move || is_sealed(theirs.as_slice())).ok();
-        Ok(Watched { name, bytes, child })
+        Ok(Watched {
+            name,
+            bytes,
+            child,
+            sealed: None,
+        })
+    }
+
+    /// A file whose hash was looked at.
+    pub(crate) fn seen(name: Name, bytes: Arc<Blob>, sealed: bool) -> Watched
+        requires { sealed ≡ is_sealed (arc_value bytes) }
+        ensures name { result.name ≡ name }
+        ensures bytes { arc_value result.bytes ≡ arc_value bytes }
+    {
+        Watched {
+            name,
+            bytes,
+            child: None,
+            sealed: Some(sealed),
+        }
     }
 
     /// What the file is.
@@ -113,10 +135,16 @@ impl Watched {
     pub(crate) fn is_sealed<T: Threads>(self, threads: &T) -> bool
         ensures { result ≡ is_sealed (arc_value self.bytes) }
     {
-        let Watched { bytes, child, .. } = self;
-        match child {
-            Some(child) => child.join(threads),
-            None => is_sealed(bytes.as_slice()),
+        let Watched {
+            bytes,
+            child,
+            sealed,
+            ..
+        } = self;
+        match (child, sealed) {
+            (Some(child), _) => child.join(threads),
+            (None, Some(sealed)) => sealed,
+            (None, None) => is_sealed(bytes.as_slice()),
         }
     }
 }

@@ -1,18 +1,21 @@
 //! Chains that are opened while threads look at the hashes that their files end in.
 ghost use Rattle.std.specs.Prelude.{◌≡◌, ◌≤◌, IfOk, length};
+ghost use Rattle.std.specs.Arc.{arc_value};
 ghost use Rattle.spec_base.specs.Reading.{Gives};
 ghost use Rattle.snapshot_codec.specs.Snapshot.{IsReadable};
+ghost use Rattle.ledger_folder.specs.Files.{Disk};
+ghost use Rattle.ledger_folder.specs.Crash.{Shows};
 ghost use Rattle.ledger_folder.specs.declared.name.Name.TheVariants.{State};
-ghost use Rattle.ledger_store.specs.Faults.{LedgerCounts, NeverFails, is_ledger_memory};
-ghost use Rattle.ledger_store.specs.States.{state_in};
-ghost use Rattle.ledger_store.specs.Opening.{opened, state_after, stepped, walked};
+ghost use Rattle.ledger_store.specs.Faults.{LedgerCounts, NeverFails, is_free};
+ghost use Rattle.ledger_store.specs.States.{state_from};
+ghost use Rattle.ledger_store.specs.Opening.{opened, state_after};
+ghost use Rattle.ledger_store.specs.Ahead.{found_in, told_by};
 ghost use Rattle.ledger_store.specs.Reading.{IsOpen, Tells, TellsListed};
-ghost use Rattle.ledger_store.specs.Watching.{IsOpening, changed, finished, first_unsealed, refusal, settled, told_of, unsealed_fault};
+ghost use Rattle.ledger_store.specs.Watching.{IsOpening, finished, first_unsealed, refusal, seen_files, settled, told_of, unsealed_fault};
 
-use crate::changes::whole_changes;
+use crate::ahead::{Ahead, begin_files, walk_by};
 use crate::fault::LedgerFault;
 use crate::head::{Head, read_head};
-use crate::next::next_of;
 use crate::opening::Ledger;
 use crate::place::read_file;
 use crate::seal::{Watched, seal_at, unsealed};
@@ -65,85 +68,72 @@ fn refusal<T: Threads>(threads: &T, files: Items<Watched>, fault: LedgerFault) -
     }
 }
 
-/// The snapshot after the block of a slot, from the one before it and the file of what the block
-/// changed, whatever the hash is that the file ends in.
-fn changed(alloc: Global, slot: u64, file: &[u8], before: Snapshot) -> Result<Snapshot, LedgerFault>
-    requires { IsReadable before }
-    ensures gives { Gives is_ledger_memory (λ s. s) result (changed slot file.now before) }
-    ensures readable { IfOk result IsReadable }
-    ensures quiet { NeverFails result }
-{
-    let changes = whole_changes(alloc, slot, before.slot, unsealed(file))?;
-    next_of(alloc, slot, &changes, before)
+/// The file of a full state, and those of what the blocks behind it changed.
+#[derive(Drop)]
+pub(crate) struct Begun {
+    full: Watched,
+    ahead: Items<Ahead>,
 }
 
-/// The full state of a slot, whatever the hash is that its file ends in.
-fn full_beside<T: Threads, F: Folder>(
+/// Begins to read the files that a chain's newest state is told by.
+fn begin_reading<T: Threads, F: Folder>(
     threads: &T,
     alloc: Global,
     folder: &mut F,
     slot: u64,
-    files: &mut Items<Watched>,
-) -> Result<Snapshot, LedgerFault>
-    ensures tells { Tells (F.events folder.old) (F.events folder.new) (settled files.new result)
-        (λ disk. settled files.old (state_in slot (disk (State slot)))) }
-    ensures readable { IfOk result IsReadable }
+    slots: &[u64],
+) -> Result<Begun, LedgerFault>
+    ensures tells { (disk : Disk) → Shows (F.events folder.new) disk
+        → Shows (F.events folder.old) disk
+        × Gives is_free seen_files result (found_in disk slot slots.now) }
+    ensures name { IfOk result (λ begun. begun.full.name ≡ State slot) }
     ensures counts { LedgerCounts result (F.faults folder.old) (F.faults folder.new) }
 {
     let name = Name::State { slot };
     let bytes = read_file(folder, name)?;
-    let file = Watched::begin(threads, alloc, name, bytes)?;
+    let full = Watched::begin(threads, alloc, name, bytes)?;
+    let ahead = begin_files(threads, alloc, folder, slots, slot)?;
+    Ok(Begun { full, ahead })
+}
+
+/// The full state of a slot, whatever the hash is that its file ends in.
+fn full_told(
+    alloc: Global,
+    slot: u64,
+    file: Watched,
+    files: &mut Items<Watched>,
+) -> Result<Snapshot, LedgerFault>
+    requires { file.name ≡ State slot }
+    ensures tells { Gives is_free (λ s. s) (settled files.new result)
+        (settled files.old (state_from slot (arc_value file.bytes))) }
+    ensures readable { IfOk result IsReadable }
+    ensures quiet { NeverFails result }
+{
     let told = whole_state(alloc, slot, unsealed(file.as_slice()));
     files.push(file)?;
     told
 }
 
-/// The snapshot after the block of a slot, from the one before it.
-fn step_beside<T: Threads, F: Folder>(
+/// The snapshot that the files come to.
+fn told_by<T: Threads>(
     threads: &T,
     alloc: Global,
-    folder: &mut F,
     slot: u64,
-    before: Snapshot,
+    begun: Begun,
     files: &mut Items<Watched>,
 ) -> Result<Snapshot, LedgerFault>
-    requires { IsReadable before }
-    ensures tells { Tells (F.events folder.old) (F.events folder.new) (settled files.new result)
-        (λ disk. settled files.old (stepped disk slot before)) }
+    requires { begun.full.name ≡ State slot }
+    ensures tells { Gives is_free (λ s. s) (settled files.new result)
+        (settled files.old (told_by slot (seen_files begun).0 (seen_files begun).1)) }
     ensures readable { IfOk result IsReadable }
-    ensures counts { LedgerCounts result (F.faults folder.old) (F.faults folder.new) }
+    ensures quiet { NeverFails result }
 {
-    let name = Name::Changes { slot };
-    let bytes = read_file(folder, name)?;
-    let file = Watched::begin(threads, alloc, name, bytes)?;
-    let told = changed(alloc, slot, file.as_slice(), before);
-    files.push(file)?;
-    told
+    let Begun { full, ahead } = begun;
+    let before = full_told(alloc, slot, full, files)?;
+    walk_by(threads, alloc, ahead, before, files)
 }
 
-/// The snapshot after the blocks of several slots, from the one before them.
-fn walk_beside<T: Threads, F: Folder>(
-    threads: &T,
-    alloc: Global,
-    folder: &mut F,
-    slots: &[u64],
-    before: Snapshot,
-    files: &mut Items<Watched>,
-) -> Result<Snapshot, LedgerFault>
-    requires { IsReadable before }
-    ensures tells { Tells (F.events folder.old) (F.events folder.new) (settled files.new result)
-        (λ disk. settled files.old (walked disk slots.now before)) }
-    ensures readable { IfOk result IsReadable }
-    ensures counts { LedgerCounts result (F.faults folder.old) (F.faults folder.new) }
-{
-    let mut newest = before;
-    for slot in slots {
-        newest = step_beside(threads, alloc, folder, *slot, newest, files)?;
-    }
-    Ok(newest)
-}
-
-/// The same as `read_state`, but for the hashes: threads look at them.
+/// The same as `read_state`, but for the hashes: threads look at them, and read what blocks changed.
 fn read_beside<T: Threads, F: Folder>(
     threads: &T,
     alloc: Global,
@@ -161,9 +151,9 @@ fn read_beside<T: Threads, F: Folder>(
 {
     let full = head.full_before(count);
     let slot = head.slot_after(full);
-    let before = full_beside(threads, alloc, folder, slot, files)?;
     let slots = &head.slots.as_slice()[full..count];
-    walk_beside(threads, alloc, folder, slots, before, files)
+    let begun = begin_reading(threads, alloc, folder, slot, slots)?;
+    told_by(threads, alloc, slot, begun, files)
 }
 
 /// Begins to open a chain: the snapshot after its last block is read, while threads look at the hashes

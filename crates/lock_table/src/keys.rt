@@ -1,5 +1,5 @@
 //! Keys as numbers.
-ghost use Rattle.std.specs.Prelude.{◌≡◌, ◌-◌, ◌^◌, ◌<◌, ◌≤◌, [], true, Some, None, length, slice_get, take, IfOk, OnOk, OnErr};
+ghost use Rattle.std.specs.Prelude.{◌≡◌, ◌-◌, ◌^◌, ◌<◌, ◌≤◌, [], true, Some, None, length, slice_get, take, IfOk, IfSome, OnOk, OnErr};
 ghost use Rattle.std.specs.List.{IsDistinct};
 ghost use Rattle.std.specs.List.Sorted.{IsStrictlySortedBy};
 ghost use Rattle.sol_base.specs.declared.key.Key.{Key as KeyValue};
@@ -13,6 +13,9 @@ use std::alloc::Global;
 use std::collections::BTreeMap;
 use std::marker::Model;
 
+/// How many keys are looked at near a hint before the order of all of them is asked.
+const NEAR: usize = 4;
+
 /// Distinct keys, each with a number: its place. The numbers are found by the order of the keys, so
 /// no choice of keys makes a look-up slow.
 #[derive(Drop)]
@@ -22,6 +25,8 @@ pub struct KeyTable {
     ascending: usize,
     /// The numbers of the other keys.
     numbers: BTreeMap<Key, u32>,
+    /// Near which numbers keys are found, as `expected_at` asks. No answer rests on them.
+    hints: Vec<u32>,
 }
 
 impl Model for KeyTable {
@@ -45,10 +50,12 @@ impl KeyTable {
             keys: Vec::new(alloc),
             ascending: 0,
             numbers: BTreeMap::new(alloc),
+            hints: Vec::new(alloc),
         }
     }
 
-    /// The keys of a list, each once. They ascend, and take no memory beside the list's.
+    /// The keys of a list, each once. They ascend. Where there is no memory for hints, the table
+    /// goes without.
     pub fn of_keys(alloc: Global, mut keys: Vec<Key>) -> KeyTable
         requires { length keys.items < 2 ^ 32 }
         ensures ascend { IsStrictlySortedBy key_cmp result }
@@ -56,10 +63,15 @@ impl KeyTable {
     {
         sort_keys(&mut keys);
         let ascending = keys.len();
+        let hints = match hints_of(alloc, &keys) {
+            Ok(hints) => hints,
+            Err(OutOfMemory) => Vec::new(alloc),
+        };
         KeyTable {
             keys,
             ascending,
             numbers: BTreeMap::new(alloc),
+            hints,
         }
     }
 
@@ -85,10 +97,28 @@ impl KeyTable {
     pub fn find(&self, key: &Key) -> Option<u32>
         ensures { result ≡ number_of self.now key.now }
     {
+        if let Some(number) = self.near(key) {
+            return Some(number);
+        }
         match self.keys[..self.ascending].binary_search(key) {
             Ok(at) => Some(at as u32),
             Err(_) => self.numbers.get(key).copied(),
         }
+    }
+
+    /// The number of the key, where it is found by the hints.
+    fn near(&self, key: &Key) -> Option<u32>
+        ensures { IfSome result (λ number. number_of self.now key.now ≡ Some number) }
+    {
+        let mut at = *self.hints.get(expected_at(key, self.hints.len()))?;
+        for _ in 0..NEAR {
+            let place = at as usize;
+            if place < self.keys.len() && self.keys[place] == *key {
+                return Some(at);
+            }
+            at = at.checked_sub(1)?;
+        }
+        None
     }
 
     /// The number of a key that has one.
@@ -143,4 +173,24 @@ impl KeyTable {
             let _number = self.numbers.remove(&key);
         }
     }
+}
+
+/// At which of so many places a key is expected among keys that ascend and are spread evenly.
+fn expected_at(key: &Key, count: usize) -> usize {
+    let bytes = &key.0;
+    let first = u32::from_be_bytes([bytes[0], bytes[1], bytes[2], bytes[3]]);
+    (u64::from(first).wrapping_mul(count as u64) >> 32) as usize
+}
+
+/// For each place the last of those numbers whose keys are expected there.
+fn hints_of(alloc: Global, keys: &[Key]) -> Result<Vec<u32>, OutOfMemory>
+    requires { length keys.now < 2 ^ 32 }
+{
+    let mut hints = vec![in alloc; 0; keys.len()]?;
+    for (number, key) in keys.iter().enumerate() {
+        if let Some(hint) = hints.get_mut(expected_at(key, keys.len())) {
+            *hint = number as u32;
+        }
+    }
+    Ok(hints)
 }

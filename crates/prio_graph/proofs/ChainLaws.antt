@@ -7,8 +7,8 @@ use Rattle.lock_table.specs.declared.locks.NumberedLock.{NumberedLock}
 use Rattle.lock_table.specs.Numbers.{meets, conflicts}
 use Rattle.prio_graph.specs.declared.mark.Mark.{Mark}
 use Rattle.prio_graph.specs.declared.mark.Mark.TheVariants.{Waiting, Started, Done}
-use Rattle.prio_graph.specs.Ready.{set_at, mark_at, EarlierDone}
-use Rattle.prio_graph.specs.Chains.{writes_number, reads_number, last_writer, readers_since, awaited, edges_into, is_done_mark, counter, StartedInOrder}
+use Rattle.prio_graph.specs.Ready.{set_at, mark_at, EarlierDone, is_done_mark}
+use Rattle.prio_graph.specs.Chains.{writes_number, reads_number, last_writer, readers_since, awaited, edges_into, counter, StartedInOrder}
 use Rattle.prio_graph.specs.Laws.{CountersTell}
 use Rattle.prio_graph.proofs.Finding.{any_at, any_place, any-append, any-flat_map, has, count-zero, count-none}
 use Rattle.prio_graph.proofs.Passing.{no_lock}
@@ -199,7 +199,7 @@ module _ (sets : List (List NumberedLock)) (i j : ℕ) where
 not_waiting : (m : Mark) → m ≡ Done → m ≡ Waiting → ⊥
 not_waiting m e f = cc
 
-done-is : (m : Mark) → not (is_done_mark m) ≡ false → m ≡ Done
+pub done-is : (m : Mark) → not (is_done_mark m) ≡ false → m ≡ Done
 done-is Waiting h = absurd (cc)
 done-is Started h = absurd (cc)
 done-is Done h = refl

@@ -7,3 +7,4 @@ pub mod Releases
 pub mod Chaining
 pub mod Openings
 pub mod MachineLaws
+pub mod Counting

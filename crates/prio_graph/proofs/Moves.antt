@@ -7,18 +7,18 @@ use Rattle.lock_table.specs.declared.locks.NumberedLock.{NumberedLock}
 use Rattle.lock_table.specs.Numbers.{conflicts}
 use Rattle.prio_graph.specs.declared.mark.Mark.{Mark}
 use Rattle.prio_graph.specs.declared.mark.Mark.TheVariants.{Waiting, Started, Done}
-use Rattle.prio_graph.specs.Ready.{Positions, set_at, mark_at, EarlierDone, IsReady, IsLeastOfReady}
-use Rattle.prio_graph.specs.Chains.{edges_into, is_done_mark, counter, StartedInOrder}
+use Rattle.prio_graph.specs.Ready.{Positions, set_at, mark_at, EarlierDone, IsReady, IsLeastOfReady, is_waiting_mark, is_done_mark}
+use Rattle.prio_graph.specs.Chains.{edges_into, counter, StartedInOrder}
 use Rattle.prio_graph.specs.Trees.{IsTree, leaf}
-use Rattle.prio_graph.specs.Kept.{times, none, is_waiting_mark, shown, IsGraph}
+use Rattle.prio_graph.specs.Kept.{times, none, shown, IsGraph}
 use Rattle.prio_graph.proofs.Finding.{any_at, one_if, count-zero, count-split, count-same, times-positive}
 use Rattle.prio_graph.proofs.ChainLaws.{edge-is, counters_tell}
 
 -- a mark that is written
-mark-same : (marks : List Mark) (p : ℕ) (m : Mark) → p < length marks → mark_at (set marks p m) p ≡ m
+pub mark-same : (marks : List Mark) (p : ℕ) (m : Mark) → p < length marks → mark_at (set marks p m) p ≡ m
 mark-same marks p m l = get_or-set_same marks p m Done l
 
-mark-other : (marks : List Mark) (p : ℕ) (m : Mark) (i : ℕ) → (i ≡ p → ⊥) → mark_at (set marks p m) i ≡ mark_at marks i
+pub mark-other : (marks : List Mark) (p : ℕ) (m : Mark) (i : ℕ) → (i ≡ p → ⊥) → mark_at (set marks p m) i ≡ mark_at marks i
 mark-other marks p m i d = get_or-set_other marks p i m Done d
 
 -- what is said of each mark, once one is written
@@ -33,7 +33,7 @@ mark-cases P marks p m l here there i =
 pub inside : (marks : List Mark) (i : ℕ) → (mark_at marks i ≡ Done → ⊥) → i < length marks
 inside marks i d = elim (cases_lt i (length marks)) [ inl u ↦ u | inr v ↦ absurd (d (get_or_past marks i Done v)) ]
 
-waiting-is : (m : Mark) → is_waiting_mark m ≡ true → m ≡ Waiting
+pub waiting-is : (m : Mark) → is_waiting_mark m ≡ true → m ≡ Waiting
 waiting-is Waiting h = refl
 waiting-is Started h = absurd (cc)
 waiting-is Done h = absurd (cc)
@@ -43,7 +43,7 @@ module _ (sets : List (List NumberedLock)) (marks : List Mark) (waits : List ℕ
   now = record { sets = sets; marks = marks }
 
   -- a position that is ready waits for nobody
-  ready_free : (i : ℕ) → IsReady now i → slice_index waits i ≡ 0
+  pub ready_free : (i : ℕ) → IsReady now i → slice_index waits i ≡ 0
   ready_free i r = K.counted i r.below ∙ (counters_tell sets marks K.in_order i r.below).1 r.earlier
 
   -- and one that waits for nobody is ready
@@ -88,7 +88,7 @@ module _ (sets : List (List NumberedLock)) (marks : List Mark) (waits : List ℕ
       before : EarlierDone sets marks p
       before = K.in_order p below (λ w. cc)
 
-      free : slice_index waits p ≡ 0
+      pub free : slice_index waits p ≡ 0
       free = K.counted p below ∙ (counters_tell sets marks K.in_order p below).1 before
 
     -- where p becomes m and is not done before or afterwards, done positions stay

@@ -5,10 +5,10 @@ use Rattle.std.proofs.lemmas.List.{length-replicate, get_or-replicate}
 use Rattle.lock_table.specs.declared.locks.NumberedLock.{NumberedLock}
 use Rattle.prio_graph.specs.declared.mark.Mark.{Mark}
 use Rattle.prio_graph.specs.declared.mark.Mark.TheVariants.{Waiting, Done}
-use Rattle.prio_graph.specs.Ready.{mark_at}
-use Rattle.prio_graph.specs.Chains.{edges_into, is_done_mark, counter}
+use Rattle.prio_graph.specs.Ready.{mark_at, is_waiting_mark, is_done_mark}
+use Rattle.prio_graph.specs.Chains.{edges_into, counter}
 use Rattle.prio_graph.specs.Trees.{IsTree, leaf}
-use Rattle.prio_graph.specs.Kept.{times, edges, is_waiting_mark, shown, IsGraph}
+use Rattle.prio_graph.specs.Kept.{times, edges, shown, IsGraph}
 use Rattle.prio_graph.proofs.Finding.{count-all}
 use Rattle.prio_graph.proofs.ChainLaws.{edge-is}
 

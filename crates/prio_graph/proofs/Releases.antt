@@ -1,11 +1,14 @@
 -- One edge less for a position, and what its leaf then shows.
-use Rattle.std.proofs.Common.{◌≡◌, ℕ, ◌+◌, ◌-◌, ◌<◌, ◌≤◌, ◌==◌, ◌&&◌, cond, inl, inr, List, length, get_or, set, take, refl, sym, ◌∙◌, ap, ap₂, subst, arith, eq-eqb, ne_eqb, get_or-set_same, get_or-set_other}
+use Rattle.std.proofs.Common.{◌≡◌, ℕ, ◌+◌, ◌-◌, ◌<◌, ◌≤◌, ◌==◌, ◌&&◌, cond, inl, inr, List, length, get_or, set, take, refl, sym, ◌∙◌, ap, ap₂, subst, arith, eq-eqb, ne_eqb, get_or-set_same, get_or-set_other, length-set}
 use Rattle.std.specs.Prelude.{nat_lt, slice_index}
 use Rattle.std.proofs.lemmas.Bool.{cases_eq, cond-true, cond-false, and_right, lt-ltb}
 use Rattle.std.proofs.lemmas.List.Sums.{sum_by_more, sum_by_more_le}
+use Rattle.bank_law.specs.Machine.{count_below}
 use Rattle.prio_graph.specs.Trees.{leaf}
 use Rattle.prio_graph.specs.Kept.{times}
+use Rattle.prio_graph.specs.Kept.{free_count}
 use Rattle.prio_graph.proofs.Finding.{one_if}
+use Rattle.prio_graph.proofs.Counting.{below-change}
 
 module _ (row : List ℕ) (i : ℕ) (l : i < length row) where
   abbrev r : ℕ
@@ -44,6 +47,21 @@ module _ (row : List ℕ) (i : ℕ) (l : i < length row) where
                 (let a = fewer-here in let b = times-here in let c = so_far r in let d = some_left in omega (arith, a, b, c, d))
             | inr d ↦ let a = fewer-other k d in let b = times-other k d in let c = so_far k in omega (arith, a, b, c)
           ]
+
+      -- one position more waits for nobody where its last edge is gone
+      free_step : free_count fewer ≡ free_count waits + one_if (slice_index fewer r == 0)
+      free_step =
+          let left = some_left in
+          let change = below-change (λ k. slice_index waits k == 0) (λ k. slice_index fewer k == 0) r (length waits) inside (λ k d. ap (λ w. w == 0) (sym (fewer-other k d))) in
+          let before = ap one_if (ne_eqb (slice_index waits r) 0 (λ e. omega (arith, e, left))) in
+          let long = ap (count_below (λ k. slice_index fewer k == 0)) (length-set waits r (slice_index waits r - 1)) in
+          omega (arith, change, before, long)
+
+      pub freed_step : slice_index fewer r ≡ 0 → free_count fewer ≡ free_count waits + 1
+      freed_step z = let step = free_step in let one = ap one_if (eq-eqb (slice_index fewer r) 0 z) in omega (arith, step, one)
+
+      pub unfreed_step : (slice_index fewer r ≡ 0 → ⊥) → free_count fewer ≡ free_count waits
+      unfreed_step n = let step = free_step in let none = ap one_if (ne_eqb (slice_index fewer r) 0 n) in omega (arith, step, none)
 
       abbrev shows : List ℕ → List ℕ → ℕ → ℕ → ℕ → ℕ
       shows ws old count t k = cond (nat_lt 0 t && (slice_index ws k == 0)) k (leaf old count k)

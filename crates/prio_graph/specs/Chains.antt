@@ -1,10 +1,10 @@
 -- The chains of positions: whom each waits for.
-use Rattle.std.specs.Prelude.{◌≡◌, ℕ, zero, suc, ◌<◌, ◌==◌, Bool, true, false, not, ◌&&◌, if◌then◌else◌, List, [], ◌∷◌, ◌++◌, length, count_by, Option, Some, None, option_to_list}
+use Rattle.std.specs.Prelude.{◌≡◌, ℕ, zero, suc, ◌<◌, ◌==◌, Bool, not, ◌&&◌, if◌then◌else◌, List, [], ◌∷◌, ◌++◌, length, count_by, Option, Some, None, option_to_list}
 use Rattle.std.specs.List.{list_any, flat_map}
 use Rattle.lock_table.specs.declared.locks.NumberedLock.{NumberedLock}
 use Rattle.prio_graph.specs.declared.mark.Mark.{Mark}
-use Rattle.prio_graph.specs.declared.mark.Mark.TheVariants.{Waiting, Started, Done}
-use Rattle.prio_graph.specs.Ready.{set_at, mark_at, EarlierDone}
+use Rattle.prio_graph.specs.declared.mark.Mark.TheVariants.{Waiting}
+use Rattle.prio_graph.specs.Ready.{set_at, mark_at, is_done_mark, EarlierDone}
 
 -- the number is written, or read, by these locks
 abbrev pub writes_number : List NumberedLock → ℕ → Bool
@@ -36,11 +36,6 @@ awaited sets i lock =
 -- the earlier ends of the edges of position i
 abbrev pub edges_into : List (List NumberedLock) → ℕ → List ℕ
 edges_into sets i = flat_map (awaited sets i) (set_at sets i)
-
-abbrev pub is_done_mark : Mark → Bool
-is_done_mark Waiting = false
-is_done_mark Started = false
-is_done_mark Done = true
 
 -- the counter of position i: the number of its edges whose earlier end is not done
 abbrev pub counter : List (List NumberedLock) → List Mark → ℕ → ℕ

@@ -1,10 +1,10 @@
 -- What a graph keeps beside its positions: a counter and the later ends of its edges for each, and
 -- the ready ones as leaves of a tree.
-use Rattle.std.specs.Prelude.{◌≡◌, ℕ, ◌+◌, ◌*◌, ◌^◌, ◌<◌, ◌≤◌, ◌==◌, Bool, true, false, ◌&&◌, if◌then◌else◌, List, [], ◌∷◌, ◌++◌, length, slice_set, nat_lt, count_by, slice_index, slice_index_or}
+use Rattle.std.specs.Prelude.{◌≡◌, ℕ, ◌+◌, ◌*◌, ◌^◌, ◌<◌, ◌≤◌, ◌==◌, Bool, ◌&&◌, if◌then◌else◌, List, [], ◌∷◌, ◌++◌, length, slice_set, nat_lt, count_by, slice_index, slice_index_or}
 use Rattle.lock_table.specs.declared.locks.NumberedLock.{NumberedLock}
 use Rattle.prio_graph.specs.declared.mark.Mark.{Mark}
-use Rattle.prio_graph.specs.declared.mark.Mark.TheVariants.{Waiting, Started, Done}
-use Rattle.prio_graph.specs.Ready.{mark_at}
+use Rattle.bank_law.specs.Machine.{count_below}
+use Rattle.prio_graph.specs.Ready.{mark_at, is_waiting_mark}
 use Rattle.prio_graph.specs.Chains.{edges_into, counter, StartedInOrder}
 use Rattle.prio_graph.specs.Trees.{IsTree, leaf}
 
@@ -19,11 +19,6 @@ edges rows j i = times i (slice_index_or rows j [])
 -- what a leaf has for a position that is not ready
 abbrev pub none : ℕ
 none = 4294967295
-
-abbrev pub is_waiting_mark : Mark → Bool
-is_waiting_mark Waiting = true
-is_waiting_mark Started = false
-is_waiting_mark Done = false
 
 -- the leaf of a position has its number where it is ready
 abbrev pub shown : Bool → ℕ → ℕ
@@ -64,6 +59,14 @@ pushed_at rows at item = slice_set rows at (slice_index_or rows at [] ++ item �
 abbrev pub AddsEdges : List ℕ → ℕ → List (List ℕ) → List (List ℕ) → Type 0
 AddsEdges earlier position rows next =
     (j i : ℕ) → edges next j i ≡ edges rows j i + (if i == position then times j earlier else 0)
+
+-- how many positions wait for nobody, and how many of them are waiting: the ready ones
+abbrev pub free_count : List ℕ → ℕ
+free_count waits = count_below (λ i. slice_index waits i == 0) (length waits)
+
+abbrev pub waiting_free_count : List Mark → List ℕ → ℕ
+waiting_free_count marks waits =
+    count_below (λ i. is_waiting_mark (mark_at marks i) && (slice_index waits i == 0)) (length waits)
 
 -- what a graph keeps
 pub record IsGraph (sets : List (List NumberedLock)) (marks : List Mark) (waits : List ℕ)

@@ -1,5 +1,5 @@
 -- The law of the chained graph, and what ready means in the core machine.
-use Rattle.std.specs.Prelude.{◌≡◌, ℕ, ◌<◌, ◌↔◌, List, length}
+use Rattle.std.specs.Prelude.{◌≡◌, ℕ, ◌<◌, ◌↔◌, true, List, length}
 use Rattle.std.specs.List.{IsDistinct}
 use Rattle.sol_base.specs.declared.key.Key.{Key}
 use Rattle.bank_law.specs.Job.{Job, same_key}
@@ -8,7 +8,7 @@ use Rattle.lock_table.specs.declared.locks.NumberedLock.{NumberedLock}
 use Rattle.lock_table.specs.Numbers.{Numbers}
 use Rattle.prio_graph.specs.declared.mark.Mark.{Mark}
 use Rattle.prio_graph.specs.declared.mark.Mark.TheVariants.{Waiting, Started, Done}
-use Rattle.prio_graph.specs.Ready.{Positions, set_at, mark_at, EarlierDone, IsReady}
+use Rattle.prio_graph.specs.Ready.{Positions, set_at, mark_at, EarlierDone, IsReady, is_ready}
 use Rattle.prio_graph.specs.Chains.{counter, StartedInOrder}
 
 -- a counter is 0 exactly where all earlier conflicting positions are done
@@ -16,6 +16,11 @@ abbrev pub CountersTell : Type 0
 CountersTell =
     (sets : List (List NumberedLock)) (marks : List Mark) → StartedInOrder sets marks →
     (i : ℕ) → i < length sets → (counter sets marks i ≡ 0) ↔ EarlierDone sets marks i
+
+-- the positions that are counted as ready are those that are
+abbrev pub ReadyAreCounted : Type 0
+ReadyAreCounted =
+    (p : Positions) (i : ℕ) → i < length p.sets → (is_ready p i ≡ true) ↔ IsReady p i
 
 -- the mark of a stage of the core machine
 abbrev pub mark_of : Stage → Mark

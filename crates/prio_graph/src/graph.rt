@@ -1,8 +1,8 @@
 //! The graph of positions: which are ready, and the least of them.
 ghost use Rattle.std.specs.Prelude.{◌≡◌, ℕ, ◌+◌, ◌*◌, ◌^◌, ◌<◌, ◌≤◌, All, IfOk, IfSome, IfNone, length, slice_index, slice_set};
 ghost use Rattle.prio_graph.specs.Trees.{IsTree};
-ghost use Rattle.prio_graph.specs.Ready.{all_waiting, IsReady, IsLeastOfReady, mark_at, set_at};
-ghost use Rattle.prio_graph.specs.Kept.{times, ShowsFree, ShowsReleased};
+ghost use Rattle.prio_graph.specs.Ready.{all_waiting, IsReady, IsLeastOfReady, mark_at, ready_count, set_at};
+ghost use Rattle.prio_graph.specs.Kept.{free_count, times, ShowsFree, ShowsReleased};
 ghost use Rattle.prio_graph.specs.declared.mark.Mark.TheVariants.{Waiting, Started, Done};
 
 use crate::edges::edges_of;
@@ -24,17 +24,21 @@ pub struct Graph {
     later: Vec<Items<u32>>,
     // The ready positions.
     ready: Vec<u32>,
+    // How many they are.
+    ready_count: u32,
 }
 
 impl Model for Graph {
     ghost use Rattle.prio_graph.specs.Ready.{Positions};
-    ghost use Rattle.prio_graph.specs.Kept.{IsGraph};
+    ghost use Rattle.prio_graph.specs.Kept.{IsGraph, waiting_free_count};
+    ghost use Rattle.std.specs.Prelude.{◌≡◌};
 
     ghost Value = { Positions };
 
     ghost view = { λ g. record { sets = g.sets; marks = g.marks.items } };
 
-    ghost invariant = { λ g. IsGraph g.sets g.marks.items g.waits.items g.later.items g.ready.items };
+    ghost invariant = { λ g. IsGraph g.sets g.marks.items g.waits.items g.later.items g.ready.items
+        × (g.ready_count ≡ waiting_free_count g.marks.items g.waits.items) };
 }
 
 impl Graph {
@@ -47,12 +51,14 @@ impl Graph {
         let marks = vec![in alloc; Mark::Waiting; sets.len()]?;
         let edges = edges_of(alloc, sets.as_slice())?;
         let ready = tree_of(alloc, edges.waits.as_slice())?;
+        let ready_count = count_free(edges.waits.as_slice());
         Ok(Graph {
             sets,
             marks,
             waits: edges.waits,
             later: edges.later,
             ready,
+            ready_count,
         })
     }
 
@@ -74,6 +80,13 @@ impl Graph {
         if least == NONE { None } else { Some(least) }
     }
 
+    /// How many positions are ready.
+    pub fn ready_count(&self) -> u32
+        ensures { result ≡ ready_count self.now }
+    {
+        self.ready_count
+    }
+
     /// Starts a position that is ready.
     pub fn start(&mut self, position: u32)
         requires { IsReady self.old position }
@@ -82,6 +95,7 @@ impl Graph {
         let at = position as usize;
         self.marks[at] = Mark::Started;
         write_leaf(&mut self.ready, self.sets.len(), at, NONE);
+        self.ready_count -= 1;
     }
 
     /// Ends a position that is started: it is done.
@@ -91,7 +105,8 @@ impl Graph {
     {
         let at = position as usize;
         self.marks[at] = Mark::Done;
-        release(&mut self.waits, &mut self.ready, self.later[at].as_slice());
+        let freed = release(&mut self.waits, &mut self.ready, self.later[at].as_slice());
+        self.ready_count += freed;
     }
 
     /// Takes a start back: the position is waiting again.
@@ -102,6 +117,7 @@ impl Graph {
         let at = position as usize;
         self.marks[at] = Mark::Waiting;
         write_leaf(&mut self.ready, self.sets.len(), at, position);
+        self.ready_count += 1;
     }
 }
 
@@ -122,8 +138,23 @@ fn tree_of(alloc: Global, waits: &[usize]) -> Result<Vec<u32>, OutOfMemory>
     Ok(tree)
 }
 
-/// Takes one edge from each position of a row, and shows those that wait for nobody any more.
-fn release(waits: &mut [usize], tree: &mut [u32], row: &[u32])
+/// How many positions wait for nobody.
+fn count_free(waits: &[usize]) -> u32
+    requires { length waits.now < 2 ^ 32 }
+    ensures { result ≡ free_count waits.now }
+{
+    let mut free = 0;
+    for i in 0..waits.len() {
+        if waits[i] == 0 {
+            free += 1;
+        }
+    }
+    free
+}
+
+/// Takes one edge from each position of a row, and shows those that wait for nobody any more. It
+/// answers how many they are.
+fn release(waits: &mut [usize], tree: &mut [u32], row: &[u32]) -> u32
     requires few { length waits.old < 2 ^ 32 }
     requires within { All (λ i. i < length waits.old) row.now }
     requires enough { (i : ℕ) → times i row.now ≤ slice_index waits.old i }
@@ -132,13 +163,17 @@ fn release(waits: &mut [usize], tree: &mut [u32], row: &[u32])
     ensures waits { (i : ℕ) → slice_index waits.new i + times i row.now ≡ slice_index waits.old i }
     ensures is_tree { IsTree tree.new (length waits.old) }
     ensures leaves { ShowsReleased row.now waits.old waits.new tree.old tree.new }
+    ensures freed { free_count waits.old + result ≡ free_count waits.new }
 {
     let count = waits.len();
+    let mut freed = 0;
     for i in row {
         let at = *i as usize;
         waits[at] -= 1;
         if waits[at] == 0 {
             write_leaf(tree, count, at, *i);
+            freed += 1;
         }
     }
+    freed
 }

@@ -14,5 +14,5 @@ mod rows;
 mod tree;
 
 pub use graph::Graph;
-pub use laws::{counters_tell, ready_in_the_machine};
+pub use laws::{counters_tell, ready_are_counted, ready_in_the_machine};
 pub use mark::Mark;

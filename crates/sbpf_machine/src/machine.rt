@@ -137,6 +137,14 @@ impl Machine {
         [r[1], r[2], r[3], r[4], r[5]]
     }
 
+    /// The slot of the instruction that the machine stands at: that of a stop is the one that stopped
+    /// it.
+    pub fn place(&self) -> u32
+        ensures { result ≡ self.now.place }
+    {
+        self.place
+    }
+
     pub fn memory(&self) -> &Memory
         ensures { result.now ≡ self.now.context.memory }
     {

@@ -4,23 +4,25 @@ ghost use Rattle.spec_base.specs.Reading.{Gives};
 ghost use Rattle.sbpf_memory.specs.Plain.{plain_memory};
 ghost use Rattle.sbpf_memory.specs.Reads.{bytes_or};
 
+use crate::fault::AccessViolation;
 use crate::memory::Memory;
 use sol_base::Blob;
 use std::alloc::Global;
 
-/// The refusals of calls that read a memory: each has one for accesses that are refused, and one
-/// for want of memory.
+/// The refusals of calls that read a memory: each has one that carries the access that is refused,
+/// and one for want of memory.
 pub trait ReadFault {
     ghost use Rattle.std.specs.Prelude.{◌≡◌, Bool, true, false};
+    ghost use Rattle.sbpf_memory.specs.declared.fault.AccessViolation.{AccessViolation as Violation};
 
-    /// The refusal of an access, whichever it is.
-    ghost violation: { Self };
+    /// The refusal of an access.
+    ghost violated: { Violation → Self };
 
     /// Whether it is want of memory, which no input shows.
     ghost is_memory: { Self → Bool };
 
-    fn access_violation() -> Self
-        ensures value { result ≡ violation }
+    fn access_violation(violation: AccessViolation) -> Self
+        ensures value { result ≡ violated violation }
         ensures by_input { is_memory result ≡ false };
 
     fn out_of_memory() -> Self
@@ -30,12 +32,12 @@ pub trait ReadFault {
 /// The `N` bytes at an address.
 #[tactic(auto, using(crate::proofs::Plain::plain))]
 pub fn read_array<E: ReadFault, const N: usize>(memory: &Memory, addr: u64) -> Result<[u8; N], E>
-    ensures { result ≡ bytes_or E.violation (plain_memory memory.now) addr N }
+    ensures { result ≡ bytes_or E.violated (plain_memory memory.now) addr N }
 {
     let mut bytes = [0; N];
     match memory.read(addr, &mut bytes) {
         Ok(()) => Ok(bytes),
-        Err(_) => Err(E::access_violation()),
+        Err(violation) => Err(E::access_violation(violation)),
     }
 }
 
@@ -48,7 +50,7 @@ pub fn read_bytes<E: ReadFault>(
     len: u64,
 ) -> Result<Vec<u8>, E>
     ensures bytes { Gives E.is_memory (λ bytes. bytes.items) result
-        (bytes_or E.violation (plain_memory memory.now) addr len) }
+        (bytes_or E.violated (plain_memory memory.now) addr len) }
     ensures count { IfOk result (λ bytes. length bytes.items ≡ len) }
 {
     let Ok(mut bytes) = vec![in alloc; 0; len as usize] else {
@@ -56,7 +58,7 @@ pub fn read_bytes<E: ReadFault>(
     };
     match memory.read(addr, bytes.as_mut_slice()) {
         Ok(()) => Ok(bytes),
-        Err(_) => Err(E::access_violation()),
+        Err(violation) => Err(E::access_violation(violation)),
     }
 }
 
@@ -68,7 +70,7 @@ pub fn read_blob<E: ReadFault>(
     len: u64,
 ) -> Result<Blob, E>
     ensures { Gives E.is_memory (λ bytes. bytes) result
-        (bytes_or E.violation (plain_memory memory.now) addr len) }
+        (bytes_or E.violated (plain_memory memory.now) addr len) }
 {
     let bytes = read_bytes::<E>(alloc, memory, addr, len)?;
     match Blob::from_slice(alloc, bytes.as_slice()) {

@@ -23,7 +23,7 @@ pub does-serves : (row : SysAnswer) (old new : Ranges) (env env' : Env) (units :
 does-serves row old new env env' units (Ok r0) does = (does.0, does.1)
 does-serves row old new env env' units (Err no_memory) does = (does.4.0, does.4.1)
 does-serves row old new env env' units (Err Abort) does = refused row old new env env' units Abort does.0 (does.1 refl) does.4
-does-serves row old new env env' units (Err AccessViolation) does = refused row old new env env' units AccessViolation does.0 (does.1 refl) does.4
+does-serves row old new env env' units (Err (AccessViolation v)) does = refused row old new env env' units (AccessViolation v) does.0 (does.1 refl) does.4
 does-serves row old new env env' units (Err Overlap) does = refused row old new env env' units Overlap does.0 (does.1 refl) does.4
 does-serves row old new env env' units (Err UnitsSpent) does = refused row old new env env' units UnitsSpent does.0 (does.1 refl) does.4
 does-serves row old new env env' units (Err TooManySeeds) does = refused row old new env env' units TooManySeeds does.0 (does.1 refl) does.4
@@ -79,7 +79,7 @@ pub serves-memory : (number : ℕ) (arguments : List ℕ) (old new : Ranges) (en
 serves-memory number arguments old new env env' (Ok r0) lent serves = plain-served old new lent (sys_row-memory number arguments (plain_memory old) env (service r0 (plain_memory new) env') serves.0)
 serves-memory number arguments old new env env' (Err no_memory) lent serves = stays-served old new lent serves.0
 serves-memory number arguments old new env env' (Err Abort) lent serves = stays-served old new lent serves.2
-serves-memory number arguments old new env env' (Err AccessViolation) lent serves = stays-served old new lent serves.2
+serves-memory number arguments old new env env' (Err (AccessViolation v)) lent serves = stays-served old new lent serves.2
 serves-memory number arguments old new env env' (Err Overlap) lent serves = stays-served old new lent serves.2
 serves-memory number arguments old new env env' (Err UnitsSpent) lent serves = stays-served old new lent serves.2
 serves-memory number arguments old new env env' (Err TooManySeeds) lent serves = stays-served old new lent serves.2

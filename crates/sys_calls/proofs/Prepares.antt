@@ -16,15 +16,14 @@ use Rattle.sbpf_memory.proofs.Keeping.{Kept, kept-place, write-kept}
 use Rattle.sbpf_memory.proofs.Prepared.{place-kept}
 use Rattle.sbpf_memory.proofs.Writing.{write_to-refused, write_to-ok}
 use Rattle.sys_calls.specs.declared.fault.SysFault.{SysFault}
-use Rattle.sys_calls.specs.declared.fault.SysFault.TheVariants.{AccessViolation as violated}
-use Rattle.sys_calls.specs.Access.{bytes_written, write_checked, or_tt, or_violation}
+use Rattle.sys_calls.specs.Access.{bytes_written, violated_by, write_checked, or_tt, or_violation}
 use Rattle.sys_calls.specs.SysCalls.{both_written}
 use Rattle.sbpf_memory.proofs.Plain.{write-plain}
 
 refused : (m : Ranges) (addr : ℕ) (bytes : List ℕ) (e : SysFault) (o : Option AccessViolation) → write_refusal m addr (length bytes) ≡ o → or_tt o ≡ Err e → bytes_written (plain_memory m) addr bytes ≡ Err e
 refused m addr bytes e None found h = absurd (cc)
 refused m addr bytes e (Some v) found h =
-    let same : violated ≡ e = cc in
+    let same : violated_by v ≡ e = cc in
     rw (write-plain m addr bytes, write_to-refused m addr bytes v found) (ap Err same)
 
 -- what is refused when it is prepared for is refused when it is written

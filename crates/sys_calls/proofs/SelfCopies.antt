@@ -4,12 +4,11 @@ use Rattle.std.proofs.lemmas.Bool.Decides.{nat_tests}
 use Rattle.sbpf_memory.specs.declared.fault.AccessViolation.{AccessViolation}
 use Rattle.sbpf_memory.specs.declared.fault.MemFault.{MemFault}
 use Rattle.sbpf_memory.specs.declared.fault.MemFault.TheVariants.{AccessViolation as violation, Overlap, OutOfMemory as no_memory}
-use Rattle.sbpf_memory.specs.Memory.{Ranges, read_from, write_to, copy_of, copy_to, or_overlap, meet, Answers}
+use Rattle.sbpf_memory.specs.Memory.{Ranges, read_from, violation_of, write_to, copy_of, copy_to, or_overlap, meet, Answers}
 use Rattle.sbpf_memory.specs.Plain.{plain_memory}
 use Rattle.sbpf_memory.proofs.Reading.{read-refused}
 use Rattle.sbpf_memory.proofs.Writing.{write-refused}
-use Rattle.sys_calls.specs.declared.fault.SysFault.TheVariants as Sys
-use Rattle.sys_calls.specs.Access.{IsReadable, bytes_read, refused_read}
+use Rattle.sys_calls.specs.Access.{IsReadable, bytes_read, refused_read, violated_by}
 use Rattle.sbpf_memory.proofs.Plain.{read-plain}
 
 -- ranges of at least one byte that begin at one address meet
@@ -53,19 +52,24 @@ by_read a n true (Ok m) writes h = cc
 by_read a n false (Ok m) writes h = cc
 by_read a n b (Err v) writes h = let yes : v.write ≡ true = writes v refl in cc
 
-refused : (m : Ranges) (to a n : ℕ) (b : Bool) (r : Result (List ℕ) AccessViolation) → copy_of m to b r ≡ Err (violation a n false) → (v : AccessViolation) × (r ≡ Err v)
-refused m to a n b (Err v) h = (v, refl)
+-- the access that a copy was refused for
+abbrev access_of : AccessViolation → Result Ranges MemFault → AccessViolation
+access_of other (Err (violation a n w)) = violation_of a n w
+access_of other _ = other
+
+refused : (m : Ranges) (to a n : ℕ) (b : Bool) (r : Result (List ℕ) AccessViolation) → copy_of m to b r ≡ Err (violation a n false) → r ≡ Err (violation_of a n false)
+refused m to a n b (Err v) h = let same : v ≡ violation_of a n false = ap (access_of v) h in ap Err same
 refused m to a n b (Ok bytes) h =
     absurd (by_read a n b (write_to m to bytes) (λ v no. ap (λ (w : AccessViolation). w.write) (write-refused m to bytes v no)) h)
 
--- a copy that is refused for its read is not read
-pub read-refuses : (m : Ranges) (to from len a n : ℕ) (apart : Bool) → copy_to m to from len apart ≡ Err (violation a n false) → (v : AccessViolation) × (read_from m from len ≡ Err v)
+-- a copy that is refused for its read is refused as the read is
+pub read-refuses : (m : Ranges) (to from len a n : ℕ) (apart : Bool) → copy_to m to from len apart ≡ Err (violation a n false) → read_from m from len ≡ Err (violation_of a n false)
 unfolding copy_to
 read-refuses m to from len a n apart h = refused m to a n _ (read_from m from len) h
 
 -- what such a copy answers tells whether the range may be read, and the memory stays
 pub record Told (m new : Ranges) (addr len : ℕ) (copied : Result (Unit {0}) MemFault) : Type 0 where
-  pub answer : MatchResult (refused_read copied) (λ _. IsReadable (plain_memory m) addr len) (λ fault. (fault ≡ Sys.AccessViolation) × (bytes_read (plain_memory m) addr len ≡ Err fault))
+  pub answer : MatchResult (refused_read copied) (λ _. IsReadable (plain_memory m) addr len) (λ fault. (fault ≡ violated_by (violation_of addr len false)) × (bytes_read (plain_memory m) addr len ≡ Err fault))
   pub memory : new ≡ m
 
 pub told : (m new : Ranges) (addr len : ℕ) (copied : Result (Unit {0}) MemFault) → 1 ≤ len → Answers (copy_to m addr addr len true) m new copied → Told m new addr len copied
@@ -75,4 +79,4 @@ told m new addr len (Err no_memory) some answer = absurd (copy-self m addr len s
 told m new addr len (Err (violation a n true)) some answer = record { answer = rw (read-plain m addr len) (write-reads m addr addr len a n true answer.0); memory = answer.1 }
 told m new addr len (Err (violation a n false)) some answer =
     let r = read-refuses m addr addr len a n true answer.0 in
-    record { answer = (refl, rw (read-plain m addr len, r.1) refl); memory = answer.1 }
+    record { answer = (ap violated_by (read-refused m addr len (violation_of a n false) r), rw (read-plain m addr len, r) refl); memory = answer.1 }

@@ -1,12 +1,12 @@
 //! Reads and writes of calls.
-ghost use Rattle.std.specs.Prelude.{◌≡◌, ◌-◌, ◌<◌, min, length, take, drop, None, OnOk, OnErr, MatchResult};
+ghost use Rattle.std.specs.Prelude.{◌≡◌, ◌-◌, ◌<◌, min, false, length, take, drop, None, OnOk, OnErr, MatchResult};
 ghost use Rattle.spec_base.specs.Reading.{Gives};
-ghost use Rattle.sbpf_memory.specs.Memory.{KeepsBytes, IsPrepared, write_refusal};
+ghost use Rattle.sbpf_memory.specs.Memory.{KeepsBytes, IsPrepared, violation_of, write_refusal};
 ghost use Rattle.sbpf_memory.specs.Plain.{plain_memory};
-ghost use Rattle.sys_calls.specs.Access.{is_sys_memory, bytes_read, bytes_written, IsReadable, held, refused_read, write_checked};
+ghost use Rattle.sys_calls.specs.Access.{is_sys_memory, bytes_read, bytes_written, violated_by, IsReadable, held, refused_read, write_checked};
 
 use crate::fault::SysFault;
-use sbpf_memory::{MemFault, Memory};
+use sbpf_memory::{AccessViolation, MemFault, Memory};
 
 /// The bytes of a piece, in which long ranges are read and written.
 pub(crate) const PIECE: usize = 1024;
@@ -40,7 +40,7 @@ pub(crate) fn prepare(memory: &mut Memory, addr: u64, len: u64) -> Result<(), Sy
 pub(crate) fn check_read(memory: &mut Memory, addr: u64, len: u64) -> Result<(), SysFault>
     ensures answer { MatchResult result
         (λ _. IsReadable (plain_memory memory.old) addr len)
-        (λ fault. (fault ≡ SysFault.AccessViolation)
+        (λ fault. (fault ≡ violated_by (violation_of addr len false))
         × (bytes_read (plain_memory memory.old) addr len ≡ Err fault)) }
     ensures memory { memory.new ≡ memory.old }
 {
@@ -55,11 +55,11 @@ fn read_refusal(copied: Result<(), MemFault>) -> Result<(), SysFault>
     ensures { result ≡ refused_read copied }
 {
     match copied {
-        Err(MemFault::AccessViolation { write, .. }) => {
+        Err(MemFault::AccessViolation { addr, len, write }) => {
             if write {
                 Ok(())
             } else {
-                Err(SysFault::AccessViolation)
+                Err(SysFault::AccessViolation(AccessViolation { addr, len, write }))
             }
         }
         _ => Ok(()),

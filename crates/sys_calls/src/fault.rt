@@ -1,6 +1,6 @@
 //! The refusals of system calls.
 use compute_meter::UnitsFault;
-use sbpf_memory::{MemFault, ReadFault};
+use sbpf_memory::{AccessViolation, MemFault, ReadFault};
 use sol_base::OutOfMemory;
 use std::alloc::AllocError;
 use thiserror::Error;
@@ -10,8 +10,8 @@ use thiserror::Error;
 pub enum SysFault {
     #[error("the program aborted")]
     Abort,
-    #[error("an access is refused")]
-    AccessViolation,
+    #[error("{0}")]
+    AccessViolation(AccessViolation),
     #[error("the ranges of a copy meet")]
     Overlap,
     #[error("the compute units are spent")]
@@ -51,15 +51,14 @@ impl From<AllocError> for SysFault {
 }
 
 impl ReadFault for SysFault {
-    ghost use Rattle.sys_calls.specs.declared.fault.SysFault.TheVariants.{AccessViolation as refused};
-    ghost use Rattle.sys_calls.specs.Access.{is_sys_memory};
+    ghost use Rattle.sys_calls.specs.Access.{is_sys_memory, violated_by};
 
-    ghost violation = { refused };
+    ghost violated = { violated_by };
 
     ghost is_memory = { is_sys_memory };
 
-    fn access_violation() -> SysFault {
-        SysFault::AccessViolation
+    fn access_violation(violation: AccessViolation) -> SysFault {
+        SysFault::AccessViolation(violation)
     }
 
     fn out_of_memory() -> SysFault {
@@ -85,7 +84,9 @@ impl From<MemFault> for SysFault {
 
     fn from(fault: MemFault) -> SysFault {
         match fault {
-            MemFault::AccessViolation { .. } => SysFault::AccessViolation,
+            MemFault::AccessViolation { addr, len, write } => {
+                SysFault::AccessViolation(AccessViolation { addr, len, write })
+            }
             MemFault::Overlap => SysFault::Overlap,
             MemFault::OutOfMemory => SysFault::OutOfMemory,
         }

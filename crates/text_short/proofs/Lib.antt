@@ -1,3 +1,3 @@
 mod MemberNames
-mod LoneItems
+pub mod ListItems
 pub mod ShortLaws

@@ -1,5 +1,6 @@
 //! A transaction in the short form.
-ghost use Rattle.std.specs.Prelude.{◌≡◌, codes};
+ghost use Rattle.std.specs.Prelude.{◌≡◌, ◌≤◌, IfOk, codes, length};
+ghost use Rattle.spec_base.specs.Bytes.{max_count};
 ghost use Rattle.spec_base.specs.Reading.{Gives};
 ghost use Rattle.serde_json.specs.View.{view};
 ghost use Rattle.serde_json.specs.Find.{as_str};
@@ -8,9 +9,9 @@ ghost use Rattle.json_parts.specs.Parts.{known_in, member_in};
 ghost use Rattle.text_short.specs.ShortForm.{plain_in, version_in, tables_in, hash_in, is_newest, blockhash_in, draft_names, draft_in, transaction_in};
 
 use crate::budget::budget_instruction;
-use crate::list::{ReadsItems, list_member};
+use crate::list::{Short, list_member};
 use crate::loader::loader_instruction;
-use crate::members::{Keys, key_member};
+use crate::members::key_member;
 use crate::system::system_instruction;
 use json_parts::{
     JsonFault, MAX_COUNT, Wanted, data_member, digits, flag_member, found, in_member, known,
@@ -24,16 +25,13 @@ use tx_build::{
     build_wire,
 };
 
-/// Accounts with their rights.
-struct AccountMetas;
-
-impl ReadsItems<AccountMeta> for AccountMetas {
+impl Short for AccountMeta {
     ghost use Rattle.text_short.specs.ShortForm.{account_in};
 
-    ghost item_in = { λ _. account_in };
+    ghost item_in = { account_in };
 
     #[tactic(auto, unfolding(crate::specs::ShortForm::account_in))]
-    fn read(&self, alloc: Global, value: &Value) -> Result<AccountMeta, JsonFault> {
+    fn read(alloc: Global, value: &Value) -> Result<AccountMeta, JsonFault> {
         known(alloc, value, &["key", "signer", "writable"])?;
         let key = key_member(alloc, value, "key")?;
         let signer = flag_member(alloc, value, "signer")?;
@@ -53,7 +51,7 @@ fn plain_instruction(alloc: Global, value: &Value) -> Result<KeyedInstruction, J
 {
     known(alloc, value, &["program", "accounts", "data"])?;
     let program = key_member(alloc, value, "program")?;
-    let accounts = list_member(alloc, value, "accounts", MAX_COUNT, &AccountMetas)?;
+    let accounts = list_member::<AccountMeta>(alloc, value, "accounts", MAX_COUNT)?;
     let input = data_member(alloc, value, "data", MAX_COUNT)?;
     Ok(KeyedInstruction {
         program,
@@ -62,16 +60,13 @@ fn plain_instruction(alloc: Global, value: &Value) -> Result<KeyedInstruction, J
     })
 }
 
-/// Instructions, told by which member is there.
-struct Instructions;
-
-impl ReadsItems<KeyedInstruction> for Instructions {
+impl Short for KeyedInstruction {
     ghost use Rattle.text_short.specs.ShortForm.{instruction_in};
 
-    ghost item_in = { λ _. instruction_in };
+    ghost item_in = { instruction_in };
 
     #[tactic(auto, unfolding(crate::specs::ShortForm::instruction_in))]
-    fn read(&self, alloc: Global, value: &Value) -> Result<KeyedInstruction, JsonFault> {
+    fn read(alloc: Global, value: &Value) -> Result<KeyedInstruction, JsonFault> {
         if value.get("system").is_some() {
             system_instruction(alloc, value)
         } else if value.get("budget").is_some() {
@@ -84,19 +79,16 @@ impl ReadsItems<KeyedInstruction> for Instructions {
     }
 }
 
-/// Tables with the addresses that are looked up in them.
-struct LookupTables;
-
-impl ReadsItems<LookupTable> for LookupTables {
+impl Short for LookupTable {
     ghost use Rattle.text_short.specs.ShortForm.{table_in};
 
-    ghost item_in = { λ _. table_in };
+    ghost item_in = { table_in };
 
     #[tactic(auto, unfolding(crate::specs::ShortForm::table_in))]
-    fn read(&self, alloc: Global, value: &Value) -> Result<LookupTable, JsonFault> {
+    fn read(alloc: Global, value: &Value) -> Result<LookupTable, JsonFault> {
         known(alloc, value, &["table", "addresses"])?;
         let key = key_member(alloc, value, "table")?;
-        let addresses = list_member(alloc, value, "addresses", MAX_ADDRESSES, &Keys)?;
+        let addresses = list_member::<Key>(alloc, value, "addresses", MAX_ADDRESSES)?;
         Ok(LookupTable { key, addresses })
     }
 }
@@ -105,7 +97,7 @@ impl ReadsItems<LookupTable> for LookupTables {
 fn tables(alloc: Global, value: &Value) -> Result<Version, JsonFault>
     ensures { Gives is_json_memory (λ x. x) result (tables_in (view value.now)) }
 {
-    let tables = list_member(alloc, value, "lookups", MAX_COUNT, &LookupTables)?;
+    let tables = list_member::<LookupTable>(alloc, value, "lookups", MAX_COUNT)?;
     Ok(Version::Zero { tables })
 }
 
@@ -187,7 +179,7 @@ fn draft(alloc: Global, value: &Value, newest: Option<Hash32>) -> Result<Draft, 
     known_of_draft(alloc, value)?;
     let payer = key_member(alloc, value, "payer")?;
     let blockhash = blockhash_member(alloc, value, newest)?;
-    let instructions = list_member(alloc, value, "instructions", MAX_COUNT, &Instructions)?;
+    let instructions = list_member::<KeyedInstruction>(alloc, value, "instructions", MAX_COUNT)?;
     let version = version(alloc, value)?;
     Ok(Draft {
         version,
@@ -204,7 +196,8 @@ pub(crate) fn transaction(
     value: &Value,
     newest: Option<Hash32>,
 ) -> Result<Blob, JsonFault>
-    ensures { Gives is_json_memory (λ x. x) result (transaction_in newest (view value.now)) }
+    ensures gives { Gives is_json_memory (λ x. x) result (transaction_in newest (view value.now)) }
+    ensures short { IfOk result (λ bytes. length bytes ≤ max_count) }
 {
     let draft = draft(alloc, value, newest)?;
     match build_wire(alloc, &draft) {

@@ -20,7 +20,7 @@ use crate::failure::Failure;
 use crate::payer::{charge, why_dropped};
 use crate::transaction::Transaction;
 use admission::Chosen;
-use bank_core::Effects;
+use bank_core::{Effects, SharedOutcome};
 use fee_rules::total;
 use invoke_engine::{Context, Setting};
 use message_codec::keys_of;
@@ -192,14 +192,15 @@ fn drop_it(
 {
     let alloc = transaction.context.alloc;
     let chosen = transaction.chosen;
+    let outcome = Outcome {
+        status: Status::Dropped { cause },
+        units: 0,
+        base_paid: 0,
+        priority_paid: 0,
+        lines: Items::new(alloc),
+    };
     Ok(Effects {
-        outcome: Outcome {
-            status: Status::Dropped { cause },
-            units: 0,
-            base_paid: 0,
-            priority_paid: 0,
-            lines: Items::new(alloc),
-        },
+        outcome: SharedOutcome::new(alloc, outcome)?,
         written: written_of(alloc, chosen.locks.as_slice(), values)?,
     })
 }
@@ -273,15 +274,17 @@ fn leave(
     ensures { IfOk result (λ e. effects_seen e ≡ effects_as transaction.now.chosen.now
         (came_to status units transaction.now.chosen.now.fee lines (accounts_of values.now))) }
 {
+    let alloc = transaction.context.alloc;
     let chosen = transaction.chosen;
+    let outcome = Outcome {
+        status,
+        units,
+        base_paid: chosen.fee.base,
+        priority_paid: chosen.fee.priority,
+        lines,
+    };
     Ok(Effects {
-        outcome: Outcome {
-            status,
-            units,
-            base_paid: chosen.fee.base,
-            priority_paid: chosen.fee.priority,
-            lines,
-        },
-        written: written_of(transaction.context.alloc, chosen.locks.as_slice(), values)?,
+        outcome: SharedOutcome::new(alloc, outcome)?,
+        written: written_of(alloc, chosen.locks.as_slice(), values)?,
     })
 }

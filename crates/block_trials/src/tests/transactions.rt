@@ -133,7 +133,7 @@ fn are_moved(written: &[Arc<Account>]) -> bool {
 fn is_paid(alloc: Global, work: &TxWork) -> Result<bool, Fail> {
     let values = wallets(alloc, &[1_000_005_000, 0, 0])?;
     let effects = effects_of(work, values.as_slice())?;
-    Ok(is_good(&effects.outcome) && are_moved(effects.written.as_slice()))
+    Ok(is_good(effects.outcome.value()) && are_moved(effects.written.as_slice()))
 }
 
 #[test]

@@ -8,14 +8,13 @@ ghost use Rattle.lane_trials.specs.Held.{Holds, ReturnsOnce};
 use crate::tests::desk::{Answer, Lane, finds_end, make_step, second_of, settled};
 use crate::tests::readers::{desk_of_two, told};
 use crate::tests::trial::{Trial, accounts_of_ten, trial_of};
-use bank_core::{Desk, Sealed, Work};
+use bank_core::{Desk, Sealed, SharedOutcome, Work};
 use bank_shared::{Pass, Reader, SharedDesk};
 use sol_base::Items;
 use std::alloc::Global;
 use std::process::Abort;
 use std::sync::Wait;
 use std::test::Fail;
-use tx_report::Outcome;
 
 /// A lane takes, or commits what it holds.
 pub const ON: bool = false;
@@ -30,9 +29,9 @@ pub type Row = (u32, bool, Option<(Answer, u32, u32, &'static [u64])>);
 type TrialLane = Lane<Trial, Pass<Trial>>;
 
 /// Whether the outcomes have these units, in the order of the positions.
-pub fn have_units(outcomes: &Items<Outcome>, units: &[u64]) -> bool {
+pub fn have_units(outcomes: &Items<SharedOutcome>, units: &[u64]) -> bool {
     for (outcome, want) in outcomes.as_slice().iter().zip(units) {
-        if outcome.units != *want {
+        if outcome.value().units != *want {
             return false;
         }
     }

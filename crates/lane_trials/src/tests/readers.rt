@@ -4,12 +4,11 @@ ghost use Rattle.bank_shared.specs.Face.{desk_origin, first_pass, IsPassOf, IsRe
 
 use crate::tests::trial::Trial;
 use account_store::Accounts;
-use bank_core::Core;
+use bank_core::{Core, SharedOutcome};
 use bank_shared::{Pass, Reader, SharedDesk};
 use sol_base::{Items, OutOfMemory};
 use std::alloc::Global;
 use std::sync::Wait;
-use tx_report::Outcome;
 
 /// A desk of two lanes over a trial, and the pass of the first.
 pub fn desk_of_two(
@@ -33,7 +32,7 @@ pub fn told<R: Wait>(
     trial: &Trial,
     from: u32,
     most: u32,
-) -> Result<Items<Outcome>, OutOfMemory>
+) -> Result<Items<SharedOutcome>, OutOfMemory>
     requires trial { (desk_origin desk.now).told ≡ trial.now.locks }
     requires within { from + most ≤ length trial.now.locks }
     requires reader { IsReaderOf desk.now reader.old }

@@ -11,7 +11,7 @@ ghost use Rattle.bank_core.specs.Trial.{spent, first_lamports, trial_effects, tr
 ghost use Rattle.bank_core.specs.TrialLaws.{trial_lawful};
 
 use account_store::Accounts;
-use bank_core::{Effects, Work};
+use bank_core::{Effects, SharedOutcome, Work};
 use lock_table::has_distinct_keys;
 use sol_base::{Account, Items, Key, Lock, LockList, OutOfMemory};
 use std::alloc::Global;
@@ -64,14 +64,15 @@ fn perform_locks(
     ensures { IfOk result (λ e. effects_seen e ≡ trial_effects locks.now (accounts_of values.now)) }
 {
     let written = write_locks(alloc, locks, values)?;
+    let outcome = Outcome {
+        status: Status::Good,
+        units: units_of(values),
+        base_paid: 0,
+        priority_paid: 0,
+        lines: Items::new(alloc),
+    };
     Ok(Effects {
-        outcome: Outcome {
-            status: Status::Good,
-            units: units_of(values),
-            base_paid: 0,
-            priority_paid: 0,
-            lines: Items::new(alloc),
-        },
+        outcome: SharedOutcome::new(alloc, outcome)?,
         written,
     })
 }

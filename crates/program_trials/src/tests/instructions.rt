@@ -8,8 +8,9 @@ ghost use Rattle.invoke_engine.specs.Conditions.{AreAccountsOf, IsCall};
 
 use super::texts::{Text, VAULT, image};
 use account_store::{Accounts, KeyedAccount, StoreFault};
-use invoke_engine::{Call, Ended, Ran, Setting, run_instruction};
+use invoke_engine::{Call, Ended, Ran, Setting, StoppedAt, run_instruction};
 use program_cache::Programs;
+use sbpf_memory::AccessViolation;
 use sol_base::{
     Account, Blob, COMPUTE_BUDGET_PROGRAM, Items, Key, LOADER_PROGRAM, Meta, OutOfMemory,
     SYSTEM_PROGRAM,
@@ -498,6 +499,93 @@ fn examples_of_programs(rt: HostRuntime) -> Result<(), Fail> {
         assert!(rt; 1 <= *height && *height <= 9);
         let (ran, lines) = ran_with(rt.alloc(), *text, *number, *second, *height, *units)?;
         assert!(rt; comes_to(&ran, lines, *units, wanted));
+    }
+    Ok(())
+}
+
+/// Where programs stop that fail: the program with its number, the second account, and where.
+const STOPS: [(Text, u8, Second, Option<StoppedAt>); 8] = [
+    (
+        Text::CallsOther,
+        0,
+        Second::Program,
+        Some(StoppedAt {
+            program: OTHER,
+            slot: 7,
+            access: None,
+        }),
+    ),
+    (
+        Text::Loads,
+        5,
+        Second::Own,
+        Some(StoppedAt {
+            program: PROGRAM,
+            slot: 2,
+            access: Some(AccessViolation {
+                addr: 5,
+                len: 8,
+                write: false,
+            }),
+        }),
+    ),
+    (
+        Text::Logs,
+        9,
+        Second::Own,
+        Some(StoppedAt {
+            program: PROGRAM,
+            slot: 2,
+            access: Some(AccessViolation {
+                addr: 0,
+                len: 9,
+                write: false,
+            }),
+        }),
+    ),
+    (
+        Text::Asks,
+        0,
+        Second::Own,
+        Some(StoppedAt {
+            program: PROGRAM,
+            slot: 2,
+            access: Some(AccessViolation {
+                addr: 0,
+                len: 40,
+                write: false,
+            }),
+        }),
+    ),
+    (
+        Text::Stores,
+        0,
+        Second::Foreign,
+        Some(StoppedAt {
+            program: PROGRAM,
+            slot: 2,
+            access: None,
+        }),
+    ),
+    (
+        Text::Loops,
+        0,
+        Second::Own,
+        Some(StoppedAt {
+            program: PROGRAM,
+            slot: 0,
+            access: None,
+        }),
+    ),
+    (Text::Stores, 0, Second::Own, None),
+    (Text::Plain, 0, Second::Own, None),
+];
+
+#[test]
+fn programs_that_fail_tell_where(rt: HostRuntime) -> Result<(), Fail> {
+    for (text, number, second, wanted) in &STOPS {
+        let (ran, _) = ran_with(rt.alloc(), *text, *number, *second, 5, 5_000)?;
+        assert!(rt; ran.stopped_at == *wanted);
     }
     Ok(())
 }

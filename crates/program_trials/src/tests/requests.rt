@@ -5,7 +5,7 @@ ghost use Rattle.cpi_calls.specs.Limits.{max_metas};
 use super::texts::VAULT;
 use cpi_calls::{CallFault, CallRequest, Granted, KeyMeta, RightsFault, grant_rights, read_call};
 use data_parts::Parts;
-use sbpf_memory::Memory;
+use sbpf_memory::{AccessViolation, Memory};
 use sol_base::{Blob, Items, Key, Meta, OutOfMemory, SYSTEM_PROGRAM};
 use std::alloc::Global;
 use std::sync::Arc;
@@ -48,14 +48,36 @@ fn put_all(memory: &mut Memory, addr: u64, numbers: &[u64]) -> Result<(), OutOfM
 
 /// Calls that lie: where they stand, their five numbers, the units, and the refusal.
 const LIES: [(u64, [u64; 5], u64, CallFault); 8] = [
-    (0x2_0000_1000, [0; 5], 1000, CallFault::AccessViolation),
+    (
+        0x2_0000_1000,
+        [0; 5],
+        1000,
+        CallFault::AccessViolation(AccessViolation {
+            addr: 0x2_0000_1000,
+            len: 40,
+            write: false,
+        }),
+    ),
     (
         0xffff_ffff_ffff_fff0,
         [0; 5],
         1000,
-        CallFault::AccessViolation,
+        CallFault::AccessViolation(AccessViolation {
+            addr: 0xffff_ffff_ffff_fff0,
+            len: 40,
+            write: false,
+        }),
     ),
-    (0x3_0000_7fe0, [0; 5], 1000, CallFault::AccessViolation),
+    (
+        0x3_0000_7fe0,
+        [0; 5],
+        1000,
+        CallFault::AccessViolation(AccessViolation {
+            addr: 0x3_0000_7fe0,
+            len: 40,
+            write: false,
+        }),
+    ),
     (
         LAST,
         [HEAP, 0, u64::MAX, 0, 0],
@@ -67,7 +89,11 @@ const LIES: [(u64, [u64; 5], u64, CallFault); 8] = [
         LAST,
         [HEAP, 0xffff_ffff_ffff_fff8, 1, 0, 0],
         1000,
-        CallFault::AccessViolation,
+        CallFault::AccessViolation(AccessViolation {
+            addr: 0xffff_ffff_ffff_fff8,
+            len: 16,
+            write: false,
+        }),
     ),
     (LAST, [HEAP, HEAP + 64, 1, 0, 0], 1000, CallFault::BadFlag),
     (LAST, [HEAP, 0, 0, 0, 0], 999, CallFault::UnitsSpent),

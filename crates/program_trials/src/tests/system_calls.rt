@@ -1,6 +1,6 @@
 //! Each system call once, its cost, and its refusals.
 use data_parts::Parts;
-use sbpf_memory::Memory;
+use sbpf_memory::{AccessViolation, Memory};
 use sol_base::{Blob, Items, Key, OutOfMemory};
 use std::alloc::Global;
 use std::sync::Arc;
@@ -70,7 +70,11 @@ const EDGES: [(u32, [u64; 5], u64, Result<u64, SysFault>); 27] = [
         2,
         [PROGRAM + 5, 2, 0, 0, 0],
         100,
-        Err(SysFault::AccessViolation),
+        Err(SysFault::AccessViolation(AccessViolation {
+            addr: PROGRAM + 5,
+            len: 2,
+            write: false,
+        })),
     ),
     (3, [1, 2, 3, 4, 5], 100, Ok(0)),
     (4, [HEAP + 8160, 0, 0, 0, 0], 100, Ok(0)),
@@ -96,7 +100,11 @@ const EDGES: [(u32, [u64; 5], u64, Result<u64, SysFault>); 27] = [
         7,
         [PROGRAM, PROGRAM, 6, 0, 0],
         10,
-        Err(SysFault::AccessViolation),
+        Err(SysFault::AccessViolation(AccessViolation {
+            addr: PROGRAM,
+            len: 6,
+            write: true,
+        })),
     ),
     (8, [HEAP, HEAP + 1, 8191, 0, 0], 32, Ok(0)),
     (9, [PROGRAM, PROGRAM + 1, 5, HEAP, 0], 10, Ok(0)),
@@ -104,14 +112,22 @@ const EDGES: [(u32, [u64; 5], u64, Result<u64, SysFault>); 27] = [
         9,
         [PROGRAM, PROGRAM + 1, 6, HEAP, 0],
         10,
-        Err(SysFault::AccessViolation),
+        Err(SysFault::AccessViolation(AccessViolation {
+            addr: PROGRAM + 1,
+            len: 6,
+            write: false,
+        })),
     ),
     (10, [HEAP, 0x1ff, 8192, 0, 0], 32, Ok(0)),
     (
         10,
         [HEAP, 0, 8193, 0, 0],
         32,
-        Err(SysFault::AccessViolation),
+        Err(SysFault::AccessViolation(AccessViolation {
+            addr: HEAP,
+            len: 8193,
+            write: true,
+        })),
     ),
     (11, [0, 0, HEAP, HEAP, 0], 1500, Ok(0)),
     (
@@ -299,7 +315,11 @@ fn hands_out(
 #[test]
 fn returned_bytes_are_handed_out(rt: HostRuntime) -> Result<(), Fail> {
     // nothing is written where either range is refused
-    let refused = Err(SysFault::AccessViolation);
+    let refused = Err(SysFault::AccessViolation(AccessViolation {
+        addr: PROGRAM,
+        len: 32,
+        write: true,
+    }));
     assert!(rt; hands_out(rt.alloc(), [HEAP, 3, PROGRAM, 0, 0], refused, &[0; 32])?);
     // with no room for bytes the key is written
     assert!(rt; hands_out(rt.alloc(), [0, 0, HEAP, 0, 0], Ok(3), &[9; 32])?);

@@ -183,6 +183,15 @@ pub const TRANSFERS: [u64; 39] = [
 /// `ja -1`.
 pub const LOOPS: [u64; 2] = [0x01, 0xffff_0005];
 
+/// `mov64 r0, 0`, `mov64 r2, NUMBER`, `ldxdw r0, [r2]`, `exit`.
+pub const LOADS: [u64; 5] = [0x04, 0xb7, 0x2b7, 0x2079, 0x95];
+
+/// `mov64 r1, 0`, `mov64 r2, NUMBER`, `syscall 2`, `exit`.
+pub const LOGS: [u64; 5] = [0x04, 0x1b7, 0x2b7, 0x2_0000_0085, 0x95];
+
+/// The same with `syscall 17`.
+pub const ASKS: [u64; 5] = [0x04, 0x1b7, 0x2b7, 0x11_0000_0085, 0x95];
+
 /// The key of the seed `vault` and the program of 32 bytes 0x77.
 pub const VAULT: Key = Key([
     0xce, 0x98, 0x77, 0xd1, 0x71, 0xb0, 0xa4, 0xdb, 0xbf, 0x73, 0xfa, 0x2e, 0x30, 0xf4, 0x41, 0x92,
@@ -201,6 +210,12 @@ pub enum Text {
     /// It transfers from the vault, with a number of signers.
     Transfers,
     Loops,
+    /// It loads from the address of its number.
+    Loads,
+    /// It logs a text of so many bytes at address 0.
+    Logs,
+    /// It calls by a request at address 0.
+    Asks,
     /// It is no program.
     Plain,
 }
@@ -214,6 +229,9 @@ fn words(text: Text) -> &'static [u64] {
         Text::StoresAndCalls => &STORES_AND_CALLS,
         Text::Transfers => &TRANSFERS,
         Text::Loops => &LOOPS,
+        Text::Loads => &LOADS,
+        Text::Logs => &LOGS,
+        Text::Asks => &ASKS,
         Text::Plain => &[],
     }
 }

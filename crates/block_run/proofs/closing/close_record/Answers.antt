@@ -9,7 +9,7 @@ use Rattle.block_run.specs.declared.block.Closed.{Closed}
 use Rattle.block_run.specs.Closing.{AreEnds}
 use Rattle.block_run.specs.Ending.{ran_of}
 use Rattle.block_run.proofs.Closings.{after_at_end, end_writable, ends_close, names_ascend, whole_is}
-use Rattle.block_run.proofs.Fronts.{front_written}
+use Rattle.block_run.proofs.RecordPrefixes.{front_written}
 use Rattle.block_run.proofs.closing.close_record.Goals as goal
 
 pub end_record-requires : goal.end_record-requires

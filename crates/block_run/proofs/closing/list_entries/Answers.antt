@@ -5,7 +5,7 @@ use Rattle.block_record.specs.declared.block.Entry.{Entry}
 use Rattle.block_record.specs.Record.{front_bytes}
 use Rattle.block_run.specs.Blocks.{no_hash}
 use Rattle.block_run.proofs.Closings.{block_counted}
-use Rattle.block_run.proofs.Fronts.{front_written}
+use Rattle.block_run.proofs.RecordPrefixes.{front_written}
 use Rattle.block_run.proofs.closing.list_entries.Goals as goal
 
 pub returns : goal.returns

@@ -3,7 +3,7 @@ use Rattle.std.specs.Prelude.{IfOk}
 use Rattle.tx_exec.specs.TransactionLaws.{IsSmallOutcome}
 use Rattle.bank_core.specs.Ends.{outcomes_at_end}
 use Rattle.bank_shared.specs.Face.{desk_origin}
-use Rattle.block_run.specs.Front.{IsBegun}
+use Rattle.block_run.specs.RecordPrefix.{IsBegun}
 use Rattle.block_run.proofs.lanes.run_shared.Goals as goal
 
 pub run_beside-begun-requires-clause-small : goal.run_beside-begun-requires-clause-small

@@ -1,19 +1,26 @@
-use Rattle.std.proofs.Common.{◌*◌, ◌≤◌, length, arith}
-use Rattle.sol_base.specs.Limits.{max_transaction_keys}
-use Rattle.bank_core.specs.Counts.{locks_before}
-use Rattle.tx_exec.specs.AdmittedBlock.{job_of}
+use Rattle.std.proofs.Common.{◌≡◌, ◌++◌, List, length, sym, ap, ap₂, subst, ◌∙◌, arith}
+use Rattle.std.specs.Prelude.{slice_get}
+use Rattle.sol_base.specs.declared.key.Key.{Key}
+use Rattle.bank_core.specs.Openings.{AreKnown}
+use Rattle.tx_exec.specs.AdmittedBlock.{locks_at}
 use Rattle.tx_exec.proofs.Works.{works_are_lawful}
 use Rattle.block_run.specs.SerialRun.{locked_in}
-use Rattle.block_run.proofs.Positions.{locks_few}
+use Rattle.block_run.proofs.Declared.{keys_few, known}
 use Rattle.block_run.proofs.order.numbered_in.Goals as goal
 
-pub number-requires-clause-apart : goal.number-requires-clause-apart
-number-requires-clause-apart c = (works_are_lawful (locked_in c.args.order.now) c.requires.chosen).distinct
+pub number_among-requires-clause-apart : goal.number_among-requires-clause-apart
+number_among-requires-clause-apart c = (works_are_lawful (locked_in c.args.order.now) c.requires.chosen).distinct
 
-pub number-requires-clause-room : goal.number-requires-clause-room
-number-requires-clause-room c =
-    let order = c.args.order.now in
-    let l : length order ≤ length order = omega arith in
-    let a : locks_before (job_of (locked_in order)) (length order) ≤ max_transaction_keys * length order = locks_few (locked_in order) c.requires.chosen (length order) l in
+pub number_among-requires-clause-few : goal.number_among-requires-clause-few
+number_among-requires-clause-few c =
+    let same : c.extend_from_slice.new.self.items ≡ c.args.keys.now = c.in_ok-extend_from_slice.ensures.items ∙ ap₂ (λ (a b : List Key). a ++ b) c.in_ok-known.ensures.items c.as_slice.ensures in
+    let long = ap length same in
+    let fewer = c.requires.keys.fewer in
+    let all = keys_few c.args.order.now c.requires.chosen in
     let few = c.requires.few in
-    omega (arith, a, few)
+    omega (arith, long, fewer, all, few)
+
+pub number_among-requires-clause-known : goal.number_among-requires-clause-known
+number_among-requires-clause-known c = λ i l.
+    let same : c.extend_from_slice.new.self.items ≡ c.args.keys.now = c.in_ok-extend_from_slice.ensures.items ∙ ap₂ (λ (a b : List Key). a ++ b) c.in_ok-known.ensures.items c.as_slice.ensures in
+    subst (λ ks. AreKnown ks (locks_at (slice_get c.args.order.now i))) (sym same) (known c.args.order.now c.args.keys.now c.requires.chosen c.requires.keys i l)

@@ -11,4 +11,4 @@ returns c =
     c.in_ok-answer.ensures
     (carried_first c.args.trace c.new.result c.replace.result c.args.logs.now c.new.ensures c.replace.ensures.value)
     (ap (λ (x : Carried). x.log) (sym c.carrier.view_is))
-    (c.ran_of.ensures c.run_frame-answer.new.carrier (ap (λ (x : Carried). x.trace) (sym c.carrier.view_is)))
+    (c.ran_of.ensures c.run_frame-answer.new.carrier (ap (λ (x : Carried). x.trace) (sym c.carrier.view_is)) (ap (λ (x : Carried). x.stopped_at) (sym c.carrier.view_is)))

@@ -12,7 +12,7 @@ pub returns-then-least-clause-none : goal.returns-then-least-clause-none
 returns-then-least-clause-none c =
     let least = subst₂ (Least c.least_leaf-least.result) c.as_slice.ensures.value c.len.ensures c.least_leaf-least.ensures.least in
     subst (λ (p : Positions). (i : ℕ) → IsReady p i → ⊥) c.self.view_is
-    (none_is c.self.inside.sets c.self.inside.marks.items c.self.inside.waits.items c.self.inside.later.items c.self.inside.ready.items c.self.invariant c.least_leaf-least.result least c.if-least.true)
+    (none_is c.self.inside.sets c.self.inside.marks.items c.self.inside.waits.items c.self.inside.later.items c.self.inside.ready.items c.self.invariant.0 c.least_leaf-least.result least c.if-least.true)
 
 pub returns-else-least-clause-least : goal.returns-else-least-clause-least
 returns-else-least-clause-least c =
@@ -20,4 +20,4 @@ returns-else-least-clause-least c =
     let least = subst₂ (Least v) c.as_slice.ensures.value c.len.ensures c.least_leaf-least.ensures.least in
     let shown = subst₂ (λ tree count. (v ≡ 4294967295) ⊎ ((i : ℕ) × (i < count) × (leaf tree count i ≡ v))) c.as_slice.ensures.value c.len.ensures c.least_leaf-least.ensures.shown in
     subst (λ (p : Positions). IsLeastOfReady p v) c.self.view_is
-    (least_is c.self.inside.sets c.self.inside.marks.items c.self.inside.waits.items c.self.inside.later.items c.self.inside.ready.items c.self.invariant v least shown c.if-least.false)
+    (least_is c.self.inside.sets c.self.inside.marks.items c.self.inside.waits.items c.self.inside.later.items c.self.inside.ready.items c.self.invariant.0 v least shown c.if-least.false)
