@@ -1,7 +1,7 @@
 -- What the chains say of positions.
 use Rattle.std.proofs.Common.{◌≡◌, ℕ, zero, suc, ◌<◌, ◌≤◌, ◌==◌, Bool, true, false, not, ◌&&◌, ◌||◌, ◌⊎◌, cond, inl, inr, List, [], ◌∷◌, ◌++◌, length, get_or, Option, Some, None, refl, sym, ◌∙◌, ap, subst, arith, eqb-true, eq-eqb}
 use Rattle.std.specs.Prelude.{option_to_list}
-use Rattle.std.specs.List.{list_any}
+use Rattle.std.specs.List.{list_any, flat_map}
 use Rattle.std.proofs.lemmas.Bool.{false≢true, both_ways, cases_Bool, cases_lt, cases_eq, or_cases, or_left, or_right, and_parts, and_from, not_from_false, false_from_ne_true}
 use Rattle.lock_table.specs.declared.locks.NumberedLock.{NumberedLock}
 use Rattle.lock_table.specs.Numbers.{meets, conflicts}
@@ -11,6 +11,7 @@ use Rattle.prio_graph.specs.Ready.{set_at, mark_at, EarlierDone, is_done_mark}
 use Rattle.prio_graph.specs.Chains.{writes_number, reads_number, last_writer, readers_since, awaited, edges_into, counter, StartedInOrder}
 use Rattle.prio_graph.specs.Laws.{CountersTell}
 use Rattle.prio_graph.proofs.Finding.{any_at, any_place, any-append, any-flat_map, has, count-zero, count-none}
+use Rattle.prio_graph.proofs.Once.{has-once}
 use Rattle.prio_graph.proofs.Passing.{no_lock}
 
 -- two locks that meet make their sets conflict
@@ -168,7 +169,7 @@ module _ (sets : List (List NumberedLock)) (i j : ℕ) where
   -- an edge leads from an earlier conflicting position
   pub edge-is : has j (edges_into sets i) ≡ true → (j < i) × (conflicts (set_at sets j) (set_at sets i) ≡ true)
   edge-is h =
-      let found = any_place (λ lock. has j (awaited sets i lock)) (set_at sets i) no_lock (sym (any-flat_map (λ x. x == j) (awaited sets i) (set_at sets i)) ∙ h) in
+      let found = any_place (λ lock. has j (awaited sets i lock)) (set_at sets i) no_lock (sym (any-flat_map (λ x. x == j) (awaited sets i) (set_at sets i)) ∙ (sym (has-once j (flat_map (awaited sets i) (set_at sets i))) ∙ h)) in
       let cases = awaited_cases (get_or (set_at sets i) found.0 no_lock) found.2 in (
         cases.0,
         elim cases.1 [
@@ -178,7 +179,7 @@ module _ (sets : List (List NumberedLock)) (i j : ℕ) where
       )
 
   edge_at : (k : ℕ) → k < length (set_at sets i) → has j (awaited sets i (get_or (set_at sets i) k no_lock)) ≡ true → has j (edges_into sets i) ≡ true
-  edge_at k l h = any-flat_map (λ x. x == j) (awaited sets i) (set_at sets i) ∙ any_at (λ lock. has j (awaited sets i lock)) (set_at sets i) k no_lock l h
+  edge_at k l h = has-once j (flat_map (awaited sets i) (set_at sets i)) ∙ (any-flat_map (λ x. x == j) (awaited sets i) (set_at sets i) ∙ any_at (λ lock. has j (awaited sets i lock)) (set_at sets i) k no_lock l h)
 
   -- an edge leads from the last writer
   edge-writer : (k : ℕ) → k < length (set_at sets i) → last_writer sets i (get_or (set_at sets i) k no_lock).number ≡ Some j → has j (edges_into sets i) ≡ true

@@ -1,6 +1,8 @@
 pub mod TreeLaws
 pub mod Passing
 pub mod Finding
+pub mod Once
+pub mod Adding
 pub mod ChainLaws
 pub mod Moves
 pub mod Releases

@@ -1,6 +1,6 @@
 -- The chains of positions: whom each waits for.
 use Rattle.std.specs.Prelude.{◌≡◌, ℕ, zero, suc, ◌<◌, ◌==◌, Bool, not, ◌&&◌, if◌then◌else◌, List, [], ◌∷◌, ◌++◌, length, count_by, Option, Some, None, option_to_list}
-use Rattle.std.specs.List.{list_any, flat_map}
+use Rattle.std.specs.List.{list_any, filter, flat_map}
 use Rattle.lock_table.specs.declared.locks.NumberedLock.{NumberedLock}
 use Rattle.prio_graph.specs.declared.mark.Mark.{Mark}
 use Rattle.prio_graph.specs.declared.mark.Mark.TheVariants.{Waiting}
@@ -33,9 +33,14 @@ awaited sets i lock =
     option_to_list (last_writer sets i lock.number)
     ++ (if lock.write then readers_since sets i lock.number else [])
 
--- the earlier ends of the edges of position i
+-- each number of a list once, where it stands first
+abbrev pub once : List ℕ → List ℕ
+once [] = []
+once (x ∷ xs) = x ∷ filter (λ y. not (y == x)) (once xs)
+
+-- the earlier ends of the edges of position i, each once
 abbrev pub edges_into : List (List NumberedLock) → ℕ → List ℕ
-edges_into sets i = flat_map (awaited sets i) (set_at sets i)
+edges_into sets i = once (flat_map (awaited sets i) (set_at sets i))
 
 -- the counter of position i: the number of its edges whose earlier end is not done
 abbrev pub counter : List (List NumberedLock) → List Mark → ℕ → ℕ

@@ -1,11 +1,11 @@
 -- What a graph keeps beside its positions: a counter and the later ends of its edges for each, and
 -- the ready ones as leaves of a tree.
-use Rattle.std.specs.Prelude.{◌≡◌, ℕ, ◌+◌, ◌*◌, ◌^◌, ◌<◌, ◌≤◌, ◌==◌, Bool, ◌&&◌, if◌then◌else◌, List, [], ◌∷◌, ◌++◌, length, slice_set, nat_lt, count_by, slice_index, slice_index_or}
+use Rattle.std.specs.Prelude.{◌≡◌, ℕ, ◌+◌, ◌-◌, ◌*◌, ◌^◌, ◌<◌, ◌≤◌, ◌==◌, Bool, ◌&&◌, if◌then◌else◌, List, [], ◌∷◌, ◌++◌, length, slice_set, nat_lt, count_by, slice_index, slice_index_or}
 use Rattle.lock_table.specs.declared.locks.NumberedLock.{NumberedLock}
 use Rattle.prio_graph.specs.declared.mark.Mark.{Mark}
 use Rattle.bank_law.specs.Machine.{count_below}
 use Rattle.prio_graph.specs.Ready.{mark_at, is_waiting_mark}
-use Rattle.prio_graph.specs.Chains.{edges_into, counter, StartedInOrder}
+use Rattle.prio_graph.specs.Chains.{once, edges_into, counter, StartedInOrder}
 use Rattle.prio_graph.specs.Trees.{IsTree, leaf}
 
 -- how often a position stands in a list
@@ -55,10 +55,15 @@ HasNoOthers sets rows = (j i : ℕ) → length sets ≤ i → edges rows j i ≡
 abbrev pub pushed_at : List (List ℕ) → ℕ → ℕ → List (List ℕ)
 pushed_at rows at item = slice_set rows at (slice_index_or rows at [] ++ item ∷ [])
 
--- the rows get an edge to the position from each of the earlier ones
+-- whether a row ends in a number
+abbrev pub ends_in : List ℕ → ℕ → Bool
+ends_in row n = nat_lt 0 (length row) && (slice_index row (length row - 1) == n)
+
+-- the rows get an edge to the position from each of the earlier ones, and one alone
 abbrev pub AddsEdges : List ℕ → ℕ → List (List ℕ) → List (List ℕ) → Type 0
 AddsEdges earlier position rows next =
-    (j i : ℕ) → edges next j i ≡ edges rows j i + (if i == position then times j earlier else 0)
+    (j i : ℕ) →
+    edges next j i ≡ edges rows j i + (if i == position then times j (once earlier) else 0)
 
 -- how many positions wait for nobody, and how many of them are waiting: the ready ones
 abbrev pub free_count : List ℕ → ℕ

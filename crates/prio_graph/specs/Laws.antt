@@ -1,5 +1,5 @@
--- The law of the chained graph, and what ready means in the core machine.
-use Rattle.std.specs.Prelude.{◌≡◌, ℕ, ◌<◌, ◌↔◌, true, List, length}
+-- The laws of the chained graph, and what ready means in the core machine.
+use Rattle.std.specs.Prelude.{◌≡◌, ℕ, ◌<◌, ◌≤◌, ◌↔◌, true, List, length}
 use Rattle.std.specs.List.{IsDistinct}
 use Rattle.sol_base.specs.declared.key.Key.{Key}
 use Rattle.bank_law.specs.Job.{Job, same_key}
@@ -9,13 +9,18 @@ use Rattle.lock_table.specs.Numbers.{Numbers}
 use Rattle.prio_graph.specs.declared.mark.Mark.{Mark}
 use Rattle.prio_graph.specs.declared.mark.Mark.TheVariants.{Waiting, Started, Done}
 use Rattle.prio_graph.specs.Ready.{Positions, set_at, mark_at, EarlierDone, IsReady, is_ready}
-use Rattle.prio_graph.specs.Chains.{counter, StartedInOrder}
+use Rattle.prio_graph.specs.Chains.{edges_into, counter, StartedInOrder}
+use Rattle.prio_graph.specs.Kept.{times}
 
 -- a counter is 0 exactly where all earlier conflicting positions are done
 abbrev pub CountersTell : Type 0
 CountersTell =
     (sets : List (List NumberedLock)) (marks : List Mark) → StartedInOrder sets marks →
     (i : ℕ) → i < length sets → (counter sets marks i ≡ 0) ↔ EarlierDone sets marks i
+
+-- there is at most one edge between two positions, however many numbers they share
+abbrev pub EdgesAreSingle : Type 0
+EdgesAreSingle = (sets : List (List NumberedLock)) (i j : ℕ) → times j (edges_into sets i) ≤ 1
 
 -- the positions that are counted as ready are those that are
 abbrev pub ReadyAreCounted : Type 0

@@ -9,7 +9,7 @@ use lock_table::NumberedLock;
 use sol_base::{Items, OutOfMemory};
 use std::alloc::Global;
 
-/// The earlier positions that the locks wait for.
+/// The earlier positions that the locks wait for, each as often as there are locks that do.
 pub(crate) fn awaited(
     alloc: Global,
     last: &[Option<u32>],

@@ -58,8 +58,7 @@ fn add_position(
 {
     let locks = sets[position].items();
     let earlier = awaited(alloc, last, readers, locks)?;
-    waits[position] = earlier.len();
-    add_edges(later, earlier.as_slice(), position as u32)?;
+    waits[position] = add_edges(later, earlier.as_slice(), position as u32)?;
     pass_locks(alloc, last, readers, locks, position as u32)?;
     Ok(())
 }

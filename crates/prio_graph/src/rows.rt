@@ -1,6 +1,7 @@
 //! Rows of positions.
-ghost use Rattle.std.specs.Prelude.{◌≡◌, ◌<◌, [], All, IfOk, OnOk, OnErr, length, replicate, slice_set};
-ghost use Rattle.prio_graph.specs.Kept.{AddsEdges, pushed_at};
+ghost use Rattle.std.specs.Prelude.{◌≡◌, ℕ, ◌<◌, [], All, IfOk, OnOk, OnErr, length, replicate, slice_set};
+ghost use Rattle.prio_graph.specs.Chains.{once};
+ghost use Rattle.prio_graph.specs.Kept.{edges, ends_in, AddsEdges, pushed_at};
 
 use sol_base::{Items, OutOfMemory};
 use std::alloc::Global;
@@ -38,17 +39,32 @@ pub(crate) fn clear_at(alloc: Global, rows: &mut [Items<u32>], at: usize)
     rows[at] = Items::from_vec(row);
 }
 
-/// Adds an edge to a position from each of the earlier ones.
+/// Whether a row ends in a number.
+fn ends_in(row: &[u32], number: u32) -> bool
+    ensures { result ≡ ends_in row.now number }
+{
+    row.last() == Some(&number)
+}
+
+/// Adds an edge to a position from each of the earlier ones, one from each, and answers how many
+/// they are. A row that has the position already ends in it, as no row has it before.
 pub(crate) fn add_edges(
     rows: &mut [Items<u32>],
     earlier: &[u32],
     position: u32,
-) -> Result<(), OutOfMemory>
-    requires { All (λ j. j < length rows.old) earlier.now }
-    ensures { OnOk result (AddsEdges earlier.now position rows.old rows.new) }
+) -> Result<usize, OutOfMemory>
+    requires within { All (λ j. j < length rows.old) earlier.now }
+    requires none { (j : ℕ) → edges rows.old j position ≡ 0 }
+    ensures edges { OnOk result (AddsEdges earlier.now position rows.old rows.new) }
+    ensures added { IfOk result (λ added. added ≡ length (once earlier.now)) }
 {
+    let mut added = 0;
     for j in earlier {
-        push_at(rows, *j as usize, position)?;
+        let at = *j as usize;
+        if !ends_in(rows[at].as_slice(), position) {
+            push_at(rows, at, position)?;
+            added += 1;
+        }
     }
-    Ok(())
+    Ok(added)
 }

@@ -209,7 +209,7 @@ fn runs_in_all_orders(
 }
 
 /// The locks of the positions of each graph, and a number above those of all its orders.
-const GRAPHS: [(&[&[(u8, bool)]], u32); 8] = [
+const GRAPHS: [(&[&[(u8, bool)]], u32); 9] = [
     (&[&[(1, READ)], &[(1, WRITE)], &[(1, READ)]], 8),
     (&[&[(1, READ), (2, WRITE)], &[(1, READ), (3, WRITE)]], 96),
     (&[&[(1, WRITE)], &[(2, WRITE)], &[(3, WRITE)]], 6_480),
@@ -231,6 +231,14 @@ const GRAPHS: [(&[&[(u8, bool)]], u32); 8] = [
         192,
     ),
     (&[&[], &[(1, WRITE), (2, READ)], &[(2, WRITE)]], 1_152),
+    (
+        &[
+            &[(1, WRITE), (2, WRITE)],
+            &[(1, WRITE), (2, WRITE)],
+            &[(1, READ)],
+        ],
+        8,
+    ),
 ];
 
 #[test]
