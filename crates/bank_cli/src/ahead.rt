@@ -10,20 +10,15 @@ use block_run::{Decoded, MANY_TRANSACTIONS};
 use intake::{SendGate, gather};
 use message_codec::MAX_WIRE_LEN;
 use snapshot_codec::{
-    BatchFault, Prefix, SnapshotFault, read_batch, read_snapshot, snapshot_length,
+    BATCH_HEAD_LEN, BATCH_MAGIC, BatchFault, Prefix, SnapshotFault, WIRE_LENGTH_LEN, batch_count,
+    read_batch, read_snapshot, snapshot_length,
 };
 use std::alloc::Global;
 use std::sync::Wait;
 use std::thread::{Threads, join};
 
-/// The first bytes of a batch.
-const BATCH_FRONT: &[u8] = b"SOLBATC1";
-
-/// Where the number of transactions stands in a batch.
-const COUNT_PLACE: usize = 48;
-
 /// The bytes that a batch of few transactions takes at most.
-const FEW_ROOM: usize = COUNT_PLACE + 4 + MANY_TRANSACTIONS * (2 + MAX_WIRE_LEN);
+const FEW_ROOM: usize = BATCH_HEAD_LEN + MANY_TRANSACTIONS * (WIRE_LENGTH_LEN + MAX_WIRE_LEN);
 
 /// So many senders, and the gate that each passes before it parses.
 #[derive(Drop)]
@@ -111,18 +106,18 @@ pub(crate) fn read_parts<H: SendGate, R: Threads + Wait + Sync>(
     }
 }
 
-/// How many transactions a batch says that it has.
-fn count_of(batch: &[u8]) -> Option<usize> {
-    let count = *batch.get(COUNT_PLACE..)?.first_chunk()?;
-    Some(u32::from_le_bytes(count) as usize)
+/// Whether the bytes begin as a batch of many transactions does, or of few; none where they begin
+/// as no batch.
+fn begins_many(bytes: &[u8]) -> Option<bool> {
+    Some(batch_count(bytes)? as usize >= MANY_TRANSACTIONS)
 }
 
 /// What stands behind the last place, near the end, where a batch seems to begin.
 fn last_batch(bytes: &[u8]) -> Option<&[u8]> {
     let tail = bytes.get(bytes.len().saturating_sub(FEW_ROOM)..)?;
     let place = tail
-        .windows(BATCH_FRONT.len())
-        .rposition(|front| front == BATCH_FRONT)?;
+        .windows(BATCH_MAGIC.len())
+        .rposition(|front| front == BATCH_MAGIC.as_slice())?;
     tail.get(place..)
 }
 
@@ -130,7 +125,7 @@ fn last_batch(bytes: &[u8]) -> Option<&[u8]> {
 /// that.
 fn ends_with_few(bytes: &[u8]) -> bool {
     match last_batch(bytes) {
-        Some(batch) => count_of(batch).is_some_and(|count| count < MANY_TRANSACTIONS),
+        Some(batch) => begins_many(batch) == Some(false),
         None => false,
     }
 }
@@ -143,10 +138,11 @@ fn place_of_many(bytes: &[u8]) -> Option<usize>
         return None;
     }
     let place = snapshot_length(bytes)?;
-    if count_of(bytes.get(place..)?)? < MANY_TRANSACTIONS {
-        return None;
+    if begins_many(bytes.get(place..)?)? {
+        Some(place)
+    } else {
+        None
     }
-    Some(place)
 }
 
 /// Reads the snapshot, and the batch beside it. The snapshot takes more memory, which costs least on

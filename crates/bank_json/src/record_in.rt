@@ -11,9 +11,10 @@ ghost use Rattle.bank_json.specs.RecordJson.{failure_names, entry_names, record_
 
 use block_record::{RecordFault, read_record};
 use json_parts::{
-    JsonFault, MAX_COUNT, Part, Wanted, byte_member, digits_member, found, in_member, known,
-    list_member, number_member, refused, short_member, transaction,
+    JsonFault, Part, Wanted, byte_member, digits_member, found, in_member, known, list_member,
+    number_member, refused, short_member, transaction,
 };
+use message_codec::MAX_COUNT;
 use serde_json::Value;
 use sol_base::{Blob, MAX_TRANSACTIONS};
 use std::alloc::Global;

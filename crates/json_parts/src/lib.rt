@@ -22,6 +22,6 @@ pub use parts::{
 };
 pub use show::Way;
 pub use text::value_of_text;
-pub use transaction_in::{MAX_COUNT, transaction};
+pub use transaction_in::transaction;
 pub use transaction_out::transaction_value;
 pub use written::hex_value;

@@ -13,13 +13,10 @@ use crate::data::data_member;
 use crate::fault::{JsonFault, Wanted, in_member, refused};
 use crate::list::{Part, list_member};
 use crate::parts::{byte_member, digits, digits_member, found, known, number};
-use message_codec::{MessageKind, WireFault, read_wire};
+use message_codec::{MAX_COUNT, MessageKind, WireFault, read_wire};
 use serde_json::Value;
 use sol_base::{Blob, OutOfMemory};
 use std::alloc::Global;
-
-/// The most items of a list, and the most bytes of a field, whose count has two bytes.
-pub const MAX_COUNT: usize = u16::MAX as usize;
 
 /// Bytes as numbers.
 pub(crate) struct Bytes;

@@ -9,6 +9,7 @@ use Rattle.message_codec.specs.declared.message.Loaded.{Loaded}
 use Rattle.message_codec.specs.declared.message.Message.{Message}
 use Rattle.message_codec.specs.declared.parsed.Parsed.{Parsed}
 use Rattle.message_codec.specs.declared.parsed.Parsed.TheVariants.{Good, Bad}
+use Rattle.message_codec.specs.Compact.{max_count}
 use Rattle.message_codec.specs.Parsing.{parsed_of}
 use Rattle.message_codec.specs.Roles.{all_keys, has_repeated_key}
 use Rattle.sol_base.specs.Accounts.{empty_account}
@@ -68,7 +69,7 @@ transaction_rows block = map (transaction_row block.slot) (enumerate_from 0 bloc
 -- a message that is refused before its lookups are looked at: it has more of them than the format has
 -- room for, or a static key stands in it twice
 abbrev pub has_odd_keys : Message → Bool
-has_odd_keys message = nat_lt 65535 (length message.lookups) || has_repeated_key message.keys
+has_odd_keys message = nat_lt max_count (length message.lookups) || has_repeated_key message.keys
 
 abbrev pub loaded_by : Result Loaded LookupFault → Loaded
 loaded_by (Ok loaded) = loaded

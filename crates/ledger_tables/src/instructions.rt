@@ -9,18 +9,17 @@ use crate::texts::{key_digits, keys_json};
 use account_store::Accounts;
 use admission::{LookupFault, resolve};
 use block_record::{Block, Entry};
-use message_codec::{Instruction, Loaded, Message, Parsed, has_repeated_key, keys_of, parse};
+use message_codec::{
+    Instruction, Loaded, MAX_COUNT, Message, Parsed, has_repeated_key, keys_of, parse,
+};
 use sol_base::{Blob, Items, Key, OutOfMemory};
 use std::alloc::Global;
-
-/// The most lookups that the format has room for.
-const MAX_LOOKUPS: usize = 65_535;
 
 /// Whether a message is refused before its lookups are looked at.
 fn has_odd_keys(message: &Message) -> bool
     ensures { result ≡ has_odd_keys message.now }
 {
-    message.lookups.len() > MAX_LOOKUPS || has_repeated_key(message.keys.as_slice())
+    message.lookups.len() > MAX_COUNT || has_repeated_key(message.keys.as_slice())
 }
 
 fn no_keys(alloc: Global) -> Loaded

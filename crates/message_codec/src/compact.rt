@@ -8,6 +8,9 @@ use crate::fault::WireFault;
 use sol_base::{Blob, OutOfMemory};
 use spec_base::place;
 
+/// The greatest compact length, which is also the greatest number of two bytes (Solana).
+pub const MAX_COUNT: usize = 65_535;
+
 /// The length at the front of the bytes, and the bytes after it. `total` is the length of the whole
 /// text.
 #[tactic(auto, unfolding(crate::specs::WireReading::compact_at))]

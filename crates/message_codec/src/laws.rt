@@ -12,11 +12,13 @@ ghost use Rattle.message_codec.specs.Wire.{Wire, IsOneWire, tx_bytes};
 ghost use Rattle.message_codec.specs.WireReading.{compact_at, wire_of, is_wire_memory};
 ghost use Rattle.message_codec.specs.Roles.{IsSane, HasAllLoaded, AreNamed, is_signer_at, is_writable_at, all_keys, key_count, lock_of, locks_of};
 
+use crate::compact::MAX_COUNT;
 use crate::reading::MAX_WIRE_LEN;
 
-/// The most bytes of a transaction, as Solana has them.
+/// The most bytes of a transaction, and the greatest compact length, as Solana has them.
 pub fn numbers_are_as_stated()
-    ensures { MAX_WIRE_LEN ≡ 1232 }
+    ensures wire { MAX_WIRE_LEN ≡ 1232 }
+    ensures count { MAX_COUNT ≡ 65_535 }
 {}
 
 /// A law: the spelling of a compact length is the one list of its 7-bit digits, low digit first,

@@ -103,7 +103,7 @@ counted bytes field after n rest enough taken left number same =
     let behind_it : drop 4 bytes ≡ rest = left ∙ same in
     rw enough (ap (λ (m : ℕ). Some (m, drop 4 bytes)) value ∙ ap (λ (l : List ℕ). Some (n, l)) behind_it)
 
-number_counts : (total : ℕ) (bytes : List ℕ) (n : ℕ) (rest : List ℕ) → number_at Truncated w32 total bytes ≡ Ok (n, rest) → count_in_front bytes ≡ Some (n, rest)
+pub number_counts : (total : ℕ) (bytes : List ℕ) (n : ℕ) (rest : List ℕ) → number_at Truncated w32 total bytes ≡ Ok (n, rest) → count_in_front bytes ≡ Some (n, rest)
 unfolding number_at
 number_counts total bytes n rest h =
     let a = bind_ok (field_at Truncated total 4 bytes) _ (n, rest) h in

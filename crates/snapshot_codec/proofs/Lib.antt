@@ -6,3 +6,4 @@ pub mod SnapshotLaws
 pub mod BatchLaws
 pub mod Walk
 pub mod LengthLaws
+pub mod BatchHeadLaws

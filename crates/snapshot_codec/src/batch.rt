@@ -15,13 +15,13 @@ use spec_base::{array_field, bytes_field, place, u16_field, u32_field, u64_field
 use std::alloc::Global;
 
 /// What a batch begins with.
-const MAGIC: [u8; 8] = *b"SOLBATC1";
+pub const BATCH_MAGIC: [u8; 8] = *b"SOLBATC1";
 
 /// The bytes of a batch without transactions.
-const FIXED_LEN: usize = 52;
+pub const BATCH_HEAD_LEN: usize = 52;
 
 /// The bytes of the length of a transaction.
-const LENGTH_LEN: usize = 2;
+pub const WIRE_LENGTH_LEN: usize = 2;
 
 /// What a block is to be made of: its slot, who collects the fees, and the transactions as they
 /// came.
@@ -38,7 +38,7 @@ fn read_magic(total: usize, bytes: &[u8]) -> Result<([u8; 8], &[u8]), BatchFault
     ensures { Gives is_batch_memory (λ x. (x.0, x.1.now)) result (magic_at total bytes.now) }
 {
     let (magic, rest) = array_field::<BatchFault, 8>(total, bytes)?;
-    if magic != MAGIC {
+    if magic != BATCH_MAGIC {
         return Err(BatchFault::Magic);
     }
     Ok((magic, rest))
@@ -72,7 +72,7 @@ impl Item<BatchFault> for Blob {
 
     ghost item_at = { wire_at };
 
-    const LEAST_LEN: usize = LENGTH_LEN;
+    const LEAST_LEN: usize = WIRE_LENGTH_LEN;
 
     #[tactic(auto, unfolding(crate::specs::BatchReading::wire_at))]
     fn read(alloc: Global, total: usize, bytes: &[u8]) -> Result<(Blob, &[u8]), BatchFault> {
@@ -154,9 +154,11 @@ fn write_wires(out: &mut Blob, wires: &[Blob]) -> Result<(), OutOfMemory>
 
 /// The bytes of a batch, so that one buffer is reserved for them.
 fn batch_len(wires: &[Blob]) -> usize {
-    let mut sum = FIXED_LEN;
+    let mut sum = BATCH_HEAD_LEN;
     for wire in wires {
-        sum = sum.saturating_add(wire.len()).saturating_add(LENGTH_LEN);
+        sum = sum
+            .saturating_add(wire.len())
+            .saturating_add(WIRE_LENGTH_LEN);
     }
     sum
 }
@@ -169,7 +171,7 @@ pub fn batch_bytes(alloc: Global, batch: &Batch) -> Result<Blob, OutOfMemory>
 {
     let wires = batch.wires.as_slice();
     let mut out = Blob::with_capacity(alloc, batch_len(wires))?;
-    out.append(&MAGIC)?;
+    out.append(&BATCH_MAGIC)?;
     out.append(&batch.slot.to_le_bytes())?;
     out.append(&batch.collector.0)?;
     out.append(&(wires.len() as u32).to_le_bytes())?;

@@ -1,12 +1,16 @@
 //! Laws over the definitions that the contracts of this crate cite. Their calls do nothing.
-ghost use Rattle.std.specs.Prelude.{◌≡◌};
+ghost use Rattle.std.specs.Prelude.{◌≡◌, codes};
 ghost use Rattle.snapshot_codec.specs.Laws.{SnapshotRoundTrip, FirstVersionRead, ReadableWritten, BatchRoundTrip};
 
 use crate::accounts::MAX_ACCOUNTS;
+use crate::batch::{BATCH_HEAD_LEN, BATCH_MAGIC, WIRE_LENGTH_LEN};
 
-/// The most accounts of a snapshot (the project's own).
+/// The most accounts of a snapshot, and the layout of a batch (the project's own).
 pub fn numbers_are_as_stated()
-    ensures { MAX_ACCOUNTS ≡ 4_194_304 }
+    ensures accounts { MAX_ACCOUNTS ≡ 4_194_304 }
+    ensures magic { BATCH_MAGIC ≡ codes "SOLBATC1" }
+    ensures head { BATCH_HEAD_LEN ≡ 52 }
+    ensures length { WIRE_LENGTH_LEN ≡ 2 }
 {}
 
 /// What `snapshot_bytes` writes is read again, whatever follows it, where the snapshot is within

@@ -25,7 +25,7 @@ const ACCOUNT_HEAD_LEN: usize = 73;
 
 /// What stands behind so many bytes.
 #[tactic(auto, unfolding(crate::specs::Length::behind))]
-fn behind(count: usize, bytes: &[u8]) -> Option<&[u8]>
+pub(crate) fn behind(count: usize, bytes: &[u8]) -> Option<&[u8]>
     ensures { option_map (λ rest. rest.now) result ≡ behind_of count bytes.now }
 {
     match bytes.split_at_checked(count) {
@@ -36,7 +36,7 @@ fn behind(count: usize, bytes: &[u8]) -> Option<&[u8]>
 
 /// The number in the first four bytes, and the bytes after them.
 #[tactic(auto, unfolding(crate::specs::Length::count_in_front))]
-fn count_in_front(bytes: &[u8]) -> Option<(u32, &[u8])>
+pub(crate) fn count_in_front(bytes: &[u8]) -> Option<(u32, &[u8])>
     ensures { option_map (λ x. (x.0, x.1.now)) result ≡ count_in_front_of bytes.now }
 {
     match bytes.split_first_chunk::<4>() {

@@ -3,6 +3,7 @@
 
 mod accounts;
 mod batch;
+mod batch_head;
 mod fault;
 mod head;
 mod laws;
@@ -13,7 +14,8 @@ mod snapshot;
 mod writing;
 
 pub use accounts::MAX_ACCOUNTS;
-pub use batch::{Batch, batch_bytes, read_batch};
+pub use batch::{BATCH_HEAD_LEN, BATCH_MAGIC, Batch, WIRE_LENGTH_LEN, batch_bytes, read_batch};
+pub use batch_head::batch_count;
 pub use fault::{BatchFault, SnapshotFault};
 pub use laws::{
     first_version_is_read, numbers_are_as_stated, readable_snapshots_are_writable,

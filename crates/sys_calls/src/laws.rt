@@ -7,9 +7,11 @@ ghost use Rattle.sys_calls.specs.SysCalls.{Service, IsServedMemory, sys_row};
 
 use crate::returned::MAX_RETURNED;
 use crate::sha256::MAX_SLICES;
+use crate::slices::SLICE_LEN;
 use crate::table::{BASE_COST, HASH_COST, KEY_COST, MIN_BYTES_COST, RENT_COST, SLOT_COST};
 
-/// The costs and the bounds of calls (Solana; the costs of slot and rent are the project's own).
+/// The costs and the bounds of calls, and the bytes of a slice in a list (Solana; the costs of slot
+/// and rent are the project's own).
 pub fn numbers_are_as_stated()
     ensures base { BASE_COST ≡ 100 }
     ensures least { MIN_BYTES_COST ≡ 10 }
@@ -19,6 +21,7 @@ pub fn numbers_are_as_stated()
     ensures rent { RENT_COST ≡ 116 }
     ensures slices { MAX_SLICES ≡ 20_000 }
     ensures returned { MAX_RETURNED ≡ 1_024 }
+    ensures slice { SLICE_LEN ≡ 16 }
 {}
 
 /// A law: no call leaves more units than there were.

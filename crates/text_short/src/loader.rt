@@ -7,7 +7,8 @@ ghost use Rattle.text_short.specs.LoaderCalls.{loader_in, loader_named, init_in,
 use crate::accounts::{signs, signs_and_writes, writes};
 use crate::call::call;
 use crate::members::{key_member, no_such_instruction, text_member};
-use json_parts::{JsonFault, MAX_COUNT, data_member, known, number_member};
+use json_parts::{JsonFault, data_member, known, number_member};
+use message_codec::MAX_COUNT;
 use serde_json::Value;
 use sol_base::LOADER_PROGRAM;
 use std::alloc::Global;

@@ -14,9 +14,9 @@ use crate::loader::loader_instruction;
 use crate::members::key_member;
 use crate::system::system_instruction;
 use json_parts::{
-    JsonFault, MAX_COUNT, Wanted, data_member, digits, flag_member, found, in_member, known,
-    refused,
+    JsonFault, Wanted, data_member, digits, flag_member, found, in_member, known, refused,
 };
+use message_codec::MAX_COUNT;
 use serde_json::Value;
 use sol_base::{Blob, Hash32, Key};
 use std::alloc::Global;

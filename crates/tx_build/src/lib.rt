@@ -14,6 +14,6 @@ mod wire;
 
 pub use draft::{AccountMeta, Draft, KeyedInstruction, LookupTable, Version};
 pub use fault::BuildFault;
-pub use laws::built_wires_are_read;
+pub use laws::{built_wires_are_read, numbers_are_as_stated};
 pub use tables::MAX_ADDRESSES;
 pub use wire::build_wire;
