@@ -33,6 +33,7 @@ impl<'a> LaidOut<'a> {
         ensures start { result.start.now ≡ start.now }
         ensures metas { result.listings.metas.now ≡ metas.now }
     {
+        // Its contract says that 32 bits count the bytes.
         let _len = region.len();
         LaidOut {
             region,

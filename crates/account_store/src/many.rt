@@ -91,6 +91,7 @@ impl Accounts {
         ensures rest { IfOk result (λ out. out.rest ≡ state.without self keys.now) }
         ensures state { IfOk result (λ out. IsState out.rest) }
     {
+        // Its contract says that the map is a state.
         let _total = self.total();
         let mut accounts = Vec::with_capacity(alloc, keys.len())?;
         for key in keys {
