@@ -16,7 +16,7 @@ use Rattle.program_cache.specs.Programs.{programs_of, sought}
 use Rattle.admission.specs.declared.chosen.Chosen.{Chosen}
 use Rattle.bank_law.specs.Job.{Job}
 use Rattle.invoke_engine.specs.Frame.{Ending, Fixed, instruction}
-use Rattle.tx_exec.specs.Executing.{Executed, InBlock, call_of, executed, fixed_for, following}
+use Rattle.tx_exec.specs.Executing.{InBlock, call_of, executed, fixed_for, following}
 use Rattle.tx_exec.specs.Payer.{charged, dropped, total_fee}
 use Rattle.tx_exec.specs.AdmittedBlock.{effects_at, job_of, locks_at}
 use Rattle.tx_exec.specs.Transaction.{by_drop, data_in, effects_as, failing, ran, transaction}
@@ -40,7 +40,7 @@ transaction_alike block t values = by_cause (dropped values (total_fee t))
 
     by_cause : (o : Option DropCause) → by_drop (fixed_for block (unplaced t)) (unplaced t) values o ≡ by_drop (fixed_for block t) t values o
     by_cause (Some cause) = refl
-    by_cause None = ap (λ (e : Executed). if nat_lt t.budget.loaded (data_in (charged values (total_fee t))) then failing t (charged values (total_fee t)) (record { index = whole_transaction; cause = LoadedDataTooLarge; detail = 0 }) 0 [] else ran t (charged values (total_fee t)) e)
+    by_cause None = ap (λ e. if nat_lt t.budget.loaded (data_in (charged values (total_fee t))) then failing t (charged values (total_fee t)) (record { index = whole_transaction; cause = LoadedDataTooLarge; detail = 0 }) 0 [] else ran t (charged values (total_fee t)) e)
         (executed_alike (fixed_for block t) t 0 t.tx.message.instructions (charged values (total_fee t)) t.budget.limit 0 no_lines)
 
 locks_alike : (o : Option Chosen) → locks_at (option_map unplaced o) ≡ locks_at o

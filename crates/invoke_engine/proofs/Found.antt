@@ -16,7 +16,7 @@ use Rattle.invoke_engine.specs.Native.{is_native}
 use Rattle.invoke_engine.specs.Starting.{is_ready, crowded, program_started, entering, key_at, begun, started}
 use Rattle.invoke_engine.specs.Frame.{after, follow, within, frame, go, instruction, nothing_returned}
 use Rattle.invoke_engine.specs.FrameLaws.{SameFound}
-use Rattle.invoke_engine.specs.Views.{fixed}
+use Rattle.invoke_engine.specs.Frames.{fixed}
 
 by_test : {X : Type 0} (b : Bool) (x y x' y' : X) → x ≡ x' → (b ≡ false → y ≡ y') → (if b then x else y) ≡ (if b then x' else y')
 by_test true x y x' y' h k = h

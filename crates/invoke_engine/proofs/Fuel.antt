@@ -30,12 +30,22 @@ use Rattle.invoke_engine.specs.Native.{is_native, native}
 use Rattle.invoke_engine.specs.Starting.{key_at, program_started, is_ready, crowded, entering, started, begun}
 use Rattle.invoke_engine.specs.Frame.{after, follow, within, go, instruction, nothing_returned}
 use Rattle.invoke_engine.specs.Conditions.{IsGoing}
-use Rattle.invoke_engine.specs.FrameLoop.{TurnTakes, NextTakes}
 
 -- what holds of both holds of the one that is chosen
 pub either : {A : Type 0} (P : A → Type 0) (b : Bool) (one other : A) → P one → P other → P (if b then one else other)
 either P true one other h k = h
 either P false one other h k = k
+
+-- what a turn of a frame leaves of so many units
+abbrev pub TurnTakes : ℕ → Turn → Type 0
+TurnTakes units (GoesOn f c) = (f.machine.units < units) × IsGoing f
+TurnTakes units (Calls f c callee left) =
+    (left < units) × (left ≤ f.machine.units) × (f.machine.units ≤ units)
+TurnTakes units (Leaves e) = e.units ≤ units
+
+abbrev pub NextTakes : ℕ → Next → Type 0
+NextTakes units (Runs f c) = (f.machine.units ≤ units) × IsGoing f
+NextTakes units (Done e) = e.units ≤ units
 
 calling_takes : (outer : List Key) (f : Running) (c : Carried) (u left : ℕ) (answer : Result Callee Stopped) → left < u → left ≤ f.machine.units → f.machine.units ≤ u → TurnTakes u (calling outer f c left answer)
 calling_takes outer f c u left (Ok callee) h k l = (h, k, l)

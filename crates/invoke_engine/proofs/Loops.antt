@@ -10,20 +10,29 @@ use Rattle.sol_base.specs.declared.key.Key.{Key}
 use Rattle.invoke_engine.specs.Frames.{Fixed, Carried, Running, Ending, Next, Runs, Done, Callee, Turn, GoesOn, Calls, Leaves}
 use Rattle.invoke_engine.specs.Turns.{turn}
 use Rattle.invoke_engine.specs.Returning.{returned}
-use Rattle.invoke_engine.specs.Starting.{begun}
+use Rattle.invoke_engine.specs.Starting.{begun, next_as}
+use Rattle.invoke_engine.specs.Endings.{ending_as}
 use Rattle.invoke_engine.specs.Frame.{frame, nothing_returned, go, after, follow}
-use Rattle.invoke_engine.specs.Conditions.{NextFits, TurnFits, IsGoing, AreAccountsOf, IsFrame, AreSuspended}
-use Rattle.invoke_engine.specs.FrameLoop.{TurnTakes, NextTakes, Works, Stands, Steps, Goes, units_in, ending_in, measure}
+use Rattle.invoke_engine.specs.Conditions.{NextFits, RunsFit, TurnFits, IsGoing, AreAccountsOf, IsFrame, AreSuspended}
+use Rattle.invoke_engine.specs.FrameLoop.{Stands, Steps, Goes, units_in, ending_in, measure}
 use Rattle.invoke_engine.specs.Suspended.{programs_of, rest}
-use Rattle.invoke_engine.specs.Views.{next_as, ending_as, RunsFit, IsRun}
+use Rattle.invoke_engine.specs.Ran.{IsRun}
 use Rattle.invoke_engine.specs.declared.call.Ran.{Ran}
 use Rattle.sol_base.specs.declared.key.TheConstants.{SYSTEM_PROGRAM}
 use Rattle.invoke_engine.specs.declared.ending.Ending.{Ending as EndingValue}
 use Rattle.invoke_engine.specs.declared.begin.Next.{Next as NextValue}
-use Rattle.invoke_engine.specs.declared.begin.Next.TheVariants.{Runs as RunsValue, Done as DoneValue}
+use Rattle.invoke_engine.specs.declared.begin.Next.TheVariants.{Done as DoneValue}
 use Rattle.invoke_engine.proofs.Begins.{DoneFits, begun_fits, returned_fits}
-use Rattle.invoke_engine.proofs.Fuel.{go_turn, turn_takes, returned_takes, begun_takes}
+use Rattle.invoke_engine.proofs.Fuel.{TurnTakes, NextTakes, go_turn, turn_takes, returned_takes, begun_takes}
 use Rattle.invoke_engine.proofs.Keeping.{turn_fits}
+
+-- what a frame comes to by its own turns, the last of which is this: it has the frame's ending, it
+-- fits, and no unit is gained
+pub record Works (s : Fixed) (outer : List Key) (f : Running) (c : Carried) (last : Turn) : Type 0
+  where
+    pub same : follow s outer (go s) last ≡ go s outer f c
+    pub fits : TurnFits (length s.keys) s.setting.height outer last
+    pub takes : TurnTakes f.machine.units last
 
 -- where a frame stands among its own turns
 pub record Working (s : Fixed) (outer : List Key) (f : Running) (c : Carried) (g : Running) (d : Carried) : Type 0 where
@@ -137,28 +146,41 @@ stands_end s fs e h = ap (λ (gs : List Running). rest s gs e) h
 
 -- the same steps, by what the code answers
 
-pub both_ok : {A E : Type 0} (r : Result A E) (P Q R : A → Type 0) → IfOk r P → IfOk r Q → ((a : A) → P a → Q a → R a) → IfOk r R
-both_ok (Ok a) P Q R p q h = h a p q
-both_ok (Err e) P Q R p q h = q
+pub all_ok : {A E : Type 0} (r : Result A E) (P Q R S : A → Type 0) → IfOk r P → IfOk r Q → IfOk r R → ((a : A) → P a → Q a → R a → S a) → IfOk r S
+all_ok (Ok a) P Q R S p q t h = h a p q t
+all_ok (Err e) P Q R S p q t h = q
 
-next_fits : (n : ℕ) (next : NextValue) (c : Carried) → RunsFit n next → DoneFits n (next_as next c) → NextFits n (next_as next c)
-next_fits n (RunsValue f) c h k = h
-next_fits n (DoneValue e) c h k = k
+next_fits : (n : ℕ) (next : Next) → RunsFit n next → DoneFits n next → NextFits n next
+next_fits n (Runs f c) h k = h
+next_fits n (Done e) h k = k
 
-pub step_begun : (s : Fixed) (fs : List Running) (f : Running) (c : Carried) (g : Running) (d : Carried) (callee : Callee) (left : ℕ) (gs : List Running) (next : NextValue) (e : Carried) →
-    gs ≡ g ∷ fs → Stands s fs (Runs f c) → Works s (programs_of fs) f c (Calls g d callee left) → begun s (programs_of gs) callee.call callee.accounts left d ≡ next_as next e → RunsFit (length s.keys) next → Steps s fs (Runs f c) gs (next_as next e)
-step_begun s fs f c g d callee left gs next e same h w begins fits =
-    let ends : DoneFits (length s.keys) (next_as next e) = subst (DoneFits (length s.keys)) begins (begun_fits (length s.keys) s (programs_of gs) callee.call callee.accounts left d w.fits.call.range w.fits.accounts) in
-    subst (λ (hs : List Running). begun s (programs_of hs) callee.call callee.accounts left d ≡ next_as next e → Steps s fs (Runs f c) hs (next_as next e)) (sym same)
-    (λ (k : begun s (programs_of (g ∷ fs)) callee.call callee.accounts left d ≡ next_as next e). step_calls s fs f c g d callee left (next_as next e) h w k (next_fits (length s.keys) next e fits ends)) begins
+pub step_begun : (s : Fixed) (fs : List Running) (f : Running) (c : Carried) (g : Running) (d : Carried) (callee : Callee) (left : ℕ) (gs : List Running) (next : Next) →
+    gs ≡ g ∷ fs → Stands s fs (Runs f c) → Works s (programs_of fs) f c (Calls g d callee left) → begun s (programs_of gs) callee.call callee.accounts left d ≡ next → RunsFit (length s.keys) next → Steps s fs (Runs f c) gs next
+step_begun s fs f c g d callee left gs next same h w begins fits =
+    let ends : DoneFits (length s.keys) next = subst (DoneFits (length s.keys)) begins (begun_fits (length s.keys) s (programs_of gs) callee.call callee.accounts left d w.fits.call.range w.fits.accounts) in
+    subst (λ (hs : List Running). begun s (programs_of hs) callee.call callee.accounts left d ≡ next → Steps s fs (Runs f c) hs next) (sym same)
+    (λ (k : begun s (programs_of (g ∷ fs)) callee.call callee.accounts left d ≡ next). step_calls s fs f c g d callee left next h w k (next_fits (length s.keys) next fits ends)) begins
 
-pub step_resumed : (s : Fixed) (stack : List Running) (now : NextValue) (c : Carried) (f : Running) (fs : List Running) (ending : EndingValue) (next : NextValue) (d : Carried) →
-    Stands s stack (next_as now c) → stack ≡ f ∷ fs → now ≡ DoneValue ending → returned (programs_of fs) f (ending_as ending c) ≡ next_as next d → RunsFit (length s.keys) next → Steps s stack (next_as now c) fs (next_as next d)
-step_resumed s stack now c f fs ending next d h same is r runs =
-    let ends : DoneFits (length s.keys) (next_as next d) = subst (DoneFits (length s.keys)) r (returned_fits (length s.keys) (programs_of fs) f (ending_as ending c)) in
-    let fits : NextFits (length s.keys) (returned (programs_of fs) f (ending_as ending c)) = subst (NextFits (length s.keys)) (sym r) (next_fits (length s.keys) next d runs ends) in
-    subst (λ (gs : List Running). Stands s gs (next_as now c) → Steps s gs (next_as now c) fs (next_as next d)) (sym same)
-    (subst (λ (n : NextValue). Stands s (f ∷ fs) (next_as n c) → Steps s (f ∷ fs) (next_as n c) fs (next_as next d)) (sym is)
+-- the same where the frame has taken turns of its own before, and the frames that wait are named twice
+
+pub leaves_at : (s : Fixed) (fs gs : List Running) (f : Running) (c : Carried) (g : Running) (d : Carried) (e : Ending) → gs ≡ fs → Stands s fs (Runs f c) → Working s (programs_of gs) f c g d → turn s.setting s.keys (programs_of gs) g d ≡ Leaves e → Steps s fs (Runs f c) gs (Done e)
+leaves_at s fs gs f c g d e same h w t =
+    subst (λ (xs : List Running). Stands s xs (Runs f c) → Steps s xs (Runs f c) gs (Done e)) same
+    (λ (k : Stands s gs (Runs f c)). step_leaves s gs f c e k (working_last s (programs_of gs) f c g d (Leaves e) w t)) h
+
+pub calls_at : (s : Fixed) (fs gs hs : List Running) (f : Running) (c : Carried) (g : Running) (d : Carried) (caller : Running) (e : Carried) (callee : Callee) (left : ℕ) (next : Next) →
+    gs ≡ fs → Stands s fs (Runs f c) → Working s (programs_of gs) f c g d → turn s.setting s.keys (programs_of gs) g d ≡ Calls caller e callee left → hs ≡ caller ∷ gs → begun s (programs_of hs) callee.call callee.accounts left e ≡ next → RunsFit (length s.keys) next → Steps s fs (Runs f c) hs next
+calls_at s fs gs hs f c g d caller e callee left next same h w t pushed begins fits =
+    subst (λ (xs : List Running). Stands s xs (Runs f c) → Steps s xs (Runs f c) hs next) same
+    (λ (k : Stands s gs (Runs f c)). step_begun s gs f c caller e callee left hs next pushed k (working_last s (programs_of gs) f c g d (Calls caller e callee left) w t) begins fits) h
+
+pub step_resumed : (s : Fixed) (stack : List Running) (now : NextValue) (c : Carried) (f : Running) (fs : List Running) (ending : EndingValue) (next : Next) →
+    Stands s stack (next_as now c) → stack ≡ f ∷ fs → now ≡ DoneValue ending → returned (programs_of fs) f (ending_as ending c) ≡ next → RunsFit (length s.keys) next → Steps s stack (next_as now c) fs next
+step_resumed s stack now c f fs ending next h same is r runs =
+    let ends : DoneFits (length s.keys) next = subst (DoneFits (length s.keys)) r (returned_fits (length s.keys) (programs_of fs) f (ending_as ending c)) in
+    let fits : NextFits (length s.keys) (returned (programs_of fs) f (ending_as ending c)) = subst (NextFits (length s.keys)) (sym r) (next_fits (length s.keys) next runs ends) in
+    subst (λ (gs : List Running). Stands s gs (next_as now c) → Steps s gs (next_as now c) fs next) (sym same)
+    (subst (λ (n : NextValue). Stands s (f ∷ fs) (next_as n c) → Steps s (f ∷ fs) (next_as n c) fs next) (sym is)
     (λ (k : Stands s (f ∷ fs) (Done (ending_as ending c))). subst (Steps s (f ∷ fs) (Done (ending_as ending c)) fs) r (step_returned s fs f (ending_as ending c) k fits))) h
 
 pub end_of_all : (s : Fixed) (stack : List Running) (now : NextValue) (c : Carried) (ending : EndingValue) (total : Ending) → stack ≡ [] → now ≡ DoneValue ending → ending_in s stack (next_as now c) ≡ total → ending_as ending c ≡ total
@@ -167,14 +189,14 @@ end_of_all s stack now c ending total none is h =
 
 -- the first frame
 
-pub first_stands : (s : Fixed) (stack : List Running) (call : Call) (accounts : List Account) (units : ℕ) (c : Carried) (next : NextValue) (e : Carried) →
-    stack ≡ [] → 1 ≤ s.setting.height → AreInRange (length s.keys) call.metas → AreAccountsOf (length s.keys) accounts → begun s (programs_of stack) call accounts units c ≡ next_as next e → RunsFit (length s.keys) next → Stands s stack (next_as next e)
-first_stands s stack call accounts units c next e none some range given begins fits =
+pub first_stands : (s : Fixed) (stack : List Running) (call : Call) (accounts : List Account) (units : ℕ) (c : Carried) (next : Next) →
+    stack ≡ [] → 1 ≤ s.setting.height → AreInRange (length s.keys) call.metas → AreAccountsOf (length s.keys) accounts → begun s (programs_of stack) call accounts units c ≡ next → RunsFit (length s.keys) next → Stands s stack next
+first_stands s stack call accounts units c next none some range given begins fits =
     let empty : length stack ≡ 0 = ap length none in
     record {
-      fits = next_fits (length s.keys) next e fits (subst (DoneFits (length s.keys)) begins (begun_fits (length s.keys) s (programs_of stack) call accounts units c range given));
-      goes = goes_on units (next_as next e) (subst (NextTakes units) begins (begun_takes s (programs_of stack) call accounts units c));
-      waiting = subst (AreSuspended (length s.keys) (units_in (next_as next e))) (sym none) tt;
+      fits = next_fits (length s.keys) next fits (subst (DoneFits (length s.keys)) begins (begun_fits (length s.keys) s (programs_of stack) call accounts units c range given));
+      goes = goes_on units next (subst (NextTakes units) begins (begun_takes s (programs_of stack) call accounts units c));
+      waiting = subst (AreSuspended (length s.keys) (units_in next)) (sym none) tt;
       height = omega arith;
     }
 

@@ -1,7 +1,7 @@
 -- What a frame does that calls another program (Solana; the order is the project's own): the
 -- request, the callee's rights, the caller's accounts and rules, and whether the callee may start,
 -- in this order.
-use Rattle.std.specs.Prelude.{ℕ, ◌&&◌, not, nat_le, List, Result, Ok, Err, if◌then◌else◌}
+use Rattle.std.specs.Prelude.{◌≡◌, ℕ, ◌&&◌, not, nat_le, List, Result, Ok, Err, if◌then◌else◌}
 use Rattle.spec_base.specs.Reading.{◌>>=◌}
 use Rattle.sol_base.specs.declared.key.Key.{Key}
 use Rattle.sol_base.specs.declared.account.Account.{Account}
@@ -15,6 +15,7 @@ use Rattle.cpi_calls.specs.declared.grant.Granted.{Granted}
 use Rattle.tx_report.specs.declared.cause.Cause.TheVariants.{TraceTooLong, StackHeight, Reentrancy}
 use Rattle.invoke_engine.specs.declared.call.Setting.{Setting}
 use Rattle.invoke_engine.specs.declared.stopped.Stopped.{Stopped}
+use Rattle.invoke_engine.specs.declared.stopped.Stopped.TheVariants.{Refused, OutOfMemory as no_memory}
 use Rattle.invoke_engine.specs.Reasons.{plainly, refuse, by_call, by_rights}
 use Rattle.invoke_engine.specs.Frames.{Carried, Running, Callee, Turn, Calls, Leaves, height, max_trace}
 use Rattle.invoke_engine.specs.Endings.{closes}
@@ -65,3 +66,17 @@ abbrev pub call_turn : Setting → List Key → List Key → Running → Carried
 call_turn setting keys outer f c =
     calling outer f c (requested f).units
     (called setting.height keys outer f c.trace (requested f).answer)
+
+-- a request was read, or refused as the definition says, with the units then left, or no memory was
+-- found
+abbrev pub Asks : Requested → ℕ → Result CallRequest Stopped → Type 0
+Asks wanted units (Ok request) = (wanted.answer ≡ Ok request) × (wanted.units ≡ units)
+Asks wanted units (Err no_memory) = Unit {0}
+Asks wanted units (Err (Refused reason)) =
+    (refuse by_call wanted.answer ≡ Err (Refused reason)) × (wanted.units ≡ units)
+
+-- the same of the callee
+abbrev pub Comes : Result Callee Stopped → ℕ → ℕ → Result Callee Stopped → Type 0
+Comes wanted left units (Ok callee) = (wanted ≡ Ok callee) × (left ≡ units)
+Comes wanted left units (Err no_memory) = Unit {0}
+Comes wanted left units (Err (Refused reason)) = (wanted ≡ Err (Refused reason)) × (left ≡ units)

@@ -50,6 +50,11 @@ IsGoing f = f.machine.stop ≡ None
 abbrev pub EndingFits : ℕ → Ending → Type 0
 EndingFits n e = MatchResult e.result (λ accounts. AreAccountsOf n accounts) (λ _. Unit {0})
 
+-- a frame that runs is as it has to be
+abbrev pub RunsFit : ℕ → Next → Type 0
+RunsFit n (Runs f c) = IsFrame n f
+RunsFit n (Done e) = Unit {0}
+
 abbrev pub NextFits : ℕ → Next → Type 0
 NextFits n (Runs f c) = IsFrame n f
 NextFits n (Done e) = EndingFits n e

@@ -6,10 +6,16 @@ use Rattle.tx_report.specs.LogLines.{with_line}
 use Rattle.tx_report.specs.declared.cause.Cause.TheVariants.{Abort}
 use Rattle.tx_report.specs.declared.status.InstructionError.{InstructionError}
 use Rattle.invoke_engine.specs.declared.call.StoppedAt.{StoppedAt}
+use Rattle.invoke_engine.specs.declared.ending.Ending.{Ending as EndingValue}
 use Rattle.invoke_engine.specs.declared.stopped.Stopped.{Stopped}
 use Rattle.invoke_engine.specs.declared.stopped.Stopped.TheVariants.{Refused, OutOfMemory as no_memory}
 use Rattle.invoke_engine.specs.Lines.{consumed_line, last_line}
 use Rattle.invoke_engine.specs.Frames.{Carried, Running, Ending, height}
+
+-- The ending that the code answers, with what is handed on then: the code changes that where it
+-- stands, and has the rest alone in a value.
+abbrev pub ending_as : EndingValue → Carried → Ending
+ending_as e c = record { units = e.units; carried = c; result = e.result }
 
 abbrev pub say : List ℕ → Carried → Carried
 say line c = record c { log = with_line c.log line }

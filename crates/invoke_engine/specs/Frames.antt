@@ -8,10 +8,10 @@ use Rattle.tx_report.specs.LogLines.{Log}
 use Rattle.tx_report.specs.declared.status.InstructionError.{InstructionError}
 use Rattle.sbpf_machine.specs.Steps.{State}
 use Rattle.program_cache.specs.Programs.{Sought}
-use Rattle.invoke_engine.specs.declared.call.Call.{Call}
 use Rattle.invoke_engine.specs.declared.call.Setting.{Setting}
 use Rattle.invoke_engine.specs.declared.call.StoppedAt.{StoppedAt}
 use Rattle.invoke_engine.specs.declared.stop.TheConstants.{MAX_TRACE}
+pub use Rattle.invoke_engine.specs.declared.ending.Callee.{Callee}
 
 -- what is fixed beside the frames of a transaction: what is found under the key of a program, the
 -- setting, and the transaction's keys
@@ -19,6 +19,9 @@ pub record Fixed : Type 0 where
   pub programs : Key → Sought
   pub setting : Setting
   pub keys : List Key
+
+abbrev pub fixed : (Key → Sought) → Setting → List Key → Fixed
+fixed programs setting keys = record { programs = programs; setting = setting; keys = keys }
 
 -- what frames hand on to each other beside accounts and units: the number of started instructions,
 -- the returned bytes with their keeper, the log, and where the program stopped that failed first
@@ -49,11 +52,6 @@ pub record Ending : Type 0 where
 pub data Next : Type 0 where
   Runs : Running → Carried → Next
   Done : Ending → Next
-
--- a call of another program, and the accounts that it finds
-pub record Callee : Type 0 where
-  pub call : Call
-  pub accounts : List Account
 
 -- what a frame does at a stop of its machine: it goes on, it calls another program with the units
 -- then left, or it ends

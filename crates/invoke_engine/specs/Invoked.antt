@@ -6,7 +6,7 @@ use Rattle.sol_base.specs.declared.account.Account.{Account}
 use Rattle.program_cache.specs.Programs.{Listing, sought}
 use Rattle.invoke_engine.specs.declared.call.Call.{Call}
 use Rattle.invoke_engine.specs.declared.call.Setting.{Setting}
-use Rattle.invoke_engine.specs.Frames.{Fixed}
+use Rattle.invoke_engine.specs.Frames.{Fixed, fixed}
 
 -- the programs that are kept, the setting, and the transaction's keys
 pub record Known : Type 0 where
@@ -15,11 +15,7 @@ pub record Known : Type 0 where
   pub keys : List Key
 
 abbrev pub fixed_in : Known → Fixed
-fixed_in known = record {
-  programs = sought known.programs;
-  setting = known.setting;
-  keys = known.keys;
-}
+fixed_in known = fixed (sought known.programs) known.setting known.keys
 
 -- a call of a program, the accounts that it finds, and the units that it may take
 pub record Invoked : Type 0 where

@@ -17,4 +17,4 @@ pub mod Conditions
 pub mod FrameLoop
 pub mod FrameLaws
 pub mod Stops
-pub mod Views
+pub mod Ran

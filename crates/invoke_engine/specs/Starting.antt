@@ -13,14 +13,21 @@ use Rattle.sbpf_machine.specs.Steps.{State, first_state}
 use Rattle.abi_input.specs.Region.{input_of, max_metas}
 use Rattle.program_cache.specs.Ready.{ReadyImage}
 use Rattle.program_cache.specs.Programs.{Sought, IsReady, IsAbsent, IsNoProgram, IsBad, IsUnverified}
+use Rattle.invoke_engine.specs.declared.begin.Next.{Next as NextValue}
+use Rattle.invoke_engine.specs.declared.begin.Next.TheVariants.{Runs as RunsValue, Done as DoneValue}
 use Rattle.invoke_engine.specs.declared.call.Call.{Call}
 use Rattle.invoke_engine.specs.declared.call.Setting.{Setting}
 use Rattle.invoke_engine.specs.declared.stopped.Stopped.{Stopped}
 use Rattle.invoke_engine.specs.Reasons.{at, plainly}
 use Rattle.invoke_engine.specs.Lines.{invoke_line}
 use Rattle.invoke_engine.specs.Frames.{Fixed, Carried, Running, Ending, Next, Runs, Done, height}
-use Rattle.invoke_engine.specs.Endings.{error_of, ending_of, closed}
+use Rattle.invoke_engine.specs.Endings.{error_of, ending_as, ending_of, closed}
 use Rattle.invoke_engine.specs.Native.{is_native, native}
+
+-- what the code answers is next, with what is handed on then
+abbrev pub next_as : NextValue → Carried → Next
+next_as (RunsValue f) c = Runs f c
+next_as (DoneValue e) c = Done (ending_as e c)
 
 -- the key at a place of the transaction
 abbrev pub key_at : List Key → ℕ → Key

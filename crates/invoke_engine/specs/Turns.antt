@@ -7,13 +7,22 @@ use Rattle.sbpf_machine.specs.Steps.{State, steps}
 use Rattle.sbpf_machine.specs.declared.stop.Stop.{Stop}
 use Rattle.sbpf_machine.specs.declared.stop.Stop.TheVariants.{Exit, Helper, Fault as Faulted}
 use Rattle.invoke_engine.specs.declared.call.Setting.{Setting}
+use Rattle.invoke_engine.specs.declared.turn.Turn.{Turn as TurnValue}
+use Rattle.invoke_engine.specs.declared.turn.Turn.TheVariants.{GoesOn as GoesOnValue, Calls as CallsValue, Leaves as LeavesValue}
 use Rattle.invoke_engine.specs.Reasons.{plainly, by_fault}
-use Rattle.invoke_engine.specs.Frames.{Carried, Running, Turn, Leaves}
-use Rattle.invoke_engine.specs.Endings.{closes}
+use Rattle.invoke_engine.specs.Frames.{Carried, Running, Turn, GoesOn, Calls, Leaves}
+use Rattle.invoke_engine.specs.Endings.{closes, ending_as}
 use Rattle.invoke_engine.specs.Leaving.{left}
 use Rattle.invoke_engine.specs.Calling.{call_turn}
 use Rattle.invoke_engine.specs.Serving.{serve_turn}
 use Rattle.sbpf_isa.specs.Calls.{invoke_call}
+
+-- The turn that the code answers, with the frame and what is handed on then, which it changes where
+-- they stand. A frame that leaves is no more, so the cases here name the state of the others.
+abbrev pub turn_as : TurnValue → Running → Carried → Turn
+turn_as GoesOnValue f c = GoesOn f c
+turn_as (CallsValue callee units) f c = Calls f c callee units
+turn_as (LeavesValue e) f c = Leaves (ending_as e c)
 
 -- a machine over a verified text always comes to a stop, so this never is
 abbrev pub never : List Key → Running → Carried → Turn

@@ -1,20 +1,18 @@
 //! A frame at its start.
 ghost use Rattle.std.specs.Prelude.{◌≡◌, ◌<◌, ◌≤◌, Ok, Err, MatchResult, length, IfOk, OnOk};
-ghost use Rattle.sol_base.specs.Accounts.{accounts_of};
 ghost use Rattle.program_cache.specs.Programs.{sought};
 ghost use Rattle.abi_input.specs.Region.{max_metas};
-ghost use Rattle.invoke_engine.specs.Endings.{ending_of, error_of};
+ghost use Rattle.invoke_engine.specs.Endings.{ending_as, ending_of, error_of};
 ghost use Rattle.invoke_engine.specs.Frames.{height, max_height, max_trace};
 ghost use Rattle.invoke_engine.specs.Invoked.{fixed_in};
-ghost use Rattle.invoke_engine.specs.Conditions.{AreAccountsOf, IsCall, IsFrame};
+ghost use Rattle.invoke_engine.specs.Conditions.{AreAccountsOf, IsCall, IsFrame, RunsFit};
 ghost use Rattle.invoke_engine.specs.Native as Native;
 ghost use Rattle.invoke_engine.specs.Reasons.{StopsBy};
 ghost use Rattle.invoke_engine.specs.Starting as Starting;
 ghost use Rattle.invoke_engine.specs.Suspended.{programs_of};
-ghost use Rattle.invoke_engine.specs.Views.{ending_as, next_as, RunsFit};
 ghost use Rattle.invoke_engine.specs.declared.stopped.Stopped.TheVariants.{Refused};
 
-use crate::call::Ended;
+use crate::accounts::Accounts;
 use crate::carrier::Carrier;
 use crate::context::{Context, Invocation};
 use crate::ending::Ending;
@@ -29,8 +27,8 @@ use program_cache::{Found, Image};
 use sbpf_machine::Machine;
 use sbpf_memory::Memory;
 use sol_base::{
-    Account, Blob, COMPUTE_BUDGET_PROGRAM, Items, Key, LOADER_PROGRAM, MAX_METAS, OutOfMemory,
-    SYSTEM_PROGRAM, share_all,
+    Blob, COMPUTE_BUDGET_PROGRAM, Items, Key, LOADER_PROGRAM, MAX_METAS, OutOfMemory,
+    SYSTEM_PROGRAM,
 };
 use std::alloc::Global;
 use std::sync::Arc;
@@ -60,13 +58,13 @@ fn run_native(
     context: &Context<'_>,
     key: &Key,
     invocation: Invocation<'_>,
-) -> Result<Items<Arc<Account>>, Stopped>
+) -> Result<Accounts, Stopped>
     requires call { IsCall (length context.now.keys) invocation.call }
     requires metas { length invocation.call.metas ≤ max_metas }
     requires accounts { AreAccountsOf (length context.now.keys) invocation.accounts }
     ensures { MatchResult result
         (λ after. Native.native_row key.now context.now.keys invocation.entry.accounts invocation.entry.call
-        ≡ Ok (accounts_of after))
+        ≡ Ok after)
         (λ e. StopsBy e (Native.native_row key.now context.now.keys invocation.entry.accounts
         invocation.entry.call)) }
 {
@@ -84,7 +82,7 @@ fn run_native(
             metas,
             input,
         )?;
-        return Ok(after);
+        return Ok(Accounts::of(after));
     }
     if *key == LOADER_PROGRAM {
         let after = run_loader(
@@ -94,7 +92,7 @@ fn run_native(
             metas,
             input,
         )?;
-        return Ok(after);
+        return Ok(Accounts::of(after));
     }
     Ok(accounts)
 }
@@ -118,7 +116,7 @@ fn refuse(
         detail: reason.detail,
         height: height_in(outer),
     };
-    ending_of(alloc, program, units, carrier, Ended::Failed(error))
+    ending_of(alloc, program, units, carrier, Err(error))
 }
 
 /// The frame of a native program.
@@ -144,7 +142,7 @@ fn native(
     }
     let left = invocation.units - NATIVE_UNITS;
     match run_native(context, &program.key(), invocation) {
-        Ok(after) => ending_of(alloc, program, left, carrier, Ended::Good(after)),
+        Ok(after) => ending_of(alloc, program, left, carrier, Ok(after)),
         Err(Stopped::Refused(reason)) => refuse(alloc, outer, program, left, carrier, reason),
         Err(Stopped::OutOfMemory) => Err(OutOfMemory),
     }
@@ -190,7 +188,7 @@ fn first_frame(
     Ok(Frame {
         program,
         metas: Items::from_vec(Vec::from_slice(alloc, metas)?),
-        start: share_all(alloc, accounts.as_slice())?,
+        start: Accounts::share(alloc, accounts.as_slice())?,
         before: accounts,
         had: units,
         machine,
@@ -230,7 +228,7 @@ fn crowded(
             detail: reason.detail,
             height: height_in(outer),
         };
-        let failed = Ended::Failed(error);
+        let failed = Err(error);
         return close(context.alloc, program, units, units, carrier, failed);
     }
     refuse(context.alloc, outer, program, units, carrier, reason)
@@ -251,8 +249,8 @@ fn enter(
     ensures next { IfOk result (λ next.
         Starting.entering (fixed_in context.now) (programs_of outer.now) program.now invocation.entry.call
         invocation.entry.accounts invocation.entry.units carrier.old
-        ≡ next_as next carrier.new) }
-    ensures fits { IfOk result (λ next. RunsFit (length context.now.keys) next) }
+        ≡ Starting.next_as next carrier.new) }
+    ensures fits { IfOk result (λ next. RunsFit (length context.now.keys) (Starting.next_as next carrier.new)) }
 {
     let units = invocation.units;
     if invocation.metas.len() > MAX_METAS {
@@ -316,8 +314,8 @@ pub(crate) fn begin(
     ensures next { IfOk result (λ next.
         Starting.begun (fixed_in context.now) (programs_of outer.now) invocation.entry.call invocation.entry.accounts
         invocation.entry.units carrier.old
-        ≡ next_as next carrier.new) }
-    ensures fits { IfOk result (λ next. RunsFit (length context.now.keys) next) }
+        ≡ Starting.next_as next carrier.new) }
+    ensures fits { IfOk result (λ next. RunsFit (length context.now.keys) (Starting.next_as next carrier.new)) }
 {
     let program = NamedProgram::of(key_at(context.keys, invocation.program));
     start(context.alloc, &program, outer, carrier)?;

@@ -14,7 +14,7 @@ pub struct Carrier {
 }
 
 impl Model for Carrier {
-    ghost use Rattle.invoke_engine.specs.Frame.{Carried};
+    ghost use Rattle.invoke_engine.specs.Frames.{Carried};
 
     ghost Value = { Carried };
 

@@ -1,11 +1,11 @@
 //! What is fixed beside the frames of a transaction, and what a frame is started with.
 
+use crate::accounts::Accounts;
 use crate::call::Setting;
 use program_cache::Programs;
-use sol_base::{Account, Items, Key, Meta};
+use sol_base::{Key, Meta};
 use std::alloc::Global;
 use std::marker::Model;
-use std::sync::Arc;
 
 /// What is fixed beside the frames of a transaction: its programs, its setting, its keys, and where
 /// memory comes from.
@@ -37,12 +37,11 @@ pub struct Invocation<'a> {
     pub program: u8,
     pub metas: &'a [Meta],
     pub input: &'a [u8],
-    pub accounts: Items<Arc<Account>>,
+    pub accounts: Accounts,
     pub units: u64,
 }
 
 impl<'a> Model for Invocation<'a> {
-    ghost use Rattle.sol_base.specs.Accounts.{accounts_of};
     ghost use Rattle.invoke_engine.specs.Invoked.{Invoked};
 
     ghost Value = { Invoked };
@@ -53,7 +52,7 @@ impl<'a> Model for Invocation<'a> {
         metas = invocation.metas.now;
         input = invocation.input.now;
       };
-      accounts = accounts_of invocation.accounts;
+      accounts = invocation.accounts;
       units = invocation.units;
     } };
 }

@@ -4,20 +4,20 @@ ghost use Rattle.std.specs.List.{list_any};
 ghost use Rattle.sol_base.specs.Keys.{same_key, has_key};
 ghost use Rattle.invoke_engine.specs.Suspended.{programs_of};
 
+use crate::accounts::Accounts;
 use sbpf_machine::Machine;
-use sol_base::{Account, Items, Key, Meta, OutOfMemory};
+use sol_base::{Items, Key, Meta, OutOfMemory};
 use std::alloc::Global;
 use std::marker::Model;
-use std::sync::Arc;
 
 /// A frame. The region of its machine lends the data of the accounts `before`.
 #[derive(Drop)]
 pub struct Frame {
     pub program: Key,
     pub metas: Items<Meta>,
-    pub start: Items<Arc<Account>>,
+    pub start: Accounts,
     /// The accounts at the frame's start or at the last return of a callee.
-    pub before: Items<Arc<Account>>,
+    pub before: Accounts,
     pub had: u64,
     /// It is large, and stays where it is while the frame is handed on.
     pub machine: Box<Machine>,
@@ -25,24 +25,23 @@ pub struct Frame {
 
 impl Model for Frame {
     ghost use Rattle.std.specs.Prelude.{◌≡◌};
-    ghost use Rattle.sol_base.specs.Accounts.{accounts_of};
     ghost use Rattle.abi_input.specs.Region.{lent_in};
     ghost use Rattle.sbpf_machine.specs.Plain.{plain};
-    ghost use Rattle.invoke_engine.specs.Frame.{Running};
+    ghost use Rattle.invoke_engine.specs.Frames.{Running};
 
     ghost Value = { Running };
 
     ghost view = { λ f. record {
       program = f.program;
       metas = f.metas;
-      start = accounts_of f.start;
-      before = accounts_of f.before;
+      start = f.start;
+      before = f.before;
       had = f.had;
       machine = plain f.machine.value;
     } };
 
     ghost invariant = { λ f. f.machine.value.context.memory.input.lent
-        ≡ lent_in (accounts_of f.start) (accounts_of f.before) f.metas };
+        ≡ lent_in f.start f.before f.metas };
 }
 
 impl Frame {
@@ -61,7 +60,7 @@ pub struct Stack {
 
 impl Model for Stack {
     ghost use Rattle.std.specs.Prelude.{List, reverse};
-    ghost use Rattle.invoke_engine.specs.Frame.{Running};
+    ghost use Rattle.invoke_engine.specs.Frames.{Running};
 
     ghost Value = { List Running };
 

@@ -17,8 +17,7 @@ ghost use Rattle.invoke_engine.specs.Programs.{programs_of_frame, programs_of_in
 ghost use Rattle.invoke_engine.specs.Starting.{key_at};
 ghost use Rattle.invoke_engine.specs.Stops.{TellsStop};
 ghost use Rattle.invoke_engine.specs.Suspended.{programs_of, rest};
-ghost use Rattle.invoke_engine.specs.Views.{fixed};
-ghost use Rattle.invoke_engine.specs.Frames.{max_trace};
+ghost use Rattle.invoke_engine.specs.Frames.{fixed, max_trace};
 
 use crate::begin::NATIVE_UNITS;
 use crate::stop::{CUSTOM_ZERO, MAX_TRACE};

@@ -1,18 +1,17 @@
 //! The lines of frames, and their ends.
 ghost use Rattle.std.specs.Prelude.{◌≡◌, ◌++◌, ◌-◌, IfOk, OnOk, codes};
 ghost use Rattle.hex.specs.Hex.{encode_lower};
-ghost use Rattle.invoke_engine.specs.Endings.{say, ending_of, closed};
+ghost use Rattle.invoke_engine.specs.Endings.{say, ending_as, ending_of, closed};
 ghost use Rattle.invoke_engine.specs.Lines.{invoke_line, consumed_line, last_line};
-ghost use Rattle.invoke_engine.specs.Views.{ending_as, result_as};
 
-use crate::call::Ended;
+use crate::accounts::Accounts;
 use crate::carrier::Carrier;
 use crate::ending::Ending;
 use crate::program::NamedProgram;
 use itoa::Buffer;
 use sol_base::{Blob, OutOfMemory};
 use std::alloc::Global;
-use tx_report::cause_text;
+use tx_report::{InstructionError, cause_text};
 
 /// The bytes of the beginning of each line of a frame.
 const BEGINNING_LEN: usize = 72;
@@ -71,16 +70,20 @@ fn say_consumed(
     carrier.env.logs.add_line(line)
 }
 
-fn last(alloc: Global, program: &NamedProgram, outcome: &Ended) -> Result<Blob, OutOfMemory>
-    ensures { IfOk result (λ line. line ≡ last_line program.now (result_as outcome.now)) }
+fn last(
+    alloc: Global,
+    program: &NamedProgram,
+    outcome: &Result<Accounts, InstructionError>,
+) -> Result<Blob, OutOfMemory>
+    ensures { IfOk result (λ line. line ≡ last_line program.now outcome.now) }
 {
     match outcome {
-        Ended::Good(_) => {
+        Ok(_) => {
             let mut line = beginning(alloc, program, SUCCESS.len())?;
             line.append(&SUCCESS)?;
             Ok(line)
         }
-        Ended::Failed(error) => {
+        Err(error) => {
             let text = cause_text(alloc, error.cause, error.detail)?;
             let mut line = beginning(alloc, program, FAILED.len().saturating_add(text.len()))?;
             line.append(&FAILED)?;
@@ -96,16 +99,16 @@ pub(crate) fn ending_of(
     program: &NamedProgram,
     units: u64,
     carrier: &mut Carrier,
-    outcome: Ended,
+    outcome: Result<Accounts, InstructionError>,
 ) -> Result<Ending, OutOfMemory>
     ensures { IfOk result (λ e. ending_as e carrier.new
-        ≡ ending_of program.now units carrier.old (result_as outcome)) }
+        ≡ ending_of program.now units carrier.old outcome) }
 {
     let line = last(alloc, program, &outcome)?;
     carrier.env.logs.add_line(line)?;
     Ok(Ending {
         units,
-        ended: outcome,
+        result: outcome,
     })
 }
 
@@ -116,10 +119,10 @@ pub(crate) fn close(
     had: u64,
     units: u64,
     carrier: &mut Carrier,
-    outcome: Ended,
+    outcome: Result<Accounts, InstructionError>,
 ) -> Result<Ending, OutOfMemory>
     ensures { IfOk result (λ e. ending_as e carrier.new
-        ≡ closed program.now had units carrier.old (result_as outcome)) }
+        ≡ closed program.now had units carrier.old outcome) }
 {
     say_consumed(alloc, program, had.saturating_sub(units), had, carrier)?;
     ending_of(alloc, program, units, carrier, outcome)

@@ -1,15 +1,15 @@
 //! A caller after its callee.
 ghost use Rattle.std.specs.Prelude.{◌≡◌, ◌<◌, ◌≤◌, Ok, Err, length, IfOk};
-ghost use Rattle.sol_base.specs.Accounts.{accounts_of};
 ghost use Rattle.abi_input.specs.Region.{patched};
-ghost use Rattle.invoke_engine.specs.Conditions.{EndingFits, AreAccountsOf, IsFrame, IsSuspended};
+ghost use Rattle.invoke_engine.specs.Conditions.{EndingFits, AreAccountsOf, IsFrame, IsSuspended, RunsFit};
+ghost use Rattle.invoke_engine.specs.Endings.{ending_as};
 ghost use Rattle.invoke_engine.specs.Frames.{max_height};
-ghost use Rattle.invoke_engine.specs.Returning.{returned};
+ghost use Rattle.invoke_engine.specs.Returning.{returned, PatchesAs};
+ghost use Rattle.invoke_engine.specs.Starting.{next_as};
 ghost use Rattle.invoke_engine.specs.Suspended.{programs_of};
-ghost use Rattle.invoke_engine.specs.Views.{ending_as, next_as, PatchesAs, RunsFit};
 
+use crate::accounts::Accounts;
 use crate::begin::Next;
-use crate::call::Ended;
 use crate::carrier::Carrier;
 use crate::context::Context;
 use crate::ending::Ending;
@@ -19,21 +19,16 @@ use crate::program::NamedProgram;
 use crate::stopped::Stopped;
 use crate::turn::fail;
 use abi_input::patch;
-use sol_base::{Account, Items, OutOfMemory};
-use std::sync::Arc;
+use sol_base::OutOfMemory;
 
 /// Writes the accounts over the frame's region, and makes them the frame's.
-fn write_over(
-    context: &Context<'_>,
-    frame: &mut Frame,
-    accounts: Items<Arc<Account>>,
-) -> Result<(), Stopped>
+fn write_over(context: &Context<'_>, frame: &mut Frame, accounts: Accounts) -> Result<(), Stopped>
     requires frame { IsFrame (length context.now.keys) frame.old }
-    requires accounts { AreAccountsOf (length context.now.keys) (accounts_of accounts) }
+    requires accounts { AreAccountsOf (length context.now.keys) accounts }
     ensures answer { PatchesAs
         (patched frame.old.machine.context.memory.input.bytes frame.old.start
-        (accounts_of accounts) frame.old.metas)
-        (accounts_of accounts) frame.old frame.new result }
+        accounts frame.old.metas)
+        accounts frame.old frame.new result }
     ensures size { length frame.new.machine.context.memory.input.bytes
         ≡ length frame.old.machine.context.memory.input.bytes }
 {
@@ -64,18 +59,24 @@ pub(crate) fn resume(
     ensures next { IfOk result (λ next.
         returned (programs_of outer.now) frame (ending_as ending carrier.old)
         ≡ next_as next carrier.new) }
-    ensures fits { IfOk result (λ next. RunsFit (length context.now.keys) next) }
+    ensures fits { IfOk result (λ next. RunsFit (length context.now.keys) (next_as next carrier.new)) }
 {
     let mut frame = frame;
-    let Ending { units, ended } = ending;
-    match ended {
-        Ended::Failed(error) => {
+    let Ending { units, result } = ending;
+    match result {
+        Err(error) => {
             let program = NamedProgram::of(frame.program);
-            let failed = Ended::Failed(error);
-            let ending = close(context.alloc, &program, frame.had, units, carrier, failed)?;
+            let ending = close(
+                context.alloc,
+                &program,
+                frame.had,
+                units,
+                carrier,
+                Err(error),
+            )?;
             Ok(Next::Done(ending))
         }
-        Ended::Good(accounts) => match write_over(context, &mut frame, accounts) {
+        Ok(accounts) => match write_over(context, &mut frame, accounts) {
             Ok(()) => {
                 frame.machine.set_units(units);
                 frame.machine.resume(0);

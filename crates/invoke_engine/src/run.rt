@@ -1,18 +1,21 @@
 //! Instructions: the loop over the frames.
-ghost use Rattle.std.specs.Prelude.{◌≡◌, ◌<◌, ◌≤◌, None, [], length, IfOk};
+ghost use Rattle.std.specs.Prelude.{◌≡◌, ◌∷◌, ◌<◌, ◌≤◌, [], length, IfOk};
 ghost use Rattle.sol_base.specs.Accounts.{accounts_of};
 ghost use Rattle.sol_base.specs.Limits.{max_stack_height};
 ghost use Rattle.cpi_calls.specs.Limits.{max_keys};
 ghost use Rattle.program_cache.specs.Programs.{sought};
-ghost use Rattle.invoke_engine.specs.FrameLoop.{Works, Stands, Steps, ending_in};
+ghost use Rattle.invoke_engine.specs.Endings.{ending_as};
+ghost use Rattle.invoke_engine.specs.FrameLoop.{Stands, Steps, ending_in};
 ghost use Rattle.invoke_engine.specs.Frame as Spec;
 ghost use Rattle.invoke_engine.specs.Frame.{Carried};
-ghost use Rattle.invoke_engine.specs.Frames.{max_height, max_trace};
+ghost use Rattle.invoke_engine.specs.Frames.{fixed, max_trace};
 ghost use Rattle.invoke_engine.specs.Invoked.{fixed_in};
-ghost use Rattle.invoke_engine.specs.Conditions.{AreAccountsOf, IsCall, IsFrame};
+ghost use Rattle.invoke_engine.specs.Conditions.{AreAccountsOf, CallFits, IsCall, RunsFit};
 ghost use Rattle.invoke_engine.specs.Suspended.{programs_of};
-ghost use Rattle.invoke_engine.specs.Views.{fixed, ending_as, next_as, work_as, IsRun};
+ghost use Rattle.invoke_engine.specs.Ran.{IsRun};
+ghost use Rattle.invoke_engine.specs.Starting.{begun, next_as};
 
+use crate::accounts::Accounts;
 use crate::begin::{Next, begin};
 use crate::call::{Call, Ended, Ran, Setting, StoppedAt};
 use crate::carrier::Carrier;
@@ -23,42 +26,42 @@ use crate::resume::resume;
 use crate::stop::MAX_TRACE;
 use crate::turn::{Turn, take_turn};
 use program_cache::Programs;
-use sol_base::{Account, Blob, Items, Key, OutOfMemory, SYSTEM_PROGRAM, share_all};
+use sol_base::{Account, Blob, Key, OutOfMemory, SYSTEM_PROGRAM};
 use std::alloc::Global;
 use std::mem;
 use std::sync::Arc;
 use sys_calls::Env;
 use tx_report::{Cause, InstructionError, Logs};
 
-/// What a frame comes to by its own turns.
-#[derive(Drop)]
-enum Work {
-    /// It calls another program, with the units then left.
-    Calls(Callee, u64),
-    Leaves(Ending),
-}
-
-/// Runs the frame until it calls another program or ends.
-fn work_on(
+/// Begins the frame of a callee, for which its caller waits.
+fn begin_callee(
     context: &Context<'_>,
-    outer: &Stack,
-    frame: &mut Frame,
+    stack: &mut Stack,
+    caller: Frame,
+    callee: Callee,
+    units: u64,
     carrier: &mut Carrier,
-) -> Result<Work, OutOfMemory>
-    requires keys { length context.now.keys ≤ max_keys }
-    requires outer { length outer.now < max_height }
-    requires frame { IsFrame (length context.now.keys) frame.old }
-    requires going { frame.old.machine.stop ≡ None }
-    ensures { IfOk result (λ w. Works (fixed_in context.now) (programs_of outer.now) frame.old carrier.old
-        (work_as w frame.new carrier.new)) }
+) -> Result<Next, OutOfMemory>
+    requires most { context.now.setting.height ≤ max_stack_height }
+    requires fits { CallFits (length context.now.keys) context.now.setting.height
+        (programs_of stack.old) caller carrier.old callee }
+    ensures stack { IfOk result (λ _. stack.new ≡ caller ∷ stack.old) }
+    ensures next { IfOk result (λ next.
+        begun (fixed_in context.now) (programs_of stack.new) callee.call callee.accounts units
+        carrier.old
+        ≡ next_as next carrier.new) }
+    ensures fits { IfOk result (λ next. RunsFit (length context.now.keys) (next_as next carrier.new)) }
 {
-    loop {
-        match take_turn(context, outer, frame, carrier)? {
-            Turn::GoesOn => {}
-            Turn::Calls(callee, units) => return Ok(Work::Calls(callee, units)),
-            Turn::Leaves(ending) => return Ok(Work::Leaves(ending)),
-        }
-    }
+    stack.push(caller)?;
+    let Callee { call, accounts } = callee;
+    let invocation = Invocation {
+        program: call.program,
+        metas: call.metas.as_slice(),
+        input: call.input.as_slice(),
+        accounts,
+        units,
+    };
+    begin(context, stack, invocation, carrier)
 }
 
 /// Runs the frame until it ends or another is begun.
@@ -75,19 +78,13 @@ fn advance(
         stack.new (next_as next carrier.new)) }
 {
     let mut frame = frame;
-    match work_on(context, stack, &mut frame, carrier)? {
-        Work::Leaves(ending) => Ok(Next::Done(ending)),
-        Work::Calls(callee, units) => {
-            stack.push(frame)?;
-            let Callee { call, accounts } = callee;
-            let invocation = Invocation {
-                program: call.program,
-                metas: call.metas.as_slice(),
-                input: call.input.as_slice(),
-                accounts,
-                units,
-            };
-            begin(context, stack, invocation, carrier)
+    loop {
+        match take_turn(context, stack, &mut frame, carrier)? {
+            Turn::GoesOn => {}
+            Turn::Calls(callee, units) => {
+                return begin_callee(context, stack, frame, callee, units, carrier);
+            }
+            Turn::Leaves(ending) => return Ok(Next::Done(ending)),
         }
     }
 }
@@ -142,7 +139,11 @@ fn ran_of(ending: Ending, trace: u8, stopped_at: Option<StoppedAt>) -> Ran
     ensures { (c : Carried) → c.trace ≡ trace → c.stopped_at ≡ stopped_at
         → IsRun (ending_as ending c) result c.log }
 {
-    let Ending { units, ended } = ending;
+    let Ending { units, result } = ending;
+    let ended = match result {
+        Ok(accounts) => Ended::Good(accounts.into_items()),
+        Err(error) => Ended::Failed(error),
+    };
     Ran {
         units,
         trace,
@@ -257,7 +258,7 @@ pub fn run_instruction(
         program: call.program,
         metas: call.metas.as_slice(),
         input: call.input.as_slice(),
-        accounts: share_all(alloc, accounts)?,
+        accounts: Accounts::share(alloc, accounts)?,
         units,
     };
     run_invocation(&context, invocation, trace, logs)

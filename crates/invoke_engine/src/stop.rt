@@ -1,6 +1,5 @@
 //! What a frame does at a stop of its machine.
 ghost use Rattle.std.specs.Prelude.{◌≡◌, ◌<◌, ◌≤◌, Ok, Err, MatchResult, length};
-ghost use Rattle.sol_base.specs.Accounts.{accounts_of};
 ghost use Rattle.cpi_calls.specs.Limits.{max_keys, max_metas};
 ghost use Rattle.cpi_calls.specs.Rights.{rights_of};
 ghost use Rattle.invoke_engine.specs.Calling as Calling;
@@ -9,8 +8,8 @@ ghost use Rattle.invoke_engine.specs.Frames.{max_height};
 ghost use Rattle.invoke_engine.specs.Conditions.{IsFrame};
 ghost use Rattle.invoke_engine.specs.Reasons.{StopsBy, refuse, by_rights};
 ghost use Rattle.invoke_engine.specs.Suspended.{programs_of};
-ghost use Rattle.invoke_engine.specs.Views.{Asks, Comes};
 
+use crate::accounts::Accounts;
 use crate::call::Call;
 use crate::context::Context;
 use crate::ending::Callee;
@@ -19,9 +18,8 @@ use crate::stopped::Stopped;
 use abi_input::take_back;
 use account_rules::check_listed;
 use cpi_calls::{CallRequest, Granted, grant_rights, read_call};
-use sol_base::{Account, Items, Key};
+use sol_base::Key;
 use std::alloc::Global;
-use std::sync::Arc;
 use tx_report::Cause;
 
 /// The most instructions that a transaction starts (Solana).
@@ -33,10 +31,10 @@ pub const CUSTOM_ZERO: u64 = 0x1_0000_0000;
 
 /// The accounts as the frame leaves them, where it breaks no rule.
 #[tactic(auto, unfolding(crate::specs::Leaving::lawful_accounts))]
-fn lawful_accounts(context: &Context<'_>, frame: &Frame) -> Result<Items<Arc<Account>>, Stopped>
+fn lawful_accounts(context: &Context<'_>, frame: &Frame) -> Result<Accounts, Stopped>
     requires { IsFrame (length context.now.keys) frame.now }
     ensures { MatchResult result
-        (λ accounts. Leaving.lawful_accounts frame.now ≡ Ok (accounts_of accounts))
+        (λ accounts. Leaving.lawful_accounts frame.now ≡ Ok accounts)
         (λ e. StopsBy e (Leaving.lawful_accounts frame.now)) }
 {
     let taken = take_back(
@@ -53,7 +51,7 @@ fn lawful_accounts(context: &Context<'_>, frame: &Frame) -> Result<Items<Arc<Acc
         frame.before.as_slice(),
         taken.accounts.as_slice(),
     )?;
-    Ok(taken.accounts)
+    Ok(Accounts::of(taken.accounts))
 }
 
 /// What r0 says at the exit.
@@ -75,14 +73,10 @@ fn exited(r0: u64) -> Result<(), Stopped>
 
 /// The accounts after the exit of a frame's program.
 #[tactic(auto, unfolding(crate::specs::Leaving::left))]
-pub(crate) fn left(
-    context: &Context<'_>,
-    frame: &Frame,
-    r0: u64,
-) -> Result<Items<Arc<Account>>, Stopped>
+pub(crate) fn left(context: &Context<'_>, frame: &Frame, r0: u64) -> Result<Accounts, Stopped>
     requires { IsFrame (length context.now.keys) frame.now }
     ensures { MatchResult result
-        (λ accounts. Leaving.left frame.now r0 ≡ Ok (accounts_of accounts))
+        (λ accounts. Leaving.left frame.now r0 ≡ Ok accounts)
         (λ e. StopsBy e (Leaving.left frame.now r0)) }
 {
     let after = lawful_accounts(context, frame)?;
@@ -119,7 +113,7 @@ fn may_start(
 /// The request that the frame's machine makes.
 fn ask(alloc: Global, frame: &Frame, units: &mut u64) -> Result<CallRequest, Stopped>
     requires { units.old ≡ frame.now.machine.units }
-    ensures { Asks (Calling.requested frame.now) units.new result }
+    ensures { Calling.Asks (Calling.requested frame.now) units.new result }
 {
     Ok(read_call(
         alloc,
@@ -155,7 +149,7 @@ pub(crate) fn called(
     requires frame { IsFrame (length context.now.keys) frame.now }
     requires outer { length outer.now < max_height }
     requires units { units.old ≡ frame.now.machine.units }
-    ensures { Comes
+    ensures { Calling.Comes
         (Calling.called context.now.setting.height context.now.keys (programs_of outer.now)
         frame.now trace
         (Calling.requested frame.now).answer)

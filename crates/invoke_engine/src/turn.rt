@@ -7,7 +7,7 @@ ghost use Rattle.sbpf_machine.specs.Lending.{with_memory};
 ghost use Rattle.sbpf_isa.specs.Calls.{IsServed};
 ghost use Rattle.sys_calls.specs.SysCalls.{sys_row};
 ghost use Rattle.invoke_engine.specs.Calling as Calling;
-ghost use Rattle.invoke_engine.specs.Endings.{closes};
+ghost use Rattle.invoke_engine.specs.Endings.{closes, ending_as};
 ghost use Rattle.invoke_engine.specs.Frames.{height, max_height};
 ghost use Rattle.invoke_engine.specs.Conditions.{IsFrame};
 ghost use Rattle.invoke_engine.specs.Leaving as Leaving;
@@ -15,10 +15,9 @@ ghost use Rattle.invoke_engine.specs.Reasons.{by_fault};
 ghost use Rattle.invoke_engine.specs.Serving as Serving;
 ghost use Rattle.invoke_engine.specs.Suspended.{programs_of};
 ghost use Rattle.invoke_engine.specs.Turns as Turns;
-ghost use Rattle.invoke_engine.specs.Views.{ending_as, turn_as, ServesAs};
 ghost use Rattle.invoke_engine.specs.declared.stopped.Stopped.TheVariants.{Refused};
 
-use crate::call::{Ended, StoppedAt};
+use crate::call::StoppedAt;
 use crate::carrier::Carrier;
 use crate::context::Context;
 use crate::ending::{Callee, Ending};
@@ -76,14 +75,7 @@ pub(crate) fn fail(
         access: reason.access,
     });
     let program = NamedProgram::of(frame.program);
-    close(
-        alloc,
-        &program,
-        frame.had,
-        units,
-        carrier,
-        Ended::Failed(error),
-    )
+    close(alloc, &program, frame.had, units, carrier, Err(error))
 }
 
 /// The end of a frame whose program has ended.
@@ -105,14 +97,7 @@ fn leave(
     match left(context, frame, r0) {
         Ok(accounts) => {
             let program = NamedProgram::of(frame.program);
-            close(
-                alloc,
-                &program,
-                frame.had,
-                units,
-                carrier,
-                Ended::Good(accounts),
-            )
+            close(alloc, &program, frame.had, units, carrier, Ok(accounts))
         }
         Err(Stopped::Refused(reason)) => fail(alloc, outer, frame, units, carrier, reason),
         Err(Stopped::OutOfMemory) => Err(OutOfMemory),
@@ -136,7 +121,7 @@ fn reason_of(fault: Fault) -> Reason
 /// Serves the system call that the frame's machine stands at.
 fn serve_for(alloc: Global, frame: &mut Frame, number: u32, env: &mut Env) -> Result<u64, Stopped>
     requires { IsServed number }
-    ensures answer { ServesAs
+    ensures answer { Serving.ServesAs
         (sys_row number (arguments_in frame.old.machine.context.registers)
         frame.old.machine.context.memory env.old)
         frame.new.machine.context.memory env.old env.new result }
@@ -162,7 +147,7 @@ fn serve_turn(
     requires number { IsServed number }
     ensures { IfOk result (λ t.
         Serving.serve_turn context.now.setting (programs_of outer.now) frame.old carrier.old number
-        ≡ turn_as t frame.new carrier.new) }
+        ≡ Turns.turn_as t frame.new carrier.new) }
 {
     let alloc = context.alloc;
     carrier.env.slot = context.setting.slot;
@@ -195,7 +180,7 @@ fn call_turn(
     ensures { IfOk result (λ t.
         Calling.call_turn context.now.setting context.now.keys (programs_of outer.now) frame.now
         carrier.old
-        ≡ turn_as t frame.now carrier.new) }
+        ≡ Turns.turn_as t frame.now carrier.new) }
 {
     let mut units = frame.machine.units();
     match called(context, outer, frame, carrier.trace, &mut units) {
@@ -221,7 +206,7 @@ pub(crate) fn take_turn(
     ensures { IfOk result (λ t.
         Turns.turn context.now.setting context.now.keys (programs_of outer.now) frame.old
         carrier.old
-        ≡ turn_as t frame.new carrier.new) }
+        ≡ Turns.turn_as t frame.new carrier.new) }
 {
     match run(frame)? {
         Stop::Exit { r0 } => Ok(Turn::Leaves(leave(context, outer, frame, r0, carrier)?)),

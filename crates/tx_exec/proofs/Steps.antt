@@ -16,11 +16,10 @@ use Rattle.invoke_engine.specs.declared.call.Ended.TheVariants.{Good, Failed}
 use Rattle.invoke_engine.specs.declared.call.Ran.{Ran}
 use Rattle.invoke_engine.specs.Frame.{Ending, Fixed, instruction}
 use Rattle.invoke_engine.specs.Conditions.{AreAccountsOf}
-use Rattle.invoke_engine.specs.Views.{IsRun, result_as}
+use Rattle.invoke_engine.specs.Ran.{IsRun, result_as}
 use Rattle.invoke_engine.proofs.Traces.{instruction_counts}
 use Rattle.invoke_engine.specs.Frames.{max_trace}
-use Rattle.tx_exec.specs.Executing.{Executed, Failure, call_of, executed, following, performed}
-use Rattle.tx_exec.specs.Views.{IsExecuted, values_seen}
+use Rattle.tx_exec.specs.Executing.{Executed, call_of, executed, following, performed}
 use Rattle.tx_exec.proofs.Keeping.{GoodKeeps, instruction_keeps}
 
 -- where the loop over the instructions stands
@@ -97,11 +96,3 @@ module _ (s : Fixed) (t : Chosen) (keys : s.keys ≡ all_keys t.tx.message t.loa
 
     pub bad : (error : InstructionError) → ran.ended ≡ Failed error → performed s t base ≡ record { units = ran.units; log = log'; result = Err (record { index = index; cause = error.cause; detail = error.detail }) }
     bad error failed = next ∙ stop index _ ending ran error log' run failed
-
--- what the code tells of what instructions did
-pub tells : (e : Executed) (units : ℕ) (ended : Result (List (Arc Account Global)) Failure) (log : Log) → e ≡ record { units = units; log = log; result = values_seen ended } → IsExecuted e units ended log
-tells e units ended log same = record {
-  units = sym (ap (λ (x : Executed). x.units) same);
-  result = sym (ap (λ (x : Executed). x.result) same);
-  log = sym (ap (λ (x : Executed). x.log) same);
-}

@@ -14,6 +14,7 @@ use Rattle.admission.specs.declared.chosen.Chosen.{Chosen}
 use Rattle.invoke_engine.specs.declared.call.Call.{Call}
 use Rattle.invoke_engine.specs.Frame.{Fixed, Ending, instruction}
 pub use Rattle.tx_exec.specs.declared.failure.Failure.{Failure}
+pub use Rattle.tx_exec.specs.declared.executing.Executed.{Executed}
 
 -- what is fixed for all transactions of a block: what is found under the key of a program, the
 -- slot, and the greatest stack height
@@ -45,12 +46,6 @@ meta_of t place =
 
 abbrev pub call_of : Chosen → Instruction → Call
 call_of t i = record { program = i.program; metas = map (meta_of t) i.accounts; input = i.input }
-
--- what instructions did: the units left, the log, and the values or what failed
-pub record Executed : Type 0 where
-  pub units : ℕ
-  pub log : Log
-  pub result : Result (List Account) Failure
 
 -- what follows the instruction at a place: nothing where it failed
 abbrev pub following : ℕ → (List Account → ℕ → ℕ → Log → Executed)

@@ -4,4 +4,3 @@ pub mod Transaction
 pub mod TransactionLaws
 pub mod Programs
 pub mod AdmittedBlock
-pub mod Views

@@ -8,16 +8,15 @@ ghost use Rattle.admission.specs.Chosen.{IsChosen};
 ghost use Rattle.invoke_engine.specs.Frame.{instruction as run};
 ghost use Rattle.invoke_engine.specs.Conditions.{AreAccountsOf};
 ghost use Rattle.invoke_engine.specs.Invoked.{fixed_in};
-ghost use Rattle.invoke_engine.specs.Views.{IsRun};
+ghost use Rattle.invoke_engine.specs.Ran.{IsRun};
 ghost use Rattle.tx_exec.specs.Executing.{call_of, performed};
-ghost use Rattle.tx_exec.specs.Views.{IsExecuted};
 
 use crate::failure::Failure;
 use crate::roles::metas_of;
 use crate::transaction::Transaction;
-use invoke_engine::{Ended, Invocation, Ran, run_invocation};
+use invoke_engine::{Accounts, Ended, Invocation, Ran, run_invocation};
 use message_codec::Instruction;
-use sol_base::{Account, Items, OutOfMemory, share_all};
+use sol_base::{Account, OutOfMemory};
 use std::sync::Arc;
 use tx_report::Logs;
 
@@ -26,8 +25,8 @@ use tx_report::Logs;
 pub struct Executed {
     /// The units left.
     pub units: u64,
-    pub logs: Logs,
-    pub result: Result<Items<Arc<Account>>, Failure>,
+    pub log: Logs,
+    pub result: Result<Accounts, Failure>,
 }
 
 /// Runs all instructions on these accounts, with the units of the budget.
@@ -41,26 +40,25 @@ pub fn execute(
     requires keys { transaction.now.context.keys
         ≡ all_keys transaction.now.chosen.now.tx.message transaction.now.chosen.now.loaded }
     requires base { AreAccountsOf (length transaction.now.context.keys) (accounts_of base.now) }
-    ensures exact { IfOk result (λ e. IsExecuted
-        (performed (fixed_in transaction.now.context) transaction.now.chosen.now
-        (accounts_of base.now))
-        e.units e.result e.logs) }
+    ensures exact { IfOk result (λ e. e
+        ≡ performed (fixed_in transaction.now.context) transaction.now.chosen.now
+        (accounts_of base.now)) }
     ensures fits { IfOk result (λ e. MatchResult e.result
-        (λ after. AreAccountsOf (length transaction.now.context.keys) (accounts_of after))
+        (λ after. AreAccountsOf (length transaction.now.context.keys) after)
         (λ _. Unit {0})) }
 {
-    let mut logs = Logs::new(transaction.context.alloc);
-    let mut accounts = share_all(transaction.context.alloc, base)?;
+    let mut log = Logs::new(transaction.context.alloc);
+    let mut accounts = Accounts::share(transaction.context.alloc, base)?;
     let mut units = u64::from(transaction.chosen.budget.limit);
     let mut trace: u8 = 0;
     let message = &transaction.chosen.tx.message;
     for (index, instruction) in message.instructions.as_slice().iter().enumerate() {
-        let ran = run_one(transaction, instruction, accounts, units, trace, &mut logs)?;
+        let ran = run_one(transaction, instruction, accounts, units, trace, &mut log)?;
         units = ran.units;
         trace = ran.trace;
         let Ran { ended, .. } = ran;
         match ended {
-            Ended::Good(after) => accounts = after,
+            Ended::Good(after) => accounts = Accounts::of(after),
             Ended::Failed(error) => {
                 let failure = Failure {
                     index: index as u8,
@@ -69,7 +67,7 @@ pub fn execute(
                 };
                 return Ok(Executed {
                     units,
-                    logs,
+                    log,
                     result: Err(failure),
                 });
             }
@@ -77,7 +75,7 @@ pub fn execute(
     }
     Ok(Executed {
         units,
-        logs,
+        log,
         result: Ok(accounts),
     })
 }
@@ -86,7 +84,7 @@ pub fn execute(
 fn run_one(
     transaction: &Transaction<'_>,
     instruction: &Instruction,
-    accounts: Items<Arc<Account>>,
+    accounts: Accounts,
     units: u64,
     trace: u8,
     logs: &mut Logs,
@@ -96,13 +94,13 @@ fn run_one(
     requires chosen { IsChosen transaction.now.chosen.now }
     requires keys { transaction.now.context.keys
         ≡ all_keys transaction.now.chosen.now.tx.message transaction.now.chosen.now.loaded }
-    requires accounts { AreAccountsOf (length transaction.now.context.keys) (accounts_of accounts) }
+    requires accounts { AreAccountsOf (length transaction.now.context.keys) accounts }
     requires named { AreNamed transaction.now.chosen.now.tx.message
         transaction.now.chosen.now.loaded instruction.now }
     requires short { IsCountable instruction.now.input }
     ensures { IfOk result (λ ran. IsRun
         (run (fixed_in transaction.now.context) (call_of transaction.now.chosen.now instruction.now)
-        (accounts_of accounts) units trace logs.old)
+        accounts units trace logs.old)
         ran logs.new) }
 {
     let metas = metas_of(transaction.context.alloc, transaction.chosen, instruction)?;

@@ -164,11 +164,11 @@ fn perform_paid(
     }
     let Executed {
         units: left,
-        logs,
+        log,
         result,
     } = execute(transaction, base)?;
     let units = u64::from(budget.limit).saturating_sub(left);
-    let lines = logs.into_lines();
+    let lines = log.into_lines();
     match result {
         Err(failure) => fail(transaction, base, failure, units, lines),
         Ok(after) => {

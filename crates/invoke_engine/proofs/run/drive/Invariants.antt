@@ -1,7 +1,7 @@
 use Rattle.std.proofs.Common.{◌≡◌}
 use Rattle.invoke_engine.specs.Invoked.{fixed_in}
 use Rattle.invoke_engine.specs.FrameLoop.{Stands, ending_in, measure}
-use Rattle.invoke_engine.specs.Views.{next_as}
+use Rattle.invoke_engine.specs.Starting.{next_as}
 use Rattle.invoke_engine.proofs.run.drive.Given as goal
 
 abbrev pub invariant-loop-next : goal.invariant-loop-next

@@ -12,6 +12,6 @@ check_listed-requires-clause-lists c = record {
 pub check_listed-requires-clause-unlisted : goal.check_listed-requires-clause-unlisted
 check_listed-requires-clause-unlisted c =
     let listed : c.as_slice-3.result.now ≡ c.as_slice-4.result.now = cc in
-    let before : c.as_slice-2.result.now ≡ c.as_slice-6.result.now = cc in
+    let before : accounts_of c.as_slice-2.result.now ≡ accounts_of c.as_slice-6.result.now = cc in
     let after : c.in_ok-taken.taken.accounts ≡ c.as_slice-7.result.now = cc in
-    same_others _ _ _ _ _ _ listed (ap accounts_of before) (ap accounts_of after) (back_others _ _ _ _ _ c.in_ok-taken.ensures.answer)
+    same_others _ _ _ _ _ _ listed before (ap accounts_of after) (back_others _ _ _ _ _ c.in_ok-taken.ensures.answer)
