@@ -1,4 +1,6 @@
 //! Gates, which a sender passes before it parses.
+ghost use Rattle.std.specs.Prelude.{◌≡◌, ◌≢◌, ◌+◌, ◌%◌, ◌<◌, ◌^◌, ◌-◌};
+ghost use Rattle.intake.specs.Passes.{no_passes, passed_below};
 
 /// Where a sender stops before it parses the wire at a position.
 pub trait SendGate: Sync {
@@ -11,4 +13,47 @@ pub struct OpenSend;
 
 impl SendGate for OpenSend {
     fn pass(&self, _sender: u32, _position: u32) {}
+}
+
+/// The record of a sender's passes: it has passed its gate before each position of its share below
+/// one, and before no other. Nothing but `pass` and `skip` goes on with it.
+#[derive(Drop)]
+pub(crate) struct Passes {
+    sender: u32,
+    senders: u32,
+    below: u32,
+}
+
+impl Passes {
+    /// No passes yet.
+    pub(crate) fn none(sender: u32, senders: u32) -> Passes
+        ensures { result ≡ no_passes sender senders }
+    {
+        Passes {
+            sender,
+            senders,
+            below: 0,
+        }
+    }
+
+    /// Passes the gate before the next position, which is one of the sender's.
+    pub(crate) fn pass<G: SendGate>(&mut self, gate: &G, position: u32)
+        requires next { self.old.below ≡ position }
+        requires own { position % self.old.senders ≡ self.old.sender }
+        requires room { position < 2 ^ 32 - 1 }
+        ensures { self.new ≡ passed_below self.old (position + 1) }
+    {
+        gate.pass(self.sender, position);
+        self.below = position + 1;
+    }
+
+    /// Leaves the next position out, which is another sender's.
+    pub(crate) fn skip(&mut self, position: u32)
+        requires next { self.old.below ≡ position }
+        requires other { position % self.old.senders ≢ self.old.sender }
+        requires room { position < 2 ^ 32 - 1 }
+        ensures { self.new ≡ passed_below self.old (position + 1) }
+    {
+        self.below = position + 1;
+    }
 }

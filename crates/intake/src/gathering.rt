@@ -5,9 +5,10 @@ ghost use Rattle.message_codec.specs.Parsing.{parsed_of};
 ghost use Rattle.intake.specs.declared.seats.SendSeat.{SendSeat};
 ghost use Rattle.intake.specs.Gathering.{ArriveByShares, CarriesShares, EachArrivesOnce, HasSentShare, HaveSentShares, arrival_of};
 ghost use Rattle.intake.specs.Layout.{laid};
+ghost use Rattle.intake.specs.Passes.{HasPassedShare};
 ghost use Rattle.intake.specs.Seats.{AreFresh, HasSent, IsFresh, IsSendSeatOf, next_ticket, sender_of, sent_by};
 
-use crate::gate::SendGate;
+use crate::gate::{Passes, SendGate};
 use crate::ring::{Intake, Opened};
 use crate::seats::SendSeat;
 use crate::ticket::{Full, Ticket};
@@ -102,23 +103,49 @@ fn send_share<R: Wait, G: SendGate>(
     wires: &[Blob],
     senders: u32,
     gate: &G,
-    mut seat: SendSeat,
+    seat: SendSeat,
 ) -> Result<SendSeat, OutOfMemory>
     requires wires { length wires.now ≤ max_transactions }
     requires senders { 1 ≤ senders }
     requires seat { IsFresh intake.now seat }
     ensures { IfOk result (HasSentShare intake.now wires.now senders (sender_of seat)) }
 {
+    let (seat, _passes) = send_behind_gate(rt, alloc, intake, wires, senders, gate, seat)?;
+    Ok(seat)
+}
+
+/// The same, with the record of the sender's passes: it passes the gate before each position of its
+/// share, and before no other.
+fn send_behind_gate<R: Wait, G: SendGate>(
+    rt: &R,
+    alloc: Global,
+    intake: &Intake,
+    wires: &[Blob],
+    senders: u32,
+    gate: &G,
+    mut seat: SendSeat,
+) -> Result<(SendSeat, Passes), OutOfMemory>
+    requires wires { length wires.now ≤ max_transactions }
+    requires senders { 1 ≤ senders }
+    requires seat { IsFresh intake.now seat }
+    ensures sent { IfOk result
+        (λ both. HasSentShare intake.now wires.now senders (sender_of seat) both.0) }
+    ensures passed { IfOk result
+        (λ both. HasPassedShare (length wires.now) senders (sender_of seat) both.1) }
+{
     let sender = seat.sender;
     let count = wires.len() as u32;
+    let mut passes = Passes::none(sender, senders);
     for position in 0..count {
         if position % senders == sender {
-            gate.pass(sender, position);
+            passes.pass(gate, position);
             let parsed = parse(alloc, wires[position as usize].as_slice())?;
             send(rt, intake, &mut seat, position, parsed);
+        } else {
+            passes.skip(position);
         }
     }
-    Ok(seat)
+    Ok((seat, passes))
 }
 
 /// Offers the ticket until there is room for it.

@@ -1,11 +1,12 @@
-use Rattle.std.proofs.Common.{◌≡◌, ◌∙◌, [], ap, arith}
+use Rattle.std.proofs.Common.{◌≡◌, ◌∙◌, ◌+◌, [], ap, arith}
 use Rattle.std.proofs.lemmas.List.{get_or_default}
 use Rattle.message_codec.specs.Parsing.{parsed_of}
 use Rattle.intake.specs.Gathering.{carried, parsed_at}
+use Rattle.intake.specs.Passes.{passed_below}
 use Rattle.intake.specs.Seats.{next_ticket, sender_of, sent_by}
 use Rattle.intake.proofs.Gathers.{sent_length, sent_more, sent_same}
-use Rattle.intake.proofs.gathering.send_share.Goals as goal
-use Rattle.intake.proofs.gathering.send_share.Goals.{then-position-senders+in_ok-parsed, else-position-senders}
+use Rattle.intake.proofs.gathering.send_behind_gate.Goals as goal
+use Rattle.intake.proofs.gathering.send_behind_gate.Goals.{then-position-senders+in_ok-parsed, else-position-senders}
 
 pub send-requires-clause-room : goal.send-requires-clause-room
 send-requires-clause-room g c =
@@ -22,10 +23,16 @@ loop-position-preserved g c =
       | then-position-senders+in_ok-parsed w ↦
           let wire = w.as_slice.ensures ∙ w.index-wires-position.is ∙ get_or_default wires p w.index-wires-position.result [] c.loop-position-test.true in
           let has : carried (next_ticket c.loop-position.seat p w.in_ok-parsed.parsed) ≡ parsed_at wires p = ap (λ y. (p, y)) (w.in_ok-parsed.ensures.exact ∙ ap parsed_of wire) in
-          rw w.seat-is (
+          rw (w.seat-is, w.passes-is) (
             w.send.ensures.seat.0,
             w.send.ensures.seat.1 ∙ i.1,
             sent_more wires before _ (next_ticket c.loop-position.seat p w.in_ok-parsed.parsed) p c.args.senders (sender_of c.args.seat) i.2 w.send.ensures.sent has w.if-position-senders.true,
+            w.pass.ensures ∙ ap (λ x. passed_below x (p + 1)) i.3,
           )
-      | else-position-senders w ↦ rw w.seat-is (i.0, i.1, sent_same wires before p c.args.senders (sender_of c.args.seat) i.2 w.if-position-senders.false)
+      | else-position-senders w ↦ rw (w.seat-is, w.passes-is) (
+        i.0,
+        i.1,
+        sent_same wires before p c.args.senders (sender_of c.args.seat) i.2 w.if-position-senders.false,
+        w.skip.ensures ∙ ap (λ x. passed_below x (p + 1)) i.3,
+      )
     ]
