@@ -1,12 +1,13 @@
 //! Desks: cores that lanes share.
-ghost use Rattle.std.specs.Prelude.{⊤, ◌≡◌, ℕ, ◌<◌, List, [], ◌∷◌, ◌++◌, Some, None};
-ghost use Rattle.bank_core.specs.Origins.{IsLegalFor, IsLeastReadyAfter, AllDoneAfter};
-ghost use Rattle.bank_law.specs.History.{PassView, holds, returns};
+ghost use Rattle.std.specs.Prelude.{⊤, ◌≡◌, ℕ, ◌<◌, List, [], ◌∷◌, ◌++◌, Some, None, true};
+ghost use Rattle.bank_core.specs.Counts.{ready_count};
+ghost use Rattle.bank_core.specs.Origins.{state_after, IsLegalFor, IsLeastReadyAfter, AllDoneAfter};
+ghost use Rattle.bank_law.specs.History.{PassView, own, holds, returns};
 ghost use Rattle.bank_law.specs.declared.event.EventKind.TheVariants.{Grant, Commit, Return};
 ghost use Rattle.bank_core.specs.Effects.{effects_seen};
 ghost use Rattle.bank_core.specs.Takes.{IsNotNowAfter, ReadsLeastAfter, MatchTake};
-ghost use Rattle.bank_core.specs.Lanes.{AreApart};
-ghost use Rattle.bank_core.specs.Desks.{Stays, More, OneMore, IsNew, TookIn, LoanView, MatchSplit, before_last, turned_over, SeesNoneOf, SeesMoreOf, SeesOneOf};
+ghost use Rattle.bank_core.specs.Lanes.{AreApart, is_one_of};
+ghost use Rattle.bank_core.specs.Desks.{Stays, OneMore, IsNew, TookIn, LoanView, MatchSplit, after_event, before_last, SeesNoneOf, SeesOneOf};
 ghost use Rattle.bank_core.specs.declared.origin.Origin.{Origin};
 
 use crate::loan::Take;
@@ -45,6 +46,23 @@ pub trait Desk<W: Work>: Sync {
 
     /// What a loan is seen as.
     ghost loan: { Self.Loan → LoanView W.Told };
+
+    /// A loan whose values are let go.
+    type Spent: Send;
+
+    /// The same of one whose values are let go: those that it had.
+    ghost spent: { Self.Spent → LoanView W.Told };
+
+    /// The turn of a pass: under it the pass's lanes may do any number of events. It must be ended.
+    type Turn;
+
+    /// The turn is one of a pass of this desk.
+    ghost is_turn_of: { Self → Self.Turn → Type 0 };
+
+    /// What its pass knows: all of the history, with the events under this turn.
+    ghost turn_view: { Self.Turn → PassView };
+
+    ghost turn_lanes: { Self.Turn → List ℕ };
 
     /// Lends the least ready position to the pass's lane.
     fn take<R: Wait>(&self, rt: &R, pass: &mut Self::Pass) -> Take<W>
@@ -91,51 +109,6 @@ pub trait Desk<W: Work>: Sync {
         ensures each { SeesOneOf (lanes_of pass.old) (view pass.old) Commit (loan given).position
             (view pass.new) };
 
-    /// Takes the effects of the loan that the pass holds, and lends its lane the least position that
-    /// is ready then, in one turn.
-    fn turn_over<R: Wait>(
-        &self,
-        rt: &R,
-        pass: &mut Self::Pass,
-        given: Self::Loan,
-        effects: Effects,
-    ) -> Take<W>
-        requires desk { is_of self.now pass.old }
-        requires origin { (loan given).origin ≡ origin self.now }
-        requires lane { (loan given).lane ≡ (view pass.old).lane }
-        requires held { holds (view pass.old).mine ≡ Some (loan given).position }
-        requires right { effects_seen effects
-            ≡ (W.job (origin self.now).told).effects (loan given).position (loan given).values }
-        ensures desk { is_of self.now pass.new }
-        ensures stays { Stays (view pass.old) (view pass.new) }
-        ensures legal { IsLegalFor W.job (origin self.now) (view pass.new).seen }
-        ensures events { MatchTake result
-            (λ next. More (view pass.old)
-            (turned_over (view pass.old).lane (loan given).position next.position)
-            (view pass.new))
-            (λ held. OneMore (view pass.old) Commit (loan given).position (view pass.new))
-            (OneMore (view pass.old) Commit (loan given).position (view pass.new))
-            (OneMore (view pass.old) Commit (loan given).position (view pass.new)) }
-        ensures take { MatchTake result
-            (λ next. (next.lane ≡ (view pass.old).lane) × (next.origin.value ≡ origin self.now))
-            (λ held. IsNotNowAfter W.job (origin self.now) (view pass.new).seen held)
-            (AllDoneAfter W.job (origin self.now) (view pass.new).seen)
-            (ReadsLeastAfter W.job (origin self.now) (view pass.new).seen) }
-        ensures least { MatchTake result
-            (λ next. IsLeastReadyAfter W.job (origin self.now) (before_last (view pass.new).seen)
-            next.position) (λ held. ⊤) ⊤ ⊤ }
-        ensures same_lanes { lanes_of pass.new ≡ lanes_of pass.old }
-        ensures each { MatchTake result
-            (λ next. SeesMoreOf (lanes_of pass.old) (view pass.old)
-            (turned_over (view pass.old).lane (loan given).position next.position)
-            (view pass.new))
-            (λ held. SeesOneOf (lanes_of pass.old) (view pass.old) Commit (loan given).position
-            (view pass.new))
-            (SeesOneOf (lanes_of pass.old) (view pass.old) Commit (loan given).position
-            (view pass.new))
-            (SeesOneOf (lanes_of pass.old) (view pass.old) Commit (loan given).position
-            (view pass.new)) };
-
     /// Puts the values of the loan that the pass holds back. A lane does so at most once.
     fn give_back<R: Wait>(&self, rt: &R, pass: &mut Self::Pass, given: Self::Loan)
         requires desk { is_of self.now pass.old }
@@ -179,4 +152,96 @@ pub trait Desk<W: Work>: Sync {
         ensures apart { AreApart (lanes_of other) (lanes_of pass.old) }
         ensures each { SeesNoneOf (lanes_of pass.old) (view pass.old) (view pass.new) }
         ensures each_other { SeesNoneOf (lanes_of other) (view other) (view pass.new) };
+
+    /// The pass's own lane.
+    fn lane(&self, pass: &Self::Pass) -> u32
+        requires desk { is_of self.now pass.now }
+        ensures lane { result ≡ (view pass.now).lane }
+        ensures one { is_one_of (lanes_of pass.now) result ≡ true }
+        ensures own { (view pass.now).mine ≡ own (view pass.now).seen result };
+
+    /// Lets the values of a loan go.
+    fn spend(&self, given: Self::Loan) -> Self::Spent
+        ensures { spent result ≡ loan given };
+
+    /// Waits for the turn. Until it is ended, the pass is of no desk.
+    fn begin<R: Wait>(&self, rt: &R, pass: &mut Self::Pass) -> Self::Turn
+        requires desk { is_of self.now pass.old }
+        ensures desk { is_turn_of self.now result }
+        ensures stays { Stays (view pass.old) (turn_view result) }
+        ensures turn { (view pass.old).turns < (turn_view result).turns }
+        ensures same { (turn_view result).mine ≡ (view pass.old).mine }
+        ensures lanes { turn_lanes result ≡ lanes_of pass.old }
+        ensures each { SeesNoneOf (lanes_of pass.old) (view pass.old) (turn_view result) }
+        ensures legal { IsLegalFor W.job (origin self.now) (turn_view result).seen };
+
+    /// Lends the least ready position to a lane of the turn's pass.
+    fn lend(&self, turn: &mut Self::Turn, lane: u32) -> Take<W>
+        requires desk { is_turn_of self.now turn.old }
+        requires lane { is_one_of (turn_lanes turn.old) lane ≡ true }
+        requires free { holds (own (turn_view turn.old).seen lane) ≡ None }
+        ensures desk { is_turn_of self.now turn.new }
+        ensures lanes { turn_lanes turn.new ≡ turn_lanes turn.old }
+        ensures legal { IsLegalFor W.job (origin self.now) (turn_view turn.new).seen }
+        ensures event { MatchTake result
+            (λ loan. turn_view turn.new
+            ≡ after_event (turn_view turn.old) Grant lane loan.position)
+            (λ held. turn_view turn.new ≡ turn_view turn.old)
+            (turn_view turn.new ≡ turn_view turn.old)
+            (turn_view turn.new ≡ turn_view turn.old) }
+        ensures take { MatchTake result
+            (λ loan. (loan.lane ≡ lane) × (loan.origin.value ≡ origin self.now)
+            × IsLeastReadyAfter W.job (origin self.now) (turn_view turn.old).seen loan.position)
+            (λ held. IsNotNowAfter W.job (origin self.now) (turn_view turn.old).seen held)
+            (AllDoneAfter W.job (origin self.now) (turn_view turn.old).seen)
+            (ReadsLeastAfter W.job (origin self.now) (turn_view turn.old).seen) };
+
+    /// Takes the effects of a loan that one of the turn's lanes holds.
+    fn take_in(&self, turn: &mut Self::Turn, given: Self::Spent, effects: Effects)
+        requires desk { is_turn_of self.now turn.old }
+        requires origin { (spent given).origin ≡ origin self.now }
+        requires lane { is_one_of (turn_lanes turn.old) (spent given).lane ≡ true }
+        requires held { holds (own (turn_view turn.old).seen (spent given).lane)
+            ≡ Some (spent given).position }
+        requires right { effects_seen effects
+            ≡ (W.job (origin self.now).told).effects (spent given).position (spent given).values }
+        ensures desk { is_turn_of self.now turn.new }
+        ensures lanes { turn_lanes turn.new ≡ turn_lanes turn.old }
+        ensures legal { IsLegalFor W.job (origin self.now) (turn_view turn.new).seen }
+        ensures event { turn_view turn.new
+            ≡ after_event (turn_view turn.old) Commit (spent given).lane (spent given).position };
+
+    /// Puts the values of a loan that one of the turn's lanes holds back. A lane does so at most
+    /// once.
+    fn put_back(&self, turn: &mut Self::Turn, given: Self::Loan)
+        requires desk { is_turn_of self.now turn.old }
+        requires origin { (loan given).origin ≡ origin self.now }
+        requires lane { is_one_of (turn_lanes turn.old) (loan given).lane ≡ true }
+        requires held { holds (own (turn_view turn.old).seen (loan given).lane)
+            ≡ Some (loan given).position }
+        requires once { returns (own (turn_view turn.old).seen (loan given).lane) ≡ 0 }
+        ensures desk { is_turn_of self.now turn.new }
+        ensures lanes { turn_lanes turn.new ≡ turn_lanes turn.old }
+        ensures legal { IsLegalFor W.job (origin self.now) (turn_view turn.new).seen }
+        ensures event { turn_view turn.new
+            ≡ after_event (turn_view turn.old) Return (loan given).lane (loan given).position };
+
+    /// How many positions are ready.
+    fn ready_count(&self, turn: &Self::Turn) -> u32
+        requires desk { is_turn_of self.now turn.now }
+        ensures { result
+            ≡ ready_count (W.job (origin self.now).told)
+            (state_after W.job (origin self.now) (turn_view turn.now).seen) };
+
+    /// How many lanes the desk has.
+    fn lane_count(&self, turn: &Self::Turn) -> u32
+        requires desk { is_turn_of self.now turn.now }
+        ensures { result ≡ lanes self.now };
+
+    /// Ends the turn, and gives its pass back.
+    fn end(&self, pass: &mut Self::Pass, turn: Self::Turn)
+        requires desk { is_turn_of self.now turn }
+        ensures desk { is_of self.now pass.new }
+        ensures view { view pass.new ≡ turn_view turn }
+        ensures lanes { lanes_of pass.new ≡ turn_lanes turn };
 }

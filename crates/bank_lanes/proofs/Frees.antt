@@ -1,65 +1,62 @@
 -- Lanes that hold nothing, after each call of a desk.
-use Rattle.std.proofs.Common.{◌≡◌, ℕ, List, [], ◌∷◌, ◌++◌, Bool, true, false, ◌||◌, eqb, None, refl, sym, ap, subst, ◌∙◌, append_assoc}
+use Rattle.std.proofs.Common.{◌≡◌, ℕ, List, [], ◌∷◌, ◌++◌, Bool, true, false, ◌||◌, eqb, None, refl, sym, ap, subst, ◌∙◌}
 use Rattle.std.proofs.lemmas.Bool.{eqb-true}
-use mathlib.Core.Logic.{dite}
-use native.Mathlib.Decide.{ℕ_discrete}
-use base.Growing.{prefix_trans}
-use Rattle.bank_law.specs.declared.event.Event.{Event}
-use Rattle.bank_law.specs.declared.event.EventKind.{EventKind}
-use Rattle.bank_law.specs.History.{PassView, own, holds}
-use Rattle.bank_law.proofs.Histories.{own_other}
-use Rattle.bank_core.specs.Lanes.{is_one_of, own_of}
-use Rattle.bank_core.specs.Desks.{Stays, SeesNoneOf, SeesOneOf, SeesMoreOf}
-use Rattle.bank_core.proofs.Lanes.{own_in, same_own, same_other, is_one_within}
-use Rattle.bank_lanes.specs.Passes.{AreItsOwn, HoldsNothing, KeepsTo, StaysFree}
+use base.Growing.{prefix_refl, prefix_trans}
+use Rattle.bank_law.specs.History.{PassView, own, holds, returns}
+use Rattle.bank_core.specs.Lanes.{is_one_of}
+use Rattle.bank_core.specs.Desks.{Stays, TookIn, SeesNoneOf}
+use Rattle.bank_core.proofs.Lanes.{part_keeps, same_own, is_one_after, is_one_within}
+use Rattle.bank_lanes.specs.Groups.{StepsOn}
+use Rattle.bank_lanes.specs.Passes.{AreItsOwn, HoldsNothing, KeepsTo, StaysFree, Widened}
 
 one_of_two : (b c : Bool) (P : Type 0) → (b || c) ≡ true → (b ≡ true → P) → (c ≡ true → P) → P
 one_of_two true c P is f g = f refl
 one_of_two false c P is f g = g is
 
 -- one call, and another
-pub keeps_then : (ls ms ns : List ℕ) (u v w : PassView) → KeepsTo ls u ms v → KeepsTo ms v ns w → KeepsTo ls u ns w
-keeps_then ls ms ns u v w one two = record {
+pub keeps_then : (mine ls ms ns : List ℕ) (u v w : PassView) → KeepsTo mine ls u ms v → KeepsTo mine ms v ns w → KeepsTo mine ls u ns w
+keeps_then mine ls ms ns u v w one two = record {
   lane = two.lane ∙ one.lane;
   lanes = two.lanes ∙ one.lanes;
   longer = prefix_trans u.seen v.seen w.seen one.longer two.longer;
-  others = λ l there not. two.others l (subst (λ (x : List ℕ). is_one_of x l ≡ true) (sym one.lanes) there) (λ is. not (sym one.lane ∙ is)) ∙ one.others l there not;
+  others = λ l there not. two.others l (subst (λ (x : List ℕ). is_one_of x l ≡ true) (sym one.lanes) there) not ∙ one.others l there not;
 }
 
--- no event of its lanes, one of its own lane, and two
-pub keeps_to : (ls ms : List ℕ) (v w : PassView) → ms ≡ ls → Stays v w → SeesNoneOf ls v w → KeepsTo ls v ms w
-keeps_to ls ms v w is stays same = record {
+-- none, one that adds nothing of the lanes, and one of one lane
+pub keeps_all : (mine ls : List ℕ) (v : PassView) → KeepsTo mine ls v ls v
+keeps_all mine ls v = record { lane = refl; lanes = refl; longer = prefix_refl v.seen; others = λ l there not. refl }
+
+pub keeps_to : (mine ls ms : List ℕ) (v w : PassView) → ms ≡ ls → Stays v w → SeesNoneOf ls v w → KeepsTo mine ls v ms w
+keeps_to mine ls ms v w is stays same = record {
   lane = stays.lane;
   lanes = is;
   longer = stays.longer;
   others = λ l one not. same_own ls v.seen w.seen l same one;
 }
 
-pub keeps_one : (ls ms : List ℕ) (v w : PassView) (kind : EventKind) (p : ℕ) → ms ≡ ls → Stays v w → SeesOneOf ls v kind p w → KeepsTo ls v ms w
-keeps_one ls ms v w kind p is stays more = record {
-  lane = stays.lane;
+pub keeps_step : (mine ls ms : List ℕ) (lane : ℕ) (v w : PassView) → ms ≡ ls → is_one_of mine lane ≡ true → StepsOn lane v w → KeepsTo mine ls v ms w
+keeps_step mine ls ms lane v w is there step = record {
+  lane = step.lane_is;
   lanes = is;
-  longer = stays.longer;
-  others = λ l one not. same_other ls v.seen w.seen (record { kind = kind; lane = v.lane; position = p }) l more one not;
+  longer = step.grew.longer;
+  others = λ l one not. step.grew.others l (λ e. let t : is_one_of mine l ≡ true = subst (λ (n : ℕ). is_one_of mine n ≡ true) e there in absurd (cc (t, not)));
 }
 
-pub keeps_two : (ls ms : List ℕ) (v w : PassView) (e f : Event) → ms ≡ ls → Stays v w → e.lane ≡ v.lane → f.lane ≡ v.lane → SeesMoreOf ls v (e ∷ f ∷ []) w → KeepsTo ls v ms w
-keeps_two ls ms v w e f is stays e_is f_is more = record {
-  lane = stays.lane;
-  lanes = is;
-  longer = stays.longer;
-  others = λ l one not.
-      sym (own_in l ls w.seen one) ∙ (ap (λ es. own es l) (more ∙ sym (append_assoc (own_of v.seen ls) (e ∷ []) (f ∷ [])))
-      ∙ (own_other (own_of v.seen ls ++ e ∷ []) f l (λ same. not (sym f_is ∙ same)) ∙ (own_other (own_of v.seen ls) e l (λ same. not (sym e_is ∙ same)) ∙ own_in l ls v.seen one)));
-}
+-- where of its other lanes nothing is added, and these hold nothing, none of its lanes holds more
+pub keeps_free : (mine ls ms : List ℕ) (v w : PassView) → KeepsTo mine ls v ms w → ((l : ℕ) → is_one_of mine l ≡ true → holds (own w.seen l) ≡ None) → StaysFree ls v ms w
+keeps_free mine ls ms v w keeps free l one was = by_case (is_one_of mine l) refl
+  where
+    by_case : (b : Bool) → is_one_of mine l ≡ b → holds (own w.seen l) ≡ None
+    by_case true e = free l e
+    by_case false e = let here = subst (λ (x : List ℕ). is_one_of x l ≡ true) keeps.lanes one in ap holds (keeps.others l here e) ∙ was here
 
--- where only its own lane was at work, and holds nothing, none of its lanes holds more
-pub keeps_free : (ls ms : List ℕ) (v w : PassView) → KeepsTo ls v ms w → AreItsOwn w → holds w.mine ≡ None → StaysFree ls v ms w
-keeps_free ls ms v w keeps own_is free l one was =
-    let here = subst (λ (x : List ℕ). is_one_of x l ≡ true) keeps.lanes one in
-    dite (ℕ_discrete v.lane l)
-    (λ is. ap (λ (lane : ℕ). holds (own w.seen lane)) (sym (keeps.lane ∙ is)) ∙ (ap holds (sym own_is) ∙ free))
-    (λ not. ap holds (keeps.others l here not) ∙ was here)
+-- the same of a lane that gave nothing back
+pub keeps_once : (mine ls ms : List ℕ) (v w : PassView) (l : ℕ) → KeepsTo mine ls v ms w → is_one_of ls l ≡ true → returns (own v.seen l) ≡ 0 → (is_one_of mine l ≡ true → returns (own w.seen l) ≡ 0) → returns (own w.seen l) ≡ 0
+keeps_once mine ls ms v w l keeps there none one = by_case (is_one_of mine l) refl
+  where
+    by_case : (b : Bool) → is_one_of mine l ≡ b → returns (own w.seen l) ≡ 0
+    by_case true e = one e
+    by_case false e = ap returns (keeps.others l there e) ∙ none
 
 -- one call, and another
 pub free_then : (ls ms ns : List ℕ) (u v w : PassView) → StaysFree ls u ms v → StaysFree ms v ns w → StaysFree ls u ns w
@@ -70,17 +67,54 @@ pub free_none : (ls ms : List ℕ) (v w : PassView) → ms ≡ ls → SeesNoneOf
 free_none ls ms v w is same l one was = let here = subst (λ (x : List ℕ). is_one_of x l ≡ true) is one in ap holds (same_own ls v.seen w.seen l same here) ∙ was here
 
 -- a new pass
-pub free_new : (ls : List ℕ) (w : PassView) → ls ≡ w.lane ∷ [] → w.mine ≡ [] → own w.seen w.lane ≡ [] → HoldsNothing ls w
-free_new ls w is mine none = record {
-  mine = ap holds mine;
-  all = λ l one. one_of_two (eqb w.lane l) false (holds (own w.seen l) ≡ None) (subst (λ (x : List ℕ). is_one_of x l ≡ true) is one)
-      (λ same. ap (λ (lane : ℕ). holds (own w.seen lane)) (sym (eqb-true w.lane l same)) ∙ ap holds none)
-      (λ bad. absurd (cc bad));
-}
+pub free_new : (ls : List ℕ) (w : PassView) → ls ≡ w.lane ∷ [] → own w.seen w.lane ≡ [] → HoldsNothing ls w
+free_new ls w is none l one =
+    one_of_two (eqb w.lane l) false (holds (own w.seen l) ≡ None) (subst (λ (x : List ℕ). is_one_of x l ≡ true) is one)
+    (λ same. ap (λ (lane : ℕ). holds (own w.seen lane)) (sym (eqb-true w.lane l same)) ∙ ap holds none)
+    (λ bad. absurd (cc bad))
 
 -- a pass into which one was joined that held nothing
 pub free_both : (ls ms ns : List ℕ) (v other w : PassView) → ns ≡ ms ++ ls → SeesNoneOf ls v w → SeesNoneOf ms other w → HoldsNothing ms other → StaysFree ls v ns w
 free_both ls ms ns v other w is mine theirs free l one was =
     one_of_two (is_one_of ms l) (is_one_of ls l) (holds (own w.seen l) ≡ None) (sym (is_one_within l ms ls) ∙ subst (λ (x : List ℕ). is_one_of x l ≡ true) is one)
-    (λ there. ap holds (same_own ms other.seen w.seen l theirs there) ∙ free.all l there)
+    (λ there. ap holds (same_own ms other.seen w.seen l theirs there) ∙ free l there)
     (λ here. ap holds (same_own ls v.seen w.seen l mine here) ∙ was here)
+
+-- a pass that drew no lane, that was split, and that took in another
+pub widened_none : (ls : List ℕ) (v : PassView) → Widened ls v ls v
+widened_none ls v = record { lane = refl; longer = prefix_refl v.seen; mine = refl; more = λ l one. one; each = refl; free = λ l one was. was one }
+
+pub widened_then : (ls ms ns : List ℕ) (u v w : PassView) → Widened ls u ms v → Widened ms v ns w → Widened ls u ns w
+widened_then ls ms ns u v w one two = record {
+  lane = two.lane ∙ one.lane;
+  longer = prefix_trans u.seen v.seen w.seen one.longer two.longer;
+  mine = two.mine ∙ one.mine;
+  more = λ l there. two.more l (one.more l there);
+  each = part_keeps ls ms v.seen w.seen one.more two.each ∙ one.each;
+  free = free_then ls ms ns u v w one.free two.free;
+}
+
+pub widened_split : (ls ms : List ℕ) (v w : PassView) → ms ≡ ls → w.mine ≡ v.mine → Stays v w → SeesNoneOf ls v w → Widened ls v ms w
+widened_split ls ms v w is same stays each = record {
+  lane = stays.lane;
+  longer = stays.longer;
+  mine = same;
+  more = λ l one. subst (λ (x : List ℕ). is_one_of x l ≡ true) (sym is) one;
+  each = each;
+  free = free_none ls ms v w is each;
+}
+
+pub widened_join : (ls ms ns : List ℕ) (v other w : PassView) → ns ≡ ms ++ ls → Stays v w → TookIn v other w → SeesNoneOf ls v w → SeesNoneOf ms other w → HoldsNothing ms other → Widened ls v ns w
+widened_join ls ms ns v other w is stays took each each_other free = record {
+  lane = stays.lane;
+  longer = stays.longer;
+  mine = took.mine;
+  more = λ l one. subst (λ (x : List ℕ). is_one_of x l ≡ true) (sym is) (is_one_after l ms ls one);
+  each = each;
+  free = free_both ls ms ns v other w is each each_other free;
+}
+
+-- its own events stay those of its lane
+pub widened_own : (ls ms : List ℕ) (v w : PassView) → is_one_of ls v.lane ≡ true → AreItsOwn v → Widened ls v ms w → AreItsOwn w
+widened_own ls ms v w one mine wide =
+    wide.mine ∙ (mine ∙ (sym (same_own ls v.seen w.seen v.lane wide.each one) ∙ ap (λ (l : ℕ). own w.seen l) (sym wide.lane)))

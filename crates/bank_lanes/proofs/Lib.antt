@@ -1,4 +1,4 @@
 pub mod Rests
 pub mod SeatSteps
-pub mod PassSteps
 pub mod Frees
+pub mod GroupSteps

@@ -1,3 +1,4 @@
 pub mod Steps
 pub mod Seats
 pub mod Passes
+pub mod Groups

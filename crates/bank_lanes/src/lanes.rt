@@ -1,14 +1,17 @@
 //! Lanes over any desk, without barriers.
-ghost use Rattle.std.specs.Prelude.{◌≡◌, ◌≢◌, [], OnOk, None, All};
+ghost use Rattle.std.specs.Prelude.{◌≡◌, ◌≢◌, ◌<◌, ◌≤◌, [], ◌∷◌, OnOk, IfOk, length, vec_capacity, None, false, All};
 ghost use mathlib.Core.List.{IsPrefix};
+ghost use Rattle.bank_core.specs.Desks.{Stays};
 ghost use Rattle.bank_core.specs.Origins.{AllDoneAfter};
 ghost use Rattle.bank_law.specs.History.{holds, returns};
-ghost use Rattle.bank_core.specs.Desks.{Stays};
-ghost use Rattle.bank_lanes.specs.declared.turns.LaneEnd.TheVariants.{GaveBack};
-ghost use Rattle.bank_lanes.specs.Passes.{HoldsNothing, IsIdle, SeesLoans, StaysFree, WentOn};
+ghost use Rattle.bank_lanes.specs.declared.group.Holding.TheVariants.{Nothing};
+ghost use Rattle.bank_lanes.specs.declared.turns.LaneEnd.TheVariants.{Finished, GaveBack};
+ghost use Rattle.bank_lanes.specs.Groups.{AreSeats, EndsWell, IsEmpty, seat_lanes};
+ghost use Rattle.bank_lanes.specs.Passes.{AreItsOwn, HoldsNothing, IsIdle, KeepsTo, SeesLoans, StaysFree, WentOn, Widened};
 
 use crate::gate::Gate;
-use crate::turns::{LaneEnd, run_lane};
+use crate::group::{GroupSeat, leave_group};
+use crate::turns::{LaneEnd, run_group};
 use bank_core::{Desk, Loan, Split, Work};
 use sol_base::OutOfMemory;
 use std::alloc::{AllocFailed, Global};
@@ -16,12 +19,137 @@ use std::sync::Wait;
 use std::thread;
 use std::thread::{Threads, join_mut};
 
-/// Splits a pass for each lane that is left, as far as there is memory for them.
+/// How the lanes of a desk are driven: past this gate, by so many threads at most, each of which
+/// drives so many lanes at most, and one at least.
+pub struct Lanes<'a, G> {
+    pub gate: &'a G,
+    pub threads: u32,
+    pub per_thread: u32,
+}
+
+/// A seat for a lane, with room for so many in all.
+fn first_seat<L, S>(
+    alloc: Global,
+    lane: u32,
+    width: u32,
+) -> Result<Vec<GroupSeat<L, S>>, OutOfMemory>
+    requires some { 1 ≤ width }
+    ensures seats { IfOk result (λ seats.
+        seats.items ≡ record { lane = lane; holding = Nothing; gave_back = false } ∷ []) }
+    ensures room { IfOk result (λ seats. width ≤ vec_capacity seats) }
+{
+    let mut seats = Vec::with_capacity(alloc, width as usize)?;
+    seats.push_reserved(GroupSeat::new(lane));
+    Ok(seats)
+}
+
+/// Draws further lanes for a pass, up to so many in all, each with a seat.
+fn widen<W: Work, D: Desk<W, Loan = Loan<W>>, R: Wait>(
+    rt: &R,
+    desk: &D,
+    pass: &mut D::Pass,
+    seats: &mut Vec<GroupSeat<Loan<W>, D::Spent>>,
+    width: u32,
+)
+    requires desk { D.is_of desk.now pass.old }
+    requires one { length seats.old.items ≡ 1 }
+    requires room { width ≤ vec_capacity seats.old }
+    requires seats { AreSeats D.loan D.spent W.job (D.origin desk.now) (D.lanes_of pass.old)
+        seats.old.items (D.view pass.old).seen }
+    requires empty { All IsEmpty seats.old.items }
+    ensures desk { D.is_of desk.now pass.new }
+    ensures some { 0 < length seats.new.items }
+    ensures seats { AreSeats D.loan D.spent W.job (D.origin desk.now) (D.lanes_of pass.new)
+        seats.new.items (D.view pass.new).seen }
+    ensures empty { All IsEmpty seats.new.items }
+    ensures wider { Widened (D.lanes_of pass.old) (D.view pass.old) (D.lanes_of pass.new)
+        (D.view pass.new) }
+{
+    for _ in 1..width {
+        match desk.split(rt, pass) {
+            Split::Made(made) => {
+                let lane = desk.lane(&made);
+                desk.join(pass, made);
+                seats.push_reserved(GroupSeat::new(lane));
+            }
+            Split::AllMade => return,
+        }
+    }
+}
+
+/// Runs the group that has these seats.
+fn run_seats<W: Work, D: Desk<W, Loan = Loan<W>>, G: Gate, R: Wait>(
+    rt: &R,
+    desk: &D,
+    pass: &mut D::Pass,
+    seats: &mut Vec<GroupSeat<Loan<W>, D::Spent>>,
+    work: &W,
+    gate: &G,
+) -> LaneEnd
+    requires loans { SeesLoans D.loan }
+    requires told { (D.origin desk.now).told ≡ W.told work.now }
+    requires some { 0 < length seats.old.items }
+    requires desk { D.is_of desk.now pass.old }
+    requires seats { AreSeats D.loan D.spent W.job (D.origin desk.now) (D.lanes_of pass.old)
+        seats.old.items (D.view pass.old).seen }
+    ensures desk { D.is_of desk.now pass.new }
+    ensures own { AreItsOwn (D.view pass.new) }
+    ensures keeps { KeepsTo (seat_lanes seats.old.items) (D.lanes_of pass.old) (D.view pass.old)
+        (D.lanes_of pass.new) (D.view pass.new) }
+    ensures same { seat_lanes seats.new.items ≡ seat_lanes seats.old.items }
+    ensures seats { AreSeats D.loan D.spent W.job (D.origin desk.now) (D.lanes_of pass.new)
+        seats.new.items (D.view pass.new).seen }
+    ensures end { EndsWell W.job (D.origin desk.now) result seats.new.items (D.view pass.new) }
+{
+    run_group(rt, desk, pass, seats.as_mut_slice(), work, gate)
+}
+
+/// Runs the lanes of a thread: its pass draws further ones, so many in all, each gets a seat, and the
+/// group runs until it ends. Where there is no memory for seats nothing is done.
+fn run_thread<W: Work, D: Desk<W, Loan = Loan<W>>, G: Gate, R: Wait>(
+    rt: &R,
+    alloc: Global,
+    desk: &D,
+    pass: &mut D::Pass,
+    work: &W,
+    lanes: Lanes<'_, G>,
+) -> LaneEnd
+    requires loans { SeesLoans D.loan }
+    requires told { (D.origin desk.now).told ≡ W.told work.now }
+    requires desk { D.is_of desk.now pass.old }
+    requires idle { IsIdle (D.view pass.old) }
+    ensures desk { D.is_of desk.now pass.new }
+    ensures on { WentOn (D.view pass.old) (D.view pass.new) }
+    ensures free { StaysFree (D.lanes_of pass.old) (D.view pass.old) (D.lanes_of pass.new)
+        (D.view pass.new) }
+    ensures once { result ≢ GaveBack → returns (D.view pass.new).mine ≡ 0 }
+    ensures done { result ≡ Finished
+        → AllDoneAfter W.job (D.origin desk.now) (D.view pass.new).seen }
+{
+    let Lanes {
+        gate,
+        threads: _,
+        per_thread,
+    } = lanes;
+    let width = per_thread.max(1);
+    match first_seat(alloc, desk.lane(pass), width) {
+        Ok(mut seats) => {
+            widen(rt, desk, pass, &mut seats, width);
+            let end = run_seats(rt, desk, pass, &mut seats, work, gate);
+            leave_group(seats);
+            end
+        }
+        Err(_) => LaneEnd::NoShare,
+    }
+}
+
+/// Splits a pass for each further thread, as far as there are lanes and memory for them.
 fn make_passes<W: Work, D: Desk<W>, R: Wait>(
     rt: &R,
     desk: &D,
     pass: &mut D::Pass,
     passes: &mut Vec<D::Pass>,
+    threads: u32,
 )
     requires desk { D.is_of desk.now pass.old }
     requires idle { IsIdle (D.view pass.old) }
@@ -34,7 +162,7 @@ fn make_passes<W: Work, D: Desk<W>, R: Wait>(
     ensures passes { All (λ p. D.is_of desk.now p × IsIdle (D.view p)
         × HoldsNothing (D.lanes_of p) (D.view p)) passes.new.items }
 {
-    for _ in rt.forever() {
+    for _ in 1..threads {
         match desk.split(rt, pass) {
             Split::Made(made) => {
                 if let Err(failed) = passes.push(made) {
@@ -46,7 +174,6 @@ fn make_passes<W: Work, D: Desk<W>, R: Wait>(
             Split::AllMade => return,
         }
     }
-    unreachable!()
 }
 
 /// Joins a pass that holds nothing.
@@ -64,13 +191,14 @@ fn join_idle<W: Work, D: Desk<W>>(desk: &D, pass: &mut D::Pass, other: D::Pass)
     desk.join(pass, other);
 }
 
-/// Runs a loop over each pass, beside each other.
+/// Runs the threads of the passes, beside each other.
 fn run_each<W: Work + Sync, D: Desk<W, Loan = Loan<W>>, G: Gate, R: Threads + Wait + Sync>(
     rt: &R,
+    alloc: Global,
     desk: &D,
     passes: &mut [D::Pass],
     work: &W,
-    gate: &G,
+    lanes: Lanes<'_, G>,
 )
     requires loans { SeesLoans D.loan }
     requires told { (D.origin desk.now).told ≡ W.told work.now }
@@ -78,14 +206,19 @@ fn run_each<W: Work + Sync, D: Desk<W, Loan = Loan<W>>, G: Gate, R: Threads + Wa
         × HoldsNothing (D.lanes_of p) (D.view p)) passes.old }
     ensures passes { All (λ p. D.is_of desk.now p × HoldsNothing (D.lanes_of p) (D.view p)) passes.new }
 {
-    let threads = passes.len();
-    if threads == 0 {
+    let Lanes {
+        gate,
+        threads,
+        per_thread,
+    } = lanes;
+    let others = passes.len();
+    if others == 0 {
         return;
     }
     thread::for_each_mut(
         rt,
         passes,
-        threads,
+        others,
         &|_at: usize, pass: &mut D::Pass|
             requires { SeesLoans D.loan × ((D.origin desk.now).told ≡ W.told work.now)
                 × D.is_of desk.now pass.old × IsIdle (D.view pass.old)
@@ -93,19 +226,25 @@ fn run_each<W: Work + Sync, D: Desk<W, Loan = Loan<W>>, G: Gate, R: Threads + Wa
             ensures desk { D.is_of desk.entry.now pass.new }
             ensures free { HoldsNothing (D.lanes_of pass.new) (D.view pass.new) }
         {
-            run_lane(rt, desk, pass, work, gate);
+            let lanes = Lanes {
+                gate,
+                threads,
+                per_thread,
+            };
+            run_thread(rt, alloc, desk, pass, work, lanes);
         },
     );
 }
 
-/// Runs the caller's loop beside the others.
+/// Runs the caller's lanes beside those of the other threads.
 fn run_all<W: Work + Sync, D: Desk<W, Loan = Loan<W>>, G: Gate, R: Threads + Wait + Sync>(
     rt: &R,
+    alloc: Global,
     desk: &D,
     pass: &mut D::Pass,
     passes: &mut [D::Pass],
     work: &W,
-    gate: &G,
+    lanes: Lanes<'_, G>,
 ) -> LaneEnd
     requires loans { SeesLoans D.loan }
     requires told { (D.origin desk.now).told ≡ W.told work.now }
@@ -120,6 +259,11 @@ fn run_all<W: Work + Sync, D: Desk<W, Loan = Loan<W>>, G: Gate, R: Threads + Wai
     ensures once { result ≢ GaveBack → returns (D.view pass.new).mine ≡ 0 }
     ensures passes { All (λ p. D.is_of desk.now p × HoldsNothing (D.lanes_of p) (D.view p)) passes.new }
 {
+    let Lanes {
+        gate,
+        threads,
+        per_thread,
+    } = lanes;
     let ((), end) = join_mut(
         rt,
         &mut ||
@@ -128,7 +272,14 @@ fn run_all<W: Work + Sync, D: Desk<W, Loan = Loan<W>>, G: Gate, R: Threads + Wai
                 × HoldsNothing (D.lanes_of p) (D.view p)) passes.now }
             ensures { All (λ p. D.is_of desk.entry.now p × HoldsNothing (D.lanes_of p) (D.view p))
                 passes.exit.now }
-        { run_each(rt, desk, passes, work, gate) },
+        {
+            let lanes = Lanes {
+                gate,
+                threads,
+                per_thread,
+            };
+            run_each(rt, alloc, desk, passes, work, lanes)
+        },
         &mut || -> LaneEnd
             requires { SeesLoans D.loan × ((D.origin desk.now).told ≡ W.told work.now)
                 × D.is_of desk.now pass.now × IsIdle (D.view pass.now) }
@@ -137,7 +288,14 @@ fn run_all<W: Work + Sync, D: Desk<W, Loan = Loan<W>>, G: Gate, R: Threads + Wai
             ensures free { StaysFree (D.lanes_of pass.entry.now) (D.view pass.entry.now)
                 (D.lanes_of pass.exit.now) (D.view pass.exit.now) }
             ensures once { result ≢ GaveBack → returns (D.view pass.exit.now).mine ≡ 0 }
-        { run_lane(rt, desk, pass, work, gate) },
+        {
+            let lanes = Lanes {
+                gate,
+                threads,
+                per_thread,
+            };
+            run_thread(rt, alloc, desk, pass, work, lanes)
+        },
     );
     end
 }
@@ -159,10 +317,59 @@ fn join_all<W: Work, D: Desk<W>>(desk: &D, pass: &mut D::Pass, mut passes: Vec<D
     passes.destroy_empty();
 }
 
-/// Runs a desk's lanes without barriers: a pass is split for each further lane, each lane's loop
-/// runs beside the others, and the passes are joined, none of whose lanes holds anything. A lane that
-/// finds no memory gives its loan back and ends. The caller's lane then finishes what is left, or
-/// gives back once and ends the run.
+/// Runs a desk's lanes without barriers, so many to a thread: a pass is split for each further
+/// lane, each thread's group of lanes takes its share in one turn and commits it in the next, beside
+/// the others, and the passes are joined, none of whose lanes holds anything. A group that finds no
+/// memory gives its loan back and ends. The caller's group then finishes what is left, or gives back
+/// once and ends the run.
+pub fn run_groups<W: Work + Sync, D: Desk<W, Loan = Loan<W>>, G: Gate, R: Threads + Wait + Sync>(
+    rt: &R,
+    alloc: Global,
+    desk: &D,
+    pass: &mut D::Pass,
+    work: &W,
+    lanes: Lanes<'_, G>,
+) -> Result<(), OutOfMemory>
+    requires loans { SeesLoans D.loan }
+    requires told { (D.origin desk.now).told ≡ W.told work.now }
+    requires desk { D.is_of desk.now pass.old }
+    requires idle { IsIdle (D.view pass.old) }
+    ensures desk { D.is_of desk.now pass.new }
+    ensures on { WentOn (D.view pass.old) (D.view pass.new) }
+    ensures free { StaysFree (D.lanes_of pass.old) (D.view pass.old) (D.lanes_of pass.new)
+        (D.view pass.new) }
+    ensures done { OnOk result (AllDoneAfter W.job (D.origin desk.now) (D.view pass.new).seen) }
+{
+    let Lanes {
+        gate,
+        threads,
+        per_thread,
+    } = lanes;
+    let mut passes = Vec::new(alloc);
+    make_passes(rt, desk, pass, &mut passes, threads);
+    let beside = Lanes {
+        gate,
+        threads,
+        per_thread,
+    };
+    let end = run_all(rt, alloc, desk, pass, passes.as_mut_slice(), work, beside);
+    join_all(desk, pass, passes);
+    if end == LaneEnd::GaveBack {
+        return Err(OutOfMemory);
+    }
+    let last = Lanes {
+        gate,
+        threads,
+        per_thread,
+    };
+    match run_thread(rt, alloc, desk, pass, work, last) {
+        LaneEnd::Finished => Ok(()),
+        LaneEnd::NoShare => Err(OutOfMemory),
+        LaneEnd::GaveBack => Err(OutOfMemory),
+    }
+}
+
+/// The same with one lane to a thread.
 pub fn run_lanes<W: Work + Sync, D: Desk<W, Loan = Loan<W>>, G: Gate, R: Threads + Wait + Sync>(
     rt: &R,
     alloc: Global,
@@ -181,16 +388,10 @@ pub fn run_lanes<W: Work + Sync, D: Desk<W, Loan = Loan<W>>, G: Gate, R: Threads
         (D.view pass.new) }
     ensures done { OnOk result (AllDoneAfter W.job (D.origin desk.now) (D.view pass.new).seen) }
 {
-    let mut passes = Vec::new(alloc);
-    make_passes(rt, desk, pass, &mut passes);
-    let end = run_all(rt, desk, pass, passes.as_mut_slice(), work, gate);
-    join_all(desk, pass, passes);
-    if end == LaneEnd::GaveBack {
-        return Err(OutOfMemory);
-    }
-    match run_lane(rt, desk, pass, work, gate) {
-        LaneEnd::Finished => Ok(()),
-        LaneEnd::NoShare => Err(OutOfMemory),
-        LaneEnd::GaveBack => Err(OutOfMemory),
-    }
+    let lanes = Lanes {
+        gate,
+        threads: u32::MAX,
+        per_thread: 1,
+    };
+    run_groups(rt, alloc, desk, pass, work, lanes)
 }

@@ -3,11 +3,12 @@
 #![tactic(auto)]
 
 mod gate;
+mod group;
 mod lanes;
 mod seats;
 mod turns;
 mod waves;
 
 pub use gate::{Gate, OpenGate};
-pub use lanes::run_lanes;
+pub use lanes::{Lanes, run_groups, run_lanes};
 pub use waves::run_waves;

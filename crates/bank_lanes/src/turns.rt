@@ -1,16 +1,19 @@
-//! The loop of one lane over a desk.
-ghost use Rattle.std.specs.Prelude.{◌≡◌, ◌≢◌, MatchOption};
+//! The turns of a group of lane numbers over a desk.
+ghost use Rattle.std.specs.Prelude.{⊤, ◌≡◌, ◌≢◌, ◌<◌, ◌≤◌, true, false, length, All};
+ghost use Rattle.std.specs.List.{AllWithin};
+ghost use Rattle.bank_core.specs.Lanes.{is_one_of};
 ghost use Rattle.bank_core.specs.Origins.{AllDoneAfter};
-ghost use Rattle.bank_law.specs.History.{returns};
-ghost use Rattle.bank_lanes.specs.Passes.{AreItsOwn, EndsWell, HasLoan, IsIdle, KeepsTo, MatchNext, SeesLoans, StaysFree, WentOn};
+ghost use Rattle.bank_lanes.specs.Passes.{AreItsOwn, KeepsTo, SeesLoans};
+ghost use Rattle.bank_lanes.specs.Groups.{AreSeats, EndsWell, HasKept, IsEmpty, IsFree, IsSeatOf, MatchFound, StepsOn, seat_lanes};
 ghost use Rattle.bank_lanes.specs.declared.turns.LaneEnd.TheVariants.{Finished, GaveBack};
 
 use crate::gate::Gate;
+use crate::group::{GroupSeat, Holding, perform_all};
 use bank_core::{Desk, Loan, Take, Work};
 use std::sync::Wait;
 
-/// How the loop of a lane ended: all positions are done, a share was refused, or the work found no
-/// memory and the loan went back.
+/// How the turns of a group ended: all positions are done, a share was refused or seats were, or
+/// the work found no memory and the loan went back.
 #[derive(Clone, Copy, PartialEq, Eq)]
 pub(crate) enum LaneEnd {
     Finished,
@@ -18,132 +21,270 @@ pub(crate) enum LaneEnd {
     GaveBack,
 }
 
-/// What a lane has after a turn: a loan, or nothing now, or nothing any more.
-pub(crate) enum Next<W: Work> {
-    Loan(Loan<W>),
+/// What a turn finds: a loan, or nothing now, or nothing any more.
+#[derive(Clone, Copy, PartialEq, Eq)]
+pub(crate) enum Found {
+    Loan,
     Nothing,
     End(LaneEnd),
 }
 
-/// Takes for a lane that holds nothing.
-fn take<W: Work, D: Desk<W, Loan = Loan<W>>, R: Wait>(
-    rt: &R,
+/// Takes the effects of a seat's loan, or puts the loan back where it is not performed.
+fn settle<W: Work, D: Desk<W, Loan = Loan<W>>>(
     desk: &D,
-    pass: &mut D::Pass,
-) -> Next<W>
-    requires desk { D.is_of desk.now pass.old }
-    requires idle { IsIdle (D.view pass.old) }
-    ensures desk { D.is_of desk.now pass.new }
-    ensures own { AreItsOwn (D.view pass.new) }
-    ensures keeps { KeepsTo (D.lanes_of pass.old) (D.view pass.old) (D.lanes_of pass.new)
-        (D.view pass.new) }
-    ensures next { MatchNext result (λ loan. HasLoan loan (D.origin desk.now) (D.view pass.new))
-        (IsIdle (D.view pass.new))
-        (λ end. EndsWell W.job (D.origin desk.now) end (D.view pass.new)) }
+    turn: &mut D::Turn,
+    seat: &mut GroupSeat<Loan<W>, D::Spent>,
+)
+    requires desk { D.is_turn_of desk.now turn.old }
+    requires own { AreItsOwn (D.turn_view turn.old) }
+    requires lane { is_one_of (D.turn_lanes turn.old) seat.old.lane ≡ true }
+    requires seat { IsSeatOf D.loan D.spent W.job (D.origin desk.now) seat.old
+        (D.turn_view turn.old).seen }
+    ensures desk { D.is_turn_of desk.now turn.new }
+    ensures lanes { D.turn_lanes turn.new ≡ D.turn_lanes turn.old }
+    ensures lane { seat.new.lane ≡ seat.old.lane }
+    ensures step { StepsOn seat.old.lane (D.turn_view turn.old) (D.turn_view turn.new) }
+    ensures seat { IsSeatOf D.loan D.spent W.job (D.origin desk.now) seat.new
+        (D.turn_view turn.new).seen }
+    ensures empty { IsEmpty seat.new }
 {
-    match desk.take(rt, pass) {
-        Take::Loan(loan) => Next::Loan(loan),
-        Take::NotNow { held: _ } => Next::Nothing,
-        Take::Finished => Next::End(LaneEnd::Finished),
-        Take::OutOfMemory => Next::End(LaneEnd::NoShare),
+    match seat.take() {
+        Holding::Nothing => {}
+        Holding::Loan(loan) => {
+            desk.put_back(turn, loan);
+            seat.gave_back = true;
+        }
+        Holding::Performed(spent, effects) => desk.take_in(turn, spent, effects),
     }
 }
 
-/// Passes the gate, performs outside the turn, and turns the loan over; or gives it back where the
-/// work finds no memory.
-fn perform<W: Work, D: Desk<W, Loan = Loan<W>>, G: Gate, R: Wait>(
-    rt: &R,
+/// The same of each seat, in their order.
+fn settle_all<W: Work, D: Desk<W, Loan = Loan<W>>>(
     desk: &D,
-    pass: &mut D::Pass,
-    work: &W,
-    gate: &G,
-    loan: Loan<W>,
-) -> Next<W>
-    requires loans { SeesLoans D.loan }
-    requires told { (D.origin desk.now).told ≡ W.told work.now }
-    requires desk { D.is_of desk.now pass.old }
-    requires loan { HasLoan loan (D.origin desk.now) (D.view pass.old) }
-    ensures desk { D.is_of desk.now pass.new }
-    ensures own { AreItsOwn (D.view pass.new) }
-    ensures keeps { KeepsTo (D.lanes_of pass.old) (D.view pass.old) (D.lanes_of pass.new)
-        (D.view pass.new) }
-    ensures next { MatchNext result (λ next. HasLoan next (D.origin desk.now) (D.view pass.new))
-        (IsIdle (D.view pass.new))
-        (λ end. EndsWell W.job (D.origin desk.now) end (D.view pass.new)) }
+    turn: &mut D::Turn,
+    seats: &mut [GroupSeat<Loan<W>, D::Spent>],
+)
+    requires desk { D.is_turn_of desk.now turn.old }
+    requires own { AreItsOwn (D.turn_view turn.old) }
+    requires seats { AreSeats D.loan D.spent W.job (D.origin desk.now) (D.turn_lanes turn.old)
+        seats.old (D.turn_view turn.old).seen }
+    ensures desk { D.is_turn_of desk.now turn.new }
+    ensures own { AreItsOwn (D.turn_view turn.new) }
+    ensures keeps { KeepsTo (seat_lanes seats.old) (D.turn_lanes turn.old) (D.turn_view turn.old)
+        (D.turn_lanes turn.new) (D.turn_view turn.new) }
+    ensures same { seat_lanes seats.new ≡ seat_lanes seats.old }
+    ensures seats { AreSeats D.loan D.spent W.job (D.origin desk.now) (D.turn_lanes turn.new)
+        seats.new (D.turn_view turn.new).seen }
+    ensures empty { All IsEmpty seats.new }
 {
-    gate.pass(loan.lane(), loan.position());
-    match work.perform(loan.position(), loan.values()) {
-        Ok(effects) => match desk.turn_over(rt, pass, loan, effects) {
-            Take::Loan(next) => Next::Loan(next),
-            Take::NotNow { held: _ } => Next::Nothing,
-            Take::Finished => Next::End(LaneEnd::Finished),
-            Take::OutOfMemory => Next::End(LaneEnd::NoShare),
-        },
-        Err(_) => {
-            desk.give_back(rt, pass, loan);
-            Next::End(LaneEnd::GaveBack)
+    for at in 0..seats.len() {
+        settle(desk, turn, &mut seats[at]);
+    }
+}
+
+/// Lends the least ready position to a seat that holds nothing.
+fn lend_to<W: Work, D: Desk<W, Loan = Loan<W>>>(
+    desk: &D,
+    turn: &mut D::Turn,
+    seat: &mut GroupSeat<Loan<W>, D::Spent>,
+) -> Found
+    requires loans { SeesLoans D.loan }
+    requires desk { D.is_turn_of desk.now turn.old }
+    requires own { AreItsOwn (D.turn_view turn.old) }
+    requires lane { is_one_of (D.turn_lanes turn.old) seat.old.lane ≡ true }
+    requires seat { IsSeatOf D.loan D.spent W.job (D.origin desk.now) seat.old
+        (D.turn_view turn.old).seen }
+    requires free { IsFree seat.old }
+    ensures desk { D.is_turn_of desk.now turn.new }
+    ensures lanes { D.turn_lanes turn.new ≡ D.turn_lanes turn.old }
+    ensures lane { seat.new.lane ≡ seat.old.lane }
+    ensures step { StepsOn seat.old.lane (D.turn_view turn.old) (D.turn_view turn.new) }
+    ensures seat { IsSeatOf D.loan D.spent W.job (D.origin desk.now) seat.new
+        (D.turn_view turn.new).seen }
+    ensures kept { HasKept seat.new }
+    ensures found { MatchFound result ⊤ (IsEmpty seat.new)
+        (λ end. IsEmpty seat.new × (end ≢ GaveBack)
+        × (end ≡ Finished → AllDoneAfter W.job (D.origin desk.now) (D.turn_view turn.new).seen)) }
+{
+    match desk.lend(turn, seat.lane) {
+        Take::Loan(loan) => {
+            seat.hold(Holding::Loan(loan));
+            Found::Loan
+        }
+        Take::NotNow { held: _ } => Found::Nothing,
+        Take::Finished => Found::End(LaneEnd::Finished),
+        Take::OutOfMemory => Found::End(LaneEnd::NoShare),
+    }
+}
+
+/// Lends to the seats after the first, of so many, until nothing is lent.
+fn lend_rest<W: Work, D: Desk<W, Loan = Loan<W>>>(
+    desk: &D,
+    turn: &mut D::Turn,
+    seats: &mut [GroupSeat<Loan<W>, D::Spent>],
+    most: usize,
+)
+    requires loans { SeesLoans D.loan }
+    requires most { most ≤ length seats.old }
+    requires desk { D.is_turn_of desk.now turn.old }
+    requires own { AreItsOwn (D.turn_view turn.old) }
+    requires seats { AreSeats D.loan D.spent W.job (D.origin desk.now) (D.turn_lanes turn.old)
+        seats.old (D.turn_view turn.old).seen }
+    requires kept { All HasKept seats.old }
+    requires empty { AllWithin IsEmpty seats.old 1 (length seats.old) }
+    ensures desk { D.is_turn_of desk.now turn.new }
+    ensures own { AreItsOwn (D.turn_view turn.new) }
+    ensures keeps { KeepsTo (seat_lanes seats.old) (D.turn_lanes turn.old) (D.turn_view turn.old)
+        (D.turn_lanes turn.new) (D.turn_view turn.new) }
+    ensures same { seat_lanes seats.new ≡ seat_lanes seats.old }
+    ensures seats { AreSeats D.loan D.spent W.job (D.origin desk.now) (D.turn_lanes turn.new)
+        seats.new (D.turn_view turn.new).seen }
+    ensures kept { All HasKept seats.new }
+{
+    for at in 1..most {
+        if lend_to(desk, turn, &mut seats[at]) != Found::Loan {
+            return;
         }
     }
 }
 
-/// A lane's next turn: with what it holds, or to take.
-fn turn<W: Work, D: Desk<W, Loan = Loan<W>>, G: Gate, R: Wait>(
-    rt: &R,
-    desk: &D,
-    pass: &mut D::Pass,
-    work: &W,
-    gate: &G,
-    held: Option<Loan<W>>,
-) -> Next<W>
-    requires loans { SeesLoans D.loan }
-    requires told { (D.origin desk.now).told ≡ W.told work.now }
-    requires desk { D.is_of desk.now pass.old }
-    requires held { MatchOption held (IsIdle (D.view pass.old))
-        (λ loan. HasLoan loan (D.origin desk.now) (D.view pass.old)) }
-    ensures desk { D.is_of desk.now pass.new }
-    ensures own { AreItsOwn (D.view pass.new) }
-    ensures keeps { KeepsTo (D.lanes_of pass.old) (D.view pass.old) (D.lanes_of pass.new)
-        (D.view pass.new) }
-    ensures next { MatchNext result (λ next. HasLoan next (D.origin desk.now) (D.view pass.new))
-        (IsIdle (D.view pass.new))
-        (λ end. EndsWell W.job (D.origin desk.now) end (D.view pass.new)) }
+/// How many of the positions that are ready a group of so many lane numbers takes: its share, where
+/// all lane numbers of the desk are driven by groups of that size. At least one, at most all seats.
+fn share_of(ready: u32, lanes: u32, seats: usize) -> usize
+    requires { 1 ≤ seats }
+    ensures { (1 ≤ result) × (result ≤ seats) }
 {
-    match held {
-        Some(loan) => perform(rt, desk, pass, work, gate, loan),
-        None => take(rt, desk, pass),
+    let groups = (lanes as usize / seats).max(1);
+    (ready as usize / groups).max(1).min(seats)
+}
+
+/// Lends the group its share, and tells what the first seat found.
+fn lend_share<W: Work, D: Desk<W, Loan = Loan<W>>>(
+    desk: &D,
+    turn: &mut D::Turn,
+    seats: &mut [GroupSeat<Loan<W>, D::Spent>],
+) -> Found
+    requires loans { SeesLoans D.loan }
+    requires some { 0 < length seats.old }
+    requires desk { D.is_turn_of desk.now turn.old }
+    requires own { AreItsOwn (D.turn_view turn.old) }
+    requires seats { AreSeats D.loan D.spent W.job (D.origin desk.now) (D.turn_lanes turn.old)
+        seats.old (D.turn_view turn.old).seen }
+    requires free { All IsFree seats.old }
+    ensures desk { D.is_turn_of desk.now turn.new }
+    ensures own { AreItsOwn (D.turn_view turn.new) }
+    ensures keeps { KeepsTo (seat_lanes seats.old) (D.turn_lanes turn.old) (D.turn_view turn.old)
+        (D.turn_lanes turn.new) (D.turn_view turn.new) }
+    ensures same { seat_lanes seats.new ≡ seat_lanes seats.old }
+    ensures seats { AreSeats D.loan D.spent W.job (D.origin desk.now) (D.turn_lanes turn.new)
+        seats.new (D.turn_view turn.new).seen }
+    ensures found { MatchFound result (All HasKept seats.new) (All IsFree seats.new)
+        (λ end. EndsWell W.job (D.origin desk.now) end seats.new (D.turn_view turn.new)) }
+{
+    let share = share_of(desk.ready_count(turn), desk.lane_count(turn), seats.len());
+    let found = lend_to(desk, turn, &mut seats[0]);
+    if found == Found::Loan {
+        lend_rest(desk, turn, seats, share);
+    }
+    found
+}
+
+/// Whether no seat has given anything back.
+fn none_gave_back<L, S>(seats: &[GroupSeat<L, S>]) -> bool
+    ensures { result ≡ true → All HasKept seats.now }
+{
+    seats.iter().all(|seat| !seat.gave_back)
+}
+
+/// What a group does under a turn: it settles all its seats, and takes its share. Where a seat gave
+/// back it takes nothing.
+fn under_turn<W: Work, D: Desk<W, Loan = Loan<W>>>(
+    desk: &D,
+    turn: &mut D::Turn,
+    seats: &mut [GroupSeat<Loan<W>, D::Spent>],
+) -> Found
+    requires loans { SeesLoans D.loan }
+    requires some { 0 < length seats.old }
+    requires desk { D.is_turn_of desk.now turn.old }
+    requires own { AreItsOwn (D.turn_view turn.old) }
+    requires seats { AreSeats D.loan D.spent W.job (D.origin desk.now) (D.turn_lanes turn.old)
+        seats.old (D.turn_view turn.old).seen }
+    ensures desk { D.is_turn_of desk.now turn.new }
+    ensures own { AreItsOwn (D.turn_view turn.new) }
+    ensures keeps { KeepsTo (seat_lanes seats.old) (D.turn_lanes turn.old) (D.turn_view turn.old)
+        (D.turn_lanes turn.new) (D.turn_view turn.new) }
+    ensures same { seat_lanes seats.new ≡ seat_lanes seats.old }
+    ensures seats { AreSeats D.loan D.spent W.job (D.origin desk.now) (D.turn_lanes turn.new)
+        seats.new (D.turn_view turn.new).seen }
+    ensures found { MatchFound result (All HasKept seats.new) (All IsFree seats.new)
+        (λ end. EndsWell W.job (D.origin desk.now) end seats.new (D.turn_view turn.new)) }
+{
+    settle_all(desk, turn, seats);
+    if none_gave_back(seats) {
+        lend_share(desk, turn, seats)
+    } else {
+        Found::End(LaneEnd::GaveBack)
     }
 }
 
-/// Takes, passes the gate, performs outside the turn and turns over, until all positions are done.
-/// Where nothing is ready it waits, and tries again.
-pub(crate) fn run_lane<W: Work, D: Desk<W, Loan = Loan<W>>, G: Gate, R: Wait>(
+/// A turn of a group.
+fn take_turn<W: Work, D: Desk<W, Loan = Loan<W>>, R: Wait>(
     rt: &R,
     desk: &D,
     pass: &mut D::Pass,
+    seats: &mut [GroupSeat<Loan<W>, D::Spent>],
+) -> Found
+    requires loans { SeesLoans D.loan }
+    requires some { 0 < length seats.old }
+    requires desk { D.is_of desk.now pass.old }
+    requires seats { AreSeats D.loan D.spent W.job (D.origin desk.now) (D.lanes_of pass.old)
+        seats.old (D.view pass.old).seen }
+    ensures desk { D.is_of desk.now pass.new }
+    ensures own { AreItsOwn (D.view pass.new) }
+    ensures keeps { KeepsTo (seat_lanes seats.old) (D.lanes_of pass.old) (D.view pass.old)
+        (D.lanes_of pass.new) (D.view pass.new) }
+    ensures same { seat_lanes seats.new ≡ seat_lanes seats.old }
+    ensures seats { AreSeats D.loan D.spent W.job (D.origin desk.now) (D.lanes_of pass.new)
+        seats.new (D.view pass.new).seen }
+    ensures found { MatchFound result (All HasKept seats.new) (All IsFree seats.new)
+        (λ end. EndsWell W.job (D.origin desk.now) end seats.new (D.view pass.new)) }
+{
+    let mut turn = desk.begin(rt, pass);
+    let found = under_turn(desk, &mut turn, seats);
+    desk.end(pass, turn);
+    found
+}
+
+/// Performs what is lent, passing the gate before each, and settles it in the next turn, until all
+/// positions are done. Where nothing is ready it waits, and tries again.
+pub(crate) fn run_group<W: Work, D: Desk<W, Loan = Loan<W>>, G: Gate, R: Wait>(
+    rt: &R,
+    desk: &D,
+    pass: &mut D::Pass,
+    seats: &mut [GroupSeat<Loan<W>, D::Spent>],
     work: &W,
     gate: &G,
 ) -> LaneEnd
     requires loans { SeesLoans D.loan }
-    requires desk { D.is_of desk.now pass.old }
     requires told { (D.origin desk.now).told ≡ W.told work.now }
-    requires idle { IsIdle (D.view pass.old) }
+    requires some { 0 < length seats.old }
+    requires desk { D.is_of desk.now pass.old }
+    requires seats { AreSeats D.loan D.spent W.job (D.origin desk.now) (D.lanes_of pass.old)
+        seats.old (D.view pass.old).seen }
     ensures desk { D.is_of desk.now pass.new }
-    ensures on { WentOn (D.view pass.old) (D.view pass.new) }
-    ensures free { StaysFree (D.lanes_of pass.old) (D.view pass.old) (D.lanes_of pass.new)
-        (D.view pass.new) }
-    ensures once { result ≢ GaveBack → returns (D.view pass.new).mine ≡ 0 }
-    ensures done { result ≡ Finished
-        → AllDoneAfter W.job (D.origin desk.now) (D.view pass.new).seen }
+    ensures own { AreItsOwn (D.view pass.new) }
+    ensures keeps { KeepsTo (seat_lanes seats.old) (D.lanes_of pass.old) (D.view pass.old)
+        (D.lanes_of pass.new) (D.view pass.new) }
+    ensures same { seat_lanes seats.new ≡ seat_lanes seats.old }
+    ensures seats { AreSeats D.loan D.spent W.job (D.origin desk.now) (D.lanes_of pass.new)
+        seats.new (D.view pass.new).seen }
+    ensures end { EndsWell W.job (D.origin desk.now) result seats.new (D.view pass.new) }
 {
-    let mut held = None;
     'turns: for _ in rt.forever() {
-        match turn(rt, desk, pass, work, gate, held) {
-            Next::Loan(loan) => held = Some(loan),
-            Next::Nothing => {
-                held = None;
-                desk.wait(rt);
-            }
-            Next::End(end) => return end,
+        match take_turn(rt, desk, pass, seats) {
+            Found::Loan => perform_all(desk, seats, work, gate),
+            Found::Nothing => desk.wait(rt),
+            Found::End(end) => return end,
         }
     }
     unreachable!()

@@ -2,4 +2,5 @@ pub mod Sums
 pub mod Owns
 pub mod Moves
 pub mod Turns
+pub mod UnderTurn
 pub mod Ended

@@ -126,7 +126,13 @@ module _ {C O : Type 0} (origin : C → O) (journal : C → List Event) (drawn :
             (refl, refl)
             (λ j ne is. absurd (cc (is, free.0)))
             mine (λ l. refl),
-        (refl, sym found ∙ len, known, subst (λ (x : List Event × ℕ). All (λ e. e.lane < x.1) x.0) (λ i. (sym is_h i, sym is_d i)) r.later),
+        (
+          refl,
+          sym found ∙ len,
+          known,
+          subst (λ (x : List Event × ℕ). All (λ e. e.lane < x.1) x.0) (λ i. (sym is_h i, sym is_d i)) r.later,
+          λ l above. let n = r.never l (subst (λ (k : ℕ). k ≤ l) is_d above) in omega (arith, n, term_le (stands l) s.views id v at),
+        ),
       )
 
   pub takes_or_not : (slots id old : ℕ) (v : View O) (x : mathlib.Core.Option.Option (Option C)) → v.origin ≡ Some o → old % 2 ≡ 0
@@ -135,7 +141,7 @@ module _ {C O : Type 0} (origin : C → O) (journal : C → List Event) (drawn :
       (λ is. subst (λ (b : Bool). Goal b) (sym (eq-eqb (slice_index s.words 0) old is))
       (let t = takes_turn s r id old v at is_desk even is in
       let c = t.0 in
-      (holding v (journal c) (drawn c), takes 0 (Some c), t.1, t.2, (c, (t.3.0, is ∙ t.3.1, t.3.2, t.3.3)))))
+      (holding v (journal c) (drawn c), takes 0 (Some c), t.1, t.2, (c, (t.3.0, is ∙ t.3.1, t.3.2, t.3.3, t.3.4)))))
       (λ not. subst (λ (b : Bool). Goal b) (sym (ne_eqb (slice_index s.words 0) old not))
       (v, keeps, tt, unmoved s r id [] v v at refl (r.knows id v at) (λ l. refl), refl))
     where
@@ -201,24 +207,35 @@ module _ {C O : Type 0} (origin : C → O) (journal : C → List Event) (drawn :
         λ x is. ap (λ (y : C). (done v (journal y) (drawn y), [])) (slot_is c x is),
       )
 
-  -- kind 1
-  pub splits : (id : ℕ) (v : View O) → Splits Rule id v v (new_view v)
-  splits id v s r at =
-      let k = r.knows id v at in
-      let fresh : Knows o r.history r.count (new_view v) = record { desk = k.desk; mine = record { longer = k.mine.longer; own = no_lanes r.history ∙ sym (no_lanes v.seen) }; joined = λ i d lt. absurd (omega arith); drawn = k.drawn } in
-      let was : (j : ℕ) (u : View O) → get_elem? (set s.views id v) j ≡ some u → get_elem? s.views j ≡ some u = λ j u there. subst (λ (l : List (View O)). get_elem? l j ≡ some u) (set_again s.views id v at) there in
-      let count : (l : ℕ) → total (stands l) (set s.views id v ++ new_view v ∷ []) ≡ total (stands l) s.views = λ l. omega (arith, ap (total (stands l)) (set_again s.views id v at), sum_append (stands l) (set s.views id v) (new_view v ∷ [])) in
+  -- kind 1, with a new seat that has no lane
+  parts : (id : ℕ) (v u : View O) → u.turn ≡ None → ((l : ℕ) → stands l u ≡ 0) → (s : St) (r : Rule s) → get_elem? s.views id ≡ some v → Knows o r.history r.count u
+      → Rule (record { words = s.words; homes = s.homes; views = set s.views id v ++ u ∷ [] })
+  parts id v u no_turn nowhere s r at fresh =
+      let was : (j : ℕ) (w : View O) → get_elem? (set s.views id v) j ≡ some w → get_elem? s.views j ≡ some w = λ j w there. subst (λ (l : List (View O)). get_elem? l j ≡ some w) (set_again s.views id v at) there in
+      let count : (l : ℕ) → total (stands l) (set s.views id v ++ u ∷ []) ≡ total (stands l) s.views = λ l. let z = nowhere l in omega (arith, z, ap (total (stands l)) (set_again s.views id v at), sum_append (stands l) (set s.views id v) (u ∷ [])) in
       record {
         history = r.history;
         count = r.count;
         holder = r.holder;
         placed = r.placed;
-        turn = λ j u there. ⊎_elim (λ was_there. r.turn j u (was j u was_there)) (λ (is : new_view v ≡ u). subst (λ (x : View O). IfSome x.turn (λ p. (r.holder ≡ Some j) × (p ≡ (r.history, r.count)))) is tt) (at_snoc (set s.views id v) (new_view v) u j there);
-        knows = λ j u there. ⊎_elim (λ was_there. r.knows j u (was j u was_there)) (λ (is : new_view v ≡ u). subst (Knows o r.history r.count) is fresh) (at_snoc (set s.views id v) (new_view v) u j there);
+        turn = λ j w there. ⊎_elim
+            (λ was_there. r.turn j w (was j w was_there))
+            (λ (is : u ≡ w). subst (λ (x : View O). IfSome x.turn (λ p. (r.holder ≡ Some j) × (p ≡ (r.history, r.count)))) is (subst (λ (x : Option (List Event × ℕ)). IfSome x (λ p. (r.holder ≡ Some j) × (p ≡ (r.history, r.count)))) (sym no_turn) tt))
+            (at_snoc (set s.views id v) u w j there);
+        knows = λ j w there. ⊎_elim (λ was_there. r.knows j w (was j w was_there)) (λ (is : u ≡ w). subst (Knows o r.history r.count) is fresh) (at_snoc (set s.views id v) u w j there);
         once = λ l below. count l ∙ r.once l below;
         never = λ l above. count l ∙ r.never l above;
         later = r.later;
       }
+
+  pub splits : (id : ℕ) (v : View O) → Splits Rule id v v (new_view v)
+  splits id v s r at =
+      let k = r.knows id v at in
+      parts id v (new_view v) refl (λ l. refl) s r at (record { desk = k.desk; mine = record { longer = k.mine.longer; own = no_lanes r.history ∙ sym (no_lanes v.seen) }; joined = λ i d lt. absurd (omega arith); drawn = k.drawn })
+
+  -- the same with one that knows nothing
+  pub blanks : (id : ℕ) (v : View O) → Splits Rule id v v spent_view
+  blanks id v s r at = parts id v spent_view refl (λ l. refl) s r at (record { desk = tt; mine = record { longer = (r.history, refl); own = no_lanes r.history }; joined = λ i d lt. absurd (omega arith); drawn = omega arith })
 
   -- kind 2
   pub joins : (id : ℕ) (v : View O) (other : ℕ) (w : View O) → Joins Rule id v other w (joined_view v w) spent_view
@@ -323,4 +340,4 @@ module _ {C O : Type 0} (origin : C → O) (journal : C → List Event) (drawn :
       let x_is : x ≡ Some c = ap front (sym out ∙ e) in
       let now : last ≡ (holding me.0 (journal c) (drawn c), (0, None) ∷ []) = then ∙ ap (λ (m : Me (Option C) (View O)). (m.0, (0, None) ∷ rest m.1)) t.1.0 in
       subst (λ (y : Option C). (IfNone y P) × (IfSome y (λ k. (last ≡ (holding me.0 (journal k) (drawn k), (0, None) ∷ [])) × Gets o (origin k) (journal k) (drawn k) me.0))) (sym x_is)
-      (tt, (now, record { desk = sym same; knows = subst (λ (p : O). Knows p (journal c) (drawn c) me.0) (sym same) t.1.2; later = t.1.3 }))
+      (tt, (now, record { desk = sym same; knows = subst (λ (p : O). Knows p (journal c) (drawn c) me.0) (sym same) t.1.2; later = t.1.3; below = t.1.4 }))

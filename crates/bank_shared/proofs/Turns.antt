@@ -8,14 +8,14 @@ use mathlib.Core.List.{IsPrefix}
 use Rattle.atomic_table.specs.Table.{Me}
 use Rattle.bank_law.specs.declared.event.Event.{Event}
 use Rattle.bank_law.specs.declared.event.EventKind.{EventKind}
-use Rattle.bank_law.specs.declared.event.EventKind.TheVariants.{Grant, Commit}
+use Rattle.bank_law.specs.declared.event.EventKind.TheVariants.{Grant}
 use Rattle.bank_law.specs.Job.{Job}
 use Rattle.bank_law.specs.Machine.{with_event}
 use Rattle.bank_law.proofs.Histories.{own_none}
 use Rattle.bank_core.specs.declared.origin.Origin.{Origin}
 use Rattle.bank_core.specs.declared.loan.Take.{Take}
 use Rattle.bank_core.specs.declared.loan.Take.TheVariants as take
-use Rattle.bank_core.specs.Desks.{turned_over, before_last}
+use Rattle.bank_core.specs.Desks.{before_last}
 use Rattle.bank_core.specs.Origins.{IsLeastReadyAfter, AllDoneAfter}
 use Rattle.bank_core.specs.Takes.{MatchTake, IsNotNowAfter, ReadsLeastAfter}
 use Rattle.bank_core.proofs.Lanes.{is_one_after, before_last_is}
@@ -32,7 +32,7 @@ use Rattle.bank_shared.proofs.Owns.{prefix_more, none_of, one_stands, own_of_all
 abbrev pub AreOf : ℕ → List Event → Type 0
 AreOf l es = AllByRecursion (λ e. e.lane ≡ l) es
 
-theirs : (lanes : List ℕ) (l : ℕ) (es : List Event) → is_one_of lanes l ≡ true → AreOf l es → AllPass (λ e. is_one_of lanes e.lane) es
+pub theirs : (lanes : List ℕ) (l : ℕ) (es : List Event) → is_one_of lanes l ≡ true → AreOf l es → AllPass (λ e. is_one_of lanes e.lane) es
 theirs lanes l [] lane all = λ i d lt. absurd (omega arith)
 theirs lanes l (e ∷ es) lane all = All-cons (λ (x : Event). is_one_of lanes x.lane ≡ true) e es (ap (is_one_of lanes) all.0 ∙ lane) (theirs lanes l es lane all.1)
 
@@ -49,7 +49,7 @@ goes_on : (lanes : List ℕ) (l : ℕ) (before es after : List Event) → is_one
 goes_on lanes l before es after lane all is = record { more = es; after_is = is; theirs = theirs lanes l es lane all }
 
 module _ {O : Type 0} where
-  lanes_are : (v : View O) → v.joined ≡ [] → lanes_of v ≡ v.lanes
+  pub lanes_are : (v : View O) → v.joined ≡ [] → lanes_of v ≡ v.lanes
   lanes_are v no_parts = ap (λ (x : List Part). part_lanes x ++ v.lanes) no_parts
 
   -- a pass that gives up a turn in which no lane was drawn
@@ -181,14 +181,6 @@ module _ {W T : Type 0} {G : _} where
   take_adds (take.NotNow held) v l w a = adds_none v l w a
   take_adds take.Finished v l w a = adds_none v l w a
   take_adds take.OutOfMemory v l w a = adds_none v l w a
-
-  pub turn_over_adds : {O : Type 0} (t : Take W T G) (v : View O) (l p : ℕ) (w : View O) → Adds v l (record { kind = Commit; lane = l; position = p } ∷ granted t l) w
-      → MatchTake t (λ next. Adds v l (turned_over l p next.position) w) (λ held. Adds v l (record { kind = Commit; lane = l; position = p } ∷ []) w)
-      (Adds v l (record { kind = Commit; lane = l; position = p } ∷ []) w) (Adds v l (record { kind = Commit; lane = l; position = p } ∷ []) w)
-  turn_over_adds (take.Loan loan) v l p w a = a
-  turn_over_adds (take.NotNow held) v l p w a = a
-  turn_over_adds take.Finished v l p w a = a
-  turn_over_adds take.OutOfMemory v l p w a = a
 
   -- what it answers, told of the desk and of what its pass has seen
   module _ (job : T → Job) (core desk : Origin T) (old new seen : List Event) (l : ℕ) (same : core ≡ desk) (all : seen ≡ new) where

@@ -70,6 +70,7 @@ module _ {O : Type 0} where
     pub desk : p ≡ o
     pub knows : Knows o h d v
     pub later : All (λ e. e.lane < d) h
+    pub below : (l : ℕ) → d ≤ l → stands l v ≡ 0
 
   module _ {C : Type 0} (origin : C → O) (journal : C → List Event) (drawn : C → ℕ) where
     -- what is taken with the turn
@@ -77,6 +78,7 @@ module _ {O : Type 0} where
     Taken v c n m' =
         (m' ≡ (holding v (journal c) (drawn c), (0, Some c) ∷ [])) × (n ≡ 2 * length (journal c))
         × Knows (origin c) (journal c) (drawn c) v × All (λ e. e.lane < drawn c) (journal c)
+        × ((l : ℕ) → drawn c ≤ l → stands l v ≡ 0)
 
     abbrev pub took : Step (Option C) → Me (Option C) (View O) → ℕ → Me (Option C) (View O) → Type 0
     took s m n m' = MatchBool (n == s.first) ((c : C) × Taken m.0 c n m') (m' ≡ m)

@@ -6,8 +6,8 @@
 mod calls;
 mod desk;
 mod ends;
+mod events;
 mod kept;
-mod onward;
 mod reader;
 mod rule;
 mod shared;
@@ -15,7 +15,7 @@ mod turn;
 mod view;
 mod waiting;
 
-pub use desk::{Pass, Reader, SharedDesk};
+pub use desk::{Pass, Reader, SharedDesk, Turn};
 pub use kept::{DeskOrigin, Kept};
-pub use rule::{Folds, Looks, Parts, Releases, Takes, TurnRule};
+pub use rule::{Blanks, Folds, Looks, Parts, Releases, Takes, TurnRule};
 pub use view::{Part, View};

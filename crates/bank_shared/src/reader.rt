@@ -51,4 +51,43 @@ impl<W: Work> SharedDesk<W> {
         self.release(&mut reader.seat, kept);
         told
     }
+
+    /// The same. Where there are none, it first sleeps until lanes have gone on or the reader is
+    /// dismissed.
+    pub fn next_outcomes<R: Wait>(
+        &self,
+        rt: &R,
+        reader: &mut Reader<W>,
+        from: u32,
+        most: u32,
+    ) -> Result<Items<SharedOutcome>, OutOfMemory>
+        requires reader { IsReaderOf self.now reader.old }
+        requires within { from + most ≤ (W.job (desk_origin self.now).told).count }
+        ensures reader { IsReaderOf self.now reader.new }
+        ensures seen { IsPrefix (seen_by reader.old) (seen_by reader.new) }
+        ensures legal { IsLegalFor W.job (desk_origin self.now) (seen_by reader.new) }
+        ensures exact { IfOk result (λ told. told
+            ≡ done_from (state_after W.job (desk_origin self.now)
+            (seen_by reader.new)).stage from most) }
+        ensures serial { IfOk result (λ told. told
+            ≡ take (length told) (drop from (outcomes_at_end W.job (desk_origin self.now)))) }
+    {
+        let word = self.waiting.begin_look();
+        let told = self.outcomes_from(rt, reader, from, most);
+        if told.as_ref().is_ok_and(|outcomes| outcomes.is_empty()) {
+            self.waiting.rest_reader(rt, word);
+        }
+        self.waiting.end_look();
+        told
+    }
+
+    /// Wakes the reader, which has nothing to wait for any more: the lanes have ended.
+    pub fn dismiss_reader(&self) {
+        self.waiting.dismiss()
+    }
+
+    /// Whether the lanes have ended.
+    pub fn is_dismissed(&self) -> bool {
+        self.waiting.is_dismissed()
+    }
 }

@@ -68,6 +68,17 @@ impl<O> Split<View<O>> for Parts {
     ghost right = { new_view };
 }
 
+/// Kind 1: a seat that knows nothing is split.
+pub struct Blanks;
+
+impl<O> Split<View<O>> for Blanks {
+    ghost use Rattle.bank_shared.specs.Rule.{spent_view};
+
+    ghost left = { λ v. v };
+
+    ghost right = { λ v. spent_view };
+}
+
 /// Kind 2: a seat is joined into another.
 pub struct Folds;
 

@@ -1,11 +1,11 @@
 //! The shared desk as a desk.
-use crate::desk::{Pass, SharedDesk};
-use bank_core::{Desk, Effects, Loan, Split, Take, Work};
+use crate::desk::{Pass, SharedDesk, Turn};
+use crate::events::let_go;
+use bank_core::{Desk, Effects, Loan, Spent, Split, Take, Work};
 use std::sync::Wait;
 
 impl<W: Work> Desk<W> for SharedDesk<W> {
-    ghost use Rattle.bank_shared.specs.Face.{desk_origin, desk_lanes, IsPassOf, view_of, pass_lanes};
-    ghost use Rattle.sol_base.specs.Accounts.{accounts_of};
+    ghost use Rattle.bank_shared.specs.Face.{desk_origin, desk_lanes, IsPassOf, view_of, pass_lanes, IsTurnOf, turn_view, turn_lanes, loan_view, spent_view};
 
     type Pass = Pass<W>;
 
@@ -21,12 +21,19 @@ impl<W: Work> Desk<W> for SharedDesk<W> {
 
     ghost lanes_of = { pass_lanes };
 
-    ghost loan = { λ loan. record {
-      position = loan.position;
-      lane = loan.lane;
-      origin = loan.origin.value;
-      values = accounts_of loan.values.items;
-    } };
+    ghost loan = { loan_view };
+
+    type Spent = Spent<W>;
+
+    ghost spent = { λ spent. spent_view W.job spent };
+
+    type Turn = Turn<W>;
+
+    ghost is_turn_of = { IsTurnOf };
+
+    ghost turn_view = { turn_view };
+
+    ghost turn_lanes = { turn_lanes };
 
     fn take<R: Wait>(&self, rt: &R, pass: &mut Pass<W>) -> Take<W> {
         self.lend(rt, pass)
@@ -34,16 +41,6 @@ impl<W: Work> Desk<W> for SharedDesk<W> {
 
     fn commit<R: Wait>(&self, rt: &R, pass: &mut Pass<W>, loan: Loan<W>, effects: Effects) {
         self.commit_loan(rt, pass, loan, effects)
-    }
-
-    fn turn_over<R: Wait>(
-        &self,
-        rt: &R,
-        pass: &mut Pass<W>,
-        loan: Loan<W>,
-        effects: Effects,
-    ) -> Take<W> {
-        self.turn_pass(rt, pass, loan, effects)
     }
 
     fn wait<R: Wait>(&self, rt: &R) {
@@ -60,5 +57,41 @@ impl<W: Work> Desk<W> for SharedDesk<W> {
 
     fn join(&self, pass: &mut Pass<W>, other: Pass<W>) {
         self.join_pass(pass, other)
+    }
+
+    fn lane(&self, pass: &Pass<W>) -> u32 {
+        self.lane_of(pass)
+    }
+
+    fn spend(&self, loan: Loan<W>) -> Spent<W> {
+        let_go(loan)
+    }
+
+    fn begin<R: Wait>(&self, rt: &R, pass: &mut Pass<W>) -> Turn<W> {
+        self.begin_turn(rt, pass)
+    }
+
+    fn lend(&self, turn: &mut Turn<W>, lane: u32) -> Take<W> {
+        self.lend_under(turn, lane)
+    }
+
+    fn take_in(&self, turn: &mut Turn<W>, spent: Spent<W>, effects: Effects) {
+        self.take_under(turn, spent, effects)
+    }
+
+    fn put_back(&self, turn: &mut Turn<W>, loan: Loan<W>) {
+        self.return_under(turn, loan)
+    }
+
+    fn ready_count(&self, turn: &Turn<W>) -> u32 {
+        turn.kept.core.ready_count()
+    }
+
+    fn lane_count(&self, turn: &Turn<W>) -> u32 {
+        turn.kept.core.lanes()
+    }
+
+    fn end(&self, pass: &mut Pass<W>, turn: Turn<W>) {
+        self.end_turn(pass, turn)
     }
 }

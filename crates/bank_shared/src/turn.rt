@@ -95,19 +95,21 @@ impl<W: Work> SharedDesk<W> {
     {
         let word = 2 * kept.core.event_count() as u64;
         let offer = kept.core.offer();
+        let ready = kept.core.ready_count();
         self.waiting.show(offer);
         self.table.shared.exchange(seat, 0, Some(kept));
         self.table.shared.store::<Releases<W>>(seat, 0, word);
-        self.wake(offer);
+        self.wake(offer, ready);
     }
 
     /// Wakes those for whom there is something, once the turn is given up: one who sleeps for the
-    /// turn, and a lane. A thread counts as one that sleeps before it looks at the word.
-    fn wake(&self, offer: Offer) {
+    /// turn, lanes, and the reader. A thread counts as one that sleeps before it looks at the word.
+    fn wake(&self, offer: Offer, ready: u32) {
         if self.waiting.has_queued() {
             self.table.shared.wake_one(0);
         }
-        self.waiting.ring(offer);
+        self.waiting.ring(offer, ready);
+        self.waiting.tell();
     }
 
     /// Joins a seat into a pass, and looks.

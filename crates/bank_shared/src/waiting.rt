@@ -1,5 +1,5 @@
-//! Where threads wait for a desk: a lane until there may be something for it, and whoever wants the
-//! turn until it is given up. Nothing that is proved rests on it.
+//! Where threads wait for a desk: a lane until there may be something for it, whoever wants the turn
+//! until it is given up, and a reader until lanes have gone on. Nothing that is proved rests on it.
 use bank_core::Offer;
 use std::sync::Wait;
 use std::sync::atomic::AtomicU64;
@@ -10,8 +10,12 @@ use std::time::Duration;
 /// How often a lane that finds nothing ready looks again, before it sleeps.
 const YIELDS: u32 = 32;
 
-/// How many microseconds it sleeps at most. It is a net: what there is for a lane wakes one.
+/// How many microseconds a lane or a reader sleeps at most. It is a net: what there is for it wakes
+/// it.
 const NET: u64 = 1_000_000;
+
+/// After how many turns a reader is woken: a wake costs more than what it has to do for one outcome.
+const TURNS_TOLD: u64 = 8;
 
 /// Where threads wait for a desk.
 #[derive(Drop)]
@@ -24,6 +28,17 @@ pub(crate) struct Waiting {
     idle: AtomicU64,
     // How many threads sleep until the turn is given up, or are about to.
     queued: AtomicU64,
+    // Changes with each turn that ends while a reader sleeps, or is about to.
+    told: AtomicU64,
+    // 1 while it does.
+    reading: AtomicU64,
+    // 1 once it has nothing to wait for any more.
+    dismissed: AtomicU64,
+}
+
+/// The part of a word that a thread parks on.
+fn low(word: u64) -> u32 {
+    (word & 0xffff_ffff) as u32
 }
 
 impl Waiting {
@@ -34,6 +49,9 @@ impl Waiting {
             bell: AtomicU64::new(0),
             idle: AtomicU64::new(0),
             queued: AtomicU64::new(0),
+            told: AtomicU64::new(0),
+            reading: AtomicU64::new(0),
+            dismissed: AtomicU64::new(0),
         }
     }
 
@@ -45,17 +63,20 @@ impl Waiting {
         }
     }
 
-    /// Wakes a lane where there is something for it: one where a position is ready, which wakes the
-    /// next if it leaves another, and all at the end. It is called once the turn is given up.
-    pub(crate) fn ring(&self, offer: Offer) {
-        if offer == Offer::NotNow || self.idle.load(SeqCst) == 0 {
+    /// Wakes the lanes that sleep where there is something for them: as many as positions are ready,
+    /// and all at the end. It is called once the turn is given up.
+    pub(crate) fn ring(&self, offer: Offer, ready: u32) {
+        let idle = self.idle.load(SeqCst);
+        if offer == Offer::NotNow || idle == 0 {
             return;
         }
         self.bell.fetch_add(1, SeqCst);
-        if offer == Offer::Ready {
-            self.bell.wake_one();
-        } else {
+        if offer == Offer::Finished || idle <= ready as u64 {
             self.bell.wake_all();
+        } else {
+            for _ in 0..ready {
+                self.bell.wake_one();
+            }
         }
     }
 
@@ -72,8 +93,8 @@ impl Waiting {
         let bell = self.bell.load(SeqCst);
         self.idle.fetch_add(1, SeqCst);
         if self.offered.load(SeqCst) == 0 {
-            let low = (bell & 0xffff_ffff) as u32;
-            self.bell.park_timeout(rt, low, Duration::from_micros(NET));
+            self.bell
+                .park_timeout(rt, low(bell), Duration::from_micros(NET));
         }
         self.idle.fetch_sub(1, SeqCst);
     }
@@ -91,5 +112,50 @@ impl Waiting {
     /// Whether some thread does.
     pub(crate) fn has_queued(&self) -> bool {
         self.queued.load(SeqCst) != 0
+    }
+
+    /// A reader is about to look for the last time before it sleeps. It answers the word that each
+    /// turn changes from now on.
+    pub(crate) fn begin_look(&self) -> u64 {
+        self.reading.store(1, SeqCst);
+        self.told.load(SeqCst)
+    }
+
+    /// Waits until lanes have gone on since the look began, or the reader is dismissed, or for a
+    /// while.
+    pub(crate) fn rest_reader<R: Wait>(&self, rt: &R, word: u64) {
+        if !self.is_dismissed() {
+            self.told
+                .park_timeout(rt, low(word), Duration::from_micros(NET));
+        }
+    }
+
+    /// The reader has something to do, or was woken.
+    pub(crate) fn end_look(&self) {
+        self.reading.store(0, SeqCst);
+    }
+
+    /// Tells a reader that sleeps that a turn has ended, and wakes it after some of them. It is
+    /// called once the turn is given up.
+    pub(crate) fn tell(&self) {
+        if self.reading.load(SeqCst) == 0 {
+            return;
+        }
+        let turns = self.told.fetch_add(1, SeqCst);
+        if turns % TURNS_TOLD == 0 {
+            self.told.wake_one();
+        }
+    }
+
+    /// Wakes the reader, which is not to wait any more.
+    pub(crate) fn dismiss(&self) {
+        self.dismissed.store(1, SeqCst);
+        self.told.fetch_add(1, SeqCst);
+        self.told.wake_one();
+    }
+
+    /// Whether the reader was dismissed.
+    pub(crate) fn is_dismissed(&self) -> bool {
+        self.dismissed.load(SeqCst) != 0
     }
 }

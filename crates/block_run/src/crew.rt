@@ -1,6 +1,7 @@
 //! What runs a block.
-ghost use Rattle.std.specs.Prelude.{◌≡◌, ◌≤◌, filter, if◌then◌else◌, length, max, min, nat_lt};
+ghost use Rattle.std.specs.Prelude.{◌≡◌, ◌≤◌, ◌<◌, ◌*◌, filter, if◌then◌else◌, length, max, min, nat_lt};
 ghost use Rattle.sol_base.specs.Limits.{max_lanes};
+ghost use Rattle.bank_core.specs.Counts.{max_lane_numbers};
 ghost use Rattle.block_run.specs.Crew.{has_instruction};
 
 use admission::Chosen;
@@ -9,6 +10,10 @@ use std::alloc::Global;
 /// How many transactions a block has at least before whose run, and after it, a thread is started:
 /// for fewer it costs more than it saves.
 pub const MANY_TRANSACTIONS: usize = 64;
+
+/// How many lane numbers of the core a thread drives, where there are several threads: so many
+/// positions it takes in one turn at most.
+pub(crate) const LANE_NUMBERS: u32 = 16;
 
 /// What runs a block: so many lanes, on threads of this runtime, and the gate that they pass.
 #[derive(Drop)]
@@ -31,6 +36,20 @@ impl<'a, G, R> Crew<'a, G, R> {
             alloc: self.alloc,
             lanes: (self.lanes as usize).min(working.max(1)) as u32,
             gate: self.gate,
+        }
+    }
+
+    /// How many lanes its core has: one alone, or all lane numbers of the threads.
+    pub(crate) fn lane_numbers(&self) -> u32
+        ensures some { 1 ≤ result }
+        ensures most { result ≤ max_lane_numbers }
+        ensures alone { self.now.lanes ≡ 1 → result ≡ 1 }
+        ensures many { 1 < self.now.lanes → result ≡ LANE_NUMBERS * self.now.lanes }
+    {
+        if self.lanes == 1 {
+            1
+        } else {
+            LANE_NUMBERS * self.lanes
         }
     }
 

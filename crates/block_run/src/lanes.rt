@@ -1,6 +1,8 @@
 //! A work on its lanes: alone in order, or beside each other over a shared desk, while the front of
 //! the record is hashed.
-ghost use Rattle.std.specs.Prelude.{◌≡◌, [], All, IfOk, OnOk, length};
+ghost use Rattle.std.specs.Prelude.{◌≡◌, ◌≤◌, [], All, IfOk, List, OnOk, length};
+ghost use Rattle.sol_base.specs.Limits.{max_transactions};
+ghost use Rattle.tx_report.specs.declared.outcome.Outcome.{Outcome as OutcomeValue};
 ghost use Rattle.bank_core.specs.Ends.{outcomes_at_end};
 ghost use Rattle.bank_core.specs.Origins.{AllDoneAfter};
 ghost use Rattle.bank_lanes.specs.Passes.{IsIdle};
@@ -10,16 +12,14 @@ ghost use Rattle.block_run.specs.Ending.{AreOf};
 ghost use Rattle.block_run.specs.RecordPrefix.{IsBegun};
 
 use crate::block::RecordParts;
-use crate::crew::Crew;
+use crate::crew::{Crew, LANE_NUMBERS};
 use crate::record_prefix::{RecordPrefix, begin, read_prefix};
 use bank_core::{Core, Ended, SharedOutcome, Take, Work};
-use bank_lanes::{Gate, run_lanes};
+use bank_lanes::{Gate, Lanes, run_groups};
 use bank_shared::{Pass, SharedDesk};
 use sol_base::{Items, OutOfMemory};
 use std::alloc::Global;
 use std::sync::Wait;
-use std::sync::atomic::AtomicBool;
-use std::sync::atomic::Ordering::SeqCst;
 use std::thread::{Threads, join};
 
 /// Takes, passes the gate, performs and commits on the one lane of a core, until all positions are
@@ -75,9 +75,7 @@ fn run_beside<W: Work + Sync, G: Gate, R: Threads + Wait + Sync>(
     ensures done { OnOk result.1.0 (AllDoneAfter W.job (desk_origin desk.now)
         (view_of result.1.1).seen) }
 {
-    let (rt, alloc, gate) = (crew.rt, crew.alloc, crew.gate);
-    let flag = AtomicBool::new(false);
-    let ended = &flag;
+    let (rt, alloc, gate, threads) = (crew.rt, crew.alloc, crew.gate, crew.lanes);
     let reader = desk.reader(&mut pass);
     join(
         rt,
@@ -89,7 +87,7 @@ fn run_beside<W: Work + Sync, G: Gate, R: Threads + Wait + Sync>(
                 × All IsSmallOutcome (outcomes_at_end W.job (desk_origin desk.now)) }
             ensures { IfOk result (IsBegun parts.entry
                 (outcomes_at_end W.job (desk_origin desk.entry.now))) }
-        { read_prefix(rt, alloc, desk, reader, ended, parts) },
+        { read_prefix(rt, alloc, desk, reader, parts) },
         move || -> (Result<(), OutOfMemory>, Pass<W>)
             requires { ((desk_origin desk.now).told ≡ W.told work.now)
                 × IsPassOf desk.now pass × IsIdle (view_of pass) }
@@ -97,8 +95,13 @@ fn run_beside<W: Work + Sync, G: Gate, R: Threads + Wait + Sync>(
             ensures done { OnOk result.0 (AllDoneAfter W.job (desk_origin desk.entry.now)
                 (view_of result.1).seen) }
         {
-            let end = run_pass(rt, alloc, desk, pass, work, gate);
-            ended.store(true, SeqCst);
+            let lanes = Lanes {
+                gate,
+                threads,
+                per_thread: LANE_NUMBERS,
+            };
+            let end = run_pass(rt, alloc, desk, pass, work, lanes);
+            desk.dismiss_reader();
             end
         },
     )
@@ -111,7 +114,7 @@ fn run_pass<W: Work + Sync, G: Gate, R: Threads + Wait + Sync>(
     desk: &SharedDesk<W>,
     mut pass: Pass<W>,
     work: &W,
-    gate: &G,
+    lanes: Lanes<'_, G>,
 ) -> (Result<(), OutOfMemory>, Pass<W>)
     requires told { (desk_origin desk.now).told ≡ W.told work.now }
     requires pass { IsPassOf desk.now pass }
@@ -120,11 +123,28 @@ fn run_pass<W: Work + Sync, G: Gate, R: Threads + Wait + Sync>(
     ensures done { OnOk result.0 (AllDoneAfter W.job (desk_origin desk.now)
         (view_of result.1).seen) }
 {
-    let run = run_lanes(rt, alloc, desk, &mut pass, work, gate);
+    let run = run_groups(rt, alloc, desk, &mut pass, work, lanes);
     (run, pass)
 }
 
-/// Shares the core among its lanes, each on a thread of its own, until all positions are done. A
+/// The front of the record as the reader left it. Where that found no memory, only its own work is
+/// lost: the record is begun anew.
+fn begun_or_anew(
+    alloc: Global,
+    parts: RecordParts<'_>,
+    read: Result<RecordPrefix, OutOfMemory>,
+) -> Result<RecordPrefix, OutOfMemory>
+    requires few { length parts.order.now ≤ max_transactions }
+    ensures { (outcomes : List OutcomeValue) → IfOk read (IsBegun parts.entry outcomes)
+        → IfOk result (IsBegun parts.entry outcomes) }
+{
+    match read {
+        Ok(begun) => Ok(begun),
+        Err(OutOfMemory) => begin(alloc, parts),
+    }
+}
+
+/// Shares the core among its lanes, so many to a thread, until all positions are done. A
 /// further thread hashes the front of the record.
 fn run_shared<W: Work + Sync, G: Gate, R: Threads + Wait + Sync>(
     crew: &Crew<'_, G, R>,
@@ -146,7 +166,8 @@ fn run_shared<W: Work + Sync, G: Gate, R: Threads + Wait + Sync>(
     let (desk, pass) = SharedDesk::new(crew.alloc, core)?;
     let (begun, (run, pass)) = run_beside(crew, &desk, pass, work, parts);
     run?;
-    Ok((desk.close(crew.rt, pass), begun?))
+    let begun = begun_or_anew(crew.alloc, parts, begun)?;
+    Ok((desk.close(crew.rt, pass), begun))
 }
 
 /// Runs a work on the lanes of a core. It ends as the serial run does; its accounts stand apart

@@ -21,17 +21,10 @@ use sha2::{Digest, Sha256};
 use sol_base::{Blob, Items, OutOfMemory};
 use std::alloc::Global;
 use std::sync::Wait;
-use std::sync::atomic::AtomicBool;
-use std::sync::atomic::Ordering::SeqCst;
-use std::thread::Parker;
-use std::time::Duration;
 
 /// How many outcomes are taken at once: a reader's turn is short, and the bytes that are hashed are
 /// still near.
 const MOST: u32 = 16;
-
-/// How many microseconds it waits where none is new.
-const PARKED: u64 = 100;
 
 /// How many bytes an entry takes in most blocks, so that a buffer seldom grows.
 const ENTRY_ROOM: usize = 768;
@@ -167,7 +160,6 @@ pub(crate) fn read_prefix<W: Work, R: Wait>(
     alloc: Global,
     desk: &SharedDesk<W>,
     mut reader: Reader<W>,
-    ended: &AtomicBool,
     parts: RecordParts<'_>,
 ) -> Result<RecordPrefix, OutOfMemory>
     requires reader { IsReaderOf desk.now reader }
@@ -182,13 +174,11 @@ pub(crate) fn read_prefix<W: Work, R: Wait>(
     let mut begun = begin(alloc, parts)?;
     for _ in rt.forever() {
         let left = parts.order.len() as u32 - begun.count;
-        if left == 0 || ended.load(SeqCst) {
+        if left == 0 || desk.is_dismissed() {
             return Ok(begun);
         }
-        let outcomes = desk.outcomes_from(rt, &mut reader, begun.count, left.min(MOST))?;
-        if outcomes.is_empty() {
-            Parker::new().park_timeout(rt, Duration::from_micros(PARKED));
-        } else {
+        let outcomes = desk.next_outcomes(rt, &mut reader, begun.count, left.min(MOST))?;
+        if !outcomes.is_empty() {
             begun = take_in(alloc, parts, begun, outcomes)?;
         }
     }

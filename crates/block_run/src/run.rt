@@ -65,7 +65,7 @@ fn open<G: Gate, R: Threads + Sync>(
         accounts,
     } = snapshot;
     Ok(Opened {
-        core: Core::over(crew.alloc, accounts, &work, crew.lanes, numbered)?,
+        core: Core::over(crew.alloc, accounts, &work, crew.lane_numbers(), numbered)?,
         work,
         chain: Chain { limits, recent },
     })

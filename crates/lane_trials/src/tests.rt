@@ -5,6 +5,7 @@ mod drives;
 mod ends;
 mod gates;
 mod graphs;
+mod groups;
 mod intakes;
 mod lanes;
 mod meets;

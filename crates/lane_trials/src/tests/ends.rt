@@ -2,12 +2,13 @@
 ghost use Rattle.std.specs.Prelude.{◌≡◌, ◌<◌, ◌≤◌, ◌^◌, [], IfOk};
 ghost use Rattle.bank_core.specs.Counts.{locks_before};
 ghost use Rattle.bank_core.specs.Ends.{outcomes_at_end};
+ghost use Rattle.bank_core.specs.Trial.{trial_job};
 ghost use Rattle.bank_lanes.specs.Passes.{IsIdle};
 
 use crate::tests::trial::Trial;
 use account_store::Accounts;
 use bank_core::{Core, Desk, Sealed, Work};
-use bank_lanes::{Gate, run_lanes, run_waves};
+use bank_lanes::{Gate, Lanes, run_groups, run_lanes, run_waves};
 use bank_shared::{Pass, SharedDesk};
 use sol_base::OutOfMemory;
 use std::alloc::Global;
@@ -77,6 +78,52 @@ pub fn end_by_lanes<W: Work + Sync, G: Gate, R: Threads + Wait + Sync>(
     let core = Core::new(alloc, accounts, work, lanes)?;
     let (desk, pass) = SharedDesk::new(alloc, core)?;
     end_of_desk(rt, alloc, desk, pass, work, gate)
+}
+
+/// What a work ends with, by groups of lanes over its desk.
+fn end_of_groups<W: Work + Sync, G: Gate, R: Threads + Wait + Sync>(
+    rt: &R,
+    alloc: Global,
+    made: (SharedDesk<W>, Pass<W>),
+    work: &W,
+    lanes: Lanes<'_, G>,
+) -> Result<Sealed, OutOfMemory>
+    requires desk { ⟦<SharedDesk<W> as Desk<W>>⟧.is_of made.0 made.1 }
+    requires told { (⟦<SharedDesk<W> as Desk<W>>⟧.origin made.0).told ≡ W.told work.now }
+    requires idle { IsIdle (⟦<SharedDesk<W> as Desk<W>>⟧.view made.1) }
+    ensures { IfOk result (λ end. end.outcomes
+        ≡ outcomes_at_end W.job (⟦<SharedDesk<W> as Desk<W>>⟧.origin made.0)) }
+{
+    let (desk, mut pass) = made;
+    let end = run_groups::<W, SharedDesk<W>, G, R>(rt, alloc, &desk, &mut pass, work, lanes);
+    let core = desk.close(rt, pass);
+    end?;
+    core.finish()
+}
+
+/// What a small work ends with, by so many lanes, so many of them to a thread.
+pub fn end_by_groups<G: Gate, R: Threads + Wait + Sync>(
+    rt: &R,
+    alloc: Global,
+    accounts: Accounts,
+    lanes: (u32, u32),
+    trial: &Trial,
+    gate: &G,
+) -> Result<Sealed, OutOfMemory>
+    requires some { 1 ≤ lanes.0 }
+    requires most { lanes.0 ≤ 64 }
+    requires each { 1 ≤ lanes.1 }
+    ensures { IfOk result (λ end. end.outcomes
+        ≡ outcomes_at_end trial_job (record { start = accounts; told = trial.now.locks })) }
+{
+    let core = Core::new(alloc, accounts, trial, lanes.0)?;
+    let made = SharedDesk::new(alloc, core)?;
+    let lanes = Lanes {
+        gate,
+        threads: lanes.0.div_ceil(lanes.1),
+        per_thread: lanes.1,
+    };
+    end_of_groups(rt, alloc, made, trial, lanes)
 }
 
 /// The same of a small work.

@@ -3,6 +3,7 @@ ghost use Rattle.std.specs.Prelude.{◌≤◌};
 
 use crate::tests::ends::end_of_trial;
 use crate::tests::gates::{MeetingGate, PairingGate};
+use crate::tests::readers::{desk_of_two, sleeps_until_dismissed};
 use crate::tests::trial::{READ, WRITE, accounts_of_ten, trial_of};
 use crate::tests::watches::watched;
 use bank_lanes::OpenGate;
@@ -137,5 +138,26 @@ fn a_commit_wakes_a_lane(rt: HostRuntime) -> Result<(), Fail> {
 #[test]
 fn a_commit_is_seen(rt: HostRuntime) -> Result<(), Fail> {
     assert!(rt; watched(&rt, || pairs_end(&rt, rt.alloc(), SHORT))?);
+    Ok(())
+}
+
+/// Whether a reader that sleeps ends 30 times, each once it is dismissed.
+fn readers_end<R: Threads + Wait + Abort + Sync>(rt: &R, alloc: Global) -> Result<bool, Fail> {
+    let trial = trial_of(rt, alloc, &ALONE)?;
+    for _ in 0..30 {
+        let accounts = accounts_of_ten(rt, alloc, &[1])?;
+        let (desk, mut pass) = desk_of_two(alloc, accounts, &trial)?;
+        let reader = desk.reader(&mut pass);
+        if !sleeps_until_dismissed(rt, &desk, reader, &trial)? {
+            return Ok(false);
+        }
+    }
+    Ok(true)
+}
+
+/// The end wakes a reader that sleeps. It would sleep for a second each time, if nothing woke it.
+#[test]
+fn the_end_wakes_a_reader(rt: HostRuntime) -> Result<(), Fail> {
+    assert!(rt; watched(&rt, || readers_end(&rt, rt.alloc()))?);
     Ok(())
 }

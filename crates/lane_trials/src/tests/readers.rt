@@ -4,11 +4,13 @@ ghost use Rattle.bank_shared.specs.Face.{desk_origin, first_pass, IsPassOf, IsRe
 
 use crate::tests::trial::Trial;
 use account_store::Accounts;
-use bank_core::{Core, SharedOutcome};
+use bank_core::{Core, SharedOutcome, Work};
 use bank_shared::{Pass, Reader, SharedDesk};
 use sol_base::{Items, OutOfMemory};
 use std::alloc::Global;
 use std::sync::Wait;
+use std::thread;
+use std::thread::{Threads, join};
 
 /// A desk of two lanes over a trial, and the pass of the first.
 pub fn desk_of_two(
@@ -39,4 +41,38 @@ pub fn told<R: Wait>(
     ensures reader { IsReaderOf desk.now reader.new }
 {
     desk.outcomes_from(rt, reader, from, most)
+}
+
+/// Turns after which a reader sleeps that finds nothing.
+const LONG: u64 = 2_000;
+
+/// Dismisses the reader of a desk, once it sleeps.
+fn dismiss_late(desk: &SharedDesk<Trial>) {
+    for _ in 0..LONG {
+        thread::yield_now();
+    }
+    desk.dismiss_reader();
+}
+
+/// Whether a reader is told of no position where none is done, once it is dismissed.
+pub fn sleeps_until_dismissed<R: Threads + Wait + Sync>(
+    rt: &R,
+    desk: &SharedDesk<Trial>,
+    mut reader: Reader<Trial>,
+    trial: &Trial,
+) -> Result<bool, OutOfMemory>
+    requires trial { (desk_origin desk.now).told ≡ trial.now.locks }
+    requires reader { IsReaderOf desk.now reader }
+{
+    if trial.count() == 0 {
+        return Ok(false);
+    }
+    let (told, ()) = join(
+        rt,
+        move || -> Result<Items<SharedOutcome>, OutOfMemory>
+            requires { (1 ≤ length (desk_origin desk.now).told) × IsReaderOf desk.now reader }
+        { desk.next_outcomes(rt, &mut reader, 0, 1) },
+        move || dismiss_late(desk),
+    );
+    Ok(told?.is_empty() && desk.is_dismissed())
 }

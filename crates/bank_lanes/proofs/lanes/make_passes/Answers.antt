@@ -35,7 +35,7 @@ loop-preserved g c =
           (free_none (lanes c.loop.pass) (lanes c.split.new.pass) (view c.loop.pass) (view c.split.new.pass) c.in-Made.ensures.same_lanes c.in-Made.ensures.each);
       passes = subst (λ ps. All P ps) (sym c.in_default.ensures.items)
           (All-push P c.loop.passes.items c.in-Made.made i.passes
-          (c.in-Made.ensures.made.0, record { free = ap holds new.mine; once = ap returns new.mine }, free_new (g.D.Desk.lanes_of c.in-Made.made) (g.D.Desk.view c.in-Made.made) c.in-Made.ensures.one_lane new.mine new.own));
+          (c.in-Made.ensures.made.0, record { free = ap holds new.mine; once = ap returns new.mine }, free_new (g.D.Desk.lanes_of c.in-Made.made) (g.D.Desk.view c.in-Made.made) c.in-Made.ensures.one_lane new.own));
     }
 
 pub returns-in-AllMade-clause-free : goal.returns-in-AllMade-clause-free

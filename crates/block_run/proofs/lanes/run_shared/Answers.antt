@@ -1,5 +1,4 @@
 use Rattle.std.proofs.Common.{All, sym, subst}
-use Rattle.std.specs.Prelude.{IfOk}
 use Rattle.tx_exec.specs.TransactionLaws.{IsSmallOutcome}
 use Rattle.bank_core.specs.Ends.{outcomes_at_end}
 use Rattle.bank_shared.specs.Face.{desk_origin}
@@ -11,5 +10,5 @@ run_beside-begun-requires-clause-small g c κs within = subst (λ o. All IsSmall
 
 pub returns-clause-begun : goal.returns-clause-begun
 returns-clause-begun g c =
-    subst (λ o. IsBegun c.args.parts (outcomes_at_end g.W.Work.job o) c.in_ok-begun.field-0) c.in_ok-desk.ensures.origin
-    (subst (λ r. IfOk r (IsBegun c.args.parts (outcomes_at_end g.W.Work.job (desk_origin c.in_ok-desk.desk)))) c.in_ok-begun.was c.run_beside-begun.ensures.begun)
+    subst (λ o. IsBegun c.args.parts (outcomes_at_end g.W.Work.job o) c.in_ok-begun.begun) c.in_ok-desk.ensures.origin
+    (c.in_ok-begun.ensures (outcomes_at_end g.W.Work.job (desk_origin c.in_ok-desk.desk)) c.run_beside-begun.ensures.begun)

@@ -20,14 +20,14 @@ take_in-requires-clause-small g c =
     subst (All IsSmallOutcome) (sym c.in_ok-outcomes.ensures.serial)
     (All-take IsSmallOutcome (length c.in_ok-outcomes.outcomes) (drop c.loop.begun.count all) (All-drop IsSmallOutcome c.loop.begun.count all c.requires.small))
 
-pub loop-preserved : goal.loop-preserved
-loop-preserved g c =
+pub loop-preserved-then-not-is_empty : goal.loop-preserved-then-not-is_empty
+loop-preserved-then-not-is_empty g c =
     let few = told_few _ c.loop.begun.count c.min.result c.in_ok-outcomes.outcomes c.in_ok-outcomes.ensures.exact in
     let least = c.min.ensures in
     let within = c.loop.invariant.begun.within in
     record {
       again = (tt, tt);
-      reader = c.outcomes_from.ensures.reader;
+      reader = c.next_outcomes.ensures.reader;
       begun = goes_on c.args.parts (outcomes_at_end g.W.Work.job (desk_origin c.args.desk.now)) c.in_ok-outcomes.outcomes c.loop.begun c.in_ok-begun-2.begun c.loop.invariant.begun
           c.in_ok-outcomes.ensures.serial (omega (arith, few, least, within)) c.in_ok-begun-2.ensures.count c.in_ok-begun-2.ensures.taken c.in_ok-begun-2.ensures.kept;
     }

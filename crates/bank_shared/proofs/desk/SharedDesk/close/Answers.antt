@@ -3,6 +3,7 @@ use mathlib.Core.List.{IsPrefix}
 use Rattle.bank_shared.specs.History.{own, own_of}
 use Rattle.bank_shared.proofs.Ended.{ended}
 use Rattle.bank_shared.proofs.Owns.{covered}
+use Rattle.bank_shared.proofs.UnderTurn.{of_desk}
 use Rattle.bank_shared.proofs.desk.SharedDesk.close.Goals as goal
 
 pub returns-clause-history : goal.returns-clause-history
@@ -17,4 +18,4 @@ pub returns-clause-each : goal.returns-clause-each
 returns-clause-each g c = ap (λ k. own_of k.journal.items c.args.pass.seat.me.0.lanes) c.into_inner.ensures ∙ c.take_turn-core.ensures.gets.knows.mine.own
 
 pub returns-clause-mine : goal.returns-clause-mine
-returns-clause-mine g c = ap (λ k. own k.journal.items c.args.pass.lane) c.into_inner.ensures ∙ covered _ _ _ _ c.take_turn-core.ensures.gets.knows.mine c.args.pass.lane_is
+returns-clause-mine g c = ap (λ k. own k.journal.items c.args.pass.lane) c.into_inner.ensures ∙ covered _ _ _ _ c.take_turn-core.ensures.gets.knows.mine (of_desk _ _ c.requires.desk.1 c.args.pass.lane_is)

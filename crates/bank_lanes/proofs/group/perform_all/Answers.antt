@@ -1,0 +1,19 @@
+use Rattle.std.proofs.Common.{◌<◌, length, ◌∙◌, arith}
+use Rattle.std.proofs.lemmas.List.Elements.{All-set}
+use Rattle.bank_lanes.specs.Groups.{HasKept, IsOf}
+use Rattle.bank_lanes.proofs.GroupSteps.{after_set, seat_set, set_lanes}
+use Rattle.bank_lanes.proofs.group.perform_all.Goals as goal
+
+pub loop-at-preserved : goal.loop-at-preserved
+loop-at-preserved g c =
+    let i = c.loop-at.invariant in
+    let within : c.loop-at.at < length c.loop-at.seats = omega arith in
+    let d = c.index-seats-at.result in
+    let seat = c.perform.new.seat in
+    let origin = g.D.Desk.origin c.args.desk.now in
+    record {
+      same = set_lanes g.D.Desk.loan g.D.Desk.spent g.W.Work.job origin c.loop-at.seats c.loop-at.at seat d c.perform.ensures.lane ∙ i.same;
+      kept = All-set HasKept c.loop-at.seats c.loop-at.at seat (c.perform.ensures.gave_back ∙ i.kept c.loop-at.at d within) i.kept;
+      of = after_set (λ s. IsOf g.D.Desk.loan origin s.holding) c.loop-at.seats c.loop-at.at seat i.of;
+      stays = λ lanes seen all. seat_set g.D.Desk.loan g.D.Desk.spent g.W.Work.job origin lanes c.loop-at.seats c.loop-at.at seat d seen within c.perform.ensures.lane (c.perform.ensures.stays seen) (i.stays lanes seen all);
+    }

@@ -1,0 +1,14 @@
+use Rattle.std.proofs.Common.{◌≡◌, ℕ, List, All, length}
+use Rattle.std.specs.List.{AllWithin}
+use Rattle.bank_law.specs.declared.event.Event.{Event}
+use Rattle.bank_lanes.specs.Groups.{AreSeats, HasKept, IsOf, seat_lanes}
+use Rattle.bank_lanes.proofs.group.perform_all.Given as goal
+
+abbrev pub invariant-loop-at : goal.invariant-loop-at
+invariant-loop-at g l = record {
+  same : seat_lanes l.seats ≡ seat_lanes l.initial.seats;
+  kept : All HasKept l.seats;
+  of : AllWithin (λ seat. IsOf g.D.Desk.loan (g.D.Desk.origin l.desk) seat.holding) l.seats l.at (length l.seats);
+  stays : (lanes : List ℕ) (seen : List Event) → AreSeats g.D.Desk.loan g.D.Desk.spent g.W.Work.job (g.D.Desk.origin l.desk) lanes l.initial.seats seen
+      → AreSeats g.D.Desk.loan g.D.Desk.spent g.W.Work.job (g.D.Desk.origin l.desk) lanes l.seats seen;
+}

@@ -1,0 +1,29 @@
+use Rattle.std.proofs.Common.{subst, ◌∙◌}
+use Rattle.bank_lanes.specs.Passes.{KeepsTo}
+use Rattle.bank_lanes.proofs.Frees.{keeps_then}
+use Rattle.bank_lanes.proofs.turns.run_group.Goals as goal
+
+pub turns-preserved-in-Loan : goal.turns-preserved-in-Loan
+turns-preserved-in-Loan g c =
+    let i = c.turns.invariant in
+    record {
+      desk = c.take_turn.ensures.desk;
+      keeps = keeps_then _ _ _ _ _ _ _ i.keeps (subst (λ ms. KeepsTo ms (g.D.Desk.lanes_of c.turns.pass) (g.D.Desk.view c.turns.pass) (g.D.Desk.lanes_of c.take_turn.new.pass) (g.D.Desk.view c.take_turn.new.pass)) i.same c.take_turn.ensures.keeps);
+      same = c.perform_all.ensures.same ∙ (c.take_turn.ensures.same ∙ i.same);
+      seats = c.perform_all.ensures.stays _ _ c.take_turn.ensures.seats;
+    }
+
+pub turns-preserved : goal.turns-preserved
+turns-preserved g c =
+    let i = c.turns.invariant in
+    record {
+      desk = c.take_turn.ensures.desk;
+      keeps = keeps_then _ _ _ _ _ _ _ i.keeps (subst (λ ms. KeepsTo ms (g.D.Desk.lanes_of c.turns.pass) (g.D.Desk.view c.turns.pass) (g.D.Desk.lanes_of c.take_turn.new.pass) (g.D.Desk.view c.take_turn.new.pass)) i.same c.take_turn.ensures.keeps);
+      same = c.take_turn.ensures.same ∙ i.same;
+      seats = c.take_turn.ensures.seats;
+    }
+
+pub returns-in-End-clause-keeps : goal.returns-in-End-clause-keeps
+returns-in-End-clause-keeps g c =
+    let i = c.turns.invariant in
+    keeps_then _ _ _ _ _ _ _ i.keeps (subst (λ ms. KeepsTo ms (g.D.Desk.lanes_of c.turns.pass) (g.D.Desk.view c.turns.pass) (g.D.Desk.lanes_of c.take_turn.new.pass) (g.D.Desk.view c.take_turn.new.pass)) i.same c.take_turn.ensures.keeps)

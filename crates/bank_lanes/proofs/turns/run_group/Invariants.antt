@@ -1,0 +1,12 @@
+use Rattle.std.proofs.Common.{◌≡◌}
+use Rattle.bank_lanes.specs.Groups.{AreSeats, seat_lanes}
+use Rattle.bank_lanes.specs.Passes.{KeepsTo}
+use Rattle.bank_lanes.proofs.turns.run_group.Given as goal
+
+abbrev pub invariant-turns : goal.invariant-turns
+invariant-turns g l = record {
+  desk : g.D.Desk.is_of l.desk l.pass;
+  keeps : KeepsTo (seat_lanes l.initial.seats) (g.D.Desk.lanes_of l.initial.pass) (g.D.Desk.view l.initial.pass) (g.D.Desk.lanes_of l.pass) (g.D.Desk.view l.pass);
+  same : seat_lanes l.seats ≡ seat_lanes l.initial.seats;
+  seats : AreSeats g.D.Desk.loan g.D.Desk.spent g.W.Work.job (g.D.Desk.origin l.desk) (g.D.Desk.lanes_of l.pass) l.seats (g.D.Desk.view l.pass).seen;
+}

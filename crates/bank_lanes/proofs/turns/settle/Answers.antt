@@ -1,0 +1,23 @@
+use Rattle.std.proofs.Common.{true, ap, sym, refl, subst}
+use Rattle.bank_law.specs.declared.event.EventKind.TheVariants.{Commit, Return}
+use Rattle.bank_lanes.specs.Groups.{IsHolding, IsSeatOf}
+use Rattle.bank_lanes.proofs.GroupSteps.{seat_ended}
+use Rattle.bank_lanes.proofs.turns.settle.Goals as goal
+
+pub returns-in-Loan-clause-seat : goal.returns-in-Loan-clause-seat
+returns-in-Loan-clause-seat g c =
+    let origin = g.D.Desk.origin c.args.desk.now in
+    let old = (g.D.Desk.turn_view c.args.turn.now).seen in
+    let new = (g.D.Desk.turn_view c.put_back.new.turn).seen in
+    subst (λ s. IsSeatOf g.D.Desk.loan g.D.Desk.spent g.W.Work.job origin (record s { gave_back = true }) new) (sym c.in-Loan.ensures.seat)
+    (seat_ended g.D.Desk.loan g.D.Desk.spent g.W.Work.job origin c.args.seat.now.lane true (g.D.Desk.loan c.in-Loan.loan) old new Return refl (λ e. absurd (cc e)) (ap (λ v. v.seen) c.put_back.ensures.event)
+    (subst (λ x. IsHolding g.D.Desk.loan g.D.Desk.spent g.W.Work.job origin x c.args.seat.now.lane old) (sym c.in-Loan.ensures.taken) c.requires.seat.holding))
+
+pub returns-in-Performed-clause-seat : goal.returns-in-Performed-clause-seat
+returns-in-Performed-clause-seat g c =
+    let origin = g.D.Desk.origin c.args.desk.now in
+    let old = (g.D.Desk.turn_view c.args.turn.now).seen in
+    let new = (g.D.Desk.turn_view c.take_in.new.turn).seen in
+    subst (λ s. IsSeatOf g.D.Desk.loan g.D.Desk.spent g.W.Work.job origin s new) (sym c.in-Performed.ensures.seat)
+    (seat_ended g.D.Desk.loan g.D.Desk.spent g.W.Work.job origin c.args.seat.now.lane c.args.seat.now.gave_back (g.D.Desk.spent c.in-Performed.spent) old new Commit refl (λ e. refl) (ap (λ v. v.seen) c.take_in.ensures.event)
+    (subst (λ x. IsHolding g.D.Desk.loan g.D.Desk.spent g.W.Work.job origin x c.args.seat.now.lane old) (sym c.in-Performed.ensures.taken) c.requires.seat.holding).0)

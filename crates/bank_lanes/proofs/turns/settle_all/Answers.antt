@@ -1,0 +1,25 @@
+use Rattle.std.proofs.Common.{◌<◌, length, arith}
+use Rattle.std.proofs.lemmas.List.Elements.{AllWithin-more_set}
+use Rattle.bank_lanes.specs.Groups.{IsEmpty, seat_lanes}
+use Rattle.bank_lanes.proofs.GroupSteps.{advance, lane_within}
+use Rattle.bank_lanes.proofs.turns.settle_all.Goals as goal
+
+pub settle-requires-clause-lane : goal.settle-requires-clause-lane
+settle-requires-clause-lane g c = λ κs live.
+    let within : c.loop-at.at < length c.loop-at.seats = omega arith in
+    lane_within g.D.Desk.loan g.D.Desk.spent g.W.Work.job (g.D.Desk.origin c.args.desk.now) _ c.loop-at.seats _ c.loop-at.at c.index-seats-at.result within c.loop-at.invariant.seats
+
+pub loop-at-preserved : goal.loop-at-preserved
+loop-at-preserved g c =
+    let i = c.loop-at.invariant in
+    let within : c.loop-at.at < length c.loop-at.seats = omega arith in
+    let next = advance g.D.Desk.loan g.D.Desk.spent g.W.Work.job (g.D.Desk.origin c.args.desk.now) (seat_lanes c.args.seats.now) _ (g.D.Desk.turn_lanes c.loop-at.turn) (g.D.Desk.turn_lanes c.settle.new.turn) _ (g.D.Desk.turn_view c.loop-at.turn) (g.D.Desk.turn_view c.settle.new.turn)
+    c.loop-at.seats c.loop-at.at c.settle.new.seat c.index-seats-at.result within i.same i.keeps i.seats c.settle.ensures.lanes c.settle.ensures.lane c.settle.ensures.step c.settle.ensures.seat in
+    record {
+      desk = c.settle.ensures.desk;
+      own = c.settle.ensures.step.own;
+      keeps = next.0;
+      same = next.1;
+      seats = next.2;
+      empty = AllWithin-more_set c.loop-at.seats c.loop-at.at c.settle.new.seat within IsEmpty i.empty c.settle.ensures.empty;
+    }

@@ -1,0 +1,96 @@
+-- The seats of a group of lane numbers.
+use Rattle.std.specs.Prelude.{◌≡◌, ◌≢◌, ℕ, ◌<◌, ⊤, Bool, true, false, List, map, length, slice_index_or, All, Some, None}
+use Rattle.bank_law.specs.declared.event.Event.{Event}
+use Rattle.bank_law.specs.Job.{Job}
+use Rattle.bank_law.specs.History.{PassView, own, holds, returns}
+use Rattle.bank_core.specs.declared.origin.Origin.{Origin}
+use Rattle.bank_core.specs.Effects.{effects_seen}
+use Rattle.bank_core.specs.Desks.{LoanView}
+use Rattle.bank_core.specs.Lanes.{is_one_of}
+use Rattle.bank_core.specs.Origins.{AllDoneAfter}
+use Rattle.bank_lanes.specs.Steps.{GrewBy}
+use Rattle.bank_lanes.specs.declared.group.GroupSeat.{GroupSeat}
+use Rattle.bank_lanes.specs.declared.group.Holding.{Holding}
+use Rattle.bank_lanes.specs.declared.group.Holding.TheVariants as what
+use Rattle.bank_lanes.specs.declared.turns.LaneEnd.{LaneEnd}
+use Rattle.bank_lanes.specs.declared.turns.LaneEnd.TheVariants.{Finished, GaveBack}
+use Rattle.bank_lanes.specs.declared.turns.Found.{Found}
+use Rattle.bank_lanes.specs.declared.turns.Found.TheVariants as found
+
+-- lanes of a pass, each once
+pub record AreOwnLanes (lanes mine : List ℕ) : Type 0 where
+  pub within : (k : ℕ) → k < length mine → is_one_of lanes (slice_index_or mine k 0) ≡ true
+  pub apart : (j k : ℕ) → j < length mine → k < length mine
+      → slice_index_or mine j 0 ≡ slice_index_or mine k 0 → j ≡ k
+
+-- one lane went on under a turn
+pub record StepsOn (lane : ℕ) (v w : PassView) : Type 0 where
+  pub lane_is : w.lane ≡ v.lane
+  pub own : w.mine ≡ own w.seen w.lane
+  pub grew : GrewBy lane v.seen w.seen
+
+-- a loan of this origin that the lane holds, which has given nothing back
+pub record IsHeldBy {T : Type 0} (origin : Origin T) (lane : ℕ) (seen : List Event)
+    (loan : LoanView T) : Type 0 where
+  pub lane_is : loan.lane ≡ lane
+  pub origin_is : loan.origin ≡ origin
+  pub held : holds (own seen loan.lane) ≡ Some loan.position
+  pub once : returns (own seen loan.lane) ≡ 0
+
+-- a fact for each thing that a turn may find
+abbrev pub MatchFound : Found → Type 0 → Type 0 → (LaneEnd → Type 0) → Type 0
+MatchFound found.Loan f g h = f
+MatchFound found.Nothing f g h = g
+MatchFound (found.End end) f g h = h end
+
+module _ {L S : Type 0} where
+  -- the lane numbers of seats
+  abbrev pub seat_lanes : List (GroupSeat L S) → List ℕ
+  seat_lanes seats = map (λ seat. seat.lane) seats
+
+  -- nothing is lent to the seat, and it has given nothing back
+  abbrev pub IsEmpty : GroupSeat L S → Type 0
+  IsEmpty seat = seat.holding ≡ what.Nothing
+
+  abbrev pub HasKept : GroupSeat L S → Type 0
+  HasKept seat = seat.gave_back ≡ false
+
+  abbrev pub IsFree : GroupSeat L S → Type 0
+  IsFree seat = IsEmpty seat × HasKept seat
+
+  -- at the end all seats are empty, one gave back only where the end says so, and where it is
+  -- finished all positions are done
+  pub record EndsWell {T : Type 0} (job : T → Job) (origin : Origin T) (end : LaneEnd)
+      (seats : List (GroupSeat L S)) (v : PassView) : Type 0 where
+    pub empty : All IsEmpty seats
+    pub kept : end ≢ GaveBack → All HasKept seats
+    pub done : end ≡ Finished → AllDoneAfter job origin v.seen
+
+  module _ {T : Type 0} (loan : L → LoanView T) (spent : S → LoanView T) (job : T → Job)
+      (origin : Origin T) where
+    -- what a seat holds, if anything, its lane holds by the history; where it is performed, with
+    -- the effects of the work
+    abbrev pub IsHolding : Holding L S → ℕ → List Event → Type 0
+    IsHolding what.Nothing lane seen = holds (own seen lane) ≡ None
+    IsHolding (what.Loan l) lane seen = IsHeldBy origin lane seen (loan l)
+    IsHolding (what.Performed s effects) lane seen =
+        IsHeldBy origin lane seen (spent s)
+        × (effects_seen effects ≡ (job origin.told).effects (spent s).position (spent s).values)
+
+    -- the seat of a lane: its lane has given something back only where it says so
+    pub record IsSeatOf (seat : GroupSeat L S) (seen : List Event) : Type 0 where
+      pub holding : IsHolding seat.holding seat.lane seen
+      pub once : seat.gave_back ≡ false → returns (own seen seat.lane) ≡ 0
+
+    -- seats of lanes of a pass
+    pub record AreSeats (lanes : List ℕ) (seats : List (GroupSeat L S)) (seen : List Event)
+        : Type 0 where
+      pub lanes_are : AreOwnLanes lanes (seat_lanes seats)
+      pub each : (k : ℕ) (d : GroupSeat L S) → k < length seats
+          → IsSeatOf (slice_index_or seats k d) seen
+
+  -- what is lent to the seat is of this origin
+  abbrev pub IsOf : {T : Type 0} → (L → LoanView T) → Origin T → Holding L S → Type 0
+  IsOf loan origin what.Nothing = ⊤
+  IsOf loan origin (what.Loan l) = (loan l).origin ≡ origin
+  IsOf loan origin (what.Performed s effects) = ⊤

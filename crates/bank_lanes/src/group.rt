@@ -1,0 +1,150 @@
+//! The lane numbers of a group: what each of them holds between the turns.
+ghost use Rattle.std.specs.Prelude.{◌≡◌, ℕ, List, All, false};
+ghost use Rattle.bank_law.specs.declared.event.Event.{Event};
+ghost use Rattle.bank_lanes.specs.Groups.{IsEmpty, IsHeldBy, IsHolding, IsOf, IsSeatOf, AreSeats, HasKept, seat_lanes};
+ghost use Rattle.bank_lanes.specs.Passes.{SeesLoans};
+ghost use Rattle.bank_lanes.specs.declared.group.Holding.TheVariants.{Nothing};
+
+use crate::gate::Gate;
+use bank_core::{Desk, Effects, Loan, Work};
+use std::mem;
+
+/// What a lane number holds: nothing, a loan, or one that is performed, with its effects.
+pub(crate) enum Holding<L, S> {
+    Nothing,
+    Loan(L),
+    Performed(S, Effects),
+}
+
+/// A lane number of a group: what it holds, and whether it has given anything back.
+pub(crate) struct GroupSeat<L, S> {
+    pub(crate) lane: u32,
+    pub(crate) holding: Holding<L, S>,
+    pub(crate) gave_back: bool,
+}
+
+impl<L, S> GroupSeat<L, S> {
+    /// The seat of a lane that was lent nothing yet.
+    pub(crate) fn new(lane: u32) -> GroupSeat<L, S>
+        ensures { result ≡ record { lane = lane; holding = Nothing; gave_back = false } }
+    {
+        GroupSeat {
+            lane,
+            holding: Holding::Nothing,
+            gave_back: false,
+        }
+    }
+
+    /// Takes what is held away.
+    pub(crate) fn take(&mut self) -> Holding<L, S>
+        ensures taken { result ≡ self.old.holding }
+        ensures seat { self.new ≡ record self.old { holding = Nothing } }
+    {
+        mem::replace(&mut self.holding, Holding::Nothing)
+    }
+
+    /// Holds something, where nothing is held.
+    pub(crate) fn hold(&mut self, holding: Holding<L, S>)
+        requires { IsEmpty self.old }
+        ensures { self.new ≡ record self.old { holding = holding } }
+    {
+        match mem::replace(&mut self.holding, holding) {
+            Holding::Nothing => {}
+            Holding::Loan(_loan) => unreachable!(),
+            Holding::Performed(_spent, _effects) => unreachable!(),
+        }
+    }
+
+    /// Leaves a seat that holds nothing.
+    pub(crate) fn leave(self)
+        requires { IsEmpty self }
+    {
+        let GroupSeat {
+            lane: _,
+            holding,
+            gave_back: _,
+        } = self;
+        match holding {
+            Holding::Nothing => {}
+            Holding::Loan(_loan) => unreachable!(),
+            Holding::Performed(_spent, _effects) => unreachable!(),
+        }
+    }
+}
+
+/// Passes the gate and performs a loan, whose values are let go then. Where the work finds no memory
+/// the loan stays.
+fn performed<W: Work, D: Desk<W, Loan = Loan<W>>, G: Gate>(
+    desk: &D,
+    loan: Loan<W>,
+    work: &W,
+    gate: &G,
+) -> Holding<Loan<W>, D::Spent>
+    requires loans { SeesLoans D.loan }
+    requires told { (D.origin desk.now).told ≡ W.told work.now }
+    requires of { loan.origin.value ≡ D.origin desk.now }
+    ensures { (lane : ℕ) (seen : List Event)
+        → IsHeldBy (D.origin desk.now) lane seen (D.loan loan)
+        → IsHolding D.loan D.spent W.job (D.origin desk.now) result lane seen }
+{
+    gate.pass(loan.lane(), loan.position());
+    match work.perform(loan.position(), loan.values()) {
+        Ok(effects) => Holding::Performed(desk.spend(loan), effects),
+        Err(_) => Holding::Loan(loan),
+    }
+}
+
+/// The same of the loan in a seat, if there is one.
+fn perform<W: Work, D: Desk<W, Loan = Loan<W>>, G: Gate>(
+    desk: &D,
+    seat: &mut GroupSeat<Loan<W>, D::Spent>,
+    work: &W,
+    gate: &G,
+)
+    requires loans { SeesLoans D.loan }
+    requires told { (D.origin desk.now).told ≡ W.told work.now }
+    requires of { IsOf D.loan (D.origin desk.now) seat.old.holding }
+    ensures lane { seat.new.lane ≡ seat.old.lane }
+    ensures gave_back { seat.new.gave_back ≡ seat.old.gave_back }
+    ensures stays { (seen : List Event)
+        → IsSeatOf D.loan D.spent W.job (D.origin desk.now) seat.old seen
+        → IsSeatOf D.loan D.spent W.job (D.origin desk.now) seat.new seen }
+{
+    match seat.take() {
+        Holding::Nothing => {}
+        Holding::Loan(loan) => seat.hold(performed(desk, loan, work, gate)),
+        Holding::Performed(spent, effects) => seat.hold(Holding::Performed(spent, effects)),
+    }
+}
+
+/// The same of each seat, in their order.
+pub(crate) fn perform_all<W: Work, D: Desk<W, Loan = Loan<W>>, G: Gate>(
+    desk: &D,
+    seats: &mut [GroupSeat<Loan<W>, D::Spent>],
+    work: &W,
+    gate: &G,
+)
+    requires loans { SeesLoans D.loan }
+    requires told { (D.origin desk.now).told ≡ W.told work.now }
+    requires of { All (λ seat. IsOf D.loan (D.origin desk.now) seat.holding) seats.old }
+    requires kept { All HasKept seats.old }
+    ensures same { seat_lanes seats.new ≡ seat_lanes seats.old }
+    ensures kept { All HasKept seats.new }
+    ensures stays { (lanes : List ℕ) (seen : List Event)
+        → AreSeats D.loan D.spent W.job (D.origin desk.now) lanes seats.old seen
+        → AreSeats D.loan D.spent W.job (D.origin desk.now) lanes seats.new seen }
+{
+    for at in 0..seats.len() {
+        perform(desk, &mut seats[at], work, gate);
+    }
+}
+
+/// Leaves seats that hold nothing.
+pub(crate) fn leave_group<L, S>(mut seats: Vec<GroupSeat<L, S>>)
+    requires { All IsEmpty seats.items }
+{
+    while let Some(seat) = seats.pop() {
+        seat.leave();
+    }
+    seats.destroy_empty();
+}

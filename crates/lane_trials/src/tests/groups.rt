@@ -1,0 +1,80 @@
+//! Groups of lanes over a shared desk.
+ghost use Rattle.std.specs.Prelude.{◌≤◌};
+
+use crate::tests::drives::have_units;
+use crate::tests::ends::end_by_groups;
+use crate::tests::gates::MeetingGate;
+use crate::tests::trial::{READ, WRITE, accounts_of_ten, trial_of};
+use crate::tests::watches::watched;
+use bank_lanes::OpenGate;
+use std::alloc::Global;
+use std::process::Abort;
+use std::sync::Wait;
+use std::test::Fail;
+use std::thread::Threads;
+
+const A: &[(u8, bool)] = &[(1, WRITE)];
+
+const B: &[(u8, bool)] = &[(2, WRITE)];
+
+const C: &[(u8, bool)] = &[(3, WRITE)];
+
+const D: &[(u8, bool)] = &[(4, WRITE)];
+
+const E: &[(u8, bool)] = &[(5, WRITE)];
+
+const F: &[(u8, bool)] = &[(6, WRITE)];
+
+/// Six accounts, each written by eight positions, one after the other.
+const CHAINS: [&[(u8, bool)]; 48] = [
+    A, B, C, D, E, F, A, B, C, D, E, F, A, B, C, D, E, F, A, B, C, D, E, F, A, B, C, D, E, F, A, B,
+    C, D, E, F, A, B, C, D, E, F, A, B, C, D, E, F,
+];
+
+/// What each of them finds on its account.
+const FOUND: [u64; 48] = [
+    10, 10, 10, 10, 10, 10, 9, 9, 9, 9, 9, 9, 8, 8, 8, 8, 8, 8, 7, 7, 7, 7, 7, 7, 6, 6, 6, 6, 6, 6,
+    5, 5, 5, 5, 5, 5, 4, 4, 4, 4, 4, 4, 3, 3, 3, 3, 3, 3,
+];
+
+/// How many lanes, and how many to a group.
+const WIDTHS: [(u32, u32); 5] = [(4, 1), (8, 2), (64, 16), (9, 4), (3, 16)];
+
+/// Whether the chains end as the serial run does, 20 times with each width.
+fn chains_end<R: Threads + Wait + Abort + Sync>(rt: &R, alloc: Global) -> Result<bool, Fail> {
+    let trial = trial_of(rt, alloc, &CHAINS)?;
+    for lanes in WIDTHS {
+        for _ in 0..20 {
+            let accounts = accounts_of_ten(rt, alloc, &[1, 2, 3, 4, 5, 6])?;
+            let end = end_by_groups(rt, alloc, accounts, lanes, &trial, &OpenGate)?;
+            if !have_units(&end.outcomes, &FOUND) {
+                return Ok(false);
+            }
+        }
+    }
+    Ok(true)
+}
+
+#[test]
+fn groups_end_as_the_serial_run(rt: HostRuntime) -> Result<(), Fail> {
+    assert!(rt; watched(&rt, || chains_end(&rt, rt.alloc()))?);
+    Ok(())
+}
+
+/// Four positions that wait for nobody.
+const CROWD: [&[(u8, bool)]; 4] = [&[(1, READ)]; 4];
+
+/// Whether four positions are all held at once, by four groups: each leaves the others their share.
+fn groups_meet<R: Threads + Wait + Abort + Sync>(rt: &R, alloc: Global) -> Result<bool, Fail> {
+    let trial = trial_of(rt, alloc, &CROWD)?;
+    let accounts = accounts_of_ten(rt, alloc, &[1])?;
+    let gate = MeetingGate::new(4);
+    let end = end_by_groups(rt, alloc, accounts, (64, 16), &trial, &gate)?;
+    Ok(gate.all_met() && end.outcomes.len() == 4)
+}
+
+#[test]
+fn four_groups_meet(rt: HostRuntime) -> Result<(), Fail> {
+    assert!(rt; watched(&rt, || groups_meet(&rt, rt.alloc()))?);
+    Ok(())
+}
