@@ -18,9 +18,9 @@ use Rattle.sol_base.specs.declared.account.Account.{Account}
 use Rattle.sol_base.specs.Keys.{key_cmp, same_key, has_key}
 use Rattle.sol_base.specs.Accounts.{empty_account}
 use Rattle.sol_base.proofs.KeyLaws.{key_cmp_exact, key_cmp_total, same_cmp, same_key-true, same_key-self, same_key-false}
-use Rattle.account_store.specs.State.{State, IsHeld, IsState, at, entries, get, len, lamports_of, put, remove, sum, kept}
+use Rattle.account_store.specs.State.{State, IsHeld, IsState, at, empty, entries, get, len, lamports_of, put, remove, sum, kept}
 use Rattle.account_store.proofs.EntryLists.{sorted-entries, entries-from_entries}
-use Rattle.account_store.proofs.StateLaws.{same_state, get-put_key, get-remove_key, sum-put, sum-put-le}
+use Rattle.account_store.proofs.StateLaws.{entries-empty, same_state, get-put_key, get-remove_key, sum-put, sum-put-le}
 use Rattle.ledger_store.specs.Changes.{same_account, is_kept, left_by, gone_by, puts, without, with_accounts}
 
 abbrev pub Entry : Type 0
@@ -258,6 +258,21 @@ over_is_with s t is fits =
     let few : sum (puts (entries t) s) ≤ 2 ^ 64 - 1 = omega (arith, sum-puts-le (entries t) s, fits) in
     fits_each (entries t) (without (keys_of (entries t)) s) (sorted-entries key_cmp t) (absent_without (keys_of (entries t)) s (entries t) (λ k h. h)) (subst (λ (u : State). sum u ≤ 2 ^ 64 - 1) (sym (puts_over s t is)) few)
     ∙ ap (λ (u : State). Some u) (puts_over s t is)
+
+-- ---- accounts that are put in where there are none
+not_there : (q : Key) (es : List Entry) → has_key q (keys_of es) ≡ false → find key_cmp q es ≡ None
+not_there q [] out = refl
+not_there q (e ∷ es) out =
+    let parts = or_parts (same_key q e.0) (has_key q (keys_of es)) out in
+    find_at q e es ∙ ap (λ (b : Bool). cond b (Some e.1) (find key_cmp q es)) parts.0 ∙ not_there q es parts.1
+
+-- all accounts of a state give it
+pub puts_all : (s : State) → IsState s → puts (entries s) empty ≡ s
+puts_all s is = same_state (puts (entries s) empty) s (λ q. get-puts s (entries s) empty q (held_in s is) ∙ by_test q (has_key q (keys_of (entries s))) refl)
+  where
+    by_test : (q : Key) (there : Bool) → has_key q (keys_of (entries s)) ≡ there → cond there (get s q) (get empty q) ≡ get s q
+    by_test q true here = refl
+    by_test q false out = get-entries empty q ∙ ap (λ (es : List Entry). find key_cmp q es) entries-empty ∙ sym (get-entries s q ∙ not_there q (entries s) out)
 
 -- ---- the law
 module _ (before after : State) (was : IsState before) (is : IsState after) where

@@ -1,16 +1,14 @@
 -- Lists of accounts as states.
-use Rattle.std.proofs.Common.{◌≡◌, List, [], ◌∷◌, length, Result, Ok, All, sym, ◌∙◌, ap, subst}
+use Rattle.std.proofs.Common.{◌≡◌, List, [], ◌∷◌, length, Result, Ok, All, sym, subst}
 use Rattle.std.specs.List.{AllByRecursion}
 use Rattle.std.specs.FinMap.{from_entries}
 use Rattle.std.proofs.lemmas.List.{length-map}
 use Rattle.std.proofs.lemmas.List.Elements.{All-from_recursion}
 use Rattle.spec_base.specs.Reading.{first_or}
 use Rattle.sol_base.specs.Accounts.{IsShort}
-use Rattle.sol_base.proofs.KeyLaws.{key_cmp_exact, key_cmp_total}
 use Rattle.account_store.specs.declared.sorted.KeyedAccount.{KeyedAccount}
-use Rattle.account_store.specs.State.{State, IsHeld, entries}
+use Rattle.account_store.specs.State.{State, IsHeld}
 use Rattle.account_store.specs.Sorted.{entry_of, entries_of, entry_faults, state_of}
-use Rattle.account_store.proofs.EntryLists.{from_entries-entries}
 use Rattle.ledger_store.proofs.Differences.{Entry}
 
 ok_first : {X E : Type 0} (faults : List E) (x y : X) → first_or faults (let r : Result X E = Ok x in r) ≡ Ok y → y ≡ x
@@ -20,10 +18,6 @@ ok_first (fault ∷ faults) x y h = absurd (cc)
 -- the state that a list gives is that of its entries
 pub given : (list : List KeyedAccount) (s : State) → state_of list ≡ Ok s → s ≡ from_entries (entries_of list)
 given list s h = ok_first (entry_faults (entries_of list)) (from_entries (entries_of list)) s h
-
--- a copy of a state's entries gives the state
-pub given_again : (list : List KeyedAccount) (s copy : State) → entries_of list ≡ entries s → state_of list ≡ Ok copy → copy ≡ s
-given_again list s copy same h = given list copy h ∙ ap (λ (es : List Entry). from_entries es) same ∙ from_entries-entries key_cmp_total key_cmp_exact s
 
 pub length_of : (list : List KeyedAccount) → length (entries_of list) ≡ length list
 length_of list = length-map list entry_of

@@ -1,10 +1,10 @@
 //! Copies of snapshots.
-ghost use Rattle.std.specs.Prelude.{◌≡◌, ◌<◌, ◌^◌, IfOk};
-ghost use Rattle.account_store.specs.State.{IsState, entries, len};
-ghost use Rattle.account_store.specs.Sorted.{entries_of};
+ghost use Rattle.std.specs.Prelude.{◌≡◌, IfOk};
+ghost use Rattle.account_store.specs.State.{IsState};
 ghost use Rattle.snapshot_codec.specs.Snapshot.{IsReadable};
 
-use account_store::{Accounts, KeyedAccount};
+use crate::next::put_over;
+use account_store::Accounts;
 use snapshot_codec::Snapshot;
 use sol_base::{Items, OutOfMemory};
 use status_cache::{Mark, Recent};
@@ -33,33 +33,18 @@ fn copy_recent(alloc: Global, recent: &Recent) -> Result<Recent, OutOfMemory>
     Ok(copy)
 }
 
-fn copy_entries(alloc: Global, accounts: &Accounts) -> Result<Items<KeyedAccount>, OutOfMemory>
-    ensures { IfOk result (λ list. entries_of list ≡ entries accounts.now) }
+/// The same accounts, each shared.
+fn share_accounts(alloc: Global, accounts: &Accounts) -> Result<Accounts, OutOfMemory>
+    requires { IsState accounts.now }
+    ensures { IfOk result (λ shares. shares ≡ accounts.now) }
 {
-    let mut list = Items::with_capacity(alloc, accounts.len())?;
-    let mut rest = accounts.iter();
-    while let Some((key, account)) = rest.next() {
-        list.push(KeyedAccount {
-            key: *key,
-            account: account.try_copy()?,
-        })?;
-    }
-    Ok(list)
+    let mut shares = Accounts::new(alloc);
+    put_over(&mut shares, accounts)?;
+    Ok(shares)
 }
 
-fn copy_accounts(alloc: Global, accounts: &Accounts) -> Result<Accounts, OutOfMemory>
-    requires few { len accounts.now < 2 ^ 32 }
-    requires state { IsState accounts.now }
-    ensures { IfOk result (λ copy. copy ≡ accounts.now) }
-{
-    match Accounts::from_sorted(alloc, copy_entries(alloc, accounts)?) {
-        Ok(copy) => Ok(copy),
-        // The entries are those of a state, so that only memory can be missing.
-        Err(_) => Err(OutOfMemory),
-    }
-}
-
-/// A copy of a snapshot, since a block that is run takes the snapshot before it away.
+/// A copy of a snapshot, since a block that is run takes the snapshot before it away. Its accounts are
+/// shared.
 pub fn copy_snapshot(alloc: Global, snapshot: &Snapshot) -> Result<Snapshot, OutOfMemory>
     requires { IsReadable snapshot.now }
     ensures { IfOk result (λ copy. copy ≡ snapshot.now) }
@@ -68,6 +53,6 @@ pub fn copy_snapshot(alloc: Global, snapshot: &Snapshot) -> Result<Snapshot, Out
         slot: snapshot.slot,
         limits: snapshot.limits,
         recent: copy_recent(alloc, &snapshot.recent)?,
-        accounts: copy_accounts(alloc, &snapshot.accounts)?,
+        accounts: share_accounts(alloc, &snapshot.accounts)?,
     })
 }

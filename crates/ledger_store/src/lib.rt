@@ -15,7 +15,6 @@ mod head;
 mod next;
 mod opening;
 mod place;
-mod reading;
 mod seal;
 mod state;
 mod told;

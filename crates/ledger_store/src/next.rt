@@ -90,7 +90,7 @@ fn put_shared(accounts: &mut Accounts, key: &Key, account: &Arc<Account>) -> Res
 }
 
 /// Puts the accounts in, in place of those that are there.
-fn put_over(accounts: &mut Accounts, others: &Accounts) -> Result<(), OutOfMemory>
+pub(crate) fn put_over(accounts: &mut Accounts, others: &Accounts) -> Result<(), OutOfMemory>
     requires { sum accounts.old + sum others.now ≤ 2 ^ 64 - 1 }
     ensures { OnOk result (accounts.new ≡ puts (entries others.now) accounts.old) }
 {
@@ -138,6 +138,7 @@ pub(crate) fn next_of(
     requires changes { IsReadable changes.now.left }
     requires before { IsReadable before }
     ensures gives { Gives is_ledger_memory (λ s. s) result (next_of slot changes.now before) }
+    ensures slot { IfOk result (λ s. s.slot ≡ changes.now.left.slot) }
     ensures readable { IfOk result IsReadable }
     ensures quiet { NeverFails result }
 {

@@ -68,60 +68,39 @@ impl Promise<bool> for SealOf {
     ghost kept_by = { λ p told. told ≡ is_sealed (arc_value p.0.value) };
 }
 
-/// A file whose hash is looked at in a thread of its own, if one could be made, while the file is read,
-/// or was looked at already.
+/// The file of a full state, whose hash is looked at in a thread of its own, if one could be made, while
+/// the file is read.
 #[derive(Drop)]
 pub(crate) struct Watched {
-    name: Name,
+    slot: u64,
     bytes: Arc<Blob>,
     child: Option<PromisedHandle<bool, SealOf>>,
-    sealed: Option<bool>,
     ghost same: { ForSome child (λ h. arc_value h.promise.0.value ≡ arc_value bytes) },
-    ghost looked: { ForSome sealed (λ told. told ≡ is_sealed (arc_value bytes)) },
 }
 
 impl Watched {
-    /// Begins to look at the hash of a file.
+    /// Begins to look at the hash of the full state of a slot.
     pub(crate) fn begin<T: Threads>(
         threads: &T,
         alloc: Global,
-        name: Name,
+        slot: u64,
         bytes: Blob,
     ) -> Result<Watched, OutOfMemory>
-        ensures name { IfOk result (λ file. file.name ≡ name) }
+        ensures slot { IfOk result (λ file. file.slot ≡ slot) }
         ensures bytes { IfOk result (λ file. arc_value file.bytes ≡ bytes) }
     {
         let bytes = Arc::new(alloc, bytes)?;
         let theirs = Arc::try_clone(&bytes)?;
         let seal = SealOf(Snapshot::of(&theirs));
         let child = thread::spawn_with(threads, seal, move || is_sealed(theirs.as_slice())).ok();
-        Ok(Watched {
-            name,
-            bytes,
-            child,
-            sealed: None,
-        })
+        Ok(Watched { slot, bytes, child })
     }
 
-    /// A file whose hash was looked at.
-    pub(crate) fn seen(name: Name, bytes: Arc<Blob>, sealed: bool) -> Watched
-        requires { sealed ≡ is_sealed (arc_value bytes) }
-        ensures name { result.name ≡ name }
-        ensures bytes { arc_value result.bytes ≡ arc_value bytes }
+    /// The slot of the state.
+    pub(crate) fn slot(&self) -> u64
+        ensures { result ≡ self.now.slot }
     {
-        Watched {
-            name,
-            bytes,
-            child: None,
-            sealed: Some(sealed),
-        }
-    }
-
-    /// What the file is.
-    pub(crate) fn name(&self) -> Name
-        ensures { result ≡ self.now.name }
-    {
-        self.name
+        self.slot
     }
 
     /// The bytes of the file.
@@ -135,16 +114,10 @@ impl Watched {
     pub(crate) fn is_sealed<T: Threads>(self, threads: &T) -> bool
         ensures { result ≡ is_sealed (arc_value self.bytes) }
     {
-        let Watched {
-            bytes,
-            child,
-            sealed,
-            ..
-        } = self;
-        match (child, sealed) {
-            (Some(child), _) => child.join(threads),
-            (None, Some(sealed)) => sealed,
-            (None, None) => is_sealed(bytes.as_slice()),
+        let Watched { bytes, child, .. } = self;
+        match child {
+            Some(child) => child.join(threads),
+            None => is_sealed(bytes.as_slice()),
         }
     }
 }
