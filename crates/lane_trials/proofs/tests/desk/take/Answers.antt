@@ -1,9 +1,13 @@
-use Rattle.std.proofs.Common.{sym, ◌∙◌, ap, arith}
+use Rattle.std.proofs.Common.{◌≡◌, ℕ, Some, sym, ◌∙◌, ap, arith}
 use Rattle.bank_law.specs.declared.event.EventKind.TheVariants.{Grant}
-use Rattle.bank_law.specs.History.{returns}
-use Rattle.bank_law.proofs.Histories.{returns_push}
-use Rattle.bank_lanes.proofs.PassSteps.{lent}
+use Rattle.bank_law.specs.History.{PassView, holds, returns}
+use Rattle.bank_law.proofs.Histories.{holds_push, returns_push}
+use Rattle.bank_core.specs.Desks.{OneMore}
 use Rattle.lane_trials.proofs.tests.desk.take.Goals as goal
+
+-- a lane that was lent a position holds it
+lent : (v w : PassView) (p : ℕ) → OneMore v Grant p w → holds w.mine ≡ Some p
+lent v w p more = ap holds more.mine ∙ holds_push v.mine (record { kind = Grant; lane = v.lane; position = p })
 
 pub returns-in-Loan-clause-loan : goal.returns-in-Loan-clause-loan
 returns-in-Loan-clause-loan g c = (
