@@ -1,35 +1,128 @@
--- What is told of a chain's files while a thread looks at the hash of the full state among them.
-use Rattle.std.proofs.Common.{◌≡◌, ℕ, List, [], ◌∷◌, length, Bool, true, false, MatchBool, Option, None, Some, Result, Ok, Err, refl, sym, ◌∙◌, ap, subst, unwrap_or}
+-- What is told of files whose hashes are looked at beside the reading.
+use Rattle.std.proofs.Common.{◌≡◌, ℕ, List, [], ◌∷◌, ◌++◌, length, Bool, true, false, MatchBool, Option, None, Some, Result, Ok, Err, refl, sym, ◌∙◌, ap, subst, unwrap_or}
 use Rattle.std.specs.Prelude.{if◌then◌else◌, IfOk}
+use Rattle.std.specs.Option.{option_or}
 use Rattle.std.specs.Arc.{arc_value}
+use Rattle.spec_base.specs.Faults.{Rose}
 use Rattle.spec_base.specs.Reading.{◌>>=◌, Gives}
-use Rattle.spec_base.proofs.Binding.{bind_ok, ok_same}
 use Rattle.snapshot_codec.specs.declared.snapshot.Snapshot.{Snapshot}
-use Rattle.snapshot_codec.specs.Snapshot.{IsReadable}
+use Rattle.spec_base.proofs.Binding.{bind_ok, ok_same}
 use Rattle.ledger_folder.specs.declared.event.Event.{Event}
-use Rattle.ledger_folder.specs.declared.name.Name.TheVariants.{State}
+use Rattle.ledger_folder.specs.declared.name.Name.{Name}
+use Rattle.ledger_folder.specs.declared.name.Name.TheVariants.{State, Changes}
 use Rattle.ledger_folder.specs.Files.{Disk, Lists}
 use Rattle.ledger_folder.specs.Crash.{Shows}
 use Rattle.ledger_store.specs.declared.head.Head.{Head}
 use Rattle.ledger_store.specs.declared.fault.LedgerFault.{LedgerFault}
-use Rattle.ledger_store.specs.declared.fault.LedgerFault.TheVariants.{Missing, Damaged}
+use Rattle.ledger_store.specs.declared.fault.LedgerFault.TheVariants.{Failed, Missing, Damaged, SlotNotLater, Exists, OutOfMemory}
 use Rattle.ledger_store.specs.declared.opening.Ledger.{Ledger}
-use Rattle.ledger_store.specs.declared.changes.Changes.{Changes as Changed}
 use Rattle.ledger_store.specs.declared.seal.Watched.{Watched}
-use Rattle.ledger_store.specs.declared.told.ChangesFile.{ChangesFile}
 use Rattle.ledger_store.specs.declared.watching.Opening.{Opening}
-use Rattle.ledger_store.specs.Faults.{found_or, is_failed, is_free, is_ledger_memory}
+use Rattle.ledger_store.specs.Faults.{LedgerCounts, found_or, is_failed, is_free, is_ledger_memory}
 use Rattle.ledger_store.specs.Seal.{body_of, is_sealed, seal_at, unsealed}
 use Rattle.ledger_store.specs.States.{state_from, state_in, whole_state}
-use Rattle.ledger_store.specs.Changes.{changes_in, next_of}
-use Rattle.ledger_store.specs.Told.{AreTold, IsTold}
-use Rattle.ledger_store.specs.Ahead.{files_of, found_in, next_from, stepped_by, told_by, walked_by}
-use Rattle.ledger_store.specs.Opening.{full_before, slot_after, slots_behind, state_after, stepped, walked}
+use Rattle.ledger_store.specs.declared.changes.Changes.{Changes as Changed}
+use Rattle.ledger_store.specs.Changes.{changes_from, next_of, whole_changes}
+use Rattle.ledger_store.specs.Ahead.{files_of, found_in, stepped_by, told_by, walked_by}
+use Rattle.ledger_store.specs.Opening.{full_before, full_state, slot_after, slots_behind, state_after, stepped, walked}
 use Rattle.ledger_store.specs.Reading.{IsOpen, Tells, TellsListed, heading}
-use Rattle.ledger_store.specs.Watching.{IsOpening, finished, refusal, settled, told_unless, unsealed_fault}
+use Rattle.ledger_store.specs.Watching.{IsOpening, finished, first_unsealed, refusal, settled, told_unless, unsealed_fault}
 use Rattle.ledger_store.proofs.Telling.{err_so, err_then, freer, is_open, ok_so}
 
--- ---- files of changes that were told, put in one after the other
+-- ---- the first of several
+or_none : (one : Option LedgerFault) → option_or one None ≡ one
+or_none None = refl
+or_none (Some fault) = refl
+
+or_or : (one two three : Option LedgerFault) → option_or one (option_or two three) ≡ option_or (option_or one two) three
+or_or None two three = refl
+or_or (Some fault) two three = refl
+
+first_push : (files : List Watched) (file : Watched) → first_unsealed (files ++ file ∷ []) ≡ option_or (first_unsealed files) (unsealed_fault file)
+first_push [] file = or_none (unsealed_fault file)
+first_push (one ∷ files) file = ap (option_or (unsealed_fault one)) (first_push files file) ∙ or_or (unsealed_fault one) (first_unsealed files) (unsealed_fault file)
+
+-- the last file is looked at before those that stand before it
+pub first_popped : (all before files : List Watched) (file : Watched) (found : Option LedgerFault) → option_or (first_unsealed before) found ≡ first_unsealed all → before ≡ files ++ file ∷ []
+    → option_or (first_unsealed files) (option_or (unsealed_fault file) found) ≡ first_unsealed all
+first_popped all before files file found same popped =
+    or_or (first_unsealed files) (unsealed_fault file) found
+    ∙ ap (λ (o : Option LedgerFault). option_or o found) (sym (first_push files file))
+    ∙ ap (λ (l : List Watched). option_or (first_unsealed l) found) (sym popped)
+    ∙ same
+
+-- it is damaged
+record IsDamage (fault : LedgerFault) : Type 0 where
+  free : is_free fault ≡ false
+  failed : is_failed fault ≡ false
+
+damage_or : (seal : Bool) (name : Name) (at : ℕ) (rest : Option LedgerFault) (fault : LedgerFault) → (rest ≡ Some fault → IsDamage fault)
+    → option_or (if seal then None else Some (Damaged name at)) rest ≡ Some fault → IsDamage fault
+damage_or true name at rest fault later h = later h
+damage_or false name at rest fault later h =
+    let same : Damaged name at ≡ fault = cc in subst IsDamage same (record { free = refl; failed = refl })
+
+damage : (files : List Watched) (fault : LedgerFault) → first_unsealed files ≡ Some fault → IsDamage fault
+damage [] fault h = absurd (cc)
+damage (file ∷ files) fault h =
+    damage_or (is_sealed (arc_value file.bytes)) file.name (seal_at (arc_value file.bytes)) (first_unsealed files) fault (damage files fault) h
+
+-- so it is no failure of the folder
+pub never_failed : (files : List Watched) (fault : LedgerFault) → first_unsealed files ≡ Some fault → is_failed fault ≡ false
+never_failed files fault h = (damage files fault h).failed
+
+-- ---- what is told where each file ends in its hash
+unless_then : {X Y : Type 0} (first : Option LedgerFault) (told : Result X LedgerFault) (more : X → Result Y LedgerFault) → told_unless first (told >>= more) ≡ (told_unless first told >>= more)
+unless_then None told more = refl
+unless_then (Some fault) told more = refl
+
+pub settled_then : {X Y : Type 0} (files : List Watched) (told : Result X LedgerFault) (more : X → Result Y LedgerFault) → settled files (told >>= more) ≡ (settled files told >>= more)
+settled_then files told more = unless_then (first_unsealed files) told more
+
+unless_or : {X : Type 0} (one two : Option LedgerFault) (told : Result X LedgerFault) → told_unless (option_or one two) told ≡ told_unless one (told_unless two told)
+unless_or None two told = refl
+unless_or (Some fault) two told = refl
+
+settled_push : {X : Type 0} (files : List Watched) (file : Watched) (told : Result X LedgerFault) → settled (files ++ file ∷ []) told ≡ settled files (told_unless (unsealed_fault file) told)
+settled_push {X = X} files file told =
+    ap (λ (first : Option LedgerFault). told_unless {X = X} first told) (first_push files file) ∙ unless_or (first_unsealed files) (unsealed_fault file) told
+
+same_refusal : {X : Type 0} (free : Bool) (told : Result X LedgerFault) → MatchBool free (Unit {0}) (told ≡ told)
+same_refusal true told = tt
+same_refusal false told = refl
+
+unless_gives : {X : Type 0} (first : Option LedgerFault) (told answer : Result X LedgerFault) → Gives is_free (λ x. x) told answer → Gives is_free (λ x. x) (told_unless first told) (told_unless first answer)
+unless_gives None told answer h = h
+unless_gives {X = X} (Some fault) told answer h = same_refusal {X = X} (is_free fault) (Err fault)
+
+-- ---- a file that was read and is looked at
+-- the full state
+sealed_state : (slot : ℕ) (bytes : List ℕ) (seal : Bool) → is_sealed bytes ≡ seal
+    → state_from slot bytes ≡ told_unless (if seal then None else Some (Damaged (State slot) (seal_at bytes))) (whole_state slot (unsealed bytes))
+unfolding state_from body_of
+sealed_state slot bytes true e = rw e refl
+sealed_state slot bytes false e = rw e refl
+
+pub watched_state : (file : Watched) (slot : ℕ) (bytes : List ℕ) (told : Result Snapshot LedgerFault) → file.name ≡ State slot → arc_value file.bytes ≡ bytes
+    → Gives is_ledger_memory (λ s. s) told (whole_state slot (unsealed bytes)) → Gives is_free (λ s. s) (told_unless (unsealed_fault file) told) (state_from slot bytes)
+watched_state file slot bytes told name holds gives =
+    let first : Option LedgerFault = if is_sealed bytes then None else Some (Damaged (State slot) (seal_at bytes)) in
+    let own : unsealed_fault file ≡ first =
+    ap (λ (l : List ℕ). if is_sealed l then None else Some (Damaged file.name (seal_at l))) holds ∙ ap (λ (n : Name). if is_sealed bytes then None else Some (Damaged n (seal_at bytes))) name in
+    subst (λ (o : Option LedgerFault). Gives is_free (λ (s : Snapshot). s) (told_unless o told) (state_from slot bytes)) (sym own)
+    (subst (λ (r : Result Snapshot LedgerFault). Gives is_free (λ (s : Snapshot). s) (told_unless first told) r) (sym (sealed_state slot bytes (is_sealed bytes) refl))
+    (unless_gives first told (whole_state slot (unsealed bytes)) (freer told (whole_state slot (unsealed bytes)) gives)))
+
+-- what a block changed
+abbrev changed : ℕ → List ℕ → Snapshot → Result Snapshot LedgerFault
+changed slot file before = whole_changes slot before.slot (unsealed file) >>= λ changes. next_of slot changes before
+
+sealed_changes : (slot : ℕ) (bytes : List ℕ) (before : Snapshot) (seal : Bool) → is_sealed bytes ≡ seal
+    → (changes_from slot before.slot bytes >>= λ changes. next_of slot changes before) ≡ told_unless (if seal then None else Some (Damaged (Changes slot) (seal_at bytes))) (changed slot bytes before)
+unfolding changes_from body_of
+sealed_changes slot bytes before true e = rw e refl
+sealed_changes slot bytes before false e = rw e refl
+
 -- what follows a call is told by what the call told
 gives_then : {X Y : Type 0} (read answer : Result X LedgerFault) (told : Result Y LedgerFault) (more : X → Result Y LedgerFault)
     → Gives is_ledger_memory (λ x. x) read answer → Gives is_ledger_memory (λ y. y) told (read >>= more) → Gives is_ledger_memory (λ y. y) told (answer >>= more)
@@ -43,153 +136,112 @@ gives_then {X = X} {Y = Y} (Err e) answer (Err f) more h g = by_test (is_ledger_
         let faults : e ≡ f = cc in
         let read : answer ≡ Err e = subst (λ (b : Bool). MatchBool b (Unit {0}) (answer ≡ Err e)) (ap is_ledger_memory faults ∙ is) h in ap (λ (r : Result X LedgerFault). r >>= more) read ∙ same
 
--- the slot of what was told is that of its file
-same_next : (slot : ℕ) (told : Result Changed LedgerFault) (before : Snapshot) → IfOk told (λ changes. changes.left.slot ≡ slot) → next_from told before ≡ (told >>= λ changes. next_of slot changes before)
-same_next slot (Ok changes) before at = ap (λ (n : ℕ). next_of n changes before) at
-same_next slot (Err fault) before at = refl
+pub watched_changes : (file : Watched) (slot : ℕ) (bytes : List ℕ) (before : Snapshot) (read : Result Changed LedgerFault) (told : Result Snapshot LedgerFault) → file.name ≡ Changes slot → arc_value file.bytes ≡ bytes
+    → Gives is_ledger_memory (λ c. c) read (whole_changes slot before.slot (unsealed bytes)) → Gives is_ledger_memory (λ s. s) told (read >>= λ changes. next_of slot changes before)
+    → Gives is_free (λ s. s) (told_unless (unsealed_fault file) told) (stepped_by (slot, Some bytes) before)
+watched_changes file slot bytes before read told name holds gives next =
+    let first : Option LedgerFault = if is_sealed bytes then None else Some (Damaged (Changes slot) (seal_at bytes)) in
+    let own : unsealed_fault file ≡ first =
+    ap (λ (l : List ℕ). if is_sealed l then None else Some (Damaged file.name (seal_at l))) holds ∙ ap (λ (n : Name). if is_sealed bytes then None else Some (Damaged n (seal_at bytes))) name in
+    let whole : stepped_by (slot, Some bytes) before ≡ told_unless first (changed slot bytes before) = sealed_changes slot bytes before (is_sealed bytes) refl in
+    let both : Gives is_ledger_memory (λ (s : Snapshot). s) told (changed slot bytes before) = gives_then read (whole_changes slot before.slot (unsealed bytes)) told (λ changes. next_of slot changes before) gives next in
+    subst (λ (o : Option LedgerFault). Gives is_free (λ (s : Snapshot). s) (told_unless o told) (stepped_by (slot, Some bytes) before)) (sym own)
+    (subst (λ (r : Result Snapshot LedgerFault). Gives is_free (λ (s : Snapshot). s) (told_unless first told) r) (sym whole) (unless_gives first told (changed slot bytes before) (freer told (changed slot bytes before) both)))
 
-told_step : (file : ChangesFile) (told : Result Changed LedgerFault) (before : Snapshot) (result : Result Snapshot LedgerFault) → IsTold before.slot file told
-    → Gives is_ledger_memory (λ s. s) result (next_from told before) → Gives is_ledger_memory (λ s. s) result (stepped_by file before)
-told_step file told before result is gives =
-    gives_then told (changes_in file.slot before.slot file.bytes) result (λ changes. next_of file.slot changes before) is.gives
-    (subst (Gives is_ledger_memory (λ (s : Snapshot). s) result) (same_next file.slot told before is.slot) gives)
+-- a file that is put behind the others
+pub settled_gives : {X : Type 0} (files later : List Watched) (file : Watched) (told answer : Result X LedgerFault) → later ≡ files ++ file ∷ []
+    → Gives is_free (λ x. x) (told_unless (unsealed_fault file) told) answer → Gives is_free (λ x. x) (settled later told) (settled files answer)
+settled_gives {X = X} files later file told answer pushed so =
+    subst (λ (r : Result X LedgerFault). Gives is_free (λ (x : X). x) r (settled files answer)) (sym (ap (λ (l : List Watched). settled l told) pushed ∙ settled_push files file told))
+    (unless_gives (first_unsealed files) (told_unless (unsealed_fault file) told) answer so)
 
--- what is still to be walked, and what was told of it
-pub record IsLeft (files : List ChangesFile) (start : Snapshot) (told : List (Result Changed LedgerFault)) (newest : Snapshot) : Type 0 where
-  pub left : List ChangesFile
-  pub same : walked_by files start ≡ walked_by left newest
-  pub told_of : AreTold newest.slot left told
-  pub readable : IsReadable newest
-
--- the first that was told is told of a file
-pub first_told : (files : List ChangesFile) (start : Snapshot) (told : Result Changed LedgerFault) (rest : List (Result Changed LedgerFault)) (newest : Snapshot) → IsLeft files start (told ∷ rest) newest
-    → (file : ChangesFile) × IsTold newest.slot file told
-first_told files start told rest newest is = by_case is.left is.told_of
-  where
-    by_case : (left : List ChangesFile) → AreTold newest.slot left (told ∷ rest) → (file : ChangesFile) × IsTold newest.slot file told
-    by_case [] are = absurd are
-    by_case (file ∷ left) are = (file, are.0)
-
--- a step that told a snapshot
-pub one_less : (files : List ChangesFile) (start : Snapshot) (told : Result Changed LedgerFault) (rest : List (Result Changed LedgerFault)) (newest next : Snapshot) → IsLeft files start (told ∷ rest) newest
-    → next_from told newest ≡ Ok next → IfOk told (λ changes. next.slot ≡ changes.left.slot) → IsReadable next → IsLeft files start rest next
-one_less files start told rest newest next is gives at readable = by_case is.left told is.same is.told_of gives at
-  where
-    by_case : (left : List ChangesFile) (one : Result Changed LedgerFault) → walked_by files start ≡ walked_by left newest → AreTold newest.slot left (one ∷ rest)
-        → next_from one newest ≡ Ok next → IfOk one (λ changes. next.slot ≡ changes.left.slot) → IsLeft files start rest next
-    by_case [] one same are made at_slot = absurd are
-    by_case (file ∷ left) (Err fault) same are made at_slot = absurd (cc)
-    by_case (file ∷ left) (Ok changes) same are made at_slot = record {
-      left = left;
-      same = same ∙ ap (λ (r : Result Snapshot LedgerFault). r >>= walked_by left) (told_step file (Ok changes) newest (Ok next) are.0 made);
-      told_of = subst (λ (n : ℕ). AreTold n left rest) (sym (at_slot ∙ are.0.slot)) are.1;
-      readable = readable;
-    }
-
--- and one that was refused
-pub walk_refused : (files : List ChangesFile) (start : Snapshot) (told : Result Changed LedgerFault) (rest : List (Result Changed LedgerFault)) (newest : Snapshot) (fault : LedgerFault) → IsLeft files start (told ∷ rest) newest
-    → Gives is_ledger_memory (λ s. s) (let r : Result Snapshot LedgerFault = Err fault in r) (next_from told newest) → Gives is_ledger_memory (λ s. s) (let r : Result Snapshot LedgerFault = Err fault in r) (walked_by files start)
-walk_refused files start told rest newest fault is gives = by_case is.left is.same is.told_of
-  where
-    by_case : (left : List ChangesFile) → walked_by files start ≡ walked_by left newest → AreTold newest.slot left (told ∷ rest) → MatchBool (is_ledger_memory fault) (Unit {0}) (walked_by files start ≡ Err fault)
-    by_case [] same are = absurd are
-    by_case (file ∷ left) same are =
-        subst (λ (r : Result Snapshot LedgerFault). MatchBool (is_ledger_memory fault) (Unit {0}) (r ≡ Err fault)) (sym same)
-        (err_then (is_ledger_memory fault) fault (stepped_by file newest) (walked_by left) (told_step file told newest (Err fault) are.0 gives))
-
--- nothing is left
-pub walk_done : (files : List ChangesFile) (start newest : Snapshot) → IsLeft files start [] newest → walked_by files start ≡ Ok newest
-walk_done files start newest is = by_case is.left is.same is.told_of
-  where
-    by_case : (left : List ChangesFile) → walked_by files start ≡ walked_by left newest → AreTold newest.slot left [] → walked_by files start ≡ Ok newest
-    by_case [] same are = same
-    by_case (file ∷ left) same are = absurd are
-
--- ---- a full state whose hash is looked at
--- that it is damaged is no failure of the folder
-pub never_failed : (full : Watched) (fault : LedgerFault) → unsealed_fault full ≡ Some fault → is_failed fault ≡ false
-never_failed full fault h =
-    let bytes : List ℕ = arc_value full.bytes in by_test (is_sealed bytes) (seal_at bytes) h
-  where
-    by_test : (seal : Bool) (at : ℕ) → (if seal then None else Some (Damaged (State full.slot) at)) ≡ Some fault → is_failed fault ≡ false
-    by_test true at told = absurd (cc)
-    by_test false at told =
-        let same : Damaged (State full.slot) at ≡ fault = cc in subst (λ (e : LedgerFault). is_failed e ≡ false) same refl
-
-unless_then : {X Y : Type 0} (first : Option LedgerFault) (told : Result X LedgerFault) (more : X → Result Y LedgerFault) → (told_unless first told >>= more) ≡ told_unless first (told >>= more)
-unless_then None told more = refl
-unless_then (Some fault) told more = refl
-
-same_refusal : {X : Type 0} (free : Bool) (told : Result X LedgerFault) → MatchBool free (Unit {0}) (told ≡ told)
-same_refusal true told = tt
-same_refusal false told = refl
-
-unless_gives : {X : Type 0} (first : Option LedgerFault) (told answer : Result X LedgerFault) → Gives is_free (λ x. x) told answer → Gives is_free (λ x. x) (told_unless first told) (told_unless first answer)
-unless_gives None told answer h = h
-unless_gives {X = X} (Some fault) told answer h = same_refusal {X = X} (is_free fault) (Err fault)
-
-sealed_state : (slot : ℕ) (bytes : List ℕ) (seal : Bool) → is_sealed bytes ≡ seal
-    → state_from slot bytes ≡ told_unless (if seal then None else Some (Damaged (State slot) (seal_at bytes))) (whole_state slot (unsealed bytes))
-unfolding state_from body_of
-sealed_state slot bytes true e = rw e refl
-sealed_state slot bytes false e = rw e refl
+-- a refusal with which no file was put behind the others
+pub settled_same : {X : Type 0} (files later : List Watched) (told answer : Result X LedgerFault) → later ≡ files → Gives is_free (λ x. x) told answer → Gives is_free (λ x. x) (settled later told) (settled files answer)
+settled_same {X = X} files later told answer same h =
+    subst (λ (l : List Watched). Gives is_free (λ (x : X). x) (settled l told) (settled files answer)) (sym same) (unless_gives (first_unsealed files) told answer h)
 
 then_same : {X Y : Type 0} (read : Result X LedgerFault) (f g : X → Result Y LedgerFault) → ((x : X) → f x ≡ g x) → (read >>= f) ≡ (read >>= g)
 then_same (Ok x) f g h = h x
 then_same (Err e) f g h = refl
 
 -- the files of what blocks changed come to what is walked
-walked_same : (disk : Disk) (slots : List ℕ) (before : Snapshot) → walked_by (files_of disk slots) before ≡ walked disk slots before
+pub walked_same : (disk : Disk) (slots : List ℕ) (before : Snapshot) → walked_by (files_of disk slots) before ≡ walked disk slots before
 walked_same disk [] before = refl
 walked_same disk (slot ∷ slots) before = then_same (stepped disk slot before) (walked_by (files_of disk slots)) (walked disk slots) (walked_same disk slots)
 
--- what the files come to, where the full state ends in its hash
-settled_gives : (full : Watched) (slot : ℕ) (bytes : List ℕ) (files : List ChangesFile) (result : Result Snapshot LedgerFault) → full.slot ≡ slot → arc_value full.bytes ≡ bytes
-    → Gives is_ledger_memory (λ s. s) result (told_by slot bytes files) → Gives is_free (λ s. s) (settled full result) (state_from slot bytes >>= walked_by files)
-settled_gives full slot bytes files result at holds gives =
-    let first : Option LedgerFault = if is_sealed bytes then None else Some (Damaged (State slot) (seal_at bytes)) in
-    let own : unsealed_fault full ≡ first =
-    ap (λ (l : List ℕ). if is_sealed l then None else Some (Damaged (State full.slot) (seal_at l))) holds ∙ ap (λ (n : ℕ). if is_sealed bytes then None else Some (Damaged (State n) (seal_at bytes))) at in
-    let whole : (state_from slot bytes >>= walked_by files) ≡ told_unless first (told_by slot bytes files) =
-    ap (λ (r : Result Snapshot LedgerFault). r >>= walked_by files) (sealed_state slot bytes (is_sealed bytes) refl) ∙ unless_then first (whole_state slot (unsealed bytes)) (walked_by files) in
-    subst (λ (o : Option LedgerFault). Gives is_free (λ (s : Snapshot). s) (told_unless o result) (state_from slot bytes >>= walked_by files)) (sym own)
-    (subst (λ (r : Result Snapshot LedgerFault). Gives is_free (λ (s : Snapshot). s) (told_unless first result) r) (sym whole) (unless_gives first result (told_by slot bytes files) (freer result (told_by slot bytes files) gives)))
+-- ---- one call after another
+exact_unless : {X : Type 0} (first : Option LedgerFault) (x : X) (answer : Result X LedgerFault) → ((fault : LedgerFault) → first ≡ Some fault → is_free fault ≡ false)
+    → Gives is_free (λ x. x) (told_unless first (Ok x)) answer → answer ≡ told_unless first (Ok x)
+exact_unless None x answer never h = h
+exact_unless (Some fault) x answer never h = subst (λ (b : Bool). MatchBool b (Unit {0}) (answer ≡ Err fault)) (never fault refl) h
+
+-- a value is told exactly
+pub exact_settled : {X : Type 0} (files : List Watched) (x : X) (answer : Result X LedgerFault) → Gives is_free (λ x. x) (settled files (Ok x)) answer → answer ≡ settled files (Ok x)
+exact_settled files x answer h = exact_unless (first_unsealed files) x answer (λ fault e. (damage files fault e).free) h
+
+-- what follows a call that told a value
+pub more_settled : {X Y : Type 0} (before after : List Watched) (x : X) (answer : Result X LedgerFault) (more : X → Result Y LedgerFault) → Gives is_free (λ x. x) (settled after (Ok x)) (settled before answer)
+    → settled before (answer >>= more) ≡ settled after (more x)
+more_settled {X = X} {Y = Y} before after x answer more h =
+    settled_then before answer more ∙ ap (λ (r : Result X LedgerFault). r >>= more) (exact_settled after x (settled before answer) h) ∙ sym (settled_then {X = X} after (Ok x) more)
+
+stays_unless : {X Y : Type 0} (first : Option LedgerFault) (fault : LedgerFault) (answer : Result X LedgerFault) (more : X → Result Y LedgerFault) → Gives is_free (λ x. x) (told_unless {X = X} first (Err fault)) answer
+    → Gives is_free (λ y. y) (told_unless {X = Y} first (Err fault)) (answer >>= more)
+stays_unless None fault answer more h = err_then (is_free fault) fault answer more h
+stays_unless (Some other) fault answer more h = err_then (is_free other) other answer more h
+
+-- and one that was refused
+pub stays_settled : {X Y : Type 0} (before after : List Watched) (fault : LedgerFault) (answer : Result X LedgerFault) (more : X → Result Y LedgerFault)
+    → Gives is_free (λ x. x) (settled {X = X} after (Err fault)) (settled before answer) → Gives is_free (λ y. y) (settled {X = Y} after (Err fault)) (settled before (answer >>= more))
+stays_settled {X = X} {Y = Y} before after fault answer more h =
+    subst (λ (r : Result Y LedgerFault). Gives is_free (λ (y : Y). y) (settled {X = Y} after (Err fault)) r) (sym (settled_then before answer more))
+    (stays_unless {X = X} {Y = Y} (first_unsealed after) fault (settled before answer) more h)
 
 -- the files of a state and of what is behind it, and what they come to
-pub tells_beside : (old new : List Event) (head : Head) (count : ℕ) (full : Watched) (files : List ChangesFile) (result : Result Snapshot LedgerFault)
-    → ((disk : Disk) → Shows new disk → Shows old disk × (found_in disk (slot_after head (full_before head.every count)) (slots_behind head count) ≡ Ok (arc_value full.bytes, files)))
-    → full.slot ≡ slot_after head (full_before head.every count) → Gives is_ledger_memory (λ s. s) result (told_by full.slot (arc_value full.bytes) files)
-    → Tells old new (settled full result) (λ disk. state_after disk head count)
+pub tells_beside : (files later : List Watched) (old new : List Event) (head : Head) (count slot : ℕ) (slots : List ℕ) (found : List ℕ × List (ℕ × Option (List ℕ))) (result : Result Snapshot LedgerFault)
+    → ((disk : Disk) → Shows new disk → Shows old disk × (found_in disk slot slots ≡ Ok found)) → Gives is_free (λ s. s) (settled later result) (settled files (told_by slot found.0 found.1))
+    → slot ≡ slot_after head (full_before head.every count) → slots ≡ slots_behind head count → Tells old new (settled later result) (λ disk. settled files (state_after disk head count))
 unfolding state_after
-tells_beside old new head count full files result first at told disk shows =
-    let slot = slot_after head (full_before head.every count) in
-    let slots = slots_behind head count in
-    let bytes : List ℕ = arc_value full.bytes in
+tells_beside files later old new head count slot slots found result first told at behind disk shows =
     let f = first disk shows in
-    let parts = bind_ok (found_or (Missing (State slot)) (disk (State slot))) (λ b. let r : Result (List ℕ × List ChangesFile) LedgerFault = Ok (b, files_of disk slots) in r) (bytes, files) f.1 in
-    let both : (let x : List ℕ × List ChangesFile = (parts.0, files_of disk slots) in x) ≡ (bytes, files) = ok_same {E = LedgerFault} (parts.0, files_of disk slots) (bytes, files) parts.2 in
-    let here : (state_in slot (disk (State slot)) >>= walked disk slots) ≡ (state_from slot bytes >>= walked_by files) =
+    let parts = bind_ok (found_or (Missing (State slot)) (disk (State slot))) (λ full. let r : Result (List ℕ × List (ℕ × Option (List ℕ))) LedgerFault = Ok (full, files_of disk slots) in r) found f.1 in
+    let both : (let x : List ℕ × List (ℕ × Option (List ℕ)) = (parts.0, files_of disk slots) in x) ≡ found = ok_same {E = LedgerFault} (parts.0, files_of disk slots) found parts.2 in
+    let here : (state_in slot (disk (State slot)) >>= walked disk slots) ≡ told_by slot found.0 found.1 =
     ap (λ (r : Result (List ℕ) LedgerFault). (r >>= state_from slot) >>= walked disk slots) parts.1
     ∙ sym (then_same (state_from slot parts.0) (walked_by (files_of disk slots)) (walked disk slots) (walked_same disk slots))
-    ∙ ap (λ (x : List ℕ × List ChangesFile). state_from slot x.0 >>= walked_by x.1) both in
-    let gives = subst (λ (n : ℕ). Gives is_ledger_memory (λ (s : Snapshot). s) result (told_by n bytes files)) at told in
-    (f.0, subst (λ (r : Result Snapshot LedgerFault). Gives is_free (λ (s : Snapshot). s) (settled full result) r) (sym here) (settled_gives full slot bytes files result at refl gives))
+    ∙ ap (λ (x : List ℕ × List (ℕ × Option (List ℕ))). told_by slot x.0 x.1) both in
+    let given = subst (λ (r : Result Snapshot LedgerFault). Gives is_free (λ (s : Snapshot). s) (settled later result) (settled files r)) (sym here) told in (
+      f.0,
+      subst (λ (l : List ℕ). Gives is_free (λ (x : Snapshot). x) (settled later result) (settled files (full_state disk head count >>= walked disk l))) behind
+          (subst (λ (n : ℕ). Gives is_free (λ (x : Snapshot). x) (settled later result) (settled files (state_in n (disk (State n)) >>= walked disk slots))) at given),
+    )
 
 -- files that are not there to be read
-pub tells_refused : (old new : List Event) (head : Head) (count : ℕ) (fault : LedgerFault)
-    → ((disk : Disk) → Shows new disk → Shows old disk × Gives is_free (λ x. x) (let r : Result (List ℕ × List ChangesFile) LedgerFault = Err fault in r) (found_in disk (slot_after head (full_before head.every count)) (slots_behind head count)))
-    → Tells {X = Snapshot} old new (Err fault) (λ disk. state_after disk head count)
+pub tells_refused : (files later : List Watched) (old new : List Event) (head : Head) (count slot : ℕ) (slots : List ℕ) (fault : LedgerFault) → later ≡ files
+    → ((disk : Disk) → Shows new disk → Shows old disk × Gives is_free (λ x. x) (let r : Result (List ℕ × List (ℕ × Option (List ℕ))) LedgerFault = Err fault in r) (found_in disk slot slots))
+    → slot ≡ slot_after head (full_before head.every count) → Tells old new (settled {X = Snapshot} later (Err fault)) (λ disk. settled files (state_after disk head count))
 unfolding state_after
-tells_refused old new head count fault first disk shows =
-    let slot = slot_after head (full_before head.every count) in
+tells_refused files later old new head count slot slots fault same first at disk shows =
     let f = first disk shows in
-    let refused = not_found (slots_behind head count) disk (is_free fault) (found_or (Missing (State slot)) (disk (State slot))) f.1 in
-    (f.0, err_then (is_free fault) fault (state_in slot (disk (State slot))) (walked disk (slots_behind head count)) (err_then (is_free fault) fault (found_or (Missing (State slot)) (disk (State slot))) (state_from slot) refused))
+    let refused : MatchBool (is_free fault) (Unit {0}) (found_or (Missing (State slot)) (disk (State slot)) ≡ Err fault) = not_found (is_free fault) (found_or (Missing (State slot)) (disk (State slot))) f.1 in
+    let here : MatchBool (is_free fault) (Unit {0}) ((state_in slot (disk (State slot)) >>= walked disk (slots_behind head count)) ≡ Err fault) =
+    err_then (is_free fault) fault (state_in slot (disk (State slot))) (walked disk (slots_behind head count)) (err_then (is_free fault) fault (found_or (Missing (State slot)) (disk (State slot))) (state_from slot) refused) in (
+      f.0,
+      settled_same {X = Snapshot} files later (Err fault) (state_after disk head count) same
+          (subst (λ (n : ℕ). MatchBool (is_free fault) (Unit {0}) ((state_in n (disk (State n)) >>= walked disk (slots_behind head count)) ≡ Err fault)) at here),
+    )
   where
-    not_found : (slots : List ℕ) (d : Disk) (free : Bool) (read : Result (List ℕ) LedgerFault) → MatchBool free (Unit {0}) ((read >>= λ b. let r : Result (List ℕ × List ChangesFile) LedgerFault = Ok (b, files_of d slots) in r) ≡ Err fault) → MatchBool free (Unit {0}) (read ≡ Err fault)
-    not_found slots d true read h = tt
-    not_found slots d false (Ok full) h = absurd (cc)
-    not_found slots d false (Err e) h = let e_is : e ≡ fault = cc in ap (λ (x : LedgerFault). let r : Result (List ℕ) LedgerFault = Err x in r) e_is
+    not_found : (free : Bool) (read : Result (List ℕ) LedgerFault) → MatchBool free (Unit {0}) ((read >>= λ full. let r : Result (List ℕ × List (ℕ × Option (List ℕ))) LedgerFault = Ok (full, files_of disk slots) in r) ≡ Err fault) → MatchBool free (Unit {0}) (read ≡ Err fault)
+    not_found true read h = tt
+    not_found false (Ok full) h = absurd (cc)
+    not_found false (Err e) h = let e_is : e ≡ fault = cc in ap (λ (x : LedgerFault). let r : Result (List ℕ) LedgerFault = Err x in r) e_is
+
+-- no file was read before
+pub tells_alone : (files later : List Watched) (old new : List Event) (head : Head) (count : ℕ) (result : Result Snapshot LedgerFault) → files ≡ [] → count ≡ length head.slots
+    → Tells old new (settled later result) (λ disk. settled files (state_after disk head count)) → Tells old new (settled later result) (λ disk. state_after disk head (length head.slots))
+tells_alone files later old new head count result none all told =
+    subst (λ (l : List Watched). Tells old new (settled later result) (λ disk. settled l (state_after disk head (length head.slots)))) none
+    (subst (λ (n : ℕ). Tells old new (settled later result) (λ disk. settled files (state_after disk head n))) all told)
 
 -- ---- a chain that is opened
 so_unless : (first : Option LedgerFault) (head : Head) (newest : Snapshot) (answer : Result Snapshot LedgerFault) → Gives is_free (λ x. x) (told_unless first (Ok newest)) answer
@@ -197,27 +249,40 @@ so_unless : (first : Option LedgerFault) (head : Head) (newest : Snapshot) (answ
 so_unless None head newest answer h = ok_so head newest answer h
 so_unless (Some fault) head newest answer h = err_so head fault answer h
 
-pub so_settled : (full : Watched) (head : Head) (newest : Snapshot) (answer : Result Snapshot LedgerFault) → Gives is_free (λ x. x) (settled full (Ok newest)) answer
-    → Gives is_free (λ x. x) (settled {X = Ledger} full (Ok (record { head = head; newest = newest }))) (answer >>= λ newest. Ok (record { head = head; newest = newest }))
-so_settled full head newest answer h = so_unless (unsealed_fault full) head newest answer h
+pub so_settled : (files : List Watched) (head : Head) (newest : Snapshot) (answer : Result Snapshot LedgerFault) → Gives is_free (λ x. x) (settled files (Ok newest)) answer
+    → Gives is_free (λ x. x) (settled {X = Ledger} files (Ok (record { head = head; newest = newest }))) (answer >>= λ newest. Ok (record { head = head; newest = newest }))
+so_settled files head newest answer h = so_unless (first_unsealed files) head newest answer h
 
-refusal_unless : (first : Option LedgerFault) (fault : LedgerFault) (head : Head) (answer : Result Snapshot LedgerFault) → Gives is_free (λ x. x) (told_unless {X = Snapshot} first (Err fault)) answer
-    → Gives is_free (λ x. x) (let r : Result Ledger LedgerFault = Err (unwrap_or first fault) in r) (answer >>= λ newest. Ok (record { head = head; newest = newest }))
-refusal_unless None fault head answer h = err_so head fault answer h
-refusal_unless (Some other) fault head answer h = err_so head other answer h
+failure_is_free : {X : Type 0} (fault : LedgerFault) (answer : Result X LedgerFault) → is_failed fault ≡ true → Gives {X = X} is_free (λ x. x) (Err fault) answer
+failure_is_free Failed answer h = tt
+failure_is_free (Missing name) answer h = absurd (cc)
+failure_is_free (Damaged name at) answer h = absurd (cc)
+failure_is_free SlotNotLater answer h = absurd (cc)
+failure_is_free Exists answer h = absurd (cc)
+failure_is_free OutOfMemory answer h = absurd (cc)
+
+refusal_unless : (first : Option LedgerFault) (failed : Bool) (fault : LedgerFault) (head : Head) (answer : Result Snapshot LedgerFault) → is_failed fault ≡ failed
+    → Gives is_free (λ x. x) (told_unless {X = Snapshot} first (Err fault)) answer
+    → Gives is_free (λ x. x) (let r : Result Ledger LedgerFault = Err (if failed then fault else unwrap_or first fault) in r) (answer >>= λ newest. Ok (record { head = head; newest = newest }))
+refusal_unless first true fault head answer e h = failure_is_free fault (answer >>= λ newest. Ok (record { head = head; newest = newest })) e
+refusal_unless None false fault head answer e h = err_so head fault answer h
+refusal_unless (Some other) false fault head answer e h = err_so head other answer h
 
 -- a refusal of the chain
-pub so_refused : (full : Watched) (head : Head) (fault : LedgerFault) (answer : Result Snapshot LedgerFault) → Gives is_free (λ x. x) (settled {X = Snapshot} full (Err fault)) answer
-    → Gives is_free (λ x. x) (let r : Result Ledger LedgerFault = Err (refusal full fault) in r) (answer >>= λ newest. Ok (record { head = head; newest = newest }))
-so_refused full head fault answer h = refusal_unless (unsealed_fault full) fault head answer h
+pub so_refused : (files : List Watched) (head : Head) (fault : LedgerFault) (answer : Result Snapshot LedgerFault) → Gives is_free (λ x. x) (settled {X = Snapshot} files (Err fault)) answer
+    → Gives is_free (λ x. x) (let r : Result Ledger LedgerFault = Err (refusal files fault) in r) (answer >>= λ newest. Ok (record { head = head; newest = newest }))
+so_refused files head fault answer h = refusal_unless (first_unsealed files) (is_failed fault) fault head answer refl h
 
--- which is no failure of the folder
-pub refusal_never : (full : Watched) (fault : LedgerFault) → is_failed fault ≡ false → is_failed (refusal full fault) ≡ false
-refusal_never full fault quiet = by_case (unsealed_fault full) (λ other e. never_failed full other e)
-  where
-    by_case : (first : Option LedgerFault) → ((other : LedgerFault) → first ≡ Some other → is_failed other ≡ false) → is_failed (unwrap_or first fault) ≡ false
-    by_case None never = quiet
-    by_case (Some other) never = never other refl
+counts_unless : (first : Option LedgerFault) (failed : Bool) (fault : LedgerFault) (old new : ℕ) → ((other : LedgerFault) → first ≡ Some other → is_failed other ≡ false) → is_failed fault ≡ failed
+    → LedgerCounts {A = Snapshot} (Err fault) old new → LedgerCounts {A = Ledger} (Err (if failed then fault else unwrap_or first fault)) old new
+counts_unless first true fault old new never e counts = counts
+counts_unless None false fault old new never e counts = counts
+counts_unless (Some other) false fault old new never e counts =
+    subst (λ (b : Bool). MatchBool b (Rose old new) (new ≡ old)) (sym (never other refl)) (subst (λ (b : Bool). MatchBool b (Rose old new) (new ≡ old)) e counts)
+
+-- the count of failures after it
+pub refusal_counts : (files : List Watched) (fault : LedgerFault) (old new : ℕ) → LedgerCounts {A = Snapshot} (Err fault) old new → LedgerCounts {A = Ledger} (Err (refusal files fault)) old new
+refusal_counts files fault old new counts = counts_unless (first_unsealed files) (is_failed fault) fault old new (λ other e. (damage files other e).failed) refl counts
 
 opening_unless : (first : Option LedgerFault) (old mid new : List Event) (head : Head) (newest : Snapshot) → TellsListed old mid (Ok head) heading → ((disk : Disk) → Shows mid disk → Lists disk head.slots)
     → Tells mid new (told_unless first (Ok newest)) (λ disk. state_after disk head (length head.slots)) → (ledger : Ledger)
@@ -227,10 +292,10 @@ opening_unless None old mid new head newest told listed second ledger done =
 opening_unless (Some fault) old mid new head newest told listed second ledger done = absurd (cc)
 
 -- once it is finished it is open
-pub is_opening : (full : Watched) (old mid new : List Event) (head : Head) (newest : Snapshot) → TellsListed old mid (Ok head) heading → ((disk : Disk) → Shows mid disk → Lists disk head.slots)
-    → Tells mid new (settled full (Ok newest)) (λ disk. state_after disk head (length head.slots)) → (ledger : Ledger)
-    → settled full (Ok (record { head = head; newest = newest })) ≡ Ok ledger → IsOpen new ledger
-is_opening full old mid new head newest told listed second ledger done = opening_unless (unsealed_fault full) old mid new head newest told listed second ledger done
+pub is_opening : (files : List Watched) (old mid new : List Event) (head : Head) (newest : Snapshot) → TellsListed old mid (Ok head) heading → ((disk : Disk) → Shows mid disk → Lists disk head.slots)
+    → Tells mid new (settled files (Ok newest)) (λ disk. state_after disk head (length head.slots)) → (ledger : Ledger)
+    → settled files (Ok (record { head = head; newest = newest })) ≡ Ok ledger → IsOpen new ledger
+is_opening files old mid new head newest told listed second ledger done = opening_unless (first_unsealed files) old mid new head newest told listed second ledger done
 
 pub is_open_finished : (events : List Event) (opening : Opening) (result : Result Ledger LedgerFault) → result ≡ finished opening → IsOpening events opening → IfOk result (IsOpen events)
 is_open_finished events opening (Ok ledger) same opens = opens ledger (sym same)

@@ -1,5 +1,6 @@
--- Files of what blocks changed, which a thread reads while the full state before them is read.
-use Rattle.std.specs.Prelude.{ℕ, List, [], ◌∷◌, map, Result, Ok}
+-- Files of what blocks changed, which threads read while others are read and put in.
+use Rattle.std.specs.Prelude.{ℕ, List, [], ◌∷◌, map, Option, None, Some, Result, Ok}
+use Rattle.std.specs.Arc.{arc_value}
 use Rattle.spec_base.specs.Reading.{◌>>=◌}
 use Rattle.snapshot_codec.specs.declared.snapshot.Snapshot.{Snapshot}
 use Rattle.ledger_folder.specs.Files.{Disk}
@@ -7,41 +8,42 @@ use Rattle.ledger_folder.specs.declared.name.Name.TheVariants.{State, Changes}
 use Rattle.ledger_store.specs.declared.fault.LedgerFault.{LedgerFault}
 use Rattle.ledger_store.specs.declared.fault.LedgerFault.TheVariants.{Missing}
 use Rattle.ledger_store.specs.declared.changes.Changes.{Changes as Changed}
-use Rattle.ledger_store.specs.declared.told.ChangesFile.{ChangesFile}
+use Rattle.ledger_store.specs.declared.ahead.Ahead.{Ahead}
+use Rattle.ledger_store.specs.declared.ahead.Ahead.TheVariants as ahead
 use Rattle.ledger_store.specs.Faults.{found_or}
-use Rattle.ledger_store.specs.Seal.{unsealed}
-use Rattle.ledger_store.specs.States.{whole_state}
+use Rattle.ledger_store.specs.States.{state_from}
 use Rattle.ledger_store.specs.Changes.{changes_in, next_of}
 
--- the file of what the block of a slot changed
-abbrev pub file_of : Disk → ℕ → ChangesFile
-file_of disk slot = record { slot = slot; bytes = disk (Changes slot) }
+-- the slot of a block, and the file of what it changed
+abbrev pub seen : Ahead → ℕ × Option (List ℕ)
+seen (ahead.Missing slot) = (slot, None)
+seen (ahead.Found reading) = (reading.slot, Some (arc_value reading.bytes))
 
--- and those of what several blocks changed
-abbrev pub files_of : Disk → List ℕ → List ChangesFile
-files_of disk slots = map (file_of disk) slots
+-- the files of what several blocks changed
+abbrev pub files_of : Disk → List ℕ → List (ℕ × Option (List ℕ))
+files_of disk slots = map (λ slot. (slot, disk (Changes slot))) slots
 
 -- the snapshot after a block, from the one before it and the file of what the block changed
-abbrev pub stepped_by : ChangesFile → Snapshot → Result Snapshot LedgerFault
+abbrev pub stepped_by : ℕ × Option (List ℕ) → Snapshot → Result Snapshot LedgerFault
 stepped_by file before = do
-  changes ← changes_in file.slot before.slot file.bytes
-  next_of file.slot changes before
+  changes ← changes_in file.0 before.slot file.1
+  next_of file.0 changes before
 
 -- the same from what was told of the file
-abbrev pub next_from : Result Changed LedgerFault → Snapshot → Result Snapshot LedgerFault
-next_from told before = told >>= λ changes. next_of changes.left.slot changes before
+abbrev pub next_from : ℕ → Result Changed LedgerFault → Snapshot → Result Snapshot LedgerFault
+next_from slot told before = told >>= λ changes. next_of slot changes before
 
 -- the snapshot after several blocks
-abbrev pub walked_by : List ChangesFile → Snapshot → Result Snapshot LedgerFault
+abbrev pub walked_by : List (ℕ × Option (List ℕ)) → Snapshot → Result Snapshot LedgerFault
 walked_by [] before = Ok before
 walked_by (file ∷ files) before = stepped_by file before >>= walked_by files
 
 -- the file of a full state, and the files of what the blocks behind it changed
-abbrev pub found_in : Disk → ℕ → List ℕ → Result (List ℕ × List ChangesFile) LedgerFault
+abbrev pub found_in : Disk → ℕ → List ℕ → Result (List ℕ × List (ℕ × Option (List ℕ))) LedgerFault
 found_in disk slot slots = do
   full ← found_or (Missing (State slot)) (disk (State slot))
   Ok (full, files_of disk slots)
 
--- the snapshot that they come to, whatever the hash is that the full state's file ends in
-abbrev pub told_by : ℕ → List ℕ → List ChangesFile → Result Snapshot LedgerFault
-told_by slot full files = whole_state slot (unsealed full) >>= walked_by files
+-- the snapshot that they come to
+abbrev pub told_by : ℕ → List ℕ → List (ℕ × Option (List ℕ)) → Result Snapshot LedgerFault
+told_by slot full files = state_from slot full >>= walked_by files

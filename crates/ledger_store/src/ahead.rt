@@ -1,109 +1,141 @@
-//! Files of what blocks changed, which a thread reads while the full state before them is read.
-ghost use Rattle.std.specs.Prelude.{◌≡◌, IfOk, Ok};
+//! Files of what blocks changed, each read by a thread of its own while others are read and put in.
+ghost use Rattle.std.specs.Prelude.{◌≡◌, IfOk, map, Ok};
 ghost use Rattle.std.specs.Arc.{arc_value};
 ghost use Rattle.std.specs.Option.{ForSome};
 ghost use Rattle.spec_base.specs.Reading.{Gives};
 ghost use Rattle.snapshot_codec.specs.Snapshot.{IsReadable};
 ghost use Rattle.ledger_folder.specs.Files.{Disk};
 ghost use Rattle.ledger_folder.specs.Crash.{Shows};
+ghost use Rattle.ledger_folder.specs.declared.name.Name.TheVariants.{Changes as changes_name};
 ghost use Rattle.ledger_store.specs.Faults.{LedgerCounts, NeverFails, is_free, is_ledger_memory};
-ghost use Rattle.ledger_store.specs.Told.{AreTold};
-ghost use Rattle.ledger_store.specs.Ahead.{file_of, files_of, next_from, walked_by};
+ghost use Rattle.ledger_store.specs.Seal.{unsealed};
+ghost use Rattle.ledger_store.specs.Changes.{whole_changes};
+ghost use Rattle.ledger_store.specs.Watching.{settled};
+ghost use Rattle.ledger_store.specs.Told.{IsTold};
+ghost use Rattle.ledger_store.specs.Ahead.{files_of, next_from, seen, stepped_by, walked_by};
 
 use crate::changes::Changes;
 use crate::fault::LedgerFault;
 use crate::next::next_of;
-use crate::told::{ChangesFile, Told, ToldOf, all_told};
+use crate::reading::Reading;
+use crate::seal::Watched;
+use crate::told::{Told, ToldOf, told_of};
 use ledger_folder::{Folder, Name};
 use snapshot_codec::Snapshot;
-use sol_base::{Items, OutOfMemory};
+use sol_base::{Blob, Items, OutOfMemory};
 use std::alloc::Global;
 use std::snapshot::Snapshot as Seen;
 use std::sync::Arc;
 use std::thread;
 use std::thread::{PromisedHandle, Threads};
 
-/// Files of changes that a thread reads, if one could be made, from the slot before them.
-#[derive(Drop)]
-pub(crate) struct Ahead {
-    pub(crate) before: u64,
-    files: Arc<Items<ChangesFile>>,
-    child: Option<PromisedHandle<Result<Told, OutOfMemory>, ToldOf>>,
-    ghost before_same: { ForSome child (λ h. h.promise.before ≡ before) },
-    ghost files_same: { ForSome child (λ h. arc_value h.promise.files.value ≡ arc_value files) },
-}
-
-impl Ahead {
-    /// Begins to read files.
+impl Reading {
+    /// Begins to read the file of what the block of a slot changed, from the slot before it.
     fn begin<T: Threads>(
         threads: &T,
         alloc: Global,
+        slot: u64,
         before: u64,
-        files: Items<ChangesFile>,
-    ) -> Result<Ahead, OutOfMemory>
-        ensures before { IfOk result (λ ahead. ahead.before ≡ before) }
-        ensures files { IfOk result (λ ahead. arc_value ahead.files ≡ files) }
+        bytes: Blob,
+    ) -> Result<Reading, OutOfMemory>
+        ensures slot { IfOk result (λ reading. reading.slot ≡ slot) }
+        ensures bytes { IfOk result (λ reading. arc_value reading.bytes ≡ bytes) }
     {
-        let files = Arc::new(alloc, files)?;
-        let theirs = Arc::try_clone(&files)?;
+        let bytes = Arc::new(alloc, bytes)?;
+        let theirs = Arc::try_clone(&bytes)?;
         let promise = ToldOf {
+            slot,
             before,
-            files: Seen::of(&theirs),
+            bytes: Seen::of(&theirs),
         };
         let child = thread::spawn_with(threads, promise, move || {
-            all_told(alloc, before, theirs.as_slice())
+            told_of(alloc, slot, before, theirs.as_slice())
         })
         .ok();
-        Ok(Ahead {
+        Ok(Reading {
+            slot,
             before,
-            files,
+            bytes,
             child,
         })
     }
 
-    /// What the files hold: by the thread, or else here.
-    fn told<T: Threads>(self, threads: &T, alloc: Global) -> Result<Told, OutOfMemory>
-        ensures { IfOk result (AreTold self.before (arc_value self.files)) }
+    /// What the file holds, from the slot before the block, and the file with what was seen of its
+    /// hash: by the thread, or else here.
+    fn told<T: Threads>(
+        self,
+        threads: &T,
+        alloc: Global,
+        before: u64,
+    ) -> (Result<Changes, LedgerFault>, Watched)
+        ensures gives { Gives is_ledger_memory (λ changes. changes) result.0
+            (whole_changes self.slot before (unsealed (arc_value self.bytes))) }
+        ensures readable { IfOk result.0 (λ changes. IsReadable changes.left) }
+        ensures quiet { NeverFails result.0 }
+        ensures name { result.1.name ≡ changes_name self.slot }
+        ensures bytes { arc_value result.1.bytes ≡ arc_value self.bytes }
     {
-        let Ahead {
-            before,
-            files,
+        let Reading {
+            slot,
+            before: from,
+            bytes,
             child,
         } = self;
-        match child {
-            Some(child) => child.join(threads),
-            None => all_told(alloc, before, files.as_slice()),
-        }
+        let Told { changes, sealed } = if from == before {
+            joined(threads, alloc, child, slot, before, bytes.as_slice())
+        } else {
+            told_of(alloc, slot, before, bytes.as_slice())
+        };
+        (
+            changes,
+            Watched::seen(Name::Changes { slot }, bytes, sealed),
+        )
     }
 }
 
-fn read_changes<F: Folder>(folder: &mut F, slot: u64) -> Result<ChangesFile, LedgerFault>
-    ensures tells { (disk : Disk) → Shows (F.events folder.new) disk
-        → Shows (F.events folder.old) disk
-        × Gives is_free (λ file. file) result (Ok (file_of disk slot)) }
-    ensures counts { LedgerCounts result (F.faults folder.old) (F.faults folder.new) }
+/// What the thread tells, if one could be made.
+fn joined<T: Threads>(
+    threads: &T,
+    alloc: Global,
+    child: Option<PromisedHandle<Told, ToldOf>>,
+    slot: u64,
+    before: u64,
+    bytes: &[u8],
+) -> Told
+    requires slot { ForSome child (λ h. h.promise.slot ≡ slot) }
+    requires before { ForSome child (λ h. h.promise.before ≡ before) }
+    requires bytes { ForSome child (λ h. arc_value h.promise.bytes.value ≡ bytes.now) }
+    ensures { IsTold slot before bytes.now result }
 {
-    let bytes = folder.read(Name::Changes { slot })?;
-    Ok(ChangesFile { slot, bytes })
+    match child {
+        Some(child) => child.join(threads),
+        None => told_of(alloc, slot, before, bytes),
+    }
 }
 
-/// The files of what the blocks of several slots changed.
-fn read_files<F: Folder>(
+/// The file of what the block of a slot changed, if the chain has it.
+#[derive(Drop)]
+pub(crate) enum Ahead {
+    Found(Reading),
+    Missing { slot: u64 },
+}
+
+fn begin_file<T: Threads, F: Folder>(
+    threads: &T,
     alloc: Global,
     folder: &mut F,
-    slots: &[u64],
-) -> Result<Items<ChangesFile>, LedgerFault>
+    slot: u64,
+    before: u64,
+) -> Result<Ahead, LedgerFault>
     ensures tells { (disk : Disk) → Shows (F.events folder.new) disk
         → Shows (F.events folder.old) disk
-        × Gives is_free (λ files. files) result (Ok (files_of disk slots.now)) }
+        × Gives is_free (λ file. seen file) result (Ok (slot, disk (changes_name slot))) }
     ensures counts { LedgerCounts result (F.faults folder.old) (F.faults folder.new) }
 {
-    let mut files = Items::new(alloc);
-    for slot in slots {
-        let file = read_changes(folder, *slot)?;
-        files.push(file)?;
+    match folder.read(Name::Changes { slot })? {
+        Some(bytes) => Ok(Ahead::Found(Reading::begin(threads, alloc, slot, before, bytes)?)),
+        None => Ok(Ahead::Missing { slot }),
     }
-    Ok(files)
 }
 
 /// Begins to read the files of what the blocks of several slots changed, from the slot before them.
@@ -113,53 +145,87 @@ pub(crate) fn begin_files<T: Threads, F: Folder>(
     folder: &mut F,
     slots: &[u64],
     before: u64,
-) -> Result<Ahead, LedgerFault>
+) -> Result<Items<Ahead>, LedgerFault>
     ensures tells { (disk : Disk) → Shows (F.events folder.new) disk
         → Shows (F.events folder.old) disk
-        × Gives is_free (λ ahead. arc_value ahead.files) result (Ok (files_of disk slots.now)) }
-    ensures before { IfOk result (λ ahead. ahead.before ≡ before) }
+        × Gives is_free (λ files. map seen files) result (Ok (files_of disk slots.now)) }
     ensures counts { LedgerCounts result (F.faults folder.old) (F.faults folder.new) }
 {
-    let files = read_files(alloc, folder, slots)?;
-    Ok(Ahead::begin(threads, alloc, before, files)?)
+    let mut files = Items::new(alloc);
+    let mut before = before;
+    for slot in slots {
+        let file = begin_file(threads, alloc, folder, *slot, before)?;
+        files.push(file)?;
+        before = *slot;
+    }
+    Ok(files)
 }
 
-/// The snapshot after a block, from the one before it, once it is told what the block changed.
+/// The snapshot after the block of a slot, from the one before it, once it is told what the block
+/// changed.
 fn next_told(
     alloc: Global,
+    slot: u64,
     told: Result<Changes, LedgerFault>,
     before: Snapshot,
 ) -> Result<Snapshot, LedgerFault>
     requires told { IfOk told (λ changes. IsReadable changes.left) }
     requires quiet { NeverFails told }
     requires before { IsReadable before }
-    ensures gives { Gives is_ledger_memory (λ s. s) result (next_from told before) }
-    ensures slot { IfOk told (λ changes. IfOk result (λ s. s.slot ≡ changes.left.slot)) }
+    ensures gives { Gives is_ledger_memory (λ s. s) result (next_from slot told before) }
     ensures readable { IfOk result IsReadable }
     ensures quiet { NeverFails result }
 {
     let changes = told?;
-    next_of(alloc, changes.left.slot, &changes, before)
+    next_of(alloc, slot, &changes, before)
+}
+
+/// The snapshot after a block, from the one before it and the file of what the block changed.
+fn step_by<T: Threads>(
+    threads: &T,
+    alloc: Global,
+    file: Ahead,
+    before: Snapshot,
+    files: &mut Items<Watched>,
+) -> Result<Snapshot, LedgerFault>
+    requires { IsReadable before }
+    ensures tells { Gives is_free (λ s. s) (settled files.new result)
+        (settled files.old (stepped_by (seen file) before)) }
+    ensures readable { IfOk result IsReadable }
+    ensures quiet { NeverFails result }
+{
+    match file {
+        Ahead::Missing { slot } => Err(LedgerFault::Missing {
+            name: Name::Changes { slot },
+        }),
+        Ahead::Found(reading) => {
+            let slot = reading.slot;
+            let both = reading.told(threads, alloc, before.slot);
+            let (told, file) = both;
+            let next = next_told(alloc, slot, told, before);
+            files.push(file)?;
+            next
+        }
+    }
 }
 
 /// The snapshot after several blocks, from the one before them and the files of what they changed.
 pub(crate) fn walk_by<T: Threads>(
     threads: &T,
     alloc: Global,
-    ahead: Ahead,
+    ahead: Items<Ahead>,
     before: Snapshot,
+    files: &mut Items<Watched>,
 ) -> Result<Snapshot, LedgerFault>
-    requires slot { ahead.before ≡ before.slot }
-    requires readable { IsReadable before }
-    ensures gives { Gives is_ledger_memory (λ s. s) result
-        (walked_by (arc_value ahead.files) before) }
+    requires { IsReadable before }
+    ensures tells { Gives is_free (λ s. s) (settled files.new result)
+        (settled files.old (walked_by (map seen ahead) before)) }
     ensures readable { IfOk result IsReadable }
     ensures quiet { NeverFails result }
 {
-    let told = ahead.told(threads, alloc)?;
     let mut newest = before;
-    for changes in told.into_vec() {
-        newest = next_told(alloc, changes, newest)?;
+    for file in ahead.into_vec() {
+        newest = step_by(threads, alloc, file, newest, files)?;
     }
     Ok(newest)
 }

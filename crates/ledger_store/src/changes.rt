@@ -104,9 +104,13 @@ fn gone_in(
 
 /// The changes of the slot's block, and nothing behind them.
 #[tactic(auto, unfolding(crate::specs::Changes::whole_changes))]
-fn whole_changes(alloc: Global, slot: u64, before: u64, body: &[u8]) -> Result<Changes, LedgerFault>
+pub(crate) fn whole_changes(
+    alloc: Global,
+    slot: u64,
+    before: u64,
+    body: &[u8],
+) -> Result<Changes, LedgerFault>
     ensures gives { Gives is_ledger_memory (λ x. x) result (whole_changes slot before body.now) }
-    ensures slot { IfOk result (λ changes. changes.left.slot ≡ slot) }
     ensures readable { IfOk result (λ changes. IsReadable changes.left) }
     ensures quiet { NeverFails result }
 {
@@ -127,14 +131,8 @@ fn whole_changes(alloc: Global, slot: u64, before: u64, body: &[u8]) -> Result<C
 
 /// What the block of a slot changed, as a file holds it.
 #[tactic(auto, unfolding(crate::specs::Changes::changes_from))]
-pub(crate) fn changes_from(
-    alloc: Global,
-    slot: u64,
-    before: u64,
-    bytes: &[u8],
-) -> Result<Changes, LedgerFault>
+fn changes_from(alloc: Global, slot: u64, before: u64, bytes: &[u8]) -> Result<Changes, LedgerFault>
     ensures gives { Gives is_ledger_memory (λ x. x) result (changes_from slot before bytes.now) }
-    ensures slot { IfOk result (λ changes. changes.left.slot ≡ slot) }
     ensures readable { IfOk result (λ changes. IsReadable changes.left) }
     ensures quiet { NeverFails result }
 {

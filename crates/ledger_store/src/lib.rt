@@ -15,6 +15,7 @@ mod head;
 mod next;
 mod opening;
 mod place;
+mod reading;
 mod seal;
 mod state;
 mod told;

@@ -138,7 +138,6 @@ pub(crate) fn next_of(
     requires changes { IsReadable changes.now.left }
     requires before { IsReadable before }
     ensures gives { Gives is_ledger_memory (λ s. s) result (next_of slot changes.now before) }
-    ensures slot { IfOk result (λ s. s.slot ≡ changes.now.left.slot) }
     ensures readable { IfOk result IsReadable }
     ensures quiet { NeverFails result }
 {

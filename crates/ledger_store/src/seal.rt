@@ -68,39 +68,60 @@ impl Promise<bool> for SealOf {
     ghost kept_by = { λ p told. told ≡ is_sealed (arc_value p.0.value) };
 }
 
-/// The file of a full state, whose hash is looked at in a thread of its own, if one could be made, while
-/// the file is read.
+/// A file whose hash is looked at in a thread of its own, if one could be made, while the file is read,
+/// or was looked at already.
 #[derive(Drop)]
 pub(crate) struct Watched {
-    slot: u64,
+    name: Name,
     bytes: Arc<Blob>,
     child: Option<PromisedHandle<bool, SealOf>>,
+    sealed: Option<bool>,
     ghost same: { ForSome child (λ h. arc_value h.promise.0.value ≡ arc_value bytes) },
+    ghost looked: { ForSome sealed (λ told. told ≡ is_sealed (arc_value bytes)) },
 }
 
 impl Watched {
-    /// Begins to look at the hash of the full state of a slot.
+    /// Begins to look at the hash of a file.
     pub(crate) fn begin<T: Threads>(
         threads: &T,
         alloc: Global,
-        slot: u64,
+        name: Name,
         bytes: Blob,
     ) -> Result<Watched, OutOfMemory>
-        ensures slot { IfOk result (λ file. file.slot ≡ slot) }
+        ensures name { IfOk result (λ file. file.name ≡ name) }
         ensures bytes { IfOk result (λ file. arc_value file.bytes ≡ bytes) }
     {
         let bytes = Arc::new(alloc, bytes)?;
         let theirs = Arc::try_clone(&bytes)?;
         let seal = SealOf(Snapshot::of(&theirs));
         let child = thread::spawn_with(threads, seal, move || is_sealed(theirs.as_slice())).ok();
-        Ok(Watched { slot, bytes, child })
+        Ok(Watched {
+            name,
+            bytes,
+            child,
+            sealed: None,
+        })
     }
 
-    /// The slot of the state.
-    pub(crate) fn slot(&self) -> u64
-        ensures { result ≡ self.now.slot }
+    /// A file whose hash was looked at.
+    pub(crate) fn seen(name: Name, bytes: Arc<Blob>, sealed: bool) -> Watched
+        requires { sealed ≡ is_sealed (arc_value bytes) }
+        ensures name { result.name ≡ name }
+        ensures bytes { arc_value result.bytes ≡ arc_value bytes }
     {
-        self.slot
+        Watched {
+            name,
+            bytes,
+            child: None,
+            sealed: Some(sealed),
+        }
+    }
+
+    /// What the file is.
+    pub(crate) fn name(&self) -> Name
+        ensures { result ≡ self.now.name }
+    {
+        self.name
     }
 
     /// The bytes of the file.
@@ -114,10 +135,16 @@ impl Watched {
     pub(crate) fn is_sealed<T: Threads>(self, threads: &T) -> bool
         ensures { result ≡ is_sealed (arc_value self.bytes) }
     {
-        let Watched { bytes, child, .. } = self;
-        match child {
-            Some(child) => child.join(threads),
-            None => is_sealed(bytes.as_slice()),
+        let Watched {
+            bytes,
+            child,
+            sealed,
+            ..
+        } = self;
+        match (child, sealed) {
+            (Some(child), _) => child.join(threads),
+            (None, Some(sealed)) => sealed,
+            (None, None) => is_sealed(bytes.as_slice()),
         }
     }
 }

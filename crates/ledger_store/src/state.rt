@@ -37,7 +37,6 @@ pub(crate) fn front_in(alloc: Global, name: Name, body: &[u8]) -> Result<Prefix,
 #[tactic(auto, unfolding(crate::specs::States::whole_state))]
 pub(crate) fn whole_state(alloc: Global, slot: u64, body: &[u8]) -> Result<Snapshot, LedgerFault>
     ensures gives { Gives is_ledger_memory (λ s. s) result (whole_state slot body.now) }
-    ensures slot { IfOk result (λ s. s.slot ≡ slot) }
     ensures readable { IfOk result IsReadable }
     ensures quiet { NeverFails result }
 {

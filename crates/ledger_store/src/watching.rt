@@ -5,11 +5,13 @@ ghost use Rattle.spec_base.specs.Reading.{Gives};
 ghost use Rattle.snapshot_codec.specs.Snapshot.{IsReadable};
 ghost use Rattle.ledger_folder.specs.Files.{Disk};
 ghost use Rattle.ledger_folder.specs.Crash.{Shows};
-ghost use Rattle.ledger_store.specs.Faults.{LedgerCounts, NeverFails, is_free, is_ledger_memory};
-ghost use Rattle.ledger_store.specs.Opening.{full_before, opened, slot_after, slots_behind};
+ghost use Rattle.ledger_folder.specs.declared.name.Name.TheVariants.{State};
+ghost use Rattle.ledger_store.specs.Faults.{LedgerCounts, NeverFails, is_free};
+ghost use Rattle.ledger_store.specs.States.{state_from};
+ghost use Rattle.ledger_store.specs.Opening.{opened, state_after};
 ghost use Rattle.ledger_store.specs.Ahead.{found_in, told_by};
-ghost use Rattle.ledger_store.specs.Reading.{IsOpen, TellsListed};
-ghost use Rattle.ledger_store.specs.Watching.{IsOpening, finished, refusal, seen_files, told_of, unsealed_fault};
+ghost use Rattle.ledger_store.specs.Reading.{IsOpen, Tells, TellsListed};
+ghost use Rattle.ledger_store.specs.Watching.{IsOpening, finished, first_unsealed, refusal, seen_files, settled, told_of, unsealed_fault};
 
 use crate::ahead::{Ahead, begin_files, walk_by};
 use crate::fault::LedgerFault;
@@ -20,21 +22,22 @@ use crate::seal::{Watched, seal_at, unsealed};
 use crate::state::whole_state;
 use ledger_folder::{Folder, Name};
 use snapshot_codec::Snapshot;
+use sol_base::Items;
 use std::alloc::Global;
 use std::thread::Threads;
 
-/// A chain as its files say it, while a thread looks at the hash that its newest full state ends in.
+/// A chain as its files say it, while threads look at the hashes that the files end in.
 #[derive(Drop)]
 pub struct Opening {
     pub ledger: Ledger,
-    full: Watched,
+    files: Items<Watched>,
 }
 
-/// Why the file of a full state is refused, if it does not end in its hash. The thread has then ended.
+/// Why a file is refused, if it does not end in its hash.
 fn unsealed_fault<T: Threads>(threads: &T, file: Watched) -> Option<LedgerFault>
     ensures { result ≡ unsealed_fault file }
 {
-    let name = Name::State { slot: file.slot() };
+    let name = file.name();
     let at = seal_at(file.as_slice());
     if file.is_sealed(threads) {
         return None;
@@ -42,22 +45,37 @@ fn unsealed_fault<T: Threads>(threads: &T, file: Watched) -> Option<LedgerFault>
     Some(LedgerFault::Damaged { name, at })
 }
 
-/// Why a chain is refused where a file behind its full state is: a full state that does not end in its
-/// hash comes first.
-fn refusal<T: Threads>(threads: &T, full: Watched, fault: LedgerFault) -> LedgerFault
-    ensures { result ≡ refusal full fault }
+/// Why the first file is refused that does not end in its hash. All threads have then ended.
+fn first_unsealed<T: Threads>(threads: &T, files: Items<Watched>) -> Option<LedgerFault>
+    ensures { result ≡ first_unsealed files }
 {
-    unsealed_fault(threads, full).unwrap_or(fault)
+    let mut files = files;
+    let mut first = None;
+    while let Some(file) = files.pop() {
+        first = unsealed_fault(threads, file).or(first);
+    }
+    first
+}
+
+/// Why a chain is refused where a file is: a file before it that does not end in its hash comes first.
+/// A failure of the folder is answered as such, since it is counted.
+fn refusal<T: Threads>(threads: &T, files: Items<Watched>, fault: LedgerFault) -> LedgerFault
+    ensures { result ≡ refusal files fault }
+{
+    match fault {
+        LedgerFault::Failed => fault,
+        _ => first_unsealed(threads, files).unwrap_or(fault),
+    }
 }
 
 /// The file of a full state, and those of what the blocks behind it changed.
 #[derive(Drop)]
 pub(crate) struct Begun {
     full: Watched,
-    ahead: Ahead,
+    ahead: Items<Ahead>,
 }
 
-/// Begins to read the files that a full state and what is behind it are told by.
+/// Begins to read the files that a chain's newest state is told by.
 fn begin_reading<T: Threads, F: Folder>(
     threads: &T,
     alloc: Global,
@@ -68,57 +86,74 @@ fn begin_reading<T: Threads, F: Folder>(
     ensures tells { (disk : Disk) → Shows (F.events folder.new) disk
         → Shows (F.events folder.old) disk
         × Gives is_free seen_files result (found_in disk slot slots.now) }
-    ensures slot { IfOk result (λ begun. begun.full.slot ≡ slot) }
-    ensures before { IfOk result (λ begun. begun.ahead.before ≡ begun.full.slot) }
+    ensures name { IfOk result (λ begun. begun.full.name ≡ State slot) }
     ensures counts { LedgerCounts result (F.faults folder.old) (F.faults folder.new) }
 {
-    let bytes = read_file(folder, Name::State { slot })?;
-    let full = Watched::begin(threads, alloc, slot, bytes)?;
+    let name = Name::State { slot };
+    let bytes = read_file(folder, name)?;
+    let full = Watched::begin(threads, alloc, name, bytes)?;
     let ahead = begin_files(threads, alloc, folder, slots, slot)?;
     Ok(Begun { full, ahead })
 }
 
-/// Begins to read the files that the state after so many blocks is told by.
-fn begin_state<T: Threads, F: Folder>(
+/// The full state of a slot, whatever the hash is that its file ends in.
+fn full_told(
+    alloc: Global,
+    slot: u64,
+    file: Watched,
+    files: &mut Items<Watched>,
+) -> Result<Snapshot, LedgerFault>
+    requires { file.name ≡ State slot }
+    ensures tells { Gives is_free (λ s. s) (settled files.new result)
+        (settled files.old (state_from slot (arc_value file.bytes))) }
+    ensures readable { IfOk result IsReadable }
+    ensures quiet { NeverFails result }
+{
+    let told = whole_state(alloc, slot, unsealed(file.as_slice()));
+    files.push(file)?;
+    told
+}
+
+/// The snapshot that the files come to.
+fn told_by<T: Threads>(
+    threads: &T,
+    alloc: Global,
+    slot: u64,
+    begun: Begun,
+    files: &mut Items<Watched>,
+) -> Result<Snapshot, LedgerFault>
+    requires { begun.full.name ≡ State slot }
+    ensures tells { Gives is_free (λ s. s) (settled files.new result)
+        (settled files.old (told_by slot (seen_files begun).0 (seen_files begun).1)) }
+    ensures readable { IfOk result IsReadable }
+    ensures quiet { NeverFails result }
+{
+    let Begun { full, ahead } = begun;
+    let before = full_told(alloc, slot, full, files)?;
+    walk_by(threads, alloc, ahead, before, files)
+}
+
+/// The same as `read_state`, but for the hashes: threads look at them, and read what blocks changed.
+fn read_beside<T: Threads, F: Folder>(
     threads: &T,
     alloc: Global,
     folder: &mut F,
     head: &Head,
     count: usize,
-) -> Result<Begun, LedgerFault>
+    files: &mut Items<Watched>,
+) -> Result<Snapshot, LedgerFault>
     requires every { 1 ≤ head.now.every }
     requires count { count ≤ length head.now.slots }
-    ensures tells { (disk : Disk) → Shows (F.events folder.new) disk
-        → Shows (F.events folder.old) disk
-        × Gives is_free seen_files result
-        (found_in disk (slot_after head.now (full_before head.now.every count))
-        (slots_behind head.now count)) }
-    ensures slot { IfOk result (λ begun.
-        begun.full.slot ≡ slot_after head.now (full_before head.now.every count)) }
-    ensures before { IfOk result (λ begun. begun.ahead.before ≡ begun.full.slot) }
+    ensures tells { Tells (F.events folder.old) (F.events folder.new) (settled files.new result)
+        (λ disk. settled files.old (state_after disk head.now count)) }
+    ensures readable { IfOk result IsReadable }
     ensures counts { LedgerCounts result (F.faults folder.old) (F.faults folder.new) }
 {
     let full = head.full_before(count);
     let slot = head.slot_after(full);
     let slots = &head.slots.as_slice()[full..count];
-    begin_reading(threads, alloc, folder, slot, slots)
-}
-
-/// The snapshot that the files come to, whatever the hash is that the full state's ends in.
-fn told_by<T: Threads>(
-    threads: &T,
-    alloc: Global,
-    full: &Watched,
-    ahead: Ahead,
-) -> Result<Snapshot, LedgerFault>
-    requires { ahead.before ≡ full.now.slot }
-    ensures gives { Gives is_ledger_memory (λ s. s) result
-        (told_by full.now.slot (arc_value full.now.bytes) (arc_value ahead.files)) }
-    ensures readable { IfOk result IsReadable }
-    ensures quiet { NeverFails result }
-{
-    let before = whole_state(alloc, full.slot(), unsealed(full.as_slice()))?;
-    walk_by(threads, alloc, ahead, before)
+    let begun = begin_reading(threads, alloc, folder, slot, slots)?;
+    told_by(threads, alloc, slot, begun, files)
 }
 
 /// Begins to open a chain: the snapshot after its last block is read, while threads look at the hashes
@@ -136,15 +171,14 @@ pub fn begin_opening<T: Threads, F: Folder>(
     ensures counts { LedgerCounts result (F.faults folder.old) (F.faults folder.new) }
 {
     let head = read_head(folder)?;
+    let mut files = Items::new(alloc);
     let count = head.slots.len();
-    let begun = begin_state(threads, alloc, folder, &head, count)?;
-    let Begun { full, ahead } = begun;
-    match told_by(threads, alloc, &full, ahead) {
+    match read_beside(threads, alloc, folder, &head, count, &mut files) {
         Ok(newest) => {
             let ledger = Ledger { head, newest };
-            Ok(Opening { ledger, full })
+            Ok(Opening { ledger, files })
         }
-        Err(fault) => Err(refusal(threads, full, fault)),
+        Err(fault) => Err(refusal(threads, files, fault)),
     }
 }
 
@@ -155,8 +189,8 @@ impl Opening {
         ensures same { IfOk result (λ ledger. ledger ≡ self.ledger) }
         ensures quiet { NeverFails result }
     {
-        let Opening { ledger, full } = self;
-        match unsealed_fault(threads, full) {
+        let Opening { ledger, files } = self;
+        match first_unsealed(threads, files) {
             Some(fault) => Err(fault),
             None => Ok(ledger),
         }

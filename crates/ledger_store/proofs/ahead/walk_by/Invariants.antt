@@ -1,8 +1,13 @@
-use Rattle.std.specs.Arc.{arc_value}
+use Rattle.std.proofs.Common.{◌≡◌, map}
 use Rattle.std.specs.Vec.Iter.{into_iter_items}
-use Rattle.ledger_store.proofs.Beside.{IsLeft}
+use Rattle.snapshot_codec.specs.Snapshot.{IsReadable}
+use Rattle.ledger_store.specs.Ahead.{seen, walked_by}
+use Rattle.ledger_store.specs.Watching.{settled}
 use Rattle.ledger_store.proofs.ahead.walk_by.Given as goal
 
 -- what is still to be walked gives the same
-abbrev pub invariant-loop-changes : goal.invariant-loop-changes
-invariant-loop-changes g l = IsLeft (arc_value l.fn.ahead.files) l.fn.before (into_iter_items l.changes-iterator) l.newest
+abbrev pub invariant-loop-file : goal.invariant-loop-file
+invariant-loop-file g l = record {
+  readable : IsReadable l.newest;
+  told : settled l.fn.files (walked_by (map seen l.fn.ahead) l.fn.before) ≡ settled l.files (walked_by (map seen (into_iter_items l.file-iterator)) l.newest);
+}
