@@ -11,7 +11,7 @@ ATOMIC = re.compile(r'lock (\w+) |(xchg) +%\w+,.*\(|(mfence)')
 PLACE = re.compile(r'(-?0x[0-9a-f]+)?\((%\w+)?(?:,(%\w+),(\d))?\)')
 # Where a word is taken by an exchange that compares. Elsewhere that makes a count of owners rise, which
 # puts nothing in order.
-TAKES = re.compile('SharedDesk::take_turn|run_jobs|read_decoded')
+TAKES = re.compile('SharedDesk::take_turn|run_thread|run_jobs|read_decoded')
 
 
 class Site(collections.namedtuple('Site', 'function name place length tells base index scale more')):
@@ -25,7 +25,8 @@ def what_it_tells(name, function):
         return RELEASES
     if name == 'cmpxchg':
         return ACQUIRES if TAKES.search(function) else 0
-    if name.startswith('inc'):  # one more who waits, or a bell: neither hands anything over
+    # One more who waits, a bell, or a turn that a reader is told of: none hands anything over.
+    if name.startswith('inc') or name == 'xadd':
         return 0
     if name.startswith('dec') or name.startswith('sub'):
         return RELEASES | ACQUIRES_AT_ZERO
