@@ -1,17 +1,20 @@
 -- Wires that are weighed beside each other weigh what they weigh alone.
-use Rattle.std.proofs.Common.{◌≡◌, ℕ, suc, ◌+◌, ◌<◌, List, [], ◌∷◌, ◌++◌, length, map, get_or, refl, sym, ap, ◌∙◌, append_assoc, subst, arith, Option, Some, IfSome, Result, Ok, Err, IfOk, All}
-use Rattle.std.proofs.lemmas.List.{length-map, map-append}
+use Rattle.std.proofs.Common.{◌≡◌, ℕ, suc, ◌+◌, ◌<◌, List, [], ◌∷◌, ◌++◌, length, map, get_or, refl, sym, ap, ◌∙◌, subst, arith, Option, Some, IfSome, Result, Ok, Err, IfOk, All}
+use Rattle.std.proofs.lemmas.List.{length-map}
 use Rattle.std.proofs.lemmas.List.Elements.{All-map}
+use Rattle.std.specs.BTreeSet.{BTreeSet}
+use Rattle.sol_base.specs.declared.key.Hash32.{Hash32}
 use Rattle.sol_base.specs.declared.memory.OutOfMemory.{OutOfMemory}
 use Rattle.message_codec.specs.declared.parsed.Parsed.{Parsed}
+use Rattle.status_cache.specs.declared.recent.Mark.{Mark}
 use Rattle.admission.specs.declared.beside.Slot.{Slot}
 use Rattle.admission.specs.declared.weighing.Weighed.{Weighed}
 use Rattle.admission.specs.Admission.{IsSound, Start}
 use Rattle.admission.specs.Beside.{IsFresh, WeighsAt, fresh}
-use Rattle.admission.specs.Weighing.{weighed, weighed_from}
+use Rattle.admission.specs.Weighing.{IsTold, is_noted, weighed, weighed_from}
 
-pub all_fresh : (wires : List Parsed) (slots : List Slot) → slots ≡ map fresh wires → All IsSound wires → All IsFresh slots
-all_fresh wires slots e sound = subst (All IsFresh) (sym e) (All-map IsFresh fresh wires sound)
+pub all_fresh : (marks : List Mark) (noted : BTreeSet Hash32) (wires : List Parsed) (slots : List Slot) → slots ≡ map fresh wires → All IsSound wires → All (λ wire. IsTold marks wire (is_noted noted wire)) wires → All (IsFresh marks noted) slots
+all_fresh marks noted wires slots e sound told = subst (All (IsFresh marks noted)) (sym e) (All-map (IsFresh marks noted) fresh wires (λ k d below. (sound k d below, told k d below)))
 
 alone_from : (start : Start) (n : ℕ) (wires : List Parsed) (new : List Slot) (found : List Weighed) → length new ≡ length wires
     → ((i : ℕ) (d : Slot) → i < length wires → WeighsAt start (n + i) (get_or (map fresh wires) i d) (get_or new i d)) → map (λ (one : Weighed). Some one) found ≡ map (λ (slot : Slot). slot.weighed) new → found ≡ weighed_from start n wires

@@ -9,3 +9,4 @@ pub mod BesideLaws
 pub mod BatchLaws
 pub mod PartLaws
 pub mod FaultLaws
+pub mod NotedLaws

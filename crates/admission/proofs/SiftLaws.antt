@@ -1,15 +1,11 @@
 -- The early causes of a batch, one position after the other.
-use Rattle.std.proofs.Common.{◌≡◌, ℕ, ◌+◌, ◌<◌, ◌≤◌, Bool, true, false, ◌||◌, cond, List, [], ◌∷◌, ◌++◌, length, take, map, get_or, refl, sym, ap, ap₂, ◌∙◌, append_assoc, length-append, zero-add, arith, Option, Some, None, Result, Ok, is_ok, subst}
+use Rattle.std.proofs.Common.{◌≡◌, ℕ, ◌+◌, ◌<◌, ◌≤◌, Bool, false, ◌||◌, List, [], ◌∷◌, ◌++◌, length, take, map, get_or, refl, sym, ap, ap₂, ◌∙◌, append_assoc, length-append, zero-add, arith, Option, Some, None, Result, Ok, is_ok, subst}
 use Rattle.std.specs.Prelude.{if◌then◌else◌, option_to_list, replicate}
 use Rattle.std.specs.Result.{result_ok}
 use Rattle.std.specs.List.{AllByRecursion, IsDistinct, filter_map, cons_option, enumerate_from}
 use Rattle.std.specs.List.Sorted.{IsPermutation, IsStrictlySortedBy}
-use Rattle.std.specs.BTreeMap.{is_at}
-use Rattle.std.specs.BTreeSet.{BTreeSet, contains}
-use Rattle.std.specs.Cmp.{Equal-is}
-use Rattle.std.proofs.lemmas.Bool.{false_from_ne_true, both_ways, or_from}
+use Rattle.std.proofs.lemmas.Bool.{or_from}
 use Rattle.std.proofs.lemmas.Bool.Decides.{same_from_decides}
-use Rattle.std.proofs.lemmas.Cmp.{eq_by_cmp_equiv}
 use Rattle.std.proofs.lemmas.List.{get_or_at, get_or-map, map-append, length-map, take_all, take_at, take_more}
 use Rattle.std.proofs.lemmas.List.Sorted.{IsPermutation-sym}
 use Rattle.std.proofs.lemmas.Map.Keys.{IsDistinct-IsPermutation, IsDistinct-from_sorted}
@@ -19,38 +15,20 @@ use Rattle.std.proofs.lemmas.List.FromFn.{get_or-enumerate_from, length-enumerat
 use Rattle.std.proofs.Math.Bool.{or-false}
 use Rattle.sol_base.specs.declared.key.Hash32.{Hash32}
 use Rattle.sol_base.specs.Keys.{hash_cmp, same_hash}
-use Rattle.sol_base.proofs.KeyLaws.{hash_cmp_exact, hash_cmp_total, same_hash-Decides}
+use Rattle.sol_base.proofs.KeyLaws.{same_hash-Decides}
 use Rattle.message_codec.specs.declared.message.Loaded.{Loaded}
 use Rattle.message_codec.specs.declared.message.Tx.{Tx}
 use Rattle.message_codec.specs.declared.parsed.Parsed.{Parsed}
 use Rattle.message_codec.specs.declared.parsed.Parsed.TheVariants.{Good}
 use Rattle.status_cache.specs.Recent.{has_hash}
+use Rattle.status_cache.proofs.SoughtLaws.{same_name}
 use Rattle.admission.specs.declared.chosen.Chosen.{Chosen}
 use Rattle.admission.specs.declared.refusal.Refusal.{Refusal}
 use Rattle.admission.specs.declared.weighing.Weighed.{Weighed}
-use Rattle.admission.specs.Admission.{Start, budgeted_once, has_name, is_name, refusal_in, sifted, standing_name, standing_names, stands}
+use Rattle.admission.specs.Admission.{Start, budgeted_once, is_name, refusal_in, sifted, standing_name, standing_names, stands}
 use Rattle.admission.specs.Weighing.{is_among, is_repeated, name_of, names_of, sifted_among, sifted_when}
 
 -- ---- names
--- the order and the test of two hashes agree on which are one
-same_name : (name other : Hash32) → is_at (hash_cmp name) other ≡ same_hash name other
-same_name name other = by_test (same_hash name other) refl
-  where
-    by_test : (t : Bool) → same_hash name other ≡ t → is_at (hash_cmp name) other ≡ t
-    by_test true same = subst (λ (hash : Hash32). is_at (hash_cmp name) hash ≡ true) ((same_hash-Decides name other).0 same) ((eq_by_cmp_equiv hash_cmp_total).refl name)
-    by_test false differ = false_from_ne_true (is_at (hash_cmp name) other) (λ e. both_ways (same_hash name other) differ ((same_hash-Decides name other).1 (hash_cmp_exact name other ((Equal-is (hash_cmp name other)).0 e))))
-
--- a name more
-pub name_added : (old new : BTreeSet Hash32) (name : Hash32) → ((q : Hash32) → contains hash_cmp new q ≡ cond (is_at (hash_cmp name) q) true (contains hash_cmp old q)) → (q : Hash32) → has_name new q ≡ (has_name old q || same_hash name q)
-name_added old new name puts q = puts q ∙ go (is_at (hash_cmp name) q) (same_hash name q) (same_name name q) (contains hash_cmp old q)
-  where
-    go : (a b : Bool) → a ≡ b → (o : Bool) → cond a true o ≡ (o || b)
-    go true true e true = refl
-    go true true e false = refl
-    go true false e o = absurd (cc)
-    go false true e o = absurd (cc)
-    go false false e o = sym (or-false o)
-
 pub name_stands : (start : Start) (tx : Tx) (name : Hash32) (loaded : Loaded) → stands start tx name ≡ Ok loaded → standing_name start (Good tx name) ≡ Some name
 name_stands start tx name loaded e = ap (λ (r : Result Loaded Refusal). if is_ok r then Some name else None) e
 
@@ -120,11 +98,11 @@ names_single None = refl
 names_single (Some name) = refl
 
 -- the names of one position more
-pub names_more : (batch : List Weighed) (i : ℕ) (x : Weighed) → i < length batch → x ≡ get_or batch i x → names_of (take (i + 1) batch) ≡ names_of (take i batch) ++ option_to_list (name_of x)
-names_more batch i x below is =
-    ap names_of (take_more batch i x below ∙ ap (λ (y : Weighed). take i batch ++ y ∷ []) (sym is))
-    ∙ filter_map-append name_of (take i batch) (x ∷ [])
-    ∙ ap (λ (l : List Hash32). names_of (take i batch) ++ l) (names_single (name_of x))
+pub names_more : {X : Type 0} (name : X → Option Hash32) (batch : List X) (i : ℕ) (x : X) → i < length batch → x ≡ get_or batch i x → filter_map name (take (i + 1) batch) ≡ filter_map name (take i batch) ++ option_to_list (name x)
+names_more {X} name batch i x below is =
+    ap (filter_map name) (take_more batch i x below ∙ ap (λ (y : X). take i batch ++ y ∷ []) (sym is))
+    ∙ filter_map-append name (take i batch) (x ∷ [])
+    ∙ ap (λ (l : List Hash32). filter_map name (take i batch) ++ l) (names_single (name x))
 
 same_hash-flips : (a b : Hash32) → same_hash a b ≡ same_hash b a
 same_hash-flips a b = same_from_decides (same_hash a b) (same_hash b a) (same_hash-Decides a b) (λ t. sym ((same_hash-Decides b a).0 t), λ e. (same_hash-Decides b a).1 (sym e))

@@ -2,14 +2,13 @@
 -- the blocks that are remembered and the unit limits are the project's own).
 use Rattle.std.specs.Prelude.{◌≡◌, ℕ, ◌+◌, ◌==◌, Bool, false, not, ◌&&◌, nat_lt, List, [], ◌∷◌, ◌++◌, take, map, filter, fold, sum_by, Option, Some, None, option_map, Result, Ok, Err, is_ok, if◌then◌else◌}
 use Rattle.std.specs.List.{list_any, filter_map, enumerate_from}
-use Rattle.std.specs.BTreeSet.{BTreeSet, contains}
 use Rattle.std.specs.Result.{result_ok}
 use Rattle.spec_base.specs.Reading.{◌>>=◌, ok_if}
 use Rattle.sol_base.specs.declared.key.Key.{Key}
 use Rattle.sol_base.specs.declared.key.Hash32.{Hash32}
 use Rattle.sol_base.specs.declared.limits.Limits.{Limits}
 use Rattle.sol_base.specs.declared.lock.Lock.{Lock}
-use Rattle.sol_base.specs.Keys.{hash_cmp, same_hash, same_key}
+use Rattle.sol_base.specs.Keys.{same_hash, same_key}
 use Rattle.message_codec.specs.declared.message.Loaded.{Loaded}
 use Rattle.message_codec.specs.declared.message.Tx.{Tx}
 use Rattle.message_codec.specs.declared.parsed.Parsed.{Parsed}
@@ -226,10 +225,6 @@ abbrev pub IsSound : Parsed → Type 0
 IsSound (Good tx name) =
     HasShortLists tx.message × IsCountable tx.signatures × (name ≡ message_name tx.message)
 IsSound (Bad fault) = is_wire_memory fault ≡ false
-
--- the set has the name
-abbrev pub has_name : BTreeSet Hash32 → Hash32 → Bool
-has_name names name = contains hash_cmp names name
 
 -- it is the name that may be there
 abbrev pub is_name : Option Hash32 → Hash32 → Bool

@@ -1,6 +1,7 @@
 -- What the state before a block says of each wire alone, and what the wires before it say then.
-use Rattle.std.specs.Prelude.{◌≡◌, ℕ, Bool, false, List, take, map, Option, Some, None, Result, Ok, Err, if◌then◌else◌}
+use Rattle.std.specs.Prelude.{⊤, ◌≡◌, ℕ, Bool, false, List, take, map, Option, Some, None, Result, Ok, Err, if◌then◌else◌}
 use Rattle.std.specs.List.{enumerate_from, filter_map}
+use Rattle.std.specs.BTreeSet.{BTreeSet}
 use Rattle.std.specs.Result.{result_ok}
 use Rattle.sol_base.specs.declared.key.Hash32.{Hash32}
 use Rattle.message_codec.specs.declared.message.Loaded.{Loaded}
@@ -11,7 +12,8 @@ use Rattle.message_codec.specs.Parsing.{parsed_of}
 use Rattle.fee_rules.specs.declared.budget.Budget.{Budget}
 use Rattle.fee_rules.specs.declared.budget.BudgetFault.{BudgetFault}
 use Rattle.fee_rules.specs.Budgets.{budget_in}
-use Rattle.status_cache.specs.Recent.{has_hash}
+use Rattle.status_cache.specs.declared.recent.Mark.{Mark}
+use Rattle.status_cache.specs.Recent.{has_hash, has_name, processed}
 use Rattle.admission.specs.declared.chosen.Chosen.{Chosen}
 use Rattle.admission.specs.declared.refusal.Refusal.{Refusal}
 use Rattle.admission.specs.declared.refusal.Refusal.TheVariants.{Wire as no_wire, RepeatedInBatch, Budget as no_budget}
@@ -46,6 +48,23 @@ weighed_from start first wires =
 pub record AreWeighed (start : Start) (wires : List (List ℕ)) (batch : List Weighed) : Type 0 where
   pub read : AreParsed wires (map parsed_of wires)
   pub alone : batch ≡ weighed_from start 0 (map parsed_of wires)
+
+-- ---- which messages were processed, told for all wires at once
+
+-- the name of the message of a wire, if it has one
+abbrev pub name_in : Parsed → Option Hash32
+name_in (Good tx name) = Some name
+name_in (Bad fault) = None
+
+-- its name is among those that are noted
+abbrev pub is_noted : BTreeSet Hash32 → Parsed → Bool
+is_noted noted (Good tx name) = has_name noted name
+is_noted noted (Bad fault) = false
+
+-- it is told whether a block has processed the message of a wire
+abbrev pub IsTold : List Mark → Parsed → Bool → Type 0
+IsTold marks (Good tx name) was_processed = was_processed ≡ processed marks name
+IsTold marks (Bad fault) was_processed = ⊤
 
 -- ---- what the wires before it say
 

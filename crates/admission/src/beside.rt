@@ -5,12 +5,13 @@ ghost use Rattle.admission.specs.Admission.{IsSound, start_of};
 ghost use Rattle.admission.specs.Beside.{IsFresh, WeighsAt, fresh};
 ghost use Rattle.admission.specs.Weighing.{weighed_from};
 
-use crate::weighing::{Weighed, weigh, weigh_from};
+use crate::weighing::{Before, Weighed, is_noted, processed_in, weigh_from, weigh_told};
 use account_store::Accounts;
 use message_codec::Parsed;
-use sol_base::{Items, Limits, OutOfMemory};
+use sol_base::{Hash32, Items, Limits, OutOfMemory};
 use status_cache::Recent;
 use std::alloc::Global;
+use std::collections::BTreeSet;
 use std::thread;
 use std::thread::Threads;
 
@@ -25,20 +26,21 @@ pub(crate) struct Slot {
 }
 
 impl Slot {
-    /// Weighs the wire.
+    /// Weighs the wire, told by those messages that were processed.
     fn weigh(
         &mut self,
         alloc: Global,
-        recent: &Recent,
-        accounts: &Accounts,
-        limits: &Limits,
+        before: Before<'_>,
+        processed: &BTreeSet<Hash32>,
         position: u32,
     )
-        requires { IsFresh self.old }
-        ensures { WeighsAt (start_of recent.now accounts.now limits.now) position self.old self.new }
+        requires { IsFresh before.recent.now processed.now self.old }
+        ensures { WeighsAt (start_of before.entry.recent.now before.entry.accounts.now
+            before.entry.limits.now) position self.old self.new }
     {
         if let Some(wire) = self.wire.take() {
-            self.weighed = weigh(alloc, recent, accounts, limits, position, wire).ok();
+            let was_processed = is_noted(processed, &wire);
+            self.weighed = weigh_told(alloc, before, position, wire, was_processed).ok();
         }
     }
 }
@@ -62,16 +64,15 @@ pub(crate) fn weigh_on<R: Threads + Sync>(
     if lanes < 2 || wires.len() < WORTH_A_THREAD {
         return weigh_from(alloc, recent, accounts, limits, 0, wires);
     }
-    let mut slots = slots_of(alloc, wires)?;
-    weigh_each(
-        rt,
-        alloc,
-        lanes as usize,
+    let processed = processed_in(alloc, recent, wires.as_slice())?;
+    let before = Before {
         recent,
         accounts,
         limits,
-        slots.as_mut_slice(),
-    );
+    };
+    let mut slots = slots_of(alloc, wires)?;
+    let threads = lanes as usize;
+    weigh_each(rt, alloc, threads, before, &processed, slots.as_mut_slice());
     weighed_in(alloc, slots)
 }
 
@@ -95,27 +96,38 @@ fn weigh_each<R: Threads + Sync>(
     rt: &R,
     alloc: Global,
     threads: usize,
-    recent: &Recent,
-    accounts: &Accounts,
-    limits: &Limits,
+    before: Before<'_>,
+    processed: &BTreeSet<Hash32>,
     slots: &mut [Slot],
 )
     requires some { 0 < threads }
     requires few { length slots.old < 2 ^ 32 }
-    requires fresh { All IsFresh slots.old }
+    requires fresh { All (IsFresh before.recent.now processed.now) slots.old }
     ensures { (i : ℕ) (d : SlotValue) → i < length slots.old →
-        WeighsAt (start_of recent.now accounts.now limits.now) i (slice_index_or slots.old i d)
-        (slice_index_or slots.new i d) }
+        WeighsAt (start_of before.entry.recent.now before.entry.accounts.now
+        before.entry.limits.now) i (slice_index_or slots.old i d) (slice_index_or slots.new i d) }
 {
+    let Before {
+        recent,
+        accounts,
+        limits,
+    } = before;
     thread::for_each_mut(
         rt,
         slots,
         threads,
         &|at: usize, slot: &mut Slot|
-            requires { (at < 2 ^ 32) × IsFresh slot.old }
+            requires { (at < 2 ^ 32) × IsFresh recent.now processed.now slot.old }
             ensures { WeighsAt (start_of recent.entry.now accounts.entry.now limits.entry.now) at
                 slot.old slot.new }
-        { slot.weigh(alloc, recent, accounts, limits, at as u32) },
+        {
+            let before = Before {
+                recent,
+                accounts,
+                limits,
+            };
+            slot.weigh(alloc, before, processed, at as u32)
+        },
     );
 }
 

@@ -4,7 +4,8 @@ ghost use Rattle.std.specs.List.{IsDistinct, enumerate_from};
 ghost use Rattle.std.specs.List.Sorted.{IsStrictlySortedBy};
 ghost use Rattle.sol_base.specs.declared.key.Hash32.{Hash32 as HashValue};
 ghost use Rattle.sol_base.specs.Keys.{hash_cmp, same_hash};
-ghost use Rattle.admission.specs.Admission.{has_name, is_name};
+ghost use Rattle.status_cache.specs.Recent.{has_name};
+ghost use Rattle.admission.specs.Admission.{is_name};
 ghost use Rattle.admission.specs.Weighing.{causes_among, is_among, is_repeated, name_of, names_of, sifted_when, standing_among};
 
 use crate::chosen::Chosen;
@@ -100,11 +101,11 @@ fn name_of(one: &Weighed) -> Option<Hash32>
     }
 }
 
-fn push_name(names: &mut Vec<Hash32>, one: &Weighed) -> Result<(), OutOfMemory>
-    ensures { OnOk result (names.new.items
-        ≡ names.old.items ++ option_to_list (name_of one.now)) }
+/// Adds a name, if there is one.
+pub(crate) fn push_name(names: &mut Vec<Hash32>, name: Option<Hash32>) -> Result<(), OutOfMemory>
+    ensures { OnOk result (names.new.items ≡ names.old.items ++ option_to_list name) }
 {
-    match name_of(one) {
+    match name {
         None => Ok(()),
         Some(name) => Ok(names.push(name)?),
     }
@@ -116,7 +117,7 @@ fn names_in(alloc: Global, batch: &[Weighed]) -> Result<Vec<Hash32>, OutOfMemory
 {
     let mut names = Vec::with_capacity(alloc, batch.len())?;
     for one in batch {
-        push_name(&mut names, one)?;
+        push_name(&mut names, name_of(one))?;
     }
     Ok(names)
 }

@@ -1,7 +1,9 @@
 //! The causes that the starting snapshot shows.
 ghost use Rattle.std.specs.Prelude.{◌≡◌, ◌<◌, ◌≤◌, All, IfOk, length};
+ghost use Rattle.sol_base.specs.declared.key.Hash32.{Hash32 as HashValue};
 ghost use Rattle.message_codec.specs.Wire.{HasShortLists, IsCountable};
 ghost use Rattle.fee_rules.specs.Budgets.{budget_in};
+ghost use Rattle.status_cache.specs.Recent.{processed};
 ghost use Rattle.admission.specs.Admission.{stands, start_of};
 ghost use Rattle.admission.specs.Weighing.{with_budget};
 
@@ -17,7 +19,8 @@ use status_cache::Recent;
 use std::alloc::Global;
 
 /// The keys that a transaction loads, or the first of the causes that the starting snapshot shows:
-/// `Sanitize`, `Lookup`, `UnknownBlockhash` and `AlreadyProcessed`.
+/// `Sanitize`, `Lookup`, `UnknownBlockhash` and `AlreadyProcessed`. Whether its message was processed
+/// is told.
 #[tactic(auto, unfolding(crate::specs::Admission::stands))]
 pub(crate) fn stands(
     alloc: Global,
@@ -25,11 +28,12 @@ pub(crate) fn stands(
     accounts: &Accounts,
     limits: &Limits,
     tx: &Tx,
-    name: &Hash32,
+    was_processed: bool,
 ) -> Result<Result<Loaded, Refusal>, OutOfMemory>
     requires { HasShortLists tx.now.message }
-    ensures { IfOk result (λ found.
-        found ≡ stands (start_of recent.now accounts.now limits.now) tx.now name.now) }
+    ensures { (name : HashValue) → was_processed ≡ processed recent.now name →
+        IfOk result (λ found.
+        found ≡ stands (start_of recent.now accounts.now limits.now) tx.now name) }
 {
     if let Err(fault) = sanitize(tx, limits.keys) {
         return Ok(Err(Refusal::Sanitize(fault)));
@@ -42,7 +46,7 @@ pub(crate) fn stands(
     if !recent.knows_hash(&tx.message.blockhash) {
         return Ok(Err(Refusal::UnknownBlockhash));
     }
-    if recent.was_processed(name) {
+    if was_processed {
         return Ok(Err(Refusal::AlreadyProcessed));
     }
     Ok(Ok(loaded))

@@ -1,6 +1,7 @@
 -- The newest blocks of a chain, newest first (the project's own).
 use Rattle.std.specs.Prelude.{◌≡◌, ℕ, ◌≤◌, Bool, List, [], ◌∷◌, All, AllPairs, length, replicate}
 use Rattle.std.specs.List.{list_any}
+use Rattle.std.specs.BTreeSet.{BTreeSet, contains}
 use Rattle.std.specs.declared.cmp.Ordering.TheVariants.{Less}
 use Rattle.sol_base.specs.declared.key.Hash32.{Hash32}
 use Rattle.sol_base.specs.Keys.{hash_cmp, same_hash}
@@ -23,6 +24,10 @@ pub record IsRecent (marks : List Mark) : Type 0 where
 -- the hash is one of them
 abbrev pub has_hash : List Hash32 → Hash32 → Bool
 has_hash hashes hash = list_any (λ one. same_hash one hash) hashes
+
+-- the set has the hash
+abbrev pub has_name : BTreeSet Hash32 → Hash32 → Bool
+has_name names name = contains hash_cmp names name
 
 -- the hash is that of a block
 abbrev pub knows : List Mark → Hash32 → Bool

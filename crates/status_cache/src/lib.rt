@@ -1,6 +1,7 @@
 //! The newest blocks of a chain: which hashes it knows, and which messages it has processed.
 #![tactic(auto)]
 
+mod among;
 mod laws;
 mod recent;
 

@@ -1,12 +1,15 @@
-use Rattle.std.proofs.Common.{◌≡◌, ◌∙◌, ◌++◌, length, map, take, drop, ap, arith}
+use Rattle.std.proofs.Common.{◌≡◌, ◌∙◌, ◌++◌, List, length, map, take, drop, All, ap, subst, arith}
 use Rattle.std.proofs.lemmas.List.{length-map, take_at}
+use Rattle.message_codec.specs.declared.parsed.Parsed.{Parsed}
 use Rattle.admission.specs.Admission.{start_of}
 use Rattle.admission.specs.Beside.{fresh}
+use Rattle.admission.specs.Weighing.{IsTold, is_noted}
 use Rattle.admission.proofs.BesideLaws.{all_fresh, found_all}
 use Rattle.admission.proofs.beside.weigh_on.Goals as goal
 
 pub weigh_each-requires-clause-fresh : goal.weigh_each-requires-clause-fresh
-weigh_each-requires-clause-fresh g c = λ _ _. all_fresh c.args.wires c.as_mut_slice.result.now (c.as_mut_slice.ensures.value ∙ c.in_ok-slots.ensures) c.requires.sound
+weigh_each-requires-clause-fresh g c = λ _ _. all_fresh c.args.recent.now c.in_ok-processed.processed c.args.wires c.as_mut_slice.result.now (c.as_mut_slice.ensures.value ∙ c.in_ok-slots.ensures) c.requires.sound
+    (subst (λ (wires : List Parsed). All (λ wire. IsTold c.args.recent.now wire (is_noted c.in_ok-processed.processed wire)) wires) c.as_slice.ensures c.in_ok-processed.ensures)
 
 pub returns : goal.returns
 returns g c =

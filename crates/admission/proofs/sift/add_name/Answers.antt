@@ -1,4 +1,4 @@
-use Rattle.admission.proofs.SiftLaws.{name_added}
+use Rattle.status_cache.proofs.SoughtLaws.{name_added}
 use Rattle.admission.proofs.sift.add_name.Goals as goal
 
 pub returns-clause-names : goal.returns-clause-names

@@ -1,5 +1,5 @@
 use Rattle.std.proofs.Common.{◌≤◌, length, arith}
-use Rattle.admission.specs.Admission.{has_name}
+use Rattle.status_cache.specs.Recent.{has_name}
 use Rattle.admission.proofs.SiftLaws.{told_all, told_more}
 use Rattle.admission.proofs.sift.find_repeats.Goals as goal
 

@@ -1,4 +1,4 @@
-use Rattle.admission.specs.Admission.{has_name}
+use Rattle.status_cache.specs.Recent.{has_name}
 use Rattle.admission.proofs.SiftLaws.{AreTold}
 use Rattle.admission.proofs.sift.find_repeats.Given as goal
 
