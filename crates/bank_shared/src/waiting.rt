@@ -114,15 +114,16 @@ impl Waiting {
         self.queued.load(SeqCst) != 0
     }
 
-    /// A reader is about to look for the last time before it sleeps. It answers the word that each
-    /// turn changes from now on.
+    /// A reader is about to look, under a turn of its own, for the last time before it sleeps. Each
+    /// turn changes the word from now on. It answers the word as it is once that one turn has ended
+    /// and no other has.
     pub(crate) fn begin_look(&self) -> u64 {
         self.reading.store(1, SeqCst);
-        self.told.load(SeqCst)
+        self.told.load(SeqCst).wrapping_add(1)
     }
 
-    /// Waits until lanes have gone on since the look began, or the reader is dismissed, or for a
-    /// while.
+    /// Waits until another turn than the look's own has ended since the look began, or the reader is
+    /// dismissed, or for a while.
     pub(crate) fn rest_reader<R: Wait>(&self, rt: &R, word: u64) {
         if !self.is_dismissed() {
             self.told
