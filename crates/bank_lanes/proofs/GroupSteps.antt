@@ -1,6 +1,5 @@
 -- The seats of a group after one event more.
-use Rattle.std.specs.Prelude.{⊤}
-use Rattle.std.proofs.Common.{◌≡◌, ◌≢◌, ℕ, zero, suc, ◌+◌, ◌<◌, Bool, true, false, ◌||◌, List, [], ◌∷◌, ◌++◌, length, get_or, map, set, All, eqb, eq-eqb, Option, Some, None, refl, sym, ◌∙◌, ap, ap₂, subst, inl, inr, arith, append-nil}
+use Rattle.std.proofs.Common.{◌≡◌, ◌≢◌, ℕ, zero, suc, ◌+◌, ◌<◌, Bool, true, false, ◌||◌, List, [], ◌∷◌, ◌++◌, length, get_or, set, All, eqb, eq-eqb, Some, None, refl, sym, ◌∙◌, ap, ap₂, subst, inl, inr, arith, append-nil}
 use Rattle.std.specs.List.{AllWithin}
 use Rattle.std.proofs.Math.ListN.{length-set}
 use Rattle.std.proofs.lemmas.Bool.{cases_eq, eqb-true}
@@ -8,7 +7,7 @@ use Rattle.std.proofs.lemmas.List.{get_or-set_same, get_or-set_other, get_or-map
 use Rattle.std.proofs.Math.Seq.{get_or-append_seam}
 use Rattle.bank_law.specs.declared.event.Event.{Event}
 use Rattle.bank_law.specs.declared.event.EventKind.{EventKind}
-use Rattle.bank_law.specs.declared.event.EventKind.TheVariants.{Grant, Commit, Return}
+use Rattle.bank_law.specs.declared.event.EventKind.TheVariants.{Grant}
 use Rattle.bank_law.specs.Job.{Job, JobEffects}
 use Rattle.bank_law.specs.Machine.{with_event}
 use Rattle.bank_law.specs.History.{PassView, own, holds, held_after, returns, is_return}
@@ -18,18 +17,18 @@ use Rattle.bank_core.specs.Desks.{LoanView, after_event}
 use Rattle.bank_core.specs.Lanes.{is_one_of, own_of}
 use Rattle.bank_core.proofs.Lanes.{same_own}
 use Rattle.bank_core.proofs.Seats.{grown_holds, grown_returns}
+use Rattle.bank_lanes.specs.declared.gate.Passes.{Passes}
 use Rattle.bank_lanes.specs.declared.group.GroupSeat.{GroupSeat}
 use Rattle.bank_lanes.specs.declared.group.Holding.{Holding}
 use Rattle.bank_lanes.specs.declared.group.Holding.TheVariants as what
-use Rattle.bank_lanes.specs.declared.turns.LaneEnd.TheVariants.{Finished, GaveBack}
+use Rattle.bank_lanes.specs.declared.turns.LaneEnd.{LaneEnd}
 use Rattle.bank_lanes.specs.declared.turns.Found.{Found}
 use Rattle.bank_lanes.specs.declared.turns.Found.TheVariants as found
-use Rattle.bank_core.specs.Origins.{AllDoneAfter}
-use Rattle.bank_lanes.specs.Groups.{AreOwnLanes, StepsOn, IsHeldBy, seat_lanes, IsEmpty, HasKept, IsFree, MatchFound, EndsWell, IsHolding, IsOf, IsSeatOf, AreSeats}
+use Rattle.bank_lanes.specs.Groups.{AreOwnLanes, StepsOn, IsHeldBy, seat_lanes, IsEmpty, HasKept, IsFree, MatchFound, NoneNowAfter, EndsAfter, EndsWell, HasFound, IsHolding, IsNewSeat, IsOf, IsPassed, IsSeatOf, AreSeats}
 use Rattle.bank_lanes.specs.Passes.{AreItsOwn, KeepsTo}
 use Rattle.bank_lanes.specs.Steps.{GrewBy}
 use Rattle.bank_lanes.proofs.Frees.{keeps_then, keeps_step}
-use Rattle.bank_lanes.proofs.SeatSteps.{grew_by}
+use Rattle.bank_lanes.proofs.SeatSteps.{grew_by, one_of}
 
 -- one event of a lane under a turn
 pub stepped : (v w : PassView) (kind : EventKind) (lane p of : ℕ) → of ≡ lane → w ≡ after_event v kind of p → StepsOn lane v w
@@ -55,12 +54,14 @@ module _ {T L S : Type 0} (loan : L → LoanView T) (spent : S → LoanView T) (
   Sits seat seen = IsSeatOf loan spent job origin seat seen
 
   -- a loan that ended, by a commit or by a return
-  pub seat_ended : (lane : ℕ) (gave : Bool) (of : LoanView T) (old new : List Event) (kind : EventKind) → held_after kind of.position ≡ None → (gave ≡ false → is_return kind ≡ false)
-      → new ≡ with_event old kind of.lane of.position → IsHeldBy origin lane old of → Sits (record { lane = lane; holding = what.Nothing; gave_back = gave }) new
-  seat_ended lane gave of old new kind ends not_back grown h = record {
+  pub seat_ended : (lane : ℕ) (gave : Bool) (passes : Passes) (of : LoanView T) (old new : List Event) (kind : EventKind) → held_after kind of.position ≡ None → (gave ≡ false → is_return kind ≡ false)
+      → new ≡ with_event old kind of.lane of.position → passes.lane ≡ lane → IsHeldBy origin lane old of → Sits (record { lane = lane; holding = what.Nothing; gave_back = gave; passes = passes }) new
+  seat_ended lane gave passes of old new kind ends not_back grown its h = record {
     holding = subst (λ (l : ℕ). holds (own new l) ≡ None) h.lane_is (grown_holds old new kind of.lane of.position grown ∙ ends);
     once = λ kept. subst (λ (l : ℕ). returns (own new l) ≡ 0) h.lane_is
         (grown_returns old new kind of.lane of.position grown ∙ none_more (returns (own old of.lane)) (is_return kind) h.once (not_back kept));
+    passes_lane = its;
+    passed = tt;
   }
     where
       none_more : (n : ℕ) (b : Bool) → n ≡ 0 → b ≡ false → n + one_if b ≡ 0
@@ -78,17 +79,24 @@ module _ {T L S : Type 0} (loan : L → LoanView T) (spent : S → LoanView T) (
 
   -- the seat of a lane of which nothing happened
   pub seat_stays : (seat : Seat) (old new : List Event) → own new seat.lane ≡ own old seat.lane → Sits seat old → Sits seat new
-  seat_stays seat old new e s = record { holding = holding_stays seat.holding seat.lane old new e s.holding; once = λ kept. ap returns e ∙ s.once kept }
+  seat_stays seat old new e s = record {
+    holding = holding_stays seat.holding seat.lane old new e s.holding;
+    once = λ kept. ap returns e ∙ s.once kept;
+    passes_lane = s.passes_lane;
+    passed = s.passed;
+  }
 
   -- a seat that was lent a position
-  pub seat_lent : (lane : ℕ) (gave : Bool) (l : L) (of : LoanView T) (position : ℕ) (old new : List Event) → loan l ≡ of → new ≡ with_event old Grant lane position → of.lane ≡ lane → of.position ≡ position → of.origin ≡ origin → returns (own old lane) ≡ 0
-      → Sits (record { lane = lane; holding = what.Loan l; gave_back = gave }) new
-  seat_lent lane gave l of position old new seen grown on at from none =
+  pub seat_lent : (lane : ℕ) (gave : Bool) (passes : Passes) (l : L) (of : LoanView T) (position : ℕ) (old new : List Event) → loan l ≡ of → new ≡ with_event old Grant lane position → of.lane ≡ lane → of.position ≡ position → of.origin ≡ origin → returns (own old lane) ≡ 0 → passes.lane ≡ lane
+      → Sits (record { lane = lane; holding = what.Loan l; gave_back = gave; passes = passes }) new
+  seat_lent lane gave passes l of position old new seen grown on at from none its =
       let back : returns (own new lane) ≡ 0 = (let a = grown_returns old new Grant lane position grown in omega (arith, a, none)) in
       record {
         holding = subst (IsHeldBy origin lane new) (sym seen)
             (record { lane_is = on; origin_is = from; held = ap (λ (k : ℕ). holds (own new k)) on ∙ (grown_holds old new Grant lane position grown ∙ ap Some (sym at)); once = ap (λ (k : ℕ). returns (own new k)) on ∙ back });
         once = λ _. back;
+        passes_lane = its;
+        passed = tt;
       }
 
   -- a loan that was performed
@@ -190,50 +198,70 @@ module _ {T L S : Type 0} (loan : L → LoanView T) (spent : S → LoanView T) (
       by_case false e t rest = let r = rest t in (suc r.0, omega (arith, r.1), r.2)
 
   -- empty seats' lanes hold nothing
-  pub none_held : (lanes : List ℕ) (seats : List Seat) (seen : List Event) (d : Seat) → AreSeats loan spent job origin lanes seats seen → All IsEmpty seats → (l : ℕ) → is_one_of (seat_lanes seats) l ≡ true → holds (own seen l) ≡ None
-  none_held lanes seats seen d all empty l is =
+  pub none_held : (lanes : List ℕ) (seats : List Seat) (seen : List Event) → AreSeats loan spent job origin lanes seats seen → All IsEmpty seats → (l : ℕ) → is_one_of (seat_lanes seats) l ≡ true → holds (own seen l) ≡ None
+  none_held lanes seats seen all empty l is =
       let r = place_of (seat_lanes seats) l is in
       let here : r.0 < length seats = (let n = lanes_length seats in omega (arith, r.1, n)) in
+      let d = one_of seats r.0 here in
       let seat = get_or seats r.0 d in
       let free : holds (own seen seat.lane) ≡ None = subst (λ (x : Holding L S). IsHolding loan spent job origin x seat.lane seen) (empty r.0 d here) (all.each r.0 d here).holding in
       subst (λ (n : ℕ). holds (own seen n) ≡ None) (sym (lane_at seats r.0 d here) ∙ r.2) free
 
   -- the lanes of seats that have kept have given nothing back
-  pub none_back : (lanes : List ℕ) (seats : List Seat) (seen : List Event) (d : Seat) → AreSeats loan spent job origin lanes seats seen → All HasKept seats → (l : ℕ) → is_one_of (seat_lanes seats) l ≡ true → returns (own seen l) ≡ 0
-  none_back lanes seats seen d all kept l is =
+  pub none_back : (lanes : List ℕ) (seats : List Seat) (seen : List Event) → AreSeats loan spent job origin lanes seats seen → All HasKept seats → (l : ℕ) → is_one_of (seat_lanes seats) l ≡ true → returns (own seen l) ≡ 0
+  none_back lanes seats seen all kept l is =
       let r = place_of (seat_lanes seats) l is in
       let here : r.0 < length seats = (let n = lanes_length seats in omega (arith, r.1, n)) in
+      let d = one_of seats r.0 here in
       subst (λ (n : ℕ). returns (own seen n) ≡ 0) (sym (lane_at seats r.0 d here) ∙ r.2) ((all.each r.0 d here).once (kept r.0 d here))
 
   -- what one seat found, of seats that were all free
-  pub found_one : (f : Found) (seat : Seat) (seats : List Seat) (v : PassView) → All HasKept seats → (IsEmpty seat → All IsEmpty seats)
-      → MatchFound f ⊤ (IsEmpty seat) (λ end. IsEmpty seat × (end ≢ GaveBack) × (end ≡ Finished → AllDoneAfter job origin v.seen))
-      → MatchFound f (All HasKept seats) (All IsFree seats) (λ end. EndsWell job origin end seats v)
-  found_one found.Loan seat seats v kept empty h = kept
-  found_one found.Nothing seat seats v kept empty h = λ k d l. (empty h k d l, kept k d l)
-  found_one (found.End end) seat seats v kept empty h = record { empty = empty h.0; kept = λ _. kept; done = h.2 }
+  pub found_one : (f : Found) (seat : Seat) (seats : List Seat) (v w : PassView) → All HasKept seats → (IsEmpty seat → All IsEmpty seats)
+      → HasFound loan spent job origin f seat v w
+      → MatchFound f (All HasKept seats) (All IsFree seats × NoneNowAfter job origin w.seen) (λ end. EndsWell job origin end seats w)
+  found_one found.Loan seat seats v w kept empty h = kept
+  found_one found.Nothing seat seats v w kept empty h = (λ k d l. (empty h.0 k d l, kept k d l), subst (λ (x : PassView). NoneNowAfter job origin x.seen) (sym h.1) h.2)
+  found_one (found.End end) seat seats v w kept empty h =
+      let ends : EndsAfter job origin end w.seen = subst (λ (x : PassView). EndsAfter job origin end x.seen) (sym h.1) h.2 in
+      record {
+        empty = empty h.0;
+        kept = λ _. kept;
+        done = λ e. subst (λ (x : LaneEnd). EndsAfter job origin x w.seen) e ends;
+        short = λ e. subst (λ (x : LaneEnd). EndsAfter job origin x w.seen) e ends;
+      }
 
-  -- a first seat, and one more
-  abbrev pub fresh : ℕ → Seat
-  fresh l = record { lane = l; holding = what.Nothing; gave_back = false }
+  -- a new seat
+  seat_new : (seat : Seat) (l : ℕ) (seen : List Event) → IsNewSeat l seat → holds (own seen l) ≡ None → returns (own seen l) ≡ 0 → Sits seat seen
+  seat_new seat l seen new free none = record {
+    holding = subst (λ (x : Holding L S). IsHolding loan spent job origin x seat.lane seen) (sym new.empty) (ap (λ n. holds (own seen n)) new.lane_is ∙ free);
+    once = λ kept. ap (λ n. returns (own seen n)) new.lane_is ∙ none;
+    passes_lane = new.passes.lane_is ∙ sym new.lane_is;
+    passed = subst (λ (x : Holding L S). IsPassed spent x seat.passes) (sym new.empty) tt;
+  }
 
-  pub first_seats : (lanes : List ℕ) (l : ℕ) (seen : List Event) → is_one_of lanes l ≡ true → holds (own seen l) ≡ None → returns (own seen l) ≡ 0 → AreSeats loan spent job origin lanes (fresh l ∷ []) seen
-  first_seats lanes l seen one free none = record { lanes_are = record { within = within; apart = apart }; each = each }
+  -- a first one, and one more
+  first_one : (lanes : List ℕ) (seat : Seat) (l : ℕ) (seen : List Event) → IsNewSeat l seat → is_one_of lanes l ≡ true → holds (own seen l) ≡ None → returns (own seen l) ≡ 0 → AreSeats loan spent job origin lanes (seat ∷ []) seen
+  first_one lanes seat l seen new one free none = record { lanes_are = record { within = within; apart = apart }; each = each }
     where
-      within : (k : ℕ) → k < 1 → is_one_of lanes (get_or (l ∷ []) k 0) ≡ true
-      within zero lt = one
+      within : (k : ℕ) → k < 1 → is_one_of lanes (get_or (seat.lane ∷ []) k 0) ≡ true
+      within zero lt = subst (λ (n : ℕ). is_one_of lanes n ≡ true) (sym new.lane_is) one
       within (suc k) lt = absurd (omega (arith, lt))
 
-      apart : (j k : ℕ) → j < 1 → k < 1 → get_or (l ∷ []) j 0 ≡ get_or (l ∷ []) k 0 → j ≡ k
+      apart : (j k : ℕ) → j < 1 → k < 1 → get_or (seat.lane ∷ []) j 0 ≡ get_or (seat.lane ∷ []) k 0 → j ≡ k
       apart j k a b e = omega (arith, a, b)
 
-      each : (k : ℕ) (d : Seat) → k < 1 → Sits (get_or (fresh l ∷ []) k d) seen
-      each zero d lt = record { holding = free; once = λ kept. none }
+      each : (k : ℕ) (d : Seat) → k < 1 → Sits (get_or (seat ∷ []) k d) seen
+      each zero d lt = seat_new seat l seen new free none
       each (suc k) d lt = absurd (omega (arith, lt))
 
-  pub seats_pushed : (before lanes : List ℕ) (seats : List Seat) (l : ℕ) (seen : List Event) → AreOwnLanes before (seat_lanes seats) → is_one_of before l ≡ false → AreSeats loan spent job origin lanes seats seen
-      → is_one_of lanes l ≡ true → holds (own seen l) ≡ None → returns (own seen l) ≡ 0 → AreSeats loan spent job origin lanes (seats ++ fresh l ∷ []) seen
-  seats_pushed before lanes seats l seen was not_one all one free none = record {
+  pub first_seats : (lanes : List ℕ) (seats : List Seat) (l : ℕ) (seen : List Event) → length seats ≡ 1 → All (IsNewSeat l) seats → is_one_of lanes l ≡ true → holds (own seen l) ≡ None → returns (own seen l) ≡ 0 → AreSeats loan spent job origin lanes seats seen
+  first_seats lanes [] l seen long new one free none = absurd (omega (arith, long))
+  first_seats lanes (seat ∷ []) l seen long new one free none = first_one lanes seat l seen (new 0 seat (omega arith)) one free none
+  first_seats lanes (x ∷ y ∷ seats) l seen long new one free none = absurd (omega (arith, long))
+
+  pub seats_pushed : (before lanes : List ℕ) (seats : List Seat) (seat : Seat) (l : ℕ) (seen : List Event) → IsNewSeat l seat → AreOwnLanes before (seat_lanes seats) → is_one_of before l ≡ false → AreSeats loan spent job origin lanes seats seen
+      → is_one_of lanes l ≡ true → holds (own seen l) ≡ None → returns (own seen l) ≡ 0 → AreSeats loan spent job origin lanes (seats ++ seat ∷ []) seen
+  seats_pushed before lanes seats seat l seen new was not_one all one free none = record {
     lanes_are = subst (AreOwnLanes lanes) (sym (map_push seats)) (record { within = within; apart = apart });
     each = each;
   }
@@ -241,8 +269,8 @@ module _ {T L S : Type 0} (loan : L → LoanView T) (spent : S → LoanView T) (
       mine : List ℕ
       mine = seat_lanes seats
 
-      map_push : (xs : List Seat) → seat_lanes (xs ++ fresh l ∷ []) ≡ seat_lanes xs ++ l ∷ []
-      map_push [] = refl
+      map_push : (xs : List Seat) → seat_lanes (xs ++ seat ∷ []) ≡ seat_lanes xs ++ l ∷ []
+      map_push [] = ap (λ (n : ℕ). n ∷ []) new.lane_is
       map_push (x ∷ xs) = ap (λ (ns : List ℕ). x.lane ∷ ns) (map_push xs)
 
       long : {X : Type 0} (xs : List X) (x : X) → length (xs ++ x ∷ []) ≡ suc (length xs)
@@ -279,10 +307,10 @@ module _ {T L S : Type 0} (loan : L → LoanView T) (spent : S → LoanView T) (
         ]
       ]
 
-      each : (k : ℕ) (d : Seat) → k < length (seats ++ fresh l ∷ []) → Sits (get_or (seats ++ fresh l ∷ []) k d) seen
+      each : (k : ℕ) (d : Seat) → k < length (seats ++ seat ∷ []) → Sits (get_or (seats ++ seat ∷ []) k d) seen
       each k d lt = elim (cases_eq k (length seats)) [
-        | inl e ↦ subst (λ (x : Seat). Sits x seen) (sym (ap (λ (j : ℕ). get_or (seats ++ fresh l ∷ []) j d) e ∙ get_or-append_seam seats (fresh l) [] d)) (record { holding = free; once = λ kept. none })
-        | inr n ↦ let here : k < length seats = (let m = long seats (fresh l) in omega (arith, lt, m, n)) in subst (λ (x : Seat). Sits x seen) (sym (get_or_append_left seats (fresh l ∷ []) d k here)) (all.each k d here)
+        | inl e ↦ subst (λ (x : Seat). Sits x seen) (sym (ap (λ (j : ℕ). get_or (seats ++ seat ∷ []) j d) e ∙ get_or-append_seam seats seat [] d)) (seat_new seat l seen new free none)
+        | inr n ↦ let here : k < length seats = (let m = long seats seat in omega (arith, lt, m, n)) in subst (λ (x : Seat). Sits x seen) (sym (get_or_append_left seats (seat ∷ []) d k here)) (all.each k d here)
       ]
 
 -- what holds of what stands from one place on, whatever becomes of that one

@@ -1,4 +1,6 @@
 pub mod Rests
 pub mod SeatSteps
 pub mod Frees
+pub mod GateSteps
 pub mod GroupSteps
+pub mod Lends

@@ -14,7 +14,7 @@ use Rattle.bank_core.specs.declared.origin.Origin.{Origin}
 use Rattle.bank_core.specs.Takes.{HasLoanOf}
 use Rattle.bank_core.proofs.Seats.{grown_holds, grown_returns, grown_others}
 use Rattle.bank_lanes.specs.declared.seats.Seat.{Seat}
-use Rattle.bank_lanes.specs.Seats.{fresh_seat, IsEmptySeat, IsSeatOf, AreSeats, sitting}
+use Rattle.bank_lanes.specs.Seats.{AreNewSeats, IsEmptySeat, IsSeatOf, AreSeats, sitting}
 use Rattle.bank_lanes.specs.Steps.{GrewBy}
 
 -- one event more is one of its lane alone
@@ -23,6 +23,11 @@ grew_by journal next kind lane p e = record {
   longer = (record { kind = kind; lane = lane; position = p } ∷ [], sym e);
   others = grown_others journal next kind lane p e;
 }
+
+-- an element of a list that has one
+pub one_of : {X : Type 0} (xs : List X) (k : ℕ) → k < length xs → X
+one_of [] k l = absurd (omega (arith, l))
+one_of (x ∷ xs) k l = x
 
 module _ {W T : Type 0} {G : _} where
   -- a lane with an empty seat holds nothing
@@ -40,6 +45,7 @@ module _ {W T : Type 0} {G : _} where
     loan = loan_stays seat.loan origin next old new lane q e s.loan;
     once = λ f. ap returns e ∙ s.once f;
     out = s.out;
+    passes = s.passes;
   }
 
   -- a loan into the seat of a lane that gave nothing back
@@ -51,6 +57,7 @@ module _ {W T : Type 0} {G : _} where
         loan = (of, from ∙ sym q, grown_holds old new Grant lane loan.position grown);
         once = λ f. let a = grown_returns old new Grant lane loan.position grown in let b = s.once here in omega (arith, a, b);
         out = λ t. absurd (cc);
+        passes = s.passes;
       })
 
   -- one event more of a loan's lane
@@ -63,23 +70,25 @@ module _ {W T : Type 0} {G : _} where
 
   -- the seat once its loan was committed, and once it was given back
   pub seat_committed : (seat new_seat : Seat W T G) (origin next : Origin T) (old new : List Event) (lane : ℕ) (loan : Loan W T G) → new ≡ with_event old Commit loan.lane loan.position
-      → seat.loan ≡ Some loan → IsEmptySeat new_seat → new_seat.gave_back ≡ seat.gave_back → IsSeatOf seat origin old lane → IsSeatOf new_seat next new lane
-  seat_committed seat new_seat origin next old new lane loan grown has empty same s =
+      → seat.loan ≡ Some loan → IsEmptySeat new_seat → new_seat.gave_back ≡ seat.gave_back → new_seat.passes.lane ≡ seat.passes.lane → IsSeatOf seat origin old lane → IsSeatOf new_seat next new lane
+  seat_committed seat new_seat origin next old new lane loan grown has empty same its s =
       let grown' = (seat_grew seat origin old new Commit lane loan grown has s).0 in
       record {
         loan = subst (λ (o : Option (Loan W T G)). HasLoanOf o next new lane) (sym empty) (grown_holds old new Commit lane loan.position grown');
         once = λ f. let a = grown_returns old new Commit lane loan.position grown' in let b = s.once (sym same ∙ f) in omega (arith, a, b);
         out = λ t. empty;
+        passes = its ∙ s.passes;
       }
 
   pub seat_returned : (seat new_seat : Seat W T G) (origin next : Origin T) (old new : List Event) (lane : ℕ) (loan : Loan W T G) → new ≡ with_event old Return loan.lane loan.position
-      → seat.loan ≡ Some loan → IsEmptySeat new_seat → new_seat.gave_back ≡ true → IsSeatOf seat origin old lane → IsSeatOf new_seat next new lane
-  seat_returned seat new_seat origin next old new lane loan grown has empty out s =
+      → seat.loan ≡ Some loan → IsEmptySeat new_seat → new_seat.gave_back ≡ true → new_seat.passes.lane ≡ seat.passes.lane → IsSeatOf seat origin old lane → IsSeatOf new_seat next new lane
+  seat_returned seat new_seat origin next old new lane loan grown has empty out its s =
       let grown' = (seat_grew seat origin old new Return lane loan grown has s).0 in
       record {
         loan = subst (λ (o : Option (Loan W T G)). HasLoanOf o next new lane) (sym empty) (grown_holds old new Return lane loan.position grown');
         once = λ f. absurd (cc);
         out = λ t. empty;
+        passes = its ∙ s.passes;
       }
 
   -- one seat changes, as one lane's events do
@@ -97,21 +106,25 @@ module _ {W T : Type 0} {G : _} where
   -- seats of which the loans and the marks stay
   pub seats_same : (old new : List (Seat W T G)) (origin : Origin T) (journal : List Event) → sitting new ≡ sitting old → AreSeats old origin journal → AreSeats new origin journal
   seats_same old new origin journal same all lane d l =
-      let long : length new ≡ length old = sym (length-map new (λ (s : Seat W T G). (s.loan, s.gave_back))) ∙ (ap length same ∙ length-map old (λ (s : Seat W T G). (s.loan, s.gave_back))) in
+      let f : Seat W T G → Option (Loan W T G) × Bool × ℕ = λ s. (s.loan, s.gave_back, s.passes.lane) in
+      let long : length new ≡ length old = sym (length-map new f) ∙ (ap length same ∙ length-map old f) in
       let here : lane < length old = omega (arith, l, long) in
-      let e = sym (get_or-map (λ (s : Seat W T G). (s.loan, s.gave_back)) new lane d (d.loan, d.gave_back) l) ∙ (ap (λ xs. get_or xs lane (d.loan, d.gave_back)) same ∙ get_or-map (λ (s : Seat W T G). (s.loan, s.gave_back)) old lane d (d.loan, d.gave_back) here) in
+      let e = sym (get_or-map f new lane d (f d) l) ∙ (ap (λ xs. get_or xs lane (f d)) same ∙ get_or-map f old lane d (f d) here) in
       let loan = ap (λ p. p.0) e in
       let mark = ap (λ p. p.1) e in
       let s = all lane d here in
       record {
         loan = subst (λ (o : Option (Loan W T G)). HasLoanOf o origin journal lane) (sym loan) s.loan;
-        once = λ f. s.once (sym mark ∙ f);
+        once = λ g. s.once (sym mark ∙ g);
         out = λ t. loan ∙ s.out (sym mark ∙ t);
+        passes = ap (λ p. p.2) e ∙ s.passes;
       }
 
   -- no lane with a seat holds anything where all seats are empty
   pub all_hold_none : (seats : List (Seat W T G)) (origin : Origin T) (journal : List Event) → AreSeats seats origin journal → All IsEmptySeat seats → (lane : ℕ) → lane < length seats → holds (own journal lane) ≡ None
-  all_hold_none seats origin journal all empty lane l = empty_holds (get_or seats lane fresh_seat) origin journal lane (empty lane fresh_seat l) (all lane fresh_seat l)
+  all_hold_none seats origin journal all empty lane l =
+      let d = one_of seats lane l in
+      empty_holds (get_or seats lane d) origin journal lane (empty lane d l) (all lane d l)
 
   -- seats that were moved
   pub seats_move : (seats seats' : List (Seat W T G)) (origin next : Origin T) (old new : List Event) → seats' ≡ seats → next ≡ origin → new ≡ old → AreSeats seats origin old → AreSeats seats' next new
@@ -133,26 +146,28 @@ module _ {W T : Type 0} {G : _} where
       subst (λ (x : List (Seat W T G)). AllWithin P x (at + 1) (length x)) (sym e) (λ k d a b. all k d (omega (arith, a)) b)
 
   -- seats of which each has the loan and the mark that it had
-  pub sitting_same : (old new : List (Seat W T G)) → length new ≡ length old → ((k : ℕ) (d : Seat W T G) → k < length old → ((get_or new k d).loan ≡ (get_or old k d).loan) × ((get_or new k d).gave_back ≡ (get_or old k d).gave_back))
+  pub sitting_same : (old new : List (Seat W T G)) → length new ≡ length old → ((k : ℕ) (d : Seat W T G) → k < length old → ((get_or new k d).loan ≡ (get_or old k d).loan) × ((get_or new k d).gave_back ≡ (get_or old k d).gave_back) × ((get_or new k d).passes.lane ≡ (get_or old k d).passes.lane))
       → sitting new ≡ sitting old
   sitting_same old new long same =
-      let f : Seat W T G → Option (Loan W T G) × Bool = λ s. (s.loan, s.gave_back) in
+      let f : Seat W T G → Option (Loan W T G) × Bool × ℕ = λ s. (s.loan, s.gave_back, s.passes.lane) in
       let m = length-map new f in
       let n = length-map old f in
-      ext_get_or (None, false) (sitting new) (sitting old) (m ∙ (long ∙ sym n))
+      ext_get_or (None, false, 0) (sitting new) (sitting old) (m ∙ (long ∙ sym n))
       (λ k l.
       let here : k < length new = omega (arith, l, m) in
       let there : k < length old = omega (arith, here, long) in
-      let s = same k fresh_seat there in
-      get_or-map f new k fresh_seat (None, false) here ∙ ((λ i. (s.0 i, s.1 i)) ∙ sym (get_or-map f old k fresh_seat (None, false) there)))
+      let d = one_of old k there in
+      let s = same k d there in
+      get_or-map f new k d (None, false, 0) here ∙ ((λ i. (s.0 i, s.1 i, s.2 i)) ∙ sym (get_or-map f old k d (None, false, 0) there)))
 
-  -- fresh seats, where no lane holds anything or has given anything back
-  pub fresh_seats : (seats : List (Seat W T G)) (origin : Origin T) (journal : List Event) → All (λ seat. IsEmptySeat seat × (seat.gave_back ≡ false)) seats
+  -- new seats, where no lane holds anything or has given anything back
+  pub new_seats : (seats : List (Seat W T G)) (origin : Origin T) (journal : List Event) → AreNewSeats seats
       → ((lane : ℕ) → holds (own journal lane) ≡ None) → ((lane : ℕ) → returns (own journal lane) ≡ 0) → AreSeats seats origin journal
-  fresh_seats seats origin journal fresh free once lane d l =
-      let f = fresh lane d l in
+  new_seats seats origin journal new free once lane d l =
+      let n = new lane d l in
       record {
-        loan = subst (λ (o : Option (Loan W T G)). HasLoanOf o origin journal lane) (sym f.0) (free lane);
+        loan = subst (λ (o : Option (Loan W T G)). HasLoanOf o origin journal lane) (sym n.empty) (free lane);
         once = λ e. once lane;
-        out = λ e. f.0;
+        out = λ e. n.empty;
+        passes = n.passes.lane_is;
       }

@@ -1,19 +1,23 @@
 -- The seats of a group of lane numbers.
-use Rattle.std.specs.Prelude.{◌≡◌, ◌≢◌, ℕ, ◌<◌, ⊤, Bool, true, false, List, map, length, slice_index_or, All, Some, None}
+use Rattle.std.specs.Prelude.{◌≡◌, ◌≢◌, ℕ, ◌<◌, ⊤, true, false, List, map, length, slice_index_or, All, Some, None}
 use Rattle.bank_law.specs.declared.event.Event.{Event}
 use Rattle.bank_law.specs.Job.{Job}
 use Rattle.bank_law.specs.History.{PassView, own, holds, returns}
+use Rattle.bank_law.specs.Machine.{held_count}
 use Rattle.bank_core.specs.declared.origin.Origin.{Origin}
 use Rattle.bank_core.specs.Effects.{effects_seen}
 use Rattle.bank_core.specs.Desks.{LoanView}
 use Rattle.bank_core.specs.Lanes.{is_one_of}
-use Rattle.bank_core.specs.Origins.{AllDoneAfter}
+use Rattle.bank_core.specs.Origins.{AllDoneAfter, IsLeastReadyAfter, state_after}
+use Rattle.bank_core.specs.Takes.{IsNotNowAfter, ReadsLeastAfter}
+use Rattle.bank_lanes.specs.Gates.{HasJustPassed, HasNoPasses, HasPassedOnce}
 use Rattle.bank_lanes.specs.Steps.{GrewBy}
+use Rattle.bank_lanes.specs.declared.gate.Passes.{Passes}
 use Rattle.bank_lanes.specs.declared.group.GroupSeat.{GroupSeat}
 use Rattle.bank_lanes.specs.declared.group.Holding.{Holding}
 use Rattle.bank_lanes.specs.declared.group.Holding.TheVariants as what
 use Rattle.bank_lanes.specs.declared.turns.LaneEnd.{LaneEnd}
-use Rattle.bank_lanes.specs.declared.turns.LaneEnd.TheVariants.{Finished, GaveBack}
+use Rattle.bank_lanes.specs.declared.turns.LaneEnd.TheVariants.{Finished, NoShare, GaveBack}
 use Rattle.bank_lanes.specs.declared.turns.Found.{Found}
 use Rattle.bank_lanes.specs.declared.turns.Found.TheVariants as found
 
@@ -43,6 +47,20 @@ MatchFound found.Loan f g h = f
 MatchFound found.Nothing f g h = g
 MatchFound (found.End end) f g h = h end
 
+module _ {T : Type 0} (job : T → Job) (origin : Origin T) where
+  -- no position is ready, and some are held
+  abbrev pub NoneNowAfter : List Event → Type 0
+  NoneNowAfter seen =
+      IsNotNowAfter job origin seen
+      (held_count (job origin.told) (state_after job origin seen))
+
+  -- why no lane is lent anything more: all positions are done, or the least ready one reads an
+  -- account of which there was no share
+  abbrev pub EndsAfter : LaneEnd → List Event → Type 0
+  EndsAfter Finished seen = AllDoneAfter job origin seen
+  EndsAfter NoShare seen = ReadsLeastAfter job origin seen
+  EndsAfter GaveBack seen = ⊥
+
 module _ {L S : Type 0} where
   -- the lane numbers of seats
   abbrev pub seat_lanes : List (GroupSeat L S) → List ℕ
@@ -58,13 +76,33 @@ module _ {L S : Type 0} where
   abbrev pub IsFree : GroupSeat L S → Type 0
   IsFree seat = IsEmpty seat × HasKept seat
 
-  -- at the end all seats are empty, one gave back only where the end says so, and where it is
-  -- finished all positions are done
+  -- the seat of a lane that was lent nothing yet
+  pub record IsNewSeat (lane : ℕ) (seat : GroupSeat L S) : Type 0 where
+    pub lane_is : seat.lane ≡ lane
+    pub empty : IsEmpty seat
+    pub kept : HasKept seat
+    pub passes : HasNoPasses lane seat.passes
+
+  -- the gate is passed once for a loan that is not performed yet, and else not
+  abbrev pub PassesFor : {T : Type 0} → (L → LoanView T) → Holding L S → Passes → Passes → Type 0
+  PassesFor loan what.Nothing old new = new ≡ old
+  PassesFor loan (what.Loan l) old new = HasPassedOnce old (loan l).position new
+  PassesFor loan (what.Performed s effects) old new = new ≡ old
+
+  -- what is performed was passed, and nothing after it
+  abbrev pub IsPassed : {T : Type 0} → (S → LoanView T) → Holding L S → Passes → Type 0
+  IsPassed spent what.Nothing passes = ⊤
+  IsPassed spent (what.Loan l) passes = ⊤
+  IsPassed spent (what.Performed s effects) passes = HasJustPassed (spent s).position passes
+
+  -- at the end all seats are empty, one gave back only where the end says so, where it is finished
+  -- all positions are done, and where there was no share it was one of the least ready position
   pub record EndsWell {T : Type 0} (job : T → Job) (origin : Origin T) (end : LaneEnd)
       (seats : List (GroupSeat L S)) (v : PassView) : Type 0 where
     pub empty : All IsEmpty seats
     pub kept : end ≢ GaveBack → All HasKept seats
-    pub done : end ≡ Finished → AllDoneAfter job origin v.seen
+    pub done : end ≡ Finished → EndsAfter job origin Finished v.seen
+    pub short : end ≡ NoShare → EndsAfter job origin NoShare v.seen
 
   module _ {T : Type 0} (loan : L → LoanView T) (spent : S → LoanView T) (job : T → Job)
       (origin : Origin T) where
@@ -77,10 +115,27 @@ module _ {L S : Type 0} where
         IsHeldBy origin lane seen (spent s)
         × (effects_seen effects ≡ (job origin.told).effects (spent s).position (spent s).values)
 
-    -- the seat of a lane: its lane has given something back only where it says so
+    -- what was lent is the position that was the least ready
+    abbrev pub HoldsLeast : Holding L S → List Event → Type 0
+    HoldsLeast what.Nothing seen = ⊥
+    HoldsLeast (what.Loan l) seen = IsLeastReadyAfter job origin seen (loan l).position
+    HoldsLeast (what.Performed s effects) seen = ⊥
+
+    -- What a lend finds, with the seat that it leaves: a loan of the position that was the least
+    -- ready; or nothing, and then nothing happened, and no position was ready, or none could be
+    -- lent any more.
+    abbrev pub HasFound : Found → GroupSeat L S → PassView → PassView → Type 0
+    HasFound found.Loan seat v w = HoldsLeast seat.holding v.seen
+    HasFound found.Nothing seat v w = IsEmpty seat × (w ≡ v) × NoneNowAfter job origin v.seen
+    HasFound (found.End end) seat v w = IsEmpty seat × (w ≡ v) × EndsAfter job origin end v.seen
+
+    -- the seat of a lane: its lane has given something back only where it says so, and has passed the
+    -- gate for what is performed
     pub record IsSeatOf (seat : GroupSeat L S) (seen : List Event) : Type 0 where
       pub holding : IsHolding seat.holding seat.lane seen
       pub once : seat.gave_back ≡ false → returns (own seen seat.lane) ≡ 0
+      pub passes_lane : seat.passes.lane ≡ seat.lane
+      pub passed : IsPassed spent seat.holding seat.passes
 
     -- seats of lanes of a pass
     pub record AreSeats (lanes : List ℕ) (seats : List (GroupSeat L S)) (seen : List Event)

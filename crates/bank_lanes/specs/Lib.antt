@@ -1,3 +1,4 @@
+pub mod Gates
 pub mod Steps
 pub mod Seats
 pub mod Passes

@@ -5,7 +5,6 @@ use Rattle.bank_law.specs.History.{PassView, own, holds, returns}
 use Rattle.sol_base.specs.Accounts.{accounts_of}
 use Rattle.bank_core.specs.declared.loan.Loan.{Loan}
 use Rattle.bank_core.specs.Lanes.{is_one_of}
-use Rattle.bank_core.specs.declared.origin.Origin.{Origin}
 use Rattle.bank_core.specs.Desks.{LoanView, SeesNoneOf}
 
 -- the lane holds nothing, and has given nothing back

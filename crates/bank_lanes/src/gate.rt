@@ -1,4 +1,12 @@
-/// What a lane passes after each grant, outside any turn, before it works. It answers nothing.
+//! Gates, which a lane passes before it works on a position.
+ghost use Rattle.std.specs.Prelude.{◌≡◌, ◌∷◌, ◌++◌, []};
+ghost use Rattle.bank_lanes.specs.Gates.{HasJustPassed, HasNoPasses, HasPassedOnce};
+
+use proof_note::Note;
+use sol_base::Items;
+
+/// What a lane passes after each grant, outside any turn, before it works. It answers nothing, so a
+/// loop shows by a record that it was passed: `Passes`.
 pub trait Gate: Sync {
     fn pass(&self, lane: u32, position: u32);
 }
@@ -9,4 +17,47 @@ pub struct OpenGate;
 
 impl Gate for OpenGate {
     fn pass(&self, _lane: u32, _position: u32) {}
+}
+
+/// The record of a lane's passes: the positions before which it has passed its gate, in their
+/// order. Nothing but `pass` goes on with it.
+#[derive(Drop)]
+pub struct Passes {
+    lane: u32,
+    positions: Note<Items<u32>>,
+}
+
+/// Notes that nothing was passed yet.
+fn no_positions(lane: u32) -> Note<Items<u32>>
+    ensures { result.value ≡ [] }
+{
+    Note::told_by(&lane)
+}
+
+/// Notes one position more.
+fn one_more(positions: &Note<Items<u32>>, position: u32) -> Note<Items<u32>>
+    ensures { result.value ≡ positions.now.value ++ position ∷ [] }
+{
+    Note::told_by(&(positions, position))
+}
+
+impl Passes {
+    /// No passes yet.
+    pub fn none(lane: u32) -> Passes
+        ensures { HasNoPasses lane result }
+    {
+        Passes {
+            lane,
+            positions: no_positions(lane),
+        }
+    }
+
+    /// Passes the gate before a position.
+    pub fn pass<G: Gate>(&mut self, gate: &G, position: u32)
+        ensures once { HasPassedOnce self.old position self.new }
+        ensures last { HasJustPassed position self.new }
+    {
+        gate.pass(self.lane, position);
+        self.positions = one_more(&self.positions, position);
+    }
 }

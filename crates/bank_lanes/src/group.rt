@@ -1,11 +1,12 @@
 //! The lane numbers of a group: what each of them holds between the turns.
 ghost use Rattle.std.specs.Prelude.{◌≡◌, ℕ, List, All, false};
 ghost use Rattle.bank_law.specs.declared.event.Event.{Event};
-ghost use Rattle.bank_lanes.specs.Groups.{IsEmpty, IsHeldBy, IsHolding, IsOf, IsSeatOf, AreSeats, HasKept, seat_lanes};
+ghost use Rattle.bank_lanes.specs.Gates.{HasPassedOnce};
+ghost use Rattle.bank_lanes.specs.Groups.{IsEmpty, IsHeldBy, IsHolding, IsNewSeat, IsOf, IsPassed, IsSeatOf, AreSeats, HasKept, PassesFor, seat_lanes};
 ghost use Rattle.bank_lanes.specs.Passes.{SeesLoans};
 ghost use Rattle.bank_lanes.specs.declared.group.Holding.TheVariants.{Nothing};
 
-use crate::gate::Gate;
+use crate::gate::{Gate, Passes};
 use bank_core::{Desk, Effects, Loan, Work};
 use std::mem;
 
@@ -16,22 +17,24 @@ pub(crate) enum Holding<L, S> {
     Performed(S, Effects),
 }
 
-/// A lane number of a group: what it holds, and whether it has given anything back.
+/// A lane number of a group: what it holds, whether it has given anything back, and its passes.
 pub(crate) struct GroupSeat<L, S> {
     pub(crate) lane: u32,
     pub(crate) holding: Holding<L, S>,
     pub(crate) gave_back: bool,
+    pub(crate) passes: Passes,
 }
 
 impl<L, S> GroupSeat<L, S> {
     /// The seat of a lane that was lent nothing yet.
     pub(crate) fn new(lane: u32) -> GroupSeat<L, S>
-        ensures { result ≡ record { lane = lane; holding = Nothing; gave_back = false } }
+        ensures { IsNewSeat lane result }
     {
         GroupSeat {
             lane,
             holding: Holding::Nothing,
             gave_back: false,
+            passes: Passes::none(lane),
         }
     }
 
@@ -63,6 +66,7 @@ impl<L, S> GroupSeat<L, S> {
             lane: _,
             holding,
             gave_back: _,
+            passes: _,
         } = self;
         match holding {
             Holding::Nothing => {}
@@ -77,17 +81,20 @@ impl<L, S> GroupSeat<L, S> {
 fn performed<W: Work, D: Desk<W, Loan = Loan<W>>, G: Gate>(
     desk: &D,
     loan: Loan<W>,
+    passes: &mut Passes,
     work: &W,
     gate: &G,
 ) -> Holding<Loan<W>, D::Spent>
     requires loans { SeesLoans D.loan }
     requires told { (D.origin desk.now).told ≡ W.told work.now }
     requires of { loan.origin.value ≡ D.origin desk.now }
-    ensures { (lane : ℕ) (seen : List Event)
+    ensures once { HasPassedOnce passes.old loan.position passes.new }
+    ensures passed { IsPassed D.spent result passes.new }
+    ensures holding { (lane : ℕ) (seen : List Event)
         → IsHeldBy (D.origin desk.now) lane seen (D.loan loan)
         → IsHolding D.loan D.spent W.job (D.origin desk.now) result lane seen }
 {
-    gate.pass(loan.lane(), loan.position());
+    passes.pass(gate, loan.position());
     match work.perform(loan.position(), loan.values()) {
         Ok(effects) => Holding::Performed(desk.spend(loan), effects),
         Err(_) => Holding::Loan(loan),
@@ -106,13 +113,17 @@ fn perform<W: Work, D: Desk<W, Loan = Loan<W>>, G: Gate>(
     requires of { IsOf D.loan (D.origin desk.now) seat.old.holding }
     ensures lane { seat.new.lane ≡ seat.old.lane }
     ensures gave_back { seat.new.gave_back ≡ seat.old.gave_back }
+    ensures passes { PassesFor D.loan seat.old.holding seat.old.passes seat.new.passes }
     ensures stays { (seen : List Event)
         → IsSeatOf D.loan D.spent W.job (D.origin desk.now) seat.old seen
         → IsSeatOf D.loan D.spent W.job (D.origin desk.now) seat.new seen }
 {
     match seat.take() {
         Holding::Nothing => {}
-        Holding::Loan(loan) => seat.hold(performed(desk, loan, work, gate)),
+        Holding::Loan(loan) => {
+            let holding = performed(desk, loan, &mut seat.passes, work, gate);
+            seat.hold(holding);
+        }
         Holding::Performed(spent, effects) => seat.hold(Holding::Performed(spent, effects)),
     }
 }

@@ -1,12 +1,11 @@
 //! Lanes over any desk, without barriers.
-ghost use Rattle.std.specs.Prelude.{◌≡◌, ◌≢◌, ◌<◌, ◌≤◌, [], ◌∷◌, OnOk, IfOk, length, vec_capacity, None, false, All};
+ghost use Rattle.std.specs.Prelude.{◌≡◌, ◌≢◌, ◌<◌, ◌≤◌, [], OnOk, IfOk, length, vec_capacity, None, All};
 ghost use mathlib.Core.List.{IsPrefix};
 ghost use Rattle.bank_core.specs.Desks.{Stays};
 ghost use Rattle.bank_core.specs.Origins.{AllDoneAfter};
 ghost use Rattle.bank_law.specs.History.{holds, returns};
-ghost use Rattle.bank_lanes.specs.declared.group.Holding.TheVariants.{Nothing};
 ghost use Rattle.bank_lanes.specs.declared.turns.LaneEnd.TheVariants.{Finished, GaveBack};
-ghost use Rattle.bank_lanes.specs.Groups.{AreSeats, EndsWell, IsEmpty, seat_lanes};
+ghost use Rattle.bank_lanes.specs.Groups.{AreSeats, EndsWell, IsEmpty, IsNewSeat, seat_lanes};
 ghost use Rattle.bank_lanes.specs.Passes.{AreItsOwn, HoldsNothing, IsIdle, KeepsTo, SeesLoans, StaysFree, WentOn, Widened};
 
 use crate::gate::Gate;
@@ -19,9 +18,11 @@ use std::sync::Wait;
 use std::thread;
 use std::thread::{Threads, join_mut};
 
-/// How the lanes of a desk are driven: past this gate, by so many threads at most, each of which
-/// drives so many lanes at most, and one at least.
+/// How the lanes of a desk are driven: with memory from here, past this gate, by so many threads at
+/// most, each of which drives so many lanes at most, and one at least.
+#[derive(Drop)]
 pub struct Lanes<'a, G> {
+    pub alloc: Global,
     pub gate: &'a G,
     pub threads: u32,
     pub per_thread: u32,
@@ -34,8 +35,8 @@ fn first_seat<L, S>(
     width: u32,
 ) -> Result<Vec<GroupSeat<L, S>>, OutOfMemory>
     requires some { 1 ≤ width }
-    ensures seats { IfOk result (λ seats.
-        seats.items ≡ record { lane = lane; holding = Nothing; gave_back = false } ∷ []) }
+    ensures one { IfOk result (λ seats. length seats.items ≡ 1) }
+    ensures new { IfOk result (λ seats. All (IsNewSeat lane) seats.items) }
     ensures room { IfOk result (λ seats. width ≤ vec_capacity seats) }
 {
     let mut seats = Vec::with_capacity(alloc, width as usize)?;
@@ -108,11 +109,10 @@ fn run_seats<W: Work, D: Desk<W, Loan = Loan<W>>, G: Gate, R: Wait>(
 /// group runs until it ends. Where there is no memory for seats nothing is done.
 fn run_thread<W: Work, D: Desk<W, Loan = Loan<W>>, G: Gate, R: Wait>(
     rt: &R,
-    alloc: Global,
     desk: &D,
     pass: &mut D::Pass,
     work: &W,
-    lanes: Lanes<'_, G>,
+    lanes: &Lanes<'_, G>,
 ) -> LaneEnd
     requires loans { SeesLoans D.loan }
     requires told { (D.origin desk.now).told ≡ W.told work.now }
@@ -126,16 +126,11 @@ fn run_thread<W: Work, D: Desk<W, Loan = Loan<W>>, G: Gate, R: Wait>(
     ensures done { result ≡ Finished
         → AllDoneAfter W.job (D.origin desk.now) (D.view pass.new).seen }
 {
-    let Lanes {
-        gate,
-        threads: _,
-        per_thread,
-    } = lanes;
-    let width = per_thread.max(1);
-    match first_seat(alloc, desk.lane(pass), width) {
+    let width = lanes.per_thread.max(1);
+    match first_seat(lanes.alloc, desk.lane(pass), width) {
         Ok(mut seats) => {
             widen(rt, desk, pass, &mut seats, width);
-            let end = run_seats(rt, desk, pass, &mut seats, work, gate);
+            let end = run_seats(rt, desk, pass, &mut seats, work, lanes.gate);
             leave_group(seats);
             end
         }
@@ -194,11 +189,10 @@ fn join_idle<W: Work, D: Desk<W>>(desk: &D, pass: &mut D::Pass, other: D::Pass)
 /// Runs the threads of the passes, beside each other.
 fn run_each<W: Work + Sync, D: Desk<W, Loan = Loan<W>>, G: Gate, R: Threads + Wait + Sync>(
     rt: &R,
-    alloc: Global,
     desk: &D,
     passes: &mut [D::Pass],
     work: &W,
-    lanes: Lanes<'_, G>,
+    lanes: &Lanes<'_, G>,
 )
     requires loans { SeesLoans D.loan }
     requires told { (D.origin desk.now).told ≡ W.told work.now }
@@ -206,11 +200,6 @@ fn run_each<W: Work + Sync, D: Desk<W, Loan = Loan<W>>, G: Gate, R: Threads + Wa
         × HoldsNothing (D.lanes_of p) (D.view p)) passes.old }
     ensures passes { All (λ p. D.is_of desk.now p × HoldsNothing (D.lanes_of p) (D.view p)) passes.new }
 {
-    let Lanes {
-        gate,
-        threads,
-        per_thread,
-    } = lanes;
     let others = passes.len();
     if others == 0 {
         return;
@@ -226,12 +215,7 @@ fn run_each<W: Work + Sync, D: Desk<W, Loan = Loan<W>>, G: Gate, R: Threads + Wa
             ensures desk { D.is_of desk.entry.now pass.new }
             ensures free { HoldsNothing (D.lanes_of pass.new) (D.view pass.new) }
         {
-            let lanes = Lanes {
-                gate,
-                threads,
-                per_thread,
-            };
-            run_thread(rt, alloc, desk, pass, work, lanes);
+            run_thread(rt, desk, pass, work, lanes);
         },
     );
 }
@@ -239,12 +223,11 @@ fn run_each<W: Work + Sync, D: Desk<W, Loan = Loan<W>>, G: Gate, R: Threads + Wa
 /// Runs the caller's lanes beside those of the other threads.
 fn run_all<W: Work + Sync, D: Desk<W, Loan = Loan<W>>, G: Gate, R: Threads + Wait + Sync>(
     rt: &R,
-    alloc: Global,
     desk: &D,
     pass: &mut D::Pass,
     passes: &mut [D::Pass],
     work: &W,
-    lanes: Lanes<'_, G>,
+    lanes: &Lanes<'_, G>,
 ) -> LaneEnd
     requires loans { SeesLoans D.loan }
     requires told { (D.origin desk.now).told ≡ W.told work.now }
@@ -259,11 +242,6 @@ fn run_all<W: Work + Sync, D: Desk<W, Loan = Loan<W>>, G: Gate, R: Threads + Wai
     ensures once { result ≢ GaveBack → returns (D.view pass.new).mine ≡ 0 }
     ensures passes { All (λ p. D.is_of desk.now p × HoldsNothing (D.lanes_of p) (D.view p)) passes.new }
 {
-    let Lanes {
-        gate,
-        threads,
-        per_thread,
-    } = lanes;
     let ((), end) = join_mut(
         rt,
         &mut ||
@@ -272,14 +250,7 @@ fn run_all<W: Work + Sync, D: Desk<W, Loan = Loan<W>>, G: Gate, R: Threads + Wai
                 × HoldsNothing (D.lanes_of p) (D.view p)) passes.now }
             ensures { All (λ p. D.is_of desk.entry.now p × HoldsNothing (D.lanes_of p) (D.view p))
                 passes.exit.now }
-        {
-            let lanes = Lanes {
-                gate,
-                threads,
-                per_thread,
-            };
-            run_each(rt, alloc, desk, passes, work, lanes)
-        },
+        { run_each(rt, desk, passes, work, lanes) },
         &mut || -> LaneEnd
             requires { SeesLoans D.loan × ((D.origin desk.now).told ≡ W.told work.now)
                 × D.is_of desk.now pass.now × IsIdle (D.view pass.now) }
@@ -288,14 +259,7 @@ fn run_all<W: Work + Sync, D: Desk<W, Loan = Loan<W>>, G: Gate, R: Threads + Wai
             ensures free { StaysFree (D.lanes_of pass.entry.now) (D.view pass.entry.now)
                 (D.lanes_of pass.exit.now) (D.view pass.exit.now) }
             ensures once { result ≢ GaveBack → returns (D.view pass.exit.now).mine ≡ 0 }
-        {
-            let lanes = Lanes {
-                gate,
-                threads,
-                per_thread,
-            };
-            run_thread(rt, alloc, desk, pass, work, lanes)
-        },
+        { run_thread(rt, desk, pass, work, lanes) },
     );
     end
 }
@@ -324,7 +288,6 @@ fn join_all<W: Work, D: Desk<W>>(desk: &D, pass: &mut D::Pass, mut passes: Vec<D
 /// once and ends the run.
 pub fn run_groups<W: Work + Sync, D: Desk<W, Loan = Loan<W>>, G: Gate, R: Threads + Wait + Sync>(
     rt: &R,
-    alloc: Global,
     desk: &D,
     pass: &mut D::Pass,
     work: &W,
@@ -340,29 +303,14 @@ pub fn run_groups<W: Work + Sync, D: Desk<W, Loan = Loan<W>>, G: Gate, R: Thread
         (D.view pass.new) }
     ensures done { OnOk result (AllDoneAfter W.job (D.origin desk.now) (D.view pass.new).seen) }
 {
-    let Lanes {
-        gate,
-        threads,
-        per_thread,
-    } = lanes;
-    let mut passes = Vec::new(alloc);
-    make_passes(rt, desk, pass, &mut passes, threads);
-    let beside = Lanes {
-        gate,
-        threads,
-        per_thread,
-    };
-    let end = run_all(rt, alloc, desk, pass, passes.as_mut_slice(), work, beside);
+    let mut passes = Vec::new(lanes.alloc);
+    make_passes(rt, desk, pass, &mut passes, lanes.threads);
+    let end = run_all(rt, desk, pass, passes.as_mut_slice(), work, &lanes);
     join_all(desk, pass, passes);
     if end == LaneEnd::GaveBack {
         return Err(OutOfMemory);
     }
-    let last = Lanes {
-        gate,
-        threads,
-        per_thread,
-    };
-    match run_thread(rt, alloc, desk, pass, work, last) {
+    match run_thread(rt, desk, pass, work, &lanes) {
         LaneEnd::Finished => Ok(()),
         LaneEnd::NoShare => Err(OutOfMemory),
         LaneEnd::GaveBack => Err(OutOfMemory),
@@ -389,9 +337,10 @@ pub fn run_lanes<W: Work + Sync, D: Desk<W, Loan = Loan<W>>, G: Gate, R: Threads
     ensures done { OnOk result (AllDoneAfter W.job (D.origin desk.now) (D.view pass.new).seen) }
 {
     let lanes = Lanes {
+        alloc,
         gate,
         threads: u32::MAX,
         per_thread: 1,
     };
-    run_groups(rt, alloc, desk, pass, work, lanes)
+    run_groups(rt, desk, pass, work, lanes)
 }

@@ -1,28 +1,32 @@
 //! The seats of the lanes in a wave.
 ghost use Rattle.std.specs.Prelude.{◌≡◌, None, Some, false, IfOk, length, All};
-ghost use Rattle.bank_lanes.specs.Seats.{IsEmptySeat, IsLoanOfWork, IsPerformed};
+ghost use Rattle.bank_lanes.specs.Seats.{AreNewSeats, IsEmptySeat, IsLoanOfWork, IsNewSeat, IsPerformed, PassesIts};
 
-use crate::gate::Gate;
+use crate::gate::{Gate, Passes};
 use bank_core::{Effects, Loan, Work};
 use sol_base::OutOfMemory;
 use std::alloc::Global;
 use std::mem;
 
-/// A lane in a wave: what it was lent, what its work gave, and whether it has given anything back.
+/// A lane in a wave: what it was lent, what its work gave, whether it has given anything back, and its
+/// passes.
 pub(crate) struct Seat<W: Work> {
     pub(crate) loan: Option<Loan<W>>,
     pub(crate) effects: Option<Effects>,
     pub(crate) gave_back: bool,
+    pub(crate) passes: Passes,
 }
 
 impl<W: Work> Seat<W> {
-    fn new() -> Seat<W>
-        ensures { result ≡ record { loan = None; effects = None; gave_back = false } }
+    /// The seat of a lane that was lent nothing yet.
+    fn new(lane: u32) -> Seat<W>
+        ensures { IsNewSeat lane result }
     {
         Seat {
             loan: None,
             effects: None,
             gave_back: false,
+            passes: Passes::none(lane),
         }
     }
 
@@ -42,27 +46,24 @@ impl<W: Work> Seat<W> {
         requires { IsLoanOfWork (W.told work.now) self.old }
         ensures loan { self.new.loan ≡ self.old.loan }
         ensures gave_back { self.new.gave_back ≡ self.old.gave_back }
+        ensures passes { PassesIts self.old.loan self.old.passes self.new.passes }
         ensures done { IsPerformed (W.job (W.told work.now)) self.new }
     {
-        self.effects = match &self.loan {
-            Some(loan) => {
-                gate.pass(loan.lane(), loan.position());
-                work.perform(loan.position(), loan.values()).ok()
-            }
-            None => None,
-        };
+        if let Some(loan) = &self.loan {
+            self.passes.pass(gate, loan.position());
+            self.effects = work.perform(loan.position(), loan.values()).ok();
+        }
     }
 }
 
 /// An empty seat for each lane.
 pub(crate) fn seats_of<W: Work>(alloc: Global, lanes: u32) -> Result<Vec<Seat<W>>, OutOfMemory>
     ensures long { IfOk result (λ seats. length seats.items ≡ lanes) }
-    ensures fresh { IfOk result
-        (λ seats. All (λ seat. IsEmptySeat seat × (seat.gave_back ≡ false)) seats.items) }
+    ensures new { IfOk result (λ seats. AreNewSeats seats.items) }
 {
     let mut seats = Vec::with_capacity(alloc, lanes as usize)?;
-    for _ in 0..lanes {
-        seats.push_reserved(Seat::new());
+    for lane in 0..lanes {
+        seats.push_reserved(Seat::new(lane));
     }
     Ok(seats)
 }
@@ -76,6 +77,7 @@ pub(crate) fn leave_all<W: Work>(mut seats: Vec<Seat<W>>)
             loan,
             effects: _,
             gave_back: _,
+            passes: _,
         } = seat;
         match loan {
             None => {}

@@ -1,11 +1,9 @@
 //! The turns of a group of lane numbers over a desk.
-ghost use Rattle.std.specs.Prelude.{⊤, ◌≡◌, ◌≢◌, ◌<◌, ◌≤◌, true, false, length, All};
+ghost use Rattle.std.specs.Prelude.{◌≡◌, ◌<◌, ◌≤◌, true, length, All};
 ghost use Rattle.std.specs.List.{AllWithin};
 ghost use Rattle.bank_core.specs.Lanes.{is_one_of};
-ghost use Rattle.bank_core.specs.Origins.{AllDoneAfter};
 ghost use Rattle.bank_lanes.specs.Passes.{AreItsOwn, KeepsTo, SeesLoans};
-ghost use Rattle.bank_lanes.specs.Groups.{AreSeats, EndsWell, HasKept, IsEmpty, IsFree, IsSeatOf, MatchFound, StepsOn, seat_lanes};
-ghost use Rattle.bank_lanes.specs.declared.turns.LaneEnd.TheVariants.{Finished, GaveBack};
+ghost use Rattle.bank_lanes.specs.Groups.{AreSeats, EndsWell, HasFound, HasKept, IsEmpty, IsFree, IsSeatOf, MatchFound, NoneNowAfter, StepsOn, seat_lanes};
 
 use crate::gate::Gate;
 use crate::group::{GroupSeat, Holding, perform_all};
@@ -102,9 +100,8 @@ fn lend_to<W: Work, D: Desk<W, Loan = Loan<W>>>(
     ensures seat { IsSeatOf D.loan D.spent W.job (D.origin desk.now) seat.new
         (D.turn_view turn.new).seen }
     ensures kept { HasKept seat.new }
-    ensures found { MatchFound result ⊤ (IsEmpty seat.new)
-        (λ end. IsEmpty seat.new × (end ≢ GaveBack)
-        × (end ≡ Finished → AllDoneAfter W.job (D.origin desk.now) (D.turn_view turn.new).seen)) }
+    ensures found { HasFound D.loan D.spent W.job (D.origin desk.now) result seat.new
+        (D.turn_view turn.old) (D.turn_view turn.new) }
 {
     match desk.lend(turn, seat.lane) {
         Take::Loan(loan) => {
@@ -178,7 +175,8 @@ fn lend_share<W: Work, D: Desk<W, Loan = Loan<W>>>(
     ensures same { seat_lanes seats.new ≡ seat_lanes seats.old }
     ensures seats { AreSeats D.loan D.spent W.job (D.origin desk.now) (D.turn_lanes turn.new)
         seats.new (D.turn_view turn.new).seen }
-    ensures found { MatchFound result (All HasKept seats.new) (All IsFree seats.new)
+    ensures found { MatchFound result (All HasKept seats.new)
+        (All IsFree seats.new × NoneNowAfter W.job (D.origin desk.now) (D.turn_view turn.new).seen)
         (λ end. EndsWell W.job (D.origin desk.now) end seats.new (D.turn_view turn.new)) }
 {
     let share = share_of(desk.ready_count(turn), desk.lane_count(turn), seats.len());
@@ -216,7 +214,8 @@ fn under_turn<W: Work, D: Desk<W, Loan = Loan<W>>>(
     ensures same { seat_lanes seats.new ≡ seat_lanes seats.old }
     ensures seats { AreSeats D.loan D.spent W.job (D.origin desk.now) (D.turn_lanes turn.new)
         seats.new (D.turn_view turn.new).seen }
-    ensures found { MatchFound result (All HasKept seats.new) (All IsFree seats.new)
+    ensures found { MatchFound result (All HasKept seats.new)
+        (All IsFree seats.new × NoneNowAfter W.job (D.origin desk.now) (D.turn_view turn.new).seen)
         (λ end. EndsWell W.job (D.origin desk.now) end seats.new (D.turn_view turn.new)) }
 {
     settle_all(desk, turn, seats);
@@ -246,7 +245,8 @@ fn take_turn<W: Work, D: Desk<W, Loan = Loan<W>>, R: Wait>(
     ensures same { seat_lanes seats.new ≡ seat_lanes seats.old }
     ensures seats { AreSeats D.loan D.spent W.job (D.origin desk.now) (D.lanes_of pass.new)
         seats.new (D.view pass.new).seen }
-    ensures found { MatchFound result (All HasKept seats.new) (All IsFree seats.new)
+    ensures found { MatchFound result (All HasKept seats.new)
+        (All IsFree seats.new × NoneNowAfter W.job (D.origin desk.now) (D.view pass.new).seen)
         (λ end. EndsWell W.job (D.origin desk.now) end seats.new (D.view pass.new)) }
 {
     let mut turn = desk.begin(rt, pass);

@@ -6,7 +6,7 @@ ghost use Rattle.bank_law.specs.Machine.{NothingHeld};
 ghost use Rattle.bank_law.specs.History.{returns};
 ghost use Rattle.bank_core.specs.Origins.{state_after, AllDoneAfter};
 ghost use Rattle.bank_lanes.specs.Steps.{GrewBy};
-ghost use Rattle.bank_lanes.specs.Seats.{IsEmptySeat, IsSeatOf, AreSeats, sitting, IsLoanOfWork, IsPerformed};
+ghost use Rattle.bank_lanes.specs.Seats.{AreNewSeats, HasLeast, IsEmptySeat, IsSeatOf, AreSeats, LendsNone, sitting, IsLoanOfWork, IsPerformed};
 
 use crate::gate::Gate;
 use crate::seats::{Seat, leave_all, seats_of};
@@ -26,6 +26,11 @@ fn lend_to<W: Work>(core: &mut Core<W>, lane: u32, seat: &mut Seat<W>) -> bool
     ensures lanes { core.new.lanes ≡ core.old.lanes }
     ensures grew { GrewBy lane core.old.journal.items core.new.journal.items }
     ensures seat { IsSeatOf seat.new core.new.origin.value core.new.journal.items lane }
+    ensures lent { result ≡ true
+        → HasLeast W.job core.old.origin.value core.old.journal.items seat.new }
+    ensures none { result ≡ false
+        → LendsNone W.job core.old.origin.value core.old.journal.items core.new.journal.items
+        seat.new }
 {
     match core.take(lane) {
         Take::Loan(loan) => {
@@ -80,6 +85,7 @@ fn perform_each<W: Work + Sync, G: Gate, R: Threads + Sync>(
             requires { IsLoanOfWork (W.told work.now) seat.old }
             ensures loan { seat.new.loan ≡ seat.old.loan }
             ensures gave_back { seat.new.gave_back ≡ seat.old.gave_back }
+            ensures passes { seat.new.passes.lane ≡ seat.old.passes.lane }
             ensures done { IsPerformed (W.job (W.told work.entry.now)) seat.new }
         {
             seat.perform(work, gate);
@@ -176,7 +182,7 @@ fn run_seats<W: Work + Sync, G: Gate, R: Threads + Sync>(
     requires long { length seats.old ≡ core.old.lanes }
     requires free { NothingHeld (state_after W.job core.old.origin.value core.old.journal.items) }
     requires none_back { returns core.old.journal.items ≡ 0 }
-    requires fresh { All (λ seat. IsEmptySeat seat × (seat.gave_back ≡ false)) seats.old }
+    requires new { AreNewSeats seats.old }
     ensures origin { core.new.origin.value ≡ core.old.origin.value }
     ensures lanes { core.new.lanes ≡ core.old.lanes }
     ensures longer { IsPrefix core.old.journal.items core.new.journal.items }

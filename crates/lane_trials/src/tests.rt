@@ -10,6 +10,7 @@ mod intakes;
 mod lanes;
 mod meets;
 mod notes;
+mod passes;
 mod readers;
 mod tables;
 mod trial;

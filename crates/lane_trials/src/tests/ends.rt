@@ -83,7 +83,6 @@ pub fn end_by_lanes<W: Work + Sync, G: Gate, R: Threads + Wait + Sync>(
 /// What a work ends with, by groups of lanes over its desk.
 fn end_of_groups<W: Work + Sync, G: Gate, R: Threads + Wait + Sync>(
     rt: &R,
-    alloc: Global,
     made: (SharedDesk<W>, Pass<W>),
     work: &W,
     lanes: Lanes<'_, G>,
@@ -95,7 +94,7 @@ fn end_of_groups<W: Work + Sync, G: Gate, R: Threads + Wait + Sync>(
         ≡ outcomes_at_end W.job (⟦<SharedDesk<W> as Desk<W>>⟧.origin made.0)) }
 {
     let (desk, mut pass) = made;
-    let end = run_groups::<W, SharedDesk<W>, G, R>(rt, alloc, &desk, &mut pass, work, lanes);
+    let end = run_groups::<W, SharedDesk<W>, G, R>(rt, &desk, &mut pass, work, lanes);
     let core = desk.close(rt, pass);
     end?;
     core.finish()
@@ -119,11 +118,12 @@ pub fn end_by_groups<G: Gate, R: Threads + Wait + Sync>(
     let core = Core::new(alloc, accounts, trial, lanes.0)?;
     let made = SharedDesk::new(alloc, core)?;
     let lanes = Lanes {
+        alloc,
         gate,
         threads: lanes.0.div_ceil(lanes.1),
         per_thread: lanes.1,
     };
-    end_of_groups(rt, alloc, made, trial, lanes)
+    end_of_groups(rt, made, trial, lanes)
 }
 
 /// The same of a small work.

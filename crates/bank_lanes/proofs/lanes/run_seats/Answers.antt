@@ -1,4 +1,4 @@
-use Rattle.std.proofs.Common.{◌≡◌, ◌++◌, length, drop, ap, sym, subst, ◌∙◌, arith}
+use Rattle.std.proofs.Common.{◌≡◌, length, drop, ap, sym, subst, ◌∙◌, arith}
 use Rattle.std.proofs.lemmas.List.{take_at}
 use Rattle.bank_lanes.specs.Groups.{AreSeats, EndsWell, seat_lanes}
 use Rattle.bank_lanes.proofs.lanes.run_seats.Goals as goal

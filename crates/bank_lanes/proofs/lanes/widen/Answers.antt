@@ -1,4 +1,4 @@
-use Rattle.std.proofs.Common.{rules, ◌≡◌, [], ◌∷◌, ◌++◌, ◌||◌, true, refl, All, ap, sym, subst, ◌∙◌}
+use Rattle.std.proofs.Common.{rules, ◌≡◌, [], ◌||◌, true, All, ap, sym, subst, ◌∙◌}
 use Rattle.std.proofs.lemmas.List.Elements.{All-push}
 use Rattle.bank_law.specs.History.{own, holds, returns}
 use Rattle.bank_core.specs.Lanes.{is_one_of}
@@ -31,14 +31,14 @@ loop-preserved g c =
     let none : own (g.D.Desk.view c.join.new.pass).seen lane ≡ [] = same_own theirs (g.D.Desk.view c.in-Made.made).seen (g.D.Desk.view c.join.new.pass).seen lane c.join.ensures.each_other c.lane-lane.ensures.one ∙ (ap (λ l. own (g.D.Desk.view c.in-Made.made).seen l) c.lane-lane.ensures.lane ∙ new.own) in
     let first = seats_kept g.D.Desk.loan g.D.Desk.spent g.W.Work.job (g.D.Desk.origin c.args.desk.now) (g.D.Desk.lanes_of c.loop.pass) was c.loop.seats.items (g.D.Desk.view c.loop.pass).seen (g.D.Desk.view c.split.new.pass).seen split.more split.each i.seats in
     let kept = seats_kept g.D.Desk.loan g.D.Desk.spent g.W.Work.job (g.D.Desk.origin c.args.desk.now) was now c.loop.seats.items (g.D.Desk.view c.split.new.pass).seen (g.D.Desk.view c.join.new.pass).seen joined.more joined.each first in
-    let pushed = c.push_reserved.ensures.items ∙ ap (λ s. c.loop.seats.items ++ s ∷ []) c.new.ensures in
+    let pushed = c.push_reserved.ensures.items in
     record {
       desk = c.join.ensures.desk;
       long = search rules;
       room = search rules;
       seats = subst (λ ss. AreSeats g.D.Desk.loan g.D.Desk.spent g.W.Work.job (g.D.Desk.origin c.args.desk.now) now ss (g.D.Desk.view c.join.new.pass).seen) (sym pushed)
-          (seats_pushed g.D.Desk.loan g.D.Desk.spent g.W.Work.job (g.D.Desk.origin c.args.desk.now) was now c.loop.seats.items lane (g.D.Desk.view c.join.new.pass).seen first.lanes_are (c.join.ensures.apart lane c.lane-lane.ensures.one) kept
+          (seats_pushed g.D.Desk.loan g.D.Desk.spent g.W.Work.job (g.D.Desk.origin c.args.desk.now) was now c.loop.seats.items c.new.result lane (g.D.Desk.view c.join.new.pass).seen c.new.ensures first.lanes_are (c.join.ensures.apart lane c.lane-lane.ensures.one) kept
           (subst (λ ls. is_one_of ls lane ≡ true) (sym c.join.ensures.both) (is_one_within lane theirs was ∙ ap (λ b. b || is_one_of was lane) c.lane-lane.ensures.one)) (ap holds none) (ap returns none));
-      empty = subst (λ ss. All IsEmpty ss) (sym pushed) (All-push IsEmpty c.loop.seats.items _ i.empty refl);
+      empty = subst (λ ss. All IsEmpty ss) (sym pushed) (All-push IsEmpty c.loop.seats.items c.new.result i.empty c.new.ensures.empty);
       wider = widened_then _ _ _ _ _ _ i.wider (widened_then _ _ _ _ _ _ split joined);
     }

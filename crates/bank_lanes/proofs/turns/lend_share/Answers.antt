@@ -28,7 +28,7 @@ returns-else-eq-clause-seats g c =
 
 pub returns-else-eq-clause-found : goal.returns-else-eq-clause-found
 returns-else-eq-clause-found g c =
-    found_one g.D.Desk.loan g.D.Desk.spent g.W.Work.job (g.D.Desk.origin c.args.desk.now) c.lend_to-found.result c.lend_to-found.new.seat _ (g.D.Desk.turn_view c.lend_to-found.new.turn)
+    found_one g.D.Desk.loan g.D.Desk.spent g.W.Work.job (g.D.Desk.origin c.args.desk.now) c.lend_to-found.result c.lend_to-found.new.seat _ (g.D.Desk.turn_view c.args.turn.now) (g.D.Desk.turn_view c.lend_to-found.new.turn)
     (All-set HasKept c.args.seats.now 0 c.lend_to-found.new.seat c.lend_to-found.ensures.kept (λ k d l. (c.requires.free k d l).1))
     (λ e. All-set IsEmpty c.args.seats.now 0 c.lend_to-found.new.seat e (λ k d l. (c.requires.free k d l).0))
     c.lend_to-found.ensures.found

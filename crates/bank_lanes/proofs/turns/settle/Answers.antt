@@ -10,7 +10,7 @@ returns-in-Loan-clause-seat g c =
     let old = (g.D.Desk.turn_view c.args.turn.now).seen in
     let new = (g.D.Desk.turn_view c.put_back.new.turn).seen in
     subst (λ s. IsSeatOf g.D.Desk.loan g.D.Desk.spent g.W.Work.job origin (record s { gave_back = true }) new) (sym c.in-Loan.ensures.seat)
-    (seat_ended g.D.Desk.loan g.D.Desk.spent g.W.Work.job origin c.args.seat.now.lane true (g.D.Desk.loan c.in-Loan.loan) old new Return refl (λ e. absurd (cc e)) (ap (λ v. v.seen) c.put_back.ensures.event)
+    (seat_ended g.D.Desk.loan g.D.Desk.spent g.W.Work.job origin c.args.seat.now.lane true c.args.seat.now.passes (g.D.Desk.loan c.in-Loan.loan) old new Return refl (λ e. absurd (cc e)) (ap (λ v. v.seen) c.put_back.ensures.event) c.requires.seat.passes_lane
     (subst (λ x. IsHolding g.D.Desk.loan g.D.Desk.spent g.W.Work.job origin x c.args.seat.now.lane old) (sym c.in-Loan.ensures.taken) c.requires.seat.holding))
 
 pub returns-in-Performed-clause-seat : goal.returns-in-Performed-clause-seat
@@ -19,5 +19,5 @@ returns-in-Performed-clause-seat g c =
     let old = (g.D.Desk.turn_view c.args.turn.now).seen in
     let new = (g.D.Desk.turn_view c.take_in.new.turn).seen in
     subst (λ s. IsSeatOf g.D.Desk.loan g.D.Desk.spent g.W.Work.job origin s new) (sym c.in-Performed.ensures.seat)
-    (seat_ended g.D.Desk.loan g.D.Desk.spent g.W.Work.job origin c.args.seat.now.lane c.args.seat.now.gave_back (g.D.Desk.spent c.in-Performed.spent) old new Commit refl (λ e. refl) (ap (λ v. v.seen) c.take_in.ensures.event)
+    (seat_ended g.D.Desk.loan g.D.Desk.spent g.W.Work.job origin c.args.seat.now.lane c.args.seat.now.gave_back c.args.seat.now.passes (g.D.Desk.spent c.in-Performed.spent) old new Commit refl (λ e. refl) (ap (λ v. v.seen) c.take_in.ensures.event) c.requires.seat.passes_lane
     (subst (λ x. IsHolding g.D.Desk.loan g.D.Desk.spent g.W.Work.job origin x c.args.seat.now.lane old) (sym c.in-Performed.ensures.taken) c.requires.seat.holding).0)

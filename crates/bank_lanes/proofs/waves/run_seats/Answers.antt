@@ -4,7 +4,7 @@ use Rattle.account_store.specs.State.{at}
 use Rattle.bank_law.specs.declared.event.EventKind.TheVariants.{Grant}
 use Rattle.bank_law.specs.History.{own, holds}
 use Rattle.bank_lanes.proofs.Rests.{holds_none, own_returns, nothing_held, journal_most, prefix_length}
-use Rattle.bank_lanes.proofs.SeatSteps.{all_hold_none, fresh_seats, grew_by, seat_lent, seats_set, seats_same, set_length}
+use Rattle.bank_lanes.proofs.SeatSteps.{all_hold_none, grew_by, new_seats, seat_lent, seats_set, seats_same, set_length}
 use Rattle.bank_lanes.proofs.waves.run_seats.Goals as goal
 
 pub waves-init : goal.waves-init
@@ -14,11 +14,11 @@ waves-init g c =
       origin = refl;
       lanes = refl;
       longer = prefix_refl core.journal.items;
-      seats = fresh_seats c.args.seats.now core.origin.value core.journal.items c.requires.fresh
+      seats = new_seats c.args.seats.now core.origin.value core.journal.items c.requires.new
           (λ lane. holds_none (g.W.Work.job core.origin.value.told) (at core.origin.value.start) core.journal.items core.runs.legal c.requires.free lane)
           (λ lane. let a = own_returns core.journal.items lane in omega (arith, a, c.requires.none_back));
-      empty = λ k d l. (c.requires.fresh k d l).0;
-      first = λ d. (c.requires.fresh 0 d (omega arith)).1;
+      empty = λ k d l. (c.requires.new k d l).empty;
+      first = λ d. (c.requires.new 0 d (omega arith)).kept;
     }
 
 pub take-requires-clause-free : goal.take-requires-clause-free

@@ -7,7 +7,7 @@ pub returns-in-Some-Some-clause-seat : goal.returns-in-Some-Some-clause-seat
 returns-in-Some-Some-clause-seat g c =
     let has : c.args.seat.now.loan ≡ Some c.in-Some-Some.loan = first_of (cc, search rules) in
     seat_committed c.args.seat.now _ c.args.core.now.origin.value c.commit.new.self.origin.value c.args.core.now.journal.items c.commit.new.self.journal.items c.args.lane c.in-Some-Some.loan
-    c.commit.ensures.journal has (search rules) (search rules) c.requires.seat
+    c.commit.ensures.journal has (search rules) (search rules) (search rules) c.requires.seat
 
 pub returns-in-Some-None-clause-grew : goal.returns-in-Some-None-clause-grew
 returns-in-Some-None-clause-grew g c =
@@ -19,4 +19,4 @@ pub returns-in-Some-None-clause-seat : goal.returns-in-Some-None-clause-seat
 returns-in-Some-None-clause-seat g c =
     let has : c.args.seat.now.loan ≡ Some c.in-Some-None.loan = first_of (cc, search rules) in
     seat_returned c.args.seat.now _ c.args.core.now.origin.value c.give_back.new.self.origin.value c.args.core.now.journal.items c.give_back.new.self.journal.items c.args.lane c.in-Some-None.loan
-    c.give_back.ensures.journal has (search rules) (search rules) c.requires.seat
+    c.give_back.ensures.journal has (search rules) (search rules) (search rules) c.requires.seat

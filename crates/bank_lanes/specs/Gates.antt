@@ -1,0 +1,42 @@
+-- What a lane has passed its gate before.
+use Rattle.std.specs.Prelude.{◌≡◌, ℕ, List, [], ◌∷◌, ◌++◌, None, Some}
+use Rattle.std.specs.List.{last_or}
+use Rattle.bank_law.specs.declared.event.Event.{Event}
+use Rattle.bank_law.specs.declared.event.EventKind.{EventKind}
+use Rattle.bank_law.specs.declared.event.EventKind.TheVariants.{Grant, Commit, Return}
+use Rattle.bank_lanes.specs.declared.gate.Passes.{Passes}
+
+-- the positions before which the lane has passed its gate, in their order
+abbrev pub passed : Passes → List ℕ
+passed passes = passes.positions.value
+
+-- the record of this lane, which has passed nothing yet
+pub record HasNoPasses (lane : ℕ) (passes : Passes) : Type 0 where
+  pub lane_is : passes.lane ≡ lane
+  pub none : passed passes ≡ []
+
+-- the lane has passed its gate once more, before this position
+pub record HasPassedOnce (old : Passes) (position : ℕ) (new : Passes) : Type 0 where
+  pub lane : new.lane ≡ old.lane
+  pub positions : passed new ≡ passed old ++ position ∷ []
+
+-- the position before which the lane has passed its gate last
+abbrev pub HasJustPassed : ℕ → Passes → Type 0
+HasJustPassed position passes = last_or None (passed passes) ≡ Some position
+
+-- the position that an event grants, if it grants any
+abbrev pub granted_by : EventKind → ℕ → List ℕ
+granted_by Grant position = position ∷ []
+granted_by Commit position = []
+granted_by Return position = []
+
+-- the positions that were granted, in their order
+abbrev pub granted : List Event → List ℕ
+granted [] = []
+granted (event ∷ events) = granted_by event.kind event.position ++ granted events
+
+-- the record of this lane, which has passed its gate before each of the positions that were granted,
+-- in their order, and before no other
+pub record HasPassedGranted (lane : ℕ) (events : List Event) (passes : Passes) : Type 0 where
+  pub lane_is : passes.lane ≡ lane
+  pub all : passed passes ≡ granted events
