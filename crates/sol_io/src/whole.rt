@@ -9,7 +9,7 @@ use sol_base::Blob;
 use std::alloc::Global;
 
 /// How many bytes one read asks for.
-const PIECE: usize = 16_384;
+const PIECE: usize = 65_536;
 
 /// All bytes up to the end of the source, at most `limit`. After a refusal some bytes have been
 /// taken from the source.
