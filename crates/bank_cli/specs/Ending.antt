@@ -2,7 +2,7 @@
 use Rattle.std.specs.Prelude.{◌≡◌, ℕ, List, ◌≤◌, length, take, Bool, true, Option, Result, Ok, Err, IfSome, ◌⊎◌}
 use Rattle.sol_io.specs.Bytes.{Appends, Keeps}
 use Rattle.sol_io.specs.Counts.{Rose}
-use Rattle.command_parts.specs.declared.answer.Answer.{Answer}
+use Rattle.bank_cli.specs.declared.answer.Answer.{Answer}
 use Rattle.bank_cli.specs.declared.delivery.Undelivered.{Undelivered}
 use Rattle.bank_cli.specs.declared.delivery.Undelivered.TheVariants.{SinkFailed, OutOfMemory}
 use Rattle.bank_cli.specs.Answer.{reads_input, answer, read_failed}

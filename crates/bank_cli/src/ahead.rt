@@ -13,6 +13,7 @@ use snapshot_codec::{
     BATCH_HEAD_LEN, BATCH_MAGIC, BatchFault, Prefix, SnapshotFault, WIRE_LENGTH_LEN, batch_count,
     read_batch, read_snapshot, snapshot_length,
 };
+use sol_base::Blob;
 use std::alloc::Global;
 use std::sync::Wait;
 use std::thread::{Threads, join};
@@ -71,7 +72,11 @@ fn read_decoded<H: SendGate, R: Threads + Wait + Sync>(
     let batch = read_batch(alloc, bytes, before)?;
     let busy = busy_senders(senders.count, batch.wires.len());
     let parsed = gather(rt, alloc, &batch.wires, busy, senders.gate)?.parsed;
-    Ok(Decoded { batch, parsed })
+    Ok(Decoded {
+        batch,
+        parsed,
+        room: Blob::new(alloc),
+    })
 }
 
 /// No more senders than transactions, and one at least.

@@ -2,7 +2,7 @@
 ghost use Rattle.std.specs.Prelude.{OnOk, OnErr};
 ghost use Rattle.bank_cli.specs.Ending.{Writes, Begins, DeliveryCounts};
 
-use command_parts::Answer;
+use crate::answer::Answer;
 use sol_io::{Sink, WriteFault, write_all};
 use std::alloc::Global;
 

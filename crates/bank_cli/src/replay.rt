@@ -6,12 +6,14 @@ ghost use Rattle.snapshot_codec.specs.Snapshot.{IsReadable};
 ghost use Rattle.bank_cli.specs.Answer.{differed, judged, replayed as replayed_of, replayed_over, written};
 ghost use Rattle.bank_cli.specs.Texts.{match_line, place_text};
 
+use crate::answer::Answer;
 use crate::texts::{append_hash, append_number, refuse_record, refuse_snapshot, tell};
 use bank_lanes::Gate;
 use block_record::{Block, read_record};
 use block_replay::{Field, OF_BLOCK, Verdict, compare};
 use block_run::run_listed;
-use command_parts::{Answer, DIFFERS};
+use command_parts::DIFFERS;
+use output_bytes::OutputBytes;
 use snapshot_codec::{Snapshot, read_snapshot};
 use sol_base::{Blob, Hash32, OutOfMemory};
 use std::alloc::Global;
@@ -92,7 +94,7 @@ fn tell_difference(alloc: Global, entry: u32, field: Field) -> Result<Answer, Ou
     output.append(b"\n")?;
     Ok(Answer {
         status: DIFFERS,
-        output,
+        output: OutputBytes::of(output),
         notes: Blob::new(alloc),
     })
 }

@@ -11,10 +11,12 @@ ghost use Rattle.admission.specs.Refusals.{at_place};
 ghost use Rattle.bank_cli.specs.Answer.{input_refused, refused, written};
 ghost use Rattle.bank_cli.specs.Texts.{asm_text, batch_text, line, list_text, record_text, snapshot_text, verify_text};
 
+use crate::answer::Answer;
 use block_record::RecordFault;
-use command_parts::{Answer, INPUT_REFUSED};
+use command_parts::INPUT_REFUSED;
 use hex::encode_to_slice;
 use itoa::Buffer;
+use output_bytes::OutputBytes;
 use sbpf_asm::{AsmFault, ListFault};
 use sbpf_verify::VerifyFault;
 use snapshot_codec::{BatchFault, SnapshotFault};
@@ -29,7 +31,7 @@ pub(crate) fn refuse(alloc: Global, status: u8, text: &[u8]) -> Result<Answer, O
     notes.append(b"\n")?;
     Ok(Answer {
         status,
-        output: Blob::new(alloc),
+        output: OutputBytes::of(Blob::new(alloc)),
         notes,
     })
 }
@@ -40,7 +42,7 @@ pub(crate) fn tell(alloc: Global, output: Blob) -> Answer
 {
     Answer {
         status: 0,
-        output,
+        output: OutputBytes::of(output),
         notes: Blob::new(alloc),
     }
 }

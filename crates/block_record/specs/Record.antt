@@ -12,7 +12,6 @@ use Rattle.message_codec.specs.Wire.{IsCountable, max_wire_len}
 use Rattle.tx_report.specs.Statuses.{IsStatus, status_bytes_of}
 use Rattle.block_record.specs.declared.block.Entry.{Entry}
 use Rattle.block_record.specs.declared.block.EntryParts.{EntryParts}
-use Rattle.block_record.specs.declared.block.WholeRecord.{WholeRecord}
 use Rattle.block_record.specs.declared.block.Block.{Block}
 use Rattle.block_record.specs.declared.block.Front.{Front}
 
@@ -70,6 +69,11 @@ hash_of_block block = record { 0 = sha256 (block_bytes block) }
 -- and then the hash that the block carries
 abbrev pub bytes_of_record : Block → List ℕ
 bytes_of_record block = block_bytes block ++ hash_bytes block.hash
+
+-- the record of a block as bytes, and the block hash, with which it ends
+pub record WholeRecord : Type 0 where
+  pub bytes : List ℕ
+  pub hash : Hash32
 
 -- a record from its bytes up to the end of its entries, with the block hash at its end
 abbrev pub whole_record : List ℕ → ℕ → ℕ → Hash32 → WholeRecord

@@ -45,13 +45,6 @@ pub struct Block {
     pub hash: Hash32,
 }
 
-/// The record of a block as bytes, and the block hash, with which it ends.
-#[derive(Drop)]
-pub struct WholeRecord {
-    pub bytes: Blob,
-    pub hash: Hash32,
-}
-
 /// A block of listed transactions.
 #[derive(Drop)]
 pub struct Listed {

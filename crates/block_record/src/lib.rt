@@ -9,7 +9,7 @@ mod lines;
 mod reading;
 mod writing;
 
-pub use block::{Block, Entry, EntryParts, Front, Listed, WholeRecord};
+pub use block::{Block, Entry, EntryParts, Front, Listed};
 pub use fault::RecordFault;
 pub use laws::written_records_are_read;
 pub use reading::{read_front, read_record};

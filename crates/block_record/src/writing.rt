@@ -7,7 +7,7 @@ ghost use Rattle.message_codec.specs.Wire.{IsCountable, max_wire_len};
 ghost use Rattle.format_fields.specs.Output.{Adds};
 ghost use Rattle.block_record.specs.Record.{AreCountable, IsCounted, bytes_of_lines, end_bytes, entry_bytes, entry_in, heading_bytes, front_bytes, block_bytes, hash_of_block, bytes_of_record, whole_record};
 
-use crate::block::{Block, Entry, EntryParts, WholeRecord};
+use crate::block::{Block, Entry, EntryParts};
 use format_fields::{ByteCount, Output};
 use sha2::{Digest, Sha256};
 use sol_base::{Blob, Hash32, Items, Key, OutOfMemory};
@@ -200,23 +200,25 @@ pub fn end_hash(mut hasher: Sha256, block: &Block) -> Hash32
     Hash32(hasher.finalize())
 }
 
-/// The whole record with its block hash, from its bytes up to the end of its entries, which the
-/// hash has taken.
-pub fn end_record(
-    mut front: Blob,
+/// Ends a record, from its bytes up to the end of its entries, which the hash has taken, and tells
+/// its block hash.
+pub fn end_record<O: Output>(
+    out: &mut O,
     mut hasher: Sha256,
     burned: u64,
     collected: u64,
     state: &Hash32,
-) -> Result<WholeRecord, OutOfMemory>
-    requires { Holds256 hasher front }
-    ensures { IfOk result (λ whole. whole ≡ whole_record front burned collected state.now) }
+) -> Result<Hash32, OutOfMemory>
+    ensures { (front : List ℕ) → O.holds out.old front → Holds256 hasher front
+        → IfOk result (λ hash.
+        O.holds out.new (whole_record front burned collected state.now).bytes
+        × (hash ≡ (whole_record front burned collected state.now).hash)) }
 {
     write_end(&mut hasher, burned, collected, state)?;
-    write_end(&mut front, burned, collected, state)?;
     let hash = Hash32(hasher.finalize());
-    front.append(&hash.0)?;
-    Ok(WholeRecord { bytes: front, hash })
+    write_end(out, burned, collected, state)?;
+    out.append(&hash.0)?;
+    Ok(hash)
 }
 
 /// The SHA-256 of all that stands before the block hash, at once.

@@ -29,8 +29,7 @@ use Rattle.snapshot_codec.specs.Snapshot.{AreAllowed, IsWritable, hash_of_state}
 use Rattle.sol_base.specs.declared.limits.Limits.{Limits}
 use Rattle.block_record.specs.declared.block.Block.{Block}
 use Rattle.block_record.specs.declared.block.Entry.{Entry}
-use Rattle.block_record.specs.declared.block.WholeRecord.{WholeRecord}
-use Rattle.block_record.specs.Record.{AreCountable, IsCounted, bytes_of_record, front_bytes, whole_record}
+use Rattle.block_record.specs.Record.{WholeRecord, AreCountable, IsCounted, bytes_of_record, front_bytes, whole_record}
 use Rattle.admission.specs.declared.chosen.Chosen.{Chosen}
 use Rattle.admission.specs.Batches.{IsOf}
 use Rattle.tx_exec.specs.TransactionLaws.{IsSmallOutcome}

@@ -2,6 +2,7 @@ use admission::{Chosen, Refused};
 use bank_core::SharedOutcome;
 use block_record::Block;
 use message_codec::Parsed;
+use output_bytes::OutputBytes;
 use snapshot_codec::{Batch, Snapshot};
 use sol_base::{Blob, Hash32, Items, Key, Limits};
 use status_cache::Recent;
@@ -38,6 +39,8 @@ pub(crate) struct Chain {
 pub struct Decoded {
     pub batch: Batch,
     pub parsed: Items<Parsed>,
+    /// Room that the record may be written in. What it holds is dropped.
+    pub room: Blob,
 }
 
 /// A block, and the snapshot after it.
@@ -50,7 +53,7 @@ pub struct Closed {
 /// The record of a block, and the snapshot after it.
 #[derive(Drop)]
 pub(crate) struct ClosedRecord {
-    pub(crate) record: Blob,
+    pub(crate) record: OutputBytes,
     pub(crate) after: Snapshot,
 }
 
@@ -67,7 +70,7 @@ pub struct BlockResult {
 /// What a batch comes to, the block as its record.
 #[derive(Drop)]
 pub struct Recorded {
-    pub record: Blob,
+    pub record: OutputBytes,
     /// The snapshot after the block.
     pub after: Snapshot,
     /// The transactions that did not run, by their positions.

@@ -327,20 +327,16 @@ pub(crate) fn close_record<G: Gate, R: Threads + Sync>(
         (ran_of ended.origin.value outcomes.entry.now))) }
 {
     let Ends { end, names, front } = end_block(crew, parts, ended, outcomes, begun)?;
-    let whole = end_record(
-        front.bytes,
-        front.hasher,
-        end.burned,
-        end.collected,
-        &end.state,
-    )?;
+    let RecordPrefix {
+        count: _,
+        hasher,
+        bytes: mut record,
+    } = front;
+    let hash = end_record(&mut record, hasher, end.burned, end.collected, &end.state)?;
     let mark = Mark {
-        hash: whole.hash,
+        hash,
         messages: names,
     };
     let after = snapshot_after(parts.head.slot, chain, end.accounts, mark)?;
-    Ok(ClosedRecord {
-        record: whole.bytes,
-        after,
-    })
+    Ok(ClosedRecord { record, after })
 }

@@ -5,6 +5,7 @@ ghost use Rattle.sol_base.specs.Limits.{max_transactions};
 ghost use Rattle.tx_report.specs.declared.outcome.Outcome.{Outcome as OutcomeValue};
 ghost use Rattle.bank_core.specs.Ends.{outcomes_at_end};
 ghost use Rattle.bank_core.specs.Origins.{AllDoneAfter};
+ghost use Rattle.bank_lanes.specs.Gates.{HasPassedGranted};
 ghost use Rattle.bank_lanes.specs.Passes.{IsIdle};
 ghost use Rattle.bank_shared.specs.Face.{desk_origin, IsPassOf, IsReaderOf, view_of};
 ghost use Rattle.tx_exec.specs.TransactionLaws.{IsSmallOutcome};
@@ -15,26 +16,33 @@ use crate::block::RecordParts;
 use crate::crew::{Crew, LANE_NUMBERS};
 use crate::record_prefix::{RecordPrefix, begin, read_prefix};
 use bank_core::{Core, Ended, SharedOutcome, Take, Work};
-use bank_lanes::{Gate, Lanes, run_groups};
+use bank_lanes::{Gate, Lanes, Passes, run_groups};
 use bank_shared::{Pass, SharedDesk};
-use sol_base::{Items, OutOfMemory};
+use sol_base::{Blob, Items, OutOfMemory};
 use std::alloc::Global;
 use std::sync::Wait;
 use std::thread::{Threads, join};
 
 /// Takes, passes the gate, performs and commits on the one lane of a core, until all positions are
-/// done. Where the work finds no memory the loan goes back, and the run ends.
-fn run_alone<W: Work, G: Gate>(core: &mut Core<W>, work: &W, gate: &G) -> Result<(), OutOfMemory>
+/// done, and answers the record of its passes. Where the work finds no memory the loan goes back, and
+/// the run ends.
+fn run_alone<W: Work, G: Gate>(
+    core: &mut Core<W>,
+    work: &W,
+    gate: &G,
+) -> Result<Passes, OutOfMemory>
     requires one { core.old.lanes ≡ 1 }
     requires told { core.old.origin.value.told ≡ W.told work.now }
     requires journal { core.old.journal.items ≡ [] }
     ensures origin { core.new.origin.value ≡ core.old.origin.value }
     ensures done { OnOk result (AllDoneAfter W.job core.new.origin.value core.new.journal.items) }
+    ensures passed { IfOk result (HasPassedGranted 0 core.new.journal.items) }
 {
+    let mut passes = Passes::none(0);
     'turns: loop {
         match core.take(0) {
             Take::Loan(loan) => {
-                gate.pass(0, loan.position());
+                passes.pass(gate, loan.position());
                 match work.perform(loan.position(), loan.values()) {
                     Ok(effects) => core.commit(loan, effects),
                     Err(OutOfMemory) => {
@@ -44,19 +52,21 @@ fn run_alone<W: Work, G: Gate>(core: &mut Core<W>, work: &W, gate: &G) -> Result
                 }
             }
             Take::NotNow { held: _ } => unreachable!(),
-            Take::Finished => return Ok(()),
+            Take::Finished => return Ok(passes),
             Take::OutOfMemory => return Err(OutOfMemory),
         }
     }
 }
 
 /// Runs the lanes of a desk, and hashes the front of the record beside them, until they have ended.
+/// The record is written in the room.
 fn run_beside<W: Work + Sync, G: Gate, R: Threads + Wait + Sync>(
     crew: &Crew<'_, G, R>,
     desk: &SharedDesk<W>,
     mut pass: Pass<W>,
     work: &W,
     parts: RecordParts<'_>,
+    room: Blob,
 ) -> (
     Result<RecordPrefix, OutOfMemory>,
     (Result<(), OutOfMemory>, Pass<W>),
@@ -87,7 +97,7 @@ fn run_beside<W: Work + Sync, G: Gate, R: Threads + Wait + Sync>(
                 × All IsSmallOutcome (outcomes_at_end W.job (desk_origin desk.now)) }
             ensures { IfOk result (IsBegun parts.entry
                 (outcomes_at_end W.job (desk_origin desk.entry.now))) }
-        { read_prefix(rt, alloc, desk, reader, parts) },
+        { read_prefix(rt, alloc, desk, reader, parts, room) },
         move || -> (Result<(), OutOfMemory>, Pass<W>)
             requires { ((desk_origin desk.now).told ≡ W.told work.now)
                 × IsPassOf desk.now pass × IsIdle (view_of pass) }
@@ -96,11 +106,12 @@ fn run_beside<W: Work + Sync, G: Gate, R: Threads + Wait + Sync>(
                 (view_of result.1).seen) }
         {
             let lanes = Lanes {
+                alloc,
                 gate,
                 threads,
                 per_thread: LANE_NUMBERS,
             };
-            let end = run_pass(rt, alloc, desk, pass, work, lanes);
+            let end = run_pass(rt, desk, pass, work, lanes);
             desk.dismiss_reader();
             end
         },
@@ -110,7 +121,6 @@ fn run_beside<W: Work + Sync, G: Gate, R: Threads + Wait + Sync>(
 /// Runs the lanes of a desk, whose pass is handed back.
 fn run_pass<W: Work + Sync, G: Gate, R: Threads + Wait + Sync>(
     rt: &R,
-    alloc: Global,
     desk: &SharedDesk<W>,
     mut pass: Pass<W>,
     work: &W,
@@ -123,7 +133,7 @@ fn run_pass<W: Work + Sync, G: Gate, R: Threads + Wait + Sync>(
     ensures done { OnOk result.0 (AllDoneAfter W.job (desk_origin desk.now)
         (view_of result.1).seen) }
 {
-    let run = run_groups(rt, alloc, desk, &mut pass, work, lanes);
+    let run = run_groups(rt, desk, &mut pass, work, lanes);
     (run, pass)
 }
 
@@ -140,17 +150,18 @@ fn begun_or_anew(
 {
     match read {
         Ok(begun) => Ok(begun),
-        Err(OutOfMemory) => begin(alloc, parts),
+        Err(OutOfMemory) => begin(parts, Blob::new(alloc)),
     }
 }
 
 /// Shares the core among its lanes, so many to a thread, until all positions are done. A
-/// further thread hashes the front of the record.
+/// further thread hashes the front of the record, which is written in the room.
 fn run_shared<W: Work + Sync, G: Gate, R: Threads + Wait + Sync>(
     crew: &Crew<'_, G, R>,
     core: Core<W>,
     work: &W,
     parts: RecordParts<'_>,
+    room: Blob,
 ) -> Result<(Core<W>, RecordPrefix), OutOfMemory>
     requires told { core.origin.value.told ≡ W.told work.now }
     requires journal { core.journal.items ≡ [] }
@@ -164,20 +175,21 @@ fn run_shared<W: Work + Sync, G: Gate, R: Threads + Wait + Sync>(
         (outcomes_at_end W.job core.origin.value) end.1) }
 {
     let (desk, pass) = SharedDesk::new(crew.alloc, core)?;
-    let (begun, (run, pass)) = run_beside(crew, &desk, pass, work, parts);
+    let (begun, (run, pass)) = run_beside(crew, &desk, pass, work, parts, room);
     run?;
     let begun = begun_or_anew(crew.alloc, parts, begun)?;
     Ok((desk.close(crew.rt, pass), begun))
 }
 
 /// Runs a work on the lanes of a core. It ends as the serial run does; its accounts stand apart
-/// yet, and the front of its record is hashed as far as that was known. With one lane no thread is
-/// started.
+/// yet, and the front of its record is hashed as far as that was known, and written in the room.
+/// With one lane no thread is started.
 pub(crate) fn run_work<W: Work + Sync, G: Gate, R: Threads + Wait + Sync>(
     crew: &Crew<'_, G, R>,
     mut core: Core<W>,
     work: &W,
     parts: RecordParts<'_>,
+    room: Blob,
 ) -> Result<(Ended<W>, Items<SharedOutcome>, RecordPrefix), OutOfMemory>
     requires told { core.origin.value.told ≡ W.told work.now }
     requires journal { core.journal.items ≡ [] }
@@ -192,9 +204,9 @@ pub(crate) fn run_work<W: Work + Sync, G: Gate, R: Threads + Wait + Sync>(
     if core.lanes() == 1 {
         run_alone(&mut core, work, crew.gate)?;
         let (ended, outcomes) = core.part()?;
-        Ok((ended, outcomes, begin(crew.alloc, parts)?))
+        Ok((ended, outcomes, begin(parts, room)?))
     } else {
-        let (core, begun) = run_shared(crew, core, work, parts)?;
+        let (core, begun) = run_shared(crew, core, work, parts, room)?;
         let (ended, outcomes) = core.part()?;
         Ok((ended, outcomes, begun))
     }

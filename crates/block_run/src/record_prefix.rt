@@ -17,6 +17,7 @@ use crate::entries::write_entries;
 use bank_core::{SharedOutcome, Work};
 use bank_shared::{Reader, SharedDesk};
 use block_record::write_heading;
+use output_bytes::OutputBytes;
 use sha2::{Digest, Sha256};
 use sol_base::{Blob, Items, OutOfMemory};
 use std::alloc::Global;
@@ -34,18 +35,20 @@ const ENTRY_ROOM: usize = 768;
 pub(crate) struct RecordPrefix {
     pub(crate) count: u32,
     pub(crate) hasher: Sha256,
-    pub(crate) bytes: Blob,
+    pub(crate) bytes: OutputBytes,
 }
 
-/// A record that is to have an entry for each transaction, up to the first of them.
-pub(crate) fn begin(alloc: Global, parts: RecordParts<'_>) -> Result<RecordPrefix, OutOfMemory>
+/// A record that is to have an entry for each transaction, up to the first of them. It is written
+/// in the room, whatever that holds.
+pub(crate) fn begin(parts: RecordParts<'_>, room: Blob) -> Result<RecordPrefix, OutOfMemory>
     requires few { length parts.order.now ≤ max_transactions }
     ensures { IfOk result (λ begun. (outcomes : List OutcomeValue)
         → IsBegun parts.entry outcomes begun) }
 {
     let count = parts.order.len();
-    let room = if parts.kept { count * ENTRY_ROOM } else { 0 };
-    let mut bytes = Blob::with_capacity(alloc, room)?;
+    let wanted = if parts.kept { count * ENTRY_ROOM } else { 0 };
+    let mut bytes = OutputBytes::in_place_of(room);
+    bytes.reserve(wanted)?;
     write_heading(
         &mut bytes,
         parts.head.slot,
@@ -63,13 +66,14 @@ pub(crate) fn begin(alloc: Global, parts: RecordParts<'_>) -> Result<RecordPrefi
 }
 
 /// The bytes so far, or a buffer for the next entries where the bytes are not wanted.
-fn buffer_of(alloc: Global, kept: bool, bytes: Blob) -> Result<Blob, OutOfMemory>
+fn buffer_of(alloc: Global, kept: bool, bytes: OutputBytes) -> Result<OutputBytes, OutOfMemory>
     ensures { IfOk result (λ buffer. kept ≡ true → buffer ≡ bytes) }
 {
     if kept {
         return Ok(bytes);
     }
-    Blob::with_capacity(alloc, MOST as usize * ENTRY_ROOM)
+    let buffer = Blob::with_capacity(alloc, MOST as usize * ENTRY_ROOM)?;
+    Ok(OutputBytes::of(buffer))
 }
 
 /// Takes the entries of the outcomes that come next. They are written once, and hashed from there.
@@ -154,13 +158,15 @@ pub(crate) fn take_rest(
     Ok(begun)
 }
 
-/// Hashes entries as their outcomes come to be known, until all are or the lanes have ended.
+/// Hashes entries as their outcomes come to be known, until all are or the lanes have ended. They
+/// are written in the room.
 pub(crate) fn read_prefix<W: Work, R: Wait>(
     rt: &R,
     alloc: Global,
     desk: &SharedDesk<W>,
     mut reader: Reader<W>,
     parts: RecordParts<'_>,
+    room: Blob,
 ) -> Result<RecordPrefix, OutOfMemory>
     requires reader { IsReaderOf desk.now reader }
     requires of { AreOf parts.wires.now parts.order.now }
@@ -171,7 +177,7 @@ pub(crate) fn read_prefix<W: Work, R: Wait>(
     ensures { IfOk result (IsBegun parts.entry
         (outcomes_at_end W.job (desk_origin desk.now))) }
 {
-    let mut begun = begin(alloc, parts)?;
+    let mut begun = begin(parts, room)?;
     for _ in rt.forever() {
         let left = parts.order.len() as u32 - begun.count;
         if left == 0 || desk.is_dismissed() {

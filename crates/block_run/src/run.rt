@@ -93,17 +93,19 @@ fn run_order<G: Gate, R: Threads + Wait + Sync>(
         order: work.chosen(),
         kept: false,
     };
-    let (ended, outcomes, begun) = run_work(&crew, core, &work, parts)?;
+    let room = Blob::new(crew.alloc);
+    let (ended, outcomes, begun) = run_work(&crew, core, &work, parts, room)?;
     close(&crew, chain, parts, ended, outcomes, begun)
 }
 
-/// Runs transactions in their order over a snapshot, and writes the record of the block. What the
-/// run leaves behind comes with it.
+/// Runs transactions in their order over a snapshot, and writes the record of the block in the room.
+/// What the run leaves behind comes with it.
 fn record_order<G: Gate, R: Threads + Wait + Sync>(
     crew: &Crew<'_, G, R>,
     snapshot: Snapshot,
     batch: Batch,
     order: Items<Chosen>,
+    room: Blob,
 ) -> Result<(ClosedRecord, Spent), OutOfMemory>
     requires readable { IsReadable snapshot }
     requires chosen { All IsChosen order }
@@ -121,7 +123,7 @@ fn record_order<G: Gate, R: Threads + Wait + Sync>(
         order: work.chosen(),
         kept: true,
     };
-    let (ended, outcomes, begun) = run_work(&crew, core, &work, parts)?;
+    let (ended, outcomes, begun) = run_work(&crew, core, &work, parts, room)?;
     let end = close_record(&crew, chain, parts, ended, &outcomes, begun)?;
     Ok((
         end,
@@ -247,9 +249,15 @@ pub fn record_parsed<G: Gate, R: Threads + Wait + Sync>(
         lanes,
         gate,
     };
-    let Decoded { batch, parsed } = decoded;
+    let Decoded {
+        batch,
+        parsed,
+        room,
+    } = decoded;
     let Admitted { order, refused } = admit_on(&crew, &snapshot, &batch.wires, parsed)?;
-    let (ClosedRecord { record, after }, spent) = record_order(&crew, snapshot, batch, order)?;
+    let (ClosedRecord { record, after }, spent) = record_order(
+        &crew, snapshot, batch, order, room,
+    )?;
     Ok(Recorded {
         record,
         after,

@@ -315,7 +315,12 @@ fn run_recorded<R: Threads + Wait + Sync>(
         collector: Key([0xc0; 32]),
         wires,
     };
-    let decoded = Decoded { batch, parsed };
+    let room = Blob::from_slice(alloc, b"bytes that nothing asks for")?;
+    let decoded = Decoded {
+        batch,
+        parsed,
+        room,
+    };
     Ok(record_parsed(rt, alloc, snapshot, decoded, lanes, &OpenGate)?)
 }
 
