@@ -20,7 +20,7 @@ use sol_base::{Blob, MAX_TRANSACTIONS};
 use std::alloc::Global;
 
 /// Lines, each behind its length.
-struct Lines;
+pub(crate) struct Lines;
 
 impl Part for Lines {
     ghost use Rattle.bank_json.specs.RecordJson.{line_in};

@@ -5,10 +5,9 @@ ghost use Rattle.serde_json.specs.Data.{string};
 ghost use Rattle.serde_json.specs.View.{view};
 ghost use Rattle.tx_report.specs.declared.status.Status.TheVariants.{Failed};
 ghost use Rattle.json_parts.specs.Faults.{is_json_memory};
-ghost use Rattle.json_parts.specs.Written.{list_json};
 ghost use Rattle.bank_json.specs.RecordJson.{line_json, status_json, record_json, data_of_record};
 
-use crate::record_in::Entries;
+use crate::record_in::{Entries, Lines};
 use block_record::{Block, Entry, RecordFault, read_record};
 use json_parts::{InJson, JsonFault, hex_value, list_value, transaction_value};
 use serde_json::{Value, json};
@@ -39,14 +38,16 @@ fn line_value(alloc: Global, line: &[u8]) -> Result<Value, AllocError>
     }
 }
 
-fn lines_value(alloc: Global, lines: &[Blob]) -> Result<Value, AllocError>
-    ensures { IfOk result (λ v. view v ≡ list_json line_json lines.now) }
-{
-    let mut values = Vec::with_capacity(alloc, lines.len())?;
-    for line in lines {
-        values.push(line_value(alloc, line.as_slice())?)?;
+impl InJson for Lines {
+    type Item = Blob;
+
+    ghost use Rattle.bank_json.specs.RecordJson.{line_json};
+
+    ghost json_of = { line_json };
+
+    fn value(alloc: Global, item: &Blob) -> Result<Value, AllocError> {
+        line_value(alloc, item.as_slice())
     }
-    Ok(Value::Array(values))
 }
 
 fn failure_value(alloc: Global, index: u8, cause: Cause, detail: u32) -> Result<Value, AllocError>
@@ -81,7 +82,7 @@ impl InJson for Entries {
     ghost json_of = { entry_json };
 
     fn value(alloc: Global, item: &Entry) -> Result<Value, AllocError> {
-        let lines = lines_value(alloc, item.lines.as_slice())?;
+        let lines = list_value::<Lines>(alloc, item.lines.as_slice())?;
         let status = status_value(alloc, item.status)?;
         let transaction = transaction_value(alloc, item.wire.as_slice())?;
         json!(in alloc; {

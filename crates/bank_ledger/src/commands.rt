@@ -6,23 +6,13 @@ use crate::begin::begun;
 use crate::check::{Wanted, checked};
 use crate::export::exported;
 use crate::reads::{block, listed, state};
-use crate::words::words_of;
-use command_parts::{Answer, WORDS_REFUSED, written};
+use command_parts::{Answer, WORDS_REFUSED, lent_words, path_of, written};
 use ledger_words::{ChainCommand, ChainWordsFault, USAGE, VERSION, read_chain_words};
 use sol_base::{Blob, OutOfMemory};
 use std::alloc::Global;
 use std::rt::{Clock, Files};
-use std::str;
 use std::sync::Wait;
 use std::thread::Threads;
-
-/// The bytes as a text. They are one: they came as a word.
-fn path_of(path: &Blob) -> &str {
-    match str::from_utf8(path.as_slice()) {
-        Ok(text) => text,
-        Err(_) => "",
-    }
-}
 
 /// What is wrong with the words.
 fn fault_text(alloc: Global, fault: ChainWordsFault) -> Result<String, OutOfMemory> {
@@ -118,7 +108,7 @@ pub(crate) fn answer_words<
     texts: &[String],
     shows: bool,
 ) -> Result<Answer, OutOfMemory> {
-    let words = words_of(rt.alloc(), texts)?;
+    let words = lent_words(rt.alloc(), texts)?;
     match read_chain_words(rt.alloc(), words.as_slice()) {
         Ok(command) => answer_command(host, rt, threads, &command, shows),
         Err(fault) => refused_words(rt.alloc(), fault),

@@ -10,34 +10,30 @@ use std::str;
 use text_short::short_batch_of_json;
 use text_words::Form;
 
-/// The newest blockhash of a chain, or the answer where there is none.
-#[derive(Drop)]
-enum Found {
-    Hash(Option<Hash32>),
-    Nothing(Answer),
-}
-
-/// The newest blockhash of the snapshot.
-fn newest_in(alloc: Global, bytes: &[u8]) -> Result<Found, OutOfMemory> {
+/// The newest blockhash of the snapshot, or the answer where it is none.
+fn newest_in(alloc: Global, bytes: &[u8]) -> Result<Given<Option<Hash32>>, OutOfMemory> {
     match read_snapshot(alloc, bytes) {
-        Ok(prefix) => Ok(Found::Hash(Some(prefix.snapshot.recent.newest()))),
+        Ok(prefix) => Ok(Given::Value(Some(prefix.snapshot.recent.newest()))),
         Err(SnapshotFault::OutOfMemory) => Err(OutOfMemory),
         Err(fault) => {
             let text = fault.to_string(alloc)?;
-            Ok(Found::Nothing(noted(alloc, INPUT_REFUSED, "snapshot", text.as_str())?))
+            Ok(Given::Nothing(noted(alloc, INPUT_REFUSED, "snapshot", text.as_str())?))
         }
     }
 }
 
 /// The newest blockhash of the snapshot in the file, where one is named.
-fn newest<R: Files + AllocGlobal>(rt: &R, path: Option<&str>) -> Result<Found, OutOfMemory> {
+fn newest<R: Files + AllocGlobal>(
+    rt: &R,
+    path: Option<&str>,
+) -> Result<Given<Option<Hash32>>, OutOfMemory> {
     let path = match path {
         Some(path) => path,
-        None => return Ok(Found::Hash(None)),
+        None => return Ok(Given::Value(None)),
     };
     match file(rt, path)? {
         Given::Value(bytes) => newest_in(rt.alloc(), bytes.as_slice()),
-        Given::Nothing(told) => Ok(Found::Nothing(told)),
+        Given::Nothing(told) => Ok(Given::Nothing(told)),
     }
 }
 
@@ -59,7 +55,7 @@ pub(crate) fn built<R: Files + AllocGlobal>(
     snapshot: Option<&str>,
 ) -> Result<Answer, OutOfMemory> {
     match newest(rt, snapshot)? {
-        Found::Hash(hash) => batch_of(rt.alloc(), input, hash),
-        Found::Nothing(told) => Ok(told),
+        Given::Value(hash) => batch_of(rt.alloc(), input, hash),
+        Given::Nothing(told) => Ok(told),
     }
 }

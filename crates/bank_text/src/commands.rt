@@ -6,23 +6,14 @@ use crate::json::{told_bytes, told_json};
 use crate::shape::shaped;
 use crate::why::explained;
 use block_record::{RecordFault, read_front};
-use command_parts::{Answer, DIFFERS, Given, INPUT_REFUSED, WRITE_FAILED, noted, written};
+use command_parts::{Answer, DIFFERS, Given, INPUT_REFUSED, WRITE_FAILED, noted, path_of, written};
 use message_codec::Signature;
 use snapshot_codec::{SnapshotFault, read_snapshot};
-use sol_base::{Blob, Key, OutOfMemory};
+use sol_base::{Key, OutOfMemory};
 use std::alloc::Global;
 use std::rt::Files;
-use std::str;
 use text_views::{Split, split_output, view_account, view_entry};
 use text_words::{Sought, TextCommand, USAGE};
-
-/// The bytes as a text. They are one: they came as a word.
-pub(crate) fn path_of(path: &Blob) -> &str {
-    match str::from_utf8(path.as_slice()) {
-        Ok(text) => text,
-        Err(_) => "",
-    }
-}
 
 /// The answer to a command.
 pub(crate) fn answer_command<R: Files + Input + AllocGlobal>(

@@ -1,6 +1,6 @@
 //! The command `diff`: two snapshots or two records.
 use crate::files::file;
-use block_record::{RecordFault, read_record};
+use block_record::{Block, RecordFault, read_record};
 use command_parts::{Answer, DIFFERS, Given, INPUT_REFUSED, noted};
 use snapshot_codec::{Prefix, Snapshot, SnapshotFault, read_snapshot};
 use sol_base::{Blob, OutOfMemory};
@@ -48,55 +48,47 @@ fn told_lines(alloc: Global, lines: Blob) -> Answer {
     }
 }
 
+/// The file's record, or the answer where it is none.
+fn whole_record(alloc: Global, name: &str, bytes: &[u8]) -> Result<Given<Block>, OutOfMemory> {
+    match read_record(alloc, bytes) {
+        Ok(block) => Ok(Given::Value(block)),
+        Err(RecordFault::OutOfMemory) => Err(OutOfMemory),
+        Err(fault) => Ok(Given::Nothing(noted(
+            alloc,
+            INPUT_REFUSED,
+            name,
+            fault.to_string(alloc)?.as_str(),
+        )?)),
+    }
+}
+
 fn compared_records(
     alloc: Global,
     left: (&str, &[u8]),
     right: (&str, &[u8]),
 ) -> Result<Answer, OutOfMemory> {
-    let one = match read_record(alloc, left.1) {
-        Ok(block) => block,
-        Err(RecordFault::OutOfMemory) => return Err(OutOfMemory),
-        Err(fault) => {
-            return noted(
-                alloc,
-                INPUT_REFUSED,
-                left.0,
-                fault.to_string(alloc)?.as_str(),
-            );
-        }
+    let one = match whole_record(alloc, left.0, left.1)? {
+        Given::Value(block) => block,
+        Given::Nothing(told) => return Ok(told),
     };
-    let two = match read_record(alloc, right.1) {
-        Ok(block) => block,
-        Err(RecordFault::OutOfMemory) => return Err(OutOfMemory),
-        Err(fault) => {
-            return noted(
-                alloc,
-                INPUT_REFUSED,
-                right.0,
-                fault.to_string(alloc)?.as_str(),
-            );
-        }
+    let two = match whole_record(alloc, right.0, right.1)? {
+        Given::Value(block) => block,
+        Given::Nothing(told) => return Ok(told),
     };
     Ok(told_lines(alloc, block_differences(alloc, &one, &two)?))
 }
 
-/// What the file's snapshot is, or the answer where it is none or other bytes follow it.
-#[derive(Drop)]
-enum Whole {
-    Snapshot(Snapshot),
-    Refused(Answer),
-}
-
-fn whole_snapshot(alloc: Global, name: &str, bytes: &[u8]) -> Result<Whole, OutOfMemory> {
+/// The file's snapshot, or the answer where it is none or other bytes follow it.
+fn whole_snapshot(alloc: Global, name: &str, bytes: &[u8]) -> Result<Given<Snapshot>, OutOfMemory> {
     let told = match read_snapshot(alloc, bytes) {
         Ok(Prefix { snapshot, length }) if length == bytes.len() => {
-            return Ok(Whole::Snapshot(snapshot));
+            return Ok(Given::Value(snapshot));
         }
         Ok(_) => noted(alloc, INPUT_REFUSED, name, "bytes follow the snapshot")?,
         Err(SnapshotFault::OutOfMemory) => return Err(OutOfMemory),
         Err(fault) => noted(alloc, INPUT_REFUSED, name, fault.to_string(alloc)?.as_str())?,
     };
-    Ok(Whole::Refused(told))
+    Ok(Given::Nothing(told))
 }
 
 fn compared_snapshots(
@@ -105,12 +97,12 @@ fn compared_snapshots(
     right: (&str, &[u8]),
 ) -> Result<Answer, OutOfMemory> {
     let one = match whole_snapshot(alloc, left.0, left.1)? {
-        Whole::Snapshot(snapshot) => snapshot,
-        Whole::Refused(told) => return Ok(told),
+        Given::Value(snapshot) => snapshot,
+        Given::Nothing(told) => return Ok(told),
     };
     let two = match whole_snapshot(alloc, right.0, right.1)? {
-        Whole::Snapshot(snapshot) => snapshot,
-        Whole::Refused(told) => return Ok(told),
+        Given::Value(snapshot) => snapshot,
+        Given::Nothing(told) => return Ok(told),
     };
     Ok(told_lines(alloc, snapshot_differences(alloc, &one, &two)?))
 }

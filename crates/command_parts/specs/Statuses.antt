@@ -2,9 +2,16 @@
 use Rattle.std.specs.Prelude.{ℕ, Result, Ok, Err}
 use Rattle.sol_io.specs.declared.fault.WriteFault.{WriteFault}
 use Rattle.sol_io.specs.declared.fault.WriteFault.TheVariants.{Failed, OutOfMemory}
+use Rattle.command_parts.specs.declared.words.NoWords.{NoWords}
+use Rattle.command_parts.specs.declared.words.NoWords.TheVariants.{NotText, OutOfMemory as no_memory}
 
 -- 5 where a part of the answer was not written, and 6 where memory ran out
 abbrev pub status_after : Result Unit WriteFault → ℕ → ℕ
 status_after (Ok _) status = status
 status_after (Err (Failed _)) status = 5
 status_after (Err (OutOfMemory _)) status = 6
+
+-- 2 where a word is no text, and 6 where memory ran out
+abbrev pub status_without_words : NoWords → ℕ
+status_without_words NotText = 2
+status_without_words no_memory = 6

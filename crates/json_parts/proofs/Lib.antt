@@ -1,5 +1,5 @@
 pub mod Within
-mod Items
+pub mod Items
 pub mod Lists
 pub mod Members
 pub mod Again

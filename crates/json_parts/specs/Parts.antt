@@ -108,13 +108,13 @@ abbrev pub data_of : Items → List Data
 data_of no_items = []
 data_of (item d ds) = d ∷ data_of ds
 
--- the bytes that items stand for, one after the other, the first at this place
-unfoldable pub items_in : (Data → Read (List ℕ)) → ℕ → List Data → Read (List ℕ)
+-- the lists that items stand for, one after the other, the first at this place
+unfoldable pub items_in : {X : Type 0} → (Data → Read (List X)) → ℕ → List Data → Read (List X)
 items_in one at [] = Ok []
 items_in one at (d ∷ ds) = do
-  bytes ← within (Item at) (one d)
+  part ← within (Item at) (one d)
   more ← items_in one (at + 1) ds
-  Ok (bytes ++ more)
+  Ok (part ++ more)
 
 -- no more items than these
 abbrev pub if_few : ℕ → Items → Option (List Data)

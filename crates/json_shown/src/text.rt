@@ -1,5 +1,5 @@
 //! JSON texts with members `shown`. Each is read again before it is handed out.
-ghost use Rattle.std.specs.Prelude.{◌≡◌, false, None, Err, IfOk, IfErr, IfSome, string_bytes};
+ghost use Rattle.std.specs.Prelude.{◌≡◌, false, None, Ok, Err, IfOk, IfErr, IfSome, string_bytes};
 ghost use Rattle.json_parts.specs.Faults.{is_json_memory};
 ghost use Rattle.bank_json.specs.SnapshotJson.{data_of_snapshot, snapshot_of_data};
 ghost use Rattle.bank_json.specs.BatchJson.{data_of_batch, batch_of_data};
@@ -12,7 +12,7 @@ use bank_json::{
     record_of_json, record_value, snapshot_of_json, snapshot_value,
 };
 use json_parts::JsonFault;
-use serde_json::Value;
+use sol_base::Blob;
 use std::alloc::{AllocError, Global};
 
 /// There is no text: none that was read as it should be, or no memory.
@@ -25,49 +25,16 @@ fn no_text(fault: &JsonFault) -> Result<Option<String>, AllocError>
     }
 }
 
-/// The text of the value, where it stands for the bytes of a batch.
-fn batch_text(alloc: Global, bytes: &[u8], value: &Value) -> Result<Option<String>, AllocError>
+/// The text, where these bytes were read of it.
+fn if_read_back(
+    text: String,
+    read: Result<Blob, JsonFault>,
+    bytes: &[u8],
+) -> Result<Option<String>, AllocError>
     ensures { IfOk result (λ found. IfSome found
-        (λ text. TextIs batch_of_data (string_bytes text) bytes.now)) }
+        (λ kept. (kept ≡ text) × (read ≡ Ok bytes.now))) }
 {
-    let text = value.to_string_pretty(alloc)?;
-    match batch_of_json(alloc, text.as_str()) {
-        Ok(read) => {
-            if read.as_slice() == bytes {
-                Ok(Some(text))
-            } else {
-                Ok(None)
-            }
-        }
-        Err(fault) => no_text(&fault),
-    }
-}
-
-/// The text of the value, where it stands for the bytes of a record.
-fn record_text(alloc: Global, bytes: &[u8], value: &Value) -> Result<Option<String>, AllocError>
-    ensures { IfOk result (λ found. IfSome found
-        (λ text. TextIs record_of_data (string_bytes text) bytes.now)) }
-{
-    let text = value.to_string_pretty(alloc)?;
-    match record_of_json(alloc, text.as_str()) {
-        Ok(read) => {
-            if read.as_slice() == bytes {
-                Ok(Some(text))
-            } else {
-                Ok(None)
-            }
-        }
-        Err(fault) => no_text(&fault),
-    }
-}
-
-/// The text of the value, where it stands for the bytes of a snapshot.
-fn snapshot_text(alloc: Global, bytes: &[u8], value: &Value) -> Result<Option<String>, AllocError>
-    ensures { IfOk result (λ found. IfSome found
-        (λ text. TextIs snapshot_of_data (string_bytes text) bytes.now)) }
-{
-    let text = value.to_string_pretty(alloc)?;
-    match snapshot_of_json(alloc, text.as_str()) {
+    match read {
         Ok(read) => {
             if read.as_slice() == bytes {
                 Ok(Some(text))
@@ -91,7 +58,9 @@ pub fn json_of_batch_with_shown(alloc: Global, bytes: &[u8]) -> Result<String, J
 {
     let mut value = batch_value(alloc, bytes)?;
     show_batch(alloc, &mut value)?;
-    match batch_text(alloc, bytes, &value)? {
+    let text = value.to_string_pretty(alloc)?;
+    let read = batch_of_json(alloc, text.as_str());
+    match if_read_back(text, read, bytes)? {
         Some(text) => Ok(text),
         None => json_of_batch(alloc, bytes, Layout::Pretty),
     }
@@ -108,7 +77,9 @@ pub fn json_of_record_with_shown(alloc: Global, bytes: &[u8]) -> Result<String, 
 {
     let mut value = record_value(alloc, bytes)?;
     show_record(alloc, &mut value, bytes)?;
-    match record_text(alloc, bytes, &value)? {
+    let text = value.to_string_pretty(alloc)?;
+    let read = record_of_json(alloc, text.as_str());
+    match if_read_back(text, read, bytes)? {
         Some(text) => Ok(text),
         None => json_of_record(alloc, bytes, Layout::Pretty),
     }
@@ -125,7 +96,9 @@ pub fn json_of_snapshot_with_shown(alloc: Global, bytes: &[u8]) -> Result<String
 {
     let mut value = snapshot_value(alloc, bytes)?;
     show_snapshot(alloc, &mut value, bytes)?;
-    match snapshot_text(alloc, bytes, &value)? {
+    let text = value.to_string_pretty(alloc)?;
+    let read = snapshot_of_json(alloc, text.as_str());
+    match if_read_back(text, read, bytes)? {
         Some(text) => Ok(text),
         None => json_of_snapshot(alloc, bytes, Layout::Pretty),
     }

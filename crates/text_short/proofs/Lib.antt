@@ -1,3 +1,3 @@
 mod MemberNames
-pub mod ListItems
+mod LoneItems
 pub mod ShortLaws

@@ -1,6 +1,6 @@
 -- What JSON in the short form stands for is read as a batch.
-use Rattle.std.proofs.Common.{◌≡◌, ◌≤◌, ◌+◌, ◌-◌, ◌^◌, ℕ, List, [], ◌∷◌, length, All, Option, Some, None, Result, Ok, Err, Bool, true, false, if◌then◌else◌, ◌&&◌, refl, sym, subst, ◌∙◌, arith, lit≤}
-use Rattle.std.specs.Prelude.{nat_le, option_and_then, codes}
+use Rattle.std.proofs.Common.{◌≡◌, ◌≤◌, ◌+◌, ◌-◌, ◌^◌, ℕ, List, [], ◌∷◌, ◌++◌, length, All, Option, Some, None, Result, Ok, Err, Bool, true, false, if◌then◌else◌, ◌&&◌, refl, sym, ap, subst, ◌∙◌, arith, lit≤}
+use Rattle.std.specs.Prelude.{IfOk, nat_le, option_and_then, codes}
 use Rattle.std.specs.List.{AllByRecursion}
 use Rattle.std.proofs.lemmas.Bool.{and_parts}
 use Rattle.std.proofs.lemmas.Bool.Decides.{nat_tests}
@@ -10,6 +10,7 @@ use Rattle.hex.specs.declared.error.FromHexError.{FromHexError}
 use Rattle.hex.proofs.HexLemmas.{decode_sized-ok, decode_sized-twice, decode_of-ok}
 use Rattle.sha2.proofs.Facts256.{length-sha256}
 use Rattle.spec_base.specs.Bytes.{max_count}
+use Rattle.spec_base.specs.Reading.{Gives}
 use Rattle.spec_base.proofs.Binding.{bind_ok, ok_same}
 use Rattle.serde_json.specs.Data.{Data, Items}
 use Rattle.serde_json.specs.Find.{as_number, as_u64, as_array}
@@ -31,10 +32,10 @@ use Rattle.json_parts.specs.declared.fault.Step.{Step}
 use Rattle.json_parts.specs.declared.fault.Step.TheVariants.{Member, Item}
 use Rattle.json_parts.specs.declared.fault.Wanted.{Wanted}
 use Rattle.json_parts.specs.declared.fault.Wanted.TheVariants.{Number, Array}
-use Rattle.json_parts.specs.Faults.{Read, within}
-use Rattle.json_parts.specs.Parts.{or_refused, if_between, number_in, found_in, member_in, known_in, data_of, if_few, array_in}
+use Rattle.json_parts.specs.Faults.{Read, is_json_memory, within}
+use Rattle.json_parts.specs.Parts.{or_refused, if_between, number_in, found_in, member_in, known_in, data_of, if_few, items_in, array_in}
 use Rattle.text_short.specs.Names.{key_by, named_key}
-use Rattle.text_short.specs.Members.{text_in, key_in, items_of, list_of}
+use Rattle.text_short.specs.Members.{text_in, key_in, lone, list_of}
 use Rattle.text_short.specs.ShortForm.{draft_in, wire_by, transaction_in, batch_names, short_batch_in}
 use Rattle.text_short.specs.Laws.{BuiltBatchesAreRead}
 
@@ -103,17 +104,19 @@ unfolding array_in
 array_few most d ds h = few most (as_array d) (Array most) ds h
 
 -- as many items as there are values, and what holds of each
-items_hold : {X : Type 0} (one : Data → Read X) (P : X → Type 0) → ((d : Data) (x : X) → one d ≡ Ok x → P x) → (i : ℕ) (ds : List Data) (xs : List X) → items_of one i ds ≡ Ok xs → (length xs ≡ length ds) × AllByRecursion P xs
-unfolding items_of
+items_hold : {X : Type 0} (one : Data → Read X) (P : X → Type 0) → ((d : Data) (x : X) → one d ≡ Ok x → P x) → (i : ℕ) (ds : List Data) (xs : List X) → items_in (lone one) i ds ≡ Ok xs → (length xs ≡ length ds) × AllByRecursion P xs
+unfolding items_in
 items_hold {X = X} one P each i [] xs h =
     let none : List X = [] in
     subst (λ (l : List X). (length l ≡ 0) × AllByRecursion P l) (ok_same none xs h) (refl, tt)
 items_hold {X = X} one P each i (d ∷ ds) xs h =
-    let a = bind_ok (within (Item i) (one d)) _ xs h in
-    let b = bind_ok (items_of one (i + 1) ds) _ xs a.2 in
+    let a = bind_ok (within (Item i) (lone one d)) _ xs h in
+    let x = bind_ok (one d) _ a.0 (within_ok (Item i) (lone one d) a.0 a.1) in
+    let b = bind_ok (items_in (lone one) (i + 1) ds) _ xs a.2 in
     let more = items_hold one P each (i + 1) ds b.0 b.1 in
-    let long : length (a.0 ∷ b.0) ≡ length (d ∷ ds) = omega (arith, more.0) in
-    subst (λ (l : List X). (length l ≡ length (d ∷ ds)) × AllByRecursion P l) (ok_same (a.0 ∷ b.0) xs b.2) (long, (each d a.0 (within_ok (Item i) (one d) a.0 a.1), more.1))
+    let long : length (x.0 ∷ b.0) ≡ length (d ∷ ds) = omega (arith, more.0) in
+    let is : x.0 ∷ b.0 ≡ xs = ap (λ (part : List X). part ++ b.0) (ok_same (x.0 ∷ []) a.0 x.2) ∙ ok_same (a.0 ++ b.0) xs b.2 in
+    subst (λ (l : List X). (length l ≡ length (d ∷ ds)) × AllByRecursion P l) is (long, (each d x.0 x.1, more.1))
 
 list_holds : {X : Type 0} (most : ℕ) (one : Data → Read X) (P : X → Type 0) → ((d : Data) (x : X) → one d ≡ Ok x → P x) → (d : Data) (xs : List X) → list_of most one d ≡ Ok xs → (length xs ≤ most) × All P xs
 unfolding list_of
@@ -151,6 +154,23 @@ transaction_short newest d bytes h =
     let a = bind_ok (draft_in newest d) _ bytes h in
     wire_short (built a.0) bytes (built_short a.0) a.2
 
+-- no more wires than a batch may have, and each is short
+abbrev wires_of : Option Hash32 → Data → Read (List (List ℕ))
+wires_of newest d = member_in (codes "transactions") (list_of max_transactions (transaction_in newest)) d
+
+wires_hold : (newest : Option Hash32) (d : Data) (wires : List (List ℕ)) → wires_of newest d ≡ Ok wires → (length wires ≤ max_transactions) × All IsShortWire wires
+wires_hold newest d wires h =
+    let w = member_ok (codes "transactions") (list_of max_transactions (transaction_in newest)) d wires h in
+    list_holds max_transactions (transaction_in newest) IsShortWire (transaction_short newest) w.0 wires w.1
+
+pub wires_few : (newest : Option Hash32) (d : Data) (read : Read (List (List ℕ))) → Gives is_json_memory (λ x. x) read (wires_of newest d) → IfOk read (λ wires. length wires ≤ max_transactions)
+wires_few newest d (Ok wires) h = (wires_hold newest d wires h).0
+wires_few newest d (Err e) h = tt
+
+pub wires_short : (newest : Option Hash32) (d : Data) (read : Read (List (List ℕ))) → Gives is_json_memory (λ x. x) read (wires_of newest d) → IfOk read (λ wires. All IsShortWire wires)
+wires_short newest d (Ok wires) h = (wires_hold newest d wires h).1
+wires_short newest d (Err e) h = tt
+
 -- ---- batches
 
 pub built_are_read : BuiltBatchesAreRead
@@ -163,9 +183,8 @@ built_are_read newest d bytes h =
     let batch : Batch = record { slot = slot.0; collector = collector.0; wires = wires.0 } in
     let s = member_ok (codes "slot") (number_in 1 (2 ^ 64 - 1)) d slot.0 slot.1 in
     let c = member_ok (codes "collector") key_in d collector.0 collector.1 in
-    let w = member_ok (codes "transactions") (list_of max_transactions (transaction_in newest)) d wires.0 wires.1 in
     let bounds = number_bounds 1 (2 ^ 64 - 1) s.0 slot.0 s.1 in
-    let hold = list_holds max_transactions (transaction_in newest) IsShortWire (transaction_short newest) w.0 wires.0 w.1 in (
+    let hold = wires_hold newest d wires.0 wires.1 in (
       batch,
       again 0 bytes batch (record {
         spelled = sym (ok_same (batch_bytes batch) bytes wires.2);

@@ -1,15 +1,15 @@
 -- The members of objects in the short form (the project's own).
-use Rattle.std.specs.Prelude.{ℕ, ◌+◌, List, [], ◌∷◌, Ok, Err}
+use Rattle.std.specs.Prelude.{ℕ, List, [], ◌∷◌, Ok, Err}
 use Rattle.spec_base.specs.Reading.{◌>>=◌}
 use Rattle.serde_json.specs.Data.{Data}
 use Rattle.serde_json.specs.Find.{as_str}
 use Rattle.sol_base.specs.declared.key.Key.{Key}
 use Rattle.tx_build.specs.declared.draft.KeyedInstruction.{KeyedInstruction}
-use Rattle.json_parts.specs.declared.fault.Step.TheVariants.{Member, Item}
+use Rattle.json_parts.specs.declared.fault.Step.TheVariants.{Member}
 use Rattle.json_parts.specs.declared.fault.Wanted.TheVariants.{Text, Instruction}
 use Rattle.json_parts.specs.declared.fault.JsonFault.TheVariants.{Refused}
-use Rattle.json_parts.specs.Faults.{Read, within}
-use Rattle.json_parts.specs.Parts.{or_refused, array_in}
+use Rattle.json_parts.specs.Faults.{Read}
+use Rattle.json_parts.specs.Parts.{or_refused, array_in, items_in}
 use Rattle.text_short.specs.Names.{named_key}
 
 unfoldable pub text_in : Data → Read (List ℕ)
@@ -21,19 +21,15 @@ key_in d = do
   text ← text_in d
   Ok (named_key text)
 
--- what the items stand for, the first at this place
-unfoldable pub items_of : {X : Type 0} → (Data → Read X) → ℕ → List Data → Read (List X)
-items_of one at [] = Ok []
-items_of one at (d ∷ ds) = do
-  item ← within (Item at) (one d)
-  items ← items_of one (at + 1) ds
-  Ok (item ∷ items)
+-- what one item stands for, as a list of one
+abbrev pub lone : {X : Type 0} → (Data → Read X) → Data → Read (List X)
+lone one d = one d >>= (λ x. Ok (x ∷ []))
 
 -- an array of no more items than these
 unfoldable pub list_of : {X : Type 0} → ℕ → (Data → Read X) → Data → Read (List X)
 list_of most one d = do
   items ← array_in most d
-  items_of one 0 items
+  items_in (lone one) 0 items
 
 -- the program of that member has no instruction of that name
 abbrev pub no_such_instruction : List ℕ → Read KeyedInstruction

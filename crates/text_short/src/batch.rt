@@ -1,5 +1,5 @@
 //! A batch in the short form.
-ghost use Rattle.std.specs.Prelude.{◌≤◌, All, IfOk, codes, length, map};
+ghost use Rattle.std.specs.Prelude.{◌≤◌, All, IfOk, codes, length};
 ghost use Rattle.spec_base.specs.Reading.{Gives};
 ghost use Rattle.serde_json.specs.View.{view};
 ghost use Rattle.serde_json.specs.Read.{read};
@@ -8,50 +8,34 @@ ghost use Rattle.snapshot_codec.specs.Batch.{IsShortWire};
 ghost use Rattle.json_parts.specs.Faults.{is_json_memory};
 ghost use Rattle.json_parts.specs.Parts.{known_in, member_in};
 ghost use Rattle.json_parts.specs.Texts.{TextGives};
-ghost use Rattle.text_short.specs.Members.{items_of, list_of};
+ghost use Rattle.text_short.specs.Members.{list_of};
 ghost use Rattle.text_short.specs.ShortForm.{transaction_in, batch_names, short_batch_in};
 
+use crate::list::{ReadsItems, list_member};
 use crate::members::key_member;
 use crate::transaction::transaction;
-use json_parts::{
-    JsonFault, array, found, in_item, in_member, known, number_member, value_of_text,
-};
+use json_parts::{JsonFault, known, number_member, value_of_text};
 use serde_json::Value;
 use snapshot_codec::{Batch, batch_bytes};
 use sol_base::{Blob, Hash32, Items, MAX_TRANSACTIONS};
 use std::alloc::Global;
 
-/// The transactions that the values stand for.
-fn transactions(
-    alloc: Global,
-    values: &[Value],
+/// The transactions of a batch, with the newest blockhash where one is known.
+#[derive(Clone, Copy)]
+struct Wires {
     newest: Option<Hash32>,
-) -> Result<Items<Blob>, JsonFault>
-    ensures gives { Gives is_json_memory (λ x. x) result
-        (items_of (transaction_in newest) 0 (map view values.now)) }
-    ensures few { IfOk result (λ wires. length wires ≤ length values.now) }
-    ensures short { IfOk result (λ wires. All IsShortWire wires) }
-{
-    let mut wires = Items::new(alloc);
-    for (at, value) in values.iter().enumerate() {
-        let wire = in_item(at, transaction(alloc, value, newest))?;
-        wires.push(wire)?;
+}
+
+impl ReadsItems<Blob> for Wires {
+    ghost use Rattle.text_short.specs.ShortForm.{transaction_in};
+
+    ghost item_in = { λ wires. transaction_in wires.newest };
+
+    fn read(&self, alloc: Global, value: &Value) -> Result<Blob, JsonFault> {
+        transaction(alloc, value, self.newest)
     }
-    Ok(wires)
 }
 
-#[tactic(auto, unfolding(crate::specs::Members::list_of))]
-fn wires(alloc: Global, value: &Value, newest: Option<Hash32>) -> Result<Items<Blob>, JsonFault>
-    ensures gives { Gives is_json_memory (λ x. x) result
-        (list_of max_transactions (transaction_in newest) (view value.now)) }
-    ensures few { IfOk result (λ wires. length wires ≤ max_transactions) }
-    ensures short { IfOk result (λ wires. All IsShortWire wires) }
-{
-    let values = array(alloc, value, MAX_TRANSACTIONS)?;
-    transactions(alloc, values, newest)
-}
-
-#[tactic(auto, unfolding(json_parts::specs::Parts::member_in))]
 fn wires_member(
     alloc: Global,
     value: &Value,
@@ -63,8 +47,13 @@ fn wires_member(
     ensures few { IfOk result (λ wires. length wires ≤ max_transactions) }
     ensures short { IfOk result (λ wires. All IsShortWire wires) }
 {
-    let found = found(alloc, value, "transactions")?;
-    in_member(alloc, "transactions", wires(alloc, found, newest))
+    list_member(
+        alloc,
+        value,
+        "transactions",
+        MAX_TRANSACTIONS,
+        &Wires { newest },
+    )
 }
 
 #[tactic(auto, unfolding(crate::specs::ShortForm::batch_names))]

@@ -5,7 +5,7 @@ ghost use Rattle.json_parts.specs.Faults.{is_json_memory};
 ghost use Rattle.json_parts.specs.Parts.{member_in};
 ghost use Rattle.text_short.specs.Members.{text_in, key_in, no_such_instruction};
 
-use crate::list::Short;
+use crate::list::ReadsItems;
 use crate::names::named_key;
 use json_parts::{JsonFault, Wanted, found, in_member, refused, refused_member};
 use serde_json::Value;
@@ -41,15 +41,25 @@ pub(crate) fn text_member<'a>(
     }
 }
 
-impl Short for Key {
+/// A key by its digits or its name.
+#[tactic(auto, unfolding(crate::specs::Members::key_in))]
+fn key(alloc: Global, value: &Value) -> Result<Key, JsonFault>
+    ensures { Gives is_json_memory (λ x. x) result (key_in (view value.now)) }
+{
+    let text = text(alloc, value)?;
+    Ok(named_key(text))
+}
+
+/// Lists of keys.
+pub(crate) struct Keys;
+
+impl ReadsItems<Key> for Keys {
     ghost use Rattle.text_short.specs.Members.{key_in};
 
-    ghost item_in = { key_in };
+    ghost item_in = { λ _. key_in };
 
-    #[tactic(auto, unfolding(crate::specs::Members::key_in))]
-    fn read(alloc: Global, value: &Value) -> Result<Key, JsonFault> {
-        let text = text(alloc, value)?;
-        Ok(named_key(text))
+    fn read(&self, alloc: Global, value: &Value) -> Result<Key, JsonFault> {
+        key(alloc, value)
     }
 }
 
@@ -59,7 +69,7 @@ pub(crate) fn key_member(alloc: Global, value: &Value, name: &str) -> Result<Key
     ensures { Gives is_json_memory (λ x. x) result (member_in name.now key_in (view value.now)) }
 {
     let found = found(alloc, value, name)?;
-    in_member(alloc, name, Key::read(alloc, found))
+    in_member(alloc, name, key(alloc, found))
 }
 
 /// The program that the member names has no instruction of that name.

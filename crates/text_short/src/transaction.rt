@@ -9,9 +9,9 @@ ghost use Rattle.json_parts.specs.Parts.{known_in, member_in};
 ghost use Rattle.text_short.specs.ShortForm.{plain_in, version_in, tables_in, hash_in, is_newest, blockhash_in, draft_names, draft_in, transaction_in};
 
 use crate::budget::budget_instruction;
-use crate::list::{Short, list_member};
+use crate::list::{ReadsItems, list_member};
 use crate::loader::loader_instruction;
-use crate::members::key_member;
+use crate::members::{Keys, key_member};
 use crate::system::system_instruction;
 use json_parts::{
     JsonFault, Wanted, data_member, digits, flag_member, found, in_member, known, refused,
@@ -25,13 +25,16 @@ use tx_build::{
     build_wire,
 };
 
-impl Short for AccountMeta {
+/// Accounts with their rights.
+struct AccountMetas;
+
+impl ReadsItems<AccountMeta> for AccountMetas {
     ghost use Rattle.text_short.specs.ShortForm.{account_in};
 
-    ghost item_in = { account_in };
+    ghost item_in = { λ _. account_in };
 
     #[tactic(auto, unfolding(crate::specs::ShortForm::account_in))]
-    fn read(alloc: Global, value: &Value) -> Result<AccountMeta, JsonFault> {
+    fn read(&self, alloc: Global, value: &Value) -> Result<AccountMeta, JsonFault> {
         known(alloc, value, &["key", "signer", "writable"])?;
         let key = key_member(alloc, value, "key")?;
         let signer = flag_member(alloc, value, "signer")?;
@@ -51,7 +54,7 @@ fn plain_instruction(alloc: Global, value: &Value) -> Result<KeyedInstruction, J
 {
     known(alloc, value, &["program", "accounts", "data"])?;
     let program = key_member(alloc, value, "program")?;
-    let accounts = list_member::<AccountMeta>(alloc, value, "accounts", MAX_COUNT)?;
+    let accounts = list_member(alloc, value, "accounts", MAX_COUNT, &AccountMetas)?;
     let input = data_member(alloc, value, "data", MAX_COUNT)?;
     Ok(KeyedInstruction {
         program,
@@ -60,13 +63,16 @@ fn plain_instruction(alloc: Global, value: &Value) -> Result<KeyedInstruction, J
     })
 }
 
-impl Short for KeyedInstruction {
+/// Instructions, told by which member is there.
+struct Instructions;
+
+impl ReadsItems<KeyedInstruction> for Instructions {
     ghost use Rattle.text_short.specs.ShortForm.{instruction_in};
 
-    ghost item_in = { instruction_in };
+    ghost item_in = { λ _. instruction_in };
 
     #[tactic(auto, unfolding(crate::specs::ShortForm::instruction_in))]
-    fn read(alloc: Global, value: &Value) -> Result<KeyedInstruction, JsonFault> {
+    fn read(&self, alloc: Global, value: &Value) -> Result<KeyedInstruction, JsonFault> {
         if value.get("system").is_some() {
             system_instruction(alloc, value)
         } else if value.get("budget").is_some() {
@@ -79,16 +85,19 @@ impl Short for KeyedInstruction {
     }
 }
 
-impl Short for LookupTable {
+/// Tables with the addresses that are looked up in them.
+struct LookupTables;
+
+impl ReadsItems<LookupTable> for LookupTables {
     ghost use Rattle.text_short.specs.ShortForm.{table_in};
 
-    ghost item_in = { table_in };
+    ghost item_in = { λ _. table_in };
 
     #[tactic(auto, unfolding(crate::specs::ShortForm::table_in))]
-    fn read(alloc: Global, value: &Value) -> Result<LookupTable, JsonFault> {
+    fn read(&self, alloc: Global, value: &Value) -> Result<LookupTable, JsonFault> {
         known(alloc, value, &["table", "addresses"])?;
         let key = key_member(alloc, value, "table")?;
-        let addresses = list_member::<Key>(alloc, value, "addresses", MAX_ADDRESSES)?;
+        let addresses = list_member(alloc, value, "addresses", MAX_ADDRESSES, &Keys)?;
         Ok(LookupTable { key, addresses })
     }
 }
@@ -97,7 +106,7 @@ impl Short for LookupTable {
 fn tables(alloc: Global, value: &Value) -> Result<Version, JsonFault>
     ensures { Gives is_json_memory (λ x. x) result (tables_in (view value.now)) }
 {
-    let tables = list_member::<LookupTable>(alloc, value, "lookups", MAX_COUNT)?;
+    let tables = list_member(alloc, value, "lookups", MAX_COUNT, &LookupTables)?;
     Ok(Version::Zero { tables })
 }
 
@@ -179,7 +188,7 @@ fn draft(alloc: Global, value: &Value, newest: Option<Hash32>) -> Result<Draft, 
     known_of_draft(alloc, value)?;
     let payer = key_member(alloc, value, "payer")?;
     let blockhash = blockhash_member(alloc, value, newest)?;
-    let instructions = list_member::<KeyedInstruction>(alloc, value, "instructions", MAX_COUNT)?;
+    let instructions = list_member(alloc, value, "instructions", MAX_COUNT, &Instructions)?;
     let version = version(alloc, value)?;
     Ok(Draft {
         version,
