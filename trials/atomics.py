@@ -9,9 +9,10 @@ FUNCTION = re.compile(r'^[0-9a-f]+ <(.*)>:$')
 LINE = re.compile(r'^ *([0-9a-f]+):\t((?:[0-9a-f]{2} )+) *\t(.*?) *$')
 ATOMIC = re.compile(r'lock (\w+) |(xchg) +%\w+,.*\(|(mfence)')
 PLACE = re.compile(r'(-?0x[0-9a-f]+)?\((%\w+)?(?:,(%\w+),(\d))?\)')
-# Where a word is taken by an exchange that compares. Elsewhere that makes a count of owners rise, which
-# puts nothing in order.
-TAKES = re.compile('SharedDesk::take_turn|run_thread|run_jobs|read_decoded')
+# Where the word of the desk is taken by an exchange that compares.
+TAKES_TURN = re.compile('SharedDesk::take_turn|run_thread')
+# Where any word is. Elsewhere that makes a count of owners rise, which puts nothing in order.
+TAKES = re.compile(TAKES_TURN.pattern + '|run_jobs|read_decoded')
 
 
 class Site(collections.namedtuple('Site', 'function name place length tells base index scale more')):

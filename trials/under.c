@@ -23,16 +23,21 @@ struct order {
   struct stroke memory, reading, writing;
   int64_t room_of_output, room_of_notes; /* bytes after which the device is full; below 0: never */
   int64_t seconds, words;
+  int64_t lets_begin; /* whether who starts a thread lets it make a request for memory before it goes on */
   char text[256]; /* the words, each with a zero behind it */
 };
-struct answer { int64_t status, requests, reads, writes, struck, microseconds, kilobytes; };
+struct answer { int64_t status, requests, reads, writes, struck, microseconds, kilobytes, first_thread; };
 
 /* What the child counts and the parent reads. */
-struct counts { atomic_llong requests, reads, writes, struck; };
+struct counts { atomic_llong requests, reads, writes, struck, first_thread; };
+
+/* A thread that is started, and whether it has made a request. It stays when the thread has ended. */
+struct start { void *(*run)(void *); void *with; atomic_int begun; };
 
 static struct order order;
 static struct counts *counts;
 static int armed;
+static __thread struct start *started __attribute__((tls_model("initial-exec"))); /* until the first request */
 
 void *__libc_malloc(size_t);
 void *__libc_calloc(size_t, size_t);
@@ -46,7 +51,10 @@ static int hits(struct stroke *stroke, atomic_llong *count) {
 }
 
 static int refused(void) {
-  if (!hits(&order.memory, &counts->requests)) return 0;
+  int hit = hits(&order.memory, &counts->requests);
+  if (started) atomic_store(&started->begun, 1);
+  started = NULL;
+  if (!hit) return 0;
   atomic_fetch_add(&counts->struck, 1);
   errno = ENOMEM;
   return 1;
@@ -63,11 +71,24 @@ int posix_memalign(void **to, size_t align, size_t size) {
   return *to ? 0 : ENOMEM;
 }
 
-/* The stack of a thread is a request for memory too. */
+static void *run_started(void *with) {
+  started = with;
+  return started->run(started->with);
+}
+
+/* The stack of a thread is a request for memory too. A thread is waited for, but not for long. */
 int pthread_create(pthread_t *thread, const pthread_attr_t *how, void *(*run)(void *), void *with) {
   static int (*real)(pthread_t *, const pthread_attr_t *, void *(*)(void *), void *);
   if (!real) *(void **)&real = dlsym(RTLD_NEXT, "pthread_create");
-  return refused() ? EAGAIN : real(thread, how, run, with);
+  if (refused()) return EAGAIN;
+  long long none = 0;
+  if (armed) atomic_compare_exchange_strong(&counts->first_thread, &none, atomic_load(&counts->requests));
+  if (!armed || !order.lets_begin) return real(thread, how, run, with);
+  struct start *start = __libc_malloc(sizeof *start);
+  *start = (struct start){.run = run, .with = with};
+  int failed = real(thread, how, run_started, start);
+  for (int looks = 0; !failed && looks < 200 && !atomic_load(&start->begun); looks++) usleep(100);
+  return failed;
 }
 
 /* How many of the bytes the device still takes. */
@@ -136,7 +157,7 @@ static void finish_case(pid_t child, int answers) {
   struct answer answer = {
     status, counts->requests, counts->reads, counts->writes, counts->struck,
     (used.ru_utime.tv_sec + used.ru_stime.tv_sec) * 1000000 + used.ru_utime.tv_usec + used.ru_stime.tv_usec,
-    used.ru_maxrss};
+    used.ru_maxrss, counts->first_thread};
   if (syscall(SYS_write, answers, &answer, sizeof answer) != sizeof answer) _exit(121);
 }
 

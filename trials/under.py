@@ -18,7 +18,7 @@ import time
 
 TOP = pathlib.Path(__file__).resolve().parent.parent
 MOST_WORDS = 16
-ORDER, ANSWER = struct.Struct('<13q256s'), struct.Struct('<7q')
+ORDER, ANSWER = struct.Struct('<14q256s'), struct.Struct('<8q')
 NONE, EVER = (0, 0, 0), 1 << 40
 SKIPPED = 77
 NOT_BUILT = 125
@@ -72,7 +72,8 @@ class Ended:
     """How a case ended: status (below 0 the signal that ended it), output, notes, and what was counted."""
 
     def __init__(self, answer, output, notes):
-        status, self.requests, self.reads, self.writes, self.struck, self.microseconds, self.kilobytes = answer
+        (status, self.requests, self.reads, self.writes, self.struck, self.microseconds, self.kilobytes,
+         self.first_thread) = answer
         self.status = os.waitstatus_to_exitcode(status)
         self.output, self.notes = output, notes
 
@@ -101,15 +102,16 @@ class Under:
         os.close(ordered)
         os.close(answered)
 
-    def run(self, words, data, memory=NONE, reading=NONE, writing=NONE, rooms=(-1, -1)):
+    def run(self, words, data, memory=NONE, reading=NONE, writing=NONE, rooms=(-1, -1), lets_begin=False):
         """One case. A stroke is (first call, number of calls, error below 0 or most bytes); the rooms
-        are the bytes that output and notes have room for."""
+        are the bytes that output and notes have room for. Where `lets_begin` is set, who starts a thread
+        lets it make its first request for memory."""
         if data is not self.input:
             os.ftruncate(self.files[0], 0)
             pwrite_all(self.files[0], data)
             self.input = data
         text = b''.join(word.encode() + b'\0' for word in words)
-        os.write(self.orders, ORDER.pack(*memory, *reading, *writing, *rooms, self.seconds, len(words), text))
+        os.write(self.orders, ORDER.pack(*memory, *reading, *writing, *rooms, self.seconds, len(words), lets_begin, text))
         answer = os.read(self.answers, ANSWER.size)
         if len(answer) != ANSWER.size:
             raise RuntimeError('the process that forks the cases has ended')
