@@ -26,11 +26,16 @@ def account(name, data=b'', owner=SYSTEM, executable=0):
     return name + struct.pack('<Q', SOL + 10_000 * len(data)) + owner + struct.pack('<BI', executable, len(data)) + data
 
 
-def snapshot(accounts, key_units=KEY_UNITS, block_units=BLOCK_UNITS):
-    """An account begins with its key, so sorted accounts ascend by their keys."""
+def snapshot(accounts, key_units=KEY_UNITS, block_units=BLOCK_UNITS, blocks=1, messages=0):
+    """An account begins with its key, so sorted accounts ascend by their keys. It remembers so many blocks, each
+    with so many messages."""
     accounts = sorted(accounts)
-    yield b'SOLSNAP2' + struct.pack('<QHBQQ', 0, 64, 5, key_units, block_units)
-    yield struct.pack('<I', 1) + MARK + struct.pack('<II', 0, len(accounts))
+    yield b'SOLSNAP2' + struct.pack('<QHBQQ', blocks - 1, 64, 5, key_units, block_units)
+    yield struct.pack('<I', blocks)
+    for block in range(blocks):
+        names = sorted(key(f'message of {block}', n) for n in range(messages))
+        yield (key('block', block) if block else MARK) + struct.pack('<I', messages) + b''.join(names)
+    yield struct.pack('<I', len(accounts))
     yield from accounts
 
 
@@ -66,10 +71,10 @@ def made(program, count):
     yield subprocess.run(words, stdout=subprocess.PIPE, check=True).stdout
 
 
-def users(count):
+def users(count, blocks=1, messages=0):
     """A snapshot of so many who pay, and so many who are paid."""
     both = [account(key(kind, n)) for n in range(count) for kind in ('payer', 'payee')]
-    yield from snapshot(both + [account(key('collector'))])
+    yield from snapshot(both + [account(key('collector'))], blocks=blocks, messages=messages)
 
 
 def transfers(count, slot=1, mark=MARK):
@@ -81,6 +86,12 @@ def independent(count):
     """The same over their snapshot."""
     yield from users(count)
     yield from transfers(count)
+
+
+def remembered(count):
+    """The same over a snapshot that remembers 150 blocks of as many messages."""
+    yield from users(count, 150, count)
+    yield from transfers(count, 150)
 
 
 def hot(count):

@@ -17,6 +17,8 @@ BENCH = pathlib.Path(__file__).resolve().parent
 TOP = BENCH.parent
 OUT = BENCH / 'out'
 BUSY = 0.5
+# As ./bank runs a program.
+ENVIRONMENT = {'GLIBC_TUNABLES': 'glibc.malloc.hugetlb=1', **os.environ}
 BEGIN, END = '<!-- figures: written by bench/run --keep -->', '<!-- end of figures -->'
 
 # words: the program's and its own; alike: cases of the same name must write the same bytes.
@@ -137,7 +139,7 @@ def timed(words, source, target):
              (os.POSIX_SPAWN_OPEN, 1, target, os.O_WRONLY | os.O_CREAT, 0o600)]
     words = [str(word) for word in words]
     began = time.perf_counter()
-    _, status, usage = os.wait4(os.posix_spawn(words[0], words, os.environ, file_actions=files), 0)
+    _, status, usage = os.wait4(os.posix_spawn(words[0], words, ENVIRONMENT, file_actions=files), 0)
     passed = time.perf_counter() - began
     if status != 0:
         raise Wrong(f'{" ".join(words)} ended with status {os.waitstatus_to_exitcode(status)}')
