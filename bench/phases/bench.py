@@ -5,7 +5,7 @@ import shutil
 import subprocess
 
 import inputs
-from measure import milliseconds, warn
+from measure import ENVIRONMENT, milliseconds, warn
 
 RUNS = 3
 RATE = 5_000
@@ -19,7 +19,7 @@ LAYERS = {
     'transactions': ['tx_exec', 'invoke_engine', 'system_prog', 'loader_prog', 'account_rules', 'rent_rules', 'abi_input',
                      'cpi_calls', 'sys_calls', 'program_cache', 'tx_report', 'sbpf_verify', 'sbpf_isa'],
     'lanes, desk, graph': ['bank_core', 'bank_lanes', 'bank_shared', 'bank_law', 'prio_graph', 'lock_table'],
-    'the block: order, entries, record': ['block_run', 'block_record'],
+    'the block: order, entries, record': ['block_run', 'block_record', 'output_bytes'],
     'accounts by key, comparing keys': ['account_store', 'std_collections', 'core::cmp', 'core::slice'],
     'memory: taken, moved, given back': ['libc', 'std_alloc', 'rattle_alloc', 'rattle_dealloc', 'rattle_realloc', 'sol_base'],
     'the kernel': ['kernel'],
@@ -50,7 +50,8 @@ def samples(words, source, folder):
     data = folder / 'samples'
     record = ['perf', 'record', '-q', '-e', 'cpu-clock', '-F', str(RATE), '-o', data, '--', *words]
     with open(source, 'rb') as file:
-        subprocess.run(record, stdin=file, stdout=subprocess.DEVNULL, stderr=subprocess.DEVNULL, check=True)
+        subprocess.run(record, stdin=file, stdout=subprocess.DEVNULL, stderr=subprocess.DEVNULL, env=ENVIRONMENT,
+                       check=True)
     script = ['perf', 'script', '-i', data, '-F', 'tid,time,ip,sym,dso']
     told = subprocess.run(script, stdout=subprocess.PIPE, stderr=subprocess.DEVNULL, check=True, text=True).stdout
     for line in told.splitlines():
