@@ -10,7 +10,7 @@ use std::io::{ErrorKind, Read};
 use std::test::Fail;
 
 /// More than two reads of `read_all` take.
-const LONG: [u8; 40_000] = [7; 40_000];
+const LONG: [u8; 160_000] = [7; 160_000];
 
 /// The list of one call that is to fail.
 fn only(alloc: Global, call: u32) -> Result<Items<u32>, OutOfMemory> {
@@ -27,13 +27,13 @@ fn source_failing_at(alloc: Global, call: u32) -> Result<MemSource, OutOfMemory>
 /// Whether the read of this number fails, and no further one, and so many bytes are left by then.
 fn fails_at(alloc: Global, call: u32, left: usize) -> Result<bool, ReadFault> {
     let mut source = source_failing_at(alloc, call)?;
-    let failed = read_all(alloc, &mut source, 40_000).err();
-    let rest = read_all(alloc, &mut source, 40_000)?;
+    let failed = read_all(alloc, &mut source, 160_000).err();
+    let rest = read_all(alloc, &mut source, 160_000)?;
     Ok(failed == Some(ReadFault::Failed) && rest.len() == left)
 }
 
 /// Three calls that move bytes and the one that finds the end, and how many bytes are left.
-const READS: [(u32, usize); 4] = [(0, 40_000), (1, 23_616), (2, 7_232), (3, 0)];
+const READS: [(u32, usize); 4] = [(0, 160_000), (1, 94_464), (2, 28_928), (3, 0)];
 
 #[test]
 fn reads_fail_where_listed(rt: HostRuntime) {
