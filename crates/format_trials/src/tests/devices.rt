@@ -90,9 +90,9 @@ fn count_read(alloc: Global, len: usize, limit: usize) -> Result<usize, ReadFaul
 const LIMITS: [(usize, usize, Result<usize, ReadFault>); 5] = [
     (0, 0, Ok(0)),
     (1, 0, Err(ReadFault::TooLong)),
-    (40_000, 40_000, Ok(40_000)),
-    (40_000, 39_999, Err(ReadFault::TooLong)),
-    (40_000, 16_384, Err(ReadFault::TooLong)),
+    (160_000, 160_000, Ok(160_000)),
+    (160_000, 159_999, Err(ReadFault::TooLong)),
+    (160_000, 65_536, Err(ReadFault::TooLong)),
 ];
 
 #[test]
