@@ -66,10 +66,11 @@ module _ {L S : Type 0} where
   abbrev pub seat_lanes : List (GroupSeat L S) → List ℕ
   seat_lanes seats = map (λ seat. seat.lane) seats
 
-  -- nothing is lent to the seat, and it has given nothing back
+  -- nothing is lent to the seat
   abbrev pub IsEmpty : GroupSeat L S → Type 0
   IsEmpty seat = seat.holding ≡ what.Nothing
 
+  -- it has given nothing back
   abbrev pub HasKept : GroupSeat L S → Type 0
   HasKept seat = seat.gave_back ≡ false
 

@@ -24,6 +24,7 @@ impl Model for Accounts {
 }
 
 impl Accounts {
+    /// The accounts that these share.
     pub fn of(shares: Items<Arc<Account>>) -> Accounts
         ensures { result ≡ accounts_of shares }
     {
@@ -39,12 +40,14 @@ impl Accounts {
         })
     }
 
+    /// They in the order of the transaction's keys.
     pub fn as_slice(&self) -> &[Arc<Account>]
         ensures { accounts_of result.now ≡ self.now }
     {
         self.shares.as_slice()
     }
 
+    /// What shares them, in the same order.
     pub fn into_items(self) -> Items<Arc<Account>>
         ensures { accounts_of result ≡ self }
     {

@@ -13,7 +13,7 @@ use crate::data::data_member;
 use crate::fault::{JsonFault, Wanted, in_member, refused};
 use crate::list::{Part, list_member};
 use crate::parts::{byte_member, digits, digits_member, found, known, number};
-use message_codec::{MAX_COUNT, MessageKind, WireFault, read_wire};
+use message_codec::{MAX_COUNT, MessageKind, WireFault, read_wire, write_length};
 use serde_json::Value;
 use sol_base::{Blob, OutOfMemory};
 use std::alloc::Global;
@@ -32,25 +32,6 @@ pub(crate) struct Instructions;
 
 /// Lookups.
 pub(crate) struct Lookups;
-
-/// Adds a compact length (Solana).
-#[tactic(auto, unfolding(message_codec::specs::Compact::compact))]
-fn append_length(out: &mut Blob, length: usize) -> Result<(), OutOfMemory>
-    requires { length ≤ max_count }
-    ensures { OnOk result (out.new ≡ out.old ++ compact length) }
-{
-    if length < 128 {
-        out.append(&[length as u8])
-    } else if length < 16_384 {
-        out.append(&[(length % 128 + 128) as u8, (length / 128) as u8])
-    } else {
-        out.append(&[
-            (length % 128 + 128) as u8,
-            (length / 128 % 128 + 128) as u8,
-            (length / 16_384) as u8,
-        ])
-    }
-}
 
 impl Part for Bytes {
     ghost use Rattle.json_parts.specs.TransactionJson.{byte_in};
@@ -98,9 +79,9 @@ impl Part for Instructions {
         let (count, accounts) = list_member::<Bytes>(alloc, value, "accounts", MAX_COUNT)?;
         let data = data_member(alloc, value, "data", MAX_COUNT)?;
         let mut out = Blob::from_slice(alloc, &[program])?;
-        append_length(&mut out, count)?;
+        write_length(&mut out, count)?;
         out.append(accounts.as_slice())?;
-        append_length(&mut out, data.len())?;
+        write_length(&mut out, data.len())?;
         out.append(data.as_slice())?;
         Ok(out)
     }
@@ -118,9 +99,9 @@ impl Part for Lookups {
         let (writable_count, writable) = list_member::<Bytes>(alloc, value, "writable", MAX_COUNT)?;
         let (readonly_count, readonly) = list_member::<Bytes>(alloc, value, "readonly", MAX_COUNT)?;
         let mut out = Blob::from_slice(alloc, &table)?;
-        append_length(&mut out, writable_count)?;
+        write_length(&mut out, writable_count)?;
         out.append(writable.as_slice())?;
-        append_length(&mut out, readonly_count)?;
+        write_length(&mut out, readonly_count)?;
         out.append(readonly.as_slice())?;
         Ok(out)
     }
@@ -198,7 +179,7 @@ fn append_lookups(
     match kind {
         MessageKind::Legacy => Ok(()),
         MessageKind::Zero => {
-            append_length(out, count)?;
+            write_length(out, count)?;
             out.append(lookups.as_slice())
         }
     }
@@ -251,7 +232,7 @@ fn append_opening(out: &mut Blob, fields: &Fields) -> Result<(), OutOfMemory>
 {
     append_kind(out, fields.kind)?;
     out.append(fields.header.as_slice())?;
-    append_length(out, fields.key_count)?;
+    write_length(out, fields.key_count)?;
     out.append(fields.keys.as_slice())?;
     out.append(&fields.blockhash)
 }
@@ -267,7 +248,7 @@ fn spelled_message(alloc: Global, fields: &Fields) -> Result<Blob, OutOfMemory>
 {
     let mut out = Blob::new(alloc);
     append_opening(&mut out, fields)?;
-    append_length(&mut out, fields.count)?;
+    write_length(&mut out, fields.count)?;
     out.append(fields.instructions.as_slice())?;
     append_lookups(&mut out, fields.kind, fields.lookup_count, &fields.lookups)?;
     Ok(out)
@@ -329,7 +310,7 @@ fn tx(alloc: Global, value: &Value) -> Result<Blob, JsonFault>
     let (count, signatures) = list_member::<Signatures>(alloc, value, "signatures", MAX_COUNT)?;
     let message = message(alloc, value)?;
     let mut out = Blob::new(alloc);
-    append_length(&mut out, count)?;
+    write_length(&mut out, count)?;
     out.append(signatures.as_slice())?;
     out.append(message.as_slice())?;
     Ok(out)

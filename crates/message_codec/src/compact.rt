@@ -53,7 +53,7 @@ fn third_digit(at: usize, low: usize, bytes: &[u8]) -> Result<(usize, &[u8]), Wi
 
 /// Adds the length's one spelling to the bytes.
 #[tactic(auto, unfolding(crate::specs::Compact::compact))]
-pub(crate) fn write_length(out: &mut Blob, length: usize) -> Result<(), OutOfMemory>
+pub fn write_length(out: &mut Blob, length: usize) -> Result<(), OutOfMemory>
     requires { length ≤ max_count }
     ensures { OnOk result (out.new ≡ out.old ++ compact length) }
 {

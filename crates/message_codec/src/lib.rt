@@ -14,7 +14,7 @@ mod roles;
 mod sanity;
 mod writing;
 
-pub use compact::MAX_COUNT;
+pub use compact::{MAX_COUNT, write_length};
 pub use fault::{SanitizeFault, WireFault};
 pub use laws::{
     lengths_are_read_or_cut_or_bad, lengths_have_one_spelling, locks_stand_beside_the_keys,

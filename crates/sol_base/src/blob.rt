@@ -82,6 +82,21 @@ impl Blob {
         Ok(())
     }
 
+    /// Makes room for so many more bytes. No clause speaks of the room: it saves time alone.
+    pub fn reserve(&mut self, more: usize) -> Result<(), OutOfMemory>
+        ensures { self.new ≡ self.old }
+    {
+        self.inner.reserve(more)?;
+        Ok(())
+    }
+
+    /// Takes all bytes away, and keeps the room that they had.
+    pub fn clear(&mut self)
+        ensures { self.new ≡ [] }
+    {
+        self.inner.clear();
+    }
+
     /// The same bytes in memory of their own.
     pub fn try_copy(&self) -> Result<Blob, OutOfMemory>
         ensures { IfOk result (λ b. b ≡ self.now) }
