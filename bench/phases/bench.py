@@ -19,7 +19,7 @@ LAYERS = {
     'transactions': ['tx_exec', 'invoke_engine', 'system_prog', 'loader_prog', 'account_rules', 'rent_rules', 'abi_input',
                      'cpi_calls', 'sys_calls', 'program_cache', 'tx_report', 'sbpf_verify', 'sbpf_isa'],
     'lanes, desk, graph': ['bank_core', 'bank_lanes', 'bank_shared', 'bank_law', 'prio_graph', 'lock_table'],
-    'the block: order, entries, record': ['block_run', 'block_record', 'output_bytes'],
+    'the block: order, entries, record': ['block_run', 'block_record'],
     'accounts by key, comparing keys': ['account_store', 'std_collections', 'core::cmp', 'core::slice'],
     'memory: taken, moved, given back': ['libc', 'std_alloc', 'rattle_alloc', 'rattle_dealloc', 'rattle_realloc', 'sol_base'],
     'the kernel': ['kernel'],

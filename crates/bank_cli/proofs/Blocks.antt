@@ -13,8 +13,9 @@ use Rattle.block_run.specs.Blocks.{block_result, listed_result}
 use Rattle.block_replay.specs.declared.verdict.Verdict.{Verdict}
 use Rattle.block_replay.specs.Verdict.{verdict}
 use Rattle.batch_gen.specs.declared.made.Made.{Made}
-use Rattle.bank_cli.specs.declared.answer.Answer.{Answer}
-use Rattle.bank_cli.specs.Answer.{ran, judged, replayed_over, run_line, written, made_run}
+use Rattle.command_parts.specs.declared.answer.Answer.{Answer}
+use Rattle.command_parts.specs.Answers.{written}
+use Rattle.bank_cli.specs.Answer.{ran, judged, replayed_over, run_line, made_run}
 use Rattle.bank_cli.specs.Texts.{refused_lines}
 use Rattle.bank_cli.proofs.EntryCount.{entry_count}
 

@@ -23,10 +23,11 @@ use Rattle.sbpf_asm.specs.Listing.{listed}
 use Rattle.bank_words.specs.Commands.{command_in}
 use Rattle.bank_words.specs.declared.command.Command.{Command}
 use Rattle.bank_words.specs.declared.command.Command.TheVariants.{Produce, Replay, Show, Make, Assemble, List as list_image}
-use Rattle.bank_cli.specs.declared.answer.Answer.{Answer}
+use Rattle.command_parts.specs.declared.answer.Answer.{Answer}
+use Rattle.command_parts.specs.Deliveries.{Writes, Begins}
 use Rattle.bank_cli.specs.Texts.{snapshot_text, batch_text, record_text, asm_text, list_text}
 use Rattle.bank_cli.specs.Answer.{input_refused, refused, unless_refused, after_snapshot, produced, produced_after, judged, replayed, replayed_over, replayed_after, shown, made_answer, assembled_answer, listed_answer, within, input_limit, answer_to, answer_for, answer, takes_input, reads_input, read_failed}
-use Rattle.bank_cli.specs.Ending.{Writes, Begins, TellsAnswer, TellsFault, Stops, EndsEarly, FailsEarly}
+use Rattle.bank_cli.specs.Ending.{TellsAnswer, TellsFault, Stops, EndsEarly, FailsEarly}
 
 -- ---- answers that do not look at the input
 

@@ -29,14 +29,11 @@ use Rattle.bank_show.specs.Show.{text_of_block}
 use Rattle.bank_words.specs.Commands.{command_in}
 use Rattle.bank_words.specs.declared.command.Command.{Command}
 use Rattle.bank_words.specs.declared.command.Command.TheVariants.{Produce, Replay, Show, Make, Assemble, List as list_image}
-use Rattle.bank_cli.specs.declared.answer.Answer.{Answer}
+use Rattle.command_parts.specs.declared.answer.Answer.{Answer}
+use Rattle.command_parts.specs.Answers.{written}
 use Rattle.bank_cli.specs.Texts.{line, snapshot_text, batch_text, record_text, asm_text, list_text, refused_lines, match_line, differ_line}
 
 -- ---- the forms of an answer
-
--- the output alone
-abbrev pub written : List ℕ → Answer
-written output = record { status = 0; output = output; notes = [] }
 
 -- one line of a note alone
 abbrev pub refused : ℕ → List ℕ → Answer

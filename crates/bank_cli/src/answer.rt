@@ -14,22 +14,13 @@ use crate::show::shown;
 use crate::texts::refuse;
 use bank_lanes::Gate;
 use bank_words::{Command, Words, WordsFault, read_words};
-use command_parts::{INPUT_LIMIT, INPUT_REFUSED, READ_FAILED, WORDS_REFUSED};
+use command_parts::{Answer, INPUT_LIMIT, INPUT_REFUSED, READ_FAILED, WORDS_REFUSED};
 use intake::SendGate;
-use output_bytes::OutputBytes;
 use sol_base::{Blob, OutOfMemory};
 use sol_io::{ReadFault, Source, read_all};
 use std::alloc::Global;
 use std::sync::Wait;
 use std::thread::Threads;
-
-/// A status, and what is written for it.
-#[derive(Drop)]
-pub struct Answer {
-    pub status: u8,
-    pub output: OutputBytes,
-    pub notes: Blob,
-}
 
 /// The answer to the words, which takes the input from the source where they ask for it.
 pub(crate) fn answer_of<S: Source, G: Gate, H: SendGate, R: Threads + Wait + Sync>(

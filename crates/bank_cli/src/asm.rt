@@ -2,8 +2,8 @@
 ghost use Rattle.std.specs.Prelude.{◌≡◌, ◌≤◌, length, IfOk};
 ghost use Rattle.bank_cli.specs.Answer.{assembled_answer, input_limit, listed_answer};
 
-use crate::answer::Answer;
 use crate::texts::{refuse_asm, refuse_list, tell};
+use command_parts::Answer;
 use sbpf_asm::{assemble, list};
 use sol_base::{Blob, OutOfMemory};
 use std::alloc::Global;

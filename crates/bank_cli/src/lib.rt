@@ -4,7 +4,6 @@
 mod ahead;
 mod answer;
 mod asm;
-mod delivery;
 mod make;
 mod produce;
 mod replay;
@@ -12,5 +11,4 @@ mod show;
 mod texts;
 mod top;
 
-pub use delivery::Undelivered;
 pub use top::bank_main;

@@ -5,14 +5,15 @@ ghost use Rattle.sol_base.specs.Limits.{max_lanes, max_transactions};
 ghost use Rattle.batch_gen.specs.Generator.{made};
 ghost use Rattle.snapshot_codec.specs.Batch.{IsShortWire};
 ghost use Rattle.snapshot_codec.specs.Snapshot.{IsReadable};
-ghost use Rattle.bank_cli.specs.Answer.{count_of, counts_text, input_bytes, is_dropped, is_failed, is_good, made_answer, made_run, run_line, written};
+ghost use Rattle.bank_cli.specs.Answer.{count_of, counts_text, input_bytes, is_dropped, is_failed, is_good, made_answer, made_run, run_line};
+ghost use Rattle.command_parts.specs.Answers.{written};
 
-use crate::answer::Answer;
 use crate::texts::{append_hash, append_number, tell};
 use bank_lanes::Gate;
 use batch_gen::{Made, make};
 use block_record::{Block, Entry};
 use block_run::run_block;
+use command_parts::Answer;
 use snapshot_codec::{batch_bytes, snapshot_bytes};
 use sol_base::{Blob, OutOfMemory};
 use std::alloc::Global;

@@ -8,11 +8,11 @@ ghost use Rattle.bank_cli.specs.Answer.{produced as produced_of, ran};
 ghost use Rattle.bank_cli.specs.Texts.{refused_line, refused_lines};
 
 use crate::ahead::{Senders, read_behind, read_parts};
-use crate::answer::Answer;
 use crate::texts::{append_number, refuse_batch, refuse_snapshot};
 use admission::{Refused, refusal_text};
 use bank_lanes::Gate;
 use block_run::{Decoded, Recorded, record_parsed};
+use command_parts::Answer;
 use intake::SendGate;
 use snapshot_codec::{Snapshot, write_snapshot};
 use sol_base::{Blob, OutOfMemory};

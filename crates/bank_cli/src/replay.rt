@@ -3,17 +3,16 @@ ghost use Rattle.std.specs.Prelude.{◌≡◌, ◌≤◌, ◌++◌, length, IfOk
 ghost use Rattle.sol_base.specs.Limits.{max_lanes};
 ghost use Rattle.block_record.specs.Record.{IsCounted};
 ghost use Rattle.snapshot_codec.specs.Snapshot.{IsReadable};
-ghost use Rattle.bank_cli.specs.Answer.{differed, judged, replayed as replayed_of, replayed_over, written};
+ghost use Rattle.bank_cli.specs.Answer.{differed, judged, replayed as replayed_of, replayed_over};
+ghost use Rattle.command_parts.specs.Answers.{written};
 ghost use Rattle.bank_cli.specs.Texts.{match_line, place_text};
 
-use crate::answer::Answer;
 use crate::texts::{append_hash, append_number, refuse_record, refuse_snapshot, tell};
 use bank_lanes::Gate;
 use block_record::{Block, read_record};
 use block_replay::{Field, OF_BLOCK, Verdict, compare};
 use block_run::run_listed;
-use command_parts::DIFFERS;
-use output_bytes::OutputBytes;
+use command_parts::{Answer, DIFFERS};
 use snapshot_codec::{Snapshot, read_snapshot};
 use sol_base::{Blob, Hash32, OutOfMemory};
 use std::alloc::Global;
@@ -94,7 +93,7 @@ fn tell_difference(alloc: Global, entry: u32, field: Field) -> Result<Answer, Ou
     output.append(b"\n")?;
     Ok(Answer {
         status: DIFFERS,
-        output: OutputBytes::of(output),
+        output,
         notes: Blob::new(alloc),
     })
 }

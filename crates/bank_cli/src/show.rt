@@ -2,10 +2,10 @@
 ghost use Rattle.std.specs.Prelude.{◌≡◌, IfOk};
 ghost use Rattle.bank_cli.specs.Answer.{shown as shown_of};
 
-use crate::answer::Answer;
 use crate::texts::{refuse_record, tell};
 use bank_show::block_text;
 use block_record::read_record;
+use command_parts::Answer;
 use sol_base::{Blob, OutOfMemory};
 use std::alloc::Global;
 

@@ -8,15 +8,14 @@ ghost use Rattle.block_record.specs.RecordReading.{is_record_memory};
 ghost use Rattle.sbpf_asm.specs.Assembly.{is_asm_memory};
 ghost use Rattle.sbpf_asm.specs.Listing.{is_list_memory};
 ghost use Rattle.admission.specs.Refusals.{at_place};
-ghost use Rattle.bank_cli.specs.Answer.{input_refused, refused, written};
+ghost use Rattle.bank_cli.specs.Answer.{input_refused, refused};
+ghost use Rattle.command_parts.specs.Answers.{written};
 ghost use Rattle.bank_cli.specs.Texts.{asm_text, batch_text, line, list_text, record_text, snapshot_text, verify_text};
 
-use crate::answer::Answer;
 use block_record::RecordFault;
-use command_parts::INPUT_REFUSED;
+use command_parts::{Answer, INPUT_REFUSED};
 use hex::encode_to_slice;
 use itoa::Buffer;
-use output_bytes::OutputBytes;
 use sbpf_asm::{AsmFault, ListFault};
 use sbpf_verify::VerifyFault;
 use snapshot_codec::{BatchFault, SnapshotFault};
@@ -31,7 +30,7 @@ pub(crate) fn refuse(alloc: Global, status: u8, text: &[u8]) -> Result<Answer, O
     notes.append(b"\n")?;
     Ok(Answer {
         status,
-        output: OutputBytes::of(Blob::new(alloc)),
+        output: Blob::new(alloc),
         notes,
     })
 }
@@ -42,7 +41,7 @@ pub(crate) fn tell(alloc: Global, output: Blob) -> Answer
 {
     Answer {
         status: 0,
-        output: OutputBytes::of(output),
+        output,
         notes: Blob::new(alloc),
     }
 }

@@ -3,13 +3,13 @@ ghost use Rattle.std.specs.Prelude.{◌≡◌, ◌≢◌, ◌⊎◌, false, true
 ghost use Rattle.sol_io.specs.Bytes.{Keeps};
 ghost use Rattle.sol_io.specs.Counts.{Rose};
 ghost use Rattle.bank_cli.specs.Answer.{reads_input, read_failed};
-ghost use Rattle.bank_cli.specs.Ending.{Writes, EndsWhole, EndsEarly, FailsEarly};
+ghost use Rattle.command_parts.specs.Deliveries.{Writes};
+ghost use Rattle.bank_cli.specs.Ending.{EndsWhole, EndsEarly, FailsEarly};
 
 use crate::answer::answer_of;
-use crate::delivery::{Undelivered, deliver};
 use bank_lanes::Gate;
 use bank_words::Words;
-use command_parts::{OUT_OF_MEMORY, WRITE_FAILED};
+use command_parts::{OUT_OF_MEMORY, Undelivered, WRITE_FAILED, deliver};
 use intake::SendGate;
 use sol_base::OutOfMemory;
 use sol_io::{Sink, Source};

@@ -2,7 +2,6 @@ use admission::{Chosen, Refused};
 use bank_core::SharedOutcome;
 use block_record::Block;
 use message_codec::Parsed;
-use output_bytes::OutputBytes;
 use snapshot_codec::{Batch, Snapshot};
 use sol_base::{Blob, Hash32, Items, Key, Limits};
 use status_cache::Recent;
@@ -53,7 +52,7 @@ pub struct Closed {
 /// The record of a block, and the snapshot after it.
 #[derive(Drop)]
 pub(crate) struct ClosedRecord {
-    pub(crate) record: OutputBytes,
+    pub(crate) record: Blob,
     pub(crate) after: Snapshot,
 }
 
@@ -70,7 +69,7 @@ pub struct BlockResult {
 /// What a batch comes to, the block as its record.
 #[derive(Drop)]
 pub struct Recorded {
-    pub record: OutputBytes,
+    pub record: Blob,
     /// The snapshot after the block.
     pub after: Snapshot,
     /// The transactions that did not run, by their positions.

@@ -9,7 +9,6 @@ ghost use Rattle.block_run.specs.Blocks.{entries_of, entry_of};
 use admission::Chosen;
 use bank_core::SharedOutcome;
 use block_record::{Entry, EntryParts, write_parts};
-use output_bytes::OutputBytes;
 use sol_base::{Blob, Items, OutOfMemory};
 use std::alloc::Global;
 use tx_report::Outcome;
@@ -64,7 +63,7 @@ pub(crate) fn entries_of(
 
 /// Writes the entry of a transaction with its outcome. Neither is copied.
 fn write_entry(
-    out: &mut OutputBytes,
+    out: &mut Blob,
     wires: &[Blob],
     chosen: &Chosen,
     outcome: &Outcome,
@@ -86,7 +85,7 @@ fn write_entry(
 
 /// Writes the entry of each transaction, in their order.
 pub(crate) fn write_entries(
-    out: &mut OutputBytes,
+    out: &mut Blob,
     wires: &[Blob],
     order: &[Chosen],
     outcomes: &[SharedOutcome],

@@ -17,7 +17,6 @@ use crate::entries::write_entries;
 use bank_core::{SharedOutcome, Work};
 use bank_shared::{Reader, SharedDesk};
 use block_record::write_heading;
-use output_bytes::OutputBytes;
 use sha2::{Digest, Sha256};
 use sol_base::{Blob, Items, OutOfMemory};
 use std::alloc::Global;
@@ -35,45 +34,44 @@ const ENTRY_ROOM: usize = 768;
 pub(crate) struct RecordPrefix {
     pub(crate) count: u32,
     pub(crate) hasher: Sha256,
-    pub(crate) bytes: OutputBytes,
+    pub(crate) bytes: Blob,
 }
 
 /// A record that is to have an entry for each transaction, up to the first of them. It is written
 /// in the room, whatever that holds.
-pub(crate) fn begin(parts: RecordParts<'_>, room: Blob) -> Result<RecordPrefix, OutOfMemory>
+pub(crate) fn begin(parts: RecordParts<'_>, mut room: Blob) -> Result<RecordPrefix, OutOfMemory>
     requires few { length parts.order.now ≤ max_transactions }
     ensures { IfOk result (λ begun. (outcomes : List OutcomeValue)
         → IsBegun parts.entry outcomes begun) }
 {
     let count = parts.order.len();
     let wanted = if parts.kept { count * ENTRY_ROOM } else { 0 };
-    let mut bytes = OutputBytes::in_place_of(room);
-    bytes.reserve(wanted)?;
+    room.clear();
+    room.reserve(wanted)?;
     write_heading(
-        &mut bytes,
+        &mut room,
         parts.head.slot,
         &parts.head.collector,
         &parts.previous,
         count as u32,
     )?;
     let mut hasher = Sha256::new();
-    hasher.update(bytes.as_slice());
+    hasher.update(room.as_slice());
     Ok(RecordPrefix {
         count: 0,
         hasher,
-        bytes,
+        bytes: room,
     })
 }
 
 /// The bytes so far, or a buffer for the next entries where the bytes are not wanted.
-fn buffer_of(alloc: Global, kept: bool, bytes: OutputBytes) -> Result<OutputBytes, OutOfMemory>
+fn buffer_of(alloc: Global, kept: bool, bytes: Blob) -> Result<Blob, OutOfMemory>
     ensures { IfOk result (λ buffer. kept ≡ true → buffer ≡ bytes) }
 {
     if kept {
         return Ok(bytes);
     }
-    let buffer = Blob::with_capacity(alloc, MOST as usize * ENTRY_ROOM)?;
-    Ok(OutputBytes::of(buffer))
+    Blob::with_capacity(alloc, MOST as usize * ENTRY_ROOM)
 }
 
 /// Takes the entries of the outcomes that come next. They are written once, and hashed from there.

@@ -2,3 +2,4 @@ pub mod Numbers
 pub mod Statuses
 pub mod Answers
 pub mod Inputs
+pub mod Deliveries

@@ -3,6 +3,7 @@
 #![tactic(auto)]
 
 mod answer;
+mod delivery;
 mod input;
 mod number;
 mod status;
@@ -10,6 +11,7 @@ mod words;
 mod writing;
 
 pub use answer::{Answer, noted, written};
+pub use delivery::{Undelivered, deliver};
 pub use input::{Given, INPUT_LIMIT, given_of};
 pub use number::number_in;
 pub use status::{

@@ -2,7 +2,7 @@
 ghost use Rattle.std.specs.Prelude.{◌≡◌};
 ghost use Rattle.command_parts.specs.Statuses.{status_after};
 
-use sol_io::WriteFault;
+use crate::delivery::Undelivered;
 
 /// The status where two inputs differ, or where what is looked for is not there.
 pub const DIFFERS: u8 = 1;
@@ -22,13 +22,13 @@ pub const WRITE_FAILED: u8 = 5;
 /// The status where memory ran out.
 pub const OUT_OF_MEMORY: u8 = 6;
 
-/// The status of an answer after a part of it was written to a sink, or why it was not.
-pub fn status_after(written: Result<(), WriteFault>, status: u8) -> u8
-    ensures { result ≡ status_after written status }
+/// The status of an answer that was delivered, or why it was not.
+pub fn status_after(delivered: Result<(), Undelivered>, status: u8) -> u8
+    ensures { result ≡ status_after delivered status }
 {
-    match written {
+    match delivered {
         Ok(()) => status,
-        Err(WriteFault::Failed { written: _ }) => WRITE_FAILED,
-        Err(WriteFault::OutOfMemory { written: _ }) => OUT_OF_MEMORY,
+        Err(Undelivered::SinkFailed) => WRITE_FAILED,
+        Err(Undelivered::OutOfMemory) => OUT_OF_MEMORY,
     }
 }

@@ -1,6 +1,6 @@
 //! Writing an answer to the two sinks.
 ghost use Rattle.std.specs.Prelude.{OnOk, OnErr};
-ghost use Rattle.bank_cli.specs.Ending.{Writes, Begins, DeliveryCounts};
+ghost use Rattle.command_parts.specs.Deliveries.{Writes, Begins, DeliveryCounts};
 
 use crate::answer::Answer;
 use sol_io::{Sink, WriteFault, write_all};
@@ -14,7 +14,7 @@ pub enum Undelivered {
 }
 
 /// Writes the answer: the output whole, then the notes.
-pub(crate) fn deliver<O: Sink, N: Sink>(
+pub fn deliver<O: Sink, N: Sink>(
     alloc: Global,
     told: &Answer,
     out: &mut O,
