@@ -10,7 +10,8 @@ ghost use Rattle.admission.specs.Sums.{numbered_in, with_late};
 ghost use Rattle.admission.specs.Weighing.{AreWeighed};
 
 use crate::beside::weigh_on;
-use crate::chosen::{Admitted, Chosen};
+use crate::candidate::Candidate;
+use crate::chosen::Admitted;
 use crate::line::line;
 use crate::refusal::Refusal;
 use crate::sift::{Sifted, sift};
@@ -83,7 +84,7 @@ pub fn admit_on<R: Threads + Sync>(
 
 /// The same for wires that were weighed before, each alone. The wires, the blocks that are
 /// remembered and the accounts are not looked at again: they say what was weighed.
-pub fn admit_weighed(
+fn admit_weighed(
     alloc: Global,
     wires: &Items<Blob>,
     recent: &Recent,
@@ -136,7 +137,7 @@ fn parse_all(alloc: Global, wires: &Items<Blob>) -> Result<Items<Parsed>, OutOfM
 fn admit_line(
     alloc: Global,
     limits: &Limits,
-    line: Vec<Chosen>,
+    line: Vec<Candidate>,
     mut causes: Vec<Option<Refusal>>,
 ) -> Result<Admitted, OutOfMemory>
     requires few { length causes.items < 2 ^ 32 }

@@ -1,8 +1,8 @@
 //! Wires that are weighed beside each other.
-ghost use Rattle.std.specs.Prelude.{◌≡◌, ◌<◌, ◌≤◌, ◌^◌, ℕ, All, IfOk, IfSome, Some, length, map, slice_index_or};
+ghost use Rattle.std.specs.Prelude.{◌≡◌, ◌<◌, ◌≤◌, ◌^◌, ℕ, All, IfOk, Some, length, map, slice_index_or};
 ghost use Rattle.admission.specs.declared.beside.Slot.{Slot as SlotValue};
 ghost use Rattle.admission.specs.Admission.{IsSound, start_of};
-ghost use Rattle.admission.specs.Beside.{IsFresh, WeighsAt, fresh};
+ghost use Rattle.admission.specs.Beside.{IsFresh, WeighsAt, found_in, fresh};
 ghost use Rattle.admission.specs.Weighing.{weighed_from};
 
 use crate::weighing::{Before, Weighed, is_noted, processed_in, weigh_from, weigh_told};
@@ -12,17 +12,21 @@ use sol_base::{Hash32, Items, Limits, OutOfMemory};
 use status_cache::Recent;
 use std::alloc::Global;
 use std::collections::BTreeSet;
-use std::thread;
 use std::thread::Threads;
+use std::{mem, thread};
 
 /// So many wires are worth a thread.
 const WORTH_A_THREAD: usize = 256;
 
-/// A wire, until it is weighed, and what it weighs then. None where memory ran short.
+/// A place in which a wire is weighed.
 #[derive(Drop)]
-pub(crate) struct Slot {
-    wire: Option<Parsed>,
-    weighed: Option<Weighed>,
+pub(crate) enum Slot {
+    /// A wire, until it is weighed.
+    Fresh(Parsed),
+    /// What it weighs.
+    Done(Weighed),
+    /// Memory ran short.
+    Short,
 }
 
 impl Slot {
@@ -38,9 +42,11 @@ impl Slot {
         ensures { WeighsAt (start_of before.entry.recent.now before.entry.accounts.now
             before.entry.limits.now) position self.old self.new }
     {
-        if let Some(wire) = self.wire.take() {
+        if let Slot::Fresh(wire) = mem::replace(self, Slot::Short) {
             let was_processed = is_noted(processed, &wire);
-            self.weighed = weigh_told(alloc, before, position, wire, was_processed).ok();
+            if let Ok(weighed) = weigh_told(alloc, before, position, wire, was_processed) {
+                *self = Slot::Done(weighed);
+            }
         }
     }
 }
@@ -83,10 +89,7 @@ fn slots_of(alloc: Global, wires: Items<Parsed>) -> Result<Vec<Slot>, OutOfMemor
     let slots = wires
         .into_vec()
         .into_iter()
-        .map(|wire| Slot {
-            wire: Some(wire),
-            weighed: None,
-        })
+        .map(Slot::Fresh)
         .collect(alloc)?;
     Ok(slots)
 }
@@ -134,12 +137,11 @@ fn weigh_each<R: Threads + Sync>(
 /// What the wires of all slots weigh.
 fn weighed_in(alloc: Global, slots: Vec<Slot>) -> Result<Items<Weighed>, OutOfMemory>
     ensures { IfOk result (λ found.
-        map (λ one. Some one) found ≡ map (λ slot. slot.weighed) slots.items) }
+        map (λ one. Some one) found ≡ map found_in slots.items) }
 {
     let mut found = Items::with_capacity(alloc, slots.len())?;
     for slot in slots {
-        let Slot { wire: _, weighed } = slot;
-        let Some(weighed) = weighed else {
+        let Slot::Done(weighed) = slot else {
             return Err(OutOfMemory);
         };
         found.push(weighed)?;

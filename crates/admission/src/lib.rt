@@ -4,6 +4,7 @@
 
 mod batch;
 mod beside;
+mod candidate;
 mod chosen;
 mod laws;
 mod line;
@@ -16,10 +17,9 @@ mod units;
 mod walk;
 mod weighing;
 
-pub use batch::{admit, admit_listed, admit_on, admit_parsed, admit_weighed};
+pub use batch::{admit, admit_listed, admit_on, admit_parsed};
 pub use chosen::{Admitted, Chosen};
 pub use laws::{batches_are_parted, lines_are_by_priority, refusals_are_of_the_input};
 pub use lookups::{LookupFault, TABLE_HEADER_LEN, resolve};
 pub use refusal::{Refusal, Refused};
 pub use text::refusal_text;
-pub use weighing::{Weighed, weigh, weigh_from};

@@ -8,7 +8,7 @@ ghost use Rattle.status_cache.specs.Recent.{has_name};
 ghost use Rattle.admission.specs.Admission.{is_name};
 ghost use Rattle.admission.specs.Weighing.{causes_among, is_among, is_repeated, name_of, names_of, sifted_when, standing_among};
 
-use crate::chosen::Chosen;
+use crate::candidate::Candidate;
 use crate::refusal::Refusal;
 use crate::weighing::Weighed;
 use sol_base::{Hash32, Items, OutOfMemory};
@@ -19,7 +19,7 @@ use std::collections::BTreeSet;
 #[derive(Drop)]
 pub(crate) struct Sifted {
     /// The transactions that have none, by their positions.
-    pub standing: Vec<Chosen>,
+    pub standing: Vec<Candidate>,
     /// The early cause of each position that has one.
     pub causes: Vec<Option<Refusal>>,
 }
@@ -34,8 +34,8 @@ pub(crate) fn sift(alloc: Global, batch: Items<Weighed>) -> Result<Sifted, OutOf
     let mut causes = Vec::with_capacity(alloc, batch.len())?;
     for one in batch.into_vec() {
         match sift_one(one, repeats[causes.len()]) {
-            Ok(chosen) => {
-                standing.push(chosen)?;
+            Ok(candidate) => {
+                standing.push(candidate)?;
                 causes.push(None)?;
             }
             Err(cause) => causes.push(Some(cause))?,
@@ -45,7 +45,7 @@ pub(crate) fn sift(alloc: Global, batch: Items<Weighed>) -> Result<Sifted, OutOf
 }
 
 /// The transaction or its first early cause, told whether its message stands before it.
-fn sift_one(one: Weighed, is_repeated: bool) -> Result<Chosen, Refusal>
+fn sift_one(one: Weighed, is_repeated: bool) -> Result<Candidate, Refusal>
     ensures { result ≡ sifted_when is_repeated one }
 {
     match one {
@@ -56,11 +56,11 @@ fn sift_one(one: Weighed, is_repeated: bool) -> Result<Chosen, Refusal>
             }
             Err(Refusal::Budget(fault))
         }
-        Weighed::Ready(chosen) => {
+        Weighed::Ready(candidate) => {
             if is_repeated {
                 return Err(Refusal::RepeatedInBatch);
             }
-            Ok(chosen)
+            Ok(candidate)
         }
     }
 }
@@ -97,7 +97,7 @@ fn name_of(one: &Weighed) -> Option<Hash32>
     match one {
         Weighed::Refused(_) => None,
         Weighed::NoBudget { name, fault: _ } => Some(*name),
-        Weighed::Ready(chosen) => Some(chosen.name),
+        Weighed::Ready(candidate) => Some(candidate.chosen().name),
     }
 }
 

@@ -7,6 +7,7 @@ ghost use Rattle.status_cache.specs.Recent.{processed};
 ghost use Rattle.admission.specs.Admission.{stands, start_of};
 ghost use Rattle.admission.specs.Weighing.{with_budget};
 
+use crate::candidate::Candidate;
 use crate::chosen::Chosen;
 use crate::lookups::{LookupFault, resolve};
 use crate::refusal::Refusal;
@@ -71,7 +72,7 @@ pub(crate) fn with_budget(
     };
     let fee = fee(&tx.message, &budget);
     let locks = locks(alloc, &tx.message, &loaded)?;
-    Ok(Weighed::Ready(Chosen {
+    let chosen = Chosen {
         position,
         tx,
         loaded,
@@ -79,5 +80,6 @@ pub(crate) fn with_budget(
         budget,
         fee,
         locks,
-    }))
+    };
+    Ok(Weighed::Ready(Candidate::new(alloc, chosen)?))
 }

@@ -6,6 +6,7 @@ ghost use Rattle.sol_base.specs.Locks.{lock_keys};
 ghost use Rattle.admission.specs.Admission.{walk};
 ghost use Rattle.admission.specs.Sums.{numbered_in, with_late};
 
+use crate::candidate::Candidate;
 use crate::chosen::Chosen;
 use crate::refusal::{Refusal, Refused};
 use crate::units::Order;
@@ -16,7 +17,7 @@ use std::alloc::Global;
 pub(crate) fn walk(
     alloc: Global,
     limits: &Limits,
-    line: Vec<Chosen>,
+    line: Vec<Candidate>,
     causes: &mut Vec<Option<Refusal>>,
 ) -> Result<Vec<Chosen>, OutOfMemory>
     requires places { All (λ one. one.position < length causes.old.items) line.items }
@@ -27,9 +28,9 @@ pub(crate) fn walk(
 {
     let mut order = Order::new(alloc, line.len())?;
     for one in line {
-        match order.late(limits, &one)? {
-            Some(cause) => causes[one.position as usize] = Some(cause),
-            None => order.push(one)?,
+        match order.late(limits, one.chosen())? {
+            Some(cause) => causes[one.chosen().position as usize] = Some(cause),
+            None => order.push(one.into_chosen())?,
         }
     }
     Ok(order.into_chosen())

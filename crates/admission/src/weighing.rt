@@ -4,7 +4,7 @@ ghost use Rattle.admission.specs.Admission.{IsSound, start_of};
 ghost use Rattle.std.specs.List.{filter_map};
 ghost use Rattle.admission.specs.Weighing.{IsTold, is_noted, name_in, weighed, weighed_from};
 
-use crate::chosen::Chosen;
+use crate::candidate::Candidate;
 use crate::refusal::Refusal;
 use crate::sift::push_name;
 use crate::standing::{stands, with_budget};
@@ -18,45 +18,13 @@ use std::collections::BTreeSet;
 
 /// What the state before a block says of a wire, whatever the wires beside it are.
 #[derive(Drop)]
-pub enum Weighed {
+pub(crate) enum Weighed {
     /// One of the causes that come before `RepeatedInBatch`.
     Refused(Refusal),
     /// None of them, but its message has no budget. It repeats others and is repeated by others.
     NoBudget { name: Hash32, fault: BudgetFault },
     /// No cause.
-    Ready(Chosen),
-}
-
-/// Weighs the wire at a position of a batch.
-pub fn weigh(
-    alloc: Global,
-    recent: &Recent,
-    accounts: &Accounts,
-    limits: &Limits,
-    position: u32,
-    wire: Parsed,
-) -> Result<Weighed, OutOfMemory>
-    requires { IsSound wire }
-    ensures { IfOk result (λ found.
-        found ≡ weighed (start_of recent.now accounts.now limits.now) position wire) }
-{
-    let was_processed = was_processed(recent, &wire);
-    let before = Before {
-        recent,
-        accounts,
-        limits,
-    };
-    weigh_told(alloc, before, position, wire, was_processed)
-}
-
-/// Whether a block has processed the message of a wire.
-fn was_processed(recent: &Recent, wire: &Parsed) -> bool
-    ensures { IsTold recent.now wire.now result }
-{
-    match wire {
-        Parsed::Bad(_) => false,
-        Parsed::Good { tx: _, name } => recent.was_processed(name),
-    }
+    Ready(Candidate),
 }
 
 /// The state before a block.
@@ -96,7 +64,7 @@ pub(crate) fn weigh_told(
 }
 
 /// Weighs wires that stand one after the other in a batch, the first at the position `first`.
-pub fn weigh_from(
+pub(crate) fn weigh_from(
     alloc: Global,
     recent: &Recent,
     accounts: &Accounts,

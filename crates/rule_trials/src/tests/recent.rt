@@ -78,10 +78,10 @@ fn remembers_blocks_with_no_message_and_with_two(rt: HostRuntime) -> Result<(), 
     Ok(())
 }
 
-/// The 151 blocks of the numbers from 0 to 150.
-fn many_blocks(alloc: Global) -> Result<Recent, OutOfMemory> {
+/// The blocks of the numbers from 0 to the last.
+fn blocks_to(alloc: Global, last: u8) -> Result<Recent, OutOfMemory> {
     let mut recent = Recent::new(alloc);
-    for number in 0..=150 {
+    for number in 0..=last {
         recent.advance(block(alloc, number)?)?;
     }
     Ok(recent)
@@ -102,10 +102,48 @@ fn the_newest_of_no_block_is_zeros(rt: HostRuntime) {
 
 #[test]
 fn remembers_150_blocks(rt: HostRuntime) -> Result<(), Fail> {
-    let recent = many_blocks(rt.alloc())?;
+    let recent = blocks_to(rt.alloc(), 150)?;
     assert!(rt; has_150(&recent));
     for row in &MANY {
         assert!(rt; knows(&recent, 0xff - row.0) == row.1 && processed(&recent, row.0) == row.1);
     }
+    Ok(())
+}
+
+/// The messages of the numbers from 0 to the last.
+fn messages_to(alloc: Global, last: u8) -> Result<Vec<Hash32>, OutOfMemory> {
+    let mut messages = Vec::new(alloc);
+    for number in 0..=last {
+        messages.push(Hash32([number; 32]))?;
+    }
+    Ok(messages)
+}
+
+/// Whether what is told of the messages of the numbers from 0 to the last at once is what is told
+/// of each.
+fn tells_at_once(alloc: Global, recent: &Recent, last: u8) -> Result<bool, OutOfMemory> {
+    let found = recent.processed_among(alloc, &messages_to(alloc, last)?)?;
+    for number in 0..=last {
+        if found.contains(&Hash32([number; 32])) != processed(recent, number) {
+            return Ok(false);
+        }
+    }
+    Ok(true)
+}
+
+#[test]
+fn tells_of_few_messages_at_once(rt: HostRuntime) -> Result<(), Fail> {
+    let recent = blocks_to(rt.alloc(), 2)?;
+    assert!(rt; processed(&recent, 0) && processed(&recent, 2) && !processed(&recent, 3));
+    assert!(rt; tells_at_once(rt.alloc(), &recent, 3)?);
+    Ok(())
+}
+
+/// There are 256 messages and 150 blocks, so the messages are noted first, and each block is walked
+/// over once.
+#[test]
+fn tells_of_many_messages_at_once(rt: HostRuntime) -> Result<(), Fail> {
+    let recent = blocks_to(rt.alloc(), 150)?;
+    assert!(rt; tells_at_once(rt.alloc(), &recent, 255)?);
     Ok(())
 }

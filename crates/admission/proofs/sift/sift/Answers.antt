@@ -19,7 +19,7 @@ loop-one-preserved-in-Continue-branch-5 c =
     let place : c.len-in-loop-one.result ≡ length c.loop-one.causes.items = omega (arith, c.len-in-loop-one.ensures) in
     sifted_more c.args.batch c.loop-one.yielded (into_iter_items c.loop-one.one-iterator) (into_iter_items c.next.new.self) c.loop-one.standing.items c.loop-one.causes.items c.loop-one.invariant
     c.in-Some.one c.in-Some.ensures.steps.0 c.in_ok-repeats.repeats.items told c.index.result.now c.index.result.now
-    (c.index.ensures ∙ ap (λ n. get_or c.in_ok-repeats.repeats.items n c.index.result.now) place) (Ok c.in-Ok.chosen) (sym c.in-Ok.is ∙ c.sift_one.ensures)
+    (c.index.ensures ∙ ap (λ n. get_or c.in_ok-repeats.repeats.items n c.index.result.now) place) (Ok c.in-Ok.candidate) (sym c.in-Ok.is ∙ c.sift_one.ensures)
     c.push.new.self.items c.push-in-Ok.new.self.items c.in_ok-push-in-Ok.ensures.items c.in_ok-push-in-Ok-2.ensures.items
 
 pub loop-one-preserved : goal.loop-one-preserved

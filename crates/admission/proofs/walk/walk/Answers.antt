@@ -1,10 +1,10 @@
-use Rattle.std.proofs.Common.{◌+◌, ◌<◌, ◌∙◌, List, Option, IfNone, length, refl, set, sym, subst, arith, Some}
+use Rattle.std.proofs.Common.{◌+◌, ◌<◌, ◌∙◌, List, Option, IfNone, length, set, sym, ap, subst, arith, Some}
 use Rattle.std.specs.Prelude.{◌^◌}
 use Rattle.std.specs.Vec.Iter.{into_iter_items}
 use Rattle.account_store.proofs.SortedLaws.{next-of-all}
 use Rattle.admission.specs.declared.chosen.Chosen.{Chosen}
 use Rattle.admission.specs.declared.refusal.Refusal.{Refusal}
-use Rattle.admission.specs.Admission.{units_of}
+use Rattle.admission.specs.Admission.{late, units_of}
 use Rattle.admission.proofs.WalkLaws.{AreWalked, none_late, same_count, split, walked_late}
 use Rattle.admission.proofs.walk.walk.Goals as goal
 
@@ -25,7 +25,8 @@ index_mut-requires c =
     let whole = split c.args.limits.now line c.loop-one.yielded left more c.loop-one.order first c.loop-one.causes.items so_far c.in-Some.one c.in-Some.ensures.steps.0 in
     let count = same_count c.args.limits.now line c.loop-one.yielded left more c.loop-one.order first c.loop-one.causes.items so_far c.in-Some.one c.in-Some.ensures.steps.0 in
     let below = next-of-all (λ (one : Chosen). one.position < length first) c.loop-one.yielded more line c.in-Some.one c.requires.places whole in
-    omega (arith, below, count)
+    let place = ap (λ (one : Chosen). one.position) c.chosen-in-Some-2.ensures in
+    omega (arith, below, count, place)
 
 pub loop-one-preserved-in-Some-branch-3 : goal.loop-one-preserved-in-Some-branch-3
 loop-one-preserved-in-Some-branch-3 c =
@@ -37,10 +38,12 @@ loop-one-preserved-in-Some-branch-3 c =
     let whole = split c.args.limits.now line c.loop-one.yielded left more c.loop-one.order first c.loop-one.causes.items so_far c.in-Some.one c.in-Some.ensures.steps.0 in
     let below = next-of-all (λ (one : Chosen). one.position < length first) c.loop-one.yielded more line c.in-Some.one c.requires.places whole in
     let next = walked_late c.args.limits.now line c.loop-one.yielded left more c.loop-one.order first c.loop-one.causes.items so_far c.in-Some.one c.in-Some.ensures.steps.0
-    c.in-Some-2.cause (set c.loop-one.causes.items c.in-Some.one.position (Some c.in-Some-2.cause)) (sym c.in_ok-cause.ensures.exact ∙ c.in-Some-2.is) below refl in
+    c.in-Some-2.cause (set c.loop-one.causes.items c.chosen-in-Some-2.result.now.position (Some c.in-Some-2.cause)) (ap (late c.args.limits.now c.loop-one.order) (sym c.chosen.ensures) ∙ sym c.in_ok-cause.ensures.exact ∙ c.in-Some-2.is) below
+    (ap (λ (one : Chosen). set c.loop-one.causes.items one.position (Some c.in-Some-2.cause)) c.chosen-in-Some-2.ensures) in
     record { all = next.all; ordered = c.in_ok-cause.ensures.same ∙ next.ordered; caused = next.caused }
 
 pub push-requires-clause-fits : goal.push-requires-clause-fits
 push-requires-clause-fits c =
-    subst (λ (order : List Chosen). units_of order + c.in-Some.one.budget.limit < 2 ^ 64) (sym c.in_ok-cause.ensures.same)
-    (subst (λ (late : Option Refusal). IfNone late (units_of c.loop-one.order + c.in-Some.one.budget.limit < 2 ^ 64)) c.in-None-2.is c.in_ok-cause.ensures.fits)
+    subst (λ (order : List Chosen). units_of order + c.into_chosen.result.budget.limit < 2 ^ 64) (sym c.in_ok-cause.ensures.same)
+    (subst (λ (one : Chosen). units_of c.loop-one.order + one.budget.limit < 2 ^ 64) (c.chosen.ensures ∙ sym c.into_chosen.ensures)
+    (subst (λ (late : Option Refusal). IfNone late (units_of c.loop-one.order + c.chosen.result.now.budget.limit < 2 ^ 64)) c.in-None-2.is c.in_ok-cause.ensures.fits))
