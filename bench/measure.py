@@ -21,8 +21,9 @@ BUSY = 0.5
 ENVIRONMENT = {'GLIBC_TUNABLES': 'glibc.malloc.hugetlb=1', **os.environ}
 BEGIN, END = '<!-- figures: written by bench/run --keep -->', '<!-- end of figures -->'
 
-# words: the program's and its own; alike: cases of the same name must write the same bytes.
-Case = collections.namedtuple('Case', 'row column words source alike')
+# words: the program's and its own; alike: cases of the same name must write the same bytes; at_once: how many
+# processes run beside each other.
+Case = collections.namedtuple('Case', 'row column words source alike at_once', defaults=[1])
 Took = collections.namedtuple('Took', 'passed used memory')
 
 
@@ -132,18 +133,29 @@ def plain_program():
     return str(built)
 
 
-def timed(words, source, target):
-    """What a run of a program took, which reads a file and writes one."""
+def started(words, source, target):
+    """A process that reads a file and writes one."""
     target.unlink(missing_ok=True)
     files = [(os.POSIX_SPAWN_OPEN, 0, source or os.devnull, os.O_RDONLY, 0),
              (os.POSIX_SPAWN_OPEN, 1, target, os.O_WRONLY | os.O_CREAT, 0o600)]
+    return os.posix_spawn(words[0], words, ENVIRONMENT, file_actions=files)
+
+
+def timed(words, source, target, at_once=1):
+    """What a run of a program took, which reads a file and writes one: its part of what several took that ran
+    beside each other."""
     words = [str(word) for word in words]
+    targets = [target] + [target.with_name(f'{target.name}{number}') for number in range(1, at_once)]
     began = time.perf_counter()
-    _, status, usage = os.wait4(os.posix_spawn(words[0], words, ENVIRONMENT, file_actions=files), 0)
+    ended = [os.wait4(process, 0) for process in [started(words, source, one) for one in targets]]
     passed = time.perf_counter() - began
-    if status != 0:
-        raise Wrong(f'{" ".join(words)} ended with status {os.waitstatus_to_exitcode(status)}')
-    return Took(passed, usage.ru_utime + usage.ru_stime, usage.ru_maxrss * 1_024)
+    for one in targets[1:]:
+        one.unlink()
+    for _, status, _ in ended:
+        if status != 0:
+            raise Wrong(f'{" ".join(words)} ended with status {os.waitstatus_to_exitcode(status)}')
+    used = sum(usage.ru_utime + usage.ru_stime for _, _, usage in ended)
+    return Took(passed / at_once, used / at_once, max(usage.ru_maxrss for _, _, usage in ended) * 1_024)
 
 
 def in_child(work):
@@ -191,7 +203,7 @@ def in_turns(cases, runs, folder, look):
     target = folder / 'output'
     for _ in range(runs):
         for case in cases:
-            took = timed(case.words, case.source, target)
+            took = timed(case.words, case.source, target, case.at_once)
             now = digest(target)
             if case.alike not in first:
                 seen[case.alike] = in_child(lambda: look(case.alike, target.read_bytes()))

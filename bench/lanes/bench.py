@@ -7,8 +7,12 @@ from measure import Case, milliseconds
 RUNS = 12
 UNITS = 48_000
 LANES = [1, 2, 4, 64]
-COLUMNS = [f'{lanes} lane' + 's' * (lanes > 1) for lanes in LANES]
-RATIOS = [('2 of 1', '2 lanes', '1 lane'), ('4 of 1', '4 lanes', '1 lane'), ('64 of 4', '64 lanes', '4 lanes')]
+OF_LANES = [f'{lanes} lane' + 's' * (lanes > 1) for lanes in LANES]
+# A fourth of the time of four processes that run beside each other on one lane each: what the cores give.
+CORES = 'a fourth of 4 at once'
+COLUMNS = [*OF_LANES, CORES]
+RATIOS = [('2 of 1', '2 lanes', '1 lane'), ('4 of 1', '4 lanes', '1 lane'), ('64 of 4', '64 lanes', '4 lanes'),
+          ('a fourth of 4 at once, of 1', CORES, '1 lane')]
 
 
 def blocks(setting):
@@ -24,6 +28,7 @@ def figures(setting):
     for name, count, pieces in blocks(setting):
         source, counts[name] = setting.write(name, pieces), count
         cases += [Case(name, column, [setting.program, 'produce', '--lanes', str(lanes)], source, name)
-                  for lanes, column in zip(LANES, COLUMNS)]
+                  for lanes, column in zip(LANES, OF_LANES)]
+        cases.append(Case(name, CORES, [setting.program, 'produce'], source, name, 4))
     times, _ = setting.times(cases, RUNS, lambda name, output: inputs.Record(output).must_be_good(counts[name]))
     return {place: milliseconds(took.passed) for place, took in times.items()}

@@ -27,7 +27,7 @@ LAYERS = {
 OTHER = 'other'
 WORKING = ['passed with one thread at work', 'with two', 'with more']
 ONE, FOUR = '1 lane', '4 lanes, 4 senders'
-COLUMNS = [f'{name}, {lanes}' for name in ('independent', 'calls', 'nothing') for lanes in (ONE, FOUR)]
+COLUMNS = [f'{name}, {lanes}' for name in ('independent', 'made', 'calls', 'nothing') for lanes in (ONE, FOUR)]
 RATIOS = []
 
 
@@ -78,6 +78,7 @@ def figures(setting):
     text = (setting.bench / 'blocks' / 'counting.text').read_text()
     sources = {
         'independent': setting.write('independent', inputs.independent(count)),
+        'made': setting.write('made', inputs.made(setting.program, count)),
         'calls': setting.write('calls', inputs.calls(inputs.image_of(setting.program, text), few, UNITS)),
         'nothing': setting.write('nothing', inputs.empty(count, False)),
     }
