@@ -5,7 +5,7 @@ use Rattle.block_run.proofs.record_prefix.begin.Goals as goal
 
 pub returns : goal.returns
 returns c =
-    let written = c.in_ok-write_heading.ensures.after [] (c.reserve.ensures ∙ c.in_place_of-bytes.ensures) in
+    let written = c.in_ok-write_heading.ensures.after [] (c.reserve.ensures ∙ c.clear.ensures) in
     λ outcomes. begins c.args.parts outcomes _ refl
     (subst (Holds256 c.update.new.self) (c.as_slice.ensures ∙ written) (c.update.ensures [] c.new-hasher.ensures))
     written
