@@ -1,4 +1,4 @@
-use Rattle.std.proofs.Common.{[], ℕ, List, refl, ap, subst, sym, ◌∙◌}
+use Rattle.std.proofs.Common.{[], refl, subst, ◌∙◌}
 use Rattle.sha2.specs.Hashers.{Holds256}
 use Rattle.block_run.proofs.RecordPrefixes.{begins}
 use Rattle.block_run.proofs.record_prefix.begin.Goals as goal
