@@ -22,8 +22,8 @@ pub fn write_answer<O: Sink, N: Sink>(
         × Writes told.now (O.held out.old) (O.held out.new) (N.held notes.old) (N.held notes.new) }
     // After any status each sink has taken a front of the answer, and the notes are as they were
     // unless the output has been taken whole.
-    ensures begun {
-        Begins told.now (O.held out.old) (O.held out.new) (N.held notes.old) (N.held notes.new) }
+    ensures begun { Begins told.now (O.held out.old) (O.held out.new)
+        (N.held notes.old) (N.held notes.new) }
     // A status 5 that is not the answer's comes only where a sink failed.
     ensures failed { result ≡ 5 → (told.now.status ≡ 5)
         ⊎ (Rose (O.faults out.old) (O.faults out.new)
