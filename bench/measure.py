@@ -18,7 +18,9 @@ TOP = BENCH.parent
 OUT = BENCH / 'out'
 BUSY = 0.5
 # As ./bank runs a program.
-ENVIRONMENT = {'GLIBC_TUNABLES': 'glibc.malloc.hugetlb=1', **os.environ}
+TUNABLES = ('glibc.malloc.hugetlb=1', 'glibc.malloc.top_pad=6291456',
+            f'glibc.malloc.arena_max={len(os.sched_getaffinity(0))}')
+ENVIRONMENT = {'GLIBC_TUNABLES': ':'.join(TUNABLES), **os.environ}
 BEGIN, END = '<!-- figures: written by bench/run --keep -->', '<!-- end of figures -->'
 
 # words: the program's and its own; alike: cases of the same name must write the same bytes; at_once: how many
