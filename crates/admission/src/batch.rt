@@ -60,8 +60,8 @@ pub fn admit_parsed(
     admit_weighed(alloc, wires, recent, accounts, limits, weighed)
 }
 
-/// The same on so many lanes, which weigh the wires beside each other. Few wires are weighed by the
-/// caller alone, and on one lane no thread is started.
+/// The same where there are so many lanes: on several, a few threads weigh the wires beside each
+/// other. Few wires are weighed by the caller alone, and on one lane no thread is started.
 pub fn admit_on<R: Threads + Sync>(
     rt: &R,
     alloc: Global,

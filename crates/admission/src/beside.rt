@@ -18,6 +18,9 @@ use std::{mem, thread};
 /// So many wires are worth a thread.
 const WORTH_A_THREAD: usize = 256;
 
+/// So many threads at most: each takes longer to start than some hundred wires to weigh.
+const MAX_THREADS: usize = 8;
+
 /// A place in which a wire is weighed.
 #[derive(Drop)]
 pub(crate) enum Slot {
@@ -51,8 +54,8 @@ impl Slot {
     }
 }
 
-/// Weighs the wires of a batch on so many threads, in equal parts beside each other. Few wires are
-/// weighed by the caller alone, and on one lane no thread is started.
+/// Weighs the wires of a batch on as many threads as lanes, a few at most, in equal parts beside each
+/// other. Few wires are weighed by the caller alone, and on one lane no thread is started.
 pub(crate) fn weigh_on<R: Threads + Sync>(
     rt: &R,
     alloc: Global,
@@ -77,7 +80,7 @@ pub(crate) fn weigh_on<R: Threads + Sync>(
         limits,
     };
     let mut slots = slots_of(alloc, wires)?;
-    let threads = lanes as usize;
+    let threads = (lanes as usize).min(MAX_THREADS);
     weigh_each(rt, alloc, threads, before, &processed, slots.as_mut_slice());
     weighed_in(alloc, slots)
 }
