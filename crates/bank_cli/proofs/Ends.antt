@@ -27,7 +27,7 @@ use Rattle.command_parts.specs.declared.answer.Answer.{Answer}
 use Rattle.command_parts.specs.Deliveries.{Writes, Begins}
 use Rattle.bank_cli.specs.Texts.{snapshot_text, batch_text, record_text, asm_text, list_text}
 use Rattle.bank_cli.specs.Answer.{input_refused, refused, unless_refused, after_snapshot, produced, produced_after, judged, replayed, replayed_over, replayed_after, shown, made_answer, assembled_answer, listed_answer, within, input_limit, answer_to, answer_for, answer, takes_input, reads_input, read_failed}
-use Rattle.bank_cli.specs.Ending.{TellsAnswer, TellsFault, Stops, EndsEarly, FailsEarly}
+use Rattle.bank_cli.specs.Ending.{TellsAnswer, TellsFault, Stops, EndsWhole, EndsEarly, FailsEarly}
 
 -- ---- answers that do not look at the input
 
@@ -147,6 +147,29 @@ status_told words left old new told (inl t) =
 status_told words left old new told (inr t) =
     let same : told.status ≡ 4 = ap (λ (a : Answer). a.status) t.defined in
     omega (arith, same)
+
+-- ---- what is told is written
+
+module _ (words : List (List ℕ)) (left : Option (List ℕ)) (old new : ℕ) (told : Answer) (out out' notes notes' : Option (List ℕ))
+    (tells : TellsAnswer (answer words) left old new told ⊎ TellsFault (reads_input words) old new told) where
+  -- whole, and no device failed
+  pub ends_whole : (status : ℕ) → (status ≡ 4 → ⊥) → (status ≡ told.status) × Writes told out out' notes notes' → EndsWhole words left old new status out out' notes notes'
+  ends_whole status good written = elim tells [
+    | inl t ↦ record { told = told; tells = t; status_told = written.0; written = written.1 }
+    | inr t ↦ absurd (good (written.0 ∙ ap (λ (a : Answer). a.status) t.defined))
+  ]
+
+  -- or a front of it
+  pub ends_early : Begins told out out' notes notes' → EndsEarly words left old new out out' notes notes' ⊎ FailsEarly words old new out out' notes notes'
+  ends_early begun = elim tells [
+    | inl t ↦ inl (record { told = told; tells = t; begun = begun })
+    | inr t ↦ inr (record { in_form = t.in_form; rose = t.rose; begun = subst (λ (a : Answer). Begins a out out' notes notes') t.defined begun })
+  ]
+
+-- a status of its own is never that of a failed sink
+pub only_a_sink : {R : Type 0} (status : ℕ) → status ≤ 4 → (status ≡ 5) ⊎ R → R
+only_a_sink status low (inl is) = absurd (omega (arith, low, is))
+only_a_sink status low (inr rose) = rose
 
 -- ---- memory ran out before anything was written
 

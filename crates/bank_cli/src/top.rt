@@ -9,7 +9,7 @@ ghost use Rattle.bank_cli.specs.Ending.{EndsWhole, EndsEarly, FailsEarly};
 use crate::answer::answer_of;
 use bank_lanes::Gate;
 use bank_words::Words;
-use command_parts::{OUT_OF_MEMORY, Undelivered, WRITE_FAILED, deliver};
+use command_parts::{OUT_OF_MEMORY, write_answer};
 use intake::SendGate;
 use sol_base::OutOfMemory;
 use sol_io::{Sink, Source};
@@ -58,13 +58,8 @@ pub fn bank_main<S: Source, O: Sink, N: Sink, G: Gate, H: SendGate, R: Threads +
         Keeps (S.left source.old) (S.left source.new)
         × (S.faults source.new ≡ S.faults source.old) }
 {
-    let told = match answer_of(rt, alloc, words, source, gate, send) {
-        Ok(told) => told,
-        Err(OutOfMemory) => return OUT_OF_MEMORY,
-    };
-    match deliver(alloc, &told, out, notes) {
-        Ok(()) => told.status,
-        Err(Undelivered::SinkFailed) => WRITE_FAILED,
-        Err(Undelivered::OutOfMemory) => OUT_OF_MEMORY,
+    match answer_of(rt, alloc, words, source, gate, send) {
+        Ok(told) => write_answer(alloc, &told, out, notes),
+        Err(OutOfMemory) => OUT_OF_MEMORY,
     }
 }

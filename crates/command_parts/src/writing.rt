@@ -28,6 +28,9 @@ pub fn write_answer<O: Sink, N: Sink>(
     ensures failed { result ≡ 5 → (told.now.status ≡ 5)
         ⊎ (Rose (O.faults out.old) (O.faults out.new)
         ⊎ Rose (N.faults notes.old) (N.faults notes.new)) }
+    // Every other status comes only where no sink failed.
+    ensures stand { result ≢ 5 →
+        (O.faults out.new ≡ O.faults out.old) × (N.faults notes.new ≡ N.faults notes.old) }
 {
     status_after(deliver(alloc, told, out, notes), told.status)
 }
