@@ -1,3 +1,4 @@
 pub mod AccountRules
 pub mod KeptAccounts
 pub mod Listings
+pub mod Wallets

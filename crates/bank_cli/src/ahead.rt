@@ -6,7 +6,8 @@ ghost use Rattle.snapshot_codec.specs.Snapshot.{BeginsWith};
 ghost use Rattle.snapshot_codec.specs.SnapshotReading.{is_snapshot_memory, prefix_of};
 ghost use Rattle.bank_cli.specs.Ahead.{Decodes, IsReadIn};
 
-use block_run::{Decoded, MANY_TRANSACTIONS};
+use block_end::MANY_TRANSACTIONS;
+use block_run::Decoded;
 use intake::{SendGate, gather};
 use message_codec::MAX_WIRE_LEN;
 use snapshot_codec::{

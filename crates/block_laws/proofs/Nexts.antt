@@ -17,18 +17,19 @@ use Rattle.admission.specs.declared.chosen.Chosen.{Chosen}
 use Rattle.admission.specs.Admission.{admitted}
 use Rattle.admission.specs.Chosen.{IsChosen}
 use Rattle.bank_law.proofs.States.{at_fits}
-use Rattle.block_run.specs.declared.block.Head.{Head}
-use Rattle.block_run.specs.Activation.{IsPartly, activated_in}
-use Rattle.block_run.specs.BlockEnd.{Shares, activate_all, base_fees, may_collect, more, priority_fees, share, share_fees}
-use Rattle.block_run.specs.Blocks.{block_result, closed, head_of, mark_of, processed_in, start_in}
-use Rattle.block_run.specs.Ending.{AreOf}
+use Rattle.block_end.specs.declared.block.Head.{Head}
+use Rattle.block_end.specs.Activation.{IsPartly, activated_in}
+use Rattle.block_end.specs.BlockEnd.{Shares, activate_all, base_fees, may_collect, more, priority_fees, share, share_fees}
+use Rattle.block_run.specs.Blocks.{block_result, closed, head_of, start_in}
+use Rattle.block_end.specs.Blocks.{mark_of, processed_in}
+use Rattle.block_end.specs.Ending.{AreOf}
 use Rattle.block_run.specs.SerialRun.{serial_run}
-use Rattle.block_run.proofs.Activating.{next_fits, next_short, partly_begins, partly_ends, partly_goes_on}
+use Rattle.block_end.proofs.Activating.{next_fits, next_short, partly_begins, partly_ends, partly_goes_on}
 use Rattle.block_run.proofs.Calls.{admitted_are_of}
-use Rattle.block_run.proofs.Closings.{names_few}
+use Rattle.block_end.proofs.Closings.{names_few}
 use Rattle.block_run.proofs.Orders.{length-take-least}
 use Rattle.block_run.proofs.Runs.{run_may_end}
-use Rattle.block_run.proofs.Sorting.{ascending_ascends}
+use Rattle.block_end.proofs.Sorting.{ascending_ascends}
 use Rattle.block_laws.specs.Chain.{NextBlocksCanBeRun}
 use Rattle.block_laws.specs.Keeping.{order_of}
 use Rattle.block_laws.proofs.Keeps.{admitted_fit}

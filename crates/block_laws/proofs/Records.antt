@@ -29,16 +29,19 @@ use Rattle.bank_core.specs.Ends.{serial_outcomes}
 use Rattle.tx_exec.specs.declared.admitted.AdmittedBlock.{AdmittedBlock}
 use Rattle.tx_exec.specs.AdmittedBlock.{block_of as in_block, effects_at, job_of}
 use Rattle.tx_exec.specs.Transaction.{transaction}
-use Rattle.tx_exec.specs.TransactionLaws.{IsOutcomeOf, IsSmallOutcome}
+use Rattle.tx_report.specs.Outcomes.{IsSmallOutcome}
+use Rattle.tx_exec.specs.TransactionLaws.{IsOutcomeOf}
 use Rattle.tx_exec.proofs.Outcomes.{transaction_outcome}
 use Rattle.tx_exec.proofs.Small.{transaction_small}
-use Rattle.block_run.specs.declared.block.Head.{Head}
-use Rattle.block_run.specs.BlockEnd.{Shares, activate_all, base_fees, may_collect, more, priority_fees, share_fees}
-use Rattle.block_run.specs.Blocks.{block_result, closed, entries_of, entry_of, head_of, start_in}
-use Rattle.block_run.specs.Ending.{AreOf}
-use Rattle.block_run.specs.SerialRun.{Ran, serial_run, told_in}
+use Rattle.block_end.specs.declared.block.Head.{Head}
+use Rattle.block_end.specs.BlockEnd.{Shares, activate_all, base_fees, may_collect, more, priority_fees, share_fees}
+use Rattle.block_run.specs.Blocks.{block_result, closed, head_of, start_in}
+use Rattle.block_end.specs.Blocks.{entries_of, entry_of}
+use Rattle.block_end.specs.Ending.{AreOf}
+use Rattle.block_end.specs.Ending.{Ran}
+use Rattle.block_run.specs.SerialRun.{serial_run, told_in}
 use Rattle.block_run.proofs.Calls.{admitted_are_of}
-use Rattle.block_run.proofs.Closings.{block_counted}
+use Rattle.block_end.proofs.Closings.{block_counted}
 use Rattle.block_run.proofs.Conserved.{burned_is_all}
 use Rattle.block_run.proofs.Positions.{at_position}
 use Rattle.block_run.proofs.Runs.{run_may_end}

@@ -25,10 +25,12 @@ use Rattle.admission.specs.Admission.{admitted, listed}
 use Rattle.admission.specs.Batches.{wire_in}
 use Rattle.bank_law.specs.Serial.{result}
 use Rattle.tx_exec.specs.AdmittedBlock.{job_of}
-use Rattle.block_run.specs.declared.block.Head.{Head}
-use Rattle.block_run.specs.SerialRun.{Ran, serial_run, told_in}
-use Rattle.block_run.specs.BlockEnd.{activate_all, share_fees}
-use Rattle.block_run.specs.Blocks.{before_refused, block_of, block_result, closed, entries_of, head_of, is_halted, listed_result, start_in, wires_of}
+use Rattle.block_end.specs.declared.block.Head.{Head}
+use Rattle.block_end.specs.Ending.{Ran}
+use Rattle.block_run.specs.SerialRun.{serial_run, told_in}
+use Rattle.block_end.specs.BlockEnd.{activate_all, share_fees}
+use Rattle.block_run.specs.Blocks.{before_refused, block_result, closed, head_of, is_halted, listed_result, start_in, wires_of}
+use Rattle.block_end.specs.Blocks.{block_of, entries_of}
 use Rattle.block_replay.specs.declared.verdict.Field.{Field}
 use Rattle.block_replay.specs.declared.verdict.Field.TheVariants.{Slot, Previous, Status, Units, Fee, Lines, Burned, Collected, State as state_field, Hash}
 use Rattle.block_replay.specs.declared.verdict.Verdict.{Verdict}

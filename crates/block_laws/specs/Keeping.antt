@@ -10,7 +10,7 @@ use Rattle.snapshot_codec.specs.Snapshot.{IsReadable}
 use Rattle.block_record.specs.declared.block.Block.{Block}
 use Rattle.admission.specs.declared.chosen.Chosen.{Chosen}
 use Rattle.admission.specs.Admission.{admitted, listed}
-use Rattle.block_run.specs.declared.block.Closed.{Closed}
+use Rattle.block_end.specs.declared.block.Closed.{Closed}
 use Rattle.block_run.specs.Blocks.{before_refused, block_result, closed, listed_result, start_in, wires_of}
 use Rattle.block_run.specs.Laws.{IsReadyUnder, outcome_of, state_after}
 

@@ -10,7 +10,7 @@ use Rattle.sol_base.specs.Limits.{max_transactions}
 use Rattle.account_store.specs.State.{at}
 use Rattle.tx_report.specs.declared.outcome.Outcome.{Outcome}
 use Rattle.bank_law.specs.Serial.{result}
-use Rattle.bank_core.specs.Ends.{outcomes_at_end, serial_outcomes}
+use Rattle.bank_core.specs.Ends.{outcomes_at_end, serial_outcomes, state_at_end}
 use Rattle.bank_core.specs.declared.origin.Origin.{Origin}
 use Rattle.snapshot_codec.specs.declared.batch.Batch.{Batch}
 use Rattle.snapshot_codec.specs.declared.snapshot.Snapshot.{Snapshot}
@@ -25,14 +25,16 @@ use Rattle.admission.specs.Admission.{admitted, listed}
 use Rattle.admission.specs.Batches.{IsParted}
 use Rattle.tx_exec.specs.declared.admitted.AdmittedBlock.{AdmittedBlock}
 use Rattle.tx_exec.specs.AdmittedBlock.{job_of}
-use Rattle.tx_exec.specs.TransactionLaws.{IsSmallOutcome}
+use Rattle.tx_report.specs.Outcomes.{IsSmallOutcome}
 use Rattle.block_run.specs.declared.block.BlockResult.{BlockResult}
-use Rattle.block_run.specs.declared.block.Chain.{Chain}
-use Rattle.block_run.specs.declared.block.Closed.{Closed}
-use Rattle.block_run.specs.declared.block.Head.{Head}
-use Rattle.block_run.specs.SerialRun.{Ran, ran, serial_run, told_in}
-use Rattle.block_run.specs.Blocks.{before_refused, block_result, closed, closed_with, entry_of, head_of, is_halted, listed_result, start_in, wires_of}
-use Rattle.block_run.specs.Ending.{AreOf, MayEnd, joined_of, ran_of}
+use Rattle.block_end.specs.declared.block.Chain.{Chain}
+use Rattle.block_end.specs.declared.block.Closed.{Closed}
+use Rattle.block_end.specs.declared.block.Head.{Head}
+use Rattle.block_end.specs.Ending.{Ran}
+use Rattle.block_run.specs.SerialRun.{ran, serial_run, told_in}
+use Rattle.block_run.specs.Blocks.{before_refused, block_result, closed, head_of, is_halted, listed_result, start_in, wires_of}
+use Rattle.block_end.specs.Blocks.{closed_with, entry_of}
+use Rattle.block_end.specs.Ending.{AreOf, MayEnd, ran_of}
 use Rattle.admission.proofs.PartLaws.{admitted_batches_are_parted, listed_batches_are_parted}
 use Rattle.block_run.proofs.Orders.{length-take-least, parted_are_of}
 
@@ -43,9 +45,9 @@ origin_in s slot order = record { start = s.accounts; told = told_in s slot orde
 
 -- what it ends with is the serial run
 pub same_run : (s : Snapshot) (slot : ℕ) (order : List Chosen) (opened origin : Origin AdmittedBlock) (outcomes : List Outcome) → opened ≡ origin_in s slot order
-    → origin ≡ opened → outcomes ≡ outcomes_at_end job_of opened → ran_of origin outcomes ≡ serial_run s slot order
+    → origin ≡ opened → outcomes ≡ outcomes_at_end job_of opened → ran_of job_of origin outcomes ≡ serial_run s slot order
 unfolding serial_run
-same_run s slot order opened origin outcomes is began ended = ap₂ ran_of began ended ∙ ap (λ (o : Origin AdmittedBlock). ran_of o (outcomes_at_end job_of o)) is
+same_run s slot order opened origin outcomes is began ended = ap₂ (ran_of job_of) began ended ∙ ap (λ (o : Origin AdmittedBlock). ran_of job_of o (outcomes_at_end job_of o)) is
 
 -- its outcomes are small
 pub small_run : (s : Snapshot) (slot : ℕ) (wires : List (List ℕ)) (order : List Chosen) (opened : Origin AdmittedBlock) → opened ≡ origin_in s slot order → MayEnd wires order (serial_run s slot order) → All IsSmallOutcome (outcomes_at_end job_of opened)
@@ -58,12 +60,12 @@ same_may_end wires given order chosen serial end read same is may = rw (read, sa
 
 -- and the block is that of the order
 pub same_end : (s : Snapshot) (head : Head) (wires given : List (List ℕ)) (order chosen : List Chosen) (chain : Chain) (origin : Origin AdmittedBlock) (outcomes : List Outcome) → given ≡ wires → chosen ≡ order → chain ≡ record { limits = s.limits; recent = s.recent }
-    → ran_of origin outcomes ≡ serial_run s head.slot order
-    → closed_with (record { slot = 0; limits = chain.limits; recent = chain.recent; accounts = joined_of origin }) head given chosen (ran_of origin outcomes) ≡ closed s head wires order
+    → ran_of job_of origin outcomes ≡ serial_run s head.slot order
+    → closed_with (record { slot = 0; limits = chain.limits; recent = chain.recent; accounts = state_at_end job_of origin }) head given chosen (ran_of job_of origin outcomes) ≡ closed s head wires order
 unfolding closed
 same_end s head wires given order chosen chain origin outcomes read same kept ran_is =
-    ap (λ (c : Chain). closed_with (record { slot = 0; limits = c.limits; recent = c.recent; accounts = joined_of origin }) head given chosen (ran_of origin outcomes)) kept
-    ∙ ap (λ (w : List (List ℕ)). closed_with s head w chosen (ran_of origin outcomes)) read ∙ ap₂ (λ (o : List Chosen) (r : Ran). closed_with s head wires o r) same ran_is
+    ap (λ (c : Chain). closed_with (record { slot = 0; limits = c.limits; recent = c.recent; accounts = state_at_end job_of origin }) head given chosen (ran_of job_of origin outcomes)) kept
+    ∙ ap (λ (w : List (List ℕ)). closed_with s head w chosen (ran_of job_of origin outcomes)) read ∙ ap₂ (λ (o : List Chosen) (r : Ran). closed_with s head wires o r) same ran_is
 
 -- it has an entry for each transaction
 pub entry_each : (s : Snapshot) (head : Head) (wires : List (List ℕ)) (order : List Chosen) → length (closed s head wires order).block.entries ≡ length order

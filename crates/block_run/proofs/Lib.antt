@@ -1,13 +1,7 @@
 pub mod Positions
 pub mod Runs
-pub mod Activating
-pub mod Sorting
-pub mod Beside
 pub mod Orders
-pub mod Closings
-pub mod RecordPrefixes
 pub mod Executables
-pub mod Turns
 pub mod Calls
 pub mod Conserved
 pub mod Declared

@@ -8,7 +8,7 @@ use Rattle.admission.specs.declared.refusal.Refused.{Refused}
 use Rattle.admission.specs.Chosen.{IsChosen}
 use Rattle.admission.specs.Batches.{IsOf, IsParted}
 use Rattle.block_run.specs.Blocks.{before_refused}
-use Rattle.block_run.specs.Ending.{AreOf}
+use Rattle.block_end.specs.Ending.{AreOf}
 
 pub length-take-le : {X : Type 0} (n : ℕ) (xs : List X) → length (take n xs) ≤ length xs
 length-take-le zero xs = omega arith

@@ -19,7 +19,7 @@ use Rattle.admission.specs.declared.chosen.Chosen.{Chosen}
 use Rattle.admission.specs.Chosen.{IsChosen}
 use Rattle.tx_exec.specs.declared.admitted.AdmittedBlock.{AdmittedBlock}
 use Rattle.tx_exec.specs.AdmittedBlock.{block_of, effects_at, job_of, locks_at}
-use Rattle.tx_exec.specs.TransactionLaws.{IsSmallOutcome}
+use Rattle.tx_report.specs.Outcomes.{IsSmallOutcome}
 use Rattle.tx_exec.proofs.Keeping.{transaction_fits}
 use Rattle.tx_exec.proofs.Small.{transaction_small}
 use Rattle.tx_exec.proofs.Works.{there}

@@ -1,14 +1,12 @@
 -- The serial run of the transactions of a block: the lamports that it pays, and the accounts that it adds.
-use Rattle.std.proofs.Common.{◌≡◌, ◌≤◌, ◌<◌, ◌+◌, ◌-◌, ◌==◌, ◌*◌, ◌∷◌, [], ℕ, zero, suc, Bool, true, false, cond, List, length, map, All, sym, subst, ◌∙◌, add-one, arith}
+use Rattle.std.proofs.Common.{◌≡◌, ◌≤◌, ◌<◌, ◌+◌, ◌-◌, ◌*◌, ◌∷◌, [], ℕ, zero, suc, List, length, map, All, sym, subst, ◌∙◌, add-one, arith}
 use Rattle.std.specs.Prelude.{sum_by}
 use Rattle.std.specs.List.{range_with_len}
-use Rattle.std.specs.FinMap as map
 use Rattle.std.proofs.lemmas.List.{length-map}
 use Rattle.std.proofs.lemmas.List.FromFn.{length-map-range_with_len, sum_by-map-range_with_len_more, get_or-map-range_with_len}
 use Rattle.sol_base.specs.declared.key.Key.{Key}
 use Rattle.sol_base.specs.declared.account.Account.{Account}
 use Rattle.sol_base.specs.declared.lock.Lock.{Lock}
-use Rattle.sol_base.proofs.KeyLaws.{key_cmp_total}
 use Rattle.sol_base.specs.Limits.{max_transaction_keys}
 use Rattle.tx_report.specs.declared.outcome.Outcome.{Outcome}
 use Rattle.account_store.specs.State.{State, IsState, at, len, put, sum}
@@ -24,29 +22,15 @@ use Rattle.admission.specs.declared.chosen.Chosen.{Chosen}
 use Rattle.admission.specs.Chosen.{IsChosen}
 use Rattle.tx_exec.specs.declared.admitted.AdmittedBlock.{AdmittedBlock}
 use Rattle.tx_exec.specs.AdmittedBlock.{job_of}
-use Rattle.tx_exec.specs.TransactionLaws.{IsSmallOutcome}
+use Rattle.tx_report.specs.Outcomes.{IsSmallOutcome}
 use Rattle.block_run.specs.SerialRun.{serial_run, told_in}
-use Rattle.block_run.specs.BlockEnd.{base_fees, priority_fees}
-use Rattle.block_run.specs.Ending.{AreOf, MayEnd}
+use Rattle.block_end.specs.BlockEnd.{base_fees, priority_fees}
+use Rattle.block_end.specs.Ending.{AreOf, MayEnd}
+use Rattle.block_end.proofs.Closings.{len-put}
 use Rattle.tx_exec.proofs.Works.{works_are_lawful}
 use Rattle.block_run.proofs.Positions.{locks_most, position_is_small, position_pays, written_keys_few}
 
 -- ---- how many accounts there are
-one_more : (b : Bool) (n : ℕ) → cond b n (n + 1) ≤ n + 1
-one_more true n = omega arith
-one_more false n = omega arith
-
-none_more : (b : Bool) (n : ℕ) → cond b (n - 1) n ≤ n + 1
-none_more true n = omega arith
-none_more false n = omega arith
-
--- a write adds at most one account
-pub len-put : (s : State) (k : Key) (a : Account) → len (put s k a) ≤ len s + 1
-len-put s k a = elim (a.lamports == 0) as (λ b. len (cond b (map.remove s k) (map.insert s k a)) ≤ len s + 1) [
-  | true ↦ subst (λ n. n ≤ len s + 1) (sym (map.len-remove key_cmp_total s k)) (none_more (map.contains_key s k) (len s))
-  | false ↦ subst (λ n. n ≤ len s + 1) (sym (map.len-insert key_cmp_total s k a)) (one_more (map.contains_key s k) (len s))
-]
-
 len-put_each : (s : State) (ks : List Key) (vs : List Account) → len (put_each s ks vs) ≤ len s + length ks
 len-put_each s [] vs = omega arith
 len-put_each s (k ∷ ks) [] = omega arith

@@ -13,7 +13,7 @@ use Rattle.admission.specs.Chosen.{IsChosen}
 use Rattle.bank_law.specs.Serial.{result}
 use Rattle.bank_law.specs.SerialState.{serial_state}
 use Rattle.tx_exec.specs.AdmittedBlock.{job_of}
-use Rattle.block_run.specs.declared.block.Head.{Head}
+use Rattle.block_end.specs.declared.block.Head.{Head}
 use Rattle.block_run.specs.SerialRun.{told_in}
 use Rattle.block_run.specs.Blocks.{closed}
 

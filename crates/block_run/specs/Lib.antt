@@ -1,10 +1,4 @@
 pub mod SerialRun
-pub mod BlockEnd
 pub mod Blocks
-pub mod Closing
 pub mod Answers
-pub mod Activation
-pub mod Ending
-pub mod RecordPrefix
 pub mod Laws
-pub mod Crew

@@ -15,6 +15,7 @@ use Rattle.bank_law.specs.SerialState.{serial_state}
 use Rattle.bank_core.specs.Ends.{serial_outcomes}
 use Rattle.tx_exec.specs.declared.admitted.AdmittedBlock.{AdmittedBlock}
 use Rattle.tx_exec.specs.AdmittedBlock.{job_of}
+use Rattle.block_end.specs.Ending.{Ran}
 
 -- the keys that the transactions declare
 abbrev pub keys_in : List Chosen → List Key
@@ -42,11 +43,6 @@ locked_in order = record {
   slot = 0;
   height = 0;
 }
-
--- what a run leaves: the accounts, and the outcome of each transaction
-pub record Ran : Type 0 where
-  pub accounts : State
-  pub outcomes : List Outcome
 
 abbrev pub ran : Job → State → Ran
 ran job start =

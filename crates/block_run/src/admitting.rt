@@ -5,9 +5,9 @@ ghost use Rattle.admission.specs.Admission.{AreParsed, admitted};
 ghost use Rattle.admission.specs.Answers.{IsAnswer};
 ghost use Rattle.block_run.specs.Blocks.{start_in};
 
-use crate::crew::Crew;
 use admission::Admitted;
 use bank_lanes::Gate;
+use block_end::Crew;
 use message_codec::Parsed;
 use snapshot_codec::Snapshot;
 use sol_base::{Blob, Items, OutOfMemory};

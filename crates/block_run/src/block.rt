@@ -1,37 +1,11 @@
-use admission::{Chosen, Refused};
+//! What a batch comes to.
+use admission::Refused;
 use bank_core::SharedOutcome;
 use block_record::Block;
 use message_codec::Parsed;
 use snapshot_codec::{Batch, Snapshot};
-use sol_base::{Blob, Hash32, Items, Key, Limits};
-use status_cache::Recent;
+use sol_base::{Blob, Items};
 use tx_exec::TxWork;
-
-/// The slot of a block, and who collects what is not burned of its fees.
-#[derive(Clone, Copy, PartialEq, Eq)]
-pub struct Head {
-    pub slot: u64,
-    pub collector: Key,
-}
-
-/// What a record is made of beside the outcomes: where its block stands, and the transactions as
-/// they came and in their order.
-#[derive(Clone, Copy)]
-pub(crate) struct RecordParts<'a> {
-    pub(crate) head: &'a Head,
-    pub(crate) previous: Hash32,
-    pub(crate) wires: &'a [Blob],
-    pub(crate) order: &'a [Chosen],
-    /// Whether its bytes are wanted, and not its hash alone.
-    pub(crate) kept: bool,
-}
-
-/// What a snapshot has beside its slot and its accounts.
-#[derive(Drop)]
-pub(crate) struct Chain {
-    pub(crate) limits: Limits,
-    pub(crate) recent: Recent,
-}
 
 /// A batch, and its transactions as they were read.
 #[derive(Drop)]
@@ -40,20 +14,6 @@ pub struct Decoded {
     pub parsed: Items<Parsed>,
     /// Room that the record may be written in. What it holds is dropped.
     pub room: Blob,
-}
-
-/// A block, and the snapshot after it.
-#[derive(Drop)]
-pub struct Closed {
-    pub block: Block,
-    pub after: Snapshot,
-}
-
-/// The record of a block, and the snapshot after it.
-#[derive(Drop)]
-pub(crate) struct ClosedRecord {
-    pub(crate) record: Blob,
-    pub(crate) after: Snapshot,
 }
 
 /// What a batch comes to.

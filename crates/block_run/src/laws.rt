@@ -1,8 +1,4 @@
 //! Laws over the definitions of a block. Their calls do nothing.
-ghost use Rattle.std.specs.Prelude.{◌≡◌, List};
-ghost use Rattle.sol_base.specs.declared.key.Hash32.{Hash32 as HashValue};
-ghost use Rattle.status_cache.specs.Recent.{Ascends, has_hash};
-ghost use Rattle.block_run.specs.Blocks.{ascending};
 ghost use Rattle.block_run.specs.Laws.{ActivatedProgramsAreReady, BurnedIsAllThatLeaves, ExecutableAccountsStay, FeesLeaveTheAccounts};
 
 /// A law: each transaction takes the fees that it pays out of the accounts, and what a block burns
@@ -22,11 +18,4 @@ pub fn executable_accounts_stay()
 /// found as a program that is ready.
 pub fn activated_programs_are_ready()
     ensures ready { ActivatedProgramsAreReady }
-{}
-
-/// A law: names in ascending order ascend, and are the same names.
-pub fn sorted_names_are_the_same()
-    ensures ascend { (names : List HashValue) → Ascends (ascending names) }
-    ensures same { (names : List HashValue) (name : HashValue) →
-        has_hash (ascending names) name ≡ has_hash names name }
 {}

@@ -9,12 +9,11 @@ ghost use Rattle.bank_core.specs.Openings.{AreNumbered};
 ghost use Rattle.tx_exec.specs.AdmittedBlock.{job_of, locks_at};
 ghost use Rattle.block_run.specs.SerialRun.{AreKeysIn, keys_in, locked_in, told_in};
 
-use crate::crew::Crew;
-use crate::threads::call_both;
 use account_store::{Accounts, sort_keys};
 use admission::Chosen;
 use bank_core::{Locked, Numbered, number_among};
 use bank_lanes::Gate;
+use block_end::{Crew, call_both};
 use message_codec::{Loaded, Message};
 use program_cache::Programs;
 use snapshot_codec::Snapshot;

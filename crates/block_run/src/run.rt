@@ -6,22 +6,22 @@ ghost use Rattle.admission.specs.Chosen.{IsChosen};
 ghost use Rattle.block_record.specs.Record.{IsCounted};
 ghost use Rattle.block_record.specs.Replays.{IsReplayOf};
 ghost use Rattle.snapshot_codec.specs.Snapshot.{IsReadable, IsUpTo};
-ghost use Rattle.block_run.specs.Answers.{IsBlockResult, IsClosed, IsClosedRecord, IsRecorded};
+ghost use Rattle.block_run.specs.Answers.{IsBlockResult, IsRecorded};
+ghost use Rattle.block_end.specs.Answers.{IsClosed, IsClosedRecord};
 ghost use Rattle.block_run.specs.Blocks.{before_refused, block_result, closed, head_of, is_halted, listed_result, start_in};
-ghost use Rattle.block_run.specs.Ending.{AreOf};
+ghost use Rattle.block_end.specs.Ending.{AreOf};
 ghost use Rattle.block_run.specs.SerialRun.{told_in};
 
 use crate::admitting::admit_on;
-use crate::block::{
-    BlockResult, Chain, Closed, ClosedRecord, Decoded, Head, RecordParts, Recorded, Spent,
-};
-use crate::closing::{close, close_record};
-use crate::crew::{Crew, working_in};
-use crate::lanes::run_work;
+use crate::block::{BlockResult, Decoded, Recorded, Spent};
 use crate::order::work_of;
 use admission::{Admitted, Chosen, Refused, admit, admit_listed};
 use bank_core::Core;
 use bank_lanes::Gate;
+use block_end::{
+    Chain, Closed, ClosedRecord, Crew, Head, RecordParts, close, close_record, working_in,
+};
+use block_lanes::run_work;
 use block_record::{Block, Entry, Listed};
 use message_codec::Parsed;
 use snapshot_codec::{Batch, Snapshot};

@@ -36,7 +36,8 @@ use Rattle.invoke_engine.specs.FrameLaws.{AreListed}
 use Rattle.invoke_engine.specs.Frame.{Ending, Fixed, frame, instruction, nothing_returned}
 use Rattle.invoke_engine.proofs.Kept.{frame_keeps}
 use Rattle.invoke_engine.specs.Frames.{max_trace}
-use Rattle.tx_exec.specs.Payer.{charged, drop_cause, dropped, is_wallet, less, total_fee}
+use Rattle.account_rules.specs.Wallets.{is_wallet}
+use Rattle.tx_exec.specs.Payer.{charged, drop_cause, dropped, less, total_fee}
 use Rattle.tx_exec.specs.Executing.{Executed, Failure, InBlock, call_of, executed, fixed_for, following, locks, meta_of, performed, lets_write}
 use Rattle.tx_exec.specs.Transaction.{Transacted, by_drop, came_to, data_in, failing, finished, finishing, no_fee, rent_broken, transaction}
 use Rattle.tx_exec.specs.TransactionLaws.{Keeps, WritesFit}

@@ -20,7 +20,7 @@ use Rattle.admission.specs.Chosen.{IsChosen}
 use Rattle.tx_exec.specs.Payer.{charged, dropped, total_fee}
 use Rattle.tx_exec.specs.Executing.{Executed, Failure, InBlock, fixed_for, locks, performed}
 use Rattle.tx_exec.specs.Transaction.{Transacted, by_drop, came_to, data_in, finished, finishing, no_fee, rent_broken, transaction}
-use Rattle.tx_exec.specs.TransactionLaws.{IsSmallOutcome}
+use Rattle.tx_report.specs.Outcomes.{IsSmallOutcome}
 use Rattle.tx_exec.proofs.GrownLogs.{performed_grows}
 
 -- ---- the fee

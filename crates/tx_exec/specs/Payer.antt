@@ -1,11 +1,10 @@
 -- The fee payer, which is the first of a transaction's accounts (Solana; that a transaction whose
 -- payer cannot pay stands in its block as dropped is the project's own): why a transaction is
 -- dropped, and what its fee leaves.
-use Rattle.std.specs.Prelude.{ℕ, ◌+◌, ◌-◌, ◌==◌, ◌&&◌, not, Bool, nat_lt, List, [], ◌∷◌, length, Option, Some, None, if◌then◌else◌}
-use Rattle.sol_base.specs.declared.key.TheConstants.{SYSTEM_PROGRAM}
+use Rattle.std.specs.Prelude.{ℕ, ◌+◌, ◌-◌, ◌==◌, not, Bool, nat_lt, List, [], ◌∷◌, Option, Some, None, if◌then◌else◌}
 use Rattle.sol_base.specs.declared.account.Account.{Account}
-use Rattle.sol_base.specs.Keys.{same_key}
 use Rattle.rent_rules.specs.Rent.{rent_of, moves}
+use Rattle.account_rules.specs.Wallets.{is_wallet}
 use Rattle.tx_report.specs.declared.cause.DropCause.{DropCause}
 use Rattle.tx_report.specs.declared.cause.DropCause.TheVariants.{PayerAbsent, PayerNotSystem, CannotPayFee, PayerRent}
 use Rattle.admission.specs.declared.chosen.Chosen.{Chosen}
@@ -16,11 +15,6 @@ total_fee t = t.fee.base + t.fee.priority
 -- an account with so many lamports less
 abbrev pub less : Account → ℕ → Account
 less account lamports = record account { lamports = account.lamports - lamports }
-
--- an account of the system program, no program itself and without data
-abbrev pub is_wallet : Account → Bool
-is_wallet account = same_key account.owner SYSTEM_PROGRAM && not account.executable
-    && (length account.bytes == 0)
 
 -- the rent does not allow what the fee leaves
 abbrev pub breaks_rent : Account → Account → Bool

@@ -1,12 +1,12 @@
 -- What a transaction keeps, and what of it a work promises.
-use Rattle.std.specs.Prelude.{◌≡◌, ◌≤◌, ◌+◌, ◌^◌, ◌<◌, ℕ, true, false, All, List, length, filter, slice_get, sum_by, Some}
+use Rattle.std.specs.Prelude.{◌≡◌, ◌≤◌, ◌+◌, ℕ, true, false, List, length, filter, slice_get, Some}
 use Rattle.sol_base.specs.declared.account.Account.{Account}
 use Rattle.sol_base.specs.Accounts.{AreShort, lamports_in}
 use Rattle.tx_report.specs.declared.cause.Cause.{Cause}
 use Rattle.tx_report.specs.declared.cause.DropCause.{DropCause}
 use Rattle.tx_report.specs.declared.outcome.Outcome.{Outcome}
 use Rattle.tx_report.specs.declared.status.Status.TheVariants.{Dropped, Failed}
-use Rattle.tx_report.specs.LogLines.{AreLogged, max_lines_bytes}
+use Rattle.tx_report.specs.LogLines.{AreLogged}
 use Rattle.tx_report.specs.Statuses.{IsStatus}
 use Rattle.bank_law.specs.Lawful.{AreSettled, lent_for_writing}
 use Rattle.admission.specs.declared.chosen.Chosen.{Chosen}
@@ -43,12 +43,6 @@ pub record WritesFit (t : Chosen) (values : List Account) (x : Transacted) : Typ
       ≡ lamports_in (lent_for_writing (locks t) values)
   pub short : AreShort values → AreShort (written t x.values)
   pub settled : AreSettled (written t x.values)
-
--- an outcome has a fee of 64 bits, and lines that are few and short
-pub record IsSmallOutcome (outcome : Outcome) : Type 0 where
-  pub fee : outcome.base_paid + outcome.priority_paid < 2 ^ 64
-  pub bytes : sum_by length outcome.lines ≤ max_lines_bytes
-  pub filled : All (λ line. 1 ≤ length line) outcome.lines
 
 -- an outcome has a status whose index and detail fit their fields, no more units than the budget,
 -- and lines that are a log of texts

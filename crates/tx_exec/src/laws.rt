@@ -10,7 +10,8 @@ ghost use Rattle.tx_exec.specs.Executing.{InBlock, fixed_for, performed};
 ghost use Rattle.tx_exec.specs.Programs.{KeepsForeign, programs_of};
 ghost use Rattle.tx_exec.specs.AdmittedBlock.{job_of};
 ghost use Rattle.tx_exec.specs.Transaction.{transaction};
-ghost use Rattle.tx_exec.specs.TransactionLaws.{IsOutcomeOf, IsSmallOutcome, Keeps, UnitsAddUp, WritesFit};
+ghost use Rattle.tx_report.specs.Outcomes.{IsSmallOutcome};
+ghost use Rattle.tx_exec.specs.TransactionLaws.{IsOutcomeOf, Keeps, UnitsAddUp, WritesFit};
 
 /// A law: a transaction keeps the number of its accounts, their lamports but for the fees paid,
 /// what it may not write, and the executable accounts. One that failed leaves only its fee, and a

@@ -1,11 +1,12 @@
 //! The fee payer.
-ghost use Rattle.std.specs.Prelude.{◌≡◌, ◌∷◌, ◌++◌, ◌≤◌, [], None, IfOk, OnOk};
+ghost use Rattle.std.specs.Prelude.{◌≡◌, ◌++◌, ◌≤◌, [], None, IfOk, OnOk};
 ghost use Rattle.sol_base.specs.Accounts.{AreShort, IsShort, accounts_of, max_data_len};
 ghost use Rattle.rent_rules.specs.Rent.{moves, rent_state_of, rent_of};
-ghost use Rattle.tx_exec.specs.Payer.{charged, drop_cause, dropped, is_wallet, less};
+ghost use Rattle.tx_exec.specs.Payer.{charged, drop_cause, dropped, less};
 
+use account_rules::is_a_wallet;
 use rent_rules::{may_move, rent_state};
-use sol_base::{Account, Items, OutOfMemory, SYSTEM_PROGRAM};
+use sol_base::{Account, Items, OutOfMemory};
 use std::alloc::Global;
 use std::sync::Arc;
 use tx_report::DropCause;
@@ -36,12 +37,6 @@ fn why_unpaid(payer: &Account, fee: u64) -> Option<DropCause>
     } else {
         None
     }
-}
-
-fn is_a_wallet(account: &Account) -> bool
-    ensures { result ≡ is_wallet account.now }
-{
-    account.owner == SYSTEM_PROGRAM && !account.executable && account.bytes.is_empty()
 }
 
 /// Whether the rent lets an account come to that balance and that many data bytes.

@@ -1,9 +1,9 @@
 use Rattle.std.proofs.Common.{◌∙◌, ap, subst}
 use Rattle.tx_exec.specs.declared.admitted.AdmittedBlock.{AdmittedBlock}
-use Rattle.block_run.specs.declared.block.Closed.{Closed}
-use Rattle.block_run.specs.Answers.{IsClosedRecord}
+use Rattle.block_end.specs.declared.block.Closed.{Closed}
+use Rattle.block_end.specs.Answers.{IsClosedRecord}
 use Rattle.block_run.specs.Blocks.{closed}
-use Rattle.block_run.specs.declared.block.Head.{Head}
+use Rattle.block_end.specs.declared.block.Head.{Head}
 use Rattle.block_run.proofs.Calls.{same_end, same_may_end, same_run, small_run}
 use Rattle.block_run.proofs.Runs.{run_may_end}
 use Rattle.block_run.proofs.run.record_order.Goals as goal

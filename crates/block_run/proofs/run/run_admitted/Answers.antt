@@ -1,5 +1,5 @@
 use Rattle.std.proofs.Common.{◌∙◌, ap}
-use Rattle.block_run.specs.declared.block.Head.{Head}
+use Rattle.block_end.specs.declared.block.Head.{Head}
 use Rattle.block_run.specs.Blocks.{closed}
 use Rattle.block_run.proofs.Calls.{admitted_are_of, admitted_result}
 use Rattle.block_run.proofs.run.run_admitted.Goals as goal

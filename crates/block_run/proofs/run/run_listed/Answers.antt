@@ -5,7 +5,7 @@ use Rattle.block_record.specs.declared.block.Entry.{Entry}
 use Rattle.admission.specs.declared.chosen.Chosen.{Chosen}
 use Rattle.admission.specs.Chosen.{IsChosen}
 use Rattle.block_run.specs.Blocks.{before_refused, closed, is_halted, wires_of}
-use Rattle.block_run.specs.Ending.{AreOf}
+use Rattle.block_end.specs.Ending.{AreOf}
 use Rattle.block_run.proofs.Calls.{head_again, listed_are_of, listed_cut, listed_is}
 use Rattle.block_run.proofs.Orders.{before_are_chosen, before_are_of}
 use Rattle.block_run.proofs.run.run_listed.Goals as goal

@@ -1,7 +1,7 @@
 use Rattle.std.proofs.Common.{◌∙◌, ap, subst, IfOk}
 use Rattle.tx_exec.specs.declared.admitted.AdmittedBlock.{AdmittedBlock}
-use Rattle.block_run.specs.declared.block.Closed.{Closed}
-use Rattle.block_run.specs.Answers.{IsClosed}
+use Rattle.block_end.specs.declared.block.Closed.{Closed}
+use Rattle.block_end.specs.Answers.{IsClosed}
 use Rattle.block_run.proofs.Calls.{same_end, same_may_end, same_run, small_run}
 use Rattle.block_run.proofs.Runs.{run_may_end}
 use Rattle.block_run.proofs.run.run_order.Goals as goal

@@ -1,0 +1,5 @@
+pub mod Activating
+pub mod Sorting
+pub mod Beside
+pub mod Closings
+pub mod RecordPrefixes

@@ -1,0 +1,49 @@
+//! The names of the messages that a block processed.
+ghost use Rattle.std.specs.Prelude.{◌≡◌, IfOk, length};
+ghost use Rattle.block_end.specs.Blocks.{ascending, processed_by, processed_in};
+
+use admission::Chosen;
+use bank_core::SharedOutcome;
+use sol_base::{Hash32, Items, OutOfMemory};
+use std::alloc::Global;
+use std::collections::BTreeSet;
+use tx_report::Status;
+
+/// The name, unless the transaction was dropped.
+fn processed_by(name: Hash32, status: &Status) -> Option<Hash32>
+    ensures { result ≡ processed_by name status.now }
+{
+    match status {
+        Status::Good | Status::Failed { .. } => Some(name),
+        Status::Dropped { .. } => None,
+    }
+}
+
+/// The names of those that were not dropped, in their order.
+pub(crate) fn processed_in(
+    alloc: Global,
+    order: &[Chosen],
+    outcomes: &[SharedOutcome],
+) -> Result<Vec<Hash32>, OutOfMemory>
+    requires { length outcomes.now ≡ length order.now }
+    ensures { IfOk result (λ names. names.items ≡ processed_in order.now outcomes.now) }
+{
+    let mut names = Vec::with_capacity(alloc, order.len())?;
+    for (at, chosen) in order.iter().enumerate() {
+        if let Some(name) = processed_by(chosen.name, &outcomes[at].value().status) {
+            names.push(name)?;
+        }
+    }
+    Ok(names)
+}
+
+/// The names in ascending order.
+pub(crate) fn ascending(alloc: Global, mut names: Vec<Hash32>) -> Result<Items<Hash32>, OutOfMemory>
+    ensures { IfOk result (λ sorted. sorted ≡ ascending names.items) }
+{
+    let mut set = BTreeSet::new(alloc);
+    while let Some(name) = names.pop() {
+        set.insert(name)?;
+    }
+    Ok(Items::from_vec(set.into_iter().collect(alloc)?))
+}

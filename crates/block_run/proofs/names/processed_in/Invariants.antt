@@ -1,6 +1,0 @@
-use Rattle.std.proofs.Common.{◌≡◌, take}
-use Rattle.block_run.specs.Blocks.{processed_in}
-use Rattle.block_run.proofs.names.processed_in.Given as goal
-
-abbrev pub invariant-loop-at : goal.invariant-loop-at
-invariant-loop-at l = l.names.items ≡ processed_in (take l.at l.order) (take l.at l.outcomes)
