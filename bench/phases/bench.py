@@ -13,13 +13,13 @@ TURN = 0.001
 UNITS = 24_000
 LAYERS = {
     'SHA-256': ['sha2'],
-    'the machine and its memory': ['sbpf_machine', 'sbpf_memory', 'sol_base::parts'],
+    'the machine and its memory': ['sbpf_machine', 'sbpf_memory', 'data_parts'],
     'formats: reading and decoding': ['snapshot_codec', 'message_codec', 'intake', 'sol_io', 'bank_cli', 'bank_words', 'clap'],
     'admission': ['admission', 'fee_rules', 'status_cache'],
     'transactions': ['tx_exec', 'invoke_engine', 'system_prog', 'loader_prog', 'account_rules', 'rent_rules', 'abi_input',
                      'cpi_calls', 'sys_calls', 'program_cache', 'tx_report', 'sbpf_verify', 'sbpf_isa'],
     'lanes, desk, graph': ['bank_core', 'bank_lanes', 'bank_shared', 'bank_law', 'prio_graph', 'lock_table'],
-    'the block: order, entries, record': ['block_run', 'block_record'],
+    'the block: order, entries, record': ['block_run', 'block_end', 'block_lanes', 'block_record'],
     'accounts by key, comparing keys': ['account_store', 'std_collections', 'core::cmp', 'core::slice'],
     'memory: taken, moved, given back': ['libc', 'std_alloc', 'rattle_alloc', 'rattle_dealloc', 'rattle_realloc', 'sol_base'],
     'the kernel': ['kernel'],
