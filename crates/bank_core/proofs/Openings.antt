@@ -1,6 +1,6 @@
 -- What a core begins with.
 use Rattle.bank_core.specs.Counts.{max_lane_numbers}
-use Rattle.std.proofs.Common.{◌≡◌, ℕ, zero, suc, ◌+◌, ◌*◌, ◌^◌, ◌<◌, ◌≤◌, Bool, true, false, cond, inl, inr, ◌⊎◌, List, [], ◌∷◌, ◌++◌, length, get_or, replicate, length-append, Option, Some, None, refl, sym, ◌∙◌, ap, ap₂, subst, arith}
+use Rattle.std.proofs.Common.{◌≡◌, ℕ, zero, suc, ◌+◌, ◌*◌, ◌^◌, ◌<◌, ◌≤◌, Bool, true, false, cond, inl, inr, ◌⊎◌, List, [], ◌∷◌, ◌++◌, length, get_or, replicate, length-append, Option, Some, None, Result, Ok, Err, IfOk, refl, sym, ◌∙◌, ap, ap₂, subst, arith}
 use Rattle.std.specs.Prelude.{not, map, unwrap_or, vec_len, vec_capacity}
 use Rattle.std.specs.List.{IsDistinct}
 use Rattle.std.specs.Option.{option_map}
@@ -14,6 +14,7 @@ use Rattle.std.proofs.lemmas.List.Folds.{list_any-append, list_any_at}
 use Rattle.sol_base.specs.declared.key.Key.{Key}
 use Rattle.sol_base.specs.declared.account.Account.{Account}
 use Rattle.sol_base.specs.declared.lock.Lock.{Lock}
+use Rattle.sol_base.specs.declared.memory.OutOfMemory.{OutOfMemory}
 use Rattle.sol_base.specs.Accounts.{empty_account}
 use Rattle.tx_report.specs.declared.outcome.Outcome.{Outcome}
 use Rattle.account_store.specs.State.{State, get, at, without, IsState}
@@ -27,7 +28,7 @@ use Rattle.prio_graph.specs.declared.mark.Mark.TheVariants.{Waiting, Done}
 use Rattle.prio_graph.specs.Ready.{set_at}
 use Rattle.bank_core.specs.Slots.{Shared, value_of, account_at, in_slot}
 use Rattle.bank_core.specs.Counts.{locks_before}
-use Rattle.bank_core.specs.Openings.{AreKnown}
+use Rattle.bank_core.specs.Openings.{AreKnown, NumbersAt}
 use Rattle.bank_law.proofs.Keys.{same_key-self}
 use Rattle.bank_core.specs.Keeping.{Keeps, IsApart, HasRoom, HasBuffers}
 use Rattle.lock_table.proofs.Numbering.{no_key}
@@ -96,6 +97,27 @@ sets_next job ks sets more set n locks S here numbers pushed = record {
     by_case i l (inr d) =
         subst (λ s. Numbers ks (job.locks i) s) (sym (ap (λ s. set_at s i) pushed ∙ get_or_append_left sets (set ∷ []) [] i (let m = S.long in omega (arith, l, d, m))))
         (S.numbered i (omega (arith, l, d)))
+
+-- the sets of slots that were filled at their places
+slot_at : (sets : List (List NumberedLock)) (slots : List (Option (List NumberedLock))) (i : ℕ) → map (λ (set : List NumberedLock). Some set) sets ≡ slots → i < length slots → get_or slots i None ≡ Some (set_at sets i)
+slot_at sets slots i is below =
+    sym (ap (λ (os : List (Option (List NumberedLock))). get_or os i None) is)
+    ∙ get_or_default (map (λ (set : List NumberedLock). Some set) sets) i None (Some []) (subst (λ (os : List (Option (List NumberedLock))). i < length os) (sym is) below)
+    ∙ get_or-map (λ (set : List NumberedLock). Some set) sets i []
+
+pub sets_read : (job : Job) (ks : List Key) (old new slots : List (Option (List NumberedLock))) (result : Result (List (List NumberedLock)) OutOfMemory) → length old ≡ job.count → length new ≡ length old
+    → ((i : ℕ) (d : Option (List NumberedLock)) → i < length old → NumbersAt ks (job.locks i) (get_or new i d)) → slots ≡ new → IfOk result (λ sets. map (λ (set : List NumberedLock). Some set) sets ≡ slots)
+    → IfOk result (λ sets. (i : ℕ) → i < job.count → Numbers ks (job.locks i) (set_at sets i))
+sets_read job ks old new slots (Err _) count kept each same is = tt
+sets_read job ks old new slots (Ok sets) count kept each same is = λ i l.
+    let below : i < length old = omega (arith, l, count) in
+    let filled : i < length new = omega (arith, below, kept) in
+    subst (λ (o : Option (List NumberedLock)). NumbersAt ks (job.locks i) o) (slot_at sets new i (is ∙ same) filled) (each i None below)
+
+-- what the first slots have is taken out
+pub record AreTaken (slots done left : List (Option (List NumberedLock))) (sets : List (List NumberedLock)) : Type 0 where
+  pub all : done ++ left ≡ slots
+  pub each : map (λ (set : List NumberedLock). Some set) sets ≡ done
 
 same_shown : (o : Option Shared) → option_map value_of o ≡ option_map arc_value o
 same_shown None = refl

@@ -8,7 +8,7 @@ ghost use Rattle.std.specs.declared.alloc.Global.{Global as GlobalValue};
 ghost use Rattle.account_store.specs.State.{at};
 ghost use Rattle.bank_law.specs.Job.{same_key, keys as keys_at, lock_keys};
 ghost use Rattle.lock_table.specs.Numbers.{Numbers, numbered_key};
-ghost use Rattle.prio_graph.specs.Ready.{set_at};
+ghost use Rattle.prio_graph.specs.Ready.{all_waiting, set_at};
 ghost use Rattle.bank_core.specs.Slots.{Shared, account_at, in_slot, value_of};
 ghost use Rattle.bank_core.specs.Keeping.{IsApart};
 ghost use Rattle.bank_core.specs.Openings.{AreNumbered, AreKnown};
@@ -17,6 +17,7 @@ ghost use Rattle.sol_base.specs.Limits.{max_lanes};
 
 use crate::kept::Core;
 use crate::locked::{Locked, OfWork};
+use crate::numbering::sets_on;
 use crate::origin::Origin;
 use crate::shared_outcome::SharedOutcome;
 use crate::work::Work;
@@ -29,6 +30,7 @@ use sol_base::{Account, Items, Key, LockList, OutOfMemory};
 use std::alloc::Global;
 use std::mem::replace;
 use std::sync::Arc;
+use std::thread::Threads;
 
 /// The most lanes of a core (the project's own): a thread drives up to 16 of them.
 pub const MAX_LANE_NUMBERS: u32 = 1_024;
@@ -66,7 +68,7 @@ fn keys_of<L: Locked>(alloc: Global, locked: &L) -> Result<Vec<Key>, OutOfMemory
 }
 
 /// The locks of each position, over the numbers of their keys.
-fn sets_of<L: Locked>(
+pub(crate) fn sets_of<L: Locked>(
     alloc: Global,
     locked: &L,
     table: &KeyTable,
@@ -113,13 +115,21 @@ pub fn number<L: Locked>(alloc: Global, locked: &L) -> Result<Numbered, OutOfMem
     requires room { locks_before (L.job locked.now) (L.job locked.now).count < 2 ^ 32 }
     ensures { IfOk result (λ n. AreNumbered (L.job locked.now) n.table n.graph n.room) }
 {
-    number_among(alloc, locked, keys_of(alloc, locked)?)
+    // The contracts of these two tell that the count is small, and that the keys are distinct.
+    let _count = locked.count();
+    let table = KeyTable::of_keys(alloc, keys_of(alloc, locked)?);
+    let _len = table.len();
+    let sets = sets_of(alloc, locked, &table)?;
+    with_graph(alloc, table, sets)
 }
 
-/// The same where the keys of all locks stand in a list. Where the list ascends, it is not sorted
-/// again.
-pub fn number_among<L: Locked>(
+/// The same on so many threads, where the keys of all locks stand in a list. Where the list ascends,
+/// it is not sorted again. Few positions are numbered by the caller alone, and on one thread none is
+/// started.
+pub fn number_among<L: Locked + Sync, R: Threads + Sync>(
+    rt: &R,
     alloc: Global,
+    threads: u32,
     locked: &L,
     keys: Vec<Key>,
 ) -> Result<Numbered, OutOfMemory>
@@ -134,7 +144,18 @@ pub fn number_among<L: Locked>(
     let _count = locked.count();
     let table = KeyTable::of_keys(alloc, keys);
     let _len = table.len();
-    let sets = sets_of(alloc, locked, &table)?;
+    let sets = sets_on(rt, alloc, threads, locked, &table)?;
+    with_graph(alloc, table, sets)
+}
+
+/// Keys as numbers, and the graph of positions with these locks.
+fn with_graph(alloc: Global, table: KeyTable, sets: Items<LockSet>) -> Result<Numbered, OutOfMemory>
+    requires few { length sets < 2 ^ 32 }
+    ensures table { IfOk result (λ n. n.table ≡ table) }
+    ensures waiting { IfOk result (λ n. n.graph ≡ all_waiting sets) }
+    ensures wide { IfOk result (λ n. (i : ℕ) → i < length sets
+        → length (set_at sets i) ≤ n.room) }
+{
     let room = most_locks(sets.as_slice());
     let graph = Graph::new(alloc, sets)?;
     Ok(Numbered { table, graph, room })
