@@ -1,7 +1,7 @@
 -- What the tickets of all senders carry, and where it comes to lie.
-use Rattle.std.proofs.Common.{◌≡◌, ◌≢◌, ◌⊎◌, ℕ, zero, suc, ◌+◌, ◌%◌, ◌<◌, ◌≤◌, List, [], ◌∷◌, ◌++◌, length, map, set, get_or, filter, Option, Some, None, IsSome, Bool, true, false, cond, eqb, eq-eqb, ne_eqb, refl, sym, ap, ◌∙◌, subst, inl, inr, ⊎_elim, arith, All, IfOk, Ok, Result, append-nil, append_assoc}
+use Rattle.std.proofs.Common.{◌≡◌, ◌≢◌, ℕ, zero, suc, ◌+◌, ◌%◌, ◌<◌, ◌≤◌, List, [], ◌∷◌, ◌++◌, length, map, set, get_or, filter, take, Some, None, Bool, true, false, cond, eqb, eq-eqb, ne_eqb, refl, sym, ap, ◌∙◌, subst, arith, All, IfOk, Ok, Result, append-nil, append_assoc}
 use Rattle.std.specs.List.{range_with_len}
-use Rattle.std.proofs.lemmas.List.{get_or-map, length-map, length-set, map-append}
+use Rattle.std.proofs.lemmas.List.{get_or-map, get_or-set_other, get_or-set_same, length-map, map-append, map_more}
 use Rattle.std.proofs.lemmas.List.Elements.{All-cons, All-head, All-map, All-nil, All-tail, filter-append}
 use Rattle.std.proofs.lemmas.List.FromFn.{get_or-map-range_with_len, get_or-range_with_len, length-map-range_with_len, length-range_with_len}
 use Rattle.std.proofs.lemmas.Option.{same_Some}
@@ -19,7 +19,7 @@ use Rattle.intake.specs.declared.ticket.Ticket.{Ticket}
 use Rattle.intake.specs.Seats.{sender_of, sent_by}
 use Rattle.intake.specs.Tickets.{of}
 use Rattle.intake.specs.Gathering.{CarriesShares, HasSentShare, arrival_of, arrived_of, carried, parsed_at, positions, share_of, times}
-use Rattle.intake.specs.Layout.{laid}
+use Rattle.intake.specs.Layout.{LeadsTo, LeadsToParsed, place_of}
 use Rattle.intake.proofs.Numbers.{range_more}
 
 -- the position of a ticket
@@ -172,63 +172,11 @@ positions_arrived (t ∷ ts) = ap (λ xs. t.position ∷ xs) (positions_arrived 
 pub arrived_once : (wires : List (List ℕ)) (senders : ℕ) (ts : List Ticket) (arrivals : List Arrival) → arrivals ≡ map arrival_of ts → CarriesShares wires senders ts → (p : ℕ) → p < length wires → times p (positions arrivals) ≡ 1
 arrived_once wires senders ts arrivals is carries p lt = ap (λ (l : List Arrival). times p (positions l)) is ∙ ap (times p) (positions_arrived ts) ∙ one_ticket wires senders ts carries p lt
 
--- the slots after all tickets were laid in
-pub laid_length : (slots : List (Option Parsed)) (ts : List Ticket) → length (laid slots ts) ≡ length slots
-laid_length slots [] = refl
-laid_length slots (t ∷ ts) = laid_length (set slots t.position (Some t.parsed)) ts ∙ length-set slots t.position (Some t.parsed)
-
-slot_here : (slots : List (Option Parsed)) (p q : ℕ) (x d : Option Parsed) → q ≡ p → p < length slots → get_or (set slots q x) p d ≡ x
-slot_here [] p q x d is lt = absurd (omega (arith, lt))
-slot_here (z ∷ zs) zero zero x d is lt = refl
-slot_here (z ∷ zs) zero (suc q) x d is lt = absurd (omega (arith, is))
-slot_here (z ∷ zs) (suc p) zero x d is lt = absurd (omega (arith, is))
-slot_here (z ∷ zs) (suc p) (suc q) x d is lt = slot_here zs p q x d (omega (arith, is)) (omega (arith, lt))
-
-slot_apart : (slots : List (Option Parsed)) (p q : ℕ) (x d : Option Parsed) → q ≢ p → get_or (set slots q x) p d ≡ get_or slots p d
-slot_apart [] p q x d ne = refl
-slot_apart (z ∷ zs) zero zero x d ne = absurd (ne refl)
-slot_apart (z ∷ zs) zero (suc q) x d ne = refl
-slot_apart (z ∷ zs) (suc p) zero x d ne = refl
-slot_apart (z ∷ zs) (suc p) (suc q) x d ne = slot_apart zs p q x d (λ is. ne (ap suc is))
-
-laid_at : (ts : List Ticket) (slots : List (Option Parsed)) (p : ℕ) (y : Parsed) (d : Option Parsed) → p < length slots → All (λ (t : Ticket). t.position ≡ p → t.parsed ≡ y) ts → (0 < times p (positions_in ts)) ⊎ (get_or slots p d ≡ Some y) → get_or (laid slots ts) p d ≡ Some y
-laid_at [] slots p y d lt all h = ⊎_elim (λ some. absurd (omega (arith, some))) (λ is. is) h
-laid_at (t ∷ ts) slots p y d lt all h =
-    let same : t.position ≡ p → t.parsed ≡ y = All-head (λ (t : Ticket). t.position ≡ p → t.parsed ≡ y) t ts all in
-    let rest = All-tail (λ (t : Ticket). t.position ≡ p → t.parsed ≡ y) t ts all in
-    let new : List (Option Parsed) = set slots t.position (Some t.parsed) in
-    let room : p < length new = let l = length-set slots t.position (Some t.parsed) in omega (arith, l, lt) in
-    dite (ℕ_discrete t.position p)
-    (λ is. laid_at ts new p y d room rest (inr (slot_here slots p t.position (Some t.parsed) d is lt ∙ ap (λ (x : Parsed). Some x) (same is))))
-    (λ not. laid_at ts new p y d room rest (⊎_elim (λ some. let e = times_other t.position p (positions_in ts) not in inl (omega (arith, e, some))) (λ was. inr (slot_apart slots p t.position (Some t.parsed) d not ∙ was)) h))
-
--- each slot has what the wire is
-slot_at : (wires : List (List ℕ)) (senders : ℕ) (slots : List (Option Parsed)) (ts : List Ticket) → length slots ≡ length wires → CarriesShares wires senders ts → (p : ℕ) (d : Option Parsed) → p < length wires → get_or (laid slots ts) p d ≡ Some (parsed_of (get_or wires p []))
-slot_at wires senders slots ts long carries p d lt =
-    let fair = all_fair wires senders ts carries in
-    let one = one_ticket wires senders ts carries p lt in
-    laid_at ts slots p (parsed_of (get_or wires p [])) d (omega (arith, long, lt)) (λ i d below is. (fair i d below).2 ∙ ap (λ (k : ℕ). parsed_of (get_or wires k [])) is) (inl (omega (arith, one)))
-
-pub all_laid : (wires : List (List ℕ)) (senders : ℕ) (slots : List (Option Parsed)) (ts : List Ticket) → length slots ≡ length wires → CarriesShares wires senders ts → All IsSome (laid slots ts)
-all_laid wires senders slots ts long carries p d lt = let l = laid_length slots ts in subst IsSome (sym (slot_at wires senders slots ts long carries p d (omega (arith, l, lt, long)))) refl
-
 same_parsed : (parsed : List Parsed) (wires : List (List ℕ)) → length parsed ≡ length wires → ((p : ℕ) → p < length wires → get_or (map (λ (x : Parsed). Some x) parsed) p None ≡ Some (parsed_of (get_or wires p []))) → parsed ≡ map parsed_of wires
 same_parsed [] [] long at = refl
 same_parsed [] (w ∷ ws) long at = absurd (omega (arith, long))
 same_parsed (x ∷ xs) [] long at = absurd (omega (arith, long))
 same_parsed (x ∷ xs) (w ∷ ws) long at = λ i. same_Some x (parsed_of w) (at 0 (omega arith)) i ∷ same_parsed xs ws (omega (arith, long)) (λ p lt. at (suc p) (omega (arith, lt))) i
-
-map_length : (parsed : List Parsed) → length (map (λ (x : Parsed). Some x) parsed) ≡ length parsed
-map_length [] = refl
-map_length (x ∷ xs) = ap suc (map_length xs)
-
--- and so what lies there is what the wires are
-pub parsed_is : (wires : List (List ℕ)) (senders : ℕ) (slots : List (Option Parsed)) (ts : List Ticket) (parsed : List Parsed) → length slots ≡ length wires → CarriesShares wires senders ts → map (λ (x : Parsed). Some x) parsed ≡ laid slots ts → parsed ≡ map parsed_of wires
-parsed_is wires senders slots ts parsed long carries is =
-    let l = laid_length slots ts in
-    let m = map_length parsed in
-    let n = ap length is in
-    same_parsed parsed wires (omega (arith, l, m, n, long)) (λ p lt. ap (λ (xs : List (Option Parsed)). get_or xs p None) is ∙ slot_at wires senders slots ts long carries p None lt)
 
 -- where each element passes, a filter keeps all
 all_kept : {A : Type 0} (f : A → Bool) (xs : List A) → All (λ x. f x ≡ true) xs → filter f xs ≡ xs
@@ -260,6 +208,65 @@ pub came_in_order : (wires : List (List ℕ)) (senders : ℕ) (ts : List Ticket)
 came_in_order wires senders ts one carries =
     parsed_carried ts ∙ ap (map (λ (x : ℕ × Parsed). x.1)) (one_came wires ts (subst (λ n. CarriesShares wires n ts) one carries)) ∙ parsed_wires wires
 
+-- a position that stands among the tickets is one of a ticket
+standing : (p : ℕ) (ts : List Ticket) (A : Type 0) → 0 < times p (positions_in ts) → ((k : ℕ) (t : Ticket) → k < length ts → get_or ts k t ≡ t → t.position ≡ p → A) → A
+standing p [] A some go = absurd (omega (arith, some))
+standing p (t ∷ ts) A some go = dite (ℕ_discrete t.position p)
+    (λ is. go 0 t (omega arith) refl is)
+    (λ not. let e = times_other t.position p (positions_in ts) not in standing p ts A (omega (arith, e, some)) (λ k u lt at is. go (suc k) u (omega (arith, lt)) at is))
+
+-- where each ticket is led to, each position is
+pub all_lead : (wires : List (List ℕ)) (senders : ℕ) (ts : List Ticket) (places : List ℕ) → CarriesShares wires senders ts → All (λ (t : Ticket). LeadsTo places ts t.position) ts → (p : ℕ) → p < length wires → LeadsToParsed wires places ts p
+all_lead wires senders ts places carries all p lt =
+    let one = one_ticket wires senders ts carries p lt in
+    let leads : LeadsTo places ts p = standing p ts (LeadsTo places ts p) (omega (arith, one)) (λ k t below at is. subst (LeadsTo places ts) (ap (λ (u : Ticket). u.position) at ∙ is) (all k t below)) in (
+      leads.0,
+      λ d.
+          let fair = all_fair wires senders ts carries (place_of places p) d leads.0 in
+          let has : (get_or ts (place_of places p) d).parsed ≡ parsed_of (get_or wires p []) = fair.2 ∙ ap (λ (q : ℕ). parsed_of (get_or wires q [])) (leads.1 d) in
+          λ i. (leads.1 d i, has i),
+    )
+
+-- one place more is noted
+pub one_noted : (places more : List ℕ) (ts : List Ticket) (t : Ticket) (at : ℕ) → at < length ts → t.position < length places → ((d : Ticket) → get_or ts at d ≡ t) → more ≡ set places t.position at
+    → ((k : ℕ) (d : Ticket) → k < at → LeadsTo places ts (get_or ts k d).position)
+    → (k : ℕ) (d : Ticket) → k < at + 1 → LeadsTo more ts (get_or ts k d).position
+one_noted places more ts t at lt below is noted was k d le =
+    let p = (get_or ts k d).position in
+    let now : List ℕ = set places t.position at in
+    subst (λ (l : List ℕ). LeadsTo l ts p) (sym noted) (dite (ℕ_discrete p t.position)
+    (λ same.
+    let here : place_of now p ≡ at = ap (place_of now) same ∙ get_or-set_same places t.position at 0 below in
+    (omega (arith, here, lt), λ e. ap (λ (j : ℕ). (get_or ts j e).position) here ∙ ap (λ (u : Ticket). u.position) (is e) ∙ sym same))
+    (λ other.
+    let there : place_of now p ≡ place_of places p = get_or-set_other places t.position p at 0 other in
+    let apart : k ≢ at = λ same. other (ap (λ (j : ℕ). (get_or ts j d).position) same ∙ ap (λ (u : Ticket). u.position) (is d)) in
+    let before = was k d (omega (arith, le, apart)) in
+    (omega (arith, there, before.0), λ e. ap (λ (j : ℕ). (get_or ts j e).position) there ∙ before.1 e)))
+
+some_of : {A : Type 0} (xs : List A) (i : ℕ) → i < length xs → A
+some_of [] i lt = absurd (omega (arith, lt))
+some_of (x ∷ xs) i lt = x
+
+-- one position more is taken out
+pub one_taken : (wires : List (List ℕ)) (places : List ℕ) (ts left : List Ticket) (parsed more : List Parsed) (x : Parsed) (at place : ℕ) → at < length wires → place ≡ place_of places at
+    → ((d : Ticket) → x ≡ (get_or ts place d).parsed) → length left ≡ length ts → ((k : ℕ) (d : Ticket) → k ≢ place → get_or left k d ≡ get_or ts k d) → more ≡ parsed ++ x ∷ []
+    → parsed ≡ map parsed_of (take at wires) → ((p : ℕ) → at ≤ p → p < length wires → LeadsToParsed wires places ts p)
+    → (more ≡ map parsed_of (take (at + 1) wires)) × ((p : ℕ) → at + 1 ≤ p → p < length wires → LeadsToParsed wires places left p)
+one_taken wires places ts left parsed more x at place lt here taken long others pushed was leads =
+    let own : LeadsToParsed wires places ts at = leads at (omega arith) lt in
+    let d : Ticket = some_of ts (place_of places at) own.0 in
+    let has : x ≡ parsed_of (get_or wires at []) = taken d ∙ ap (λ (k : ℕ). (get_or ts k d).parsed) here ∙ ap (λ (y : ℕ × Parsed). y.1) (own.1 d) in (
+      pushed ∙ ap (λ (l : List Parsed). l ++ x ∷ []) was ∙ ap (λ (y : Parsed). map parsed_of (take at wires) ++ y ∷ []) has ∙ sym (map_more parsed_of wires at [] lt),
+      λ p le below.
+          let there : LeadsToParsed wires places ts p = leads p (omega (arith, le)) below in
+          let apart : place_of places p ≢ place = λ same.
+          let e : p ≡ at = sym (ap (λ (y : ℕ × Parsed). y.0) (there.1 d)) ∙ ap (λ (k : ℕ). (get_or ts k d).position) (same ∙ here) ∙ ap (λ (y : ℕ × Parsed). y.0) (own.1 d) in
+          omega (arith, e, le)
+          in
+          (omega (arith, there.0, long), λ e. ap carried (others (place_of places p) e apart) ∙ there.1 e),
+    )
+
 -- a loop that gathers what a function gives of each item, over a list of them
 pub one_done : {A B : Type 0} (f : A → B) (done more : List A) (x : A) (y : B) (rest left all : List B) → rest ≡ y ∷ left → y ≡ f x → more ≡ done ++ x ∷ [] → map f done ++ rest ≡ all → map f more ++ left ≡ all
 one_done f done more x y rest left all step is pushed was =
@@ -268,19 +275,6 @@ one_done f done more x y rest left all step is pushed was =
 
 pub all_done : {A B : Type 0} (f : A → B) (done : List A) (rest all : List B) → rest ≡ [] → map f done ++ rest ≡ all → map f done ≡ all
 all_done f done rest all none was = sym (append-nil (map f done)) ∙ ap (λ l. map f done ++ l) (sym none) ∙ was
-
--- one ticket more is laid in
-pub one_laid : (t : Ticket) (slots all : List (Option Parsed)) (arrivals more every : List Arrival) (rest left : List Ticket) → rest ≡ t ∷ left → more ≡ arrivals ++ arrival_of t ∷ []
-    → laid slots rest ≡ all → arrivals ++ map arrival_of rest ≡ every → All (λ (t : Ticket). t.position < length slots) rest
-    → (laid (set slots t.position (Some t.parsed)) left ≡ all) × (more ++ map arrival_of left ≡ every) × All (λ (u : Ticket). u.position < length (set slots t.position (Some t.parsed))) left
-one_laid t slots all arrivals more every rest left step pushed is came below = (
-  sym (ap (laid slots) step) ∙ is,
-  ap (λ l. l ++ map arrival_of left) pushed ∙ append_assoc arrivals (arrival_of t ∷ []) (map arrival_of left) ∙ ap (λ (l : List Ticket). arrivals ++ map arrival_of l) (sym step) ∙ came,
-  subst (λ n. All (λ (u : Ticket). u.position < n) left) (sym (length-set slots t.position (Some t.parsed))) (All-tail (λ (u : Ticket). u.position < length slots) t left (subst (All (λ (u : Ticket). u.position < length slots)) step below)),
-)
-
-pub next_below : (t : Ticket) (n : ℕ) (rest left : List Ticket) → rest ≡ t ∷ left → All (λ (t : Ticket). t.position < n) rest → t.position < n
-next_below t n rest left step below = All-head (λ (u : Ticket). u.position < n) t left (subst (All (λ (u : Ticket). u.position < n)) step below)
 
 abbrev pub done_as : SendSeat → Result SendSeat OutOfMemory
 done_as seat = Ok seat
@@ -309,10 +303,6 @@ no_share senders s (x ∷ xs) some le =
     let apart : x % senders ≢ s = λ is. omega (arith, below, le, is) in
     ap (λ (b : Bool). cond b (x ∷ filter (λ p. eqb (p % senders) s) xs) (filter (λ p. eqb (p % senders) s) xs)) (ne_eqb (x % senders) s apart) ∙ no_share senders s xs some le
 
-first_of_seats : (seats : List SendSeat) (i : ℕ) → i < length seats → SendSeat
-first_of_seats [] i lt = absurd (omega (arith, lt))
-first_of_seats (x ∷ xs) i lt = x
-
 -- and so what is left in the ring carries all shares
 carries_shares : (intake : Intake) (wires : List (List ℕ)) (senders : ℕ) (done : List SendSeat) (taken left : List Ticket) → 0 < senders → length done ≡ senders → taken ≡ []
     → ((i : ℕ) (d : SendSeat) → i < length done → HasSentShare intake wires senders i (get_or done i d))
@@ -324,7 +314,7 @@ carries_shares intake wires senders done taken left some long none shares sent o
     (λ le. ap (map carried) (ap (λ (l : List Ticket). of l s) (sym same) ∙ others s le) ∙ sym (ap (map (parsed_at wires)) (no_share senders s (range_with_len 0 (length wires)) some le)))
     (λ not.
     let lt : s < length done = grind (arith, not, long) in
-    let d = first_of_seats done s lt in
+    let d = some_of done s lt in
     let has = shares s d lt in
     ap (map carried) (ap (λ (l : List Ticket). of l s) (sym same) ∙ ap (of (taken ++ left)) (sym has.1) ∙ sent s d lt) ∙ has.2)
 

@@ -1,10 +1,11 @@
 //! Gathering: the wires of a batch parsed by several senders at once.
-ghost use Rattle.std.specs.Prelude.{◌≡◌, ℕ, ◌+◌, ◌<◌, ◌≤◌, ◌-◌, ◌^◌, ◌++◌, ◌∷◌, [], List, length, map, All, IfOk, IsSome, Ok, Some, None, slice_set};
+ghost use Rattle.std.specs.Prelude.{◌≡◌, ◌≢◌, ℕ, ◌+◌, ◌<◌, ◌≤◌, ◌-◌, ◌^◌, ◌++◌, ◌∷◌, [], List, length, map, All, IfOk, Ok, slice_index_or, slice_set};
 ghost use Rattle.sol_base.specs.Limits.{max_senders, max_transactions};
 ghost use Rattle.message_codec.specs.Parsing.{parsed_of};
 ghost use Rattle.intake.specs.declared.seats.SendSeat.{SendSeat};
+ghost use Rattle.intake.specs.declared.ticket.Ticket.{Ticket};
 ghost use Rattle.intake.specs.Gathering.{ArriveByShares, CarriesShares, EachArrivesOnce, HasSentShare, HaveSentShares, arrival_of};
-ghost use Rattle.intake.specs.Layout.{laid};
+ghost use Rattle.intake.specs.Layout.{LeadsTo, LeadsToParsed};
 ghost use Rattle.intake.specs.Passes.{HasPassedShare};
 ghost use Rattle.intake.specs.Seats.{AreFresh, HasSent, IsFresh, IsSendSeatOf, next_ticket, sender_of, sent_by};
 
@@ -12,12 +13,12 @@ use crate::gate::{Passes, SendGate};
 use crate::ring::{Intake, Opened};
 use crate::seats::SendSeat;
 use crate::ticket::{Full, Ticket};
-use message_codec::{Parsed, parse};
+use message_codec::{Parsed, WireFault, parse};
 use sol_base::{Blob, Items, OutOfMemory};
 use std::alloc::Global;
 use std::sync::Wait;
-use std::thread;
 use std::thread::Threads;
+use std::{mem, thread};
 
 /// That the ticket of a position arrived, and of whom.
 #[derive(Clone, Copy, PartialEq, Eq)]
@@ -198,9 +199,9 @@ fn laid_out(
     if senders == 1 {
         return as_they_come(alloc, tickets);
     }
-    let slots = no_slots(alloc, wires)?;
-    let (slots, arrivals) = laid_in(alloc, slots, tickets)?;
-    let parsed = in_order(alloc, slots)?;
+    let arrivals = arrivals_of(alloc, tickets.as_slice())?;
+    let places = places_of(alloc, wires, tickets.as_slice())?;
+    let parsed = by_position(alloc, wires, places.as_slice(), tickets)?;
     Ok(Gathered { parsed, arrivals })
 }
 
@@ -209,14 +210,7 @@ fn as_they_come(alloc: Global, tickets: Items<Ticket>) -> Result<Gathered, OutOf
     ensures parsed { IfOk result (λ g. g.parsed ≡ map (λ t. t.parsed) tickets) }
     ensures arrivals { IfOk result (λ g. g.arrivals ≡ map arrival_of tickets) }
 {
-    let arrivals = tickets
-        .as_slice()
-        .iter()
-        .map(|ticket| Arrival {
-            sender: ticket.sender,
-            position: ticket.position,
-        })
-        .collect(alloc)?;
+    let arrivals = arrivals_of(alloc, tickets.as_slice())?;
     let parsed = tickets
         .into_vec()
         .into_iter()
@@ -224,56 +218,76 @@ fn as_they_come(alloc: Global, tickets: Items<Ticket>) -> Result<Gathered, OutOf
         .collect(alloc)?;
     Ok(Gathered {
         parsed: Items::from_vec(parsed),
-        arrivals: Items::from_vec(arrivals),
+        arrivals,
     })
 }
 
-/// An empty slot for each wire.
-fn no_slots(alloc: Global, wires: &[Blob]) -> Result<Vec<Option<Parsed>>, OutOfMemory>
-    ensures { IfOk result (λ slots. slots.items ≡ map (λ _. None) wires.now) }
+/// The arrivals of the tickets, in their order.
+fn arrivals_of(alloc: Global, tickets: &[Ticket]) -> Result<Items<Arrival>, OutOfMemory>
+    ensures { IfOk result (λ arrivals. arrivals ≡ map arrival_of tickets.now) }
 {
-    Ok(wires.iter().map(|_| None).collect(alloc)?)
+    let arrivals = tickets
+        .iter()
+        .map(|ticket| Arrival {
+            sender: ticket.sender,
+            position: ticket.position,
+        })
+        .collect(alloc)?;
+    Ok(Items::from_vec(arrivals))
 }
 
-/// Each ticket laid into the slot of its position.
-fn laid_in(
-    alloc: Global,
-    mut slots: Vec<Option<Parsed>>,
-    tickets: Items<Ticket>,
-) -> Result<(Vec<Option<Parsed>>, Items<Arrival>), OutOfMemory>
-    requires { All (λ t. t.position < length slots.items) tickets }
-    ensures slots { IfOk result (λ r. r.0.items ≡ laid slots.items tickets) }
-    ensures arrivals { IfOk result (λ r. r.1 ≡ map arrival_of tickets) }
+/// For each position the place of its ticket in the list.
+fn places_of(alloc: Global, wires: &[Blob], tickets: &[Ticket]) -> Result<Vec<usize>, OutOfMemory>
+    requires { All (λ t. t.position < length wires.now) tickets.now }
+    ensures count { IfOk result (λ places. length places.items ≡ length wires.now) }
+    ensures places { IfOk result
+        (λ places. All (λ t. LeadsTo places.items tickets.now t.position) tickets.now) }
 {
-    let mut arrivals = Items::with_capacity(alloc, slots.len())?;
-    for ticket in tickets.into_vec() {
-        let Ticket {
-            sender,
-            place: _,
-            position,
-            parsed,
-        } = ticket;
-        arrivals.push(Arrival { sender, position })?;
-        lay(&mut slots, position as usize, parsed);
+    let mut places = Vec::from_elem(alloc, 0, wires.len())?;
+    for place in 0..tickets.len() {
+        note(&mut places, &tickets[place], place);
     }
-    Ok((slots, arrivals))
+    Ok(places)
 }
 
-fn lay(slots: &mut Vec<Option<Parsed>>, position: usize, parsed: Parsed)
-    requires { position < length slots.old.items }
-    ensures { slots.new.items ≡ slice_set slots.old.items position (Some parsed) }
+/// Notes the place of a ticket.
+fn note(places: &mut Vec<usize>, ticket: &Ticket, place: usize)
+    requires { ticket.now.position < length places.old.items }
+    ensures { places.new.items ≡ slice_set places.old.items ticket.now.position place }
 {
-    slots[position] = Some(parsed);
+    places[ticket.position as usize] = place;
 }
 
-/// What lies in the slots, where none is empty.
-fn in_order(alloc: Global, slots: Vec<Option<Parsed>>) -> Result<Items<Parsed>, OutOfMemory>
-    requires { All IsSome slots.items }
-    ensures { IfOk result (λ parsed. map (λ x. Some x) parsed ≡ slots.items) }
+/// What the tickets carry, by position.
+fn by_position(
+    alloc: Global,
+    wires: &[Blob],
+    places: &[usize],
+    tickets: Items<Ticket>,
+) -> Result<Items<Parsed>, OutOfMemory>
+    requires places { length places.now ≡ length wires.now }
+    requires tickets { (p : ℕ) → p < length wires.now
+        → LeadsToParsed wires.now places.now tickets p }
+    ensures { IfOk result (λ parsed. parsed ≡ map parsed_of wires.now) }
 {
-    let mut parsed = Items::with_capacity(alloc, slots.len())?;
-    for slot in slots {
-        parsed.push(slot.unwrap())?;
+    let mut tickets = tickets.into_vec();
+    let mut parsed = Items::with_capacity(alloc, wires.len())?;
+    for position in 0..wires.len() {
+        parsed.push(take_parsed(&mut tickets, places[position]))?;
     }
     Ok(parsed)
+}
+
+/// Takes out what the ticket at the place carries.
+fn take_parsed(tickets: &mut Vec<Ticket>, place: usize) -> Parsed
+    requires { place < length tickets.old.items }
+    ensures taken { (d : Ticket) → result ≡ (slice_index_or tickets.old.items place d).parsed }
+    ensures count { length tickets.new.items ≡ length tickets.old.items }
+    ensures others { (k : ℕ) → (d : Ticket) → k ≢ place
+        → slice_index_or tickets.new.items k d ≡ slice_index_or tickets.old.items k d }
+{
+    mem::replace(
+        &mut tickets[place].parsed,
+        Parsed::Bad(WireFault::OutOfMemory),
+    )
 }

@@ -1,9 +1,0 @@
-use Rattle.std.proofs.Common.{◌∙◌, rules}
-use Rattle.std.proofs.lemmas.Iterator.{YieldsList-from_map, YieldsList-from_slice, items_from_collect}
-use Rattle.std.proofs.lemmas.Result.{IfOk-at_ok}
-use Rattle.intake.specs.Gathering.{arrival_of}
-use Rattle.intake.proofs.gathering.as_they_come.Goals as goal
-
-pub returns-clause-arrivals : goal.returns-clause-arrivals
-returns-clause-arrivals c =
-    c.from_vec-2.ensures ∙ IfOk-at_ok _ c.in_ok-arrivals.was (items_from_collect _ c.collect.ensures.ran (YieldsList-from_map _ arrival_of (YieldsList-from_slice c.args.tickets cc) c.map.ensures.closure (λ x r q k. search rules)))
