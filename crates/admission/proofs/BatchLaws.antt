@@ -11,10 +11,11 @@ use Rattle.sol_base.specs.Limits.{max_transaction_keys}
 use Rattle.message_codec.specs.declared.parsed.Parsed.{Parsed}
 use Rattle.message_codec.specs.Parsing.{parsed_of}
 use Rattle.admission.specs.declared.chosen.Admitted.{Admitted}
+use Rattle.admission.specs.declared.chosen.InLine.{InLine}
 use Rattle.admission.specs.declared.chosen.Chosen.{Chosen}
 use Rattle.admission.specs.declared.refusal.Refusal.{Refusal}
 use Rattle.admission.specs.Admission.{AreParsed, IsSound, Start, admitted, answer_of, early, line, listed, sifted_out, walk}
-use Rattle.admission.specs.Answers.{IsAnswer}
+use Rattle.admission.specs.Answers.{IsAnswer, told_by}
 use Rattle.admission.specs.Chosen.{IsChosen}
 use Rattle.admission.specs.Sums.{numbered_in, with_late}
 use Rattle.admission.proofs.AnswerLaws.{StandsIn, all_run, are_parsed, locks_apart, stand_all}
@@ -57,21 +58,21 @@ module _ (start : Start) (wires : List (List ℕ)) (batch : List Parsed) (few : 
       All-from_recursion IsChosen admission.order (subst (AllByRecursion IsChosen) (sym order) (weaker (StandsIn 0 (length batch)) IsChosen (λ one is. is.is) (walk start.limits found).order (all_run (StandsIn 0 (length batch)) start.limits found all)))
 
   -- what a walk over transactions that stand comes to
-  is_answer : (found : List Chosen) (causes : List (Option Refusal)) (result : Result Admitted OutOfMemory) → AllByRecursion (StandsIn 0 (length batch)) found → causes ≡ map (early start batch) (enumerate_from 0 batch)
-      → IfOk result (λ a. a.order ≡ (walk start.limits found).order) → IfOk result (λ a. a.refused ≡ numbered_in (with_late (walk start.limits found).refused causes)) → IfOk result (IsAnswer (answer_of start (map parsed_of wires) (walk start.limits found)))
-  is_answer found causes (Ok a) all c order refused = record { exact = exact found causes a c order refused; chosen = all_chosen found a all order }
+  is_answer : (found : List Chosen) (causes : List (Option Refusal)) (result : Result InLine OutOfMemory) → AllByRecursion (StandsIn 0 (length batch)) found → causes ≡ map (early start batch) (enumerate_from 0 batch)
+      → IfOk result (λ a. a.order ≡ (walk start.limits found).order) → IfOk result (λ a. a.refused ≡ numbered_in (with_late (walk start.limits found).refused causes)) → IfOk result (λ a. IsAnswer (answer_of start (map parsed_of wires) (walk start.limits found)) (told_by a))
+  is_answer found causes (Ok a) all c order refused = record { exact = exact found causes (told_by a) c order refused; chosen = all_chosen found (told_by a) all order }
   is_answer found causes (Err e) all c order refused = tt
 
-  pub is_admitted : (standing found : List Chosen) (causes : List (Option Refusal)) (result : Result Admitted OutOfMemory) → standing ≡ sifted_out start batch → found ≡ line standing → causes ≡ map (early start batch) (enumerate_from 0 batch)
-      → IfOk result (λ a. a.order ≡ (walk start.limits found).order) → IfOk result (λ a. a.refused ≡ numbered_in (with_late (walk start.limits found).refused causes)) → IfOk result (IsAnswer (admitted start wires))
+  pub is_admitted : (standing found : List Chosen) (causes : List (Option Refusal)) (result : Result InLine OutOfMemory) → standing ≡ sifted_out start batch → found ≡ line standing → causes ≡ map (early start batch) (enumerate_from 0 batch)
+      → IfOk result (λ a. a.order ≡ (walk start.limits found).order) → IfOk result (λ a. a.refused ≡ numbered_in (with_late (walk start.limits found).refused causes)) → IfOk result (λ a. IsAnswer (admitted start wires) (told_by a))
   unfolding admitted
   is_admitted standing found causes result e l c order refused =
-      subst (λ ls. IfOk result (IsAnswer (answer_of start (map parsed_of wires) (walk start.limits ls)))) (l ∙ ap line (e ∙ ap (sifted_out start) (are_parsed wires batch are).0))
+      subst (λ ls. IfOk result (λ a. IsAnswer (answer_of start (map parsed_of wires) (walk start.limits ls)) (told_by a))) (l ∙ ap line (e ∙ ap (sifted_out start) (are_parsed wires batch are).0))
       (is_answer found causes result (stand_in_line standing found e l) c order refused)
 
-  pub is_listed : (standing : List Chosen) (causes : List (Option Refusal)) (result : Result Admitted OutOfMemory) → standing ≡ sifted_out start batch → causes ≡ map (early start batch) (enumerate_from 0 batch)
-      → IfOk result (λ a. a.order ≡ (walk start.limits standing).order) → IfOk result (λ a. a.refused ≡ numbered_in (with_late (walk start.limits standing).refused causes)) → IfOk result (IsAnswer (listed start wires))
+  pub is_listed : (standing : List Chosen) (causes : List (Option Refusal)) (result : Result InLine OutOfMemory) → standing ≡ sifted_out start batch → causes ≡ map (early start batch) (enumerate_from 0 batch)
+      → IfOk result (λ a. a.order ≡ (walk start.limits standing).order) → IfOk result (λ a. a.refused ≡ numbered_in (with_late (walk start.limits standing).refused causes)) → IfOk result (λ a. IsAnswer (listed start wires) (told_by a))
   unfolding listed
   is_listed standing causes result e c order refused =
-      subst (λ ls. IfOk result (IsAnswer (answer_of start (map parsed_of wires) (walk start.limits ls)))) (e ∙ ap (sifted_out start) (are_parsed wires batch are).0)
+      subst (λ ls. IfOk result (λ a. IsAnswer (answer_of start (map parsed_of wires) (walk start.limits ls)) (told_by a))) (e ∙ ap (sifted_out start) (are_parsed wires batch are).0)
       (is_answer standing causes result (stand standing e) c order refused)

@@ -5,13 +5,13 @@ ghost use Rattle.sol_base.specs.Keys.{same_key};
 ghost use Rattle.sol_base.specs.Locks.{lock_keys};
 ghost use Rattle.sol_base.specs.Limits.{max_transaction_keys};
 ghost use Rattle.admission.specs.Admission.{AreParsed, admitted, listed, start_of, walk};
-ghost use Rattle.admission.specs.Answers.{IsAnswer};
+ghost use Rattle.admission.specs.Answers.{IsAnswer, told_by};
 ghost use Rattle.admission.specs.Sums.{numbered_in, with_late};
 ghost use Rattle.admission.specs.Weighing.{AreWeighed};
 
 use crate::beside::weigh_on;
 use crate::candidate::Candidate;
-use crate::chosen::Admitted;
+use crate::chosen::{Admitted, InLine};
 use crate::line::line;
 use crate::refusal::Refusal;
 use crate::sift::{Sifted, sift};
@@ -37,11 +37,28 @@ pub fn admit(
     ensures { IfOk result (IsAnswer
         (admitted (start_of recent.now accounts.now limits.now) wires.now)) }
 {
-    let parsed = parse_all(alloc, wires)?;
-    admit_parsed(alloc, wires, parsed, recent, accounts, limits)
+    let line = line_up(alloc, wires, recent, accounts, limits)?;
+    unboxed(alloc, line)
 }
 
-/// The same for wires that were read before.
+/// The same with the transactions that run as pointers.
+pub fn line_up(
+    alloc: Global,
+    wires: &Items<Blob>,
+    recent: &Recent,
+    accounts: &Accounts,
+    limits: &Limits,
+) -> Result<InLine, OutOfMemory>
+    requires keys { limits.now.keys ≤ max_transaction_keys }
+    requires few { length wires.now < 2 ^ 32 }
+    ensures { IfOk result (λ line. IsAnswer
+        (admitted (start_of recent.now accounts.now limits.now) wires.now) (told_by line)) }
+{
+    let parsed = parse_all(alloc, wires)?;
+    line_up_parsed(alloc, wires, parsed, recent, accounts, limits)
+}
+
+/// What becomes of wires that were read before.
 pub fn admit_parsed(
     alloc: Global,
     wires: &Items<Blob>,
@@ -56,13 +73,32 @@ pub fn admit_parsed(
     ensures { IfOk result (IsAnswer
         (admitted (start_of recent.now accounts.now limits.now) wires.now)) }
 {
+    let line = line_up_parsed(alloc, wires, parsed, recent, accounts, limits)?;
+    unboxed(alloc, line)
+}
+
+/// The same with the transactions that run as pointers.
+fn line_up_parsed(
+    alloc: Global,
+    wires: &Items<Blob>,
+    parsed: Items<Parsed>,
+    recent: &Recent,
+    accounts: &Accounts,
+    limits: &Limits,
+) -> Result<InLine, OutOfMemory>
+    requires read { AreParsed wires.now parsed }
+    requires keys { limits.now.keys ≤ max_transaction_keys }
+    requires few { length wires.now < 2 ^ 32 }
+    ensures { IfOk result (λ line. IsAnswer
+        (admitted (start_of recent.now accounts.now limits.now) wires.now) (told_by line)) }
+{
     let weighed = weigh_from(alloc, recent, accounts, limits, 0, parsed)?;
-    admit_weighed(alloc, wires, recent, accounts, limits, weighed)
+    line_up_weighed(alloc, wires, recent, accounts, limits, weighed)
 }
 
 /// The same where there are so many lanes: on several, a few threads weigh the wires beside each
 /// other. Few wires are weighed by the caller alone, and on one lane no thread is started.
-pub fn admit_on<R: Threads + Sync>(
+pub fn line_up_on<R: Threads + Sync>(
     rt: &R,
     alloc: Global,
     lanes: u32,
@@ -71,39 +107,39 @@ pub fn admit_on<R: Threads + Sync>(
     recent: &Recent,
     accounts: &Accounts,
     limits: &Limits,
-) -> Result<Admitted, OutOfMemory>
+) -> Result<InLine, OutOfMemory>
     requires read { AreParsed wires.now parsed }
     requires keys { limits.now.keys ≤ max_transaction_keys }
     requires few { length wires.now < 2 ^ 32 }
-    ensures { IfOk result (IsAnswer
-        (admitted (start_of recent.now accounts.now limits.now) wires.now)) }
+    ensures { IfOk result (λ line. IsAnswer
+        (admitted (start_of recent.now accounts.now limits.now) wires.now) (told_by line)) }
 {
     let weighed = weigh_on(rt, alloc, lanes, recent, accounts, limits, parsed)?;
-    admit_weighed(alloc, wires, recent, accounts, limits, weighed)
+    line_up_weighed(alloc, wires, recent, accounts, limits, weighed)
 }
 
 /// The same for wires that were weighed before, each alone. The wires, the blocks that are
 /// remembered and the accounts are not looked at again: they say what was weighed.
-fn admit_weighed(
+fn line_up_weighed(
     alloc: Global,
     wires: &Items<Blob>,
     recent: &Recent,
     accounts: &Accounts,
     limits: &Limits,
     weighed: Items<Weighed>,
-) -> Result<Admitted, OutOfMemory>
+) -> Result<InLine, OutOfMemory>
     requires weighed { AreWeighed (start_of recent.now accounts.now limits.now) wires.now weighed }
     requires keys { limits.now.keys ≤ max_transaction_keys }
     requires few { length wires.now < 2 ^ 32 }
-    ensures { IfOk result (IsAnswer
-        (admitted (start_of recent.now accounts.now limits.now) wires.now)) }
+    ensures { IfOk result (λ line. IsAnswer
+        (admitted (start_of recent.now accounts.now limits.now) wires.now) (told_by line)) }
 {
     let Sifted { standing, causes } = sift(alloc, weighed)?;
     let line = line(standing)?;
     admit_line(alloc, limits, line, causes)
 }
 
-/// The same in the order of the batch.
+/// What becomes of a batch where its transactions run in its own order.
 pub fn admit_listed(
     alloc: Global,
     wires: &Items<Blob>,
@@ -116,10 +152,42 @@ pub fn admit_listed(
     ensures { IfOk result (IsAnswer
         (listed (start_of recent.now accounts.now limits.now) wires.now)) }
 {
+    let line = line_up_listed(alloc, wires, recent, accounts, limits)?;
+    unboxed(alloc, line)
+}
+
+/// The same with the transactions that run as pointers.
+pub fn line_up_listed(
+    alloc: Global,
+    wires: &Items<Blob>,
+    recent: &Recent,
+    accounts: &Accounts,
+    limits: &Limits,
+) -> Result<InLine, OutOfMemory>
+    requires keys { limits.now.keys ≤ max_transaction_keys }
+    requires few { length wires.now < 2 ^ 32 }
+    ensures { IfOk result (λ line. IsAnswer
+        (listed (start_of recent.now accounts.now limits.now) wires.now) (told_by line)) }
+{
     let parsed = parse_all(alloc, wires)?;
     let weighed = weigh_from(alloc, recent, accounts, limits, 0, parsed)?;
     let Sifted { standing, causes } = sift(alloc, weighed)?;
     admit_line(alloc, limits, standing, causes)
+}
+
+/// The same with the transactions themselves.
+fn unboxed(alloc: Global, line: InLine) -> Result<Admitted, OutOfMemory>
+    ensures { IfOk result (λ answer. answer ≡ told_by line) }
+{
+    let InLine { order, refused } = line;
+    let mut chosen = Items::with_capacity(alloc, order.len())?;
+    for one in order.into_vec() {
+        chosen.push(one.into_chosen())?;
+    }
+    Ok(Admitted {
+        order: chosen,
+        refused,
+    })
 }
 
 /// Reads all wires.
@@ -139,7 +207,7 @@ fn admit_line(
     limits: &Limits,
     line: Vec<Candidate>,
     mut causes: Vec<Option<Refusal>>,
-) -> Result<Admitted, OutOfMemory>
+) -> Result<InLine, OutOfMemory>
     requires few { length causes.items < 2 ^ 32 }
     requires places { All (λ one. one.position < length causes.items) line.items }
     requires apart { All (λ one. IsDistinct same_key (lock_keys one.locks)) line.items }
@@ -149,7 +217,7 @@ fn admit_line(
         ≡ numbered_in (with_late (walk limits.now line.items).refused causes.items)) }
 {
     let order = walk(alloc, limits, line, &mut causes)?;
-    Ok(Admitted {
+    Ok(InLine {
         order: Items::from_vec(order),
         refused: numbered(alloc, &causes)?,
     })

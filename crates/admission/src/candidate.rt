@@ -1,4 +1,4 @@
-//! Transactions that may run.
+//! Transactions that may run, as pointers.
 ghost use Rattle.std.specs.Prelude.{◌≡◌, IfOk};
 
 use crate::chosen::Chosen;
@@ -6,10 +6,10 @@ use sol_base::OutOfMemory;
 use std::alloc::Global;
 use std::marker::Model;
 
-/// A transaction that may run. It is large, and moves from list to list as a pointer. It is seen as
-/// the transaction itself.
+/// A transaction that may run. It is large, and moves from list to list as a pointer: from where it
+/// is weighed to the end of its block. It is seen as the transaction itself.
 #[derive(Drop)]
-pub(crate) struct Candidate {
+pub struct Candidate {
     chosen: Box<Chosen>,
 }
 
@@ -22,7 +22,7 @@ impl Model for Candidate {
 }
 
 impl Candidate {
-    pub(crate) fn new(alloc: Global, chosen: Chosen) -> Result<Candidate, OutOfMemory>
+    pub fn new(alloc: Global, chosen: Chosen) -> Result<Candidate, OutOfMemory>
         ensures { IfOk result (λ candidate. candidate ≡ chosen) }
     {
         Ok(Candidate {
@@ -31,14 +31,14 @@ impl Candidate {
     }
 
     /// The transaction.
-    pub(crate) fn chosen(&self) -> &Chosen
+    pub fn chosen(&self) -> &Chosen
         ensures { result.now ≡ self.now }
     {
         &self.chosen
     }
 
     /// The transaction, which runs.
-    pub(crate) fn into_chosen(self) -> Chosen
+    pub fn into_chosen(self) -> Chosen
         ensures { result ≡ self }
     {
         let Candidate { chosen } = self;

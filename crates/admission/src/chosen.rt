@@ -1,4 +1,5 @@
 //! Transactions that run.
+use crate::candidate::Candidate;
 use crate::refusal::Refused;
 use fee_rules::{Budget, Fee};
 use message_codec::{Loaded, Tx};
@@ -25,5 +26,12 @@ pub struct Chosen {
 #[derive(Drop)]
 pub struct Admitted {
     pub order: Items<Chosen>,
+    pub refused: Items<Refused>,
+}
+
+/// The same with the transactions that run as pointers.
+#[derive(Drop)]
+pub struct InLine {
+    pub order: Items<Candidate>,
     pub refused: Items<Refused>,
 }

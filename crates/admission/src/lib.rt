@@ -17,8 +17,9 @@ mod units;
 mod walk;
 mod weighing;
 
-pub use batch::{admit, admit_listed, admit_on, admit_parsed};
-pub use chosen::{Admitted, Chosen};
+pub use batch::{admit, admit_listed, admit_parsed, line_up, line_up_listed, line_up_on};
+pub use candidate::Candidate;
+pub use chosen::{Admitted, Chosen, InLine};
 pub use laws::{batches_are_parted, lines_are_by_priority, refusals_are_of_the_input};
 pub use lookups::{LookupFault, TABLE_HEADER_LEN, resolve};
 pub use refusal::{Refusal, Refused};

@@ -9,6 +9,7 @@ ghost use Rattle.admission.specs.Admission.{late, locks_write, units_of, units_o
 ghost use Rattle.admission.specs.Sums.{AreSums, bucket_of, bucket_sum, passes, sum_at};
 ghost use Rattle.admission.specs.declared.chosen.Chosen.{Chosen as ChosenValue};
 
+use crate::candidate::Candidate;
 use crate::chosen::Chosen;
 use crate::refusal::Refusal;
 use sol_base::{Key, Limits, Lock, OutOfMemory};
@@ -23,7 +24,7 @@ use std::marker::Model;
 #[derive(Drop)]
 pub(crate) struct Order {
     alloc: Global,
-    chosen: Vec<Chosen>,
+    chosen: Vec<Candidate>,
     units: u64,
     buckets: Vec<u64>,
     /// The sums of the keys, once they are told apart.
@@ -58,7 +59,7 @@ impl Order {
     }
 
     /// The transactions.
-    pub(crate) fn into_chosen(self) -> Vec<Chosen>
+    pub(crate) fn into_candidates(self) -> Vec<Candidate>
         ensures { result.items ≡ self }
     {
         let Order {
@@ -100,15 +101,16 @@ impl Order {
     }
 
     /// Adds one more, which none of the limits refuses.
-    pub(crate) fn push(&mut self, one: Chosen) -> Result<(), OutOfMemory>
+    pub(crate) fn push(&mut self, one: Candidate) -> Result<(), OutOfMemory>
         requires fits { units_of self.old + one.budget.limit < 2 ^ 64 }
         requires apart { IsDistinct same_key (lock_keys one.locks) }
         ensures { OnOk result (self.new ≡ self.old ++ one ∷ []) }
     {
         self.chosen.reserve(1)?;
-        let limit = u64::from(one.budget.limit);
-        self.key_units = sums_with(self.key_units.take(), &one)?;
-        add_to_buckets(self.buckets.as_mut_slice(), one.locks.as_slice(), limit);
+        let chosen = one.chosen();
+        let limit = u64::from(chosen.budget.limit);
+        self.key_units = sums_with(self.key_units.take(), chosen)?;
+        add_to_buckets(self.buckets.as_mut_slice(), chosen.locks.as_slice(), limit);
         self.chosen.push_reserved(one);
         self.units += limit;
         Ok(())
@@ -227,7 +229,7 @@ fn sums_with(
 fn told_apart(
     alloc: Global,
     sums: Option<BTreeMap<Key, u64>>,
-    order: &[Chosen],
+    order: &[Candidate],
 ) -> Result<BTreeMap<Key, u64>, OutOfMemory>
     requires fits { units_of order.now < 2 ^ 64 }
     requires apart { All (λ one. IsDistinct same_key (lock_keys one.locks)) order.now }
@@ -241,14 +243,19 @@ fn told_apart(
 }
 
 /// The sums of the keys that transactions may write.
-fn sums_of(alloc: Global, order: &[Chosen]) -> Result<BTreeMap<Key, u64>, OutOfMemory>
+fn sums_of(alloc: Global, order: &[Candidate]) -> Result<BTreeMap<Key, u64>, OutOfMemory>
     requires fits { units_of order.now < 2 ^ 64 }
     requires apart { All (λ one. IsDistinct same_key (lock_keys one.locks)) order.now }
     ensures { IfOk result (λ sums. (key : KeyValue) → sum_at sums key ≡ units_on key order.now) }
 {
     let mut sums = BTreeMap::new(alloc);
     for one in order {
-        add_units(&mut sums, one.locks.as_slice(), u64::from(one.budget.limit))?;
+        let chosen = one.chosen();
+        add_units(
+            &mut sums,
+            chosen.locks.as_slice(),
+            u64::from(chosen.budget.limit),
+        )?;
     }
     Ok(sums)
 }

@@ -7,7 +7,6 @@ ghost use Rattle.admission.specs.Admission.{walk};
 ghost use Rattle.admission.specs.Sums.{numbered_in, with_late};
 
 use crate::candidate::Candidate;
-use crate::chosen::Chosen;
 use crate::refusal::{Refusal, Refused};
 use crate::units::Order;
 use sol_base::{Items, Limits, OutOfMemory};
@@ -19,7 +18,7 @@ pub(crate) fn walk(
     limits: &Limits,
     line: Vec<Candidate>,
     causes: &mut Vec<Option<Refusal>>,
-) -> Result<Vec<Chosen>, OutOfMemory>
+) -> Result<Vec<Candidate>, OutOfMemory>
     requires places { All (λ one. one.position < length causes.old.items) line.items }
     requires apart { All (λ one. IsDistinct same_key (lock_keys one.locks)) line.items }
     ensures order { IfOk result (λ order. order.items ≡ (walk limits.now line.items).order) }
@@ -30,10 +29,10 @@ pub(crate) fn walk(
     for one in line {
         match order.late(limits, one.chosen())? {
             Some(cause) => causes[one.chosen().position as usize] = Some(cause),
-            None => order.push(one.into_chosen())?,
+            None => order.push(one)?,
         }
     }
-    Ok(order.into_chosen())
+    Ok(order.into_candidates())
 }
 
 /// The positions that have a cause, ascending.

@@ -1,5 +1,5 @@
 //! A block at its end, and what its record is made of.
-use admission::Chosen;
+use admission::Candidate;
 use block_record::Block;
 use snapshot_codec::Snapshot;
 use sol_base::{Blob, Hash32, Key, Limits};
@@ -19,7 +19,7 @@ pub struct RecordParts<'a> {
     pub head: &'a Head,
     pub previous: Hash32,
     pub wires: &'a [Blob],
-    pub order: &'a [Chosen],
+    pub order: &'a [Candidate],
     /// Whether its bytes are wanted, and not its hash alone.
     pub kept: bool,
 }

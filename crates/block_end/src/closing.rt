@@ -25,7 +25,7 @@ use crate::names::{ascending, processed_in};
 use crate::record_prefix::{RecordPrefix, take_rest};
 use crate::threads::call_both;
 use account_store::Accounts;
-use admission::Chosen;
+use admission::Candidate;
 use bank_core::{Ended, SharedOutcome, Work};
 use block_record::{Block, end_hash, end_record};
 use fee_rules::FeeSplit;
@@ -76,7 +76,7 @@ fn end_state(
 fn end_state_of_run<W: Work>(
     alloc: Global,
     collector: &Key,
-    order: &[Chosen],
+    order: &[Candidate],
     ended: Ended<W>,
     outcomes: &Items<SharedOutcome>,
 ) -> Result<(EndState, Items<Hash32>), OutOfMemory>

@@ -4,7 +4,7 @@ ghost use Rattle.sol_base.specs.Limits.{max_lanes};
 ghost use Rattle.bank_core.specs.Counts.{max_lane_numbers};
 ghost use Rattle.block_end.specs.Crew.{has_instruction};
 
-use admission::Chosen;
+use admission::{Candidate, Chosen};
 use std::alloc::Global;
 
 /// How many transactions a block has at least before whose run, and after it, a thread is started:
@@ -73,12 +73,12 @@ fn has_instruction(chosen: &Chosen) -> bool
 }
 
 /// How many of the transactions have an instruction: one without any is no work for a lane.
-pub fn working_in(order: &[Chosen]) -> usize
+pub fn working_in(order: &[Candidate]) -> usize
     ensures { result ≡ length (filter has_instruction order.now) }
 {
     let mut working = 0;
-    for chosen in order {
-        if has_instruction(chosen) {
+    for one in order {
+        if has_instruction(one.chosen()) {
             working += 1;
         }
     }

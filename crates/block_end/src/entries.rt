@@ -6,7 +6,7 @@ ghost use Rattle.block_record.specs.Record.{entry_bytes};
 ghost use Rattle.tx_report.specs.Outcomes.{IsSmallOutcome};
 ghost use Rattle.block_end.specs.Blocks.{entries_of, entry_of};
 
-use admission::Chosen;
+use admission::{Candidate, Chosen};
 use bank_core::SharedOutcome;
 use block_record::{Entry, EntryParts, write_parts};
 use sol_base::{Blob, Items, OutOfMemory};
@@ -44,7 +44,7 @@ fn entry_of(
 pub(crate) fn entries_of(
     alloc: Global,
     wires: &[Blob],
-    order: &[Chosen],
+    order: &[Candidate],
     outcomes: Items<SharedOutcome>,
 ) -> Result<Items<Entry>, OutOfMemory>
     requires one_each { length outcomes ≡ length order.now }
@@ -55,7 +55,7 @@ pub(crate) fn entries_of(
 {
     let mut entries = Items::with_capacity(alloc, order.len())?;
     for outcome in outcomes.into_vec() {
-        let chosen = &order[entries.len()];
+        let chosen = order[entries.len()].chosen();
         entries.push(entry_of(alloc, wires, chosen, outcome)?)?;
     }
     Ok(entries)
@@ -87,7 +87,7 @@ fn write_entry(
 pub(crate) fn write_entries(
     out: &mut Blob,
     wires: &[Blob],
-    order: &[Chosen],
+    order: &[Candidate],
     outcomes: &[SharedOutcome],
 ) -> Result<(), OutOfMemory>
     requires one_each { length outcomes.now ≡ length order.now }
@@ -96,8 +96,8 @@ pub(crate) fn write_entries(
     ensures { OnOk result (out.new
         ≡ out.old ++ flat_map entry_bytes (entries_of wires.now order.now outcomes.now)) }
 {
-    for (at, chosen) in order.iter().enumerate() {
-        write_entry(out, wires, chosen, outcomes[at].value())?;
+    for (at, one) in order.iter().enumerate() {
+        write_entry(out, wires, one.chosen(), outcomes[at].value())?;
     }
     Ok(())
 }

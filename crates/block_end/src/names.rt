@@ -2,7 +2,7 @@
 ghost use Rattle.std.specs.Prelude.{◌≡◌, IfOk, length};
 ghost use Rattle.block_end.specs.Blocks.{ascending, processed_by, processed_in};
 
-use admission::Chosen;
+use admission::Candidate;
 use bank_core::SharedOutcome;
 use sol_base::{Hash32, Items, OutOfMemory};
 use std::alloc::Global;
@@ -22,15 +22,15 @@ fn processed_by(name: Hash32, status: &Status) -> Option<Hash32>
 /// The names of those that were not dropped, in their order.
 pub(crate) fn processed_in(
     alloc: Global,
-    order: &[Chosen],
+    order: &[Candidate],
     outcomes: &[SharedOutcome],
 ) -> Result<Vec<Hash32>, OutOfMemory>
     requires { length outcomes.now ≡ length order.now }
     ensures { IfOk result (λ names. names.items ≡ processed_in order.now outcomes.now) }
 {
     let mut names = Vec::with_capacity(alloc, order.len())?;
-    for (at, chosen) in order.iter().enumerate() {
-        if let Some(name) = processed_by(chosen.name, &outcomes[at].value().status) {
+    for (at, one) in order.iter().enumerate() {
+        if let Some(name) = processed_by(one.chosen().name, &outcomes[at].value().status) {
             names.push(name)?;
         }
     }

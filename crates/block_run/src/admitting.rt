@@ -2,10 +2,10 @@
 ghost use Rattle.std.specs.Prelude.{◌<◌, ◌≤◌, ◌^◌, IfOk, length};
 ghost use Rattle.sol_base.specs.Limits.{max_transaction_keys};
 ghost use Rattle.admission.specs.Admission.{AreParsed, admitted};
-ghost use Rattle.admission.specs.Answers.{IsAnswer};
+ghost use Rattle.admission.specs.Answers.{IsAnswer, told_by};
 ghost use Rattle.block_run.specs.Blocks.{start_in};
 
-use admission::Admitted;
+use admission::{InLine, line_up_on};
 use bank_lanes::Gate;
 use block_end::Crew;
 use message_codec::Parsed;
@@ -19,13 +19,14 @@ pub(crate) fn admit_on<G: Gate, R: Threads + Sync>(
     snapshot: &Snapshot,
     wires: &Items<Blob>,
     parsed: Items<Parsed>,
-) -> Result<Admitted, OutOfMemory>
+) -> Result<InLine, OutOfMemory>
     requires read { AreParsed wires.now parsed }
     requires keys { snapshot.now.limits.keys ≤ max_transaction_keys }
     requires few { length wires.now < 2 ^ 32 }
-    ensures { IfOk result (IsAnswer (admitted (start_in snapshot.now) wires.now)) }
+    ensures { IfOk result (λ line.
+        IsAnswer (admitted (start_in snapshot.now) wires.now) (told_by line)) }
 {
-    admission::admit_on(
+    line_up_on(
         crew.rt,
         crew.alloc,
         crew.lanes,

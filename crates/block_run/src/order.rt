@@ -10,7 +10,7 @@ ghost use Rattle.tx_exec.specs.AdmittedBlock.{job_of, locks_at};
 ghost use Rattle.block_run.specs.SerialRun.{AreKeysIn, keys_in, locked_in, told_in};
 
 use account_store::{Accounts, sort_keys};
-use admission::Chosen;
+use admission::Candidate;
 use bank_core::{Locked, Numbered, number_among};
 use bank_lanes::Gate;
 use block_end::{Crew, call_both};
@@ -33,27 +33,28 @@ fn push_keys(keys: &mut Vec<Key>, message: &Message, loaded: &Loaded) -> Result<
 }
 
 /// How many locks the transactions have: room for their keys.
-fn lock_count(order: &[Chosen]) -> usize {
+fn lock_count(order: &[Candidate]) -> usize {
     let mut count: usize = 0;
-    for chosen in order {
-        count = count.saturating_add(chosen.locks.len());
+    for one in order {
+        count = count.saturating_add(one.chosen().locks.len());
     }
     count
 }
 
 /// The keys that the transactions declare.
-fn keys_in(alloc: Global, order: &[Chosen]) -> Result<Vec<Key>, OutOfMemory>
+fn keys_in(alloc: Global, order: &[Candidate]) -> Result<Vec<Key>, OutOfMemory>
     ensures { IfOk result (λ keys. keys.items ≡ keys_in order.now) }
 {
     let mut keys = Vec::with_capacity(alloc, lock_count(order))?;
-    for chosen in order {
+    for one in order {
+        let chosen = one.chosen();
         push_keys(&mut keys, &chosen.tx.message, &chosen.loaded)?;
     }
     Ok(keys)
 }
 
 /// The same in ascending order, each once.
-fn sorted_keys_in(alloc: Global, order: &[Chosen]) -> Result<Items<Key>, OutOfMemory>
+fn sorted_keys_in(alloc: Global, order: &[Candidate]) -> Result<Items<Key>, OutOfMemory>
     ensures { IfOk result (AreKeysIn order.now) }
 {
     let mut keys = keys_in(alloc, order)?;
@@ -64,7 +65,7 @@ fn sorted_keys_in(alloc: Global, order: &[Chosen]) -> Result<Items<Key>, OutOfMe
 /// Transactions in their order, by their locks alone.
 #[derive(Drop)]
 struct InOrder<'a> {
-    order: &'a [Chosen],
+    order: &'a [Candidate],
     ghost few: { length order.now ≤ max_transactions },
 }
 
@@ -84,16 +85,22 @@ impl<'a> Locked for InOrder<'a> {
 }
 
 /// The locks of a transaction.
-fn locks_at(order: &[Chosen], position: u32) -> &LockList
+fn locks_at(order: &[Candidate], position: u32) -> &LockList
     requires { position < length order.now }
     ensures { result.now ≡ locks_at (slice_get order.now position) }
 {
-    &order[position as usize].locks
+    &order[position as usize].chosen().locks
 }
 
 /// The keys that the transactions lock, as numbers. They are among those that the transactions
 /// declare.
-fn numbered_in(alloc: Global, order: &[Chosen], keys: &Items<Key>) -> Result<Numbered, OutOfMemory>
+fn numbered_in<R: Threads + Sync>(
+    rt: &R,
+    alloc: Global,
+    threads: u32,
+    order: &[Candidate],
+    keys: &Items<Key>,
+) -> Result<Numbered, OutOfMemory>
     requires few { length order.now ≤ max_transactions }
     requires chosen { All IsChosen order.now }
     requires keys { AreKeysIn order.now keys.now }
@@ -102,15 +109,16 @@ fn numbered_in(alloc: Global, order: &[Chosen], keys: &Items<Key>) -> Result<Num
 {
     let mut known = Vec::with_capacity(alloc, keys.len())?;
     known.extend_from_slice(keys.as_slice())?;
-    number_among(alloc, &InOrder { order }, known)
+    number_among(rt, alloc, threads, &InOrder { order }, known)
 }
 
 /// The programs among the keys of the transactions, and the keys that they lock as numbers. The
-/// keys are sorted once for both. Where there are several lanes, one is made beside the other.
+/// keys are sorted once for both. Where there are several lanes, one is made beside the other, and the
+/// locks are numbered on several threads.
 fn prepare<G: Gate, R: Threads + Sync>(
     crew: &Crew<'_, G, R>,
     accounts: &Accounts,
-    order: &[Chosen],
+    order: &[Candidate],
 ) -> Result<(Programs, Numbered), OutOfMemory>
     requires few { length order.now ≤ max_transactions }
     requires chosen { All IsChosen order.now }
@@ -119,18 +127,19 @@ fn prepare<G: Gate, R: Threads + Sync>(
     ensures numbered { IfOk result (λ made.
         AreNumbered (job_of (locked_in order.now)) made.1.table made.1.graph made.1.room) }
 {
-    let alloc = crew.alloc;
+    let (rt, alloc) = (crew.rt, crew.alloc);
+    let threads = crew.lanes_for_many(order.len());
     let sorted = sorted_keys_in(alloc, order)?;
     let keys = &sorted;
     let (numbered, programs) = call_both(
-        crew.rt,
-        crew.lanes_for_many(order.len()),
+        rt,
+        threads,
         || -> Result<Numbered, OutOfMemory>
             requires { (length order.now ≤ max_transactions) × All IsChosen order.now
                 × AreKeysIn order.now keys.now }
             ensures { IfOk result (λ n.
                 AreNumbered (job_of (locked_in order.entry.now)) n.table n.graph n.room) }
-        { numbered_in(alloc, order, keys) },
+        { numbered_in(rt, alloc, threads, order, keys) },
         || -> Result<Programs, OutOfMemory>
             ensures { IfOk result (λ programs.
                 programs ≡ programs_of accounts.entry.now keys.entry.now) }
@@ -145,7 +154,7 @@ pub(crate) fn work_of<G: Gate, R: Threads + Sync>(
     crew: &Crew<'_, G, R>,
     snapshot: &Snapshot,
     slot: u64,
-    order: Items<Chosen>,
+    order: Items<Candidate>,
 ) -> Result<(TxWork, Numbered), OutOfMemory>
     requires few { length order ≤ max_transactions }
     requires height { IsUpTo max_stack_height snapshot.now.limits.height }
@@ -155,6 +164,6 @@ pub(crate) fn work_of<G: Gate, R: Threads + Sync>(
         AreNumbered (job_of work.0.told) work.1.table work.1.graph work.1.room) }
 {
     let (programs, numbered) = prepare(crew, &snapshot.accounts, order.as_slice())?;
-    let work = TxWork::new(crew.alloc, order, programs, slot, snapshot.limits.height)?;
+    let work = TxWork::over(crew.alloc, order, programs, slot, snapshot.limits.height);
     Ok((work, numbered))
 }

@@ -2,6 +2,7 @@
 ghost use Rattle.std.specs.Prelude.{◌≡◌, ◌≤◌, [], All, IfOk, length, map};
 ghost use Rattle.sol_base.specs.Limits.{max_lanes, max_stack_height, max_transactions};
 ghost use Rattle.admission.specs.Admission.{AreParsed, admitted};
+ghost use Rattle.admission.specs.Answers.{told_by};
 ghost use Rattle.admission.specs.Chosen.{IsChosen};
 ghost use Rattle.block_record.specs.Record.{IsCounted};
 ghost use Rattle.block_record.specs.Replays.{IsReplayOf};
@@ -15,7 +16,7 @@ ghost use Rattle.block_run.specs.SerialRun.{told_in};
 use crate::admitting::admit_on;
 use crate::block::{BlockResult, Decoded, Recorded, Spent};
 use crate::order::work_of;
-use admission::{Admitted, Chosen, Refused, admit, admit_listed};
+use admission::{Candidate, InLine, Refused, line_up, line_up_listed};
 use bank_core::Core;
 use bank_lanes::Gate;
 use block_end::{
@@ -45,7 +46,7 @@ fn open<G: Gate, R: Threads + Sync>(
     crew: &Crew<'_, G, R>,
     snapshot: Snapshot,
     slot: u64,
-    order: Items<Chosen>,
+    order: Items<Candidate>,
 ) -> Result<Opened, OutOfMemory>
     requires few { length order ≤ max_transactions }
     requires height { IsUpTo max_stack_height snapshot.limits.height }
@@ -77,7 +78,7 @@ fn run_order<G: Gate, R: Threads + Wait + Sync>(
     snapshot: Snapshot,
     head: &Head,
     wires: &Items<Blob>,
-    order: Items<Chosen>,
+    order: Items<Candidate>,
 ) -> Result<Closed, OutOfMemory>
     requires readable { IsReadable snapshot }
     requires chosen { All IsChosen order }
@@ -104,7 +105,7 @@ fn record_order<G: Gate, R: Threads + Wait + Sync>(
     crew: &Crew<'_, G, R>,
     snapshot: Snapshot,
     batch: Batch,
-    order: Items<Chosen>,
+    order: Items<Candidate>,
     room: Blob,
 ) -> Result<(ClosedRecord, Spent), OutOfMemory>
     requires readable { IsReadable snapshot }
@@ -150,15 +151,15 @@ fn run_admitted<G: Gate, R: Threads + Wait + Sync>(
     crew: &Crew<'_, G, R>,
     snapshot: Snapshot,
     batch: &Batch,
-    answer: Admitted,
+    answer: InLine,
 ) -> Result<BlockResult, OutOfMemory>
     requires readable { IsReadable snapshot }
     requires few { length batch.now.wires ≤ max_transactions }
-    requires answer { answer ≡ admitted (start_in snapshot) batch.now.wires }
+    requires answer { told_by answer ≡ admitted (start_in snapshot) batch.now.wires }
     requires chosen { All IsChosen answer.order }
     ensures { IfOk result (IsBlockResult (block_result snapshot batch.now)) }
 {
-    let Admitted { order, refused } = answer;
+    let InLine { order, refused } = answer;
     let Closed { block, after } = run_order(crew, snapshot, &head_of(batch), &batch.wires, order)?;
     Ok(BlockResult {
         block,
@@ -184,7 +185,7 @@ pub fn run_block<G: Gate, R: Threads + Wait + Sync>(
     requires few { length batch.now.wires ≤ max_transactions }
     ensures { IfOk result (IsBlockResult (block_result snapshot batch.now)) }
 {
-    let answer = admit(
+    let answer = line_up(
         alloc,
         &batch.wires,
         &snapshot.recent,
@@ -254,7 +255,7 @@ pub fn record_parsed<G: Gate, R: Threads + Wait + Sync>(
         parsed,
         room,
     } = decoded;
-    let Admitted { order, refused } = admit_on(&crew, &snapshot, &batch.wires, parsed)?;
+    let InLine { order, refused } = admit_on(&crew, &snapshot, &batch.wires, parsed)?;
     let (ClosedRecord { record, after }, spent) = record_order(
         &crew, snapshot, batch, order, room,
     )?;
@@ -278,7 +279,7 @@ fn wires_of(alloc: Global, entries: &[Entry]) -> Result<Items<Blob>, OutOfMemory
 }
 
 /// The transactions before the first that is refused.
-fn before_refused(order: Items<Chosen>, refused: &[Refused]) -> Items<Chosen>
+fn before_refused(order: Items<Candidate>, refused: &[Refused]) -> Items<Candidate>
     ensures { result ≡ before_refused refused.now order }
 {
     let mut order = order.into_vec();
@@ -313,7 +314,7 @@ pub fn run_listed<G: Gate, R: Threads + Wait + Sync>(
     ensures cut { IfOk result (IsReplayOf given.now) }
 {
     let wires = wires_of(alloc, given.entries.as_slice())?;
-    let Admitted { order, refused } = admit_listed(
+    let InLine { order, refused } = line_up_listed(
         alloc,
         &wires,
         &snapshot.recent,

@@ -10,12 +10,23 @@ ghost use Rattle.tx_exec.specs.AdmittedBlock.{job_of};
 
 use crate::admitted::AdmittedBlock;
 use crate::perform::perform_one;
-use admission::Chosen;
+use admission::{Candidate, Chosen};
 use bank_core::{Effects, Work};
 use program_cache::Programs;
 use sol_base::{Account, Items, LockList, OutOfMemory};
 use std::alloc::Global;
 use std::sync::Arc;
+
+/// The transactions as pointers.
+fn boxed(alloc: Global, chosen: Items<Chosen>) -> Result<Items<Candidate>, OutOfMemory>
+    ensures { IfOk result (λ boxes. boxes ≡ chosen) }
+{
+    let mut boxes = Items::with_capacity(alloc, chosen.len())?;
+    for one in chosen.into_vec() {
+        boxes.push(Candidate::new(alloc, one)?)?;
+    }
+    Ok(boxes)
+}
 
 /// The transactions of a block as the work of lanes, a position for each.
 #[derive(Drop)]
@@ -43,7 +54,24 @@ impl TxWork {
         ensures { IfOk result (λ work. work.told
             ≡ record { chosen = chosen; programs = programs; slot = slot; height = height }) }
     {
-        Ok(TxWork {
+        Ok(TxWork::over(alloc, boxed(alloc, chosen)?, programs, slot, height))
+    }
+
+    /// The same over transactions that are pointers.
+    pub fn over(
+        alloc: Global,
+        chosen: Items<Candidate>,
+        programs: Programs,
+        slot: u64,
+        height: u8,
+    ) -> TxWork
+        requires few { length chosen < 2 ^ 32 }
+        requires height { (1 ≤ height) × (height ≤ max_stack_height) }
+        requires chosen { All IsChosen chosen }
+        ensures { result.told
+            ≡ record { chosen = chosen; programs = programs; slot = slot; height = height } }
+    {
+        TxWork {
             told: AdmittedBlock {
                 chosen,
                 programs,
@@ -51,11 +79,11 @@ impl TxWork {
                 height,
             },
             alloc,
-        })
+        }
     }
 
     /// The transactions, in the order in which they count.
-    pub fn chosen(&self) -> &[Chosen]
+    pub fn chosen(&self) -> &[Candidate]
         ensures { result.now ≡ self.now.told.chosen }
     {
         self.told.chosen.as_slice()
@@ -76,11 +104,13 @@ impl Work for TxWork {
     }
 
     fn locks(&self, position: u32) -> &LockList {
-        &self.told.chosen.as_slice()[position as usize].locks
+        &self.told.chosen.as_slice()[position as usize]
+            .chosen()
+            .locks
     }
 
     fn perform(&self, position: u32, values: &[Arc<Account>]) -> Result<Effects, OutOfMemory> {
-        let chosen = &self.told.chosen.as_slice()[position as usize];
+        let chosen = self.told.chosen.as_slice()[position as usize].chosen();
         perform_one(self.alloc, &self.told, chosen, values)
     }
 }

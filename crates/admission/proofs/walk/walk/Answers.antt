@@ -44,6 +44,6 @@ loop-one-preserved-in-Some-branch-3 c =
 
 pub push-requires-clause-fits : goal.push-requires-clause-fits
 push-requires-clause-fits c =
-    subst (λ (order : List Chosen). units_of order + c.into_chosen.result.budget.limit < 2 ^ 64) (sym c.in_ok-cause.ensures.same)
-    (subst (λ (one : Chosen). units_of c.loop-one.order + one.budget.limit < 2 ^ 64) (c.chosen.ensures ∙ sym c.into_chosen.ensures)
+    subst (λ (order : List Chosen). units_of order + c.in-Some.one.budget.limit < 2 ^ 64) (sym c.in_ok-cause.ensures.same)
+    (subst (λ (one : Chosen). units_of c.loop-one.order + one.budget.limit < 2 ^ 64) c.chosen.ensures
     (subst (λ (late : Option Refusal). IfNone late (units_of c.loop-one.order + c.chosen.result.now.budget.limit < 2 ^ 64)) c.in-None-2.is c.in_ok-cause.ensures.fits))

@@ -24,7 +24,8 @@ loop-at-preserved c =
     let outcome : c.index-outcomes-at.result ≡ get_or outcomes at c.index-outcomes-at.result = c.index-outcomes-at.is in
     let one : List ℕ = entry_bytes (entry_of wires (get_or order at c.index-order-at.result, get_or outcomes at c.index-outcomes-at.result)) in
     c.in_ok-write_entry.ensures
-    ∙ ap (λ (bs : List ℕ). bs ++ entry_bytes (entry_of wires (c.index-order-at.result, c.value.result.now))) c.loop-at.invariant
+    ∙ ap (λ (bs : List ℕ). bs ++ entry_bytes (entry_of wires (c.chosen.result.now, c.value.result.now))) c.loop-at.invariant
+    ∙ ap (λ (t : Chosen). (c.args.out.now ++ done) ++ entry_bytes (entry_of wires (t, c.value.result.now))) c.chosen.ensures
     ∙ ap (λ (o : Outcome). (c.args.out.now ++ done) ++ entry_bytes (entry_of wires (c.index-order-at.result, o))) c.value.ensures
     ∙ ap (λ (t : Chosen). (c.args.out.now ++ done) ++ entry_bytes (entry_of wires (t, c.index-outcomes-at.result))) chosen
     ∙ ap (λ (o : Outcome). (c.args.out.now ++ done) ++ entry_bytes (entry_of wires (get_or order at c.index-order-at.result, o))) outcome

@@ -9,10 +9,10 @@ use Rattle.block_run.proofs.Declared.{keys_few, known}
 use Rattle.block_run.proofs.order.numbered_in.Goals as goal
 
 pub number_among-requires-clause-apart : goal.number_among-requires-clause-apart
-number_among-requires-clause-apart c = (works_are_lawful (locked_in c.args.order.now) c.requires.chosen).distinct
+number_among-requires-clause-apart g c κs within = (works_are_lawful (locked_in c.args.order.now) c.requires.chosen).distinct
 
 pub number_among-requires-clause-few : goal.number_among-requires-clause-few
-number_among-requires-clause-few c =
+number_among-requires-clause-few g c =
     let same : c.extend_from_slice.new.self.items ≡ c.args.keys.now = c.in_ok-extend_from_slice.ensures.items ∙ ap₂ (λ (a b : List Key). a ++ b) c.in_ok-known.ensures.items c.as_slice.ensures in
     let long = ap length same in
     let fewer = c.requires.keys.fewer in
@@ -21,6 +21,6 @@ number_among-requires-clause-few c =
     omega (arith, long, fewer, all, few)
 
 pub number_among-requires-clause-known : goal.number_among-requires-clause-known
-number_among-requires-clause-known c = λ i l.
+number_among-requires-clause-known g c κs within = λ i l.
     let same : c.extend_from_slice.new.self.items ≡ c.args.keys.now = c.in_ok-extend_from_slice.ensures.items ∙ ap₂ (λ (a b : List Key). a ++ b) c.in_ok-known.ensures.items c.as_slice.ensures in
     subst (λ ks. AreKnown ks (locks_at (slice_get c.args.order.now i))) (sym same) (known c.args.order.now c.args.keys.now c.requires.chosen c.requires.keys i l)

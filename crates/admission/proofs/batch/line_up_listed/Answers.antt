@@ -3,7 +3,7 @@ use Rattle.message_codec.specs.Parsing.{parsed_of}
 use Rattle.admission.specs.Admission.{start_of}
 use Rattle.admission.proofs.BatchLaws.{all_sound, aparts, cause_count, is_listed, parsed_count, places, stand}
 use Rattle.admission.proofs.WeighLaws.{are_weighed, causes_alone, standing_alone}
-use Rattle.admission.proofs.batch.admit_listed.Goals as goal
+use Rattle.admission.proofs.batch.line_up_listed.Goals as goal
 
 pub weigh_from-requires-clause-few : goal.weigh_from-requires-clause-few
 weigh_from-requires-clause-few c =

@@ -3,7 +3,7 @@ use Rattle.message_codec.specs.Parsing.{parsed_of}
 use Rattle.admission.specs.Admission.{start_of}
 use Rattle.admission.proofs.BatchLaws.{aparts, cause_count, is_admitted, parsed_count, places, stand_in_line}
 use Rattle.admission.proofs.WeighLaws.{causes_alone, standing_alone}
-use Rattle.admission.proofs.batch.admit_weighed.Goals as goal
+use Rattle.admission.proofs.batch.line_up_weighed.Goals as goal
 
 pub admit_line-requires-clause-few : goal.admit_line-requires-clause-few
 admit_line-requires-clause-few c =
