@@ -4,6 +4,7 @@ use Rattle.std.specs.List.{flat_map, zip}
 use Rattle.std.proofs.lemmas.Grind.{flat_map-append}
 use Rattle.std.proofs.lemmas.List.{append-nil, drop_at, length-drop, length-map, length-take-le, map-append, take_all, take_rest}
 use Rattle.std.proofs.lemmas.Slice.Zip.{length-zip}
+use Rattle.sha2.specs.declared.Sha256.{Sha256}
 use Rattle.sha2.specs.Hashers.{Holds256}
 use Rattle.tx_report.specs.declared.outcome.Outcome.{Outcome}
 use Rattle.admission.specs.declared.chosen.Chosen.{Chosen}
@@ -13,7 +14,7 @@ use Rattle.block_record.proofs.RecordLaws.{front_is}
 use Rattle.block_end.specs.declared.block.RecordParts.{RecordParts}
 use Rattle.block_end.specs.declared.record_prefix.RecordPrefix.{RecordPrefix}
 use Rattle.block_end.specs.Blocks.{entries_of, entry_of, unsealed}
-use Rattle.block_end.specs.RecordPrefix.{IsBegun, IsWritten, bytes_up_to}
+use Rattle.block_end.specs.RecordPrefix.{IsAhead, IsBegun, IsWritten, bytes_up_to}
 
 -- ---- lists beside each other
 zip-nil : {X Y : Type 0} (xs : List X) → ◌≡◌ {A = List (X × Y)} (zip xs []) []
@@ -73,6 +74,22 @@ module _ (parts : RecordParts) where
           ∙ ap (λ (es : List (Chosen × Outcome)). heading ++ flat_map entry_bytes (map (entry_of wires) es)) (zip-nil order)
           ∙ append-nil heading
 
+  -- the entries of the outcomes that come next stand behind those before
+  pub bytes_next : (all told : List Outcome) (count : ℕ) → told ≡ take (length told) (drop count all)
+      → bytes_up_to parts (take count all) ++ flat_map entry_bytes (entries_of wires (drop count order) told) ≡ bytes_up_to parts (take (count + length told) all)
+  bytes_next all told count told_is =
+      append_assoc heading (flat_map entry_bytes one) (flat_map entry_bytes two)
+      ∙ ap (λ bs. heading ++ bs) (sym (flat_map-append entry_bytes one two) ∙ ap (flat_map entry_bytes) both)
+    where
+      one : List Entry
+      one = entries_of wires order (take count all)
+
+      two : List Entry
+      two = entries_of wires (drop count order) told
+
+      both : one ++ two ≡ entries_of wires order (take (count + length told) all)
+      both = ap (λ (os : List Outcome). one ++ entries_of wires (drop count order) os) told_is ∙ sym (entries_parts wires order all count (length told))
+
   -- it goes on with the outcomes that come next
   pub goes_on : (all told : List Outcome) (begun next : RecordPrefix) → IsBegun parts all begun
       → told ≡ take (length told) (drop begun.count all) → begun.count + length told ≤ length order → next.count ≡ begun.count + length told
@@ -82,25 +99,47 @@ module _ (parts : RecordParts) where
   goes_on all told begun next is told_is within count hashes writes = record {
     within = subst (λ n. n ≤ length order) (sym count) within;
     taken = subst (Holds256 next.hasher) whole (hashes (bytes_up_to parts (take begun.count all)) is.taken);
-    kept = λ wanted. writes wanted ∙ ap (λ (bs : List ℕ). bs ++ flat_map entry_bytes two) (is.kept wanted) ∙ whole;
+    kept = λ wanted. writes wanted ∙ ap (λ (bs : List ℕ). bs ++ flat_map entry_bytes (entries_of wires (drop begun.count order) told)) (is.kept wanted) ∙ whole;
   }
     where
-      one : List Entry
-      one = entries_of wires order (take begun.count all)
+      whole : bytes_up_to parts (take begun.count all) ++ flat_map entry_bytes (entries_of wires (drop begun.count order) told) ≡ bytes_up_to parts (take next.count all)
+      whole = bytes_next all told begun.count told_is ∙ ap (λ n. bytes_up_to parts (take n all)) (sym count)
 
-      two : List Entry
-      two = entries_of wires (drop begun.count order) told
+  -- entries that were written go on while the last are hashed
+  pub goes_ahead : (all told : List Outcome) (count next : ℕ) (before after : Sha256) (bytes last written new : List ℕ) → IsAhead parts all count before bytes last
+      → told ≡ take (length told) (drop count all) → count + length told ≤ length order → next ≡ count + length told
+      → ((taken : List ℕ) → Holds256 before taken → Holds256 after (taken ++ last))
+      → new ≡ flat_map entry_bytes (entries_of wires (drop count order) told)
+      → (parts.kept ≡ true → written ≡ bytes ++ new)
+      → IsAhead parts all next after written new
+  goes_ahead all told count next before after bytes last written new is told_is within so_many hashes so writes = record {
+    hashed = is.hashed ++ last;
+    within = subst (λ n. n ≤ length order) (sym so_many) within;
+    taken = hashes is.hashed is.taken;
+    whole = ap (λ (bs : List ℕ). bs ++ new) is.whole ∙ whole;
+    kept = λ wanted. writes wanted ∙ ap (λ (bs : List ℕ). bs ++ new) (is.kept wanted) ∙ whole;
+  }
+    where
+      whole : bytes_up_to parts (take count all) ++ new ≡ bytes_up_to parts (take next all)
+      whole = ap (λ (bs : List ℕ). bytes_up_to parts (take count all) ++ bs) so ∙ bytes_next all told count told_is ∙ ap (λ n. bytes_up_to parts (take n all)) (sym so_many)
 
-      both : one ++ two ≡ entries_of wires order (take next.count all)
-      both =
-          ap (λ (os : List Outcome). one ++ entries_of wires (drop begun.count order) os) told_is
-          ∙ sym (entries_parts wires order all begun.count (length told))
-          ∙ ap (λ n. entries_of wires order (take n all)) (sym count)
+  -- none is written ahead at first
+  pub ahead_of : (all : List Outcome) (begun : RecordPrefix) (last : List ℕ) → IsBegun parts all begun → last ≡ [] → IsAhead parts all begun.count begun.hasher begun.bytes last
+  ahead_of all begun last is none = record {
+    hashed = bytes_up_to parts (take begun.count all);
+    within = is.within;
+    taken = is.taken;
+    whole = ap (λ (bs : List ℕ). bytes_up_to parts (take begun.count all) ++ bs) none ∙ append-nil (bytes_up_to parts (take begun.count all));
+    kept = is.kept;
+  }
 
-      whole : (heading ++ flat_map entry_bytes one) ++ flat_map entry_bytes two ≡ bytes_up_to parts (take next.count all)
-      whole =
-          append_assoc heading (flat_map entry_bytes one) (flat_map entry_bytes two)
-          ∙ ap (λ bs. heading ++ bs) (sym (flat_map-append entry_bytes one two) ∙ ap (flat_map entry_bytes) both)
+  -- and in the end all are hashed
+  pub ahead_ends : (all : List Outcome) (count : ℕ) (before : Sha256) (bytes last : List ℕ) (end : RecordPrefix) → IsAhead parts all count before bytes last → length all ≤ count
+      → ((taken : List ℕ) → Holds256 before taken → Holds256 end.hasher (taken ++ last)) → end.bytes ≡ bytes → IsWritten parts all end
+  ahead_ends all count before bytes last end is whole hashes same = record {
+    taken = subst (Holds256 end.hasher) (is.whole ∙ ap (bytes_up_to parts) (take_all count all whole)) (hashes is.hashed is.taken);
+    kept = λ wanted. same ∙ is.kept wanted ∙ ap (bytes_up_to parts) (take_all count all whole);
+  }
 
   -- it is written once it has all
   pub is_written : (all : List Outcome) (begun : RecordPrefix) → IsBegun parts all begun → length all ≤ begun.count → IsWritten parts all begun

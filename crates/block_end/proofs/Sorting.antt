@@ -1,5 +1,5 @@
 -- Names in ascending order.
-use Rattle.std.proofs.Common.{◌≡◌, ◌+◌, ◌<◌, ◌∷◌, [], ◌++◌, ℕ, zero, suc, Bool, true, false, ◌||◌, List, length, take, get_or, Option, Some, None, refl, sym, ap, ◌∙◌, append_assoc, add-one, arith}
+use Rattle.std.proofs.Common.{◌≡◌, ◌+◌, ◌<◌, ◌∷◌, [], ◌++◌, ℕ, zero, suc, Bool, true, false, ◌||◌, List, length, take, get_or, Option, Some, None, refl, sym, ap, ◌∙◌, add-one, arith}
 use Rattle.std.specs.Prelude.{option_to_list}
 use Rattle.std.specs.BTreeSet.{insert_key}
 use Rattle.std.specs.Ordering.{match_ordering, ordering_reverse}
@@ -26,7 +26,7 @@ inserted-above k name (n ∷ ns) above all = by_case (hash_cmp name n) (inserted
     by_case Equal rest = all
     by_case Greater rest = (all.0, rest)
 
-all_above : (name n : Hash32) (ns : List Hash32) → hash_cmp name n ≡ Less → AllByRecursion (λ (q : Hash32). hash_cmp n q ≡ Less) ns → AllByRecursion (λ (q : Hash32). hash_cmp name q ≡ Less) ns
+pub all_above : (name n : Hash32) (ns : List Hash32) → hash_cmp name n ≡ Less → AllByRecursion (λ (q : Hash32). hash_cmp n q ≡ Less) ns → AllByRecursion (λ (q : Hash32). hash_cmp name q ≡ Less) ns
 all_above name n [] below all = tt
 all_above name n (q ∷ qs) below all = (hash_cmp_total.trans name n q below all.0, all_above name n qs below all.1)
 
@@ -40,7 +40,7 @@ inserted-sorted name (n ∷ ns) sorted = by_case (hash_cmp name n) refl (inserte
     by_case Equal is rest = sorted
     by_case Greater is rest = (inserted-above n name ns (hash_cmp_total.antisymm n name ∙ ap ordering_reverse is) sorted.0, rest)
 
-ascending-sorted : (names : List Hash32) → IsStrictlySortedBy hash_cmp (ascending names)
+pub ascending-sorted : (names : List Hash32) → IsStrictlySortedBy hash_cmp (ascending names)
 unfolding IsStrictlySortedBy
 ascending-sorted [] = tt
 ascending-sorted (n ∷ ns) = inserted-sorted n (ascending ns) (ascending-sorted ns)
@@ -72,19 +72,6 @@ has_inserted name q (n ∷ ns) = by_case (hash_cmp name n) refl (has_inserted na
 pub ascending_has : (names : List Hash32) (q : Hash32) → has_hash (ascending names) q ≡ has_hash names q
 ascending_has [] q = refl
 ascending_has (n ∷ ns) q = has_inserted n q (ascending ns) ∙ ap (λ b. same_hash n q || b) (ascending_has ns q)
-
--- the names that are not left stand in their order
-pub record AreSorted (all left sorted : List Hash32) : Type 0 where
-  pub done : List Hash32
-  pub split : left ++ done ≡ all
-  pub ascend : sorted ≡ ascending done
-
-pub one_sorted : (all left now sorted after : List Hash32) (name : Hash32) → AreSorted all left sorted → left ≡ now ++ name ∷ [] → after ≡ insert_key hash_cmp sorted name → AreSorted all now after
-one_sorted all left now sorted after name so popped inserted = record {
-  done = name ∷ so.done;
-  split = sym (append_assoc now (name ∷ []) so.done) ∙ ap (λ (l : List Hash32). l ++ so.done) (sym popped) ∙ so.split;
-  ascend = inserted ∙ ap (λ (l : List Hash32). insert_key hash_cmp l name) so.ascend;
-}
 
 -- ---- transactions beside their outcomes
 -- one more of each

@@ -1,6 +1,6 @@
 -- One block: the record of transactions with their outcomes, and the snapshot after it (Solana; the
 -- formats, and that dropped transactions stand in the record, are the project's own).
-use Rattle.std.specs.Prelude.{ℕ, ◌+◌, Bool, true, false, List, [], ◌∷◌, map, replicate, take, Option, Some, None}
+use Rattle.std.specs.Prelude.{ℕ, ◌+◌, List, [], ◌∷◌, map, replicate, take, Option, Some, None}
 use Rattle.std.specs.List.{filter_map, zip}
 use Rattle.std.specs.BTreeSet.{insert_key}
 use Rattle.sol_base.specs.declared.key.Hash32.{Hash32}

@@ -1,6 +1,7 @@
 -- A record up to some entry, which is hashed, and written, while transactions still run.
 use Rattle.std.specs.Prelude.{◌≡◌, ℕ, ◌≤◌, ◌++◌, true, List, length, take}
 use Rattle.std.specs.List.{flat_map}
+use Rattle.sha2.specs.declared.Sha256.{Sha256}
 use Rattle.sha2.specs.Hashers.{Holds256}
 use Rattle.tx_report.specs.declared.outcome.Outcome.{Outcome}
 use Rattle.block_record.specs.Record.{entry_bytes, heading_bytes}
@@ -25,3 +26,11 @@ pub record IsBegun (parts : RecordParts) (outcomes : List Outcome) (begun : Reco
 pub record IsWritten (parts : RecordParts) (outcomes : List Outcome) (begun : RecordPrefix) : Type 0 where
   pub taken : Holds256 begun.hasher (bytes_up_to parts outcomes)
   pub kept : parts.kept ≡ true → begun.bytes ≡ bytes_up_to parts outcomes
+
+-- a record is written up to the entry of so many outcomes, and hashed up to the last of its bytes
+pub record IsAhead (parts : RecordParts) (outcomes : List Outcome) (count : ℕ) (hasher : Sha256) (bytes last : List ℕ) : Type 0 where
+  pub hashed : List ℕ
+  pub within : count ≤ length parts.order.now
+  pub taken : Holds256 hasher hashed
+  pub whole : hashed ++ last ≡ bytes_up_to parts (take count outcomes)
+  pub kept : parts.kept ≡ true → bytes ≡ bytes_up_to parts (take count outcomes)

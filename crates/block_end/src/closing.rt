@@ -22,7 +22,8 @@ use crate::crew::Crew;
 use crate::entries::entries_of;
 use crate::fees::{Shared, share_split, split_paid};
 use crate::names::{ascending, processed_in};
-use crate::record_prefix::{RecordPrefix, take_rest};
+use crate::record_prefix::RecordPrefix;
+use crate::rest::take_rest;
 use crate::threads::call_both;
 use account_store::Accounts;
 use admission::Candidate;
@@ -93,7 +94,7 @@ fn end_state_of_run<W: Work>(
     let split = split_paid(outcomes.as_slice());
     let accounts = ended.joined()?;
     let end = end_state(alloc, accounts, collector, split)?;
-    Ok((end, ascending(alloc, names)?))
+    Ok((end, ascending(names)))
 }
 
 /// The end of a block, but for its hash: its accounts, its names in ascending order, and its record
@@ -132,10 +133,11 @@ fn end_block<W: Work, G, R: Threads + Sync>(
         order,
         kept,
     } = parts;
-    let alloc = crew.alloc;
+    let (rt, alloc) = (crew.rt, crew.alloc);
+    let threads = crew.lanes_for_many(order.len());
     let (end, front) = call_both(
-        crew.rt,
-        crew.lanes_for_many(order.len()),
+        rt,
+        threads,
         move || -> Result<(EndState, Items<Hash32>), OutOfMemory>
             requires { (length outcomes.now ≡ length order.now)
                 × (sum (state_at_end W.job ended.origin.value) + base_fees outcomes.now
@@ -173,7 +175,7 @@ fn end_block<W: Work, G, R: Threads + Sync>(
                 order,
                 kept,
             };
-            take_rest(alloc, parts, begun, outcomes)
+            take_rest(rt, alloc, threads, parts, begun, outcomes)
         },
     );
     let (end, names) = end?;

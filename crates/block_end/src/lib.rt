@@ -11,6 +11,7 @@ mod fees;
 mod laws;
 mod names;
 mod record_prefix;
+mod rest;
 mod threads;
 
 pub use block::{Chain, Closed, ClosedRecord, Head, RecordParts};

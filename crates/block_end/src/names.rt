@@ -6,7 +6,6 @@ use admission::Candidate;
 use bank_core::SharedOutcome;
 use sol_base::{Hash32, Items, OutOfMemory};
 use std::alloc::Global;
-use std::collections::BTreeSet;
 use tx_report::Status;
 
 /// The name, unless the transaction was dropped.
@@ -37,13 +36,11 @@ pub(crate) fn processed_in(
     Ok(names)
 }
 
-/// The names in ascending order.
-pub(crate) fn ascending(alloc: Global, mut names: Vec<Hash32>) -> Result<Items<Hash32>, OutOfMemory>
-    ensures { IfOk result (λ sorted. sorted ≡ ascending names.items) }
+/// The names in ascending order, each once.
+pub(crate) fn ascending(mut names: Vec<Hash32>) -> Items<Hash32>
+    ensures { result ≡ ascending names.items }
 {
-    let mut set = BTreeSet::new(alloc);
-    while let Some(name) = names.pop() {
-        set.insert(name)?;
-    }
-    Ok(Items::from_vec(set.into_iter().collect(alloc)?))
+    names.sort_unstable();
+    names.dedup();
+    Items::from_vec(names)
 }

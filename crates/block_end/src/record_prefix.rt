@@ -71,7 +71,7 @@ fn buffer_of(alloc: Global, kept: bool, bytes: Blob) -> Result<Blob, OutOfMemory
 }
 
 /// Takes the entries of the outcomes that come next, which stay.
-fn take_next(
+pub(crate) fn take_next(
     alloc: Global,
     parts: RecordParts<'_>,
     begun: RecordPrefix,
@@ -128,27 +128,4 @@ pub fn take_in(
         (entries_of parts.entry.wires.now (drop begun.count parts.entry.order.now) outcomes)) }
 {
     take_next(alloc, parts, begun, outcomes.as_slice())
-}
-
-/// Takes the entries of all outcomes that are left.
-pub(crate) fn take_rest(
-    alloc: Global,
-    parts: RecordParts<'_>,
-    begun: RecordPrefix,
-    outcomes: &Items<SharedOutcome>,
-) -> Result<RecordPrefix, OutOfMemory>
-    requires of { AreOf parts.wires.now parts.order.now }
-    requires one_each { length outcomes.now ≡ length parts.order.now }
-    requires small { All IsSmallOutcome outcomes.now }
-    requires begun { IsBegun parts outcomes.now begun }
-    ensures { IfOk result (IsWritten parts.entry outcomes.entry.now) }
-{
-    let all = outcomes.as_slice();
-    let mut begun = begun;
-    while (begun.count as usize) < all.len() {
-        let from = begun.count as usize;
-        let next = all.len().min(from + OUTCOMES_AT_ONCE as usize);
-        begun = take_next(alloc, parts, begun, &all[from..next])?;
-    }
-    Ok(begun)
 }

@@ -9,7 +9,7 @@ use Rattle.admission.specs.declared.refusal.Refused.{Refused}
 use Rattle.admission.specs.Admission.{listed}
 use Rattle.admission.specs.Chosen.{IsChosen}
 use Rattle.block_run.specs.Blocks.{before_refused, block_result, head_of, listed_result, start_in, wires_of}
-use Rattle.block_run.proofs.Conserved.{activated_are_ready, burned_is_all, executables_stay, fees_leave}
+use Rattle.block_laws.proofs.Conserved.{activated_are_ready, burned_is_all, executables_stay, fees_leave}
 use Rattle.block_laws.specs.Keeping.{BlocksKeepLamports, NewProgramsAreReady, NewProgramsAreReadyAgain, ProgramsStay, ProgramsStayAgain, ReplaysKeepLamports, CanRun, TransactionsTakeTheirFees, order_again, order_of}
 use Rattle.block_laws.proofs.Fit.{admitted_are_chosen, listed_are_chosen}
 

@@ -7,3 +7,5 @@ pub mod Keeps
 pub mod Nexts
 pub mod Budgets
 pub mod Records
+pub mod Executables
+pub mod Conserved

@@ -42,7 +42,7 @@ use Rattle.block_end.specs.Ending.{Ran}
 use Rattle.block_run.specs.SerialRun.{serial_run, told_in}
 use Rattle.block_run.proofs.Calls.{admitted_are_of}
 use Rattle.block_end.proofs.Closings.{block_counted}
-use Rattle.block_run.proofs.Conserved.{burned_is_all}
+use Rattle.block_laws.proofs.Conserved.{burned_is_all}
 use Rattle.block_run.proofs.Positions.{at_position}
 use Rattle.block_run.proofs.Runs.{run_may_end}
 use Rattle.block_laws.specs.Chain.{RecordsAreRead}

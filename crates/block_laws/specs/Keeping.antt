@@ -12,7 +12,7 @@ use Rattle.admission.specs.declared.chosen.Chosen.{Chosen}
 use Rattle.admission.specs.Admission.{admitted, listed}
 use Rattle.block_end.specs.declared.block.Closed.{Closed}
 use Rattle.block_run.specs.Blocks.{before_refused, block_result, closed, listed_result, start_in, wires_of}
-use Rattle.block_run.specs.Laws.{IsReadyUnder, outcome_of, state_after}
+use Rattle.block_laws.specs.Laws.{IsReadyUnder, outcome_of, state_after}
 
 -- the transactions of a batch that run
 abbrev pub order_of : Snapshot → Batch → List Chosen

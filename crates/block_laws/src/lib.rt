@@ -6,6 +6,7 @@ mod admitted;
 mod chain;
 mod keeping;
 mod replay;
+mod running;
 
 pub use admitted::{
     admitted_transactions_are_admitted_again, admitted_transactions_are_chosen,
@@ -14,3 +15,4 @@ pub use admitted::{
 pub use chain::{next_blocks_can_be_run, records_are_read};
 pub use keeping::{blocks_keep_lamports, blocks_keep_programs};
 pub use replay::{blocks_run_again, replays_match};
+pub use running::{activated_programs_are_ready, executable_accounts_stay, lamports_are_conserved};

@@ -1,4 +1,3 @@
 pub mod SerialRun
 pub mod Blocks
 pub mod Answers
-pub mod Laws

@@ -5,7 +5,6 @@ use Rattle.std.specs.List.{flat_map}
 use Rattle.sol_base.specs.declared.key.Key.{Key}
 use Rattle.sol_base.specs.Keys.{has_key}
 use Rattle.message_codec.specs.Roles.{all_keys}
-use Rattle.tx_report.specs.declared.outcome.Outcome.{Outcome}
 use Rattle.account_store.specs.State.{State, at}
 use Rattle.snapshot_codec.specs.declared.snapshot.Snapshot.{Snapshot}
 use Rattle.program_cache.specs.Programs.{programs_of}
@@ -21,10 +20,14 @@ use Rattle.block_end.specs.Ending.{Ran}
 abbrev pub keys_in : List Chosen → List Key
 keys_in order = flat_map (λ t. all_keys t.tx.message t.loaded) order
 
--- these are the keys that the transactions declare, in some order and maybe not as often
-pub record AreKeysIn (order : List Chosen) (keys : List Key) : Type 0 where
-  pub same : (key : Key) → has_key key keys ≡ has_key key (keys_in order)
-  pub fewer : length keys ≤ length (keys_in order)
+-- these are all of some keys, in some order and maybe not as often
+pub record AreKeysOf (all keys : List Key) : Type 0 where
+  pub same : (key : Key) → has_key key keys ≡ has_key key all
+  pub fewer : length keys ≤ length all
+
+-- these are the keys that the transactions declare
+abbrev pub AreKeysIn : List Chosen → List Key → Type 0
+AreKeysIn order keys = AreKeysOf (keys_in order) keys
 
 -- the transactions as a work, with the programs that the snapshot has under their keys
 abbrev pub told_in : Snapshot → ℕ → List Chosen → AdmittedBlock

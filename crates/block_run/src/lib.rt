@@ -4,10 +4,9 @@
 
 mod admitting;
 mod block;
-mod laws;
+mod keys;
 mod order;
 mod run;
 
 pub use block::{BlockResult, Decoded, Recorded, Spent};
-pub use laws::{activated_programs_are_ready, executable_accounts_stay, lamports_are_conserved};
 pub use run::{record_parsed, run_block, run_listed, run_parsed};

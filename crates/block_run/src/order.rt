@@ -1,7 +1,6 @@
 //! Transactions in their order, as a work with the programs that they may call.
-ghost use Rattle.std.specs.Prelude.{◌≡◌, ◌<◌, ◌≤◌, ◌++◌, All, IfOk, OnOk, length, slice_get};
+ghost use Rattle.std.specs.Prelude.{◌≡◌, ◌<◌, ◌≤◌, All, IfOk, length, slice_get};
 ghost use Rattle.sol_base.specs.Limits.{max_stack_height, max_transactions};
-ghost use Rattle.message_codec.specs.Roles.{all_keys};
 ghost use Rattle.snapshot_codec.specs.Snapshot.{IsUpTo};
 ghost use Rattle.admission.specs.Chosen.{IsChosen};
 ghost use Rattle.program_cache.specs.Programs.{programs_of};
@@ -9,58 +8,18 @@ ghost use Rattle.bank_core.specs.Openings.{AreNumbered};
 ghost use Rattle.tx_exec.specs.AdmittedBlock.{job_of, locks_at};
 ghost use Rattle.block_run.specs.SerialRun.{AreKeysIn, keys_in, locked_in, told_in};
 
-use account_store::{Accounts, sort_keys};
+use crate::keys::sorted_keys_in;
+use account_store::Accounts;
 use admission::Candidate;
 use bank_core::{Locked, Numbered, number_among};
 use bank_lanes::Gate;
 use block_end::{Crew, call_both};
-use message_codec::{Loaded, Message};
 use program_cache::Programs;
 use snapshot_codec::Snapshot;
 use sol_base::{Items, Key, LockList, OutOfMemory};
 use std::alloc::Global;
 use std::thread::Threads;
 use tx_exec::TxWork;
-
-/// Adds all keys of a message.
-fn push_keys(keys: &mut Vec<Key>, message: &Message, loaded: &Loaded) -> Result<(), OutOfMemory>
-    ensures { OnOk result (keys.new.items ≡ keys.old.items ++ all_keys message.now loaded.now) }
-{
-    keys.extend_from_slice(message.keys.as_slice())?;
-    keys.extend_from_slice(loaded.writable.as_slice())?;
-    keys.extend_from_slice(loaded.readonly.as_slice())?;
-    Ok(())
-}
-
-/// How many locks the transactions have: room for their keys.
-fn lock_count(order: &[Candidate]) -> usize {
-    let mut count: usize = 0;
-    for one in order {
-        count = count.saturating_add(one.chosen().locks.len());
-    }
-    count
-}
-
-/// The keys that the transactions declare.
-fn keys_in(alloc: Global, order: &[Candidate]) -> Result<Vec<Key>, OutOfMemory>
-    ensures { IfOk result (λ keys. keys.items ≡ keys_in order.now) }
-{
-    let mut keys = Vec::with_capacity(alloc, lock_count(order))?;
-    for one in order {
-        let chosen = one.chosen();
-        push_keys(&mut keys, &chosen.tx.message, &chosen.loaded)?;
-    }
-    Ok(keys)
-}
-
-/// The same in ascending order, each once.
-fn sorted_keys_in(alloc: Global, order: &[Candidate]) -> Result<Items<Key>, OutOfMemory>
-    ensures { IfOk result (AreKeysIn order.now) }
-{
-    let mut keys = keys_in(alloc, order)?;
-    sort_keys(&mut keys);
-    Ok(Items::from_vec(keys))
-}
 
 /// Transactions in their order, by their locks alone.
 #[derive(Drop)]

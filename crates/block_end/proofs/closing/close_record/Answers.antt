@@ -1,7 +1,6 @@
 use Rattle.std.proofs.Common.{◌≡◌, List, ℕ, refl, sym, ap, ap₂, subst, ◌∙◌}
 use Rattle.sha2.specs.Hashers.{Holds256}
 use Rattle.sol_base.specs.declared.key.Hash32.{Hash32}
-use Rattle.snapshot_codec.specs.declared.snapshot.Snapshot.{Snapshot}
 use Rattle.snapshot_codec.specs.Snapshot.{IsWritable}
 use Rattle.block_record.specs.Record.{WholeRecord, bytes_of_record, whole_record}
 use Rattle.block_end.specs.declared.block.Closed.{Closed}

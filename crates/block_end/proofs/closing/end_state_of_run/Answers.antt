@@ -16,4 +16,4 @@ returns-clause-end g c =
     (subst (λ (s : State). IsEndOf s c.args.collector.now c.split_paid-split.result c.in_ok-end.end) c.in_ok-accounts.ensures.state c.in_ok-end.ensures)
 
 pub returns-clause-names : goal.returns-clause-names
-returns-clause-names g c = c.in_ok-ascending.ensures ∙ ap ascending (c.in_ok-names.ensures ∙ ap (λ (os : List Outcome). processed_in c.args.order.now os) c.as_slice.ensures)
+returns-clause-names g c = c.ascending.ensures ∙ ap ascending (c.in_ok-names.ensures ∙ ap (λ (os : List Outcome). processed_in c.args.order.now os) c.as_slice.ensures)

@@ -1,4 +1,4 @@
-use Rattle.std.proofs.Common.{◌≡◌, ◌++◌, ℕ, List, drop, ap, subst, ◌∙◌, arith}
+use Rattle.std.proofs.Common.{◌++◌, ℕ, List, drop, ap, subst, ◌∙◌, arith}
 use Rattle.std.specs.List.{flat_map}
 use Rattle.sha2.specs.Hashers.{Holds256}
 use Rattle.block_record.specs.declared.block.Entry.{Entry}

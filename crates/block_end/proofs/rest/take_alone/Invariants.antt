@@ -1,6 +1,6 @@
-use Rattle.std.proofs.Common.{◌-◌, ℕ, length}
+use Rattle.std.proofs.Common.{◌-◌, length}
 use Rattle.block_end.specs.RecordPrefix.{IsBegun}
-use Rattle.block_end.proofs.record_prefix.take_rest.Given as goal
+use Rattle.block_end.proofs.rest.take_alone.Given as goal
 
 -- the record has the entries so far
 abbrev pub invariant-loop-begun : goal.invariant-loop-begun

@@ -1,10 +1,7 @@
-use Rattle.std.proofs.Common.{◌≡◌, ◌≤◌, ◌+◌, ◌-◌, List, length, drop, take, All, ap, subst, sym, ◌∙◌, arith}
-use Rattle.std.proofs.lemmas.List.{length-take-le, length-drop}
-use Rattle.std.proofs.lemmas.List.Elements.{All-drop, All-take}
+use Rattle.std.proofs.Common.{◌-◌, List, length, drop, take, ap, arith}
 use Rattle.tx_report.specs.declared.outcome.Outcome.{Outcome}
-use Rattle.tx_report.specs.Outcomes.{IsSmallOutcome}
 use Rattle.block_end.proofs.RecordPrefixes.{goes_on, is_written, told_part}
-use Rattle.block_end.proofs.record_prefix.take_rest.Goals as goal
+use Rattle.block_end.proofs.rest.take_alone.Goals as goal
 
 pub loop-begun-preserved : goal.loop-begun-preserved
 loop-begun-preserved c =

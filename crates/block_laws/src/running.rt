@@ -1,5 +1,5 @@
-//! Laws over the definitions of a block. Their calls do nothing.
-ghost use Rattle.block_run.specs.Laws.{ActivatedProgramsAreReady, BurnedIsAllThatLeaves, ExecutableAccountsStay, FeesLeaveTheAccounts};
+//! What the run of a block keeps.
+ghost use Rattle.block_laws.specs.Laws.{ActivatedProgramsAreReady, BurnedIsAllThatLeaves, ExecutableAccountsStay, FeesLeaveTheAccounts};
 
 /// A law: each transaction takes the fees that it pays out of the accounts, and what a block burns
 /// is all that leaves them.

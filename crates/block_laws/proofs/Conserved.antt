@@ -28,9 +28,9 @@ use Rattle.account_rules.specs.Wallets.{is_wallet}
 use Rattle.block_run.specs.SerialRun.{serial_run, told_in}
 use Rattle.block_end.specs.BlockEnd.{Shares, activate_all, base_fees, may_collect, more, priority_fees, share, share_fees}
 use Rattle.block_run.specs.Blocks.{closed}
-use Rattle.block_run.specs.Laws.{ActivatedProgramsAreReady, BurnedIsAllThatLeaves, ExecutableAccountsStay, FeesLeaveTheAccounts, IsReadyUnder}
+use Rattle.block_laws.specs.Laws.{ActivatedProgramsAreReady, BurnedIsAllThatLeaves, ExecutableAccountsStay, FeesLeaveTheAccounts, IsReadyUnder}
 use Rattle.block_end.proofs.Activating.{get-activate_all}
-use Rattle.block_run.proofs.Executables.{executable_stay}
+use Rattle.block_laws.proofs.Executables.{executable_stay}
 use Rattle.block_run.proofs.Runs.{pays_all, pays_once}
 
 -- ---- the fees

@@ -1,5 +1,5 @@
-use Rattle.block_run.proofs.Conserved.{burned_is_all, fees_leave}
-use Rattle.block_run.proofs.laws.lamports_are_conserved.Goals as goal
+use Rattle.block_laws.proofs.Conserved.{burned_is_all, fees_leave}
+use Rattle.block_laws.proofs.running.lamports_are_conserved.Goals as goal
 
 pub returns-clause-fees : goal.returns-clause-fees
 returns-clause-fees c = fees_leave
