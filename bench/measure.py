@@ -18,7 +18,7 @@ TOP = BENCH.parent
 OUT = BENCH / 'out'
 BUSY = 0.5
 # As ./bank runs a program.
-TUNABLES = ('glibc.malloc.hugetlb=1', 'glibc.malloc.top_pad=4194304',
+TUNABLES = ('glibc.malloc.hugetlb=1', 'glibc.malloc.top_pad=6291456',
             f'glibc.malloc.arena_max={len(os.sched_getaffinity(0))}',
             'glibc.malloc.mmap_threshold=8388608', 'glibc.malloc.trim_threshold=1073741824')
 ENVIRONMENT = {'GLIBC_TUNABLES': ':'.join(TUNABLES), **os.environ}
