@@ -6,7 +6,6 @@ pub mod Supply
 pub mod Merges
 pub mod Ends
 pub mod Openings
-pub mod Trials
 pub mod Seats
 pub mod Spends
 pub mod Tells

@@ -8,7 +8,5 @@ pub mod Takes
 pub mod Ends
 pub mod Lanes
 pub mod Desks
-pub mod Trial
-pub mod TrialLaws
 pub mod Openings
 pub mod Told

@@ -3,4 +3,5 @@ pub mod SeatSteps
 pub mod Frees
 pub mod GateSteps
 pub mod GroupSteps
+pub mod Filled
 pub mod Lends

@@ -1,5 +1,5 @@
 -- The seats of a group of lane numbers.
-use Rattle.std.specs.Prelude.{◌≡◌, ◌≢◌, ℕ, ◌<◌, ⊤, true, false, List, map, length, slice_index_or, All, Some, None}
+use Rattle.std.specs.Prelude.{◌≡◌, ◌≢◌, ℕ, ◌<◌, ◌≤◌, ⊤, true, false, List, map, length, slice_index_or, All, Some, None}
 use Rattle.bank_law.specs.declared.event.Event.{Event}
 use Rattle.bank_law.specs.Job.{Job}
 use Rattle.bank_law.specs.History.{PassView, own, holds, returns}
@@ -70,12 +70,21 @@ module _ {L S : Type 0} where
   abbrev pub IsEmpty : GroupSeat L S → Type 0
   IsEmpty seat = seat.holding ≡ what.Nothing
 
+  abbrev pub IsLent : GroupSeat L S → Type 0
+  IsLent seat = seat.holding ≢ what.Nothing
+
   -- it has given nothing back
   abbrev pub HasKept : GroupSeat L S → Type 0
   HasKept seat = seat.gave_back ≡ false
 
   abbrev pub IsFree : GroupSeat L S → Type 0
   IsFree seat = IsEmpty seat × HasKept seat
+
+  -- from one seat on, no seat behind an empty one holds anything
+  abbrev pub AreFilledFrom : ℕ → List (GroupSeat L S) → Type 0
+  AreFilledFrom from seats =
+      (j k : ℕ) (d : GroupSeat L S) → from ≤ j → j < k → k < length seats
+      → IsEmpty (slice_index_or seats j d) → IsEmpty (slice_index_or seats k d)
 
   -- the seat of a lane that was lent nothing yet
   pub record IsNewSeat (lane : ℕ) (seat : GroupSeat L S) : Type 0 where
@@ -89,6 +98,14 @@ module _ {L S : Type 0} where
   PassesFor loan what.Nothing old new = new ≡ old
   PassesFor loan (what.Loan l) old new = HasPassedOnce old (loan l).position new
   PassesFor loan (what.Performed s effects) old new = new ≡ old
+
+  -- the same for each seat
+  abbrev pub PassForEach : {T : Type 0} → (L → LoanView T) → List (GroupSeat L S)
+      → List (GroupSeat L S) → Type 0
+  PassForEach loan old new =
+      (k : ℕ) (d : GroupSeat L S) → k < length old
+      → PassesFor loan (slice_index_or old k d).holding (slice_index_or old k d).passes
+      (slice_index_or new k d).passes
 
   -- what is performed was passed, and nothing after it
   abbrev pub IsPassed : {T : Type 0} → (S → LoanView T) → Holding L S → Passes → Type 0

@@ -1,8 +1,8 @@
 //! The lane numbers of a group: what each of them holds between the turns.
-ghost use Rattle.std.specs.Prelude.{◌≡◌, ℕ, List, All, false};
+ghost use Rattle.std.specs.Prelude.{◌≡◌, ◌≢◌, ℕ, List, All, true, false};
 ghost use Rattle.bank_law.specs.declared.event.Event.{Event};
 ghost use Rattle.bank_lanes.specs.Gates.{HasPassedOnce};
-ghost use Rattle.bank_lanes.specs.Groups.{IsEmpty, IsHeldBy, IsHolding, IsNewSeat, IsOf, IsPassed, IsSeatOf, AreSeats, HasKept, PassesFor, seat_lanes};
+ghost use Rattle.bank_lanes.specs.Groups.{IsEmpty, IsHeldBy, IsHolding, IsNewSeat, IsOf, IsPassed, IsSeatOf, AreFilledFrom, AreSeats, HasKept, PassForEach, PassesFor, seat_lanes};
 ghost use Rattle.bank_lanes.specs.Passes.{SeesLoans};
 ghost use Rattle.bank_lanes.specs.declared.group.Holding.TheVariants.{Nothing};
 
@@ -36,6 +36,14 @@ impl<L, S> GroupSeat<L, S> {
             gave_back: false,
             passes: Passes::none(lane),
         }
+    }
+
+    /// Whether nothing is held.
+    pub(crate) fn is_empty(&self) -> bool
+        ensures empty { result ≡ true → IsEmpty self.now }
+        ensures some { IsEmpty self.now → result ≡ true }
+    {
+        matches!(self.holding, Holding::Nothing)
     }
 
     /// Takes what is held away.
@@ -89,6 +97,7 @@ fn performed<W: Work, D: Desk<W, Loan = Loan<W>>, G: Gate>(
     requires told { (D.origin desk.now).told ≡ W.told work.now }
     requires of { loan.origin.value ≡ D.origin desk.now }
     ensures once { HasPassedOnce passes.old loan.position passes.new }
+    ensures some { result ≢ Nothing }
     ensures passed { IsPassed D.spent result passes.new }
     ensures holding { (lane : ℕ) (seen : List Event)
         → IsHeldBy (D.origin desk.now) lane seen (D.loan loan)
@@ -113,6 +122,8 @@ fn perform<W: Work, D: Desk<W, Loan = Loan<W>>, G: Gate>(
     requires of { IsOf D.loan (D.origin desk.now) seat.old.holding }
     ensures lane { seat.new.lane ≡ seat.old.lane }
     ensures gave_back { seat.new.gave_back ≡ seat.old.gave_back }
+    ensures empty { IsEmpty seat.old → IsEmpty seat.new }
+    ensures some { IsEmpty seat.new → IsEmpty seat.old }
     ensures passes { PassesFor D.loan seat.old.holding seat.old.passes seat.new.passes }
     ensures stays { (seen : List Event)
         → IsSeatOf D.loan D.spent W.job (D.origin desk.now) seat.old seen
@@ -128,7 +139,8 @@ fn perform<W: Work, D: Desk<W, Loan = Loan<W>>, G: Gate>(
     }
 }
 
-/// The same of each seat, in their order.
+/// The same of each seat, in their order, up to the first that holds nothing: no seat behind it holds
+/// anything.
 pub(crate) fn perform_all<W: Work, D: Desk<W, Loan = Loan<W>>, G: Gate>(
     desk: &D,
     seats: &mut [GroupSeat<Loan<W>, D::Spent>],
@@ -139,13 +151,19 @@ pub(crate) fn perform_all<W: Work, D: Desk<W, Loan = Loan<W>>, G: Gate>(
     requires told { (D.origin desk.now).told ≡ W.told work.now }
     requires of { All (λ seat. IsOf D.loan (D.origin desk.now) seat.holding) seats.old }
     requires kept { All HasKept seats.old }
+    requires filled { AreFilledFrom 0 seats.old }
     ensures same { seat_lanes seats.new ≡ seat_lanes seats.old }
     ensures kept { All HasKept seats.new }
+    ensures filled { AreFilledFrom 0 seats.new }
+    ensures passes { PassForEach D.loan seats.old seats.new }
     ensures stays { (lanes : List ℕ) (seen : List Event)
         → AreSeats D.loan D.spent W.job (D.origin desk.now) lanes seats.old seen
         → AreSeats D.loan D.spent W.job (D.origin desk.now) lanes seats.new seen }
 {
     for at in 0..seats.len() {
+        if seats[at].is_empty() {
+            return;
+        }
         perform(desk, &mut seats[at], work, gate);
     }
 }

@@ -5,7 +5,7 @@ ghost use Rattle.bank_core.specs.Desks.{Stays};
 ghost use Rattle.bank_core.specs.Origins.{AllDoneAfter};
 ghost use Rattle.bank_law.specs.History.{holds, returns};
 ghost use Rattle.bank_lanes.specs.declared.turns.LaneEnd.TheVariants.{Finished, GaveBack};
-ghost use Rattle.bank_lanes.specs.Groups.{AreSeats, EndsWell, IsEmpty, IsNewSeat, seat_lanes};
+ghost use Rattle.bank_lanes.specs.Groups.{AreSeats, EndsWell, IsFree, IsNewSeat, seat_lanes};
 ghost use Rattle.bank_lanes.specs.Passes.{AreItsOwn, HoldsNothing, IsIdle, KeepsTo, SeesLoans, StaysFree, WentOn, Widened};
 
 use crate::gate::Gate;
@@ -57,12 +57,12 @@ fn widen<W: Work, D: Desk<W, Loan = Loan<W>>, R: Wait>(
     requires room { width ≤ vec_capacity seats.old }
     requires seats { AreSeats D.loan D.spent W.job (D.origin desk.now) (D.lanes_of pass.old)
         seats.old.items (D.view pass.old).seen }
-    requires empty { All IsEmpty seats.old.items }
+    requires free { All IsFree seats.old.items }
     ensures desk { D.is_of desk.now pass.new }
     ensures some { 0 < length seats.new.items }
     ensures seats { AreSeats D.loan D.spent W.job (D.origin desk.now) (D.lanes_of pass.new)
         seats.new.items (D.view pass.new).seen }
-    ensures empty { All IsEmpty seats.new.items }
+    ensures free { All IsFree seats.new.items }
     ensures wider { Widened (D.lanes_of pass.old) (D.view pass.old) (D.lanes_of pass.new)
         (D.view pass.new) }
 {
@@ -93,6 +93,7 @@ fn run_seats<W: Work, D: Desk<W, Loan = Loan<W>>, G: Gate, R: Wait>(
     requires desk { D.is_of desk.now pass.old }
     requires seats { AreSeats D.loan D.spent W.job (D.origin desk.now) (D.lanes_of pass.old)
         seats.old.items (D.view pass.old).seen }
+    requires free { All IsFree seats.old.items }
     ensures desk { D.is_of desk.now pass.new }
     ensures own { AreItsOwn (D.view pass.new) }
     ensures keeps { KeepsTo (seat_lanes seats.old.items) (D.lanes_of pass.old) (D.view pass.old)

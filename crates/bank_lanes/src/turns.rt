@@ -1,9 +1,10 @@
 //! The turns of a group of lane numbers over a desk.
-ghost use Rattle.std.specs.Prelude.{◌≡◌, ◌<◌, ◌≤◌, true, length, All};
+ghost use Rattle.std.specs.Prelude.{◌≡◌, ◌≢◌, ◌<◌, ◌≤◌, true, length, All};
 ghost use Rattle.std.specs.List.{AllWithin};
 ghost use Rattle.bank_core.specs.Lanes.{is_one_of};
 ghost use Rattle.bank_lanes.specs.Passes.{AreItsOwn, KeepsTo, SeesLoans};
-ghost use Rattle.bank_lanes.specs.Groups.{AreSeats, EndsWell, HasFound, HasKept, IsEmpty, IsFree, IsSeatOf, MatchFound, NoneNowAfter, StepsOn, seat_lanes};
+ghost use Rattle.bank_lanes.specs.declared.turns.Found.TheVariants.{Loan as FoundLoan};
+ghost use Rattle.bank_lanes.specs.Groups.{AreFilledFrom, AreSeats, EndsWell, HasFound, HasKept, IsEmpty, IsFree, IsLent, IsSeatOf, MatchFound, NoneNowAfter, StepsOn, seat_lanes};
 
 use crate::gate::Gate;
 use crate::group::{GroupSeat, Holding, perform_all};
@@ -56,16 +57,19 @@ fn settle<W: Work, D: Desk<W, Loan = Loan<W>>>(
     }
 }
 
-/// The same of each seat, in their order.
+/// The same of each seat, in their order, up to the first that holds nothing: no seat behind it holds
+/// anything. It says whether none gave back.
 fn settle_all<W: Work, D: Desk<W, Loan = Loan<W>>>(
     desk: &D,
     turn: &mut D::Turn,
     seats: &mut [GroupSeat<Loan<W>, D::Spent>],
-)
+) -> bool
     requires desk { D.is_turn_of desk.now turn.old }
     requires own { AreItsOwn (D.turn_view turn.old) }
     requires seats { AreSeats D.loan D.spent W.job (D.origin desk.now) (D.turn_lanes turn.old)
         seats.old (D.turn_view turn.old).seen }
+    requires kept { All HasKept seats.old }
+    requires filled { AreFilledFrom 0 seats.old }
     ensures desk { D.is_turn_of desk.now turn.new }
     ensures own { AreItsOwn (D.turn_view turn.new) }
     ensures keeps { KeepsTo (seat_lanes seats.old) (D.turn_lanes turn.old) (D.turn_view turn.old)
@@ -74,10 +78,19 @@ fn settle_all<W: Work, D: Desk<W, Loan = Loan<W>>>(
     ensures seats { AreSeats D.loan D.spent W.job (D.origin desk.now) (D.turn_lanes turn.new)
         seats.new (D.turn_view turn.new).seen }
     ensures empty { All IsEmpty seats.new }
+    ensures kept { result ≡ true → All HasKept seats.new }
 {
+    let mut kept = true;
     for at in 0..seats.len() {
+        if seats[at].is_empty() {
+            return kept;
+        }
         settle(desk, turn, &mut seats[at]);
+        if seats[at].gave_back {
+            kept = false;
+        }
     }
+    kept
 }
 
 /// Lends the least ready position to a seat that holds nothing.
@@ -100,6 +113,8 @@ fn lend_to<W: Work, D: Desk<W, Loan = Loan<W>>>(
     ensures seat { IsSeatOf D.loan D.spent W.job (D.origin desk.now) seat.new
         (D.turn_view turn.new).seen }
     ensures kept { HasKept seat.new }
+    ensures lent { result ≡ FoundLoan → IsLent seat.new }
+    ensures none { result ≢ FoundLoan → IsEmpty seat.new }
     ensures found { HasFound D.loan D.spent W.job (D.origin desk.now) result seat.new
         (D.turn_view turn.old) (D.turn_view turn.new) }
 {
@@ -128,6 +143,7 @@ fn lend_rest<W: Work, D: Desk<W, Loan = Loan<W>>>(
     requires seats { AreSeats D.loan D.spent W.job (D.origin desk.now) (D.turn_lanes turn.old)
         seats.old (D.turn_view turn.old).seen }
     requires kept { All HasKept seats.old }
+    requires first { AllWithin IsLent seats.old 0 1 }
     requires empty { AllWithin IsEmpty seats.old 1 (length seats.old) }
     ensures desk { D.is_turn_of desk.now turn.new }
     ensures own { AreItsOwn (D.turn_view turn.new) }
@@ -137,6 +153,7 @@ fn lend_rest<W: Work, D: Desk<W, Loan = Loan<W>>>(
     ensures seats { AreSeats D.loan D.spent W.job (D.origin desk.now) (D.turn_lanes turn.new)
         seats.new (D.turn_view turn.new).seen }
     ensures kept { All HasKept seats.new }
+    ensures filled { AreFilledFrom 0 seats.new }
 {
     for at in 1..most {
         if lend_to(desk, turn, &mut seats[at]) != Found::Loan {
@@ -175,6 +192,7 @@ fn lend_share<W: Work, D: Desk<W, Loan = Loan<W>>>(
     ensures same { seat_lanes seats.new ≡ seat_lanes seats.old }
     ensures seats { AreSeats D.loan D.spent W.job (D.origin desk.now) (D.turn_lanes turn.new)
         seats.new (D.turn_view turn.new).seen }
+    ensures filled { AreFilledFrom 0 seats.new }
     ensures found { MatchFound result (All HasKept seats.new)
         (All IsFree seats.new × NoneNowAfter W.job (D.origin desk.now) (D.turn_view turn.new).seen)
         (λ end. EndsWell W.job (D.origin desk.now) end seats.new (D.turn_view turn.new)) }
@@ -185,13 +203,6 @@ fn lend_share<W: Work, D: Desk<W, Loan = Loan<W>>>(
         lend_rest(desk, turn, seats, share);
     }
     found
-}
-
-/// Whether no seat has given anything back.
-fn none_gave_back<L, S>(seats: &[GroupSeat<L, S>]) -> bool
-    ensures { result ≡ true → All HasKept seats.now }
-{
-    seats.iter().all(|seat| !seat.gave_back)
 }
 
 /// What a group does under a turn: it settles all its seats, and takes its share. Where a seat gave
@@ -207,6 +218,8 @@ fn under_turn<W: Work, D: Desk<W, Loan = Loan<W>>>(
     requires own { AreItsOwn (D.turn_view turn.old) }
     requires seats { AreSeats D.loan D.spent W.job (D.origin desk.now) (D.turn_lanes turn.old)
         seats.old (D.turn_view turn.old).seen }
+    requires kept { All HasKept seats.old }
+    requires filled { AreFilledFrom 0 seats.old }
     ensures desk { D.is_turn_of desk.now turn.new }
     ensures own { AreItsOwn (D.turn_view turn.new) }
     ensures keeps { KeepsTo (seat_lanes seats.old) (D.turn_lanes turn.old) (D.turn_view turn.old)
@@ -214,12 +227,12 @@ fn under_turn<W: Work, D: Desk<W, Loan = Loan<W>>>(
     ensures same { seat_lanes seats.new ≡ seat_lanes seats.old }
     ensures seats { AreSeats D.loan D.spent W.job (D.origin desk.now) (D.turn_lanes turn.new)
         seats.new (D.turn_view turn.new).seen }
+    ensures filled { AreFilledFrom 0 seats.new }
     ensures found { MatchFound result (All HasKept seats.new)
         (All IsFree seats.new × NoneNowAfter W.job (D.origin desk.now) (D.turn_view turn.new).seen)
         (λ end. EndsWell W.job (D.origin desk.now) end seats.new (D.turn_view turn.new)) }
 {
-    settle_all(desk, turn, seats);
-    if none_gave_back(seats) {
+    if settle_all(desk, turn, seats) {
         lend_share(desk, turn, seats)
     } else {
         Found::End(LaneEnd::GaveBack)
@@ -238,6 +251,8 @@ fn take_turn<W: Work, D: Desk<W, Loan = Loan<W>>, R: Wait>(
     requires desk { D.is_of desk.now pass.old }
     requires seats { AreSeats D.loan D.spent W.job (D.origin desk.now) (D.lanes_of pass.old)
         seats.old (D.view pass.old).seen }
+    requires kept { All HasKept seats.old }
+    requires filled { AreFilledFrom 0 seats.old }
     ensures desk { D.is_of desk.now pass.new }
     ensures own { AreItsOwn (D.view pass.new) }
     ensures keeps { KeepsTo (seat_lanes seats.old) (D.lanes_of pass.old) (D.view pass.old)
@@ -245,6 +260,7 @@ fn take_turn<W: Work, D: Desk<W, Loan = Loan<W>>, R: Wait>(
     ensures same { seat_lanes seats.new ≡ seat_lanes seats.old }
     ensures seats { AreSeats D.loan D.spent W.job (D.origin desk.now) (D.lanes_of pass.new)
         seats.new (D.view pass.new).seen }
+    ensures filled { AreFilledFrom 0 seats.new }
     ensures found { MatchFound result (All HasKept seats.new)
         (All IsFree seats.new × NoneNowAfter W.job (D.origin desk.now) (D.view pass.new).seen)
         (λ end. EndsWell W.job (D.origin desk.now) end seats.new (D.view pass.new)) }
@@ -271,6 +287,7 @@ pub(crate) fn run_group<W: Work, D: Desk<W, Loan = Loan<W>>, G: Gate, R: Wait>(
     requires desk { D.is_of desk.now pass.old }
     requires seats { AreSeats D.loan D.spent W.job (D.origin desk.now) (D.lanes_of pass.old)
         seats.old (D.view pass.old).seen }
+    requires free { All IsFree seats.old }
     ensures desk { D.is_of desk.now pass.new }
     ensures own { AreItsOwn (D.view pass.new) }
     ensures keeps { KeepsTo (seat_lanes seats.old) (D.lanes_of pass.old) (D.view pass.old)

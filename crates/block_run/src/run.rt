@@ -4,6 +4,7 @@ ghost use Rattle.sol_base.specs.Limits.{max_lanes, max_stack_height, max_transac
 ghost use Rattle.admission.specs.Admission.{AreParsed, admitted};
 ghost use Rattle.admission.specs.Answers.{told_by};
 ghost use Rattle.admission.specs.Chosen.{IsChosen};
+ghost use Rattle.bank_core.specs.Counts.{max_lane_numbers};
 ghost use Rattle.block_record.specs.Record.{IsCounted};
 ghost use Rattle.block_record.specs.Replays.{IsReplayOf};
 ghost use Rattle.snapshot_codec.specs.Snapshot.{IsReadable, IsUpTo};
@@ -41,13 +42,16 @@ struct Opened {
     chain: Chain,
 }
 
-/// Opens a block of these transactions, in their order, over a snapshot.
+/// Opens a block of these transactions, in their order, over a snapshot, for so many lane numbers.
 fn open<G: Gate, R: Threads + Sync>(
     crew: &Crew<'_, G, R>,
+    lane_numbers: u32,
     snapshot: Snapshot,
     slot: u64,
     order: Items<Candidate>,
 ) -> Result<Opened, OutOfMemory>
+    requires some { 1 ≤ lane_numbers }
+    requires most { lane_numbers ≤ max_lane_numbers }
     requires few { length order ≤ max_transactions }
     requires height { IsUpTo max_stack_height snapshot.limits.height }
     requires chosen { All IsChosen order }
@@ -66,13 +70,14 @@ fn open<G: Gate, R: Threads + Sync>(
         accounts,
     } = snapshot;
     Ok(Opened {
-        core: Core::over(crew.alloc, accounts, &work, crew.lane_numbers(), numbered)?,
+        core: Core::over(crew.alloc, accounts, &work, lane_numbers, numbered)?,
         work,
         chain: Chain { limits, recent },
     })
 }
 
-/// Runs transactions in their order over a snapshot, and ends the block.
+/// Runs transactions in their order over a snapshot, and ends the block. Where few of them are work for
+/// a lane only the lanes are fewer: what stands before and after them is done on all threads.
 fn run_order<G: Gate, R: Threads + Wait + Sync>(
     crew: &Crew<'_, G, R>,
     snapshot: Snapshot,
@@ -85,8 +90,9 @@ fn run_order<G: Gate, R: Threads + Wait + Sync>(
     requires of { AreOf wires.now order }
     ensures { IfOk result (IsClosed (closed snapshot head.now wires.now order)) }
 {
-    let crew = crew.busy(working_in(order.as_slice()));
-    let Opened { work, core, chain } = open(&crew, snapshot, head.slot, order)?;
+    let busy = crew.busy(working_in(order.as_slice()));
+    let numbers = busy.lane_numbers();
+    let Opened { work, core, chain } = open(crew, numbers, snapshot, head.slot, order)?;
     let parts = RecordParts {
         head,
         previous: chain.recent.newest(),
@@ -95,8 +101,8 @@ fn run_order<G: Gate, R: Threads + Wait + Sync>(
         kept: false,
     };
     let room = Blob::new(crew.alloc);
-    let (ended, outcomes, begun) = run_work(&crew, core, &work, parts, room)?;
-    close(&crew, chain, parts, ended, outcomes, begun)
+    let (ended, outcomes, begun) = run_work(&busy, core, &work, parts, room)?;
+    close(crew, chain, parts, ended, outcomes, begun)
 }
 
 /// Runs transactions in their order over a snapshot, and writes the record of the block in the room.
@@ -114,9 +120,10 @@ fn record_order<G: Gate, R: Threads + Wait + Sync>(
     ensures { IfOk result (λ end. IsClosedRecord
         (closed snapshot (head_of batch) batch.wires order) end.0) }
 {
-    let crew = crew.busy(working_in(order.as_slice()));
+    let busy = crew.busy(working_in(order.as_slice()));
+    let numbers = busy.lane_numbers();
     let head = head_of(&batch);
-    let Opened { work, core, chain } = open(&crew, snapshot, head.slot, order)?;
+    let Opened { work, core, chain } = open(crew, numbers, snapshot, head.slot, order)?;
     let parts = RecordParts {
         head: &head,
         previous: chain.recent.newest(),
@@ -124,8 +131,8 @@ fn record_order<G: Gate, R: Threads + Wait + Sync>(
         order: work.chosen(),
         kept: true,
     };
-    let (ended, outcomes, begun) = run_work(&crew, core, &work, parts, room)?;
-    let end = close_record(&crew, chain, parts, ended, &outcomes, begun)?;
+    let (ended, outcomes, begun) = run_work(&busy, core, &work, parts, room)?;
+    let end = close_record(crew, chain, parts, ended, &outcomes, begun)?;
     Ok((
         end,
         Spent {

@@ -2,7 +2,7 @@
 ghost use Rattle.std.specs.Prelude.{◌≡◌, ◌<◌, ◌≤◌, ◌^◌, [], IfOk};
 ghost use Rattle.bank_core.specs.Counts.{locks_before};
 ghost use Rattle.bank_core.specs.Ends.{outcomes_at_end};
-ghost use Rattle.bank_core.specs.Trial.{trial_job};
+ghost use Rattle.lane_trials.specs.Trial.{trial_job};
 ghost use Rattle.bank_lanes.specs.Passes.{IsIdle};
 
 use crate::tests::trial::Trial;

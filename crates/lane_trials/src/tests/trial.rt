@@ -7,8 +7,8 @@ ghost use Rattle.sol_base.specs.Accounts.{accounts_of};
 ghost use Rattle.account_store.specs.State.{sum};
 ghost use Rattle.bank_law.specs.Lawful.{lent_for_writing};
 ghost use Rattle.bank_core.specs.Effects.{effects_seen};
-ghost use Rattle.bank_core.specs.Trial.{spent, first_lamports, trial_effects, trial_job, AreDistinctLists, IsSmall};
-ghost use Rattle.bank_core.specs.TrialLaws.{trial_lawful};
+ghost use Rattle.lane_trials.specs.Trial.{spent, first_lamports, trial_effects, trial_job, AreDistinctLists, IsSmall};
+ghost use Rattle.lane_trials.specs.TrialLaws.{trial_lawful};
 
 use account_store::Accounts;
 use bank_core::{Effects, SharedOutcome, Work};

@@ -1,6 +1,6 @@
 //! Works around the small one: one that finds no memory, and one that waits in its work.
-ghost use Rattle.bank_core.specs.Trial.{trial_job};
-ghost use Rattle.bank_core.specs.TrialLaws.{trial_lawful};
+ghost use Rattle.lane_trials.specs.Trial.{trial_job};
+ghost use Rattle.lane_trials.specs.TrialLaws.{trial_lawful};
 
 use crate::tests::gates::wait_for;
 use crate::tests::trial::Trial;

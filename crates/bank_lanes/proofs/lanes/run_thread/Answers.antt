@@ -54,5 +54,5 @@ widen-requires-clause-seats g c κs within =
     first_seats g.D.Desk.loan g.D.Desk.spent g.W.Work.job (g.D.Desk.origin c.args.desk.now) (g.D.Desk.lanes_of c.args.pass.now) c.in-Ok.seats.items c.lane.result v.seen
     c.in-Ok.ensures.one c.in-Ok.ensures.new c.lane.ensures.one (ap holds (sym was) ∙ c.requires.idle.free) (ap returns (sym was) ∙ c.requires.idle.once)
 
-pub widen-requires-clause-empty : goal.widen-requires-clause-empty
-widen-requires-clause-empty g c κs within = λ k d l. (c.in-Ok.ensures.new k d l).empty
+pub widen-requires-clause-free : goal.widen-requires-clause-free
+widen-requires-clause-free g c κs within = λ k d l. ((c.in-Ok.ensures.new k d l).empty, (c.in-Ok.ensures.new k d l).kept)

@@ -3,7 +3,7 @@ use Rattle.std.proofs.lemmas.List.Elements.{All-push}
 use Rattle.bank_law.specs.History.{own, holds, returns}
 use Rattle.bank_core.specs.Lanes.{is_one_of}
 use Rattle.bank_core.proofs.Lanes.{same_own, is_one_within}
-use Rattle.bank_lanes.specs.Groups.{AreSeats, IsEmpty}
+use Rattle.bank_lanes.specs.Groups.{AreSeats, IsFree}
 use Rattle.bank_lanes.proofs.Frees.{free_new, widened_split, widened_join, widened_then}
 use Rattle.bank_lanes.proofs.GroupSteps.{seats_kept, seats_pushed}
 use Rattle.bank_lanes.proofs.lanes.widen.Goals as goal
@@ -39,6 +39,6 @@ loop-preserved g c =
       seats = subst (λ ss. AreSeats g.D.Desk.loan g.D.Desk.spent g.W.Work.job (g.D.Desk.origin c.args.desk.now) now ss (g.D.Desk.view c.join.new.pass).seen) (sym pushed)
           (seats_pushed g.D.Desk.loan g.D.Desk.spent g.W.Work.job (g.D.Desk.origin c.args.desk.now) was now c.loop.seats.items c.new.result lane (g.D.Desk.view c.join.new.pass).seen c.new.ensures first.lanes_are (c.join.ensures.apart lane c.lane-lane.ensures.one) kept
           (subst (λ ls. is_one_of ls lane ≡ true) (sym c.join.ensures.both) (is_one_within lane theirs was ∙ ap (λ b. b || is_one_of was lane) c.lane-lane.ensures.one)) (ap holds none) (ap returns none));
-      empty = subst (λ ss. All IsEmpty ss) (sym pushed) (All-push IsEmpty c.loop.seats.items c.new.result i.empty c.new.ensures.empty);
+      free = subst (λ ss. All IsFree ss) (sym pushed) (All-push IsFree c.loop.seats.items c.new.result i.free (c.new.ensures.empty, c.new.ensures.kept));
       wider = widened_then _ _ _ _ _ _ i.wider (widened_then _ _ _ _ _ _ split joined);
     }

@@ -1,5 +1,5 @@
 use Rattle.std.proofs.Common.{◌≡◌, ◌≤◌, All, vec_len, vec_capacity}
-use Rattle.bank_lanes.specs.Groups.{AreSeats, IsEmpty}
+use Rattle.bank_lanes.specs.Groups.{AreSeats, IsFree}
 use Rattle.bank_lanes.specs.Passes.{Widened}
 use Rattle.bank_lanes.proofs.lanes.widen.Given as goal
 
@@ -9,6 +9,6 @@ invariant-loop g l = record {
   long : vec_len l.seats ≡ l.counter;
   room : l.width ≤ vec_capacity l.seats;
   seats : AreSeats g.D.Desk.loan g.D.Desk.spent g.W.Work.job (g.D.Desk.origin l.desk) (g.D.Desk.lanes_of l.pass) l.seats.items (g.D.Desk.view l.pass).seen;
-  empty : All IsEmpty l.seats.items;
+  free : All IsFree l.seats.items;
   wider : Widened (g.D.Desk.lanes_of l.initial.pass) (g.D.Desk.view l.initial.pass) (g.D.Desk.lanes_of l.pass) (g.D.Desk.view l.pass);
 }

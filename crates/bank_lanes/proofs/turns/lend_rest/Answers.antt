@@ -1,6 +1,7 @@
-use Rattle.std.proofs.Common.{◌<◌, length, arith}
-use Rattle.std.proofs.lemmas.List.Elements.{All-set}
-use Rattle.bank_lanes.specs.Groups.{IsEmpty, HasKept, seat_lanes}
+use Rattle.std.proofs.Common.{rules, ◌<◌, length, arith}
+use Rattle.std.proofs.lemmas.List.Elements.{All-set, AllWithin-more_set}
+use Rattle.bank_lanes.specs.Groups.{IsEmpty, IsLent, HasKept, seat_lanes}
+use Rattle.bank_lanes.proofs.Filled.{filled_front, filled_none}
 use Rattle.bank_lanes.proofs.GroupSteps.{advance, after_set, lane_within}
 use Rattle.bank_lanes.proofs.turns.lend_rest.Goals as goal
 
@@ -46,5 +47,14 @@ loop-at-preserved g c =
       same = next.1;
       seats = next.2;
       kept = All-set HasKept c.loop-at.seats c.loop-at.at c.lend_to.new.seat c.lend_to.ensures.kept i.kept;
+      lent = AllWithin-more_set c.loop-at.seats c.loop-at.at c.lend_to.new.seat within IsLent i.lent (c.lend_to.ensures.lent (search rules));
       empty = after_set IsEmpty c.loop-at.seats c.loop-at.at c.lend_to.new.seat i.empty;
     }
+
+pub returns-then-ne-clause-filled : goal.returns-then-ne-clause-filled
+returns-then-ne-clause-filled g c =
+    let i = c.loop-at.invariant in
+    filled_none c.loop-at.seats c.loop-at.at c.lend_to.new.seat (omega arith) i.lent (c.lend_to.ensures.none (search rules)) i.empty
+
+pub returns-clause-filled : goal.returns-clause-filled
+returns-clause-filled g c = filled_front c.loop-at.seats c.loop-at.at c.loop-at.invariant.lent c.loop-at.invariant.empty

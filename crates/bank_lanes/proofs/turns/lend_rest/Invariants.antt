@@ -1,6 +1,6 @@
 use Rattle.std.proofs.Common.{◌≡◌, All, length}
 use Rattle.std.specs.List.{AllWithin}
-use Rattle.bank_lanes.specs.Groups.{AreSeats, HasKept, IsEmpty, seat_lanes}
+use Rattle.bank_lanes.specs.Groups.{AreSeats, HasKept, IsEmpty, IsLent, seat_lanes}
 use Rattle.bank_lanes.specs.Passes.{AreItsOwn, KeepsTo}
 use Rattle.bank_lanes.proofs.turns.lend_rest.Given as goal
 
@@ -12,5 +12,6 @@ invariant-loop-at g l = record {
   same : seat_lanes l.seats ≡ seat_lanes l.initial.seats;
   seats : AreSeats g.D.Desk.loan g.D.Desk.spent g.W.Work.job (g.D.Desk.origin l.desk) (g.D.Desk.turn_lanes l.turn) l.seats (g.D.Desk.turn_view l.turn).seen;
   kept : All HasKept l.seats;
+  lent : AllWithin IsLent l.seats 0 l.at;
   empty : AllWithin IsEmpty l.seats l.at (length l.seats);
 }

@@ -11,6 +11,8 @@ turns-preserved-in-Loan g c =
       keeps = keeps_then _ _ _ _ _ _ _ i.keeps (subst (λ ms. KeepsTo ms (g.D.Desk.lanes_of c.turns.pass) (g.D.Desk.view c.turns.pass) (g.D.Desk.lanes_of c.take_turn.new.pass) (g.D.Desk.view c.take_turn.new.pass)) i.same c.take_turn.ensures.keeps);
       same = c.perform_all.ensures.same ∙ (c.take_turn.ensures.same ∙ i.same);
       seats = c.perform_all.ensures.stays _ _ c.take_turn.ensures.seats;
+      kept = c.perform_all.ensures.kept;
+      filled = c.perform_all.ensures.filled;
     }
 
 pub turns-preserved : goal.turns-preserved
@@ -21,6 +23,8 @@ turns-preserved g c =
       keeps = keeps_then _ _ _ _ _ _ _ i.keeps (subst (λ ms. KeepsTo ms (g.D.Desk.lanes_of c.turns.pass) (g.D.Desk.view c.turns.pass) (g.D.Desk.lanes_of c.take_turn.new.pass) (g.D.Desk.view c.take_turn.new.pass)) i.same c.take_turn.ensures.keeps);
       same = c.take_turn.ensures.same ∙ i.same;
       seats = c.take_turn.ensures.seats;
+      kept = λ k d l. (c.in-Nothing.ensures.found.0 k d l).1;
+      filled = c.take_turn.ensures.filled;
     }
 
 pub returns-in-End-clause-keeps : goal.returns-in-End-clause-keeps

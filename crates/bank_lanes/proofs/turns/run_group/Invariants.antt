@@ -1,5 +1,5 @@
-use Rattle.std.proofs.Common.{◌≡◌}
-use Rattle.bank_lanes.specs.Groups.{AreSeats, seat_lanes}
+use Rattle.std.proofs.Common.{◌≡◌, All}
+use Rattle.bank_lanes.specs.Groups.{AreFilledFrom, AreSeats, HasKept, seat_lanes}
 use Rattle.bank_lanes.specs.Passes.{KeepsTo}
 use Rattle.bank_lanes.proofs.turns.run_group.Given as goal
 
@@ -9,4 +9,6 @@ invariant-turns g l = record {
   keeps : KeepsTo (seat_lanes l.initial.seats) (g.D.Desk.lanes_of l.initial.pass) (g.D.Desk.view l.initial.pass) (g.D.Desk.lanes_of l.pass) (g.D.Desk.view l.pass);
   same : seat_lanes l.seats ≡ seat_lanes l.initial.seats;
   seats : AreSeats g.D.Desk.loan g.D.Desk.spent g.W.Work.job (g.D.Desk.origin l.desk) (g.D.Desk.lanes_of l.pass) l.seats (g.D.Desk.view l.pass).seen;
+  kept : All HasKept l.seats;
+  filled : AreFilledFrom 0 l.seats;
 }

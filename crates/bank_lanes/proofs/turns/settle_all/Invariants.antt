@@ -1,6 +1,6 @@
-use Rattle.std.proofs.Common.{◌≡◌}
+use Rattle.std.proofs.Common.{◌≡◌, true, All}
 use Rattle.std.specs.List.{AllWithin}
-use Rattle.bank_lanes.specs.Groups.{AreSeats, IsEmpty, seat_lanes}
+use Rattle.bank_lanes.specs.Groups.{AreFilledFrom, AreSeats, HasKept, IsEmpty, seat_lanes}
 use Rattle.bank_lanes.specs.Passes.{AreItsOwn, KeepsTo}
 use Rattle.bank_lanes.proofs.turns.settle_all.Given as goal
 
@@ -12,4 +12,6 @@ invariant-loop-at g l = record {
   same : seat_lanes l.seats ≡ seat_lanes l.initial.seats;
   seats : AreSeats g.D.Desk.loan g.D.Desk.spent g.W.Work.job (g.D.Desk.origin l.desk) (g.D.Desk.turn_lanes l.turn) l.seats (g.D.Desk.turn_view l.turn).seen;
   empty : AllWithin IsEmpty l.seats 0 l.at;
+  filled : AreFilledFrom l.at l.seats;
+  kept : l.kept ≡ true → All HasKept l.seats;
 }

@@ -3,7 +3,7 @@ use Rattle.bank_lanes.specs.Passes.{KeepsTo}
 use Rattle.bank_lanes.proofs.Frees.{keeps_then}
 use Rattle.bank_lanes.proofs.turns.under_turn.Goals as goal
 
-pub returns-then-none_gave_back-clause-keeps : goal.returns-then-none_gave_back-clause-keeps
-returns-then-none_gave_back-clause-keeps g c =
+pub returns-then-settle_all-clause-keeps : goal.returns-then-settle_all-clause-keeps
+returns-then-settle_all-clause-keeps g c =
     keeps_then _ _ _ _ _ _ _ c.settle_all.ensures.keeps
     (subst (λ ms. KeepsTo ms (g.D.Desk.turn_lanes c.settle_all.new.turn) (g.D.Desk.turn_view c.settle_all.new.turn) (g.D.Desk.turn_lanes c.lend_share.new.turn) (g.D.Desk.turn_view c.lend_share.new.turn)) c.settle_all.ensures.same c.lend_share.ensures.keeps)

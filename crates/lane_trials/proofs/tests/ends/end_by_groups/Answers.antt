@@ -1,4 +1,4 @@
-use Rattle.bank_core.proofs.Trials.{few_locks}
+use Rattle.lane_trials.proofs.Trials.{few_locks}
 use Rattle.lane_trials.proofs.tests.ends.end_by_groups.Goals as goal
 
 pub new-requires-clause-room : goal.new-requires-clause-room

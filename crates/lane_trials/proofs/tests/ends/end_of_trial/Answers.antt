@@ -1,4 +1,4 @@
-use Rattle.bank_core.proofs.Trials.{few_locks}
+use Rattle.lane_trials.proofs.Trials.{few_locks}
 use Rattle.lane_trials.proofs.tests.ends.end_of_trial.Goals as goal
 
 pub end_by_lanes-requires-clause-room : goal.end_by_lanes-requires-clause-room

@@ -1,4 +1,4 @@
-use Rattle.bank_core.proofs.Trials.{few_locks}
+use Rattle.lane_trials.proofs.Trials.{few_locks}
 use Rattle.lane_trials.proofs.tests.readers.desk_of_two.Goals as goal
 
 pub new-requires-clause-room : goal.new-requires-clause-room

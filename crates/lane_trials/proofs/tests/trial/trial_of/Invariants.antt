@@ -1,5 +1,5 @@
 use Rattle.std.proofs.Common.{◌<◌, length, All}
-use Rattle.bank_core.specs.Trial.{AreDistinctLists}
+use Rattle.lane_trials.specs.Trial.{AreDistinctLists}
 use Rattle.lane_trials.proofs.tests.trial.trial_of.Given as goal
 
 abbrev pub invariant-loop-entries : goal.invariant-loop-entries

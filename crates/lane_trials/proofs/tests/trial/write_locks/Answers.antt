@@ -3,8 +3,8 @@ use Rattle.std.proofs.lemmas.List.{get_or-map}
 use Rattle.sol_base.specs.declared.lock.Lock.{Lock}
 use Rattle.sol_base.specs.Accounts.{empty_account, accounts_of}
 use Rattle.bank_core.specs.Slots.{value_of}
-use Rattle.bank_core.specs.Trial.{spent}
-use Rattle.bank_core.proofs.Trials.{written_more, read_more}
+use Rattle.lane_trials.specs.Trial.{spent}
+use Rattle.lane_trials.proofs.Trials.{written_more, read_more}
 use Rattle.lane_trials.proofs.tests.trial.write_locks.Goals as goal
 use Rattle.lane_trials.proofs.tests.trial.write_locks.Goals.{then-lock+in_ok-spend+in_ok-new+in_ok-push, else-lock}
 

@@ -1,7 +1,7 @@
 use Rattle.std.proofs.Common.{◌≡◌, map, take}
 use Rattle.sol_base.specs.Accounts.{accounts_of}
 use Rattle.bank_law.specs.Lawful.{lent_for_writing}
-use Rattle.bank_core.specs.Trial.{spent}
+use Rattle.lane_trials.specs.Trial.{spent}
 use Rattle.lane_trials.proofs.tests.trial.write_locks.Given as goal
 
 abbrev pub invariant-loop-i : goal.invariant-loop-i

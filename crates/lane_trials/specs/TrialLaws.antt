@@ -10,7 +10,7 @@ use Rattle.sol_base.specs.Accounts.{empty_account}
 use Rattle.bank_law.specs.Lawful.{IsShort, AreShort, IsSettled, AreSettled, lamports_in, lent_for_writing, IsLawful}
 use Rattle.bank_law.proofs.States.{lamports_in-cons}
 use Rattle.bank_law.proofs.Supply.{lent_for_writing-length, lent_for_writing-short}
-use Rattle.bank_core.specs.Trial.{spent, trial_job, AreDistinctLists}
+use Rattle.lane_trials.specs.Trial.{spent, trial_job, AreDistinctLists}
 
 spent-le : (a : Account) → (spent a).lamports ≤ a.lamports
 spent-le a = by_case (nat_lt 1 a.lamports)

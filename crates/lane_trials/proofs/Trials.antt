@@ -8,7 +8,7 @@ use Rattle.sol_base.specs.Accounts.{accounts_of}
 use Rattle.bank_law.specs.Lawful.{lent_for_writing}
 use Rattle.bank_core.specs.Slots.{Shared, value_of}
 use Rattle.bank_core.specs.Counts.{locks_before}
-use Rattle.bank_core.specs.Trial.{trial_job, spent, IsSmall}
+use Rattle.lane_trials.specs.Trial.{trial_job, spent, IsSmall}
 
 -- few positions of few locks have few locks together
 few_before : (lists : List (List Lock)) (n : ℕ) → n ≤ length lists → All (λ locks. length locks < 100) lists → locks_before (trial_job lists) n ≤ 100 * n

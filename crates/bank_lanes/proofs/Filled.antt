@@ -1,0 +1,101 @@
+-- Seats that are filled from the first on.
+use Rattle.std.proofs.Common.{◌≡◌, ◌≢◌, ℕ, ◌+◌, ◌<◌, ◌≤◌, List, length, get_or, set, All, sym, ◌∙◌, ap, subst, inl, inr, arith}
+use Rattle.std.specs.List.{AllWithin}
+use Rattle.std.proofs.lemmas.Bool.{cases_eq, cases_lt}
+use Rattle.std.proofs.lemmas.List.{get_or-set_same, get_or-set_other, get_or_default}
+use Rattle.std.proofs.lemmas.List.Elements.{AllWithin-kept, AllWithin-set}
+use Rattle.std.proofs.Math.ListN.{length-set}
+use Rattle.bank_law.specs.declared.event.Event.{Event}
+use Rattle.bank_law.specs.Job.{Job}
+use Rattle.bank_core.specs.declared.origin.Origin.{Origin}
+use Rattle.bank_core.specs.Desks.{LoanView}
+use Rattle.bank_lanes.specs.declared.group.GroupSeat.{GroupSeat}
+use Rattle.bank_lanes.specs.declared.group.Holding.{Holding}
+use Rattle.bank_lanes.specs.declared.group.Holding.TheVariants as what
+use Rattle.bank_lanes.specs.Groups.{AreFilledFrom, HoldsLeast, IsEmpty, IsLent, PassesFor, PassForEach}
+
+-- a loan of the least ready position is none that is empty
+pub lent_least : {T L S : Type 0} (loan : L → LoanView T) (spent : S → LoanView T) (job : T → Job) (origin : Origin T) (x : Holding L S) (seen : List Event) → HoldsLeast loan spent job origin x seen → x ≢ what.Nothing
+lent_least loan spent job origin x seen h e = absurd (subst (λ y. HoldsLeast loan spent job origin y seen) e h)
+
+module _ {L S : Type 0} where
+  -- all are empty
+  pub filled_empty : (seats : List (GroupSeat L S)) (from : ℕ) → All IsEmpty seats → AreFilledFrom from seats
+  filled_empty seats from all j k d a b l e = all k d l
+
+  -- so many are lent, and all behind them are empty
+  pub filled_front : (seats : List (GroupSeat L S)) (at : ℕ) → AllWithin IsLent seats 0 at → AllWithin IsEmpty seats at (length seats) → AreFilledFrom 0 seats
+  filled_front seats at lent empty j k d a b l e = elim (cases_lt j at) [
+    | inl below ↦ absurd (lent j d (omega arith) below e)
+    | inr not ↦ empty k d (omega (arith, b, not)) l
+  ]
+
+  -- the same, where nothing was lent to the next one
+  pub filled_none : (seats : List (GroupSeat L S)) (at : ℕ) (seat : GroupSeat L S) → at < length seats → AllWithin IsLent seats 0 at → IsEmpty seat → AllWithin IsEmpty seats at (length seats) → AreFilledFrom 0 (set seats at seat)
+  filled_none seats at seat within lent one empty =
+      filled_front (set seats at seat) at (AllWithin-kept seats at seat within IsLent lent)
+      (λ k d a b. AllWithin-set IsEmpty seats at (length seats) at seat within one empty k d a (let n : length (set seats at seat) ≡ length seats = simp length-set in omega (arith, b, n)))
+
+  -- one that is empty is followed by empty ones
+  pub empty_behind : (seats : List (GroupSeat L S)) (at : ℕ) → AreFilledFrom at seats → ((d : GroupSeat L S) → IsEmpty (get_or seats at d)) → AllWithin IsEmpty seats 0 at → All IsEmpty seats
+  empty_behind seats at filled here before k d l = elim (cases_lt k at) [
+    | inl below ↦ before k d (omega arith) below
+    | inr not ↦ elim (cases_eq k at) [
+      | inl is ↦ subst (λ n. IsEmpty (get_or seats n d)) (sym is) (here d)
+      | inr other ↦ filled at k d (omega arith) (omega (arith, not, other)) l (here d)
+    ]
+  ]
+
+  -- behind a seat that is settled
+  pub filled_behind : (seats : List (GroupSeat L S)) (at : ℕ) (seat : GroupSeat L S) → AreFilledFrom at seats → AreFilledFrom (at + 1) (set seats at seat)
+  filled_behind seats at seat filled j k d a b l e =
+      let n : length (set seats at seat) ≡ length seats = simp length-set in
+      subst IsEmpty (sym (get_or-set_other seats at k seat d (λ q. omega (arith, q, a, b))))
+      (filled j k d (omega (arith, a)) b (omega (arith, l, n)) (subst IsEmpty (get_or-set_other seats at j seat d (λ q. omega (arith, q, a))) e))
+
+  -- where a seat stays empty or lent
+  pub filled_set : (seats : List (GroupSeat L S)) (at : ℕ) (seat d : GroupSeat L S) → at < length seats → (IsEmpty (get_or seats at d) → IsEmpty seat) → (IsEmpty seat → IsEmpty (get_or seats at d)) → AreFilledFrom 0 seats → AreFilledFrom 0 (set seats at seat)
+  filled_set seats at seat d within empty some filled j k e a b l q =
+      let n : length (set seats at seat) ≡ length seats = simp length-set in
+      let last : k < length seats = omega (arith, l, n) in
+      let first : j < length seats = omega (arith, last, b) in
+      let one : get_or seats at d ≡ get_or seats at e = get_or_default seats at d e within in
+      let was : IsEmpty (get_or seats j e) = elim (cases_eq j at) [
+        | inl is ↦ subst (λ m. IsEmpty (get_or seats m e)) (sym is) (subst IsEmpty one (some (subst IsEmpty (get_or-set_same seats at seat e within) (subst (λ m. IsEmpty (get_or (set seats at seat) m e)) is q))))
+        | inr other ↦ subst IsEmpty (get_or-set_other seats at j seat e other) q
+      ] in
+      let then : IsEmpty (get_or seats k e) = filled j k e a b last was in
+      elim (cases_eq k at) [
+        | inl is ↦ subst (λ m. IsEmpty (get_or (set seats at seat) m e)) (sym is) (subst IsEmpty (sym (get_or-set_same seats at seat e within)) (empty (subst IsEmpty (sym one) (subst (λ m. IsEmpty (get_or seats m e)) is then))))
+        | inr other ↦ subst IsEmpty (sym (get_or-set_other seats at k seat e other)) then
+      ]
+
+  -- the passes of seats, one seat more
+  module _ {T : Type 0} (loan : L → LoanView T) (old seats : List (GroupSeat L S)) (at : ℕ) where
+    pub passes_more : (seat d : GroupSeat L S) → at < length seats → length seats ≡ length old
+        → ((k : ℕ) (e : GroupSeat L S) → at ≤ k → get_or seats k e ≡ get_or old k e)
+        → ((k : ℕ) (e : GroupSeat L S) → k < at → PassesFor loan (get_or old k e).holding (get_or old k e).passes (get_or seats k e).passes)
+        → PassesFor loan (get_or seats at d).holding (get_or seats at d).passes seat.passes
+        → (k : ℕ) (e : GroupSeat L S) → k < at + 1 → PassesFor loan (get_or old k e).holding (get_or old k e).passes (get_or (set seats at seat) k e).passes
+    passes_more seat d within long rest before one k e l = elim (cases_eq k at) [
+      | inl is ↦ subst (λ m. PassesFor loan (get_or old m e).holding (get_or old m e).passes (get_or (set seats at seat) m e).passes) (sym is)
+          (subst (λ (x : GroupSeat L S). PassesFor loan (get_or old at e).holding (get_or old at e).passes x.passes) (sym (get_or-set_same seats at seat e within))
+          (subst (λ (x : GroupSeat L S). PassesFor loan x.holding x.passes seat.passes) (get_or_default seats at d e within ∙ rest at e (omega arith)) one))
+      | inr other ↦ subst (λ (x : GroupSeat L S). PassesFor loan (get_or old k e).holding (get_or old k e).passes x.passes) (sym (get_or-set_other seats at k seat e other)) (before k e (omega (arith, l, other)))
+    ]
+
+    -- those behind hold nothing
+    pub passes_all : length seats ≡ length old → AreFilledFrom 0 old → ((d : GroupSeat L S) → IsEmpty (get_or seats at d))
+        → ((k : ℕ) (e : GroupSeat L S) → at ≤ k → get_or seats k e ≡ get_or old k e)
+        → ((k : ℕ) (e : GroupSeat L S) → k < at → PassesFor loan (get_or old k e).holding (get_or old k e).passes (get_or seats k e).passes)
+        → PassForEach loan old seats
+    passes_all long filled here rest before k e l = elim (cases_lt k at) [
+      | inl below ↦ before k e below
+      | inr not ↦
+          let here_old : IsEmpty (get_or old at e) = subst IsEmpty (rest at e (omega arith)) (here e) in
+          let empty : IsEmpty (get_or old k e) = elim (cases_eq k at) [
+            | inl is ↦ subst (λ m. IsEmpty (get_or old m e)) (sym is) here_old
+            | inr other ↦ filled at k e (omega arith) (omega (arith, not, other)) l here_old
+          ] in
+          subst (λ x. PassesFor loan x (get_or old k e).passes (get_or seats k e).passes) (sym empty) (ap (λ (x : GroupSeat L S). x.passes) (rest k e (omega (arith, not))))
+    ]
