@@ -8,12 +8,13 @@ ghost use Rattle.admission.specs.Weighing.{weighed_from};
 use crate::weighing::{Before, Weighed, is_noted, processed_in, weigh_from, weigh_told};
 use account_store::Accounts;
 use message_codec::Parsed;
+use side_by_side::for_each_mut;
 use sol_base::{Hash32, Items, Limits, OutOfMemory};
 use status_cache::Recent;
 use std::alloc::Global;
 use std::collections::BTreeSet;
+use std::mem;
 use std::thread::Threads;
-use std::{mem, thread};
 
 /// So many wires are worth a thread.
 const WORTH_A_THREAD: usize = 256;
@@ -118,7 +119,7 @@ fn weigh_each<R: Threads + Sync>(
         accounts,
         limits,
     } = before;
-    thread::for_each_mut(
+    for_each_mut(
         rt,
         slots,
         threads,

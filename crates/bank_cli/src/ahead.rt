@@ -10,6 +10,7 @@ use block_end::MANY_TRANSACTIONS;
 use block_run::Decoded;
 use intake::{SendGate, gather};
 use message_codec::MAX_WIRE_LEN;
+use side_by_side::call_both;
 use snapshot_codec::{
     BATCH_HEAD_LEN, BATCH_MAGIC, BatchFault, Prefix, SnapshotFault, WIRE_LENGTH_LEN, batch_count,
     read_batch, read_snapshot, snapshot_length,
@@ -17,7 +18,7 @@ use snapshot_codec::{
 use sol_base::Blob;
 use std::alloc::Global;
 use std::sync::Wait;
-use std::thread::{Threads, join};
+use std::thread::Threads;
 
 /// The bytes that a batch of few transactions takes at most.
 const FEW_ROOM: usize = BATCH_HEAD_LEN + MANY_TRANSACTIONS * (WIRE_LENGTH_LEN + MAX_WIRE_LEN);
@@ -151,8 +152,7 @@ fn place_of_many(bytes: &[u8]) -> Option<usize>
     }
 }
 
-/// Reads the snapshot, and the batch beside it. The snapshot takes more memory, which costs least on
-/// the caller's thread.
+/// Reads the snapshot, and the batch beside it.
 fn read_beside<H: SendGate, R: Threads + Wait + Sync>(
     rt: &R,
     alloc: Global,
@@ -166,7 +166,7 @@ fn read_beside<H: SendGate, R: Threads + Wait + Sync>(
     ensures ahead { IfSome result.1 (IsReadIn bytes.now) }
 {
     let (count, gate) = (senders.count, senders.gate);
-    let (ahead, read) = join(
+    let (ahead, read) = call_both(
         rt,
         || -> Option<Ahead>
             requires { (1 ≤ count) × (count ≤ max_senders) × (place ≤ length bytes.now) }

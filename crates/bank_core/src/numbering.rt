@@ -10,9 +10,9 @@ ghost use Rattle.bank_core.specs.Openings.{AreKnown, NumbersAt};
 use crate::locked::Locked;
 use crate::opening::sets_of;
 use lock_table::{KeyTable, LockSet, set_of_known};
+use side_by_side::for_each_mut;
 use sol_base::{Items, OutOfMemory};
 use std::alloc::Global;
-use std::thread;
 use std::thread::Threads;
 
 /// So many positions are worth a thread.
@@ -79,7 +79,7 @@ fn number_each<L: Locked + Sync, R: Threads + Sync>(
     ensures { (i : ℕ) (d : Option (List NumberedLockValue)) → i < length slots.old
         → NumbersAt table.now ((L.job locked.now).locks i) (slice_index_or slots.new i d) }
 {
-    thread::for_each_mut(
+    for_each_mut(
         rt,
         slots,
         threads,

@@ -12,10 +12,10 @@ use crate::gate::Gate;
 use crate::group::{GroupSeat, leave_group};
 use crate::turns::{LaneEnd, run_group};
 use bank_core::{Desk, Loan, Split, Work};
+use side_by_side::for_each_mut;
 use sol_base::OutOfMemory;
 use std::alloc::{AllocFailed, Global};
 use std::sync::Wait;
-use std::thread;
 use std::thread::{Threads, join_mut};
 
 /// How the lanes of a desk are driven: with memory from here, past this gate, by so many threads at
@@ -205,7 +205,7 @@ fn run_each<W: Work + Sync, D: Desk<W, Loan = Loan<W>>, G: Gate, R: Threads + Wa
     if others == 0 {
         return;
     }
-    thread::for_each_mut(
+    for_each_mut(
         rt,
         passes,
         others,
@@ -221,7 +221,8 @@ fn run_each<W: Work + Sync, D: Desk<W, Loan = Loan<W>>, G: Gate, R: Threads + Wa
     );
 }
 
-/// Runs the caller's lanes beside those of the other threads.
+/// Runs the lanes of the caller's pass in a thread of their own too, beside those of the others. The
+/// caller's thread starts all of them, and waits. Where there are no others it runs its lanes itself.
 fn run_all<W: Work + Sync, D: Desk<W, Loan = Loan<W>>, G: Gate, R: Threads + Wait + Sync>(
     rt: &R,
     desk: &D,
@@ -243,15 +244,11 @@ fn run_all<W: Work + Sync, D: Desk<W, Loan = Loan<W>>, G: Gate, R: Threads + Wai
     ensures once { result ≢ GaveBack → returns (D.view pass.new).mine ≡ 0 }
     ensures passes { All (λ p. D.is_of desk.now p × HoldsNothing (D.lanes_of p) (D.view p)) passes.new }
 {
-    let ((), end) = join_mut(
+    if passes.is_empty() {
+        return run_thread(rt, desk, pass, work, lanes);
+    }
+    let (end, ()) = join_mut(
         rt,
-        &mut ||
-            requires { SeesLoans D.loan × ((D.origin desk.now).told ≡ W.told work.now)
-                × All (λ p. D.is_of desk.now p × IsIdle (D.view p)
-                × HoldsNothing (D.lanes_of p) (D.view p)) passes.now }
-            ensures { All (λ p. D.is_of desk.entry.now p × HoldsNothing (D.lanes_of p) (D.view p))
-                passes.exit.now }
-        { run_each(rt, desk, passes, work, lanes) },
         &mut || -> LaneEnd
             requires { SeesLoans D.loan × ((D.origin desk.now).told ≡ W.told work.now)
                 × D.is_of desk.now pass.now × IsIdle (D.view pass.now) }
@@ -261,6 +258,13 @@ fn run_all<W: Work + Sync, D: Desk<W, Loan = Loan<W>>, G: Gate, R: Threads + Wai
                 (D.lanes_of pass.exit.now) (D.view pass.exit.now) }
             ensures once { result ≢ GaveBack → returns (D.view pass.exit.now).mine ≡ 0 }
         { run_thread(rt, desk, pass, work, lanes) },
+        &mut ||
+            requires { SeesLoans D.loan × ((D.origin desk.now).told ≡ W.told work.now)
+                × All (λ p. D.is_of desk.now p × IsIdle (D.view p)
+                × HoldsNothing (D.lanes_of p) (D.view p)) passes.now }
+            ensures { All (λ p. D.is_of desk.entry.now p × HoldsNothing (D.lanes_of p) (D.view p))
+                passes.exit.now }
+        { run_each(rt, desk, passes, work, lanes) },
     );
     end
 }

@@ -28,13 +28,14 @@ use intake::{OpenSend, gather};
 use ledger_folder::{Folder, StdFolder};
 use ledger_store::{LedgerFault, Opening, add, begin_opening};
 use message_codec::Parsed;
+use side_by_side::call_both;
 use snapshot_codec::{Batch, BatchFault, MAX_ACCOUNTS, Snapshot, read_batch};
 use sol_base::{Blob, Items, OutOfMemory};
 use std::alloc::Global;
 use std::mem::forget;
 use std::rt::{Clock, Files};
 use std::sync::Wait;
-use std::thread::{Threads, join};
+use std::thread::Threads;
 
 /// What runs a block.
 #[derive(Clone, Copy)]
@@ -71,7 +72,7 @@ fn prepared<T: Threads + Wait + Sync>(
     ensures parsed { IfOk result (λ both. both.0 ≡ map parsed_of batch.now.wires) }
     ensures same { IfOk result (λ both. both.1 ≡ newest.now) }
 {
-    let (parsed, snapshot) = join(
+    let (parsed, snapshot) = call_both(
         threads,
         || -> Result<Items<Parsed>, OutOfMemory>
             requires { (1 ≤ senders) × (senders ≤ max_senders)

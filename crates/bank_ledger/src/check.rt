@@ -6,11 +6,12 @@ use crate::replaying::{Cause, Range, Shared, Stop, replay_pieces};
 use block_replay::{Field, OF_BLOCK};
 use command_parts::{Answer, DIFFERS, INPUT_REFUSED, noted, written};
 use ledger_store::Head;
+use side_by_side::for_each_mut;
 use sol_base::{Blob, OutOfMemory};
 use std::alloc::Global;
 use std::sync::Wait;
 use std::sync::atomic::{AtomicBool, AtomicU64};
-use std::thread::{Threads, for_each_mut};
+use std::thread::Threads;
 
 /// Which blocks are replayed, and how.
 #[derive(Clone, Copy)]

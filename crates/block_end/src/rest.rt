@@ -16,9 +16,10 @@ use crate::record_prefix::{OUTCOMES_AT_ONCE, RecordPrefix, take_next};
 use admission::Candidate;
 use bank_core::SharedOutcome;
 use sha2::{Digest, Sha256};
+use side_by_side::call_both;
 use sol_base::{Blob, Items, OutOfMemory};
 use std::alloc::Global;
-use std::thread::{Threads, join};
+use std::thread::Threads;
 
 /// How many entries are written while those before them are hashed: that takes some milliseconds, and
 /// a thread is worth it.
@@ -146,7 +147,7 @@ fn write_ahead<R: Threads + Sync>(
     let (wires, kept) = (parts.wires, parts.kept);
     let next = count + outcomes.len() as u32;
     let order = &parts.order[count as usize..next as usize];
-    let (written, (hasher, spare)) = join(
+    let (written, (hasher, spare)) = call_both(
         rt,
         move || -> Result<(Blob, Blob), OutOfMemory>
             requires { (length outcomes.now ≡ length order.now) × All (IsOf wires.now) order.now

@@ -14,6 +14,7 @@ use crate::ring::{Intake, Opened};
 use crate::seats::SendSeat;
 use crate::ticket::{Full, Ticket};
 use message_codec::{Parsed, WireFault, parse};
+use side_by_side::map_vec;
 use sol_base::{Blob, Items, OutOfMemory};
 use std::alloc::Global;
 use std::sync::Wait;
@@ -84,8 +85,9 @@ fn send_all<R: Threads + Wait + Sync, G: SendGate>(
     ensures each { IfOk result
         (λ sent. HaveSentShares intake.now wires.now senders seats sent.items) }
 {
-    let sent = thread::map_vec(
+    let sent = map_vec(
         rt,
+        alloc,
         seats.into_vec(),
         &|seat: SendSeat| -> Result<SendSeat, OutOfMemory>
             requires { (length wires.now ≤ max_transactions) × (1 ≤ senders) × IsFresh intake.now seat }
