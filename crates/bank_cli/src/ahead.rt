@@ -152,7 +152,8 @@ fn place_of_many(bytes: &[u8]) -> Option<usize>
     }
 }
 
-/// Reads the snapshot, and the batch beside it.
+/// Reads the snapshot, and the batch beside it. The snapshot takes more memory, which costs least on
+/// the caller's thread.
 fn read_beside<H: SendGate, R: Threads + Wait + Sync>(
     rt: &R,
     alloc: Global,
@@ -166,19 +167,18 @@ fn read_beside<H: SendGate, R: Threads + Wait + Sync>(
     ensures ahead { IfSome result.1 (IsReadIn bytes.now) }
 {
     let (count, gate) = (senders.count, senders.gate);
-    let (ahead, read) = call_both(
+    call_both(
         rt,
-        || -> Option<Ahead>
-            requires { (1 ≤ count) × (count ≤ max_senders) × (place ≤ length bytes.now) }
-            ensures { IfSome result (IsReadIn bytes.entry.now) }
-        { read_ahead(rt, alloc, bytes, place, &Senders { count, gate }) },
         || -> Result<Prefix, SnapshotFault>
             ensures found { IfOk result (BeginsWith bytes.entry.now) }
             ensures exact { Gives is_snapshot_memory (λ prefix. prefix) result
                 (prefix_of bytes.entry.now) }
         { read_snapshot(alloc, bytes) },
-    );
-    (read, ahead)
+        || -> Option<Ahead>
+            requires { (1 ≤ count) × (count ≤ max_senders) × (place ≤ length bytes.now) }
+            ensures { IfSome result (IsReadIn bytes.entry.now) }
+        { read_ahead(rt, alloc, bytes, place, &Senders { count, gate }) },
+    )
 }
 
 /// Reads the batch where one seems to begin.

@@ -72,17 +72,17 @@ fn prepared<T: Threads + Wait + Sync>(
     ensures parsed { IfOk result (λ both. both.0 ≡ map parsed_of batch.now.wires) }
     ensures same { IfOk result (λ both. both.1 ≡ newest.now) }
 {
-    let (parsed, snapshot) = call_both(
+    let (snapshot, parsed) = call_both(
         threads,
+        || -> Result<Snapshot, OutOfMemory>
+            requires { IsReadable newest.now }
+            ensures { IfOk result (λ snapshot. snapshot ≡ newest.entry.now) }
+        { copied(alloc, newest) },
         || -> Result<Items<Parsed>, OutOfMemory>
             requires { (1 ≤ senders) × (senders ≤ max_senders)
                 × (length batch.now.wires ≤ max_transactions) }
             ensures { IfOk result (λ parsed. parsed ≡ map parsed_of batch.entry.now.wires) }
         { Ok(gather(threads, alloc, &batch.wires, senders, &OpenSend)?.parsed) },
-        || -> Result<Snapshot, OutOfMemory>
-            requires { IsReadable newest.now }
-            ensures { IfOk result (λ snapshot. snapshot ≡ newest.entry.now) }
-        { copied(alloc, newest) },
     );
     Ok((parsed?, snapshot?))
 }

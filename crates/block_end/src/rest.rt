@@ -147,8 +147,11 @@ fn write_ahead<R: Threads + Sync>(
     let (wires, kept) = (parts.wires, parts.kept);
     let next = count + outcomes.len() as u32;
     let order = &parts.order[count as usize..next as usize];
-    let (written, (hasher, spare)) = call_both(
+    let both = call_both(
         rt,
+        move || -> (Sha256, Blob)
+            ensures { (taken : List ℕ) → Holds256 hasher taken → Holds256 result.0 (taken ++ last) }
+        { hash_last(hasher, last) },
         move || -> Result<(Blob, Blob), OutOfMemory>
             requires { (length outcomes.now ≡ length order.now) × All (IsOf wires.now) order.now
                 × All IsSmallOutcome outcomes.now }
@@ -156,10 +159,8 @@ fn write_ahead<R: Threads + Sync>(
                 (entries_of wires.entry.now order.entry.now outcomes.entry.now)) }
             ensures kept { IfOk result (λ w. kept ≡ true → w.0 ≡ bytes ++ w.1) }
         { write_next(wires, order, outcomes, kept, bytes, spare) },
-        move || -> (Sha256, Blob)
-            ensures { (taken : List ℕ) → Holds256 hasher taken → Holds256 result.0 (taken ++ last) }
-        { hash_last(hasher, last) },
     );
+    let ((hasher, spare), written) = both;
     let (bytes, last) = written?;
     Ok(Ahead {
         count: next,

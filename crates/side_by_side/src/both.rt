@@ -1,25 +1,25 @@
 //! Two calls side by side.
 use std::thread::{Threads, join};
 
-/// Calls both, each in a thread of its own where one can be made.
-pub fn call_both<
-    R: Threads + Sync,
-    F: FnOnce() -> A + Send,
-    G: FnOnce() -> B + Send,
-    A: Send,
-    B: Send,
->(rt: &R, first: F, second: G) -> (A, B)
+/// Calls both: the second in a thread of its own where one can be made, the first in the caller's. A
+/// thread that does nothing is started before that, and waits behind the caller in its place.
+pub fn call_both<R: Threads, F: FnOnce() -> A, G: FnOnce() -> B + Send, A, B: Send>(
+    rt: &R,
+    first: F,
+    second: G,
+) -> (A, B)
     requires { F.pre first × G.pre second }
     ensures first { F.post first result.0 }
     ensures second { G.post second result.1 }
 {
-    let (first, (second, ())) = join(
+    let ((), (second, first)) = join(
         rt,
-        first,
-        move || -> (B, ())
-            requires { G.pre second }
-            ensures { G.post second result.0 }
-        { join(rt, second, || {}) },
+        || {},
+        move || -> (B, A)
+            requires { F.pre first × G.pre second }
+            ensures first { F.post first result.1 }
+            ensures second { G.post second result.0 }
+        { join(rt, second, first) },
     );
     (first, second)
 }

@@ -1,7 +1,7 @@
 //! Calls side by side, each in a thread of its own: the caller's thread starts them all, and waits.
 //!
-//! `std::thread` halves the calls at each step, and the caller's thread takes its share of them. But a
-//! thread that is started waits behind its starter where the system puts it on the same processor, and
+//! `std::thread` halves the calls at each step, and the caller's thread takes its share of them. But the
+//! first thread that a thread starts waits behind it where the system puts it on the same processor, and
 //! while the starter works it stays there, some milliseconds, though another processor is idle. One that
 //! is started by a thread which then only waits runs at once.
 #![tactic(auto)]
