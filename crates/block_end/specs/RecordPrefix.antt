@@ -27,7 +27,7 @@ pub record IsWritten (parts : RecordParts) (outcomes : List Outcome) (begun : Re
   pub taken : Holds256 begun.hasher (bytes_up_to parts outcomes)
   pub kept : parts.kept ≡ true → begun.bytes ≡ bytes_up_to parts outcomes
 
--- a record is written up to the entry of so many outcomes, and hashed up to the last of its bytes
+-- a record is written up to the entry of so many outcomes, and hashed but for the last of its bytes
 pub record IsAhead (parts : RecordParts) (outcomes : List Outcome) (count : ℕ) (hasher : Sha256) (bytes last : List ℕ) : Type 0 where
   pub hashed : List ℕ
   pub within : count ≤ length parts.order.now

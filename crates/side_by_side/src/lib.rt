@@ -1,4 +1,5 @@
-//! Calls side by side, each in a thread of its own: the caller's thread starts them all, and waits.
+//! Calls side by side, in threads that run at once: the caller's thread starts one for each call, and
+//! waits. Of two different calls it makes the first itself.
 //!
 //! `std::thread` halves the calls at each step, and the caller's thread takes its share of them. But the
 //! first thread that a thread starts waits behind it where the system puts it on the same processor, and
