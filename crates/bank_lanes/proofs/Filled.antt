@@ -1,28 +1,15 @@
 -- Seats that are filled from the first on.
-use Rattle.std.proofs.Common.{◌≡◌, ◌≢◌, ℕ, ◌+◌, ◌<◌, ◌≤◌, List, length, get_or, set, All, sym, ◌∙◌, ap, subst, inl, inr, arith}
+use Rattle.std.proofs.Common.{◌≡◌, ℕ, ◌+◌, ◌<◌, ◌≤◌, List, length, get_or, set, All, sym, ◌∙◌, ap, subst, inl, inr, arith}
 use Rattle.std.specs.List.{AllWithin}
 use Rattle.std.proofs.lemmas.Bool.{cases_eq, cases_lt}
 use Rattle.std.proofs.lemmas.List.{get_or-set_same, get_or-set_other, get_or_default}
 use Rattle.std.proofs.lemmas.List.Elements.{AllWithin-kept, AllWithin-set}
 use Rattle.std.proofs.Math.ListN.{length-set}
-use Rattle.bank_law.specs.declared.event.Event.{Event}
-use Rattle.bank_law.specs.Job.{Job}
-use Rattle.bank_core.specs.declared.origin.Origin.{Origin}
 use Rattle.bank_core.specs.Desks.{LoanView}
 use Rattle.bank_lanes.specs.declared.group.GroupSeat.{GroupSeat}
-use Rattle.bank_lanes.specs.declared.group.Holding.{Holding}
-use Rattle.bank_lanes.specs.declared.group.Holding.TheVariants as what
-use Rattle.bank_lanes.specs.Groups.{AreFilledFrom, HoldsLeast, IsEmpty, IsLent, PassesFor, PassForEach}
-
--- a loan of the least ready position is none that is empty
-pub lent_least : {T L S : Type 0} (loan : L → LoanView T) (spent : S → LoanView T) (job : T → Job) (origin : Origin T) (x : Holding L S) (seen : List Event) → HoldsLeast loan spent job origin x seen → x ≢ what.Nothing
-lent_least loan spent job origin x seen h e = absurd (subst (λ y. HoldsLeast loan spent job origin y seen) e h)
+use Rattle.bank_lanes.specs.Groups.{AreFilledFrom, IsEmpty, IsLent, PassesFor, PassForEach}
 
 module _ {L S : Type 0} where
-  -- all are empty
-  pub filled_empty : (seats : List (GroupSeat L S)) (from : ℕ) → All IsEmpty seats → AreFilledFrom from seats
-  filled_empty seats from all j k d a b l e = all k d l
-
   -- so many are lent, and all behind them are empty
   pub filled_front : (seats : List (GroupSeat L S)) (at : ℕ) → AllWithin IsLent seats 0 at → AllWithin IsEmpty seats at (length seats) → AreFilledFrom 0 seats
   filled_front seats at lent empty j k d a b l e = elim (cases_lt j at) [
@@ -35,16 +22,6 @@ module _ {L S : Type 0} where
   filled_none seats at seat within lent one empty =
       filled_front (set seats at seat) at (AllWithin-kept seats at seat within IsLent lent)
       (λ k d a b. AllWithin-set IsEmpty seats at (length seats) at seat within one empty k d a (let n : length (set seats at seat) ≡ length seats = simp length-set in omega (arith, b, n)))
-
-  -- one that is empty is followed by empty ones
-  pub empty_behind : (seats : List (GroupSeat L S)) (at : ℕ) → AreFilledFrom at seats → ((d : GroupSeat L S) → IsEmpty (get_or seats at d)) → AllWithin IsEmpty seats 0 at → All IsEmpty seats
-  empty_behind seats at filled here before k d l = elim (cases_lt k at) [
-    | inl below ↦ before k d (omega arith) below
-    | inr not ↦ elim (cases_eq k at) [
-      | inl is ↦ subst (λ n. IsEmpty (get_or seats n d)) (sym is) (here d)
-      | inr other ↦ filled at k d (omega arith) (omega (arith, not, other)) l (here d)
-    ]
-  ]
 
   -- behind a seat that is settled
   pub filled_behind : (seats : List (GroupSeat L S)) (at : ℕ) (seat : GroupSeat L S) → AreFilledFrom at seats → AreFilledFrom (at + 1) (set seats at seat)

@@ -46,6 +46,16 @@ stayed v w lane is mine = record {
   grew = record { longer = ([], append-nil v.seen ∙ ap (λ (x : PassView). x.seen) (sym is)); others = λ other not. ap (λ (x : PassView). own x.seen other) is };
 }
 
+-- what a share found, which is never plenty, as what a turn found
+pub found_share : (f : Found) (a p g : Type 0) (h : LaneEnd → Type 0) → MatchFound f a ⊥ g h → MatchFound f a p g h
+found_share found.Loan a p g h m = m
+found_share found.Plenty a p g h m = absurd m
+found_share found.Nothing a p g h m = m
+found_share (found.End end) a p g h m = m
+
+pub not_plenty : (f : Found) (a g : Type 0) (h : LaneEnd → Type 0) → MatchFound f a ⊥ g h → f ≢ found.Plenty
+not_plenty f a g h m is = subst (λ (x : Found). MatchFound x a ⊥ g h) is m
+
 module _ {T L S : Type 0} (loan : L → LoanView T) (spent : S → LoanView T) (job : T → Job) (origin : Origin T) where
   abbrev Seat : Type 0
   Seat = GroupSeat L S
@@ -218,8 +228,9 @@ module _ {T L S : Type 0} (loan : L → LoanView T) (spent : S → LoanView T) (
   -- what one seat found, of seats that were all free
   pub found_one : (f : Found) (seat : Seat) (seats : List Seat) (v w : PassView) → All HasKept seats → (IsEmpty seat → All IsEmpty seats)
       → HasFound loan spent job origin f seat v w
-      → MatchFound f (All HasKept seats) (All IsFree seats × NoneNowAfter job origin w.seen) (λ end. EndsWell job origin end seats w)
+      → MatchFound f (All HasKept seats) ⊥ (All IsFree seats × NoneNowAfter job origin w.seen) (λ end. EndsWell job origin end seats w)
   found_one found.Loan seat seats v w kept empty h = kept
+  found_one found.Plenty seat seats v w kept empty h = h
   found_one found.Nothing seat seats v w kept empty h = (λ k d l. (empty h.0 k d l, kept k d l), subst (λ (x : PassView). NoneNowAfter job origin x.seen) (sym h.1) h.2)
   found_one (found.End end) seat seats v w kept empty h =
       let ends : EndsAfter job origin end w.seen = subst (λ (x : PassView). EndsAfter job origin end x.seen) (sym h.1) h.2 in

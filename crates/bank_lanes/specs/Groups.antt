@@ -42,10 +42,11 @@ pub record IsHeldBy {T : Type 0} (origin : Origin T) (lane : ℕ) (seen : List E
   pub once : returns (own seen loan.lane) ≡ 0
 
 -- a fact for each thing that a turn may find
-abbrev pub MatchFound : Found → Type 0 → Type 0 → (LaneEnd → Type 0) → Type 0
-MatchFound found.Loan f g h = f
-MatchFound found.Nothing f g h = g
-MatchFound (found.End end) f g h = h end
+abbrev pub MatchFound : Found → Type 0 → Type 0 → Type 0 → (LaneEnd → Type 0) → Type 0
+MatchFound found.Loan f p g h = f
+MatchFound found.Plenty f p g h = p
+MatchFound found.Nothing f p g h = g
+MatchFound (found.End end) f p g h = h end
 
 module _ {T : Type 0} (job : T → Job) (origin : Origin T) where
   -- no position is ready, and some are held
@@ -70,6 +71,7 @@ module _ {L S : Type 0} where
   abbrev pub IsEmpty : GroupSeat L S → Type 0
   IsEmpty seat = seat.holding ≡ what.Nothing
 
+  -- something is lent to it, performed or not
   abbrev pub IsLent : GroupSeat L S → Type 0
   IsLent seat = seat.holding ≢ what.Nothing
 
@@ -144,6 +146,7 @@ module _ {L S : Type 0} where
     -- lent any more.
     abbrev pub HasFound : Found → GroupSeat L S → PassView → PassView → Type 0
     HasFound found.Loan seat v w = HoldsLeast seat.holding v.seen
+    HasFound found.Plenty seat v w = ⊥
     HasFound found.Nothing seat v w = IsEmpty seat × (w ≡ v) × NoneNowAfter job origin v.seen
     HasFound (found.End end) seat v w = IsEmpty seat × (w ≡ v) × EndsAfter job origin end v.seen
 

@@ -3,13 +3,17 @@ ghost use Rattle.std.specs.Prelude.{◌≡◌, ◌≢◌, ◌<◌, ◌≤◌, tr
 ghost use Rattle.std.specs.List.{AllWithin};
 ghost use Rattle.bank_core.specs.Lanes.{is_one_of};
 ghost use Rattle.bank_lanes.specs.Passes.{AreItsOwn, KeepsTo, SeesLoans};
-ghost use Rattle.bank_lanes.specs.declared.turns.Found.TheVariants.{Loan as FoundLoan};
+ghost use Rattle.bank_lanes.specs.declared.turns.Found.TheVariants.{Loan as FoundLoan, Plenty as FoundPlenty};
 ghost use Rattle.bank_lanes.specs.Groups.{AreFilledFrom, AreSeats, EndsWell, HasFound, HasKept, IsEmpty, IsFree, IsLent, IsSeatOf, MatchFound, NoneNowAfter, StepsOn, seat_lanes};
 
 use crate::gate::Gate;
 use crate::group::{GroupSeat, Holding, perform_all};
 use bank_core::{Desk, Loan, Take, Work};
 use std::sync::Wait;
+use std::thread;
+
+/// From how many compute units on a share is one that took long, some hundred microseconds.
+const LONG: u64 = 100_000;
 
 /// How the turns of a group ended: all positions are done, a share was refused or seats were, or
 /// the work found no memory and the loan went back.
@@ -20,10 +24,12 @@ pub(crate) enum LaneEnd {
     GaveBack,
 }
 
-/// What a turn finds: a loan, or nothing now, or nothing any more.
+/// What a turn finds: a loan, or so much that others may take of it first, or nothing now, or nothing
+/// any more.
 #[derive(Clone, Copy, PartialEq, Eq)]
 pub(crate) enum Found {
     Loan,
+    Plenty,
     Nothing,
     End(LaneEnd),
 }
@@ -162,14 +168,43 @@ fn lend_rest<W: Work, D: Desk<W, Loan = Loan<W>>>(
     }
 }
 
-/// How many of the positions that are ready a group of so many lane numbers takes: its share, where
-/// all lane numbers of the desk are driven by groups of that size. At least one, at most all seats.
-fn share_of(ready: u32, lanes: u32, seats: usize) -> usize
+/// How many groups drive the lane numbers of a desk, where each drives so many. At least one.
+fn groups_of(lanes: u32, seats: usize) -> usize
     requires { 1 ≤ seats }
+    ensures { 1 ≤ result }
+{
+    (lanes as usize / seats).max(1)
+}
+
+/// How many of the positions that are ready one of so many groups takes: its share. At least one, at
+/// most all its seats.
+fn share_of(ready: u32, groups: usize, seats: usize) -> usize
+    requires { (1 ≤ groups) × (1 ≤ seats) }
     ensures { (1 ≤ result) × (result ≤ seats) }
 {
-    let groups = (lanes as usize / seats).max(1);
     (ready as usize / groups).max(1).min(seats)
+}
+
+/// The compute units of what the seats hold performed, up to the first that holds nothing.
+fn units_of<L, S>(seats: &[GroupSeat<L, S>]) -> u64 {
+    let mut units: u64 = 0;
+    for seat in seats {
+        match &seat.holding {
+            Holding::Nothing => return units,
+            Holding::Loan(_loan) => {}
+            Holding::Performed(_spent, effects) => {
+                units = units.saturating_add(effects.outcome.value().units)
+            }
+        }
+    }
+    units
+}
+
+/// Whether one of so many groups lets other threads run before it takes its next share: where the last
+/// one took long, and enough is ready for each group. A thread that the system stops then holds
+/// nothing, so no later position waits until it is run again.
+fn gives_way(units: u64, ready: u32, groups: usize) -> bool {
+    units >= LONG && ready as usize >= groups
 }
 
 /// Lends the group its share, and tells what the first seat found.
@@ -193,11 +228,12 @@ fn lend_share<W: Work, D: Desk<W, Loan = Loan<W>>>(
     ensures seats { AreSeats D.loan D.spent W.job (D.origin desk.now) (D.turn_lanes turn.new)
         seats.new (D.turn_view turn.new).seen }
     ensures filled { AreFilledFrom 0 seats.new }
-    ensures found { MatchFound result (All HasKept seats.new)
+    ensures found { MatchFound result (All HasKept seats.new) ⊥
         (All IsFree seats.new × NoneNowAfter W.job (D.origin desk.now) (D.turn_view turn.new).seen)
         (λ end. EndsWell W.job (D.origin desk.now) end seats.new (D.turn_view turn.new)) }
 {
-    let share = share_of(desk.ready_count(turn), desk.lane_count(turn), seats.len());
+    let groups = groups_of(desk.lane_count(turn), seats.len());
+    let share = share_of(desk.ready_count(turn), groups, seats.len());
     let found = lend_to(desk, turn, &mut seats[0]);
     if found == Found::Loan {
         lend_rest(desk, turn, seats, share);
@@ -205,12 +241,14 @@ fn lend_share<W: Work, D: Desk<W, Loan = Loan<W>>>(
     found
 }
 
-/// What a group does under a turn: it settles all its seats, and takes its share. Where a seat gave
-/// back it takes nothing.
+/// What a group does under a turn that has performed so many compute units: it settles all its seats,
+/// and takes its share. Where a seat gave back it takes nothing, and where it gives way nothing yet:
+/// the next turn, which has nothing to settle, takes.
 fn under_turn<W: Work, D: Desk<W, Loan = Loan<W>>>(
     desk: &D,
     turn: &mut D::Turn,
     seats: &mut [GroupSeat<Loan<W>, D::Spent>],
+    units: u64,
 ) -> Found
     requires loans { SeesLoans D.loan }
     requires some { 0 < length seats.old }
@@ -228,15 +266,20 @@ fn under_turn<W: Work, D: Desk<W, Loan = Loan<W>>>(
     ensures seats { AreSeats D.loan D.spent W.job (D.origin desk.now) (D.turn_lanes turn.new)
         seats.new (D.turn_view turn.new).seen }
     ensures filled { AreFilledFrom 0 seats.new }
-    ensures found { MatchFound result (All HasKept seats.new)
+    ensures way { All IsEmpty seats.old → result ≢ FoundPlenty }
+    ensures found { MatchFound result (All HasKept seats.new) (All IsFree seats.new)
         (All IsFree seats.new × NoneNowAfter W.job (D.origin desk.now) (D.turn_view turn.new).seen)
         (λ end. EndsWell W.job (D.origin desk.now) end seats.new (D.turn_view turn.new)) }
 {
-    if settle_all(desk, turn, seats) {
-        lend_share(desk, turn, seats)
-    } else {
-        Found::End(LaneEnd::GaveBack)
+    let settles = !seats[0].is_empty();
+    if !settle_all(desk, turn, seats) {
+        return Found::End(LaneEnd::GaveBack);
     }
+    let groups = groups_of(desk.lane_count(turn), seats.len());
+    if settles && gives_way(units, desk.ready_count(turn), groups) {
+        return Found::Plenty;
+    }
+    lend_share(desk, turn, seats)
 }
 
 /// A turn of a group.
@@ -261,18 +304,21 @@ fn take_turn<W: Work, D: Desk<W, Loan = Loan<W>>, R: Wait>(
     ensures seats { AreSeats D.loan D.spent W.job (D.origin desk.now) (D.lanes_of pass.new)
         seats.new (D.view pass.new).seen }
     ensures filled { AreFilledFrom 0 seats.new }
-    ensures found { MatchFound result (All HasKept seats.new)
+    ensures way { All IsEmpty seats.old → result ≢ FoundPlenty }
+    ensures found { MatchFound result (All HasKept seats.new) (All IsFree seats.new)
         (All IsFree seats.new × NoneNowAfter W.job (D.origin desk.now) (D.view pass.new).seen)
         (λ end. EndsWell W.job (D.origin desk.now) end seats.new (D.view pass.new)) }
 {
+    let units = units_of(seats);
     let mut turn = desk.begin(rt, pass);
-    let found = under_turn(desk, &mut turn, seats);
+    let found = under_turn(desk, &mut turn, seats, units);
     desk.end(pass, turn);
     found
 }
 
 /// Performs what is lent, passing the gate before each, and settles it in the next turn, until all
-/// positions are done. Where nothing is ready it waits, and tries again.
+/// positions are done. Where nothing is ready it waits, and tries again; where it gives way it lets
+/// other threads run in between.
 pub(crate) fn run_group<W: Work, D: Desk<W, Loan = Loan<W>>, G: Gate, R: Wait>(
     rt: &R,
     desk: &D,
@@ -300,6 +346,7 @@ pub(crate) fn run_group<W: Work, D: Desk<W, Loan = Loan<W>>, G: Gate, R: Wait>(
     'turns: for _ in rt.forever() {
         match take_turn(rt, desk, pass, seats) {
             Found::Loan => perform_all(desk, seats, work, gate),
+            Found::Plenty => thread::yield_now(),
             Found::Nothing => desk.wait(rt),
             Found::End(end) => return end,
         }

@@ -4,7 +4,7 @@ ghost use Rattle.std.specs.Prelude.{◌≤◌};
 use crate::tests::drives::have_units;
 use crate::tests::ends::end_by_groups;
 use crate::tests::gates::MeetingGate;
-use crate::tests::trial::{READ, WRITE, accounts_of_ten, trial_of};
+use crate::tests::trial::{READ, WRITE, accounts_of_ten, accounts_with, trial_of};
 use crate::tests::watches::watched;
 use bank_lanes::OpenGate;
 use std::alloc::Global;
@@ -40,14 +40,28 @@ const FOUND: [u64; 48] = [
 /// How many lanes, and how many to a group.
 const WIDTHS: [(u32, u32); 5] = [(4, 1), (8, 2), (64, 16), (9, 4), (3, 16)];
 
+/// The same where so many lamports more are on each account: all of them are compute units.
+fn found_more(more: u64) -> [u64; 48] {
+    let mut found = FOUND;
+    for units in &mut found {
+        *units = units.saturating_add(more);
+    }
+    found
+}
+
 /// Whether the chains end as the serial run does, 20 times with each width.
-fn chains_end<R: Threads + Wait + Abort + Sync>(rt: &R, alloc: Global) -> Result<bool, Fail> {
+fn chains_end<R: Threads + Wait + Abort + Sync>(
+    rt: &R,
+    alloc: Global,
+    more: u32,
+) -> Result<bool, Fail> {
     let trial = trial_of(rt, alloc, &CHAINS)?;
+    let found = found_more(u64::from(more));
     for lanes in WIDTHS {
         for _ in 0..20 {
-            let accounts = accounts_of_ten(rt, alloc, &[1, 2, 3, 4, 5, 6])?;
+            let accounts = accounts_with(rt, alloc, &[1, 2, 3, 4, 5, 6], more.saturating_add(10))?;
             let end = end_by_groups(rt, alloc, accounts, lanes, &trial, &OpenGate)?;
-            if !have_units(&end.outcomes, &FOUND) {
+            if !have_units(&end.outcomes, &found) {
                 return Ok(false);
             }
         }
@@ -57,7 +71,14 @@ fn chains_end<R: Threads + Wait + Abort + Sync>(rt: &R, alloc: Global) -> Result
 
 #[test]
 fn groups_end_as_the_serial_run(rt: HostRuntime) -> Result<(), Fail> {
-    assert!(rt; watched(&rt, || chains_end(&rt, rt.alloc()))?);
+    assert!(rt; watched(&rt, || chains_end(&rt, rt.alloc(), 0))?);
+    Ok(())
+}
+
+/// The same where each position is long, so that a group lets others run before it takes more.
+#[test]
+fn groups_that_give_way_end_too(rt: HostRuntime) -> Result<(), Fail> {
+    assert!(rt; watched(&rt, || chains_end(&rt, rt.alloc(), 1_000_000))?);
     Ok(())
 }
 

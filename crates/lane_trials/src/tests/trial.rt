@@ -145,24 +145,34 @@ pub fn trial_of(rt: &impl Abort, alloc: Global, lists: &[&[(u8, bool)]]) -> Resu
 
 /// Accounts of ten lamports under keys of one repeated byte.
 pub fn accounts_of_ten(rt: &impl Abort, alloc: Global, bytes: &[u8]) -> Result<Accounts, Fail> {
+    accounts_with(rt, alloc, bytes, 10)
+}
+
+/// Accounts of so many lamports each under keys of one repeated byte.
+pub fn accounts_with(
+    rt: &impl Abort,
+    alloc: Global,
+    bytes: &[u8],
+    lamports: u32,
+) -> Result<Accounts, Fail> {
     let mut accounts = Accounts::new(alloc);
     for byte in bytes {
         let mut account = Account::empty(alloc);
-        account.lamports = 10;
-        assert!(rt; accounts.total() < 1_000);
-        put_ten(alloc, &mut accounts, key_of(*byte), account)?;
+        account.lamports = u64::from(lamports);
+        assert!(rt; accounts.total() < 1 << 60);
+        put_more(alloc, &mut accounts, key_of(*byte), account)?;
     }
     Ok(accounts)
 }
 
-fn put_ten(
+fn put_more(
     alloc: Global,
     accounts: &mut Accounts,
     key: Key,
     account: Account,
 ) -> Result<(), OutOfMemory>
-    requires room { sum accounts.old < 1000 }
-    requires ten { account.lamports ≡ 10 }
+    requires room { sum accounts.old < 2 ^ 60 }
+    requires few { account.lamports < 2 ^ 32 }
     requires short { length account.bytes ≡ 0 }
 {
     let share = Arc::new(alloc, account)?;

@@ -27,6 +27,18 @@ turns-preserved g c =
       filled = c.take_turn.ensures.filled;
     }
 
+pub turns-preserved-in-Plenty : goal.turns-preserved-in-Plenty
+turns-preserved-in-Plenty g c =
+    let i = c.turns.invariant in
+    record {
+      desk = c.take_turn.ensures.desk;
+      keeps = keeps_then _ _ _ _ _ _ _ i.keeps (subst (λ ms. KeepsTo ms (g.D.Desk.lanes_of c.turns.pass) (g.D.Desk.view c.turns.pass) (g.D.Desk.lanes_of c.take_turn.new.pass) (g.D.Desk.view c.take_turn.new.pass)) i.same c.take_turn.ensures.keeps);
+      same = c.take_turn.ensures.same ∙ i.same;
+      seats = c.take_turn.ensures.seats;
+      kept = λ k d l. (c.in-Plenty.ensures.found k d l).1;
+      filled = c.take_turn.ensures.filled;
+    }
+
 pub returns-in-End-clause-keeps : goal.returns-in-End-clause-keeps
 returns-in-End-clause-keeps g c =
     let i = c.turns.invariant in
