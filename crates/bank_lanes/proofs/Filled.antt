@@ -1,5 +1,5 @@
 -- Seats that are filled from the first on.
-use Rattle.std.proofs.Common.{◌≡◌, ℕ, ◌+◌, ◌<◌, ◌≤◌, List, length, get_or, set, All, sym, ◌∙◌, ap, subst, inl, inr, arith}
+use Rattle.std.proofs.Common.{◌≡◌, ℕ, ◌+◌, ◌<◌, ◌≤◌, List, length, get_or, set, sym, ◌∙◌, ap, subst, inl, inr, arith}
 use Rattle.std.specs.List.{AllWithin}
 use Rattle.std.proofs.lemmas.Bool.{cases_eq, cases_lt}
 use Rattle.std.proofs.lemmas.List.{get_or-set_same, get_or-set_other, get_or_default}
@@ -48,24 +48,24 @@ module _ {L S : Type 0} where
       ]
 
   -- the passes of seats, one seat more
-  module _ {T : Type 0} (loan : L → LoanView T) (old seats : List (GroupSeat L S)) (at : ℕ) where
+  module _ {T : Type 0} (gate : ℕ → ℕ → Type 0) (loan : L → LoanView T) (old seats : List (GroupSeat L S)) (at : ℕ) where
     pub passes_more : (seat d : GroupSeat L S) → at < length seats → length seats ≡ length old
         → ((k : ℕ) (e : GroupSeat L S) → at ≤ k → get_or seats k e ≡ get_or old k e)
-        → ((k : ℕ) (e : GroupSeat L S) → k < at → PassesFor loan (get_or old k e).holding (get_or old k e).passes (get_or seats k e).passes)
-        → PassesFor loan (get_or seats at d).holding (get_or seats at d).passes seat.passes
-        → (k : ℕ) (e : GroupSeat L S) → k < at + 1 → PassesFor loan (get_or old k e).holding (get_or old k e).passes (get_or (set seats at seat) k e).passes
+        → ((k : ℕ) (e : GroupSeat L S) → k < at → PassesFor gate loan (get_or old k e).holding (get_or old k e).passes (get_or seats k e).passes)
+        → PassesFor gate loan (get_or seats at d).holding (get_or seats at d).passes seat.passes
+        → (k : ℕ) (e : GroupSeat L S) → k < at + 1 → PassesFor gate loan (get_or old k e).holding (get_or old k e).passes (get_or (set seats at seat) k e).passes
     passes_more seat d within long rest before one k e l = elim (cases_eq k at) [
-      | inl is ↦ subst (λ m. PassesFor loan (get_or old m e).holding (get_or old m e).passes (get_or (set seats at seat) m e).passes) (sym is)
-          (subst (λ (x : GroupSeat L S). PassesFor loan (get_or old at e).holding (get_or old at e).passes x.passes) (sym (get_or-set_same seats at seat e within))
-          (subst (λ (x : GroupSeat L S). PassesFor loan x.holding x.passes seat.passes) (get_or_default seats at d e within ∙ rest at e (omega arith)) one))
-      | inr other ↦ subst (λ (x : GroupSeat L S). PassesFor loan (get_or old k e).holding (get_or old k e).passes x.passes) (sym (get_or-set_other seats at k seat e other)) (before k e (omega (arith, l, other)))
+      | inl is ↦ subst (λ m. PassesFor gate loan (get_or old m e).holding (get_or old m e).passes (get_or (set seats at seat) m e).passes) (sym is)
+          (subst (λ (x : GroupSeat L S). PassesFor gate loan (get_or old at e).holding (get_or old at e).passes x.passes) (sym (get_or-set_same seats at seat e within))
+          (subst (λ (x : GroupSeat L S). PassesFor gate loan x.holding x.passes seat.passes) (get_or_default seats at d e within ∙ rest at e (omega arith)) one))
+      | inr other ↦ subst (λ (x : GroupSeat L S). PassesFor gate loan (get_or old k e).holding (get_or old k e).passes x.passes) (sym (get_or-set_other seats at k seat e other)) (before k e (omega (arith, l, other)))
     ]
 
     -- those behind hold nothing
     pub passes_all : length seats ≡ length old → AreFilledFrom 0 old → ((d : GroupSeat L S) → IsEmpty (get_or seats at d))
         → ((k : ℕ) (e : GroupSeat L S) → at ≤ k → get_or seats k e ≡ get_or old k e)
-        → ((k : ℕ) (e : GroupSeat L S) → k < at → PassesFor loan (get_or old k e).holding (get_or old k e).passes (get_or seats k e).passes)
-        → PassForEach loan old seats
+        → ((k : ℕ) (e : GroupSeat L S) → k < at → PassesFor gate loan (get_or old k e).holding (get_or old k e).passes (get_or seats k e).passes)
+        → PassForEach gate loan old seats
     passes_all long filled here rest before k e l = elim (cases_lt k at) [
       | inl below ↦ before k e below
       | inr not ↦
@@ -74,5 +74,5 @@ module _ {L S : Type 0} where
             | inl is ↦ subst (λ m. IsEmpty (get_or old m e)) (sym is) here_old
             | inr other ↦ filled at k e (omega arith) (omega (arith, not, other)) l here_old
           ] in
-          subst (λ x. PassesFor loan x (get_or old k e).passes (get_or seats k e).passes) (sym empty) (ap (λ (x : GroupSeat L S). x.passes) (rest k e (omega (arith, not))))
+          subst (λ x. PassesFor gate loan x (get_or old k e).passes (get_or seats k e).passes) (sym empty) (ap (λ (x : GroupSeat L S). x.passes) (rest k e (omega (arith, not))))
     ]

@@ -1,58 +1,64 @@
 -- Lanes that hold nothing, after each call of a desk.
-use Rattle.std.proofs.Common.{◌≡◌, ℕ, List, [], ◌∷◌, ◌++◌, Bool, true, false, ◌||◌, eqb, None, refl, sym, ap, subst, ◌∙◌}
-use Rattle.std.proofs.lemmas.Bool.{eqb-true}
+use Rattle.std.proofs.Common.{◌≡◌, ℕ, List, [], ◌∷◌, ◌++◌, Bool, true, false, eqb, None, inl, inr, refl, sym, ap, subst, ◌∙◌}
+use Rattle.std.proofs.lemmas.Bool.{cases_eq, eqb-true}
 use base.Growing.{prefix_refl, prefix_trans}
 use Rattle.bank_law.specs.History.{PassView, own, holds, returns}
 use Rattle.bank_core.specs.Lanes.{is_one_of}
 use Rattle.bank_core.specs.Desks.{Stays, TookIn, SeesNoneOf}
 use Rattle.bank_core.proofs.Lanes.{part_keeps, same_own, is_one_after, is_one_within}
+use Rattle.bank_lanes.specs.Gates.{AreBehind}
 use Rattle.bank_lanes.specs.Groups.{StepsOn}
-use Rattle.bank_lanes.specs.Passes.{AreItsOwn, HoldsNothing, KeepsTo, StaysFree, Widened}
-
-one_of_two : (b c : Bool) (P : Type 0) → (b || c) ≡ true → (b ≡ true → P) → (c ≡ true → P) → P
-one_of_two true c P is f g = f refl
-one_of_two false c P is f g = g is
+use Rattle.bank_lanes.specs.Passes.{AreItsOwn, CommitBehind, HoldsNothing, KeepsTo, StaysFree, Widened}
+use Rattle.bank_lanes.proofs.Behind.{one_of_two, behind_both, behind_none, behind_then}
 
 -- one call, and another
-pub keeps_then : (mine ls ms ns : List ℕ) (u v w : PassView) → KeepsTo mine ls u ms v → KeepsTo mine ms v ns w → KeepsTo mine ls u ns w
-keeps_then mine ls ms ns u v w one two = record {
+pub keeps_then : (gate : ℕ → ℕ → Type 0) (mine ls ms ns : List ℕ) (u v w : PassView) → KeepsTo gate mine ls u ms v → KeepsTo gate mine ms v ns w → KeepsTo gate mine ls u ns w
+keeps_then gate mine ls ms ns u v w one two = record {
   lane = two.lane ∙ one.lane;
   lanes = two.lanes ∙ one.lanes;
   longer = prefix_trans u.seen v.seen w.seen one.longer two.longer;
   others = λ l there not. two.others l (subst (λ (x : List ℕ). is_one_of x l ≡ true) (sym one.lanes) there) not ∙ one.others l there not;
+  behind = behind_then gate ls ms ns u v w one.behind two.behind;
 }
 
 -- none, one that adds nothing of the lanes, and one of one lane
-pub keeps_all : (mine ls : List ℕ) (v : PassView) → KeepsTo mine ls v ls v
-keeps_all mine ls v = record { lane = refl; lanes = refl; longer = prefix_refl v.seen; others = λ l there not. refl }
+pub keeps_all : (gate : ℕ → ℕ → Type 0) (mine ls : List ℕ) (v : PassView) → KeepsTo gate mine ls v ls v
+keeps_all gate mine ls v = record { lane = refl; lanes = refl; longer = prefix_refl v.seen; others = λ l there not. refl; behind = λ l one was. was one }
 
-pub keeps_to : (mine ls ms : List ℕ) (v w : PassView) → ms ≡ ls → Stays v w → SeesNoneOf ls v w → KeepsTo mine ls v ms w
-keeps_to mine ls ms v w is stays same = record {
+pub keeps_to : (gate : ℕ → ℕ → Type 0) (mine ls ms : List ℕ) (v w : PassView) → ms ≡ ls → Stays v w → SeesNoneOf ls v w → KeepsTo gate mine ls v ms w
+keeps_to gate mine ls ms v w is stays same = record {
   lane = stays.lane;
   lanes = is;
   longer = stays.longer;
   others = λ l one not. same_own ls v.seen w.seen l same one;
+  behind = behind_none gate ls ms v w is same;
 }
 
-pub keeps_step : (mine ls ms : List ℕ) (lane : ℕ) (v w : PassView) → ms ≡ ls → is_one_of mine lane ≡ true → StepsOn lane v w → KeepsTo mine ls v ms w
-keeps_step mine ls ms lane v w is there step = record {
+pub keeps_step : (gate : ℕ → ℕ → Type 0) (mine ls ms : List ℕ) (lane : ℕ) (v w : PassView) → ms ≡ ls → is_one_of mine lane ≡ true → StepsOn gate lane v w → KeepsTo gate mine ls v ms w
+keeps_step gate mine ls ms lane v w is there step = record {
   lane = step.lane_is;
   lanes = is;
   longer = step.grew.longer;
   others = λ l one not. step.grew.others l (λ e. let t : is_one_of mine l ≡ true = subst (λ (n : ℕ). is_one_of mine n ≡ true) e there in absurd (cc (t, not)));
+  behind = λ l one was.
+      let before = was (subst (λ (x : List ℕ). is_one_of x l ≡ true) is one) in
+      elim (cases_eq lane l) [
+        | inl same ↦ subst (λ (n : ℕ). AreBehind gate (own w.seen n)) same (step.behind (subst (λ (n : ℕ). AreBehind gate (own v.seen n)) (sym same) before))
+        | inr other ↦ subst (AreBehind gate) (sym (step.grew.others l other)) before
+      ];
 }
 
 -- where of its other lanes nothing is added, and these hold nothing, none of its lanes holds more
-pub keeps_free : (mine ls ms : List ℕ) (v w : PassView) → KeepsTo mine ls v ms w → ((l : ℕ) → is_one_of mine l ≡ true → holds (own w.seen l) ≡ None) → StaysFree ls v ms w
-keeps_free mine ls ms v w keeps free l one was = by_case (is_one_of mine l) refl
+pub keeps_free : (gate : ℕ → ℕ → Type 0) (mine ls ms : List ℕ) (v w : PassView) → KeepsTo gate mine ls v ms w → ((l : ℕ) → is_one_of mine l ≡ true → holds (own w.seen l) ≡ None) → StaysFree ls v ms w
+keeps_free gate mine ls ms v w keeps free l one was = by_case (is_one_of mine l) refl
   where
     by_case : (b : Bool) → is_one_of mine l ≡ b → holds (own w.seen l) ≡ None
     by_case true e = free l e
     by_case false e = let here = subst (λ (x : List ℕ). is_one_of x l ≡ true) keeps.lanes one in ap holds (keeps.others l here e) ∙ was here
 
 -- the same of a lane that gave nothing back
-pub keeps_once : (mine ls ms : List ℕ) (v w : PassView) (l : ℕ) → KeepsTo mine ls v ms w → is_one_of ls l ≡ true → returns (own v.seen l) ≡ 0 → (is_one_of mine l ≡ true → returns (own w.seen l) ≡ 0) → returns (own w.seen l) ≡ 0
-keeps_once mine ls ms v w l keeps there none one = by_case (is_one_of mine l) refl
+pub keeps_once : (gate : ℕ → ℕ → Type 0) (mine ls ms : List ℕ) (v w : PassView) (l : ℕ) → KeepsTo gate mine ls v ms w → is_one_of ls l ≡ true → returns (own v.seen l) ≡ 0 → (is_one_of mine l ≡ true → returns (own w.seen l) ≡ 0) → returns (own w.seen l) ≡ 0
+keeps_once gate mine ls ms v w l keeps there none one = by_case (is_one_of mine l) refl
   where
     by_case : (b : Bool) → is_one_of mine l ≡ b → returns (own w.seen l) ≡ 0
     by_case true e = one e
@@ -81,40 +87,43 @@ free_both ls ms ns v other w is mine theirs free l one was =
     (λ here. ap holds (same_own ls v.seen w.seen l mine here) ∙ was here)
 
 -- a pass that drew no lane, that was split, and that took in another
-pub widened_none : (ls : List ℕ) (v : PassView) → Widened ls v ls v
-widened_none ls v = record { lane = refl; longer = prefix_refl v.seen; mine = refl; more = λ l one. one; each = refl; free = λ l one was. was one }
+pub widened_none : (gate : ℕ → ℕ → Type 0) (ls : List ℕ) (v : PassView) → Widened gate ls v ls v
+widened_none gate ls v = record { lane = refl; longer = prefix_refl v.seen; mine = refl; more = λ l one. one; each = refl; free = λ l one was. was one; behind = λ l one was. was one }
 
-pub widened_then : (ls ms ns : List ℕ) (u v w : PassView) → Widened ls u ms v → Widened ms v ns w → Widened ls u ns w
-widened_then ls ms ns u v w one two = record {
+pub widened_then : (gate : ℕ → ℕ → Type 0) (ls ms ns : List ℕ) (u v w : PassView) → Widened gate ls u ms v → Widened gate ms v ns w → Widened gate ls u ns w
+widened_then gate ls ms ns u v w one two = record {
   lane = two.lane ∙ one.lane;
   longer = prefix_trans u.seen v.seen w.seen one.longer two.longer;
   mine = two.mine ∙ one.mine;
   more = λ l there. two.more l (one.more l there);
   each = part_keeps ls ms v.seen w.seen one.more two.each ∙ one.each;
   free = free_then ls ms ns u v w one.free two.free;
+  behind = behind_then gate ls ms ns u v w one.behind two.behind;
 }
 
-pub widened_split : (ls ms : List ℕ) (v w : PassView) → ms ≡ ls → w.mine ≡ v.mine → Stays v w → SeesNoneOf ls v w → Widened ls v ms w
-widened_split ls ms v w is same stays each = record {
+pub widened_split : (gate : ℕ → ℕ → Type 0) (ls ms : List ℕ) (v w : PassView) → ms ≡ ls → w.mine ≡ v.mine → Stays v w → SeesNoneOf ls v w → Widened gate ls v ms w
+widened_split gate ls ms v w is same stays each = record {
   lane = stays.lane;
   longer = stays.longer;
   mine = same;
   more = λ l one. subst (λ (x : List ℕ). is_one_of x l ≡ true) (sym is) one;
   each = each;
   free = free_none ls ms v w is each;
+  behind = behind_none gate ls ms v w is each;
 }
 
-pub widened_join : (ls ms ns : List ℕ) (v other w : PassView) → ns ≡ ms ++ ls → Stays v w → TookIn v other w → SeesNoneOf ls v w → SeesNoneOf ms other w → HoldsNothing ms other → Widened ls v ns w
-widened_join ls ms ns v other w is stays took each each_other free = record {
+pub widened_join : (gate : ℕ → ℕ → Type 0) (ls ms ns : List ℕ) (v other w : PassView) → ns ≡ ms ++ ls → Stays v w → TookIn v other w → SeesNoneOf ls v w → SeesNoneOf ms other w → HoldsNothing ms other → CommitBehind gate ms other → Widened gate ls v ns w
+widened_join gate ls ms ns v other w is stays took each each_other free behind = record {
   lane = stays.lane;
   longer = stays.longer;
   mine = took.mine;
   more = λ l one. subst (λ (x : List ℕ). is_one_of x l ≡ true) (sym is) (is_one_after l ms ls one);
   each = each;
   free = free_both ls ms ns v other w is each each_other free;
+  behind = behind_both gate ls ms ns v other w is each each_other behind;
 }
 
 -- its own events stay those of its lane
-pub widened_own : (ls ms : List ℕ) (v w : PassView) → is_one_of ls v.lane ≡ true → AreItsOwn v → Widened ls v ms w → AreItsOwn w
-widened_own ls ms v w one mine wide =
+pub widened_own : (gate : ℕ → ℕ → Type 0) (ls ms : List ℕ) (v w : PassView) → is_one_of ls v.lane ≡ true → AreItsOwn v → Widened gate ls v ms w → AreItsOwn w
+widened_own gate ls ms v w one mine wide =
     wide.mine ∙ (mine ∙ (sym (same_own ls v.seen w.seen v.lane wide.each one) ∙ ap (λ (l : ℕ). own w.seen l) (sym wide.lane)))

@@ -2,12 +2,13 @@
 use Rattle.std.proofs.Common.{◌≡◌, ◌≢◌, ℕ, zero, suc, ◌+◌, ◌<◌, Bool, true, false, ◌||◌, List, [], ◌∷◌, ◌++◌, length, get_or, set, All, eqb, eq-eqb, Some, None, refl, sym, ◌∙◌, ap, ap₂, subst, inl, inr, arith, append-nil}
 use Rattle.std.specs.List.{AllWithin}
 use Rattle.std.proofs.Math.ListN.{length-set}
+use Rattle.std.proofs.lemmas.List.Elements.{All-push}
 use Rattle.std.proofs.lemmas.Bool.{cases_eq, eqb-true}
 use Rattle.std.proofs.lemmas.List.{get_or-set_same, get_or-set_other, get_or-map, get_or_append_left, length-map}
 use Rattle.std.proofs.Math.Seq.{get_or-append_seam}
 use Rattle.bank_law.specs.declared.event.Event.{Event}
 use Rattle.bank_law.specs.declared.event.EventKind.{EventKind}
-use Rattle.bank_law.specs.declared.event.EventKind.TheVariants.{Grant}
+use Rattle.bank_law.specs.declared.event.EventKind.TheVariants.{Commit, Grant}
 use Rattle.bank_law.specs.Job.{Job, JobEffects}
 use Rattle.bank_law.specs.Machine.{with_event}
 use Rattle.bank_law.specs.History.{PassView, own, holds, held_after, returns, is_return}
@@ -16,11 +17,14 @@ use Rattle.bank_core.specs.declared.origin.Origin.{Origin}
 use Rattle.bank_core.specs.Desks.{LoanView, after_event}
 use Rattle.bank_core.specs.Lanes.{is_one_of, own_of}
 use Rattle.bank_core.proofs.Lanes.{same_own}
-use Rattle.bank_core.proofs.Seats.{grown_holds, grown_returns}
+use Rattle.bank_core.proofs.Seats.{grown_holds, grown_own, grown_returns}
 use Rattle.bank_lanes.specs.declared.gate.Passes.{Passes}
+use Rattle.bank_lanes.specs.Gates.{AreBehind, IsBehind}
 use Rattle.bank_lanes.specs.declared.group.GroupSeat.{GroupSeat}
 use Rattle.bank_lanes.specs.declared.group.Holding.{Holding}
 use Rattle.bank_lanes.specs.declared.group.Holding.TheVariants as what
+use Rattle.bank_lanes.specs.declared.turns.Company.{Company}
+use Rattle.bank_lanes.specs.declared.turns.Company.TheVariants.{Others}
 use Rattle.bank_lanes.specs.declared.turns.LaneEnd.{LaneEnd}
 use Rattle.bank_lanes.specs.declared.turns.Found.{Found}
 use Rattle.bank_lanes.specs.declared.turns.Found.TheVariants as found
@@ -31,37 +35,41 @@ use Rattle.bank_lanes.proofs.Frees.{keeps_then, keeps_step}
 use Rattle.bank_lanes.proofs.SeatSteps.{grew_by, one_of}
 
 -- one event of a lane under a turn
-pub stepped : (v w : PassView) (kind : EventKind) (lane p of : ℕ) → of ≡ lane → w ≡ after_event v kind of p → StepsOn lane v w
-stepped v w kind lane p of same is = record {
-  lane_is = ap (λ (x : PassView). x.lane) is;
-  own = subst (λ (x : PassView). x.mine ≡ own x.seen x.lane) (sym is) refl;
-  grew = subst (λ (l : ℕ). GrewBy l v.seen w.seen) same (grew_by v.seen w.seen kind of p (ap (λ (x : PassView). x.seen) is));
-}
+pub stepped : (gate : ℕ → ℕ → Type 0) (v w : PassView) (kind : EventKind) (lane p of : ℕ) → of ≡ lane → w ≡ after_event v kind of p → (kind ≡ Commit → gate lane p) → StepsOn gate lane v w
+stepped gate v w kind lane p of same is its =
+    let grown : w.seen ≡ with_event v.seen kind lane p = subst (λ (l : ℕ). w.seen ≡ with_event v.seen kind l p) same (ap (λ (x : PassView). x.seen) is) in
+    record {
+      lane_is = ap (λ (x : PassView). x.lane) is;
+      own = subst (λ (x : PassView). x.mine ≡ own x.seen x.lane) (sym is) refl;
+      grew = grew_by v.seen w.seen kind lane p grown;
+      behind = λ was. subst (AreBehind gate) (sym (grown_own v.seen w.seen kind lane p grown)) (All-push (IsBehind gate) (own v.seen lane) (record { kind = kind; lane = lane; position = p }) was its);
+    }
 
 -- none
-pub stayed : (v w : PassView) (lane : ℕ) → w ≡ v → AreItsOwn v → StepsOn lane v w
-stayed v w lane is mine = record {
+pub stayed : (gate : ℕ → ℕ → Type 0) (v w : PassView) (lane : ℕ) → w ≡ v → AreItsOwn v → StepsOn gate lane v w
+stayed gate v w lane is mine = record {
   lane_is = ap (λ (x : PassView). x.lane) is;
   own = subst (λ (x : PassView). AreItsOwn x) (sym is) mine;
   grew = record { longer = ([], append-nil v.seen ∙ ap (λ (x : PassView). x.seen) (sym is)); others = λ other not. ap (λ (x : PassView). own x.seen other) is };
+  behind = λ was. subst (λ (x : PassView). AreBehind gate (own x.seen lane)) (sym is) was;
 }
 
 -- what a share found, which is never plenty, as what a turn found
-pub found_share : (f : Found) (a p g : Type 0) (h : LaneEnd → Type 0) → MatchFound f a ⊥ g h → MatchFound f a p g h
-found_share found.Loan a p g h m = m
-found_share found.Plenty a p g h m = absurd m
-found_share found.Nothing a p g h m = m
-found_share (found.End end) a p g h m = m
+pub found_share : (f : Found) (a p g : Type 0) (h i : LaneEnd → Type 0) → ((end : LaneEnd) → h end → i end) → MatchFound f a ⊥ g h → MatchFound f a p g i
+found_share found.Loan a p g h i then m = m
+found_share found.Plenty a p g h i then m = absurd m
+found_share found.Nothing a p g h i then m = m
+found_share (found.End end) a p g h i then m = then end m
 
 pub not_plenty : (f : Found) (a g : Type 0) (h : LaneEnd → Type 0) → MatchFound f a ⊥ g h → f ≢ found.Plenty
 not_plenty f a g h m is = subst (λ (x : Found). MatchFound x a ⊥ g h) is m
 
-module _ {T L S : Type 0} (loan : L → LoanView T) (spent : S → LoanView T) (job : T → Job) (origin : Origin T) where
+module _ {T L S : Type 0} (loan : L → LoanView T) (spent : S → LoanView T) (job : T → Job) (origin : Origin T) (gate : ℕ → ℕ → Type 0) where
   abbrev Seat : Type 0
   Seat = GroupSeat L S
 
   abbrev Sits : Seat → List Event → Type 0
-  Sits seat seen = IsSeatOf loan spent job origin seat seen
+  Sits seat seen = IsSeatOf loan spent job origin gate seat seen
 
   -- a loan that ended, by a commit or by a return
   pub seat_ended : (lane : ℕ) (gave : Bool) (passes : Passes) (of : LoanView T) (old new : List Event) (kind : EventKind) → held_after kind of.position ≡ None → (gave ≡ false → is_return kind ≡ false)
@@ -122,7 +130,7 @@ module _ {T L S : Type 0} (loan : L → LoanView T) (spent : S → LoanView T) (
   of_holding (what.Performed s effects) lane seen h = tt
 
   -- what is lent to seats is of the origin
-  pub all_of : (lanes : List ℕ) (seats : List Seat) (seen : List Event) → AreSeats loan spent job origin lanes seats seen → All (λ seat. IsOf loan origin seat.holding) seats
+  pub all_of : (lanes : List ℕ) (seats : List Seat) (seen : List Event) → AreSeats loan spent job origin gate lanes seats seen → All (λ seat. IsOf loan origin seat.holding) seats
   all_of lanes seats seen all k d l = of_holding (get_or seats k d).holding (get_or seats k d).lane seen (all.each k d l).holding
 
   lane_at : (seats : List Seat) (k : ℕ) (d : Seat) → k < length seats → get_or (seat_lanes seats) k 0 ≡ (get_or seats k d).lane
@@ -140,8 +148,8 @@ module _ {T L S : Type 0} (loan : L → LoanView T) (spent : S → LoanView T) (
   set_lanes (x ∷ xs) (suc n) seat d same = ap (λ (ns : List ℕ). x.lane ∷ ns) (set_lanes xs n seat d same)
 
   -- one seat changes: alone, or as its lane's events do
-  module _ (lanes : List ℕ) (seats : List Seat) (at : ℕ) (seat d : Seat) (old new : List Event) (within : at < length seats) (same : seat.lane ≡ (get_or seats at d).lane) (all : AreSeats loan spent job origin lanes seats old) where
-    one_changes : (((k : ℕ) (e : Seat) → k < length seats → k ≢ at → own new (get_or seats k e).lane ≡ own old (get_or seats k e).lane)) → Sits seat new → AreSeats loan spent job origin lanes (set seats at seat) new
+  module _ (lanes : List ℕ) (seats : List Seat) (at : ℕ) (seat d : Seat) (old new : List Event) (within : at < length seats) (same : seat.lane ≡ (get_or seats at d).lane) (all : AreSeats loan spent job origin gate lanes seats old) where
+    one_changes : (((k : ℕ) (e : Seat) → k < length seats → k ≢ at → own new (get_or seats k e).lane ≡ own old (get_or seats k e).lane)) → Sits seat new → AreSeats loan spent job origin gate lanes (set seats at seat) new
     one_changes others one = record {
       lanes_are = subst (AreOwnLanes lanes) (sym (set_lanes seats at seat d same)) all.lanes_are;
       each = λ k e l.
@@ -152,7 +160,7 @@ module _ {T L S : Type 0} (loan : L → LoanView T) (spent : S → LoanView T) (
           ];
     }
 
-    pub seats_set : GrewBy (get_or seats at d).lane old new → Sits seat new → AreSeats loan spent job origin lanes (set seats at seat) new
+    pub seats_set : GrewBy (get_or seats at d).lane old new → Sits seat new → AreSeats loan spent job origin gate lanes (set seats at seat) new
     seats_set grew one = one_changes
         (λ k e l not. grew.others (get_or seats k e).lane
         (λ is. not (all.lanes_are.apart k at (let n = lanes_length seats in omega (arith, l, n)) (let n = lanes_length seats in omega (arith, within, n))
@@ -160,12 +168,12 @@ module _ {T L S : Type 0} (loan : L → LoanView T) (spent : S → LoanView T) (
         one
 
   pub seat_set : (lanes : List ℕ) (seats : List Seat) (at : ℕ) (seat d : Seat) (seen : List Event) → at < length seats → seat.lane ≡ (get_or seats at d).lane → (Sits (get_or seats at d) seen → Sits seat seen)
-      → AreSeats loan spent job origin lanes seats seen → AreSeats loan spent job origin lanes (set seats at seat) seen
+      → AreSeats loan spent job origin gate lanes seats seen → AreSeats loan spent job origin gate lanes (set seats at seat) seen
   seat_set lanes seats at seat d seen within same then all = one_changes lanes seats at seat d seen seen within same all (λ k e l not. refl) (then (all.each at d within))
 
   -- no event of the lanes, which may be more
   pub seats_kept : (lanes more : List ℕ) (seats : List Seat) (old new : List Event) → ((l : ℕ) → is_one_of lanes l ≡ true → is_one_of more l ≡ true) → own_of new lanes ≡ own_of old lanes
-      → AreSeats loan spent job origin lanes seats old → AreSeats loan spent job origin more seats new
+      → AreSeats loan spent job origin gate lanes seats old → AreSeats loan spent job origin gate more seats new
   seats_kept lanes more seats old new wider same all = record {
     lanes_are = record { within = λ k l. wider (get_or (seat_lanes seats) k 0) (all.lanes_are.within k l); apart = all.lanes_are.apart };
     each = λ k d l. seat_stays (get_or seats k d) old new
@@ -174,7 +182,7 @@ module _ {T L S : Type 0} (loan : L → LoanView T) (spent : S → LoanView T) (
   }
 
   -- the lane of a seat is one of them
-  pub lane_within : (lanes : List ℕ) (seats : List Seat) (seen : List Event) (k : ℕ) (d : Seat) → k < length seats → AreSeats loan spent job origin lanes seats seen → is_one_of lanes (get_or seats k d).lane ≡ true
+  pub lane_within : (lanes : List ℕ) (seats : List Seat) (seen : List Event) (k : ℕ) (d : Seat) → k < length seats → AreSeats loan spent job origin gate lanes seats seen → is_one_of lanes (get_or seats k d).lane ≡ true
   lane_within lanes seats seen k d l all = subst (λ (n : ℕ). is_one_of lanes n ≡ true) (lane_at seats k d l) (all.lanes_are.within k (let n = lanes_length seats in omega (arith, l, n)))
 
   one_at : (ns : List ℕ) (k : ℕ) → k < length ns → is_one_of ns (get_or ns k 0) ≡ true
@@ -190,13 +198,13 @@ module _ {T L S : Type 0} (loan : L → LoanView T) (spent : S → LoanView T) (
   lane_among seats k d l = subst (λ (n : ℕ). is_one_of (seat_lanes seats) n ≡ true) (lane_at seats k d l) (one_at (seat_lanes seats) k (let n = lanes_length seats in omega (arith, l, n)))
 
   -- a turn goes on by what one seat's lane does
-  pub advance : (mine ls ms ns : List ℕ) (u v w : PassView) (seats : List Seat) (at : ℕ) (seat d : Seat) → at < length seats → seat_lanes seats ≡ mine → KeepsTo mine ls u ms v → AreSeats loan spent job origin ms seats v.seen
-      → ns ≡ ms → seat.lane ≡ (get_or seats at d).lane → StepsOn (get_or seats at d).lane v w → Sits seat w.seen
-      → KeepsTo mine ls u ns w × (seat_lanes (set seats at seat) ≡ mine) × AreSeats loan spent job origin ns (set seats at seat) w.seen
+  pub advance : (mine ls ms ns : List ℕ) (u v w : PassView) (seats : List Seat) (at : ℕ) (seat d : Seat) → at < length seats → seat_lanes seats ≡ mine → KeepsTo gate mine ls u ms v → AreSeats loan spent job origin gate ms seats v.seen
+      → ns ≡ ms → seat.lane ≡ (get_or seats at d).lane → StepsOn gate (get_or seats at d).lane v w → Sits seat w.seen
+      → KeepsTo gate mine ls u ns w × (seat_lanes (set seats at seat) ≡ mine) × AreSeats loan spent job origin gate ns (set seats at seat) w.seen
   advance mine ls ms ns u v w seats at seat d within same keeps all is lane step one = (
-    keeps_then mine ls ms ns u v w keeps (keeps_step mine ms ns (get_or seats at d).lane v w is (subst (λ (x : List ℕ). is_one_of x (get_or seats at d).lane ≡ true) same (lane_among seats at d within)) step),
+    keeps_then gate mine ls ms ns u v w keeps (keeps_step gate mine ms ns (get_or seats at d).lane v w is (subst (λ (x : List ℕ). is_one_of x (get_or seats at d).lane ≡ true) same (lane_among seats at d within)) step),
     set_lanes seats at seat d lane ∙ same,
-    subst (λ (x : List ℕ). AreSeats loan spent job origin x (set seats at seat) w.seen) (sym is) (seats_set ms seats at seat d v.seen w.seen within lane all step.grew one),
+    subst (λ (x : List ℕ). AreSeats loan spent job origin gate x (set seats at seat) w.seen) (sym is) (seats_set ms seats at seat d v.seen w.seen within lane all step.grew one),
   )
 
   place_of : (ns : List ℕ) (l : ℕ) → is_one_of ns l ≡ true → (k : ℕ) × (k < length ns) × (get_or ns k 0 ≡ l)
@@ -208,7 +216,7 @@ module _ {T L S : Type 0} (loan : L → LoanView T) (spent : S → LoanView T) (
       by_case false e t rest = let r = rest t in (suc r.0, omega (arith, r.1), r.2)
 
   -- empty seats' lanes hold nothing
-  pub none_held : (lanes : List ℕ) (seats : List Seat) (seen : List Event) → AreSeats loan spent job origin lanes seats seen → All IsEmpty seats → (l : ℕ) → is_one_of (seat_lanes seats) l ≡ true → holds (own seen l) ≡ None
+  pub none_held : (lanes : List ℕ) (seats : List Seat) (seen : List Event) → AreSeats loan spent job origin gate lanes seats seen → All IsEmpty seats → (l : ℕ) → is_one_of (seat_lanes seats) l ≡ true → holds (own seen l) ≡ None
   none_held lanes seats seen all empty l is =
       let r = place_of (seat_lanes seats) l is in
       let here : r.0 < length seats = (let n = lanes_length seats in omega (arith, r.1, n)) in
@@ -218,7 +226,7 @@ module _ {T L S : Type 0} (loan : L → LoanView T) (spent : S → LoanView T) (
       subst (λ (n : ℕ). holds (own seen n) ≡ None) (sym (lane_at seats r.0 d here) ∙ r.2) free
 
   -- the lanes of seats that have kept have given nothing back
-  pub none_back : (lanes : List ℕ) (seats : List Seat) (seen : List Event) → AreSeats loan spent job origin lanes seats seen → All HasKept seats → (l : ℕ) → is_one_of (seat_lanes seats) l ≡ true → returns (own seen l) ≡ 0
+  pub none_back : (lanes : List ℕ) (seats : List Seat) (seen : List Event) → AreSeats loan spent job origin gate lanes seats seen → All HasKept seats → (l : ℕ) → is_one_of (seat_lanes seats) l ≡ true → returns (own seen l) ≡ 0
   none_back lanes seats seen all kept l is =
       let r = place_of (seat_lanes seats) l is in
       let here : r.0 < length seats = (let n = lanes_length seats in omega (arith, r.1, n)) in
@@ -228,7 +236,7 @@ module _ {T L S : Type 0} (loan : L → LoanView T) (spent : S → LoanView T) (
   -- what one seat found, of seats that were all free
   pub found_one : (f : Found) (seat : Seat) (seats : List Seat) (v w : PassView) → All HasKept seats → (IsEmpty seat → All IsEmpty seats)
       → HasFound loan spent job origin f seat v w
-      → MatchFound f (All HasKept seats) ⊥ (All IsFree seats × NoneNowAfter job origin w.seen) (λ end. EndsWell job origin end seats w)
+      → MatchFound f (All HasKept seats) ⊥ (All IsFree seats × NoneNowAfter job origin w.seen) (λ end. EndsWell Others job origin end seats w)
   found_one found.Loan seat seats v w kept empty h = kept
   found_one found.Plenty seat seats v w kept empty h = h
   found_one found.Nothing seat seats v w kept empty h = (λ k d l. (empty h.0 k d l, kept k d l), subst (λ (x : PassView). NoneNowAfter job origin x.seen) (sym h.1) h.2)
@@ -239,7 +247,18 @@ module _ {T L S : Type 0} (loan : L → LoanView T) (spent : S → LoanView T) (
         kept = λ _. kept;
         done = λ e. subst (λ (x : LaneEnd). EndsAfter job origin x w.seen) e ends;
         short = λ e. subst (λ (x : LaneEnd). EndsAfter job origin x w.seen) e ends;
+        many = λ e. absurd (subst (λ (x : LaneEnd). EndsAfter job origin x w.seen) e ends);
       }
+
+  -- one that ends beside others ends so in any company
+  pub ends_anyhow : (company : Company) (end : LaneEnd) (seats : List Seat) (v : PassView) → EndsWell Others job origin end seats v → EndsWell company job origin end seats v
+  ends_anyhow company end seats v e = record {
+    empty = e.empty;
+    kept = e.kept;
+    done = e.done;
+    short = e.short;
+    many = λ is. let other = (e.many is).0 in absurd (cc other);
+  }
 
   -- a new seat
   seat_new : (seat : Seat) (l : ℕ) (seen : List Event) → IsNewSeat l seat → holds (own seen l) ≡ None → returns (own seen l) ≡ 0 → Sits seat seen
@@ -247,11 +266,11 @@ module _ {T L S : Type 0} (loan : L → LoanView T) (spent : S → LoanView T) (
     holding = subst (λ (x : Holding L S). IsHolding loan spent job origin x seat.lane seen) (sym new.empty) (ap (λ n. holds (own seen n)) new.lane_is ∙ free);
     once = λ kept. ap (λ n. returns (own seen n)) new.lane_is ∙ none;
     passes_lane = new.passes.lane_is ∙ sym new.lane_is;
-    passed = subst (λ (x : Holding L S). IsPassed spent x seat.passes) (sym new.empty) tt;
+    passed = subst (λ (x : Holding L S). IsPassed gate spent x seat.passes) (sym new.empty) tt;
   }
 
   -- a first one, and one more
-  first_one : (lanes : List ℕ) (seat : Seat) (l : ℕ) (seen : List Event) → IsNewSeat l seat → is_one_of lanes l ≡ true → holds (own seen l) ≡ None → returns (own seen l) ≡ 0 → AreSeats loan spent job origin lanes (seat ∷ []) seen
+  first_one : (lanes : List ℕ) (seat : Seat) (l : ℕ) (seen : List Event) → IsNewSeat l seat → is_one_of lanes l ≡ true → holds (own seen l) ≡ None → returns (own seen l) ≡ 0 → AreSeats loan spent job origin gate lanes (seat ∷ []) seen
   first_one lanes seat l seen new one free none = record { lanes_are = record { within = within; apart = apart }; each = each }
     where
       within : (k : ℕ) → k < 1 → is_one_of lanes (get_or (seat.lane ∷ []) k 0) ≡ true
@@ -265,13 +284,13 @@ module _ {T L S : Type 0} (loan : L → LoanView T) (spent : S → LoanView T) (
       each zero d lt = seat_new seat l seen new free none
       each (suc k) d lt = absurd (omega (arith, lt))
 
-  pub first_seats : (lanes : List ℕ) (seats : List Seat) (l : ℕ) (seen : List Event) → length seats ≡ 1 → All (IsNewSeat l) seats → is_one_of lanes l ≡ true → holds (own seen l) ≡ None → returns (own seen l) ≡ 0 → AreSeats loan spent job origin lanes seats seen
+  pub first_seats : (lanes : List ℕ) (seats : List Seat) (l : ℕ) (seen : List Event) → length seats ≡ 1 → All (IsNewSeat l) seats → is_one_of lanes l ≡ true → holds (own seen l) ≡ None → returns (own seen l) ≡ 0 → AreSeats loan spent job origin gate lanes seats seen
   first_seats lanes [] l seen long new one free none = absurd (omega (arith, long))
   first_seats lanes (seat ∷ []) l seen long new one free none = first_one lanes seat l seen (new 0 seat (omega arith)) one free none
   first_seats lanes (x ∷ y ∷ seats) l seen long new one free none = absurd (omega (arith, long))
 
-  pub seats_pushed : (before lanes : List ℕ) (seats : List Seat) (seat : Seat) (l : ℕ) (seen : List Event) → IsNewSeat l seat → AreOwnLanes before (seat_lanes seats) → is_one_of before l ≡ false → AreSeats loan spent job origin lanes seats seen
-      → is_one_of lanes l ≡ true → holds (own seen l) ≡ None → returns (own seen l) ≡ 0 → AreSeats loan spent job origin lanes (seats ++ seat ∷ []) seen
+  pub seats_pushed : (before lanes : List ℕ) (seats : List Seat) (seat : Seat) (l : ℕ) (seen : List Event) → IsNewSeat l seat → AreOwnLanes before (seat_lanes seats) → is_one_of before l ≡ false → AreSeats loan spent job origin gate lanes seats seen
+      → is_one_of lanes l ≡ true → holds (own seen l) ≡ None → returns (own seen l) ≡ 0 → AreSeats loan spent job origin gate lanes (seats ++ seat ∷ []) seen
   seats_pushed before lanes seats seat l seen new was not_one all one free none = record {
     lanes_are = subst (AreOwnLanes lanes) (sym (map_push seats)) (record { within = within; apart = apart });
     each = each;

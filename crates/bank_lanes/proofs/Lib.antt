@@ -1,5 +1,6 @@
 pub mod Rests
 pub mod SeatSteps
+pub mod Behind
 pub mod Frees
 pub mod GateSteps
 pub mod GroupSteps

@@ -1,20 +1,26 @@
--- The seats of lanes after one event more.
-use Rattle.std.proofs.Common.{◌≡◌, ℕ, ◌+◌, ◌<◌, Bool, true, false, List, [], ◌∷◌, length, get_or, set, All, Option, Some, None, sym, ◌∙◌, ap, subst, inl, inr, arith}
-use Rattle.std.proofs.Math.ListN.{length-set}
-use Rattle.std.proofs.lemmas.Bool.{cases_eq}
-use Rattle.std.proofs.lemmas.List.{get_or-set_same, get_or-set_other, get_or-map, length-map, ext_get_or}
+-- The seats of lanes, and what is committed, after events more.
+use Rattle.std.proofs.Common.{◌≡◌, ℕ, ◌+◌, ◌<◌, ◌≤◌, Bool, true, false, List, [], ◌∷◌, ◌++◌, length, get_or, set, All, Option, Some, None, IfSome, MatchOption, refl, sym, ◌∙◌, ap, subst, inl, inr, arith, length-append}
+use Rattle.std.proofs.Math.ListN.{length-set, get_or-append}
+use Rattle.std.proofs.Math.Seq.{get_or-append_seam}
+use Rattle.std.proofs.lemmas.Bool.{cases_eq, cases_lt}
+use Rattle.std.proofs.lemmas.List.{get_or-set_same, get_or-set_other, get_or-map, get_or_default, length-map, ext_get_or}
+use Rattle.std.proofs.lemmas.List.Elements.{AllWithin-from_all, All-from_all_within}
 use Rattle.std.specs.List.{AllWithin}
+use mathlib.Core.List.{IsPrefix}
 use Rattle.bank_law.specs.declared.event.Event.{Event}
 use Rattle.bank_law.specs.declared.event.EventKind.{EventKind}
 use Rattle.bank_law.specs.declared.event.EventKind.TheVariants.{Grant, Commit, Return}
+use Rattle.bank_law.specs.Job.{Job}
 use Rattle.bank_law.specs.Machine.{with_event}
 use Rattle.bank_law.specs.History.{own, holds, returns}
+use Rattle.bank_core.specs.declared.work.Effects.{Effects}
 use Rattle.bank_core.specs.declared.loan.Loan.{Loan}
 use Rattle.bank_core.specs.declared.origin.Origin.{Origin}
 use Rattle.bank_core.specs.Takes.{HasLoanOf}
 use Rattle.bank_core.proofs.Seats.{grown_holds, grown_returns, grown_others}
 use Rattle.bank_lanes.specs.declared.seats.Seat.{Seat}
-use Rattle.bank_lanes.specs.Seats.{AreNewSeats, IsEmptySeat, IsSeatOf, AreSeats, sitting}
+use Rattle.bank_lanes.specs.Gates.{IsBehind, AreBehind}
+use Rattle.bank_lanes.specs.Seats.{AreNewSeats, IsEmptySeat, IsSeatOf, AreSeats, sitting, IsPerformed, HasPerformed, HasPerformedAt, GrantsAlone, CommitsAlone}
 use Rattle.bank_lanes.specs.Steps.{GrewBy}
 
 -- one event more is one of its lane alone
@@ -23,6 +29,32 @@ grew_by journal next kind lane p e = record {
   longer = (record { kind = kind; lane = lane; position = p } ∷ [], sym e);
   others = grown_others journal next kind lane p e;
 }
+
+-- what holds of each new event, where there is one, and where more followed
+pub one_new : (P : Event → Type 0) (old new : List Event) (event : Event) → new ≡ old ++ event ∷ [] → P event → AllWithin P new (length old) (length new)
+one_new P old new event e holds k d low high =
+    let n = ap length e ∙ length-append old (event ∷ []) in
+    let last : k ≡ length old = omega (arith, n, low, high) in
+    subst (λ (xs : List Event). P (get_or xs k d)) (sym e)
+    (subst (λ (i : ℕ). P (get_or (old ++ event ∷ []) i d)) (sym last) (subst P (sym (get_or-append_seam old event [] d)) holds))
+
+pub more_new : (P : Event → Type 0) (old mid new : List Event) → IsPrefix mid new → AllWithin P mid (length old) (length mid) → AllWithin P new (length mid) (length new) → AllWithin P new (length old) (length new)
+more_new P old mid new longer first rest k d low high =
+    elim (cases_lt k (length mid)) [
+      | inl l ↦ subst (λ (xs : List Event). P (get_or xs k d)) longer.1 (subst P (sym (get_or-append mid longer.0 d k l)) (first k d low l))
+      | inr l ↦ rest k d l high
+    ]
+
+-- grants commit nothing
+grant_behind : (gate : ℕ → ℕ → Type 0) (event : Event) → event.kind ≡ Grant → IsBehind gate event
+grant_behind gate event grant commit = absurd (cc)
+
+grants_behind : (gate : ℕ → ℕ → Type 0) (old new : List Event) → GrantsAlone old new → CommitsAlone gate old new
+grants_behind gate old new grants k d low high = grant_behind gate (get_or new k d) (grants k d low high)
+
+-- what was committed stays behind a gate, where what is newly committed is behind it too
+behind_more : (gate : ℕ → ℕ → Type 0) (old new : List Event) → IsPrefix old new → CommitsAlone gate old new → AreBehind gate old → AreBehind gate new
+behind_more gate old new longer commits behind = All-from_all_within (IsBehind gate) new (more_new (IsBehind gate) [] old new longer (AllWithin-from_all (IsBehind gate) old behind) commits)
 
 -- an element of a list that has one
 pub one_of : {X : Type 0} (xs : List X) (k : ℕ) → k < length xs → X
@@ -171,3 +203,53 @@ module _ {W T : Type 0} {G : _} where
         out = λ e. n.empty;
         passes = n.passes.lane_is;
       }
+
+  -- what a loan's commit commits, and that its return commits nothing
+  pub commits_its : (seat : Seat W T G) (origin : Origin T) (old new : List Event) (lane : ℕ) (loan : Loan W T G) (effects : Effects) → new ≡ with_event old Commit loan.lane loan.position
+      → seat.loan ≡ Some loan → seat.effects ≡ Some effects → IsSeatOf seat origin old lane → CommitsAlone (λ l position. (l ≡ lane) × HasPerformed position seat) old new
+  commits_its seat origin old new lane loan effects grown has gave s =
+      one_new (IsBehind (λ l position. (l ≡ lane) × HasPerformed position seat)) old new _ grown
+      (λ e. (
+        (subst (λ (o : Option (Loan W T G)). HasLoanOf o origin old lane) has s.loan).0,
+        subst (λ (o : Option (Loan W T G)). MatchOption o ⊥ (λ l. MatchOption seat.effects ⊥ (λ x. l.position ≡ loan.position))) (sym has)
+            (subst (λ (o : Option Effects). MatchOption o ⊥ (λ x. loan.position ≡ loan.position)) (sym gave) refl),
+      ))
+
+  -- the seats from one on are those of the beginning, also once that one is settled
+  pub rest_stays : (first seats : List (Seat W T G)) (at : ℕ) (seat : Seat W T G) → ((k : ℕ) (d : Seat W T G) → at ≤ k → get_or seats k d ≡ get_or first k d)
+      → (k : ℕ) (d : Seat W T G) → at + 1 ≤ k → get_or (set seats at seat) k d ≡ get_or first k d
+  rest_stays first seats at seat same k d low = get_or-set_other seats at k seat d (λ q. omega (arith, q, low)) ∙ same k d (omega (arith, low))
+
+  -- what its seat has performed is what the seat at its place has
+  pub commits_at : (first seats : List (Seat W T G)) (old new : List Event) (lane : ℕ) (d : Seat W T G) → lane < length first → ((k : ℕ) (d : Seat W T G) → lane ≤ k → get_or seats k d ≡ get_or first k d)
+      → CommitsAlone (λ l position. (l ≡ lane) × HasPerformed position (get_or seats lane d)) old new → CommitsAlone (HasPerformedAt first) old new
+  commits_at first seats old new lane d within same commits k e low high commit =
+      let event = get_or new k e in
+      let its = commits k e low high commit in
+      subst (λ (l : ℕ). HasPerformedAt first l event.position) (sym its.0)
+      (within, λ f. subst (HasPerformed event.position) (same lane d (omega arith) ∙ get_or_default first lane d f within) its.1)
+
+  -- what a seat has performed has its gate behind it
+  passed_its : (loan : Option (Loan W T G)) (effects : Option Effects) (gate : ℕ → Type 0) (position : ℕ) → MatchOption loan ⊥ (λ l. MatchOption effects ⊥ (λ x. l.position ≡ position))
+      → IfSome loan (λ l. IfSome effects (λ x. gate l.position)) → gate position
+  passed_its (Some loan) (Some effects) gate position at behind = subst gate at behind
+  passed_its (Some loan) None gate position at behind = absurd at
+  passed_its None effects gate position at behind = absurd at
+
+  passed_all : (gate : ℕ → ℕ → Type 0) (job : Job) (seats : List (Seat W T G)) (origin : Origin T) (journal : List Event) → AreSeats seats origin journal → All (IsPerformed gate job) seats
+      → (event : Event) → IsBehind (HasPerformedAt seats) event → IsBehind gate event
+  passed_all gate job seats origin journal all done event its commit =
+      let at = its commit in
+      let d = one_of seats event.lane at.0 in
+      let seat = get_or seats event.lane d in
+      subst (λ (l : ℕ). gate l event.position) (all event.lane d at.0).passes
+      (passed_its seat.loan seat.effects (gate seat.passes.lane) event.position (at.1 d) (done event.lane d at.0).behind)
+
+  -- a wave: grants, and commits of what was performed behind the gate
+  pub behind_wave : (gate : ℕ → ℕ → Type 0) (job : Job) (seats : List (Seat W T G)) (origin : Origin T) (first taken lent settled : List Event) (lane position : ℕ)
+      → taken ≡ with_event first Grant lane position → IsPrefix taken lent → GrantsAlone taken lent → IsPrefix lent settled → CommitsAlone (HasPerformedAt seats) lent settled
+      → AreSeats seats origin lent → All (IsPerformed gate job) seats → AreBehind gate first → AreBehind gate settled
+  behind_wave gate job seats origin first taken lent settled lane position grown lends grants settles commits all done behind =
+      behind_more gate lent settled settles (λ k d low high. passed_all gate job seats origin lent all done (get_or settled k d) (commits k d low high))
+      (behind_more gate taken lent lends (grants_behind gate taken lent grants)
+      (behind_more gate first taken (grew_by first taken Grant lane position grown).longer (one_new (IsBehind gate) first taken _ grown (λ e. absurd (cc))) behind))

@@ -1,5 +1,6 @@
--- What a lane has passed its gate before.
-use Rattle.std.specs.Prelude.{◌≡◌, ℕ, List, [], ◌∷◌, ◌++◌, None, Some}
+-- What a lane has passed its gate before. A gate is what holds of the lane and the position once that
+-- is so.
+use Rattle.std.specs.Prelude.{◌≡◌, ℕ, List, [], ◌∷◌, ◌++◌, All, None, Some}
 use Rattle.std.specs.List.{last_or}
 use Rattle.bank_law.specs.declared.event.Event.{Event}
 use Rattle.bank_law.specs.declared.event.EventKind.{EventKind}
@@ -15,10 +16,12 @@ pub record HasNoPasses (lane : ℕ) (passes : Passes) : Type 0 where
   pub lane_is : passes.lane ≡ lane
   pub none : passed passes ≡ []
 
--- the lane has passed its gate once more, before this position
-pub record HasPassedOnce (old : Passes) (position : ℕ) (new : Passes) : Type 0 where
+-- the lane has passed this gate once more, before this position
+pub record HasPassedOnce (gate : ℕ → ℕ → Type 0) (old : Passes) (position : ℕ) (new : Passes)
+    : Type 0 where
   pub lane : new.lane ≡ old.lane
   pub positions : passed new ≡ passed old ++ position ∷ []
+  pub its : gate old.lane position
 
 -- the position before which the lane has passed its gate last
 abbrev pub HasJustPassed : ℕ → Passes → Type 0
@@ -35,8 +38,18 @@ abbrev pub granted : List Event → List ℕ
 granted [] = []
 granted (event ∷ events) = granted_by event.kind event.position ++ granted events
 
--- the record of this lane, which has passed its gate before each of the positions that were granted,
+-- the record of this lane, which has passed this gate before each of the positions that were granted,
 -- in their order, and before no other
-pub record HasPassedGranted (lane : ℕ) (events : List Event) (passes : Passes) : Type 0 where
+pub record HasPassedGranted (gate : ℕ → ℕ → Type 0) (lane : ℕ) (events : List Event)
+    (passes : Passes) : Type 0 where
   pub lane_is : passes.lane ≡ lane
   pub all : passed passes ≡ granted events
+  pub its : All (gate lane) (granted events)
+
+-- what an event commits, its lane has passed this gate before
+abbrev pub IsBehind : (ℕ → ℕ → Type 0) → Event → Type 0
+IsBehind gate event = event.kind ≡ Commit → gate event.lane event.position
+
+-- the same of each event
+abbrev pub AreBehind : (ℕ → ℕ → Type 0) → List Event → Type 0
+AreBehind gate events = All (IsBehind gate) events

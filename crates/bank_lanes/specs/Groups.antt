@@ -5,19 +5,22 @@ use Rattle.bank_law.specs.Job.{Job}
 use Rattle.bank_law.specs.History.{PassView, own, holds, returns}
 use Rattle.bank_law.specs.Machine.{held_count}
 use Rattle.bank_core.specs.declared.origin.Origin.{Origin}
+use Rattle.bank_core.specs.Counts.{ready_count}
 use Rattle.bank_core.specs.Effects.{effects_seen}
 use Rattle.bank_core.specs.Desks.{LoanView}
 use Rattle.bank_core.specs.Lanes.{is_one_of}
 use Rattle.bank_core.specs.Origins.{AllDoneAfter, IsLeastReadyAfter, state_after}
 use Rattle.bank_core.specs.Takes.{IsNotNowAfter, ReadsLeastAfter}
-use Rattle.bank_lanes.specs.Gates.{HasJustPassed, HasNoPasses, HasPassedOnce}
+use Rattle.bank_lanes.specs.Gates.{AreBehind, HasJustPassed, HasNoPasses, HasPassedOnce}
 use Rattle.bank_lanes.specs.Steps.{GrewBy}
 use Rattle.bank_lanes.specs.declared.gate.Passes.{Passes}
 use Rattle.bank_lanes.specs.declared.group.GroupSeat.{GroupSeat}
 use Rattle.bank_lanes.specs.declared.group.Holding.{Holding}
 use Rattle.bank_lanes.specs.declared.group.Holding.TheVariants as what
 use Rattle.bank_lanes.specs.declared.turns.LaneEnd.{LaneEnd}
-use Rattle.bank_lanes.specs.declared.turns.LaneEnd.TheVariants.{Finished, NoShare, GaveBack}
+use Rattle.bank_lanes.specs.declared.turns.LaneEnd.TheVariants.{Finished, NoShare, GaveBack, ManyReady}
+use Rattle.bank_lanes.specs.declared.turns.Company.{Company}
+use Rattle.bank_lanes.specs.declared.turns.Company.TheVariants.{Alone}
 use Rattle.bank_lanes.specs.declared.turns.Found.{Found}
 use Rattle.bank_lanes.specs.declared.turns.Found.TheVariants as found
 
@@ -27,9 +30,10 @@ pub record AreOwnLanes (lanes mine : List ℕ) : Type 0 where
   pub apart : (j k : ℕ) → j < length mine → k < length mine
       → slice_index_or mine j 0 ≡ slice_index_or mine k 0 → j ≡ k
 
--- one lane went on under a turn
-pub record StepsOn (lane : ℕ) (v w : PassView) : Type 0 where
+-- one lane went on under a turn, and committed nothing but behind this gate
+pub record StepsOn (gate : ℕ → ℕ → Type 0) (lane : ℕ) (v w : PassView) : Type 0 where
   pub lane_is : w.lane ≡ v.lane
+  pub behind : AreBehind gate (own v.seen lane) → AreBehind gate (own w.seen lane)
   pub own : w.mine ≡ own w.seen w.lane
   pub grew : GrewBy lane v.seen w.seen
 
@@ -55,12 +59,17 @@ module _ {T : Type 0} (job : T → Job) (origin : Origin T) where
       IsNotNowAfter job origin seen
       (held_count (job origin.told) (state_after job origin seen))
 
+  -- more than one position is ready
+  abbrev pub HasManyAfter : List Event → Type 0
+  HasManyAfter seen = 1 < ready_count (job origin.told) (state_after job origin seen)
+
   -- why no lane is lent anything more: all positions are done, or the least ready one reads an
   -- account of which there was no share
   abbrev pub EndsAfter : LaneEnd → List Event → Type 0
   EndsAfter Finished seen = AllDoneAfter job origin seen
   EndsAfter NoShare seen = ReadsLeastAfter job origin seen
   EndsAfter GaveBack seen = ⊥
+  EndsAfter ManyReady seen = ⊥
 
 module _ {L S : Type 0} where
   -- the lane numbers of seats
@@ -95,34 +104,39 @@ module _ {L S : Type 0} where
     pub kept : HasKept seat
     pub passes : HasNoPasses lane seat.passes
 
-  -- the gate is passed once for a loan that is not performed yet, and else not
-  abbrev pub PassesFor : {T : Type 0} → (L → LoanView T) → Holding L S → Passes → Passes → Type 0
-  PassesFor loan what.Nothing old new = new ≡ old
-  PassesFor loan (what.Loan l) old new = HasPassedOnce old (loan l).position new
-  PassesFor loan (what.Performed s effects) old new = new ≡ old
+  -- this gate is passed once for a loan that is not performed yet, and else not
+  abbrev pub PassesFor : {T : Type 0} → (ℕ → ℕ → Type 0) → (L → LoanView T) → Holding L S
+      → Passes → Passes → Type 0
+  PassesFor gate loan what.Nothing old new = new ≡ old
+  PassesFor gate loan (what.Loan l) old new = HasPassedOnce gate old (loan l).position new
+  PassesFor gate loan (what.Performed s effects) old new = new ≡ old
 
   -- the same for each seat
-  abbrev pub PassForEach : {T : Type 0} → (L → LoanView T) → List (GroupSeat L S)
-      → List (GroupSeat L S) → Type 0
-  PassForEach loan old new =
+  abbrev pub PassForEach : {T : Type 0} → (ℕ → ℕ → Type 0) → (L → LoanView T)
+      → List (GroupSeat L S) → List (GroupSeat L S) → Type 0
+  PassForEach gate loan old new =
       (k : ℕ) (d : GroupSeat L S) → k < length old
-      → PassesFor loan (slice_index_or old k d).holding (slice_index_or old k d).passes
+      → PassesFor gate loan (slice_index_or old k d).holding (slice_index_or old k d).passes
       (slice_index_or new k d).passes
 
-  -- what is performed was passed, and nothing after it
-  abbrev pub IsPassed : {T : Type 0} → (S → LoanView T) → Holding L S → Passes → Type 0
-  IsPassed spent what.Nothing passes = ⊤
-  IsPassed spent (what.Loan l) passes = ⊤
-  IsPassed spent (what.Performed s effects) passes = HasJustPassed (spent s).position passes
+  -- for what is performed this gate was passed, and nothing after it
+  abbrev pub IsPassed : {T : Type 0} → (ℕ → ℕ → Type 0) → (S → LoanView T) → Holding L S
+      → Passes → Type 0
+  IsPassed gate spent what.Nothing passes = ⊤
+  IsPassed gate spent (what.Loan l) passes = ⊤
+  IsPassed gate spent (what.Performed s effects) passes =
+      HasJustPassed (spent s).position passes × gate passes.lane (spent s).position
 
   -- at the end all seats are empty, one gave back only where the end says so, where it is finished
-  -- all positions are done, and where there was no share it was one of the least ready position
-  pub record EndsWell {T : Type 0} (job : T → Job) (origin : Origin T) (end : LaneEnd)
-      (seats : List (GroupSeat L S)) (v : PassView) : Type 0 where
+  -- all positions are done, where there was no share it was one of the least ready position, and where
+  -- many are ready it worked alone
+  pub record EndsWell {T : Type 0} (company : Company) (job : T → Job) (origin : Origin T)
+      (end : LaneEnd) (seats : List (GroupSeat L S)) (v : PassView) : Type 0 where
     pub empty : All IsEmpty seats
     pub kept : end ≢ GaveBack → All HasKept seats
     pub done : end ≡ Finished → EndsAfter job origin Finished v.seen
     pub short : end ≡ NoShare → EndsAfter job origin NoShare v.seen
+    pub many : end ≡ ManyReady → (company ≡ Alone) × HasManyAfter job origin v.seen
 
   module _ {T : Type 0} (loan : L → LoanView T) (spent : S → LoanView T) (job : T → Job)
       (origin : Origin T) where
@@ -150,20 +164,21 @@ module _ {L S : Type 0} where
     HasFound found.Nothing seat v w = IsEmpty seat × (w ≡ v) × NoneNowAfter job origin v.seen
     HasFound (found.End end) seat v w = IsEmpty seat × (w ≡ v) × EndsAfter job origin end v.seen
 
-    -- the seat of a lane: its lane has given something back only where it says so, and has passed the
-    -- gate for what is performed
-    pub record IsSeatOf (seat : GroupSeat L S) (seen : List Event) : Type 0 where
-      pub holding : IsHolding seat.holding seat.lane seen
-      pub once : seat.gave_back ≡ false → returns (own seen seat.lane) ≡ 0
-      pub passes_lane : seat.passes.lane ≡ seat.lane
-      pub passed : IsPassed spent seat.holding seat.passes
+    module _ (gate : ℕ → ℕ → Type 0) where
+      -- the seat of a lane: its lane has given something back only where it says so, and has passed
+      -- this gate for what is performed
+      pub record IsSeatOf (seat : GroupSeat L S) (seen : List Event) : Type 0 where
+        pub holding : IsHolding seat.holding seat.lane seen
+        pub once : seat.gave_back ≡ false → returns (own seen seat.lane) ≡ 0
+        pub passes_lane : seat.passes.lane ≡ seat.lane
+        pub passed : IsPassed gate spent seat.holding seat.passes
 
-    -- seats of lanes of a pass
-    pub record AreSeats (lanes : List ℕ) (seats : List (GroupSeat L S)) (seen : List Event)
-        : Type 0 where
-      pub lanes_are : AreOwnLanes lanes (seat_lanes seats)
-      pub each : (k : ℕ) (d : GroupSeat L S) → k < length seats
-          → IsSeatOf (slice_index_or seats k d) seen
+      -- seats of lanes of a pass
+      pub record AreSeats (lanes : List ℕ) (seats : List (GroupSeat L S)) (seen : List Event)
+          : Type 0 where
+        pub lanes_are : AreOwnLanes lanes (seat_lanes seats)
+        pub each : (k : ℕ) (d : GroupSeat L S) → k < length seats
+            → IsSeatOf (slice_index_or seats k d) seen
 
   -- what is lent to the seat is of this origin
   abbrev pub IsOf : {T : Type 0} → (L → LoanView T) → Origin T → Holding L S → Type 0

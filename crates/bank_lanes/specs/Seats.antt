@@ -1,7 +1,8 @@
 -- The seats of the lanes in a wave.
 use Rattle.std.specs.Prelude.{◌≡◌, ℕ, ◌<◌, List, length, map, slice_index_or, Option, Some, None, IfSome, MatchOption, Bool, true, false, not}
-use Rattle.std.specs.List.{list_any}
+use Rattle.std.specs.List.{list_any, AllWithin, HoldsAt}
 use Rattle.bank_law.specs.declared.event.Event.{Event}
+use Rattle.bank_law.specs.declared.event.EventKind.TheVariants.{Grant}
 use Rattle.bank_law.specs.Job.{Job}
 use Rattle.bank_law.specs.History.{own, returns}
 use Rattle.sol_base.specs.Accounts.{accounts_of}
@@ -10,7 +11,7 @@ use Rattle.bank_core.specs.declared.origin.Origin.{Origin}
 use Rattle.bank_core.specs.Effects.{effects_seen}
 use Rattle.bank_core.specs.Origins.{IsLeastReadyAfter}
 use Rattle.bank_core.specs.Takes.{HasLoanOf}
-use Rattle.bank_lanes.specs.Gates.{HasJustPassed, HasNoPasses, HasPassedOnce}
+use Rattle.bank_lanes.specs.Gates.{HasJustPassed, HasNoPasses, HasPassedOnce, IsBehind}
 use Rattle.bank_lanes.specs.declared.gate.Passes.{Passes}
 use Rattle.bank_lanes.specs.declared.seats.Seat.{Seat}
 
@@ -32,10 +33,10 @@ module _ {W T : Type 0} {G : _} where
       (lane : ℕ) (d : Seat W T G) → lane < length seats
       → IsNewSeat lane (slice_index_or seats lane d)
 
-  -- the gate is passed once for the loan, if there is one
-  abbrev pub PassesIts : Option (Loan W T G) → Passes → Passes → Type 0
-  PassesIts None old new = new ≡ old
-  PassesIts (Some loan) old new = HasPassedOnce old loan.position new
+  -- this gate is passed once for the loan, if there is one
+  abbrev pub PassesIts : (ℕ → ℕ → Type 0) → Option (Loan W T G) → Passes → Passes → Type 0
+  PassesIts gate None old new = new ≡ old
+  PassesIts gate (Some loan) old new = HasPassedOnce gate old loan.position new
 
   -- The seat of a lane: it has what the lane holds by the journal, the lane has given something back
   -- only where the seat says so, and then it is empty. Its passes are the lane's.
@@ -74,9 +75,38 @@ module _ {W T : Type 0} {G : _} where
   abbrev pub IsLoanOfWork : T → Seat W T G → Type 0
   IsLoanOfWork told seat = IfSome seat.loan (λ loan. loan.origin.value.told ≡ told)
 
-  -- the effects in a seat are those of its loan, for which the gate was passed
-  abbrev pub IsPerformed : Job → Seat W T G → Type 0
-  IsPerformed job seat =
+  -- the effects in a seat are those of its loan, for which a gate was passed
+  abbrev pub HasItsEffects : Job → Seat W T G → Type 0
+  HasItsEffects job seat =
       IfSome seat.loan (λ loan. IfSome seat.effects (λ effects.
       (effects_seen effects ≡ job.effects loan.position (accounts_of loan.values.items))
       × HasJustPassed loan.position seat.passes))
+
+  -- the lane has passed this gate for the loan of which the seat has effects
+  abbrev pub IsBehindIts : (ℕ → ℕ → Type 0) → Seat W T G → Type 0
+  IsBehindIts gate seat =
+      IfSome seat.loan (λ loan. IfSome seat.effects (λ effects. gate seat.passes.lane loan.position))
+
+  -- the effects in a seat are those of its loan, for which this gate was passed
+  pub record IsPerformed (gate : ℕ → ℕ → Type 0) (job : Job) (seat : Seat W T G) : Type 0 where
+    pub right : HasItsEffects job seat
+    pub behind : IsBehindIts gate seat
+
+  -- the seat has the effects of its loan, which is of this position
+  abbrev pub HasPerformed : ℕ → Seat W T G → Type 0
+  HasPerformed position seat =
+      MatchOption seat.loan ⊥ (λ loan. MatchOption seat.effects ⊥ (λ effects.
+      loan.position ≡ position))
+
+  -- the same of the seat of this lane
+  abbrev pub HasPerformedAt : List (Seat W T G) → ℕ → ℕ → Type 0
+  HasPerformedAt seats lane position =
+      (lane < length seats) × HoldsAt (HasPerformed position) seats lane
+
+-- each event that is new is a grant
+abbrev pub GrantsAlone : List Event → List Event → Type 0
+GrantsAlone old new = AllWithin (λ event. event.kind ≡ Grant) new (length old) (length new)
+
+-- what a new event commits, by its lane and its position, is one of these
+abbrev pub CommitsAlone : (ℕ → ℕ → Type 0) → List Event → List Event → Type 0
+CommitsAlone these old new = AllWithin (IsBehind these) new (length old) (length new)

@@ -1,14 +1,19 @@
 //! Gates, which a lane passes before it works on a position.
-ghost use Rattle.std.specs.Prelude.{◌≡◌, ◌∷◌, ◌++◌, []};
+ghost use Rattle.std.specs.Prelude.{◌≡◌, ◌∷◌, ◌++◌, [], ℕ, ⊤};
 ghost use Rattle.bank_lanes.specs.Gates.{HasJustPassed, HasNoPasses, HasPassedOnce};
 
 use proof_note::Note;
 use sol_base::Items;
 
 /// What a lane passes after each grant, outside any turn, before it works. It answers nothing, so a
-/// loop shows by a record that it was passed: `Passes`.
+/// loop shows by a record how often it was passed, `Passes`, and by `is_passed` that it was this gate.
 pub trait Gate: Sync {
-    fn pass(&self, lane: u32, position: u32);
+    /// The lane has passed this gate before this position. Of a gate that is not known nothing but
+    /// `pass` shows it.
+    ghost is_passed: { Self → ℕ → ℕ → Type 0 } = { λ _ _ _. ⊤ };
+
+    fn pass(&self, lane: u32, position: u32)
+        ensures { is_passed self.now lane position };
 }
 
 /// The gate that keeps no lane.
@@ -54,7 +59,7 @@ impl Passes {
 
     /// Passes the gate before a position.
     pub fn pass<G: Gate>(&mut self, gate: &G, position: u32)
-        ensures once { HasPassedOnce self.old position self.new }
+        ensures once { HasPassedOnce (G.is_passed gate.now) self.old position self.new }
         ensures last { HasJustPassed position self.new }
     {
         gate.pass(self.lane, position);

@@ -96,9 +96,9 @@ fn performed<W: Work, D: Desk<W, Loan = Loan<W>>, G: Gate>(
     requires loans { SeesLoans D.loan }
     requires told { (D.origin desk.now).told ≡ W.told work.now }
     requires of { loan.origin.value ≡ D.origin desk.now }
-    ensures once { HasPassedOnce passes.old loan.position passes.new }
+    ensures once { HasPassedOnce (G.is_passed gate.now) passes.old loan.position passes.new }
     ensures some { result ≢ Nothing }
-    ensures passed { IsPassed D.spent result passes.new }
+    ensures passed { IsPassed (G.is_passed gate.now) D.spent result passes.new }
     ensures holding { (lane : ℕ) (seen : List Event)
         → IsHeldBy (D.origin desk.now) lane seen (D.loan loan)
         → IsHolding D.loan D.spent W.job (D.origin desk.now) result lane seen }
@@ -124,10 +124,11 @@ fn perform<W: Work, D: Desk<W, Loan = Loan<W>>, G: Gate>(
     ensures gave_back { seat.new.gave_back ≡ seat.old.gave_back }
     ensures empty { IsEmpty seat.old → IsEmpty seat.new }
     ensures some { IsEmpty seat.new → IsEmpty seat.old }
-    ensures passes { PassesFor D.loan seat.old.holding seat.old.passes seat.new.passes }
+    ensures passes { PassesFor (G.is_passed gate.now) D.loan seat.old.holding seat.old.passes
+        seat.new.passes }
     ensures stays { (seen : List Event)
-        → IsSeatOf D.loan D.spent W.job (D.origin desk.now) seat.old seen
-        → IsSeatOf D.loan D.spent W.job (D.origin desk.now) seat.new seen }
+        → IsSeatOf D.loan D.spent W.job (D.origin desk.now) (G.is_passed gate.now) seat.old seen
+        → IsSeatOf D.loan D.spent W.job (D.origin desk.now) (G.is_passed gate.now) seat.new seen }
 {
     match seat.take() {
         Holding::Nothing => {}
@@ -155,10 +156,12 @@ pub(crate) fn perform_all<W: Work, D: Desk<W, Loan = Loan<W>>, G: Gate>(
     ensures same { seat_lanes seats.new ≡ seat_lanes seats.old }
     ensures kept { All HasKept seats.new }
     ensures filled { AreFilledFrom 0 seats.new }
-    ensures passes { PassForEach D.loan seats.old seats.new }
+    ensures passes { PassForEach (G.is_passed gate.now) D.loan seats.old seats.new }
     ensures stays { (lanes : List ℕ) (seen : List Event)
-        → AreSeats D.loan D.spent W.job (D.origin desk.now) lanes seats.old seen
-        → AreSeats D.loan D.spent W.job (D.origin desk.now) lanes seats.new seen }
+        → AreSeats D.loan D.spent W.job (D.origin desk.now) (G.is_passed gate.now) lanes
+        seats.old seen
+        → AreSeats D.loan D.spent W.job (D.origin desk.now) (G.is_passed gate.now) lanes
+        seats.new seen }
 {
     for at in 0..seats.len() {
         if seats[at].is_empty() {

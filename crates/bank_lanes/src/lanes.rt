@@ -4,13 +4,14 @@ ghost use mathlib.Core.List.{IsPrefix};
 ghost use Rattle.bank_core.specs.Desks.{Stays};
 ghost use Rattle.bank_core.specs.Origins.{AllDoneAfter};
 ghost use Rattle.bank_law.specs.History.{holds, returns};
-ghost use Rattle.bank_lanes.specs.declared.turns.LaneEnd.TheVariants.{Finished, GaveBack};
-ghost use Rattle.bank_lanes.specs.Groups.{AreSeats, EndsWell, IsFree, IsNewSeat, seat_lanes};
-ghost use Rattle.bank_lanes.specs.Passes.{AreItsOwn, HoldsNothing, IsIdle, KeepsTo, SeesLoans, StaysFree, WentOn, Widened};
+ghost use Rattle.bank_lanes.specs.declared.turns.LaneEnd.TheVariants.{Finished, GaveBack, ManyReady};
+ghost use Rattle.bank_lanes.specs.declared.turns.Company.TheVariants.{Alone};
+ghost use Rattle.bank_lanes.specs.Groups.{AreSeats, EndsWell, HasManyAfter, IsFree, IsNewSeat, seat_lanes};
+ghost use Rattle.bank_lanes.specs.Passes.{AreItsOwn, CommitBehind, HoldsNothing, IsIdle, KeepsTo, SeesLoans, StaysBehind, StaysFree, WentOn, Widened};
 
 use crate::gate::Gate;
 use crate::group::{GroupSeat, leave_group};
-use crate::turns::{LaneEnd, run_group};
+use crate::turns::{Company, LaneEnd, run_group};
 use bank_core::{Desk, Loan, Split, Work};
 use side_by_side::for_each_mut;
 use sol_base::OutOfMemory;
@@ -45,27 +46,30 @@ fn first_seat<L, S>(
 }
 
 /// Draws further lanes for a pass, up to so many in all, each with a seat.
-fn widen<W: Work, D: Desk<W, Loan = Loan<W>>, R: Wait>(
+fn widen<W: Work, D: Desk<W, Loan = Loan<W>>, G: Gate, R: Wait>(
     rt: &R,
     desk: &D,
     pass: &mut D::Pass,
     seats: &mut Vec<GroupSeat<Loan<W>, D::Spent>>,
     width: u32,
+    gate: &G,
 )
     requires desk { D.is_of desk.now pass.old }
     requires one { length seats.old.items ≡ 1 }
     requires room { width ≤ vec_capacity seats.old }
-    requires seats { AreSeats D.loan D.spent W.job (D.origin desk.now) (D.lanes_of pass.old)
-        seats.old.items (D.view pass.old).seen }
+    requires seats { AreSeats D.loan D.spent W.job (D.origin desk.now) (G.is_passed gate.now)
+        (D.lanes_of pass.old) seats.old.items (D.view pass.old).seen }
     requires free { All IsFree seats.old.items }
     ensures desk { D.is_of desk.now pass.new }
     ensures some { 0 < length seats.new.items }
-    ensures seats { AreSeats D.loan D.spent W.job (D.origin desk.now) (D.lanes_of pass.new)
-        seats.new.items (D.view pass.new).seen }
+    ensures seats { AreSeats D.loan D.spent W.job (D.origin desk.now) (G.is_passed gate.now)
+        (D.lanes_of pass.new) seats.new.items (D.view pass.new).seen }
     ensures free { All IsFree seats.new.items }
-    ensures wider { Widened (D.lanes_of pass.old) (D.view pass.old) (D.lanes_of pass.new)
-        (D.view pass.new) }
+    ensures wider { Widened (G.is_passed gate.now) (D.lanes_of pass.old) (D.view pass.old)
+        (D.lanes_of pass.new) (D.view pass.new) }
 {
+    // The contract alone asks for the gate: no event is one of a lane.
+    let _gate = gate;
     for _ in 1..width {
         match desk.split(rt, pass) {
             Split::Made(made) => {
@@ -85,34 +89,38 @@ fn run_seats<W: Work, D: Desk<W, Loan = Loan<W>>, G: Gate, R: Wait>(
     pass: &mut D::Pass,
     seats: &mut Vec<GroupSeat<Loan<W>, D::Spent>>,
     work: &W,
+    company: Company,
     gate: &G,
 ) -> LaneEnd
     requires loans { SeesLoans D.loan }
     requires told { (D.origin desk.now).told ≡ W.told work.now }
     requires some { 0 < length seats.old.items }
     requires desk { D.is_of desk.now pass.old }
-    requires seats { AreSeats D.loan D.spent W.job (D.origin desk.now) (D.lanes_of pass.old)
-        seats.old.items (D.view pass.old).seen }
+    requires seats { AreSeats D.loan D.spent W.job (D.origin desk.now) (G.is_passed gate.now)
+        (D.lanes_of pass.old) seats.old.items (D.view pass.old).seen }
     requires free { All IsFree seats.old.items }
     ensures desk { D.is_of desk.now pass.new }
     ensures own { AreItsOwn (D.view pass.new) }
-    ensures keeps { KeepsTo (seat_lanes seats.old.items) (D.lanes_of pass.old) (D.view pass.old)
-        (D.lanes_of pass.new) (D.view pass.new) }
+    ensures keeps { KeepsTo (G.is_passed gate.now) (seat_lanes seats.old.items)
+        (D.lanes_of pass.old) (D.view pass.old) (D.lanes_of pass.new) (D.view pass.new) }
     ensures same { seat_lanes seats.new.items ≡ seat_lanes seats.old.items }
-    ensures seats { AreSeats D.loan D.spent W.job (D.origin desk.now) (D.lanes_of pass.new)
-        seats.new.items (D.view pass.new).seen }
-    ensures end { EndsWell W.job (D.origin desk.now) result seats.new.items (D.view pass.new) }
+    ensures seats { AreSeats D.loan D.spent W.job (D.origin desk.now) (G.is_passed gate.now)
+        (D.lanes_of pass.new) seats.new.items (D.view pass.new).seen }
+    ensures end { EndsWell company W.job (D.origin desk.now) result seats.new.items
+        (D.view pass.new) }
 {
-    run_group(rt, desk, pass, seats.as_mut_slice(), work, gate)
+    run_group(rt, desk, pass, seats.as_mut_slice(), work, company, gate)
 }
 
 /// Runs the lanes of a thread: its pass draws further ones, so many in all, each gets a seat, and the
-/// group runs until it ends. Where there is no memory for seats nothing is done.
+/// group runs until it ends. Where there is no memory for seats nothing is done. One that works alone
+/// draws none: its own lane performs one position after the other, as long as no more than one is ready.
 fn run_thread<W: Work, D: Desk<W, Loan = Loan<W>>, G: Gate, R: Wait>(
     rt: &R,
     desk: &D,
     pass: &mut D::Pass,
     work: &W,
+    company: Company,
     lanes: &Lanes<'_, G>,
 ) -> LaneEnd
     requires loans { SeesLoans D.loan }
@@ -123,15 +131,22 @@ fn run_thread<W: Work, D: Desk<W, Loan = Loan<W>>, G: Gate, R: Wait>(
     ensures on { WentOn (D.view pass.old) (D.view pass.new) }
     ensures free { StaysFree (D.lanes_of pass.old) (D.view pass.old) (D.lanes_of pass.new)
         (D.view pass.new) }
+    ensures behind { StaysBehind (G.is_passed lanes.now.gate.now) (D.lanes_of pass.old)
+        (D.view pass.old) (D.lanes_of pass.new) (D.view pass.new) }
     ensures once { result ≢ GaveBack → returns (D.view pass.new).mine ≡ 0 }
     ensures done { result ≡ Finished
         → AllDoneAfter W.job (D.origin desk.now) (D.view pass.new).seen }
+    ensures many { result ≡ ManyReady → (company ≡ Alone)
+        × HasManyAfter W.job (D.origin desk.now) (D.view pass.new).seen }
 {
-    let width = lanes.per_thread.max(1);
+    let width = match company {
+        Company::Alone => 1,
+        Company::Others => lanes.per_thread.max(1),
+    };
     match first_seat(lanes.alloc, desk.lane(pass), width) {
         Ok(mut seats) => {
-            widen(rt, desk, pass, &mut seats, width);
-            let end = run_seats(rt, desk, pass, &mut seats, work, lanes.gate);
+            widen(rt, desk, pass, &mut seats, width, lanes.gate);
+            let end = run_seats(rt, desk, pass, &mut seats, work, company, lanes.gate);
             leave_group(seats);
             end
         }
@@ -140,12 +155,12 @@ fn run_thread<W: Work, D: Desk<W, Loan = Loan<W>>, G: Gate, R: Wait>(
 }
 
 /// Splits a pass for each further thread, as far as there are lanes and memory for them.
-fn make_passes<W: Work, D: Desk<W>, R: Wait>(
+fn make_passes<W: Work, D: Desk<W>, G: Gate, R: Wait>(
     rt: &R,
     desk: &D,
     pass: &mut D::Pass,
     passes: &mut Vec<D::Pass>,
-    threads: u32,
+    lanes: &Lanes<'_, G>,
 )
     requires desk { D.is_of desk.now pass.old }
     requires idle { IsIdle (D.view pass.old) }
@@ -155,15 +170,19 @@ fn make_passes<W: Work, D: Desk<W>, R: Wait>(
     ensures on { WentOn (D.view pass.old) (D.view pass.new) }
     ensures free { StaysFree (D.lanes_of pass.old) (D.view pass.old) (D.lanes_of pass.new)
         (D.view pass.new) }
+    ensures behind { StaysBehind (G.is_passed lanes.now.gate.now) (D.lanes_of pass.old)
+        (D.view pass.old) (D.lanes_of pass.new) (D.view pass.new) }
     ensures passes { All (λ p. D.is_of desk.now p × IsIdle (D.view p)
-        × HoldsNothing (D.lanes_of p) (D.view p)) passes.new.items }
+        × HoldsNothing (D.lanes_of p) (D.view p)
+        × CommitBehind (G.is_passed lanes.now.gate.now) (D.lanes_of p) (D.view p))
+        passes.new.items }
 {
-    for _ in 1..threads {
+    for _ in 1..lanes.threads {
         match desk.split(rt, pass) {
             Split::Made(made) => {
                 if let Err(failed) = passes.push(made) {
                     let AllocFailed { value: made } = failed;
-                    join_idle(desk, pass, made);
+                    join_idle(desk, pass, made, lanes.gate);
                     return;
                 }
             }
@@ -173,17 +192,22 @@ fn make_passes<W: Work, D: Desk<W>, R: Wait>(
 }
 
 /// Joins a pass that holds nothing.
-fn join_idle<W: Work, D: Desk<W>>(desk: &D, pass: &mut D::Pass, other: D::Pass)
+fn join_idle<W: Work, D: Desk<W>, G: Gate>(desk: &D, pass: &mut D::Pass, other: D::Pass, gate: &G)
     requires desk { D.is_of desk.now pass.old }
     requires other { D.is_of desk.now other }
     requires free { HoldsNothing (D.lanes_of other) (D.view other) }
+    requires behind { CommitBehind (G.is_passed gate.now) (D.lanes_of other) (D.view other) }
     ensures desk { D.is_of desk.now pass.new }
     ensures free { StaysFree (D.lanes_of pass.old) (D.view pass.old) (D.lanes_of pass.new)
         (D.view pass.new) }
+    ensures behind { StaysBehind (G.is_passed gate.now) (D.lanes_of pass.old) (D.view pass.old)
+        (D.lanes_of pass.new) (D.view pass.new) }
     ensures stays { Stays (D.view pass.old) (D.view pass.new) }
     ensures mine { (D.view pass.new).mine ≡ (D.view pass.old).mine }
     ensures seen { IsPrefix (D.view other).seen (D.view pass.new).seen }
 {
+    // The contract alone asks for the gate.
+    let _gate = gate;
     desk.join(pass, other);
 }
 
@@ -198,8 +222,10 @@ fn run_each<W: Work + Sync, D: Desk<W, Loan = Loan<W>>, G: Gate, R: Threads + Wa
     requires loans { SeesLoans D.loan }
     requires told { (D.origin desk.now).told ≡ W.told work.now }
     requires passes { All (λ p. D.is_of desk.now p × IsIdle (D.view p)
-        × HoldsNothing (D.lanes_of p) (D.view p)) passes.old }
-    ensures passes { All (λ p. D.is_of desk.now p × HoldsNothing (D.lanes_of p) (D.view p)) passes.new }
+        × HoldsNothing (D.lanes_of p) (D.view p)
+        × CommitBehind (G.is_passed lanes.now.gate.now) (D.lanes_of p) (D.view p)) passes.old }
+    ensures passes { All (λ p. D.is_of desk.now p × HoldsNothing (D.lanes_of p) (D.view p)
+        × CommitBehind (G.is_passed lanes.now.gate.now) (D.lanes_of p) (D.view p)) passes.new }
 {
     let others = passes.len();
     if others == 0 {
@@ -212,11 +238,15 @@ fn run_each<W: Work + Sync, D: Desk<W, Loan = Loan<W>>, G: Gate, R: Threads + Wa
         &|_at: usize, pass: &mut D::Pass|
             requires { SeesLoans D.loan × ((D.origin desk.now).told ≡ W.told work.now)
                 × D.is_of desk.now pass.old × IsIdle (D.view pass.old)
-                × HoldsNothing (D.lanes_of pass.old) (D.view pass.old) }
+                × HoldsNothing (D.lanes_of pass.old) (D.view pass.old)
+                × CommitBehind (G.is_passed lanes.now.gate.now) (D.lanes_of pass.old)
+                (D.view pass.old) }
             ensures desk { D.is_of desk.entry.now pass.new }
             ensures free { HoldsNothing (D.lanes_of pass.new) (D.view pass.new) }
+            ensures behind { CommitBehind (G.is_passed lanes.entry.now.gate.now)
+                (D.lanes_of pass.new) (D.view pass.new) }
         {
-            run_thread(rt, desk, pass, work, lanes);
+            run_thread(rt, desk, pass, work, Company::Others, lanes);
         },
     );
 }
@@ -236,16 +266,20 @@ fn run_all<W: Work + Sync, D: Desk<W, Loan = Loan<W>>, G: Gate, R: Threads + Wai
     requires desk { D.is_of desk.now pass.old }
     requires idle { IsIdle (D.view pass.old) }
     requires passes { All (λ p. D.is_of desk.now p × IsIdle (D.view p)
-        × HoldsNothing (D.lanes_of p) (D.view p)) passes.old }
+        × HoldsNothing (D.lanes_of p) (D.view p)
+        × CommitBehind (G.is_passed lanes.now.gate.now) (D.lanes_of p) (D.view p)) passes.old }
     ensures desk { D.is_of desk.now pass.new }
     ensures on { WentOn (D.view pass.old) (D.view pass.new) }
     ensures free { StaysFree (D.lanes_of pass.old) (D.view pass.old) (D.lanes_of pass.new)
         (D.view pass.new) }
+    ensures behind { StaysBehind (G.is_passed lanes.now.gate.now) (D.lanes_of pass.old)
+        (D.view pass.old) (D.lanes_of pass.new) (D.view pass.new) }
     ensures once { result ≢ GaveBack → returns (D.view pass.new).mine ≡ 0 }
-    ensures passes { All (λ p. D.is_of desk.now p × HoldsNothing (D.lanes_of p) (D.view p)) passes.new }
+    ensures passes { All (λ p. D.is_of desk.now p × HoldsNothing (D.lanes_of p) (D.view p)
+        × CommitBehind (G.is_passed lanes.now.gate.now) (D.lanes_of p) (D.view p)) passes.new }
 {
     if passes.is_empty() {
-        return run_thread(rt, desk, pass, work, lanes);
+        return run_thread(rt, desk, pass, work, Company::Others, lanes);
     }
     let (end, ()) = join_mut(
         rt,
@@ -256,13 +290,19 @@ fn run_all<W: Work + Sync, D: Desk<W, Loan = Loan<W>>, G: Gate, R: Threads + Wai
             ensures on { WentOn (D.view pass.entry.now) (D.view pass.exit.now) }
             ensures free { StaysFree (D.lanes_of pass.entry.now) (D.view pass.entry.now)
                 (D.lanes_of pass.exit.now) (D.view pass.exit.now) }
+            ensures behind { StaysBehind (G.is_passed lanes.entry.now.gate.now)
+                (D.lanes_of pass.entry.now) (D.view pass.entry.now) (D.lanes_of pass.exit.now)
+                (D.view pass.exit.now) }
             ensures once { result ≢ GaveBack → returns (D.view pass.exit.now).mine ≡ 0 }
-        { run_thread(rt, desk, pass, work, lanes) },
+        { run_thread(rt, desk, pass, work, Company::Others, lanes) },
         &mut ||
             requires { SeesLoans D.loan × ((D.origin desk.now).told ≡ W.told work.now)
                 × All (λ p. D.is_of desk.now p × IsIdle (D.view p)
-                × HoldsNothing (D.lanes_of p) (D.view p)) passes.now }
-            ensures { All (λ p. D.is_of desk.entry.now p × HoldsNothing (D.lanes_of p) (D.view p))
+                × HoldsNothing (D.lanes_of p) (D.view p)
+                × CommitBehind (G.is_passed lanes.now.gate.now) (D.lanes_of p) (D.view p))
+                passes.now }
+            ensures { All (λ p. D.is_of desk.entry.now p × HoldsNothing (D.lanes_of p) (D.view p)
+                × CommitBehind (G.is_passed lanes.entry.now.gate.now) (D.lanes_of p) (D.view p))
                 passes.exit.now }
         { run_each(rt, desk, passes, work, lanes) },
     );
@@ -270,27 +310,71 @@ fn run_all<W: Work + Sync, D: Desk<W, Loan = Loan<W>>, G: Gate, R: Threads + Wai
 }
 
 /// Joins the passes, none of which holds anything.
-fn join_all<W: Work, D: Desk<W>>(desk: &D, pass: &mut D::Pass, mut passes: Vec<D::Pass>)
+fn join_all<W: Work, D: Desk<W>, G: Gate>(
+    desk: &D,
+    pass: &mut D::Pass,
+    mut passes: Vec<D::Pass>,
+    gate: &G,
+)
     requires desk { D.is_of desk.now pass.old }
     requires free { holds (D.view pass.old).mine ≡ None }
-    requires passes { All (λ p. D.is_of desk.now p × HoldsNothing (D.lanes_of p) (D.view p)) passes.items }
+    requires passes { All (λ p. D.is_of desk.now p × HoldsNothing (D.lanes_of p) (D.view p)
+        × CommitBehind (G.is_passed gate.now) (D.lanes_of p) (D.view p)) passes.items }
     ensures desk { D.is_of desk.now pass.new }
     ensures on { WentOn (D.view pass.old) (D.view pass.new) }
     ensures free { StaysFree (D.lanes_of pass.old) (D.view pass.old) (D.lanes_of pass.new)
         (D.view pass.new) }
+    ensures behind { StaysBehind (G.is_passed gate.now) (D.lanes_of pass.old) (D.view pass.old)
+        (D.lanes_of pass.new) (D.view pass.new) }
     ensures mine { (D.view pass.new).mine ≡ (D.view pass.old).mine }
 {
     while let Some(other) = passes.pop() {
-        join_idle(desk, pass, other);
+        join_idle(desk, pass, other, gate);
     }
     passes.destroy_empty();
 }
 
-/// Runs a desk's lanes without barriers, so many to a thread: a pass is split for each further
-/// lane, each thread's group of lanes takes its share in one turn and commits it in the next, beside
-/// the others, and the passes are joined, none of whose lanes holds anything. A group that finds no
-/// memory gives its loan back and ends. The caller's group then finishes what is left, or gives back
-/// once and ends the run.
+/// Runs the lanes of a desk in so many threads, of which the caller's then finishes what is left, or
+/// gives back once and ends the run.
+fn run_many<W: Work + Sync, D: Desk<W, Loan = Loan<W>>, G: Gate, R: Threads + Wait + Sync>(
+    rt: &R,
+    desk: &D,
+    pass: &mut D::Pass,
+    work: &W,
+    lanes: &Lanes<'_, G>,
+) -> Result<(), OutOfMemory>
+    requires loans { SeesLoans D.loan }
+    requires told { (D.origin desk.now).told ≡ W.told work.now }
+    requires desk { D.is_of desk.now pass.old }
+    requires idle { IsIdle (D.view pass.old) }
+    ensures desk { D.is_of desk.now pass.new }
+    ensures on { WentOn (D.view pass.old) (D.view pass.new) }
+    ensures free { StaysFree (D.lanes_of pass.old) (D.view pass.old) (D.lanes_of pass.new)
+        (D.view pass.new) }
+    ensures behind { StaysBehind (G.is_passed lanes.now.gate.now) (D.lanes_of pass.old)
+        (D.view pass.old) (D.lanes_of pass.new) (D.view pass.new) }
+    ensures done { OnOk result (AllDoneAfter W.job (D.origin desk.now) (D.view pass.new).seen) }
+{
+    let mut passes = Vec::new(lanes.alloc);
+    make_passes(rt, desk, pass, &mut passes, lanes);
+    let end = run_all(rt, desk, pass, passes.as_mut_slice(), work, lanes);
+    join_all(desk, pass, passes, lanes.gate);
+    if end == LaneEnd::GaveBack {
+        return Err(OutOfMemory);
+    }
+    match run_thread(rt, desk, pass, work, Company::Others, lanes) {
+        LaneEnd::Finished => Ok(()),
+        LaneEnd::NoShare | LaneEnd::GaveBack => Err(OutOfMemory),
+        LaneEnd::ManyReady => unreachable!(),
+    }
+}
+
+/// Runs a desk's lanes without barriers, so many to a thread. As long as no more than one position is
+/// ready the caller's lane works alone. From then on a pass is split for each further lane, each
+/// thread's group of lanes takes its share in one turn and commits it in the next, beside the others,
+/// and the passes are joined, none of whose lanes holds anything. A group that finds no memory gives
+/// its loan back and ends. The caller's group then finishes what is left, or gives back once and ends
+/// the run. A lane commits nothing but what it has passed the gate for.
 pub fn run_groups<W: Work + Sync, D: Desk<W, Loan = Loan<W>>, G: Gate, R: Threads + Wait + Sync>(
     rt: &R,
     desk: &D,
@@ -306,19 +390,14 @@ pub fn run_groups<W: Work + Sync, D: Desk<W, Loan = Loan<W>>, G: Gate, R: Thread
     ensures on { WentOn (D.view pass.old) (D.view pass.new) }
     ensures free { StaysFree (D.lanes_of pass.old) (D.view pass.old) (D.lanes_of pass.new)
         (D.view pass.new) }
+    ensures behind { StaysBehind (G.is_passed lanes.entry.gate.now) (D.lanes_of pass.old)
+        (D.view pass.old) (D.lanes_of pass.new) (D.view pass.new) }
     ensures done { OnOk result (AllDoneAfter W.job (D.origin desk.now) (D.view pass.new).seen) }
 {
-    let mut passes = Vec::new(lanes.alloc);
-    make_passes(rt, desk, pass, &mut passes, lanes.threads);
-    let end = run_all(rt, desk, pass, passes.as_mut_slice(), work, &lanes);
-    join_all(desk, pass, passes);
-    if end == LaneEnd::GaveBack {
-        return Err(OutOfMemory);
-    }
-    match run_thread(rt, desk, pass, work, &lanes) {
+    match run_thread(rt, desk, pass, work, Company::Alone, &lanes) {
         LaneEnd::Finished => Ok(()),
-        LaneEnd::NoShare => Err(OutOfMemory),
         LaneEnd::GaveBack => Err(OutOfMemory),
+        LaneEnd::NoShare | LaneEnd::ManyReady => run_many(rt, desk, pass, work, &lanes),
     }
 }
 
@@ -339,6 +418,8 @@ pub fn run_lanes<W: Work + Sync, D: Desk<W, Loan = Loan<W>>, G: Gate, R: Threads
     ensures on { WentOn (D.view pass.old) (D.view pass.new) }
     ensures free { StaysFree (D.lanes_of pass.old) (D.view pass.old) (D.lanes_of pass.new)
         (D.view pass.new) }
+    ensures behind { StaysBehind (G.is_passed gate.now) (D.lanes_of pass.old) (D.view pass.old)
+        (D.lanes_of pass.new) (D.view pass.new) }
     ensures done { OnOk result (AllDoneAfter W.job (D.origin desk.now) (D.view pass.new).seen) }
 {
     let lanes = Lanes {

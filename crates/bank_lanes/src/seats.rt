@@ -46,8 +46,9 @@ impl<W: Work> Seat<W> {
         requires { IsLoanOfWork (W.told work.now) self.old }
         ensures loan { self.new.loan ≡ self.old.loan }
         ensures gave_back { self.new.gave_back ≡ self.old.gave_back }
-        ensures passes { PassesIts self.old.loan self.old.passes self.new.passes }
-        ensures done { IsPerformed (W.job (W.told work.now)) self.new }
+        ensures passes { PassesIts (G.is_passed gate.now) self.old.loan self.old.passes
+            self.new.passes }
+        ensures done { IsPerformed (G.is_passed gate.now) (W.job (W.told work.now)) self.new }
     {
         if let Some(loan) = &self.loan {
             self.passes.pass(gate, loan.position());

@@ -5,8 +5,9 @@ ghost use mathlib.Core.List.{IsPrefix};
 ghost use Rattle.bank_law.specs.Machine.{NothingHeld};
 ghost use Rattle.bank_law.specs.History.{returns};
 ghost use Rattle.bank_core.specs.Origins.{state_after, AllDoneAfter};
+ghost use Rattle.bank_lanes.specs.Gates.{AreBehind};
 ghost use Rattle.bank_lanes.specs.Steps.{GrewBy};
-ghost use Rattle.bank_lanes.specs.Seats.{AreNewSeats, HasLeast, IsEmptySeat, IsSeatOf, AreSeats, LendsNone, sitting, IsLoanOfWork, IsPerformed};
+ghost use Rattle.bank_lanes.specs.Seats.{AreNewSeats, HasLeast, IsEmptySeat, IsSeatOf, AreSeats, LendsNone, sitting, IsLoanOfWork, HasItsEffects, IsPerformed, HasPerformed, HasPerformedAt, GrantsAlone, CommitsAlone};
 
 use crate::gate::Gate;
 use crate::seats::{Seat, leave_all, seats_of};
@@ -25,6 +26,7 @@ fn lend_to<W: Work>(core: &mut Core<W>, lane: u32, seat: &mut Seat<W>) -> bool
     ensures origin { core.new.origin.value ≡ core.old.origin.value }
     ensures lanes { core.new.lanes ≡ core.old.lanes }
     ensures grew { GrewBy lane core.old.journal.items core.new.journal.items }
+    ensures grants { GrantsAlone core.old.journal.items core.new.journal.items }
     ensures seat { IsSeatOf seat.new core.new.origin.value core.new.journal.items lane }
     ensures lent { result ≡ true
         → HasLeast W.job core.old.origin.value core.old.journal.items seat.new }
@@ -51,6 +53,7 @@ fn lend_to_others<W: Work>(core: &mut Core<W>, seats: &mut [Seat<W>])
     ensures origin { core.new.origin.value ≡ core.old.origin.value }
     ensures lanes { core.new.lanes ≡ core.old.lanes }
     ensures longer { IsPrefix core.old.journal.items core.new.journal.items }
+    ensures grants { GrantsAlone core.old.journal.items core.new.journal.items }
     ensures seats { AreSeats seats.new core.new.origin.value core.new.journal.items }
 {
     for lane in 1..core.lanes() {
@@ -71,7 +74,8 @@ fn perform_each<W: Work + Sync, G: Gate, R: Threads + Sync>(
     requires { All (IsLoanOfWork (W.told work.now)) seats.old }
     ensures long { length seats.new ≡ length seats.old }
     ensures same { sitting seats.new ≡ sitting seats.old }
-    ensures done { All (IsPerformed (W.job (W.told work.now))) seats.new }
+    ensures done { All (IsPerformed (G.is_passed gate.now) (W.job (W.told work.now)))
+        seats.new }
 {
     let threads = seats.len();
     if threads == 0 {
@@ -86,7 +90,8 @@ fn perform_each<W: Work + Sync, G: Gate, R: Threads + Sync>(
             ensures loan { seat.new.loan ≡ seat.old.loan }
             ensures gave_back { seat.new.gave_back ≡ seat.old.gave_back }
             ensures passes { seat.new.passes.lane ≡ seat.old.passes.lane }
-            ensures done { IsPerformed (W.job (W.told work.entry.now)) seat.new }
+            ensures done { IsPerformed (G.is_passed gate.entry.now) (W.job (W.told work.entry.now))
+                seat.new }
         {
             seat.perform(work, gate);
         },
@@ -98,7 +103,8 @@ fn perform_own<W: Work, G: Gate>(work: &W, gate: &G, seats: &mut [Seat<W>])
     requires one { length seats.old ≡ 1 }
     requires loans { All (IsLoanOfWork (W.told work.now)) seats.old }
     ensures same { sitting seats.new ≡ sitting seats.old }
-    ensures done { All (IsPerformed (W.job (W.told work.now))) seats.new }
+    ensures done { All (IsPerformed (G.is_passed gate.now) (W.job (W.told work.now)))
+        seats.new }
 {
     seats[0].perform(work, gate);
 }
@@ -113,7 +119,8 @@ fn perform_all<W: Work + Sync, G: Gate, R: Threads + Sync>(
     requires some { 1 ≤ length seats.old }
     requires loans { All (IsLoanOfWork (W.told work.now)) seats.old }
     ensures same { sitting seats.new ≡ sitting seats.old }
-    ensures done { All (IsPerformed (W.job (W.told work.now))) seats.new }
+    ensures done { All (IsPerformed (G.is_passed gate.now) (W.job (W.told work.now)))
+        seats.new }
 {
     let (own, others) = seats.split_at_mut(1);
     join_mut(
@@ -121,12 +128,14 @@ fn perform_all<W: Work + Sync, G: Gate, R: Threads + Sync>(
         &mut ||
             requires { All (IsLoanOfWork (W.told work.now)) others.now }
             ensures same { sitting others.exit.now ≡ sitting others.entry.now }
-            ensures done { All (IsPerformed (W.job (W.told work.entry.now))) others.exit.now }
+            ensures done { All (IsPerformed (G.is_passed gate.entry.now)
+                (W.job (W.told work.entry.now))) others.exit.now }
         { perform_each(rt, work, gate, others) },
         &mut ||
             requires { (length own.now ≡ 1) × All (IsLoanOfWork (W.told work.now)) own.now }
             ensures same { sitting own.exit.now ≡ sitting own.entry.now }
-            ensures done { All (IsPerformed (W.job (W.told work.entry.now))) own.exit.now }
+            ensures done { All (IsPerformed (G.is_passed gate.entry.now)
+                (W.job (W.told work.entry.now))) own.exit.now }
         { perform_own(work, gate, own) },
     );
 }
@@ -134,10 +143,12 @@ fn perform_all<W: Work + Sync, G: Gate, R: Threads + Sync>(
 /// Commits the effects of a seat's loan, or gives the loan back where there are none.
 fn settle<W: Work>(core: &mut Core<W>, lane: u32, seat: &mut Seat<W>)
     requires seat { IsSeatOf seat.old core.old.origin.value core.old.journal.items lane }
-    requires done { IsPerformed (W.job core.old.origin.value.told) seat.old }
+    requires done { HasItsEffects (W.job core.old.origin.value.told) seat.old }
     ensures origin { core.new.origin.value ≡ core.old.origin.value }
     ensures lanes { core.new.lanes ≡ core.old.lanes }
     ensures grew { GrewBy lane core.old.journal.items core.new.journal.items }
+    ensures commits { CommitsAlone (λ l position. (l ≡ lane) × HasPerformed position seat.old)
+        core.old.journal.items core.new.journal.items }
     ensures seat { IsSeatOf seat.new core.new.origin.value core.new.journal.items lane }
     ensures empty { IsEmptySeat seat.new }
 {
@@ -158,10 +169,12 @@ fn settle<W: Work>(core: &mut Core<W>, lane: u32, seat: &mut Seat<W>)
 fn settle_all<W: Work>(core: &mut Core<W>, seats: &mut [Seat<W>])
     requires long { length seats.old ≡ core.old.lanes }
     requires seats { AreSeats seats.old core.old.origin.value core.old.journal.items }
-    requires done { All (IsPerformed (W.job core.old.origin.value.told)) seats.old }
+    requires done { All (HasItsEffects (W.job core.old.origin.value.told)) seats.old }
     ensures origin { core.new.origin.value ≡ core.old.origin.value }
     ensures lanes { core.new.lanes ≡ core.old.lanes }
     ensures longer { IsPrefix core.old.journal.items core.new.journal.items }
+    ensures commits { CommitsAlone (HasPerformedAt seats.old)
+        core.old.journal.items core.new.journal.items }
     ensures seats { AreSeats seats.new core.new.origin.value core.new.journal.items }
     ensures empty { All IsEmptySeat seats.new }
 {
@@ -186,6 +199,8 @@ fn run_seats<W: Work + Sync, G: Gate, R: Threads + Sync>(
     ensures origin { core.new.origin.value ≡ core.old.origin.value }
     ensures lanes { core.new.lanes ≡ core.old.lanes }
     ensures longer { IsPrefix core.old.journal.items core.new.journal.items }
+    ensures behind { AreBehind (G.is_passed gate.now) core.old.journal.items
+        → AreBehind (G.is_passed gate.now) core.new.journal.items }
     ensures free { NothingHeld (state_after W.job core.new.origin.value core.new.journal.items) }
     ensures done { OnOk result (AllDoneAfter W.job core.new.origin.value core.new.journal.items) }
     ensures empty { All IsEmptySeat seats.new }
@@ -209,7 +224,7 @@ fn run_seats<W: Work + Sync, G: Gate, R: Threads + Sync>(
 /// Runs a core's lanes wave by wave: each lane is lent a position, all are performed beside each
 /// other, and the effects are committed in the order of the lanes. A lane that finds no memory
 /// gives its loan back and is not used again; the run goes on with the others, as long as lane 0
-/// does.
+/// does. What is committed, its lane has passed the gate for before.
 pub fn run_waves<W: Work + Sync, G: Gate, R: Threads + Sync>(
     rt: &R,
     alloc: Global,
@@ -223,6 +238,8 @@ pub fn run_waves<W: Work + Sync, G: Gate, R: Threads + Sync>(
     ensures origin { core.new.origin.value ≡ core.old.origin.value }
     ensures lanes { core.new.lanes ≡ core.old.lanes }
     ensures longer { IsPrefix core.old.journal.items core.new.journal.items }
+    ensures behind { AreBehind (G.is_passed gate.now) core.old.journal.items
+        → AreBehind (G.is_passed gate.now) core.new.journal.items }
     ensures free { NothingHeld (state_after W.job core.new.origin.value core.new.journal.items) }
     ensures done { OnOk result (AllDoneAfter W.job core.new.origin.value core.new.journal.items) }
 {

@@ -1,5 +1,6 @@
 -- The one lane of a core, turn by turn.
-use Rattle.std.proofs.Common.{◌≡◌, ◌<◌, ◌+◌, ◌-◌, ◌*◌, ◌∷◌, ◌++◌, [], ℕ, List, length, Some, None, sym, ap, ◌∙◌, arith, append-nil, append_assoc, length-append}
+use Rattle.std.proofs.Common.{◌≡◌, ◌<◌, ◌+◌, ◌-◌, ◌*◌, ◌∷◌, ◌++◌, [], ℕ, List, length, All, Some, None, subst, sym, ap, ◌∙◌, arith, append-nil, append_assoc, length-append}
+use Rattle.std.proofs.lemmas.List.Elements.{All-push}
 use Rattle.sol_base.specs.declared.key.Key.{Key}
 use Rattle.sol_base.specs.declared.account.Account.{Account}
 use Rattle.bank_law.specs.declared.event.Event.{Event}
@@ -46,13 +47,17 @@ module _ (journal lent : List Event) (p : ℕ) (alone : IsAlone journal) (grant 
       none = ap returns commit ∙ returns_push lent (record { kind = Commit; lane = 0; position = p }) ∙ (let b = lent_none in omega (arith, b));
     }
 
-    pub passes_granted : (old new : Passes) → HasPassedGranted 0 journal old → HasPassedOnce old p new → HasPassedGranted 0 after new
-    passes_granted old new was once = record {
+    granted_more : granted after ≡ granted journal ++ p ∷ []
+    granted_more =
+        let one : granted lent ≡ granted journal ++ p ∷ [] = ap granted grant ∙ granted_push journal Grant 0 p in
+        let two : granted after ≡ granted lent = ap granted commit ∙ (granted_push lent Commit 0 p ∙ append-nil (granted lent)) in
+        two ∙ one
+
+    pub passes_granted : (gate : ℕ → ℕ → Type 0) (old new : Passes) → HasPassedGranted gate 0 journal old → HasPassedOnce gate old p new → HasPassedGranted gate 0 after new
+    passes_granted gate old new was once = record {
       lane_is = once.lane ∙ was.lane_is;
-      all =
-          let one : granted lent ≡ granted journal ++ p ∷ [] = ap granted grant ∙ granted_push journal Grant 0 p in
-          let two : granted after ≡ granted lent = ap granted commit ∙ (granted_push lent Commit 0 p ∙ append-nil (granted lent)) in
-          once.positions ∙ (ap (λ ps. ps ++ p ∷ []) was.all ∙ sym (two ∙ one));
+      all = once.positions ∙ (ap (λ ps. ps ++ p ∷ []) was.all ∙ sym granted_more);
+      its = subst (All (gate 0)) (sym granted_more) (All-push (gate 0) (granted journal) p was.its (subst (λ lane. gate lane p) was.lane_is once.its));
     }
 
     pub fewer_turns : (job : Job) (start : Key → Account) → IsLegal job start lent → 2 * job.count + 1 - length after < 2 * job.count + 1 - length journal

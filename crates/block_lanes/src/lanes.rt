@@ -35,7 +35,8 @@ fn run_alone<W: Work, G: Gate>(
     requires journal { core.old.journal.items ≡ [] }
     ensures origin { core.new.origin.value ≡ core.old.origin.value }
     ensures done { OnOk result (AllDoneAfter W.job core.new.origin.value core.new.journal.items) }
-    ensures passed { IfOk result (HasPassedGranted 0 core.new.journal.items) }
+    ensures passed { IfOk result
+        (HasPassedGranted (G.is_passed gate.now) 0 core.new.journal.items) }
 {
     let mut passes = Passes::none(0);
     'turns: loop {

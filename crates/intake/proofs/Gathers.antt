@@ -41,6 +41,12 @@ filter_length f (x ∷ xs) = cond_length (f x) x (filter f xs) (length xs) (filt
 pub share_length : (n senders s : ℕ) → length (share_of n senders s) ≤ n
 share_length n senders s = let l = length-range_with_len 0 n in let f = filter_length (λ p. eqb (p % senders) s) (range_with_len 0 n) in omega (arith, l, f)
 
+pub share_own : (n senders s : ℕ) → n % senders ≡ s → share_of (n + 1) senders s ≡ share_of n senders s ++ n ∷ []
+share_own n senders s own = share_more n senders s ∙ ap (λ (b : Bool). share_of n senders s ++ cond b (n ∷ []) []) (eq-eqb (n % senders) s own)
+
+pub share_other : (n senders s : ℕ) → n % senders ≢ s → share_of (n + 1) senders s ≡ share_of n senders s
+share_other n senders s other = share_more n senders s ∙ ap (λ (b : Bool). share_of n senders s ++ cond b (n ∷ []) []) (ne_eqb (n % senders) s other) ∙ append-nil (share_of n senders s)
+
 -- what a seat has sent, as the share grows
 pub sent_length : (wires : List (List ℕ)) (sent : List Ticket) (n senders s : ℕ) → map carried sent ≡ map (parsed_at wires) (share_of n senders s) → length sent ≤ n
 sent_length wires sent n senders s is =
@@ -52,14 +58,12 @@ sent_length wires sent n senders s is =
 pub sent_more : (wires : List (List ℕ)) (sent more : List Ticket) (t : Ticket) (n senders s : ℕ) → map carried sent ≡ map (parsed_at wires) (share_of n senders s) → more ≡ sent ++ t ∷ [] → carried t ≡ parsed_at wires n → n % senders ≡ s
     → map carried more ≡ map (parsed_at wires) (share_of (n + 1) senders s)
 sent_more wires sent more t n senders s is pushed has own =
-    let longer : share_of (n + 1) senders s ≡ share_of n senders s ++ n ∷ [] = share_more n senders s ∙ ap (λ (b : Bool). share_of n senders s ++ cond b (n ∷ []) []) (eq-eqb (n % senders) s own) in
     ap (map carried) pushed ∙ map-append carried sent (t ∷ []) ∙ ap (λ l. l ++ carried t ∷ []) is ∙ ap (λ x. map (parsed_at wires) (share_of n senders s) ++ x ∷ []) has
-    ∙ sym (map-append (parsed_at wires) (share_of n senders s) (n ∷ [])) ∙ ap (map (parsed_at wires)) (sym longer)
+    ∙ sym (map-append (parsed_at wires) (share_of n senders s) (n ∷ [])) ∙ ap (map (parsed_at wires)) (sym (share_own n senders s own))
 
 pub sent_same : (wires : List (List ℕ)) (sent : List Ticket) (n senders s : ℕ) → map carried sent ≡ map (parsed_at wires) (share_of n senders s) → n % senders ≢ s → map carried sent ≡ map (parsed_at wires) (share_of (n + 1) senders s)
 sent_same wires sent n senders s is other =
-    let longer : share_of (n + 1) senders s ≡ share_of n senders s = share_more n senders s ∙ ap (λ (b : Bool). share_of n senders s ++ cond b (n ∷ []) []) (ne_eqb (n % senders) s other) ∙ append-nil (share_of n senders s) in
-    is ∙ ap (map (parsed_at wires)) (sym longer)
+    is ∙ ap (map (parsed_at wires)) (sym (share_other n senders s other))
 
 -- a fact of what each sender's tickets carry is one of all tickets
 without_first : (P : ℕ × Parsed → Type 0) (t : Ticket) (rest : List Ticket) (b : Bool) → All P (map carried (cond b (t ∷ rest) rest)) → All P (map carried rest)
@@ -244,7 +248,7 @@ one_noted places more ts t at lt below is noted was k d le =
     let before = was k d (omega (arith, le, apart)) in
     (omega (arith, there, before.0), λ e. ap (λ (j : ℕ). (get_or ts j e).position) there ∙ before.1 e)))
 
-some_of : {A : Type 0} (xs : List A) (i : ℕ) → i < length xs → A
+pub some_of : {A : Type 0} (xs : List A) (i : ℕ) → i < length xs → A
 some_of [] i lt = absurd (omega (arith, lt))
 some_of (x ∷ xs) i lt = x
 
@@ -279,11 +283,11 @@ all_done f done rest all none was = sym (append-nil (map f done)) ∙ ap (λ l. 
 abbrev pub done_as : SendSeat → Result SendSeat OutOfMemory
 done_as seat = Ok seat
 
--- the seat of each sender has sent its share
-pub shares_sent : (intake : Intake) (wires : List (List ℕ)) (senders : ℕ) (seats done : List SendSeat) (sent : List (Result SendSeat OutOfMemory)) → map sender_of seats ≡ range_with_len 0 senders → map done_as done ≡ sent → length sent ≡ length seats
-    → ((i : ℕ) (d : SendSeat) (r : Result SendSeat OutOfMemory) → i < length seats → IfOk (get_or sent i r) (HasSentShare intake wires senders (sender_of (get_or seats i d))))
-    → (i : ℕ) (d : SendSeat) → i < length done → HasSentShare intake wires senders i (get_or done i d)
-shares_sent intake wires senders seats done sent numbered all long each i d lt =
+-- what holds of each seat that came back, and of its sender, where all came back
+pub each_done : (P : ℕ → SendSeat → Type 0) (senders : ℕ) (seats done : List SendSeat) (sent : List (Result SendSeat OutOfMemory)) → map sender_of seats ≡ range_with_len 0 senders → map done_as done ≡ sent → length sent ≡ length seats
+    → ((i : ℕ) (d : SendSeat) (r : Result SendSeat OutOfMemory) → i < length seats → IfOk (get_or sent i r) (P (sender_of (get_or seats i d))))
+    → (i : ℕ) (d : SendSeat) → i < length done → P i (get_or done i d)
+each_done P senders seats done sent numbered all long each i d lt =
     let a : length (map done_as done) ≡ length done = length-map done done_as in
     let b : length (map done_as done) ≡ length sent = ap length all in
     let below : i < length seats = omega (arith, a, b, long, lt) in
@@ -293,8 +297,14 @@ shares_sent intake wires senders seats done sent numbered all long each i d lt =
     let number : sender_of (get_or seats i d) ≡ i = sym (get_or-map sender_of seats i d (sender_of d) below) ∙ ap (λ (l : List ℕ). get_or l i (sender_of d)) numbered
     ∙ get_or-range_with_len 0 senders i (sender_of d) (omega (arith, below, c, e, f)) ∙ omega arith in
     let here : get_or sent i (done_as d) ≡ done_as (get_or done i d) = ap (λ (l : List (Result SendSeat OutOfMemory)). get_or l i (done_as d)) (sym all) ∙ get_or-map done_as done i d (done_as d) lt in
-    let has : HasSentShare intake wires senders (sender_of (get_or seats i d)) (get_or done i d) = subst (λ (r : Result SendSeat OutOfMemory). IfOk r (HasSentShare intake wires senders (sender_of (get_or seats i d)))) here (each i d (done_as d) below) in
-    subst (λ s. HasSentShare intake wires senders s (get_or done i d)) number has
+    let has : P (sender_of (get_or seats i d)) (get_or done i d) = subst (λ (r : Result SendSeat OutOfMemory). IfOk r (P (sender_of (get_or seats i d)))) here (each i d (done_as d) below) in
+    subst (λ s. P s (get_or done i d)) number has
+
+-- the seat of each sender has sent its share
+pub shares_sent : (intake : Intake) (wires : List (List ℕ)) (senders : ℕ) (seats done : List SendSeat) (sent : List (Result SendSeat OutOfMemory)) → map sender_of seats ≡ range_with_len 0 senders → map done_as done ≡ sent → length sent ≡ length seats
+    → ((i : ℕ) (d : SendSeat) (r : Result SendSeat OutOfMemory) → i < length seats → IfOk (get_or sent i r) (HasSentShare intake wires senders (sender_of (get_or seats i d))))
+    → (i : ℕ) (d : SendSeat) → i < length done → HasSentShare intake wires senders i (get_or done i d)
+shares_sent intake wires senders = each_done (HasSentShare intake wires senders) senders
 
 no_share : (senders s : ℕ) (xs : List ℕ) → 0 < senders → senders ≤ s → filter (λ p. eqb (p % senders) s) xs ≡ []
 no_share senders s [] some le = refl
@@ -318,7 +328,7 @@ carries_shares intake wires senders done taken left some long none shares sent o
     let has = shares s d lt in
     ap (map carried) (ap (λ (l : List Ticket). of l s) (sym same) ∙ ap (of (taken ++ left)) (sym has.1) ∙ sent s d lt) ∙ has.2)
 
-done_length : (seats done : List SendSeat) (sent : List (Result SendSeat OutOfMemory)) (senders : ℕ) → map sender_of seats ≡ range_with_len 0 senders → map done_as done ≡ sent → length sent ≡ length seats → length done ≡ senders
+pub done_length : (seats done : List SendSeat) (sent : List (Result SendSeat OutOfMemory)) (senders : ℕ) → map sender_of seats ≡ range_with_len 0 senders → map done_as done ≡ sent → length sent ≡ length seats → length done ≡ senders
 done_length seats done sent senders numbered all long =
     let a : length (map done_as done) ≡ length done = length-map done done_as in
     let b : length (map done_as done) ≡ length sent = ap length all in

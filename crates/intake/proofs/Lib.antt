@@ -1,3 +1,4 @@
+pub mod Behind
 pub mod Gathers
 pub mod Moves
 pub mod Numbers

@@ -1,12 +1,12 @@
 //! Gathering: the wires of a batch parsed by several senders at once.
-ghost use Rattle.std.specs.Prelude.{◌≡◌, ◌≢◌, ℕ, ◌+◌, ◌<◌, ◌≤◌, ◌-◌, ◌^◌, ◌++◌, ◌∷◌, [], List, length, map, All, IfOk, Ok, slice_index_or, slice_set};
+ghost use Rattle.std.specs.Prelude.{◌≡◌, ◌≢◌, ℕ, ◌+◌, ◌%◌, ◌<◌, ◌≤◌, ◌-◌, ◌^◌, ◌++◌, ◌∷◌, [], List, length, map, All, IfOk, Ok, slice_index_or, slice_set};
 ghost use Rattle.sol_base.specs.Limits.{max_senders, max_transactions};
 ghost use Rattle.message_codec.specs.Parsing.{parsed_of};
 ghost use Rattle.intake.specs.declared.seats.SendSeat.{SendSeat};
 ghost use Rattle.intake.specs.declared.ticket.Ticket.{Ticket};
 ghost use Rattle.intake.specs.Gathering.{ArriveByShares, CarriesShares, EachArrivesOnce, HasSentShare, HaveSentShares, arrival_of};
 ghost use Rattle.intake.specs.Layout.{LeadsTo, LeadsToParsed};
-ghost use Rattle.intake.specs.Passes.{HasPassedShare};
+ghost use Rattle.intake.specs.Passes.{AreSharesBehind, HasPassedShare, IsShareBehind};
 ghost use Rattle.intake.specs.Seats.{AreFresh, HasSent, IsFresh, IsSendSeatOf, next_ticket, sender_of, sent_by};
 
 use crate::gate::{Passes, SendGate};
@@ -49,6 +49,8 @@ pub fn gather<R: Threads + Wait + Sync, G: SendGate>(
     ensures parsed { IfOk result (λ g. g.parsed ≡ map parsed_of wires.now) }
     ensures once { IfOk result (λ g. EachArrivesOnce (length wires.now) g.arrivals) }
     ensures ascending { IfOk result (λ g. ArriveByShares (length wires.now) senders g.arrivals) }
+    ensures behind { IfOk result
+        (λ _. (p : ℕ) → p < length wires.now → G.is_passed gate.now (p % senders) p) }
 {
     if wires.is_empty() {
         return Ok(Gathered {
@@ -84,15 +86,21 @@ fn send_all<R: Threads + Wait + Sync, G: SendGate>(
     ensures count { IfOk result (λ sent. length sent.items ≡ length seats) }
     ensures each { IfOk result
         (λ sent. HaveSentShares intake.now wires.now senders seats sent.items) }
+    ensures behind { IfOk result (λ sent. AreSharesBehind (G.is_passed gate.now) (length wires.now)
+        senders seats sent.items) }
 {
     let sent = map_vec(
         rt,
         alloc,
         seats.into_vec(),
         &|seat: SendSeat| -> Result<SendSeat, OutOfMemory>
-            requires { (length wires.now ≤ max_transactions) × (1 ≤ senders) × IsFresh intake.now seat }
-            ensures { IfOk result
+            requires { (length wires.now ≤ max_transactions) × (1 ≤ senders) × IsFresh intake.now
+                seat }
+            ensures sent { IfOk result
                 (HasSentShare intake.entry.now wires.entry.now senders (sender_of seat)) }
+            ensures behind { IfOk result
+                (λ _. IsShareBehind (G.is_passed gate.entry.now) (length wires.entry.now) senders
+                (sender_of seat)) }
         { send_share(rt, alloc, intake, wires, senders, gate, seat) },
     )?;
     Ok(sent)
@@ -111,7 +119,9 @@ fn send_share<R: Wait, G: SendGate>(
     requires wires { length wires.now ≤ max_transactions }
     requires senders { 1 ≤ senders }
     requires seat { IsFresh intake.now seat }
-    ensures { IfOk result (HasSentShare intake.now wires.now senders (sender_of seat)) }
+    ensures sent { IfOk result (HasSentShare intake.now wires.now senders (sender_of seat)) }
+    ensures behind { IfOk result
+        (λ _. IsShareBehind (G.is_passed gate.now) (length wires.now) senders (sender_of seat)) }
 {
     let (seat, _passes) = send_behind_gate(rt, alloc, intake, wires, senders, gate, seat)?;
     Ok(seat)
@@ -134,7 +144,8 @@ fn send_behind_gate<R: Wait, G: SendGate>(
     ensures sent { IfOk result
         (λ both. HasSentShare intake.now wires.now senders (sender_of seat) both.0) }
     ensures passed { IfOk result
-        (λ both. HasPassedShare (length wires.now) senders (sender_of seat) both.1) }
+        (λ both. HasPassedShare (G.is_passed gate.now) (length wires.now) senders (sender_of seat)
+        both.1) }
 {
     let sender = seat.sender;
     let count = wires.len() as u32;

@@ -1,10 +1,11 @@
-use Rattle.std.proofs.Common.{◌<◌, length, get_or, refl, ap, ◌∙◌, arith, length-append}
+use Rattle.std.proofs.Common.{◌<◌, length, get_or, refl, ap, ◌∙◌, arith, rules, length-append}
 use base.Growing.{prefix_refl}
+use Rattle.std.proofs.lemmas.Grind.{common_steps}
 use Rattle.account_store.specs.State.{at}
 use Rattle.bank_law.specs.declared.event.EventKind.TheVariants.{Grant}
 use Rattle.bank_law.specs.History.{own, holds}
 use Rattle.bank_lanes.proofs.Rests.{holds_none, own_returns, nothing_held, journal_most, prefix_length}
-use Rattle.bank_lanes.proofs.SeatSteps.{all_hold_none, grew_by, new_seats, seat_lent, seats_set, seats_same, set_length}
+use Rattle.bank_lanes.proofs.SeatSteps.{all_hold_none, grew_by, new_seats, seat_lent, seats_set, seats_same, set_length, behind_wave}
 use Rattle.bank_lanes.proofs.waves.run_seats.Goals as goal
 
 pub waves-init : goal.waves-init
@@ -13,6 +14,7 @@ waves-init g c =
     record {
       origin = refl;
       lanes = refl;
+      behind = λ behind. behind;
       longer = prefix_refl core.journal.items;
       seats = new_seats c.args.seats.now core.origin.value core.journal.items c.requires.new
           (λ lane. holds_none (g.W.Work.job core.origin.value.told) (at core.origin.value.start) core.journal.items core.runs.legal c.requires.free lane)
@@ -69,6 +71,34 @@ returns-then-seats-offset0-clause-free g c =
     nothing_held (g.W.Work.job next.origin.value.told) (at next.origin.value.start) next.journal.items next.lanes next.runs.legal next.room.lanes_below
     (λ lane l. all_hold_none c.settle_all.new.seats next.origin.value next.journal.items c.settle_all.ensures.seats c.settle_all.ensures.empty lane
     (let n = set_length c.waves.seats 0 c.hold.new.self in omega (arith, l, n, c.settle_all.ensures.lanes, c.lend_to_others.ensures.lanes, c.in-Loan.ensures.lanes)))
+
+pub returns-then-seats-offset0-clause-behind : goal.returns-then-seats-offset0-clause-behind
+returns-then-seats-offset0-clause-behind g c = λ behind.
+    let old = c.waves.core in
+    let next = c.take.new.self in
+    let lent = c.lend_to_others.new.core in
+    behind_wave (g.G.Gate.is_passed c.args.gate.now) (g.W.Work.job (g.W.Work.told c.args.work.now)) c.perform_all.new.seats lent.origin.value old.journal.items next.journal.items lent.journal.items c.settle_all.new.core.journal.items 0 c.in-Loan.loan.position
+    c.in-Loan.ensures.journal c.lend_to_others.ensures.longer c.lend_to_others.ensures.grants c.settle_all.ensures.longer c.settle_all.ensures.commits
+    (seats_same c.lend_to_others.new.seats c.perform_all.new.seats lent.origin.value lent.journal.items c.perform_all.ensures.same c.lend_to_others.ensures.seats)
+    c.perform_all.ensures.done (c.waves.invariant.behind behind)
+
+pub waves-preserved : goal.waves-preserved
+waves-preserved g c = record {
+  origin = search rules;
+  lanes = search rules;
+  behind = λ behind.
+      let old = c.waves.core in
+      let next = c.take.new.self in
+      let lent = c.lend_to_others.new.core in
+      behind_wave (g.G.Gate.is_passed c.args.gate.now) (g.W.Work.job (g.W.Work.told c.args.work.now)) c.perform_all.new.seats lent.origin.value old.journal.items next.journal.items lent.journal.items c.settle_all.new.core.journal.items 0 c.in-Loan.loan.position
+      c.in-Loan.ensures.journal c.lend_to_others.ensures.longer c.lend_to_others.ensures.grants c.settle_all.ensures.longer c.settle_all.ensures.commits
+      (seats_same c.lend_to_others.new.seats c.perform_all.new.seats lent.origin.value lent.journal.items c.perform_all.ensures.same c.lend_to_others.ensures.seats)
+      c.perform_all.ensures.done (c.waves.invariant.behind behind);
+  longer = grind (arith, common_steps);
+  seats = search rules;
+  empty = search rules;
+  first = grind (arith, common_steps);
+}
 
 pub waves-smaller : goal.waves-smaller
 waves-smaller g c =

@@ -1,9 +1,8 @@
-use Rattle.std.proofs.Common.{◌+◌, ◌-◌, ◌*◌, ◌<◌, length, sym, ap, subst, ◌∙◌}
+use Rattle.std.proofs.Common.{rules, ◌+◌, ◌-◌, ◌*◌, ◌<◌, length, sym, ap, subst, ◌∙◌}
 use Rattle.account_store.specs.State.{at}
 use Rattle.bank_law.specs.declared.event.EventKind.TheVariants.{Commit}
 use Rattle.bank_law.specs.History.{holds, own}
 use Rattle.bank_law.specs.Machine.{with_event}
-use Rattle.bank_lanes.specs.Gates.{HasPassedOnce}
 use Rattle.block_lanes.proofs.Turns.{fewer_turns, lent_holds, passes_granted, stays_alone}
 use Rattle.block_lanes.proofs.lanes.run_alone.Goals as goal
 
@@ -37,5 +36,5 @@ turns-preserved g c =
       origin = c.commit.ensures.origin ∙ (c.in-Loan.ensures.origin ∙ i.origin);
       one = c.commit.ensures.lanes ∙ (c.in-Loan.ensures.lanes ∙ i.one);
       alone = stays_alone c.turns.core.journal.items lent position i.alone c.in-Loan.ensures.journal c.commit.new.self.journal.items commit;
-      passed = passes_granted c.turns.core.journal.items lent position i.alone c.in-Loan.ensures.journal c.commit.new.self.journal.items commit c.turns.passes c.pass.new.self i.passed (subst (λ p. HasPassedOnce c.turns.passes p c.pass.new.self) c.position.ensures c.pass.ensures.once);
+      passed = passes_granted c.turns.core.journal.items lent position i.alone c.in-Loan.ensures.journal c.commit.new.self.journal.items commit (g.G.Gate.is_passed c.args.gate.now) c.turns.passes c.pass.new.self i.passed (search rules);
     }

@@ -9,7 +9,7 @@ invariant-turns g l = record {
   origin : l.core.origin.value ≡ l.initial.core.origin.value;
   one : l.core.lanes ≡ 1;
   alone : IsAlone l.core.journal.items;
-  passed : HasPassedGranted 0 l.core.journal.items l.passes;
+  passed : HasPassedGranted (g.G.Gate.is_passed l.gate) 0 l.core.journal.items l.passes;
 }
 
 -- a position takes two events

@@ -1,10 +1,12 @@
-use Rattle.std.proofs.Common.{◌≡◌, ◌∙◌, ◌+◌, [], ap, arith}
+use Rattle.std.proofs.Common.{◌≡◌, ◌∙◌, ◌+◌, [], ap, arith, rules, subst}
 use Rattle.std.proofs.lemmas.List.{get_or_default}
 use Rattle.message_codec.specs.Parsing.{parsed_of}
+use Rattle.intake.specs.declared.gate.Passes.{Passes}
 use Rattle.intake.specs.Gathering.{carried, parsed_at}
 use Rattle.intake.specs.Passes.{passed_below}
 use Rattle.intake.specs.Seats.{next_ticket, sender_of, sent_by}
 use Rattle.intake.proofs.Gathers.{sent_length, sent_more, sent_same}
+use Rattle.intake.proofs.Behind.{behind_more, behind_same}
 use Rattle.intake.proofs.gathering.send_behind_gate.Goals as goal
 use Rattle.intake.proofs.gathering.send_behind_gate.Goals.{then-position-senders+in_ok-parsed, else-position-senders}
 
@@ -27,12 +29,15 @@ loop-position-preserved g c =
             w.send.ensures.seat.0,
             w.send.ensures.seat.1 ∙ i.1,
             sent_more wires before _ (next_ticket c.loop-position.seat p w.in_ok-parsed.parsed) p c.args.senders (sender_of c.args.seat) i.2 w.send.ensures.sent has w.if-position-senders.true,
-            w.pass.ensures ∙ ap (λ x. passed_below x (p + 1)) i.3,
+            w.pass.ensures.noted ∙ ap (λ x. passed_below x (p + 1)) i.3,
+            behind_more (g.G.SendGate.is_passed c.args.gate.now) p c.args.senders (sender_of c.args.seat) i.4 w.if-position-senders.true
+                (subst (λ s. g.G.SendGate.is_passed c.args.gate.now s p) (ap (λ (x : Passes). x.sender) i.3) (search (rules, w.pass.ensures.passed))),
           )
       | else-position-senders w ↦ rw (w.seat-is, w.passes-is) (
         i.0,
         i.1,
         sent_same wires before p c.args.senders (sender_of c.args.seat) i.2 w.if-position-senders.false,
         w.skip.ensures ∙ ap (λ x. passed_below x (p + 1)) i.3,
+        behind_same (g.G.SendGate.is_passed c.args.gate.now) p c.args.senders (sender_of c.args.seat) i.4 w.if-position-senders.false,
       )
     ]

@@ -1,6 +1,6 @@
 use Rattle.std.proofs.Common.{◌≡◌, map}
 use Rattle.intake.specs.Gathering.{carried, parsed_at, share_of}
-use Rattle.intake.specs.Passes.{no_passes, passed_below}
+use Rattle.intake.specs.Passes.{IsShareBehind, no_passes, passed_below}
 use Rattle.intake.specs.Seats.{IsSendSeatOf, sender_of, sent_by}
 use Rattle.intake.proofs.gathering.send_behind_gate.Given as goal
 
@@ -10,3 +10,4 @@ invariant-loop-position g l =
     IsSendSeatOf l.intake l.seat × (sender_of l.seat ≡ sender_of l.fn.seat)
     × (map carried (sent_by l.seat) ≡ map (parsed_at l.wires) (share_of l.position l.senders (sender_of l.fn.seat)))
     × (l.passes ≡ passed_below (no_passes (sender_of l.fn.seat) l.senders) l.position)
+    × IsShareBehind (g.G.SendGate.is_passed l.gate) l.position l.senders (sender_of l.fn.seat)
