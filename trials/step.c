@@ -326,6 +326,13 @@ static const char *come(struct thread *thread) {
   }
 }
 
+/* A giver that saw the turn before others had it sees it as it is, and is to take it. */
+static void see_turn(struct thread *giver) {
+  if (giver->where != AT_DESK || (uint64_t)values_of(giver).rax == (uint64_t)peek(giver, turn)) return;
+  do run_on(giver);
+  while (giver->where != AT_DESK && can_go(giver));
+}
+
 /* The giver goes on until it is to take the turn once more, or to sleep, or has ended. */
 static void give(struct thread *thread) {
   if (thread->where == AT_DESK) run_on(thread);
@@ -348,6 +355,7 @@ static void record_giving(struct thread *thread) {
 static void record(struct thread *giver, struct thread *waiter) {
   if (waiter->where != AT_DOOR) return;
   printf("waits %s\n", waiter->word == turn ? "turn" : "other");
+  see_turn(giver);
   record_giving(giver);
 }
 
@@ -391,6 +399,7 @@ static void run_case(void) {
     printf("has the turn\n");
     return;
   }
+  see_turn(giver);
   if (wanted.gives != ALL) give_some(giver, waiter);
   if (waiter->where != HAS_TURN) {
     give(giver);

@@ -4,9 +4,12 @@ ghost use Rattle.std.specs.Prelude.{◌≤◌};
 use crate::tests::drives::have_units;
 use crate::tests::ends::end_by_groups;
 use crate::tests::gates::MeetingGate;
-use crate::tests::trial::{READ, WRITE, accounts_of_ten, accounts_with, trial_of};
+use crate::tests::readers::desk_of_two;
+use crate::tests::trial::{READ, Trial, WRITE, accounts_of_ten, accounts_with, trial_of};
 use crate::tests::watches::watched;
-use bank_lanes::OpenGate;
+use bank_core::{Desk, Split};
+use bank_lanes::{OpenGate, run_lanes};
+use bank_shared::SharedDesk;
 use std::alloc::Global;
 use std::process::Abort;
 use std::sync::Wait;
@@ -97,5 +100,28 @@ fn groups_meet<R: Threads + Wait + Abort + Sync>(rt: &R, alloc: Global) -> Resul
 #[test]
 fn four_groups_meet(rt: HostRuntime) -> Result<(), Fail> {
     assert!(rt; watched(&rt, || groups_meet(&rt, rt.alloc()))?);
+    Ok(())
+}
+
+/// Positions that all wait for the one before them.
+const CHAIN: [&[(u8, bool)]; 8] = [A; 8];
+
+/// Whether they are done by a desk's first lane alone: its second is still to be drawn.
+fn chain_stays<R: Threads + Wait + Abort + Sync>(rt: &R, alloc: Global) -> Result<bool, Fail> {
+    let trial = trial_of(rt, alloc, &CHAIN)?;
+    let accounts = accounts_of_ten(rt, alloc, &[1])?;
+    let (desk, mut pass) = desk_of_two(alloc, accounts, &trial)?;
+    let gate = OpenGate;
+    run_lanes::<Trial, SharedDesk<Trial>, OpenGate, R>(rt, alloc, &desk, &mut pass, &trial, &gate)?;
+    match desk.split(rt, &mut pass) {
+        Split::Made(_second) => Ok(true),
+        Split::AllMade => Ok(false),
+    }
+}
+
+/// No lane is drawn, and no thread started, as long as no more than one position is ready.
+#[test]
+fn a_chain_stays_with_the_first_lane(rt: HostRuntime) -> Result<(), Fail> {
+    assert!(rt; watched(&rt, || chain_stays(&rt, rt.alloc()))?);
     Ok(())
 }

@@ -3,7 +3,7 @@ use crate::tests::drives::have_units;
 use crate::tests::ends::{end_by_lanes, end_by_waves};
 use crate::tests::gates::KeepingGate;
 use crate::tests::trial::{Trial, WRITE, accounts_of_ten, trial_of};
-use crate::tests::works::{Refusing, Waiting};
+use crate::tests::works::{Guarded, Refusing, Waiting};
 use account_store::Accounts;
 use bank_core::Sealed;
 use bank_lanes::{Gate, OpenGate};
@@ -149,6 +149,49 @@ const REFUSALS: [(bool, u64); 4] = [(WAVES, 1), (LANES, 1), (WAVES, u64::MAX), (
 fn lanes_without_memory_give_back(rt: HostRuntime) -> Result<(), Fail> {
     for (lanes, refusals) in REFUSALS {
         assert!(rt; ends_so(&rt, rt.alloc(), lanes, refusals)?);
+    }
+    Ok(())
+}
+
+fn end_of_guarded<R: Threads + Wait + Sync>(
+    rt: &R,
+    alloc: Global,
+    accounts: Accounts,
+    lanes: bool,
+    work: &Guarded,
+) -> Result<Sealed, OutOfMemory> {
+    if lanes {
+        end_by_lanes(rt, alloc, accounts, 2, work, work)
+    } else {
+        end_by_waves(rt, alloc, accounts, 2, work, work)
+    }
+}
+
+/// Whether two lanes perform nothing but what has passed the gate.
+fn pass_first<R: Threads + Wait + Abort + Sync>(
+    rt: &R,
+    alloc: Global,
+    lanes: bool,
+    positions: &[&[(u8, bool)]],
+) -> Result<bool, Fail> {
+    let work = Guarded {
+        trial: trial_of(rt, alloc, positions)?,
+        passed: AtomicU64::new(0),
+        early: AtomicU64::new(0),
+    };
+    let accounts = accounts_of_ten(rt, alloc, &[1, 2, 3, 4])?;
+    let end = end_of_guarded(rt, alloc, accounts, lanes, &work)?;
+    Ok(work.early.load(Ordering::SeqCst) == 0 && end.outcomes.len() == positions.len())
+}
+
+/// Four positions that wait for the one before them.
+const CHAIN: [&[(u8, bool)]; 4] = [&[(1, WRITE)]; 4];
+
+#[test]
+fn lanes_pass_before_they_work(rt: HostRuntime) -> Result<(), Fail> {
+    for lanes in [WAVES, LANES] {
+        assert!(rt; pass_first(&rt, rt.alloc(), lanes, &FOUR)?);
+        assert!(rt; pass_first(&rt, rt.alloc(), lanes, &CHAIN)?);
     }
     Ok(())
 }

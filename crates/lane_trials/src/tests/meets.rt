@@ -45,16 +45,22 @@ fn sixty_four_lanes_meet(rt: HostRuntime) -> Result<(), Fail> {
 
 const ONE: &[(u8, bool)] = &[(1, WRITE)];
 
-/// Positions that all wait for the one before them.
-const CHAIN: [&[(u8, bool)]; 96] = [ONE; 96];
+const OTHER: &[(u8, bool)] = &[(2, WRITE)];
 
-/// Whether 64 lanes come for one position after the other, 20 times.
+/// Two accounts, each written by twelve positions, one after the other: two positions are ready at any
+/// time but the last.
+const CHAINS: [&[(u8, bool)]; 24] = [
+    ONE, OTHER, ONE, OTHER, ONE, OTHER, ONE, OTHER, ONE, OTHER, ONE, OTHER, ONE, OTHER, ONE, OTHER,
+    ONE, OTHER, ONE, OTHER, ONE, OTHER, ONE, OTHER,
+];
+
+/// Whether 64 lanes come for two positions at a time, 80 times.
 fn crowds_end<R: Threads + Wait + Abort + Sync>(rt: &R, alloc: Global) -> Result<bool, Fail> {
-    let trial = trial_of(rt, alloc, &CHAIN)?;
-    for _ in 0..20 {
-        let accounts = accounts_of_ten(rt, alloc, &[1])?;
+    let trial = trial_of(rt, alloc, &CHAINS)?;
+    for _ in 0..80 {
+        let accounts = accounts_of_ten(rt, alloc, &[1, 2])?;
         let end = end_of_trial(rt, alloc, accounts, 64, &trial, &OpenGate)?;
-        if end.outcomes.len() != 96 {
+        if end.outcomes.len() != 24 {
             return Ok(false);
         }
     }
@@ -70,21 +76,22 @@ fn a_crowd_ends(rt: HostRuntime) -> Result<(), Fail> {
 }
 
 /// More turns than a lane looks for before it sleeps.
-const LONG: u64 = 2_000;
+const LONG: u64 = 1_000;
 
 /// Fewer than that.
 const SHORT: u64 = 8;
 
-const ALONE: [&[(u8, bool)]; 1] = [ONE];
+/// Three positions that wait for nobody.
+const APART: [&[(u8, bool)]; 3] = [ONE, OTHER, &[(3, WRITE)]];
 
-/// Whether four lanes end 30 times, three of which sleep while one has the only position.
+/// Whether four lanes end 30 times, three of which sleep while one has the last position.
 fn sleepers_end<R: Threads + Wait + Abort + Sync>(rt: &R, alloc: Global) -> Result<bool, Fail> {
-    let trial = trial_of(rt, alloc, &ALONE)?;
+    let trial = trial_of(rt, alloc, &APART)?;
     for _ in 0..30 {
-        let accounts = accounts_of_ten(rt, alloc, &[1])?;
+        let accounts = accounts_of_ten(rt, alloc, &[1, 2, 3])?;
         let gate = PairingGate::new(LONG);
         let end = end_of_trial(rt, alloc, accounts, 4, &trial, &gate)?;
-        if end.outcomes.len() != 1 {
+        if !gate.were_paired() || end.outcomes.len() != 3 {
             return Ok(false);
         }
     }
@@ -100,22 +107,21 @@ fn the_end_wakes_all_lanes(rt: HostRuntime) -> Result<(), Fail> {
 
 const BOTH: &[(u8, bool)] = &[(1, WRITE), (2, WRITE)];
 
-const OTHER: &[(u8, bool)] = &[(2, WRITE)];
-
 /// Eight times: a position, and two that wait for it and that the next one waits for.
 const PAIRS: [&[(u8, bool)]; 24] = [
     BOTH, ONE, OTHER, BOTH, ONE, OTHER, BOTH, ONE, OTHER, BOTH, ONE, OTHER, BOTH, ONE, OTHER, BOTH,
     ONE, OTHER, BOTH, ONE, OTHER, BOTH, ONE, OTHER,
 ];
 
-/// Whether two lanes share those, four times.
+/// Whether two lanes share those, so many times.
 fn pairs_end<R: Threads + Wait + Abort + Sync>(
     rt: &R,
     alloc: Global,
     dawdle: u64,
+    times: u32,
 ) -> Result<bool, Fail> {
     let trial = trial_of(rt, alloc, &PAIRS)?;
-    for _ in 0..4 {
+    for _ in 0..times {
         let accounts = accounts_of_ten(rt, alloc, &[1, 2])?;
         let gate = PairingGate::new(dawdle);
         let end = end_of_trial(rt, alloc, accounts, 2, &trial, &gate)?;
@@ -127,19 +133,21 @@ fn pairs_end<R: Threads + Wait + Abort + Sync>(
 }
 
 /// A lane that sleeps is woken by the commit that leaves it a position. It would sleep for a second
-/// 32 times, if nothing woke it.
+/// 28 times, if nothing woke it.
 #[test]
 fn a_commit_wakes_a_lane(rt: HostRuntime) -> Result<(), Fail> {
-    assert!(rt; watched(&rt, || pairs_end(&rt, rt.alloc(), LONG))?);
+    assert!(rt; watched(&rt, || pairs_end(&rt, rt.alloc(), LONG, 4))?);
     Ok(())
 }
 
 /// A lane that is about to sleep sees that a commit leaves it a position.
 #[test]
 fn a_commit_is_seen(rt: HostRuntime) -> Result<(), Fail> {
-    assert!(rt; watched(&rt, || pairs_end(&rt, rt.alloc(), SHORT))?);
+    assert!(rt; watched(&rt, || pairs_end(&rt, rt.alloc(), SHORT, 60))?);
     Ok(())
 }
+
+const ALONE: [&[(u8, bool)]; 1] = [ONE];
 
 /// Whether a reader that sleeps ends 30 times, each once it is dismissed.
 fn readers_end<R: Threads + Wait + Abort + Sync>(rt: &R, alloc: Global) -> Result<bool, Fail> {
