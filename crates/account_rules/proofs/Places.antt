@@ -10,6 +10,7 @@ use Rattle.sol_base.proofs.Places.{StandWithin, listings_within}
 use Rattle.account_rules.specs.declared.rules.RuleFault.{RuleFault}
 use Rattle.account_rules.specs.declared.rules.RuleFault.TheVariants.{ReadonlyChanged, ExecutableChanged, OwnerChange, ForeignDebit, ForeignData, TooLarge, Unbalanced}
 use Rattle.account_rules.specs.AccountRules.{Change, afters, befores, broken_by, broken_rule, broken_rules, first_of, listed_change, listed_changes, listed_rules, unbalanced, readonly_changed, executable_changed, owner_change, foreign_debit, foreign_data, too_large}
+use Rattle.spec_base.proofs.Lists.{AllByRecursion-append}
 
 -- a fault names one of so many places, or none
 abbrev pub NamesWithin : ℕ → RuleFault → Type 0
@@ -44,10 +45,6 @@ each_within count program ((i, (writable, (before, after))) ∷ changes) all =
     one_more (NamesWithin count) (broken_by program (i, (writable, (before, after)))) (filter_map (broken_by program) changes)
     (broken_within count program writable before after i all.0) (each_within count program changes all.1)
 
-both_all : {X : Type 0} (P : X → Type 0) (xs ys : List X) → AllByRecursion P xs → AllByRecursion P ys → AllByRecursion P (xs ++ ys)
-both_all P [] ys one two = two
-both_all P (x ∷ xs) ys one two = (one.0, both_all P xs ys one.1 two)
-
 sum_within : (count : ℕ) (test : Bool) → AllByRecursion (NamesWithin count) (if test then Unbalanced ∷ [] else [])
 sum_within count true = (tt, tt)
 sum_within count false = tt
@@ -66,6 +63,6 @@ unfolding listed_rules
 listed_within program metas before after =
     let changes : List Change = listed_changes metas before after in
     first_within (NamesWithin (length metas)) (broken_rules program changes)
-    (both_all (NamesWithin (length metas)) (filter_map (broken_by program) changes) _
+    (AllByRecursion-append (NamesWithin (length metas)) (filter_map (broken_by program) changes) _
     (each_within (length metas) program changes (changes_within (length metas) metas before after (first_listings metas) (listings_within metas)))
     (sum_within (length metas) (unbalanced (befores changes) (afters changes))))

@@ -44,10 +44,6 @@ same_own lanes old new l same one = sym (own_in l lanes new one) ∙ (ap (λ es.
 pub lane_keeps : EachLaneKeeps
 lane_keeps lane whole old new one same = same_own whole old new lane same one
 
-pub same_other : (lanes : List ℕ) (old new : List Event) (e : Event) (l : ℕ) → own_of new lanes ≡ own_of old lanes ++ e ∷ [] → is_one_of lanes l ≡ true → (e.lane ≡ l → ⊥) → own new l ≡ own old l
-same_other lanes old new e l more one other =
-    sym (own_in l lanes new one) ∙ (ap (λ es. own es l) more ∙ (own_other (own_of old lanes) e l other ∙ own_in l lanes old one))
-
 or_after : (b rest : Bool) → rest ≡ true → (b || rest) ≡ true
 or_after true rest is = refl
 or_after false rest is = is

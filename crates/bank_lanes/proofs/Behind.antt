@@ -40,7 +40,3 @@ module _ (gate : ℕ → ℕ → Type 0) where
       one_of_two (is_one_of ms l) (is_one_of ls l) (AreBehind gate (own w.seen l)) (sym (is_one_within l ms ls) ∙ subst (λ (x : List ℕ). is_one_of x l ≡ true) is one)
       (λ there. subst (AreBehind gate) (sym (same_own ms other.seen w.seen l theirs there)) (behind l there))
       (λ here. subst (AreBehind gate) (sym (same_own ls v.seen w.seen l mine here)) (was here))
-
-  -- all that its lanes have committed, where that was so before
-  pub behind_on : (ls ms : List ℕ) (v w : PassView) → StaysBehind gate ls v ms w → CommitBehind gate ls v → CommitBehind gate ms w
-  behind_on ls ms v w stays was l one = stays l one (λ there. was l there)

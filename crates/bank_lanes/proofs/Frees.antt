@@ -86,10 +86,6 @@ free_both ls ms ns v other w is mine theirs free l one was =
     (λ there. ap holds (same_own ms other.seen w.seen l theirs there) ∙ free l there)
     (λ here. ap holds (same_own ls v.seen w.seen l mine here) ∙ was here)
 
--- a pass that drew no lane, that was split, and that took in another
-pub widened_none : (gate : ℕ → ℕ → Type 0) (ls : List ℕ) (v : PassView) → Widened gate ls v ls v
-widened_none gate ls v = record { lane = refl; longer = prefix_refl v.seen; mine = refl; more = λ l one. one; each = refl; free = λ l one was. was one; behind = λ l one was. was one }
-
 pub widened_then : (gate : ℕ → ℕ → Type 0) (ls ms ns : List ℕ) (u v w : PassView) → Widened gate ls u ms v → Widened gate ms v ns w → Widened gate ls u ns w
 widened_then gate ls ms ns u v w one two = record {
   lane = two.lane ∙ one.lane;
@@ -122,8 +118,3 @@ widened_join gate ls ms ns v other w is stays took each each_other free behind =
   free = free_both ls ms ns v other w is each each_other free;
   behind = behind_both gate ls ms ns v other w is each each_other behind;
 }
-
--- its own events stay those of its lane
-pub widened_own : (gate : ℕ → ℕ → Type 0) (ls ms : List ℕ) (v w : PassView) → is_one_of ls v.lane ≡ true → AreItsOwn v → Widened gate ls v ms w → AreItsOwn w
-widened_own gate ls ms v w one mine wide =
-    wide.mine ∙ (mine ∙ (sym (same_own ls v.seen w.seen v.lane wide.each one) ∙ ap (λ (l : ℕ). own w.seen l) (sym wide.lane)))

@@ -45,15 +45,6 @@ stepped gate v w kind lane p of same is its =
       behind = λ was. subst (AreBehind gate) (sym (grown_own v.seen w.seen kind lane p grown)) (All-push (IsBehind gate) (own v.seen lane) (record { kind = kind; lane = lane; position = p }) was its);
     }
 
--- none
-pub stayed : (gate : ℕ → ℕ → Type 0) (v w : PassView) (lane : ℕ) → w ≡ v → AreItsOwn v → StepsOn gate lane v w
-stayed gate v w lane is mine = record {
-  lane_is = ap (λ (x : PassView). x.lane) is;
-  own = subst (λ (x : PassView). AreItsOwn x) (sym is) mine;
-  grew = record { longer = ([], append-nil v.seen ∙ ap (λ (x : PassView). x.seen) (sym is)); others = λ other not. ap (λ (x : PassView). own x.seen other) is };
-  behind = λ was. subst (λ (x : PassView). AreBehind gate (own x.seen lane)) (sym is) was;
-}
-
 -- what a share found, which is never plenty, as what a turn found
 pub found_share : (f : Found) (a p g : Type 0) (h i : LaneEnd → Type 0) → ((end : LaneEnd) → h end → i end) → MatchFound f a ⊥ g h → MatchFound f a p g i
 found_share found.Loan a p g h i then m = m
@@ -116,22 +107,6 @@ module _ {T L S : Type 0} (loan : L → LoanView T) (spent : S → LoanView T) (
         passes_lane = its;
         passed = tt;
       }
-
-  -- a loan that was performed
-  pub held_performed : (lane : ℕ) (seen : List Event) (l : L) (s : S) → spent s ≡ loan l → IsHeldBy origin lane seen (loan l) → IsHeldBy origin lane seen (spent s)
-  held_performed lane seen l s same h = subst (IsHeldBy origin lane seen) (sym same) h
-
-  pub right_of : (effects : JobEffects) (told : T) (of : LoanView T) (s : S) → effects ≡ (job told).effects of.position of.values → origin.told ≡ told → spent s ≡ of → effects ≡ (job origin.told).effects (spent s).position (spent s).values
-  right_of effects told of s e same is = e ∙ ap₂ (λ (t : T) (v : LoanView T). (job t).effects v.position v.values) (sym same) (sym is)
-
-  of_holding : (x : Holding L S) (lane : ℕ) (seen : List Event) → IsHolding loan spent job origin x lane seen → IsOf loan origin x
-  of_holding what.Nothing lane seen h = tt
-  of_holding (what.Loan l) lane seen h = h.origin_is
-  of_holding (what.Performed s effects) lane seen h = tt
-
-  -- what is lent to seats is of the origin
-  pub all_of : (lanes : List ℕ) (seats : List Seat) (seen : List Event) → AreSeats loan spent job origin gate lanes seats seen → All (λ seat. IsOf loan origin seat.holding) seats
-  all_of lanes seats seen all k d l = of_holding (get_or seats k d).holding (get_or seats k d).lane seen (all.each k d l).holding
 
   lane_at : (seats : List Seat) (k : ℕ) (d : Seat) → k < length seats → get_or (seat_lanes seats) k 0 ≡ (get_or seats k d).lane
   lane_at seats k d l = get_or-map (λ (s : Seat). s.lane) seats k d 0 l

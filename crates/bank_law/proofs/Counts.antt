@@ -25,12 +25,12 @@ abbrev done_count : Job → State → ℕ
 done_count job s = count_below (λ i. is_done (s.stage i)) job.count
 
 -- counts that agree below n
-count-same : (p q : ℕ → Bool) (n : ℕ) → ((j : ℕ) → j < n → p j ≡ q j) → count_below p n ≡ count_below q n
+pub count-same : (p q : ℕ → Bool) (n : ℕ) → ((j : ℕ) → j < n → p j ≡ q j) → count_below p n ≡ count_below q n
 count-same p q zero h = refl
 count-same p q (suc n) h = ap₂ (λ b m. one_if b + m) (h n (omega arith)) (count-same p q n (λ j l. h j (omega arith)))
 
 -- counts that differ at i alone
-count-change : (p q : ℕ → Bool) (i n : ℕ) → i < n → ((j : ℕ) → (j ≡ i → ⊥) → p j ≡ q j) → count_below q n + one_if (p i) ≡ count_below p n + one_if (q i)
+pub count-change : (p q : ℕ → Bool) (i n : ℕ) → i < n → ((j : ℕ) → (j ≡ i → ⊥) → p j ≡ q j) → count_below q n + one_if (p i) ≡ count_below p n + one_if (q i)
 count-change p q i zero l h = absurd (omega arith)
 count-change p q i (suc n) l h =
     elim (cases_eq n i) [

@@ -60,9 +60,6 @@ module _ {O : Type 0} where
       (All-append (λ (e : Event). is_one_of v.lanes e.lane ≡ true) more es t.theirs mine)
       (is ∙ (ap (λ (x : List Event). x ++ es) t.after_is ∙ append_assoc was more es))
 
-  pub one_event : (v : View O) (h after : List Event) (e : Event) (d : ℕ) → IsOnTurn v h d → is_one_of v.lanes e.lane ≡ true → after ≡ h ++ e ∷ [] → IsOnTurn v after d
-  one_event v h after e d t mine is = turn_goes_on v h (e ∷ []) after d t (All-cons (λ (x : Event). is_one_of v.lanes x.lane ≡ true) e [] mine (λ i x lt. absurd (omega arith))) is
-
   -- what the desk asks for where the turn is given up, and the lanes then
   pub still_has : (v : View O) (after : List Event) (d : ℕ) → v.joined ≡ [] → IsOnTurn v after d → HasTurn v after d
   still_has v after d no_parts t = record {
@@ -75,18 +72,3 @@ module _ {O : Type 0} where
     };
     drawn = le_refl d;
   }
-
-  pub done_lanes : (v : View O) (after : List Event) (d : ℕ) → v.joined ≡ [] → IsOnTurn v after d → (done v after d).lanes ≡ v.lanes
-  done_lanes v after d no_parts t =
-      ap (λ (x : Option (List Event × ℕ)). drawn_since x d ++ lanes_of v) t.turn
-      ∙ (ap (λ (n : ℕ). range_with_len d n ++ lanes_of v) (let none : d - d ≡ 0 = omega arith in none) ∙ lanes_are v no_parts)
-
-module _ {W T : Type 0} {G : _} where
-  -- what a take does to what shows the history
-  pub take_shows : {X : Type 0} (F : List Event → X) (t : Take W T G) (l : ℕ) (old new : List Event)
-      → MatchTake t (λ loan. new ≡ with_event old Grant l loan.position) (λ held. new ≡ old) (new ≡ old) (new ≡ old)
-      → MatchTake t (λ loan. F new ≡ F (with_event old Grant l loan.position)) (λ held. F new ≡ F old) (F new ≡ F old) (F new ≡ F old)
-  take_shows F (take.Loan loan) l old new is = ap F is
-  take_shows F (take.NotNow held) l old new is = ap F is
-  take_shows F take.Finished l old new is = ap F is
-  take_shows F take.OutOfMemory l old new is = ap F is

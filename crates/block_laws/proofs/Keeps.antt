@@ -12,18 +12,15 @@ use Rattle.block_run.specs.Blocks.{before_refused, block_result, head_of, listed
 use Rattle.block_laws.proofs.Conserved.{activated_are_ready, burned_is_all, executables_stay, fees_leave}
 use Rattle.block_laws.specs.Keeping.{BlocksKeepLamports, NewProgramsAreReady, NewProgramsAreReadyAgain, ProgramsStay, ProgramsStayAgain, ReplaysKeepLamports, CanRun, TransactionsTakeTheirFees, order_again, order_of}
 use Rattle.block_laws.proofs.Fit.{admitted_are_chosen, listed_are_chosen}
+use Rattle.block_run.proofs.Orders.{before_are_chosen}
 
 pub admitted_fit : (s : Snapshot) (batch : Batch) → CanRun s batch.wires → All IsChosen (order_of s batch)
 admitted_fit s batch runs = admitted_are_chosen (start_in s) batch.wires runs.0.limits.keys.1 runs.1
 
-first_fit : (refused : List Refused) (order : List Chosen) → All IsChosen order → All IsChosen (before_refused refused order)
-first_fit [] order all = all
-first_fit (one ∷ others) order all = All-take IsChosen one.position order all
-
 listed_fit : (s : Snapshot) (given : Block) → CanRun s (wires_of given) → All IsChosen (order_again s given)
 listed_fit s given runs =
     let a = listed (start_in s) (wires_of given) in
-    first_fit a.refused a.order (listed_are_chosen (start_in s) (wires_of given) runs.0.limits.keys.1 runs.1)
+    before_are_chosen a.refused a.order (listed_are_chosen (start_in s) (wires_of given) runs.0.limits.keys.1 runs.1)
 
 pub fees_taken : TransactionsTakeTheirFees
 fees_taken s batch runs = fees_leave s batch.slot (order_of s batch) runs.0 (admitted_fit s batch runs)

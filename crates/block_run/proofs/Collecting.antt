@@ -26,26 +26,6 @@ key_again all keys key are there = record {
         let here = sym (are.same k) ∙ subst (λ (q : Key). has_key q keys ≡ true) (sym (same_key-true k key e)) there in
         ap (λ b. b || (same_key k key || false)) here ∙ sym here
 
--- one more key
-pub key_more : (all keys : List Key) (key : Key) → AreKeysOf all keys → AreKeysOf (all ++ key ∷ []) (keys ++ key ∷ [])
-key_more all keys key are = record {
-  same = λ k. has_more k key keys ∙ ap (λ b. b || (same_key k key || false)) (are.same k) ∙ sym (has_more k key all);
-  fewer = let one = length-append all (key ∷ []) in let two = length-append keys (key ∷ []) in let few = are.fewer in omega (arith, one, two, few);
-}
-
-pub none_yet : (keys : List Key) → keys ≡ [] → AreKeysOf [] keys
-none_yet keys none = record {
-  same = λ k. ap (has_key k) none;
-  fewer = omega (arith, ap length none);
-}
-
--- keys that were sorted, each once
-pub sorted_are : (all keys sorted : List Key) → AreKeysOf all keys → ((key : Key) → has_key key sorted ≡ has_key key keys) → length sorted ≤ length keys → AreKeysOf all sorted
-sorted_are all keys sorted are same fewer = record {
-  same = λ k. same k ∙ are.same k;
-  fewer = let few = are.fewer in omega (arith, few, fewer);
-}
-
 -- those of a message stand in three lists
 pub in_three : (all a b c keys writable readonly : List Key) → a ≡ keys → b ≡ writable → c ≡ readonly → ((all ++ a) ++ b) ++ c ≡ all ++ ((keys ++ writable) ++ readonly)
 in_three all a b c keys writable readonly one two three =

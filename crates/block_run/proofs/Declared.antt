@@ -19,7 +19,7 @@ use Rattle.admission.specs.declared.chosen.Chosen.{Chosen}
 use Rattle.admission.specs.Chosen.{IsChosen}
 use Rattle.tx_exec.specs.AdmittedBlock.{locks_at}
 use Rattle.block_run.specs.SerialRun.{AreKeysIn, keys_in}
-use Rattle.block_run.proofs.Positions.{few_keys}
+use Rattle.tx_exec.proofs.Fitting.{keys_few as few_keys}
 
 keys_in-cons : (t : Chosen) (ts : List Chosen) → keys_in (t ∷ ts) ≡ all_keys t.tx.message t.loaded ++ keys_in ts
 keys_in-cons t ts = flat_map-cons (λ (t : Chosen). all_keys t.tx.message t.loaded) t ts

@@ -9,11 +9,7 @@ use Rattle.admission.specs.Chosen.{IsChosen}
 use Rattle.admission.specs.Batches.{IsOf, IsParted}
 use Rattle.block_run.specs.Blocks.{before_refused}
 use Rattle.block_end.specs.Ending.{AreOf}
-
-pub length-take-le : {X : Type 0} (n : ℕ) (xs : List X) → length (take n xs) ≤ length xs
-length-take-le zero xs = omega arith
-length-take-le (suc n) [] = omega arith
-length-take-le (suc n) (x ∷ xs) = let rest = length-take-le n xs in omega (arith, rest)
+use Rattle.spec_base.proofs.Lists.{length-take-most}
 
 pub length-take-least : {X : Type 0} (n : ℕ) (xs : List X) → length (take n xs) ≤ n
 length-take-least zero xs = omega arith
@@ -30,7 +26,7 @@ parted_are_of wires answer few parted = record {
 -- and so are the first of them
 pub first_are_of : (wires : List (List ℕ)) (n : ℕ) (order : List Chosen) → AreOf wires order → AreOf wires (take n order)
 first_are_of wires n order of = record {
-  few = let l = length-take-le n order in let f = of.few in omega (arith, l, f);
+  few = let l = length-take-most n order in let f = of.few in omega (arith, l, f);
   each = All-take (IsOf wires) n order of.each;
 }
 

@@ -23,26 +23,19 @@ use Rattle.tx_report.specs.Outcomes.{IsSmallOutcome}
 use Rattle.tx_exec.proofs.Keeping.{transaction_fits}
 use Rattle.tx_exec.proofs.Small.{transaction_small}
 use Rattle.tx_exec.proofs.Works.{there}
+use Rattle.spec_base.proofs.Lists.{length-filter-most}
+use Rattle.tx_exec.proofs.Fitting.{keys_few}
 
 -- what holds of each transaction holds of its position
 pub at_position : (admitted : AdmittedBlock) → All IsChosen admitted.chosen → (P : Option Chosen → Type 0) → ((t : Chosen) → IsChosen t → P (Some t)) → (i : ℕ) → i < length admitted.chosen → P (slice_get admitted.chosen i)
 at_position admitted all P each i below = let x = there admitted.chosen i below all in subst P (sym x.1) (each x.0 x.2)
-
--- a transaction has few keys
-pub few_keys : (t : Chosen) → IsChosen t → length (all_keys t.tx.message t.loaded) ≤ max_transaction_keys
-few_keys t is =
-    let c : length (all_keys t.tx.message t.loaded) ≡ length (t.tx.message.keys ++ t.loaded.writable) + length t.loaded.readonly = length-append (t.tx.message.keys ++ t.loaded.writable) t.loaded.readonly in
-    let d = length-append t.tx.message.keys t.loaded.writable in
-    let e : length t.loaded.writable + length t.loaded.readonly ≡ sum_by load_count t.tx.message.lookups = is.loaded in
-    let f : length t.tx.message.keys + sum_by load_count t.tx.message.lookups ≤ max_transaction_keys = is.sane.keys in
-    omega (arith, c, d, e, f)
 
 -- and as many locks
 few_locks : (t : Chosen) → IsChosen t → length t.locks ≤ max_transaction_keys
 few_locks t is =
     let a = ap length is.locked in
     let b = lock_count t.tx.message t.loaded in
-    let c = few_keys t is in
+    let c = keys_few t is in
     omega (arith, a, b, c)
 
 -- what effects paid
@@ -62,13 +55,6 @@ module _ (admitted : AdmittedBlock) (all : All IsChosen admitted.chosen) where
   pub locks_most : (i : ℕ) → i < length admitted.chosen → length ((job_of admitted).locks i) ≤ max_transaction_keys
   locks_most = at_position admitted all (λ o. length (locks_at o) ≤ max_transaction_keys) few_locks
 
-  pub locks_few : (n : ℕ) → n ≤ length admitted.chosen → locks_before (job_of admitted) n ≤ max_transaction_keys * n
-  locks_few zero l = omega arith
-  locks_few (suc n) l =
-      let here = locks_most n (omega (arith, l)) in
-      let rest = locks_few n (omega (arith, l)) in
-      omega (arith, here, rest)
-
   pub position_pays : (i : ℕ) → i < length admitted.chosen → (vs : List Account) → length vs ≡ length ((job_of admitted).locks i)
       → lamports_in ((job_of admitted).effects i vs).written + paid_in ((job_of admitted).effects i vs) ≡ lamports_in (lent_for_writing ((job_of admitted).locks i) vs)
   position_pays i l vs = at_position admitted all
@@ -78,15 +64,11 @@ module _ (admitted : AdmittedBlock) (all : All IsChosen admitted.chosen) where
   pub position_is_small : (i : ℕ) → i < length admitted.chosen → (vs : List Account) → IsSmallOutcome ((job_of admitted).effects i vs).outcome
   position_is_small i l vs = at_position admitted all (λ o. IsSmallOutcome (effects_at (block_of admitted) o vs).outcome) (λ t is. transaction_small (block_of admitted) t vs is) i l
 
-length-filter-le : {X : Type 0} (p : X → Bool) (xs : List X) → length (filter p xs) ≤ length xs
-length-filter-le p [] = omega arith
-length-filter-le p (x ∷ xs) = let rest = length-filter-le p xs in elim (p x) as (λ b. length (cond b (x ∷ filter p xs) (filter p xs)) ≤ suc (length xs)) [ true ↦ omega (arith, rest) | false ↦ omega (arith, rest) ]
-
 -- no more keys are written than there are locks
 pub written_keys_few : (job : Job) (i : ℕ) → length (write_keys job i) ≤ length (job.locks i)
 written_keys_few job i =
     let a = length-map (filter (λ (lock : Lock). lock.write) (job.locks i)) (λ lock. lock.key) in
-    let b = length-filter-le (λ (lock : Lock). lock.write) (job.locks i) in
+    let b = length-filter-most (λ (lock : Lock). lock.write) (job.locks i) in
     omega (arith, a, b)
 
 -- the keys that transactions lock are numbered alike in every work of them

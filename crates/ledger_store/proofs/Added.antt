@@ -32,7 +32,8 @@ use Rattle.ledger_store.specs.Opening.{full_before, slot_after, stepped, walked,
 use Rattle.ledger_store.specs.Reading.{Opens}
 use Rattle.ledger_store.specs.Adding.{Follows, is_next_full, state_name, state_body, with_block}
 use Rattle.ledger_store.proofs.Same.{Agree, Later, agreed_state_after, opened_so, opens_from}
-use Rattle.ledger_store.proofs.Differences.{Entry, all_passed, changes_back, few_gone, fewer_accounts, new_entries}
+use Rattle.spec_base.proofs.Lists.{AllByRecursion-filter}
+use Rattle.ledger_store.proofs.Differences.{Entry, changes_back, few_gone, fewer_accounts, new_entries}
 use Rattle.ledger_store.proofs.Files.{state_again, changes_again}
 
 -- ---- which blocks have a full state
@@ -90,7 +91,7 @@ module _ (before after : Snapshot) (was : IsReadable before) (is : IsReadable af
 
   state : IsState changes.left.accounts
   state = record {
-    held = subst (AllByRecursion (λ e. IsHeld e.1)) (sym back) (all_passed (λ (e : Entry). IsHeld e.1) changed (entries after.accounts) is.state.held);
+    held = subst (AllByRecursion (λ e. IsHeld e.1)) (sym back) (AllByRecursion-filter (λ (e : Entry). IsHeld e.1) changed (entries after.accounts) is.state.held);
     fits = omega (arith, ap lamports_of back, fewer_lamports changed (entries after.accounts), is.state.fits);
   }
 

@@ -22,6 +22,7 @@ use Rattle.account_store.specs.State.{State, IsHeld, IsState, at, empty, entries
 use Rattle.account_store.proofs.EntryLists.{sorted-entries, entries-from_entries}
 use Rattle.account_store.proofs.StateLaws.{entries-empty, same_state, get-put_key, get-remove_key, sum-put, sum-put-le}
 use Rattle.ledger_store.specs.Changes.{same_account, is_kept, left_by, gone_by, puts, without, with_accounts}
+use Rattle.spec_base.proofs.Lists.{AllByRecursion-filter, length-filter-most}
 
 abbrev pub Entry : Type 0
 Entry = Key × Account
@@ -108,11 +109,6 @@ found_each (e ∷ es) h = (
   found_behind e es es h.0 (found_each es h.1),
 )
 
--- what holds of each holds of those that pass
-pub all_passed : {X : Type 0} (P : X → Type 0) (p : X → Bool) (xs : List X) → AllByRecursion P xs → AllByRecursion P (filter p xs)
-all_passed P p [] all = tt
-all_passed P p (x ∷ xs) all = elim (p x) as (λ b. AllByRecursion P (cond b (x ∷ filter p xs) (filter p xs))) [ true ↦ (all.0, all_passed P p xs all.1) | false ↦ all_passed P p xs all.1 ]
-
 pub all_both : {X : Type 0} (P Q : X → Type 0) (xs : List X) → AllByRecursion P xs → AllByRecursion Q xs → AllByRecursion (λ x. P x × Q x) xs
 all_both P Q [] p q = tt
 all_both P Q (x ∷ xs) p q = ((p.0, q.0), all_both P Q xs p.1 q.1)
@@ -162,22 +158,14 @@ new_ascends before after = ascend_passed (λ e. not (is_kept (get before e.0) e.
 pub new_entries : (before after : State) → entries (from_entries (left_by before after)) ≡ left_by before after
 new_entries before after = entries-from_entries key_cmp_total key_cmp_exact (left_by before after) (new_ascends before after)
 
-pub fewer : {X : Type 0} (p : X → Bool) (xs : List X) → length (filter p xs) ≤ length xs
-fewer p [] = omega arith
-fewer {X = X} p (x ∷ xs) = by_test (p x) (fewer p xs)
-  where
-    by_test : (b : Bool) → length (filter p xs) ≤ length xs → length (cond b (x ∷ filter p xs) (filter p xs)) ≤ length (x ∷ xs)
-    by_test true rest = omega (arith, rest)
-    by_test false rest = omega (arith, rest)
-
 -- no more accounts are new than there are
 pub fewer_accounts : (before after : State) → len (from_entries (left_by before after)) ≤ len after
 fewer_accounts before after =
-    omega (arith, len-entries {R = key_cmp} (from_entries (left_by before after)), ap length (new_entries before after), fewer (λ (e : Entry). not (is_kept (get before e.0) e.1)) (entries after), len-entries after)
+    omega (arith, len-entries {R = key_cmp} (from_entries (left_by before after)), ap length (new_entries before after), length-filter-most (λ (e : Entry). not (is_kept (get before e.0) e.1)) (entries after), len-entries after)
 
 pub few_gone : (before after : State) → length (gone_by before after) ≤ len before
 few_gone before after =
-    omega (arith, length_keys (filter (λ (e : Entry). is_none (get after e.0)) (entries before)), fewer (λ (e : Entry). is_none (get after e.0)) (entries before), len-entries before)
+    omega (arith, length_keys (filter (λ (e : Entry). is_none (get after e.0)) (entries before)), length-filter-most (λ (e : Entry). is_none (get after e.0)) (entries before), len-entries before)
   where
     length_keys : (es : List Entry) → length (map (λ (e : Entry). e.0) es) ≡ length es
     length_keys [] = refl
@@ -290,7 +278,7 @@ module _ (before after : State) (was : IsState before) (is : IsState after) wher
 
   -- the entries that are left are those of the second state
   new_found : AllByRecursion (λ e. (get after e.0 ≡ Some e.1) × (1 ≤ e.1.lamports)) new
-  new_found = all_passed (λ e. (get after e.0 ≡ Some e.1) × (1 ≤ e.1.lamports)) changed (entries after) (held_in after is)
+  new_found = AllByRecursion-filter (λ e. (get after e.0 ≡ Some e.1) × (1 ≤ e.1.lamports)) changed (entries after) (held_in after is)
 
   gone_absent : AllByRecursion (λ k. get after k ≡ None) gone
   gone_absent = absent (entries before)

@@ -2,21 +2,7 @@
 use Rattle.std.proofs.Common.{◌≡◌, ◌<◌, ◌+◌, ℕ, List, [], ◌∷◌, ◌++◌, length, take, map, get_or, refl, sym, ap, ◌∙◌, append_assoc, append-nil, arith}
 use Rattle.std.specs.List.{enumerate_from, flat_map}
 use Rattle.std.proofs.lemmas.List.{take_more, length-take}
-
--- what two lists give, one after the other
-flat_numbered : {X Y : Type 0} (f : ℕ × X → List Y) (n m : ℕ) (xs ys : List X) → n + length xs ≡ m
-    → flat_map f (enumerate_from n (xs ++ ys)) ≡ flat_map f (enumerate_from n xs) ++ flat_map f (enumerate_from m ys)
-flat_numbered f n m [] ys e = let same : n ≡ m = omega arith in rw same refl
-flat_numbered f n m (x ∷ xs) ys e =
-    let later : n + 1 + length xs ≡ m = omega arith in
-    ap (λ l. f (n, x) ++ l) (flat_numbered f (n + 1) m xs ys later) ∙ sym (append_assoc (f (n, x)) _ _)
-
-map_numbered : {X Y : Type 0} (f : ℕ × X → Y) (n m : ℕ) (xs ys : List X) → n + length xs ≡ m
-    → map f (enumerate_from n (xs ++ ys)) ≡ map f (enumerate_from n xs) ++ map f (enumerate_from m ys)
-map_numbered f n m [] ys e = let same : n ≡ m = omega arith in rw same refl
-map_numbered f n m (x ∷ xs) ys e =
-    let later : n + 1 + length xs ≡ m = omega arith in
-    ap (λ l. f (n, x) ∷ l) (map_numbered f (n + 1) m xs ys later)
+use Rattle.spec_base.proofs.Lists.{flat_numbered, map_numbered}
 
 -- what one item more gives
 pub flat_more : {X Y : Type 0} (f : ℕ × X → List Y) (i : ℕ) (xs : List X) (d : X) → i < length xs

@@ -8,11 +8,7 @@ use Rattle.std.proofs.lemmas.List.{take_more, length-take, length-append, get_or
 use Rattle.std.proofs.lemmas.List.Folds.{list_any_more}
 use Rattle.message_codec.specs.declared.message.Instruction.{Instruction}
 use Rattle.message_codec.specs.Roles.{is_program}
-
-numbered-append : {X Y : Type 0} (f : ℕ × X → Y) (n m : ℕ) (xs ys : List X) → n + length xs ≡ m
-    → map f (enumerate_from n (xs ++ ys)) ≡ map f (enumerate_from n xs) ++ map f (enumerate_from m ys)
-numbered-append f n m [] ys e = let same : n ≡ m = omega arith in rw same refl
-numbered-append f n m (x ∷ xs) ys e = let later : n + 1 + length xs ≡ m = omega arith in ap (λ l. f (n, x) ∷ l) (numbered-append f (n + 1) m xs ys later)
+use Rattle.spec_base.proofs.Lists.{map_numbered}
 
 -- one more
 pub numbered_more : {X Y : Type 0} (f : ℕ × X → Y) (n i : ℕ) (xs : List X) (d : X) (before old new : List Y) (y : Y) → i < length xs → y ≡ f (n + i, slice_index_or xs i d)
@@ -20,7 +16,7 @@ pub numbered_more : {X Y : Type 0} (f : ℕ × X → Y) (n i : ℕ) (xs : List X
 numbered_more f n i xs d before old new y lt e so_far added =
     let long : length (take i xs) ≡ i = rw length-take (omega arith) in
     let more : map f (enumerate_from n (take (i + 1) xs)) ≡ map f (enumerate_from n (take i xs)) ++ f (n + i, slice_index_or xs i d) ∷ [] =
-    ap (λ l. map f (enumerate_from n l)) (take_more xs i d lt) ∙ numbered-append f n (n + i) (take i xs) (slice_index_or xs i d ∷ []) (omega arith) in
+    ap (λ l. map f (enumerate_from n l)) (take_more xs i d lt) ∙ map_numbered f n (n + i) (take i xs) (slice_index_or xs i d ∷ []) (omega arith) in
     added ∙ rw (so_far, e, more) (append_assoc before _ _)
 
 -- three lists in a row
@@ -28,8 +24,8 @@ numbered_three : {X Y : Type 0} (f : ℕ × X → Y) (a b c : List X) (i j : ℕ
     → xs ≡ none ++ map f (enumerate_from 0 a) → ys ≡ xs ++ map f (enumerate_from i b) → zs ≡ ys ++ map f (enumerate_from j c) → zs ≡ map f (enumerate_from 0 (a ++ b ++ c))
 numbered_three f a b c i j none xs ys zs empty first second e g h =
     let one : none ++ map f (enumerate_from 0 a) ≡ map f (enumerate_from 0 a) = rw empty refl in
-    let two : map f (enumerate_from 0 (a ++ b)) ≡ map f (enumerate_from 0 a) ++ map f (enumerate_from i b) = numbered-append f 0 i a b (omega arith) in
-    let three : map f (enumerate_from 0 (a ++ b ++ c)) ≡ map f (enumerate_from 0 (a ++ b)) ++ map f (enumerate_from j c) = numbered-append f 0 j (a ++ b) c (omega (arith, length-append a b)) in
+    let two : map f (enumerate_from 0 (a ++ b)) ≡ map f (enumerate_from 0 a) ++ map f (enumerate_from i b) = map_numbered f 0 i a b (omega arith) in
+    let three : map f (enumerate_from 0 (a ++ b ++ c)) ≡ map f (enumerate_from 0 (a ++ b)) ++ map f (enumerate_from j c) = map_numbered f 0 j (a ++ b) c (omega (arith, length-append a b)) in
     cc
 
 -- and each as it was taken from where it stands

@@ -14,25 +14,7 @@ use Rattle.prio_graph.specs.Kept.{IsGraph, free_count, waiting_free_count}
 use Rattle.prio_graph.proofs.Finding.{one_if}
 use Rattle.prio_graph.proofs.ChainLaws.{done-is, counters_tell}
 use Rattle.prio_graph.proofs.Moves.{mark-same, mark-other, waiting-is, ready_free, below, free}
-
--- counts that agree below n
-pub below-same : (p q : ℕ → Bool) (n : ℕ) → ((j : ℕ) → j < n → p j ≡ q j) → count_below p n ≡ count_below q n
-below-same p q zero h = refl
-below-same p q (suc n) h = ap₂ (λ b m. one_if b + m) (h n (omega arith)) (below-same p q n (λ j l. h j (omega arith)))
-
--- counts that differ at i alone
-pub below-change : (p q : ℕ → Bool) (i n : ℕ) → i < n → ((j : ℕ) → (j ≡ i → ⊥) → p j ≡ q j) → count_below q n + one_if (p i) ≡ count_below p n + one_if (q i)
-below-change p q i zero l h = absurd (omega arith)
-below-change p q i (suc n) l h =
-    elim (cases_eq n i) [
-      | inl e ↦
-          let same = below-same p q n (λ j u. h j (λ x. omega (arith, e, x, u))) in
-          subst (λ m. (one_if (q n) + count_below q n) + one_if (p m) ≡ (one_if (p n) + count_below p n) + one_if (q m)) e (omega (arith, same))
-      | inr d ↦
-          let rest = below-change p q i n (omega arith) h in
-          let same = ap one_if (h n d) in
-          omega (arith, rest, same)
-    ]
+use Rattle.bank_law.proofs.Counts.{count-same, count-change}
 
 -- two counts that add up to a third
 below-split : (p q r : ℕ → Bool) (n : ℕ) → ((j : ℕ) → j < n → one_if (p j) + one_if (q j) ≡ one_if (r j)) → count_below p n + count_below q n ≡ count_below r n
@@ -124,7 +106,7 @@ module _ (sets : List (List NumberedLock)) (marks : List Mark) (waits : List ℕ
   -- the ready ones are those that are waiting and wait for nobody
   pub ready_count_is : ready_count now ≡ waiting_free_count marks waits
   ready_count_is =
-      below-same (is_ready now) is_free (length sets)
+      count-same (is_ready now) is_free (length sets)
       (λ i l.
       let tell = counters_tell sets marks K.in_order i l in
       ap (λ b. is_waiting_mark (mark_at marks i) && b)
@@ -137,7 +119,7 @@ module _ (sets : List (List NumberedLock)) (marks : List Mark) (waits : List ℕ
     -- position p becomes m
     change : (m : Mark) → p < length sets → waiting_free_count (set marks p m) waits + one_if (is_free p) ≡ waiting_free_count marks waits + one_if (is_waiting_mark m && (slice_index waits p == 0))
     change m l =
-        below-change is_free (λ i. is_waiting_mark (mark_at (set marks p m) i) && (slice_index waits i == 0)) p (length waits) (omega (arith, l, K.waits_length))
+        count-change is_free (λ i. is_waiting_mark (mark_at (set marks p m) i) && (slice_index waits i == 0)) p (length waits) (omega (arith, l, K.waits_length))
         (λ j d. ap (λ x. is_waiting_mark x && (slice_index waits j == 0)) (sym (mark-other marks p m j d)))
         ∙ ap (λ x. waiting_free_count marks waits + one_if (is_waiting_mark x && (slice_index waits p == 0))) (mark-same marks p m (omega (arith, l, K.marks_length)))
 
@@ -161,7 +143,7 @@ module _ (sets : List (List NumberedLock)) (marks : List Mark) (waits : List ℕ
         let second = all_free sets (set marks p Done) after_waits rows after N in
         let inside = below sets marks waits rows tree K p s in
         let begun =
-        below-same (λ i. not (is_waiting_mark (mark_at marks i))) (λ i. not (is_waiting_mark (mark_at (set marks p Done) i))) (length waits)
+        count-same (λ i. not (is_waiting_mark (mark_at marks i))) (λ i. not (is_waiting_mark (mark_at (set marks p Done) i))) (length waits)
         (λ i l. elim (cases_eq i p) [
           | inl e ↦ subst (λ x. not (is_waiting_mark (mark_at marks x)) ≡ not (is_waiting_mark (mark_at (set marks p Done) x))) (sym e)
               (ap (λ m. not (is_waiting_mark m)) s ∙ sym (ap (λ m. not (is_waiting_mark m)) (mark-same marks p Done (omega (arith, inside, K.marks_length)))))
@@ -173,5 +155,5 @@ module _ (sets : List (List NumberedLock)) (marks : List Mark) (waits : List ℕ
 -- where all positions are waiting, those that wait for nobody are ready
 pub opening_counts : (marks : List Mark) (waits : List ℕ) → ((i : ℕ) → i < length waits → mark_at marks i ≡ Waiting) → free_count waits ≡ waiting_free_count marks waits
 opening_counts marks waits all =
-    below-same (λ i. slice_index waits i == 0) (λ i. is_waiting_mark (mark_at marks i) && (slice_index waits i == 0)) (length waits)
+    count-same (λ i. slice_index waits i == 0) (λ i. is_waiting_mark (mark_at marks i) && (slice_index waits i == 0)) (length waits)
     (λ i l. ap (λ m. is_waiting_mark m && (slice_index waits i == 0)) (sym (all i l)))

@@ -8,7 +8,7 @@ use Rattle.prio_graph.specs.Trees.{leaf}
 use Rattle.prio_graph.specs.Kept.{times}
 use Rattle.prio_graph.specs.Kept.{free_count}
 use Rattle.prio_graph.proofs.Finding.{one_if}
-use Rattle.prio_graph.proofs.Counting.{below-change}
+use Rattle.bank_law.proofs.Counts.{count-change}
 
 module _ (row : List ℕ) (i : ℕ) (l : i < length row) where
   abbrev r : ℕ
@@ -52,7 +52,7 @@ module _ (row : List ℕ) (i : ℕ) (l : i < length row) where
       free_step : free_count fewer ≡ free_count waits + one_if (slice_index fewer r == 0)
       free_step =
           let left = some_left in
-          let change = below-change (λ k. slice_index waits k == 0) (λ k. slice_index fewer k == 0) r (length waits) inside (λ k d. ap (λ w. w == 0) (sym (fewer-other k d))) in
+          let change = count-change (λ k. slice_index waits k == 0) (λ k. slice_index fewer k == 0) r (length waits) inside (λ k d. ap (λ w. w == 0) (sym (fewer-other k d))) in
           let before = ap one_if (ne_eqb (slice_index waits r) 0 (λ e. omega (arith, e, left))) in
           let long = ap (count_below (λ k. slice_index fewer k == 0)) (length-set waits r (slice_index waits r - 1)) in
           omega (arith, change, before, long)

@@ -6,3 +6,4 @@ pub mod Formats
 pub mod Filters
 pub mod Orders
 pub mod PlainTexts
+pub mod Lists

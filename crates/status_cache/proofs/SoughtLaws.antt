@@ -67,13 +67,6 @@ sought_more old new prefixes name known within more = record {
         subst (λ (h : Hash32). get_or (set prefixes (prefix_of name) true) (prefix_of h) false ≡ true) ((same_hash-Decides name hash).0 same)
         (get_or-set_same prefixes (prefix_of name) true false below)
 
--- a prefix more is marked, and no hash
-pub marked_more : (hashes : BTreeSet Hash32) (prefixes : List Bool) (i : ℕ) → IsSought hashes prefixes → i < PREFIXES → IsSought hashes (set prefixes i true)
-marked_more hashes prefixes i known within = record {
-  long = length-set prefixes i true ∙ known.long;
-  marked = λ hash e. still_marked prefixes i (prefix_of hash) (subst (λ n. i < n) (sym known.long) within) (known.marked hash e);
-}
-
 -- what a look answers
 pub told : (hashes : BTreeSet Hash32) (prefixes : List Bool) (hash : Hash32) (b : Bool) → IsSought hashes prefixes → get_or prefixes (prefix_of hash) false ≡ b → (b && has_name hashes hash) ≡ has_name hashes hash
 told hashes prefixes hash true known e = refl

@@ -36,33 +36,17 @@ use Rattle.tx_build.specs.Signing.{signature_of, signer_keys, signed}
 use Rattle.tx_build.specs.Built.{kind_of, tables_of, lookups_by, place_of, placed, draft_mentions, own_keys, draft_shares, keys_of, message_of, has_too_many_keys, is_long, has_long_instructions, has_long_lookups, is_long_message, sized, message_in, built}
 use Rattle.tx_build.specs.Laws.{HasDraftWidths, BuiltWiresAreRead}
 use Rattle.tx_build.proofs.Lengths.{short_lists}
+use Rattle.spec_base.proofs.Lists.{AllByRecursion-filter, AllByRecursion-append, length-take-most}
 
 -- ---- lists whose items are all such
-
-both : {X : Type 0} (P : X → Type 0) (xs ys : List X) → AllByRecursion P xs → AllByRecursion P ys → AllByRecursion P (xs ++ ys)
-both P [] ys h k = k
-both P (x ∷ xs) ys h k = (h.0, both P xs ys h.1 k)
 
 mapped : {X Y : Type 0} (P : Y → Type 0) (f : X → Y) (xs : List X) → AllByRecursion (λ x. P (f x)) xs → AllByRecursion P (map f xs)
 mapped P f [] h = tt
 mapped P f (x ∷ xs) h = (h.0, mapped P f xs h.1)
 
-passed : {X : Type 0} (P : X → Type 0) (test : X → Bool) (xs : List X) → AllByRecursion P xs → AllByRecursion P (filter test xs)
-passed P test [] h = tt
-passed {X = X} P test (x ∷ xs) h = by_test (test x) (passed P test xs h.1)
-  where
-    by_test : (b : Bool) → AllByRecursion P (filter test xs) → AllByRecursion P (if b then x ∷ filter test xs else filter test xs)
-    by_test true rest = (h.0, rest)
-    by_test false rest = rest
-
 everywhere : {X : Type 0} (P : X → Type 0) → ((x : X) → P x) → (xs : List X) → AllByRecursion P xs
 everywhere P each [] = tt
 everywhere P each (x ∷ xs) = (each x, everywhere P each xs)
-
-take_few : {X : Type 0} (n : ℕ) (xs : List X) → length (take n xs) ≤ length xs
-take_few zero xs = omega arith
-take_few (suc n) [] = omega arith
-take_few (suc n) (x ∷ xs) = let few = take_few n xs in omega arith
 
 -- ---- the keys that are mentioned
 
@@ -73,11 +57,11 @@ mentions_keyed : (is : List KeyedInstruction) → AllByRecursion (λ i. IsKey i.
 mentions_keyed [] programs accounts = tt
 mentions_keyed (i ∷ is) programs accounts =
     let here = mapped Keyed account_mention i.accounts (recursion_from_All (λ account. IsKey account.key) i.accounts accounts.0) in
-    both Keyed (instruction_mentions i) (flat_map instruction_mentions is) (programs.0, here) (mentions_keyed is programs.1 accounts.1)
+    AllByRecursion-append Keyed (instruction_mentions i) (flat_map instruction_mentions is) (programs.0, here) (mentions_keyed is programs.1 accounts.1)
 
 merged_keyed : (all : List Mention) (n : ℕ) (ms : List Mention) → AllByRecursion Keyed ms → AllByRecursion Keyed (flat_map (added all) (enumerate_from n ms))
 merged_keyed all n [] h = tt
-merged_keyed all n (m ∷ ms) h = both Keyed (added all (n, m)) (flat_map (added all) (enumerate_from (n + 1) ms)) (one (list_any (is_of m.key) (take n all))) (merged_keyed all (n + 1) ms h.1)
+merged_keyed all n (m ∷ ms) h = AllByRecursion-append Keyed (added all (n, m)) (flat_map (added all) (enumerate_from (n + 1) ms)) (one (list_any (is_of m.key) (take n all))) (merged_keyed all (n + 1) ms h.1)
   where
     one : (b : Bool) → AllByRecursion Keyed (if b then [] else strongest all m.key ∷ [])
     one true = tt
@@ -92,19 +76,19 @@ listed_keyed draft w =
 
 own_keyed : (draft : Draft) → HasDraftWidths draft → AllByRecursion Keyed (draft_mentions draft)
 unfolding draft_mentions
-own_keyed draft w = passed Keyed (λ mention. not (is_loaded (tables_of draft.version) mention)) (listed draft) (listed_keyed draft w)
+own_keyed draft w = AllByRecursion-filter Keyed (λ mention. not (is_loaded (tables_of draft.version) mention)) (listed draft) (listed_keyed draft w)
 
 class_keyed : (test : Mention → Bool) (ms : List Mention) → AllByRecursion Keyed ms → AllByRecursion IsKey (keys_where test ms)
-class_keyed test ms h = mapped IsKey (λ mention. mention.key) (filter test ms) (passed Keyed test ms h)
+class_keyed test ms h = mapped IsKey (λ mention. mention.key) (filter test ms) (AllByRecursion-filter Keyed test ms h)
 
 ordered_keyed : (ms : List Mention) → AllByRecursion Keyed ms → AllByRecursion IsKey (ordered_keys ms)
 ordered_keyed ms h =
     let a = keys_where is_writable_signer ms in
     let b = keys_where is_readonly_signer ms in
     let c = keys_where is_writable_other ms in
-    let signers = both IsKey a b (class_keyed is_writable_signer ms h) (class_keyed is_readonly_signer ms h) in
-    let writable = both IsKey (a ++ b) c signers (class_keyed is_writable_other ms h) in
-    both IsKey (a ++ b ++ c) (keys_where is_readonly_other ms) writable (class_keyed is_readonly_other ms h)
+    let signers = AllByRecursion-append IsKey a b (class_keyed is_writable_signer ms h) (class_keyed is_readonly_signer ms h) in
+    let writable = AllByRecursion-append IsKey (a ++ b) c signers (class_keyed is_writable_other ms h) in
+    AllByRecursion-append IsKey (a ++ b ++ c) (keys_where is_readonly_other ms) writable (class_keyed is_readonly_other ms h)
 
 -- ---- places
 
@@ -130,7 +114,7 @@ shares_keyed (table ∷ tables) ms h = (h.0, shares_keyed tables (filter (λ men
 
 lookups_keyed : (version : Version) (shares : List Share) → AllByRecursion (λ share. IsKey share.lookup.table) shares → AllByRecursion (λ lookup. IsKey lookup.table) (lookups_by version shares)
 lookups_keyed first_version shares h = tt
-lookups_keyed (version_zero tables) shares h = mapped (λ lookup. IsKey lookup.table) (λ share. share.lookup) (filter is_used shares) (passed (λ share. IsKey share.lookup.table) is_used shares h)
+lookups_keyed (version_zero tables) shares h = mapped (λ lookup. IsKey lookup.table) (λ share. share.lookup) (filter is_used shares) (AllByRecursion-filter (λ share. IsKey share.lookup.table) is_used shares h)
 
 draft_keyed : (draft : Draft) → HasDraftWidths draft → AllByRecursion (λ lookup. IsKey lookup.table) (lookups_by draft.version (draft_shares draft))
 unfolding draft_shares
@@ -222,7 +206,7 @@ widths draft w own all =
 countable : (draft : Draft) (n : ℕ) → is_long (own_keys draft) ≡ false → length (map (signature_of (message_name (message_of draft))) (take n (own_keys draft))) ≤ max_count
 countable draft n short =
     let same = length-map (take n (own_keys draft)) (signature_of (message_name (message_of draft))) in
-    let few = take_few n (own_keys draft) in
+    let few = length-take-most n (own_keys draft) in
     let below = at_most (own_keys draft) short in
     let wide : max_wire_len ≤ max_count = lit≤ tt in
     omega (arith, same, few, below, wide)

@@ -1,7 +1,7 @@
 mod Settled
 mod Lent
 mod Rent
-mod Fitting
+pub mod Fitting
 mod Steps
 mod GrownLogs
 pub mod Small

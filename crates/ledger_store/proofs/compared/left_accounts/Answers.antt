@@ -2,7 +2,8 @@ use Rattle.std.proofs.Common.{◌≡◌, ◌≤◌, List, length, not, ap, subst
 use Rattle.std.specs.FinMap.{from_entries, len-entries}
 use Rattle.account_store.specs.State.{State, IsHeld, entries, get, len}
 use Rattle.ledger_store.specs.Changes.{is_kept}
-use Rattle.ledger_store.proofs.Differences.{Entry, all_passed, fewer, fewer_accounts}
+use Rattle.ledger_store.proofs.Differences.{Entry, fewer_accounts}
+use Rattle.spec_base.proofs.Lists.{AllByRecursion-filter, length-filter-most}
 use Rattle.ledger_store.proofs.Lists.{given, length_of, short}
 use Rattle.ledger_store.proofs.compared.left_accounts.Goals as goal
 
@@ -11,11 +12,11 @@ from_sorted-requires-clause-few c =
     let list = c.in_ok-left_by.field-0 in
     let before = c.args.before.now in
     let after = c.args.after.now in
-    omega (arith, length_of list, ap length c.in_ok-left_by.ensures, fewer (λ (e : Entry). not (is_kept (get before e.0) e.1)) (entries after), len-entries after, c.requires.few)
+    omega (arith, length_of list, ap length c.in_ok-left_by.ensures, length-filter-most (λ (e : Entry). not (is_kept (get before e.0) e.1)) (entries after), len-entries after, c.requires.few)
 
 pub from_sorted-requires-clause-short : goal.from_sorted-requires-clause-short
 from_sorted-requires-clause-short c =
-    short c.in_ok-left_by.field-0 _ c.in_ok-left_by.ensures (all_passed (λ (e : Entry). IsHeld e.1) (λ (e : Entry). not (is_kept (get c.args.before.now e.0) e.1)) (entries c.args.after.now) c.requires.state.held)
+    short c.in_ok-left_by.field-0 _ c.in_ok-left_by.ensures (AllByRecursion-filter (λ (e : Entry). IsHeld e.1) (λ (e : Entry). not (is_kept (get c.args.before.now e.0) e.1)) (entries c.args.after.now) c.requires.state.held)
 
 pub returns-in-Ok-clause-fewer : goal.returns-in-Ok-clause-fewer
 returns-in-Ok-clause-fewer c =
