@@ -1,5 +1,5 @@
 -- Lists: what holds of all items, how long they are, and items beside their numbers.
-use Rattle.std.proofs.Common.{◌≡◌, ℕ, zero, suc, ◌+◌, ◌×◌, ◌≤◌, List, [], ◌∷◌, ◌++◌, length, take, map, Bool, true, false, cond, sym, ap, ◌∙◌, refl, append_assoc, arith}
+use Rattle.std.proofs.Common.{◌≡◌, ℕ, zero, suc, ◌+◌, ◌≤◌, List, [], ◌∷◌, ◌++◌, length, take, map, Bool, true, false, cond, sym, ap, ◌∙◌, refl, append_assoc, arith}
 use Rattle.std.specs.List.{AllByRecursion, filter, flat_map, enumerate_from}
 
 -- what holds of all items holds of those that pass a test
