@@ -18,11 +18,14 @@ choose() {
 }
 
 # Where it is noted which program belongs to the sources: beside the program, or in the user's own cache
-# if this checkout is another's.
+# if this checkout is another's, or nowhere.
 find_note() {
-  checked=$out/checked
-  [ -w "$out" ] || { ! [ -e "$out" ] && [ -w "${out%/*}" ]; } ||
-    checked=${XDG_CACHE_HOME:-${HOME-}/.cache}/zarbulex/${out//\//%}%checked
+  local cache=${XDG_CACHE_HOME:-${HOME:+$HOME/.cache}}
+  if [ -w "$out" ] || { ! [ -e "$out" ] && [ -w "${out%/*}" ]; }; then
+    checked=$out/checked
+  else
+    checked=${cache:+$cache/zarbulex/${out//\//%}%checked}
+  fi
 }
 
 # The crates that the program is built from, as crates.txt has them, with their lines.
@@ -114,7 +117,8 @@ find_program_of_last_time() {
 
 # Notes which program the checksums named. Its time is that of the second before they were taken.
 note_program() {
-  { printf '%s\n' "$1" > "$checked.$$" && touch -d "@$2" "$checked.$$" && mv -f "$checked.$$" "$checked"; } 2>/dev/null
+  { mkdir -p "${checked%/*}" && printf '%s\n' "$1" > "$checked.$$" && touch -d "@$2" "$checked.$$" && mv -f "$checked.$$" "$checked"; } 2>/dev/null
+  return 0
 }
 
 # Finds the program to run, which is built if there is none of these sources.
@@ -124,8 +128,7 @@ find_program() {
   find_program_of_last_time && return
   before=$(($(date +%s) - 1))
   program=$(program_of "$(sources)") || { build && program=$built; } || return
-  mkdir -p "${checked%/*}" 2>/dev/null && note_program "$program" "$before"
-  return 0
+  [ -z "$checked" ] || note_program "$program" "$before"
 }
 
 minutes() { printf '%d:%02d' $(($1 / 60)) $(($1 % 60)); }
@@ -184,7 +187,7 @@ build() {
   command -v rt >/dev/null || { say "$why; building needs the command rt"; return 1; }
   mkdir -p "$out" 2>/dev/null && [ -w "$out" ] || { say "$why; building needs to write into crates/$name/out"; return 1; }
   begun=$(date +%s)
-  rm -f "$built" "$out/sources" "$checked"
+  rm -f "$built" "$out/sources" "$out/checked"
   [ "${asked_to_build-no}" = yes ] || say "$why"
   say "building $name: its crates are proved first, which takes some minutes where nothing is kept"
   say "the log is crates/$name/out/build.log"
@@ -214,13 +217,14 @@ checksums() {
   printf 'sources %s\n' "$from"
 }
 
+says_program() { find_program && printf '%s\n' "$program"; }
 says_sources() { printf '%s %s\n' "$name" "$(sources)"; }
 
 # Does the same with each program, up to the first that fails.
 each_program() {
-  local program
-  for program in bank_program bank_text bank_ledger; do
-    choose "$program"
+  local each
+  for each in bank_program bank_text bank_ledger; do
+    choose "$each"
     "$@" || return
   done
 }
