@@ -90,7 +90,7 @@ module _ {C O : Type 0} (origin : C → O) (journal : C → List Event) (drawn :
       subst (λ (ws : List ℕ). Rule record { words = ws; homes = s.homes; views = set s.views id w }) (sym (set-get_or s.words 0 0))
       (stays s r id v w at s.words s.homes r.history r.count r.holder refl refl r.placed (subst (λ (x : Option (List Event × ℕ)). IfSome x (λ p. (r.holder ≡ Some id) × (p ≡ (r.history, r.count)))) (sym same) (r.turn id v at)) (λ j _ is. is) mine lanes)
 
-  -- kind 3
+  -- a look (`looked`)
   pub looks : (slots id : ℕ) (me : Me (Option C) (View O)) (st : Step (Option C)) → Allows Rule slots id me 0 (λ n. n) (looked st me)
   looks slots id me st s r len at small =
       let v = me.0 in
@@ -103,7 +103,7 @@ module _ {C O : Type 0} (origin : C → O) (journal : C → List Event) (drawn :
         (r.history, refl, k.mine, k.joined, λ l. dite (dec_le r.count l) (λ above. let n = r.never l above in omega (arith, n, term_le (stands l) s.views id v at)) (λ not. let n = r.once l (grind (arith, not)) in omega (arith, n, term_le (stands l) s.views id v at))),
       )
 
-  -- kind 4
+  -- the turn is taken (`took`)
   takes_turn : (s : St) (r : Rule s) (id old : ℕ) (v : View O) → get_elem? s.views id ≡ some v → v.origin ≡ Some o → old % 2 ≡ 0 → slice_index s.words 0 ≡ old
       → (c : C) × (get_elem? s.homes 0 ≡ some (some (Some c))) × Rule (stepped s 0 (old + 1) id [] (holding v (journal c) (drawn c)) (takes 0 (Some c))) × Taken origin journal drawn v c old (holding v (journal c) (drawn c), (0, Some c) ∷ [])
   takes_turn s r id old v at is_desk even found =
@@ -157,7 +157,7 @@ module _ {C O : Type 0} (origin : C → O) (journal : C → List Event) (drawn :
   slot_is : (c x : C) → ◌≡◌ {A = List (ℕ × Option C)} ((0, Some c) ∷ []) ((0, Some x) ∷ []) → c ≡ x
   slot_is c x e = ap (λ (l : List (ℕ × Option C)). unslot l c) e
 
-  -- kinds 7 and 8: the turn is given up, with some events of the seat's lanes or none, and the seat
+  -- the turn is given up (`released`), with some events of the seat's lanes or none, and the seat
   -- gets the lanes that were drawn
   pub releases : (slots id new : ℕ) (v : View O) (c : C) → HasTurn v (journal c) (drawn c) → origin c ≡ o → new ≡ 2 * length (journal c)
       → Allows Rule slots id (v, (0, Some c) ∷ []) 0 (λ _. new) (λ _. released journal drawn (step slots 0 new 0 none) (v, (0, Some c) ∷ []) new)
@@ -207,7 +207,7 @@ module _ {C O : Type 0} (origin : C → O) (journal : C → List Event) (drawn :
         λ x is. ap (λ (y : C). (done v (journal y) (drawn y), [])) (slot_is c x is),
       )
 
-  -- kind 1, with a new seat that has no lane
+  -- a seat is split, and the new one has no lane
   parts : (id : ℕ) (v u : View O) → u.turn ≡ None → ((l : ℕ) → stands l u ≡ 0) → (s : St) (r : Rule s) → get_elem? s.views id ≡ some v → Knows o r.history r.count u
       → Rule (record { words = s.words; homes = s.homes; views = set s.views id v ++ u ∷ [] })
   parts id v u no_turn nowhere s r at fresh =
@@ -237,7 +237,7 @@ module _ {C O : Type 0} (origin : C → O) (journal : C → List Event) (drawn :
   pub blanks : (id : ℕ) (v : View O) → Splits Rule id v v spent_view
   blanks id v s r at = parts id v spent_view refl (λ l. refl) s r at (record { desk = tt; mine = record { longer = (r.history, refl); own = no_lanes r.history }; joined = λ i d lt. absurd (omega arith); drawn = omega arith })
 
-  -- kind 2
+  -- a seat is joined into another (`joined_view`)
   pub joins : (id : ℕ) (v : View O) (other : ℕ) (w : View O) → Joins Rule id v other w (joined_view v w) spent_view
   joins id v other w s r at apart there =
       let k = r.knows id v at in

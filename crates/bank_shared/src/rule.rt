@@ -21,7 +21,7 @@ impl<W: Work> TableRule<Option<Kept<W>>, View<DeskOrigin<W::Told>>, Note<DeskOri
     ghost first = { λ note. first_view note.value };
 }
 
-/// Kind 4: the turn is taken; or kind 3, where another has it.
+/// The turn is taken (`took`), or another has it and the seat stays as it is.
 pub struct Takes<W> {
     of: PhantomData<W>,
 }
@@ -33,7 +33,7 @@ impl<W: Work> Play<Option<Kept<W>>, View<DeskOrigin<W::Told>>> for Takes<W> {
     ghost then = { took told_of journal_of (λ kept. kept.drawn) };
 }
 
-/// Kind 3: a look, by which more may be seen.
+/// A look, by which more may be seen (`looked`).
 pub struct Looks<W> {
     of: PhantomData<W>,
 }
@@ -44,7 +44,7 @@ impl<W: Work> Play<Option<Kept<W>>, View<DeskOrigin<W::Told>>> for Looks<W> {
     ghost then = { looked };
 }
 
-/// Kinds 7 and 8: the turn is given up, with some events of the seat's lanes or none, and the seat
+/// The turn is given up (`released`), with some events of the seat's lanes or none, and the seat
 /// gets the lanes that were drawn.
 pub struct Releases<W> {
     of: PhantomData<W>,
@@ -57,7 +57,7 @@ impl<W: Work> Play<Option<Kept<W>>, View<DeskOrigin<W::Told>>> for Releases<W> {
     ghost then = { released journal_of (λ kept. kept.drawn) };
 }
 
-/// Kind 1: a seat is split.
+/// A seat is split: the new one has no lane (`new_view`).
 pub struct Parts;
 
 impl<O> Split<View<O>> for Parts {
@@ -68,7 +68,7 @@ impl<O> Split<View<O>> for Parts {
     ghost right = { new_view };
 }
 
-/// Kind 1: a seat that knows nothing is split.
+/// A seat is split: the new one knows nothing (`spent_view`).
 pub struct Blanks;
 
 impl<O> Split<View<O>> for Blanks {
@@ -79,7 +79,7 @@ impl<O> Split<View<O>> for Blanks {
     ghost right = { λ v. spent_view };
 }
 
-/// Kind 2: a seat is joined into another.
+/// A seat is joined into another (`joined_view`), and knows nothing after it.
 pub struct Folds;
 
 impl<O> Join<View<O>> for Folds {
