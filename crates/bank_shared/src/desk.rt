@@ -40,8 +40,8 @@ pub struct Turn<W: Work> {
     ghost events: { IsOnTurn seat.me.0 kept.core.value.journal.items kept.drawn } by { IsOnTurn-prop _ _ _ },
 }
 
-/// A desk: a core that lanes share, each with a pass. One pass at a time has the turn, for one
-/// grant, commit or return, or as a `Turn` for several. Lanes work outside it, which no clause says.
+/// A desk: a core that lanes share, each with a pass. One pass at a time has the turn, for a grant,
+/// a commit or a return, or as a `Turn` for several. That lanes work outside it no clause says.
 pub struct SharedDesk<W: Work> {
     pub(crate) table: Table<
         Option<Kept<W>>,
