@@ -1,12 +1,12 @@
 //! The commands that read one input.
 use crate::build::built;
 use crate::compared::compared;
-use crate::files::{standard_input, write_files};
+use crate::files::{not_written, standard_input};
 use crate::json::{told_bytes, told_json};
 use crate::shape::shaped;
 use crate::why::explained;
 use block_record::{RecordFault, read_front};
-use command_parts::{Answer, DIFFERS, Given, INPUT_REFUSED, WRITE_FAILED, noted, path_of, written};
+use command_parts::{Answer, DIFFERS, Given, INPUT_REFUSED, noted, path_of, written};
 use message_codec::Signature;
 use snapshot_codec::{SnapshotFault, read_snapshot};
 use sol_base::{Key, OutOfMemory};
@@ -14,6 +14,7 @@ use std::alloc::Global;
 use std::rt::Files;
 use text_views::{Split, split_output, view_account, view_entry};
 use text_words::{Sought, TextCommand, USAGE};
+use whole_files::{NewFile, write_files};
 
 /// The answer to a command.
 pub(crate) fn answer_command<R: Files + Input + AllocGlobal>(
@@ -80,9 +81,19 @@ fn parted<R: Files + AllocGlobal>(
         return Err(OutOfMemory);
     }
     let (front, back) = bytes.split_at(length);
-    match write_files(rt, (record, front), (snapshot, back))? {
+    let files = [
+        NewFile {
+            name: record,
+            bytes: front,
+        },
+        NewFile {
+            name: snapshot,
+            bytes: back,
+        },
+    ];
+    match write_files(rt, &files) {
         Ok(()) => written(alloc, b""),
-        Err(_) => noted(alloc, WRITE_FAILED, "split", "write failed"),
+        Err(fault) => not_written(alloc, "split", &fault),
     }
 }
 

@@ -1,4 +1,5 @@
 //! Data in JSON that stand elsewhere: in files, and as assembler texts.
+use crate::files::read_cause;
 use crate::lines::line_of;
 use bank_json::{
     batch_of_json, image_from_value, image_of_json, record_of_json, snapshot_from_value,
@@ -10,7 +11,6 @@ use serde_json::Value;
 use sol_base::{Blob, Items, OutOfMemory};
 use std::alloc::{AllocError, Global};
 use std::fs;
-use std::io::ErrorKind;
 use std::rt::Files;
 use text_words::Form;
 
@@ -21,7 +21,7 @@ const MAX_ASSEMBLY: usize = u32::MAX as usize;
 #[derive(Drop)]
 pub(crate) enum Missing {
     /// The file of this name cannot be read.
-    File(String),
+    File { name: String, cause: String },
     Assembly(AsmFault),
 }
 
@@ -108,14 +108,11 @@ fn file_bytes<R: Files + AllocGlobal>(rt: &R, value: &Value) -> Result<Option<Bl
     };
     match fs::read(rt, path) {
         Ok(bytes) => Ok(Some(Blob::from_slice(rt.alloc(), bytes.as_slice())?)),
-        Err(e) if e.kind() == ErrorKind::OutOfMemory => Err(FormFault::OutOfMemory),
-        Err(_) => {
+        Err(e) => {
+            let cause = read_cause(rt.alloc(), &e)?;
             let name = String::from_str(rt.alloc(), path)?;
-            in_member(
-                rt.alloc(),
-                "file",
-                Err(not_there(rt.alloc(), Missing::File(name))),
-            )
+            let why = Missing::File { name, cause };
+            in_member(rt.alloc(), "file", Err(not_there(rt.alloc(), why)))
         }
     }
 }
@@ -262,8 +259,10 @@ pub(crate) fn missing_text(
     let line = line_of(alloc, text, path)?;
     let way = Way { steps: path };
     let told = match why {
-        Missing::File(name) => {
-            format!(in alloc; "{way}: the file {name} cannot be read; it is named at line {line}")?
+        Missing::File { name, cause } => {
+            format!(in alloc;
+                "{way}: the file {name} cannot be read: {cause}; it is named at line {line}"
+            )?
         }
         Missing::Assembly(fault) => format!(in alloc; "{way}: {fault}; it stands at line {line}")?,
     };

@@ -97,7 +97,7 @@ fn missing_data(
     why: &Missing,
 ) -> Result<Answer, OutOfMemory> {
     let status = match why {
-        Missing::File(_) => READ_FAILED,
+        Missing::File { .. } => READ_FAILED,
         Missing::Assembly(_) => INPUT_REFUSED,
     };
     let note = missing_text(alloc, text, path, why)?;

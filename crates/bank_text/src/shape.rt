@@ -2,15 +2,16 @@
 ghost use Rattle.std.specs.Prelude.{◌<◌, ◌≤◌, ◌^◌, length};
 ghost use Rattle.sol_base.specs.Limits.{max_transaction_keys};
 
-use crate::files::write_file;
+use crate::files::not_written;
 use crate::picture::picture;
 use admission::admit;
 use block_shape::{Shape, Waited, most_waited, shape_of};
-use command_parts::{Answer, INPUT_REFUSED, WRITE_FAILED, noted, written};
+use command_parts::{Answer, INPUT_REFUSED, noted, written};
 use snapshot_codec::{Batch, BatchFault, Snapshot, SnapshotFault, read_batch, read_snapshot};
 use sol_base::{Blob, OutOfMemory, key_text};
 use std::alloc::Global;
 use std::rt::Files;
+use whole_files::{NewFile, write_files};
 
 /// How many lanes can pay at most, with two decimals.
 pub(crate) fn lanes_text(alloc: Global, shape: &Shape) -> Result<String, OutOfMemory> {
@@ -64,8 +65,12 @@ fn shape_answer<R: Files + AllocGlobal>(
     let waited = most_waited(alloc, order)?;
     if let Some(file) = file {
         let text = picture(alloc, order, &shape, waited.as_slice())?;
-        if write_file(rt, file, text.as_slice())?.is_err() {
-            return noted(alloc, WRITE_FAILED, file, "write failed");
+        let picture = NewFile {
+            name: file,
+            bytes: text.as_slice(),
+        };
+        if let Err(fault) = write_files(rt, &[picture]) {
+            return not_written(alloc, "shape", &fault);
         }
     }
     let text = shape_text(alloc, order.len(), &shape, waited.as_slice())?;
