@@ -1,6 +1,6 @@
 use Rattle.admission.specs.Admission.{start_of}
-use Rattle.bank_text.proofs.Orders.{few_run}
-use Rattle.bank_text.proofs.shape.shape_answer.Goals as goal
+use Rattle.text_cli.proofs.Orders.{few_run}
+use Rattle.text_cli.proofs.shape.shape_answer.Goals as goal
 
 pub shape_of-requires : goal.shape_of-requires
 shape_of-requires g c =

@@ -1,0 +1,18 @@
+//! The commands for texts: words, the input and files in, an answer and files out.
+#![tactic(auto)]
+
+mod build;
+mod commands;
+mod compared;
+mod files;
+mod forms;
+mod json;
+mod lines;
+mod picture;
+mod places;
+mod rows;
+mod shape;
+mod top;
+mod why;
+
+pub use top::answer_of;
