@@ -1,5 +1,5 @@
-//! Trials of blocks: transactions, blocks on several lanes, replay, words, the text of a record, and
-//! the top call. All of it is tests.
+//! Trials of blocks: lanes and senders that run at once, devices that fail, and words. All of it is
+//! tests.
 #![tactic(auto)]
 
 #[cfg(test)]

@@ -1,9 +1,6 @@
-//! Blocks, from one transaction to the top call.
+//! Blocks on several lanes, and the top call.
 mod blocks;
 mod gates;
 mod inputs;
-mod replays;
-mod shown;
 mod top;
-mod transactions;
 mod words;

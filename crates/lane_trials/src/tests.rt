@@ -1,10 +1,9 @@
-//! Numbered keys, graphs of positions, cores and lanes over them, and the intake.
+//! Cores and lanes over them, and the intake.
 mod cores;
 mod desk;
 mod drives;
 mod ends;
 mod gates;
-mod graphs;
 mod groups;
 mod intakes;
 mod lanes;
@@ -12,7 +11,6 @@ mod meets;
 mod notes;
 mod passes;
 mod readers;
-mod tables;
 mod trial;
 mod watches;
 mod works;

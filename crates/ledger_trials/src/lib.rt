@@ -1,5 +1,4 @@
-//! Trials of chains on disk: chains that grow, crashes at each step, files that are damaged, and the
-//! system's files. All of it is tests.
+//! Trials of chains on disk: crashes at each step, and files that are damaged. All of it is tests.
 #![tactic(auto)]
 
 #[cfg(test)]

@@ -1,6 +1,4 @@
-//! Chains that grow, crashes, damage, and the system's files.
-mod chains;
+//! Crashes and damage, over files in memory.
 mod crashes;
 mod damage;
 mod inputs;
-mod system;

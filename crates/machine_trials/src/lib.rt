@@ -1,5 +1,4 @@
-//! Trials of the machine: slots, verified texts, memory, programs that run, the assembler. All of it
-//! is tests.
+//! Trials of the machine: verified texts, memory, and programs that run. All of it is tests.
 #![tactic(auto)]
 
 #[cfg(test)]

@@ -1,9 +1,7 @@
 //! What stands in no clause of the machine's crates, a file for each subject.
-mod assembler;
 mod memory;
 mod parts;
 mod region;
 mod runs;
-mod slots;
 mod texts;
 mod verifier;

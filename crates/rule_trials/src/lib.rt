@@ -1,5 +1,5 @@
-//! Trials of the rules of a chain: fees, rent, accounts, the store, processed messages, admission,
-//! statuses. All of it is tests.
+//! Trials of the formats and of the rules: keys, devices, snapshots, batches, records, states, fees,
+//! rent and logs. All of it is tests.
 #![tactic(auto)]
 
 #[cfg(test)]

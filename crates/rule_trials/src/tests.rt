@@ -1,12 +1,12 @@
-//! Each subject's worked examples, and each call once.
-mod admitted;
+//! The worked examples that name a call of a format or of a rule, and each front of the formats.
 mod batches;
+mod derived;
+mod devices;
 mod fees;
+mod keys;
 mod logs;
-mod lookups;
-mod recent;
-mod refusals;
+mod pieces;
+mod records;
 mod rent;
-mod rules;
-mod statuses;
+mod snapshots;
 mod store;

@@ -19,17 +19,17 @@ pub const NO_BARRIER: [Transfer; 3] = [
 pub const REPEATED: [Transfer; 2] = [(1, 0x11, 1_000_000_000), (1, 0x11, 1_000_000_000)];
 
 /// A snapshot of version 1, up to its mark: slot 7, one mark.
-pub const BEFORE_MARK: &[u8] = b"SOLSNAP1\x07\0\0\0\0\0\0\0\x01\0\0\0";
+const BEFORE_MARK: &[u8] = b"SOLSNAP1\x07\0\0\0\0\0\0\0\x01\0\0\0";
 
 /// The hash of the mark.
-pub const MARK: &[u8] = &[0xaa; 32];
+const MARK: &[u8] = &[0xaa; 32];
 
 /// Two billion lamports, the system program as owner, no program, no data.
 const TWO_BILLION: &[u8] =
     b"\0\x94\x35\x77\0\0\0\0\0\0\0\0\0\0\0\0\0\0\0\0\0\0\0\0\0\0\0\0\0\0\0\0\0\0\0\0\0\0\0\0\0\0\0\0\0";
 
 /// One billion lamports, the system program as owner, no program, no data.
-pub const ONE_BILLION: &[u8] =
+const ONE_BILLION: &[u8] =
     b"\0\xca\x9a\x3b\0\0\0\0\0\0\0\0\0\0\0\0\0\0\0\0\0\0\0\0\0\0\0\0\0\0\0\0\0\0\0\0\0\0\0\0\0\0\0\0\0";
 
 /// The snapshot of example "two transfers": 291 bytes.
@@ -46,7 +46,7 @@ pub const SNAPSHOT: [&[u8]; 9] = [
 ];
 
 /// Adds all parts.
-pub fn append_all(out: &mut Blob, parts: &[&[u8]]) -> Result<(), OutOfMemory> {
+fn append_all(out: &mut Blob, parts: &[&[u8]]) -> Result<(), OutOfMemory> {
     for part in parts {
         out.append(part)?;
     }
@@ -61,7 +61,7 @@ pub fn joined(alloc: Global, parts: &[&[u8]]) -> Result<Blob, OutOfMemory> {
 }
 
 /// Adds a transaction of 215 bytes.
-pub fn append_transfer(out: &mut Blob, (payer, to, lamports): Transfer) -> Result<(), OutOfMemory> {
+fn append_transfer(out: &mut Blob, (payer, to, lamports): Transfer) -> Result<(), OutOfMemory> {
     append_all(
         out,
         &[
@@ -79,7 +79,7 @@ pub fn append_transfer(out: &mut Blob, (payer, to, lamports): Transfer) -> Resul
 }
 
 /// Adds a batch of slot 8 up to its transactions.
-pub fn append_head(out: &mut Blob, count: usize) -> Result<(), OutOfMemory> {
+fn append_head(out: &mut Blob, count: usize) -> Result<(), OutOfMemory> {
     let count = (count as u64).to_le_bytes();
     append_all(
         out,
@@ -104,14 +104,5 @@ pub fn front(bytes: &[u8], count: usize) -> &[u8] {
         &bytes[..count]
     } else {
         bytes
-    }
-}
-
-/// The bytes from a place on.
-pub fn back(bytes: &[u8], from: usize) -> &[u8] {
-    if from <= bytes.len() {
-        &bytes[from..]
-    } else {
-        &[]
     }
 }

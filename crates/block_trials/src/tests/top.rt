@@ -1,4 +1,4 @@
-//! The top call: lanes and senders at once, devices that fail, and fronts of an input.
+//! The top call: lanes and senders at once, and devices that fail.
 use crate::tests::gates::{CountingGate, KeepingGate};
 use crate::tests::inputs::{
     NO_BARRIER, REPEATED, SNAPSHOT, TWO_TRANSFERS, Transfer, front, input_of, joined,
@@ -228,39 +228,6 @@ fn replays_match<R: Threads + Wait + Sync>(rt: &R, alloc: Global) -> Result<bool
 #[test]
 fn replay_on_two_lanes(rt: HostRuntime) -> Result<(), Fail> {
     assert!(rt; replays_match(&rt, rt.alloc())?);
-    Ok(())
-}
-
-/// Whether a front of an input is refused with the same note on one lane and on two.
-fn is_refused_alike<R: Threads + Wait + Sync>(
-    rt: &R,
-    alloc: Global,
-    input: &[u8],
-) -> Result<bool, Fail> {
-    let one = ask_plainly(rt, alloc, "produce", input)?;
-    let two = ask_plainly(rt, alloc, "produce --lanes 2", input)?;
-    Ok(two.status == 3 && two.out.held().is_empty() && two.notes.held() == one.notes.held())
-}
-
-#[test]
-fn each_front_is_refused_alike_on_two_lanes(rt: HostRuntime) -> Result<(), Fail> {
-    let input = input_of(rt.alloc(), &TWO_TRANSFERS)?;
-    for count in 0..input.len() {
-        assert!(rt; is_refused_alike(&rt, rt.alloc(), front(input.as_slice(), count))?);
-    }
-    Ok(())
-}
-
-/// Whether what is made is an input.
-fn is_made<R: Threads + Wait + Sync>(rt: &R, alloc: Global) -> Result<bool, Fail> {
-    let made = ask_plainly(rt, alloc, "make --number 1 --count 1", &[])?;
-    let told = ask_plainly(rt, alloc, "produce", made.out.held())?;
-    Ok(told.status == 0 && told.notes.held().is_empty())
-}
-
-#[test]
-fn a_made_input_is_produced(rt: HostRuntime) -> Result<(), Fail> {
-    assert!(rt; is_made(&rt, rt.alloc())?);
     Ok(())
 }
 

@@ -65,7 +65,7 @@ fn append_accounts(out: &mut Blob, number: u8) -> Result<(), OutOfMemory> {
 }
 
 /// The bytes of a snapshot of the slot, after the block of a number.
-pub(crate) fn snapshot_bytes_of(alloc: Global, slot: u64, number: u8) -> Result<Blob, OutOfMemory> {
+fn snapshot_bytes_of(alloc: Global, slot: u64, number: u8) -> Result<Blob, OutOfMemory> {
     let mut out = Blob::from_slice(alloc, b"SOLSNAP2")?;
     out.append(&slot.to_le_bytes())?;
     out.append(&FIRST_LIMITS)?;
@@ -97,7 +97,7 @@ fn block(alloc: Global, slot: u64, number: u8) -> Result<Block, Fail>
 }
 
 /// Adds the block of a number to the chain of a folder, at the slot.
-pub(crate) fn add_at<T: Threads, F: Folder>(
+fn add_at<T: Threads, F: Folder>(
     threads: &T,
     alloc: Global,
     folder: &mut F,
@@ -126,7 +126,7 @@ pub(crate) fn add_block<T: Threads, F: Folder>(
 }
 
 /// Begins a chain.
-pub(crate) fn begin<F: Folder>(
+fn begin<F: Folder>(
     alloc: Global,
     folder: &mut F,
     every: u32,
@@ -154,7 +154,7 @@ pub(crate) fn chain<T: Threads>(
 }
 
 /// Whether the snapshot is the one after the block of a number.
-pub(crate) fn is_state(alloc: Global, state: &Snapshot, number: u8) -> Result<bool, Fail>
+fn is_state(alloc: Global, state: &Snapshot, number: u8) -> Result<bool, Fail>
     requires { IsReadable state.now }
 {
     readable_snapshots_are_writable();

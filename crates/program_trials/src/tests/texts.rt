@@ -8,7 +8,7 @@ use std::alloc::Global;
 
 /// `lddw r1, CALL`, `mov64 r2, 0`, `mov64 r3, 0`, `lddw r4, SIGNERS`, `mov64 r5, 0`, `syscall 17`,
 /// `mov64 r0, 0`, `exit`, where the call is of the other program, with both of them as accounts.
-pub const CALLS_OTHER: [u64; 32] = [
+const CALLS_OTHER: [u64; 32] = [
     0xa8_0000_000a,
     0x50_0000_0118,
     0x1_0000_0000,
@@ -44,7 +44,7 @@ pub const CALLS_OTHER: [u64; 32] = [
 ];
 
 /// The same with a call of the first program.
-pub const CALLS_BACK: [u64; 26] = [
+const CALLS_BACK: [u64; 26] = [
     0x78_0000_000a,
     0x50_0000_0118,
     0x1_0000_0000,
@@ -74,7 +74,7 @@ pub const CALLS_BACK: [u64; 26] = [
 ];
 
 /// `syscall 16`, `jge r0, NUMBER, +8`, and then the same with a call of itself.
-pub const CALLS_ITSELF: [u64; 28] = [
+const CALLS_ITSELF: [u64; 28] = [
     0x78_0000_000c,
     0x10_0000_0085,
     0x8_0035,
@@ -106,10 +106,10 @@ pub const CALLS_ITSELF: [u64; 28] = [
 ];
 
 /// `stb [r1+96], 7`, `mov64 r0, 0`, `exit`.
-pub const STORES: [u64; 4] = [0x03, 0x7_0060_0172, 0xb7, 0x95];
+const STORES: [u64; 4] = [0x03, 0x7_0060_0172, 0xb7, 0x95];
 
 /// `stb [r1+96], 7`, and then a call of the system program without accounts.
-pub const STORES_AND_CALLS: [u64; 23] = [
+const STORES_AND_CALLS: [u64; 23] = [
     0x58_0000_000b,
     0x7_0060_0172,
     0x58_0000_0118,
@@ -138,7 +138,7 @@ pub const STORES_AND_CALLS: [u64; 23] = [
 /// `mov64 r2, 0`, `mov64 r5, NUMBER`, and then a call of the system program for a transfer of
 /// 1,000,000 lamports from the vault, with so many signers; the one that is there has the seed
 /// `vault`.
-pub const TRANSFERS: [u64; 39] = [
+const TRANSFERS: [u64; 39] = [
     0xe0_0000_000a,
     0x2b7,
     0x5b7,
@@ -181,16 +181,16 @@ pub const TRANSFERS: [u64; 39] = [
 ];
 
 /// `ja -1`.
-pub const LOOPS: [u64; 2] = [0x01, 0xffff_0005];
+const LOOPS: [u64; 2] = [0x01, 0xffff_0005];
 
 /// `mov64 r0, 0`, `mov64 r2, NUMBER`, `ldxdw r0, [r2]`, `exit`.
-pub const LOADS: [u64; 5] = [0x04, 0xb7, 0x2b7, 0x2079, 0x95];
+const LOADS: [u64; 5] = [0x04, 0xb7, 0x2b7, 0x2079, 0x95];
 
 /// `mov64 r1, 0`, `mov64 r2, NUMBER`, `syscall 2`, `exit`.
-pub const LOGS: [u64; 5] = [0x04, 0x1b7, 0x2b7, 0x2_0000_0085, 0x95];
+const LOGS: [u64; 5] = [0x04, 0x1b7, 0x2b7, 0x2_0000_0085, 0x95];
 
 /// The same with `syscall 17`.
-pub const ASKS: [u64; 5] = [0x04, 0x1b7, 0x2b7, 0x11_0000_0085, 0x95];
+const ASKS: [u64; 5] = [0x04, 0x1b7, 0x2b7, 0x11_0000_0085, 0x95];
 
 /// The key of the seed `vault` and the program of 32 bytes 0x77.
 pub const VAULT: Key = Key([

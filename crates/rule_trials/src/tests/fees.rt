@@ -1,153 +1,26 @@
-//! Budgets and fees of messages.
-ghost use Rattle.std.specs.Prelude.{◌<◌, ◌↔◌, All, IsTrue, length};
-
-use fee_rules::{Budget, BudgetFault, Fee, budget_of, fee, priority, split_fees, total};
-use message_codec::{Header, Instruction, Message, MessageKind};
-use sol_base::{Blob, COMPUTE_BUDGET_PROGRAM, Hash32, Items, Key, OutOfMemory, SYSTEM_PROGRAM};
+//! Fees and priorities of messages.
+use fee_rules::{Budget, Fee, fee, priority, split_fees, total};
+use message_codec::{Header, Message, MessageKind};
+use sol_base::{Hash32, Items, Key, OutOfMemory};
 use std::alloc::Global;
 use std::test::Fail;
 
-/// An instruction: whether it is of the compute budget program, and not of the system program, and
-/// its data.
-type Input = (bool, &'static [u8]);
-
-fn keys(alloc: Global) -> Result<Items<Key>, OutOfMemory> {
+/// A message with so many signatures and no instruction.
+fn message(alloc: Global, required: u8) -> Result<Message, OutOfMemory> {
     let mut keys = Items::new(alloc);
-    for key in [Key([1; 32]), COMPUTE_BUDGET_PROGRAM, SYSTEM_PROGRAM] {
-        keys.push(key)?;
-    }
-    Ok(keys)
-}
-
-fn instruction(alloc: Global, (budget, input): Input) -> Result<Instruction, OutOfMemory> {
-    Ok(Instruction {
-        program: if budget { 1 } else { 2 },
-        accounts: Blob::new(alloc),
-        input: Blob::from_slice(alloc, input)?,
-    })
-}
-
-fn instructions(alloc: Global, inputs: &[Input]) -> Result<Items<Instruction>, OutOfMemory> {
-    let mut instructions = Items::new(alloc);
-    for input in inputs {
-        instructions.push(instruction(alloc, *input)?)?;
-    }
-    Ok(instructions)
-}
-
-fn header(required: u8) -> Header {
-    Header {
-        required,
-        readonly_signed: 0,
-        readonly_unsigned: 2,
-    }
-}
-
-/// A message with so many signatures and these instructions.
-fn message(alloc: Global, required: u8, inputs: &[Input]) -> Result<Message, OutOfMemory> {
-    let instructions = instructions(alloc, inputs)?;
+    keys.push(Key([1; 32]))?;
     Ok(Message {
         kind: MessageKind::Legacy,
-        header: header(required),
-        keys: keys(alloc)?,
+        header: Header {
+            required,
+            readonly_signed: 0,
+            readonly_unsigned: 0,
+        },
+        keys,
         blockhash: Hash32([0; 32]),
-        instructions,
+        instructions: Items::new(alloc),
         lookups: Items::new(alloc),
     })
-}
-
-/// Whether each instruction names a key of the message.
-fn has_programs(message: &Message) -> bool
-    ensures { IsTrue result
-        ↔ All (λ i. i.program < length message.now.keys) message.now.instructions }
-{
-    let keys = message.keys.len();
-    message
-        .instructions
-        .as_slice()
-        .iter()
-        .all(|instruction| (instruction.program as usize) < keys)
-}
-
-/// The budget of one instruction that asks for nothing.
-const PLAIN: Budget = Budget {
-    limit: 200_000,
-    price: 0,
-    heap: 32_768,
-    loaded: 67_108_864,
-};
-
-/// The request for 450 units.
-const LIMIT: &[u8] = &[2, 0xc2, 1, 0, 0];
-
-/// The request for 2,000,000 units.
-const MOST: &[u8] = &[2, 0x80, 0x84, 0x1e, 0];
-
-/// The request for a price of 1,000,000.
-const PRICE: &[u8] = &[3, 0x40, 0x42, 0x0f, 0, 0, 0, 0, 0];
-
-/// Instructions, and the budget that they ask for.
-type Asked = (&'static [Input], Result<Budget, BudgetFault>);
-
-/// None of the compute budget program, none at all, 450 units at 1,000,000 each before a transfer,
-/// more units than there can be, a heap, and bad and repeated ones.
-const BUDGETS: [Asked; 8] = [
-    (&[(false, LIMIT)], Ok(PLAIN)),
-    (&[], Ok(Budget { limit: 0, ..PLAIN })),
-    (
-        &[(true, LIMIT), (true, PRICE), (false, &[2])],
-        Ok(Budget {
-            limit: 450,
-            price: 1_000_000,
-            ..PLAIN
-        }),
-    ),
-    (
-        &[(true, MOST)],
-        Ok(Budget {
-            limit: 1_400_000,
-            ..PLAIN
-        }),
-    ),
-    (
-        &[(true, &[1, 0, 0, 4, 0, 9])],
-        Ok(Budget {
-            limit: 0,
-            heap: 262_144,
-            ..PLAIN
-        }),
-    ),
-    (
-        &[(false, LIMIT), (true, &[])],
-        Err(BudgetFault::BadBudget { index: 1 }),
-    ),
-    (
-        &[(true, LIMIT), (false, LIMIT), (true, LIMIT)],
-        Err(BudgetFault::RepeatedBudget { index: 2 }),
-    ),
-    (
-        &[(true, LIMIT), (true, &[2, 0, 0])],
-        Err(BudgetFault::BadBudget { index: 1 }),
-    ),
-];
-
-/// Whether the message has this budget.
-fn has_budget(message: &Message, budget: &Result<Budget, BudgetFault>) -> bool {
-    message.instructions.len() <= 0xffff && has_programs(message) && budget_of(message) == *budget
-}
-
-/// Whether the instructions of a row ask for its budget.
-fn asks_for(alloc: Global, row: &Asked) -> Result<bool, OutOfMemory> {
-    let message = message(alloc, 1, row.0)?;
-    Ok(has_budget(&message, &row.1))
-}
-
-#[test]
-fn budgets(rt: HostRuntime) -> Result<(), Fail> {
-    for row in &BUDGETS {
-        assert!(rt; asks_for(rt.alloc(), row)?);
-    }
-    Ok(())
 }
 
 /// Signatures, price and limit, and the two parts of the fee and the priority.
@@ -174,7 +47,8 @@ fn budget(limit: u32, price: u64) -> Budget {
     Budget {
         limit,
         price,
-        ..PLAIN
+        heap: 32_768,
+        loaded: 67_108_864,
     }
 }
 
@@ -193,7 +67,7 @@ fn has_rank(paid: &Fee, budget: &Budget, rank: &Option<u128>) -> bool {
 
 /// Whether a message of a row pays and ranks so.
 fn pays(alloc: Global, row: &Paid) -> Result<bool, OutOfMemory> {
-    let message = message(alloc, row.0, &[])?;
+    let message = message(alloc, row.0)?;
     let budget = budget(row.2, row.1);
     let paid = fee(&message, &budget);
     Ok(has_parts(&paid, row.3, row.4) && has_rank(&paid, &budget, &row.5))

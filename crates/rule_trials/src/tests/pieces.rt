@@ -11,13 +11,6 @@ pub fn joined(alloc: Global, pieces: &[&[u8]]) -> Result<Blob, OutOfMemory> {
     Ok(out)
 }
 
-/// The bytes with others in the place of those from a place on.
-pub fn patched(alloc: Global, bytes: &[u8], at: usize, new: &[u8]) -> Result<Blob, OutOfMemory> {
-    let front = bytes.get(..at).unwrap_or(&[]);
-    let back = bytes.get(at.saturating_add(new.len())..).unwrap_or(&[]);
-    joined(alloc, &[front, new, back])
-}
-
 /// Where the field begins that the place is in.
 pub fn start_of(fields: &[usize], place: usize) -> usize {
     let mut start = 0;

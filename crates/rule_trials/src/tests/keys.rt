@@ -1,4 +1,4 @@
-//! Published hashes, the keys that are fixed, the order of keys, and texts.
+//! Published hashes, the keys that are fixed, and texts.
 use sol_base::{
     CLOCK_SYSVAR, COMPUTE_BUDGET_PROGRAM, Key, LOADER_PROGRAM, RENT_SYSVAR, SYSTEM_PROGRAM, hash,
     is_text, key_text,
@@ -51,39 +51,6 @@ const NAMED: [(Key, [u8; 64]); 5] = [
 fn keys_are_as_solana_names_them(rt: HostRuntime) {
     for (key, text) in &NAMED {
         assert!(rt; key_text(key) == *text);
-    }
-}
-
-/// A key that has one byte in one place, and zeros else.
-fn key_with(place: usize, byte: u8) -> Key {
-    let mut bytes = [0; 32];
-    if let Some(other) = bytes.get_mut(place) {
-        *other = byte;
-    }
-    Key(bytes)
-}
-
-/// Whether the key is equal to itself, and above the key of zeros.
-fn is_above_zeros(key: &Key) -> bool {
-    let zeros = Key([0; 32]);
-    key.cmp(key).is_eq() && key.cmp(&zeros).is_gt() && zeros.cmp(key).is_lt()
-}
-
-/// Whether the key is above each that has its first byte after the place.
-fn is_above_later(key: &Key, place: usize) -> bool {
-    for later in 0..32 {
-        if place < later && !key.cmp(&key_with(later, 255)).is_gt() {
-            return false;
-        }
-    }
-    true
-}
-
-#[test]
-fn the_first_byte_that_differs_orders_keys(rt: HostRuntime) {
-    for place in 0..32 {
-        let key = key_with(place, 1);
-        assert!(rt; is_above_zeros(&key) && is_above_later(&key, place));
     }
 }
 

@@ -16,7 +16,7 @@ use std::test::Fail;
 const BUFFER: Key = Key([0x0b; 32]);
 
 /// The bytes of the authority's key, and of another.
-pub const AUTHORITY: [u8; 32] = [1; 32];
+const AUTHORITY: [u8; 32] = [1; 32];
 
 pub const OTHER: [u8; 32] = [2; 32];
 
@@ -25,42 +25,41 @@ pub const PROGRAM: [u8; 40] =
     *b"SBPFIMG1\x03\0\0\0\0\0\0\0\x72\x01\x60\0\x07\0\0\0\xb7\0\0\0\0\0\0\0\x95\0\0\0\0\0\0\0";
 
 /// An image whose text, `mov64 r10, 1` and `exit`, is not verified.
-pub const UNVERIFIED: [u8; 32] =
-    *b"SBPFIMG1\x02\0\0\0\0\0\0\0\xb7\x0a\0\0\x01\0\0\0\x95\0\0\0\0\0\0\0";
+const UNVERIFIED: [u8; 32] = *b"SBPFIMG1\x02\0\0\0\0\0\0\0\xb7\x0a\0\0\x01\0\0\0\x95\0\0\0\0\0\0\0";
 
-pub const BUFFER_MAGIC: &[u8] = b"SBPFBUF1";
+const BUFFER_MAGIC: &[u8] = b"SBPFBUF1";
 
-pub const FINAL_MAGIC: &[u8] = b"SBPFFIN1";
+const FINAL_MAGIC: &[u8] = b"SBPFFIN1";
 
-pub const INIT: &[u8] = &[0, 0, 0, 0];
+const INIT: &[u8] = &[0, 0, 0, 0];
 
-pub const WRITE: &[u8] = &[1, 0, 0, 0];
+const WRITE: &[u8] = &[1, 0, 0, 0];
 
-pub const FINALIZE: &[u8] = &[2, 0, 0, 0];
+const FINALIZE: &[u8] = &[2, 0, 0, 0];
 
 const SET_AUTHORITY: &[u8] = &[3, 0, 0, 0];
 
 /// The account of the buffer, and two wallets.
 #[derive(Clone, Copy)]
-pub enum Party {
+enum Party {
     Buffer,
     Authority,
     Other,
 }
 
 /// An account that an instruction lists, and whether it signs and is writable.
-pub type Seat = (Party, bool, bool);
+type Seat = (Party, bool, bool);
 
 /// The accounts that an instruction lists.
 #[derive(Clone, Copy)]
-pub enum Listed {
+enum Listed {
     Nothing,
     One(Seat),
     Two(Seat, Seat),
 }
 
 /// The buffer alone, which signs.
-pub const SIGNED: Listed = Listed::One((Party::Buffer, true, true));
+const SIGNED: Listed = Listed::One((Party::Buffer, true, true));
 
 /// The buffer alone, which does not sign.
 const UNSIGNED: Listed = Listed::One((Party::Buffer, false, true));
@@ -69,7 +68,7 @@ const UNSIGNED: Listed = Listed::One((Party::Buffer, false, true));
 const TWICE: Listed = Listed::Two((Party::Buffer, false, true), (Party::Buffer, true, false));
 
 /// The buffer, and its authority, which signs.
-pub const BOTH: Listed = Listed::Two(
+const BOTH: Listed = Listed::Two(
     (Party::Buffer, false, true),
     (Party::Authority, true, false),
 );
@@ -180,7 +179,7 @@ fn first_data(alloc: Global, accounts: &[Arc<Account>]) -> Result<Blob, LoaderFa
 }
 
 /// The data of a buffer after an instruction that the loader runs.
-pub fn data_after(
+fn data_after(
     alloc: Global,
     bytes: Blob,
     listed: Listed,
