@@ -38,7 +38,7 @@ pub fn end_by_waves<W: Work + Sync, G: Gate, R: Threads + Sync>(
 }
 
 /// What a work ends with, by lanes over its desk.
-fn end_of_desk<W: Work + Sync, G: Gate, R: Threads + Wait + Sync>(
+pub fn end_of_desk<W: Work + Sync, G: Gate, R: Threads + Wait + Sync>(
     rt: &R,
     alloc: Global,
     desk: SharedDesk<W>,

@@ -122,7 +122,7 @@ pub fn key_of(byte: u8) -> Key {
 }
 
 /// The locks on keys of one repeated byte.
-fn locks_of(alloc: Global, entries: &[(u8, bool)]) -> Result<LockList, OutOfMemory> {
+pub fn locks_of(alloc: Global, entries: &[(u8, bool)]) -> Result<LockList, OutOfMemory> {
     let mut locks = LockList::new(alloc);
     for (byte, write) in entries {
         let key = key_of(*byte);
