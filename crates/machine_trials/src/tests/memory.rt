@@ -1,4 +1,4 @@
-//! Accesses at the edges of the ranges, numbers, and copies.
+//! Accesses at the edges of the ranges, numbers, and a copy.
 use crate::tests::region::{lent_account, region};
 use sbpf_memory::{AccessViolation, MemFault, Memory};
 use sol_base::{Blob, OutOfMemory};
@@ -108,47 +108,6 @@ fn accesses_lie_in_one_range(rt: HostRuntime) {
     assert!(rt; are_edges(rt.alloc()) == Ok(true));
 }
 
-/// Addresses in no range, at the start of one and behind it.
-const ANYWHERE: [u64; 8] = [
-    0,
-    PROGRAM,
-    STACK,
-    STACK + 1,
-    HEAP,
-    INPUT,
-    INPUT + 1,
-    u64::MAX,
-];
-
-/// Whether the longest access is refused at the address.
-fn refuses_longest(memory: &mut Memory, addr: u64) -> bool {
-    let read = violation(addr, u64::MAX, false);
-    memory.prepare(addr, u64::MAX) == Err(violation(addr, u64::MAX, true))
-        && memory.copy(HEAP, addr, u64::MAX, false) == Err(read)
-        && memory.copy(HEAP, addr, u64::MAX, true) == Err(read)
-}
-
-/// Whether the longest access is refused at each of the addresses.
-fn refuses_anywhere(memory: &mut Memory) -> bool {
-    for addr in ANYWHERE {
-        if !refuses_longest(memory, addr) {
-            return false;
-        }
-    }
-    true
-}
-
-/// Whether a small memory refuses it so.
-fn longest_is_refused(alloc: Global) -> Result<bool, OutOfMemory> {
-    let mut memory = small_memory(alloc)?;
-    Ok(refuses_anywhere(&mut memory))
-}
-
-#[test]
-fn the_longest_access_is_refused(rt: HostRuntime) {
-    assert!(rt; longest_is_refused(rt.alloc()) == Ok(true));
-}
-
 /// Widths of a number, and what is then read of eight bytes that were zero.
 const NUMBERS: [(u8, u64); 4] = [
     (1, 0x88),
@@ -225,56 +184,4 @@ fn input_is_copied(alloc: Global) -> Result<bool, OutOfMemory> {
 #[test]
 fn copies_within_the_parts_of_a_region(rt: HostRuntime) {
     assert!(rt; input_is_copied(rt.alloc()) == Ok(true));
-}
-
-/// Copies in their order: to, from, length, whether they must stand apart, and the answer.
-const COPIES: &[(u64, u64, u64, bool, Result<(), MemFault>)] = &[
-    (STACK + 4, STACK, 5, true, Err(MemFault::Overlap)),
-    (STACK, STACK + 4, 5, true, Err(MemFault::Overlap)),
-    // the accesses are tested before the ranges
-    (
-        PROGRAM,
-        PROGRAM,
-        3,
-        true,
-        Err(MemFault::AccessViolation {
-            addr: PROGRAM,
-            len: 3,
-            write: true,
-        }),
-    ),
-    (STACK, STACK, 0, true, Ok(())),
-    (STACK + 5, STACK, 5, true, Ok(())),
-    (STACK + 1, STACK, 5, false, Ok(())),
-    // a long one goes through a list
-    (STACK + 8192, STACK, 4096, true, Ok(())),
-];
-
-/// Whether each copy has its answer.
-fn answers_copies(memory: &mut Memory) -> bool {
-    for (to, from, len, apart, answer) in COPIES {
-        if memory.copy(*to, *from, *len, *apart) != *answer {
-            return false;
-        }
-    }
-    true
-}
-
-/// Whether the copies have their answers, and leave these bytes.
-fn copies_by_table(memory: &mut Memory) -> bool {
-    memory.write(STACK, b"01234").is_ok()
-        && answers_copies(memory)
-        && stand_at(memory, STACK, b"00123")
-        && stand_at(memory, STACK + 8197, b"41234")
-}
-
-/// Whether they do so in a small memory.
-fn copies_stand_apart(alloc: Global) -> Result<bool, OutOfMemory> {
-    let mut memory = small_memory(alloc)?;
-    Ok(copies_by_table(&mut memory))
-}
-
-#[test]
-fn ranges_of_a_copy_stand_apart(rt: HostRuntime) {
-    assert!(rt; copies_stand_apart(rt.alloc()) == Ok(true));
 }

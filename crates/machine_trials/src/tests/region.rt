@@ -29,18 +29,3 @@ pub fn region(alloc: Global, lent: &Arc<Account>) -> Result<Parts, OutOfMemory>
     parts.push(Part::Zeros(1))?;
     Parts::from_items(alloc, parts)
 }
-
-/// The same list with empty parts between the others.
-#[tactic(auto, unfolding(data_parts::specs::Parts::bytes_of))]
-pub fn region_with_gaps(alloc: Global, lent: &Arc<Account>) -> Result<Parts, OutOfMemory>
-    requires { let account : Account = arc_value lent.now in length account.bytes ≡ 2 }
-{
-    let mut parts = Items::new(alloc);
-    parts.push(Part::Zeros(0))?;
-    parts.push(Part::Bytes(Blob::from_slice(alloc, &[1, 2])?))?;
-    parts.push(Part::Bytes(Blob::new(alloc)))?;
-    parts.push(Part::Lent(Arc::try_clone(lent)?))?;
-    parts.push(Part::Zeros(0))?;
-    parts.push(Part::Zeros(1))?;
-    Parts::from_items(alloc, parts)
-}
