@@ -4,7 +4,7 @@ ghost use Rattle.intake.specs.Seats.{IsSendSeatOf, IsTakeSeatOf, sent_by};
 
 use crate::tests::gates::KeepingGate;
 use crate::tests::watches::watched;
-use intake::{Gathered, Intake, OpenSend, Opened, SendSeat, TakeSeat, gather};
+use intake::{Gathered, Intake, Opened, SendSeat, TakeSeat, gather};
 use message_codec::{Parsed, WireFault};
 use sol_base::{Blob, Items, OutOfMemory};
 use std::alloc::Global;
@@ -213,16 +213,6 @@ fn has_payer(parsed: Option<&Parsed>, byte: u8) -> bool {
     }
 }
 
-/// What the senders parse of few wires.
-fn gathered<R: Threads + Wait + Abort + Sync>(
-    rt: &R,
-    alloc: Global,
-    wires: &Items<Blob>,
-) -> Result<Gathered, OutOfMemory> {
-    assert!(rt; wires.len() < 1_000);
-    gather(rt, alloc, wires, 8, &OpenSend)
-}
-
 /// Whether the two transfers are there, and both arrived.
 fn has_both(gathered: &Gathered) -> bool {
     let parsed = gathered.parsed.as_slice();
@@ -244,28 +234,5 @@ fn senders_meet<R: Threads + Wait + Abort + Sync>(rt: &R, alloc: Global) -> Resu
 #[test]
 fn senders_at_once(rt: HostRuntime) -> Result<(), Fail> {
     assert!(rt; watched(&rt, || senders_meet(&rt, rt.alloc()))?);
-    Ok(())
-}
-
-/// Whether nothing was parsed.
-fn has_none(gathered: &Gathered) -> bool {
-    gathered.parsed.is_empty() && gathered.arrivals.is_empty()
-}
-
-/// Whether the first wire was cut within its second byte.
-fn is_cut(gathered: &Gathered) -> bool {
-    match gathered.parsed.as_slice().first() {
-        Some(Parsed::Bad(WireFault::Truncated { at })) => *at == 1,
-        _ => false,
-    }
-}
-
-#[test]
-fn more_senders_than_wires(rt: HostRuntime) -> Result<(), Fail> {
-    let alloc = rt.alloc();
-    let mut wires = Items::new(alloc);
-    assert!(rt; has_none(&gathered(&rt, alloc, &wires)?));
-    wires.push(Blob::from_slice(alloc, &[1, 2, 3])?)?;
-    assert!(rt; is_cut(&gathered(&rt, alloc, &wires)?));
     Ok(())
 }
