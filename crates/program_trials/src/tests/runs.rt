@@ -1,5 +1,5 @@
 //! Texts that run to their stops, with values from the rows of the table of instructions.
-use crate::tests::texts::{EXIT, Fields, append_slot, append_slots, append_wide, text_of};
+use crate::tests::slots::{EXIT, Fields, append_slot, append_slots, append_wide, text_of};
 use data_parts::{Part, Parts};
 use sbpf_machine::{Fault, Machine, Stop};
 use sbpf_memory::Memory;

@@ -1,5 +1,5 @@
 //! Texts that are refused, and given back.
-use crate::tests::texts::{EXIT, Fields, text_of};
+use crate::tests::slots::{EXIT, Fields, text_of};
 use sbpf_verify::{VerifyFault, first_refusal, verify};
 use sol_base::{Blob, OutOfMemory};
 use std::alloc::Global;
