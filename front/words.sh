@@ -64,7 +64,7 @@ meanings() {
 
 # The statuses that all commands share, and in their place those that a page says itself.
 all_statuses() {
-  { printf '%s\n' "${statuses[@]}" && cat "$top/front/statuses"; } | sort -n -s -k 1,1 -u
+  printf '%s\n' "${statuses[@]}" | cat - "$top/front/statuses" | grep . | sort -n -s -k 1,1 -u
 }
 
 # explain PAGE: all that is said of a command.
