@@ -44,11 +44,17 @@ pub closed_lent : (done new : List Part) (last : List ℕ) → new ≡ done ++ B
 closed_lent done new last e = ap (λ (l : List Part). lent_from 0 l) e ∙ lent_push 0 done (Bytes last) ∙ append-nil (lent_from 0 done)
 
 -- a part behind all bytes
-pub added : (done closed new : List Part) (last none : List ℕ) (part : Part) (bytes : List ℕ) → bytes_of closed ≡ bytes_of done ++ last → none ≡ [] → bytes_of (closed ++ part ∷ []) ≡ bytes_of closed ++ bytes → new ≡ closed ++ part ∷ [] → bytes_of new ++ none ≡ (bytes_of done ++ last) ++ bytes
+pub added : (done closed new : List Part) (last none : List ℕ) (part : Part) (bytes : List ℕ)
+    → bytes_of closed ≡ bytes_of done ++ last → none ≡ []
+    → bytes_of (closed ++ part ∷ []) ≡ bytes_of closed ++ bytes → new ≡ closed ++ part ∷ []
+    → bytes_of new ++ none ≡ (bytes_of done ++ last) ++ bytes
 added done closed new last none part bytes whole empty pushed e =
     ap (λ (l : List ℕ). bytes_of new ++ l) empty ∙ append-nil (bytes_of new) ∙ ap bytes_of e ∙ pushed ∙ ap (λ (l : List ℕ). l ++ bytes) whole
 
-pub added_lent : (done closed new : List Part) (last : List ℕ) (part : Part) → bytes_of closed ≡ bytes_of done ++ last → lent_from 0 closed ≡ lent_from 0 done → new ≡ closed ++ part ∷ [] → lent_from 0 new ≡ lent_from 0 done ++ lent_by (length (bytes_of done ++ last)) part
+pub added_lent : (done closed new : List Part) (last : List ℕ) (part : Part)
+    → bytes_of closed ≡ bytes_of done ++ last → lent_from 0 closed ≡ lent_from 0 done
+    → new ≡ closed ++ part ∷ []
+    → lent_from 0 new ≡ lent_from 0 done ++ lent_by (length (bytes_of done ++ last)) part
 added_lent done closed new last part whole same e =
     let behind : 0 + length (bytes_of closed) ≡ length (bytes_of done ++ last) = omega (arith, ap length whole) in
     ap (λ (l : List Part). lent_from 0 l) e ∙ lent_push 0 closed part ∙ ap (λ (l : List (ℕ × Account)). l ++ lent_by (0 + length (bytes_of closed)) part) same
@@ -59,7 +65,8 @@ pub then_more : {A : Type 0} (d d1 d2 a b : List A) → d1 ≡ d ++ a → d2 ≡
 then_more {A = A} d d1 d2 a b one two = two ∙ ap (λ (l : List A). l ++ b) one ∙ append_assoc d a b
 
 -- the state of an account, piece by piece
-pub state_added : (room len : ℕ) (v a : Account) (d d1 d2 d3 d4 d5 lamports_bytes len_bytes : List ℕ) → v ≡ a → len ≡ length v.bytes → lamports_bytes ≡ number_bytes v.lamports → len_bytes ≡ number_bytes len
+pub state_added : (room len : ℕ) (v a : Account) (d d1 d2 d3 d4 d5 lamports_bytes len_bytes : List ℕ) → v ≡ a
+    → len ≡ length v.bytes → lamports_bytes ≡ number_bytes v.lamports → len_bytes ≡ number_bytes len
     → d1 ≡ d ++ v.owner.0 → d2 ≡ d1 ++ lamports_bytes → d3 ≡ d2 ++ len_bytes → d4 ≡ d3 ++ a.bytes → d5 ≡ d4 ++ replicate (room - len) 0 → d5 ≡ d ++ state_bytes room a
 unfolding state_bytes
 state_added room len v a d d1 d2 d3 d4 d5 lb nb same is_len is_lamports is_number one two three four five =
@@ -77,13 +84,18 @@ state_added room len v a d d1 d2 d3 d4 d5 lb nb same is_len is_lamports is_numbe
     then_more d d4 d5 (((owner ++ lamports) ++ number) ++ a.bytes) (replicate (room - length a.bytes) 0) four_in e5
 
 -- the first entry of an account, piece by piece
-pub first_added : (signer writable : Bool) (s w x room : ℕ) (v a : Account) (key : Key) (d d1 d2 d3 d4 d5 d6 zeros last : List ℕ) → s ≡ from_bool signer → w ≡ from_bool writable → x ≡ from_bool v.executable → v ≡ a → room ≡ room_of v
+pub first_added : (signer writable : Bool) (s w x room : ℕ) (v a : Account) (key : Key)
+    (d d1 d2 d3 d4 d5 d6 zeros last : List ℕ) → s ≡ from_bool signer → w ≡ from_bool writable
+    → x ≡ from_bool v.executable → v ≡ a → room ≡ room_of v
     → d1 ≡ d ++ (not_listed_before ∷ s ∷ w ∷ x ∷ []) → d2 ≡ d1 ++ replicate 4 0 → d3 ≡ d2 ++ key.0 → d4 ≡ d3 ++ state_bytes room a → d5 ≡ d4 ++ zeros → d6 ≡ d5 ++ last
     → zeros ≡ replicate (padding (length v.bytes)) 0 → last ≡ number_bytes (2 ^ 64 - 1) → d6 ≡ d ++ first_entry signer writable key a
 unfolding first_entry
 first_added signer writable s w x room v a key d d1 d2 d3 d4 d5 d6 zeros last is_signer is_writable is_executable same is_room one two three four five six is_zeros is_last =
     let flags : List ℕ = not_listed_before ∷ from_bool signer ∷ from_bool writable ∷ from_bool a.executable ∷ [] in
-    let e1 : d1 ≡ d ++ flags = one ∙ ap (λ n. d ++ (not_listed_before ∷ n ∷ w ∷ x ∷ [])) is_signer ∙ ap (λ n. d ++ (not_listed_before ∷ from_bool signer ∷ n ∷ x ∷ [])) is_writable ∙ ap (λ n. d ++ (not_listed_before ∷ from_bool signer ∷ from_bool writable ∷ n ∷ [])) (is_executable ∙ ap (λ (y : Account). from_bool y.executable) same) in
+    let e1 : d1 ≡ d ++ flags = one ∙ ap (λ n. d ++ (not_listed_before ∷ n ∷ w ∷ x ∷ [])) is_signer
+        ∙ ap (λ n. d ++ (not_listed_before ∷ from_bool signer ∷ n ∷ x ∷ [])) is_writable
+        ∙ ap (λ n. d ++ (not_listed_before ∷ from_bool signer ∷ from_bool writable ∷ n ∷ []))
+        (is_executable ∙ ap (λ (y : Account). from_bool y.executable) same) in
     let state : List ℕ = state_bytes (room_of a) a in
     let e4 : d4 ≡ d3 ++ state = four ∙ ap (λ n. d3 ++ state_bytes n a) (is_room ∙ ap (λ (y : Account). room_of y) same) in
     let pad : List ℕ = replicate (padding (length a.bytes)) 0 in
@@ -100,20 +112,26 @@ pub length_more : (d d1 a : List ℕ) → d1 ≡ d ++ a → length d1 ≡ length
 length_more d d1 a e = ap length e ∙ length-append d a
 
 -- the accounts of a region, piece by piece
-pub accounts_laid : (keys : List Key) (accounts : List Account) (metas : List Meta) (d d1 d2 count : List ℕ) → d ≡ [] → count ≡ number_bytes (length metas) → d1 ≡ d ++ count → d2 ≡ d1 ++ flat_map (entry_of keys accounts metas) (enumerate_from 0 metas)
+pub accounts_laid : (keys : List Key) (accounts : List Account) (metas : List Meta) (d d1 d2 count : List ℕ)
+    → d ≡ [] → count ≡ number_bytes (length metas) → d1 ≡ d ++ count
+    → d2 ≡ d1 ++ flat_map (entry_of keys accounts metas) (enumerate_from 0 metas)
     → d2 ≡ number_bytes (length metas) ++ flat_map (entry_of keys accounts metas) (enumerate_from 0 metas)
 accounts_laid keys accounts metas d d1 d2 count none is_count one two =
     let whole : d1 ≡ number_bytes (length metas) = one ∙ ap (λ (l : List ℕ). l ++ count) none ∙ is_count in
     two ∙ ap (λ (l : List ℕ). l ++ flat_map (entry_of keys accounts metas) (enumerate_from 0 metas)) whole
 
 -- an instruction behind them, piece by piece
-pub instruction_added : (input : List ℕ) (program : Key) (d d1 d2 d3 len : List ℕ) → len ≡ number_bytes (length input) → d1 ≡ d ++ len → d2 ≡ d1 ++ input → d3 ≡ d2 ++ program.0 → d3 ≡ d ++ number_bytes (length input) ++ input ++ program.0
+pub instruction_added : (input : List ℕ) (program : Key) (d d1 d2 d3 len : List ℕ)
+    → len ≡ number_bytes (length input) → d1 ≡ d ++ len → d2 ≡ d1 ++ input → d3 ≡ d2 ++ program.0
+    → d3 ≡ d ++ number_bytes (length input) ++ input ++ program.0
 instruction_added input program d d1 d2 d3 len is_len one two three =
     let first : d1 ≡ d ++ number_bytes (length input) = one ∙ ap (λ (l : List ℕ). d ++ l) is_len in
     three ∙ ap (λ (l : List ℕ). l ++ program.0) (two ∙ ap (λ (l : List ℕ). l ++ input) first)
 
 -- a whole region, in its two halves
-pub laid_out : (keys : List Key) (accounts : List Account) (metas : List Meta) (input : List ℕ) (program : Key) (d d1 : List ℕ) → d ≡ number_bytes (length metas) ++ flat_map (entry_of keys accounts metas) (enumerate_from 0 metas)
+pub laid_out : (keys : List Key) (accounts : List Account) (metas : List Meta) (input : List ℕ) (program : Key)
+    (d d1 : List ℕ) → d ≡ number_bytes (length metas)
+    ++ flat_map (entry_of keys accounts metas) (enumerate_from 0 metas)
     → d1 ≡ d ++ number_bytes (length input) ++ input ++ program.0 → d1 ≡ input_of keys accounts metas input program
 unfolding input_of
 laid_out keys accounts metas input program d d1 first second = second ∙ ap (λ (l : List ℕ). l ++ number_bytes (length input) ++ input ++ program.0) first
@@ -142,7 +160,11 @@ over_added start account region d d1 d2 d3 entry room is_room within size one tw
     over_by n = with_bytes (take (first_size start) (drop entry region)) 40 (state_bytes n account)
 
 -- a copy of a range, one piece on
-pub copied_more : (all before d new part : List ℕ) (at done count n : ℕ) → d ≡ before ++ take done (drop at all) → part ≡ take n (drop (at + done) all) → new ≡ d ++ part → n ≡ count → new ≡ before ++ take (done + count) (drop at all)
+pub copied_more : (all before d new part : List ℕ) (at done count n : ℕ) → d ≡ before ++ take done (drop at all)
+    → part ≡ take n (drop (at + done) all) → new ≡ d ++ part → n ≡ count
+    → new ≡ before ++ take (done + count) (drop at all)
 copied_more all before d new part at done count n was read e size =
     let piece : part ≡ take count (drop done (drop at all)) = read ∙ ap (λ m. take m (drop (at + done) all)) size ∙ ap (λ (l : List ℕ). take count l) (sym (drop-drop done at all)) in
-    then_more before d new (take done (drop at all)) part was e ∙ ap (λ (l : List ℕ). before ++ (take done (drop at all) ++ l)) piece ∙ ap (λ (l : List ℕ). before ++ l) (sym (take-add done count (drop at all)))
+    then_more before d new (take done (drop at all)) part was e
+        ∙ ap (λ (l : List ℕ). before ++ (take done (drop at all) ++ l)) piece
+        ∙ ap (λ (l : List ℕ). before ++ l) (sym (take-add done count (drop at all)))

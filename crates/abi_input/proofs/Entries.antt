@@ -33,7 +33,10 @@ pub item_within : (metas : List Meta) (k : ℕ) (meta : Meta) → slice_get meta
 item_within metas k meta e = rw length-enumerate_from (slice_get_within metas k meta e)
 
 -- what stands for the metas, one more
-pub flat_more : {X : Type 0} (f : ℕ × Meta → List X) (metas : List Meta) (k : ℕ) (meta : Meta) → slice_get metas k ≡ Some meta → flat_map f (take (k + 1) (enumerate_from 0 metas)) ≡ flat_map f (take k (enumerate_from 0 metas)) ++ f (k, meta)
+pub flat_more : {X : Type 0} (f : ℕ × Meta → List X) (metas : List Meta) (k : ℕ) (meta : Meta)
+    → slice_get metas k ≡ Some meta
+    → flat_map f (take (k + 1) (enumerate_from 0 metas))
+    ≡ flat_map f (take k (enumerate_from 0 metas)) ++ f (k, meta)
 flat_more {X = X} f metas k meta e =
     let items : List (ℕ × Meta) = enumerate_from 0 metas in
     ap (λ (l : List (ℕ × Meta)). flat_map f l) (take_more items k (k, meta) (item_within metas k meta e))
@@ -49,7 +52,9 @@ pub start_zero : (start : List Account) (metas : List Meta) → entry_start star
 unfolding entry_start
 start_zero start metas = refl
 
-pub start_more : (start : List Account) (metas : List Meta) (k : ℕ) (meta : Meta) → slice_get metas k ≡ Some meta → entry_start start metas (k + 1) ≡ entry_start start metas k + entry_size start metas (k, meta)
+pub start_more : (start : List Account) (metas : List Meta) (k : ℕ) (meta : Meta)
+    → slice_get metas k ≡ Some meta
+    → entry_start start metas (k + 1) ≡ entry_start start metas k + entry_size start metas (k, meta)
 unfolding entry_start
 start_more start metas k meta e =
     let items : List (ℕ × Meta) = enumerate_from 0 metas in
@@ -68,7 +73,9 @@ ends start metas k =
     omega arith
 
 -- an entry ends where all entries end, or before
-pub start_within : (start : List Account) (metas : List Meta) (k : ℕ) (meta : Meta) → slice_get metas k ≡ Some meta → entry_start start metas k + entry_size start metas (k, meta) ≤ entry_start start metas (length metas)
+pub start_within : (start : List Account) (metas : List Meta) (k : ℕ) (meta : Meta)
+    → slice_get metas k ≡ Some meta
+    → entry_start start metas k + entry_size start metas (k, meta) ≤ entry_start start metas (length metas)
 start_within start metas k meta e =
     let more : entry_start start metas (k + 1) ≡ entry_start start metas k + entry_size start metas (k, meta) = start_more start metas k meta e in
     let least : entry_start start metas (k + 1) ≤ entry_start start metas (length metas) = ends start metas (k + 1) in
@@ -77,7 +84,10 @@ start_within start metas k meta e =
 -- an account that is there
 pub account_there : (shares : List (Arc Account Global)) (i : ℕ) (x : Arc Account Global) → i < length shares → x ≡ get_or shares i x → account_in (accounts_of shares) i ≡ arc_value x
 account_there shares i x lt is =
-    ap (λ (o : Option Account). unwrap_or o empty_account) (slice_get-map (λ (share : Arc Account Global). arc_value share) shares i ∙ ap (λ (o : Option (Arc Account Global)). option_value o) (slice_get_read shares (length shares) i x refl lt is))
+    ap (λ (o : Option Account). unwrap_or o empty_account)
+        (slice_get-map (λ (share : Arc Account Global). arc_value share) shares i
+        ∙ ap (λ (o : Option (Arc Account Global)). option_value o)
+        (slice_get_read shares (length shares) i x refl lt is))
   where
     option_value : Option (Arc Account Global) → Option Account
     option_value None = None
@@ -95,18 +105,27 @@ index_in count metas k meta range e =
 
 -- an entry at a first listing
 entry_first : (keys : List Key) (accounts : List Account) (metas : List Meta) (k : ℕ) (meta : Meta) (key : Key) (account : Account) → is_first_listing metas (k, meta) ≡ true
-    → key_in keys meta.index ≡ key → account_in accounts meta.index ≡ account → entry_of keys accounts metas (k, meta) ≡ first_entry (is_listed_signer metas meta.index) (is_listed_writable metas meta.index) key account
+    → key_in keys meta.index ≡ key → account_in accounts meta.index ≡ account
+        → entry_of keys accounts metas (k, meta)
+        ≡ first_entry (is_listed_signer metas meta.index) (is_listed_writable metas meta.index) key account
 entry_first keys accounts metas k meta key account first same_key same_account =
     let signer : Bool = is_listed_signer metas meta.index in
     let writable : Bool = is_listed_writable metas meta.index in
     cond-true (is_first_listing metas (k, meta)) (first_entry signer writable (key_in keys meta.index) (account_in accounts meta.index)) (repeated_entry (first_place metas meta.index)) first
     ∙ ap (λ (x : Key). first_entry signer writable x (account_in accounts meta.index)) same_key ∙ ap (λ (x : Account). first_entry signer writable key x) same_account
 
-pub entry_again : (keys : List Key) (accounts : List Account) (metas : List Meta) (k : ℕ) (meta : Meta) (i : ℕ) → is_first_listing metas (k, meta) ≡ false → i ≡ first_place metas meta.index → entry_of keys accounts metas (k, meta) ≡ repeated_entry i
+pub entry_again : (keys : List Key) (accounts : List Account) (metas : List Meta) (k : ℕ) (meta : Meta) (i : ℕ)
+    → is_first_listing metas (k, meta) ≡ false → i ≡ first_place metas meta.index
+    → entry_of keys accounts metas (k, meta) ≡ repeated_entry i
 entry_again keys accounts metas k meta i again is =
-    cond-false (is_first_listing metas (k, meta)) (first_entry (is_listed_signer metas meta.index) (is_listed_writable metas meta.index) (key_in keys meta.index) (account_in accounts meta.index)) (repeated_entry (first_place metas meta.index)) again ∙ ap (λ n. repeated_entry n) (sym is)
+    cond-false (is_first_listing metas (k, meta))
+        (first_entry (is_listed_signer metas meta.index) (is_listed_writable metas meta.index)
+        (key_in keys meta.index) (account_in accounts meta.index))
+        (repeated_entry (first_place metas meta.index)) again ∙ ap (λ n. repeated_entry n) (sym is)
 
-pub size_first : (start : List Account) (metas : List Meta) (k : ℕ) (meta : Meta) (account : Account) → is_first_listing metas (k, meta) ≡ true → account_in start meta.index ≡ account → entry_size start metas (k, meta) ≡ first_size account
+pub size_first : (start : List Account) (metas : List Meta) (k : ℕ) (meta : Meta) (account : Account)
+    → is_first_listing metas (k, meta) ≡ true → account_in start meta.index ≡ account
+    → entry_size start metas (k, meta) ≡ first_size account
 size_first start metas k meta account first same =
     cond-true (is_first_listing metas (k, meta)) (first_size (account_in start meta.index)) 8 first ∙ ap (λ (x : Account). first_size x) same
 
@@ -116,7 +135,8 @@ size_again start metas k meta again = cond-false (is_first_listing metas (k, met
 -- an account of the list that is short
 pub short_at : (accounts : List Account) (i : ℕ) → AreShort accounts → IsShort (account_in accounts i)
 short_at accounts i short = elim (slice_get_cases accounts i).1 [
-  | inl (x, lt, is, at) ↦ subst (λ (o : Option Account). IsShort (unwrap_or o empty_account)) (sym is) (subst (λ (a : Account). IsShort a) at (All-get_or (λ (a : Account). IsShort a) accounts i x lt short))
+  | inl (x, lt, is, at) ↦ subst (λ (o : Option Account). IsShort (unwrap_or o empty_account)) (sym is)
+      (subst (λ (a : Account). IsShort a) at (All-get_or (λ (a : Account). IsShort a) accounts i x lt short))
   | inr (past, none) ↦ subst (λ (o : Option Account). IsShort (unwrap_or o empty_account)) (sym none) (omega arith)
 ]
 
@@ -135,13 +155,17 @@ start_most accounts metas short most =
     let size : ℕ × Meta → ℕ = entry_size accounts metas in
     let all : sum_by size (take (length metas) items) ≡ sum_by size items = ap (λ (l : List (ℕ × Meta)). sum_by size l) (all_items metas) in
     let meta : Meta = record { index = 0; signer = false; writable = false } in
-    let each : All (λ (x : ℕ × Meta). size x ≤ 10496103) items = All-from_get_or (λ (x : ℕ × Meta). size x ≤ 10496103) items (0, meta) (λ i lt. size_most accounts metas (get_or items i (0, meta)) short) in
+    let each : All (λ (x : ℕ × Meta). size x ≤ 10496103) items = All-from_get_or
+        (λ (x : ℕ × Meta). size x ≤ 10496103) items (0, meta)
+        (λ i lt. size_most accounts metas (get_or items i (0, meta)) short) in
     let bound : sum_by size items ≤ length items * 10496103 = sum_by-le size 10496103 items each in
     let long : length items ≡ length metas = length-enumerate_from 0 metas in
     omega arith
 
 -- an entry is no longer than all entries
-pub first_fits : (start : List Account) (metas : List Meta) (k : ℕ) (meta : Meta) (account : Account) → slice_get metas k ≡ Some meta → is_first_listing metas (k, meta) ≡ true → account_in start meta.index ≡ account
+pub first_fits : (start : List Account) (metas : List Meta) (k : ℕ) (meta : Meta) (account : Account)
+    → slice_get metas k ≡ Some meta → is_first_listing metas (k, meta) ≡ true
+    → account_in start meta.index ≡ account
     → entry_start start metas k + first_size account ≤ entry_start start metas (length metas)
 first_fits start metas k meta account e first same =
     let size : entry_size start metas (k, meta) ≡ first_size account = size_first start metas k meta account first same in
@@ -149,7 +173,9 @@ first_fits start metas k meta account e first same =
     omega arith
 
 -- what is added at a first listing
-pub entry_added : (keys : List Key) (accounts : List Account) (metas : List Meta) (k : ℕ) (meta : Meta) (listing : Listing) (i : ℕ) (d : Key) (account : Account) → listing ≡ listing_in metas meta.index → is_first_listing metas (k, meta) ≡ true
+pub entry_added : (keys : List Key) (accounts : List Account) (metas : List Meta) (k : ℕ) (meta : Meta)
+    (listing : Listing) (i : ℕ) (d : Key) (account : Account) → listing ≡ listing_in metas meta.index
+    → is_first_listing metas (k, meta) ≡ true
     → i ≡ meta.index → i < length keys → account_in accounts meta.index ≡ account → first_entry listing.signer listing.writable (get_or keys i d) account ≡ entry_of keys accounts metas (k, meta)
 entry_added keys accounts metas k meta listing i d account is first same below account_is =
     let key : key_in keys meta.index ≡ get_or keys i d = ap (λ n. key_in keys n) (sym same) ∙ key_there keys i d below in
@@ -159,7 +185,9 @@ pub flat_all : {X : Type 0} (f : ℕ × Meta → List X) (metas : List Meta) (k 
 flat_all f metas k past = ap (λ (l : List (ℕ × Meta)). flat_map f l) (take_all k (enumerate_from 0 metas) (rw length-enumerate_from past))
 
 -- whether an account has outgrown its place, as the code finds it
-pub outgrown_is : (start now : List Account) (metas : List Meta) (k : ℕ) (meta : Meta) (s n : Account) (room len : ℕ) → is_first_listing metas (k, meta) ≡ true → account_in start meta.index ≡ s → account_in now meta.index ≡ n → room ≡ room_of s → len ≡ length n.bytes
+pub outgrown_is : (start now : List Account) (metas : List Meta) (k : ℕ) (meta : Meta) (s n : Account)
+    (room len : ℕ) → is_first_listing metas (k, meta) ≡ true → account_in start meta.index ≡ s
+    → account_in now meta.index ≡ n → room ≡ room_of s → len ≡ length n.bytes
     → nat_lt room len ≡ (is_first_listing metas (k, meta) && is_outgrown start now (k, meta))
 outgrown_is start now metas k meta s n room len first same_start same_now is_room is_len =
     let a : room ≡ room_of (account_in start meta.index) = is_room ∙ ap (λ (x : Account). room_of x) (sym same_start) in
@@ -171,12 +199,19 @@ unfolding entry_start
 start_least start metas k = omega arith
 
 -- an account that has not outgrown its place
-pub not_outgrown : (start now : List Account) (metas : List Meta) (k : ℕ) (meta : Meta) (s n : Account) → is_outgrown start now (k, meta) ≡ false → account_in start meta.index ≡ s → account_in now meta.index ≡ n → length n.bytes ≤ room_of s
+pub not_outgrown : (start now : List Account) (metas : List Meta) (k : ℕ) (meta : Meta) (s n : Account)
+    → is_outgrown start now (k, meta) ≡ false → account_in start meta.index ≡ s → account_in now meta.index ≡ n
+    → length n.bytes ≤ room_of s
 not_outgrown start now metas k meta s n fits same_start same_now =
-    ltb-false (room_of s) (length n.bytes) (ap (λ (x : Account). nat_lt (room_of x) (length n.bytes)) (sym same_start) ∙ ap (λ (x : Account). nat_lt (room_of (account_in start meta.index)) (length x.bytes)) (sym same_now) ∙ fits)
+    ltb-false (room_of s) (length n.bytes)
+        (ap (λ (x : Account). nat_lt (room_of x) (length n.bytes)) (sym same_start)
+        ∙ ap (λ (x : Account). nat_lt (room_of (account_in start meta.index)) (length x.bytes)) (sym same_now)
+        ∙ fits)
 
 -- an entry that is written over, as the code finds it
-pub patched_first : (region : List ℕ) (start now : List Account) (metas : List Meta) (k : ℕ) (meta : Meta) (s n : Account) (entry : ℕ) → is_first_listing metas (k, meta) ≡ true → account_in start meta.index ≡ s → account_in now meta.index ≡ n → entry ≡ entry_start start metas k
+pub patched_first : (region : List ℕ) (start now : List Account) (metas : List Meta) (k : ℕ) (meta : Meta)
+    (s n : Account) (entry : ℕ) → is_first_listing metas (k, meta) ≡ true → account_in start meta.index ≡ s
+    → account_in now meta.index ≡ n → entry ≡ entry_start start metas k
     → over_entry s n (take (first_size s) (drop entry region)) ≡ patched_entry region start now metas (k, meta)
 patched_first region start now metas k meta s n entry first same_start same_now at =
     let whole : List ℕ = take (entry_size start metas (k, meta)) (drop (entry_start start metas k) region) in
@@ -186,7 +221,9 @@ patched_first region start now metas k meta s n entry first same_start same_now 
     ∙ ap (λ (x : Account). over_entry x (account_in now meta.index) whole) same_start ∙ ap (λ (x : Account). over_entry s x whole) same_now ∙ ap (λ (l : List ℕ). over_entry s n l) same)
 
 -- whether a length is refused, as the code finds it
-pub too_long_is : (region : List ℕ) (start : List Account) (metas : List Meta) (k : ℕ) (meta : Meta) (s : Account) (entry : ℕ) → is_first_listing metas (k, meta) ≡ true → account_in start meta.index ≡ s → entry ≡ entry_start start metas k
+pub too_long_is : (region : List ℕ) (start : List Account) (metas : List Meta) (k : ℕ) (meta : Meta)
+    (s : Account) (entry : ℕ) → is_first_listing metas (k, meta) ≡ true → account_in start meta.index ≡ s
+    → entry ≡ entry_start start metas k
     → (has_outgrown s (data_len_at region entry) || nat_lt max_data_len (data_len_at region entry)) ≡ (is_first_listing metas (k, meta) && is_too_long region start metas (k, meta))
 too_long_is region start metas k meta s entry first same at =
     ap (λ e. has_outgrown s (data_len_at region e) || nat_lt max_data_len (data_len_at region e)) at

@@ -19,7 +19,10 @@ found_step : (test : ℕ × Meta → Bool) (metas : List Meta) (k : ℕ) (meta :
 found_step test metas k meta e =
     let items : List (ℕ × Meta) = enumerate_from 0 metas in
     let first : ℕ × Meta → Bool = is_first_listing metas in
-    ap (λ (l : List (ℕ × Meta)). find test l) (filter_more first items k (k, meta) (item_within metas k meta e) ∙ ap (λ (x : ℕ × Meta). filter first (take k items) ++ cond (first x) (x ∷ []) []) (item_at metas k meta e))
+    ap (λ (l : List (ℕ × Meta)). find test l)
+        (filter_more first items k (k, meta) (item_within metas k meta e)
+        ∙ ap (λ (x : ℕ × Meta). filter first (take k items) ++ cond (first x) (x ∷ []) [])
+        (item_at metas k meta e))
     ∙ find-append test (filter first (take k items)) (cond (first (k, meta)) ((k, meta) ∷ []) [])
     ∙ ap (λ (o : Option (ℕ × Meta)). option_or (found_among test metas k) o) (one (first (k, meta)) (k, meta))
   where
@@ -57,7 +60,9 @@ pub place_of_found : (found : Option (ℕ × Meta)) (k : ℕ) (meta : Meta) → 
 place_of_found found k meta e = ap (λ (o : Option (ℕ × Meta)). option_map (λ item. item.0) o) e
 
 -- where none is found among all, no first listing passes
-pub none_passes : (test : ℕ × Meta → Bool) (metas : List Meta) (k : ℕ) (meta : Meta) → slice_get metas k ≡ Some meta → found_among test metas (length metas) ≡ None → is_first_listing metas (k, meta) ≡ true → test (k, meta) ≡ false
+pub none_passes : (test : ℕ × Meta → Bool) (metas : List Meta) (k : ℕ) (meta : Meta)
+    → slice_get metas k ≡ Some meta → found_among test metas (length metas) ≡ None
+    → is_first_listing metas (k, meta) ≡ true → test (k, meta) ≡ false
 none_passes test metas k meta e none first = by_test (test (k, meta)) refl
   where
     before : (o : Option (ℕ × Meta)) → found_among test metas k ≡ o → test (k, meta) ≡ true → test (k, meta) ≡ false

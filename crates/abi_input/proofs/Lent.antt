@@ -18,7 +18,9 @@ use Rattle.abi_input.proofs.Entries.{flat_all, flat_more, item_at, item_within, 
 use Rattle.abi_input.proofs.Listed.{first_of_account, IsFirstOf}
 
 -- what is lent for a first listing, as the code lends it
-pub lent_first : (start now : List Account) (metas : List Meta) (k : ℕ) (meta : Meta) (entry : ℕ) (account : Account) → is_first_listing metas (k, meta) ≡ true → entry ≡ entry_start start metas k → account_in now meta.index ≡ account
+pub lent_first : (start now : List Account) (metas : List Meta) (k : ℕ) (meta : Meta) (entry : ℕ)
+    (account : Account) → is_first_listing metas (k, meta) ≡ true → entry ≡ entry_start start metas k
+    → account_in now meta.index ≡ account
     → lent_of (entry + 88) account ≡ lent_entry start now metas (k, meta)
 lent_first start now metas k meta entry account first at same =
     ap (λ n. lent_of (n + 88) account) at ∙ ap (λ (a : Account). lent_of (entry_start start metas k + 88) a) (sym same)
@@ -51,13 +53,17 @@ none_of start now metas item place before = by_case (is_first_listing metas item
     at : ℕ
     at = entry_start start metas item.0 + 88
 
-    by_case : (first empty here : Bool) → nat_eq (entry_start start metas item.0 + 88) place ≡ here → find (begins_at place) (cond first (cond empty [] ((entry_start start metas item.0 + 88, account_in now item.1.index) ∷ [])) []) ≡ None
+    by_case : (first empty here : Bool) → nat_eq (entry_start start metas item.0 + 88) place ≡ here
+        → find (begins_at place) (cond first
+        (cond empty [] ((entry_start start metas item.0 + 88, account_in now item.1.index) ∷ [])) []) ≡ None
     by_case false empty here e = refl
     by_case true true here e = refl
     by_case true false false e = ap (λ b. cond b (Some (entry_start start metas item.0 + 88, account_in now item.1.index)) None) e
     by_case true false true e = absurd (grind (arith, nat_tests))
 
-none_before : (start now : List Account) (metas : List Meta) (k place : ℕ) → k ≤ length metas → entry_start start metas k + 88 ≤ place → find (begins_at place) (flat_map (lent_entry start now metas) (take k (enumerate_from 0 metas))) ≡ None
+none_before : (start now : List Account) (metas : List Meta) (k place : ℕ) → k ≤ length metas
+    → entry_start start metas k + 88 ≤ place
+    → find (begins_at place) (flat_map (lent_entry start now metas) (take k (enumerate_from 0 metas))) ≡ None
 none_before start now metas zero place within before = refl
 none_before start now metas (suc k) place within before =
     let items : List (ℕ × Meta) = enumerate_from 0 metas in
@@ -75,7 +81,9 @@ none_before start now metas (suc k) place within before =
     ∙ none_of start now metas (k, meta) place (omega arith)
 
 -- the data of an account are lent from its entry
-lent_found : (start now : List Account) (metas : List Meta) (k : ℕ) (meta : Meta) → slice_get metas k ≡ Some meta → is_first_listing metas (k, meta) ≡ true → AreLent (lent_in start now metas) (entry_start start metas k + 88) (account_in now meta.index)
+lent_found : (start now : List Account) (metas : List Meta) (k : ℕ) (meta : Meta)
+    → slice_get metas k ≡ Some meta → is_first_listing metas (k, meta) ≡ true
+    → AreLent (lent_in start now metas) (entry_start start metas k + 88) (account_in now meta.index)
 unfolding lent_in begins_at
 lent_found start now metas k meta e first some =
     let items : List (ℕ × Meta) = enumerate_from 0 metas in
@@ -97,7 +105,9 @@ lent_found start now metas k meta e first some =
     ∙ ap (λ b. cond b (Some (place, account)) (find (begins_at place) rest)) self
 
 -- the data of an account that has an entry
-pub lent_at_entry : (start now : List Account) (metas : List Meta) (lent : List (ℕ × Account)) (index : ℕ) (o : Option ℕ) (entry : ℕ) (account : Account) → lent ≡ lent_in start now metas → o ≡ entry_among start metas (length metas) index → o ≡ Some entry
+pub lent_at_entry : (start now : List Account) (metas : List Meta) (lent : List (ℕ × Account)) (index : ℕ)
+    (o : Option ℕ) (entry : ℕ) (account : Account) → lent ≡ lent_in start now metas
+    → o ≡ entry_among start metas (length metas) index → o ≡ Some entry
     → account_in now index ≡ account → AreLent lent (entry + 88) account
 lent_at_entry start now metas lent index o entry account is at has same = by_case (is_listed (take (length metas) metas) index) refl (sym at ∙ has)
   where

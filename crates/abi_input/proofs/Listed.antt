@@ -26,7 +26,9 @@ from_push p i (x ∷ xs) y =
 
 position_push : {X : Type 0} (p : X → Bool) (xs : List X) (y : X) → position p (xs ++ y ∷ []) ≡ option_or (position p xs) (cond (p y) (Some (length xs)) None)
 position_push p xs y =
-    position_from-zero p (xs ++ y ∷ []) ∙ from_push p 0 xs y ∙ ap (λ n. option_or (position_from p 0 xs) (cond (p y) (Some n) None)) (zero_add (length xs)) ∙ ap (λ o. option_or o (cond (p y) (Some (length xs)) None)) (sym (position_from-zero p xs))
+    position_from-zero p (xs ++ y ∷ []) ∙ from_push p 0 xs y
+        ∙ ap (λ n. option_or (position_from p 0 xs) (cond (p y) (Some n) None)) (zero_add (length xs))
+        ∙ ap (λ o. option_or o (cond (p y) (Some (length xs)) None)) (sym (position_from-zero p xs))
   where
     zero_add : (n : ℕ) → 0 + n ≡ n
     zero_add n = omega arith
@@ -56,7 +58,9 @@ listing_more metas k d index lt =
         ∙ ap (λ (b : Bool). let l : Listing = record { first = old.first; signer = b; writable = new.writable } in l) signer
         ∙ ap (λ (b : Bool). let l : Listing = record { first = old.first; signer = old.signer; writable = b } in l) writable
 
-    by_case : (x : Meta) (b : Bool) (old new : Listing) → new.first ≡ option_or old.first (cond b (Some k) None) → new.signer ≡ (old.signer || (b && x.signer)) → new.writable ≡ (old.writable || (b && x.writable)) → new ≡ cond b (listed_again old k x) old
+    by_case : (x : Meta) (b : Bool) (old new : Listing) → new.first ≡ option_or old.first (cond b (Some k) None)
+        → new.signer ≡ (old.signer || (b && x.signer)) → new.writable ≡ (old.writable || (b && x.writable))
+        → new ≡ cond b (listed_again old k x) old
     by_case x true old new first signer writable = same (listed_again old k x) new first signer writable
     by_case x false old new first signer writable = same old new (first ∙ no_more old.first) (signer ∙ or-false old.signer) (writable ∙ or-false old.writable)
 
@@ -73,7 +77,10 @@ table_more metas table k place d dl new lt e small long is seen index below =
     let here : slice_get (set table place new) index ≡ Some (get_or (set table place new) index dl) = slice_get-get_or (set table place new) index dl (rw length-set (omega arith)) in
     here ∙ ap Some (by_case (nat_eq (get_or metas k d).index index) refl) ∙ ap Some (sym (listing_more metas k d index lt))
   where
-    by_case : (b : Bool) → nat_eq (get_or metas k d).index index ≡ b → get_or (set table place new) index dl ≡ cond b (listed_again (listing_in (take k metas) index) k (get_or metas k d)) (listing_in (take k metas) index)
+    by_case : (b : Bool) → nat_eq (get_or metas k d).index index ≡ b
+        → get_or (set table place new) index dl
+        ≡ cond b (listed_again (listing_in (take k metas) index) k (get_or metas k d))
+        (listing_in (take k metas) index)
     by_case true same =
         let at : (get_or metas k d).index ≡ index = grind (arith, nat_tests) in
         let there : place ≡ index = e ∙ at in
@@ -108,7 +115,9 @@ lists_itself metas k x e =
     let there : get_or metas k x ≡ x = get_or_from_slice_get metas k x x e in
     let same : nat_eq (get_or metas k x).index x.index ≡ true = ap (λ (m : Meta). nat_eq m.index x.index) there ∙ self x.index in
     let any : is_listed (take (k + 1) metas) x.index ≡ true = list_any_more (λ (m : Meta). nat_eq m.index x.index) metas k x lt ∙ ap (λ b. is_listed (take k metas) x.index || b) same ∙ or-true _ in
-    let below : Before true (first_place metas x.index) (k + 1) = subst (λ (b : Bool). Before b (first_place metas x.index) (k + 1)) any (before (λ (m : Meta). nat_eq m.index x.index) metas (k + 1) (omega arith)) in
+    let below : Before true (first_place metas x.index) (k + 1) = subst
+        (λ (b : Bool). Before b (first_place metas x.index) (k + 1)) any
+        (before (λ (m : Meta). nat_eq m.index x.index) metas (k + 1) (omega arith)) in
     as_le below
   where
     self : (n : ℕ) → nat_eq n n ≡ true
@@ -152,7 +161,9 @@ listed_there metas k x e =
     let le : first_place metas x.index ≤ k = lists_itself metas k x e in
     by_case (nat_lt (first_place metas x.index) (length metas)) refl (omega arith)
   where
-    by_case : (b : Bool) → nat_lt (first_place metas x.index) (length metas) ≡ b → first_place metas x.index < length metas → cond b (Some (first_place metas x.index)) None ≡ Some (first_place metas x.index)
+    by_case : (b : Bool) → nat_lt (first_place metas x.index) (length metas) ≡ b
+        → first_place metas x.index < length metas
+        → cond b (Some (first_place metas x.index)) None ≡ Some (first_place metas x.index)
     by_case true test below = refl
     by_case false test below = absurd (grind (arith, nat_tests))
 

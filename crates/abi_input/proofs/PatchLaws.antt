@@ -12,8 +12,12 @@ use Rattle.abi_input.specs.Entries.{found_among}
 use Rattle.abi_input.specs.Answers.{Patches, RefusesPatch}
 use Rattle.abi_input.proofs.Finding.{found_all, refused_back}
 
-pub patched_whole : (region : List ℕ) (start now : List Account) (metas : List Meta) (d d1 d2 d3 : List ℕ) (end n : ℕ) → found_among (is_outgrown start now) metas (length metas) ≡ None → d ≡ [] → d1 ≡ d ++ take 8 region
-    → d2 ≡ d1 ++ flat_map (patched_entry region start now metas) (enumerate_from 0 metas) → d3 ≡ d2 ++ take n (drop end region) → end ≡ entry_start start metas (length metas) → n ≡ length region - end → patched region start now metas ≡ Ok d3
+pub patched_whole : (region : List ℕ) (start now : List Account) (metas : List Meta) (d d1 d2 d3 : List ℕ)
+    (end n : ℕ) → found_among (is_outgrown start now) metas (length metas) ≡ None → d ≡ []
+    → d1 ≡ d ++ take 8 region
+    → d2 ≡ d1 ++ flat_map (patched_entry region start now metas) (enumerate_from 0 metas)
+        → d3 ≡ d2 ++ take n (drop end region) → end ≡ entry_start start metas (length metas)
+        → n ≡ length region - end → patched region start now metas ≡ Ok d3
 unfolding patched
 patched_whole region start now metas d d1 d2 d3 end n fits none one two three at rest =
     let entries : List ℕ = flat_map (patched_entry region start now metas) (enumerate_from 0 metas) in
@@ -25,7 +29,9 @@ patched_whole region start now metas d d1 d2 d3 end n fits none one two three at
     ap (λ (o : Option (ℕ × Meta)). unless_found o ((take 8 region ++ entries) ++ drop (entry_start start metas (length metas)) region)) (sym (found_all (is_outgrown start now) metas) ∙ fits)
     ∙ ap (λ (l : List ℕ). let r : Result (List ℕ) ℕ = Ok l in r) (sym whole)
 
-refused : (region : List ℕ) (start now : List Account) (metas : List Meta) (fault : PatchFault) → RefusesPatch (found_among (is_outgrown start now) metas (length metas)) fault → Patches (patched region start now metas) region region (Err fault)
+refused : (region : List ℕ) (start now : List Account) (metas : List Meta) (fault : PatchFault)
+    → RefusesPatch (found_among (is_outgrown start now) metas (length metas)) fault
+    → Patches (patched region start now metas) region region (Err fault)
 unfolding patched
 refused region start now metas (LengthTooLarge i) h =
     let whole : List ℕ = (take 8 region ++ flat_map (patched_entry region start now metas) (enumerate_from 0 metas)) ++ drop (entry_start start metas (length metas)) region in

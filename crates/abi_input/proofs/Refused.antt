@@ -13,7 +13,9 @@ refused_within count None value h = tt
 refused_within count (Some item) value h = h
 
 first_refused : {X : Type 0} (test : ℕ × Meta → Bool) (metas : List Meta) (value : X) → IfErr (unless_found (find test (first_listings metas)) value) (λ i. i < length metas)
-first_refused test metas value = refused_within (length metas) (find test (first_listings metas)) value (found_among (λ (item : ℕ × Meta). item.0 < length metas) test (first_listings metas) (listings_within metas))
+first_refused test metas value = refused_within (length metas) (find test (first_listings metas)) value
+    (found_among (λ (item : ℕ × Meta). item.0 < length metas) test (first_listings metas)
+    (listings_within metas))
 
 pub back_within : (region : List ℕ) (start now : List Account) (metas : List Meta) → IfErr (back region start now metas) (λ i. i < length metas)
 unfolding back

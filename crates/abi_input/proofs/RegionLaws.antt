@@ -25,7 +25,9 @@ are_taken : (region : List ℕ) (start now taken : List Account) (metas : List M
 unfolding back
 are_taken region start now taken metas e = by_found (find (is_too_long region start metas) (first_listings metas)) refl e
   where
-    by_found : (o : Option (ℕ × Meta)) → find (is_too_long region start metas) (first_listings metas) ≡ o → unless_found o (map (account_back region start metas) (enumerate_from 0 now)) ≡ Ok taken → AreTaken region start now taken metas
+    by_found : (o : Option (ℕ × Meta)) → find (is_too_long region start metas) (first_listings metas) ≡ o
+        → unless_found o (map (account_back region start metas) (enumerate_from 0 now)) ≡ Ok taken
+        → AreTaken region start now taken metas
     by_found None none is = record { fits = found_all (is_too_long region start metas) metas ∙ none; accounts = cc }
     by_found (Some item) found is = absurd (cc)
 
@@ -42,7 +44,10 @@ taken_at f now i lt =
     ∙ get_or-map f items i (i, none) none long
     ∙ ap f (get_or-enumerate_from 0 now i (i, none) lt ∙ ap (λ (n : ℕ). (n, get_or now i none)) zero_first ∙ ap (λ (a : Account). (i, a)) (sym here))
 
-module _ (region : List ℕ) (start now taken : List Account) (metas : List Meta) (count : length now ≡ length start) (range : AreInRange (length start) metas) (whole : IsRegionOf start metas region) (is_back : back region start now metas ≡ Ok taken) (i : ℕ) (listed : is_listed metas i ≡ true) where
+module _ (region : List ℕ) (start now taken : List Account) (metas : List Meta)
+    (count : length now ≡ length start) (range : AreInRange (length start) metas)
+    (whole : IsRegionOf start metas region) (is_back : back region start now metas ≡ Ok taken) (i : ℕ)
+    (listed : is_listed metas i ≡ true) where
   abbrev entry : ℕ
   entry = first_entry_start start metas i
 

@@ -48,7 +48,9 @@ regroup o l n b z rest = simp append_assoc refl
 number_again : (all front behind : List ℕ) (n at : ℕ) → all ≡ front ++ (number_bytes n ++ behind) → length front ≡ at → n < 2 ^ 64 → number_from all at ≡ n
 number_again all front behind n at e long fits = ap (from_le_bytes w64) (standing all front (number_bytes n) behind at 8 e long refl) ∙ from_le_bytes-to_le_bytes_8 n fits
 
-stands : (all front head behind : List ℕ) (at room : ℕ) (account : Account) → all ≡ front ++ (head ++ (state_bytes room account ++ behind)) → length front ≡ at → length head ≡ 40 → HasWidths account → Stands all at account
+stands : (all front head behind : List ℕ) (at room : ℕ) (account : Account)
+    → all ≡ front ++ (head ++ (state_bytes room account ++ behind)) → length front ≡ at → length head ≡ 40
+    → HasWidths account → Stands all at account
 unfolding state_bytes
 stands all front head behind at room account e long forty has =
     let o : List ℕ = account.owner.0 in
@@ -78,7 +80,9 @@ stands all front head behind at room account e long forty has =
 length-state_bytes : (room : ℕ) (account : Account) → length account.bytes ≤ room → HasWidths account → length (state_bytes room account) ≡ 48 + room
 unfolding state_bytes
 length-state_bytes room account fits has =
-    sized account.owner.0 (number_bytes account.lamports) (number_bytes (length account.bytes)) account.bytes (replicate (room - length account.bytes) 0) has.owner_is_key refl refl (length-replicate (room - length account.bytes) 0) fits
+    sized account.owner.0 (number_bytes account.lamports) (number_bytes (length account.bytes)) account.bytes
+        (replicate (room - length account.bytes) 0) has.owner_is_key refl refl
+        (length-replicate (room - length account.bytes) 0) fits
   where
     sized : (o l n b z : List ℕ) → length o ≡ 32 → length l ≡ 8 → length n ≡ 8 → length z ≡ room - length b → length b ≤ room → length ((((o ++ l) ++ n) ++ b) ++ z) ≡ 48 + room
     sized o l n b z eo el en ez le = omega (arith, length-append o l, length-append (o ++ l) n, length-append ((o ++ l) ++ n) b, length-append (((o ++ l) ++ n) ++ b) z)
@@ -122,7 +126,9 @@ record Split (start : List Account) (metas : List Meta) (entry : ℕ × Meta →
   whole : all ≡ front ++ (entry (k, meta) ++ behind)
   long : length front ≡ entry_start start metas k
 
-module _ (start : List Account) (metas : List Meta) (entry : ℕ × Meta → List ℕ) (sized : (k : ℕ) (meta : Meta) → slice_get metas k ≡ Some meta → length (entry (k, meta)) ≡ entry_size start metas (k, meta)) where
+module _ (start : List Account) (metas : List Meta) (entry : ℕ × Meta → List ℕ)
+    (sized : (k : ℕ) (meta : Meta) → slice_get metas k ≡ Some meta
+    → length (entry (k, meta)) ≡ entry_size start metas (k, meta)) where
   -- where an entry starts, so many bytes stand before it
   before_entry : (k : ℕ) → k ≤ length metas → 8 + length (flat_map entry (take k (enumerate_from 0 metas))) ≡ entry_start start metas k
   before_entry zero le = sym (start_zero start metas)
@@ -134,16 +140,22 @@ module _ (start : List Account) (metas : List Meta) (entry : ℕ × Meta → Lis
       let more : length (flat_map entry (take (k + 1) (enumerate_from 0 metas))) ≡ length (flat_map entry (take k (enumerate_from 0 metas))) + length (entry (k, meta)) =
       ap length (flat_more entry metas k meta there) ∙ length-append (flat_map entry (take k (enumerate_from 0 metas))) (entry (k, meta)) in
       let next : suc k ≡ k + 1 = omega arith in
-      let step : 8 + length (flat_map entry (take (k + 1) (enumerate_from 0 metas))) ≡ entry_start start metas (k + 1) = omega (arith, more, so_far, sized k meta there, start_more start metas k meta there) in
+      let step : 8 + length (flat_map entry (take (k + 1) (enumerate_from 0 metas)))
+          ≡ entry_start start metas (k + 1) = omega
+          (arith, more, so_far, sized k meta there, start_more start metas k meta there) in
       subst (λ n. 8 + length (flat_map entry (take n (enumerate_from 0 metas))) ≡ entry_start start metas n) (sym next) step
 
-  split : (all number tail : List ℕ) → all ≡ (number ++ flat_map entry (enumerate_from 0 metas)) ++ tail → length number ≡ 8 → (k : ℕ) (meta : Meta) → slice_get metas k ≡ Some meta → Split start metas entry all k meta
+  split : (all number tail : List ℕ) → all ≡ (number ++ flat_map entry (enumerate_from 0 metas)) ++ tail
+      → length number ≡ 8 → (k : ℕ) (meta : Meta) → slice_get metas k ≡ Some meta
+      → Split start metas entry all k meta
   split all number tail is eight k meta e =
       let items : List (ℕ × Meta) = enumerate_from 0 metas in
       let before : List ℕ = flat_map entry (take k items) in
       let after : List ℕ = flat_map entry (drop (k + 1) items) in
       let all_entries : flat_map entry items ≡ (before ++ entry (k, meta)) ++ after =
-      ap (λ (l : List (ℕ × Meta)). flat_map entry l) (sym (take-append-drop (k + 1) items)) ∙ flat_map-append entry (take (k + 1) items) (drop (k + 1) items) ∙ ap (λ (l : List ℕ). l ++ after) (flat_more entry metas k meta e) in
+      ap (λ (l : List (ℕ × Meta)). flat_map entry l) (sym (take-append-drop (k + 1) items))
+          ∙ flat_map-append entry (take (k + 1) items) (drop (k + 1) items)
+          ∙ ap (λ (l : List ℕ). l ++ after) (flat_more entry metas k meta e) in
       let below : k ≤ length metas = omega (arith, slice_get_within metas k meta e) in
       record {
         front = number ++ before;
@@ -157,7 +169,9 @@ module _ (start : List Account) (metas : List Meta) (entry : ℕ × Meta → Lis
 
 module _ (start now : List Account) (metas : List Meta) (region : List ℕ)
     (stand : (k : ℕ) (meta : Meta) → slice_get metas k ≡ Some meta → is_first_listing metas (k, meta) ≡ true → Stands region (entry_start start metas k) (account_in now meta.index))
-    (short : (k : ℕ) (meta : Meta) → slice_get metas k ≡ Some meta → is_first_listing metas (k, meta) ≡ true → (length (account_in now meta.index).bytes ≤ room_of (account_in start meta.index)) × (length (account_in now meta.index).bytes ≤ max_data_len)) where
+    (short : (k : ℕ) (meta : Meta) → slice_get metas k ≡ Some meta → is_first_listing metas (k, meta) ≡ true
+        → (length (account_in now meta.index).bytes ≤ room_of (account_in start meta.index))
+        × (length (account_in now meta.index).bytes ≤ max_data_len)) where
   no_more_than : (room len most : ℕ) → len ≤ room → len ≤ most → (nat_lt room len || nat_lt most len) ≡ false
   no_more_than room len most r m = grind (arith, nat_tests)
 
@@ -188,7 +202,9 @@ module _ (start now : List Account) (metas : List Meta) (region : List ℕ)
       at_first : (meta : Meta) → IsFirstOf metas i meta → account_at region (entry_start start metas (first_place metas i)) account ≡ account
       at_first meta first =
           let is : account_in now meta.index ≡ account = ap (λ n. account_in now n) first.same ∙ there in
-          let s : Stands region (entry_start start metas (first_place metas i)) account = subst (λ (a : Account). Stands region (entry_start start metas (first_place metas i)) a) is (stand (first_place metas i) meta first.there first.first) in
+          let s : Stands region (entry_start start metas (first_place metas i)) account = subst
+              (λ (a : Account). Stands region (entry_start start metas (first_place metas i)) a) is
+              (stand (first_place metas i) meta first.there first.first) in
           same_account region (entry_start start metas (first_place metas i)) account s.lamports s.owner s.len s.bytes
 
       by_case : (b : Bool) → is_listed metas i ≡ b → cond b (account_at region (entry_start start metas (first_place metas i)) account) account ≡ account
@@ -205,14 +221,22 @@ module _ (start now : List Account) (metas : List Meta) (region : List ℕ)
 
   -- a region in which each first listing has its account gives the accounts back
   taken : back region start now metas ≡ Ok now
-  taken = back_is region start now metas now (none_too_long (length metas) (omega arith)) (sym (all_stay (account_back region start metas) 0 now (λ i a e. let from_zero : i ≡ 0 + i = omega arith in subst (λ n. account_back region start metas (n, a) ≡ a) from_zero (account_stays i a e))))
+  taken = back_is region start now metas now (none_too_long (length metas) (omega arith))
+      (sym (all_stay (account_back region start metas) 0 now
+      (λ i a e. let from_zero : i ≡ 0 + i = omega arith
+      in subst (λ n. account_back region start metas (n, a) ≡ a) from_zero (account_stays i a e))))
 
-widths_of_meta : (accounts : List Account) (metas : List Meta) → AreInRange (length accounts) metas → HaveWidths accounts → (k : ℕ) (meta : Meta) → slice_get metas k ≡ Some meta → HasWidths (account_in accounts meta.index)
+widths_of_meta : (accounts : List Account) (metas : List Meta) → AreInRange (length accounts) metas
+    → HaveWidths accounts → (k : ℕ) (meta : Meta) → slice_get metas k ≡ Some meta
+    → HasWidths (account_in accounts meta.index)
 widths_of_meta accounts metas range have k meta e =
     let lt : meta.index < length accounts = index_in (length accounts) metas k meta range e in
-    subst HasWidths (sym (ap (λ (o : Option Account). unwrap_or o empty_account) (slice_get-get_or accounts meta.index empty_account lt))) (All-get_or HasWidths accounts meta.index empty_account lt have)
+    subst HasWidths (sym (ap (λ (o : Option Account). unwrap_or o empty_account)
+        (slice_get-get_or accounts meta.index empty_account lt)))
+        (All-get_or HasWidths accounts meta.index empty_account lt have)
 
-module _ (keys : List Key) (accounts : List Account) (metas : List Meta) (count : length accounts ≡ length keys) (range : AreInRange (length accounts) metas) (are_keys : AreKeys keys) (have : HaveWidths accounts) where
+module _ (keys : List Key) (accounts : List Account) (metas : List Meta) (count : length accounts ≡ length keys)
+    (range : AreInRange (length accounts) metas) (are_keys : AreKeys keys) (have : HaveWidths accounts) where
   abbrev laid : ℕ × Meta → List ℕ
   laid = entry_of keys accounts metas
 
@@ -231,12 +255,19 @@ module _ (keys : List Key) (accounts : List Account) (metas : List Meta) (count 
   laid_length : (k : ℕ) (meta : Meta) → slice_get metas k ≡ Some meta → length (laid (k, meta)) ≡ entry_size accounts metas (k, meta)
   laid_length k meta e = by_case (is_first_listing metas (k, meta))
     where
-      by_case : (b : Bool) → length (cond b (first_entry (is_listed_signer metas meta.index) (is_listed_writable metas meta.index) (key_in keys meta.index) (account_in accounts meta.index)) (repeated_entry (first_place metas meta.index))) ≡ cond b (first_size (account_in accounts meta.index)) 8
+      by_case : (b : Bool) → length
+          (cond b (first_entry (is_listed_signer metas meta.index) (is_listed_writable metas meta.index)
+          (key_in keys meta.index) (account_in accounts meta.index))
+          (repeated_entry (first_place metas meta.index)))
+          ≡ cond b (first_size (account_in accounts meta.index)) 8
       by_case true = first_length _ _ (key_in keys meta.index) (account_in accounts meta.index) (key_of_meta k meta e) (widths_of_meta accounts metas range have k meta e)
       by_case false = refl
 
   -- a first listing has its account
-  laid_stands : (region tail : List ℕ) → region ≡ (number_bytes (length metas) ++ flat_map laid (enumerate_from 0 metas)) ++ tail → (k : ℕ) (meta : Meta) → slice_get metas k ≡ Some meta → is_first_listing metas (k, meta) ≡ true → Stands region (entry_start accounts metas k) (account_in accounts meta.index)
+  laid_stands : (region tail : List ℕ)
+      → region ≡ (number_bytes (length metas) ++ flat_map laid (enumerate_from 0 metas)) ++ tail
+      → (k : ℕ) (meta : Meta) → slice_get metas k ≡ Some meta → is_first_listing metas (k, meta) ≡ true
+      → Stands region (entry_start accounts metas k) (account_in accounts meta.index)
   laid_stands region tail whole k meta e first =
       let s : Split accounts metas laid region k meta = split accounts metas laid laid_length region (number_bytes (length metas)) tail whole refl k meta e in
       let index : ℕ = meta.index in
@@ -249,7 +280,10 @@ module _ (keys : List Key) (accounts : List Account) (metas : List Meta) (count 
       stands region s.front parts.head parts.after (entry_start accounts metas k) (room_of account) account
       (s.whole ∙ ap (λ (l : List ℕ). s.front ++ (l ++ s.behind)) is ∙ ap (λ (l : List ℕ). s.front ++ l) parts.whole) s.long parts.forty (widths_of_meta accounts metas range have k meta e)
 
-  laid_whole : (input : List ℕ) (program : Key) → input_of keys accounts metas input program ≡ (number_bytes (length metas) ++ flat_map laid (enumerate_from 0 metas)) ++ (number_bytes (length input) ++ (input ++ program.0))
+  laid_whole : (input : List ℕ) (program : Key)
+      → input_of keys accounts metas input program
+      ≡ (number_bytes (length metas) ++ flat_map laid (enumerate_from 0 metas))
+      ++ (number_bytes (length input) ++ (input ++ program.0))
   unfolding input_of
   laid_whole input program = grouped (number_bytes (length metas)) (flat_map laid (enumerate_from 0 metas)) (number_bytes (length input)) input program.0
     where
@@ -270,14 +304,20 @@ module _ (keys : List Key) (accounts : List Account) (metas : List Meta) (count 
       omega (arith, long, all, end, eight, length-append (number ++ entries) tail, length-append number entries)
 
 -- what was laid out is taken back
-pub what_was_laid_out : (keys : List Key) (accounts : List Account) (metas : List Meta) (input : List ℕ) (program : Key) → length accounts ≡ length keys → AreInRange (length accounts) metas → AreKeys keys → HaveWidths accounts
+pub what_was_laid_out : (keys : List Key) (accounts : List Account) (metas : List Meta) (input : List ℕ)
+    (program : Key) → length accounts ≡ length keys → AreInRange (length accounts) metas → AreKeys keys
+    → HaveWidths accounts
     → back (input_of keys accounts metas input program) accounts accounts metas ≡ Ok accounts
 what_was_laid_out keys accounts metas input program count range are_keys have =
     taken accounts accounts metas (input_of keys accounts metas input program)
-    (laid_stands keys accounts metas count range are_keys have (input_of keys accounts metas input program) (number_bytes (length input) ++ (input ++ program.0)) (laid_whole keys accounts metas count range are_keys have input program))
+    (laid_stands keys accounts metas count range are_keys have (input_of keys accounts metas input program)
+        (number_bytes (length input) ++ (input ++ program.0))
+        (laid_whole keys accounts metas count range are_keys have input program))
     (λ k meta e first. (omega arith, (widths_of_meta accounts metas range have k meta e).is_short))
 
-module _ (start now : List Account) (metas : List Meta) (region : List ℕ) (count : length now ≡ length start) (range : AreInRange (length start) metas) (have : HaveWidths now) (whole : IsRegionOf start metas region) (none : found_among (is_outgrown start now) metas (length metas) ≡ None) where
+module _ (start now : List Account) (metas : List Meta) (region : List ℕ) (count : length now ≡ length start)
+    (range : AreInRange (length start) metas) (have : HaveWidths now) (whole : IsRegionOf start metas region)
+    (none : found_among (is_outgrown start now) metas (length metas) ≡ None) where
   abbrev over : ℕ × Meta → List ℕ
   over = patched_entry region start now metas
 
@@ -296,7 +336,9 @@ module _ (start now : List Account) (metas : List Meta) (region : List ℕ) (cou
       let within = start_within start metas k meta e in
       length-take-le (entry_size start metas (k, meta)) (drop (entry_start start metas k) region) (omega (arith, within, whole, length-drop (entry_start start metas k) region))
 
-  over_length : (b : Bool) (s n : Account) (entry : List ℕ) (size : ℕ) → length entry ≡ size → size ≡ cond b (first_size s) 8 → (b ≡ true → length n.bytes ≤ room_of s) → HasWidths n → length (cond b (over_entry s n entry) entry) ≡ size
+  over_length : (b : Bool) (s n : Account) (entry : List ℕ) (size : ℕ) → length entry ≡ size
+      → size ≡ cond b (first_size s) 8 → (b ≡ true → length n.bytes ≤ room_of s) → HasWidths n
+      → length (cond b (over_entry s n entry) entry) ≡ size
   over_length true s n entry size long is fits has =
       let room : ℕ = room_of s in
       let state : List ℕ = state_bytes room n in
@@ -307,11 +349,15 @@ module _ (start now : List Account) (metas : List Meta) (region : List ℕ) (cou
 
   over_sized : (k : ℕ) (meta : Meta) → slice_get metas k ≡ Some meta → length (over (k, meta)) ≡ entry_size start metas (k, meta)
   over_sized k meta e =
-      over_length (is_first_listing metas (k, meta)) (account_in start meta.index) (account_in now meta.index) (take (entry_size start metas (k, meta)) (drop (entry_start start metas k) region)) (entry_size start metas (k, meta))
+      over_length (is_first_listing metas (k, meta)) (account_in start meta.index) (account_in now meta.index)
+          (take (entry_size start metas (k, meta)) (drop (entry_start start metas k) region))
+          (entry_size start metas (k, meta))
       (old_length k meta e) refl (λ first. not_grown k meta e first) (widths_now k meta e)
 
   -- a first listing has the account that was written over it
-  over_stands : (all tail : List ℕ) → all ≡ (take 8 region ++ flat_map over (enumerate_from 0 metas)) ++ tail → (k : ℕ) (meta : Meta) → slice_get metas k ≡ Some meta → is_first_listing metas (k, meta) ≡ true → Stands all (entry_start start metas k) (account_in now meta.index)
+  over_stands : (all tail : List ℕ) → all ≡ (take 8 region ++ flat_map over (enumerate_from 0 metas)) ++ tail
+      → (k : ℕ) (meta : Meta) → slice_get metas k ≡ Some meta → is_first_listing metas (k, meta) ≡ true
+      → Stands all (entry_start start metas k) (account_in now meta.index)
   over_stands all tail is k meta e first =
       let least : 8 ≤ length region = omega (arith, start_least start metas (length metas), whole) in
       let s : Split start metas over all k meta = split start metas over over_sized all (take 8 region) tail is (length-take-le 8 region least) k meta e in
@@ -333,7 +379,10 @@ module _ (start now : List Account) (metas : List Meta) (region : List ℕ) (cou
   over_taken all tail is = taken start now metas all (over_stands all tail is) (λ k meta e first. (not_grown k meta e first, (widths_now k meta e).is_short))
 
 -- what was patched in is taken back
-pub what_was_patched : (region after : List ℕ) (start now : List Account) (metas : List Meta) → length now ≡ length start → AreInRange (length start) metas → HaveWidths now → IsRegionOf start metas region → patched region start now metas ≡ Ok after → back after start now metas ≡ Ok now
+pub what_was_patched : (region after : List ℕ) (start now : List Account) (metas : List Meta)
+    → length now ≡ length start → AreInRange (length start) metas → HaveWidths now
+    → IsRegionOf start metas region → patched region start now metas ≡ Ok after
+    → back after start now metas ≡ Ok now
 unfolding patched
 what_was_patched region after start now metas count range have whole e = by_found (find (is_outgrown start now) (first_listings metas)) refl e
   where
@@ -343,7 +392,11 @@ what_was_patched region after start now metas count range have whole e = by_foun
     refused : (item : ℕ) (b : List ℕ) → (let r : Result (List ℕ) ℕ = Err item in r) ≡ Ok b → ⊥
     refused item b h = cc
 
-    by_found : (o : Option (ℕ × Meta)) → find (is_outgrown start now) (first_listings metas) ≡ o → unless_found o (take 8 region ++ flat_map (patched_entry region start now metas) (enumerate_from 0 metas) ++ drop (entry_start start metas (length metas)) region) ≡ Ok after → back after start now metas ≡ Ok now
+    by_found : (o : Option (ℕ × Meta)) → find (is_outgrown start now) (first_listings metas) ≡ o
+        → unless_found o (take 8 region
+        ++ flat_map (patched_entry region start now metas) (enumerate_from 0 metas)
+        ++ drop (entry_start start metas (length metas)) region) ≡ Ok after
+        → back after start now metas ≡ Ok now
     by_found None none is =
         over_taken start now metas region count range have whole (found_all (is_outgrown start now) metas ∙ none) after (drop (entry_start start metas (length metas)) region) (sym (same _ after is))
     by_found (Some item) found is = absurd (refused item.0 after is)

@@ -34,7 +34,9 @@ IsForeignKept-kept program writable before after kept foreign = record {
 pub AreForeignKept-refl : (programs : List Key) (accounts : List Account) → AreForeignKept programs accounts accounts
 AreForeignKept-refl programs accounts place was is there here foreign = IsForeignKept-same was is (same_Some was is (sym there ∙ here))
 
-pub AreForeignKept-trans : (programs : List Key) (first second third : List Account) → length second ≡ length first → AreForeignKept programs first second → AreForeignKept programs second third → AreForeignKept programs first third
+pub AreForeignKept-trans : (programs : List Key) (first second third : List Account)
+    → length second ≡ length first → AreForeignKept programs first second → AreForeignKept programs second third
+    → AreForeignKept programs first third
 AreForeignKept-trans programs first second third count one two place was is there here foreign =
     let below = slice_get_within first place was there in
     let middle : Account = get_or second place was in
@@ -46,7 +48,9 @@ AreForeignKept-trans programs first second third count one two place was is ther
     record { owner = b.owner ∙ a.owner; bytes = b.bytes ∙ a.bytes; lamports = omega (arith, low, high) }
 
 -- more programs may touch more
-pub AreForeignKept-fewer : (fewer more : List Key) (before after : List Account) → ((owner : Key) → has_key owner more ≡ false → has_key owner fewer ≡ false) → AreForeignKept fewer before after → AreForeignKept more before after
+pub AreForeignKept-fewer : (fewer more : List Key) (before after : List Account)
+    → ((owner : Key) → has_key owner more ≡ false → has_key owner fewer ≡ false)
+    → AreForeignKept fewer before after → AreForeignKept more before after
 AreForeignKept-fewer fewer more before after each kept place was is there here foreign = kept place was is there here (each was.owner foreign)
 
 -- ---- keys in lists

@@ -30,7 +30,9 @@ is_zero x none = grind (arith, nat_tests)
 
 -- ---- accounts
 no_byte : (list : List ℕ) → list_any (λ byte. not (nat_eq byte 0)) list ≡ false → All (λ byte. byte ≡ 0) list
-no_byte list none k d below = is_zero (get_or list k d) (false_from_ne_true (not (nat_eq (get_or list k d) 0)) (λ here. let found = list_any_at (λ byte. not (nat_eq byte 0)) list k d below here in cc))
+no_byte list none k d below = is_zero (get_or list k d)
+    (false_from_ne_true (not (nat_eq (get_or list k d) 0))
+    (λ here. let found = list_any_at (λ byte. not (nat_eq byte 0)) list k d below here in cc))
 
 flag_is : (s t : Bool) → (if s then t else not t) ≡ true → s ≡ t
 flag_is true t same = sym same
@@ -63,7 +65,9 @@ kept program writable before after n none =
       flag = flag_is before.executable after.executable (not-false (same_flag before after) two'.1);
       owner = elim (and_cases (not (same_key before.owner after.owner)) (not (owns program before) || has_byte after) three.0) [
         | inl same ↦ inl (same_key-true before.owner after.owner (not-false (same_key before.owner after.owner) same))
-        | inr given ↦ let parts = or_parts (not (owns program before)) (has_byte after) given in inr (same_key-true before.owner program (not-false (owns program before) parts.0), no_byte after.bytes parts.1)
+        | inr given ↦ let parts = or_parts (not (owns program before)) (has_byte after) given
+            in inr (same_key-true before.owner program (not-false (owns program before) parts.0), no_byte
+            after.bytes parts.1)
       ];
       lamports = elim (and_cases (nat_lt after.lamports before.lamports) (not (owns program before)) four.0) [
         | inl more ↦ inl (ltb-false after.lamports before.lamports more)
@@ -102,12 +106,16 @@ balanced before after none = eqb-true (lamports_in before) (lamports_in after) (
     no_item false none = refl
 
 -- what broken rules there are not
-pub none_broken : (program : Key) (changes : List Change) → first_of (broken_rules program changes) ≡ Ok tt → (filter_map (broken_by program) changes ≡ []) × (lamports_in (befores changes) ≡ lamports_in (afters changes))
+pub none_broken : (program : Key) (changes : List Change) → first_of (broken_rules program changes) ≡ Ok tt
+    → (filter_map (broken_by program) changes ≡ [])
+    × (lamports_in (befores changes) ≡ lamports_in (afters changes))
 none_broken program changes ok =
     let parts = empty_both (filter_map (broken_by program) changes) (if unbalanced (befores changes) (afters changes) then Unbalanced ∷ [] else []) (no_fault (broken_rules program changes) ok) in
     (parts.0, balanced (befores changes) (afters changes) parts.1)
 
-pub all_kept : (program : Key) (writable : List Bool) (before after : List Account) → length writable ≡ length before → length after ≡ length before → rules program writable before after ≡ Ok tt → AreKept program writable before after
+pub all_kept : (program : Key) (writable : List Bool) (before after : List Account)
+    → length writable ≡ length before → length after ≡ length before
+    → rules program writable before after ≡ Ok tt → AreKept program writable before after
 unfolding rules
 all_kept program writable before after flags count ok =
     let parts = none_broken program (changes writable before after) ok in

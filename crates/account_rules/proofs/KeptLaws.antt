@@ -50,18 +50,25 @@ AreKeptBy-weaker fewer more before after rights are = record {
 }
 
 -- ---- accounts of a frame that break no rule
-module _ (program : Key) (metas : List Meta) (before after : List Account) (count : length after ≡ length before) (range : AreInRange (length before) metas) (same : SameUnlessListed metas before after) (unbroken : listed_rules program metas before after ≡ Ok tt) where
+module _ (program : Key) (metas : List Meta) (before after : List Account)
+    (count : length after ≡ length before) (range : AreInRange (length before) metas)
+    (same : SameUnlessListed metas before after) (unbroken : listed_rules program metas before after ≡ Ok tt)
+    where
   IsKeptAt : ℕ → Type 0
   IsKeptAt place = IsKept program (is_listed_writable metas place) (get_or before place empty_account) (get_or after place empty_account)
 
-  parts : (filter_map (broken_by program) (listed_changes metas before after) ≡ []) × (lamports_in (befores (listed_changes metas before after)) ≡ lamports_in (afters (listed_changes metas before after)))
+  parts : (filter_map (broken_by program) (listed_changes metas before after) ≡ [])
+      × (lamports_in (befores (listed_changes metas before after))
+      ≡ lamports_in (afters (listed_changes metas before after)))
   unfolding listed_rules
   parts = none_broken program (listed_changes metas before after) unbroken
 
   no_fault : (n : ℕ) → n < length metas → fault_of program metas before after (n, get_or metas n no_meta) ≡ None
   no_fault n below =
       let within : n < length (listings metas) = omega (arith, length-listings metas) in
-      ap (fault_of program metas before after) (sym (listing_at metas n no_meta below)) ∙ none_at (fault_of program metas before after) (listings metas) (sym (faults_of program metas before after) ∙ parts.0) n (n, no_meta) within
+      ap (fault_of program metas before after) (sym (listing_at metas n no_meta below))
+          ∙ none_at (fault_of program metas before after) (listings metas)
+          (sym (faults_of program metas before after) ∙ parts.0) n (n, no_meta) within
 
   -- an account that the first n metas list is kept, so one that one more lists is
   kept_more : (n place : ℕ) → n < length metas → (is_listed (take n metas) place ≡ true → IsKeptAt place) → is_listed (take (n + 1) metas) place ≡ true → IsKeptAt place
@@ -71,12 +78,16 @@ module _ (program : Key) (metas : List Meta) (before after : List Account) (coun
       by_test : (t : Bool) → is_listed (take n metas) place ≡ t → IsKept program (is_listed_writable metas place) (get_or before place empty_account) (get_or after place empty_account)
       by_test true earlier = before_it earlier
       by_test false first =
-          let test : nat_eq (get_or metas n no_meta).index place ≡ true = ap (λ t. t || nat_eq (get_or metas n no_meta).index place) (sym first) ∙ sym (listed_more metas n no_meta place below) ∙ listed in
+          let test : nat_eq (get_or metas n no_meta).index place
+              ≡ true = ap (λ t. t || nat_eq (get_or metas n no_meta).index place) (sym first)
+              ∙ sym (listed_more metas n no_meta place below) ∙ listed in
           let here : (get_or metas n no_meta).index ≡ place = grind (arith, nat_tests) in
           let new : is_listed (take n metas) (get_or metas n no_meta).index ≡ false = ap (is_listed (take n metas)) here ∙ first in
           let none = sym (at_first program metas before after n (get_or metas n no_meta) new) ∙ no_fault n below in
           let P : ℕ → Type 0 = λ p. IsKept program (is_listed_writable metas p) (get_or before p empty_account) (get_or after p empty_account) in
-          subst P here (kept program (is_listed_writable metas (get_or metas n no_meta).index) (get_or before (get_or metas n no_meta).index empty_account) (get_or after (get_or metas n no_meta).index empty_account) n none)
+          subst P here (kept program (is_listed_writable metas (get_or metas n no_meta).index)
+              (get_or before (get_or metas n no_meta).index empty_account)
+              (get_or after (get_or metas n no_meta).index empty_account) n none)
 
   kept_by : (n place : ℕ) → n ≤ length metas → is_listed (take n metas) place ≡ true → IsKeptAt place
   kept_by zero place within listed = absurd (cc)
@@ -112,7 +123,9 @@ module _ (program : Key) (metas : List Meta) (before after : List Account) (coun
     where
       by_test : (t : Bool) → is_listed metas place ≡ t → slice_get before place ≡ Some account
       by_test true listed =
-          let flag : (get_or before place empty_account).executable ≡ true = (kept_at place listed).flag ∙ ap (λ (a : Account). a.executable) (get_or_from_slice_get after place account empty_account here) ∙ holds in
+          let flag : (get_or before place empty_account).executable ≡ true = (kept_at place listed).flag
+              ∙ ap (λ (a : Account). a.executable)
+              (get_or_from_slice_get after place account empty_account here) ∙ holds in
           sym (same_there place ((kept_at place listed).executable flag)) ∙ here
       by_test false other = sym (same place other) ∙ here
 
@@ -124,7 +137,10 @@ module _ (program : Key) (metas : List Meta) (before after : List Account) (coun
 
       by_test : (t : Bool) → is_listed metas place ≡ t → IsShort (get_or after place d)
       by_test true listed = subst (λ (a : Account). IsShort a) (sym (get_or_from_slice_get after place (get_or after place empty_account) d there)) (kept_at place listed).size
-      by_test false other = subst (λ (a : Account). IsShort a) (sym (same_Some (get_or after place d) (get_or before place d) (sym (slice_get-get_or after place d below) ∙ same place other ∙ slice_get-get_or before place d (omega arith)))) (short place d (omega arith))
+      by_test false other = subst (λ (a : Account). IsShort a)
+          (sym (same_Some (get_or after place d) (get_or before place d)
+          (sym (slice_get-get_or after place d below) ∙ same place other
+          ∙ slice_get-get_or before place d (omega arith)))) (short place d (omega arith))
 
   -- they keep what a frame keeps
   pub AreKeptBy-listed_rules : AreKeptBy (is_listed_writable metas) before after
@@ -151,7 +167,9 @@ module _ (program : Key) (metas : List Meta) (before after : List Account) (coun
 
       by_test : (t : Bool) → is_listed metas place ≡ t → IsForeignKept was is
       by_test true listed =
-          let one : IsKept program (is_listed_writable metas place) was (get_or after place empty_account) = subst (λ (a : Account). IsKept program (is_listed_writable metas place) a (get_or after place empty_account)) was_at (kept_at place listed) in
+          let one : IsKept program (is_listed_writable metas place) was (get_or after place empty_account) =
+              subst (λ (a : Account). IsKept program (is_listed_writable metas place) a
+              (get_or after place empty_account)) was_at (kept_at place listed) in
           let two : IsKept program (is_listed_writable metas place) was is = subst (IsKept program (is_listed_writable metas place) was) is_at one in
           IsForeignKept-kept program (is_listed_writable metas place) was is two foreign
       by_test false other = IsForeignKept-same was is (same_Some was is (sym there ∙ sym (same place other) ∙ here))

@@ -49,14 +49,29 @@ pub length-listings : (metas : List Meta) → length (listings metas) ≡ length
 length-listings metas = length-enumerate_from 0 metas
 
 module _ (program : Key) (metas : List Meta) (before after : List Account) where
-  pub goes_on : (n : ℕ) (d : Meta) → n < length metas → NoneBroken program metas before after n → fault_of program metas before after (n, get_or metas n d) ≡ None → NoneBroken program metas before after (n + 1)
-  goes_on n d below none here = nothing_more (fault_of program metas before after) (listings metas) n (n, d) (omega (arith, length-listings metas)) none (ap (fault_of program metas before after) (listing_at metas n d below) ∙ here)
+  pub goes_on : (n : ℕ) (d : Meta) → n < length metas → NoneBroken program metas before after n
+      → fault_of program metas before after (n, get_or metas n d) ≡ None
+      → NoneBroken program metas before after (n + 1)
+  goes_on n d below none here = nothing_more (fault_of program metas before after) (listings metas) n (n, d)
+      (omega (arith, length-listings metas)) none
+      (ap (fault_of program metas before after) (listing_at metas n d below) ∙ here)
 
-  pub stops : (n : ℕ) (d : Meta) (fault : RuleFault) → n < length metas → NoneBroken program metas before after n → fault_of program metas before after (n, get_or metas n d) ≡ Some fault → slice_get (listed_faults program metas before after) 0 ≡ Some fault
-  stops n d fault below none here = ap (λ (faults : List RuleFault). slice_get faults 0) (faults_of program metas before after ∙ first_found (fault_of program metas before after) (listings metas) n (n, d) fault (omega (arith, length-listings metas)) none (ap (fault_of program metas before after) (listing_at metas n d below) ∙ here))
+  pub stops : (n : ℕ) (d : Meta) (fault : RuleFault) → n < length metas
+      → NoneBroken program metas before after n
+      → fault_of program metas before after (n, get_or metas n d) ≡ Some fault
+      → slice_get (listed_faults program metas before after) 0 ≡ Some fault
+  stops n d fault below none here = ap (λ (faults : List RuleFault). slice_get faults 0)
+      (faults_of program metas before after
+      ∙ first_found (fault_of program metas before after) (listings metas) n (n, d) fault
+      (omega (arith, length-listings metas)) none
+      (ap (fault_of program metas before after) (listing_at metas n d below) ∙ here))
 
   pub ends : (n : ℕ) → n ≡ length metas → NoneBroken program metas before after n → slice_get (listed_faults program metas before after) 0 ≡ None
-  ends n over none = ap (λ (faults : List RuleFault). slice_get faults 0) (faults_of program metas before after ∙ ap (filter_map (fault_of program metas before after)) (sym (take-length (listings metas)) ∙ ap (λ m. take m (listings metas)) (length-listings metas ∙ sym over)) ∙ none)
+  ends n over none = ap (λ (faults : List RuleFault). slice_get faults 0)
+      (faults_of program metas before after
+      ∙ ap (filter_map (fault_of program metas before after))
+      (sym (take-length (listings metas))
+      ∙ ap (λ m. take m (listings metas)) (length-listings metas ∙ sym over)) ∙ none)
 
   -- a meta whose account was listed before says nothing
   pub again : (n : ℕ) (meta : Meta) → is_listed (take n metas) meta.index ≡ true → fault_of program metas before after (n, meta) ≡ None
@@ -68,7 +83,9 @@ module _ (program : Key) (metas : List Meta) (before after : List Account) where
 
 -- ---- the accounts of one meta
 -- an account behind the share at a place
-value_at : (shares : List (Arc Account Global)) (k : ℕ) (share : Arc Account Global) → k < length (accounts_of shares) → share ≡ get_or shares k share → slice_get (accounts_of shares) k ≡ Some (arc_value share)
+value_at : (shares : List (Arc Account Global)) (k : ℕ) (share : Arc Account Global)
+    → k < length (accounts_of shares) → share ≡ get_or shares k share
+    → slice_get (accounts_of shares) k ≡ Some (arc_value share)
 value_at shares k share below is =
     let value : Arc Account Global → Account = λ s. arc_value s in
     slice_get_read (accounts_of shares) (length (accounts_of shares)) k (arc_value share) refl below (sym (get_or-map value shares k share ∙ ap value (sym is)))
@@ -77,13 +94,27 @@ untouched : (t : Bool) → IsTrue (not t) → t ≡ false
 untouched true holds = absurd (cc)
 untouched false holds = refl
 
-pub same_at : (touched : List Bool) (before after : List (Arc Account Global)) → SameUnlessTouched touched (accounts_of before) (accounts_of after) → (k : ℕ) (b a : Arc Account Global) → k < length touched → k < length (accounts_of before) → k < length (accounts_of after) → b ≡ get_or before k b → a ≡ get_or after k a → IsTrue (not (get_or touched k false)) → arc_value a ≡ arc_value b
+pub same_at : (touched : List Bool) (before after : List (Arc Account Global))
+    → SameUnlessTouched touched (accounts_of before) (accounts_of after) → (k : ℕ) (b a : Arc Account Global)
+    → k < length touched → k < length (accounts_of before) → k < length (accounts_of after)
+    → b ≡ get_or before k b → a ≡ get_or after k a → IsTrue (not (get_or touched k false))
+    → arc_value a ≡ arc_value b
 same_at touched before after same k b a marked below_b below_a is_b is_a clear =
     let flag : slice_get touched k ≡ Some false = slice_get-get_or touched k false marked ∙ ap Some (untouched (get_or touched k false) clear) in
     same_Some (arc_value a) (arc_value b) (sym (value_at after k a below_a is_a) ∙ same k flag ∙ value_at before k b below_b is_b)
 
-pub rule_at : (program : Key) (metas : List Meta) (before after : List (Arc Account Global)) (n : ℕ) (meta : Meta) (writable : Bool) (b a : Arc Account Global) (x y : Account) → meta.index < length (accounts_of before) → meta.index < length (accounts_of after) → is_listed_writable metas meta.index ≡ writable → b ≡ get_or before meta.index b → a ≡ get_or after meta.index a → x ≡ arc_value b → y ≡ arc_value a → broken_by program (listed_change metas (accounts_of before) (accounts_of after) (n, meta)) ≡ broken_rule program writable x y n
+pub rule_at : (program : Key) (metas : List Meta) (before after : List (Arc Account Global)) (n : ℕ)
+    (meta : Meta) (writable : Bool) (b a : Arc Account Global) (x y : Account)
+    → meta.index < length (accounts_of before) → meta.index < length (accounts_of after)
+    → is_listed_writable metas meta.index ≡ writable → b ≡ get_or before meta.index b
+    → a ≡ get_or after meta.index a → x ≡ arc_value b → y ≡ arc_value a
+    → broken_by program (listed_change metas (accounts_of before) (accounts_of after) (n, meta))
+    ≡ broken_rule program writable x y n
 rule_at program metas before after n meta writable b a x y below_b below_a flag is_b is_a is_x is_y =
-    let first : get_or (accounts_of before) meta.index empty_account ≡ x = get_or_from_slice_get (accounts_of before) meta.index (arc_value b) empty_account (value_at before meta.index b below_b is_b) ∙ sym is_x in
-    let second : get_or (accounts_of after) meta.index empty_account ≡ y = get_or_from_slice_get (accounts_of after) meta.index (arc_value a) empty_account (value_at after meta.index a below_a is_a) ∙ sym is_y in
+    let first : get_or (accounts_of before) meta.index empty_account
+        ≡ x = get_or_from_slice_get (accounts_of before) meta.index (arc_value b) empty_account
+        (value_at before meta.index b below_b is_b) ∙ sym is_x in
+    let second : get_or (accounts_of after) meta.index empty_account
+        ≡ y = get_or_from_slice_get (accounts_of after) meta.index (arc_value a) empty_account
+        (value_at after meta.index a below_a is_a) ∙ sym is_y in
     λ i. broken_rule program (flag i) (first i) (second i) n

@@ -31,21 +31,30 @@ rest-none [] = refl
 rest-none (account ∷ accounts) = ap (λ n. account.lamports + n) (rest-none accounts) ∙ sym (sum_by-cons (λ (one : Account). one.lamports) account accounts)
 
 -- one place more is named
-rest-one : (p q : ℕ → Bool) (at : ℕ) (accounts : List Account) (d : Account) → at < length accounts → p at ≡ false → q at ≡ true → ((place : ℕ) → place ≢ at → q place ≡ p place) → rest p accounts ≡ (get_or accounts at d).lamports + rest q accounts
+rest-one : (p q : ℕ → Bool) (at : ℕ) (accounts : List Account) (d : Account) → at < length accounts
+    → p at ≡ false → q at ≡ true → ((place : ℕ) → place ≢ at → q place ≡ p place)
+    → rest p accounts ≡ (get_or accounts at d).lamports + rest q accounts
 unfolding rest
 rest-one p q at [] d below was now others = absurd (omega arith)
 rest-one p q zero (account ∷ accounts) d below was now others =
-    let tails : rest (λ place. p (suc place)) accounts ≡ rest (λ place. q (suc place)) accounts = rest-same (λ place. p (suc place)) (λ place. q (suc place)) accounts (λ place. sym (others (suc place) (omega arith))) in
+    let tails : rest (λ place. p (suc place)) accounts
+        ≡ rest (λ place. q (suc place)) accounts = rest-same (λ place. p (suc place)) (λ place. q (suc place))
+        accounts (λ place. sym (others (suc place) (omega arith))) in
     let first : (if p 0 then 0 else account.lamports) ≡ account.lamports = ap (λ t. if t then 0 else account.lamports) was in
     let second : (if q 0 then 0 else account.lamports) ≡ 0 = ap (λ t. if t then 0 else account.lamports) now in
     omega arith
 rest-one p q (suc at) (account ∷ accounts) d below was now others =
-    let tails : rest (λ place. p (suc place)) accounts ≡ (get_or accounts at d).lamports + rest (λ place. q (suc place)) accounts = rest-one (λ place. p (suc place)) (λ place. q (suc place)) at accounts d (omega arith) was now (λ place differ. others (suc place) (omega arith)) in
+    let tails : rest (λ place. p (suc place)) accounts
+        ≡ (get_or accounts at d).lamports + rest (λ place. q (suc place)) accounts = rest-one
+        (λ place. p (suc place)) (λ place. q (suc place)) at accounts d (omega arith) was now
+        (λ place differ. others (suc place) (omega arith)) in
     let heads : (if q 0 then 0 else account.lamports) ≡ (if p 0 then 0 else account.lamports) = ap (λ t. if t then 0 else account.lamports) (others 0 (omega arith)) in
     omega arith
 
 -- accounts that are the same at the other places
-rest-kept : (p : ℕ → Bool) (before after : List Account) → length after ≡ length before → ((place : ℕ) → p place ≡ false → slice_get after place ≡ slice_get before place) → rest p after ≡ rest p before
+rest-kept : (p : ℕ → Bool) (before after : List Account) → length after ≡ length before
+    → ((place : ℕ) → p place ≡ false → slice_get after place ≡ slice_get before place)
+    → rest p after ≡ rest p before
 unfolding rest
 rest-kept p [] [] count same = refl
 rest-kept p [] (a ∷ after) count same = absurd (omega arith)
@@ -71,15 +80,23 @@ listed_in metas accounts n = sum_by (lamports_at accounts) (filter (is_first_lis
 abbrev picked : List Meta → ℕ × Meta → List (ℕ × Meta)
 picked metas listing = if is_first_listing metas listing then listing ∷ [] else []
 
-listed_in-more : (metas : List Meta) (accounts : List Account) (n : ℕ) → n < length metas → listed_in metas accounts (n + 1) ≡ listed_in metas accounts n + sum_by (lamports_at accounts) (picked metas (n, get_or metas n no_meta))
+listed_in-more : (metas : List Meta) (accounts : List Account) (n : ℕ) → n < length metas
+    → listed_in metas accounts (n + 1)
+    ≡ listed_in metas accounts n + sum_by (lamports_at accounts) (picked metas (n, get_or metas n no_meta))
 listed_in-more metas accounts n below =
     let within : n < length (listings metas) = omega (arith, length-listings metas) in
     let split = filter_more (is_first_listing metas) (listings metas) n (n, no_meta) within in
     let entry : get_or (listings metas) n (n, no_meta) ≡ (n, get_or metas n no_meta) = listing_at metas n no_meta below in
-    ap (sum_by (lamports_at accounts)) (split ∙ ap (λ (l : ℕ × Meta). filter (is_first_listing metas) (take n (listings metas)) ++ picked metas l) entry) ∙ sum_by-append (lamports_at accounts) (filter (is_first_listing metas) (take n (listings metas))) (picked metas (n, get_or metas n no_meta))
+    ap (sum_by (lamports_at accounts))
+        (split ∙ ap (λ (l : ℕ × Meta). filter (is_first_listing metas) (take n (listings metas))
+        ++ picked metas l) entry) ∙ sum_by-append (lamports_at accounts)
+        (filter (is_first_listing metas) (take n (listings metas))) (picked metas (n, get_or metas n no_meta))
 
 -- they are parted from the lamports of the others
-parted_more : (metas : List Meta) (accounts : List Account) (n : ℕ) → n < length metas → AreInRange (length accounts) metas → listed_in metas accounts n + rest (is_listed (take n metas)) accounts ≡ lamports_in accounts → listed_in metas accounts (n + 1) + rest (is_listed (take (n + 1) metas)) accounts ≡ lamports_in accounts
+parted_more : (metas : List Meta) (accounts : List Account) (n : ℕ) → n < length metas
+    → AreInRange (length accounts) metas
+    → listed_in metas accounts n + rest (is_listed (take n metas)) accounts ≡ lamports_in accounts
+    → listed_in metas accounts (n + 1) + rest (is_listed (take (n + 1) metas)) accounts ≡ lamports_in accounts
 parted_more metas accounts n below range so_far = by_test (is_listed (take n metas) (get_or metas n no_meta).index) refl
   where
     one_more : listed_in metas accounts (n + 1) ≡ listed_in metas accounts n + sum_by (lamports_at accounts) (picked metas (n, get_or metas n no_meta))
@@ -87,15 +104,31 @@ parted_more metas accounts n below range so_far = by_test (is_listed (take n met
 
     by_test : (t : Bool) → is_listed (take n metas) (get_or metas n no_meta).index ≡ t → listed_in metas accounts (n + 1) + rest (is_listed (take (n + 1) metas)) accounts ≡ lamports_in accounts
     by_test true again =
-        let none : sum_by (lamports_at accounts) (picked metas (n, get_or metas n no_meta)) ≡ 0 = ap (λ (t : Bool). sum_by (lamports_at accounts) (if not t then (n, get_or metas n no_meta) ∷ [] else [])) again in
-        let same : rest (is_listed (take (n + 1) metas)) accounts ≡ rest (is_listed (take n metas)) accounts = rest-same (is_listed (take (n + 1) metas)) (is_listed (take n metas)) accounts (λ place. listed_again metas n no_meta place below again) in
+        let none : sum_by (lamports_at accounts) (picked metas (n, get_or metas n no_meta))
+            ≡ 0 = ap (λ (t : Bool). sum_by (lamports_at accounts)
+            (if not t then (n, get_or metas n no_meta) ∷ [] else [])) again in
+        let same : rest (is_listed (take (n + 1) metas)) accounts
+            ≡ rest (is_listed (take n metas)) accounts = rest-same (is_listed (take (n + 1) metas))
+            (is_listed (take n metas)) accounts (λ place. listed_again metas n no_meta place below again) in
         omega (arith, one_more, so_far)
     by_test false first =
-        let one : sum_by (lamports_at accounts) (picked metas (n, get_or metas n no_meta)) ≡ (get_or accounts (get_or metas n no_meta).index empty_account).lamports = ap (λ (t : Bool). sum_by (lamports_at accounts) (if not t then (n, get_or metas n no_meta) ∷ [] else [])) first ∙ sum_by-cons (lamports_at accounts) (n, get_or metas n no_meta) [] ∙ add-zero ((get_or accounts (get_or metas n no_meta).index empty_account).lamports) in
-        let less : rest (is_listed (take n metas)) accounts ≡ (get_or accounts (get_or metas n no_meta).index empty_account).lamports + rest (is_listed (take (n + 1) metas)) accounts = rest-one (is_listed (take n metas)) (is_listed (take (n + 1) metas)) (get_or metas n no_meta).index accounts empty_account (range n no_meta below) first (listed_here metas n no_meta below) (λ place differ. listed_else metas n no_meta place below differ) in
+        let one : sum_by (lamports_at accounts) (picked metas (n, get_or metas n no_meta))
+            ≡ (get_or accounts (get_or metas n no_meta).index empty_account).lamports = ap
+            (λ (t : Bool). sum_by (lamports_at accounts)
+            (if not t then (n, get_or metas n no_meta) ∷ [] else [])) first
+            ∙ sum_by-cons (lamports_at accounts) (n, get_or metas n no_meta) []
+            ∙ add-zero ((get_or accounts (get_or metas n no_meta).index empty_account).lamports) in
+        let less : rest (is_listed (take n metas)) accounts
+            ≡ (get_or accounts (get_or metas n no_meta).index empty_account).lamports + rest
+            (is_listed (take (n + 1) metas)) accounts = rest-one (is_listed (take n metas))
+            (is_listed (take (n + 1) metas)) (get_or metas n no_meta).index accounts empty_account
+            (range n no_meta below) first (listed_here metas n no_meta below)
+            (λ place differ. listed_else metas n no_meta place below differ) in
         omega (arith, one_more, so_far)
 
-parted : (metas : List Meta) (accounts : List Account) (n : ℕ) → n ≤ length metas → AreInRange (length accounts) metas → listed_in metas accounts n + rest (is_listed (take n metas)) accounts ≡ lamports_in accounts
+parted : (metas : List Meta) (accounts : List Account) (n : ℕ) → n ≤ length metas
+    → AreInRange (length accounts) metas
+    → listed_in metas accounts n + rest (is_listed (take n metas)) accounts ≡ lamports_in accounts
 parted metas accounts zero within range = zero-add (rest (λ place. false) accounts) ∙ rest-none accounts
 parted metas accounts (suc n) within range = rw (← add-one n) (parted_more metas accounts n (omega arith) range (parted metas accounts n (omega arith) range))
 
@@ -124,11 +157,18 @@ module _ (metas : List Meta) (before after : List Account) (count : length after
       ∙ ap (λ (ls : List (ℕ × Meta)). sum_by (lamports_at after) (filter (is_first_listing metas) ls)) (sym all_listings)
 
   -- the listed accounts have one sum before and after, exactly where all have
-  pub one_sum : (others : ℕ) × ((lamports_in (befores (listed_changes metas before after)) + others ≡ lamports_in before) × (lamports_in (afters (listed_changes metas before after)) + others ≡ lamports_in after))
+  pub one_sum : (others : ℕ) ×
+      ((lamports_in (befores (listed_changes metas before after)) + others ≡ lamports_in before)
+      × (lamports_in (afters (listed_changes metas before after)) + others ≡ lamports_in after))
   one_sum =
       let others : ℕ = rest (is_listed metas) before in
-      let before_is : listed_in metas before (length metas) + rest (is_listed metas) before ≡ lamports_in before = ap (λ (ms : List Meta). listed_in metas before (length metas) + rest (is_listed ms) before) (sym all_metas) ∙ parted metas before (length metas) (omega arith) range in
-      let after_is : listed_in metas after (length metas) + rest (is_listed metas) after ≡ lamports_in after = ap (λ (ms : List Meta). listed_in metas after (length metas) + rest (is_listed ms) after) (sym all_metas) ∙ parted metas after (length metas) (omega arith) (rw count range) in
+      let before_is : listed_in metas before (length metas) + rest (is_listed metas) before
+          ≡ lamports_in before = ap (λ (ms : List Meta). listed_in metas before (length metas) + rest
+          (is_listed ms) before) (sym all_metas) ∙ parted metas before (length metas) (omega arith) range in
+      let after_is : listed_in metas after (length metas) + rest (is_listed metas) after
+          ≡ lamports_in after = ap (λ (ms : List Meta). listed_in metas after (length metas) + rest
+          (is_listed ms) after) (sym all_metas)
+          ∙ parted metas after (length metas) (omega arith) (rw count range) in
       let kept : rest (is_listed metas) after ≡ rest (is_listed metas) before = rest-kept (is_listed metas) before after count same in
       (rest (is_listed metas) before, (omega (arith, befores_sum), omega (arith, afters_sum)))
 
@@ -147,23 +187,36 @@ goes_past : (faults more : List RuleFault) → slice_get faults 0 ≡ None → f
 goes_past [] more is = refl
 goes_past (first ∷ faults) more is = absurd (cc)
 
-pub rules_stop : (program : Key) (metas : List Meta) (before after : List Account) (fault : RuleFault) → slice_get (listed_faults program metas before after) 0 ≡ Some fault → listed_rules program metas before after ≡ Err fault
+pub rules_stop : (program : Key) (metas : List Meta) (before after : List Account) (fault : RuleFault)
+    → slice_get (listed_faults program metas before after) 0 ≡ Some fault
+    → listed_rules program metas before after ≡ Err fault
 unfolding listed_rules
-rules_stop program metas before after fault is = stops_at_first (listed_faults program metas before after) (if unbalanced (befores (listed_changes metas before after)) (afters (listed_changes metas before after)) then Unbalanced ∷ [] else []) fault is
+rules_stop program metas before after fault is = stops_at_first (listed_faults program metas before after)
+    (if unbalanced (befores (listed_changes metas before after)) (afters (listed_changes metas before after))
+    then Unbalanced ∷ [] else []) fault is
 
-rules_go_on : (program : Key) (metas : List Meta) (before after : List Account) (t : Bool) → length after ≡ length before → AreInRange (length before) metas → SameUnlessListed metas before after → slice_get (listed_faults program metas before after) 0 ≡ None → unbalanced before after ≡ t → listed_rules program metas before after ≡ first_of (if t then Unbalanced ∷ [] else [])
+rules_go_on : (program : Key) (metas : List Meta) (before after : List Account) (t : Bool)
+    → length after ≡ length before → AreInRange (length before) metas → SameUnlessListed metas before after
+    → slice_get (listed_faults program metas before after) 0 ≡ None → unbalanced before after ≡ t
+    → listed_rules program metas before after ≡ first_of (if t then Unbalanced ∷ [] else [])
 unfolding listed_rules
 rules_go_on program metas before after t count range same is sums =
     goes_past (listed_faults program metas before after) (if unbalanced (befores (listed_changes metas before after)) (afters (listed_changes metas before after)) then Unbalanced ∷ [] else []) is
     ∙ ap (λ u. first_of (if u then Unbalanced ∷ [] else [])) (same_balance metas before after count range same ∙ sums)
 
-pub rules_unbalanced : (program : Key) (metas : List Meta) (before after : List Account) → length after ≡ length before → AreInRange (length before) metas → SameUnlessListed metas before after → slice_get (listed_faults program metas before after) 0 ≡ None → lamports_in before ≢ lamports_in after → listed_rules program metas before after ≡ Err Unbalanced
+pub rules_unbalanced : (program : Key) (metas : List Meta) (before after : List Account)
+    → length after ≡ length before → AreInRange (length before) metas → SameUnlessListed metas before after
+    → slice_get (listed_faults program metas before after) 0 ≡ None → lamports_in before ≢ lamports_in after
+    → listed_rules program metas before after ≡ Err Unbalanced
 rules_unbalanced program metas before after count range same is differ = rules_go_on program metas before after true count range same is (test (lamports_in before) (lamports_in after) differ)
   where
     test : (x y : ℕ) → x ≢ y → not (nat_eq x y) ≡ true
     test x y differ = grind (arith, nat_tests)
 
-pub rules_kept : (program : Key) (metas : List Meta) (before after : List Account) → length after ≡ length before → AreInRange (length before) metas → SameUnlessListed metas before after → slice_get (listed_faults program metas before after) 0 ≡ None → lamports_in before ≡ lamports_in after → listed_rules program metas before after ≡ Ok tt
+pub rules_kept : (program : Key) (metas : List Meta) (before after : List Account)
+    → length after ≡ length before → AreInRange (length before) metas → SameUnlessListed metas before after
+    → slice_get (listed_faults program metas before after) 0 ≡ None → lamports_in before ≡ lamports_in after
+    → listed_rules program metas before after ≡ Ok tt
 rules_kept program metas before after count range same is equal = rules_go_on program metas before after false count range same is (test (lamports_in before) (lamports_in after) equal)
   where
     test : (x y : ℕ) → x ≡ y → not (nat_eq x y) ≡ false

@@ -50,7 +50,10 @@ module _ {K X : Type 0} (R : K → K → Ordering) where
   -- the same insertion under two names
   pub put-insert_entry : (k : K) (v : X) (es : List (K × X)) → put R k v es ≡ insert_entry R es k v
   put-insert_entry k v [] = refl
-  put-insert_entry k v (e ∷ es) = ap (λ (l : List (K × X)). by_order (R k e.0) ((k, v) ∷ e ∷ es) ((e.0, v) ∷ es) (e ∷ l)) (put-insert_entry k v es) ∙ same_step (R k e.0) ((k, v) ∷ e ∷ es) ((e.0, v) ∷ es) (e ∷ insert_entry R es k v)
+  put-insert_entry k v (e ∷ es) = ap
+      (λ (l : List (K × X)). by_order (R k e.0) ((k, v) ∷ e ∷ es) ((e.0, v) ∷ es) (e ∷ l))
+      (put-insert_entry k v es)
+      ∙ same_step (R k e.0) ((k, v) ∷ e ∷ es) ((e.0, v) ∷ es) (e ∷ insert_entry R es k v)
 
   below : (k : K) (es : List (K × X)) → AllByRecursion (λ (y : K). R k y ≡ Less) (keys_of es) → T (below_all R k es)
   below k [] h = tt
@@ -84,7 +87,8 @@ sum_by-values f [] = refl
 sum_by-values {K = K} {X = X} f (e ∷ es) = sum_by-cons (λ (d : K × X). f d.1) e es ∙ ap (λ n. f e.1 + n) (sum_by-values f es) ∙ sym (sum_by-cons f e.1 (values_of es))
 
 -- what holds of each value holds after one is put in
-pub all-insert_entry : {K X : Type 0} (R : K → K → Ordering) (P : X → Type 0) (es : List (K × X)) (k : K) (v : X) → AllByRecursion (λ e. P e.1) es → P v → AllByRecursion (λ e. P e.1) (insert_entry R es k v)
+pub all-insert_entry : {K X : Type 0} (R : K → K → Ordering) (P : X → Type 0) (es : List (K × X)) (k : K)
+    (v : X) → AllByRecursion (λ e. P e.1) es → P v → AllByRecursion (λ e. P e.1) (insert_entry R es k v)
 all-insert_entry R P [] k v all here = (here, tt)
 all-insert_entry R P (e ∷ es) k v all here = elim (R k e.0) as (λ o. AllByRecursion (λ d. P d.1) (match_ordering o ((k, v) ∷ e ∷ es) ((e.0, v) ∷ es) (e ∷ insert_entry R es k v))) [
   | Less ↦ (here, all)
@@ -128,7 +132,10 @@ module _ {K X : Type 0} {R : K → K → Ordering} (o : IsTotalOrder R) where
   pub sorted-remove_entry : (test : K → Bool) (es : List (K × X)) → IsStrictlySortedBy R (keys_of es) → IsStrictlySortedBy R (keys_of (remove_entry test es))
   unfolding IsStrictlySortedBy
   sorted-remove_entry test [] h = tt
-  sorted-remove_entry test (e ∷ es) h = elim (test e.0) as (λ b. IsStrictlySortedBy R (keys_of (cond b es (e ∷ remove_entry test es)))) [ true ↦ h.1 | false ↦ (still_all (λ (y : K). R e.0 y ≡ Less) test es h.0, sorted-remove_entry test es h.1) ]
+  sorted-remove_entry test (e ∷ es) h = elim (test e.0) as
+      (λ b. IsStrictlySortedBy R (keys_of (cond b es (e ∷ remove_entry test es))))
+      [ true ↦ h.1 | false ↦ (still_all (λ (y : K). R e.0 y ≡ Less) test es h.0, sorted-remove_entry test es
+      h.1) ]
 
   -- the entries of a map without a key
   pub entries-remove_entry : IsAntisymmetric R → (m : FinMap R X) (k : K) → entries (remove m k) ≡ remove_entry (is_at (R k)) (entries m)

@@ -62,12 +62,16 @@ not_before ks n d below distinct =
     ap (λ x. same_key (get_or ks n d) x) (get_or-take n ks k e long) ∙ same_key-sym (get_or ks n d) (get_or ks k e)
     ∙ ap (λ x. same_key (get_or ks k e) x) (get_or_default ks n d e below) ∙ apart_from_distinct same_key ks k n e distinct long below)
 
-pub removed_next : (start now next : State) (keys : List Key) (n : ℕ) (d : Key) (taken more : List (Option Shared)) (o : Option Shared) → n < length keys → has_key (get_or keys n d) (take n keys) ≡ false → RemovedSoFar start now (take n keys) taken
+pub removed_next : (start now next : State) (keys : List Key) (n : ℕ) (d : Key)
+    (taken more : List (Option Shared)) (o : Option Shared) → n < length keys
+    → has_key (get_or keys n d) (take n keys) ≡ false → RemovedSoFar start now (take n keys) taken
     → option_map arc_value o ≡ get now (get_or keys n d) → next ≡ remove now (get_or keys n d) → more ≡ taken ++ o ∷ [] → RemovedSoFar start next (take (n + 1) keys) more
 removed_next start now next keys n d taken more o below apart R found removed pushed = record {
   found =
       ap (map (option_map arc_value)) pushed ∙ map-append (option_map arc_value) taken (o ∷ [])
-      ∙ ap₂ (λ (os : List (Option Account)) (x : Option Account). os ++ x ∷ []) R.found (found ∙ ap (λ s. get s k) R.rest ∙ get-without start (take n keys) k ∙ ap (λ b. cond (not b) (get start k) None) apart)
+      ∙ ap₂ (λ (os : List (Option Account)) (x : Option Account). os ++ x ∷ []) R.found
+          (found ∙ ap (λ s. get s k) R.rest ∙ get-without start (take n keys) k
+          ∙ ap (λ b. cond (not b) (get start k) None) apart)
       ∙ sym (map_more (get start) keys n d below);
   rest = removed ∙ ap (λ s. remove s k) R.rest ∙ without-more start (take n keys) k ∙ ap (without start) (sym (take_more keys n d below));
 }
@@ -106,8 +110,12 @@ joined es fs xs tree more after is up distinct made moved end =
     same_state _ _ (λ q.
     get-state_seen fs q ∙ ap (λ l. option_map arc_value (lookup (is_at (key_cmp q)) l)) (sym end)
     ∙ ap (option_map arc_value) (
-    moved.0 q ∙ update_all_distinct (eq_by_cmp_equiv key_cmp_total) (eq_by_cmp key_cmp) (λ x y. refl) (λ k. lookup (is_at (key_cmp k)) tree.entries) more.entries q (IsDistinct-from_sorted key_cmp (keys_of more.entries) made.1)
-    ∙ ap₂ (λ o p. option_or o p) (made.0 q ∙ update_all_none (eq_by_cmp_equiv key_cmp_total) (eq_by_cmp key_cmp) (λ x y. refl) xs q (distinct_by (keys_of xs) distinct)) (ap (λ l. lookup (is_at (key_cmp q)) l) is)
+    moved.0 q ∙ update_all_distinct (eq_by_cmp_equiv key_cmp_total) (eq_by_cmp key_cmp) (λ x y. refl)
+        (λ k. lookup (is_at (key_cmp k)) tree.entries) more.entries q
+        (IsDistinct-from_sorted key_cmp (keys_of more.entries) made.1)
+    ∙ ap₂ (λ o p. option_or o p)
+        (made.0 q ∙ update_all_none (eq_by_cmp_equiv key_cmp_total) (eq_by_cmp key_cmp) (λ x y. refl) xs q
+        (distinct_by (keys_of xs) distinct)) (ap (λ l. lookup (is_at (key_cmp q)) l) is)
     ∙ sym (lookup-append (is_at (key_cmp q)) xs es))
     ∙ sym (get-state_seen (xs ++ es) q))
     ∙ sym (with_entries-seen xs es up)
@@ -125,10 +133,14 @@ pub record ArePut (s : State) (ys : List (Key × Account)) : Type 0 where
 
 still_absent : (s : State) (y : Key × Account) (ys : List (Key × Account)) → ArePut s (y ∷ ys) → at (with_entries s ys) y.0 ≡ empty_account
 still_absent s y ys P =
-    let found : get (with_entries s ys) y.0 ≡ None = get-from_entries key_cmp_total (ys ++ entries s) y.0 ∙ find-apart y.0 ys (entries s) (IsDistinct-head same_key y.0 (keys_of ys) P.distinct) (sym (get-entries s y.0) ∙ P.absent.0) in
+    let found : get (with_entries s ys) y.0 ≡ None = get-from_entries key_cmp_total (ys ++ entries s) y.0
+        ∙ find-apart y.0 ys (entries s) (IsDistinct-head same_key y.0 (keys_of ys) P.distinct)
+        (sym (get-entries s y.0) ∙ P.absent.0) in
     rw found refl
 
-pub sum-with : (s : State) (ys : List (Key × Account)) → IsState s → ArePut s ys → sum s + lamports_of ys ≤ 2 ^ 64 - 1 → IsState (with_entries s ys) × (sum (with_entries s ys) ≡ sum s + lamports_of ys)
+pub sum-with : (s : State) (ys : List (Key × Account)) → IsState s → ArePut s ys
+    → sum s + lamports_of ys ≤ 2 ^ 64 - 1
+    → IsState (with_entries s ys) × (sum (with_entries s ys) ≡ sum s + lamports_of ys)
 sum-with s [] is P fits = (subst IsState (sym same) is, ap sum same ∙ omega arith)
   where
     same : with_entries s [] ≡ s
@@ -183,7 +195,9 @@ pub record IsJoined (fs : Entries) (s : State) (xs : Entries) (n : ℕ) : Type 0
   pub accounts : state_seen fs ≡ with_entries s (seen xs)
   pub kept : IsKept fs n
 
-pub joined_all : (tree more after : BTreeMap Key Shared) (xs : Entries) (s : State) (total n : ℕ) → IsKept tree.entries total → state_seen tree.entries ≡ s → ArePut s (seen xs) → sum s + weight xs ≤ 2 ^ 64 - 1 → IsDistinct same_key (keys_of xs)
+pub joined_all : (tree more after : BTreeMap Key Shared) (xs : Entries) (s : State) (total n : ℕ)
+    → IsKept tree.entries total → state_seen tree.entries ≡ s → ArePut s (seen xs)
+    → sum s + weight xs ≤ 2 ^ 64 - 1 → IsDistinct same_key (keys_of xs)
     → IsFromIterResult key_cmp xs more → InsertsAll key_cmp tree more.entries after → n ≡ total + weight xs → IsJoined after.entries s xs n
 joined_all tree more after xs s total n is same put fits distinct made moved counted =
     let joins = joined tree.entries after.entries xs tree more after refl is.ascends distinct made moved refl in

@@ -27,12 +27,18 @@ entries_after-none [] = refl
 entries_after-none (e ∷ es) = ap (λ (l : List (Key × Account)). e ∷ l) (entries_after-none es)
 
 -- what a step of an iterator over shared accounts shows
-pub next-shown : (r : Option (Bor Key × Bor Shared)) (es rest : List (Key × Shared)) → MatchOption r ((es ≡ []) × (rest ≡ [])) (λ x. es ≡ (x.0.now, x.1.now) ∷ rest) → option_map (λ (e : Bor Key × Bor Shared). let d : Key × Account = (e.0.now, arc_value e.1.now) in d) r ≡ slice_get (seen es) 0
+pub next-shown : (r : Option (Bor Key × Bor Shared)) (es rest : List (Key × Shared))
+    → MatchOption r ((es ≡ []) × (rest ≡ [])) (λ x. es ≡ (x.0.now, x.1.now) ∷ rest)
+    → option_map (λ (e : Bor Key × Bor Shared). let d : Key × Account = (e.0.now, arc_value e.1.now) in d) r
+    ≡ slice_get (seen es) 0
 next-shown None es rest h = ap (λ (l : List (Key × Shared)). slice_get (seen l) 0) (sym h.0)
 next-shown (Some x) es rest h = ap (λ (l : List (Key × Shared)). slice_get (seen l) 0) (sym h)
 
 -- what the first entry of a map shows
-pub first-shown : (r : Option (Bor Key × Bor Shared)) (es : List (Key × Shared)) → (IsSome r ↔ (0 < length es)) → IfSome r (λ p. slice_get es 0 ≡ Some (p.0.now, p.1.now)) → option_map (λ (e : Bor Key × Bor Shared). let d : Key × Account = (e.0.now, arc_value e.1.now) in d) r ≡ slice_get (seen es) 0
+pub first-shown : (r : Option (Bor Key × Bor Shared)) (es : List (Key × Shared)) → (IsSome r ↔ (0 < length es))
+    → IfSome r (λ p. slice_get es 0 ≡ Some (p.0.now, p.1.now))
+    → option_map (λ (e : Bor Key × Bor Shared). let d : Key × Account = (e.0.now, arc_value e.1.now) in d) r
+    ≡ slice_get (seen es) 0
 first-shown None [] some first = refl
 first-shown None (e ∷ es) some first = let no : false ≡ true = some.1 (omega arith) in absurd (cc)
 first-shown (Some x) [] some first = absurd (cc)
@@ -40,13 +46,18 @@ first-shown (Some x) (e ∷ es) some first = ap (option_map (λ (d : Key × Shar
 
 between : (k : Key) (es : List (Key × Shared)) → seen (entries_between key_cmp (Excluded k) Unbounded es) ≡ filter (λ e. is_above (Some k) e.0) (seen es)
 between k [] = refl
-between k (e ∷ es) = elim (is_lt (key_cmp k e.0)) as (λ b. seen (cond (b && true) (e ∷ entries_between key_cmp (Excluded k) Unbounded es) (entries_between key_cmp (Excluded k) Unbounded es)) ≡ cond b ((e.0, arc_value e.1) ∷ filter (λ d. is_above (Some k) d.0) (seen es)) (filter (λ d. is_above (Some k) d.0) (seen es))) [
+between k (e ∷ es) = elim (is_lt (key_cmp k e.0)) as
+    (λ b. seen (cond (b && true) (e ∷ entries_between key_cmp (Excluded k) Unbounded es)
+    (entries_between key_cmp (Excluded k) Unbounded es))
+    ≡ cond b ((e.0, arc_value e.1) ∷ filter (λ d. is_above (Some k) d.0) (seen es))
+    (filter (λ d. is_above (Some k) d.0) (seen es))) [
   | true ↦ ap (λ (l : List (Key × Account)). (e.0, arc_value e.1) ∷ l) (between k es)
   | false ↦ between k es
 ]
 
 -- the accounts of a map that stand above a key are those after it
-pub entries_between-seen : (es : List (Key × Shared)) (k : Key) → IsStrictlySortedBy key_cmp (keys_of es) → seen (entries_between key_cmp (Excluded k) Unbounded es) ≡ entries_after (state_seen es) (Some k)
+pub entries_between-seen : (es : List (Key × Shared)) (k : Key) → IsStrictlySortedBy key_cmp (keys_of es)
+    → seen (entries_between key_cmp (Excluded k) Unbounded es) ≡ entries_after (state_seen es) (Some k)
 entries_between-seen es k ascends = between k es ∙ ap (filter (λ (e : Key × Account). is_above (Some k) e.0)) (sym (entries-state_seen es ascends))
 
 pub all-seen : (es : List (Key × Shared)) → IsStrictlySortedBy key_cmp (keys_of es) → seen es ≡ entries_after (state_seen es) None
@@ -55,16 +66,22 @@ all-seen es ascends = sym (entries_after-none (seen es)) ∙ ap (filter (λ (e :
 -- keys that are all above a key
 keeps_all : (k : Key) (es : List (Key × Account)) → AllByRecursion (λ (q : Key). key_cmp k q ≡ Less) (keys_of es) → filter (λ e. is_above (Some k) e.0) es ≡ es
 keeps_all k [] h = refl
-keeps_all k (e ∷ es) h = ap (λ (o : Ordering). cond (is_lt o) (e ∷ filter (λ d. is_above (Some k) d.0) es) (filter (λ d. is_above (Some k) d.0) es)) h.0 ∙ ap (λ (l : List (Key × Account)). e ∷ l) (keeps_all k es h.1)
+keeps_all k (e ∷ es) h = ap (λ (o : Ordering). cond (is_lt o) (e ∷ filter (λ d. is_above (Some k) d.0) es)
+    (filter (λ d. is_above (Some k) d.0) es)) h.0
+    ∙ ap (λ (l : List (Key × Account)). e ∷ l) (keeps_all k es h.1)
 
 -- what is above a key that is above the given one is above that one too
 further : (given : Option Key) (k q : Key) → is_above given k ≡ true → key_cmp k q ≡ Less → is_above given q ≡ true
 further None k q above more = refl
 further (Some g) k q above more = ap is_lt (key_cmp_total.trans g k q (less (key_cmp g k) above) more)
 
-all_further : (given : Option Key) (k : Key) (es : List (Key × Account)) → is_above given k ≡ true → AllByRecursion (λ (q : Key). key_cmp k q ≡ Less) (keys_of es) → filter (λ e. is_above given e.0) es ≡ es
+all_further : (given : Option Key) (k : Key) (es : List (Key × Account)) → is_above given k ≡ true
+    → AllByRecursion (λ (q : Key). key_cmp k q ≡ Less) (keys_of es) → filter (λ e. is_above given e.0) es ≡ es
 all_further given k [] above h = refl
-all_further given k (e ∷ es) above h = ap (λ (b : Bool). cond b (e ∷ filter (λ d. is_above given d.0) es) (filter (λ d. is_above given d.0) es)) (further given k e.0 above h.0) ∙ ap (λ (l : List (Key × Account)). e ∷ l) (all_further given k es above h.1)
+all_further given k (e ∷ es) above h = ap
+    (λ (b : Bool). cond b (e ∷ filter (λ d. is_above given d.0) es) (filter (λ d. is_above given d.0) es))
+    (further given k e.0 above h.0)
+    ∙ ap (λ (l : List (Key × Account)). e ∷ l) (all_further given k es above h.1)
 
 pub not_itself : (k : Key) → is_above (Some k) k ≡ false
 not_itself k = ap is_lt (tied_itself key_cmp_total k)
@@ -72,7 +89,9 @@ not_itself k = ap is_lt (tied_itself key_cmp_total k)
 not_before : (k q : Key) → key_cmp q k ≡ Less → is_above (Some k) q ≡ false
 not_before k q below = ap is_lt (key_cmp_total.antisymm k q ∙ ap ordering_reverse below)
 
-first_kept : (P : Key → Type 0) (given : Option Key) (es : List (Key × Account)) (e : Key × Account) (rest : List (Key × Account)) → AllByRecursion P (keys_of es) → filter (λ d. is_above given d.0) es ≡ e ∷ rest → P e.0
+first_kept : (P : Key → Type 0) (given : Option Key) (es : List (Key × Account)) (e : Key × Account)
+    (rest : List (Key × Account)) → AllByRecursion P (keys_of es)
+    → filter (λ d. is_above given d.0) es ≡ e ∷ rest → P e.0
 first_kept P given [] e rest all h = absurd (cc)
 first_kept P given (d ∷ es) e rest all h = by_case (is_above given d.0) (λ g. first_kept P given es e rest all.1 g) h
   where
@@ -80,7 +99,9 @@ first_kept P given (d ∷ es) e rest all h = by_case (is_above given d.0) (λ g.
     by_case true later g = let same : d ≡ e = cc in subst (λ (x : Key × Account). P x.0) same all.0
     by_case false later g = later g
 
-goes_on : (given : Option Key) (es : List (Key × Account)) (e : Key × Account) (rest : List (Key × Account)) → IsStrictlySortedBy key_cmp (keys_of es) → filter (λ d. is_above given d.0) es ≡ e ∷ rest → filter (λ d. is_above (Some e.0) d.0) es ≡ rest
+goes_on : (given : Option Key) (es : List (Key × Account)) (e : Key × Account) (rest : List (Key × Account))
+    → IsStrictlySortedBy key_cmp (keys_of es) → filter (λ d. is_above given d.0) es ≡ e ∷ rest
+    → filter (λ d. is_above (Some e.0) d.0) es ≡ rest
 unfolding IsStrictlySortedBy
 goes_on given [] e rest ascends h = absurd (cc)
 goes_on given (d ∷ es) e rest ascends h = by_case (is_above given d.0) refl (λ g. goes_on given es e rest ascends.1 g) h
@@ -88,7 +109,10 @@ goes_on given (d ∷ es) e rest ascends h = by_case (is_above given d.0) refl (�
     Goal : Type 0
     Goal = filter (λ x. is_above (Some e.0) x.0) (d ∷ es) ≡ rest
 
-    by_case : (b : Bool) → is_above given d.0 ≡ b → (filter (λ x. is_above given x.0) es ≡ e ∷ rest → filter (λ x. is_above (Some e.0) x.0) es ≡ rest) → cond b (d ∷ filter (λ x. is_above given x.0) es) (filter (λ x. is_above given x.0) es) ≡ e ∷ rest → Goal
+    by_case : (b : Bool) → is_above given d.0 ≡ b
+        → (filter (λ x. is_above given x.0) es ≡ e ∷ rest → filter (λ x. is_above (Some e.0) x.0) es ≡ rest)
+        → cond b (d ∷ filter (λ x. is_above given x.0) es) (filter (λ x. is_above given x.0) es) ≡ e ∷ rest
+        → Goal
     by_case true is later g =
         let same : d ≡ e = cc in
         let tail : filter (λ x. is_above given x.0) es ≡ rest = cc in

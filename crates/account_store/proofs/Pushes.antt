@@ -52,37 +52,53 @@ pub length-of : (es : List (Key × Shared)) (s : State) → IsStrictlySortedBy k
 length-of es s ascends is = sym (length-seen es) ∙ ap length (entries-of es s ascends is)
 
 -- the keys before are below that of an entry with which nothing is wrong
-below-next : (es : List (Key × Shared)) (s : State) (e : Entry) → IsStrictlySortedBy key_cmp (keys_of es) → state_seen es ≡ s → entry_fault (entries s) e ≡ None → AllByRecursion (λ (q : Key). key_cmp q e.0 ≡ Less) (keys_of es)
+below-next : (es : List (Key × Shared)) (s : State) (e : Entry) → IsStrictlySortedBy key_cmp (keys_of es)
+    → state_seen es ≡ s → entry_fault (entries s) e ≡ None
+    → AllByRecursion (λ (q : Key). key_cmp q e.0 ≡ Less) (keys_of es)
 below-next es s e ascends is none =
     subst (AllByRecursion (λ (q : Key). key_cmp q e.0 ≡ Less)) (ap keys_of (sym (entries-of es s ascends is)) ∙ keys-seen es)
     (below_last (entries s) e.0 (sorted-entries key_cmp s) (IsFine-from_none (entries s) e none).above)
 
 -- an entry at the end of the list is one that is put into the map
-pub put-last : (es new : List (Key × Shared)) (s : State) (e : KeyedAccount) (v : Shared) → IsStrictlySortedBy key_cmp (keys_of es) → state_seen es ≡ s → new ≡ es ++ (e.key, v) ∷ [] → entry_fault (entries s) (entry_of e) ≡ None → new ≡ insert_entry key_cmp es e.key v
+pub put-last : (es new : List (Key × Shared)) (s : State) (e : KeyedAccount) (v : Shared)
+    → IsStrictlySortedBy key_cmp (keys_of es) → state_seen es ≡ s → new ≡ es ++ (e.key, v) ∷ []
+    → entry_fault (entries s) (entry_of e) ≡ None → new ≡ insert_entry key_cmp es e.key v
 put-last es new s e v ascends is pushed none = pushed ∙ sym (insert_entry-last es e.key v (below-next es s (entry_of e) ascends is none))
 
-pub ascends-last : (es new : List (Key × Shared)) (s : State) (e : KeyedAccount) (v : Shared) → IsStrictlySortedBy key_cmp (keys_of es) → state_seen es ≡ s → new ≡ es ++ (e.key, v) ∷ [] → entry_fault (entries s) (entry_of e) ≡ None → IsStrictlySortedBy key_cmp (keys_of new)
+pub ascends-last : (es new : List (Key × Shared)) (s : State) (e : KeyedAccount) (v : Shared)
+    → IsStrictlySortedBy key_cmp (keys_of es) → state_seen es ≡ s → new ≡ es ++ (e.key, v) ∷ []
+    → entry_fault (entries s) (entry_of e) ≡ None → IsStrictlySortedBy key_cmp (keys_of new)
 ascends-last es new s e v ascends is pushed none =
     subst (λ (l : List (Key × Shared)). IsStrictlySortedBy key_cmp (keys_of l)) (sym pushed) (Ascend-push es (e.key, v) ascends (below-next es s (entry_of e) ascends is none))
 
 entries-insert : (s : State) (e : Entry) → entry_fault (entries s) e ≡ None → entries (map.insert s e.0 e.1) ≡ entries s ++ e ∷ []
-entries-insert s e none = entries-insert_entry key_cmp_total s e.0 e.1 ∙ insert_entry-last (entries s) e.0 e.1 (below_last (entries s) e.0 (sorted-entries key_cmp s) (IsFine-from_none (entries s) e none).above)
+entries-insert s e none = entries-insert_entry key_cmp_total s e.0 e.1
+    ∙ insert_entry-last (entries s) e.0 e.1
+    (below_last (entries s) e.0 (sorted-entries key_cmp s) (IsFine-from_none (entries s) e none).above)
 
-state-pushed : (es new : List (Key × Shared)) (s : State) (e : KeyedAccount) (v : Shared) → state_seen es ≡ s → arc_value v ≡ e.account → new ≡ insert_entry key_cmp es e.key v → state_seen new ≡ map.insert s e.key e.account
-state-pushed es new s e v is same put = ap state_seen put ∙ state_seen-insert_entry es e.key v ∙ ap (λ (t : State). map.insert t e.key (arc_value v)) is ∙ ap (λ (a : Account). map.insert s e.key a) same
+state-pushed : (es new : List (Key × Shared)) (s : State) (e : KeyedAccount) (v : Shared) → state_seen es ≡ s
+    → arc_value v ≡ e.account → new ≡ insert_entry key_cmp es e.key v
+    → state_seen new ≡ map.insert s e.key e.account
+state-pushed es new s e v is same put = ap state_seen put ∙ state_seen-insert_entry es e.key v
+    ∙ ap (λ (t : State). map.insert t e.key (arc_value v)) is ∙ ap (λ (a : Account). map.insert s e.key a) same
 
 -- the entries of the map with one more
-pub entries-pushed : (es new : List (Key × Shared)) (s : State) (e : KeyedAccount) (v : Shared) → state_seen es ≡ s → arc_value v ≡ e.account → new ≡ insert_entry key_cmp es e.key v → entry_fault (entries s) (entry_of e) ≡ None
+pub entries-pushed : (es new : List (Key × Shared)) (s : State) (e : KeyedAccount) (v : Shared)
+    → state_seen es ≡ s → arc_value v ≡ e.account → new ≡ insert_entry key_cmp es e.key v
+    → entry_fault (entries s) (entry_of e) ≡ None
     → entries (state_seen new) ≡ entries s ++ entry_of e ∷ []
 entries-pushed es new s e v is same put none = ap entries (state-pushed es new s e v is same put) ∙ entries-insert s (entry_of e) none
 
 -- and what a store keeps of it
-pub IsKept-pushed : (es new : List (Key × Shared)) (total n : ℕ) (s : State) (e : KeyedAccount) (v : Shared) → IsKept es total → state_seen es ≡ s → arc_value v ≡ e.account → new ≡ insert_entry key_cmp es e.key v
+pub IsKept-pushed : (es new : List (Key × Shared)) (total n : ℕ) (s : State) (e : KeyedAccount) (v : Shared)
+    → IsKept es total → state_seen es ≡ s → arc_value v ≡ e.account → new ≡ insert_entry key_cmp es e.key v
     → IsStrictlySortedBy key_cmp (keys_of new) → entry_fault (entries s) (entry_of e) ≡ None → IsShort e.account → n ≡ sum s + e.account.lamports → IsKept new n
 IsKept-pushed es new total n s e v is shown same put ascends none short counted =
     let fine = IsFine-from_none (entries s) (entry_of e) none in
     let after : state_seen new ≡ map.insert s e.key e.account = state-pushed es new s e v shown same put in
-    let all : sum (map.insert s e.key e.account) ≡ sum s + e.account.lamports = ap lamports_of (entries-insert s (entry_of e) none) ∙ sum_by_push (λ (d : Entry). d.1.lamports) (entries s) (entry_of e) in
+    let all : sum (map.insert s e.key e.account)
+        ≡ sum s + e.account.lamports = ap lamports_of (entries-insert s (entry_of e) none)
+        ∙ sum_by_push (λ (d : Entry). d.1.lamports) (entries s) (entry_of e) in
     let state : IsState s = subst IsState shown is.is_state in
     record {
       ascends = ascends;

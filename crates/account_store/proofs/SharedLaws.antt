@@ -40,7 +40,10 @@ walked es walk s is h e = ap seen is ∙ sym (entries-state_seen es h) ∙ ap (�
 
 pub seen-insert_entry : (es : List (Key × Shared)) (k : Key) (v : Shared) → seen (insert_entry key_cmp es k v) ≡ insert_entry key_cmp (seen es) k (arc_value v)
 seen-insert_entry [] k v = refl
-seen-insert_entry (e ∷ es) k v = elim (key_cmp k e.0) as (λ o. seen (match_ordering o ((k, v) ∷ e ∷ es) ((e.0, v) ∷ es) (e ∷ insert_entry key_cmp es k v)) ≡ match_ordering o ((k, arc_value v) ∷ seen (e ∷ es)) ((e.0, arc_value v) ∷ seen es) ((e.0, arc_value e.1) ∷ insert_entry key_cmp (seen es) k (arc_value v))) [
+seen-insert_entry (e ∷ es) k v = elim (key_cmp k e.0) as
+    (λ o. seen (match_ordering o ((k, v) ∷ e ∷ es) ((e.0, v) ∷ es) (e ∷ insert_entry key_cmp es k v))
+    ≡ match_ordering o ((k, arc_value v) ∷ seen (e ∷ es)) ((e.0, arc_value v) ∷ seen es)
+    ((e.0, arc_value e.1) ∷ insert_entry key_cmp (seen es) k (arc_value v))) [
   | Less ↦ refl
   | Equal ↦ refl
   | Greater ↦ ap (λ (l : List (Key × Account)). (e.0, arc_value e.1) ∷ l) (seen-insert_entry es k v)
@@ -117,7 +120,9 @@ sum_shrunk : (n total was here before after : ℕ) → n ≡ total - was → was
 sum_shrunk n total was here before after e w t shrunk = omega arith
 
 -- after an account was put in
-pub IsKept-insert : (es fs : List (Key × Shared)) (total n : ℕ) (k : Key) (v : Shared) → IsKept es total → fs ≡ insert_entry key_cmp es k v → Ascend fs → IsHeld (arc_value v) → sum (map.insert (state_seen es) k (arc_value v)) ≤ 2 ^ 64 - 1
+pub IsKept-insert : (es fs : List (Key × Shared)) (total n : ℕ) (k : Key) (v : Shared) → IsKept es total
+    → fs ≡ insert_entry key_cmp es k v → Ascend fs → IsHeld (arc_value v)
+    → sum (map.insert (state_seen es) k (arc_value v)) ≤ 2 ^ 64 - 1
     → (let account : Account = arc_value v in n ≡ total - shared_lamports (lookup (is_at (key_cmp k)) es) + account.lamports) → IsKept fs n
 IsKept-insert es fs total n k v is same ascends held fits e =
     let account : Account = arc_value v in
@@ -131,7 +136,9 @@ IsKept-insert es fs total n k v is same ascends held fits e =
     }
 
 -- after an account was taken out
-pub IsKept-remove : (es fs : List (Key × Shared)) (total n : ℕ) (k : Key) → IsKept es total → fs ≡ remove_entry (is_at (key_cmp k)) es → Ascend fs → n ≡ total - shared_lamports (lookup (is_at (key_cmp k)) es) → IsKept fs n
+pub IsKept-remove : (es fs : List (Key × Shared)) (total n : ℕ) (k : Key) → IsKept es total
+    → fs ≡ remove_entry (is_at (key_cmp k)) es → Ascend fs
+    → n ≡ total - shared_lamports (lookup (is_at (key_cmp k)) es) → IsKept fs n
 IsKept-remove es fs total n k is same ascends e =
     let s = state_seen es in
     let after : state_seen fs ≡ remove s k = ap state_seen same ∙ state_seen-remove_entry es k is.ascends in
@@ -147,11 +154,14 @@ pub shared_lamports-le : (es : List (Key × Shared)) (total : ℕ) (k : Key) →
 shared_lamports-le es total k is = rw (shared_lamports-lookup es k, is.counted) (lamports-at-le (state_seen es) k)
 
 -- the sum is known for what is put in
-pub sum-put_in : (es : List (Key × Shared)) (s : State) (k : Key) (a : Account) → state_seen es ≡ s → 1 ≤ a.lamports → sum (write s k a) ≤ 2 ^ 64 - 1 → sum (map.insert (state_seen es) k a) ≤ 2 ^ 64 - 1
+pub sum-put_in : (es : List (Key × Shared)) (s : State) (k : Key) (a : Account) → state_seen es ≡ s
+    → 1 ≤ a.lamports → sum (write s k a) ≤ 2 ^ 64 - 1 → sum (map.insert (state_seen es) k a) ≤ 2 ^ 64 - 1
 sum-put_in es s k a same more fits = subst (λ (t : State). sum (map.insert t k a) ≤ 2 ^ 64 - 1) (sym same) (subst (λ (t : State). sum t ≤ 2 ^ 64 - 1) (put-more s k a more) fits)
 
 -- the new sum fits its number
-pub total-put_in : (es : List (Key × Shared)) (total : ℕ) (k : Key) (a : Account) → IsKept es total → sum (map.insert (state_seen es) k a) ≤ 2 ^ 64 - 1 → total - shared_lamports (lookup (is_at (key_cmp k)) es) + a.lamports ≤ 2 ^ 64 - 1
+pub total-put_in : (es : List (Key × Shared)) (total : ℕ) (k : Key) (a : Account) → IsKept es total
+    → sum (map.insert (state_seen es) k a) ≤ 2 ^ 64 - 1
+    → total - shared_lamports (lookup (is_at (key_cmp k)) es) + a.lamports ≤ 2 ^ 64 - 1
 total-put_in es total k a is fits =
     let s = state_seen es in
     let e = sum_grown _ total _ (at s k).lamports (sum s) (sum (map.insert s k a)) a.lamports refl (shared_lamports-lookup es k) is.counted (sum-insert s k a) (lamports-at-le s k) in

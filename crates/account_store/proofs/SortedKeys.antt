@@ -26,7 +26,9 @@ has_key-dedup : (keys : List Key) (key : Key) → has_key key (dedup same_key ke
 has_key-dedup keys key =
     let kept = is_member-Decides same_key-Decides (dedup same_key keys) key in
     let all = is_member-Decides same_key-Decides keys key in
-    let among : Decides (has_key key keys) (Contains (dedup same_key keys) key) = (λ t. Contains-dedup same_key-equiv same_key-true keys key (all.0 t), λ m. all.1 (Contains-from_dedup same_key keys key m)) in
+    let among : Decides (has_key key keys) (Contains (dedup same_key keys) key) =
+        (λ t. Contains-dedup same_key-equiv same_key-true keys key (all.0 t), λ m. all.1
+        (Contains-from_dedup same_key keys key m)) in
     same_from_decides (has_key key (dedup same_key keys)) (has_key key keys) kept among
 
 -- the same keys
@@ -42,9 +44,14 @@ module _ {X : Type 0} (key : X → Key) (xs : List X) (q : Key) where
   rises sorted = searchable_from_sorted key_cmp_total key xs q (λ k d from below.
       let long = length-map xs key in
       let less = Less-from_sorted key_cmp (map key xs) k (k + 1) (key d) sorted (omega arith) (omega (arith, below, long)) in
-      ap is_lt (key_cmp_total.antisymm (key (get_or xs (k + 1) d)) (key (get_or xs k d)) ∙ ap ordering_reverse (ap₂ key_cmp (sym (get_or-map key xs k d (key d) (omega (arith, below)))) (sym (get_or-map key xs (k + 1) d (key d) below)) ∙ less)))
+      ap is_lt (key_cmp_total.antisymm (key (get_or xs (k + 1) d)) (key (get_or xs k d))
+          ∙ ap ordering_reverse (ap₂ key_cmp (sym (get_or-map key xs k d (key d) (omega (arith, below))))
+          (sym (get_or-map key xs (k + 1) d (key d) below)) ∙ less)))
 
-  pub search_none : (at : ℕ) → IsStrictlySortedBy key_cmp (map key xs) → (IsNonDecreasingBy (λ x. ordering_index (key_cmp (key x) q)) xs → IsPartitionPoint (λ x. key_cmp (key x) q ≡ Less) (λ x. key_cmp (key x) q ≡ Greater) xs at) → has_key q (map key xs) ≡ false
+  pub search_none : (at : ℕ) → IsStrictlySortedBy key_cmp (map key xs)
+      → (IsNonDecreasingBy (λ x. ordering_index (key_cmp (key x) q)) xs
+      → IsPartitionPoint (λ x. key_cmp (key x) q ≡ Less) (λ x. key_cmp (key x) q ≡ Greater) xs at)
+      → has_key q (map key xs) ≡ false
   search_none at sorted h = list_any_none (λ k. same_key q k) (map key xs) (λ j e l. differs j e (subst (λ n. j < n) (length-map xs key) l) (some xs (subst (λ n. j < n) (length-map xs key) l)))
     where
       some : (ys : List X) {j : ℕ} → j < length ys → X
@@ -65,7 +72,9 @@ map_same [] = refl
 map_same (k ∷ ks) = ap (λ (l : List Key). k ∷ l) (map_same ks)
 
 -- a search that found nothing
-pub not_found : (shown keys : List Key) (q : Key) (at : ℕ) → shown ≡ keys → IsStrictlySortedBy key_cmp keys → (IsNonDecreasingBy (λ k. ordering_index (key_cmp k q)) shown → IsPartitionPoint (λ k. key_cmp k q ≡ Less) (λ k. key_cmp k q ≡ Greater) shown at) → has_key q keys ≡ false
+pub not_found : (shown keys : List Key) (q : Key) (at : ℕ) → shown ≡ keys → IsStrictlySortedBy key_cmp keys
+    → (IsNonDecreasingBy (λ k. ordering_index (key_cmp k q)) shown
+    → IsPartitionPoint (λ k. key_cmp k q ≡ Less) (λ k. key_cmp k q ≡ Greater) shown at) → has_key q keys ≡ false
 not_found shown keys q at same up h =
     ap (has_key q) (sym (map_same keys)) ∙ search_none (λ k. k) keys q at (subst (IsStrictlySortedBy key_cmp) (sym (map_same keys)) up)
     (subst (λ ks. IsNonDecreasingBy (λ k. ordering_index (key_cmp k q)) ks → IsPartitionPoint (λ k. key_cmp k q ≡ Less) (λ k. key_cmp k q ≡ Greater) ks at) same h)

@@ -93,7 +93,9 @@ keys_pushed P [] e all one = (one, tt)
 keys_pushed P (d ∷ es) e all one = (all.0, keys_pushed P es e all.1 one)
 
 -- keys that ascend and one more above them
-pub Ascend-push : {X : Type 0} (es : List (Key × X)) (e : Key × X) → IsStrictlySortedBy key_cmp (keys_of es) → AllByRecursion (λ (q : Key). key_cmp q e.0 ≡ Less) (keys_of es) → IsStrictlySortedBy key_cmp (keys_of (es ++ e ∷ []))
+pub Ascend-push : {X : Type 0} (es : List (Key × X)) (e : Key × X) → IsStrictlySortedBy key_cmp (keys_of es)
+    → AllByRecursion (λ (q : Key). key_cmp q e.0 ≡ Less) (keys_of es)
+    → IsStrictlySortedBy key_cmp (keys_of (es ++ e ∷ []))
 unfolding IsStrictlySortedBy
 Ascend-push [] e ascend below = (tt, tt)
 Ascend-push (d ∷ es) e ascend below = (keys_pushed (λ (q : Key). key_cmp d.0 q ≡ Less) es e ascend.0 below.0, Ascend-push es e ascend.1 below.1)
@@ -237,7 +239,10 @@ wrong-from_fault before e fault are h =
           elim (chosen (nat_eq e.1.lamports 0) (Some (Empty (length before))) _ (Some fault) p.1) [
             | inl q ↦ subst (IsWrongAfter before e) (same_Some _ fault q.1) (refl, ascend, (let t = q.0 in grind (arith, nat_tests)))
             | inr q ↦ elim (chosen (nat_lt (2 ^ 64 - 1) (lamports_of before + e.1.lamports)) (Some SupplyTooLarge) None (Some fault) q.1) [
-              | inl r ↦ subst (IsWrongAfter before e) (same_Some _ fault r.1) (ascend, (let t = q.0 in grind (arith, nat_tests)), rw (sum_by_push (λ (d : Entry). d.1.lamports) before e) (let t = r.0 in grind (arith, nat_tests)))
+              | inl r ↦ subst (IsWrongAfter before e) (same_Some _ fault r.1)
+                  (ascend, (let t = q.0 in grind (arith, nat_tests)), rw
+                  (sum_by_push (λ (d : Entry). d.1.lamports) before e)
+                  (let t = r.0 in grind (arith, nat_tests)))
               | inr r ↦ absurd (some_is_not_none _ (sym r.1))
             ]
           ]
@@ -356,7 +361,9 @@ few-before s so_far left all has split few =
     omega (arith, a, b, c, d, e)
 
 -- what is wrong with that entry is what is wrong first
-pub refused-at : (list so_far left : List KeyedAccount) (e : KeyedAccount) (s : State) (fault : StoreFault) → entries s ≡ entries_of so_far → fault_after [] (entries_of list) ≡ fault_after (entries_of so_far) (entries_of (e ∷ left))
+pub refused-at : (list so_far left : List KeyedAccount) (e : KeyedAccount) (s : State) (fault : StoreFault)
+    → entries s ≡ entries_of so_far
+    → fault_after [] (entries_of list) ≡ fault_after (entries_of so_far) (entries_of (e ∷ left))
     → IsFaultOr (entry_fault (entries s) (entry_of e)) fault → MatchBool (is_store_memory fault) (Unit {0}) (state_of list ≡ Err fault)
 refused-at list so_far left e s fault has all h = by_case (is_store_memory fault) h
   where
@@ -366,7 +373,9 @@ refused-at list so_far left e s fault has all h = by_case (is_store_memory fault
         ∙ ap (λ (o : Option StoreFault). first_of o (fault_after (entries_of so_far ++ entry_of e ∷ []) (entries_of left))) (ap (λ (l : List Entry). entry_fault l (entry_of e)) (sym has) ∙ g))
 
 -- with one more entry with which nothing is wrong
-pub fault_after-next : (list so_far left : List KeyedAccount) (e : KeyedAccount) (s : State) → entries s ≡ entries_of so_far → fault_after [] (entries_of list) ≡ fault_after (entries_of so_far) (entries_of (e ∷ left))
+pub fault_after-next : (list so_far left : List KeyedAccount) (e : KeyedAccount) (s : State)
+    → entries s ≡ entries_of so_far
+    → fault_after [] (entries_of list) ≡ fault_after (entries_of so_far) (entries_of (e ∷ left))
     → entry_fault (entries s) (entry_of e) ≡ None → fault_after [] (entries_of list) ≡ fault_after (entries_of (so_far ++ e ∷ [])) (entries_of left)
 fault_after-next list so_far left e s has all none =
     all ∙ ap (λ (o : Option StoreFault). first_of o (fault_after (entries_of so_far ++ entry_of e ∷ []) (entries_of left))) (ap (λ (l : List Entry). entry_fault l (entry_of e)) (sym has) ∙ none)

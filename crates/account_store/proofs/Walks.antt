@@ -150,7 +150,9 @@ pub record WalkedSoFar (keys : List Key) (all left : Entries) (taken : List (Opt
   pub ascends : Ascend left
   pub counted : total ≡ weight rest + weight left
 
-pub walk_first : (keys : List Key) (all es : Entries) (taken : List (Option Shared)) (rest : Entries) (total : ℕ) → all ≡ es → taken ≡ [] → rest ≡ [] → IsKept es total → WalkedSoFar keys all all taken rest total
+pub walk_first : (keys : List Key) (all es : Entries) (taken : List (Option Shared)) (rest : Entries)
+    (total : ℕ) → all ≡ es → taken ≡ [] → rest ≡ [] → IsKept es total
+    → WalkedSoFar keys all all taken rest total
 walk_first keys all es taken rest total whole none nil is = record {
   found = ap (λ os. os ++ found_in all (drop (length os) keys)) none;
   apart = ap₂ (λ l os. l ++ others (drop (length os) keys) all) nil none;
@@ -199,7 +201,9 @@ module _ (keys : List Key) (sorted : IsStrictlySortedBy key_cmp keys) (all : Ent
           counted = W.counted;
         })
 
-    pub walk_found : (left : Entries) (more : List (Option Shared)) (less : ℕ) → o ≡ Equal → (let a : Account = arc_value share in less ≡ total - a.lamports) → more ≡ taken ++ Some share ∷ [] → es ≡ left → WalkedSoFar keys all left more rest less
+    pub walk_found : (left : Entries) (more : List (Option Shared)) (less : ℕ) → o ≡ Equal
+        → (let a : Account = arc_value share in less ≡ total - a.lamports) → more ≡ taken ++ Some share ∷ []
+        → es ≡ left → WalkedSoFar keys all left more rest less
     walk_found left more less equal fewer pushed same =
         let step = step_equal (drop (length taken) keys) (key, share) es asked_sorted (sym order_is ∙ equal) W.ascends in
         subst (λ l. WalkedSoFar keys all l more rest less) same (subst (λ os. WalkedSoFar keys all es os rest less) (sym pushed) (record {
@@ -232,7 +236,8 @@ module _ (keys : List Key) (sorted : IsStrictlySortedBy key_cmp keys) (all : Ent
 found_in-none : (keys : List Key) (n : ℕ) → found_in [] (drop n keys) ≡ replicate (length keys - n) None
 found_in-none [] zero = refl
 found_in-none [] (suc n) = let none : 0 ≡ 0 - suc n = omega arith in ap (λ m. replicate m None) none
-found_in-none (k ∷ ks) zero = let more : suc (length ks - 0) ≡ suc (length ks) - 0 = omega arith in ap (λ (os : List (Option Shared)). None ∷ os) (found_in-none ks zero) ∙ ap (λ m. replicate m None) more
+found_in-none (k ∷ ks) zero = let more : suc (length ks - 0) ≡ suc (length ks) - 0 = omega arith
+    in ap (λ (os : List (Option Shared)). None ∷ os) (found_in-none ks zero) ∙ ap (λ m. replicate m None) more
 found_in-none (k ∷ ks) (suc n) = let less : length ks - n ≡ suc (length ks) - suc n = omega arith in found_in-none ks n ∙ ap (λ m. replicate m None) less
 
 -- the end of the walk
@@ -282,7 +287,10 @@ keys-others : (keys : List Key) (es : Entries) → keys_of (others keys es) ≡ 
 keys-others keys [] = refl
 keys-others keys (e ∷ es) = by_test (not (has_key e.0 keys)) (keys-others keys es)
   where
-    by_test : (b : Bool) → keys_of (others keys es) ≡ filter (λ k. not (has_key k keys)) (keys_of es) → keys_of (cond b (e ∷ others keys es) (others keys es)) ≡ cond b (e.0 ∷ filter (λ k. not (has_key k keys)) (keys_of es)) (filter (λ k. not (has_key k keys)) (keys_of es))
+    by_test : (b : Bool) → keys_of (others keys es) ≡ filter (λ k. not (has_key k keys)) (keys_of es)
+        → keys_of (cond b (e ∷ others keys es) (others keys es))
+        ≡ cond b (e.0 ∷ filter (λ k. not (has_key k keys)) (keys_of es))
+        (filter (λ k. not (has_key k keys)) (keys_of es))
     by_test true rest = ap (λ (ks : List Key). e.0 ∷ ks) rest
     by_test false rest = rest
 
@@ -326,7 +334,8 @@ IsKept-others keys es fs total n is same counted =
     }
 
 -- one absent account more
-pub filled_more : (taken more : List (Option Shared)) (len : ℕ) → length taken < len → more ≡ taken ++ None ∷ [] → more ++ replicate (len - length more) None ≡ taken ++ replicate (len - length taken) None
+pub filled_more : (taken more : List (Option Shared)) (len : ℕ) → length taken < len → more ≡ taken ++ None ∷ []
+    → more ++ replicate (len - length more) None ≡ taken ++ replicate (len - length taken) None
 filled_more taken more len below pushed =
     let rest : len - length taken ≡ suc (len - (length taken + 1)) = omega arith in
     ap (λ os. os ++ replicate (len - length os) None) pushed
@@ -335,9 +344,14 @@ filled_more taken more len below pushed =
     ∙ ap (λ n. taken ++ replicate n None) (sym rest)
 
 -- the lamports of one entry more
-pub weight_more : (es : Entries) (i : ℕ) (e : Key × Shared) → i < length es → e ≡ get_or es i e → (weight (take (i + 1) es) ≡ weight (take i es) + (let a : Account = arc_value e.1 in a.lamports)) × (weight (take i es) + (let a : Account = arc_value e.1 in a.lamports) ≤ weight es)
+pub weight_more : (es : Entries) (i : ℕ) (e : Key × Shared) → i < length es → e ≡ get_or es i e
+    → (weight (take (i + 1) es) ≡ weight (take i es) + (let a : Account = arc_value e.1 in a.lamports))
+    × (weight (take i es) + (let a : Account = arc_value e.1 in a.lamports) ≤ weight es)
 weight_more es i e below is =
-    let more : weight (take (i + 1) es) ≡ weight (take i es) + (let a : Account = arc_value e.1 in a.lamports) = ap weight (take_more es i e below ∙ ap (λ (d : Key × Shared). take i es ++ d ∷ []) (sym is)) ∙ weight-push (take i es) e in
+    let more : weight (take (i + 1) es)
+        ≡ weight (take i es) + (let a : Account = arc_value e.1 in a.lamports) = ap weight
+        (take_more es i e below ∙ ap (λ (d : Key × Shared). take i es ++ d ∷ []) (sym is))
+        ∙ weight-push (take i es) e in
     let parts : weight (take (i + 1) es) + weight (drop (i + 1) es) ≡ weight es =
     sym (sum_by-append (λ (d : Key × Account). d.1.lamports) (seen (take (i + 1) es)) (seen (drop (i + 1) es)))
     ∙ ap lamports_of (sym (map-append (λ (d : Key × Shared). (d.0, arc_value d.1)) (take (i + 1) es) (drop (i + 1) es)) ∙ ap seen (take-append-drop (i + 1) es)) in
@@ -357,7 +371,9 @@ pub record IsWalked (keys : List Key) (es fs : Entries) (taken : List (Option Sh
   pub rest : state_seen fs ≡ without (state_seen es) keys
   pub kept : IsKept fs total
 
-pub walked_all : (keys : List Key) (all es left : Entries) (before taken : List (Option Shared)) (rest : Entries) (made : BTreeMap Key Shared) (start total : ℕ) → all ≡ es → left ≡ [] → IsKept es start → WalkedSoFar keys all left before rest total
+pub walked_all : (keys : List Key) (all es left : Entries) (before taken : List (Option Shared))
+    (rest : Entries) (made : BTreeMap Key Shared) (start total : ℕ) → all ≡ es → left ≡ [] → IsKept es start
+    → WalkedSoFar keys all left before rest total
     → taken ≡ before ++ replicate (length keys - length before) None → IsFromIterResult key_cmp rest made → IsWalked keys es made.entries taken total
 walked_all keys all es left before taken rest made start total whole none kept W filled is = record {
   found = ap (map (option_map arc_value)) (filled ∙ walk_all keys es before rest total end) ∙ found_in-seen es keys;
@@ -378,7 +394,10 @@ walked_all keys all es left before taken rest made start total whole none kept W
     same = made_same ∙ rest_is
 
 -- the walk at an entry, and at the end
-pub walk_at : (keys : List Key) (all : Entries) (o : Option (Key × Shared)) (e : Key × Shared) (es : Entries) (taken : List (Option Shared)) (rest : Entries) (total : ℕ) → o ≡ Some e → WalkedSoFar keys all (option_to_list o ++ es) taken rest total → WalkedSoFar keys all (e ∷ es) taken rest total
+pub walk_at : (keys : List Key) (all : Entries) (o : Option (Key × Shared)) (e : Key × Shared) (es : Entries)
+    (taken : List (Option Shared)) (rest : Entries) (total : ℕ) → o ≡ Some e
+    → WalkedSoFar keys all (option_to_list o ++ es) taken rest total
+    → WalkedSoFar keys all (e ∷ es) taken rest total
 walk_at keys all o e es taken rest total is W = subst (λ x. WalkedSoFar keys all (option_to_list x ++ es) taken rest total) is W
 
 pub none_left : (o : Option (Key × Shared)) (es : Entries) → o ≡ None → (o ≡ None → es ≡ []) → option_to_list o ++ es ≡ []

@@ -41,7 +41,10 @@ pub load_ok : (s : State) (message : Message) (loaded : Loaded) → load s messa
 unfolding load
 load_ok s message loaded e = go (lookup_faults s message.lookups) (has_repeated_key (all_keys message (loaded_in s message.lookups))) refl e
   where
-    go : (faults : List LookupFault) (b : Bool) → has_repeated_key (all_keys message (loaded_in s message.lookups)) ≡ b → first_or faults (if b then Err RepeatedKey else Ok (loaded_in s message.lookups)) ≡ Ok loaded → HasAllLoaded message loaded × IsDistinct same_key (all_keys message loaded)
+    go : (faults : List LookupFault) (b : Bool)
+        → has_repeated_key (all_keys message (loaded_in s message.lookups)) ≡ b
+        → first_or faults (if b then Err RepeatedKey else Ok (loaded_in s message.lookups)) ≡ Ok loaded
+        → HasAllLoaded message loaded × IsDistinct same_key (all_keys message loaded)
     go (fault ∷ faults) b apart e = absurd (cc)
     go [] true apart e = absurd (cc)
     go [] false apart e =
@@ -82,13 +85,17 @@ sane_for_few_keys_is_sane_for_more tx few more fewer is = record {
 pub locks_apart : (chosen : Chosen) → IsChosen chosen → IsDistinct same_key (lock_keys chosen.locks)
 locks_apart chosen is = subst (IsDistinct same_key) (sym (ap (map (λ (lock : Lock). lock.key)) is.locked ∙ keys_of_locks chosen.tx.message chosen.loaded)) is.apart
 
-pub chosen_is : (start : Start) (is_before : Hash32 → Bool) (position : ℕ) (parsed : Parsed) (chosen : Chosen) → start.limits.keys ≤ max_transaction_keys → IsSound parsed → sifted start is_before position parsed ≡ Ok chosen → IsChosen chosen × (chosen.position ≡ position)
+pub chosen_is : (start : Start) (is_before : Hash32 → Bool) (position : ℕ) (parsed : Parsed) (chosen : Chosen)
+    → start.limits.keys ≤ max_transaction_keys → IsSound parsed
+    → sifted start is_before position parsed ≡ Ok chosen → IsChosen chosen × (chosen.position ≡ position)
 unfolding sifted
 chosen_is start is_before position (Bad fault) chosen few sound e = absurd (cc)
 chosen_is start is_before position (Good tx name) chosen few sound e = go (stands start tx name) refl (is_before name) (budget_in tx.message) refl e
   where
     go : (a : Result Loaded Refusal) → stands start tx name ≡ a → (b : Bool) → (r : Result Budget BudgetFault) → budget_in tx.message ≡ r
-        → (a >>= λ loaded. if b then Err RepeatedInBatch else (as_cause no_budget r >>= λ budget. Ok (chosen_with position tx name loaded budget))) ≡ Ok chosen → IsChosen chosen × (chosen.position ≡ position)
+        → (a >>= λ loaded. if b then Err RepeatedInBatch else
+            (as_cause no_budget r >>= λ budget. Ok (chosen_with position tx name loaded budget))) ≡ Ok chosen
+            → IsChosen chosen × (chosen.position ≡ position)
     go (Err cause) ea b r er e = absurd (cc)
     go (Ok loaded) ea true r er e = absurd (cc)
     go (Ok loaded) ea false (Err fault) er e = absurd (cc)
@@ -139,7 +146,10 @@ module _ (start : Start) (batch : List Parsed) (few : start.limits.keys ≤ max_
   stand_all sound = stand_from 0 (length batch) batch (omega arith) sound
 
 -- the walk keeps what holds of each
-all_walked : (P : Chosen → Type 0) (limits : Limits) (before : Walk) (line : List Chosen) → AllByRecursion P before.order → AllByRecursion P line → AllByRecursion P (fold (λ before one. walk_with before one (late limits before.order one)) before line).order
+all_walked : (P : Chosen → Type 0) (limits : Limits) (before : Walk) (line : List Chosen)
+    → AllByRecursion P before.order → AllByRecursion P line
+    → AllByRecursion P (fold (λ before one. walk_with before one (late limits before.order one)) before
+    line).order
 all_walked P limits before [] b l = b
 all_walked P limits before (one ∷ others) b l = all_walked P limits (walk_with before one (late limits before.order one)) others (go (late limits before.order one)) l.1
   where

@@ -76,7 +76,10 @@ pub refused_by_tables : (s : State) (message : Message) (fault : LookupFault) �
 unfolding load
 refused_by_tables s message fault e = go (lookup_faults s message.lookups) (has_repeated_key (all_keys message (loaded_in s message.lookups))) (faults_plain s 0 message.lookups) e
   where
-    go : (faults : List LookupFault) (b : Bool) → AllByRecursion (λ fault. is_lookup_memory fault ≡ false) faults → first_or faults (if b then Err RepeatedKey else Ok (loaded_in s message.lookups)) ≡ Err fault → is_lookup_memory fault ≡ false
+    go : (faults : List LookupFault) (b : Bool)
+        → AllByRecursion (λ fault. is_lookup_memory fault ≡ false) faults
+        → first_or faults (if b then Err RepeatedKey else Ok (loaded_in s message.lookups)) ≡ Err fault
+        → is_lookup_memory fault ≡ false
     go (first ∷ faults) b all e = let same : first ≡ fault = cc in subst (λ (f : LookupFault). is_lookup_memory f ≡ false) same all.0
     go [] true all e = let same : RepeatedKey ≡ fault = cc in subst (λ (f : LookupFault). is_lookup_memory f ≡ false) same refl
     go [] false all e = absurd (cc)
@@ -104,7 +107,9 @@ sifted_plain start is_before position wire = go (wire_of wire) refl
 
     go : (r : Result Tx WireFault) → wire_of wire ≡ r → IsPlain (sifted start is_before position (parsed_by r))
     go (Err fault) e = refused_by_bytes wire fault e
-    go (Ok tx) e = onward (stands start tx (message_name tx.message)) _ (stands_plain start tx (message_name tx.message)) (λ loaded. again (is_before (message_name tx.message)) tx (message_name tx.message) loaded)
+    go (Ok tx) e = onward (stands start tx (message_name tx.message)) _
+        (stands_plain start tx (message_name tx.message))
+        (λ loaded. again (is_before (message_name tx.message)) tx (message_name tx.message) loaded)
 
 -- ---- the walk
 late_plain : (limits : Limits) (order : List Chosen) (one : Chosen) → NoneOfMemory (late limits order one)
@@ -134,16 +139,25 @@ late_cause_plain (one ∷ refused) position all = go (one.position == position) 
     go false more = more
 
 causes_plain : (start : Start) (batch : List Parsed) (refused : List Refused) → AllByRecursion (λ refused. is_refusal_memory refused.cause ≡ false) refused → (n : ℕ) (wires : List (List ℕ))
-    → AllByRecursion (λ refused. is_refusal_memory refused.cause ≡ false) (filter_map (λ entry. option_map (λ (cause : Refusal). let one : Refused = record { position = entry.0; cause = cause } in one) (refusal start batch refused entry)) (enumerate_from n (map parsed_of wires)))
+    → AllByRecursion (λ refused. is_refusal_memory refused.cause ≡ false)
+        (filter_map (λ entry. option_map
+        (λ (cause : Refusal). let one : Refused = record { position = entry.0; cause = cause } in one)
+        (refusal start batch refused entry)) (enumerate_from n (map parsed_of wires)))
 causes_plain start batch refused all n [] = tt
 causes_plain start batch refused all n (wire ∷ wires) =
-    go (late_cause refused n) (late_cause_plain refused n all) (sifted_in start batch (n, parsed_of wire)) (sifted_plain start (has_hash (standing_names start (take n batch))) n wire) (causes_plain start batch refused all (n + 1) wires)
+    go (late_cause refused n) (late_cause_plain refused n all) (sifted_in start batch (n, parsed_of wire))
+        (sifted_plain start (has_hash (standing_names start (take n batch))) n wire)
+        (causes_plain start batch refused all (n + 1) wires)
   where
     rest : List Refused
-    rest = filter_map (λ entry. option_map (λ (cause : Refusal). let one : Refused = record { position = entry.0; cause = cause } in one) (refusal start batch refused entry)) (enumerate_from (n + 1) (map parsed_of wires))
+    rest = filter_map (λ entry. option_map
+        (λ (cause : Refusal). let one : Refused = record { position = entry.0; cause = cause } in one)
+        (refusal start batch refused entry)) (enumerate_from (n + 1) (map parsed_of wires))
 
     go : (o : Option Refusal) → NoneOfMemory o → (r : Result Chosen Refusal) → IsPlain r → AllByRecursion (λ refused. is_refusal_memory refused.cause ≡ false) rest
-        → AllByRecursion (λ refused. is_refusal_memory refused.cause ≡ false) (cons_option (option_map (λ (cause : Refusal). let one : Refused = record { position = n; cause = cause } in one) (or_else o (refusal_in r))) rest)
+        → AllByRecursion (λ refused. is_refusal_memory refused.cause ≡ false)
+            (cons_option (option_map (λ (cause : Refusal). let one : Refused =
+            record { position = n; cause = cause } in one) (or_else o (refusal_in r))) rest)
     go (Some cause) plain r early more = (plain, more)
     go None plain (Ok chosen) early more = more
     go None plain (Err cause) early more = (early, more)
@@ -152,7 +166,9 @@ module _ (start : Start) (wires : List (List ℕ)) where
   plain : (standing : List Chosen) → All (λ refused. is_refusal_memory refused.cause ≡ false) (refused_in start (map parsed_of wires) (walk start.limits standing).refused)
   plain standing =
       let late = walked_plain start.limits (record { order = []; refused = [] }) standing tt in
-      All-from_recursion (λ (refused : Refused). is_refusal_memory refused.cause ≡ false) (refused_in start (map parsed_of wires) (walk start.limits standing).refused) (causes_plain start (map parsed_of wires) (walk start.limits standing).refused late 0 wires)
+      All-from_recursion (λ (refused : Refused). is_refusal_memory refused.cause ≡ false)
+          (refused_in start (map parsed_of wires) (walk start.limits standing).refused)
+          (causes_plain start (map parsed_of wires) (walk start.limits standing).refused late 0 wires)
 
   pub refusals_by_priority_are_of_the_input : All (λ refused. is_refusal_memory refused.cause ≡ false) (admitted start wires).refused
   unfolding admitted

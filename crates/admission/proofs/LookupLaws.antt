@@ -44,8 +44,12 @@ mapped_more f xs i before old new y l is so_far pushed =
 pub loaded_counts : (s : State) (lookups : List Lookup) → length (loaded_to_write s lookups) + length (loaded_to_read s lookups) ≡ sum_by load_count lookups
 loaded_counts s [] = refl
 loaded_counts s (lookup ∷ lookups) =
-    let w : length (loaded_to_write s (lookup ∷ lookups)) ≡ length (picked s lookup.table lookup.writable) + length (loaded_to_write s lookups) = length-append (picked s lookup.table lookup.writable) (loaded_to_write s lookups) in
-    let r : length (loaded_to_read s (lookup ∷ lookups)) ≡ length (picked s lookup.table lookup.readonly) + length (loaded_to_read s lookups) = length-append (picked s lookup.table lookup.readonly) (loaded_to_read s lookups) in
+    let w : length (loaded_to_write s (lookup ∷ lookups))
+        ≡ length (picked s lookup.table lookup.writable) + length (loaded_to_write s lookups) = length-append
+        (picked s lookup.table lookup.writable) (loaded_to_write s lookups) in
+    let r : length (loaded_to_read s (lookup ∷ lookups))
+        ≡ length (picked s lookup.table lookup.readonly) + length (loaded_to_read s lookups) = length-append
+        (picked s lookup.table lookup.readonly) (loaded_to_read s lookups) in
     let wl : length (picked s lookup.table lookup.writable) ≡ length lookup.writable = simp length-map in
     let rl : length (picked s lookup.table lookup.readonly) ≡ length lookup.readonly = simp length-map in
     let more = loaded_counts s lookups in
@@ -58,7 +62,9 @@ pub record AreLoaded (s : State) (lookups : List Lookup) (place : ℕ) (writable
   pub written : writable ≡ loaded_to_write s (take place lookups)
   pub read : readonly ≡ loaded_to_read s (take place lookups)
 
-module _ (s : State) (lookups : List Lookup) (place : ℕ) (writable readonly : List Key) (so_far : AreLoaded s lookups place writable readonly) (x : Lookup) (below : place < length lookups) (is_x : x ≡ get_or lookups place x) where
+module _ (s : State) (lookups : List Lookup) (place : ℕ) (writable readonly : List Key)
+    (so_far : AreLoaded s lookups place writable readonly) (x : Lookup) (below : place < length lookups)
+    (is_x : x ≡ get_or lookups place x) where
   entry : get_or (enumerate_from 0 lookups) place (place, x) ≡ (place, x)
   entry = get_or-enumerate_from 0 lookups place (place, x) below ∙ (λ i. (zero-add place i, sym is_x i))
 
@@ -70,7 +76,9 @@ module _ (s : State) (lookups : List Lookup) (place : ℕ) (writable readonly : 
       ap (flat_map f) (take_more lookups place x below ∙ ap (λ y. take place lookups ++ y ∷ []) (sym is_x))
       ∙ flat_map-append f (take place lookups) (x ∷ []) ∙ ap (λ ys. flat_map f (take place lookups) ++ ys) (append-nil (f x))
 
-  pub loaded_more : (more_written more_read : List Key) → lookup_fault s (place, x) ≡ None → more_written ≡ writable ++ picked s x.table x.writable → more_read ≡ readonly ++ picked s x.table x.readonly
+  pub loaded_more : (more_written more_read : List Key) → lookup_fault s (place, x) ≡ None
+      → more_written ≡ writable ++ picked s x.table x.writable
+      → more_read ≡ readonly ++ picked s x.table x.readonly
       → AreLoaded s lookups (place + 1) more_written more_read
   loaded_more more_written more_read fine written read = record {
     fine = nothing_more (lookup_fault s) (enumerate_from 0 lookups) place (place, x) within so_far.fine (ap (lookup_fault s) entry ∙ fine);
@@ -79,10 +87,14 @@ module _ (s : State) (lookups : List Lookup) (place : ℕ) (writable readonly : 
   }
 
   -- the first fault is the answer
-  pub refused : {X : Type 0} (fault : LookupFault) (answer : Result X LookupFault) → lookup_fault s (place, x) ≡ Some fault → first_or (filter_map (lookup_fault s) (enumerate_from 0 lookups)) answer ≡ Err fault
+  pub refused : {X : Type 0} (fault : LookupFault) (answer : Result X LookupFault)
+      → lookup_fault s (place, x) ≡ Some fault
+      → first_or (filter_map (lookup_fault s) (enumerate_from 0 lookups)) answer ≡ Err fault
   refused fault answer e = ap (λ faults. first_or faults answer) (first_found (lookup_fault s) (enumerate_from 0 lookups) place (place, x) fault within so_far.fine (ap (lookup_fault s) entry ∙ e))
 
-pub load_refused : (s : State) (message : Message) (fault : LookupFault) → first_or (filter_map (lookup_fault s) (enumerate_from 0 message.lookups)) (if_apart message (loaded_in s message.lookups)) ≡ Err fault → load s message ≡ Err fault
+pub load_refused : (s : State) (message : Message) (fault : LookupFault)
+    → first_or (filter_map (lookup_fault s) (enumerate_from 0 message.lookups))
+    (if_apart message (loaded_in s message.lookups)) ≡ Err fault → load s message ≡ Err fault
 unfolding load
 load_refused s message fault e = e
 

@@ -26,7 +26,10 @@ in_names (wire ∷ wires) (suc k) d name below is = later (name_in wire) (in_nam
     later (Some other) e = ap (λ b. same_hash other name || b) e ∙ or-true (same_hash other name)
 
 -- each wire is told whether its message was processed
-all_told : (marks : List Mark) (noted : BTreeSet Hash32) (wires : List Parsed) → ((name : Hash32) → has_name noted name ≡ (has_hash (filter_map name_in wires) name && processed marks name)) → All (λ wire. IsTold marks wire (is_noted noted wire)) wires
+all_told : (marks : List Mark) (noted : BTreeSet Hash32) (wires : List Parsed)
+    → ((name : Hash32) → has_name noted name
+    ≡ (has_hash (filter_map name_in wires) name && processed marks name))
+    → All (λ wire. IsTold marks wire (is_noted noted wire)) wires
 all_told marks noted wires each k d below = one (get_or wires k d) refl
   where
     one : (wire : Parsed) → get_or wires k d ≡ wire → IsTold marks wire (is_noted noted wire)

@@ -51,13 +51,16 @@ pub record ComesFrom (start : Start) (is_before : Hash32 → Bool) (position : �
   pub fresh : is_before chosen.name ≡ false
   pub named : standing_name start parsed ≡ Some chosen.name
 
-pub comes_from : (start : Start) (is_before : Hash32 → Bool) (position : ℕ) (parsed : Parsed) (chosen : Chosen) → sifted start is_before position parsed ≡ Ok chosen → ComesFrom start is_before position parsed chosen
+pub comes_from : (start : Start) (is_before : Hash32 → Bool) (position : ℕ) (parsed : Parsed) (chosen : Chosen)
+    → sifted start is_before position parsed ≡ Ok chosen → ComesFrom start is_before position parsed chosen
 unfolding sifted
 comes_from start is_before position (Bad fault) chosen e = absurd (cc)
 comes_from start is_before position (Good tx name) chosen e = go (stands start tx name) refl (is_before name) refl (budget_in tx.message) e
   where
     go : (a : Result Loaded Refusal) → stands start tx name ≡ a → (b : Bool) → is_before name ≡ b → (r : Result Budget BudgetFault)
-        → (a >>= λ loaded. if b then Err RepeatedInBatch else (as_cause no_budget r >>= λ budget. Ok (chosen_with position tx name loaded budget))) ≡ Ok chosen → ComesFrom start is_before position (Good tx name) chosen
+        → (a >>= λ loaded. if b then Err RepeatedInBatch else
+            (as_cause no_budget r >>= λ budget. Ok (chosen_with position tx name loaded budget))) ≡ Ok chosen
+            → ComesFrom start is_before position (Good tx name) chosen
     go (Err cause) ea b eb r e = absurd (cc)
     go (Ok loaded) ea true eb r e = absurd (cc)
     go (Ok loaded) ea false eb (Err fault) e = absurd (cc)
@@ -97,7 +100,9 @@ module _ (start : Start) (batch : List Parsed) where
       go (Err cause) er more = more
       go (Ok chosen) er more = (each n x chosen within here er, more)
 
-  pub all_standing : (P : Chosen → Type 0) → ((n : ℕ) (x : Parsed) (chosen : Chosen) → n < length batch → get_or batch n x ≡ x → sifted_in start batch (n, x) ≡ Ok chosen → P chosen) → AllByRecursion P (sifted_out start batch)
+  pub all_standing : (P : Chosen → Type 0)
+      → ((n : ℕ) (x : Parsed) (chosen : Chosen) → n < length batch → get_or batch n x ≡ x
+      → sifted_in start batch (n, x) ≡ Ok chosen → P chosen) → AllByRecursion P (sifted_out start batch)
   all_standing P each = all_from P each 0 [] batch refl refl
 
   -- the positions of those that stand ascend
@@ -127,7 +132,9 @@ module _ (start : Start) (batch : List Parsed) where
   abbrev NotNamed : List Parsed → Chosen → Type 0
   NotNamed done one = has_hash (standing_names start done) one.name ≡ false
 
-  names_from : (n : ℕ) (done rest : List Parsed) → n ≡ length done → done ++ rest ≡ batch → AllByRecursion (NotNamed done) (standing_from n rest) × IsDistinct same_hash (map (λ one. one.name) (standing_from n rest))
+  names_from : (n : ℕ) (done rest : List Parsed) → n ≡ length done → done ++ rest ≡ batch
+      → AllByRecursion (NotNamed done) (standing_from n rest)
+      × IsDistinct same_hash (map (λ one. one.name) (standing_from n rest))
   unfolding IsDistinct
   names_from n done [] e whole = (tt, tt)
   names_from n done (x ∷ rest) e whole = go (sifted_in start batch (n, x)) refl (names_from (n + 1) (done ++ x ∷ []) rest (one_on n done x e) (append_assoc done (x ∷ []) rest ∙ whole))
@@ -142,13 +149,17 @@ module _ (start : Start) (batch : List Parsed) where
       fewer [] all = tt
       fewer (one ∷ others) all = ((split one all.0).0, fewer others all.1)
 
-      others_differ : (name : Hash32) → standing_name start x ≡ Some name → (others : List Chosen) → AllByRecursion (NotNamed (done ++ x ∷ [])) others → AllByRecursion (λ other. same_hash name other ≡ false) (map (λ one. one.name) others)
+      others_differ : (name : Hash32) → standing_name start x ≡ Some name → (others : List Chosen)
+          → AllByRecursion (NotNamed (done ++ x ∷ [])) others
+          → AllByRecursion (λ other. same_hash name other ≡ false) (map (λ one. one.name) others)
       others_differ name is [] all = tt
       others_differ name is (one ∷ others) all = (subst (λ (o : Option Hash32). is_name o one.name ≡ false) is (split one all.0).1, others_differ name is others all.1)
 
       go : (r : Result Chosen Refusal) → sifted_in start batch (n, x) ≡ r
           → AllByRecursion (NotNamed (done ++ x ∷ [])) (standing_from (n + 1) rest) × IsDistinct same_hash (map (λ one. one.name) (standing_from (n + 1) rest))
-          → AllByRecursion (NotNamed done) (cons_option (result_ok r) (standing_from (n + 1) rest)) × IsDistinct same_hash (map (λ one. one.name) (cons_option (result_ok r) (standing_from (n + 1) rest)))
+          → AllByRecursion (NotNamed done) (cons_option (result_ok r) (standing_from (n + 1) rest))
+              × IsDistinct same_hash (map (λ one. one.name)
+              (cons_option (result_ok r) (standing_from (n + 1) rest)))
       go (Err cause) er more = (fewer (standing_from (n + 1) rest) more.0, more.1)
       go (Ok chosen) er more =
           let from = comes_from start (has_hash (standing_names start (take n batch))) n x chosen er in
@@ -166,7 +177,9 @@ nat_eq_flips x y = grind (arith, nat_tests)
 abbrev Drops : (List Chosen → Type 0) → Type 0
 Drops Q = (before : List Chosen) (one : Chosen) (left : List Chosen) → Q (before ++ one ∷ left) → Q (before ++ left)
 
-kept_walked : (Q : List Chosen → Type 0) → Drops Q → (limits : Limits) (before : Walk) (left : List Chosen) → Q (before.order ++ left) → Q (fold (λ before one. walk_with before one (late limits before.order one)) before left).order
+kept_walked : (Q : List Chosen → Type 0) → Drops Q → (limits : Limits) (before : Walk) (left : List Chosen)
+    → Q (before.order ++ left) → Q
+    (fold (λ before one. walk_with before one (late limits before.order one)) before left).order
 kept_walked Q drops limits before [] q = subst Q (append-nil before.order) q
 kept_walked Q drops limits before (one ∷ left) q = kept_walked Q drops limits (walk_with before one (late limits before.order one)) left (go (late limits before.order one))
   where
@@ -182,7 +195,9 @@ unfolding IsDistinct
 names_dropped [] one left differ = differ.1
 names_dropped (other ∷ before) one left differ = (go before differ.0, names_dropped before one left differ.1)
   where
-    go : (before : List Chosen) → AllByRecursion (λ name. same_hash other.name name ≡ false) (map (λ one. one.name) (before ++ one ∷ left)) → AllByRecursion (λ name. same_hash other.name name ≡ false) (map (λ one. one.name) (before ++ left))
+    go : (before : List Chosen) → AllByRecursion (λ name. same_hash other.name name ≡ false)
+        (map (λ one. one.name) (before ++ one ∷ left))
+        → AllByRecursion (λ name. same_hash other.name name ≡ false) (map (λ one. one.name) (before ++ left))
     go [] all = all.1
     go (next ∷ before) all = (all.0, go before all.1)
 
@@ -195,12 +210,18 @@ unfolding IsDistinct
 positions_dropped [] one left differ = differ.1
 positions_dropped (other ∷ before) one left differ = (go before differ.0, positions_dropped before one left differ.1)
   where
-    go : (before : List Chosen) → AllByRecursion (λ position. nat_eq other.position position ≡ false) (map (λ one. one.position) (before ++ one ∷ left)) → AllByRecursion (λ position. nat_eq other.position position ≡ false) (map (λ one. one.position) (before ++ left))
+    go : (before : List Chosen) → AllByRecursion (λ position. nat_eq other.position position ≡ false)
+        (map (λ one. one.position) (before ++ one ∷ left))
+        → AllByRecursion (λ position. nat_eq other.position position ≡ false)
+        (map (λ one. one.position) (before ++ left))
     go [] all = all.1
     go (next ∷ before) all = (all.0, go before all.1)
 
 -- one of a list whose positions differ is apart from all others
-one_apart : (before : List Chosen) (one : Chosen) (left : List Chosen) → IsDistinct nat_eq (map (λ one. one.position) (before ++ one ∷ left)) → AllByRecursion (λ position. nat_eq one.position position ≡ false) (map (λ one. one.position) (before ++ left))
+one_apart : (before : List Chosen) (one : Chosen) (left : List Chosen)
+    → IsDistinct nat_eq (map (λ one. one.position) (before ++ one ∷ left))
+    → AllByRecursion (λ position. nat_eq one.position position ≡ false)
+    (map (λ one. one.position) (before ++ left))
 unfolding IsDistinct
 one_apart [] one left differ = differ.0
 one_apart (other ∷ before) one left differ = (nat_eq_flips one.position other.position ∙ go before differ.0, one_apart before one left differ.1)
@@ -270,7 +291,10 @@ numbered_ascend n (None ∷ causes) = numbered_ascend (n + 1) causes
 numbered_ascend n (Some cause ∷ causes) =
     let others = filter_map numbered_at (enumerate_from (n + 1) causes) in
     let above = all_above n others (numbered_from (n + 1) causes) in
-    AllPairs-cons (λ (one other : Refused). one.position < other.position) (record { position = n; cause = cause }) others (All-from_recursion (λ (other : Refused). n < other.position) others above) (numbered_ascend (n + 1) causes)
+    AllPairs-cons (λ (one other : Refused). one.position < other.position)
+        (record { position = n; cause = cause }) others
+        (All-from_recursion (λ (other : Refused). n < other.position) others above)
+        (numbered_ascend (n + 1) causes)
 
 -- none of them is at a position that has no cause
 not_numbered : (n i : ℕ) (causes : List (Option Refusal)) → get_or causes i None ≡ None → AllByRecursion (λ refused. n + i ≢ refused.position) (filter_map numbered_at (enumerate_from n causes))
@@ -297,65 +321,89 @@ free_is_none : (refused : List Refused) (causes : List (Option Refusal)) (one : 
 free_is_none refused causes one is = late_at refused causes one.position is.below ∙ ap (λ (o : Option Refusal). or_else o (get_or causes one.position None)) is.late ∙ is.early
 
 module _ (limits : Limits) (causes : List (Option Refusal)) where
-  refused_more : (refused : List Refused) (one : Chosen) (cause : Refusal) → IsFree refused causes one → free (with_late (record { position = one.position; cause = cause } ∷ refused) causes) + 1 ≡ free (with_late refused causes)
+  refused_more : (refused : List Refused) (one : Chosen) (cause : Refusal) → IsFree refused causes one
+      → free (with_late (record { position = one.position; cause = cause } ∷ refused) causes) + 1
+      ≡ free (with_late refused causes)
   refused_more refused one cause is =
       let within : one.position < length (with_late refused causes) = rw (count_late refused causes) is.below in
       let none = free_is_none refused causes one is in
       ap (λ cs. free cs + 1) (sym (late_more refused (record { position = one.position; cause = cause }) causes is.below)) ∙ free_set (with_late refused causes) one.position cause within none
 
-  others_free : (refused : List Refused) (one : Chosen) (cause : Refusal) (left : List Chosen) → AllByRecursion (λ position. nat_eq one.position position ≡ false) (map (λ other. other.position) left) → AllByRecursion (IsFree refused causes) left
+  others_free : (refused : List Refused) (one : Chosen) (cause : Refusal) (left : List Chosen)
+      → AllByRecursion (λ position. nat_eq one.position position ≡ false) (map (λ other. other.position) left)
+      → AllByRecursion (IsFree refused causes) left
       → AllByRecursion (IsFree (record { position = one.position; cause = cause } ∷ refused) causes) left
   others_free refused one cause [] apart all = tt
   others_free refused one cause (other ∷ left) apart all =
-      let late : late_cause (record { position = one.position; cause = cause } ∷ refused) other.position ≡ None = ap (λ b. if b then Some cause else late_cause refused other.position) apart.0 ∙ all.0.late in
+      let late : late_cause (record { position = one.position; cause = cause } ∷ refused) other.position
+          ≡ None = ap (λ b. if b then Some cause else late_cause refused other.position) apart.0 ∙ all.0.late in
       (record { below = all.0.below; early = all.0.early; late = late }, others_free refused one cause left apart.1 all.1)
 
   -- those that run are free of what was refused
   ran_free : (before : Walk) (left : List Chosen) → AllByRecursion (IsFree before.refused causes) (before.order ++ left) → IsDistinct nat_eq (map (λ one. one.position) (before.order ++ left))
-      → AllByRecursion (IsFree (fold (λ before one. walk_with before one (late limits before.order one)) before left).refused causes) (fold (λ before one. walk_with before one (late limits before.order one)) before left).order
+      → AllByRecursion (IsFree (fold (λ before one. walk_with before one (late limits before.order one)) before
+          left).refused causes) (fold (λ before one. walk_with before one (late limits before.order one)) before
+          left).order
   ran_free before [] all apart = subst (AllByRecursion (IsFree before.refused causes)) (append-nil before.order) all
   ran_free before (one ∷ left) all apart = go (late limits before.order one) (λ walk. ran_free walk left)
     where
       Free : Walk → Type 0
       Free walk = AllByRecursion (IsFree walk.refused causes) (walk.order ++ left) → IsDistinct nat_eq (map (λ one. one.position) (walk.order ++ left))
-          → AllByRecursion (IsFree (fold (λ before one. walk_with before one (late limits before.order one)) walk left).refused causes) (fold (λ before one. walk_with before one (late limits before.order one)) walk left).order
+          → AllByRecursion (IsFree (fold (λ before one. walk_with before one (late limits before.order one))
+              walk left).refused causes) (fold
+              (λ before one. walk_with before one (late limits before.order one)) walk left).order
 
       go : (o : Option Refusal) → ((walk : Walk) → Free walk)
           → AllByRecursion (IsFree (fold (λ before one. walk_with before one (late limits before.order one)) (walk_with before one o) left).refused causes)
           (fold (λ before one. walk_with before one (late limits before.order one)) (walk_with before one o) left).order
       go None more =
           let same : before.order ++ one ∷ left ≡ (before.order ++ one ∷ []) ++ left = sym (append_assoc before.order (one ∷ []) left) in
-          more (walk_with before one None) (subst (AllByRecursion (IsFree before.refused causes)) same all) (subst (λ (line : List Chosen). IsDistinct nat_eq (map (λ one. one.position) line)) same apart)
+          more (walk_with before one None) (subst (AllByRecursion (IsFree before.refused causes)) same all)
+              (subst (λ (line : List Chosen). IsDistinct nat_eq (map (λ one. one.position) line)) same apart)
       go (Some cause) more =
           more (walk_with before one (Some cause))
           (others_free before.refused one cause (before.order ++ left) (one_apart before.order one left apart) (all_dropped (IsFree before.refused causes) before.order one left all))
           (positions_dropped before.order one left apart)
 
-  free_walked : (before : Walk) (left : List Chosen) → AllByRecursion (IsFree before.refused causes) left → IsDistinct nat_eq (map (λ one. one.position) left) → free (with_late before.refused causes) ≡ length before.order + length left
-      → free (with_late (fold (λ before one. walk_with before one (late limits before.order one)) before left).refused causes) ≡ length (fold (λ before one. walk_with before one (late limits before.order one)) before left).order
+  free_walked : (before : Walk) (left : List Chosen) → AllByRecursion (IsFree before.refused causes) left
+      → IsDistinct nat_eq (map (λ one. one.position) left)
+      → free (with_late before.refused causes) ≡ length before.order + length left
+      → free (with_late (fold (λ before one. walk_with before one (late limits before.order one)) before
+          left).refused causes) ≡ length
+          (fold (λ before one. walk_with before one (late limits before.order one)) before left).order
   unfolding IsDistinct
   free_walked before [] all apart count = omega (arith, count)
   free_walked before (one ∷ left) all apart count = go (late limits before.order one) (λ walk. free_walked walk left)
     where
       Counts : Walk → Type 0
       Counts walk = AllByRecursion (IsFree walk.refused causes) left → IsDistinct nat_eq (map (λ one. one.position) left) → free (with_late walk.refused causes) ≡ length walk.order + length left
-          → free (with_late (fold (λ before one. walk_with before one (late limits before.order one)) walk left).refused causes) ≡ length (fold (λ before one. walk_with before one (late limits before.order one)) walk left).order
+          → free (with_late (fold (λ before one. walk_with before one (late limits before.order one)) walk
+              left).refused causes) ≡ length
+              (fold (λ before one. walk_with before one (late limits before.order one)) walk left).order
 
       go : (o : Option Refusal) → ((walk : Walk) → Counts walk)
           → free (with_late (fold (λ before one. walk_with before one (late limits before.order one)) (walk_with before one o) left).refused causes)
           ≡ length (fold (λ before one. walk_with before one (late limits before.order one)) (walk_with before one o) left).order
       go None more = more (walk_with before one None) all.1 apart.1 (omega (arith, count, length-append before.order (one ∷ [])))
-      go (Some cause) more = more (walk_with before one (Some cause)) (others_free before.refused one cause left apart.0 all.1) apart.1 (let fewer = refused_more before.refused one cause all.0 in omega (arith, count, fewer))
+      go (Some cause) more = more (walk_with before one (Some cause))
+          (others_free before.refused one cause left apart.0 all.1) apart.1
+          (let fewer = refused_more before.refused one cause all.0 in omega (arith, count, fewer))
 
 -- no refused position is one that is free
 apart_from : (refused : List Refused) (causes : List (Option Refusal)) (order : List Chosen) → AllByRecursion (IsFree refused causes) order
     → All (λ one. All (λ chosen. chosen.position ≢ one.position) order) (numbered_in (with_late refused causes))
-apart_from refused causes order free = λ k d within i e inside. All-from_recursion (λ chosen. All (λ one. chosen.position ≢ one.position) (numbered_in (with_late refused causes))) order (go order free) i e inside k d within
+apart_from refused causes order free = λ k d within i e inside. All-from_recursion
+    (λ chosen. All (λ one. chosen.position ≢ one.position) (numbered_in (with_late refused causes))) order
+    (go order free) i e inside k d within
   where
     go : (order : List Chosen) → AllByRecursion (IsFree refused causes) order → AllByRecursion (λ chosen. All (λ one. chosen.position ≢ one.position) (numbered_in (with_late refused causes))) order
     go [] free = tt
     go (chosen ∷ others) free = (
-      All-from_recursion (λ (one : Refused). chosen.position ≢ one.position) (numbered_in (with_late refused causes)) (rw (← zero-add chosen.position) (not_numbered 0 chosen.position (with_late refused causes) (free_is_none refused causes chosen free.0))),
+      All-from_recursion (λ (one : Refused). chosen.position ≢ one.position)
+          (numbered_in (with_late refused causes))
+          (rw (← zero-add chosen.position)
+          (not_numbered 0 chosen.position (with_late refused causes)
+          (free_is_none refused causes chosen free.0))),
       go others free.1,
     )
 
@@ -365,7 +413,9 @@ unfolding IsDistinct
 positions_differ [] up = tt
 positions_differ (one ∷ others) up = (go others up.0, positions_differ others up.1)
   where
-    go : (others : List Chosen) → AllByRecursion (λ other. one.position < other.position) others → AllByRecursion (λ position. nat_eq one.position position ≡ false) (map (λ other. other.position) others)
+    go : (others : List Chosen) → AllByRecursion (λ other. one.position < other.position) others
+        → AllByRecursion (λ position. nat_eq one.position position ≡ false)
+        (map (λ other. other.position) others)
     go [] all = tt
     go (other ∷ others) all = (ne_eqb one.position other.position (λ e. omega (arith, e, all.0)), go others all.1)
 
@@ -419,14 +469,27 @@ module _ (start : Start) (wires : List (List ℕ)) where
   parted found same =
       let after = walk start.limits found in
       let refused : numbered_in (with_late after.refused causes) ≡ refused_in start batch after.refused = refused_by_causes start batch after.refused in
-      let names = IsDistinct-IsPermutation same_hash hash_flips (map (λ one. one.name) (sifted_out start batch)) (map (λ one. one.name) found) (IsPermutation-map (λ one. one.name) (sifted_out start batch) found same) (standing_names_differ start batch) in
-      let positions = IsDistinct-IsPermutation nat_eq nat_eq_flips (map (λ one. one.position) (sifted_out start batch)) (map (λ one. one.position) found) (IsPermutation-map (λ one. one.position) (sifted_out start batch) found same) (positions_differ (sifted_out start batch) (standing_positions_ascend start batch)) in
+      let names = IsDistinct-IsPermutation same_hash hash_flips (map (λ one. one.name) (sifted_out start batch))
+          (map (λ one. one.name) found)
+          (IsPermutation-map (λ one. one.name) (sifted_out start batch) found same)
+          (standing_names_differ start batch) in
+      let positions = IsDistinct-IsPermutation nat_eq nat_eq_flips
+          (map (λ one. one.position) (sifted_out start batch)) (map (λ one. one.position) found)
+          (IsPermutation-map (λ one. one.position) (sifted_out start batch) found same)
+          (positions_differ (sifted_out start batch) (standing_positions_ascend start batch)) in
       let stands : free (with_late [] causes) ≡ length found = ap free (sym (none_late causes)) ∙ free_standing 0 batch ∙ sym (length_permutation (sifted_out start batch) found same) in
-      let ran : free (with_late after.refused causes) ≡ length after.order = free_walked start.limits causes (record { order = []; refused = [] }) found (in_place (IsFree [] causes) found same each_free) positions (omega (arith, stands)) in
-      let all_free : AllByRecursion (IsFree after.refused causes) after.order = ran_free start.limits causes (record { order = []; refused = [] }) found (in_place (IsFree [] causes) found same each_free) positions in
-      let all : length (numbered_in (with_late after.refused causes)) + free (with_late after.refused causes) ≡ length (with_late after.refused causes) = numbered_count 0 (with_late after.refused causes) in
+      let ran : free (with_late after.refused causes)
+          ≡ length after.order = free_walked start.limits causes (record { order = []; refused = [] }) found
+          (in_place (IsFree [] causes) found same each_free) positions (omega (arith, stands)) in
+      let all_free : AllByRecursion (IsFree after.refused causes) after.order = ran_free start.limits causes
+          (record { order = []; refused = [] }) found (in_place (IsFree [] causes) found same each_free)
+          positions in
+      let all : length (numbered_in (with_late after.refused causes)) + free (with_late after.refused causes)
+          ≡ length (with_late after.refused causes) = numbered_count 0 (with_late after.refused causes) in
       let late_count : length (with_late after.refused causes) ≡ length wires = count_late after.refused causes ∙ cause_count in
-      let lower = All-from_recursion (λ (one : Refused). one.position < length wires) (numbered_in (with_late after.refused causes)) (numbered_below 0 (length wires) (with_late after.refused causes) (omega (arith, late_count))) in
+      let lower = All-from_recursion (λ (one : Refused). one.position < length wires)
+          (numbered_in (with_late after.refused causes))
+          (numbered_below 0 (length wires) (with_late after.refused causes) (omega (arith, late_count))) in
       record {
         each = All-from_recursion (IsOf wires) after.order (all_run (IsOf wires) start.limits found (in_place (IsOf wires) found same each_of));
         apart = kept_run (λ line. IsDistinct same_hash (map (λ one. one.name) line)) names_dropped start.limits found names;

@@ -37,14 +37,18 @@ any_name None q = refl
 any_name (Some name) q = or-false (same_hash name q)
 
 -- the names of one position more
-pub one_name_more : (start : Start) (done : List Parsed) (x : Parsed) (q : Hash32) → has_hash (standing_names start (done ++ x ∷ [])) q ≡ (has_hash (standing_names start done) q || is_name (standing_name start x) q)
+pub one_name_more : (start : Start) (done : List Parsed) (x : Parsed) (q : Hash32)
+    → has_hash (standing_names start (done ++ x ∷ [])) q
+    ≡ (has_hash (standing_names start done) q || is_name (standing_name start x) q)
 one_name_more start done x q =
     ap (λ hashes. has_hash hashes q) (filter_map-append (standing_name start) done (x ∷ []))
     ∙ list_any-append (λ one. same_hash one q) (standing_names start done) (cons_option (standing_name start x) [])
     ∙ ap (λ b. has_hash (standing_names start done) q || b) (any_name (standing_name start x) q)
 
 -- ---- one position
-pub sifted_once : (start : Start) (is_before : Hash32 → Bool) (position : ℕ) (tx : Tx) (name : Hash32) (loaded : Loaded) → stands start tx name ≡ Ok loaded → sifted start is_before position (Good tx name) ≡ budgeted_once (is_before name) position tx name loaded
+pub sifted_once : (start : Start) (is_before : Hash32 → Bool) (position : ℕ) (tx : Tx) (name : Hash32)
+    (loaded : Loaded) → stands start tx name ≡ Ok loaded
+    → sifted start is_before position (Good tx name) ≡ budgeted_once (is_before name) position tx name loaded
 unfolding sifted
 sifted_once start is_before position tx name loaded e = rw e refl
 
@@ -98,7 +102,9 @@ names_single None = refl
 names_single (Some name) = refl
 
 -- the names of one position more
-pub names_more : {X : Type 0} (name : X → Option Hash32) (batch : List X) (i : ℕ) (x : X) → i < length batch → x ≡ get_or batch i x → filter_map name (take (i + 1) batch) ≡ filter_map name (take i batch) ++ option_to_list (name x)
+pub names_more : {X : Type 0} (name : X → Option Hash32) (batch : List X) (i : ℕ) (x : X) → i < length batch
+    → x ≡ get_or batch i x → filter_map name (take (i + 1) batch)
+    ≡ filter_map name (take i batch) ++ option_to_list (name x)
 names_more {X} name batch i x below is =
     ap (filter_map name) (take_more batch i x below ∙ ap (λ (y : X). take i batch ++ y ∷ []) (sym is))
     ∙ filter_map-append name (take i batch) (x ∷ [])
@@ -172,7 +178,10 @@ module _ (batch done left more : List Weighed) (standing : List Chosen) (causes 
   told_here d =
       let within : length done < length (enumerate_from 0 batch) = rw (length-enumerate_from 0 batch) below in
       let entry : get_or (enumerate_from 0 batch) (length done) (length done, x) ≡ (length done, x) =
-      get_or-enumerate_from 0 batch (length done) (length done, x) below ∙ (λ j. (zero-add (length done) j, (ap (λ (ls : List Weighed). get_or ls (length done) x) (sym whole) ∙ get_or_at done x more x (length done) refl) j)) in
+      get_or-enumerate_from 0 batch (length done) (length done, x) below
+          ∙ (λ j. (zero-add (length done) j,
+          (ap (λ (ls : List Weighed). get_or ls (length done) x) (sym whole)
+          ∙ get_or_at done x more x (length done) refl) j)) in
       ap (λ n. get_or told n d) (cause_count batch done left standing causes so_far)
       ∙ ap (λ (bs : List Bool). get_or bs (length done) d) are_told
       ∙ get_or-map (is_repeated batch) (enumerate_from 0 batch) (length done) (length done, x) d within
@@ -182,15 +191,21 @@ module _ (batch done left more : List Weighed) (standing : List Chosen) (causes 
     here : sifted_among batch (length done, x) ≡ found
     here = ap (λ b. sifted_when b x) (sym (told_here d) ∙ sym is_told) ∙ sym is_found
 
-    pub sifted_more : (standing' : List Chosen) (causes' : List (Option Refusal)) → standing' ≡ standing ++ cons_option (result_ok found) [] → causes' ≡ causes ++ refusal_in found ∷ [] → AreSifted batch (done ++ x ∷ []) more standing' causes'
+    pub sifted_more : (standing' : List Chosen) (causes' : List (Option Refusal))
+        → standing' ≡ standing ++ cons_option (result_ok found) [] → causes' ≡ causes ++ refusal_in found ∷ []
+        → AreSifted batch (done ++ x ∷ []) more standing' causes'
     sifted_more standing' causes' s c = record {
       all = append_assoc done (x ∷ []) more ∙ whole;
       stand =
           s ∙ ap (λ (cs : List Chosen). cs ++ cons_option (result_ok found) []) so_far.stand
           ∙ ap (λ (r : Result Chosen Refusal). filter_map (λ entry. result_ok (sifted_among batch entry)) (enumerate_from 0 done) ++ cons_option (result_ok r) []) (sym here)
-          ∙ sym (ap (filter_map (λ entry. result_ok (sifted_among batch entry))) (enumerate-push done x) ∙ filter_map-append (λ entry. result_ok (sifted_among batch entry)) (enumerate_from 0 done) ((length done, x) ∷ []));
+          ∙ sym (ap (filter_map (λ entry. result_ok (sifted_among batch entry))) (enumerate-push done x)
+              ∙ filter_map-append (λ entry. result_ok (sifted_among batch entry)) (enumerate_from 0 done)
+              ((length done, x) ∷ []));
       caused =
           c ∙ ap (λ (cs : List (Option Refusal)). cs ++ refusal_in found ∷ []) so_far.caused
           ∙ ap (λ (r : Result Chosen Refusal). map (λ entry. refusal_in (sifted_among batch entry)) (enumerate_from 0 done) ++ refusal_in r ∷ []) (sym here)
-          ∙ sym (ap (map (λ entry. refusal_in (sifted_among batch entry))) (enumerate-push done x) ∙ map-append (λ entry. refusal_in (sifted_among batch entry)) (enumerate_from 0 done) ((length done, x) ∷ []));
+          ∙ sym (ap (map (λ entry. refusal_in (sifted_among batch entry))) (enumerate-push done x)
+              ∙ map-append (λ entry. refusal_in (sifted_among batch entry)) (enumerate_from 0 done)
+              ((length done, x) ∷ []));
     }

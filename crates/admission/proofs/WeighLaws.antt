@@ -24,7 +24,9 @@ use Rattle.admission.proofs.SiftLaws.{enumerate-append}
 
 -- ---- one wire
 -- what it weighs alone, with the names before it, is what it is sifted to
-sifts : (start : Start) (has : Hash32 → Bool) (position : ℕ) (parsed : Parsed) → sifted_when (is_among has (name_of (weighed start position parsed))) (weighed start position parsed) ≡ sifted start has position parsed
+sifts : (start : Start) (has : Hash32 → Bool) (position : ℕ) (parsed : Parsed)
+    → sifted_when (is_among has (name_of (weighed start position parsed))) (weighed start position parsed)
+    ≡ sifted start has position parsed
 unfolding weighed sifted
 sifts start has position (Bad fault) = refl
 sifts start has position (Good tx name) = go (stands start tx name)
@@ -68,11 +70,16 @@ module _ (start : Start) (batch : List Parsed) where
       ap (λ names. sifted_when (is_among (has_hash names) (name_of (weighed start n parsed))) (weighed start n parsed)) (ap names_of (take_alone start 0 n batch) ∙ names_alone start 0 (take n batch))
       ∙ sifts start (has_hash (standing_names start (take n batch))) n parsed
 
-  standing_from : (n : ℕ) (rest : List Parsed) → filter_map (λ entry. result_ok (sifted_among (weighed_from start 0 batch) entry)) (enumerate_from n (weighed_from start n rest)) ≡ filter_map (λ entry. result_ok (sifted_in start batch entry)) (enumerate_from n rest)
+  standing_from : (n : ℕ) (rest : List Parsed)
+      → filter_map (λ entry. result_ok (sifted_among (weighed_from start 0 batch) entry))
+      (enumerate_from n (weighed_from start n rest))
+      ≡ filter_map (λ entry. result_ok (sifted_in start batch entry)) (enumerate_from n rest)
   standing_from n [] = refl
   standing_from n (parsed ∷ rest) = λ i. cons_option (result_ok (sifted_alone n parsed i)) (standing_from (n + 1) rest i)
 
-  causes_from : (n : ℕ) (rest : List Parsed) → map (λ entry. refusal_in (sifted_among (weighed_from start 0 batch) entry)) (enumerate_from n (weighed_from start n rest)) ≡ map (early start batch) (enumerate_from n rest)
+  causes_from : (n : ℕ) (rest : List Parsed)
+      → map (λ entry. refusal_in (sifted_among (weighed_from start 0 batch) entry))
+      (enumerate_from n (weighed_from start n rest)) ≡ map (early start batch) (enumerate_from n rest)
   causes_from n [] = refl
   causes_from n (parsed ∷ rest) = λ i. refusal_in (sifted_alone n parsed i) ∷ causes_from (n + 1) rest i
 
@@ -96,7 +103,9 @@ pub record AreFound (start : Start) (first : ℕ) (wires done left : List Parsed
   pub place : position ≡ first + length done
   pub weigh : found ≡ weighed_from start first done
 
-pub found_more : (start : Start) (first : ℕ) (wires done left more : List Parsed) (position : ℕ) (found found' : List Weighed) → AreFound start first wires done left position found → (x : Parsed) → left ≡ x ∷ more
+pub found_more : (start : Start) (first : ℕ) (wires done left more : List Parsed) (position : ℕ)
+    (found found' : List Weighed) → AreFound start first wires done left position found → (x : Parsed)
+    → left ≡ x ∷ more
     → found' ≡ found ++ weighed start position x ∷ [] → AreFound start first wires (done ++ x ∷ []) more (position + 1) found'
 found_more start first wires done left more position found found' so_far x split put =
     let count = length-append done (x ∷ []) in
@@ -107,5 +116,8 @@ found_more start first wires done left more position found found' so_far x split
       weigh =
           put ∙ ap (λ (ws : List Weighed). ws ++ weighed start position x ∷ []) so_far.weigh
           ∙ ap (λ n. weighed_from start first done ++ weighed start n x ∷ []) so_far.place
-          ∙ sym (ap (map (λ (entry : ℕ × Parsed). weighed start entry.0 entry.1)) (enumerate-append first done (x ∷ [])) ∙ map-append (λ (entry : ℕ × Parsed). weighed start entry.0 entry.1) (enumerate_from first done) (enumerate_from (first + length done) (x ∷ [])));
+          ∙ sym (ap (map (λ (entry : ℕ × Parsed). weighed start entry.0 entry.1))
+              (enumerate-append first done (x ∷ []))
+              ∙ map-append (λ (entry : ℕ × Parsed). weighed start entry.0 entry.1) (enumerate_from first done)
+              (enumerate_from (first + length done) (x ∷ [])));
     }

@@ -35,7 +35,8 @@ line_told count m block line ran told =
     ∙ ap (λ (n : ℕ). run_line count n (block_result m.snapshot m.batch).block) (entry_count m.snapshot m.batch))
 
 -- the verdict over the replayed block is that of the record
-pub verdict_told : (snapshot : Snapshot) (given : Block) (newest : Hash32) (listed : Listed) (found : Verdict) (told : Answer) → newest ≡ newest_of snapshot.recent → listed ≡ listed_result snapshot given
+pub verdict_told : (snapshot : Snapshot) (given : Block) (newest : Hash32) (listed : Listed) (found : Verdict)
+    (told : Answer) → newest ≡ newest_of snapshot.recent → listed ≡ listed_result snapshot given
     → found ≡ verdict snapshot.slot newest given listed → told ≡ judged given found → told ≡ replayed_over snapshot given
 verdict_told snapshot given newest listed found told same ran compared is =
     is ∙ ap (judged given) (compared ∙ ap (λ (hash : Hash32). verdict snapshot.slot hash given listed) same

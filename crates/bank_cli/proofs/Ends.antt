@@ -37,7 +37,9 @@ told_always answers None count told same = record { bytes = []; input = tt; defi
 told_always answers (Some bytes) count told same = record { bytes = bytes; input = refl; defined = same bytes; stands = refl }
 
 -- words that are not in form have their answer whatever the input
-pub words_refused : (words : List (List ℕ)) (left : Option (List ℕ)) (count : ℕ) (told : Answer) → command_in words ≡ None → told ≡ refused 2 (codes "words refused") → TellsAnswer (answer words) left count count told
+pub words_refused : (words : List (List ℕ)) (left : Option (List ℕ)) (count : ℕ) (told : Answer)
+    → command_in words ≡ None → told ≡ refused 2 (codes "words refused")
+    → TellsAnswer (answer words) left count count told
 words_refused words left count told form is = told_always (answer words) left count told (λ bytes. is ∙ ap (λ (command : Option Command). answer_for command bytes) (sym form))
 
 made_always : (command : Command) (told : Answer) (bytes input : List ℕ) → takes_input command ≡ false → told ≡ answer_to command input → told ≡ answer_to command bytes
@@ -49,7 +51,9 @@ made_always Assemble told bytes input ignored is = absurd (cc)
 made_always list_image told bytes input ignored is = absurd (cc)
 
 -- a command that does not look at its input has its answer whatever it is
-pub input_ignored : (command : Command) (left : Option (List ℕ)) (count : ℕ) (input : List ℕ) (told : Answer) → takes_input command ≡ false → told ≡ answer_to command input → TellsAnswer (answer_to command) left count count told
+pub input_ignored : (command : Command) (left : Option (List ℕ)) (count : ℕ) (input : List ℕ) (told : Answer)
+    → takes_input command ≡ false → told ≡ answer_to command input
+    → TellsAnswer (answer_to command) left count count told
 input_ignored command left count input told ignored is = told_always (answer_to command) left count told (λ bytes. made_always command told bytes input ignored is)
 
 -- ---- inputs that are too long
@@ -72,7 +76,9 @@ some_long : (n : ℕ) → (bytes : List ℕ) × (length bytes ≡ n)
 some_long n = (replicate n 0, length-replicate n 0)
 
 -- more bytes than the limit are refused for it
-pub too_long : (command : Command) (left : Option (List ℕ)) (old new : ℕ) (told : Answer) → takes_input command ≡ true → ReadsAll left input_limit (Err TooLong) → new ≡ old → told ≡ too_long_answer → TellsAnswer (answer_to command) left old new told
+pub too_long : (command : Command) (left : Option (List ℕ)) (old new : ℕ) (told : Answer)
+    → takes_input command ≡ true → ReadsAll left input_limit (Err TooLong) → new ≡ old → told ≡ too_long_answer
+    → TellsAnswer (answer_to command) left old new told
 too_long command None old new told looks long stands is =
     let some = some_long (input_limit + 1) in
     let e = some.1 in
@@ -130,7 +136,9 @@ answer_no_fault words bytes = by_command (command_in words)
     by_command None = omega arith
 
 -- status 4 comes where the source failed, and says so
-pub fault_told : (words : List (List ℕ)) (left : Option (List ℕ)) (old new : ℕ) (told : Answer) (out out' notes notes' : Option (List ℕ)) → TellsAnswer (answer words) left old new told ⊎ TellsFault (reads_input words) old new told
+pub fault_told : (words : List (List ℕ)) (left : Option (List ℕ)) (old new : ℕ) (told : Answer)
+    (out out' notes notes' : Option (List ℕ))
+    → TellsAnswer (answer words) left old new told ⊎ TellsFault (reads_input words) old new told
     → Writes told out out' notes notes' → told.status ≡ 4 → Rose old new × (reads_input words ≡ true) × Writes read_failed out out' notes notes'
 fault_told words left old new told out out' notes notes' (inl t) written four =
     let low : (answer words t.bytes).status ≤ 3 = answer_no_fault words t.bytes in
@@ -139,7 +147,9 @@ fault_told words left old new told out out' notes notes' (inl t) written four =
 fault_told words left old new told out out' notes notes' (inr t) written four = (t.rose, t.in_form, subst (λ (a : Answer). Writes a out out' notes notes') t.defined written)
 
 -- what is told has none of the statuses that come only when it is delivered
-pub status_told : (words : List (List ℕ)) (left : Option (List ℕ)) (old new : ℕ) (told : Answer) → TellsAnswer (answer words) left old new told ⊎ TellsFault (reads_input words) old new told → told.status ≤ 4
+pub status_told : (words : List (List ℕ)) (left : Option (List ℕ)) (old new : ℕ) (told : Answer)
+    → TellsAnswer (answer words) left old new told ⊎ TellsFault (reads_input words) old new told
+    → told.status ≤ 4
 status_told words left old new told (inl t) =
     let low : (answer words t.bytes).status ≤ 3 = answer_no_fault words t.bytes in
     let same : told.status ≡ (answer words t.bytes).status = ap (λ (a : Answer). a.status) t.defined in
@@ -176,7 +186,14 @@ only_a_sink status low (inr rose) = rose
 nothing_begins : (told : Answer) (out notes : Option (List ℕ)) → Begins told out out notes notes
 nothing_begins told out notes = record { output_begun = (0, omega arith, Appends-nil out); notes_begun = (0, omega arith, Appends-nil notes); ordered = inl (Keeps-refl notes) }
 
-pub stops : (words : List (List ℕ)) (left : Option (List ℕ)) (old new : ℕ) (out notes : Option (List ℕ)) → Stops (reads_input words) old new → EndsEarly words left old new out out notes notes ⊎ FailsEarly words old new out out notes notes
-stops words None old new out notes (inl stands) = inl (record { told = answer words []; tells = record { bytes = []; input = tt; defined = refl; stands = stands }; begun = nothing_begins _ out notes })
-stops words (Some bytes) old new out notes (inl stands) = inl (record { told = answer words bytes; tells = record { bytes = bytes; input = refl; defined = refl; stands = stands }; begun = nothing_begins _ out notes })
+pub stops : (words : List (List ℕ)) (left : Option (List ℕ)) (old new : ℕ) (out notes : Option (List ℕ))
+    → Stops (reads_input words) old new
+    → EndsEarly words left old new out out notes notes ⊎ FailsEarly words old new out out notes notes
+stops words None old new out notes (inl stands) = inl
+    (record { told = answer words []; tells =
+    record { bytes = []; input = tt; defined = refl; stands = stands }; begun = nothing_begins _ out notes })
+stops words (Some bytes) old new out notes (inl stands) = inl
+    (record { told = answer words bytes; tells =
+    record { bytes = bytes; input = refl; defined = refl; stands = stands }; begun = nothing_begins _ out notes
+    })
 stops words left old new out notes (inr failed) = inr (record { in_form = failed.0; rose = failed.1; begun = nothing_begins _ out notes })

@@ -42,7 +42,9 @@ place_of (k ∷ ks) key h = elim (or_cases (same_key key k) (has_key key ks) h) 
   | inr r ↦ let q = place_of ks key r in (suc q.0, (let l = q.1 in omega arith), q.2)
 ]
 
-summed : (slots : List (Option Shared)) (ks : List Key) (f : Key → Account) → length slots ≡ length ks → ((n : ℕ) → n < length ks → in_slot (account_at slots n) ≡ f (numbered_key ks n)) → slot_lamports slots ≡ lamports_under f ks
+summed : (slots : List (Option Shared)) (ks : List Key) (f : Key → Account) → length slots ≡ length ks
+    → ((n : ℕ) → n < length ks → in_slot (account_at slots n) ≡ f (numbered_key ks n))
+    → slot_lamports slots ≡ lamports_under f ks
 summed [] [] f e same = refl
 summed [] (k ∷ ks) f e same = absurd (omega (arith, e))
 summed (s ∷ slots) [] f e same = absurd (omega (arith, e))
@@ -75,7 +77,9 @@ module _ (job : Job) (start rest : State) (ks : List Key) (p : Positions) (slots
   pub core_outcomes : flat_map option_to_list outcomes ≡ serial_outcomes job (at start)
   core_outcomes =
       let all = outcomes_end job (at start) journal K.legal D in
-      listed outcomes (result job (at start)) 0 (λ i l. let below : i < job.count = let e = K.outcomes_length in omega (arith, e, l) in K.kept i below ∙ ap outcome_of (all i below) ∙ ap (λ n. Some (result job (at start) n)) (omega arith))
+      listed outcomes (result job (at start)) 0
+          (λ i l. let below : i < job.count = let e = K.outcomes_length in omega (arith, e, l) in K.kept i below
+          ∙ ap outcome_of (all i below) ∙ ap (λ n. Some (result job (at start) n)) (omega arith))
       ∙ ap (λ n. map (result job (at start)) (range_with_len 0 n)) K.outcomes_length
 
 -- two facts of a value that may be there
@@ -101,10 +105,16 @@ module _ (job : Job) (start rest : State) (ks : List Key) (slots : List (Option 
   back_distinct = held_distinct ks slots E.starts.distinct
 
   pub back_absent : All (λ e. get rest e.0 ≡ None) Back
-  back_absent = All-from_recursion _ Back (held_each (λ e. get rest e.0 ≡ None) ks slots (λ n share l here more. get-at rest (numbered_key ks n) E.apart.is_rest ∙ ap kept (fresh (numbered_key ks n) (among_at ks n l))))
+  back_absent = All-from_recursion _ Back
+      (held_each (λ e. get rest e.0 ≡ None) ks slots
+      (λ n share l here more. get-at rest (numbered_key ks n) E.apart.is_rest
+      ∙ ap kept (fresh (numbered_key ks n) (among_at ks n l))))
 
   pub back_held : All (λ e. IsHeld (value_of e.1)) Back
-  back_held = All-from_recursion _ Back (held_each (λ e. IsHeld (value_of e.1)) ks slots (λ n share l here more. (more, subst (λ slot. IsShort (in_slot (option_map value_of slot))) here (slot_fits n l).0)))
+  back_held = All-from_recursion _ Back
+      (held_each (λ e. IsHeld (value_of e.1)) ks slots
+      (λ n share l here more. (more, subst (λ slot. IsShort (in_slot (option_map value_of slot))) here
+      (slot_fits n l).0)))
 
   pub back_fits : sum rest + lamports_of (seen Back) ≤ 2 ^ 64 - 1
   back_fits =

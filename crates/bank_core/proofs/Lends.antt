@@ -20,7 +20,9 @@ pub written_number : (n : ℕ) (locks : List NumberedLock) → has n (write_numb
 written_number n [] h = h
 written_number n (x ∷ xs) h = go x.write (written_number n xs) h
   where
-    go : (b : Bool) → (has n (write_numbers xs) ≡ true → has n (numbers xs) ≡ true) → has n (numbers (cond b (x ∷ filter (λ l. l.write) xs) (filter (λ l. l.write) xs))) ≡ true → has n (numbers (x ∷ xs)) ≡ true
+    go : (b : Bool) → (has n (write_numbers xs) ≡ true → has n (numbers xs) ≡ true)
+        → has n (numbers (cond b (x ∷ filter (λ l. l.write) xs) (filter (λ l. l.write) xs))) ≡ true
+        → has n (numbers (x ∷ xs)) ≡ true
     go true ih g = elim (or_cases (n == x.number) _ g) [ inl t ↦ or_left (n == x.number) (has n (numbers xs)) t | inr r ↦ or_right (n == x.number) (has n (numbers xs)) (ih r) ]
     go false ih g = or_right (n == x.number) (has n (numbers xs)) (ih g)
 
@@ -99,7 +101,9 @@ lend_step slots next locks i values more a old d h l distinct lent left grown = 
       left n
       ∙ (ap (λ o. cond (has n (write_numbers (lock ∷ []))) None o) (h.left n)
       ∙ (both (has n (write_numbers (take i locks))) (has n (write_numbers (lock ∷ []))) (old n)
-      ∙ ap (λ b. cond b None (old n)) (sym (has_more n (write_numbers (take i locks)) (write_numbers (lock ∷ []))) ∙ ap (has n) (sym (write_numbers_more (take i locks) lock) ∙ ap write_numbers (sym longer)))));
+      ∙ ap (λ b. cond b None (old n))
+          (sym (has_more n (write_numbers (take i locks)) (write_numbers (lock ∷ [])))
+          ∙ ap (has n) (sym (write_numbers_more (take i locks) lock) ∙ ap write_numbers (sym longer)))));
 }
   where
     lock : NumberedLock
@@ -119,7 +123,9 @@ back_is [] old slots n = refl
 back_is (x ∷ xs) old slots n = go x.write (n == x.number) refl (back_is xs old slots n)
   where
     go : (b c : Bool) → (n == x.number) ≡ c → put_back_at xs (found xs old) slots n ≡ cond (has n (write_numbers xs)) (Some (in_slot (old n))) (slots n)
-        → cond (b && c) (Some (in_slot (old x.number))) (put_back_at xs (found xs old) slots n) ≡ cond (has n (numbers (cond b (x ∷ filter (λ l. l.write) xs) (filter (λ l. l.write) xs)))) (Some (in_slot (old n))) (slots n)
+        → cond (b && c) (Some (in_slot (old x.number))) (put_back_at xs (found xs old) slots n)
+            ≡ cond (has n (numbers (cond b (x ∷ filter (λ l. l.write) xs) (filter (λ l. l.write) xs))))
+            (Some (in_slot (old n))) (slots n)
     go true true e ih = ap (λ m. Some (in_slot (old m))) (sym (eqb-true n x.number e)) ∙ sym (ap (λ t. cond (t || has n (write_numbers xs)) (Some (in_slot (old n))) (slots n)) e)
     go true false e ih = ih ∙ sym (ap (λ t. cond (t || has n (write_numbers xs)) (Some (in_slot (old n))) (slots n)) e)
     go false c e ih = ih
@@ -154,7 +160,10 @@ restored slots next locks i values old h l there back n =
     many = sym (length-map values value_of) ∙ (ap length h.lent ∙ (length-map mine (λ (x : NumberedLock). in_slot (old x.number)) ∙ length-take-le i locks l))
 
     go : (b : Bool) → has n (write_numbers mine) ≡ b → cond b (Some (in_slot (old n))) (cond b None (old n)) ≡ old n
-    go true e = some_is (old n) (there_at mine old n (λ k d u. subst (λ (x : NumberedLock). IsSome (old x.number)) (sym (get_or-take i locks k d (shorter k u))) (there k d (let a = shorter k u in omega (arith, a, l)))) (written_number n mine e))
+    go true e = some_is (old n) (there_at mine old n
+        (λ k d u. subst (λ (x : NumberedLock). IsSome (old x.number))
+        (sym (get_or-take i locks k d (shorter k u))) (there k d (let a = shorter k u in omega (arith, a, l))))
+        (written_number n mine e))
       where
         shorter : (k : ℕ) → k < length mine → k < i
         shorter k u = let e = length-take-le i locks l in omega arith

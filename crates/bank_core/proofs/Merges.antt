@@ -53,7 +53,8 @@ held_each P (k ∷ ks) (None ∷ slots) each = held_each P ks slots (λ n share 
 held_each P (k ∷ ks) (Some share ∷ slots) each =
     held_next P k share ks slots ((let a : Account = value_of share in a.lamports) == 0) refl (each 0 share (omega arith) refl) (held_each P ks slots (λ n x l. each (suc n) x (omega (arith, l))))
 
-keys_next : (P : Key → Type 0) (k : Key) (share : Shared) (ks : List Key) (slots : Slots) (b : Bool) → P k → AllByRecursion P (keys_of (Held ks slots)) → AllByRecursion P (keys_of (Next k share ks slots b))
+keys_next : (P : Key → Type 0) (k : Key) (share : Shared) (ks : List Key) (slots : Slots) (b : Bool) → P k
+    → AllByRecursion P (keys_of (Held ks slots)) → AllByRecursion P (keys_of (Next k share ks slots b))
 keys_next P k share ks slots true here rest = rest
 keys_next P k share ks slots false here rest = (here, rest)
 
@@ -63,7 +64,9 @@ held_keys P (k ∷ ks) [] all = tt
 held_keys P (k ∷ ks) (None ∷ slots) all = held_keys P ks slots all.1
 held_keys P (k ∷ ks) (Some share ∷ slots) all = keys_next P k share ks slots ((let a : Account = value_of share in a.lamports) == 0) all.0 (held_keys P ks slots all.1)
 
-distinct_next : (k : Key) (share : Shared) (ks : List Key) (slots : Slots) (b : Bool) → AllByRecursion (λ y. same_key k y ≡ false) ks → IsDistinct same_key (keys_of (Held ks slots)) → IsDistinct same_key (keys_of (Next k share ks slots b))
+distinct_next : (k : Key) (share : Shared) (ks : List Key) (slots : Slots) (b : Bool)
+    → AllByRecursion (λ y. same_key k y ≡ false) ks → IsDistinct same_key (keys_of (Held ks slots))
+    → IsDistinct same_key (keys_of (Next k share ks slots b))
 distinct_next k share ks slots true apart rest = rest
 distinct_next k share ks slots false apart rest = IsDistinct-cons same_key k (keys_of (Held ks slots)) (held_keys (λ y. same_key k y ≡ false) ks slots apart) rest
 
@@ -167,7 +170,9 @@ zip_pushed (k ∷ ks) (x ∷ done) slot d below = ap (λ (l : List (Key × Optio
 pub held_first : (ks : List Key) (held : List (Key × Shared)) → held ≡ [] → held ≡ Held ks []
 held_first ks held none = none ∙ ap held_in (sym (zip-nil ks))
 
-pub held_more : (ks : List Key) (done : Slots) (slot : Option Shared) (k : Key) (old new : List (Key × Shared)) (place : ℕ) → place ≡ length done → length done < length ks → k ≡ get_or ks place k → old ≡ Held ks done → new ≡ old ++ held_in ((k, slot) ∷ []) → new ≡ Held ks (done ++ slot ∷ [])
+pub held_more : (ks : List Key) (done : Slots) (slot : Option Shared) (k : Key) (old new : List (Key × Shared))
+    (place : ℕ) → place ≡ length done → length done < length ks → k ≡ get_or ks place k → old ≡ Held ks done
+    → new ≡ old ++ held_in ((k, slot) ∷ []) → new ≡ Held ks (done ++ slot ∷ [])
 held_more ks done slot k old new place is below here so_far pushed =
     pushed ∙ (ap (λ (l : List (Key × Shared)). l ++ held_in ((k, slot) ∷ [])) so_far
     ∙ (ap (λ q. Held ks done ++ held_in ((q, slot) ∷ [])) (here ∙ ap (λ n. get_or ks n k) is)

@@ -78,7 +78,8 @@ of_next ks job s p i now store mark of e l = record {
 }
 
 -- who holds what, by the journal
-pub holder : (job : Job) (start : Key → Account) (events : List Event) → IsLegal job start events → (lane i : ℕ) → holds (own events lane) ≡ Some i → is_held_by lane ((Run job start events).stage i) ≡ true
+pub holder : (job : Job) (start : Key → Account) (events : List Event) → IsLegal job start events → (lane i : ℕ)
+    → holds (own events lane) ≡ Some i → is_held_by lane ((Run job start events).stage i) ≡ true
 holder job start events legal lane i e = (lanes_hold job start events legal lane i).1 e
 
 pub holds_none : (job : Job) (start : Key → Account) (events : List Event) → IsLegal job start events → (lane : ℕ) → holds (own events lane) ≡ None → HoldsNone (Run job start events) lane
@@ -147,7 +148,9 @@ module _ (job : Job) (start : Key → Account) (ks : List Key) (p : Positions) (
       of = subst (λ t. IsOf ks job t (marked_as p i Waiting)) (sym grown) (of_next ks job s p i waiting _ Waiting K.of refl held_in_marks);
       slots_length = same_length ∙ K.slots_length;
       stored = λ n l. puts n ∙ (returned_is ks job i (set_at p.sets i) N K.distinct (account_at slots) s.store K.stored once values many n l
-          ∙ (ap (λ vs. Rattle.bank_law.specs.Machine.put_in (write_keys job i) (keys job i) vs s.store (numbered_key ks n)) (lent ∙ sym held_loan) ∙ sym (ap (λ (t : State). t.store (numbered_key ks n)) grown)));
+          ∙ (ap (λ vs. Rattle.bank_law.specs.Machine.put_in (write_keys job i) (keys job i) vs s.store
+              (numbered_key ks n)) (lent ∙ sym held_loan)
+              ∙ sym (ap (λ (t : State). t.store (numbered_key ks n)) grown)));
       outcomes_length = K.outcomes_length;
       kept = λ j l. outcomes_next j l ∙ sym (ap (λ (t : State). outcome_of (t.stage j)) grown);
     }
@@ -187,7 +190,10 @@ module _ (job : Job) (start : Key → Account) (ks : List Key) (p : Positions) (
     all_there k d l =
         let n : ℕ = (get_or (set_at p.sets i) k d).number in
         let below : n < length ks = ready_set.within k d l in
-        let dec : declares job i (numbered_key ks n) ≡ true = ap (has_key (numbered_key ks n)) (keys_is ks job i (set_at p.sets i) ready_set) ∙ (has_is ks K.distinct n (numbers (set_at p.sets i)) below (numbers_within ks job i (set_at p.sets i) ready_set) ∙ number_stands (set_at p.sets i) k d l) in
+        let dec : declares job i (numbered_key ks n)
+            ≡ true = ap (has_key (numbered_key ks n)) (keys_is ks job i (set_at p.sets i) ready_set)
+            ∙ (has_is ks K.distinct n (numbers (set_at p.sets i)) below
+            (numbers_within ks job i (set_at p.sets i) ready_set) ∙ number_stands (set_at p.sets i) k d l) in
         subst IsSome (sym (K.stored n below ∙ ready_there job start s i sound r (numbered_key ks n) dec)) refl
 
     -- and those of the serial run
@@ -204,7 +210,9 @@ module _ (job : Job) (start : Key → Account) (ks : List Key) (p : Positions) (
     grant_keeps lane free taken same_length takes = record {
       legal = legal_push job (opening start) journal e K.legal (r, free);
       distinct = K.distinct;
-      of = subst (λ t. IsOf ks job t (marked_as p i Started)) (sym grown) (of_next ks job s p i (held lane (map (λ key. unwrap_or (s.store key) empty_account) (keys job i))) _ Started K.of refl ready_in_marks);
+      of = subst (λ t. IsOf ks job t (marked_as p i Started)) (sym grown)
+          (of_next ks job s p i (held lane (map (λ key. unwrap_or (s.store key) empty_account) (keys job i))) _
+          Started K.of refl ready_in_marks);
       slots_length = same_length ∙ K.slots_length;
       stored = λ n l. takes n ∙ (taken_is ks job i (set_at p.sets i) ready_set K.distinct (account_at slots) s.store K.stored n l ∙ sym (ap (λ (t : State). t.store (numbered_key ks n)) grown));
       outcomes_length = K.outcomes_length;
@@ -235,7 +243,10 @@ module _ (job : Job) (start : Key → Account) (ks : List Key) (p : Positions) (
   }
 
 -- a journal with one event more has room for it
-pub room_next : (count lanes capacity : ℕ) (journal : List Event) (e : Event) → HasRoom count lanes capacity journal → e.lane < lanes → (is_return e.kind ≡ true → returns (own journal e.lane) ≡ 0) → HasRoom count lanes capacity (journal ++ e ∷ [])
+pub room_next : (count lanes capacity : ℕ) (journal : List Event) (e : Event)
+    → HasRoom count lanes capacity journal → e.lane < lanes
+    → (is_return e.kind ≡ true → returns (own journal e.lane) ≡ 0)
+    → HasRoom count lanes capacity (journal ++ e ∷ [])
 room_next count lanes capacity journal e R l none = record {
   few = R.few;
   most = R.most;
@@ -253,7 +264,9 @@ room_next count lanes capacity journal e R l none = record {
         let a = ap returns (own_same journal e e.lane refl) ∙ returns_push (own journal e.lane) e in let b = own_once (is_return e.kind) refl in omega (arith, a, b))
     by_case lane (inr other) = let a = ap returns (own_other journal e lane other) in let o = R.once lane in omega (arith, a, o)
 
-pub room_left : (job : Job) (start : Key → Account) (lanes capacity : ℕ) (journal : List Event) (e : Event) → HasRoom job.count lanes capacity (journal ++ e ∷ []) → IsLegal job start (journal ++ e ∷ []) → length journal < capacity
+pub room_left : (job : Job) (start : Key → Account) (lanes capacity : ℕ) (journal : List Event) (e : Event)
+    → HasRoom job.count lanes capacity (journal ++ e ∷ []) → IsLegal job start (journal ++ e ∷ [])
+    → length journal < capacity
 room_left job start lanes capacity journal e R legal =
     let a = short job start (journal ++ e ∷ []) legal in
     let b = returns_few lanes (journal ++ e ∷ []) R.lanes_below R.once in
@@ -284,10 +297,15 @@ module _ (job : Job) (lanes : ℕ) (journal : List Event) (buffers : List (Vec S
       e : Event
       e = record { kind = Grant; lane = lane; position = i }
 
-      by_case : (l : ℕ) (d : Vec Shared Global) → l < lanes → holds (own (journal ++ e ∷ []) l) ≡ None → (lane ≡ l) ⊎ (lane ≡ l → ⊥) → (vec_len (get_or (set buffers lane b) l d) ≡ 0) × IsWide job (vec_capacity (get_or (set buffers lane b) l d))
+      by_case : (l : ℕ) (d : Vec Shared Global) → l < lanes → holds (own (journal ++ e ∷ []) l) ≡ None
+          → (lane ≡ l) ⊎ (lane ≡ l → ⊥)
+          → (vec_len (get_or (set buffers lane b) l d) ≡ 0)
+          × IsWide job (vec_capacity (get_or (set buffers lane b) l d))
       by_case l d below none (inl same) = let h = ap holds (own_same journal e l same) ∙ holds_push (own journal l) e in absurd (cc)
       by_case l d below none (inr other) =
-          subst (λ v. (vec_len v ≡ 0) × IsWide job (vec_capacity v)) (sym (get_or-set_other buffers lane l b d (λ q. other (sym q)))) (B.free l d below (sym (ap holds (own_other journal e l other)) ∙ none))
+          subst (λ v. (vec_len v ≡ 0) × IsWide job (vec_capacity v))
+              (sym (get_or-set_other buffers lane l b d (λ q. other (sym q))))
+              (B.free l d below (sym (ap holds (own_other journal e l other)) ∙ none))
 
   module _ (b : Vec Shared Global) (empty : vec_len b ≡ 0) (wide : IsWide job (vec_capacity b)) where
     pub kept_buffers : HasBuffers job lanes journal (set buffers lane b)
@@ -296,9 +314,15 @@ module _ (job : Job) (lanes : ℕ) (journal : List Event) (buffers : List (Vec S
       free = λ l d below none. by_case l d below none (cases_eq l lane);
     }
       where
-        by_case : (l : ℕ) (d : Vec Shared Global) → l < lanes → holds (own journal l) ≡ None → (l ≡ lane) ⊎ (l ≡ lane → ⊥) → (vec_len (get_or (set buffers lane b) l d) ≡ 0) × IsWide job (vec_capacity (get_or (set buffers lane b) l d))
+        by_case : (l : ℕ) (d : Vec Shared Global) → l < lanes → holds (own journal l) ≡ None
+            → (l ≡ lane) ⊎ (l ≡ lane → ⊥)
+            → (vec_len (get_or (set buffers lane b) l d) ≡ 0)
+            × IsWide job (vec_capacity (get_or (set buffers lane b) l d))
         by_case l d below none (inl same) =
-            subst (λ v. (vec_len v ≡ 0) × IsWide job (vec_capacity v)) (sym (ap (λ k. get_or (set buffers lane b) k d) same ∙ get_or-set_same buffers lane b d (let m = B.buffers_length in omega (arith, below, m, same)))) (empty, wide)
+            subst (λ v. (vec_len v ≡ 0) × IsWide job (vec_capacity v))
+                (sym (ap (λ k. get_or (set buffers lane b) k d) same
+                ∙ get_or-set_same buffers lane b d (let m = B.buffers_length in omega (arith, below, m, same))))
+                (empty, wide)
         by_case l d below none (inr other) =
             subst (λ v. (vec_len v ≡ 0) × IsWide job (vec_capacity v)) (sym (get_or-set_other buffers lane l b d other)) (B.free l d below none)
 
@@ -311,19 +335,35 @@ module _ (job : Job) (lanes : ℕ) (journal : List Event) (buffers : List (Vec S
         e : Event
         e = record { kind = kind; lane = lane; position = i }
 
-        by_case : (l : ℕ) (d : Vec Shared Global) → l < lanes → holds (own (journal ++ e ∷ []) l) ≡ None → (l ≡ lane) ⊎ (l ≡ lane → ⊥) → (vec_len (get_or (set buffers lane b) l d) ≡ 0) × IsWide job (vec_capacity (get_or (set buffers lane b) l d))
+        by_case : (l : ℕ) (d : Vec Shared Global) → l < lanes → holds (own (journal ++ e ∷ []) l) ≡ None
+            → (l ≡ lane) ⊎ (l ≡ lane → ⊥)
+            → (vec_len (get_or (set buffers lane b) l d) ≡ 0)
+            × IsWide job (vec_capacity (get_or (set buffers lane b) l d))
         by_case l d below none (inl same) =
-            subst (λ v. (vec_len v ≡ 0) × IsWide job (vec_capacity v)) (sym (ap (λ k. get_or (set buffers lane b) k d) same ∙ get_or-set_same buffers lane b d (let m = B.buffers_length in omega (arith, below, m, same)))) (empty, wide)
+            subst (λ v. (vec_len v ≡ 0) × IsWide job (vec_capacity v))
+                (sym (ap (λ k. get_or (set buffers lane b) k d) same
+                ∙ get_or-set_same buffers lane b d (let m = B.buffers_length in omega (arith, below, m, same))))
+                (empty, wide)
         by_case l d below none (inr other) =
-            subst (λ v. (vec_len v ≡ 0) × IsWide job (vec_capacity v)) (sym (get_or-set_other buffers lane l b d other)) (B.free l d below (sym (ap holds (own_other journal e l (λ q. other (sym q)))) ∙ none))
+            subst (λ v. (vec_len v ≡ 0) × IsWide job (vec_capacity v))
+                (sym (get_or-set_other buffers lane l b d other))
+                (B.free l d below (sym (ap holds (own_other journal e l (λ q. other (sym q)))) ∙ none))
 
 -- the same, in other words
-pub keeps_same : (job : Job) (start : Key → Account) (ks : List Key) (p p' : Positions) (slots slots' : List (Option Shared)) (outcomes outcomes' : List (Option Outcome)) (journal journal' : List Event)
+pub keeps_same : (job : Job) (start : Key → Account) (ks : List Key) (p p' : Positions)
+    (slots slots' : List (Option Shared)) (outcomes outcomes' : List (Option Outcome))
+    (journal journal' : List Event)
     → p' ≡ p → slots' ≡ slots → outcomes' ≡ outcomes → journal' ≡ journal → Keeps job start ks p slots outcomes journal → Keeps job start ks p' slots' outcomes' journal'
 keeps_same job start ks p p' slots slots' outcomes outcomes' journal journal' a b c d K =
-    subst (λ x. Keeps job start ks x slots' outcomes' journal') (sym a) (subst (λ x. Keeps job start ks p x outcomes' journal') (sym b) (subst (λ x. Keeps job start ks p slots x journal') (sym c) (subst (λ x. Keeps job start ks p slots outcomes x) (sym d) K)))
+    subst (λ x. Keeps job start ks x slots' outcomes' journal') (sym a)
+        (subst (λ x. Keeps job start ks p x outcomes' journal') (sym b)
+        (subst (λ x. Keeps job start ks p slots x journal') (sym c)
+        (subst (λ x. Keeps job start ks p slots outcomes x) (sym d) K)))
 
-pub room_after : (count lanes capacity more : ℕ) (journal next : List Event) (e : Event) → HasRoom count lanes capacity journal → e.lane < lanes → (is_return e.kind ≡ true → returns (own journal e.lane) ≡ 0) → next ≡ journal ++ e ∷ [] → capacity ≤ more → HasRoom count lanes more next
+pub room_after : (count lanes capacity more : ℕ) (journal next : List Event) (e : Event)
+    → HasRoom count lanes capacity journal → e.lane < lanes
+    → (is_return e.kind ≡ true → returns (own journal e.lane) ≡ 0) → next ≡ journal ++ e ∷ [] → capacity ≤ more
+    → HasRoom count lanes more next
 room_after count lanes capacity more journal next e R l none same wider =
     subst (HasRoom count lanes more) (sym same) (room_wider count lanes capacity more (journal ++ e ∷ []) wider (room_next count lanes capacity journal e R l none))
 
@@ -331,7 +371,10 @@ pub wide_as : (job : Job) (capacity more : ℕ) → capacity ≤ more → IsWide
 wide_as job capacity more l W i below = let w = W i below in omega (arith, w, l)
 
 -- the buffer that a free lane takes
-pub free_buffer : (job : Job) (lanes : ℕ) (journal : List Event) (buffers : List (Vec Shared Global)) (lane : ℕ) (b : Vec Shared Global) → HasBuffers job lanes journal buffers → lane < lanes → holds (own journal lane) ≡ None → b ≡ get_or buffers lane b → (vec_len b ≡ 0) × IsWide job (vec_capacity b)
+pub free_buffer : (job : Job) (lanes : ℕ) (journal : List Event) (buffers : List (Vec Shared Global)) (lane : ℕ)
+    (b : Vec Shared Global) → HasBuffers job lanes journal buffers → lane < lanes
+    → holds (own journal lane) ≡ None → b ≡ get_or buffers lane b
+    → (vec_len b ≡ 0) × IsWide job (vec_capacity b)
 free_buffer job lanes journal buffers lane b B below none e = subst (λ v. (vec_len v ≡ 0) × IsWide job (vec_capacity v)) (sym e) (B.free lane b below none)
 
 reads_as : (ks : List Key) (set : List NumberedLock) → list_any (λ (lock : Lock). not lock.write) (map (keyed_lock ks) set) ≡ list_any (λ (lock : NumberedLock). not lock.write) set
@@ -341,7 +384,9 @@ reads_as ks (x ∷ xs) = ap (λ b. not x.write || b) (reads_as ks xs)
 pub reads_is : (ks : List Key) (locks : List Lock) (set : List NumberedLock) → Numbers ks locks set → ReadsAny set → list_any (λ (lock : Lock). not lock.write) locks ≡ true
 reads_is ks locks set N r = ap (list_any (λ (lock : Lock). not lock.write)) (sym N.stands_for) ∙ (reads_as ks set ∙ r)
 
-pub lent_many : (job : Job) (start : Key → Account) (ks : List Key) (i : ℕ) (set : List NumberedLock) (values : List Shared) → Numbers ks (job.locks i) set → accounts_of values ≡ map (serial job start i) (keys job i) → length values ≡ length set
+pub lent_many : (job : Job) (start : Key → Account) (ks : List Key) (i : ℕ) (set : List NumberedLock)
+    (values : List Shared) → Numbers ks (job.locks i) set
+    → accounts_of values ≡ map (serial job start i) (keys job i) → length values ≡ length set
 lent_many job start ks i set values N lent =
     sym (length-map values value_of) ∙ (ap length lent ∙ (length-map (keys job i) (serial job start i) ∙ (length-map (job.locks i) (λ (lock : Lock). lock.key) ∙ as_many_locks ks job i set N)))
 
@@ -351,7 +396,9 @@ holder_of (held lane vs) h = (lane, eq-eqb lane lane refl)
 holder_of (done o) h = absurd (cc)
 
 -- where positions are held, one of the lanes holds one
-pub someone_holds : (job : Job) (start : Key → Account) (lanes capacity : ℕ) (journal : List Event) → IsLegal job start journal → HasRoom job.count lanes capacity journal → 1 ≤ held_count job (Run job start journal) → SomeLaneHolds lanes journal
+pub someone_holds : (job : Job) (start : Key → Account) (lanes capacity : ℕ) (journal : List Event)
+    → IsLegal job start journal → HasRoom job.count lanes capacity journal
+    → 1 ≤ held_count job (Run job start journal) → SomeLaneHolds lanes journal
 someone_holds job start lanes capacity journal legal R some =
     let s : State = Run job start journal in
     let found = some_passes (λ i. is_held (s.stage i)) job.count some in

@@ -37,7 +37,10 @@ written_are ks [] = refl
 written_are ks (x ∷ xs) = go x.write (written_are ks xs)
   where
     go : (b : Bool) → lock_keys (filter (λ lock. lock.write) (map (keyed_lock ks) xs)) ≡ map (numbered_key ks) (write_numbers xs)
-        → lock_keys (cond b (keyed_lock ks x ∷ filter (λ lock. lock.write) (map (keyed_lock ks) xs)) (filter (λ lock. lock.write) (map (keyed_lock ks) xs))) ≡ map (numbered_key ks) (numbers (cond b (x ∷ filter (λ lock. lock.write) xs) (filter (λ lock. lock.write) xs)))
+        → lock_keys (cond b (keyed_lock ks x ∷ filter (λ lock. lock.write) (map (keyed_lock ks) xs))
+            (filter (λ lock. lock.write) (map (keyed_lock ks) xs)))
+            ≡ map (numbered_key ks) (numbers
+            (cond b (x ∷ filter (λ lock. lock.write) xs) (filter (λ lock. lock.write) xs)))
     go true rest = ap (λ r. numbered_key ks x.number ∷ r) rest
     go false rest = rest
 
@@ -52,7 +55,9 @@ module _ (ks : List Key) (job : Job) (i : ℕ) (set : List NumberedLock) (N : Nu
   numbers_within = All-map (λ n. n < length ks) (λ (lock : NumberedLock). lock.number) set N.within
 
   pub written_within : All (λ n. n < length ks) (write_numbers set)
-  written_within = All-map (λ n. n < length ks) (λ (lock : NumberedLock). lock.number) (filter (λ lock. lock.write) set) (All-filter (λ (lock : NumberedLock). lock.write) (λ lock. lock.number < length ks) set N.within)
+  written_within = All-map (λ n. n < length ks) (λ (lock : NumberedLock). lock.number)
+      (filter (λ lock. lock.write) set)
+      (All-filter (λ (lock : NumberedLock). lock.write) (λ lock. lock.number < length ks) set N.within)
 
   pub as_many_locks : length (job.locks i) ≡ length set
   as_many_locks = ap length (sym N.stands_for) ∙ length-map set (keyed_lock ks)
@@ -86,22 +91,27 @@ module _ (ks : List Key) (job : Job) (i : ℕ) (set : List NumberedLock) (N : Nu
     pub written_is : (vs : List Account) (n : ℕ) → n < length ks → put_at (write_numbers set) vs slots n ≡ put_in (write_keys job i) (write_keys job i) vs store (numbered_key ks n)
     written_is vs n l =
         ap₂ (λ b o. cond b (Some (beside_number n (write_numbers set) vs)) o) (sym (has_is ks distinct n (write_numbers set) l written_within)) (stored n l)
-        ∙ (ap (λ v. cond (has_key (numbered_key ks n) (map (numbered_key ks) (write_numbers set))) (Some v) (store (numbered_key ks n))) (sym (beside_is ks distinct n (write_numbers set) vs l written_within))
+        ∙ (ap (λ v. cond (has_key (numbered_key ks n) (map (numbered_key ks) (write_numbers set))) (Some v)
+            (store (numbered_key ks n))) (sym (beside_is ks distinct n (write_numbers set) vs l written_within))
         ∙ ap (λ wk. put_in wk wk vs store (numbered_key ks n)) (sym write_keys_is))
 
     -- and the values that go back
-    pub returned_is : AreDistinct set → (vs : List Account) → length vs ≡ length set → (n : ℕ) → n < length ks → put_back_at set vs slots n ≡ put_in (write_keys job i) (keys job i) vs store (numbered_key ks n)
+    pub returned_is : AreDistinct set → (vs : List Account) → length vs ≡ length set → (n : ℕ) → n < length ks
+        → put_back_at set vs slots n ≡ put_in (write_keys job i) (keys job i) vs store (numbered_key ks n)
     returned_is once vs many n l =
         back_is set vs n once many
         ∙ (ap₂ (λ b o. cond b (Some (beside_number n (numbers set) vs)) o) (sym (has_is ks distinct n (write_numbers set) l written_within)) (stored n l)
-        ∙ (ap (λ v. cond (has_key (numbered_key ks n) (map (numbered_key ks) (write_numbers set))) (Some v) (store (numbered_key ks n))) (sym (beside_is ks distinct n (numbers set) vs l numbers_within))
+        ∙ (ap (λ v. cond (has_key (numbered_key ks n) (map (numbered_key ks) (write_numbers set))) (Some v)
+            (store (numbered_key ks n))) (sym (beside_is ks distinct n (numbers set) vs l numbers_within))
         ∙ ap₂ (λ wk k. put_in wk k vs store (numbered_key ks n)) (sym write_keys_is) (sym keys_is)))
       where
         none_has : (m : ℕ) (ns : List ℕ) → AllByRecursion (λ y. (m == y) ≡ false) ns → has m ns ≡ false
         none_has m [] a = refl
         none_has m (y ∷ ys) a = or_from (m == y) (has m ys) a.0 (none_has m ys a.1)
 
-        back_is : (ls : List NumberedLock) (us : List Account) (n : ℕ) → AreDistinct ls → length us ≡ length ls → put_back_at ls us slots n ≡ cond (has n (write_numbers ls)) (Some (beside_number n (numbers ls) us)) (slots n)
+        back_is : (ls : List NumberedLock) (us : List Account) (n : ℕ) → AreDistinct ls → length us ≡ length ls
+            → put_back_at ls us slots n ≡ cond (has n (write_numbers ls))
+            (Some (beside_number n (numbers ls) us)) (slots n)
         back_is [] us n d e = refl
         back_is (x ∷ xs) [] n d e = absurd (omega (arith, e))
         back_is (x ∷ xs) (u ∷ us) n d e =

@@ -83,7 +83,9 @@ sets_first job ks sets n nil e = record {
   numbered = λ i l. absurd (omega (arith, e, l));
 }
 
-pub sets_next : (job : Job) (ks : List Key) (sets more : List (List NumberedLock)) (set : List NumberedLock) (n : ℕ) (locks : List Lock) → SetsSoFar job ks sets n → locks ≡ job.locks n → Numbers ks locks set → more ≡ sets ++ set ∷ []
+pub sets_next : (job : Job) (ks : List Key) (sets more : List (List NumberedLock)) (set : List NumberedLock)
+    (n : ℕ) (locks : List Lock) → SetsSoFar job ks sets n → locks ≡ job.locks n → Numbers ks locks set
+    → more ≡ sets ++ set ∷ []
     → SetsSoFar job ks more (n + 1)
 sets_next job ks sets more set n locks S here numbers pushed = record {
   long = let l = S.long in ap length pushed ∙ (length_push sets set ∙ ap (λ m. m + 1) l);
@@ -99,14 +101,18 @@ sets_next job ks sets more set n locks S here numbers pushed = record {
         (S.numbered i (omega (arith, l, d)))
 
 -- the sets of slots that were filled at their places
-slot_at : (sets : List (List NumberedLock)) (slots : List (Option (List NumberedLock))) (i : ℕ) → map (λ (set : List NumberedLock). Some set) sets ≡ slots → i < length slots → get_or slots i None ≡ Some (set_at sets i)
+slot_at : (sets : List (List NumberedLock)) (slots : List (Option (List NumberedLock))) (i : ℕ)
+    → map (λ (set : List NumberedLock). Some set) sets ≡ slots → i < length slots
+    → get_or slots i None ≡ Some (set_at sets i)
 slot_at sets slots i is below =
     sym (ap (λ (os : List (Option (List NumberedLock))). get_or os i None) is)
     ∙ get_or_default (map (λ (set : List NumberedLock). Some set) sets) i None (Some []) (subst (λ (os : List (Option (List NumberedLock))). i < length os) (sym is) below)
     ∙ get_or-map (λ (set : List NumberedLock). Some set) sets i []
 
-pub sets_read : (job : Job) (ks : List Key) (old new slots : List (Option (List NumberedLock))) (result : Result (List (List NumberedLock)) OutOfMemory) → length old ≡ job.count → length new ≡ length old
-    → ((i : ℕ) (d : Option (List NumberedLock)) → i < length old → NumbersAt ks (job.locks i) (get_or new i d)) → slots ≡ new → IfOk result (λ sets. map (λ (set : List NumberedLock). Some set) sets ≡ slots)
+pub sets_read : (job : Job) (ks : List Key) (old new slots : List (Option (List NumberedLock)))
+    (result : Result (List (List NumberedLock)) OutOfMemory) → length old ≡ job.count → length new ≡ length old
+    → ((i : ℕ) (d : Option (List NumberedLock)) → i < length old → NumbersAt ks (job.locks i) (get_or new i d))
+        → slots ≡ new → IfOk result (λ sets. map (λ (set : List NumberedLock). Some set) sets ≡ slots)
     → IfOk result (λ sets. (i : ℕ) → i < job.count → Numbers ks (job.locks i) (set_at sets i))
 sets_read job ks old new slots (Err _) count kept each same is = tt
 sets_read job ks old new slots (Ok sets) count kept each same is = λ i l.
@@ -128,7 +134,9 @@ found_or None = refl
 found_or (Some a) = refl
 
 -- the accounts that were taken out of a state, in slots
-module _ (s : State) (keys : List Key) (taken slots : List (Option Shared)) (found : map (option_map arc_value) taken ≡ map (get s) keys) (filled : map (option_map value_of) slots ≡ map (λ o. Some (in_slot (option_map value_of o))) taken) where
+module _ (s : State) (keys : List Key) (taken slots : List (Option Shared))
+    (found : map (option_map arc_value) taken ≡ map (get s) keys)
+    (filled : map (option_map value_of) slots ≡ map (λ o. Some (in_slot (option_map value_of o))) taken) where
   stand : (os : List (Option Shared)) (ks : List Key) → map (option_map arc_value) os ≡ map (get s) ks → map (λ o. Some (in_slot (option_map value_of o))) os ≡ map (λ k. Some (at s k)) ks
   stand [] [] e = refl
   stand [] (k ∷ ks) e = absurd (cc)
@@ -183,7 +191,8 @@ pub opening_unheld : (n : ℕ) → count_below (λ i. is_held waiting) n ≡ 0
 opening_unheld zero = refl
 opening_unheld (suc n) = let rest = opening_unheld n in omega (arith, rest)
 
-pub opening_room : (count lanes capacity : ℕ) (journal : List Event) → journal ≡ [] → count < 2 ^ 32 → lanes ≤ max_lane_numbers → 4 * count + 4 * lanes ≤ capacity → HasRoom count lanes capacity journal
+pub opening_room : (count lanes capacity : ℕ) (journal : List Event) → journal ≡ [] → count < 2 ^ 32
+    → lanes ≤ max_lane_numbers → 4 * count + 4 * lanes ≤ capacity → HasRoom count lanes capacity journal
 opening_room count lanes capacity journal nil few most room = subst (HasRoom count lanes capacity) (sym nil) (record {
   few = few;
   most = most;
@@ -192,8 +201,12 @@ opening_room count lanes capacity journal nil few most room = subst (HasRoom cou
   once = λ lane. omega arith;
 })
 
-pub opening_buffers : (job : Job) (ks : List Key) (sets : List (List NumberedLock)) (lanes room : ℕ) (journal : List Event) (buffers : List (Vec Shared Global)) → length sets ≡ job.count → ((i : ℕ) → i < job.count → Numbers ks (job.locks i) (set_at sets i))
-    → ((i : ℕ) → i < length sets → length (set_at sets i) ≤ room) → length buffers ≡ lanes → ((lane : ℕ) (d : Vec Shared Global) → lane < lanes → (vec_len (get_or buffers lane d) ≡ 0) × (room ≤ vec_capacity (get_or buffers lane d)))
+pub opening_buffers : (job : Job) (ks : List Key) (sets : List (List NumberedLock)) (lanes room : ℕ)
+    (journal : List Event) (buffers : List (Vec Shared Global)) → length sets ≡ job.count
+    → ((i : ℕ) → i < job.count → Numbers ks (job.locks i) (set_at sets i))
+    → ((i : ℕ) → i < length sets → length (set_at sets i) ≤ room) → length buffers ≡ lanes
+        → ((lane : ℕ) (d : Vec Shared Global) → lane < lanes
+        → (vec_len (get_or buffers lane d) ≡ 0) × (room ≤ vec_capacity (get_or buffers lane d)))
     → HasBuffers job lanes journal buffers
 opening_buffers job ks sets lanes room journal buffers long numbered most many free = record {
   buffers_length = many;

@@ -31,7 +31,9 @@ write_numbers_more [] x = refl
 write_numbers_more (y ∷ ys) x = go y.write (write_numbers_more ys x)
   where
     go : (b : Bool) → write_numbers (ys ++ x ∷ []) ≡ write_numbers ys ++ write_numbers (x ∷ [])
-        → numbers (cond b (y ∷ filter (λ l. l.write) (ys ++ x ∷ [])) (filter (λ l. l.write) (ys ++ x ∷ []))) ≡ numbers (cond b (y ∷ filter (λ l. l.write) ys) (filter (λ l. l.write) ys)) ++ write_numbers (x ∷ [])
+        → numbers (cond b (y ∷ filter (λ l. l.write) (ys ++ x ∷ [])) (filter (λ l. l.write) (ys ++ x ∷ [])))
+            ≡ numbers (cond b (y ∷ filter (λ l. l.write) ys) (filter (λ l. l.write) ys))
+            ++ write_numbers (x ∷ [])
     go true ih = ap (λ ns. y.number ∷ ns) ih
     go false ih = ih
 
@@ -97,7 +99,9 @@ module _ (slots : List (Option Shared)) (locks : List NumberedLock) (i : ℕ) (a
 
 -- one turn from the back, where a lock writes, and where it reads
 pub put_write_at : (slots : List (Option Shared)) (locks : List NumberedLock) (at : ℕ) (all left rest : List Shared) (o : Option Shared) (old : ℕ → Option Account) (lock d : NumberedLock)
-    → PutSoFar slots locks at all left old → 0 < at → lock ≡ get_or locks (at - 1) d → IfSome o (λ x. left ≡ rest ++ x ∷ []) → IfNone o ((left ≡ []) × (rest ≡ [])) → lock.write ≡ true → All (λ l. l.number < length slots) locks
+    → PutSoFar slots locks at all left old → 0 < at → lock ≡ get_or locks (at - 1) d
+        → IfSome o (λ x. left ≡ rest ++ x ∷ []) → IfNone o ((left ≡ []) × (rest ≡ [])) → lock.write ≡ true
+        → All (λ l. l.number < length slots) locks
     → PutSoFar (set slots lock.number o) locks (at - 1) all rest old
 put_write_at slots locks at all left rest o old lock d h more here some none w within = by_case o some none
   where
@@ -175,7 +179,9 @@ module _ (slots : List (Option Shared)) (locks : List NumberedLock) (all left re
   pub back_write : (first : List (Option Shared)) → All (λ x. x.number < length first) locks → length slots ≡ length first → (get_or locks at d).write ≡ true
       → BackSoFar (set slots (get_or locks at d).number (Some a)) locks all rest old
   back_write first within same w =
-      let l : (get_or locks at d).number < length slots = subst (λ k. (get_or locks at d).number < k) (sym same) (within at d (let r = h.fewer in let e = ap length pop ∙ length_push rest a in omega (arith, fits, here))) in
+      let l : (get_or locks at d).number < length slots = subst (λ k. (get_or locks at d).number < k) (sym same)
+          (within at d (let r = h.fewer in let e = ap length pop
+          ∙ length_push rest a in omega (arith, fits, here))) in
       back_step slots (set slots (get_or locks at d).number (Some a)) locks all left rest a old (get_or locks at d) h pop fits read_lock (λ n.
       account_set slots (get_or locks at d).number n (Some a) l ∙ ap (λ b. cond (b && (n == (get_or locks at d).number)) (Some (value_of a)) (account_at slots n)) (sym w))
 

@@ -53,7 +53,9 @@ pub is_start : (job : Job) (start rest : State) (ks : List Key) (p : Positions) 
     → Keeps job (at start) ks p slots outcomes journal → IsApart start rest ks → IsStart job (at start) ks
 is_start job start rest ks p slots outcomes journal K A = record {
   distinct = K.distinct;
-  all = λ i key l h. among ks (numbers (set_at p.sets i)) key (numbers_within ks job i (set_at p.sets i) (K.of.numbered i l)) (sym (ap (has_key key) (keys_is ks job i (set_at p.sets i) (K.of.numbered i l))) ∙ h);
+  all = λ i key l h. among ks (numbers (set_at p.sets i)) key
+      (numbers_within ks job i (set_at p.sets i) (K.of.numbered i l))
+      (sym (ap (has_key key) (keys_is ks job i (set_at p.sets i) (K.of.numbered i l))) ∙ h);
   supply = let a = apart_sum start rest ks K.distinct A in let b = A.is_start.fits in omega (arith, a, b);
   short = λ key. (at_fits start A.is_start key).0;
   settled = λ key. (at_fits start A.is_start key).1;

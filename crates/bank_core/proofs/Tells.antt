@@ -19,7 +19,9 @@ use Rattle.bank_core.specs.Ends.{serial_outcomes}
 use Rattle.bank_core.specs.Told.{done_from, up_to_none}
 
 -- a part of a list whose items a function gives
-pub sliced : {X : Type 0} (xs : List (Option X)) (f : ℕ → Option X) (from most : ℕ) → from + most ≤ length xs → ((i : ℕ) → i < length xs → get_or xs i None ≡ f i) → take most (drop from xs) ≡ map f (range_with_len from most)
+pub sliced : {X : Type 0} (xs : List (Option X)) (f : ℕ → Option X) (from most : ℕ) → from + most ≤ length xs
+    → ((i : ℕ) → i < length xs → get_or xs i None ≡ f i)
+    → take most (drop from xs) ≡ map f (range_with_len from most)
 sliced xs f from zero within each = refl
 sliced xs f from (suc most) within each =
     let below : from < length xs = omega (arith, within) in
@@ -29,7 +31,11 @@ sliced xs f from (suc most) within each =
 module _ (job : Job) (start : Key → Account) where
   -- the serial run from a position on
   serial_more : (from : ℕ) → from < job.count → drop from (serial_outcomes job start) ≡ result job start from ∷ drop (from + 1) (serial_outcomes job start)
-  serial_more from below = drop_more (serial_outcomes job start) from (result job start from) (omega (arith, below, length-map-range_with_len (result job start) 0 job.count)) ∙ ap (λ o. o ∷ drop (from + 1) (serial_outcomes job start)) (get_or-map-range_with_len (result job start) 0 job.count from from (result job start from) below (omega arith))
+  serial_more from below = drop_more (serial_outcomes job start) from (result job start from)
+      (omega (arith, below, length-map-range_with_len (result job start) 0 job.count))
+      ∙ ap (λ o. o ∷ drop (from + 1) (serial_outcomes job start))
+      (get_or-map-range_with_len (result job start) 0 job.count from from (result job start from) below
+      (omega arith))
 
   one_told : (from : ℕ) (x : Stage) (later : List (Option Outcome)) → Agrees job start from x → from < job.count
       → up_to_none later ≡ take (length (up_to_none later)) (drop (from + 1) (serial_outcomes job start))
@@ -43,7 +49,9 @@ module _ (job : Job) (start : Key → Account) where
       → done_from (Run job start events).stage from most ≡ take (length (done_from (Run job start events).stage from most)) (drop from (serial_outcomes job start))
   told_serial events legal from zero within = refl
   told_serial events legal from (suc most) within =
-      one_told from ((Run job start events).stage from) (map (λ i. outcome_of ((Run job start events).stage i)) (range_with_len (from + 1) most)) ((run_sound job start events legal).agrees from) (omega (arith, within))
+      one_told from ((Run job start events).stage from)
+          (map (λ i. outcome_of ((Run job start events).stage i)) (range_with_len (from + 1) most))
+          ((run_sound job start events legal).agrees from) (omega (arith, within))
       (told_serial events legal (from + 1) most (omega (arith, within)))
 
   -- those of a core are copied from its list

@@ -41,7 +41,10 @@ line_again : (line : List ℕ) → LineFits line → IsBytes (sized_bytes line) 
 unfolding line_in
 line_again line fits are = rw (fits.text, fits.short) refl
 
-failure_again : (index code detail : ℕ) (d : Data) → d ≡ object (member (codes "code") (number_json code) (member (codes "detail") (number_json detail) (member (codes "index") (number_json index) no_members))) → index ≤ 2 ^ 8 - 1 → code ≤ 2 ^ 16 - 1 → detail ≤ 2 ^ 32 - 1
+failure_again : (index code detail : ℕ) (d : Data)
+    → d ≡ object (member (codes "code") (number_json code)
+    (member (codes "detail") (number_json detail) (member (codes "index") (number_json index) no_members)))
+    → index ≤ 2 ^ 8 - 1 → code ≤ 2 ^ 16 - 1 → detail ≤ 2 ^ 32 - 1
     → failure_in d ≡ Ok (part_bytes 1 index code detail)
 unfolding failure_in known_in
 failure_again index code detail d is low mid high = rw is (rw (
@@ -60,7 +63,9 @@ status_again (Failed index cause detail) fits =
     member_again (codes "failed") failure_in (status_json (Failed index cause detail)) failure (part_bytes 1 index (code_of cause) detail) refl read
 status_again (Dropped cause) fits =
     let code = drop_code_of-fits cause in
-    rw (member_again (codes "dropped") (number_in 0 (2 ^ 16 - 1)) (status_json (Dropped cause)) (number_json (drop_code_of cause)) (drop_code_of cause) refl (number_again 0 (2 ^ 16 - 1) (drop_code_of cause) (omega arith) (omega (arith, code)))) refl
+    rw (member_again (codes "dropped") (number_in 0 (2 ^ 16 - 1)) (status_json (Dropped cause))
+        (number_json (drop_code_of cause)) (drop_code_of cause) refl
+        (number_again 0 (2 ^ 16 - 1) (drop_code_of cause) (omega arith) (omega (arith, code)))) refl
 
 -- ---- entries
 
@@ -141,7 +146,9 @@ fields_again block bytes is are =
       member_again (codes "collector") (digits_in 32) d (hex_json block.collector.0) block.collector.0 refl (digits_again 32 block.collector.0 has.collector collector_are),
       member_again (codes "previous") (digits_in 32) d (hex_json block.previous.0) block.previous.0 refl (digits_again 32 block.previous.0 has.previous previous_are),
       member_again (codes "entries") (list_in max_transactions entry_in) d (list_json entry_json block.entries) (length block.entries, all) refl
-          (list_again max_transactions entry_in entry_json block.entries all is.counted.entries (items_again entry_in entry_json entry_bytes EntryFits entry_again 0 block.entries entries_fit all_are)),
+          (list_again max_transactions entry_in entry_json block.entries all is.counted.entries
+              (items_again entry_in entry_json entry_bytes EntryFits entry_again 0 block.entries entries_fit
+              all_are)),
       number_there (codes "burned") block.burned refl has.burned,
       number_there (codes "collected") block.collected refl has.collected,
       member_again (codes "state") (digits_in 32) d (hex_json state) state refl (digits_again 32 state has.state state_are),

@@ -92,12 +92,18 @@ limits_again limits fits =
     rw (
       member_again (codes "keys") (number_in 1 max_transaction_keys) d (number_json limits.keys) limits.keys refl (number_again 1 max_transaction_keys limits.keys fits.keys.0 fits.keys.1),
       member_again (codes "height") (number_in 1 max_stack_height) d (number_json limits.height) limits.height refl (number_again 1 max_stack_height limits.height fits.height.0 fits.height.1),
-      member_again (codes "key_units") (number_in 1 max_block_units) d (number_json limits.key_units) limits.key_units refl (number_again 1 max_block_units limits.key_units fits.key_units.0 fits.key_units.1),
-      member_again (codes "block_units") (number_in 1 max_block_units) d (number_json limits.block_units) limits.block_units refl (number_again 1 max_block_units limits.block_units fits.block_units.0 fits.block_units.1),
+      member_again (codes "key_units") (number_in 1 max_block_units) d (number_json limits.key_units)
+          limits.key_units refl (number_again 1 max_block_units limits.key_units fits.key_units.0
+          fits.key_units.1),
+      member_again (codes "block_units") (number_in 1 max_block_units) d (number_json limits.block_units)
+          limits.block_units refl (number_again 1 max_block_units limits.block_units fits.block_units.0
+          fits.block_units.1),
     ) refl
 
 -- each account of a state is such
-accounts_fit : (es : List (Key × Account)) → AllByRecursion (λ e. IsKey e.0) es → AllByRecursion (λ e. IsKey e.1.owner) es → AllByRecursion (λ e. IsHeld e.1) es → lamports_of es ≤ 2 ^ 64 - 1 → AllByRecursion AccountFits es
+accounts_fit : (es : List (Key × Account)) → AllByRecursion (λ e. IsKey e.0) es
+    → AllByRecursion (λ e. IsKey e.1.owner) es → AllByRecursion (λ e. IsHeld e.1) es
+    → lamports_of es ≤ 2 ^ 64 - 1 → AllByRecursion AccountFits es
 accounts_fit [] keys owners held fits = tt
 accounts_fit (e ∷ es) keys owners held fits =
     let sum = sum_by-cons (λ (d : Key × Account). d.1.lamports) e es in (
@@ -123,10 +129,15 @@ fits_from bytes prefix begins =
       slot = let t = has.slot in omega arith;
       marks = fits-from_recent s.recent is.recent is.messages has.hashes has.names;
       few = subst (λ n. n ≤ max_accounts) (len-entries s.accounts) is.accounts;
-      accounts = accounts_fit (entries s.accounts) (recursion_from_All (λ e. IsKey e.0) (entries s.accounts) has.keys) (recursion_from_All (λ e. IsKey e.1.owner) (entries s.accounts) has.owners) is.state.held is.state.fits;
+      accounts = accounts_fit (entries s.accounts)
+          (recursion_from_All (λ e. IsKey e.0) (entries s.accounts) has.keys)
+          (recursion_from_All (λ e. IsKey e.1.owner) (entries s.accounts) has.owners) is.state.held
+          is.state.fits;
     }
 
-sections_again : (s : Snapshot) (d : Data) → get (codes "recent") d ≡ Some (list_json mark_json s.recent) → get (codes "accounts") d ≡ Some (list_json account_json (entries s.accounts)) → Fits s → IsBytes (marks_bytes s.recent) → IsBytes (state_bytes s.accounts)
+sections_again : (s : Snapshot) (d : Data) → get (codes "recent") d ≡ Some (list_json mark_json s.recent)
+    → get (codes "accounts") d ≡ Some (list_json account_json (entries s.accounts)) → Fits s
+    → IsBytes (marks_bytes s.recent) → IsBytes (state_bytes s.accounts)
     → sections_in d ≡ Ok (marks_bytes s.recent ++ state_bytes s.accounts)
 unfolding sections_in
 sections_again s d recent accounts fits marks_are state_are =
@@ -137,9 +148,13 @@ sections_again s d recent accounts fits marks_are state_are =
     let all = flat_map account_bytes es in
     rw (
       member_again (codes "recent") (list_in max_marks mark_in) d (list_json mark_json s.recent) (length s.recent, marks) recent
-          (list_again max_marks mark_in mark_json s.recent marks fits.marks.few (items_again mark_in mark_json mark_bytes MarkFits mark_again 0 s.recent fits.marks.each (after_bytes _ mark_count marks marks_are refl))),
+          (list_again max_marks mark_in mark_json s.recent marks fits.marks.few
+              (items_again mark_in mark_json mark_bytes MarkFits mark_again 0 s.recent fits.marks.each
+              (after_bytes _ mark_count marks marks_are refl))),
       member_again (codes "accounts") (list_in max_accounts account_in) d (list_json account_json es) (length es, all) accounts
-          (list_again max_accounts account_in account_json es all fits.few (items_again account_in account_json account_bytes AccountFits account_again 0 es fits.accounts (after_bytes _ count all state_are refl))),
+          (list_again max_accounts account_in account_json es all fits.few
+              (items_again account_in account_json account_bytes AccountFits account_again 0 es fits.accounts
+              (after_bytes _ count all state_are refl))),
     ) (ap Ok (append_assoc (mark_count ++ marks) count all))
 
 slot_again : (s : Snapshot) (d : Data) → get (codes "slot") d ≡ Some (number_json s.slot) → Fits s → member_in (codes "slot") (number_in 0 (2 ^ 64 - 1)) d ≡ Ok s.slot
@@ -194,7 +209,10 @@ pub snapshots_again : (bytes : List ℕ) (d : Data) → IsBytes bytes → data_o
 unfolding data_of_snapshot
 snapshots_again bytes d are shown = by_prefix (prefix_of bytes) refl shown
   where
-    by_length : (prefix : Prefix) (whole : Bool) → prefix_of bytes ≡ Ok prefix → (prefix.length == length bytes) ≡ whole → (if whole then Ok (snapshot_json bytes prefix.snapshot) else Err (Trailing prefix.length)) ≡ (let r : Read Data = Ok d in r) → snapshot_of_data d ≡ Ok bytes
+    by_length : (prefix : Prefix) (whole : Bool) → prefix_of bytes ≡ Ok prefix
+        → (prefix.length == length bytes) ≡ whole
+        → (if whole then Ok (snapshot_json bytes prefix.snapshot) else Err (Trailing prefix.length))
+        ≡ (let r : Read Data = Ok d in r) → snapshot_of_data d ≡ Ok bytes
     by_length prefix true read whole h =
         let same : snapshot_json bytes prefix.snapshot ≡ d = ok_same _ _ h in
         subst (λ (e : Data). snapshot_of_data e ≡ Ok bytes) same (all_again bytes prefix are read (grind (arith, nat_tests)))

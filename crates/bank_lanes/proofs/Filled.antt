@@ -18,7 +18,9 @@ module _ {L S : Type 0} where
   ]
 
   -- the same, where nothing was lent to the next one
-  pub filled_none : (seats : List (GroupSeat L S)) (at : ℕ) (seat : GroupSeat L S) → at < length seats → AllWithin IsLent seats 0 at → IsEmpty seat → AllWithin IsEmpty seats at (length seats) → AreFilledFrom 0 (set seats at seat)
+  pub filled_none : (seats : List (GroupSeat L S)) (at : ℕ) (seat : GroupSeat L S) → at < length seats
+      → AllWithin IsLent seats 0 at → IsEmpty seat → AllWithin IsEmpty seats at (length seats)
+      → AreFilledFrom 0 (set seats at seat)
   filled_none seats at seat within lent one empty =
       filled_front (set seats at seat) at (AllWithin-kept seats at seat within IsLent lent)
       (λ k d a b. AllWithin-set IsEmpty seats at (length seats) at seat within one empty k d a (let n : length (set seats at seat) ≡ length seats = simp length-set in omega (arith, b, n)))
@@ -31,19 +33,25 @@ module _ {L S : Type 0} where
       (filled j k d (omega (arith, a)) b (omega (arith, l, n)) (subst IsEmpty (get_or-set_other seats at j seat d (λ q. omega (arith, q, a))) e))
 
   -- where a seat stays empty or lent
-  pub filled_set : (seats : List (GroupSeat L S)) (at : ℕ) (seat d : GroupSeat L S) → at < length seats → (IsEmpty (get_or seats at d) → IsEmpty seat) → (IsEmpty seat → IsEmpty (get_or seats at d)) → AreFilledFrom 0 seats → AreFilledFrom 0 (set seats at seat)
+  pub filled_set : (seats : List (GroupSeat L S)) (at : ℕ) (seat d : GroupSeat L S) → at < length seats
+      → (IsEmpty (get_or seats at d) → IsEmpty seat) → (IsEmpty seat → IsEmpty (get_or seats at d))
+      → AreFilledFrom 0 seats → AreFilledFrom 0 (set seats at seat)
   filled_set seats at seat d within empty some filled j k e a b l q =
       let n : length (set seats at seat) ≡ length seats = simp length-set in
       let last : k < length seats = omega (arith, l, n) in
       let first : j < length seats = omega (arith, last, b) in
       let one : get_or seats at d ≡ get_or seats at e = get_or_default seats at d e within in
       let was : IsEmpty (get_or seats j e) = elim (cases_eq j at) [
-        | inl is ↦ subst (λ m. IsEmpty (get_or seats m e)) (sym is) (subst IsEmpty one (some (subst IsEmpty (get_or-set_same seats at seat e within) (subst (λ m. IsEmpty (get_or (set seats at seat) m e)) is q))))
+        | inl is ↦ subst (λ m. IsEmpty (get_or seats m e)) (sym is)
+            (subst IsEmpty one (some (subst IsEmpty (get_or-set_same seats at seat e within)
+            (subst (λ m. IsEmpty (get_or (set seats at seat) m e)) is q))))
         | inr other ↦ subst IsEmpty (get_or-set_other seats at j seat e other) q
       ] in
       let then : IsEmpty (get_or seats k e) = filled j k e a b last was in
       elim (cases_eq k at) [
-        | inl is ↦ subst (λ m. IsEmpty (get_or (set seats at seat) m e)) (sym is) (subst IsEmpty (sym (get_or-set_same seats at seat e within)) (empty (subst IsEmpty (sym one) (subst (λ m. IsEmpty (get_or seats m e)) is then))))
+        | inl is ↦ subst (λ m. IsEmpty (get_or (set seats at seat) m e)) (sym is)
+            (subst IsEmpty (sym (get_or-set_same seats at seat e within))
+            (empty (subst IsEmpty (sym one) (subst (λ m. IsEmpty (get_or seats m e)) is then))))
         | inr other ↦ subst IsEmpty (sym (get_or-set_other seats at k seat e other)) then
       ]
 
@@ -58,7 +66,9 @@ module _ {L S : Type 0} where
       | inl is ↦ subst (λ m. PassesFor gate loan (get_or old m e).holding (get_or old m e).passes (get_or (set seats at seat) m e).passes) (sym is)
           (subst (λ (x : GroupSeat L S). PassesFor gate loan (get_or old at e).holding (get_or old at e).passes x.passes) (sym (get_or-set_same seats at seat e within))
           (subst (λ (x : GroupSeat L S). PassesFor gate loan x.holding x.passes seat.passes) (get_or_default seats at d e within ∙ rest at e (omega arith)) one))
-      | inr other ↦ subst (λ (x : GroupSeat L S). PassesFor gate loan (get_or old k e).holding (get_or old k e).passes x.passes) (sym (get_or-set_other seats at k seat e other)) (before k e (omega (arith, l, other)))
+      | inr other ↦ subst (λ (x : GroupSeat L S). PassesFor gate loan (get_or old k e).holding
+          (get_or old k e).passes x.passes) (sym (get_or-set_other seats at k seat e other))
+          (before k e (omega (arith, l, other)))
     ]
 
     -- those behind hold nothing

@@ -57,7 +57,9 @@ keeps_free gate mine ls ms v w keeps free l one was = by_case (is_one_of mine l)
     by_case false e = let here = subst (λ (x : List ℕ). is_one_of x l ≡ true) keeps.lanes one in ap holds (keeps.others l here e) ∙ was here
 
 -- the same of a lane that gave nothing back
-pub keeps_once : (gate : ℕ → ℕ → Type 0) (mine ls ms : List ℕ) (v w : PassView) (l : ℕ) → KeepsTo gate mine ls v ms w → is_one_of ls l ≡ true → returns (own v.seen l) ≡ 0 → (is_one_of mine l ≡ true → returns (own w.seen l) ≡ 0) → returns (own w.seen l) ≡ 0
+pub keeps_once : (gate : ℕ → ℕ → Type 0) (mine ls ms : List ℕ) (v w : PassView) (l : ℕ)
+    → KeepsTo gate mine ls v ms w → is_one_of ls l ≡ true → returns (own v.seen l) ≡ 0
+    → (is_one_of mine l ≡ true → returns (own w.seen l) ≡ 0) → returns (own w.seen l) ≡ 0
 keeps_once gate mine ls ms v w l keeps there none one = by_case (is_one_of mine l) refl
   where
     by_case : (b : Bool) → is_one_of mine l ≡ b → returns (own w.seen l) ≡ 0
@@ -108,7 +110,9 @@ widened_split gate ls ms v w is same stays each = record {
   behind = behind_none gate ls ms v w is each;
 }
 
-pub widened_join : (gate : ℕ → ℕ → Type 0) (ls ms ns : List ℕ) (v other w : PassView) → ns ≡ ms ++ ls → Stays v w → TookIn v other w → SeesNoneOf ls v w → SeesNoneOf ms other w → HoldsNothing ms other → CommitBehind gate ms other → Widened gate ls v ns w
+pub widened_join : (gate : ℕ → ℕ → Type 0) (ls ms ns : List ℕ) (v other w : PassView) → ns ≡ ms ++ ls
+    → Stays v w → TookIn v other w → SeesNoneOf ls v w → SeesNoneOf ms other w → HoldsNothing ms other
+    → CommitBehind gate ms other → Widened gate ls v ns w
 widened_join gate ls ms ns v other w is stays took each each_other free behind = record {
   lane = stays.lane;
   longer = stays.longer;

@@ -96,13 +96,17 @@ module _ {T L S : Type 0} (loan : L → LoanView T) (spent : S → LoanView T) (
   }
 
   -- a seat that was lent a position
-  pub seat_lent : (lane : ℕ) (gave : Bool) (passes : Passes) (l : L) (of : LoanView T) (position : ℕ) (old new : List Event) → loan l ≡ of → new ≡ with_event old Grant lane position → of.lane ≡ lane → of.position ≡ position → of.origin ≡ origin → returns (own old lane) ≡ 0 → passes.lane ≡ lane
+  pub seat_lent : (lane : ℕ) (gave : Bool) (passes : Passes) (l : L) (of : LoanView T) (position : ℕ)
+      (old new : List Event) → loan l ≡ of → new ≡ with_event old Grant lane position → of.lane ≡ lane
+      → of.position ≡ position → of.origin ≡ origin → returns (own old lane) ≡ 0 → passes.lane ≡ lane
       → Sits (record { lane = lane; holding = what.Loan l; gave_back = gave; passes = passes }) new
   seat_lent lane gave passes l of position old new seen grown on at from none its =
       let back : returns (own new lane) ≡ 0 = (let a = grown_returns old new Grant lane position grown in omega (arith, a, none)) in
       record {
         holding = subst (IsHeldBy origin lane new) (sym seen)
-            (record { lane_is = on; origin_is = from; held = ap (λ (k : ℕ). holds (own new k)) on ∙ (grown_holds old new Grant lane position grown ∙ ap Some (sym at)); once = ap (λ (k : ℕ). returns (own new k)) on ∙ back });
+            (record { lane_is = on; origin_is = from; held = ap (λ (k : ℕ). holds (own new k)) on
+                ∙ (grown_holds old new Grant lane position grown ∙ ap Some (sym at)); once = ap
+                (λ (k : ℕ). returns (own new k)) on ∙ back });
         once = λ _. back;
         passes_lane = its;
         passed = tt;
@@ -123,8 +127,12 @@ module _ {T L S : Type 0} (loan : L → LoanView T) (spent : S → LoanView T) (
   set_lanes (x ∷ xs) (suc n) seat d same = ap (λ (ns : List ℕ). x.lane ∷ ns) (set_lanes xs n seat d same)
 
   -- one seat changes: alone, or as its lane's events do
-  module _ (lanes : List ℕ) (seats : List Seat) (at : ℕ) (seat d : Seat) (old new : List Event) (within : at < length seats) (same : seat.lane ≡ (get_or seats at d).lane) (all : AreSeats loan spent job origin gate lanes seats old) where
-    one_changes : (((k : ℕ) (e : Seat) → k < length seats → k ≢ at → own new (get_or seats k e).lane ≡ own old (get_or seats k e).lane)) → Sits seat new → AreSeats loan spent job origin gate lanes (set seats at seat) new
+  module _ (lanes : List ℕ) (seats : List Seat) (at : ℕ) (seat d : Seat) (old new : List Event)
+      (within : at < length seats) (same : seat.lane ≡ (get_or seats at d).lane)
+      (all : AreSeats loan spent job origin gate lanes seats old) where
+    one_changes : (((k : ℕ) (e : Seat) → k < length seats → k ≢ at
+        → own new (get_or seats k e).lane ≡ own old (get_or seats k e).lane)) → Sits seat new
+        → AreSeats loan spent job origin gate lanes (set seats at seat) new
     one_changes others one = record {
       lanes_are = subst (AreOwnLanes lanes) (sym (set_lanes seats at seat d same)) all.lanes_are;
       each = λ k e l.
@@ -142,7 +150,9 @@ module _ {T L S : Type 0} (loan : L → LoanView T) (spent : S → LoanView T) (
         (lane_at seats k e l ∙ (sym is ∙ sym (lane_at seats at d within))))))
         one
 
-  pub seat_set : (lanes : List ℕ) (seats : List Seat) (at : ℕ) (seat d : Seat) (seen : List Event) → at < length seats → seat.lane ≡ (get_or seats at d).lane → (Sits (get_or seats at d) seen → Sits seat seen)
+  pub seat_set : (lanes : List ℕ) (seats : List Seat) (at : ℕ) (seat d : Seat) (seen : List Event)
+      → at < length seats → seat.lane ≡ (get_or seats at d).lane
+      → (Sits (get_or seats at d) seen → Sits seat seen)
       → AreSeats loan spent job origin gate lanes seats seen → AreSeats loan spent job origin gate lanes (set seats at seat) seen
   seat_set lanes seats at seat d seen within same then all = one_changes lanes seats at seat d seen seen within same all (λ k e l not. refl) (then (all.each at d within))
 
@@ -152,12 +162,16 @@ module _ {T L S : Type 0} (loan : L → LoanView T) (spent : S → LoanView T) (
   seats_kept lanes more seats old new wider same all = record {
     lanes_are = record { within = λ k l. wider (get_or (seat_lanes seats) k 0) (all.lanes_are.within k l); apart = all.lanes_are.apart };
     each = λ k d l. seat_stays (get_or seats k d) old new
-        (same_own lanes old new (get_or seats k d).lane same (subst (λ (n : ℕ). is_one_of lanes n ≡ true) (lane_at seats k d l) (all.lanes_are.within k (let n = lanes_length seats in omega (arith, l, n)))))
+        (same_own lanes old new (get_or seats k d).lane same
+            (subst (λ (n : ℕ). is_one_of lanes n ≡ true) (lane_at seats k d l)
+            (all.lanes_are.within k (let n = lanes_length seats in omega (arith, l, n)))))
         (all.each k d l);
   }
 
   -- the lane of a seat is one of them
-  pub lane_within : (lanes : List ℕ) (seats : List Seat) (seen : List Event) (k : ℕ) (d : Seat) → k < length seats → AreSeats loan spent job origin gate lanes seats seen → is_one_of lanes (get_or seats k d).lane ≡ true
+  pub lane_within : (lanes : List ℕ) (seats : List Seat) (seen : List Event) (k : ℕ) (d : Seat)
+      → k < length seats → AreSeats loan spent job origin gate lanes seats seen
+      → is_one_of lanes (get_or seats k d).lane ≡ true
   lane_within lanes seats seen k d l all = subst (λ (n : ℕ). is_one_of lanes n ≡ true) (lane_at seats k d l) (all.lanes_are.within k (let n = lanes_length seats in omega (arith, l, n)))
 
   one_at : (ns : List ℕ) (k : ℕ) → k < length ns → is_one_of ns (get_or ns k 0) ≡ true
@@ -173,11 +187,16 @@ module _ {T L S : Type 0} (loan : L → LoanView T) (spent : S → LoanView T) (
   lane_among seats k d l = subst (λ (n : ℕ). is_one_of (seat_lanes seats) n ≡ true) (lane_at seats k d l) (one_at (seat_lanes seats) k (let n = lanes_length seats in omega (arith, l, n)))
 
   -- a turn goes on by what one seat's lane does
-  pub advance : (mine ls ms ns : List ℕ) (u v w : PassView) (seats : List Seat) (at : ℕ) (seat d : Seat) → at < length seats → seat_lanes seats ≡ mine → KeepsTo gate mine ls u ms v → AreSeats loan spent job origin gate ms seats v.seen
+  pub advance : (mine ls ms ns : List ℕ) (u v w : PassView) (seats : List Seat) (at : ℕ) (seat d : Seat)
+      → at < length seats → seat_lanes seats ≡ mine → KeepsTo gate mine ls u ms v
+      → AreSeats loan spent job origin gate ms seats v.seen
       → ns ≡ ms → seat.lane ≡ (get_or seats at d).lane → StepsOn gate (get_or seats at d).lane v w → Sits seat w.seen
       → KeepsTo gate mine ls u ns w × (seat_lanes (set seats at seat) ≡ mine) × AreSeats loan spent job origin gate ns (set seats at seat) w.seen
   advance mine ls ms ns u v w seats at seat d within same keeps all is lane step one = (
-    keeps_then gate mine ls ms ns u v w keeps (keeps_step gate mine ms ns (get_or seats at d).lane v w is (subst (λ (x : List ℕ). is_one_of x (get_or seats at d).lane ≡ true) same (lane_among seats at d within)) step),
+    keeps_then gate mine ls ms ns u v w keeps
+        (keeps_step gate mine ms ns (get_or seats at d).lane v w is
+        (subst (λ (x : List ℕ). is_one_of x (get_or seats at d).lane ≡ true) same
+        (lane_among seats at d within)) step),
     set_lanes seats at seat d lane ∙ same,
     subst (λ (x : List ℕ). AreSeats loan spent job origin gate x (set seats at seat) w.seen) (sym is) (seats_set ms seats at seat d v.seen w.seen within lane all step.grew one),
   )
@@ -186,12 +205,16 @@ module _ {T L S : Type 0} (loan : L → LoanView T) (spent : S → LoanView T) (
   place_of [] l is = absurd (cc is)
   place_of (n ∷ ns) l is = by_case (eqb n l) refl is (place_of ns l)
     where
-      by_case : (b : Bool) → eqb n l ≡ b → (b || is_one_of ns l) ≡ true → (is_one_of ns l ≡ true → (k : ℕ) × (k < length ns) × (get_or ns k 0 ≡ l)) → (k : ℕ) × (k < length (n ∷ ns)) × (get_or (n ∷ ns) k 0 ≡ l)
+      by_case : (b : Bool) → eqb n l ≡ b → (b || is_one_of ns l) ≡ true
+          → (is_one_of ns l ≡ true → (k : ℕ) × (k < length ns) × (get_or ns k 0 ≡ l))
+          → (k : ℕ) × (k < length (n ∷ ns)) × (get_or (n ∷ ns) k 0 ≡ l)
       by_case true e t rest = (0, omega arith, eqb-true n l e)
       by_case false e t rest = let r = rest t in (suc r.0, omega (arith, r.1), r.2)
 
   -- empty seats' lanes hold nothing
-  pub none_held : (lanes : List ℕ) (seats : List Seat) (seen : List Event) → AreSeats loan spent job origin gate lanes seats seen → All IsEmpty seats → (l : ℕ) → is_one_of (seat_lanes seats) l ≡ true → holds (own seen l) ≡ None
+  pub none_held : (lanes : List ℕ) (seats : List Seat) (seen : List Event)
+      → AreSeats loan spent job origin gate lanes seats seen → All IsEmpty seats → (l : ℕ)
+      → is_one_of (seat_lanes seats) l ≡ true → holds (own seen l) ≡ None
   none_held lanes seats seen all empty l is =
       let r = place_of (seat_lanes seats) l is in
       let here : r.0 < length seats = (let n = lanes_length seats in omega (arith, r.1, n)) in
@@ -201,7 +224,9 @@ module _ {T L S : Type 0} (loan : L → LoanView T) (spent : S → LoanView T) (
       subst (λ (n : ℕ). holds (own seen n) ≡ None) (sym (lane_at seats r.0 d here) ∙ r.2) free
 
   -- the lanes of seats that have kept have given nothing back
-  pub none_back : (lanes : List ℕ) (seats : List Seat) (seen : List Event) → AreSeats loan spent job origin gate lanes seats seen → All HasKept seats → (l : ℕ) → is_one_of (seat_lanes seats) l ≡ true → returns (own seen l) ≡ 0
+  pub none_back : (lanes : List ℕ) (seats : List Seat) (seen : List Event)
+      → AreSeats loan spent job origin gate lanes seats seen → All HasKept seats → (l : ℕ)
+      → is_one_of (seat_lanes seats) l ≡ true → returns (own seen l) ≡ 0
   none_back lanes seats seen all kept l is =
       let r = place_of (seat_lanes seats) l is in
       let here : r.0 < length seats = (let n = lanes_length seats in omega (arith, r.1, n)) in
@@ -245,7 +270,9 @@ module _ {T L S : Type 0} (loan : L → LoanView T) (spent : S → LoanView T) (
   }
 
   -- a first one, and one more
-  first_one : (lanes : List ℕ) (seat : Seat) (l : ℕ) (seen : List Event) → IsNewSeat l seat → is_one_of lanes l ≡ true → holds (own seen l) ≡ None → returns (own seen l) ≡ 0 → AreSeats loan spent job origin gate lanes (seat ∷ []) seen
+  first_one : (lanes : List ℕ) (seat : Seat) (l : ℕ) (seen : List Event) → IsNewSeat l seat
+      → is_one_of lanes l ≡ true → holds (own seen l) ≡ None → returns (own seen l) ≡ 0
+      → AreSeats loan spent job origin gate lanes (seat ∷ []) seen
   first_one lanes seat l seen new one free none = record { lanes_are = record { within = within; apart = apart }; each = each }
     where
       within : (k : ℕ) → k < 1 → is_one_of lanes (get_or (seat.lane ∷ []) k 0) ≡ true
@@ -259,12 +286,16 @@ module _ {T L S : Type 0} (loan : L → LoanView T) (spent : S → LoanView T) (
       each zero d lt = seat_new seat l seen new free none
       each (suc k) d lt = absurd (omega (arith, lt))
 
-  pub first_seats : (lanes : List ℕ) (seats : List Seat) (l : ℕ) (seen : List Event) → length seats ≡ 1 → All (IsNewSeat l) seats → is_one_of lanes l ≡ true → holds (own seen l) ≡ None → returns (own seen l) ≡ 0 → AreSeats loan spent job origin gate lanes seats seen
+  pub first_seats : (lanes : List ℕ) (seats : List Seat) (l : ℕ) (seen : List Event) → length seats ≡ 1
+      → All (IsNewSeat l) seats → is_one_of lanes l ≡ true → holds (own seen l) ≡ None
+      → returns (own seen l) ≡ 0 → AreSeats loan spent job origin gate lanes seats seen
   first_seats lanes [] l seen long new one free none = absurd (omega (arith, long))
   first_seats lanes (seat ∷ []) l seen long new one free none = first_one lanes seat l seen (new 0 seat (omega arith)) one free none
   first_seats lanes (x ∷ y ∷ seats) l seen long new one free none = absurd (omega (arith, long))
 
-  pub seats_pushed : (before lanes : List ℕ) (seats : List Seat) (seat : Seat) (l : ℕ) (seen : List Event) → IsNewSeat l seat → AreOwnLanes before (seat_lanes seats) → is_one_of before l ≡ false → AreSeats loan spent job origin gate lanes seats seen
+  pub seats_pushed : (before lanes : List ℕ) (seats : List Seat) (seat : Seat) (l : ℕ) (seen : List Event)
+      → IsNewSeat l seat → AreOwnLanes before (seat_lanes seats) → is_one_of before l ≡ false
+      → AreSeats loan spent job origin gate lanes seats seen
       → is_one_of lanes l ≡ true → holds (own seen l) ≡ None → returns (own seen l) ≡ 0 → AreSeats loan spent job origin gate lanes (seats ++ seat ∷ []) seen
   seats_pushed before lanes seats seat l seen new was not_one all one free none = record {
     lanes_are = subst (AreOwnLanes lanes) (sym (map_push seats)) (record { within = within; apart = apart });
@@ -315,7 +346,9 @@ module _ {T L S : Type 0} (loan : L → LoanView T) (spent : S → LoanView T) (
       each : (k : ℕ) (d : Seat) → k < length (seats ++ seat ∷ []) → Sits (get_or (seats ++ seat ∷ []) k d) seen
       each k d lt = elim (cases_eq k (length seats)) [
         | inl e ↦ subst (λ (x : Seat). Sits x seen) (sym (ap (λ (j : ℕ). get_or (seats ++ seat ∷ []) j d) e ∙ get_or-append_seam seats seat [] d)) (seat_new seat l seen new free none)
-        | inr n ↦ let here : k < length seats = (let m = long seats seat in omega (arith, lt, m, n)) in subst (λ (x : Seat). Sits x seen) (sym (get_or_append_left seats (seat ∷ []) d k here)) (all.each k d here)
+        | inr n ↦ let here : k < length seats = (let m = long seats seat in omega (arith, lt, m, n))
+            in subst (λ (x : Seat). Sits x seen) (sym (get_or_append_left seats (seat ∷ []) d k here))
+            (all.each k d here)
       ]
 
 -- what holds of what stands from one place on, whatever becomes of that one

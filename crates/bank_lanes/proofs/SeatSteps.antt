@@ -38,7 +38,9 @@ one_new P old new event e holds k d low high =
     subst (λ (xs : List Event). P (get_or xs k d)) (sym e)
     (subst (λ (i : ℕ). P (get_or (old ++ event ∷ []) i d)) (sym last) (subst P (sym (get_or-append_seam old event [] d)) holds))
 
-pub more_new : (P : Event → Type 0) (old mid new : List Event) → IsPrefix mid new → AllWithin P mid (length old) (length mid) → AllWithin P new (length mid) (length new) → AllWithin P new (length old) (length new)
+pub more_new : (P : Event → Type 0) (old mid new : List Event) → IsPrefix mid new
+    → AllWithin P mid (length old) (length mid) → AllWithin P new (length mid) (length new)
+    → AllWithin P new (length old) (length new)
 more_new P old mid new longer first rest k d low high =
     elim (cases_lt k (length mid)) [
       | inl l ↦ subst (λ (xs : List Event). P (get_or xs k d)) longer.1 (subst P (sym (get_or-append mid longer.0 d k l)) (first k d low l))
@@ -67,12 +69,15 @@ module _ {W T : Type 0} {G : _} where
   empty_holds seat origin journal lane empty s = subst (λ (o : Option (Loan W T G)). HasLoanOf o origin journal lane) empty s.loan
 
   -- a loan of a lane of which nothing happened
-  loan_stays : (o : Option (Loan W T G)) (origin next : Origin T) (old new : List Event) (lane : ℕ) → next ≡ origin → own new lane ≡ own old lane → HasLoanOf o origin old lane → HasLoanOf o next new lane
+  loan_stays : (o : Option (Loan W T G)) (origin next : Origin T) (old new : List Event) (lane : ℕ)
+      → next ≡ origin → own new lane ≡ own old lane → HasLoanOf o origin old lane → HasLoanOf o next new lane
   loan_stays None origin next old new lane q e h = ap holds e ∙ h
   loan_stays (Some loan) origin next old new lane q e h = (h.0, h.1 ∙ sym q, ap holds e ∙ h.2)
 
   -- the seat of a lane of which nothing happened
-  pub seat_stays : (seat : Seat W T G) (origin next : Origin T) (old new : List Event) (lane : ℕ) → next ≡ origin → own new lane ≡ own old lane → IsSeatOf seat origin old lane → IsSeatOf seat next new lane
+  pub seat_stays : (seat : Seat W T G) (origin next : Origin T) (old new : List Event) (lane : ℕ)
+      → next ≡ origin → own new lane ≡ own old lane → IsSeatOf seat origin old lane
+      → IsSeatOf seat next new lane
   seat_stays seat origin next old new lane q e s = record {
     loan = loan_stays seat.loan origin next old new lane q e s.loan;
     once = λ f. ap returns e ∙ s.once f;
@@ -128,7 +133,9 @@ module _ {W T : Type 0} {G : _} where
       → AreSeats seats origin old → IsSeatOf seat next new at → AreSeats (set seats at seat) next new
   seats_set seats origin next old new at seat within q grew all one lane d l =
       elim (cases_eq lane at) [
-        | inl e ↦ subst (λ (k : ℕ). IsSeatOf (get_or (set seats at seat) k d) next new k) (sym e) (subst (λ (x : Seat W T G). IsSeatOf x next new at) (sym (get_or-set_same seats at seat d within)) one)
+        | inl e ↦ subst (λ (k : ℕ). IsSeatOf (get_or (set seats at seat) k d) next new k) (sym e)
+            (subst (λ (x : Seat W T G). IsSeatOf x next new at) (sym (get_or-set_same seats at seat d within))
+            one)
         | inr n ↦
             let other = all lane d (omega (arith, l, length-set {A = Seat W T G})) in
             subst (λ (x : Seat W T G). IsSeatOf x next new lane) (sym (get_or-set_other seats at lane seat d n))
@@ -153,13 +160,16 @@ module _ {W T : Type 0} {G : _} where
       }
 
   -- no lane with a seat holds anything where all seats are empty
-  pub all_hold_none : (seats : List (Seat W T G)) (origin : Origin T) (journal : List Event) → AreSeats seats origin journal → All IsEmptySeat seats → (lane : ℕ) → lane < length seats → holds (own journal lane) ≡ None
+  pub all_hold_none : (seats : List (Seat W T G)) (origin : Origin T) (journal : List Event)
+      → AreSeats seats origin journal → All IsEmptySeat seats → (lane : ℕ) → lane < length seats
+      → holds (own journal lane) ≡ None
   all_hold_none seats origin journal all empty lane l =
       let d = one_of seats lane l in
       empty_holds (get_or seats lane d) origin journal lane (empty lane d l) (all lane d l)
 
   -- seats that were moved
-  pub seats_move : (seats seats' : List (Seat W T G)) (origin next : Origin T) (old new : List Event) → seats' ≡ seats → next ≡ origin → new ≡ old → AreSeats seats origin old → AreSeats seats' next new
+  pub seats_move : (seats seats' : List (Seat W T G)) (origin next : Origin T) (old new : List Event)
+      → seats' ≡ seats → next ≡ origin → new ≡ old → AreSeats seats origin old → AreSeats seats' next new
   seats_move seats seats' origin next old new e q j all =
       subst (λ (x : List (Seat W T G)). AreSeats x next new) (sym e)
       (subst (λ (x : Origin T). AreSeats seats x new) (sym q) (subst (λ (x : List Event). AreSeats seats origin x) (sym j) all))
@@ -168,7 +178,9 @@ module _ {W T : Type 0} {G : _} where
   set_length seats at seat = simp length-set
 
   -- what holds of the seats from one on still holds of those after it, whatever becomes of that one
-  pub rest_set : (P : Seat W T G → Type 0) (seats seats' : List (Seat W T G)) (at : ℕ) (seat : Seat W T G) → seats' ≡ set seats at seat → AllWithin P seats at (length seats) → AllWithin P seats' (at + 1) (length seats')
+  pub rest_set : (P : Seat W T G → Type 0) (seats seats' : List (Seat W T G)) (at : ℕ) (seat : Seat W T G)
+      → seats' ≡ set seats at seat → AllWithin P seats at (length seats)
+      → AllWithin P seats' (at + 1) (length seats')
   rest_set P seats seats' at seat e all =
       subst (λ (x : List (Seat W T G)). AllWithin P x (at + 1) (length x)) (sym e)
       (λ k d a b. subst P (sym (get_or-set_other seats at k seat d (λ q. omega (arith, q, a)))) (all k d (omega (arith, a)) (let n = set_length seats at seat in omega (arith, b, n))))
@@ -178,7 +190,11 @@ module _ {W T : Type 0} {G : _} where
       subst (λ (x : List (Seat W T G)). AllWithin P x (at + 1) (length x)) (sym e) (λ k d a b. all k d (omega (arith, a)) b)
 
   -- seats of which each has the loan and the mark that it had
-  pub sitting_same : (old new : List (Seat W T G)) → length new ≡ length old → ((k : ℕ) (d : Seat W T G) → k < length old → ((get_or new k d).loan ≡ (get_or old k d).loan) × ((get_or new k d).gave_back ≡ (get_or old k d).gave_back) × ((get_or new k d).passes.lane ≡ (get_or old k d).passes.lane))
+  pub sitting_same : (old new : List (Seat W T G)) → length new ≡ length old
+      → ((k : ℕ) (d : Seat W T G) → k < length old
+      → ((get_or new k d).loan ≡ (get_or old k d).loan)
+      × ((get_or new k d).gave_back ≡ (get_or old k d).gave_back)
+      × ((get_or new k d).passes.lane ≡ (get_or old k d).passes.lane))
       → sitting new ≡ sitting old
   sitting_same old new long same =
       let f : Seat W T G → Option (Loan W T G) × Bool × ℕ = λ s. (s.loan, s.gave_back, s.passes.lane) in
@@ -221,7 +237,8 @@ module _ {W T : Type 0} {G : _} where
   rest_stays first seats at seat same k d low = get_or-set_other seats at k seat d (λ q. omega (arith, q, low)) ∙ same k d (omega (arith, low))
 
   -- what its seat has performed is what the seat at its place has
-  pub commits_at : (first seats : List (Seat W T G)) (old new : List Event) (lane : ℕ) (d : Seat W T G) → lane < length first → ((k : ℕ) (d : Seat W T G) → lane ≤ k → get_or seats k d ≡ get_or first k d)
+  pub commits_at : (first seats : List (Seat W T G)) (old new : List Event) (lane : ℕ) (d : Seat W T G)
+      → lane < length first → ((k : ℕ) (d : Seat W T G) → lane ≤ k → get_or seats k d ≡ get_or first k d)
       → CommitsAlone (λ l position. (l ≡ lane) × HasPerformed position (get_or seats lane d)) old new → CommitsAlone (HasPerformedAt first) old new
   commits_at first seats old new lane d within same commits k e low high commit =
       let event = get_or new k e in

@@ -54,11 +54,15 @@ ready_there job start s i S r key d = by_case (s.store key) (S.values key)
     by_case (Some v) m = ap Some m
     by_case None m = absurd (not_lent job start s i S r key d _ m)
 
-available : (job : Job) (start : Key → Account) (s : State) (i : ℕ) → Sound job start s → Ready job s i → (key : Key) → declares job i key ≡ true → unwrap_or (s.store key) empty_account ≡ due job start s key
+available : (job : Job) (start : Key → Account) (s : State) (i : ℕ) → Sound job start s → Ready job s i
+    → (key : Key) → declares job i key ≡ true → unwrap_or (s.store key) empty_account ≡ due job start s key
 available job start s i S r key d = ap (λ o. unwrap_or o empty_account) (ready_there job start s i S r key d)
 
 -- what is due of a key that a position declares is what its turn in the serial run has, where the position is not done and each earlier conflicting one is
-turn : (job : Job) (start : Key → Account) (s : State) (i : ℕ) → Sound job start s → i < job.count → (is_done (s.stage i) ≡ true → ⊥) → ((j : ℕ) → j < i → conflict job j i ≡ true → is_done (s.stage j) ≡ true) → (key : Key) → declares job i key ≡ true → due job start s key ≡ serial job start i key
+turn : (job : Job) (start : Key → Account) (s : State) (i : ℕ) → Sound job start s → i < job.count
+    → (is_done (s.stage i) ≡ true → ⊥)
+    → ((j : ℕ) → j < i → conflict job j i ≡ true → is_done (s.stage j) ≡ true) → (key : Key)
+    → declares job i key ≡ true → due job start s key ≡ serial job start i key
 turn job start s i S l undone before key d =
     due-at job start s key i (omega arith) (λ j u wr. before j u (clash-first (job.locks j) (job.locks i) key wr d)) none
   where
@@ -86,7 +90,9 @@ grant_sound job start s lane i S r = record {
         lane = lane;
         holds = ap (is_held_by lane) (at_stage-same s.stage i now) ∙ eq-eqb lane lane refl;
         written = wr;
-        value = ap (λ x. beside key (keys job i) (loan x)) (at_stage-same s.stage i now) ∙ (beside-map at_hand key (keys job i) (written_declared (job.locks i) key wr) ∙ (available job start s i S r key (written_declared (job.locks i) key wr) ∙ sym (same_due key)));
+        value = ap (λ x. beside key (keys job i) (loan x)) (at_stage-same s.stage i now)
+            ∙ (beside-map at_hand key (keys job i) (written_declared (job.locks i) key wr)
+            ∙ (available job start s i S r key (written_declared (job.locks i) key wr) ∙ sym (same_due key)));
       })
       (λ e. by_store _ _ _ _ (s.store key)
       (λ l. lent_stays job s i now t.store key _ _ (sym (same_due key)) l (λ q. waiting_unheld (s.stage i) l.lane r.waits (subst (λ m. is_held_by l.lane (s.stage m) ≡ true) q l.holds)))
@@ -117,7 +123,8 @@ commit_sound job start s lane i S h = record {
   within = at_cases (λ j x. is_waiting x ≡ false → j < job.count) s.stage i now (λ e. below) (λ j n e. S.within j e);
   earlier = at_cases (λ j x. (m : ℕ) → is_waiting x ≡ false → m < j → conflict job m j ≡ true → is_done (t.stage m) ≡ true) s.stage i now
       (λ m e u c. still_done m (S.earlier i m started u c)) (λ j n m e u c. still_done m (S.earlier j m e u c));
-  values = λ key. cond_both (writes job i key) (Some (beside key (write_keys job i) effects.written)) (s.store key) (λ o. MatchOption o (IsLent job t key (due job start t key)) (λ v. v ≡ due job start t key))
+  values = λ key. cond_both (writes job i key) (Some (beside key (write_keys job i) effects.written))
+      (s.store key) (λ o. MatchOption o (IsLent job t key (due job start t key)) (λ v. v ≡ due job start t key))
       (λ wr. put key wr ∙ sym (due_next key wr))
       (λ e. by_store _ _ _ _ (s.store key)
       (λ l. lent_stays job s i now t.store key _ _ (sym (same_due key e)) l (λ q. both_ways _ e (subst (λ m. writes job m key ≡ true) q l.written)))
@@ -160,7 +167,9 @@ commit_sound job start s lane i S h = record {
         ])
         (λ j u wj d.
         let n : j ≡ i → ⊥ = λ e. omega arith in
-        held_undone (s.stage i) lane h (S.earlier j i (done_started (s.stage j) (was_done j n d)) (omega arith) (clash-first (job.locks i) (job.locks j) key wr (written_declared (job.locks j) key wj))))
+        held_undone (s.stage i) lane h
+            (S.earlier j i (done_started (s.stage j) (was_done j n d)) (omega arith)
+            (clash-first (job.locks i) (job.locks j) key wr (written_declared (job.locks j) key wj))))
 
     put : (key : Key) → writes job i key ≡ true → beside key (write_keys job i) (job.effects i (loan (s.stage i))).written ≡ serial job start (suc i) key
     put key wr = ap (λ vs. beside key (write_keys job i) (job.effects i vs).written) lent ∙ sym (cond-true (writes job i key) _ (serial job start i key) wr)
@@ -174,10 +183,14 @@ return_sound job start s lane i S h = record {
   within = at_cases (λ j x. is_waiting x ≡ false → j < job.count) s.stage i waiting (λ e. absurd (cc)) (λ j n e. S.within j e);
   earlier = at_cases (λ j x. (m : ℕ) → is_waiting x ≡ false → m < j → conflict job m j ≡ true → is_done (t.stage m) ≡ true) s.stage i waiting
       (λ m e u c. absurd (cc)) (λ j n m e u c. same_done m ∙ S.earlier j m e u c);
-  values = λ key. cond_both (writes job i key) (Some (beside key (keys job i) (loan (s.stage i)))) (s.store key) (λ o. MatchOption o (IsLent job t key (due job start t key)) (λ v. v ≡ due job start t key))
+  values = λ key. cond_both (writes job i key) (Some (beside key (keys job i) (loan (s.stage i)))) (s.store key)
+      (λ o. MatchOption o (IsLent job t key (due job start t key)) (λ v. v ≡ due job start t key))
       (λ wr.
       let d = written_declared (job.locks i) key wr in
-      ap (beside key (keys job i)) lent ∙ (beside-map (serial job start i) key (keys job i) d ∙ sym (same_due key ∙ turn job start s i S (S.within i started) (held_undone (s.stage i) lane h) (λ j u c. S.earlier i j started u c) key d)))
+      ap (beside key (keys job i)) lent
+          ∙ (beside-map (serial job start i) key (keys job i) d
+          ∙ sym (same_due key ∙ turn job start s i S (S.within i started) (held_undone (s.stage i) lane h)
+          (λ j u c. S.earlier i j started u c) key d)))
       (λ e. by_store _ _ _ _ (s.store key)
       (λ l. lent_stays job s i waiting t.store key _ _ (sym (same_due key)) l (λ q. both_ways _ e (subst (λ m. writes job m key ≡ true) q l.written)))
       (λ v q. q ∙ sym (same_due key)) (S.values key));

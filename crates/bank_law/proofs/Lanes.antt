@@ -38,12 +38,15 @@ stays lane i x f o free just n =
     ((λ t. absurd (both_ways _ free t)), (λ e. absurd (n ((just i).1 e))))
     (λ j m. just j)
 
-own_step : (job : Job) (s : State) (kind : EventKind) (l i lane : ℕ) (o : Option ℕ) → l ≡ lane → MayCome job s kind l i → HoldsJust lane s.stage o → HoldsJust lane (changed_by job s kind l i).stage (held_after kind i)
+own_step : (job : Job) (s : State) (kind : EventKind) (l i lane : ℕ) (o : Option ℕ) → l ≡ lane
+    → MayCome job s kind l i → HoldsJust lane s.stage o
+    → HoldsJust lane (changed_by job s kind l i).stage (held_after kind i)
 own_step job s Grant l i lane o e m just = subst (λ n. HoldsJust n (changed_by job s Grant l i).stage (Some i)) e (takes l i _ s.stage m.1)
 own_step job s Commit l i lane o e m just = leaves lane i (done _) s.stage o refl just (subst (λ n. is_held_by n (s.stage i) ≡ true) e m)
 own_step job s Return l i lane o e m just = leaves lane i waiting s.stage o refl just (subst (λ n. is_held_by n (s.stage i) ≡ true) e m)
 
-other_step : (job : Job) (s : State) (kind : EventKind) (l i lane : ℕ) (o : Option ℕ) → (l ≡ lane → ⊥) → MayCome job s kind l i → HoldsJust lane s.stage o → HoldsJust lane (changed_by job s kind l i).stage o
+other_step : (job : Job) (s : State) (kind : EventKind) (l i lane : ℕ) (o : Option ℕ) → (l ≡ lane → ⊥)
+    → MayCome job s kind l i → HoldsJust lane s.stage o → HoldsJust lane (changed_by job s kind l i).stage o
 other_step job s Grant l i lane o n m just = stays lane i (held l _) s.stage o (ne_eqb l lane n) just (waiting_unheld (s.stage i) lane m.0.waits)
 other_step job s Commit l i lane o n m just = stays lane i (done _) s.stage o refl just (λ t. n (one_holder (s.stage i) l lane m t))
 other_step job s Return l i lane o n m just = stays lane i waiting s.stage o refl just (λ t. n (one_holder (s.stage i) l lane m t))
@@ -52,12 +55,17 @@ other_step job s Return l i lane o n m just = stays lane i waiting s.stage o ref
 abbrev held_by_last : Option Event → Option ℕ
 held_by_last last = option_and_then (λ event. held_after event.kind event.position) last
 
-lane_holds : (job : Job) (s : State) (events : List Event) (lane : ℕ) (last : Option Event) → IsLegalFrom job s events → HoldsJust lane s.stage (held_by_last last) → HoldsJust lane (after job s events).stage (held_by_last (last_or last (own events lane)))
+lane_holds : (job : Job) (s : State) (events : List Event) (lane : ℕ) (last : Option Event)
+    → IsLegalFrom job s events → HoldsJust lane s.stage (held_by_last last)
+    → HoldsJust lane (after job s events).stage (held_by_last (last_or last (own events lane)))
 lane_holds job s [] lane last l just = just
 lane_holds job s (e ∷ es) lane last l just = by_case (e.lane == lane) refl (lane_holds job (after_event job s e) es lane)
   where
     by_case : (b : Bool) → (e.lane == lane) ≡ b
-        → ((last : Option Event) → IsLegalFrom job (after_event job s e) es → HoldsJust lane (after_event job s e).stage (held_by_last last) → HoldsJust lane (after job (after_event job s e) es).stage (held_by_last (last_or last (own es lane))))
+        → ((last : Option Event) → IsLegalFrom job (after_event job s e) es
+            → HoldsJust lane (after_event job s e).stage (held_by_last last)
+            → HoldsJust lane (after job (after_event job s e) es).stage
+            (held_by_last (last_or last (own es lane))))
         → HoldsJust lane (after job (after_event job s e) es).stage (held_by_last (last_or last (cond b (e ∷ own es lane) (own es lane))))
     by_case true q rest = rest (Some e) l.1 (own_step job s e.kind e.lane e.position lane (held_by_last last) (eqb-true e.lane lane q) l.0 just)
     by_case false q rest = rest last l.1 (other_step job s e.kind e.lane e.position lane (held_by_last last) (λ t. both_ways _ q (eq-eqb e.lane lane t)) l.0 just)

@@ -63,9 +63,13 @@ AreHeld s = AllByRecursion (λ e. IsHeld e.1) (entries s)
 put_held : (s : State) (k : Key) (a : Account) → AreHeld s → IsShort a → AreHeld (put s k a)
 put_held s k a h short =
     elim (cases_eq a.lamports 0) [
-      | inl z ↦ subst AreHeld (sym (put-zero s k a z)) (subst (AllByRecursion (λ e. IsHeld e.1)) (sym (entries-remove_entry key_cmp_total key_cmp_exact s k)) (all-remove_entry IsHeld (is_at (key_cmp k)) (entries s) h))
+      | inl z ↦ subst AreHeld (sym (put-zero s k a z))
+          (subst (AllByRecursion (λ e. IsHeld e.1)) (sym (entries-remove_entry key_cmp_total key_cmp_exact s k))
+          (all-remove_entry IsHeld (is_at (key_cmp k)) (entries s) h))
       | inr m ↦ let more : 1 ≤ a.lamports = omega (arith, m) in
-          subst AreHeld (sym (put-more s k a more)) (subst (AllByRecursion (λ e. IsHeld e.1)) (sym (entries-insert_entry key_cmp_total s k a)) (all-insert_entry key_cmp IsHeld (entries s) k a h (more, short)))
+          subst AreHeld (sym (put-more s k a more))
+              (subst (AllByRecursion (λ e. IsHeld e.1)) (sym (entries-insert_entry key_cmp_total s k a))
+              (all-insert_entry key_cmp IsHeld (entries s) k a h (more, short)))
     ]
 
 each_held : (s : State) (ks : List Key) (vs : List Account) → AreHeld s → AreShort vs → AreHeld (put_each s ks vs)

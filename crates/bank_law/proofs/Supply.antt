@@ -77,7 +77,9 @@ total-some ks f (x ∷ xs) a b h =
     let split = halves ks in
     omega (arith, one, rest, split)
   where
-    halves : (ls : List Key) → total (λ key. where_true (same_key key x || has_key key xs) (f key)) ls ≡ total (λ key. where_true (same_key key x) (f key)) ls + total (λ key. where_true (has_key key xs) (f key)) ls
+    halves : (ls : List Key) → total (λ key. where_true (same_key key x || has_key key xs) (f key)) ls
+        ≡ total (λ key. where_true (same_key key x) (f key)) ls + total
+        (λ key. where_true (has_key key xs) (f key)) ls
     halves [] = refl
     halves (k ∷ ls) =
         let rest = halves ls in
@@ -100,9 +102,14 @@ total-beside (x ∷ xs) (v ∷ vs) a l =
     let more = others xs (λ key m. false_from_ne_true _ (λ t. both_ways _ a.0 (subst (λ y. has_key y xs ≡ true) (same_key-true key x t) m))) in
     omega (arith, here, rest, more)
   where
-    others : (ls : List Key) → ((key : Key) → has_key key ls ≡ true → same_key key x ≡ false) → total (λ key. (cond (same_key key x) v (beside key xs vs)).lamports) ls ≡ total (λ key. (beside key xs vs).lamports) ls
+    others : (ls : List Key) → ((key : Key) → has_key key ls ≡ true → same_key key x ≡ false)
+        → total (λ key. (cond (same_key key x) v (beside key xs vs)).lamports) ls
+        ≡ total (λ key. (beside key xs vs).lamports) ls
     others [] n = refl
-    others (k ∷ ls) n = ap₂ (λ p q. p + q) (ap (λ (u : Account). u.lamports) (cond-false (same_key k x) v (beside k xs vs) (n k (has_key-first k ls)))) (others ls (λ key m. n key (has_key-rest key k ls m)))
+    others (k ∷ ls) n = ap₂ (λ p q. p + q)
+        (ap (λ (u : Account). u.lamports)
+        (cond-false (same_key k x) v (beside k xs vs) (n k (has_key-first k ls))))
+        (others ls (λ key m. n key (has_key-rest key k ls m)))
 
 -- a part of what is added up
 total-part : (test : Key → Bool) (f : Key → ℕ) (ks : List Key) → total (λ key. where_true (test key) (f key)) ks ≤ total f ks

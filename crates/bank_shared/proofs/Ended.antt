@@ -9,7 +9,8 @@ use Rattle.bank_core.specs.declared.origin.Origin.{Origin}
 use Rattle.bank_core.specs.Origins.{IsLegalFor, AllDoneAfter}
 
 -- nothing happened after all positions were done
-pub ended : {T : Type 0} (job : T → Job) (origin desk : Origin T) (seen journal : List Event) → origin ≡ desk → IsLegalFor job origin journal → IsPrefix seen journal → AllDoneAfter job desk seen → journal ≡ seen
+pub ended : {T : Type 0} (job : T → Job) (origin desk : Origin T) (seen journal : List Event) → origin ≡ desk
+    → IsLegalFor job origin journal → IsPrefix seen journal → AllDoneAfter job desk seen → journal ≡ seen
 ended job origin desk seen journal same legal more done =
     let here = subst (λ o. IsLegalFor job o journal) same legal in
     let parts = subst (λ events. IsLegalFor job desk events) (sym more.1) here in

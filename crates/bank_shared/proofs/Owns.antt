@@ -75,12 +75,19 @@ grows h more lanes seen c none = record {
   own = filter-append (λ (e : Event). is_one_of lanes e.lane) h more ∙ (ap (λ l. own_of h lanes ++ l) (own_of_none lanes more none) ∙ (append-nil (own_of h lanes) ∙ c.own));
 }
 
-pub parts_grow : (h more : List Event) (parts : List Part) → All (λ e. times e.lane (part_lanes parts) ≡ 0) more → All (λ p. Covers h p.lanes p.seen) parts → All (λ p. Covers (h ++ more) p.lanes p.seen) parts
+pub parts_grow : (h more : List Event) (parts : List Part) → All (λ e. times e.lane (part_lanes parts) ≡ 0) more
+    → All (λ p. Covers h p.lanes p.seen) parts → All (λ p. Covers (h ++ more) p.lanes p.seen) parts
 parts_grow h more [] none all = λ i d lt. absurd (omega arith)
 parts_grow h more (p ∷ ps) none all =
-    let split : (e : Event) → times e.lane (p.lanes ++ part_lanes ps) ≡ times e.lane p.lanes + times e.lane (part_lanes ps) = λ e. sum_append (λ k. cond {A = ℕ} (eqb k e.lane) 1 0) p.lanes (part_lanes ps) in
-    let here : All (λ e. times e.lane p.lanes ≡ 0) more = All-weaker (λ (e : Event). times e.lane (p.lanes ++ part_lanes ps) ≡ 0) (λ (e : Event). times e.lane p.lanes ≡ 0) (λ e z. omega (arith, z, split e)) more none in
-    let there : All (λ e. times e.lane (part_lanes ps) ≡ 0) more = All-weaker (λ (e : Event). times e.lane (p.lanes ++ part_lanes ps) ≡ 0) (λ (e : Event). times e.lane (part_lanes ps) ≡ 0) (λ e z. omega (arith, z, split e)) more none in
+    let split : (e : Event) → times e.lane (p.lanes ++ part_lanes ps)
+        ≡ times e.lane p.lanes + times e.lane (part_lanes ps) = λ e. sum_append
+        (λ k. cond {A = ℕ} (eqb k e.lane) 1 0) p.lanes (part_lanes ps) in
+    let here : All (λ e. times e.lane p.lanes ≡ 0) more = All-weaker
+        (λ (e : Event). times e.lane (p.lanes ++ part_lanes ps) ≡ 0) (λ (e : Event). times e.lane p.lanes ≡ 0)
+        (λ e z. omega (arith, z, split e)) more none in
+    let there : All (λ e. times e.lane (part_lanes ps) ≡ 0) more = All-weaker
+        (λ (e : Event). times e.lane (p.lanes ++ part_lanes ps) ≡ 0)
+        (λ (e : Event). times e.lane (part_lanes ps) ≡ 0) (λ e z. omega (arith, z, split e)) more none in
     All-cons (λ (q : Part). Covers (h ++ more) q.lanes q.seen) p ps
     (grows h more p.lanes p.seen (All-head (λ (q : Part). Covers h q.lanes q.seen) p ps all) here)
     (parts_grow h more ps there (All-tail (λ (q : Part). Covers h q.lanes q.seen) p ps all))

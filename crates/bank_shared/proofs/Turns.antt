@@ -41,7 +41,9 @@ own_all l [] all = refl
 own_all l (e ∷ es) all = cond-true (eqb e.lane l) (e ∷ own es l) (own es l) (eq-eqb e.lane l all.0) ∙ ap (λ (xs : List Event). e ∷ xs) (own_all l es all.1)
 
 -- an event more, under equal names
-pub event_is : (was old new : List Event) (kind : EventKind) (l lane p position : ℕ) → new ≡ with_event was kind l p → was ≡ old → l ≡ lane → p ≡ position → new ≡ old ++ record { kind = kind; lane = lane; position = position } ∷ []
+pub event_is : (was old new : List Event) (kind : EventKind) (l lane p position : ℕ)
+    → new ≡ with_event was kind l p → was ≡ old → l ≡ lane → p ≡ position
+    → new ≡ old ++ record { kind = kind; lane = lane; position = position } ∷ []
 event_is was old new kind l lane p position grown is same here = grown ∙ (ap (λ (h : List Event). with_event h kind l p) is ∙ ap₂ (λ (x y : ℕ). with_event old kind x y) same here)
 
 -- the history goes on by them
@@ -63,7 +65,10 @@ module _ {O : Type 0} where
       before = h;
       seen = seen;
       longer = k.mine.longer;
-      mine = ap (λ (xs : List Event). own xs l) seen ∙ (filter-append (λ (e : Event). eqb e.lane l) h es ∙ (ap (λ (xs : List Event). own h l ++ xs) (own_all l es mine) ∙ ap (λ (xs : List Event). xs ++ es) (covered h v.lanes v.seen l k.mine lane)));
+      mine = ap (λ (xs : List Event). own xs l) seen
+          ∙ (filter-append (λ (e : Event). eqb e.lane l) h es
+          ∙ (ap (λ (xs : List Event). own h l ++ xs) (own_all l es mine)
+          ∙ ap (λ (xs : List Event). xs ++ es) (covered h v.lanes v.seen l k.mine lane)));
       all = ap (λ (xs : List Event). own_of xs v.lanes) seen
           ∙ (filter-append (λ (e : Event). is_one_of v.lanes e.lane) h es
           ∙ (ap (λ (xs : List Event). own_of h v.lanes ++ xs) (own_of_all v.lanes es (theirs v.lanes l es lane mine)) ∙ ap (λ (xs : List Event). xs ++ es) k.mine.own));
@@ -79,7 +84,9 @@ module _ {O : Type 0} where
     }
 
   -- what the desk asks for then
-  pub has_turn : {S : Type 0} (me : Me S (View O)) (h new : List Event) (d l : ℕ) (es : List Event) (v : View O) (cs : List (ℕ × S)) → me ≡ (holding v h d, cs) → v.joined ≡ [] → is_one_of v.lanes l ≡ true → AreOf l es → new ≡ h ++ es → HasTurn me.0 new d
+  pub has_turn : {S : Type 0} (me : Me S (View O)) (h new : List Event) (d l : ℕ) (es : List Event) (v : View O)
+      (cs : List (ℕ × S)) → me ≡ (holding v h d, cs) → v.joined ≡ [] → is_one_of v.lanes l ≡ true → AreOf l es
+      → new ≡ h ++ es → HasTurn me.0 new d
   has_turn me h new d l es v cs is no_parts lane mine more =
       subst (λ m. HasTurn m.0 new d) (sym is)
       (record { came = (h, d); turn = refl; events = goes_on (lanes_of v) l h es new (ap (λ (x : List ℕ). is_one_of x l) (lanes_are v no_parts) ∙ lane) mine more; drawn = le_refl d })
@@ -100,7 +107,9 @@ module _ {O : Type 0} where
     turn = a.turn;
   }
 
-  pub begins : (o : O) (v w : View O) (h : List Event) (d : ℕ) → Knows o h d (new_view v) → All (λ e. e.lane < d) h → w ≡ done (holding (new_view v) h d) h (d + 1) → Begins v d w × (w.turn ≡ None) × (w.origin ≡ v.origin) × (w.joined ≡ []) × (is_one_of w.lanes d ≡ true)
+  pub begins : (o : O) (v w : View O) (h : List Event) (d : ℕ) → Knows o h d (new_view v)
+      → All (λ e. e.lane < d) h → w ≡ done (holding (new_view v) h d) h (d + 1)
+      → Begins v d w × (w.turn ≡ None) × (w.origin ≡ v.origin) × (w.joined ≡ []) × (is_one_of w.lanes d ≡ true)
   begins o v w h d k later is =
       let one : d + 1 - d ≡ 1 = omega arith in
       let lanes : w.lanes ≡ d ∷ [] = ap (λ (u : View O). u.lanes) is ∙ ap (λ (n : ℕ). range_with_len d n ++ []) one in (
@@ -119,14 +128,21 @@ module _ {O : Type 0} where
       )
 
   -- a pass that took in another and looked
-  pub folds : (h : List Event) (l : ℕ) (v other w : View O) → v.joined ≡ [] → other.joined ≡ [] → is_one_of v.lanes l ≡ true → w ≡ caught_up (joined_view v other) h → Covers h v.lanes v.seen → All (λ part. Covers h part.lanes part.seen) (joined_view v other).joined → ((k : ℕ) → stands k (joined_view v other) ≤ 1)
+  pub folds : (h : List Event) (l : ℕ) (v other w : View O) → v.joined ≡ [] → other.joined ≡ []
+      → is_one_of v.lanes l ≡ true → w ≡ caught_up (joined_view v other) h → Covers h v.lanes v.seen
+      → All (λ part. Covers h part.lanes part.seen) (joined_view v other).joined
+      → ((k : ℕ) → stands k (joined_view v other) ≤ 1)
       → OnlySees v l w × Learns v other w × (w.joined ≡ []) × (is_one_of w.lanes l ≡ true)
   folds h l v other w no_parts no_parts_too lane last mine all once =
       let seen : w.seen ≡ h = ap (λ (u : View O). u.seen) last in
       let theirs : Covers h other.lanes other.seen = All-head (λ (x : Part). Covers h x.lanes x.seen) (record { lanes = other.lanes; seen = other.seen }) (other.joined ++ v.joined) all in
-      let lanes : w.lanes ≡ other.lanes ++ v.lanes = ap (λ (u : View O). u.lanes) last ∙ (ap (λ (x : List Part). (other.lanes ++ part_lanes x) ++ v.lanes) (λ i. no_parts_too i ++ no_parts i) ∙ ap (λ (x : List ℕ). x ++ v.lanes) (append-nil other.lanes)) in (
+      let lanes : w.lanes ≡ other.lanes ++ v.lanes = ap (λ (u : View O). u.lanes) last
+          ∙ (ap (λ (x : List Part). (other.lanes ++ part_lanes x) ++ v.lanes)
+          (λ i. no_parts_too i ++ no_parts i) ∙ ap (λ (x : List ℕ). x ++ v.lanes) (append-nil other.lanes)) in (
         record {
-          keeps = record { origin = ap (λ (u : View O). u.origin) last; longer = subst (IsPrefix v.seen) (sym seen) mine.longer; drawn = (let m : w.drawn ≡ max v.drawn other.drawn = ap (λ (u : View O). u.drawn) last in omega arith) };
+          keeps = record { origin = ap (λ (u : View O). u.origin) last; longer = subst (IsPrefix v.seen)
+              (sym seen) mine.longer; drawn =
+              (let m : w.drawn ≡ max v.drawn other.drawn = ap (λ (u : View O). u.drawn) last in omega arith) };
           mine = ap (λ (es : List Event). own es l) seen ∙ covered h v.lanes v.seen l mine lane;
           all = ap (λ (es : List Event). own_of es v.lanes) seen ∙ mine.own;
           turns = ap (λ (u : View O). u.turns) last;
@@ -134,7 +150,11 @@ module _ {O : Type 0} where
         record {
           seen = subst (IsPrefix other.seen) (sym seen) theirs.longer;
           lanes = lanes;
-          apart = λ k is. none_of k v.lanes (let one = one_stands k other.lanes is in let n = once k in let f : ℕ → ℕ = λ x. cond {A = ℕ} (eqb x k) 1 0 in let rest = part_lanes (other.joined ++ v.joined) in omega (arith, one, n, sum_append f (other.lanes ++ rest) v.lanes, sum_append f other.lanes rest));
+          apart = λ k is. none_of k v.lanes
+              (let one = one_stands k other.lanes is in let n = once k in let f : ℕ
+              → ℕ = λ x. cond {A = ℕ} (eqb x k) 1 0 in let rest = part_lanes (other.joined ++ v.joined)
+              in omega (arith, one, n, sum_append f (other.lanes ++ rest) v.lanes, sum_append f other.lanes
+              rest));
           all = ap (λ (es : List Event). own_of es other.lanes) seen ∙ theirs.own;
           drawn = ap (λ (u : View O). u.drawn) last;
         },
@@ -148,7 +168,9 @@ module _ {O : Type 0} where
       → OnlySees v l last.0 × Learns v other last.0 × (last.0.joined ≡ []) × (is_one_of last.0.lanes l ≡ true)
   folds_at l v other m cs last no_parts no_parts_too lane is told =
       folds told.0 l v other last.0 no_parts no_parts_too lane (ap (λ (x : Me _ (View O)). x.0) told.1 ∙ ap (λ (x : View O). caught_up x told.0) is)
-      (subst (λ (x : View O). Covers told.0 x.lanes x.seen) is told.2) (subst (λ (x : View O). All (λ part. Covers told.0 part.lanes part.seen) x.joined) is told.3) (subst (λ (x : View O). (k : ℕ) → stands k x ≤ 1) is told.4)
+      (subst (λ (x : View O). Covers told.0 x.lanes x.seen) is told.2)
+          (subst (λ (x : View O). All (λ part. Covers told.0 part.lanes part.seen) x.joined) is told.3)
+          (subst (λ (x : View O). (k : ℕ) → stands k x ≤ 1) is told.4)
 
 -- what a pass knows of a lane's events is all that the history has of it
 pub mine_is : {O : Type 0} (o : O) (h : List Event) (d l : ℕ) (v : View O) → Knows o h d v → is_one_of v.lanes l ≡ true → own h l ≡ own v.seen l
@@ -169,7 +191,9 @@ module _ {W T : Type 0} {G : _} where
   granted_of take.Finished l = tt
   granted_of take.OutOfMemory l = tt
 
-  pub granted_is : (t : Take W T G) (l : ℕ) (was old new : List Event) → MatchTake t (λ loan. new ≡ with_event was Grant l loan.position) (λ held. new ≡ was) (new ≡ was) (new ≡ was) → was ≡ old → new ≡ old ++ granted t l
+  pub granted_is : (t : Take W T G) (l : ℕ) (was old new : List Event)
+      → MatchTake t (λ loan. new ≡ with_event was Grant l loan.position) (λ held. new ≡ was) (new ≡ was)
+      (new ≡ was) → was ≡ old → new ≡ old ++ granted t l
   granted_is (take.Loan loan) l was old new is same = is ∙ ap (λ (h : List Event). with_event h Grant l loan.position) same
   granted_is (take.NotNow held) l was old new is same = is ∙ (same ∙ sym (append-nil old))
   granted_is take.Finished l was old new is same = is ∙ (same ∙ sym (append-nil old))
@@ -185,7 +209,9 @@ module _ {W T : Type 0} {G : _} where
   -- what it answers, told of the desk and of what its pass has seen
   module _ (job : T → Job) (core desk : Origin T) (old new seen : List Event) (l : ℕ) (same : core ≡ desk) (all : seen ≡ new) where
     pub take_tells : (t : Take W T G) → MatchTake t (λ loan. new ≡ with_event old Grant l loan.position) (λ held. new ≡ old) (new ≡ old) (new ≡ old)
-        → MatchTake t (λ loan. (loan.lane ≡ l) × (loan.origin.value ≡ core) × IsLeastReadyAfter job core old loan.position) (λ held. IsNotNowAfter job core old held) (AllDoneAfter job core old) (ReadsLeastAfter job core old)
+        → MatchTake t (λ loan. (loan.lane ≡ l) × (loan.origin.value ≡ core)
+            × IsLeastReadyAfter job core old loan.position) (λ held. IsNotNowAfter job core old held)
+            (AllDoneAfter job core old) (ReadsLeastAfter job core old)
         → MatchTake t (λ loan. (loan.lane ≡ l) × (loan.origin.value ≡ desk)) (λ held. IsNotNowAfter job desk seen held) (AllDoneAfter job desk seen) (ReadsLeastAfter job desk seen)
     take_tells (take.Loan loan) is told = (told.0, told.1 ∙ same)
     take_tells (take.NotNow held) is told = subst₂ (λ o events. IsNotNowAfter job o events held) same (sym (all ∙ is)) told
@@ -193,7 +219,9 @@ module _ {W T : Type 0} {G : _} where
     take_tells take.OutOfMemory is told = subst₂ (λ o events. ReadsLeastAfter job o events) same (sym (all ∙ is)) told
 
     pub take_least : (t : Take W T G) → MatchTake t (λ loan. new ≡ with_event old Grant l loan.position) (λ held. new ≡ old) (new ≡ old) (new ≡ old)
-        → MatchTake t (λ loan. (loan.lane ≡ l) × (loan.origin.value ≡ core) × IsLeastReadyAfter job core old loan.position) (λ held. IsNotNowAfter job core old held) (AllDoneAfter job core old) (ReadsLeastAfter job core old)
+        → MatchTake t (λ loan. (loan.lane ≡ l) × (loan.origin.value ≡ core)
+            × IsLeastReadyAfter job core old loan.position) (λ held. IsNotNowAfter job core old held)
+            (AllDoneAfter job core old) (ReadsLeastAfter job core old)
         → MatchTake t (λ loan. IsLeastReadyAfter job desk (before_last seen) loan.position) (λ held. ⊤) ⊤ ⊤
     take_least (take.Loan loan) is told =
         subst₂ (λ o events. IsLeastReadyAfter job o events loan.position) same

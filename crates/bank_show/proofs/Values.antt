@@ -92,7 +92,9 @@ pub no_float : (block : Block) → has_float (block_json block) ≡ false
 no_float block = rw (no_float_entries block.entries) refl
 
 -- the text of a block's value
-pub text_of_value : {E : Type 0} (result : Result (List ℕ) E) (bytes : List ℕ) (block : Block) (value : Data) → IfOk result (λ text. text ≡ bytes) → value ≡ block_json block → (has_float value ≡ false → bytes ≡ compact_text value) → IfOk result (λ text. text ≡ text_of_block block)
+pub text_of_value : {E : Type 0} (result : Result (List ℕ) E) (bytes : List ℕ) (block : Block) (value : Data)
+    → IfOk result (λ text. text ≡ bytes) → value ≡ block_json block
+    → (has_float value ≡ false → bytes ≡ compact_text value) → IfOk result (λ text. text ≡ text_of_block block)
 text_of_value (Ok text) bytes block value copied same written = copied ∙ (rw same at written) (no_float block)
 text_of_value (Err e) bytes block value copied same written = tt
 
@@ -100,6 +102,8 @@ no_float_entry : (entry : Entry) → has_float (entry_json entry) ≡ false
 no_float_entry entry = rw (no_float_lines entry.lines) refl
 
 -- the text of an entry's value
-pub text_of_entry_value : {E : Type 0} (result : Result (List ℕ) E) (bytes : List ℕ) (entry : Entry) (value : Data) → IfOk result (λ text. text ≡ bytes) → value ≡ entry_json entry → (has_float value ≡ false → bytes ≡ compact_text value) → IfOk result (λ text. text ≡ text_of_entry entry)
+pub text_of_entry_value : {E : Type 0} (result : Result (List ℕ) E) (bytes : List ℕ) (entry : Entry)
+    (value : Data) → IfOk result (λ text. text ≡ bytes) → value ≡ entry_json entry
+    → (has_float value ≡ false → bytes ≡ compact_text value) → IfOk result (λ text. text ≡ text_of_entry entry)
 text_of_entry_value (Ok text) bytes entry value copied same written = copied ∙ (rw same at written) (no_float_entry entry)
 text_of_entry_value (Err e) bytes entry value copied same written = tt

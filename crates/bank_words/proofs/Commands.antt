@@ -101,7 +101,9 @@ pub data Named (name : Text) : Type 0 where
   is_make : name ≡ codes "make" → Named name
   is_asm : name ≡ codes "asm" → Named name
   is_list : name ≡ codes "list" → Named name
-  is_other : bytes_eq (codes "produce") name ≡ false → bytes_eq (codes "replay") name ≡ false → bytes_eq (codes "show") name ≡ false → bytes_eq (codes "make") name ≡ false → bytes_eq (codes "asm") name ≡ false → bytes_eq (codes "list") name ≡ false → Named name
+  is_other : bytes_eq (codes "produce") name ≡ false → bytes_eq (codes "replay") name ≡ false
+      → bytes_eq (codes "show") name ≡ false → bytes_eq (codes "make") name ≡ false
+      → bytes_eq (codes "asm") name ≡ false → bytes_eq (codes "list") name ≡ false → Named name
 
 same : (text name : Text) → bytes_eq text name ≡ true → name ≡ text
 same text name e = sym ((bytes_eq-Decides text name).0 e)
@@ -109,15 +111,20 @@ same text name e = sym ((bytes_eq-Decides text name).0 e)
 pub named : (name : Text) → Named name
 named name = produce (bytes_eq (codes "produce") name) refl
   where
-    last : (f1 : bytes_eq (codes "produce") name ≡ false) (f2 : bytes_eq (codes "replay") name ≡ false) (f3 : bytes_eq (codes "show") name ≡ false) (f4 : bytes_eq (codes "make") name ≡ false) (f5 : bytes_eq (codes "asm") name ≡ false) (b : Bool) → bytes_eq (codes "list") name ≡ b → Named name
+    last : (f1 : bytes_eq (codes "produce") name ≡ false) (f2 : bytes_eq (codes "replay") name ≡ false)
+        (f3 : bytes_eq (codes "show") name ≡ false) (f4 : bytes_eq (codes "make") name ≡ false)
+        (f5 : bytes_eq (codes "asm") name ≡ false) (b : Bool) → bytes_eq (codes "list") name ≡ b → Named name
     last f1 f2 f3 f4 f5 true e = is_list (same (codes "list") name e)
     last f1 f2 f3 f4 f5 false e = is_other f1 f2 f3 f4 f5 e
 
-    asm : (f1 : bytes_eq (codes "produce") name ≡ false) (f2 : bytes_eq (codes "replay") name ≡ false) (f3 : bytes_eq (codes "show") name ≡ false) (f4 : bytes_eq (codes "make") name ≡ false) (b : Bool) → bytes_eq (codes "asm") name ≡ b → Named name
+    asm : (f1 : bytes_eq (codes "produce") name ≡ false) (f2 : bytes_eq (codes "replay") name ≡ false)
+        (f3 : bytes_eq (codes "show") name ≡ false) (f4 : bytes_eq (codes "make") name ≡ false) (b : Bool)
+        → bytes_eq (codes "asm") name ≡ b → Named name
     asm f1 f2 f3 f4 true e = is_asm (same (codes "asm") name e)
     asm f1 f2 f3 f4 false e = last f1 f2 f3 f4 e (bytes_eq (codes "list") name) refl
 
-    make : (f1 : bytes_eq (codes "produce") name ≡ false) (f2 : bytes_eq (codes "replay") name ≡ false) (f3 : bytes_eq (codes "show") name ≡ false) (b : Bool) → bytes_eq (codes "make") name ≡ b → Named name
+    make : (f1 : bytes_eq (codes "produce") name ≡ false) (f2 : bytes_eq (codes "replay") name ≡ false)
+        (f3 : bytes_eq (codes "show") name ≡ false) (b : Bool) → bytes_eq (codes "make") name ≡ b → Named name
     make f1 f2 f3 true e = is_make (same (codes "make") name e)
     make f1 f2 f3 false e = asm f1 f2 f3 e (bytes_eq (codes "asm") name) refl
 
@@ -152,10 +159,14 @@ abbrev second : Option (Text × List Row) → List Row
 second None = []
 second (Some p) = p.1
 
-entered : (name : Text) (o : Options) (by : List Use → Option Command) (rest : List Text) → Enters name o → list_all is_plain rest ≡ true → Reads name o by → Answers (name ∷ rest) (option_and_then by (uses_in o rest))
+entered : (name : Text) (o : Options) (by : List Use → Option Command) (rest : List Text) → Enters name o
+    → list_all is_plain rest ≡ true → Reads name o by
+    → Answers (name ∷ rest) (option_and_then by (uses_in o rest))
 entered name o by rest enters all reads = go (uses_in o rest) refl (level name o rest all)
   where
-    go : (r : Option (List Use)) → uses_in o rest ≡ r → LevelEnds o (level_fault (leaf name o) [] nothing_held rest false []) (rows_after (rules_of o) [] rest) r → Answers (name ∷ rest) (option_and_then by r)
+    go : (r : Option (List Use)) → uses_in o rest ≡ r
+        → LevelEnds o (level_fault (leaf name o) [] nothing_held rest false [])
+        (rows_after (rules_of o) [] rest) r → Answers (name ∷ rest) (option_and_then by r)
     go None e h = (λ fault. refl, λ fine n f sub. absurd (rw (sym (entered_faults name o rest enters) ∙ fine) at h))
     go (Some uses) e h = (
       λ fault. absurd (rw (entered_faults name o rest enters ∙ h.0) at fault),
@@ -169,7 +180,9 @@ entered name o by rest enters all reads = go (uses_in o rest) refl (level name o
 no_reads : (name : Text) (command : Option Command) → ((f : Found) → command_found name f ≡ command) → Reads name no_options (λ _. command)
 no_reads name command same uses f all rows = same f
 
-value_at : (o : Options) (x : Text) (uses : List Use) (f : Found) → AreUses o uses → rows_of f ≡ with_defaults o uses → first_of x (with_defaults o uses) ≡ given x uses → first_value f x ≡ given x uses
+value_at : (o : Options) (x : Text) (uses : List Use) (f : Found) → AreUses o uses
+    → rows_of f ≡ with_defaults o uses → first_of x (with_defaults o uses) ≡ given x uses
+    → first_value f x ≡ given x uses
 value_at o x uses f all rows reads = first_value-rows f x ∙ ap (first_of x) rows ∙ reads
 
 produce_reads : Reads (codes "produce") produce_options produce_by
@@ -190,7 +203,9 @@ make_reads uses f all rows =
     ap₂ (λ (s : Option Text) (c : Option Text). make_from s c (is_set (first_value f (codes "run"))) (first_value f (codes "lanes"))) seed count
     ∙ ap₂ (λ (r : Bool) (l : Option Text). make_from (given (codes "number") uses) (given (codes "count") uses) r l) run lanes
 
-other_form : (name : Text) → bytes_eq (codes "produce") name ≡ false → bytes_eq (codes "replay") name ≡ false → bytes_eq (codes "show") name ≡ false → bytes_eq (codes "make") name ≡ false → bytes_eq (codes "asm") name ≡ false → bytes_eq (codes "list") name ≡ false
+other_form : (name : Text) → bytes_eq (codes "produce") name ≡ false → bytes_eq (codes "replay") name ≡ false
+    → bytes_eq (codes "show") name ≡ false → bytes_eq (codes "make") name ≡ false
+    → bytes_eq (codes "asm") name ≡ false → bytes_eq (codes "list") name ≡ false
     → (find (λ (form : Form). bytes_eq form.name name) forms ≡ None) × (subcommand_met names idle name ≡ None)
 other_form name f1 f2 f3 f4 f5 f6 = (rw (f1, f2, f3, f4, f5, f6) refl, rw (f1, f2, f3, f4, f5, f6) refl)
 
@@ -266,7 +281,9 @@ explains kinds k command (inl memory) none = rw memory tt
 explains kinds k command (inr among) none = rw (none (among_fault k kinds among)) (explains_none k)
 
 module _ {Z : Type 0} where
-  pub entered_as : (o : Option (Box SubCommand Z)) (n : Text) (rows : List Row) → option_map (λ b. (out-SubCommand (box_value b)).name.now) o ≡ Some n → option_map (λ p. p.1) (subcommand_rows o) ≡ Some rows → subcommand_rows o ≡ Some (n, rows)
+  pub entered_as : (o : Option (Box SubCommand Z)) (n : Text) (rows : List Row)
+      → option_map (λ b. (out-SubCommand (box_value b)).name.now) o ≡ Some n
+      → option_map (λ p. p.1) (subcommand_rows o) ≡ Some rows → subcommand_rows o ≡ Some (n, rows)
   entered_as None n rows a b = absurd (cc)
   entered_as (Some s) n rows a b =
       let n_is : (out-SubCommand (box_value s)).name.now ≡ n = ap (λ (o : Option Text). text_of o) a in
@@ -277,11 +294,15 @@ pub bank_is_free : is_simple_and_free bank_app ≡ true
 bank_is_free = refl
 
 -- a parse that fails
-pub refused : (words : List Text) (app : App) (k : ErrorKind) → list_all is_plain words ≡ true → app ≡ bank_app → (is_simple_and_free app ≡ true → (k ≡ kind.OutOfMemory) ⊎ IsAmong k (fault_of app words)) → Explains (fault_of_kind k) (command_in words)
+pub refused : (words : List Text) (app : App) (k : ErrorKind) → list_all is_plain words ≡ true → app ≡ bank_app
+    → (is_simple_and_free app ≡ true → (k ≡ kind.OutOfMemory) ⊎ IsAmong k (fault_of app words))
+    → Explains (fault_of_kind k) (command_in words)
 refused words app k all same kinds = explains (fault_of bank_app words) k (command_in words) ((rw same at kinds) bank_is_free) (answers words all).0
 
 -- a parse that succeeds
-pub told : (words : List Text) (app : App) (m : ArgMatches) (n : Text) (f : Found) → list_all is_plain words ≡ true → app ≡ bank_app → (is_simple_and_free app ≡ true → fault_of app words ≡ []) → HasMatchesOf app words m
+pub told : (words : List Text) (app : App) (m : ArgMatches) (n : Text) (f : Found)
+    → list_all is_plain words ≡ true → app ≡ bank_app
+    → (is_simple_and_free app ≡ true → fault_of app words ≡ []) → HasMatchesOf app words m
     → subcommand_name_of m ≡ Some n → option_map (λ p. p.1) (subcommand_rows_of m) ≡ Some (rows_of f) → command_found n f ≡ command_in words
 told words app m n f all same kinds matches name rows =
     (answers words all).1 ((rw same at kinds) bank_is_free) n f (sym ((rw same at matches) bank_is_simple).1 ∙ entered_as (out-ArgMatches m).subcommand n (rows_of f) name rows)

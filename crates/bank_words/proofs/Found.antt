@@ -31,7 +31,9 @@ push_use : (o : Options) (uses : List Use) (u : Use) → AreUses o uses → take
 push_use o [] u all one = (one, tt)
 push_use o (v ∷ uses) u all one = (all.0, push_use o uses u all.1 one)
 
-kept_more : (o : Options) (uses : List Use) (u : Use) (next : List Use → Option (List Use)) → AreUses o uses → takes o u.name ≡ kind u.value → ((us : List Use) → AreUses o us → Kept o (next us)) → Kept o (more uses u next)
+kept_more : (o : Options) (uses : List Use) (u : Use) (next : List Use → Option (List Use)) → AreUses o uses
+    → takes o u.name ≡ kind u.value → ((us : List Use) → AreUses o us → Kept o (next us))
+    → Kept o (more uses u next)
 kept_more o uses u next all one rest = go (has_use u.name uses) refl
   where
     go : (b : Bool) → has_use u.name uses ≡ b → Kept o (more uses u next)
@@ -158,10 +160,14 @@ find_last x (r ∷ rows) row h e =
     rw parts.0 (find_last x rows row parts.1 e)
 
 pub reads_run : (uses : List Use) → AreUses make_options uses → is_set (first_of (codes "run") (with_defaults make_options uses)) ≡ has_use (codes "run") uses
-reads_run uses all = ap (λ (rs : List Row). is_set (first_of (codes "run") rs)) (numbers_stay make_options.numbers (map run_rule make_options.flags) (rows_for uses)) ∙ go (has_use (codes "run") uses) refl
+reads_run uses all = ap (λ (rs : List Row). is_set (first_of (codes "run") rs))
+    (numbers_stay make_options.numbers (map run_rule make_options.flags) (rows_for uses))
+    ∙ go (has_use (codes "run") uses) refl
   where
     go : (b : Bool) → has_use (codes "run") uses ≡ b → is_set (first_of (codes "run") (with_default (rows_for uses) (run_rule (codes "run")))) ≡ b
     go true e = rw (has_row-rows_for (codes "run") uses, e) (first_set make_options (codes "run") uses all refl e)
     go false e =
         let absent : has_row (codes "run") (rows_for uses) ≡ false = has_row-rows_for (codes "run") uses ∙ e in
-        ap (λ (rs : List Row). is_set (first_of (codes "run") rs)) (flag_default (rows_for uses) (codes "run") absent) ∙ ap is_set (find_last (codes "run") (rows_for uses) (default_row (codes "run")) absent refl)
+        ap (λ (rs : List Row). is_set (first_of (codes "run") rs))
+            (flag_default (rows_for uses) (codes "run") absent)
+            ∙ ap is_set (find_last (codes "run") (rows_for uses) (default_row (codes "run")) absent refl)

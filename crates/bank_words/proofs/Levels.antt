@@ -64,11 +64,19 @@ abbrev pub LevelEnds : Options → Kinds → List Row → Option (List Use) → 
 LevelEnds o faults rows None = IsFault faults
 LevelEnds o faults rows (Some uses) = (faults ≡ []) × (rows ≡ with_defaults o uses)
 
-pub level : (name : Text) (o : Options) (words : List Text) → list_all is_plain words ≡ true → LevelEnds o (level_fault (leaf name o) [] nothing_held words false []) (rows_after (rules_of o) [] words) (uses_in o words)
+pub level : (name : Text) (o : Options) (words : List Text) → list_all is_plain words ≡ true
+    → LevelEnds o (level_fault (leaf name o) [] nothing_held words false []) (rows_after (rules_of o) [] words)
+    (uses_in o words)
 level name o words all = by_uses (uses_in o words) ((walks name o words all).0 [] nothing_held (record { fine = refl; rows = refl }))
   where
-    by_uses : (r : Option (List Use)) → Ends (faults_from name o (stands nothing_held idle) words) (rows_from o (stands nothing_held idle) words) r → LevelEnds o (level_fault (leaf name o) [] nothing_held words false []) (rows_after (rules_of o) [] words) r
-    by_uses None h = fault_inside (walk_fault (leaf name o) [] (stands nothing_held idle) words) (settle_fault (rules_of o) false (fold (walked (rules_of o) []) (stands nothing_held idle) words).held) _ h
+    by_uses : (r : Option (List Use))
+        → Ends (faults_from name o (stands nothing_held idle) words)
+        (rows_from o (stands nothing_held idle) words) r
+        → LevelEnds o (level_fault (leaf name o) [] nothing_held words false [])
+        (rows_after (rules_of o) [] words) r
+    by_uses None h = fault_inside (walk_fault (leaf name o) [] (stands nothing_held idle) words)
+        (settle_fault (rules_of o) false (fold (walked (rules_of o) []) (stands nothing_held idle) words).held)
+        _ h
     by_uses (Some uses) h =
         let first = or_else_first (walk_fault (leaf name o) [] (stands nothing_held idle) words) _ h.0 in
         let second = or_else_second (walk_fault (leaf name o) [] (stands nothing_held idle) words) _ h.0 in
@@ -76,7 +84,9 @@ level name o words all = by_uses (uses_in o words) ((walks name o words all).0 [
 
 -- ---- the level above
 
-pub stopped : (c : List Rule) (names : Names) (w : Walk) (n : Text) (xs words : List Text) → fold (walked c names) (record w { stopped = Some (n, xs) }) words ≡ record w { stopped = Some (n, xs ++ words) }
+pub stopped : (c : List Rule) (names : Names) (w : Walk) (n : Text) (xs words : List Text)
+    → fold (walked c names) (record w { stopped = Some (n, xs) }) words
+    ≡ record w { stopped = Some (n, xs ++ words) }
 unfolding walked
 stopped c names w n xs [] = rw (append-nil xs) refl
 stopped c names w n xs (word ∷ words) = stopped c names w n (xs ++ word ∷ []) words ∙ rw (append_assoc xs (word ∷ []) words) refl

@@ -80,7 +80,9 @@ ranged_name : (name : Text) (words : List Text) → Named name → Ranged (comma
 ranged_name name words (is_produce e) = rw e (ranged_by produce_by (λ uses. ranged_produce (given (codes "lanes") uses) (given (codes "senders") uses)) (uses_in produce_options words))
 ranged_name name words (is_replay e) = rw e (ranged_by replay_by (λ uses. ranged_replay (given (codes "lanes") uses)) (uses_in replay_options words))
 ranged_name name words (is_show e) = rw e (ranged_by _ (λ uses. tt) (uses_in no_options words))
-ranged_name name words (is_make e) = rw e (ranged_by make_by (λ uses. ranged_make (given (codes "number") uses) (given (codes "count") uses) (has_use (codes "run") uses) (given (codes "lanes") uses)) (uses_in make_options words))
+ranged_name name words (is_make e) = rw e
+    (ranged_by make_by (λ uses. ranged_make (given (codes "number") uses) (given (codes "count") uses)
+    (has_use (codes "run") uses) (given (codes "lanes") uses)) (uses_in make_options words))
 ranged_name name words (is_asm e) = rw e (ranged_by _ (λ uses. tt) (uses_in no_options words))
 ranged_name name words (is_list e) = rw e (ranged_by _ (λ uses. tt) (uses_in no_options words))
 ranged_name name words (is_other f1 f2 f3 f4 f5 f6) = rw (f1, f2, f3, f4, f5, f6) tt
@@ -90,6 +92,8 @@ ranged [] = tt
 ranged (name ∷ words) = ranged_name name words (named name)
 
 -- the numbers of a command that is answered
-pub ranges : (words : List Text) (result : Result Command WordsFault) → MatchResult result (λ command. command_in words ≡ Some command) (λ fault. Explains fault (command_in words)) → IfOk result IsInRange
+pub ranges : (words : List Text) (result : Result Command WordsFault)
+    → MatchResult result (λ command. command_in words ≡ Some command)
+    (λ fault. Explains fault (command_in words)) → IfOk result IsInRange
 ranges words (Ok command) e = rw e at (ranged words)
 ranges words (Err fault) e = tt

@@ -31,7 +31,9 @@ cut_back : (text : Text) → has_byte 61 text ≡ true → text ≡ before_first
 cut_back [] h = absurd (cc)
 cut_back (x ∷ xs) h = go (cut_back xs) (x == 61) refl
   where
-    go : (has_byte 61 xs ≡ true → xs ≡ before_first (λ b. b == 61) xs ++ 61 ∷ after_first (λ b. b == 61) xs) → (b : Bool) → (x == 61) ≡ b → x ∷ xs ≡ before_first (λ b. b == 61) (x ∷ xs) ++ 61 ∷ after_first (λ b. b == 61) (x ∷ xs)
+    go : (has_byte 61 xs ≡ true → xs ≡ before_first (λ b. b == 61) xs ++ 61 ∷ after_first (λ b. b == 61) xs)
+        → (b : Bool) → (x == 61) ≡ b
+        → x ∷ xs ≡ before_first (λ b. b == 61) (x ∷ xs) ++ 61 ∷ after_first (λ b. b == 61) (x ∷ xs)
     go rest true f = rw f (ap (λ (y : ℕ). y ∷ xs) (eqb-true x 61 f))
     go rest false f =
         let n = prefix_len (λ b. not (b == 61)) xs in
@@ -103,7 +105,8 @@ pub record Spells (o : Options) (before uses : List Use) (words : List Text) : T
 abbrev Once : List Use → Type 0
 Once uses = IsDistinct bytes_eq (used_names uses)
 
-more_back : (before : List Use) (u : Use) (next : List Use → Option (List Use)) (us : List Use) → Once before → more before u next ≡ Some us → Once (before ++ u ∷ []) × (next (before ++ u ∷ []) ≡ Some us)
+more_back : (before : List Use) (u : Use) (next : List Use → Option (List Use)) (us : List Use) → Once before
+    → more before u next ≡ Some us → Once (before ++ u ∷ []) × (next (before ++ u ∷ []) ≡ Some us)
 more_back before u next us once e = go (has_use u.name before) refl
   where
     go : (b : Bool) → has_use u.name before ≡ b → Once (before ++ u ∷ []) × (next (before ++ u ∷ []) ≡ Some us)
@@ -135,7 +138,9 @@ first_word o before us w v words e s = record {
 }
 
 -- one use, and those of the words after it
-use_back : (o : Options) (words : List Text) → BackIdle o words → (w : Written) (before us : List Use) → Fits o w → Once before → more before (use_of w) (λ vs. uses_after o vs None words) ≡ Some us → Spells o before us (words_of w ++ words)
+use_back : (o : Options) (words : List Text) → BackIdle o words → (w : Written) (before us : List Use)
+    → Fits o w → Once before → more before (use_of w) (λ vs. uses_after o vs None words) ≡ Some us
+    → Spells o before us (words_of w ++ words)
 use_back o words next w before us fit once e =
     let back = more_back before (use_of w) (λ vs. uses_after o vs None words) us once e in
     one_more o w before us words fit (next (before ++ use_of w ∷ []) us back.0 back.1)
@@ -143,7 +148,9 @@ use_back o words next w before us fit once e =
 idle_back : (o : Options) (word : Text) (words : List Text) → BackIdle o words → BackWaits o words → BackIdle o (word ∷ words)
 idle_back o word words next waits before us once e = by_form (long_of word) refl
   where
-    by_option : (x : Text) (v : Option Text) → long_of word ≡ Some (x, v) → (t : Takes) → takes o x ≡ t → option_uses t x v before (λ us p. uses_after o us p words) ≡ Some us → Spells o before us (word ∷ words)
+    by_option : (x : Text) (v : Option Text) → long_of word ≡ Some (x, v) → (t : Takes) → takes o x ≡ t
+        → option_uses t x v before (λ us p. uses_after o us p words) ≡ Some us
+        → Spells o before us (word ∷ words)
     by_option x (Some v) f number t h = first_word o before us word _ words (long_back word (x, Some v) f) (use_back o words next (joined x v) before us t once h)
     by_option x None f number t h = first_word o before us word _ words (long_back word (x, None) f) (waits before us x t once h)
     by_option x (Some v) f nothing t h = absurd (cc)

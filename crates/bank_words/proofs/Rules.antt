@@ -55,7 +55,9 @@ flag_by_id : (fs : List Text) (x : Text) → arg_by_id (map run_rule fs) x ≡ r
 flag_by_id [] x = refl
 flag_by_id (f ∷ fs) x = go (flag_by_id fs x) (bytes_eq f x) refl
   where
-    go : arg_by_id (map run_rule fs) x ≡ rule_for (if is_among x fs then nothing else unknown) x → (b : Bool) → bytes_eq f x ≡ b → arg_by_id (map run_rule (f ∷ fs)) x ≡ rule_for (if is_among x (f ∷ fs) then nothing else unknown) x
+    go : arg_by_id (map run_rule fs) x ≡ rule_for (if is_among x fs then nothing else unknown) x → (b : Bool)
+        → bytes_eq f x ≡ b → arg_by_id (map run_rule (f ∷ fs)) x
+        ≡ rule_for (if is_among x (f ∷ fs) then nothing else unknown) x
     go more true e = let same : f ≡ x = (bytes_eq-Decides f x).0 e in rw e (ap (λ z. Some (run_rule z)) same)
     go more false e = rw e more
 
@@ -63,7 +65,10 @@ pub by_id : (ns fs : List Text) (x : Text) → arg_by_id (map number_rule ns ++ 
 by_id [] fs x = flag_by_id fs x
 by_id (n ∷ ns) fs x = go (by_id ns fs x) (bytes_eq n x) refl
   where
-    go : arg_by_id (map number_rule ns ++ map run_rule fs) x ≡ rule_for (takes (record { numbers = ns; flags = fs }) x) x → (b : Bool) → bytes_eq n x ≡ b → arg_by_id (map number_rule (n ∷ ns) ++ map run_rule fs) x ≡ rule_for (takes (record { numbers = n ∷ ns; flags = fs }) x) x
+    go : arg_by_id (map number_rule ns ++ map run_rule fs) x
+        ≡ rule_for (takes (record { numbers = ns; flags = fs }) x) x → (b : Bool) → bytes_eq n x ≡ b
+        → arg_by_id (map number_rule (n ∷ ns) ++ map run_rule fs) x
+        ≡ rule_for (takes (record { numbers = n ∷ ns; flags = fs }) x) x
     go more true e = let same : n ≡ x = (bytes_eq-Decides n x).0 e in rw e (ap (λ z. Some (number_rule z)) same)
     go more false e = rw e more
 
@@ -71,7 +76,9 @@ flag_by_long : (fs : List Text) (x : Text) → arg_by_long (map run_rule fs) x �
 flag_by_long [] x = refl
 flag_by_long (f ∷ fs) x = go (flag_by_long fs x) (bytes_eq f x) refl
   where
-    go : arg_by_long (map run_rule fs) x ≡ rule_for (if is_among x fs then nothing else unknown) x → (b : Bool) → bytes_eq f x ≡ b → arg_by_long (map run_rule (f ∷ fs)) x ≡ rule_for (if is_among x (f ∷ fs) then nothing else unknown) x
+    go : arg_by_long (map run_rule fs) x ≡ rule_for (if is_among x fs then nothing else unknown) x → (b : Bool)
+        → bytes_eq f x ≡ b → arg_by_long (map run_rule (f ∷ fs)) x
+        ≡ rule_for (if is_among x (f ∷ fs) then nothing else unknown) x
     go more true e = let same : f ≡ x = (bytes_eq-Decides f x).0 e in rw e (ap (λ z. Some (run_rule z)) same)
     go more false e = rw e more
 
@@ -79,7 +86,10 @@ pub by_long : (ns fs : List Text) (x : Text) → arg_by_long (map number_rule ns
 by_long [] fs x = flag_by_long fs x
 by_long (n ∷ ns) fs x = go (by_long ns fs x) (bytes_eq n x) refl
   where
-    go : arg_by_long (map number_rule ns ++ map run_rule fs) x ≡ rule_for (takes (record { numbers = ns; flags = fs }) x) x → (b : Bool) → bytes_eq n x ≡ b → arg_by_long (map number_rule (n ∷ ns) ++ map run_rule fs) x ≡ rule_for (takes (record { numbers = n ∷ ns; flags = fs }) x) x
+    go : arg_by_long (map number_rule ns ++ map run_rule fs) x
+        ≡ rule_for (takes (record { numbers = ns; flags = fs }) x) x → (b : Bool) → bytes_eq n x ≡ b
+        → arg_by_long (map number_rule (n ∷ ns) ++ map run_rule fs) x
+        ≡ rule_for (takes (record { numbers = n ∷ ns; flags = fs }) x) x
     go more true e = let same : n ≡ x = (bytes_eq-Decides n x).0 e in rw e (ap (λ z. Some (number_rule z)) same)
     go more false e = rw e more
 

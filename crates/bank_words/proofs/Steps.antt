@@ -24,7 +24,9 @@ step_idle name o word words read next waits uses h i = by_form (long_of word) re
     by_option x None e nothing t = idle_flag name o uses h word x words next i e t
     by_option x v e unknown t = stop_here name o (stands h idle) word words (unknown_turn name o h idle word x v e t)
 
-    by_form : (p : Option (Text × Option Text)) → long_of word ≡ p → Ends (faults_from name o (stands h idle) (word ∷ words)) (rows_from o (stands h idle) (word ∷ words)) (word_uses o p uses (λ us q. uses_after o us q words))
+    by_form : (p : Option (Text × Option Text)) → long_of word ≡ p
+        → Ends (faults_from name o (stands h idle) (word ∷ words)) (rows_from o (stands h idle) (word ∷ words))
+        (word_uses o p uses (λ us q. uses_after o us q words))
     by_form None e = stop_here name o (stands h idle) word words (plain_stops name o h word (not_dashed word read e))
     by_form (Some p) e = by_option p.0 p.1 e (takes o p.0) refl
 
@@ -51,10 +53,14 @@ step_awaiting name o word words read all next uses n skip t = by_dash (is_dashed
   where
     by_form : (p : Option (Text × Option Text)) → long_of word ≡ p → is_dashed word ≡ true → IsFault (turn_fault (leaf name o) [] (stands (awaiting uses n skip) (option n)) word)
     by_form None e d = absurd (cc (not_dashed word read e, d))
-    by_form (Some p) e d = rw (long_turn name o (awaiting uses n skip) (option n) word p.0 p.1 e).0 (fault_first (long_fault (rules_of o) false (arg_by_long (rules_of o) p.0) p.1 (awaiting uses n skip)) _ (long_bad o p.0 p.1 (awaiting uses n skip) (waits_bad o uses n skip t)))
+    by_form (Some p) e d = rw (long_turn name o (awaiting uses n skip) (option n) word p.0 p.1 e).0
+        (fault_first (long_fault (rules_of o) false (arg_by_long (rules_of o) p.0) p.1 (awaiting uses n skip)) _
+        (long_bad o p.0 p.1 (awaiting uses n skip) (waits_bad o uses n skip t)))
 
     by_use : (b : Bool) → has_use n uses ≡ b → is_dashed word ≡ false
-        → Ends (faults_from name o (stands (awaiting uses n skip) (option n)) (word ∷ words)) (rows_from o (stands (awaiting uses n skip) (option n)) (word ∷ words)) (more uses (value_use n word) (λ us. uses_after o us None words))
+        → Ends (faults_from name o (stands (awaiting uses n skip) (option n)) (word ∷ words))
+            (rows_from o (stands (awaiting uses n skip) (option n)) (word ∷ words))
+            (more uses (value_use n word) (λ us. uses_after o us None words))
     by_use true again d = rw again
         (let turn = plain_turn name o uses n skip word t d in
         go_on name o _ (stands (got uses n word skip) idle) word words None turn.0 turn.1
@@ -62,10 +68,14 @@ step_awaiting name o word words read all next uses n skip t = by_dash (is_dashed
     by_use false fresh d = rw fresh
         (let turn = plain_turn name o uses n skip word t d in
         go_on name o _ (stands (got uses n word skip) idle) word words (uses_after o (uses ++ value_use n word ∷ []) None words) turn.0 turn.1
-        (next (uses ++ value_use n word ∷ []) (got uses n word skip) (record { fine = rw (id_known o n number t) (value_fine uses n word fresh); rows = rw (id_known o n number t) (value_rows uses n word fresh) })))
+        (next (uses ++ value_use n word ∷ []) (got uses n word skip)
+            (record { fine = rw (id_known o n number t) (value_fine uses n word fresh); rows = rw
+            (id_known o n number t) (value_rows uses n word fresh) })))
 
     by_dash : (b : Bool) → is_dashed word ≡ b
-        → Ends (faults_from name o (stands (awaiting uses n skip) (option n)) (word ∷ words)) (rows_from o (stands (awaiting uses n skip) (option n)) (word ∷ words)) (uses_after o uses (Some n) (word ∷ words))
+        → Ends (faults_from name o (stands (awaiting uses n skip) (option n)) (word ∷ words))
+            (rows_from o (stands (awaiting uses n skip) (option n)) (word ∷ words))
+            (uses_after o uses (Some n) (word ∷ words))
     by_dash true d = rw d (stop_here name o (stands (awaiting uses n skip) (option n)) word words (by_form (long_of word) refl d))
     by_dash false d = rw d (by_use (has_use n uses) refl d)
 

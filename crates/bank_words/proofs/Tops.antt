@@ -23,7 +23,11 @@ names = names_of (built bank_app)
 
 -- the faults by the walk over the first level
 abbrev by_walk : Kinds → Walk → Kinds
-by_walk faults w = or_else faults (or_else (entered_fault (built bank_app) w.stopped) (or_else (settle_fault [] false w.held) (or_else (defaults_fault (settled [] w.held).rows []) (check_fault top (finished [] w.held) (is_some (entered (built bank_app) w.stopped))))))
+by_walk faults w = or_else faults
+    (or_else (entered_fault (built bank_app) w.stopped)
+    (or_else (settle_fault [] false w.held)
+    (or_else (defaults_fault (settled [] w.held).rows [])
+    (check_fault top (finished [] w.held) (is_some (entered (built bank_app) w.stopped))))))
 
 -- the name of a subcommand
 pub record Enters (name : Text) (o : Options) : Type 0 where
@@ -43,13 +47,18 @@ whole_walk name rest met = ap (λ (w : Walk). fold (walked [] names) w rest) (fi
 
 whole_faults : (name : Text) (rest : List Text) → subcommand_met names idle name ≡ Some name → bytes_eq name (codes "help") ≡ false → walk_fault top names (walk_from nothing_held) (name ∷ rest) ≡ []
 unfolding walk_fault
-whole_faults name rest met no_help = ap₂ or_else (first_turn name met no_help) (ap (λ (w : Walk). walk_fault top names w rest) (first_word name met) ∙ stopped_fault top names (walk_from nothing_held) (name, []) rest)
+whole_faults name rest met no_help = ap₂ or_else (first_turn name met no_help)
+    (ap (λ (w : Walk). walk_fault top names w rest) (first_word name met)
+    ∙ stopped_fault top names (walk_from nothing_held) (name, []) rest)
 
 or_else_none : (a : Kinds) → or_else a [] ≡ a
 or_else_none [] = refl
 or_else_none (k ∷ ks) = refl
 
-entered_end : (name : Text) (o : Options) (rest : List Text) → find (λ (s : Shape). answers_to name (label_of s)) (built bank_app).subs ≡ Some (leaf name o) → by_walk [] (record (walk_from nothing_held) { stopped = Some (name, rest) }) ≡ level_fault (leaf name o) [] nothing_held rest false []
+entered_end : (name : Text) (o : Options) (rest : List Text)
+    → find (λ (s : Shape). answers_to name (label_of s)) (built bank_app).subs ≡ Some (leaf name o)
+    → by_walk [] (record (walk_from nothing_held) { stopped = Some (name, rest) })
+    ≡ level_fault (leaf name o) [] nothing_held rest false []
 unfolding defaults_fault
 entered_end name o rest found = rw found (or_else_none _)
 
@@ -62,7 +71,8 @@ entered_rows name o rest e = ap (λ (w : Walk). entered (built bank_app) w.stopp
 -- no subcommand has the name
 pub unmet : (name : Text) (rest : List Text) → is_plain name ≡ true → subcommand_met names idle name ≡ None → IsFault (fault_of bank_app (name ∷ rest))
 unfolding walk_fault
-unmet name rest read none = fault_first (walk_fault top names (walk_from nothing_held) (name ∷ rest)) _ (fault_first (turn_fault top names (walk_from nothing_held) name) _ (by_form (long_of name) refl))
+unmet name rest read none = fault_first (walk_fault top names (walk_from nothing_held) (name ∷ rest)) _
+    (fault_first (turn_fault top names (walk_from nothing_held) name) _ (by_form (long_of name) refl))
   where
     plain : (word : Text) → is_dashed word ≡ false → subcommand_met names idle word ≡ None → IsFault (turn_fault top names (walk_from nothing_held) word)
     plain [] d n = tt

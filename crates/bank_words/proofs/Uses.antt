@@ -78,7 +78,8 @@ long_bad o x v h bad = rw (by_long o.numbers o.flags x) (by_takes (takes o x) v)
 pub not_dashed : (word : Text) → is_plain word ≡ true → long_of word ≡ None → is_dashed word ≡ false
 not_dashed word e n = not-true (is_dashed word) (rw n at e)
 
-pub bad_idle : (name : Text) (o : Options) (h : Held) (words : List Text) → list_all is_plain words ≡ true → IsFault (settle_fault (rules_of o) false h) → IsFault (faults_from name o (stands h idle) words)
+pub bad_idle : (name : Text) (o : Options) (h : Held) (words : List Text) → list_all is_plain words ≡ true
+    → IsFault (settle_fault (rules_of o) false h) → IsFault (faults_from name o (stands h idle) words)
 unfolding walk_fault
 bad_idle name o h [] read bad = bad
 bad_idle name o h (word ∷ words) read bad = stop_here name o (stands h idle) word words (by_form (long_of word) refl)
@@ -149,10 +150,14 @@ flag_turn name o h waiting word x e t =
     let known = long_known o x nothing t in
     (turn.0 ∙ rw known refl, turn.1 ∙ rw known refl)
 
-pub flag_with_value : (name : Text) (o : Options) (h : Held) (waiting : Waiting) (word x value : Text) → long_of word ≡ Some (x, Some value) → takes o x ≡ nothing → IsFault (turn_fault (leaf name o) [] (stands h waiting) word)
+pub flag_with_value : (name : Text) (o : Options) (h : Held) (waiting : Waiting) (word x value : Text)
+    → long_of word ≡ Some (x, Some value) → takes o x ≡ nothing
+    → IsFault (turn_fault (leaf name o) [] (stands h waiting) word)
 flag_with_value name o h waiting word x value e t = rw ((long_turn name o h waiting word x (Some value) e).0, long_known o x nothing t) tt
 
-pub unknown_turn : (name : Text) (o : Options) (h : Held) (waiting : Waiting) (word x : Text) (v : Option Text) → long_of word ≡ Some (x, v) → takes o x ≡ unknown → IsFault (turn_fault (leaf name o) [] (stands h waiting) word)
+pub unknown_turn : (name : Text) (o : Options) (h : Held) (waiting : Waiting) (word x : Text) (v : Option Text)
+    → long_of word ≡ Some (x, v) → takes o x ≡ unknown
+    → IsFault (turn_fault (leaf name o) [] (stands h waiting) word)
 unknown_turn name o h waiting word x v e t = rw ((long_turn name o h waiting word x v e).0, long_known o x unknown t) tt
 
 -- ---- the walk
@@ -161,9 +166,13 @@ abbrev pub FromIdle : Text → Options → List Text → Type 0
 FromIdle name o words = (uses : List Use) (h : Held) → IsIdle o h uses → Ends (faults_from name o (stands h idle) words) (rows_from o (stands h idle) words) (uses_after o uses None words)
 
 abbrev pub FromAwaiting : Text → Options → List Text → Type 0
-FromAwaiting name o words = (uses : List Use) (n : Text) (skip : ℕ) → takes o n ≡ number → Ends (faults_from name o (stands (awaiting uses n skip) (option n)) words) (rows_from o (stands (awaiting uses n skip) (option n)) words) (uses_after o uses (Some n) words)
+FromAwaiting name o words = (uses : List Use) (n : Text) (skip : ℕ) → takes o n ≡ number
+    → Ends (faults_from name o (stands (awaiting uses n skip) (option n)) words)
+    (rows_from o (stands (awaiting uses n skip) (option n)) words) (uses_after o uses (Some n) words)
 
-pub idle_value : (name : Text) (o : Options) (uses : List Use) (h : Held) (word x value : Text) (words : List Text) → FromIdle name o words → IsIdle o h uses → long_of word ≡ Some (x, Some value) → takes o x ≡ number
+pub idle_value : (name : Text) (o : Options) (uses : List Use) (h : Held) (word x value : Text)
+    (words : List Text) → FromIdle name o words → IsIdle o h uses → long_of word ≡ Some (x, Some value)
+    → takes o x ≡ number
     → Ends (faults_from name o (stands h idle) (word ∷ words)) (rows_from o (stands h idle) (word ∷ words)) (more uses (value_use x value) (λ us. uses_after o us None words))
 idle_value name o uses h word x value words next i e t = by_use (has_use x uses) refl
   where
@@ -171,12 +180,23 @@ idle_value name o uses h word x value words next i e t = by_use (has_use x uses)
         × (walked (rules_of o) [] (stands h idle) word ≡ stands (reacted (rules_of o) (number_rule x) (value ∷ []) h) idle)
     turn = value_turn name o h idle word x value e t
 
-    by_use : (b : Bool) → has_use x uses ≡ b → Ends (faults_from name o (stands h idle) (word ∷ words)) (rows_from o (stands h idle) (word ∷ words)) (more uses (value_use x value) (λ us. uses_after o us None words))
-    by_use true again = rw again (stop_here name o (stands h idle) word words (rw (turn.0, i.fine, i.rows) (fault_first (use_fault false (number_rule x) (value ∷ []) (rows_for uses)) [] (value_again uses x value again))))
-    by_use false fresh = rw fresh (go_on name o (stands h idle) _ word words (uses_after o (uses ++ value_use x value ∷ []) None words) (turn.0 ∙ rw (i.fine, i.rows, value_fine uses x value fresh) refl) turn.1
-        (next (uses ++ value_use x value ∷ []) (reacted (rules_of o) (number_rule x) (value ∷ []) h) (record { fine = refl; rows = ap (λ (rs : List Row). used (number_rule x) (value ∷ []) rs) i.rows ∙ value_rows uses x value fresh })))
+    by_use : (b : Bool) → has_use x uses ≡ b
+        → Ends (faults_from name o (stands h idle) (word ∷ words)) (rows_from o (stands h idle) (word ∷ words))
+        (more uses (value_use x value) (λ us. uses_after o us None words))
+    by_use true again = rw again
+        (stop_here name o (stands h idle) word words
+        (rw (turn.0, i.fine, i.rows)
+        (fault_first (use_fault false (number_rule x) (value ∷ []) (rows_for uses)) []
+        (value_again uses x value again))))
+    by_use false fresh = rw fresh
+        (go_on name o (stands h idle) _ word words (uses_after o (uses ++ value_use x value ∷ []) None words)
+        (turn.0 ∙ rw (i.fine, i.rows, value_fine uses x value fresh) refl) turn.1
+        (next (uses ++ value_use x value ∷ []) (reacted (rules_of o) (number_rule x) (value ∷ []) h)
+            (record { fine = refl; rows = ap (λ (rs : List Row). used (number_rule x) (value ∷ []) rs) i.rows
+            ∙ value_rows uses x value fresh })))
 
-pub idle_flag : (name : Text) (o : Options) (uses : List Use) (h : Held) (word x : Text) (words : List Text) → FromIdle name o words → IsIdle o h uses → long_of word ≡ Some (x, None) → takes o x ≡ nothing
+pub idle_flag : (name : Text) (o : Options) (uses : List Use) (h : Held) (word x : Text) (words : List Text)
+    → FromIdle name o words → IsIdle o h uses → long_of word ≡ Some (x, None) → takes o x ≡ nothing
     → Ends (faults_from name o (stands h idle) (word ∷ words)) (rows_from o (stands h idle) (word ∷ words)) (more uses (flag_use x) (λ us. uses_after o us None words))
 idle_flag name o uses h word x words next i e t = by_use (has_use x uses) refl
   where
@@ -184,12 +204,18 @@ idle_flag name o uses h word x words next i e t = by_use (has_use x uses) refl
         × (walked (rules_of o) [] (stands h idle) word ≡ stands (reacted (rules_of o) (run_rule x) [] h) idle)
     turn = flag_turn name o h idle word x e t
 
-    by_use : (b : Bool) → has_use x uses ≡ b → Ends (faults_from name o (stands h idle) (word ∷ words)) (rows_from o (stands h idle) (word ∷ words)) (more uses (flag_use x) (λ us. uses_after o us None words))
-    by_use true again = rw again (stop_here name o (stands h idle) word words (rw (turn.0, i.fine, i.rows) (fault_first (use_fault false (run_rule x) [] (rows_for uses)) [] (flag_again uses x again))))
+    by_use : (b : Bool) → has_use x uses ≡ b
+        → Ends (faults_from name o (stands h idle) (word ∷ words)) (rows_from o (stands h idle) (word ∷ words))
+        (more uses (flag_use x) (λ us. uses_after o us None words))
+    by_use true again = rw again
+        (stop_here name o (stands h idle) word words
+        (rw (turn.0, i.fine, i.rows)
+        (fault_first (use_fault false (run_rule x) [] (rows_for uses)) [] (flag_again uses x again))))
     by_use false fresh = rw fresh (go_on name o (stands h idle) _ word words (uses_after o (uses ++ flag_use x ∷ []) None words) (turn.0 ∙ rw (i.fine, i.rows, flag_fine uses x fresh) refl) turn.1
         (next (uses ++ flag_use x ∷ []) (reacted (rules_of o) (run_rule x) [] h) (record { fine = refl; rows = ap (λ (rs : List Row). used (run_rule x) [] rs) i.rows ∙ flag_rows uses x fresh })))
 
-pub idle_name : (name : Text) (o : Options) (uses : List Use) (h : Held) (word x : Text) (words : List Text) → FromAwaiting name o words → IsIdle o h uses → long_of word ≡ Some (x, None) → takes o x ≡ number
+pub idle_name : (name : Text) (o : Options) (uses : List Use) (h : Held) (word x : Text) (words : List Text)
+    → FromAwaiting name o words → IsIdle o h uses → long_of word ≡ Some (x, None) → takes o x ≡ number
     → Ends (faults_from name o (stands h idle) (word ∷ words)) (rows_from o (stands h idle) (word ∷ words)) (uses_after o uses (Some x) words)
 idle_name name o uses h word x words next i e t =
     let turn = name_turn name o h idle word x e t in

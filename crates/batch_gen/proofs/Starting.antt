@@ -27,7 +27,9 @@ use Rattle.batch_gen.specs.declared.start.TheConstants.{USER_LAMPORTS, USERS}
 use Rattle.batch_gen.specs.Generator.{user, wallet, user_account, collector_account, start_hash, start_accounts, start_state}
 
 -- one user more
-pub one_more_user : (i : ℕ) (before after : List KeyedAccount) (key : Key) (account : Account) → key ≡ user i → account ≡ wallet USER_LAMPORTS → before ≡ map user_account (range_with_len 0 i) → after ≡ before ++ record { key = key; account = account } ∷ []
+pub one_more_user : (i : ℕ) (before after : List KeyedAccount) (key : Key) (account : Account) → key ≡ user i
+    → account ≡ wallet USER_LAMPORTS → before ≡ map user_account (range_with_len 0 i)
+    → after ≡ before ++ record { key = key; account = account } ∷ []
     → after ≡ map user_account (range_with_len 0 (i + 1))
 one_more_user i before after key account is_user is_wallet so_far pushed =
     rw (pushed, so_far, is_user, is_wallet) (sym (map-range_with_len_more user_account 0 i i (omega arith)))

@@ -64,9 +64,14 @@ active_again a = by_case (is_ready a) refl
     by_case false e = ap (λ (t : Bool). unwrap_or (cond t (Some program) None) a) e
 
 -- all accounts, told by their keys
-find-map : (f : Account → Account) (q : Key) (es : List (Key × Account)) → finite.find key_cmp q (map (λ (e : Key × Account). let d : Key × Account = (e.0, f e.1) in d) es) ≡ option_map f (finite.find key_cmp q es)
+find-map : (f : Account → Account) (q : Key) (es : List (Key × Account))
+    → finite.find key_cmp q (map (λ (e : Key × Account). let d : Key × Account = (e.0, f e.1) in d) es)
+    ≡ option_map f (finite.find key_cmp q es)
 find-map f q [] = refl
-find-map f q (e ∷ es) = elim (eq_by_cmp key_cmp q e.0) as (λ b. cond b (Some (f e.1)) (finite.find key_cmp q (map (λ (e : Key × Account). let d : Key × Account = (e.0, f e.1) in d) es)) ≡ option_map f (cond b (Some e.1) (finite.find key_cmp q es))) [
+find-map f q (e ∷ es) = elim (eq_by_cmp key_cmp q e.0) as
+    (λ b. cond b (Some (f e.1)) (finite.find key_cmp q
+    (map (λ (e : Key × Account). let d : Key × Account = (e.0, f e.1) in d) es))
+    ≡ option_map f (cond b (Some e.1) (finite.find key_cmp q es))) [
   | true ↦ refl
   | false ↦ find-map f q es
 ]
@@ -99,7 +104,9 @@ later_apart k q less = by_case (same_key q k) refl
     by_case false e = e
     by_case true e = absurd (subst (λ (o : Ordering). T (is_lt o)) (ap (key_cmp k) (same_key-true q k e) ∙ tied_itself key_cmp_total k) less)
 
-found_later : (e : Key × Account) (es ds : List (Key × Account)) → T (below_all key_cmp e.0 ds) → AllByRecursion (λ (d : Key × Account). finite.find key_cmp d.0 es ≡ Some d.1) ds → AllByRecursion (λ (d : Key × Account). finite.find key_cmp d.0 (e ∷ es) ≡ Some d.1) ds
+found_later : (e : Key × Account) (es ds : List (Key × Account)) → T (below_all key_cmp e.0 ds)
+    → AllByRecursion (λ (d : Key × Account). finite.find key_cmp d.0 es ≡ Some d.1) ds
+    → AllByRecursion (λ (d : Key × Account). finite.find key_cmp d.0 (e ∷ es) ≡ Some d.1) ds
 found_later e es [] below found = tt
 found_later e es (d ∷ ds) below found =
     (find-tail d.0 e es (later_apart e.0 d.0 (first_of _ _ below)) ∙ found.0, found_later e es ds (second_of _ _ below) found.1)
@@ -133,7 +140,9 @@ others_stay q (e ∷ es) apart = by_case (others_stay q es) (activated e.1) refl
     by_test true stays rest = ap (λ (a : Account). let o : Option Account = Some a in o) stays
     by_test false stays rest = rest
 
-    by_case : (AllByRecursion (λ (d : KeyedAccount). same_key q d.key ≡ false) (filter_map activated_entry es) → option_map active (finite.find key_cmp q es) ≡ finite.find key_cmp q es) → (o : Option Account) → activated e.1 ≡ o
+    by_case : (AllByRecursion (λ (d : KeyedAccount). same_key q d.key ≡ false) (filter_map activated_entry es)
+        → option_map active (finite.find key_cmp q es) ≡ finite.find key_cmp q es) → (o : Option Account)
+        → activated e.1 ≡ o
         → AllByRecursion (λ (d : KeyedAccount). same_key q d.key ≡ false) (cons_option (option_map (keyed e.0) o) (filter_map activated_entry es))
         → option_map active (finite.find key_cmp q (e ∷ es)) ≡ finite.find key_cmp q (e ∷ es)
     by_case rest None none h = by_test (eq_by_cmp key_cmp q e.0) (ap (λ (o : Option Account). unwrap_or o e.1) none) (rest h)
@@ -150,7 +159,9 @@ partly_begins start is = record {
   others = λ q apart. ap (option_map active) (finite.get-entries start q) ∙ others_stay q (entries start) apart ∙ sym (finite.get-entries start q);
 }
   where
-    found : (es : List (Key × Account)) → AllByRecursion (λ (d : Key × Account). finite.find key_cmp d.0 (entries start) ≡ Some d.1) es → AllByRecursion (λ (d : Key × Account). get start d.0 ≡ Some d.1) es
+    found : (es : List (Key × Account))
+        → AllByRecursion (λ (d : Key × Account). finite.find key_cmp d.0 (entries start) ≡ Some d.1) es
+        → AllByRecursion (λ (d : Key × Account). get start d.0 ≡ Some d.1) es
     found [] h = tt
     found (e ∷ es) h = (finite.get-entries start e.0 ∙ h.0, found es h.1)
 
@@ -182,7 +193,9 @@ next_fits start now e left h =
     let f = h.state.fits in
     omega (arith, a, b, c, d, f)
 
-pub partly_goes_on : (start now after : State) (e : KeyedAccount) (left : List KeyedAccount) → IsPartly start now (e ∷ left) → after ≡ put now e.key e.account → IsState after → IsPartly start after left
+pub partly_goes_on : (start now after : State) (e : KeyedAccount) (left : List KeyedAccount)
+    → IsPartly start now (e ∷ left) → after ≡ put now e.key e.account → IsState after
+    → IsPartly start after left
 partly_goes_on start now after e left h is state = record {
   state = state;
   same = λ q. ap (option_map active) (got q) ∙ same q (same_key q e.key) refl;

@@ -112,7 +112,9 @@ All-zip P Q (x ∷ xs) (y ∷ ys) p q = ((p.0, q.0), All-zip P Q xs ys p.1 q.1)
 
 module _ (wires : List (List ℕ)) (order : List Chosen) (outcomes : List Outcome) (of : AreOf wires order) (small : All IsSmallOutcome outcomes) where
   both : All (λ (e : Chosen × Outcome). IsOf wires e.0 × IsSmallOutcome e.1) (zip order outcomes)
-  both = All-from_recursion _ (zip order outcomes) (All-zip (IsOf wires) IsSmallOutcome order outcomes (recursion_from_All (IsOf wires) order of.each) (recursion_from_All IsSmallOutcome outcomes small))
+  both = All-from_recursion _ (zip order outcomes)
+      (All-zip (IsOf wires) IsSmallOutcome order outcomes (recursion_from_All (IsOf wires) order of.each)
+      (recursion_from_All IsSmallOutcome outcomes small))
 
   all_entries : (P : Entry → Type 0) → ((e : Chosen × Outcome) → IsOf wires e.0 × IsSmallOutcome e.1 → P (entry_of wires e)) → All P (entries_of wires order outcomes)
   all_entries P each = All-map P (entry_of wires) (zip order outcomes) (All-weaker _ (λ (e : Chosen × Outcome). P (entry_of wires e)) each (zip order outcomes) both)
@@ -163,14 +165,18 @@ names_few order outcomes few =
     let c = length-zip order outcomes in
     omega (arith, a, b, c, few)
 
-pub marks_few : (mark : Mark) (recent : List Mark) → length mark.messages ≤ max_transactions → All (λ mark. length mark.messages ≤ max_transactions) recent → All (λ mark. length mark.messages < 2 ^ 32) (take max_marks (mark ∷ recent))
+pub marks_few : (mark : Mark) (recent : List Mark) → length mark.messages ≤ max_transactions
+    → All (λ mark. length mark.messages ≤ max_transactions) recent
+    → All (λ mark. length mark.messages < 2 ^ 32) (take max_marks (mark ∷ recent))
 marks_few mark recent one all =
     All-weaker (λ (m : Mark). length m.messages ≤ max_transactions) (λ (m : Mark). length m.messages < 2 ^ 32) (λ m h. omega (arith, h)) (take max_marks (mark ∷ recent))
     (All-take (λ (m : Mark). length m.messages ≤ max_transactions) max_marks (mark ∷ recent) (All-cons (λ (m : Mark). length m.messages ≤ max_transactions) mark recent one all))
 
 -- ---- the end
 -- a block and the snapshot after it, from their parts
-pub closed_is : (s : Snapshot) (head : Head) (wires : List (List ℕ)) (order : List Chosen) (ran : Ran) (split : FeeSplit) (previous : Hash32) (shares : Shares) (state : Hash32) (known block : Block) (names : List Hash32) (recent : List Mark)
+pub closed_is : (s : Snapshot) (head : Head) (wires : List (List ℕ)) (order : List Chosen) (ran : Ran)
+    (split : FeeSplit) (previous : Hash32) (shares : Shares) (state : Hash32) (known block : Block)
+    (names : List Hash32) (recent : List Mark)
     → split ≡ split_of (base_fees ran.outcomes) (priority_fees ran.outcomes) → previous ≡ newest_of s.recent
     → shares ≡ shares_at_end ran.accounts head.collector split → state ≡ hash_of_state shares.accounts
     → known ≡ unsealed head previous wires order ran.outcomes → block ≡ sealed (record known { burned = shares.burned; collected = shares.collected; state = state })
@@ -203,11 +209,14 @@ module _ (parts : RecordParts) (limits : Limits) (recent : List Mark) (ran : Ran
       (split_of (base_fees ran.outcomes) (priority_fees ran.outcomes)) parts.previous (shares_of ends.end) ends.end.state known block_at_end ends.names (take max_marks (mark_at_end ∷ recent))
       refl previous are.end.shares are.end.state refl refl are.names refl
 
-  pub end_writable : AreAllowed limits → All (λ mark. length mark.messages ≤ max_transactions) recent → MayEnd parts.wires.now parts.order.now ran → AreEnds parts ran ends → IsWritable closed_at_end.after
+  pub end_writable : AreAllowed limits → All (λ mark. length mark.messages ≤ max_transactions) recent
+      → MayEnd parts.wires.now parts.order.now ran → AreEnds parts ran ends → IsWritable closed_at_end.after
   end_writable allowed few may are = record {
     limits = allowed;
     messages = marks_few mark_at_end recent (subst (λ (names : List Hash32). length names ≤ max_transactions) (sym are.names) (names_few parts.order.now ran.outcomes may.of.few)) few;
-    accounts = subst (λ (s : State). len s < 2 ^ 32) (sym (ap (λ (s : Shares). s.accounts) are.end.shares)) (few_at_end ran.accounts parts.head.now.collector (split_of (base_fees ran.outcomes) (priority_fees ran.outcomes)) may.room);
+    accounts = subst (λ (s : State). len s < 2 ^ 32) (sym (ap (λ (s : Shares). s.accounts) are.end.shares))
+        (few_at_end ran.accounts parts.head.now.collector
+        (split_of (base_fees ran.outcomes) (priority_fees ran.outcomes)) may.room);
   }
 
   -- the names of the mark ascend

@@ -41,7 +41,9 @@ zip_parts (x ∷ xs) (y ∷ ys) (suc c) n (suc m) e = ap (λ zs. (x, y) ∷ zs) 
 
 -- ---- entries
 module _ (wires : List (List ℕ)) (order : List Chosen) where
-  entries_parts : (outcomes : List Outcome) (c n : ℕ) → entries_of wires order (take (c + n) outcomes) ≡ entries_of wires order (take c outcomes) ++ entries_of wires (drop c order) (take n (drop c outcomes))
+  entries_parts : (outcomes : List Outcome) (c n : ℕ)
+      → entries_of wires order (take (c + n) outcomes)
+      ≡ entries_of wires order (take c outcomes) ++ entries_of wires (drop c order) (take n (drop c outcomes))
   entries_parts outcomes c n =
       ap (map (entry_of wires)) (zip_parts order outcomes c n (c + n) refl) ∙ map-append (entry_of wires) (zip order (take c outcomes)) (zip (drop c order) (take n (drop c outcomes)))
 

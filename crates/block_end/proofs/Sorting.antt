@@ -17,11 +17,16 @@ use Rattle.sol_base.specs.Keys.{hash_cmp, same_hash}
 use Rattle.block_end.specs.Blocks.{ascending, processed_by, processed_in}
 
 -- names stay in order when one is put in its place
-inserted-above : (k name : Hash32) (names : List Hash32) → hash_cmp k name ≡ Less → AllByRecursion (λ (q : Hash32). hash_cmp k q ≡ Less) names → AllByRecursion (λ (q : Hash32). hash_cmp k q ≡ Less) (insert_key hash_cmp names name)
+inserted-above : (k name : Hash32) (names : List Hash32) → hash_cmp k name ≡ Less
+    → AllByRecursion (λ (q : Hash32). hash_cmp k q ≡ Less) names
+    → AllByRecursion (λ (q : Hash32). hash_cmp k q ≡ Less) (insert_key hash_cmp names name)
 inserted-above k name [] above all = (above, tt)
 inserted-above k name (n ∷ ns) above all = by_case (hash_cmp name n) (inserted-above k name ns above all.1)
   where
-    by_case : (r : Ordering) → AllByRecursion (λ (q : Hash32). hash_cmp k q ≡ Less) (insert_key hash_cmp ns name) → AllByRecursion (λ (q : Hash32). hash_cmp k q ≡ Less) (match_ordering r (name ∷ n ∷ ns) (n ∷ ns) (n ∷ insert_key hash_cmp ns name))
+    by_case : (r : Ordering) → AllByRecursion (λ (q : Hash32). hash_cmp k q ≡ Less)
+        (insert_key hash_cmp ns name)
+        → AllByRecursion (λ (q : Hash32). hash_cmp k q ≡ Less)
+        (match_ordering r (name ∷ n ∷ ns) (n ∷ ns) (n ∷ insert_key hash_cmp ns name))
     by_case Less rest = (above, all)
     by_case Equal rest = all
     by_case Greater rest = (all.0, rest)
@@ -35,7 +40,9 @@ unfolding IsStrictlySortedBy
 inserted-sorted name [] sorted = (tt, tt)
 inserted-sorted name (n ∷ ns) sorted = by_case (hash_cmp name n) refl (inserted-sorted name ns sorted.1)
   where
-    by_case : (r : Ordering) → hash_cmp name n ≡ r → IsStrictlySortedBy hash_cmp (insert_key hash_cmp ns name) → IsStrictlySortedBy hash_cmp (match_ordering r (name ∷ n ∷ ns) (n ∷ ns) (n ∷ insert_key hash_cmp ns name))
+    by_case : (r : Ordering) → hash_cmp name n ≡ r → IsStrictlySortedBy hash_cmp (insert_key hash_cmp ns name)
+        → IsStrictlySortedBy hash_cmp
+        (match_ordering r (name ∷ n ∷ ns) (n ∷ ns) (n ∷ insert_key hash_cmp ns name))
     by_case Less is rest = ((is, all_above name n ns is sorted.0), sorted)
     by_case Equal is rest = sorted
     by_case Greater is rest = (inserted-above n name ns (hash_cmp_total.antisymm n name ∙ ap ordering_reverse is) sorted.0, rest)
@@ -75,17 +82,23 @@ ascending_has (n ∷ ns) q = has_inserted n q (ascending ns) ∙ ap (λ b. same_
 
 -- ---- transactions beside their outcomes
 -- one more of each
-zip-suc : {X Y : Type 0} (xs : List X) (ys : List Y) (i : ℕ) (x : X) (y : Y) → i < length xs → i < length ys → zip (take (suc i) xs) (take (suc i) ys) ≡ zip (take i xs) (take i ys) ++ (get_or xs i x, get_or ys i y) ∷ []
+zip-suc : {X Y : Type 0} (xs : List X) (ys : List Y) (i : ℕ) (x : X) (y : Y) → i < length xs → i < length ys
+    → zip (take (suc i) xs) (take (suc i) ys)
+    ≡ zip (take i xs) (take i ys) ++ (get_or xs i x, get_or ys i y) ∷ []
 zip-suc [] ys i x y h k = absurd (omega (arith, h))
 zip-suc (a ∷ xs) [] i x y h k = absurd (omega (arith, k))
 zip-suc (a ∷ xs) (b ∷ ys) zero x y h k = refl
 zip-suc {X = X} {Y = Y} (a ∷ xs) (b ∷ ys) (suc i) x y h k = ap (λ (l : List (X × Y)). (a, b) ∷ l) (zip-suc xs ys i x y (omega (arith, h)) (omega (arith, k)))
 
-pub zip_more : {X Y : Type 0} (xs : List X) (ys : List Y) (i : ℕ) (x : X) (y : Y) → i < length xs → i < length ys → zip (take (i + 1) xs) (take (i + 1) ys) ≡ zip (take i xs) (take i ys) ++ (get_or xs i x, get_or ys i y) ∷ []
+pub zip_more : {X Y : Type 0} (xs : List X) (ys : List Y) (i : ℕ) (x : X) (y : Y) → i < length xs
+    → i < length ys → zip (take (i + 1) xs) (take (i + 1) ys)
+    ≡ zip (take i xs) (take i ys) ++ (get_or xs i x, get_or ys i y) ∷ []
 zip_more xs ys i x y h k = rw add-one (zip-suc xs ys i x y h k)
 
 -- one more beside a list that grew
-pub zip_pushed : {X Y : Type 0} (xs : List X) (ys : List Y) (x : X) (y : Y) → length ys < length xs → zip (take (length (ys ++ y ∷ [])) xs) (ys ++ y ∷ []) ≡ zip (take (length ys) xs) ys ++ (get_or xs (length ys) x, y) ∷ []
+pub zip_pushed : {X Y : Type 0} (xs : List X) (ys : List Y) (x : X) (y : Y) → length ys < length xs
+    → zip (take (length (ys ++ y ∷ [])) xs) (ys ++ y ∷ [])
+    ≡ zip (take (length ys) xs) ys ++ (get_or xs (length ys) x, y) ∷ []
 zip_pushed [] ys x y h = absurd (omega (arith, h))
 zip_pushed (a ∷ xs) [] x y h = refl
 zip_pushed {X = X} {Y = Y} (a ∷ xs) (b ∷ ys) x y h = ap (λ (l : List (X × Y)). (a, b) ∷ l) (zip_pushed xs ys x y (omega (arith, h)))
@@ -98,7 +111,8 @@ filter_map-more {Y = Y} f [] x = by_value (f x)
     by_value (Some y) = refl
 filter_map-more {Y = Y} f (a ∷ xs) x = by_value (f a) (filter_map-more f xs x)
   where
-    by_value : (o : Option Y) → filter_map f (xs ++ x ∷ []) ≡ filter_map f xs ++ option_to_list (f x) → cons_option o (filter_map f (xs ++ x ∷ [])) ≡ cons_option o (filter_map f xs) ++ option_to_list (f x)
+    by_value : (o : Option Y) → filter_map f (xs ++ x ∷ []) ≡ filter_map f xs ++ option_to_list (f x)
+        → cons_option o (filter_map f (xs ++ x ∷ [])) ≡ cons_option o (filter_map f xs) ++ option_to_list (f x)
     by_value None e = e
     by_value (Some y) e = ap (λ (l : List Y). y ∷ l) e
 

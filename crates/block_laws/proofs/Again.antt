@@ -63,7 +63,9 @@ stands_alone start is_before position (Good tx name) t e = go (stands start tx n
         subst (Stands start) same (record { loads = ea; priced = λ n. ap (λ (r : Result Budget BudgetFault). as_cause no_budget r >>= λ budget. Ok (chosen_with n tx name loaded budget)) er })
 
 -- and it is admitted again where no message before it has its name
-stands_again : (start : Start) (is_before : Hash32 → Bool) (n : ℕ) (parsed : Parsed) (t : Chosen) → Stands start t → parsed ≡ Good t.tx t.name → is_before t.name ≡ false → sifted start is_before n parsed ≡ Ok (record t { position = n })
+stands_again : (start : Start) (is_before : Hash32 → Bool) (n : ℕ) (parsed : Parsed) (t : Chosen)
+    → Stands start t → parsed ≡ Good t.tx t.name → is_before t.name ≡ false
+    → sifted start is_before n parsed ≡ Ok (record t { position = n })
 stands_again start is_before n parsed t is read fresh =
     ap (sifted start is_before n) read ∙ sifted_once start is_before n t.tx t.name t.loaded is.loads
     ∙ ap (λ b. budgeted_once b n t.tx t.name t.loaded) fresh ∙ is.priced n
@@ -114,8 +116,12 @@ module _ (start : Start) (wires : List (List ℕ)) (order : List Chosen) (apart 
       → filter_map (λ entry. result_ok (sifted_in start batch entry)) (enumerate_from n (map parsed_at rest)) ≡ renumbered n rest
   all_sifted n done [] count whole before all = refl
   all_sifted n done (t ∷ rest) count whole before all =
-      ap (λ (r : Result Chosen Refusal). cons_option (result_ok r) (filter_map (λ entry. result_ok (sifted_in start batch entry)) (enumerate_from (n + 1) (map parsed_at rest)))) (sifted_again n done t rest count whole before all.0)
-      ∙ ap (λ (l : List Chosen). record t { position = n } ∷ l) (all_sifted (n + 1) (done ++ t ∷ []) rest (omega (arith, count, length-append done (t ∷ []))) (append_assoc done (t ∷ []) rest ∙ whole) (push_all done t before all.0) all.1)
+      ap (λ (r : Result Chosen Refusal). cons_option (result_ok r)
+          (filter_map (λ entry. result_ok (sifted_in start batch entry))
+          (enumerate_from (n + 1) (map parsed_at rest)))) (sifted_again n done t rest count whole before all.0)
+      ∙ ap (λ (l : List Chosen). record t { position = n } ∷ l)
+          (all_sifted (n + 1) (done ++ t ∷ []) rest (omega (arith, count, length-append done (t ∷ [])))
+          (append_assoc done (t ∷ []) rest ∙ whole) (push_all done t before all.0) all.1)
 
   abbrev with_place : ℕ × Parsed → Refusal → Refused
   with_place entry cause = record { position = entry.0; cause = cause }
@@ -124,7 +130,9 @@ module _ (start : Start) (wires : List (List ℕ)) (order : List Chosen) (apart 
       → filter_map (λ entry. option_map (λ cause. with_place entry cause) (refusal start batch [] entry)) (enumerate_from n (map parsed_at rest)) ≡ []
   none_refused n done [] count whole before all = refl
   none_refused n done (t ∷ rest) count whole before all =
-      ap (λ (r : Result Chosen Refusal). cons_option (option_map (with_place (n, parsed_at t)) (refusal_in r)) (filter_map (λ entry. option_map (λ cause. with_place entry cause) (refusal start batch [] entry)) (enumerate_from (n + 1) (map parsed_at rest)))) (sifted_again n done t rest count whole before all.0)
+      ap (λ (r : Result Chosen Refusal). cons_option (option_map (with_place (n, parsed_at t)) (refusal_in r))
+          (filter_map (λ entry. option_map (λ cause. with_place entry cause) (refusal start batch [] entry))
+          (enumerate_from (n + 1) (map parsed_at rest)))) (sifted_again n done t rest count whole before all.0)
       ∙ none_refused (n + 1) (done ++ t ∷ []) rest (omega (arith, count, length-append done (t ∷ []))) (append_assoc done (t ∷ []) rest ∙ whole) (push_all done t before all.0) all.1
 
 -- ---- the walk
@@ -135,9 +143,13 @@ AllRun limits done (one ∷ left) = (late limits done one ≡ None) × AllRun li
 
 run_more : (limits : Limits) (done order : List Chosen) (one : Chosen) → AllRun limits done order → late limits (done ++ order) one ≡ None → AllRun limits done (order ++ one ∷ [])
 run_more limits done [] one all none = (subst (λ (l : List Chosen). late limits l one ≡ None) (append-nil done) none, tt)
-run_more limits done (t ∷ order) one all none = (all.0, run_more limits (done ++ t ∷ []) order one all.1 (subst (λ (l : List Chosen). late limits l one ≡ None) (sym (append_assoc done (t ∷ []) order)) none))
+run_more limits done (t ∷ order) one all none =
+    (all.0, run_more limits (done ++ t ∷ []) order one all.1
+    (subst (λ (l : List Chosen). late limits l one ≡ None) (sym (append_assoc done (t ∷ []) order)) none))
 
-walked_run : (limits : Limits) (before : Walk) (left : List Chosen) → AllRun limits [] before.order → AllRun limits [] (fold (λ before one. walk_with before one (late limits before.order one)) before left).order
+walked_run : (limits : Limits) (before : Walk) (left : List Chosen) → AllRun limits [] before.order
+    → AllRun limits [] (fold (λ before one. walk_with before one (late limits before.order one)) before
+    left).order
 walked_run limits before [] all = all
 walked_run limits before (one ∷ left) all = walked_run limits (walk_with before one (late limits before.order one)) left (go (late limits before.order one) refl)
   where
@@ -145,7 +157,9 @@ walked_run limits before (one ∷ left) all = walked_run limits (walk_with befor
     go None e = run_more limits [] before.order one all e
     go (Some cause) e = all
 
-walk_all : (limits : Limits) (before : Walk) (left : List Chosen) → AllRun limits before.order left → fold (λ before one. walk_with before one (late limits before.order one)) before left ≡ record before { order = before.order ++ left }
+walk_all : (limits : Limits) (before : Walk) (left : List Chosen) → AllRun limits before.order left
+    → fold (λ before one. walk_with before one (late limits before.order one)) before left
+    ≡ record before { order = before.order ++ left }
 walk_all limits before [] all = ap (λ (l : List Chosen). record before { order = l }) (sym (append-nil before.order))
 walk_all limits before (one ∷ left) all =
     ap (λ (o : Option Refusal). fold (λ before one. walk_with before one (late limits before.order one)) (walk_with before one o) left) all.0
@@ -164,7 +178,9 @@ writers_alike key [] = refl
 writers_alike key (t ∷ ts) = go (may_write_key key t) (writers_alike key ts)
   where
     go : (b : Bool) → filter (may_write_key key) (map unplaced ts) ≡ map unplaced (filter (may_write_key key) ts)
-        → cond b (unplaced t ∷ filter (may_write_key key) (map unplaced ts)) (filter (may_write_key key) (map unplaced ts)) ≡ map unplaced (cond b (t ∷ filter (may_write_key key) ts) (filter (may_write_key key) ts))
+        → cond b (unplaced t ∷ filter (may_write_key key) (map unplaced ts))
+            (filter (may_write_key key) (map unplaced ts))
+            ≡ map unplaced (cond b (t ∷ filter (may_write_key key) ts) (filter (may_write_key key) ts))
     go true more = ap (λ (l : List Chosen). unplaced t ∷ l) more
     go false more = more
 
@@ -189,7 +205,10 @@ run_alike limits done (one ∷ left) all =
 run_back : (limits : Limits) (done left : List Chosen) → AllRun limits (map unplaced done) (map unplaced left) → AllRun limits done left
 run_back limits done [] all = tt
 run_back limits done (one ∷ left) all =
-    (sym (late_alike limits done one) ∙ all.0, run_back limits (done ++ one ∷ []) left (subst (λ (l : List Chosen). AllRun limits l (map unplaced left)) (sym (map-append unplaced done (one ∷ []))) all.1))
+    (sym (late_alike limits done one)
+        ∙ all.0, run_back limits (done ++ one ∷ []) left
+        (subst (λ (l : List Chosen). AllRun limits l (map unplaced left))
+        (sym (map-append unplaced done (one ∷ []))) all.1))
 
 walk_again : (limits : Limits) (found : List Chosen) → walk limits (renumbered 0 (walk limits found).order) ≡ record { order = renumbered 0 (walk limits found).order; refused = [] }
 walk_again limits found =
@@ -210,16 +229,23 @@ module _ (start : Start) (wires : List (List ℕ)) where
   join [] a b = tt
   join (t ∷ ts) a b = (record { stands = a.0; read = b.0.read }, join ts a.1 b.1)
 
-  again : (found : List Chosen) → IsPermutation (sifted_out start whole) found → (order : List Chosen) → order ≡ (walk start.limits found).order → AllByRecursion (IsOf wires) order → IsDistinct same_hash (map (λ one. one.name) order)
+  again : (found : List Chosen) → IsPermutation (sifted_out start whole) found → (order : List Chosen)
+      → order ≡ (walk start.limits found).order → AllByRecursion (IsOf wires) order
+      → IsDistinct same_hash (map (λ one. one.name) order)
       → listed start (wires_in wires order) ≡ all_of order
   unfolding listed
   again found same order is of apart =
-      let alone = recursion_from_All (Stands start) found (All-permutation (Stands start) (sifted_out start whole) found same (All-from_recursion (Stands start) (sifted_out start whole) each_again)) in
+      let alone = recursion_from_All (Stands start) found
+          (All-permutation (Stands start) (sifted_out start whole) found same
+          (All-from_recursion (Stands start) (sifted_out start whole) each_again)) in
       let all = join order (subst (AllByRecursion (Stands start)) (sym is) (all_run (Stands start) start.limits found alone)) of in
       let parsed : map parsed_of (wires_in wires order) ≡ map (λ t. parsed_of (wire_in wires t.position)) order = map_twice order in
       let sift = all_sifted start wires order apart 0 [] order refl refl tt all in
       let none = none_refused start wires order apart 0 [] order refl refl tt all in
-      let walked : walk start.limits (renumbered 0 order) ≡ record { order = renumbered 0 order; refused = [] } = subst (λ (l : List Chosen). walk start.limits (renumbered 0 l) ≡ record { order = renumbered 0 l; refused = [] }) (sym is) (walk_again start.limits found) in
+      let walked : walk start.limits (renumbered 0 order)
+          ≡ record { order = renumbered 0 order; refused = [] } = subst
+          (λ (l : List Chosen). walk start.limits (renumbered 0 l)
+          ≡ record { order = renumbered 0 l; refused = [] }) (sym is) (walk_again start.limits found) in
       ap (λ (b : List Parsed). answer_of start b (walk start.limits (sifted_out start b))) parsed
       ∙ ap (λ (l : List Chosen). answer_of start (map (λ t. parsed_of (wire_in wires t.position)) order) (walk start.limits l)) sift
       ∙ ap (answer_of start (map (λ t. parsed_of (wire_in wires t.position)) order)) walked
@@ -234,4 +260,6 @@ module _ (start : Start) (wires : List (List ℕ)) where
   unfolding admitted
   admitted_again =
       let parts = admitted_batches_are_parted start wires in
-      again (line (sifted_out start whole)) (line_permutes (sifted_out start whole)) (admitted start wires).order refl (recursion_from_All (IsOf wires) (admitted start wires).order parts.each) parts.apart
+      again (line (sifted_out start whole)) (line_permutes (sifted_out start whole))
+          (admitted start wires).order refl
+          (recursion_from_All (IsOf wires) (admitted start wires).order parts.each) parts.apart

@@ -24,7 +24,9 @@ use Rattle.block_run.specs.SerialRun.{keys_in, ran as ran_by, serial_run, told_i
 use Rattle.block_laws.specs.Again.{renumbered}
 use Rattle.block_laws.proofs.Again.{renumbered_alike, unplaced}
 
-executed_alike : (s : Fixed) (t : Chosen) (index : ℕ) (is : List Instruction) (a : List Account) (units trace : ℕ) (log : Log) → executed s (unplaced t) index is a units trace log ≡ executed s t index is a units trace log
+executed_alike : (s : Fixed) (t : Chosen) (index : ℕ) (is : List Instruction) (a : List Account)
+    (units trace : ℕ) (log : Log)
+    → executed s (unplaced t) index is a units trace log ≡ executed s t index is a units trace log
 unfolding executed
 executed_alike s t index [] a units trace log = refl
 executed_alike s t index (i ∷ is) a units trace log =
@@ -40,7 +42,10 @@ transaction_alike block t values = by_cause (dropped values (total_fee t))
 
     by_cause : (o : Option DropCause) → by_drop (fixed_for block (unplaced t)) (unplaced t) values o ≡ by_drop (fixed_for block t) t values o
     by_cause (Some cause) = refl
-    by_cause None = ap (λ e. if nat_lt t.budget.loaded (data_in (charged values (total_fee t))) then failing t (charged values (total_fee t)) (record { index = whole_transaction; cause = LoadedDataTooLarge; detail = 0 }) 0 [] else ran t (charged values (total_fee t)) e)
+    by_cause None = ap (λ e. if nat_lt t.budget.loaded (data_in (charged values (total_fee t))) then failing t
+        (charged values (total_fee t))
+        (record { index = whole_transaction; cause = LoadedDataTooLarge; detail = 0 }) 0 [] else ran t
+        (charged values (total_fee t)) e)
         (executed_alike (fixed_for block t) t 0 t.tx.message.instructions (charged values (total_fee t)) t.budget.limit 0 no_lines)
 
 locks_alike : (o : Option Chosen) → locks_at (option_map unplaced o) ≡ locks_at o

@@ -42,13 +42,17 @@ sum-share : (s : State) (collector : Key) (split : FeeSplit) → sum (share s co
 sum-share s collector split =
     let paid = more (at s collector) split.rest in
     let a = sum-put s collector paid in
-    either_sum _ (sum s + (split.burned + split.rest)) (record { accounts = put s collector paid; burned = split.burned; collected = split.rest }) (record { accounts = s; burned = split.burned + split.rest; collected = 0 })
+    either_sum _ (sum s + (split.burned + split.rest))
+        (record { accounts = put s collector paid; burned = split.burned; collected = split.rest })
+        (record { accounts = s; burned = split.burned + split.rest; collected = 0 })
     (omega (arith, a)) refl
 
 split_all : (base priority : ℕ) → (split_of base priority).burned + (split_of base priority).rest ≡ base + priority
 split_all base priority = omega arith
 
-sum-share_fees : (s : State) (collector : Key) (outcomes : List Outcome) → sum (share_fees s collector outcomes).accounts + (share_fees s collector outcomes).burned ≡ sum s + (base_fees outcomes + priority_fees outcomes)
+sum-share_fees : (s : State) (collector : Key) (outcomes : List Outcome)
+    → sum (share_fees s collector outcomes).accounts + (share_fees s collector outcomes).burned
+    ≡ sum s + (base_fees outcomes + priority_fees outcomes)
 unfolding share_fees
 sum-share_fees s collector outcomes =
     sum-share s collector (split_of (base_fees outcomes) (priority_fees outcomes)) ∙ ap (λ n. sum s + n) (split_all (base_fees outcomes) (priority_fees outcomes))
@@ -123,13 +127,18 @@ shared_before s collector split key a executable = by_case (not (split.rest == 0
     by_key may false e = e
 
     by_case : (b : Bool) → (not (split.rest == 0) && may_collect collector (more (at s collector) split.rest)) ≡ b
-        → get (cond b (let r : Shares = record { accounts = put s collector (more (at s collector) split.rest); burned = split.burned; collected = split.rest } in r) (record { accounts = s; burned = split.burned + split.rest; collected = 0 })).accounts key ≡ Some a → get s key ≡ Some a
+        → get (cond b (let r : Shares =
+            record { accounts = put s collector (more (at s collector) split.rest); burned = split.burned;
+            collected = split.rest } in r)
+            (record { accounts = s; burned = split.burned + split.rest; collected = 0 })).accounts key ≡ Some a
+            → get s key ≡ Some a
     by_case true may e =
         by_key (and_parts (not (split.rest == 0)) (may_collect collector (more (at s collector) split.rest)) may).1 (same_key key collector)
         (sym (get-put_key s collector (more (at s collector) split.rest) key) ∙ e)
     by_case false may e = e
 
-shared_fees_before : (s : State) (collector : Key) (outcomes : List Outcome) (key : Key) (a : Account) → a.executable ≡ true → get (share_fees s collector outcomes).accounts key ≡ Some a → get s key ≡ Some a
+shared_fees_before : (s : State) (collector : Key) (outcomes : List Outcome) (key : Key) (a : Account)
+    → a.executable ≡ true → get (share_fees s collector outcomes).accounts key ≡ Some a → get s key ≡ Some a
 unfolding share_fees
 shared_fees_before s collector outcomes key a executable e = shared_before s collector (split_of (base_fees outcomes) (priority_fees outcomes)) key a executable e
 

@@ -34,7 +34,11 @@ record Placed (f : Key → Account) (key : Key) (ls : List Lock) (after : List A
   there : slice_get after place ≡ Some value
   beside_is : beside key (written_keys ls) (map settled (lent_for_writing ls after)) ≡ settled value
 
-later : (f : Key → Account) (key : Key) (lock : Lock) (v : Account) (ls : List Lock) (after : List Account) (p : Placed f key ls after) → beside key (written_keys (lock ∷ ls)) (map settled (lent_for_writing (lock ∷ ls) (v ∷ after))) ≡ beside key (written_keys ls) (map settled (lent_for_writing ls after)) → Placed f key (lock ∷ ls) (v ∷ after)
+later : (f : Key → Account) (key : Key) (lock : Lock) (v : Account) (ls : List Lock) (after : List Account)
+    (p : Placed f key ls after) → beside key (written_keys (lock ∷ ls))
+    (map settled (lent_for_writing (lock ∷ ls) (v ∷ after)))
+    ≡ beside key (written_keys ls) (map settled (lent_for_writing ls after))
+    → Placed f key (lock ∷ ls) (v ∷ after)
 later f key lock v ls after p same = record { place = suc p.place; value = p.value; before = p.before; there = p.there; beside_is = same ∙ p.beside_is }
 
 placed : (f : Key → Account) (key : Key) (ls : List Lock) (after : List Account) → length after ≡ length ls → has_key key (written_keys ls) ≡ true → Placed f key ls after
@@ -42,24 +46,34 @@ placed f key [] after count has = absurd (cc)
 placed f key (lock ∷ ls) [] count has = absurd (omega (arith, count))
 placed f key (lock ∷ ls) (v ∷ after) count has = by_write (placed f key ls after (omega (arith, count))) lock.write refl has
   where
-    by_key : (has_key key (written_keys ls) ≡ true → Placed f key ls after) → lock.write ≡ true → (b : Bool) → same_key key lock.key ≡ b → (b || has_key key (written_keys ls)) ≡ true → Placed f key (lock ∷ ls) (v ∷ after)
+    by_key : (has_key key (written_keys ls) ≡ true → Placed f key ls after) → lock.write ≡ true → (b : Bool)
+        → same_key key lock.key ≡ b → (b || has_key key (written_keys ls)) ≡ true
+        → Placed f key (lock ∷ ls) (v ∷ after)
     by_key rest w true same h = record {
       place = 0;
       value = v;
       before = ap (λ (k : Key). Some (f k)) (sym (same_key-true key lock.key same));
       there = refl;
       beside_is =
-          ap (λ (b : Bool). beside key (lock_keys (cond b (lock ∷ filter (λ lock. lock.write) ls) (filter (λ lock. lock.write) ls))) (map settled (cond b (v ∷ lent_for_writing ls after) (lent_for_writing ls after)))) w
+          ap (λ (b : Bool). beside key
+              (lock_keys (cond b (lock ∷ filter (λ lock. lock.write) ls) (filter (λ lock. lock.write) ls)))
+              (map settled (cond b (v ∷ lent_for_writing ls after) (lent_for_writing ls after)))) w
           ∙ ap (λ (b : Bool). cond b (settled v) (beside key (written_keys ls) (map settled (lent_for_writing ls after)))) same;
     }
     by_key rest w false apart h = later f key lock v ls after (rest h)
-        (ap (λ (b : Bool). beside key (lock_keys (cond b (lock ∷ filter (λ lock. lock.write) ls) (filter (λ lock. lock.write) ls))) (map settled (cond b (v ∷ lent_for_writing ls after) (lent_for_writing ls after)))) w
+        (ap (λ (b : Bool). beside key
+            (lock_keys (cond b (lock ∷ filter (λ lock. lock.write) ls) (filter (λ lock. lock.write) ls)))
+            (map settled (cond b (v ∷ lent_for_writing ls after) (lent_for_writing ls after)))) w
         ∙ ap (λ (b : Bool). cond b (settled v) (beside key (written_keys ls) (map settled (lent_for_writing ls after)))) apart)
 
-    by_write : (has_key key (written_keys ls) ≡ true → Placed f key ls after) → (b : Bool) → lock.write ≡ b → has_key key (lock_keys (cond b (lock ∷ filter (λ lock. lock.write) ls) (filter (λ lock. lock.write) ls))) ≡ true → Placed f key (lock ∷ ls) (v ∷ after)
+    by_write : (has_key key (written_keys ls) ≡ true → Placed f key ls after) → (b : Bool) → lock.write ≡ b
+        → has_key key (lock_keys (cond b (lock ∷ filter (λ lock. lock.write) ls)
+        (filter (λ lock. lock.write) ls))) ≡ true → Placed f key (lock ∷ ls) (v ∷ after)
     by_write rest true w h = by_key rest w (same_key key lock.key) refl h
     by_write rest false w h = later f key lock v ls after (rest h)
-        (ap (λ (b : Bool). beside key (lock_keys (cond b (lock ∷ filter (λ lock. lock.write) ls) (filter (λ lock. lock.write) ls))) (map settled (cond b (v ∷ lent_for_writing ls after) (lent_for_writing ls after)))) w)
+        (ap (λ (b : Bool). beside key
+            (lock_keys (cond b (lock ∷ filter (λ lock. lock.write) ls) (filter (λ lock. lock.write) ls)))
+            (map settled (cond b (v ∷ lent_for_writing ls after) (lent_for_writing ls after)))) w)
 
 -- an executable account is not the empty one
 not_empty : (a : Account) → a.executable ≡ true → a ≡ empty_account → ⊥
@@ -88,7 +102,9 @@ module _ (admitted : AdmittedBlock) (t : Chosen) (is : IsChosen t) (f : Key → 
   count : length (transaction (block_of admitted) t (map f (lock_keys t.locks))).values ≡ length t.locks
   count = keeps.count ∙ length-map (lock_keys t.locks) f ∙ length-map t.locks (λ (lock : Lock). lock.key)
 
-  by_locks : (effects_at (block_of admitted) (Some t) (map f (lock_keys t.locks))).written ≡ map settled (lent_for_writing t.locks (transaction (block_of admitted) t (map f (lock_keys t.locks))).values)
+  by_locks : (effects_at (block_of admitted) (Some t) (map f (lock_keys t.locks))).written
+      ≡ map settled (lent_for_writing t.locks
+      (transaction (block_of admitted) t (map f (lock_keys t.locks))).values)
   by_locks = ap (λ (ls : List Lock). map settled (lent_for_writing ls (transaction (block_of admitted) t (map f (lock_keys t.locks))).values)) (sym is.locked)
 
   at_place : has_key key (written_keys t.locks) ≡ true → Placed f key t.locks (transaction (block_of admitted) t (map f (lock_keys t.locks))).values
@@ -134,11 +150,17 @@ module _ (admitted : AdmittedBlock) (all : All IsChosen admitted.chosen) (start 
       here : has_key key (written_keys ((job_of admitted).locks n)) ≡ true
           → (beside key (write_keys (job_of admitted) n) (performed (job_of admitted) (serial (job_of admitted) (at start) n) n).written ≡ a) ↔ (serial (job_of admitted) (at start) n key ≡ a)
       here has = at_position admitted all
-          (λ o. has_key key (written_keys (locks_at o)) ≡ true → (beside key (written_keys (locks_at o)) (effects_at (block_of admitted) o (map (serial (job_of admitted) (at start) n) (lock_keys (locks_at o)))).written ≡ a) ↔ (serial (job_of admitted) (at start) n key ≡ a))
+          (λ o. has_key key (written_keys (locks_at o)) ≡ true
+              → (beside key (written_keys (locks_at o))
+              (effects_at (block_of admitted) o
+              (map (serial (job_of admitted) (at start) n) (lock_keys (locks_at o)))).written ≡ a) ↔
+              (serial (job_of admitted) (at start) n key ≡ a))
           (λ t fits has. stays_one admitted t fits (serial (job_of admitted) (at start) n) (fine_run n (omega (arith, l))) key has a executable) n l has
 
       by_case : (b : Bool) → writes (job_of admitted) n key ≡ b
-          → (cond b (beside key (write_keys (job_of admitted) n) (performed (job_of admitted) (serial (job_of admitted) (at start) n) n).written) (serial (job_of admitted) (at start) n key) ≡ a) ↔ (serial (job_of admitted) (at start) n key ≡ a)
+          → (cond b (beside key (write_keys (job_of admitted) n)
+              (performed (job_of admitted) (serial (job_of admitted) (at start) n) n).written)
+              (serial (job_of admitted) (at start) n key) ≡ a) ↔ (serial (job_of admitted) (at start) n key ≡ a)
       by_case true w = here w
       by_case false w = (λ e. e, λ e. e)
 

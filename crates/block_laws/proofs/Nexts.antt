@@ -44,10 +44,14 @@ shared_state : (s : State) (collector : Key) (split : FeeSplit) → IsState s �
 shared_state s collector split is fits =
     let paid = more (at s collector) split.rest in
     let total = sum-put s collector paid in
-    shared_either (not (split.rest == 0) && may_collect collector paid) (record { accounts = put s collector paid; burned = split.burned; collected = split.rest }) (record { accounts = s; burned = split.burned + split.rest; collected = 0 })
+    shared_either (not (split.rest == 0) && may_collect collector paid)
+        (record { accounts = put s collector paid; burned = split.burned; collected = split.rest })
+        (record { accounts = s; burned = split.burned + split.rest; collected = 0 })
     (IsState-put s collector paid is (at_fits s is collector).0 (omega (arith, total, fits))) is
 
-shared_fees_state : (s : State) (collector : Key) (outcomes : List Outcome) → IsState s → sum s + base_fees outcomes + priority_fees outcomes < 2 ^ 64 → IsState (share_fees s collector outcomes).accounts
+shared_fees_state : (s : State) (collector : Key) (outcomes : List Outcome) → IsState s
+    → sum s + base_fees outcomes + priority_fees outcomes < 2 ^ 64
+    → IsState (share_fees s collector outcomes).accounts
 unfolding share_fees
 shared_fees_state s collector outcomes is supply =
     shared_state s collector (split_of (base_fees outcomes) (priority_fees outcomes)) is (rest_fits (sum s) (base_fees outcomes) (priority_fees outcomes) supply)
@@ -66,7 +70,9 @@ active_state start is = go (activated_in start) start (partly_begins start is)
         go left (put now e.key e.account) (partly_goes_on start now (put now e.key e.account) e left h refl after)
 
 -- ---- the snapshot
-after_readable : (s : Snapshot) (head : Head) (wires : List (List ℕ)) (order : List Chosen) → IsReadable s → All IsChosen order → AreOf wires order → len (closed s head wires order).after.accounts ≤ max_accounts → IsReadable (closed s head wires order).after
+after_readable : (s : Snapshot) (head : Head) (wires : List (List ℕ)) (order : List Chosen) → IsReadable s
+    → All IsChosen order → AreOf wires order → len (closed s head wires order).after.accounts ≤ max_accounts
+    → IsReadable (closed s head wires order).after
 unfolding closed
 after_readable s head wires order readable all of few =
     let run = serial_run s head.slot order in

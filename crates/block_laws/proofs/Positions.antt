@@ -136,7 +136,9 @@ unfolding IsDistinct
 without_one [] one left once = once.1
 without_one (t ∷ done) one left once = (here done once.0, without_one done one left once.1)
   where
-    here : (done : List Chosen) → AllByRecursion (λ p. nat_eq t.position p ≡ false) (map (λ t. t.position) (done ++ one ∷ left)) → AllByRecursion (λ p. nat_eq t.position p ≡ false) (map (λ t. t.position) (done ++ left))
+    here : (done : List Chosen) → AllByRecursion (λ p. nat_eq t.position p ≡ false)
+        (map (λ t. t.position) (done ++ one ∷ left))
+        → AllByRecursion (λ p. nat_eq t.position p ≡ false) (map (λ t. t.position) (done ++ left))
     here [] all = all.1
     here (d ∷ done) all = (all.0, here done all.1)
 
@@ -144,12 +146,16 @@ record IsWalked (walk : Walk) : Type 0 where
   pub none : AllByRecursion (HasNone walk.refused) walk.order
   pub once : AreOnce walk.order
 
-walked_apart : (limits : Limits) (before : Walk) (left : List Chosen) → AllByRecursion (HasNone before.refused) before.order → AllByRecursion (HasNone before.refused) left → AreOnce (before.order ++ left)
+walked_apart : (limits : Limits) (before : Walk) (left : List Chosen)
+    → AllByRecursion (HasNone before.refused) before.order → AllByRecursion (HasNone before.refused) left
+    → AreOnce (before.order ++ left)
     → IsWalked (fold (λ before one. walk_with before one (late limits before.order one)) before left)
 walked_apart limits before [] run later once = record { none = run; once = subst AreOnce (append-nil before.order) once }
 walked_apart limits before (one ∷ left) run later once = go (late limits before.order one) (λ walk. walked_apart limits walk left)
   where
-    go : (o : Option Refusal) → ((walk : Walk) → AllByRecursion (HasNone walk.refused) walk.order → AllByRecursion (HasNone walk.refused) left → AreOnce (walk.order ++ left) → IsWalked (fold (λ before one. walk_with before one (late limits before.order one)) walk left))
+    go : (o : Option Refusal) → ((walk : Walk) → AllByRecursion (HasNone walk.refused) walk.order
+        → AllByRecursion (HasNone walk.refused) left → AreOnce (walk.order ++ left)
+        → IsWalked (fold (λ before one. walk_with before one (late limits before.order one)) walk left))
         → IsWalked (fold (λ before one. walk_with before one (late limits before.order one)) (walk_with before one o) left)
     go None more = more (walk_with before one None) (none_push before.refused before.order one run later.0) later.1 (subst AreOnce (sym (append_assoc before.order (one ∷ []) left)) once)
     go (Some cause) more =
@@ -167,12 +173,18 @@ walk_apart limits found once = walked_apart limits (record { order = []; refused
 abbrev numbered_from : ℕ → List (Option Refusal) → List Refused
 numbered_from n causes = filter_map numbered_at (enumerate_from n causes)
 
-refused_at : (n k : ℕ) (causes : List (Option Refusal)) (cause : Refusal) → k < length causes → get_or causes k None ≡ Some cause → AnyByRecursion (λ refused. refused.position ≡ n + k) (numbered_from n causes)
+refused_at : (n k : ℕ) (causes : List (Option Refusal)) (cause : Refusal) → k < length causes
+    → get_or causes k None ≡ Some cause
+    → AnyByRecursion (λ refused. refused.position ≡ n + k) (numbered_from n causes)
 refused_at n k [] cause l e = absurd (omega (arith, l))
 refused_at n zero (None ∷ causes) cause l e = absurd (cc)
 refused_at n zero (Some other ∷ causes) cause l e = inl (omega arith)
-refused_at n (suc k) (None ∷ causes) cause l e = subst (λ m. AnyByRecursion (λ refused. refused.position ≡ m) (numbered_from (n + 1) causes)) (omega arith) (refused_at (n + 1) k causes cause (omega (arith, l)) e)
-refused_at n (suc k) (Some other ∷ causes) cause l e = inr (subst (λ m. AnyByRecursion (λ refused. refused.position ≡ m) (numbered_from (n + 1) causes)) (omega arith) (refused_at (n + 1) k causes cause (omega (arith, l)) e))
+refused_at n (suc k) (None ∷ causes) cause l e = subst
+    (λ m. AnyByRecursion (λ refused. refused.position ≡ m) (numbered_from (n + 1) causes)) (omega arith)
+    (refused_at (n + 1) k causes cause (omega (arith, l)) e)
+refused_at n (suc k) (Some other ∷ causes) cause l e = inr
+    (subst (λ m. AnyByRecursion (λ refused. refused.position ≡ m) (numbered_from (n + 1) causes)) (omega arith)
+    (refused_at (n + 1) k causes cause (omega (arith, l)) e))
 
 record HasCause (n p : ℕ) (causes : List (Option Refusal)) : Type 0 where
   pub place : ℕ
@@ -232,7 +244,9 @@ unfolding IsDistinct
 positions_differ [] up = tt
 positions_differ (one ∷ others) up = (go others up.0, positions_differ others up.1)
   where
-    go : (others : List Chosen) → AllByRecursion (λ other. one.position < other.position) others → AllByRecursion (λ position. nat_eq one.position position ≡ false) (map (λ other. other.position) others)
+    go : (others : List Chosen) → AllByRecursion (λ other. one.position < other.position) others
+        → AllByRecursion (λ position. nat_eq one.position position ≡ false)
+        (map (λ other. other.position) others)
     go [] all = tt
     go (other ∷ others) all = (ne_eqb one.position other.position (λ e. omega (arith, e, all.0)), go others all.1)
 
@@ -297,14 +311,19 @@ module _ (start : Start) (wires : List (List ℕ)) where
     found_at : (p : ℕ) → At p (sifted_out start batch) → At p found
     found_at p at =
         at_one (λ t. t.position ≡ p) (λ t. At t.position found) (At p found) (λ t e h. subst (λ q. At q found) e h) (sifted_out start batch) at
-        (recursion_from_All (λ t. At t.position found) (sifted_out start batch) (All-permutation (λ t. At t.position found) found (sifted_out start batch) (IsPermutation-sym (sifted_out start batch) found same) (All-from_recursion (λ t. At t.position found) found (each_there found (λ p h. h)))))
+        (recursion_from_All (λ t. At t.position found) (sifted_out start batch)
+            (All-permutation (λ t. At t.position found) found (sifted_out start batch)
+            (IsPermutation-sym (sifted_out start batch) found same)
+            (All-from_recursion (λ t. At t.position found) found (each_there found (λ p h. h)))))
       where
         each_there : (ts : List Chosen) → ((p : ℕ) → At p ts → At p found) → AllByRecursion (λ t. At t.position found) ts
         each_there [] into = tt
         each_there (t ∷ ts) into = (into t.position (inl refl), each_there ts (λ p h. into p (inr h)))
 
     once : AreOnce found
-    once = IsDistinct-IsPermutation nat_eq nat_eq_flips (map (λ t. t.position) (sifted_out start batch)) (map (λ t. t.position) found) (IsPermutation-map (λ t. t.position) (sifted_out start batch) found same) (positions_differ (sifted_out start batch) (standing_positions_ascend start batch))
+    once = IsDistinct-IsPermutation nat_eq nat_eq_flips (map (λ t. t.position) (sifted_out start batch))
+        (map (λ t. t.position) found) (IsPermutation-map (λ t. t.position) (sifted_out start batch) found same)
+        (positions_differ (sifted_out start batch) (standing_positions_ascend start batch))
 
     walked : IsWalked after
     walked = walk_apart start.limits found once
@@ -322,7 +341,9 @@ module _ (start : Start) (wires : List (List ℕ)) where
 
         go : (o : Option Refusal) → get_or all_causes p None ≡ o → At p after.order ⊎ AnyByRecursion (λ refused. refused.position ≡ p) (refused_in start batch after.refused)
         go (Some cause) e =
-            inr (subst (AnyByRecursion (λ refused. refused.position ≡ p)) refused_is (subst (λ m. AnyByRecursion (λ refused. refused.position ≡ m) (numbered_in all_causes)) (zero-add p) (refused_at 0 p all_causes cause (omega (arith, l, all_count)) e)))
+            inr (subst (AnyByRecursion (λ refused. refused.position ≡ p)) refused_is
+                (subst (λ m. AnyByRecursion (λ refused. refused.position ≡ m) (numbered_in all_causes))
+                (zero-add p) (refused_at 0 p all_causes cause (omega (arith, l, all_count)) e)))
         go None e =
             let none = neither (late_cause after.refused p) (get_or causes p None) (sym (cause_at p l) ∙ e) in
             let stands : At (0 + p) (sifted_out start batch) = stands_at 0 p batch (omega (arith, l, length-map wires parsed_of)) none.1 in
@@ -333,8 +354,13 @@ module _ (start : Start) (wires : List (List ℕ)) where
         let has = refused_has 0 p all_causes (subst (AnyByRecursion (λ refused. refused.position ≡ p)) (sym refused_is) refused) in
         let is : has.place ≡ p = let e = has.is in omega (arith, e) in
         let l : p < length wires = let b = has.below in omega (arith, b, is, all_count) in
-        let late : late_cause after.refused p ≡ None = at_one (λ t. t.position ≡ p) (HasNone after.refused) (late_cause after.refused p ≡ None) (λ t e h. subst (λ q. late_cause after.refused q ≡ None) e h) after.order runs walked.none in
-        let early : get_or causes p None ≡ None = at_one (λ t. t.position ≡ p) HasNoEarly (get_or causes p None ≡ None) (λ t e h. subst (λ q. get_or causes q None ≡ None) e h) after.order runs (all_run HasNoEarly start.limits found (in_place HasNoEarly found same none_early)) in
+        let late : late_cause after.refused p
+            ≡ None = at_one (λ t. t.position ≡ p) (HasNone after.refused) (late_cause after.refused p ≡ None)
+            (λ t e h. subst (λ q. late_cause after.refused q ≡ None) e h) after.order runs walked.none in
+        let early : get_or causes p None
+            ≡ None = at_one (λ t. t.position ≡ p) HasNoEarly (get_or causes p None ≡ None)
+            (λ t e h. subst (λ q. get_or causes q None ≡ None) e h) after.order runs
+            (all_run HasNoEarly start.limits found (in_place HasNoEarly found same none_early)) in
         let none : get_or all_causes p None ≡ None = cause_at p l ∙ ap₂ or_else late early in
         let some : get_or all_causes p None ≡ Some has.cause = subst (λ q. get_or all_causes q None ≡ Some has.cause) is has.there in
         contra (get_or all_causes p None) has.cause none some

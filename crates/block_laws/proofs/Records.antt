@@ -75,7 +75,10 @@ module _ (block : AdmittedBlock) (all : All IsChosen block.chosen) (start : Stat
       (written_at i here (map (serial (job_of block) (at start) i) (keys (job_of block) i)))
 
 -- ---- the entries
-entries_all : (P : Entry → Type 0) (wires : List (List ℕ)) → ((t : Chosen) (o : Outcome) → IsWritten o → P (entry_of wires (t, o))) → (order : List Chosen) (os : List Outcome) → AllByRecursion IsWritten os → AllByRecursion P (entries_of wires order os)
+entries_all : (P : Entry → Type 0) (wires : List (List ℕ))
+    → ((t : Chosen) (o : Outcome) → IsWritten o → P (entry_of wires (t, o)))
+    → (order : List Chosen) (os : List Outcome) → AllByRecursion IsWritten os
+    → AllByRecursion P (entries_of wires order os)
 entries_all P wires each [] os all = tt
 entries_all P wires each (t ∷ ts) [] all = tt
 entries_all P wires each (t ∷ ts) (o ∷ os) all = (each t o all.0, entries_all P wires each ts os all.1)
@@ -90,7 +93,9 @@ unfolding share_fees
 collected_fits s collector outcomes fits =
     let split : FeeSplit = split_of (base_fees outcomes) (priority_fees outcomes) in
     let paid : Account = more (at s collector) split.rest in
-    either_below (not (split.rest == 0) && may_collect collector paid) (2 ^ 64) (record { accounts = put s collector paid; burned = split.burned; collected = split.rest }) (record { accounts = s; burned = split.burned + split.rest; collected = 0 })
+    either_below (not (split.rest == 0) && may_collect collector paid) (2 ^ 64)
+        (record { accounts = put s collector paid; burned = split.burned; collected = split.rest })
+        (record { accounts = s; burned = split.burned + split.rest; collected = 0 })
     (rest_fits (base_fees outcomes) (priority_fees outcomes) fits) (let none : 0 < 2 ^ 64 = lit≤ tt in none)
   where
     rest_fits : (base priority : ℕ) → base + priority < 2 ^ 64 → (split_of base priority).rest < 2 ^ 64

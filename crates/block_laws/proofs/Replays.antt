@@ -41,7 +41,9 @@ use Rattle.block_laws.proofs.Again.{admitted_again}
 use Rattle.block_laws.proofs.Alike.{renumbered_run}
 
 -- ---- the entries
-entries_again : (wires done : List (List ℕ)) (n : ℕ) (order : List Chosen) (outcomes : List Outcome) → n ≡ length done → entries_of (done ++ wires_in wires order) (renumbered n order) outcomes ≡ entries_of wires order outcomes
+entries_again : (wires done : List (List ℕ)) (n : ℕ) (order : List Chosen) (outcomes : List Outcome)
+    → n ≡ length done → entries_of (done ++ wires_in wires order) (renumbered n order) outcomes
+    ≡ entries_of wires order outcomes
 entries_again wires done n [] outcomes count = refl
 entries_again wires done n (t ∷ ts) [] count = refl
 entries_again wires done n (t ∷ ts) (o ∷ os) count =
@@ -52,7 +54,9 @@ entries_again wires done n (t ∷ ts) (o ∷ os) count =
     ∙ entries_again wires (done ++ wire ∷ []) (n + 1) ts os (omega (arith, count, length-append done (wire ∷ []))) in
     ap₂ (λ (w : List ℕ) (es : List Entry). let e : Entry = record { wire = w; status = o.status; units = o.units; fee = o.base_paid + o.priority_paid; lines = o.lines } in e ∷ es) here more
 
-wires_back : (wires : List (List ℕ)) (order : List Chosen) (outcomes : List Outcome) → length outcomes ≡ length order → map (λ (entry : Entry). entry.wire) (entries_of wires order outcomes) ≡ wires_in wires order
+wires_back : (wires : List (List ℕ)) (order : List Chosen) (outcomes : List Outcome)
+    → length outcomes ≡ length order
+    → map (λ (entry : Entry). entry.wire) (entries_of wires order outcomes) ≡ wires_in wires order
 wires_back wires [] outcomes count = refl
 wires_back wires (t ∷ ts) [] count = absurd (omega (arith, count))
 wires_back wires (t ∷ ts) (o ∷ os) count = ap (λ (ws : List (List ℕ)). wire_in wires t.position ∷ ws) (wires_back wires ts os (omega (arith, count)))
@@ -173,7 +177,8 @@ hash_none : (place : ℕ) (field : Field) (hash : Hash32) → in_hash place fiel
 hash_none place field hash = none_if (same_hash hash hash) place field (hash_bytes hash) (hash_bytes hash) (hash_same hash)
 
 status_none : (place : ℕ) (e : Entry) → in_status place e e ≡ []
-status_none place e = none_if (same_bytes (status_bytes_of e.status) (status_bytes_of e.status)) place Status (status_bytes_of e.status) (status_bytes_of e.status) (bytes_same (status_bytes_of e.status))
+status_none place e = none_if (same_bytes (status_bytes_of e.status) (status_bytes_of e.status)) place Status
+    (status_bytes_of e.status) (status_bytes_of e.status) (bytes_same (status_bytes_of e.status))
 
 lines_none : (place : ℕ) (e : Entry) → in_lines place e e ≡ []
 lines_none place e = none_if (same_lines e.lines e.lines) place Lines (bytes_of_lines e.lines) (bytes_of_lines e.lines) (lines_same e.lines)
@@ -194,7 +199,9 @@ tail_same block =
     let collected = in_number of_block Collected block.collected block.collected in
     let state = in_hash of_block state_field block.state block.state in
     neither (burned ++ collected ++ state) (in_hash of_block Hash block.hash block.hash)
-    (neither (burned ++ collected) state (neither burned collected (number_none of_block Burned block.burned) (number_none of_block Collected block.collected)) (hash_none of_block state_field block.state))
+    (neither (burned ++ collected) state
+        (neither burned collected (number_none of_block Burned block.burned)
+        (number_none of_block Collected block.collected)) (hash_none of_block state_field block.state))
     (hash_none of_block Hash block.hash)
 
 head_same : (slot : ℕ) (newest : Hash32) (block : Block) → slot < block.slot → block.previous ≡ newest → head_differences slot newest block ≡ []
@@ -214,7 +221,8 @@ itself slot newest block later same =
     (neither (head_differences slot newest block ++ entries_differences es es) rest
     (neither (head_differences slot newest block) (entries_differences es es) (head_same slot newest block later same) (entries_same 0 es)) (refused_none es)) (tail_same block)
 
-matches_itself : (slot : ℕ) (newest : Hash32) (block : Block) (halted : Bool) → slot < block.slot → block.previous ≡ newest → verdict slot newest block (record { block = block; halted = halted }) ≡ Match
+matches_itself : (slot : ℕ) (newest : Hash32) (block : Block) (halted : Bool) → slot < block.slot
+    → block.previous ≡ newest → verdict slot newest block (record { block = block; halted = halted }) ≡ Match
 unfolding verdict
 matches_itself slot newest block halted later same = ap (λ (ds : List Verdict). unwrap_or (slice_get ds 0) Match) (itself slot newest block later same)
 
@@ -223,4 +231,6 @@ pub replays_match : (s : Snapshot) (batch : Batch) → s.slot < batch.slot → v
 replays_match s batch later =
     ap (λ (l : Listed). verdict s.slot (newest_of s.recent) (block_result s batch).block l) (blocks_run_again s batch)
     ∙ ap (λ (b : Block). verdict s.slot (newest_of s.recent) b (record { block = b; halted = false })) (made_is s batch)
-    ∙ matches_itself s.slot (newest_of s.recent) (made s batch) false (subst (λ n. s.slot < n) (sym (slot_is s (head_of batch) batch.wires (order s batch))) later) (previous_is s (head_of batch) batch.wires (order s batch))
+    ∙ matches_itself s.slot (newest_of s.recent) (made s batch) false
+        (subst (λ n. s.slot < n) (sym (slot_is s (head_of batch) batch.wires (order s batch))) later)
+        (previous_is s (head_of batch) batch.wires (order s batch))

@@ -20,12 +20,15 @@ first_in_front [] ys x here = absurd (cc)
 first_in_front (z ∷ xs) ys x here = here
 
 -- nothing of the first items, and nothing of the next
-pub nothing_more : {X Y : Type 0} (f : X → List Y) (xs : List X) (n : ℕ) (d : X) → n < length xs → flat_map f (take n xs) ≡ [] → slice_get (f (get_or xs n d)) 0 ≡ None → flat_map f (take (n + 1) xs) ≡ []
+pub nothing_more : {X Y : Type 0} (f : X → List Y) (xs : List X) (n : ℕ) (d : X) → n < length xs
+    → flat_map f (take n xs) ≡ [] → slice_get (f (get_or xs n d)) 0 ≡ None → flat_map f (take (n + 1) xs) ≡ []
 nothing_more f xs n d below none here =
     rw (take_more xs n d below, flat_map-append f (take n xs) (get_or xs n d ∷ []), none, no_first (f (get_or xs n d)) here) refl
 
 -- nothing of the first items, and something of the next
-pub first_found : {X Y : Type 0} (f : X → List Y) (xs : List X) (n : ℕ) (d : X) (y : Y) → n < length xs → flat_map f (take n xs) ≡ [] → slice_get (f (get_or xs n d)) 0 ≡ Some y → slice_get (flat_map f xs) 0 ≡ Some y
+pub first_found : {X Y : Type 0} (f : X → List Y) (xs : List X) (n : ℕ) (d : X) (y : Y) → n < length xs
+    → flat_map f (take n xs) ≡ [] → slice_get (f (get_or xs n d)) 0 ≡ Some y
+    → slice_get (flat_map f xs) 0 ≡ Some y
 first_found f xs n d y below none here =
     let split : xs ≡ take n xs ++ (get_or xs n d ∷ drop (n + 1) xs) = sym (take-append-drop n xs) ∙ ap (λ ys. take n xs ++ ys) (rw add-one (drop-cons xs n d below)) in
     ap (λ zs. slice_get (flat_map f zs) 0) split
@@ -54,12 +57,17 @@ module _ (given replayed : List Entry) (cut : length replayed ≤ length given) 
       let pair : get_or (zip given replayed) n (g, r) ≡ (g, r) = get_or-zip given replayed n (g, r) there below ∙ (λ i. (sym is_given i, sym is_replayed i)) in
       get_or-enumerate_from 0 (zip given replayed) n (n, (g, r)) (omega (arith, below, zipped)) ∙ (λ i. (zero-add n i, pair i))
 
-  pub goes_on : (n : ℕ) (g r : Entry) → n < length replayed → g ≡ get_or given n g → r ≡ get_or replayed n r → NoneDiffers given replayed n → slice_get (entry_differences (n, (g, r))) 0 ≡ None → NoneDiffers given replayed (n + 1)
+  pub goes_on : (n : ℕ) (g r : Entry) → n < length replayed → g ≡ get_or given n g → r ≡ get_or replayed n r
+      → NoneDiffers given replayed n → slice_get (entry_differences (n, (g, r))) 0 ≡ None
+      → NoneDiffers given replayed (n + 1)
   goes_on n g r below is_given is_replayed none here =
       nothing_more entry_differences (pairs given replayed) n (n, (g, r)) (omega (arith, below, length-pairs)) none
       (ap (λ e. slice_get (entry_differences e) 0) (pair_at n g r below is_given is_replayed) ∙ here)
 
-  pub stops : (n : ℕ) (g r : Entry) (difference : Verdict) → n < length replayed → g ≡ get_or given n g → r ≡ get_or replayed n r → NoneDiffers given replayed n → slice_get (entry_differences (n, (g, r))) 0 ≡ Some difference → slice_get (entries_differences given replayed) 0 ≡ Some difference
+  pub stops : (n : ℕ) (g r : Entry) (difference : Verdict) → n < length replayed → g ≡ get_or given n g
+      → r ≡ get_or replayed n r → NoneDiffers given replayed n
+      → slice_get (entry_differences (n, (g, r))) 0 ≡ Some difference
+      → slice_get (entries_differences given replayed) 0 ≡ Some difference
   stops n g r difference below is_given is_replayed none here =
       first_found entry_differences (pairs given replayed) n (n, (g, r)) difference (omega (arith, below, length-pairs)) none
       (ap (λ e. slice_get (entry_differences e) 0) (pair_at n g r below is_given is_replayed) ∙ here)

@@ -6,7 +6,9 @@ use Rattle.std.specs.Cmp.Lexicographic.{pointwise}
 abbrev pub AreSameTo : {X : Type 0} → (X → X → Bool) → List X → List X → ℕ → Type 0
 AreSameTo E xs ys n = pointwise E (take n xs) (take n ys) ≡ true
 
-pub same_next : {X : Type 0} (E : X → X → Bool) (xs ys : List X) (n : ℕ) (a b : X) → length xs ≡ length ys → n < length xs → a ≡ get_or xs n a → b ≡ get_or ys n b → AreSameTo E xs ys n → E a b ≡ true → AreSameTo E xs ys (suc n)
+pub same_next : {X : Type 0} (E : X → X → Bool) (xs ys : List X) (n : ℕ) (a b : X) → length xs ≡ length ys
+    → n < length xs → a ≡ get_or xs n a → b ≡ get_or ys n b → AreSameTo E xs ys n → E a b ≡ true
+    → AreSameTo E xs ys (suc n)
 same_next E [] ys n a b count below first second same one = absurd (omega (arith, below))
 same_next E (x ∷ xs) [] n a b count below first second same one = absurd (omega (arith, count))
 same_next E (x ∷ xs) (y ∷ ys) zero a b count below first second same one = rw (← first, ← second, one) refl
@@ -17,7 +19,8 @@ same_next E (x ∷ xs) (y ∷ ys) (suc n) a b count below first second same one 
     by_test true rest next = next rest
     by_test false rest next = absurd (cc)
 
-pub other_here : {X : Type 0} (E : X → X → Bool) (xs ys : List X) (n : ℕ) (a b : X) → length xs ≡ length ys → n < length xs → a ≡ get_or xs n a → b ≡ get_or ys n b → E a b ≡ false → pointwise E xs ys ≡ false
+pub other_here : {X : Type 0} (E : X → X → Bool) (xs ys : List X) (n : ℕ) (a b : X) → length xs ≡ length ys
+    → n < length xs → a ≡ get_or xs n a → b ≡ get_or ys n b → E a b ≡ false → pointwise E xs ys ≡ false
 other_here E [] ys n a b count below first second one = absurd (omega (arith, below))
 other_here E (x ∷ xs) [] n a b count below first second one = absurd (omega (arith, count))
 other_here E (x ∷ xs) (y ∷ ys) zero a b count below first second one = rw (← first, ← second, one) refl

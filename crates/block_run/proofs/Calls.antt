@@ -50,7 +50,9 @@ unfolding serial_run
 same_run s slot order opened origin outcomes is began ended = ap₂ (ran_of job_of) began ended ∙ ap (λ (o : Origin AdmittedBlock). ran_of job_of o (outcomes_at_end job_of o)) is
 
 -- its outcomes are small
-pub small_run : (s : Snapshot) (slot : ℕ) (wires : List (List ℕ)) (order : List Chosen) (opened : Origin AdmittedBlock) → opened ≡ origin_in s slot order → MayEnd wires order (serial_run s slot order) → All IsSmallOutcome (outcomes_at_end job_of opened)
+pub small_run : (s : Snapshot) (slot : ℕ) (wires : List (List ℕ)) (order : List Chosen)
+    (opened : Origin AdmittedBlock) → opened ≡ origin_in s slot order
+    → MayEnd wires order (serial_run s slot order) → All IsSmallOutcome (outcomes_at_end job_of opened)
 unfolding serial_run
 small_run s slot wires order opened is may = subst (λ (o : Origin AdmittedBlock). All IsSmallOutcome (outcomes_at_end job_of o)) (sym is) may.small
 
@@ -59,9 +61,12 @@ pub same_may_end : (wires given : List (List ℕ)) (order chosen : List Chosen) 
 same_may_end wires given order chosen serial end read same is may = rw (read, same, is) may
 
 -- and the block is that of the order
-pub same_end : (s : Snapshot) (head : Head) (wires given : List (List ℕ)) (order chosen : List Chosen) (chain : Chain) (origin : Origin AdmittedBlock) (outcomes : List Outcome) → given ≡ wires → chosen ≡ order → chain ≡ record { limits = s.limits; recent = s.recent }
+pub same_end : (s : Snapshot) (head : Head) (wires given : List (List ℕ)) (order chosen : List Chosen)
+    (chain : Chain) (origin : Origin AdmittedBlock) (outcomes : List Outcome) → given ≡ wires → chosen ≡ order
+    → chain ≡ record { limits = s.limits; recent = s.recent }
     → ran_of job_of origin outcomes ≡ serial_run s head.slot order
-    → closed_with (record { slot = 0; limits = chain.limits; recent = chain.recent; accounts = state_at_end job_of origin }) head given chosen (ran_of job_of origin outcomes) ≡ closed s head wires order
+    → closed_with (record { slot = 0; limits = chain.limits; recent = chain.recent; accounts = state_at_end
+        job_of origin }) head given chosen (ran_of job_of origin outcomes) ≡ closed s head wires order
 unfolding closed
 same_end s head wires given order chosen chain origin outcomes read same kept ran_is =
     ap (λ (c : Chain). closed_with (record { slot = 0; limits = c.limits; recent = c.recent; accounts = state_at_end job_of origin }) head given chosen (ran_of job_of origin outcomes)) kept
@@ -108,7 +113,10 @@ unfolding listed_result
 listed_is s given wires answer end halted read is ended same =
     ap₂ (λ (e : Closed) (h : Bool). let r : Listed = record { block = e.block; halted = h } in r) ended same
     ∙ ap (λ (a : Admitted). let r : Listed = record { block = (closed s (head_again given) wires (before_refused a.refused a.order)).block; halted = is_halted a.refused } in r) is
-    ∙ ap (λ (w : List (List ℕ)). let a = listed (start_in s) w in let r : Listed = record { block = (closed s (head_again given) w (before_refused a.refused a.order)).block; halted = is_halted a.refused } in r) read
+    ∙ ap (λ (w : List (List ℕ)). let a = listed (start_in s) w
+        in let r : Listed = record { block =
+        (closed s (head_again given) w (before_refused a.refused a.order)).block; halted = is_halted a.refused }
+        in r) read
 
 -- how many entries there are
 cut_by : (wires : List (List ℕ)) (order : List Chosen) (refused : List Refused) (count : ℕ) → length order + length refused ≡ length wires → All (λ one. one.position < length wires) refused

@@ -27,7 +27,9 @@ use Rattle.spec_base.proofs.Lists.{length-filter-most}
 use Rattle.tx_exec.proofs.Fitting.{keys_few}
 
 -- what holds of each transaction holds of its position
-pub at_position : (admitted : AdmittedBlock) → All IsChosen admitted.chosen → (P : Option Chosen → Type 0) → ((t : Chosen) → IsChosen t → P (Some t)) → (i : ℕ) → i < length admitted.chosen → P (slice_get admitted.chosen i)
+pub at_position : (admitted : AdmittedBlock) → All IsChosen admitted.chosen → (P : Option Chosen → Type 0)
+    → ((t : Chosen) → IsChosen t → P (Some t)) → (i : ℕ) → i < length admitted.chosen
+    → P (slice_get admitted.chosen i)
 at_position admitted all P each i below = let x = there admitted.chosen i below all in subst P (sym x.1) (each x.0 x.2)
 
 -- and as many locks
@@ -58,7 +60,9 @@ module _ (admitted : AdmittedBlock) (all : All IsChosen admitted.chosen) where
   pub position_pays : (i : ℕ) → i < length admitted.chosen → (vs : List Account) → length vs ≡ length ((job_of admitted).locks i)
       → lamports_in ((job_of admitted).effects i vs).written + paid_in ((job_of admitted).effects i vs) ≡ lamports_in (lent_for_writing ((job_of admitted).locks i) vs)
   position_pays i l vs = at_position admitted all
-      (λ o. length vs ≡ length (locks_at o) → lamports_in (effects_at (block_of admitted) o vs).written + paid_in (effects_at (block_of admitted) o vs) ≡ lamports_in (lent_for_writing (locks_at o) vs))
+      (λ o. length vs ≡ length (locks_at o)
+          → lamports_in (effects_at (block_of admitted) o vs).written + paid_in
+          (effects_at (block_of admitted) o vs) ≡ lamports_in (lent_for_writing (locks_at o) vs))
       (λ t is. pays admitted t is vs) i l
 
   pub position_is_small : (i : ℕ) → i < length admitted.chosen → (vs : List Account) → IsSmallOutcome ((job_of admitted).effects i vs).outcome
@@ -72,7 +76,9 @@ written_keys_few job i =
     omega (arith, a, b)
 
 -- the keys that transactions lock are numbered alike in every work of them
-pub numbered_alike : (admitted : AdmittedBlock) (order : List Chosen) (ks : List Key) (p : Positions) (room : ℕ) → admitted.chosen ≡ order → AreNumbered (job_of (locked_in order)) ks p room → AreNumbered (job_of admitted) ks p room
+pub numbered_alike : (admitted : AdmittedBlock) (order : List Chosen) (ks : List Key) (p : Positions) (room : ℕ)
+    → admitted.chosen ≡ order → AreNumbered (job_of (locked_in order)) ks p room
+    → AreNumbered (job_of admitted) ks p room
 numbered_alike admitted order ks p room same are =
     let n = subst (λ (o : List Chosen). AreNumbered (job_of (locked_in o)) ks p room) (sym same) are in
     record { distinct = n.distinct; waiting = n.waiting; long = n.long; numbered = n.numbered; wide = n.wide }

@@ -39,17 +39,27 @@ module _ (locks : List Lock) (i : ℕ) (l : i < length locks) (write : Bool) (en
   abbrev lock : Lock
   lock = get_or locks i no_lock
 
-  more : (key : Key) → reach_of next key ≡ reached (is_locked_as write lock && same_key lock.key key) end place (reach_of reaches key) → reach_of next key ≡ reached (locks_as write (take (i + 1) locks) key) end place (reach_of first key)
+  more : (key : Key) → reach_of next key
+      ≡ reached (is_locked_as write lock && same_key lock.key key) end place (reach_of reaches key)
+      → reach_of next key ≡ reached (locks_as write (take (i + 1) locks) key) end place (reach_of first key)
   more key step =
       step ∙ (ap (reached (is_locked_as write lock && same_key lock.key key) end place) (kept key)
       ∙ (noted_more (locks_as write (take i locks) key) (is_locked_as write lock && same_key lock.key key) end place (reach_of first key)
       ∙ ap (λ b. reached b end place (reach_of first key)) (sym (list_any_more (λ x. is_locked_as write x && same_key x.key key) locks i no_lock l))))
 
-  pub noted : is_locked_as write lock ≡ true → (latest : Reach) → latest ≡ later (reach_of reaches lock.key) end place → ((key : Key) → get key_cmp next key ≡ cond (is_at (key_cmp lock.key) key) (Some latest) (get key_cmp reaches key))
+  pub noted : is_locked_as write lock ≡ true → (latest : Reach)
+      → latest ≡ later (reach_of reaches lock.key) end place
+      → ((key : Key) → get key_cmp next key
+      ≡ cond (is_at (key_cmp lock.key) key) (Some latest) (get key_cmp reaches key))
       → (key : Key) → reach_of next key ≡ reached (locks_as write (take (i + 1) locks) key) end place (reach_of first key)
-  noted so latest is puts key = more key (ap (λ (o : Option Reach). unwrap_or o (record { end = 0; place = 0 })) (puts key) ∙ (by_case (same_key lock.key key) refl ∙ ap (λ b. reached (b && same_key lock.key key) end place (reach_of reaches key)) (sym so)))
+  noted so latest is puts key = more key
+      (ap (λ (o : Option Reach). unwrap_or o (record { end = 0; place = 0 })) (puts key)
+      ∙ (by_case (same_key lock.key key) refl
+      ∙ ap (λ b. reached (b && same_key lock.key key) end place (reach_of reaches key)) (sym so)))
     where
-      by_case : (b : Bool) → same_key lock.key key ≡ b → unwrap_or (cond (is_at (key_cmp lock.key) key) (Some latest) (get key_cmp reaches key)) (record { end = 0; place = 0 }) ≡ reached (same_key lock.key key) end place (reach_of reaches key)
+      by_case : (b : Bool) → same_key lock.key key ≡ b
+          → unwrap_or (cond (is_at (key_cmp lock.key) key) (Some latest) (get key_cmp reaches key))
+          (record { end = 0; place = 0 }) ≡ reached (same_key lock.key key) end place (reach_of reaches key)
       by_case true t = rw (same_cmp lock.key key, t) (is ∙ ap (λ k. later (reach_of reaches k) end place) (same_key-true lock.key key t))
       by_case false f = rw (same_cmp lock.key key, f) refl
 
@@ -73,7 +83,9 @@ Kept-none write locks end key = record {
   nearest = λ place all. omega arith;
 }
 
-Kept-next : (write : Bool) (locks : ℕ → List Lock) (end : ℕ → ℕ) (i : ℕ) (key : Key) (kept : Reach) → Kept write locks end i key kept → Kept write locks end (i + 1) key (reached (locks_as write (locks i) key) (end i) (i + 1) kept)
+Kept-next : (write : Bool) (locks : ℕ → List Lock) (end : ℕ → ℕ) (i : ℕ) (key : Key) (kept : Reach)
+    → Kept write locks end i key kept
+    → Kept write locks end (i + 1) key (reached (locks_as write (locks i) key) (end i) (i + 1) kept)
 Kept-next write locks end i key kept K = by_lock (locks_as write (locks i) key) refl
   where
     -- an older position, or the new one
@@ -112,7 +124,11 @@ Reaches-none write locks end reaches e = λ key. subst (Kept write locks end 0 k
     none : (key : Key) → reach_of reaches key ≡ record { end = 0; place = 0 }
     none key = rw e refl
 
-pub Reaches-next : (write : Bool) (locks : ℕ → List Lock) (end : ℕ → ℕ) (i : ℕ) (reaches next : BTreeMap Key Reach) → ((key : Key) → reach_of next key ≡ reached (locks_as write (locks i) key) (end i) (i + 1) (reach_of reaches key)) → Reaches write locks end i reaches → Reaches write locks end (i + 1) next
+pub Reaches-next : (write : Bool) (locks : ℕ → List Lock) (end : ℕ → ℕ) (i : ℕ)
+    (reaches next : BTreeMap Key Reach)
+    → ((key : Key) → reach_of next key
+    ≡ reached (locks_as write (locks i) key) (end i) (i + 1) (reach_of reaches key))
+    → Reaches write locks end i reaches → Reaches write locks end (i + 1) next
 Reaches-next write locks end i reaches next step R = λ key. subst (Kept write locks end (i + 1) key) (sym (step key)) (Kept-next write locks end i key (reach_of reaches key) (R key))
 
 -- ---- the place of the last that holds up a position
@@ -121,7 +137,9 @@ module _ (locks : ℕ → List Lock) (end : ℕ → ℕ) (i : ℕ) (written read
     (ended : (j : ℕ) → j < i → clash (locks j) (locks i) ≡ true → end j ≤ start) (place : ℕ)
     (above : All (λ lock. held_place written read start lock ≤ place) (locks i)) (least : (bound : ℕ) → All (λ lock. held_place written read start lock ≤ bound) (locks i) → place ≤ bound) where
   -- at a key that holds a lock up, the place is that of the last that ends at the start
-  place_parts : (write : Bool) (key : Key) (kept : Reach) → Kept write locks end i key kept → kept.end ≤ start → (bound : ℕ) → place_at kept start ≤ bound → (j : ℕ) → j < i → locks_as write (locks j) key ≡ true → end j ≡ start → j + 1 ≤ bound
+  place_parts : (write : Bool) (key : Key) (kept : Reach) → Kept write locks end i key kept → kept.end ≤ start
+      → (bound : ℕ) → place_at kept start ≤ bound → (j : ℕ) → j < i → locks_as write (locks j) key ≡ true
+      → end j ≡ start → j + 1 ≤ bound
   place_parts write key kept K under bound l j m h e =
       let g = K.greatest j m h in
       let same : kept.end ≡ start = omega (arith, g, under, e) in
@@ -129,7 +147,9 @@ module _ (locks : ℕ → List Lock) (end : ℕ → ℕ) (i : ℕ) (written read
       let b = K.behind j m h (e ∙ sym same) in
       omega (arith, here, l, b)
 
-  place_from : (write : Bool) (key : Key) (kept : Reach) → Kept write locks end i key kept → (bound : ℕ) → ((j : ℕ) → j < i → locks_as write (locks j) key ≡ true → end j ≡ start → j + 1 ≤ bound) → place_at kept start ≤ bound
+  place_from : (write : Bool) (key : Key) (kept : Reach) → Kept write locks end i key kept → (bound : ℕ)
+      → ((j : ℕ) → j < i → locks_as write (locks j) key ≡ true → end j ≡ start → j + 1 ≤ bound)
+      → place_at kept start ≤ bound
   place_from write key kept K bound all = by_case (kept.end == start) refl
     where
       by_case : (b : Bool) → (kept.end == start) ≡ b → cond b kept.place 0 ≤ bound
@@ -137,7 +157,9 @@ module _ (locks : ℕ → List Lock) (end : ℕ → ℕ) (i : ℕ) (written read
       by_case false f = omega arith
 
   -- whoever locks the key of a lock clashes
-  clashes : (k : ℕ) (d : Lock) → k < length (locks i) → (write : Bool) → (write ≡ false → (get_or (locks i) k d).write ≡ true) → (j : ℕ) → locks_as write (locks j) (get_or (locks i) k d).key ≡ true → clash (locks j) (locks i) ≡ true
+  clashes : (k : ℕ) (d : Lock) → k < length (locks i) → (write : Bool)
+      → (write ≡ false → (get_or (locks i) k d).write ≡ true) → (j : ℕ)
+      → locks_as write (locks j) (get_or (locks i) k d).key ≡ true → clash (locks j) (locks i) ≡ true
   clashes k d l write asks j h = any_in (locks j) (locks i) k d l (as_met (locks j) (get_or (locks i) k d) write asks h)
 
   pub place_above : (j : ℕ) → j < i → clash (locks j) (locks i) ≡ true → end j ≡ start → j + 1 ≤ place
@@ -170,7 +192,9 @@ pub record Held (measure : Measure) (order : List Chosen) (starts : List ℕ) (w
   pub readers : Reaches false (locks_at order) (end_at measure order starts) i read
   pub each : (m : ℕ) → m < i → HolderIs measure order starts m (slice_index_or holders m None)
 
-pub Held-none : (measure : Measure) (order : List Chosen) (starts : List ℕ) (written read : BTreeMap Key Reach) (holders : List (Option ℕ)) → holders ≡ [] → written.entries ≡ [] → read.entries ≡ [] → Held measure order starts written read holders 0
+pub Held-none : (measure : Measure) (order : List Chosen) (starts : List ℕ) (written read : BTreeMap Key Reach)
+    (holders : List (Option ℕ)) → holders ≡ [] → written.entries ≡ [] → read.entries ≡ []
+    → Held measure order starts written read holders 0
 Held-none measure order starts written read holders h w r = record {
   long = ap length h;
   writers = Reaches-none true (locks_at order) (end_at measure order starts) written w;
@@ -180,7 +204,9 @@ Held-none measure order starts written read holders h w r = record {
 
 module _ (measure : Measure) (order : List Chosen) (starts : List ℕ) (written read : BTreeMap Key Reach) (holders : List (Option ℕ)) (i : ℕ) (H : Held measure order starts written read holders i)
     (ended : HaveEnded measure order starts i (slice_index starts i)) (place : ℕ)
-    (above : All (λ lock. held_place written read (slice_index starts i) lock ≤ place) (locks_at order i)) (least : (bound : ℕ) → All (λ lock. held_place written read (slice_index starts i) lock ≤ bound) (locks_at order i) → place ≤ bound) where
+    (above : All (λ lock. held_place written read (slice_index starts i) lock ≤ place) (locks_at order i))
+        (least : (bound : ℕ) → All (λ lock. held_place written read (slice_index starts i) lock ≤ bound)
+        (locks_at order i) → place ≤ bound) where
   behind : (j : ℕ) → j < i → clash (locks_at order j) (locks_at order i) ≡ true → end_at measure order starts j ≡ slice_index starts i → j + 1 ≤ place
   behind = place_above (locks_at order) (end_at measure order starts) i written read H.writers H.readers (slice_index starts i) ended place above least
 
@@ -236,6 +262,9 @@ module _ (measure : Measure) (order : List Chosen) (starts : List ℕ) (written 
           | inl e ↦ subst (λ k. HolderIs measure order starts k (slice_index_or next k None)) (sym e)
               (subst (HolderIs measure order starts i) (sym (ap (λ (xs : List (Option ℕ)). slice_index_or xs i None) pushed ∙ get_or_push holders (holder_of place) None i H.long)) holder_here)
           | inr d ↦ let under : m < i = omega (arith, l, d) in
-              subst (HolderIs measure order starts m) (sym (ap (λ (xs : List (Option ℕ)). slice_index_or xs m None) pushed ∙ get_or_append_left holders (holder_of place ∷ []) None m (let e = H.long in omega (arith, e, under)))) (H.each m under)
+              subst (HolderIs measure order starts m)
+                  (sym (ap (λ (xs : List (Option ℕ)). slice_index_or xs m None) pushed
+                  ∙ get_or_append_left holders (holder_of place ∷ []) None m
+                  (let e = H.long in omega (arith, e, under)))) (H.each m under)
         ];
   }

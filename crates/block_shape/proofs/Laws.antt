@@ -40,14 +40,18 @@ module _ (locks : List Lock) (i : ℕ) (l : i < length locks) (write : Bool) (en
   abbrev lock : Lock
   lock = get_or locks i no_lock
 
-  more : (key : Key) → end_of next key ≡ raised (is_locked_as write lock && same_key lock.key key) end (end_of ends key) → end_of next key ≡ raised (locks_as write (take (i + 1) locks) key) end (end_of first key)
+  more : (key : Key) → end_of next key
+      ≡ raised (is_locked_as write lock && same_key lock.key key) end (end_of ends key)
+      → end_of next key ≡ raised (locks_as write (take (i + 1) locks) key) end (end_of first key)
   more key step =
       step ∙ (ap (raised (is_locked_as write lock && same_key lock.key key) end) (kept key)
       ∙ (noted_more (locks_as write (take i locks) key) (is_locked_as write lock && same_key lock.key key) end (end_of first key)
       ∙ ap (λ b. raised b end (end_of first key)) (sym (list_any_more (λ x. is_locked_as write x && same_key x.key key) locks i no_lock l))))
 
   -- a lock of this kind notes the end at its key
-  pub noted : is_locked_as write lock ≡ true → (greatest : ℕ) → greatest ≡ max (end_of ends lock.key) end → ((key : Key) → get key_cmp next key ≡ cond (is_at (key_cmp lock.key) key) (Some greatest) (get key_cmp ends key))
+  pub noted : is_locked_as write lock ≡ true → (greatest : ℕ) → greatest ≡ max (end_of ends lock.key) end
+      → ((key : Key) → get key_cmp next key
+      ≡ cond (is_at (key_cmp lock.key) key) (Some greatest) (get key_cmp ends key))
       → (key : Key) → end_of next key ≡ raised (locks_as write (take (i + 1) locks) key) end (end_of first key)
   noted so greatest is puts key = more key (ap (λ o. unwrap_or o 0) (puts key) ∙ (by_case (same_key lock.key key) refl ∙ ap (λ b. raised (b && same_key lock.key key) end (end_of ends key)) (sym so)))
     where
@@ -81,7 +85,9 @@ met_as (a ∷ more) b h =
       ]
     ]
   where
-    first : same_key a.key b.key ≡ true → (a.write ≡ true) ⊎ (a.write ≡ false) → (a.write || b.write) ≡ true → (locks_as true (a ∷ more) b.key ≡ true) ⊎ ((b.write ≡ true) × (locks_as false (a ∷ more) b.key ≡ true))
+    first : same_key a.key b.key ≡ true → (a.write ≡ true) ⊎ (a.write ≡ false) → (a.write || b.write) ≡ true
+        → (locks_as true (a ∷ more) b.key ≡ true)
+        ⊎ ((b.write ≡ true) × (locks_as false (a ∷ more) b.key ≡ true))
     first same (inl t) either = inl (or_left (is_locked_as true a && same_key a.key b.key) (locks_as true more b.key) (and_from a.write (same_key a.key b.key) t same))
     first same (inr f) either = inr (
       (elim (or_cases a.write b.write either) [ inl t ↦ absurd (both_ways _ f t) | inr r ↦ r ]),
@@ -124,7 +130,9 @@ pub in_any : (one other : List Lock) → clash one other ≡ true → (k : ℕ) 
 in_any [] other h = absurd (false≢true h)
 in_any (a ∷ more) other h =
     elim (or_cases (list_any (λ b. meet a b) other) (clash more other) h) [
-      | inl t ↦ let found = any_place (λ b. meet a b) other t in (found.0, found.1, or_left (meet a (get_or other found.0 no_lock)) (list_any (λ x. meet x (get_or other found.0 no_lock)) more) found.2)
+      | inl t ↦ let found = any_place (λ b. meet a b) other t
+          in (found.0, found.1, or_left (meet a (get_or other found.0 no_lock))
+          (list_any (λ x. meet x (get_or other found.0 no_lock)) more) found.2)
       | inr r ↦ let found = in_any more other r in (found.0, found.1, or_right (meet a (get_or other found.0 no_lock)) (list_any (λ x. meet x (get_or other found.0 no_lock)) more) found.2)
     ]
 
@@ -135,13 +143,16 @@ Ends-none write locks end ends e = λ key time. ((λ l j m h. absurd (omega (ari
     none : (key : Key) → end_of ends key ≡ 0
     none key = rw e refl
 
-pub Ends-same : (write : Bool) (locks : ℕ → List Lock) (end other : ℕ → ℕ) (i : ℕ) (ends : BTreeMap Key ℕ) → ((j : ℕ) → j < i → end j ≡ other j) → Ends write locks end i ends → Ends write locks other i ends
+pub Ends-same : (write : Bool) (locks : ℕ → List Lock) (end other : ℕ → ℕ) (i : ℕ) (ends : BTreeMap Key ℕ)
+    → ((j : ℕ) → j < i → end j ≡ other j) → Ends write locks end i ends → Ends write locks other i ends
 Ends-same write locks end other i ends same E = λ key time. (
   (λ l j m h. let a = same j m in let b = (E key time).0 l j m h in omega (arith, a, b)),
   (λ all. (E key time).1 (λ j m h. let a = same j m in let b = all j m h in omega (arith, a, b))),
 )
 
-pub Ends-next : (write : Bool) (locks : ℕ → List Lock) (end : ℕ → ℕ) (i : ℕ) (ends next : BTreeMap Key ℕ) → ((key : Key) → end_of next key ≡ raised (locks_as write (locks i) key) (end i) (end_of ends key)) → Ends write locks end i ends → Ends write locks end (i + 1) next
+pub Ends-next : (write : Bool) (locks : ℕ → List Lock) (end : ℕ → ℕ) (i : ℕ) (ends next : BTreeMap Key ℕ)
+    → ((key : Key) → end_of next key ≡ raised (locks_as write (locks i) key) (end i) (end_of ends key))
+    → Ends write locks end i ends → Ends write locks end (i + 1) next
 Ends-next write locks end i ends next step E = λ key time. (
   (λ l j m h.
       let parts = max_parts (locks_as write (locks i) key) (end_of ends key) (end i) time (subst (λ n. n ≤ time) (step key) l) in

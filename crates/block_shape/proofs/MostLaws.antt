@@ -46,7 +46,9 @@ passing false x rest q c = c
 -- an entry that passes is among those that do
 among : (es : List Entry) (k : ℕ) (e : Entry) → k < length es → get_or es k e ≡ e → is_waited e ≡ true → Contains (keys_of (filter is_waited es)) e.0
 among [] k e l at so = absurd (omega (arith, l))
-among (x ∷ es) zero e l at so = subst (λ (y : Entry). Contains (keys_of (cond (is_waited y) (y ∷ filter is_waited es) (filter is_waited es))) e.0) (sym at) (rw so (here e.0 (keys_of (filter is_waited es))))
+among (x ∷ es) zero e l at so = subst
+    (λ (y : Entry). Contains (keys_of (cond (is_waited y) (y ∷ filter is_waited es) (filter is_waited es))) e.0)
+    (sym at) (rw so (here e.0 (keys_of (filter is_waited es))))
 among (x ∷ es) (suc k) e l at so = passing (is_waited x) x (filter is_waited es) e.0 (among es k e (omega (arith, l)) at so)
 
 -- what is under the key of each entry is its value
@@ -112,6 +114,8 @@ pub all_listed : (before : List Entry) (items all : List Waited) → before ≡ 
 all_listed before items all none h = sym (append-nil items) ∙ (ap (λ (l : List Entry). items ++ waited_in l) (sym none) ∙ h)
 
 -- where no entry is next, none is left
-pub none_left : (r : Option (Bor Key × Bor Wait)) (left after : List Entry) → ((x : Bor Key × Bor Wait) → r ≡ Some x → ⊥) → MatchOption r ((left ≡ []) × (after ≡ [])) (λ x. left ≡ (x.0.now, x.1.now) ∷ after) → left ≡ []
+pub none_left : (r : Option (Bor Key × Bor Wait)) (left after : List Entry)
+    → ((x : Bor Key × Bor Wait) → r ≡ Some x → ⊥)
+    → MatchOption r ((left ≡ []) × (after ≡ [])) (λ x. left ≡ (x.0.now, x.1.now) ∷ after) → left ≡ []
 none_left None left after some h = h.0
 none_left (Some x) left after some h = absurd (some x refl)

@@ -23,7 +23,8 @@ pub record Passed (measure : Measure) (order : List Chosen) (starts : List ℕ) 
   pub greatest : (time : ℕ) → (longest ≤ time) ↔ AllEndBy measure order starts i time
   pub bounded : (j : ℕ) → j < i → end_at measure order starts j ≤ i * most
 
-pub Passed-none : (measure : Measure) (order : List Chosen) (starts : List ℕ) (written read : BTreeMap Key ℕ) → starts ≡ [] → written.entries ≡ [] → read.entries ≡ [] → Passed measure order starts written read 0 0
+pub Passed-none : (measure : Measure) (order : List Chosen) (starts : List ℕ) (written read : BTreeMap Key ℕ)
+    → starts ≡ [] → written.entries ≡ [] → read.entries ≡ [] → Passed measure order starts written read 0 0
 Passed-none measure order starts written read s w r = record {
   long = ap length s;
   writers = Ends-none true (locks_at order) (end_at measure order starts) written w;

@@ -24,7 +24,9 @@ use Rattle.block_shape.proofs.Laws.{no_lock, max_parts, max_from, met_as, as_met
 counted_again : (before : Wait) (place : ℕ) → counted (counted before place) place ≡ counted before place
 counted_again before place = by_case (nat_lt before.place place) refl
   where
-    by_case : (b : Bool) → nat_lt before.place place ≡ b → counted (cond b (record { count = min (before.count + 1) (2 ^ 32 - 1); place = place }) before) place ≡ cond b (record { count = min (before.count + 1) (2 ^ 32 - 1); place = place }) before
+    by_case : (b : Bool) → nat_lt before.place place ≡ b
+        → counted (cond b (record { count = min (before.count + 1) (2 ^ 32 - 1); place = place }) before) place
+        ≡ cond b (record { count = min (before.count + 1) (2 ^ 32 - 1); place = place }) before
     by_case true t = rw (le-ltb place place (omega arith)) refl
     by_case false f = rw f refl
 
@@ -39,18 +41,28 @@ module _ (held : Lock → Bool) (locks : List Lock) (i : ℕ) (l : i < length lo
   abbrev lock : Lock
   lock = get_or locks i no_lock
 
-  more : (key : Key) → wait_of next key ≡ counted_if (held lock && same_key lock.key key) place (wait_of waits key) → wait_of next key ≡ counted_if (list_any (λ x. held x && same_key x.key key) (take (i + 1) locks)) place (wait_of first key)
+  more : (key : Key) → wait_of next key
+      ≡ counted_if (held lock && same_key lock.key key) place (wait_of waits key)
+      → wait_of next key ≡ counted_if (list_any (λ x. held x && same_key x.key key) (take (i + 1) locks)) place
+      (wait_of first key)
   more key step =
       step ∙ (ap (counted_if (held lock && same_key lock.key key) place) (kept key)
       ∙ (counted_more (list_any (λ x. held x && same_key x.key key) (take i locks)) (held lock && same_key lock.key key) place (wait_of first key)
       ∙ ap (λ b. counted_if b place (wait_of first key)) (sym (list_any_more (λ x. held x && same_key x.key key) locks i no_lock l))))
 
   -- a lock that is held up counts at its key
-  pub noted : held lock ≡ true → (latest : Wait) → latest ≡ counted (wait_of waits lock.key) place → ((key : Key) → get key_cmp next key ≡ cond (is_at (key_cmp lock.key) key) (Some latest) (get key_cmp waits key))
+  pub noted : held lock ≡ true → (latest : Wait) → latest ≡ counted (wait_of waits lock.key) place
+      → ((key : Key) → get key_cmp next key
+      ≡ cond (is_at (key_cmp lock.key) key) (Some latest) (get key_cmp waits key))
       → (key : Key) → wait_of next key ≡ counted_if (list_any (λ x. held x && same_key x.key key) (take (i + 1) locks)) place (wait_of first key)
-  noted so latest is puts key = more key (ap (λ (o : Option Wait). unwrap_or o (record { count = 0; place = 0 })) (puts key) ∙ (by_case (same_key lock.key key) refl ∙ ap (λ b. counted_if (b && same_key lock.key key) place (wait_of waits key)) (sym so)))
+  noted so latest is puts key = more key
+      (ap (λ (o : Option Wait). unwrap_or o (record { count = 0; place = 0 })) (puts key)
+      ∙ (by_case (same_key lock.key key) refl
+      ∙ ap (λ b. counted_if (b && same_key lock.key key) place (wait_of waits key)) (sym so)))
     where
-      by_case : (b : Bool) → same_key lock.key key ≡ b → unwrap_or (cond (is_at (key_cmp lock.key) key) (Some latest) (get key_cmp waits key)) (record { count = 0; place = 0 }) ≡ counted_if (same_key lock.key key) place (wait_of waits key)
+      by_case : (b : Bool) → same_key lock.key key ≡ b
+          → unwrap_or (cond (is_at (key_cmp lock.key) key) (Some latest) (get key_cmp waits key))
+          (record { count = 0; place = 0 }) ≡ counted_if (same_key lock.key key) place (wait_of waits key)
       by_case true t = rw (same_cmp lock.key key, t) (is ∙ ap (λ k. counted (wait_of waits k) place) (same_key-true lock.key key t))
       by_case false f = rw (same_cmp lock.key key, f) refl
 

@@ -9,7 +9,9 @@ use Rattle.cpi_calls.specs.declared.request.KeyMeta.{KeyMeta}
 use Rattle.cpi_calls.specs.Rights.{exceeds, exceeds_with, is_missing, meta_of, place_of}
 
 -- the test fails at a place
-position-more : {X : Type 0} (test : X → Bool) (xs : List X) (i : ℕ) (d : X) → i < length xs → test (get_or xs i d) ≡ false → position_from test i (drop i xs) ≡ position_from test (i + 1) (drop (i + 1) xs)
+position-more : {X : Type 0} (test : X → Bool) (xs : List X) (i : ℕ) (d : X) → i < length xs
+    → test (get_or xs i d) ≡ false
+    → position_from test i (drop i xs) ≡ position_from test (i + 1) (drop (i + 1) xs)
 position-more test xs i d below h = rw (drop_more xs i d below, h) refl
 
 -- the test passes at a place
@@ -32,16 +34,20 @@ pair-found test xs ys i d e one other h = rw (drop_more xs i d one, drop_more ys
 pub pair-none : {X Y : Type 0} (test : X × Y → Bool) (xs : List X) (ys : List Y) (i : ℕ) → length xs ≤ i → position_from test i (zip (drop i xs) (drop i ys)) ≡ None
 pair-none test xs ys i past = rw (drop_all i xs past) refl
 
-mapped : {X Y : Type 0} (f : X → Y) (one : X → Bool) (both : X × Y → Bool) → ((x : X) → both (x, f x) ≡ one x) → (i : ℕ) (xs : List X) → position_from both i (zip xs (map f xs)) ≡ position_from one i xs
+mapped : {X Y : Type 0} (f : X → Y) (one : X → Bool) (both : X × Y → Bool) → ((x : X) → both (x, f x) ≡ one x)
+    → (i : ℕ) (xs : List X) → position_from both i (zip xs (map f xs)) ≡ position_from one i xs
 mapped f one both same i [] = refl
 mapped f one both same i (x ∷ xs) = rw (same x, mapped f one both same (i + 1) xs) refl
 
 -- what exceeds by the metas that were found exceeds
-pub exceeds-found : (keys signers : List Key) (caller : List Meta) (asked : List KeyMeta) → position_from (exceeds_with signers caller) 0 (zip asked (map (meta_of keys caller) asked)) ≡ position_from (exceeds keys signers caller) 0 asked
+pub exceeds-found : (keys signers : List Key) (caller : List Meta) (asked : List KeyMeta)
+    → position_from (exceeds_with signers caller) 0 (zip asked (map (meta_of keys caller) asked))
+    ≡ position_from (exceeds keys signers caller) 0 asked
 exceeds-found keys signers caller asked = mapped (meta_of keys caller) (exceeds keys signers caller) (exceeds_with signers caller) (λ x. refl) 0 asked
 
 -- one account more is found
-pub found-more : (keys : List Key) (caller : List Meta) (asked : List KeyMeta) (metas : List Meta) (i : ℕ) (d : KeyMeta) (index : ℕ) → i < length asked → metas ≡ map (meta_of keys caller) (take i asked)
+pub found-more : (keys : List Key) (caller : List Meta) (asked : List KeyMeta) (metas : List Meta) (i : ℕ)
+    (d : KeyMeta) (index : ℕ) → i < length asked → metas ≡ map (meta_of keys caller) (take i asked)
     → Some index ≡ (let a : KeyMeta = get_or asked i d in place_of keys caller a.key)
     → (let a : KeyMeta = get_or asked i d in metas ++ record { index = index; signer = a.signer; writable = a.writable } ∷ []) ≡ map (meta_of keys caller) (take (i + 1) asked)
 found-more keys caller asked metas i d index below found place =
@@ -62,7 +68,8 @@ pub missing-at : (keys : List Key) (caller : List Meta) (asked : List KeyMeta) (
 missing-at keys caller asked i d below none = position-found (is_missing keys caller) asked i d below (missing keys caller (get_or asked i d) none)
 
 -- the next account is there
-pub present-at : (keys : List Key) (caller : List Meta) (asked : List KeyMeta) (i : ℕ) (d : KeyMeta) (index : ℕ) → i < length asked → Some index ≡ (let a : KeyMeta = get_or asked i d in place_of keys caller a.key)
+pub present-at : (keys : List Key) (caller : List Meta) (asked : List KeyMeta) (i : ℕ) (d : KeyMeta) (index : ℕ)
+    → i < length asked → Some index ≡ (let a : KeyMeta = get_or asked i d in place_of keys caller a.key)
     → position_from (is_missing keys caller) i (drop i asked) ≡ position_from (is_missing keys caller) (i + 1) (drop (i + 1) asked)
 present-at keys caller asked i d index below some = position-more (is_missing keys caller) asked i d below (present keys caller (get_or asked i d) index some)
 

@@ -45,17 +45,23 @@ bytes-most : (m : Ranges) (addr len : ℕ) → AtMost len (bytes_read m addr len
 unfolding read_from
 bytes-most m addr len = none-most len (len == 0) (bytes_at m addr len (place_of m addr len)) (place-most m addr len (place_of m addr len))
 
-lists-of : (program : Key) (count len : ℕ) (metas : Result (List KeyMeta) CallFault) (input : Result (List ℕ) CallFault) (signers : Result (List Key) CallFault) → Counts count metas → AtMost len input → count ≤ max_metas → len ≤ max_call_data
+lists-of : (program : Key) (count len : ℕ) (metas : Result (List KeyMeta) CallFault)
+    (input : Result (List ℕ) CallFault) (signers : Result (List Key) CallFault) → Counts count metas
+    → AtMost len input → count ≤ max_metas → len ≤ max_call_data
     → Sized (metas >>= (λ ms. input >>= (λ bytes. signers >>= (λ keys. Ok (record { program = program; metas = ms; input = bytes; signers = keys })))))
 lists-of program count len (Ok ms) (Ok bytes) (Ok keys) counts most few short = record { metas = omega (arith, counts); input = omega (arith, most) }
 lists-of program count len (Ok ms) (Ok bytes) (Err e) counts most few short = tt
 lists-of program count len (Ok ms) (Err e) signers counts most few short = tt
 lists-of program count len (Err e) input signers counts most few short = tt
 
-lists-sized : (m : Ranges) (caller : Key) (arguments : List ℕ) (program : Key) (call : Call) → call.meta_count ≤ max_metas → call.data_len ≤ max_call_data → Sized (lists_read m caller arguments program call)
+lists-sized : (m : Ranges) (caller : Key) (arguments : List ℕ) (program : Key) (call : Call)
+    → call.meta_count ≤ max_metas → call.data_len ≤ max_call_data
+    → Sized (lists_read m caller arguments program call)
 unfolding lists_read
 lists-sized m caller arguments program call few short =
-    lists-of program call.meta_count call.data_len (metas_read m call.metas call.meta_count) (bytes_read m call.data_at call.data_len) (signers_read m caller (slice_index arguments 3) (slice_index arguments 4))
+    lists-of program call.meta_count call.data_len (metas_read m call.metas call.meta_count)
+        (bytes_read m call.data_at call.data_len)
+        (signers_read m caller (slice_index arguments 3) (slice_index arguments 4))
     (items-count _ call.meta_count) (bytes-most m call.data_at call.data_len) few short
 
 -- what holds of the answers of a request whose units were some number
@@ -79,14 +85,23 @@ cost-fits cost units rest fits = by_case (nat_lt units cost)
 limited-fits : (m : Ranges) (caller : Key) (arguments : List ℕ) (units : ℕ) (header : Call × Key) → Fits units (limited m caller arguments units header)
 limited-fits m caller arguments units header = many (nat_lt max_metas header.0.meta_count) refl
   where
-    rest : header.0.meta_count ≤ max_metas → header.0.data_len ≤ max_call_data → Fits units (after_cost (header.0.data_len / bytes_of_unit) units (λ left. record { units = left; answer = lists_read m caller arguments header.1 header.0 }))
-    rest few short = cost-fits (header.0.data_len / bytes_of_unit) units (λ left. record { units = left; answer = lists_read m caller arguments header.1 header.0 }) (record { left = omega arith; sized = lists-sized m caller arguments header.1 header.0 few short })
+    rest : header.0.meta_count ≤ max_metas → header.0.data_len ≤ max_call_data
+        → Fits units (after_cost (header.0.data_len / bytes_of_unit) units
+        (λ left. record { units = left; answer = lists_read m caller arguments header.1 header.0 }))
+    rest few short = cost-fits (header.0.data_len / bytes_of_unit) units
+        (λ left. record { units = left; answer = lists_read m caller arguments header.1 header.0 })
+        (record { left = omega arith; sized = lists-sized m caller arguments header.1 header.0 few short })
 
-    long : (b : Bool) → nat_lt max_call_data header.0.data_len ≡ b → header.0.meta_count ≤ max_metas → Fits units (if b then refused units DataTooLong else after_cost (header.0.data_len / bytes_of_unit) units (λ left. record { units = left; answer = lists_read m caller arguments header.1 header.0 }))
+    long : (b : Bool) → nat_lt max_call_data header.0.data_len ≡ b → header.0.meta_count ≤ max_metas
+        → Fits units (if b then refused units DataTooLong else after_cost (header.0.data_len / bytes_of_unit)
+        units (λ left. record { units = left; answer = lists_read m caller arguments header.1 header.0 }))
     long true h few = refused-fits units DataTooLong
     long false h few = rest few (grind (arith, nat_tests))
 
-    many : (b : Bool) → nat_lt max_metas header.0.meta_count ≡ b → Fits units (if b then refused units TooManyAccounts else if nat_lt max_call_data header.0.data_len then refused units DataTooLong else after_cost (header.0.data_len / bytes_of_unit) units (λ left. record { units = left; answer = lists_read m caller arguments header.1 header.0 }))
+    many : (b : Bool) → nat_lt max_metas header.0.meta_count ≡ b
+        → Fits units (if b then refused units TooManyAccounts else if nat_lt max_call_data header.0.data_len
+        then refused units DataTooLong else after_cost (header.0.data_len / bytes_of_unit) units
+        (λ left. record { units = left; answer = lists_read m caller arguments header.1 header.0 }))
     many true h = refused-fits units TooManyAccounts
     many false h = long (nat_lt max_call_data header.0.data_len) refl (grind (arith, nat_tests))
 
@@ -97,7 +112,9 @@ header-fits m caller arguments units (Err fault) = refused-fits units fault
 request-fits : (arguments : List ℕ) (m : Ranges) (caller : Key) (units : ℕ) → Fits units (request_of arguments m caller units)
 unfolding request_of
 request-fits arguments m caller units =
-    cost-fits call_cost units (λ left. by_header m caller arguments left (header_read m (slice_index arguments 0))) (header-fits m caller arguments (units - call_cost) (header_read m (slice_index arguments 0)))
+    cost-fits call_cost units (λ left. by_header m caller arguments left
+        (header_read m (slice_index arguments 0)))
+        (header-fits m caller arguments (units - call_cost) (header_read m (slice_index arguments 0)))
 
 -- no request gains units
 pub request-units : (arguments : List ℕ) (m : Ranges) (caller : Key) (units : ℕ) → (request_of arguments m caller units).units ≤ units

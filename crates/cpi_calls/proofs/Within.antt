@@ -51,7 +51,9 @@ there (Some place) h = refl
 in-range : (keys : List Key) (caller : List Meta) (asked : List KeyMeta) → Nowhere (is_missing keys caller) asked → AreInRange (length keys) (map (meta_of keys caller) asked)
 in-range keys caller [] all = All-nil _
 in-range keys caller (x ∷ xs) all =
-    All-cons (λ (meta : Meta). meta.index < length keys) (meta_of keys caller x) (map (meta_of keys caller) xs) (place-within keys caller x.key _ (there (place_of keys caller x.key) all.0)) (in-range keys caller xs all.1)
+    All-cons (λ (meta : Meta). meta.index < length keys) (meta_of keys caller x) (map (meta_of keys caller) xs)
+        (place-within keys caller x.key _ (there (place_of keys caller x.key) all.0))
+        (in-range keys caller xs all.1)
 
 may-write : (signer writable sign write : Bool) → ((signer && not sign) || (writable && not write)) ≡ false → writable ≡ true → write ≡ true
 may-write signer writable sign true h asks = refl
@@ -66,10 +68,15 @@ may-sign true writable false write h asks = absurd (cc)
 may-sign false writable false write h asks = absurd (cc)
 
 -- what may be written may be so by the caller
-writes : (keys signers : List Key) (caller : List Meta) (place : ℕ) (asked : List KeyMeta) → Nowhere (exceeds keys signers caller) asked → is_listed_writable (map (meta_of keys caller) asked) place ≡ true → is_listed_writable caller place ≡ true
+writes : (keys signers : List Key) (caller : List Meta) (place : ℕ) (asked : List KeyMeta)
+    → Nowhere (exceeds keys signers caller) asked
+    → is_listed_writable (map (meta_of keys caller) asked) place ≡ true → is_listed_writable caller place ≡ true
 writes keys signers caller place [] all h = absurd (cc)
 writes keys signers caller place (x ∷ xs) all h = elim (or_cases _ _ h) [
-  | inl here ↦ let p = and_parts _ _ here in subst (λ (n : ℕ). is_listed_writable caller n ≡ true) (eqb-true _ _ p.0) (may-write x.signer x.writable (may_sign signers caller x.key (meta_of keys caller x).index) (is_listed_writable caller (meta_of keys caller x).index) all.0 p.1)
+  | inl here ↦ let p = and_parts _ _ here
+      in subst (λ (n : ℕ). is_listed_writable caller n ≡ true) (eqb-true _ _ p.0)
+      (may-write x.signer x.writable (may_sign signers caller x.key (meta_of keys caller x).index)
+      (is_listed_writable caller (meta_of keys caller x).index) all.0 p.1)
   | inr later ↦ writes keys signers caller place xs all.1 later
 ]
 
@@ -78,7 +85,9 @@ here-given true true c one two = refl
 here-given true false c one two = absurd (cc)
 here-given false b c one two = absurd (cc)
 
-signs : (keys signers : List Key) (caller : List Meta) (place : ℕ) (asked : List KeyMeta) → Nowhere (exceeds keys signers caller) asked → is_listed_signer (map (meta_of keys caller) asked) place ≡ true
+signs : (keys signers : List Key) (caller : List Meta) (place : ℕ) (asked : List KeyMeta)
+    → Nowhere (exceeds keys signers caller) asked
+    → is_listed_signer (map (meta_of keys caller) asked) place ≡ true
     → IsGiven keys caller signers asked place ⊎ (is_listed_signer caller place ≡ true)
 signs keys signers caller place [] all h = absurd (cc)
 signs keys signers caller place (x ∷ xs) all h =
@@ -97,9 +106,14 @@ signs keys signers caller place (x ∷ xs) all h =
       ]
     ]
 
-within-of : (request : CallRequest) (keys : List Key) (caller : List Meta) (granted : Granted) (missing program exceeded : Option ℕ) → position_from (is_missing keys caller) 0 request.metas ≡ missing → place_of keys caller request.program ≡ program
+within-of : (request : CallRequest) (keys : List Key) (caller : List Meta) (granted : Granted)
+    (missing program exceeded : Option ℕ) → position_from (is_missing keys caller) 0 request.metas ≡ missing
+    → place_of keys caller request.program ≡ program
     → position_from (exceeds keys request.signers caller) 0 request.metas ≡ exceeded
-    → (or_missing missing (map (meta_of keys caller) request.metas) >>= (λ metas. program_found (length request.metas) program >>= (λ place. or_escalation exceeded >>= (λ allowed. Ok (record { program = place; metas = metas }))))) ≡ Ok granted
+    → (or_missing missing (map (meta_of keys caller) request.metas) >>=
+        (λ metas. program_found (length request.metas) program >>=
+        (λ place. or_escalation exceeded >>= (λ allowed. Ok (record { program = place; metas = metas })))))
+        ≡ Ok granted
     → IsWithin request keys caller granted
 within-of request keys caller granted None (Some place) None all found fits h =
     let e : (let g : Granted = record { program = place; metas = map (meta_of keys caller) request.metas } in g) ≡ granted = cc in
@@ -118,4 +132,6 @@ within-of request keys caller granted None (Some place) (Some i) all found fits 
 pub rights-within : (request : CallRequest) (keys : List Key) (caller : List Meta) (granted : Granted) → rights_of request keys caller ≡ Ok granted → IsWithin request keys caller granted
 unfolding rights_of
 rights-within request keys caller granted h =
-    within-of request keys caller granted (position_from (is_missing keys caller) 0 request.metas) (place_of keys caller request.program) (position_from (exceeds keys request.signers caller) 0 request.metas) refl refl refl h
+    within-of request keys caller granted (position_from (is_missing keys caller) 0 request.metas)
+        (place_of keys caller request.program)
+        (position_from (exceeds keys request.signers caller) 0 request.metas) refl refl refl h

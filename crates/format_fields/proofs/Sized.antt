@@ -6,7 +6,8 @@ use Rattle.spec_base.specs.Bytes.{IsBytes}
 use Rattle.spec_base.specs.Reading.{◌>>=◌, field_at}
 use Rattle.spec_base.proofs.Formats.{Reads, taken, field_reads}
 
-module _ {X E : Type 0} {count : List ℕ → Result (ℕ × List ℕ) E} {number : ℕ → List ℕ} {Few : ℕ → Type 0} {items : ℕ → List ℕ → Result (X × List ℕ) E} {spell : X → List ℕ} {Fits : X → Type 0} (size : X → ℕ) where
+module _ {X E : Type 0} {count : List ℕ → Result (ℕ × List ℕ) E} {number : ℕ → List ℕ} {Few : ℕ → Type 0}
+    {items : ℕ → List ℕ → Result (X × List ℕ) E} {spell : X → List ℕ} {Fits : X → Type 0} (size : X → ℕ) where
   again : Reads count number Few → ((n : ℕ) → Reads (items n) spell (λ x. (size x ≡ n) × Fits x))
       → (x : X) (rest : List ℕ) → Few (size x) × Fits x → (count ((number (size x) ++ spell x) ++ rest) >>= λ c. items c.0 c.1) ≡ Ok (x, rest)
   again counts things x rest h =

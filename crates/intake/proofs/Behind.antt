@@ -33,7 +33,9 @@ kept_at P f p a (suc n) keeps all le lt =
     (λ not. kept_at P f p (a + 1) n keeps (kept_tail P a rest (f a) all) (omega (arith, le, not)) (omega (arith, lt)))
 
 -- each position is behind the gate of its sender, where all seats came back
-pub all_behind : (gate : ℕ → ℕ → Type 0) (count senders : ℕ) (seats done : List SendSeat) (sent : List (Result SendSeat OutOfMemory)) → 0 < senders → map sender_of seats ≡ range_with_len 0 senders → map done_as done ≡ sent → length sent ≡ length seats
+pub all_behind : (gate : ℕ → ℕ → Type 0) (count senders : ℕ) (seats done : List SendSeat)
+    (sent : List (Result SendSeat OutOfMemory)) → 0 < senders → map sender_of seats ≡ range_with_len 0 senders
+    → map done_as done ≡ sent → length sent ≡ length seats
     → AreSharesBehind gate count senders seats sent
     → (p : ℕ) → p < count → gate (p % senders) p
 all_behind gate count senders seats done sent some numbered all long each p below =
@@ -41,4 +43,6 @@ all_behind gate count senders seats done sent some numbered all long each p belo
     let l = done_length seats done sent senders numbered all long in
     let m = mod-lt p some in
     let lt : s < length done = omega (arith, l, m) in
-    kept_at (gate s) (λ q. eqb (q % senders) s) p 0 count (eq-eqb s s refl) (each_done (λ t _. IsShareBehind gate count senders t) senders seats done sent numbered all long each s (some_of done s lt) lt) (omega arith) (omega (arith, below))
+    kept_at (gate s) (λ q. eqb (q % senders) s) p 0 count (eq-eqb s s refl)
+        (each_done (λ t _. IsShareBehind gate count senders t) senders seats done sent numbered all long each s
+        (some_of done s lt) lt) (omega arith) (omega (arith, below))

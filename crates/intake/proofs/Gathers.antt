@@ -55,13 +55,17 @@ sent_length wires sent n senders s is =
     let c = ap length is in
     omega (arith, a, b, c, share_length n senders s)
 
-pub sent_more : (wires : List (List ℕ)) (sent more : List Ticket) (t : Ticket) (n senders s : ℕ) → map carried sent ≡ map (parsed_at wires) (share_of n senders s) → more ≡ sent ++ t ∷ [] → carried t ≡ parsed_at wires n → n % senders ≡ s
+pub sent_more : (wires : List (List ℕ)) (sent more : List Ticket) (t : Ticket) (n senders s : ℕ)
+    → map carried sent ≡ map (parsed_at wires) (share_of n senders s) → more ≡ sent ++ t ∷ []
+    → carried t ≡ parsed_at wires n → n % senders ≡ s
     → map carried more ≡ map (parsed_at wires) (share_of (n + 1) senders s)
 sent_more wires sent more t n senders s is pushed has own =
     ap (map carried) pushed ∙ map-append carried sent (t ∷ []) ∙ ap (λ l. l ++ carried t ∷ []) is ∙ ap (λ x. map (parsed_at wires) (share_of n senders s) ++ x ∷ []) has
     ∙ sym (map-append (parsed_at wires) (share_of n senders s) (n ∷ [])) ∙ ap (map (parsed_at wires)) (sym (share_own n senders s own))
 
-pub sent_same : (wires : List (List ℕ)) (sent : List Ticket) (n senders s : ℕ) → map carried sent ≡ map (parsed_at wires) (share_of n senders s) → n % senders ≢ s → map carried sent ≡ map (parsed_at wires) (share_of (n + 1) senders s)
+pub sent_same : (wires : List (List ℕ)) (sent : List Ticket) (n senders s : ℕ)
+    → map carried sent ≡ map (parsed_at wires) (share_of n senders s) → n % senders ≢ s
+    → map carried sent ≡ map (parsed_at wires) (share_of (n + 1) senders s)
 sent_same wires sent n senders s is other =
     is ∙ ap (map (parsed_at wires)) (sym (share_other n senders s other))
 
@@ -73,8 +77,12 @@ without_first P t rest false h = h
 each_carries : (P : ℕ → ℕ × Parsed → Type 0) (ts : List Ticket) → ((s : ℕ) → All (P s) (map carried (of ts s))) → All (λ (t : Ticket). P t.sender (carried t)) ts
 each_carries P [] all = All-nil _
 each_carries P (t ∷ ts) all =
-    let first : All (P t.sender) (map carried (t ∷ of ts t.sender)) = subst (λ (b : Bool). All (P t.sender) (map carried (cond b (t ∷ of ts t.sender) (of ts t.sender)))) (eq-eqb t.sender t.sender refl) (all t.sender) in
-    All-cons (λ (t : Ticket). P t.sender (carried t)) t ts (All-head (P t.sender) (carried t) (map carried (of ts t.sender)) first) (each_carries P ts (λ s. without_first (P s) t (of ts s) (eqb t.sender s) (all s)))
+    let first : All (P t.sender) (map carried (t ∷ of ts t.sender)) = subst
+        (λ (b : Bool). All (P t.sender) (map carried (cond b (t ∷ of ts t.sender) (of ts t.sender))))
+        (eq-eqb t.sender t.sender refl) (all t.sender) in
+    All-cons (λ (t : Ticket). P t.sender (carried t)) t ts
+        (All-head (P t.sender) (carried t) (map carried (of ts t.sender)) first)
+        (each_carries P ts (λ s. without_first (P s) t (of ts s) (eqb t.sender s) (all s)))
 
 -- what is true of each ticket
 abbrev pub IsFair : List (List ℕ) → ℕ → Ticket → Type 0
@@ -98,7 +106,9 @@ in_share n senders s (x ∷ xs) all =
 
 pub all_fair : (wires : List (List ℕ)) (senders : ℕ) (ts : List Ticket) → CarriesShares wires senders ts → All (IsFair wires senders) ts
 all_fair wires senders ts carries = each_carries (FairAt wires senders) ts (λ s. subst (All (FairAt wires senders s)) (sym (carries s))
-    (All-map (FairAt wires senders s) (parsed_at wires) (share_of (length wires) senders s) (λ i d lt. let h = in_share (length wires) senders s (range_with_len 0 (length wires)) (below_count (length wires)) i d lt in (h.0, h.1, refl))))
+    (All-map (FairAt wires senders s) (parsed_at wires) (share_of (length wires) senders s)
+        (λ i d lt. let h = in_share (length wires) senders s (range_with_len 0 (length wires))
+        (below_count (length wires)) i d lt in (h.0, h.1, refl))))
 
 -- the positions of a sender's tickets are its share
 positions_carried : (ts : List Ticket) → positions_in ts ≡ map (λ (x : ℕ × Parsed). x.0) (map carried ts)
@@ -112,7 +122,9 @@ positions_parsed wires (p ∷ ps) = ap (λ xs. p ∷ xs) (positions_parsed wires
 positions_of : (wires : List (List ℕ)) (senders : ℕ) (ts : List Ticket) → CarriesShares wires senders ts → (s : ℕ) → positions_in (of ts s) ≡ share_of (length wires) senders s
 positions_of wires senders ts carries s = positions_carried (of ts s) ∙ ap (map (λ (x : ℕ × Parsed). x.0)) (carries s) ∙ positions_parsed wires (share_of (length wires) senders s)
 
-arrived_first : (b : Bool) (t : Ticket) (arrivals : List Arrival) (ts : List Ticket) → positions arrivals ≡ positions_in ts → positions (cond b (arrival_of t ∷ arrivals) arrivals) ≡ positions_in (cond b (t ∷ ts) ts)
+arrived_first : (b : Bool) (t : Ticket) (arrivals : List Arrival) (ts : List Ticket)
+    → positions arrivals ≡ positions_in ts
+    → positions (cond b (arrival_of t ∷ arrivals) arrivals) ≡ positions_in (cond b (t ∷ ts) ts)
 arrived_first true t arrivals ts is = ap (λ xs. t.position ∷ xs) is
 arrived_first false t arrivals ts is = is
 
@@ -121,7 +133,9 @@ arrived_is [] s = refl
 arrived_is (t ∷ ts) s = arrived_first (eqb t.sender s) t (filter (λ (a : Arrival). eqb a.sender s) (map arrival_of ts)) (of ts s) (arrived_is ts s)
 
 -- each sender's positions arrive ascending
-pub arrived_ascending : (wires : List (List ℕ)) (senders : ℕ) (ts : List Ticket) (arrivals : List Arrival) → arrivals ≡ map arrival_of ts → CarriesShares wires senders ts → (s : ℕ) → arrived_of arrivals s ≡ share_of (length wires) senders s
+pub arrived_ascending : (wires : List (List ℕ)) (senders : ℕ) (ts : List Ticket) (arrivals : List Arrival)
+    → arrivals ≡ map arrival_of ts → CarriesShares wires senders ts → (s : ℕ)
+    → arrived_of arrivals s ≡ share_of (length wires) senders s
 arrived_ascending wires senders ts arrivals is carries s = ap (λ (l : List Arrival). arrived_of l s) is ∙ arrived_is ts s ∙ positions_of wires senders ts carries s
 
 -- how often a position stands among the tickets
@@ -150,7 +164,9 @@ times_filter f p [] passes = refl
 times_filter f p (x ∷ xs) passes =
     let others = times_filter f p xs passes in
     dite (ℕ_discrete x p)
-    (λ is. let e : f x ≡ true = ap f is ∙ passes in ap (λ (b : Bool). times p (cond b (x ∷ filter f xs) (filter f xs))) e ∙ times_same x p (filter f xs) is ∙ ap (λ (k : ℕ). 1 + k) others ∙ sym (times_same x p xs is))
+    (λ is. let e : f x ≡ true = ap f is
+        ∙ passes in ap (λ (b : Bool). times p (cond b (x ∷ filter f xs) (filter f xs))) e
+        ∙ times_same x p (filter f xs) is ∙ ap (λ (k : ℕ). 1 + k) others ∙ sym (times_same x p xs is))
     (λ not. times_dropped x p (filter f xs) (f x) not ∙ others ∙ sym (times_other x p xs not))
 
 times_of : (s p : ℕ) (ts : List Ticket) → All (λ (t : Ticket). t.position ≡ p → t.sender ≡ s) ts → times p (positions_in ts) ≡ times p (positions_in (of ts s))
@@ -159,24 +175,34 @@ times_of s p (t ∷ ts) all =
     let others = times_of s p ts (All-tail (λ (t : Ticket). t.position ≡ p → t.sender ≡ s) t ts all) in
     dite (ℕ_discrete t.sender s)
     (λ is. ap (λ (k : ℕ). cond (eqb t.position p) 1 0 + k) others ∙ sym (ap (λ (b : Bool). times p (positions_in (cond b (t ∷ of ts s) (of ts s)))) (eq-eqb t.sender s is)))
-    (λ not. times_other t.position p (positions_in ts) (λ is. not (All-head (λ (t : Ticket). t.position ≡ p → t.sender ≡ s) t ts all is)) ∙ others ∙ sym (ap (λ (b : Bool). times p (positions_in (cond b (t ∷ of ts s) (of ts s)))) (ne_eqb t.sender s not)))
+    (λ not. times_other t.position p (positions_in ts)
+        (λ is. not (All-head (λ (t : Ticket). t.position ≡ p → t.sender ≡ s) t ts all is)) ∙ others
+        ∙ sym (ap (λ (b : Bool). times p (positions_in (cond b (t ∷ of ts s) (of ts s))))
+        (ne_eqb t.sender s not)))
 
 -- each position has one ticket
 one_ticket : (wires : List (List ℕ)) (senders : ℕ) (ts : List Ticket) → CarriesShares wires senders ts → (p : ℕ) → p < length wires → times p (positions_in ts) ≡ 1
 one_ticket wires senders ts carries p lt =
     let s = p % senders in
     let fair = all_fair wires senders ts carries in
-    times_of s p ts (λ i d below is. sym (fair i d below).1 ∙ ap (λ (k : ℕ). k % senders) is) ∙ ap (times p) (positions_of wires senders ts carries s) ∙ times_filter (λ q. eqb (q % senders) s) p (range_with_len 0 (length wires)) (eq-eqb s s refl)
+    times_of s p ts (λ i d below is. sym (fair i d below).1 ∙ ap (λ (k : ℕ). k % senders) is)
+        ∙ ap (times p) (positions_of wires senders ts carries s)
+        ∙ times_filter (λ q. eqb (q % senders) s) p (range_with_len 0 (length wires)) (eq-eqb s s refl)
     ∙ times_range p 0 (length wires) (omega arith) (omega (arith, lt))
 
 positions_arrived : (ts : List Ticket) → positions (map arrival_of ts) ≡ positions_in ts
 positions_arrived [] = refl
 positions_arrived (t ∷ ts) = ap (λ xs. t.position ∷ xs) (positions_arrived ts)
 
-pub arrived_once : (wires : List (List ℕ)) (senders : ℕ) (ts : List Ticket) (arrivals : List Arrival) → arrivals ≡ map arrival_of ts → CarriesShares wires senders ts → (p : ℕ) → p < length wires → times p (positions arrivals) ≡ 1
+pub arrived_once : (wires : List (List ℕ)) (senders : ℕ) (ts : List Ticket) (arrivals : List Arrival)
+    → arrivals ≡ map arrival_of ts → CarriesShares wires senders ts → (p : ℕ) → p < length wires
+    → times p (positions arrivals) ≡ 1
 arrived_once wires senders ts arrivals is carries p lt = ap (λ (l : List Arrival). times p (positions l)) is ∙ ap (times p) (positions_arrived ts) ∙ one_ticket wires senders ts carries p lt
 
-same_parsed : (parsed : List Parsed) (wires : List (List ℕ)) → length parsed ≡ length wires → ((p : ℕ) → p < length wires → get_or (map (λ (x : Parsed). Some x) parsed) p None ≡ Some (parsed_of (get_or wires p []))) → parsed ≡ map parsed_of wires
+same_parsed : (parsed : List Parsed) (wires : List (List ℕ)) → length parsed ≡ length wires
+    → ((p : ℕ) → p < length wires
+    → get_or (map (λ (x : Parsed). Some x) parsed) p None ≡ Some (parsed_of (get_or wires p [])))
+    → parsed ≡ map parsed_of wires
 same_parsed [] [] long at = refl
 same_parsed [] (w ∷ ws) long at = absurd (omega (arith, long))
 same_parsed (x ∷ xs) [] long at = absurd (omega (arith, long))
@@ -220,10 +246,14 @@ standing p (t ∷ ts) A some go = dite (ℕ_discrete t.position p)
     (λ not. let e = times_other t.position p (positions_in ts) not in standing p ts A (omega (arith, e, some)) (λ k u lt at is. go (suc k) u (omega (arith, lt)) at is))
 
 -- where each ticket is led to, each position is
-pub all_lead : (wires : List (List ℕ)) (senders : ℕ) (ts : List Ticket) (places : List ℕ) → CarriesShares wires senders ts → All (λ (t : Ticket). LeadsTo places ts t.position) ts → (p : ℕ) → p < length wires → LeadsToParsed wires places ts p
+pub all_lead : (wires : List (List ℕ)) (senders : ℕ) (ts : List Ticket) (places : List ℕ)
+    → CarriesShares wires senders ts → All (λ (t : Ticket). LeadsTo places ts t.position) ts → (p : ℕ)
+    → p < length wires → LeadsToParsed wires places ts p
 all_lead wires senders ts places carries all p lt =
     let one = one_ticket wires senders ts carries p lt in
-    let leads : LeadsTo places ts p = standing p ts (LeadsTo places ts p) (omega (arith, one)) (λ k t below at is. subst (LeadsTo places ts) (ap (λ (u : Ticket). u.position) at ∙ is) (all k t below)) in (
+    let leads : LeadsTo places ts p = standing p ts (LeadsTo places ts p) (omega (arith, one))
+        (λ k t below at is. subst (LeadsTo places ts) (ap (λ (u : Ticket). u.position) at ∙ is) (all k t below))
+        in (
       leads.0,
       λ d.
           let fair = all_fair wires senders ts carries (place_of places p) d leads.0 in
@@ -272,7 +302,8 @@ one_taken wires places ts left parsed more x at place lt here taken long others 
     )
 
 -- a loop that gathers what a function gives of each item, over a list of them
-pub one_done : {A B : Type 0} (f : A → B) (done more : List A) (x : A) (y : B) (rest left all : List B) → rest ≡ y ∷ left → y ≡ f x → more ≡ done ++ x ∷ [] → map f done ++ rest ≡ all → map f more ++ left ≡ all
+pub one_done : {A B : Type 0} (f : A → B) (done more : List A) (x : A) (y : B) (rest left all : List B)
+    → rest ≡ y ∷ left → y ≡ f x → more ≡ done ++ x ∷ [] → map f done ++ rest ≡ all → map f more ++ left ≡ all
 one_done f done more x y rest left all step is pushed was =
     ap (λ l. map f l ++ left) pushed ∙ ap (λ l. l ++ left) (map-append f done (x ∷ [])) ∙ append_assoc (map f done) (f x ∷ []) left
     ∙ ap (λ z. map f done ++ z ∷ left) (sym is) ∙ ap (λ l. map f done ++ l) (sym step) ∙ was
@@ -284,7 +315,9 @@ abbrev pub done_as : SendSeat → Result SendSeat OutOfMemory
 done_as seat = Ok seat
 
 -- what holds of each seat that came back, and of its sender, where all came back
-pub each_done : (P : ℕ → SendSeat → Type 0) (senders : ℕ) (seats done : List SendSeat) (sent : List (Result SendSeat OutOfMemory)) → map sender_of seats ≡ range_with_len 0 senders → map done_as done ≡ sent → length sent ≡ length seats
+pub each_done : (P : ℕ → SendSeat → Type 0) (senders : ℕ) (seats done : List SendSeat)
+    (sent : List (Result SendSeat OutOfMemory)) → map sender_of seats ≡ range_with_len 0 senders
+    → map done_as done ≡ sent → length sent ≡ length seats
     → ((i : ℕ) (d : SendSeat) (r : Result SendSeat OutOfMemory) → i < length seats → IfOk (get_or sent i r) (P (sender_of (get_or seats i d))))
     → (i : ℕ) (d : SendSeat) → i < length done → P i (get_or done i d)
 each_done P senders seats done sent numbered all long each i d lt =
@@ -301,7 +334,9 @@ each_done P senders seats done sent numbered all long each i d lt =
     subst (λ s. P s (get_or done i d)) number has
 
 -- the seat of each sender has sent its share
-pub shares_sent : (intake : Intake) (wires : List (List ℕ)) (senders : ℕ) (seats done : List SendSeat) (sent : List (Result SendSeat OutOfMemory)) → map sender_of seats ≡ range_with_len 0 senders → map done_as done ≡ sent → length sent ≡ length seats
+pub shares_sent : (intake : Intake) (wires : List (List ℕ)) (senders : ℕ) (seats done : List SendSeat)
+    (sent : List (Result SendSeat OutOfMemory)) → map sender_of seats ≡ range_with_len 0 senders
+    → map done_as done ≡ sent → length sent ≡ length seats
     → ((i : ℕ) (d : SendSeat) (r : Result SendSeat OutOfMemory) → i < length seats → IfOk (get_or sent i r) (HasSentShare intake wires senders (sender_of (get_or seats i d))))
     → (i : ℕ) (d : SendSeat) → i < length done → HasSentShare intake wires senders i (get_or done i d)
 shares_sent intake wires senders = each_done (HasSentShare intake wires senders) senders
@@ -328,7 +363,9 @@ carries_shares intake wires senders done taken left some long none shares sent o
     let has = shares s d lt in
     ap (map carried) (ap (λ (l : List Ticket). of l s) (sym same) ∙ ap (of (taken ++ left)) (sym has.1) ∙ sent s d lt) ∙ has.2)
 
-pub done_length : (seats done : List SendSeat) (sent : List (Result SendSeat OutOfMemory)) (senders : ℕ) → map sender_of seats ≡ range_with_len 0 senders → map done_as done ≡ sent → length sent ≡ length seats → length done ≡ senders
+pub done_length : (seats done : List SendSeat) (sent : List (Result SendSeat OutOfMemory)) (senders : ℕ)
+    → map sender_of seats ≡ range_with_len 0 senders → map done_as done ≡ sent → length sent ≡ length seats
+    → length done ≡ senders
 done_length seats done sent senders numbered all long =
     let a : length (map done_as done) ≡ length done = length-map done done_as in
     let b : length (map done_as done) ≡ length sent = ap length all in
@@ -338,9 +375,14 @@ done_length seats done sent senders numbered all long =
     omega (arith, a, b, c, e, f, long)
 
 -- all of it, from what the calls say
-pub left_carries : (intake : Intake) (wires : List (List ℕ)) (senders made : ℕ) (seats done : List SendSeat) (sent : List (Result SendSeat OutOfMemory)) (taken left : List Ticket) → 0 < senders → map sender_of seats ≡ range_with_len 0 senders → map done_as done ≡ sent → length sent ≡ length seats
+pub left_carries : (intake : Intake) (wires : List (List ℕ)) (senders made : ℕ) (seats done : List SendSeat)
+    (sent : List (Result SendSeat OutOfMemory)) (taken left : List Ticket) → 0 < senders
+    → map sender_of seats ≡ range_with_len 0 senders → map done_as done ≡ sent → length sent ≡ length seats
     → ((i : ℕ) (d : SendSeat) (r : Result SendSeat OutOfMemory) → i < length seats → IfOk (get_or sent i r) (HasSentShare intake wires senders (sender_of (get_or seats i d))))
     → taken ≡ [] → made ≡ senders → All (λ (s : SendSeat). of (taken ++ left) (sender_of s) ≡ sent_by s) done → ((s : ℕ) → made ≤ s → of (taken ++ left) s ≡ [])
     → CarriesShares wires senders left
 left_carries intake wires senders made seats done sent taken left some numbered all long each none is closed others =
-    carries_shares intake wires senders done taken left some (done_length seats done sent senders numbered all long) none (shares_sent intake wires senders seats done sent numbered all long each) closed (λ s le. others s (omega (arith, is, le)))
+    carries_shares intake wires senders done taken left some
+        (done_length seats done sent senders numbered all long) none
+        (shares_sent intake wires senders seats done sent numbered all long each) closed
+        (λ s le. others s (omega (arith, is, le)))

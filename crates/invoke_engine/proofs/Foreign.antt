@@ -70,7 +70,9 @@ settled_foreign : (n : ℕ) (f : Running) (after : List Account) → AreListed n
 settled_foreign n f after listed h =
     let from : Settles f after = settles f after h in
     let count : length after ≡ length f.before = back_count _ _ _ _ after from.taken in
-    record { count = count; kept = AreForeignKept-listed_rules f.program f.metas f.before after count (in_range n (length f.before) f.metas listed.count listed.range) (back_others _ _ _ _ after from.taken) from.rules }
+    record { count = count; kept = AreForeignKept-listed_rules f.program f.metas f.before after count
+        (in_range n (length f.before) f.metas listed.count listed.range) (back_others _ _ _ _ after from.taken)
+        from.rules }
 
 -- what a turn of a frame leaves of its accounts
 abbrev TurnForeign : ℕ → Running → Turn → Type 0
@@ -78,7 +80,9 @@ TurnForeign n f (GoesOn g d) = (g.program ≡ f.program) × (g.metas ≡ f.metas
 TurnForeign n f (Calls g d callee units) = (g.program ≡ f.program) × (g.metas ≡ f.metas) × Foreign (f.program ∷ []) f.before callee.accounts × AreInRange n callee.call.metas
 TurnForeign n f (Leaves e) = EndingForeign (f.program ∷ []) f.before e.result
 
-callee_foreign : (most : ℕ) (keys outer : List Key) (f : Running) (c : Carried) (units : ℕ) (callee : Callee) → AreListed (length keys) f.metas f.before → ComesFrom most keys outer f c.trace (requested f).answer callee → TurnForeign (length keys) f (Calls f c callee units)
+callee_foreign : (most : ℕ) (keys outer : List Key) (f : Running) (c : Carried) (units : ℕ) (callee : Callee)
+    → AreListed (length keys) f.metas f.before → ComesFrom most keys outer f c.trace (requested f).answer callee
+    → TurnForeign (length keys) f (Calls f c callee units)
 callee_foreign most keys outer f c units callee listed from =
     let within : IsWithin from.request keys f.metas from.granted = rights-within from.request keys f.metas from.granted from.rights in (
       refl,
@@ -96,21 +100,29 @@ serving_foreign : (n : ℕ) (outer : List Key) (f : Running) (c : Carried) (unit
 serving_foreign n outer f c units (Ok service) = (refl, refl, refl)
 serving_foreign n outer f c units (Err fault) = tt
 
-leaving_foreign : (outer : List Key) (f : Running) (c : Carried) (units : ℕ) (result : Result (List Account) Stopped) → ((accounts : List Account) → result ≡ Ok accounts → Foreign (f.program ∷ []) f.before accounts) → EndingForeign (f.program ∷ []) f.before (closes outer f units c result).result
+leaving_foreign : (outer : List Key) (f : Running) (c : Carried) (units : ℕ)
+    (result : Result (List Account) Stopped)
+    → ((accounts : List Account) → result ≡ Ok accounts → Foreign (f.program ∷ []) f.before accounts)
+    → EndingForeign (f.program ∷ []) f.before (closes outer f units c result).result
 leaving_foreign outer f c units (Ok accounts) k = k accounts refl
 leaving_foreign outer f c units (Err stopped) k = tt
 
-stop_foreign : (setting : Setting) (keys outer : List Key) (f : Running) (c : Carried) (stop : Option Stop) → AreListed (length keys) f.metas f.before → TurnForeign (length keys) f (at_stop setting keys outer f c stop)
+stop_foreign : (setting : Setting) (keys outer : List Key) (f : Running) (c : Carried) (stop : Option Stop)
+    → AreListed (length keys) f.metas f.before
+    → TurnForeign (length keys) f (at_stop setting keys outer f c stop)
 stop_foreign setting keys outer f c None listed = tt
 stop_foreign setting keys outer f c (Some (Exit r0)) listed =
     leaving_foreign outer f c f.machine.units (left f r0) (λ accounts k. settled_foreign (length keys) f accounts listed (left_settled f r0 accounts k))
 stop_foreign setting keys outer f c (Some (Faulted fault)) listed = tt
 stop_foreign setting keys outer f c (Some (Helper number)) listed =
     either (TurnForeign (length keys) f) (number == invoke_call) (call_turn setting keys outer f c) (serve_turn setting outer f c number)
-    (calling_foreign outer keys f c setting.height (requested f).units (called setting.height keys outer f c.trace (requested f).answer) listed (λ callee k. called_from setting.height keys outer f c.trace (requested f).answer callee k))
+    (calling_foreign outer keys f c setting.height (requested f).units
+        (called setting.height keys outer f c.trace (requested f).answer) listed
+        (λ callee k. called_from setting.height keys outer f c.trace (requested f).answer callee k))
     (serving_foreign (length keys) outer f c (served setting outer f c number).units (served setting outer f c number).answer)
 
-run_foreign : (setting : Setting) (keys outer : List Key) (f : Running) (c : Carried) (o : Option State) → AreListed (length keys) f.metas f.before → TurnForeign (length keys) f (run_to setting keys outer f c o)
+run_foreign : (setting : Setting) (keys outer : List Key) (f : Running) (c : Carried) (o : Option State)
+    → AreListed (length keys) f.metas f.before → TurnForeign (length keys) f (run_to setting keys outer f c o)
 run_foreign setting keys outer f c None listed = tt
 run_foreign setting keys outer f c (Some y) listed = stop_foreign setting keys outer (record f { machine = y }) c y.stop listed
 
@@ -119,7 +131,9 @@ unfolding turn
 turn_foreign setting keys outer f c listed = run_foreign setting keys outer f c (steps f.machine) listed
 
 -- before a call, and where a frame ends well
-pub calls_foreign : (setting : Setting) (keys outer : List Key) (f g : Running) (c d : Carried) (callee : Callee) (units : ℕ) → AreListed (length keys) f.metas f.before → turn setting keys outer f c ≡ Calls g d callee units
+pub calls_foreign : (setting : Setting) (keys outer : List Key) (f g : Running) (c d : Carried)
+    (callee : Callee) (units : ℕ) → AreListed (length keys) f.metas f.before
+    → turn setting keys outer f c ≡ Calls g d callee units
     → AreForeignKept (f.program ∷ []) f.before callee.accounts
 calls_foreign setting keys outer f g c d callee units listed h =
     let both : TurnForeign (length keys) f (Calls g d callee units) = subst (TurnForeign (length keys) f) h (turn_foreign setting keys outer f c listed) in
@@ -144,11 +158,15 @@ ReturnForeign program metas (Ok accounts) next = NextForeign program metas accou
 ReturnForeign program metas (Err error) (Runs f c) = ⊥
 ReturnForeign program metas (Err error) (Done e) = (before : List Account) (programs : List Key) → EndingForeign programs before e.result
 
-patching_foreign : (outer : List Key) (f : Running) (accounts : List Account) (units : ℕ) (c : Carried) (answer : Result (List ℕ) ℕ) → NextForeign f.program f.metas accounts (patching outer f accounts units c answer)
+patching_foreign : (outer : List Key) (f : Running) (accounts : List Account) (units : ℕ) (c : Carried)
+    (answer : Result (List ℕ) ℕ)
+    → NextForeign f.program f.metas accounts (patching outer f accounts units c answer)
 patching_foreign outer f accounts units c (Ok region) = (refl, refl, refl)
 patching_foreign outer f accounts units c (Err i) = tt
 
-returning_foreign : (outer : List Key) (f : Running) (units : ℕ) (c : Carried) (result : Result (List Account) InstructionError) → ReturnForeign f.program f.metas result (returning outer f units c result)
+returning_foreign : (outer : List Key) (f : Running) (units : ℕ) (c : Carried)
+    (result : Result (List Account) InstructionError)
+    → ReturnForeign f.program f.metas result (returning outer f units c result)
 returning_foreign outer f units c (Ok accounts) = patching_foreign outer f accounts units c (patched f.machine.context.memory.input.bytes f.start accounts f.metas)
 returning_foreign outer f units c (Err error) = λ before programs. tt
 
@@ -157,7 +175,9 @@ unfolding returned
 returned_foreign outer f e = returning_foreign outer f e.units e.carried e.result
 
 -- what a native program leaves
-native_row_foreign : (n : ℕ) (key : Key) (keys : List Key) (accounts : List Account) (call : Call) (after : List Account) → AreListed n call.metas accounts → native_row key keys accounts call ≡ Ok after → Foreign (key ∷ []) accounts after
+native_row_foreign : (n : ℕ) (key : Key) (keys : List Key) (accounts : List Account) (call : Call)
+    (after : List Account) → AreListed n call.metas accounts → native_row key keys accounts call ≡ Ok after
+    → Foreign (key ∷ []) accounts after
 unfolding native_row
 native_row_foreign n key keys accounts call after listed h = by_tests (same_key key SYSTEM_PROGRAM) (same_key key LOADER_PROGRAM) refl refl h
   where
@@ -166,48 +186,68 @@ native_row_foreign n key keys accounts call after listed h = by_tests (same_key 
 
     by_system_program : same_key key SYSTEM_PROGRAM ≡ true → system_row keys accounts call.metas call.input ≡ Ok after → Foreign (key ∷ []) accounts after
     by_system_program is g =
-        let own : Foreign (system_key ∷ []) accounts after = record { count = (system_ends keys accounts call.metas call.input after g).count; kept = system_foreign keys accounts call.metas call.input after range g } in
+        let own : Foreign (system_key ∷ []) accounts after =
+            record { count = (system_ends keys accounts call.metas call.input after g).count; kept =
+            system_foreign keys accounts call.metas call.input after range g } in
         let same : key ≡ system_key = same_key-true key SYSTEM_PROGRAM is in
         subst (λ (k : Key). Foreign (k ∷ []) accounts after) (sym same) own
 
     by_loader_program : same_key key LOADER_PROGRAM ≡ true → loader_row keys accounts call.metas call.input ≡ Ok after → Foreign (key ∷ []) accounts after
     by_loader_program is g =
-        let own : Foreign (LOADER_PROGRAM ∷ []) accounts after = record { count = (loader_ends keys accounts call.metas call.input after g).count; kept = loader_foreign keys accounts call.metas call.input after range g } in
+        let own : Foreign (LOADER_PROGRAM ∷ []) accounts after =
+            record { count = (loader_ends keys accounts call.metas call.input after g).count; kept =
+            loader_foreign keys accounts call.metas call.input after range g } in
         subst (λ (k : Key). Foreign (k ∷ []) accounts after) (sym (same_key-true key LOADER_PROGRAM is)) own
 
-    by_tests : (a b : Bool) → same_key key SYSTEM_PROGRAM ≡ a → same_key key LOADER_PROGRAM ≡ b → (if a then refuse by_system (system_row keys accounts call.metas call.input) else if b then refuse by_loader (loader_row keys accounts call.metas call.input) else Ok accounts) ≡ Ok after → Foreign (key ∷ []) accounts after
+    by_tests : (a b : Bool) → same_key key SYSTEM_PROGRAM ≡ a → same_key key LOADER_PROGRAM ≡ b
+        → (if a then refuse by_system (system_row keys accounts call.metas call.input) else if b then refuse
+        by_loader (loader_row keys accounts call.metas call.input) else Ok accounts) ≡ Ok after
+        → Foreign (key ∷ []) accounts after
     by_tests true b is or g = by_system_program is (refuse_ok by_system _ after g)
     by_tests false true is or g = by_loader_program or (refuse_ok by_loader _ after g)
     by_tests false false is or g = let same : accounts ≡ after = cc in subst (Foreign (key ∷ []) accounts) same (record { count = refl; kept = AreForeignKept-refl (key ∷ []) accounts })
 
-or_error_foreign : (programs : List Key) (before : List Account) (height : ℕ) (result : Result (List Account) Stopped) → ((after : List Account) → result ≡ Ok after → Foreign programs before after) → EndingForeign programs before (or_error height result)
+or_error_foreign : (programs : List Key) (before : List Account) (height : ℕ)
+    (result : Result (List Account) Stopped)
+    → ((after : List Account) → result ≡ Ok after → Foreign programs before after)
+    → EndingForeign programs before (or_error height result)
 or_error_foreign programs before height (Ok after) k = k after refl
 or_error_foreign programs before height (Err stopped) k = tt
 
-native_end_foreign : (n : ℕ) (key : Key) (outer keys : List Key) (call : Call) (accounts : List Account) (units : ℕ) (c : Carried) → AreListed n call.metas accounts → EndingForeign (key ∷ []) accounts (native key outer keys call accounts units c).result
+native_end_foreign : (n : ℕ) (key : Key) (outer keys : List Key) (call : Call) (accounts : List Account)
+    (units : ℕ) (c : Carried) → AreListed n call.metas accounts
+    → EndingForeign (key ∷ []) accounts (native key outer keys call accounts units c).result
 native_end_foreign n key outer keys call accounts units c listed =
     either (λ (e : Ending). EndingForeign (key ∷ []) accounts e.result) (nat_lt units NATIVE_UNITS) _ _ tt
     (or_error_foreign (key ∷ []) accounts (height outer) (native_row key keys accounts call) (λ after h. native_row_foreign n key keys accounts call after listed h))
 
-entered_foreign : (s : Fixed) (outer : List Key) (key : Key) (call : Call) (accounts : List Account) (units : ℕ) (c : Carried) (found : Sought) → NextForeign key call.metas accounts (program_started s.setting s.keys outer key call accounts units c found)
+entered_foreign : (s : Fixed) (outer : List Key) (key : Key) (call : Call) (accounts : List Account) (units : ℕ)
+    (c : Carried) (found : Sought)
+    → NextForeign key call.metas accounts
+    (program_started s.setting s.keys outer key call accounts units c found)
 entered_foreign s outer key call accounts units c (IsReady image) = (refl, refl, refl)
 entered_foreign s outer key call accounts units c IsAbsent = tt
 entered_foreign s outer key call accounts units c IsNoProgram = tt
 entered_foreign s outer key call accounts units c IsBad = tt
 entered_foreign s outer key call accounts units c (IsUnverified fault) = tt
 
-crowded_foreign : (programs : List Key) (accounts : List Account) (s : Fixed) (key : Key) (outer : List Key) (units : ℕ) (c : Carried) → EndingForeign programs accounts (crowded s.programs key outer units c).result
+crowded_foreign : (programs : List Key) (accounts : List Account) (s : Fixed) (key : Key) (outer : List Key)
+    (units : ℕ) (c : Carried) → EndingForeign programs accounts (crowded s.programs key outer units c).result
 unfolding crowded
 crowded_foreign programs accounts s key outer units c = either (λ (e : Ending). EndingForeign programs accounts e.result) (not (is_native key) && is_ready (s.programs key)) _ _ tt tt
 
-entering_foreign : (n : ℕ) (s : Fixed) (outer : List Key) (key : Key) (call : Call) (accounts : List Account) (units : ℕ) (c : Carried) → AreListed n call.metas accounts → NextForeign key call.metas accounts (entering s outer key call accounts units c)
+entering_foreign : (n : ℕ) (s : Fixed) (outer : List Key) (key : Key) (call : Call) (accounts : List Account)
+    (units : ℕ) (c : Carried) → AreListed n call.metas accounts
+    → NextForeign key call.metas accounts (entering s outer key call accounts units c)
 unfolding entering
 entering_foreign n s outer key call accounts units c listed =
     either (NextForeign key call.metas accounts) (nat_lt max_metas (length call.metas)) _ _ (crowded_foreign (key ∷ []) accounts s key outer units c)
     (either (NextForeign key call.metas accounts) (is_native key) _ _ (native_end_foreign n key outer s.keys call accounts units c listed)
     (entered_foreign s outer key call accounts units c (s.programs key)))
 
-begun_foreign : (n : ℕ) (s : Fixed) (outer : List Key) (call : Call) (accounts : List Account) (units : ℕ) (c : Carried) → AreListed n call.metas accounts → NextForeign (key_at s.keys call.program) call.metas accounts (begun s outer call accounts units c)
+begun_foreign : (n : ℕ) (s : Fixed) (outer : List Key) (call : Call) (accounts : List Account) (units : ℕ)
+    (c : Carried) → AreListed n call.metas accounts
+    → NextForeign (key_at s.keys call.program) call.metas accounts (begun s outer call accounts units c)
 unfolding begun
 begun_foreign n s outer call accounts units c listed = entering_foreign n s outer (key_at s.keys call.program) call accounts units (started (key_at s.keys call.program) (height outer) c) listed
 
@@ -221,7 +261,9 @@ Lists = List Key → Running → Carried → List Key
 abbrev AllForeign : ℕ → Goes → Lists → Type 0
 AllForeign n goo calls = (outer : List Key) (f : Running) (c : Carried) → AreListed n f.metas f.before → EndingForeign (f.program ∷ calls outer f c) f.before (goo outer f c).result
 
-after_foreign : (n : ℕ) (outer : List Key) (goo : Goes) (calls : Lists) (program : Key) (metas : List Meta) (before : List Account) (next : Next) → AllForeign n goo calls → AreListed n metas before → NextForeign program metas before next
+after_foreign : (n : ℕ) (outer : List Key) (goo : Goes) (calls : Lists) (program : Key) (metas : List Meta)
+    (before : List Account) (next : Next) → AllForeign n goo calls → AreListed n metas before
+    → NextForeign program metas before next
     → EndingForeign (program ∷ called_next outer calls next) before (after outer goo next).result
 after_foreign n outer goo calls program metas before (Runs f c) all listed k =
     let here : AreListed n f.metas f.before = subst (λ (ms : List Meta). AreListed n ms f.before) (sym k.1) (subst (λ (b : List Account). AreListed n metas b) (sym k.2) listed) in
@@ -234,16 +276,22 @@ end_then : (programs : List Key) (a b : List Account) (result : Result (List Acc
 end_then programs a b (Ok after) k l = foreign_trans programs a b after k l
 end_then programs a b (Err error) k l = tt
 
-end_fewer : (fewer more : List Key) (before : List Account) (result : Result (List Account) InstructionError) → ((owner : Key) → has_key owner more ≡ false → has_key owner fewer ≡ false) → EndingForeign fewer before result → EndingForeign more before result
+end_fewer : (fewer more : List Key) (before : List Account) (result : Result (List Account) InstructionError)
+    → ((owner : Key) → has_key owner more ≡ false → has_key owner fewer ≡ false)
+    → EndingForeign fewer before result → EndingForeign more before result
 end_fewer fewer more before (Ok after) each k = foreign_fewer fewer more before after each k
 end_fewer fewer more before (Err error) each k = tt
 
 -- the accounts of a caller from its call on
-module _ (n : ℕ) (outer : List Key) (goo : Goes) (calls : Lists) (all : AllForeign n goo calls) (caller callee : Key) (metas : List Meta) (start accounts : List Account) (listed : AreListed n metas start) (so_far : Foreign (caller ∷ []) start accounts) (inner : List Key) where
+module _ (n : ℕ) (outer : List Key) (goo : Goes) (calls : Lists) (all : AllForeign n goo calls)
+    (caller callee : Key) (metas : List Meta) (start accounts : List Account) (listed : AreListed n metas start)
+    (so_far : Foreign (caller ∷ []) start accounts) (inner : List Key) where
   abbrev programs : Next → List Key
   programs next = caller ∷ callee ∷ (inner ++ called_next outer calls next)
 
-  resumed_foreign : (result : Result (List Account) InstructionError) (next : Next) → EndingForeign (callee ∷ inner) accounts result → ReturnForeign caller metas result next → EndingForeign (programs next) start (after outer goo next).result
+  resumed_foreign : (result : Result (List Account) InstructionError) (next : Next)
+      → EndingForeign (callee ∷ inner) accounts result → ReturnForeign caller metas result next
+      → EndingForeign (programs next) start (after outer goo next).result
   resumed_foreign (Ok now) next l r =
       let later : List Key = called_next outer calls next in
       let mine : Foreign (programs next) start accounts = foreign_fewer (caller ∷ []) (programs next) start accounts (λ owner none. (are_others owner caller callee inner later none).own) so_far in
@@ -255,7 +303,9 @@ module _ (n : ℕ) (outer : List Key) (goo : Goes) (calls : Lists) (all : AllFor
   resumed_foreign (Err error) (Runs f c) l r = absurd r
   resumed_foreign (Err error) (Done e) l r = r start (programs (Done e))
 
-follow_foreign : (n : ℕ) (s : Fixed) (outer : List Key) (goo : Goes) (calls : Lists) (f : Running) (t : Turn) → AllForeign n goo calls → AreListed n f.metas f.before → TurnForeign n f t → EndingForeign (f.program ∷ called_by_turn s outer goo calls t) f.before (follow s outer goo t).result
+follow_foreign : (n : ℕ) (s : Fixed) (outer : List Key) (goo : Goes) (calls : Lists) (f : Running) (t : Turn)
+    → AllForeign n goo calls → AreListed n f.metas f.before → TurnForeign n f t
+    → EndingForeign (f.program ∷ called_by_turn s outer goo calls t) f.before (follow s outer goo t).result
 follow_foreign n s outer goo calls f (GoesOn g d) all listed k = after_foreign n outer goo calls f.program f.metas f.before (Runs g d) all listed k
 follow_foreign n s outer goo calls f (Calls g d callee units) all listed k =
     let inner : List Key = g.program ∷ outer in
@@ -263,29 +313,53 @@ follow_foreign n s outer goo calls f (Calls g d callee units) all listed k =
     let e : Ending = after inner goo next in
     let program : Key = key_at s.keys callee.call.program in
     let there : AreListed n callee.call.metas callee.accounts = record { count = k.2.count ∙ listed.count; range = k.3 } in
-    let its : EndingForeign (program ∷ called_next inner calls next) callee.accounts e.result = after_foreign n inner goo calls program callee.call.metas callee.accounts next all there (begun_foreign n s inner callee.call callee.accounts units d there) in
-    let back : ReturnForeign f.program f.metas e.result (returned outer g e) = subst (λ (p : Key). ReturnForeign p f.metas e.result (returned outer g e)) k.0 (subst (λ (ms : List Meta). ReturnForeign g.program ms e.result (returned outer g e)) k.1 (returned_foreign outer g e)) in
+    let its : EndingForeign (program ∷ called_next inner calls next) callee.accounts e.result = after_foreign n
+        inner goo calls program callee.call.metas callee.accounts next all there
+        (begun_foreign n s inner callee.call callee.accounts units d there) in
+    let back : ReturnForeign f.program f.metas e.result (returned outer g e) = subst
+        (λ (p : Key). ReturnForeign p f.metas e.result (returned outer g e)) k.0
+        (subst (λ (ms : List Meta). ReturnForeign g.program ms e.result (returned outer g e)) k.1
+        (returned_foreign outer g e)) in
     resumed_foreign n outer goo calls all f.program program f.metas f.before callee.accounts listed k.2 (called_next inner calls next) e.result (returned outer g e) its back
 follow_foreign n s outer goo calls f (Leaves e) all listed k = k
 
 within_foreign : (s : Fixed) (n : ℕ) → AllForeign (length s.keys) (within s n) (called_within s n)
 unfolding within called_within
 within_foreign s zero outer f c listed = tt
-within_foreign s (suc n) outer f c listed = follow_foreign (length s.keys) s outer (within s n) (called_within s n) f (turn s.setting s.keys outer f c) (within_foreign s n) listed (turn_foreign s.setting s.keys outer f c listed)
+within_foreign s (suc n) outer f c listed = follow_foreign (length s.keys) s outer (within s n)
+    (called_within s n) f (turn s.setting s.keys outer f c) (within_foreign s n) listed
+    (turn_foreign s.setting s.keys outer f c listed)
 
-frame_result : (s : Fixed) (outer : List Key) (call : Call) (accounts : List Account) (units : ℕ) (c : Carried) → AreListed (length s.keys) call.metas accounts → EndingForeign (programs_of_frame s outer call accounts units c) accounts (frame s outer call accounts units c).result
+frame_result : (s : Fixed) (outer : List Key) (call : Call) (accounts : List Account) (units : ℕ) (c : Carried)
+    → AreListed (length s.keys) call.metas accounts
+    → EndingForeign (programs_of_frame s outer call accounts units c) accounts
+    (frame s outer call accounts units c).result
 frame_result s outer call accounts units c listed =
-    after_foreign (length s.keys) outer (go s) (called_in s) (key_at s.keys call.program) call.metas accounts (begun s outer call accounts units c) (λ o f d here. within_foreign s (suc f.machine.units) o f d here) listed
+    after_foreign (length s.keys) outer (go s) (called_in s) (key_at s.keys call.program) call.metas accounts
+        (begun s outer call accounts units c) (λ o f d here. within_foreign s (suc f.machine.units) o f d here)
+        listed
     (begun_foreign (length s.keys) s outer call accounts units c listed)
 
 -- a frame that ends well keeps what is owned by programs that do not run in it
-pub frame_foreign : (s : Fixed) (outer : List Key) (call : Call) (accounts : List Account) (units : ℕ) (c : Carried) → AreListed (length s.keys) call.metas accounts → IfOk (frame s outer call accounts units c).result (λ after. AreForeignKept (programs_of_frame s outer call accounts units c) accounts after)
-frame_foreign s outer call accounts units c listed = kept_of (programs_of_frame s outer call accounts units c) accounts (frame s outer call accounts units c).result (frame_result s outer call accounts units c listed)
+pub frame_foreign : (s : Fixed) (outer : List Key) (call : Call) (accounts : List Account) (units : ℕ)
+    (c : Carried) → AreListed (length s.keys) call.metas accounts
+    → IfOk (frame s outer call accounts units c).result
+    (λ after. AreForeignKept (programs_of_frame s outer call accounts units c) accounts after)
+frame_foreign s outer call accounts units c listed = kept_of (programs_of_frame s outer call accounts units c)
+    accounts (frame s outer call accounts units c).result (frame_result s outer call accounts units c listed)
 
 -- and so does an instruction
-pub instruction_foreign : (s : Fixed) (call : Call) (accounts : List Account) (units trace : ℕ) (log : Log) → AreListed (length s.keys) call.metas accounts → IfOk (instruction s call accounts units trace log).result (λ after. AreForeignKept (programs_of_instruction s call accounts units trace log) accounts after)
+pub instruction_foreign : (s : Fixed) (call : Call) (accounts : List Account) (units trace : ℕ) (log : Log)
+    → AreListed (length s.keys) call.metas accounts
+    → IfOk (instruction s call accounts units trace log).result
+    (λ after. AreForeignKept (programs_of_instruction s call accounts units trace log) accounts after)
 instruction_foreign s call accounts units trace log listed = by_test (nat_le max_trace trace)
   where
-    by_test : (b : Bool) → IfOk (if b then record { units = units; carried = nothing_returned trace log; result = Err (error_of 1 (plainly TraceTooLong)) } else frame s [] call accounts units (nothing_returned trace log)).result (λ after. AreForeignKept (if b then [] else programs_of_frame s [] call accounts units (nothing_returned trace log)) accounts after)
+    by_test : (b : Bool) → IfOk (if b then
+        record { units = units; carried = nothing_returned trace log; result = Err
+        (error_of 1 (plainly TraceTooLong)) } else frame s [] call accounts units
+        (nothing_returned trace log)).result
+        (λ after. AreForeignKept (if b then [] else programs_of_frame s [] call accounts units
+        (nothing_returned trace log)) accounts after)
     by_test true = tt
     by_test false = frame_foreign s [] call accounts units (nothing_returned trace log) listed

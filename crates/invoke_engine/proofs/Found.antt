@@ -52,18 +52,24 @@ module _ (one other : Key → Sought) (setting : Setting) (keys : List Key) (sam
       by_test (nat_lt max_metas (length call.metas)) _ _ _ _ (ap Done (same_crowded place outer units c))
       (λ few. by_test (is_native (key_at keys place)) _ _ _ _ refl (λ native. ap (program_started setting keys outer (key_at keys place) call accounts units c) (same_at place native)))
 
-  same_begun : (outer : List Key) (call : Call) (accounts : List Account) (units : ℕ) (c : Carried) → begun (fixed one setting keys) outer call accounts units c ≡ begun (fixed other setting keys) outer call accounts units c
+  same_begun : (outer : List Key) (call : Call) (accounts : List Account) (units : ℕ) (c : Carried)
+      → begun (fixed one setting keys) outer call accounts units c
+      ≡ begun (fixed other setting keys) outer call accounts units c
   unfolding begun
   same_begun outer call accounts units c = same_entering call.program outer call accounts units (started (key_at keys call.program) (height outer) c)
 
-  same_after : (outer : List Key) (goo hoo : List Key → Running → Carried → Ending) (next next' : Next) → ((o : List Key) (f : Running) (c : Carried) → goo o f c ≡ hoo o f c) → next ≡ next' → after outer goo next ≡ after outer hoo next'
+  same_after : (outer : List Key) (goo hoo : List Key → Running → Carried → Ending) (next next' : Next)
+      → ((o : List Key) (f : Running) (c : Carried) → goo o f c ≡ hoo o f c) → next ≡ next'
+      → after outer goo next ≡ after outer hoo next'
   same_after outer goo hoo next next' h e = there next ∙ ap (after outer hoo) e
     where
       there : (n : Next) → after outer goo n ≡ after outer hoo n
       there (Runs f c) = h outer f c
       there (Done ending) = refl
 
-  same_follow : (outer : List Key) (goo hoo : List Key → Running → Carried → Ending) (t : Turn) → ((o : List Key) (f : Running) (c : Carried) → goo o f c ≡ hoo o f c) → follow (fixed one setting keys) outer goo t ≡ follow (fixed other setting keys) outer hoo t
+  same_follow : (outer : List Key) (goo hoo : List Key → Running → Carried → Ending) (t : Turn)
+      → ((o : List Key) (f : Running) (c : Carried) → goo o f c ≡ hoo o f c)
+      → follow (fixed one setting keys) outer goo t ≡ follow (fixed other setting keys) outer hoo t
   same_follow outer goo hoo (GoesOn f c) h = h outer f c
   same_follow outer goo hoo (Calls f c callee units) h =
       same_after outer goo hoo _ _ h (ap (returned outer f) (same_after (f.program ∷ outer) goo hoo _ _ h (same_begun (f.program ∷ outer) callee.call callee.accounts units c)))
@@ -74,7 +80,9 @@ module _ (one other : Key → Sought) (setting : Setting) (keys : List Key) (sam
   same_within zero outer f c = refl
   same_within (suc n) outer f c = same_follow outer (within (fixed one setting keys) n) (within (fixed other setting keys) n) (turn setting keys outer f c) (same_within n)
 
-  same_frame : (outer : List Key) (call : Call) (accounts : List Account) (units : ℕ) (c : Carried) → frame (fixed one setting keys) outer call accounts units c ≡ frame (fixed other setting keys) outer call accounts units c
+  same_frame : (outer : List Key) (call : Call) (accounts : List Account) (units : ℕ) (c : Carried)
+      → frame (fixed one setting keys) outer call accounts units c
+      ≡ frame (fixed other setting keys) outer call accounts units c
   same_frame outer call accounts units c =
       same_after outer (go (fixed one setting keys)) (go (fixed other setting keys)) _ _ (λ o f d. same_within (suc f.machine.units) o f d) (same_begun outer call accounts units c)
 

@@ -47,7 +47,8 @@ abbrev pub NextTakes : ℕ → Next → Type 0
 NextTakes units (Runs f c) = (f.machine.units ≤ units) × IsGoing f
 NextTakes units (Done e) = e.units ≤ units
 
-calling_takes : (outer : List Key) (f : Running) (c : Carried) (u left : ℕ) (answer : Result Callee Stopped) → left < u → left ≤ f.machine.units → f.machine.units ≤ u → TurnTakes u (calling outer f c left answer)
+calling_takes : (outer : List Key) (f : Running) (c : Carried) (u left : ℕ) (answer : Result Callee Stopped)
+    → left < u → left ≤ f.machine.units → f.machine.units ≤ u → TurnTakes u (calling outer f c left answer)
 calling_takes outer f c u left (Ok callee) h k l = (h, k, l)
 calling_takes outer f c u left (Err stopped) h k l = omega arith
 
@@ -59,7 +60,9 @@ serving_takes outer f c u left (Err fault) h = omega arith
 abbrev TookOne : ℕ → ℕ → Option Stop → Type 0
 TookOne units left stop = IsHelper stop → left < units
 
-stop_takes : (setting : Setting) (keys outer : List Key) (f : Running) (c : Carried) (u : ℕ) (stop : Option Stop) → f.machine.units ≤ u → TookOne u f.machine.units stop → TurnTakes u (at_stop setting keys outer f c stop)
+stop_takes : (setting : Setting) (keys outer : List Key) (f : Running) (c : Carried) (u : ℕ)
+    (stop : Option Stop) → f.machine.units ≤ u → TookOne u f.machine.units stop
+    → TurnTakes u (at_stop setting keys outer f c stop)
 stop_takes setting keys outer f c u None h took = omega arith
 stop_takes setting keys outer f c u (Some (Exit r0)) h took = h
 stop_takes setting keys outer f c u (Some (Faulted fault)) h took = h
@@ -99,7 +102,9 @@ native_takes : (key : Key) (outer keys : List Key) (call : Call) (accounts : Lis
 native_takes key outer keys call accounts units c =
     either (λ (e : Ending). e.units ≤ units) (nat_lt units NATIVE_UNITS) _ _ (omega arith) (omega arith)
 
-entered_takes : (setting : Setting) (keys outer : List Key) (key : Key) (call : Call) (accounts : List Account) (units : ℕ) (c : Carried) (found : Sought) → NextTakes units (program_started setting keys outer key call accounts units c found)
+entered_takes : (setting : Setting) (keys outer : List Key) (key : Key) (call : Call) (accounts : List Account)
+    (units : ℕ) (c : Carried) (found : Sought)
+    → NextTakes units (program_started setting keys outer key call accounts units c found)
 entered_takes setting keys outer key call accounts units c (IsReady image) = (omega arith, refl)
 entered_takes setting keys outer key call accounts units c IsAbsent = omega arith
 entered_takes setting keys outer key call accounts units c IsNoProgram = omega arith
@@ -133,7 +138,9 @@ after_units outer goo u (Done e) none h = h
 abbrev callee_end : Fixed → List Key → (List Key → Running → Carried → Ending) → Running → Carried → Callee → ℕ → Ending
 callee_end s outer goo f c callee left = after (f.program ∷ outer) goo (begun s (f.program ∷ outer) callee.call callee.accounts left c)
 
-callee_units : (s : Fixed) (outer : List Key) (goo : List Key → Running → Carried → Ending) (f : Running) (c : Carried) (callee : Callee) (left : ℕ) → GainsNone goo → (callee_end s outer goo f c callee left).units ≤ left
+callee_units : (s : Fixed) (outer : List Key) (goo : List Key → Running → Carried → Ending) (f : Running)
+    (c : Carried) (callee : Callee) (left : ℕ) → GainsNone goo
+    → (callee_end s outer goo f c callee left).units ≤ left
 callee_units s outer goo f c callee left none = after_units (f.program ∷ outer) goo left _ none (begun_takes s (f.program ∷ outer) callee.call callee.accounts left c)
 
 follow_units : (s : Fixed) (outer : List Key) (goo : List Key → Running → Carried → Ending) (u : ℕ) (t : Turn) → GainsNone goo → TurnTakes u t → (follow s outer goo t).units ≤ u
@@ -155,17 +162,22 @@ within_units s (suc n) outer f c going = follow_units s outer (within s n) f.mac
 pub instruction_units : (s : Fixed) (call : Call) (accounts : List Account) (units trace : ℕ) (log : Log) → (instruction s call accounts units trace log).units ≤ units
 instruction_units s call accounts units trace log =
     either (λ (e : Ending). e.units ≤ units) (nat_le max_trace trace) _ _ (omega arith)
-    (after_units [] (go s) units (begun s [] call accounts units (nothing_returned trace log)) (λ outer f c going. within_units s (suc f.machine.units) outer f c going) (begun_takes s [] call accounts units (nothing_returned trace log)))
+    (after_units [] (go s) units (begun s [] call accounts units (nothing_returned trace log))
+        (λ outer f c going. within_units s (suc f.machine.units) outer f c going)
+        (begun_takes s [] call accounts units (nothing_returned trace log)))
 
 -- two are the same below so many units
 abbrev SameBelow : ℕ → (List Key → Running → Carried → Ending) → (List Key → Running → Carried → Ending) → Type 0
 SameBelow u goo other = (outer : List Key) (f : Running) (c : Carried) → IsGoing f → f.machine.units < u → goo outer f c ≡ other outer f c
 
-after_same : (outer : List Key) (goo other : List Key → Running → Carried → Ending) (u v : ℕ) (next : Next) → SameBelow u goo other → v < u → NextTakes v next → after outer goo next ≡ after outer other next
+after_same : (outer : List Key) (goo other : List Key → Running → Carried → Ending) (u v : ℕ) (next : Next)
+    → SameBelow u goo other → v < u → NextTakes v next → after outer goo next ≡ after outer other next
 after_same outer goo other u v (Runs f c) same less h = same outer f c h.1 (omega (arith, h.0))
 after_same outer goo other u v (Done e) same less h = refl
 
-follow_same : (s : Fixed) (outer : List Key) (goo other : List Key → Running → Carried → Ending) (u : ℕ) (t : Turn) → GainsNone goo → SameBelow u goo other → TurnTakes u t → follow s outer goo t ≡ follow s outer other t
+follow_same : (s : Fixed) (outer : List Key) (goo other : List Key → Running → Carried → Ending) (u : ℕ)
+    (t : Turn) → GainsNone goo → SameBelow u goo other → TurnTakes u t
+    → follow s outer goo t ≡ follow s outer other t
 follow_same s outer goo other u (GoesOn f c) none same h = same outer f c h.1 h.0
 follow_same s outer goo other u (Calls f c callee left) none same h =
     let e : Ending = callee_end s outer goo f c callee left in

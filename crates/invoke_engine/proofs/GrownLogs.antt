@@ -49,7 +49,8 @@ program_line-written program words text =
 invoke_line-written : (program : Key) (height : ℕ) → IsLine (invoke_line program height)
 invoke_line-written program height =
     program_line-written program (codes " invoke [" ++ decimal height ++ codes "]")
-    (IsUtf8-append (codes " invoke [") (decimal height ++ codes "]") (words_text (codes " invoke [") refl) (IsUtf8-append (decimal height) (codes "]") (decimal_text height) (words_text (codes "]") refl)))
+    (IsUtf8-append (codes " invoke [") (decimal height ++ codes "]") (words_text (codes " invoke [") refl)
+        (IsUtf8-append (decimal height) (codes "]") (decimal_text height) (words_text (codes "]") refl)))
 
 consumed_line-written : (program : Key) (used had : ℕ) → IsLine (consumed_line program used had)
 consumed_line-written program used had =
@@ -57,7 +58,9 @@ consumed_line-written program used had =
     program_line-written program (codes " consumed " ++ decimal used ++ codes " of " ++ decimal had ++ codes " compute units")
     (IsUtf8-append (of ++ decimal had) (codes " compute units")
     (IsUtf8-append of (decimal had)
-    (IsUtf8-append (codes " consumed " ++ decimal used) (codes " of ") (IsUtf8-append (codes " consumed ") (decimal used) (words_text (codes " consumed ") refl) (decimal_text used)) (words_text (codes " of ") refl)) (decimal_text had))
+    (IsUtf8-append (codes " consumed " ++ decimal used) (codes " of ")
+        (IsUtf8-append (codes " consumed ") (decimal used) (words_text (codes " consumed ") refl)
+        (decimal_text used)) (words_text (codes " of ") refl)) (decimal_text had))
     (words_text (codes " compute units") refl))
 
 last-written : (program : Key) (result : Result (List Account) InstructionError) → IsLine (last_line program result)
@@ -74,12 +77,15 @@ module _ (before : Log) where
   ending_of-grows : (program : Key) (units : ℕ) (c : Carried) (result : Result (List Account) InstructionError) → HasGrown before c.log → HasGrown before (ending_of program units c result).carried.log
   ending_of-grows program units c result grown = said-grows c (last_line program result) grown (last-written program result)
 
-  closed-grows : (program : Key) (had units : ℕ) (c : Carried) (result : Result (List Account) InstructionError) → HasGrown before c.log → HasGrown before (closed program had units c result).carried.log
+  closed-grows : (program : Key) (had units : ℕ) (c : Carried) (result : Result (List Account) InstructionError)
+      → HasGrown before c.log → HasGrown before (closed program had units c result).carried.log
   closed-grows program had units c result grown =
       ending_of-grows program units (say (consumed_line program (had - units) had) c) result
       (said-grows c (consumed_line program (had - units) had) grown (consumed_line-written program (had - units) had))
 
-  closes-grows : (outer : List Key) (f : Running) (units : ℕ) (c : Carried) (result : Result (List Account) Stopped) → HasGrown before c.log → HasGrown before (closes outer f units c result).carried.log
+  closes-grows : (outer : List Key) (f : Running) (units : ℕ) (c : Carried)
+      (result : Result (List Account) Stopped) → HasGrown before c.log
+      → HasGrown before (closes outer f units c result).carried.log
   closes-grows outer f units c result grown = closed-grows f.program f.had units c (or_error (height outer) result) grown
 
   started-grows : (key : Key) (height : ℕ) (c : Carried) → HasGrown before c.log → HasGrown before (started key height c).log
@@ -99,7 +105,9 @@ module _ (before : Log) where
   calling-grows outer f c left (Ok callee) grown = grown
   calling-grows outer f c left (Err stopped) grown = closes-grows outer f left c (Err stopped) grown
 
-  serving-grows : (outer : List Key) (f : Running) (c : Carried) (left : ℕ) (answer : Result Service SysFault) → ((s : Service) → answer ≡ Ok s → HasGrown before s.log) → HasGrown before c.log → TurnGrows (serving outer f c left answer)
+  serving-grows : (outer : List Key) (f : Running) (c : Carried) (left : ℕ) (answer : Result Service SysFault)
+      → ((s : Service) → answer ≡ Ok s → HasGrown before s.log) → HasGrown before c.log
+      → TurnGrows (serving outer f c left answer)
   serving-grows outer f c left (Ok service) given grown = given service refl
   serving-grows outer f c left (Err fault) given grown = closes-grows outer f left c (Err (by_sys fault)) grown
 
@@ -121,7 +129,9 @@ module _ (before : Log) where
   unfolding turn
   turn-grows setting keys outer f c grown = run-grows setting keys outer f c (steps f.machine) grown
 
-  patching-grows : (outer : List Key) (f : Running) (accounts : List Account) (units : ℕ) (c : Carried) (answer : Result (List ℕ) ℕ) → HasGrown before c.log → NextGrows (patching outer f accounts units c answer)
+  patching-grows : (outer : List Key) (f : Running) (accounts : List Account) (units : ℕ) (c : Carried)
+      (answer : Result (List ℕ) ℕ) → HasGrown before c.log
+      → NextGrows (patching outer f accounts units c answer)
   patching-grows outer f accounts units c (Ok region) grown = grown
   patching-grows outer f accounts units c (Err i) grown = closes-grows outer f units c (Err (by_length i)) grown
 
@@ -133,7 +143,8 @@ module _ (before : Log) where
   unfolding returned
   returned-grows outer f e grown = returning-grows outer f e.units e.carried e.result grown
 
-  native-grows : (key : Key) (outer keys : List Key) (call : Call) (accounts : List Account) (units : ℕ) (c : Carried) → HasGrown before c.log → NextGrows (Done (native key outer keys call accounts units c))
+  native-grows : (key : Key) (outer keys : List Key) (call : Call) (accounts : List Account) (units : ℕ)
+      (c : Carried) → HasGrown before c.log → NextGrows (Done (native key outer keys call accounts units c))
   native-grows key outer keys call accounts units c grown =
       either (λ (e : Ending). HasGrown before e.carried.log) (nat_lt units NATIVE_UNITS) _ _
       (ending_of-grows key 0 c (Err (error_of (height outer) (plainly UnitsSpent))) grown)
@@ -142,7 +153,9 @@ module _ (before : Log) where
   refusing-grows : (key : Key) (outer : List Key) (units : ℕ) (c : Carried) (stopped : Stopped) → HasGrown before c.log → HasGrown before (refusing key outer units c stopped).carried.log
   refusing-grows key outer units c stopped grown = ending_of-grows key units c (Err (error_of (height outer) stopped)) grown
 
-  entered-grows : (setting : Setting) (keys outer : List Key) (key : Key) (call : Call) (accounts : List Account) (units : ℕ) (c : Carried) (found : Sought) → HasGrown before c.log → NextGrows (program_started setting keys outer key call accounts units c found)
+  entered-grows : (setting : Setting) (keys outer : List Key) (key : Key) (call : Call)
+      (accounts : List Account) (units : ℕ) (c : Carried) (found : Sought) → HasGrown before c.log
+      → NextGrows (program_started setting keys outer key call accounts units c found)
   entered-grows setting keys outer key call accounts units c (IsReady image) grown = grown
   entered-grows setting keys outer key call accounts units c IsAbsent grown = refusing-grows key outer units c (plainly UnknownProgram) grown
   entered-grows setting keys outer key call accounts units c IsNoProgram grown = refusing-grows key outer units c (plainly UnknownProgram) grown
@@ -155,7 +168,8 @@ module _ (before : Log) where
       either (λ (e : Ending). HasGrown before e.carried.log) (not (is_native key) && is_ready (programs key)) _ _
       (closed-grows key units units c (Err (error_of (height outer) (plainly TooManyAccounts))) grown) (refusing-grows key outer units c (plainly TooManyAccounts) grown)
 
-  entering-grows : (s : Fixed) (outer : List Key) (key : Key) (call : Call) (accounts : List Account) (units : ℕ) (c : Carried) → HasGrown before c.log → NextGrows (entering s outer key call accounts units c)
+  entering-grows : (s : Fixed) (outer : List Key) (key : Key) (call : Call) (accounts : List Account)
+      (units : ℕ) (c : Carried) → HasGrown before c.log → NextGrows (entering s outer key call accounts units c)
   unfolding entering
   entering-grows s outer key call accounts units c grown =
       either NextGrows (nat_lt max_metas (length call.metas)) _ _
@@ -166,7 +180,9 @@ module _ (before : Log) where
   begun-grows : (s : Fixed) (outer : List Key) (call : Call) (accounts : List Account) (units : ℕ) (c : Carried) → HasGrown before c.log → NextGrows (begun s outer call accounts units c)
   unfolding begun
   begun-grows s outer call accounts units c grown =
-      entering-grows s outer (key_at s.keys call.program) call accounts units (started (key_at s.keys call.program) (height outer) c) (started-grows (key_at s.keys call.program) (height outer) c grown)
+      entering-grows s outer (key_at s.keys call.program) call accounts units
+          (started (key_at s.keys call.program) (height outer) c)
+          (started-grows (key_at s.keys call.program) (height outer) c grown)
 
   -- whole frames
   abbrev Grow : (List Key → Running → Carried → Ending) → Type 0
@@ -193,7 +209,10 @@ module _ (before : Log) where
 
   pub log_grows : (s : Fixed) (call : Call) (accounts : List Account) (units trace : ℕ) (log : Log) → HasGrown before log → HasGrown before (instruction s call accounts units trace log).carried.log
   log_grows s call accounts units trace log grown =
-      either (λ (e : Ending). HasGrown before e.carried.log) (nat_le max_trace trace) (record { units = units; carried = nothing_returned trace log; result = Err (error_of 1 (plainly TraceTooLong)) }) (frame s [] call accounts units (nothing_returned trace log)) grown
+      either (λ (e : Ending). HasGrown before e.carried.log) (nat_le max_trace trace)
+          (record { units = units; carried = nothing_returned trace log; result = Err
+          (error_of 1 (plainly TraceTooLong)) }) (frame s [] call accounts units (nothing_returned trace log))
+          grown
       (after-grows [] (go s) (begun s [] call accounts units (nothing_returned trace log)) (λ outer f c. within-grows s (suc f.machine.units) outer f c)
       (begun-grows s [] call accounts units (nothing_returned trace log) grown))
 

@@ -69,7 +69,9 @@ unfound None value x h = cc
 unfound (Some item) value x h = absurd (cc)
 
 -- what is taken back, where nothing is too long
-taken : (region : List ℕ) (start now : List Account) (metas : List Meta) (after : List Account) → back region start now metas ≡ Ok after → map (account_back region start metas) (enumerate_from 0 now) ≡ after
+taken : (region : List ℕ) (start now : List Account) (metas : List Meta) (after : List Account)
+    → back region start now metas ≡ Ok after
+    → map (account_back region start metas) (enumerate_from 0 now) ≡ after
 unfolding back
 taken region start now metas after h = unfound _ _ after h
 
@@ -97,7 +99,8 @@ back_others region start now metas after h place other =
     ∙ other_at region start metas 0 place now (subst (λ n. is_listed metas n ≡ false) (omega arith) other)
 
 -- the same by equal lists
-pub same_others : (metas metas' : List Meta) (now now' after after' : List Account) → metas ≡ metas' → now ≡ now' → after ≡ after' → SameUnlessListed metas now after → SameUnlessListed metas' now' after'
+pub same_others : (metas metas' : List Meta) (now now' after after' : List Account) → metas ≡ metas'
+    → now ≡ now' → after ≡ after' → SameUnlessListed metas now after → SameUnlessListed metas' now' after'
 same_others metas metas' now now' after after' e f g h =
     subst (λ (ms : List Meta). SameUnlessListed ms now' after') e (subst (λ (xs : List Account). SameUnlessListed metas xs after') f (subst (λ (xs : List Account). SameUnlessListed metas now xs) g h))
 
@@ -127,7 +130,9 @@ settles f after h =
 pub settled_keeps : (n : ℕ) (f : Running) (after : List Account) → AreListed n f.metas f.before → lawful_accounts f ≡ Ok after → AreKeptBy (is_listed_writable f.metas) f.before after
 settled_keeps n f after listed h =
     let from : Settles f after = settles f after h in
-    AreKeptBy-listed_rules f.program f.metas f.before after (back_count _ _ _ _ after from.taken) (in_range n (length f.before) f.metas listed.count listed.range) (back_others _ _ _ _ after from.taken) from.rules
+    AreKeptBy-listed_rules f.program f.metas f.before after (back_count _ _ _ _ after from.taken)
+        (in_range n (length f.before) f.metas listed.count listed.range) (back_others _ _ _ _ after from.taken)
+        from.rules
 
 -- a good exit leaves the accounts so
 pub left_settled : (f : Running) (r0 : ℕ) (after : List Account) → left f r0 ≡ Ok after → lawful_accounts f ≡ Ok after
@@ -139,14 +144,18 @@ left_settled f r0 after h =
     one.1 ∙ ap Ok same
 
 -- what a native program leaves is kept
-pub native_row_keeps : (n : ℕ) (key : Key) (keys : List Key) (accounts : List Account) (call : Call) (after : List Account) → AreListed n call.metas accounts → native_row key keys accounts call ≡ Ok after → AreKeptBy (is_listed_writable call.metas) accounts after
+pub native_row_keeps : (n : ℕ) (key : Key) (keys : List Key) (accounts : List Account) (call : Call)
+    (after : List Account) → AreListed n call.metas accounts → native_row key keys accounts call ≡ Ok after
+    → AreKeptBy (is_listed_writable call.metas) accounts after
 unfolding native_row
 native_row_keeps n key keys accounts call after listed h = by_tests (same_key key SYSTEM_PROGRAM) (same_key key LOADER_PROGRAM) h
   where
     range : AreInRange (length accounts) call.metas
     range = in_range n (length accounts) call.metas listed.count listed.range
 
-    by_tests : (a b : Bool) → (if a then refuse by_system (system_row keys accounts call.metas call.input) else if b then refuse by_loader (loader_row keys accounts call.metas call.input) else Ok accounts) ≡ Ok after → AreKeptBy (is_listed_writable call.metas) accounts after
+    by_tests : (a b : Bool) → (if a then refuse by_system (system_row keys accounts call.metas call.input) else
+        if b then refuse by_loader (loader_row keys accounts call.metas call.input) else Ok accounts) ≡ Ok after
+        → AreKeptBy (is_listed_writable call.metas) accounts after
     by_tests true b g = system_keeps keys accounts call.metas call.input after range (refuse_ok by_system _ after g)
     by_tests false true g = loader_keeps keys accounts call.metas call.input after range (refuse_ok by_loader _ after g)
     by_tests false false g = let same : accounts ≡ after = cc in subst (AreKeptBy (is_listed_writable call.metas) accounts) same (AreKeptBy-refl (is_listed_writable call.metas) accounts)
@@ -163,7 +172,9 @@ pub record ComesFrom (most : ℕ) (keys outer : List Key) (f : Running) (trace :
   pub start : may_start most outer f trace request.program ≡ Ok tt
   pub is : callee_of request granted accounts ≡ callee
 
-pub called_from : (most : ℕ) (keys outer : List Key) (f : Running) (trace : ℕ) (answer : Result CallRequest CallFault) (callee : Callee) → called most keys outer f trace answer ≡ Ok callee → ComesFrom most keys outer f trace answer callee
+pub called_from : (most : ℕ) (keys outer : List Key) (f : Running) (trace : ℕ)
+    (answer : Result CallRequest CallFault) (callee : Callee)
+    → called most keys outer f trace answer ≡ Ok callee → ComesFrom most keys outer f trace answer callee
 unfolding called
 called_from most keys outer f trace answer callee h =
     let one = bind_ok (refuse by_call answer) _ callee h in
@@ -185,12 +196,17 @@ started_ok : (most : ℕ) (outer : List Key) (f : Running) (trace : ℕ) (progra
 unfolding may_start
 started_ok most outer f trace program h = tests (nat_le max_trace trace) (nat_le most (height outer)) _ refl refl h
   where
-    tests : (a b : Bool) (rest : Result (Unit {0}) Stopped) → nat_le max_trace trace ≡ a → nat_le most (height outer) ≡ b → (if a then Err (plainly TraceTooLong) else if b then Err (plainly StackHeight) else rest) ≡ Ok tt → (trace < max_trace) × (height outer < most)
+    tests : (a b : Bool) (rest : Result (Unit {0}) Stopped) → nat_le max_trace trace ≡ a
+        → nat_le most (height outer) ≡ b
+        → (if a then Err (plainly TraceTooLong) else if b then Err (plainly StackHeight) else rest) ≡ Ok tt
+        → (trace < max_trace) × (height outer < most)
     tests true b rest h k l = absurd (cc)
     tests false true rest h k l = absurd (cc)
     tests false false rest h k l = (grind (arith, nat_tests), grind (arith, nat_tests))
 
-callee_fits : (most : ℕ) (keys outer : List Key) (f : Running) (c : Carried) (callee : Callee) → IsSuspended (length keys) f → ComesFrom most keys outer f c.trace (requested f).answer callee → CallFits (length keys) most outer f c callee
+callee_fits : (most : ℕ) (keys outer : List Key) (f : Running) (c : Carried) (callee : Callee)
+    → IsSuspended (length keys) f → ComesFrom most keys outer f c.trace (requested f).answer callee
+    → CallFits (length keys) most outer f c callee
 callee_fits most keys outer f c callee h from =
     let within : IsWithin from.request keys f.metas from.granted = rights-within from.request keys f.metas from.granted from.rights in
     let small : IsSmallRequest from.request = request-small _ _ _ _ from.request from.asked in
@@ -205,17 +221,26 @@ callee_fits most keys outer f c callee h from =
     })
 
 -- ---- turns
-calling_fits : (n most : ℕ) (outer : List Key) (f : Running) (c : Carried) (units : ℕ) (result : Result Callee Stopped) → ((callee : Callee) → result ≡ Ok callee → CallFits n most outer f c callee) → TurnFits n most outer (calling outer f c units result)
+calling_fits : (n most : ℕ) (outer : List Key) (f : Running) (c : Carried) (units : ℕ)
+    (result : Result Callee Stopped)
+    → ((callee : Callee) → result ≡ Ok callee → CallFits n most outer f c callee)
+    → TurnFits n most outer (calling outer f c units result)
 calling_fits n most outer f c units (Ok callee) k = k callee refl
 calling_fits n most outer f c units (Err stopped) k = tt
 
-serving_fits : (n most : ℕ) (outer : List Key) (f : Running) (c : Carried) (units : ℕ) (result : Result Service SysFault) → IsFrame n f → ((service : Service) → result ≡ Ok service → IsServedMemory f.machine.context.memory service.memory) → TurnFits n most outer (serving outer f c units result)
+serving_fits : (n most : ℕ) (outer : List Key) (f : Running) (c : Carried) (units : ℕ)
+    (result : Result Service SysFault) → IsFrame n f
+    → ((service : Service) → result ≡ Ok service → IsServedMemory f.machine.context.memory service.memory)
+    → TurnFits n most outer (serving outer f c units result)
 serving_fits n most outer f c units (Ok service) h k =
     let m : IsServedMemory f.machine.context.memory service.memory = k service refl in
     record { most = h.most; range = h.range; start = h.start; before = h.before; region = omega (arith, h.region, m.input) }
 serving_fits n most outer f c units (Err fault) h k = tt
 
-leaving_fits : (n : ℕ) (outer : List Key) (f : Running) (c : Carried) (units : ℕ) (result : Result (List Account) Stopped) → ((accounts : List Account) → result ≡ Ok accounts → AreAccountsOf n accounts) → EndingFits n (closes outer f units c result)
+leaving_fits : (n : ℕ) (outer : List Key) (f : Running) (c : Carried) (units : ℕ)
+    (result : Result (List Account) Stopped)
+    → ((accounts : List Account) → result ≡ Ok accounts → AreAccountsOf n accounts)
+    → EndingFits n (closes outer f units c result)
 leaving_fits n outer f c units (Ok accounts) k = k accounts refl
 leaving_fits n outer f c units (Err stopped) k = tt
 
@@ -224,7 +249,9 @@ exit_fits n f r0 accounts h k =
     let listed : AreListed n f.metas f.before = record { count = h.before.count; range = h.range } in
     kept_given n (is_listed_writable f.metas) f.before accounts h.before (settled_keeps n f accounts listed (left_settled f r0 accounts k))
 
-stop_fits : (setting : Setting) (keys outer : List Key) (f : Running) (c : Carried) (stop : Option Stop) → f.machine.stop ≡ stop → IsFrame (length keys) f → TurnFits (length keys) setting.height outer (at_stop setting keys outer f c stop)
+stop_fits : (setting : Setting) (keys outer : List Key) (f : Running) (c : Carried) (stop : Option Stop)
+    → f.machine.stop ≡ stop → IsFrame (length keys) f
+    → TurnFits (length keys) setting.height outer (at_stop setting keys outer f c stop)
 stop_fits setting keys outer f c None e h = tt
 stop_fits setting keys outer f c (Some (Exit r0)) e h =
     leaving_fits (length keys) outer f c f.machine.units (left f r0) (λ accounts k. exit_fits (length keys) f r0 accounts h k)
@@ -237,7 +264,9 @@ stop_fits setting keys outer f c (Some (Helper number)) e h =
     (serving_fits (length keys) setting.height outer f c (served setting outer f c number).units _ h
     (λ service k. sys_row-memory number (arguments_in f.machine.context.registers) f.machine.context.memory (env_of setting outer f c) service k))
 
-ran_fits : (setting : Setting) (keys outer : List Key) (f : Running) (c : Carried) (o : Option State) → steps f.machine ≡ o → IsFrame (length keys) f → TurnFits (length keys) setting.height outer (run_to setting keys outer f c o)
+ran_fits : (setting : Setting) (keys outer : List Key) (f : Running) (c : Carried) (o : Option State)
+    → steps f.machine ≡ o → IsFrame (length keys) f
+    → TurnFits (length keys) setting.height outer (run_to setting keys outer f c o)
 ran_fits setting keys outer f c None e h = tt
 ran_fits setting keys outer f c (Some y) e h = stop_fits setting keys outer (record f { machine = y }) c y.stop refl (run_keeps (length keys) f y h e)
 

@@ -42,7 +42,9 @@ pub record Working (s : Fixed) (outer : List Key) (f : Running) (c : Carried) (g
   pub units : g.machine.units ≤ f.machine.units
 
 -- one more turn that goes on
-pub working_on : (s : Fixed) (outer : List Key) (f : Running) (c : Carried) (g : Running) (d : Carried) (h : Running) (e : Carried) → Working s outer f c g d → turn s.setting s.keys outer g d ≡ GoesOn h e → Working s outer f c h e × (h.machine.units < g.machine.units)
+pub working_on : (s : Fixed) (outer : List Key) (f : Running) (c : Carried) (g : Running) (d : Carried)
+    (h : Running) (e : Carried) → Working s outer f c g d → turn s.setting s.keys outer g d ≡ GoesOn h e
+    → Working s outer f c h e × (h.machine.units < g.machine.units)
 working_on s outer f c g d h e w t =
     let fits : IsFrame (length s.keys) h = subst (TurnFits (length s.keys) s.setting.height outer) t (turn_fits s.setting s.keys outer g d w.frame) in
     let takes : TurnTakes g.machine.units (GoesOn h e) = subst (TurnTakes g.machine.units) t (turn_takes s.setting s.keys outer g d w.going) in
@@ -63,7 +65,8 @@ takes_less u v (Calls f c callee left) h k = (omega (arith, k.0), k.1, omega (ar
 takes_less u v (Leaves e) h k = omega (arith, k)
 
 -- the last turn
-pub working_last : (s : Fixed) (outer : List Key) (f : Running) (c : Carried) (g : Running) (d : Carried) (t : Turn) → Working s outer f c g d → turn s.setting s.keys outer g d ≡ t → Works s outer f c t
+pub working_last : (s : Fixed) (outer : List Key) (f : Running) (c : Carried) (g : Running) (d : Carried)
+    (t : Turn) → Working s outer f c g d → turn s.setting s.keys outer g d ≡ t → Works s outer f c t
 working_last s outer f c g d t w e = record {
   same = sym (go_turn s outer g d w.going ∙ ap (follow s outer (go s)) e) ∙ w.same;
   fits = subst (TurnFits (length s.keys) s.setting.height outer) e (turn_fits s.setting s.keys outer g d w.frame);
@@ -87,7 +90,9 @@ measured fs (Runs f c) = omega arith
 measured fs (Done e) = omega arith
 
 -- a caller after its callee
-pub step_returned : (s : Fixed) (fs : List Running) (f : Running) (e : Ending) → Stands s (f ∷ fs) (Done e) → NextFits (length s.keys) (returned (programs_of fs) f e) → Steps s (f ∷ fs) (Done e) fs (returned (programs_of fs) f e)
+pub step_returned : (s : Fixed) (fs : List Running) (f : Running) (e : Ending) → Stands s (f ∷ fs) (Done e)
+    → NextFits (length s.keys) (returned (programs_of fs) f e)
+    → Steps s (f ∷ fs) (Done e) fs (returned (programs_of fs) f e)
 unfolding rest
 step_returned s fs f e h fits =
     let takes : NextTakes e.units (returned (programs_of fs) f e) = returned_takes (programs_of fs) f e in
@@ -116,7 +121,9 @@ step_leaves s fs f c e h w =
     }
 
 -- a frame that calls another
-pub step_calls : (s : Fixed) (fs : List Running) (f : Running) (c : Carried) (g : Running) (d : Carried) (callee : Callee) (left : ℕ) (next : Next) → Stands s fs (Runs f c) → Works s (programs_of fs) f c (Calls g d callee left) →
+pub step_calls : (s : Fixed) (fs : List Running) (f : Running) (c : Carried) (g : Running) (d : Carried)
+    (callee : Callee) (left : ℕ) (next : Next) → Stands s fs (Runs f c)
+    → Works s (programs_of fs) f c (Calls g d callee left) →
     begun s (programs_of (g ∷ fs)) callee.call callee.accounts left d ≡ next → NextFits (length s.keys) next → Steps s fs (Runs f c) (g ∷ fs) next
 unfolding rest
 step_calls s fs f c g d callee left next h w e fits =
@@ -155,27 +162,38 @@ next_fits n (Runs f c) h k = h
 next_fits n (Done e) h k = k
 
 pub step_begun : (s : Fixed) (fs : List Running) (f : Running) (c : Carried) (g : Running) (d : Carried) (callee : Callee) (left : ℕ) (gs : List Running) (next : Next) →
-    gs ≡ g ∷ fs → Stands s fs (Runs f c) → Works s (programs_of fs) f c (Calls g d callee left) → begun s (programs_of gs) callee.call callee.accounts left d ≡ next → RunsFit (length s.keys) next → Steps s fs (Runs f c) gs next
+    gs ≡ g ∷ fs → Stands s fs (Runs f c) → Works s (programs_of fs) f c (Calls g d callee left)
+        → begun s (programs_of gs) callee.call callee.accounts left d ≡ next → RunsFit (length s.keys) next
+        → Steps s fs (Runs f c) gs next
 step_begun s fs f c g d callee left gs next same h w begins fits =
-    let ends : DoneFits (length s.keys) next = subst (DoneFits (length s.keys)) begins (begun_fits (length s.keys) s (programs_of gs) callee.call callee.accounts left d w.fits.call.range w.fits.accounts) in
+    let ends : DoneFits (length s.keys) next = subst (DoneFits (length s.keys)) begins
+        (begun_fits (length s.keys) s (programs_of gs) callee.call callee.accounts left d w.fits.call.range
+        w.fits.accounts) in
     subst (λ (hs : List Running). begun s (programs_of hs) callee.call callee.accounts left d ≡ next → Steps s fs (Runs f c) hs next) (sym same)
     (λ (k : begun s (programs_of (g ∷ fs)) callee.call callee.accounts left d ≡ next). step_calls s fs f c g d callee left next h w k (next_fits (length s.keys) next fits ends)) begins
 
 -- the same where the frame has taken turns of its own before, and the frames that wait are named twice
 
-pub leaves_at : (s : Fixed) (fs gs : List Running) (f : Running) (c : Carried) (g : Running) (d : Carried) (e : Ending) → gs ≡ fs → Stands s fs (Runs f c) → Working s (programs_of gs) f c g d → turn s.setting s.keys (programs_of gs) g d ≡ Leaves e → Steps s fs (Runs f c) gs (Done e)
+pub leaves_at : (s : Fixed) (fs gs : List Running) (f : Running) (c : Carried) (g : Running) (d : Carried)
+    (e : Ending) → gs ≡ fs → Stands s fs (Runs f c) → Working s (programs_of gs) f c g d
+    → turn s.setting s.keys (programs_of gs) g d ≡ Leaves e → Steps s fs (Runs f c) gs (Done e)
 leaves_at s fs gs f c g d e same h w t =
     subst (λ (xs : List Running). Stands s xs (Runs f c) → Steps s xs (Runs f c) gs (Done e)) same
     (λ (k : Stands s gs (Runs f c)). step_leaves s gs f c e k (working_last s (programs_of gs) f c g d (Leaves e) w t)) h
 
 pub calls_at : (s : Fixed) (fs gs hs : List Running) (f : Running) (c : Carried) (g : Running) (d : Carried) (caller : Running) (e : Carried) (callee : Callee) (left : ℕ) (next : Next) →
-    gs ≡ fs → Stands s fs (Runs f c) → Working s (programs_of gs) f c g d → turn s.setting s.keys (programs_of gs) g d ≡ Calls caller e callee left → hs ≡ caller ∷ gs → begun s (programs_of hs) callee.call callee.accounts left e ≡ next → RunsFit (length s.keys) next → Steps s fs (Runs f c) hs next
+    gs ≡ fs → Stands s fs (Runs f c) → Working s (programs_of gs) f c g d
+        → turn s.setting s.keys (programs_of gs) g d ≡ Calls caller e callee left → hs ≡ caller ∷ gs
+        → begun s (programs_of hs) callee.call callee.accounts left e ≡ next → RunsFit (length s.keys) next
+        → Steps s fs (Runs f c) hs next
 calls_at s fs gs hs f c g d caller e callee left next same h w t pushed begins fits =
     subst (λ (xs : List Running). Stands s xs (Runs f c) → Steps s xs (Runs f c) hs next) same
     (λ (k : Stands s gs (Runs f c)). step_begun s gs f c caller e callee left hs next pushed k (working_last s (programs_of gs) f c g d (Calls caller e callee left) w t) begins fits) h
 
 pub step_resumed : (s : Fixed) (stack : List Running) (now : NextValue) (c : Carried) (f : Running) (fs : List Running) (ending : EndingValue) (next : Next) →
-    Stands s stack (next_as now c) → stack ≡ f ∷ fs → now ≡ DoneValue ending → returned (programs_of fs) f (ending_as ending c) ≡ next → RunsFit (length s.keys) next → Steps s stack (next_as now c) fs next
+    Stands s stack (next_as now c) → stack ≡ f ∷ fs → now ≡ DoneValue ending
+        → returned (programs_of fs) f (ending_as ending c) ≡ next → RunsFit (length s.keys) next
+        → Steps s stack (next_as now c) fs next
 step_resumed s stack now c f fs ending next h same is r runs =
     let ends : DoneFits (length s.keys) next = subst (DoneFits (length s.keys)) r (returned_fits (length s.keys) (programs_of fs) f (ending_as ending c)) in
     let fits : NextFits (length s.keys) (returned (programs_of fs) f (ending_as ending c)) = subst (NextFits (length s.keys)) (sym r) (next_fits (length s.keys) next runs ends) in
@@ -183,14 +201,18 @@ step_resumed s stack now c f fs ending next h same is r runs =
     (subst (λ (n : NextValue). Stands s (f ∷ fs) (next_as n c) → Steps s (f ∷ fs) (next_as n c) fs next) (sym is)
     (λ (k : Stands s (f ∷ fs) (Done (ending_as ending c))). subst (Steps s (f ∷ fs) (Done (ending_as ending c)) fs) r (step_returned s fs f (ending_as ending c) k fits))) h
 
-pub end_of_all : (s : Fixed) (stack : List Running) (now : NextValue) (c : Carried) (ending : EndingValue) (total : Ending) → stack ≡ [] → now ≡ DoneValue ending → ending_in s stack (next_as now c) ≡ total → ending_as ending c ≡ total
+pub end_of_all : (s : Fixed) (stack : List Running) (now : NextValue) (c : Carried) (ending : EndingValue)
+    (total : Ending) → stack ≡ [] → now ≡ DoneValue ending → ending_in s stack (next_as now c) ≡ total
+    → ending_as ending c ≡ total
 end_of_all s stack now c ending total none is h =
     sym (stands_end s stack (ending_as ending c) none) ∙ ap (λ (n : NextValue). ending_in s stack (next_as n c)) (sym is) ∙ h
 
 -- the first frame
 
 pub first_stands : (s : Fixed) (stack : List Running) (call : Call) (accounts : List Account) (units : ℕ) (c : Carried) (next : Next) →
-    stack ≡ [] → 1 ≤ s.setting.height → AreInRange (length s.keys) call.metas → AreAccountsOf (length s.keys) accounts → begun s (programs_of stack) call accounts units c ≡ next → RunsFit (length s.keys) next → Stands s stack next
+    stack ≡ [] → 1 ≤ s.setting.height → AreInRange (length s.keys) call.metas
+        → AreAccountsOf (length s.keys) accounts → begun s (programs_of stack) call accounts units c ≡ next
+        → RunsFit (length s.keys) next → Stands s stack next
 first_stands s stack call accounts units c next none some range given begins fits =
     let empty : length stack ≡ 0 = ap length none in
     record {
@@ -207,10 +229,14 @@ first_ending s stack call accounts units c next none begins =
     subst (λ (gs : List Running). begun s (programs_of gs) call accounts units c ≡ next → ending_in s gs next ≡ frame s [] call accounts units c) (sym none)
     (λ (k : begun s [] call accounts units c ≡ next). ap (after [] (go s)) (sym k)) begins
 
-pub carried_first : (trace : ℕ) (kept : List ℕ) (log given : Log) → kept ≡ [] → log ≡ given → (let c : Carried = record { trace = trace; returned = kept; keeper = SYSTEM_PROGRAM; log = log; stopped_at = None } in c) ≡ nothing_returned trace given
+pub carried_first : (trace : ℕ) (kept : List ℕ) (log given : Log) → kept ≡ [] → log ≡ given
+    → (let c : Carried = record { trace = trace; returned = kept; keeper = SYSTEM_PROGRAM; log = log;
+    stopped_at = None } in c) ≡ nothing_returned trace given
 carried_first trace kept log given h k = rw (h, k) refl
 
 -- what a run answers, by the code's own first values
-pub run_is : (f : Carried → Ending) (ran : Ran) (before first after : Carried) (ending : EndingValue) (log : Log) → ending_as ending after ≡ f before → before ≡ first → after.log ≡ log → IsRun (ending_as ending after) ran after.log → IsRun (f first) ran log
+pub run_is : (f : Carried → Ending) (ran : Ran) (before first after : Carried) (ending : EndingValue)
+    (log : Log) → ending_as ending after ≡ f before → before ≡ first → after.log ≡ log
+    → IsRun (ending_as ending after) ran after.log → IsRun (f first) ran log
 run_is f ran before first after ending log h k l run =
     subst (λ (x : Log). IsRun (f first) ran x) l (subst (λ (e : Ending). IsRun e ran after.log) (h ∙ ap f k) run)

@@ -172,7 +172,10 @@ lawful_fits : (f : Running) → Short f → IfErr (lawful_accounts f) Fits
 unfolding lawful_accounts
 lawful_fits f short =
     bind_refuses Fits (refuse by_length (back f.machine.context.memory.input.bytes f.start f.before f.metas)) _
-    (refuse_fits by_length (λ i. i < length f.metas) (back f.machine.context.memory.input.bytes f.start f.before f.metas) (λ i below. small (length f.metas) i short below) (back_within f.machine.context.memory.input.bytes f.start f.before f.metas))
+    (refuse_fits by_length (λ i. i < length f.metas)
+        (back f.machine.context.memory.input.bytes f.start f.before f.metas)
+        (λ i below. small (length f.metas) i short below)
+        (back_within f.machine.context.memory.input.bytes f.start f.before f.metas))
     (λ accounts taken. bind_refuses Fits (refuse by_rule (listed_rules f.program f.metas f.before accounts)) _
     (refuse_fits by_rule (NamesWithin (length f.metas)) (listed_rules f.program f.metas f.before accounts) (rule_fits (length f.metas) short) (listed_within f.program f.metas f.before accounts))
     (λ passed is. tt))
@@ -181,7 +184,9 @@ exited_fits : (r0 : ℕ) → IfErr (exited r0) Fits
 unfolding exited
 exited_fits r0 = by_test (r0 == 0) (nat_lt r0 custom_zero) (r0 == custom_zero) (Ok tt) tt refl
   where
-    by_test : (a b c : Bool) (done : Result (Unit {0}) Stopped) → IfErr done Fits → nat_lt r0 custom_zero ≡ b → IfErr (if a then done else if b then Err (at Custom r0) else if c then Err (at Custom 0) else Err (plainly InvalidError)) Fits
+    by_test : (a b c : Bool) (done : Result (Unit {0}) Stopped) → IfErr done Fits → nat_lt r0 custom_zero ≡ b
+        → IfErr (if a then done else if b then Err (at Custom r0) else if c then Err (at Custom 0) else Err
+        (plainly InvalidError)) Fits
     by_test true b c done h e = h
     by_test false true c done h e = ltb-true r0 custom_zero e
     by_test false false true done h e = lit< tt
@@ -200,7 +205,10 @@ start_fits most outer f trace program =
     (if_refuses Fits (nat_le most (height outer)) (plainly StackHeight) _ (lit< tt)
     (if_refuses Fits (not (same_key program f.program) && has_key program outer) (plainly Reentrancy) (Ok tt) (lit< tt) tt))
 
-called_fits : (most : ℕ) (keys outer : List Key) (f : Running) (trace : ℕ) (answer : Result CallRequest CallFault) → ((request : CallRequest) → answer ≡ Ok request → IsSmallRequest request) → Short f → IfErr (called most keys outer f trace answer) Fits
+called_fits : (most : ℕ) (keys outer : List Key) (f : Running) (trace : ℕ)
+    (answer : Result CallRequest CallFault)
+    → ((request : CallRequest) → answer ≡ Ok request → IsSmallRequest request) → Short f
+    → IfErr (called most keys outer f trace answer) Fits
 unfolding called
 called_fits most keys outer f trace answer asked short =
     bind_refuses Fits (refuse by_call answer) _ (by_answer answer)
@@ -242,7 +250,9 @@ stop_fits setting keys outer f c (Some (Faulted fault)) short = closes_fits oute
 stop_fits setting keys outer f c (Some (Helper number)) short =
     either TurnFits (number == invoke_call) (call_turn setting keys outer f c) (serve_turn setting outer f c number)
     (calling_fits outer f c (requested f).units (called setting.height keys outer f c.trace (requested f).answer) short
-    (called_fits setting.height keys outer f c.trace (requested f).answer (λ request is. request-small (arguments_in f.machine.context.registers) f.machine.context.memory f.program f.machine.units request is) short))
+    (called_fits setting.height keys outer f c.trace (requested f).answer
+        (λ request is. request-small (arguments_in f.machine.context.registers) f.machine.context.memory
+        f.program f.machine.units request is) short))
     (serving_fits outer f c (served setting outer f c number).units (served setting outer f c number).answer short)
 
 run_fits : (setting : Setting) (keys outer : List Key) (f : Running) (c : Carried) (o : Option State) → Short f → TurnFits (run_to setting keys outer f c o)
@@ -254,11 +264,15 @@ unfolding turn
 turn_fits setting keys outer f c short = run_fits setting keys outer f c (steps f.machine) short
 
 -- ---- frames at their starts, and after a callee
-patching_fits : (outer : List Key) (f : Running) (accounts : List Account) (units : ℕ) (c : Carried) (answer : Result (List ℕ) ℕ) → Short f → IfErr answer (λ i. i < length f.metas) → NextFits (patching outer f accounts units c answer)
+patching_fits : (outer : List Key) (f : Running) (accounts : List Account) (units : ℕ) (c : Carried)
+    (answer : Result (List ℕ) ℕ) → Short f → IfErr answer (λ i. i < length f.metas)
+    → NextFits (patching outer f accounts units c answer)
 patching_fits outer f accounts units c (Ok region) short h = short
 patching_fits outer f accounts units c (Err i) short h = closes_fits outer f units c (Err (by_length i)) (small (length f.metas) i short h)
 
-returning_fits : (outer : List Key) (f : Running) (units : ℕ) (c : Carried) (result : Result (List Account) InstructionError) → Short f → EndingFits result → NextFits (returning outer f units c result)
+returning_fits : (outer : List Key) (f : Running) (units : ℕ) (c : Carried)
+    (result : Result (List Account) InstructionError) → Short f → EndingFits result
+    → NextFits (returning outer f units c result)
 returning_fits outer f units c (Ok accounts) short h =
     patching_fits outer f accounts units c (patched f.machine.context.memory.input.bytes f.start accounts f.metas) short (patched_within f.machine.context.memory.input.bytes f.start accounts f.metas)
 returning_fits outer f units c (Err error) short h = h
@@ -271,16 +285,22 @@ native_row_fits : (key : Key) (keys : List Key) (accounts : List Account) (call 
 unfolding native_row
 native_row_fits key keys accounts call most =
     either (λ (r : Result (List Account) Stopped). IfErr r Fits) (same_key key SYSTEM_PROGRAM) _ _
-    (refuse_fits by_system (SystemFits (length call.metas)) (system_row keys accounts call.metas call.input) (system_fault_fits (length call.metas) most) (system_fits keys accounts call.metas call.input))
+    (refuse_fits by_system (SystemFits (length call.metas)) (system_row keys accounts call.metas call.input)
+        (system_fault_fits (length call.metas) most) (system_fits keys accounts call.metas call.input))
     (either (λ (r : Result (List Account) Stopped). IfErr r Fits) (same_key key LOADER_PROGRAM) _ _
-    (refuse_fits by_loader (LoaderFits (length call.metas)) (loader_row keys accounts call.metas call.input) (loader_fault_fits (length call.metas) most) (loader_fits keys accounts call.metas call.input)) tt)
+    (refuse_fits by_loader (LoaderFits (length call.metas)) (loader_row keys accounts call.metas call.input)
+        (loader_fault_fits (length call.metas) most) (loader_fits keys accounts call.metas call.input)) tt)
 
-native_fits : (key : Key) (outer keys : List Key) (call : CallValue) (accounts : List Account) (units : ℕ) (c : Carried) → length call.metas ≤ max_metas → NextFits (Done (native key outer keys call accounts units c))
+native_fits : (key : Key) (outer keys : List Key) (call : CallValue) (accounts : List Account) (units : ℕ)
+    (c : Carried) → length call.metas ≤ max_metas
+    → NextFits (Done (native key outer keys call accounts units c))
 native_fits key outer keys call accounts units c most =
     either (λ (e : Ending). EndingFits e.result) (nat_lt units NATIVE_UNITS) _ _ (lit< tt)
     (or_error_fits (height outer) (native_row key keys accounts call) (native_row_fits key keys accounts call most))
 
-entered_fits : (setting : Setting) (keys outer : List Key) (key : Key) (call : CallValue) (accounts : List Account) (units : ℕ) (c : Carried) (found : Sought) → length call.metas ≤ max_metas → NextFits (program_started setting keys outer key call accounts units c found)
+entered_fits : (setting : Setting) (keys outer : List Key) (key : Key) (call : CallValue)
+    (accounts : List Account) (units : ℕ) (c : Carried) (found : Sought) → length call.metas ≤ max_metas
+    → NextFits (program_started setting keys outer key call accounts units c found)
 entered_fits setting keys outer key call accounts units c (IsReady image) most = most
 entered_fits setting keys outer key call accounts units c IsAbsent most = lit< tt
 entered_fits setting keys outer key call accounts units c IsNoProgram most = lit< tt
@@ -295,7 +315,10 @@ entering_fits : (s : Fixed) (outer : List Key) (key : Key) (call : CallValue) (a
 unfolding entering
 entering_fits s outer key call accounts units c = by_count (nat_lt max_metas (length call.metas)) refl
   where
-    by_count : (b : Bool) → nat_lt max_metas (length call.metas) ≡ b → NextFits (if b then Done (crowded s.programs key outer units c) else if is_native key then Done (native key outer s.keys call accounts units c) else program_started s.setting s.keys outer key call accounts units c (s.programs key))
+    by_count : (b : Bool) → nat_lt max_metas (length call.metas) ≡ b
+        → NextFits (if b then Done (crowded s.programs key outer units c) else if is_native key then Done
+        (native key outer s.keys call accounts units c) else program_started s.setting s.keys outer key call
+        accounts units c (s.programs key))
     by_count true e = crowded_fits s.programs key outer units c
     by_count false e =
         let most : length call.metas ≤ max_metas = ltb-false max_metas (length call.metas) e in
@@ -328,7 +351,13 @@ within_fits s zero outer f c short = lit< tt
 within_fits s (suc n) outer f c short = follow_fits s outer (within s n) (turn s.setting s.keys outer f c) (within_fits s n) (turn_fits s.setting s.keys outer f c short)
 
 -- the number beside the cause of an instruction that fails
-pub instruction-error : (s : Fixed) (call : CallValue) (accounts : List Account) (units trace : ℕ) (log : Log) → IfErr (instruction s call accounts units trace log).result (λ error. error.detail < 2 ^ 32)
+pub instruction-error : (s : Fixed) (call : CallValue) (accounts : List Account) (units trace : ℕ) (log : Log)
+    → IfErr (instruction s call accounts units trace log).result (λ error. error.detail < 2 ^ 32)
 instruction-error s call accounts units trace log =
-    either (λ (e : Ending). EndingFits e.result) (nat_le max_trace trace) (record { units = units; carried = nothing_returned trace log; result = Err (error_of 1 (plainly TraceTooLong)) }) (frame s [] call accounts units (nothing_returned trace log)) (lit< tt)
-    (after_fits [] (go s) (begun s [] call accounts units (nothing_returned trace log)) (λ outer f c short. within_fits s (suc f.machine.units) outer f c short) (begun_fits s [] call accounts units (nothing_returned trace log)))
+    either (λ (e : Ending). EndingFits e.result) (nat_le max_trace trace)
+        (record { units = units; carried = nothing_returned trace log; result = Err
+        (error_of 1 (plainly TraceTooLong)) }) (frame s [] call accounts units (nothing_returned trace log))
+        (lit< tt)
+    (after_fits [] (go s) (begun s [] call accounts units (nothing_returned trace log))
+        (λ outer f c short. within_fits s (suc f.machine.units) outer f c short)
+        (begun_fits s [] call accounts units (nothing_returned trace log)))

@@ -151,7 +151,9 @@ exited_tells : (r0 : ℕ) → IfErr (exited r0) Tells
 unfolding exited
 exited_tells r0 = by_test (r0 == 0) (nat_lt r0 custom_zero) (r0 == custom_zero) (Ok tt) tt
   where
-    by_test : (a b c : Bool) (done : Result (Unit {0}) Stopped) → IfErr done Tells → IfErr (if a then done else if b then Err (at Custom r0) else if c then Err (at Custom 0) else Err (plainly InvalidError)) Tells
+    by_test : (a b c : Bool) (done : Result (Unit {0}) Stopped) → IfErr done Tells
+        → IfErr (if a then done else if b then Err (at Custom r0) else if c then Err (at Custom 0) else Err
+        (plainly InvalidError)) Tells
     by_test true b c done h = h
     by_test false true c done h = refl
     by_test false false true done h = refl
@@ -227,7 +229,10 @@ patching_tells : (outer : List Key) (f : Running) (accounts : List Account) (uni
 patching_tells outer f accounts units c (Ok region) none = none
 patching_tells outer f accounts units c (Err i) none = closes_tells outer f units c (Err (by_length i)) none refl
 
-returning_tells : (outer : List Key) (f : Running) (units : ℕ) (c : Carried) (result : Result (List Account) InstructionError) → TellsStop (record { units = units; carried = c; result = result }) → NextTells (returning outer f units c result)
+returning_tells : (outer : List Key) (f : Running) (units : ℕ) (c : Carried)
+    (result : Result (List Account) InstructionError)
+    → TellsStop (record { units = units; carried = c; result = result })
+    → NextTells (returning outer f units c result)
 returning_tells outer f units c (Ok accounts) h = patching_tells outer f accounts units c (patched f.machine.context.memory.input.bytes f.start accounts f.metas) h
 returning_tells outer f units c (Err error) h = h
 
@@ -254,7 +259,9 @@ native_tells key outer keys call accounts units c none =
     either TellsStop (nat_lt units NATIVE_UNITS) _ _ (sym (ap tells_access none))
     (other_tells key (height outer) (units - NATIVE_UNITS) c (native_row key keys accounts call) none (native_row_other key keys accounts call))
 
-entered_tells : (setting : Setting) (keys outer : List Key) (key : Key) (call : CallValue) (accounts : List Account) (units : ℕ) (c : Carried) (found : Sought) → NoStop c → NextTells (program_started setting keys outer key call accounts units c found)
+entered_tells : (setting : Setting) (keys outer : List Key) (key : Key) (call : CallValue)
+    (accounts : List Account) (units : ℕ) (c : Carried) (found : Sought) → NoStop c
+    → NextTells (program_started setting keys outer key call accounts units c found)
 entered_tells setting keys outer key call accounts units c (IsReady image) none = none
 entered_tells setting keys outer key call accounts units c IsAbsent none = sym (ap tells_access none)
 entered_tells setting keys outer key call accounts units c IsNoProgram none = sym (ap tells_access none)
@@ -301,5 +308,10 @@ within_tells s (suc n) outer f c none = follow_tells s outer (within s n) (turn 
 -- what an instruction tells of its stop
 pub instruction-tells : (s : Fixed) (call : CallValue) (accounts : List Account) (units trace : ℕ) (log : Log) → TellsStop (instruction s call accounts units trace log)
 instruction-tells s call accounts units trace log =
-    either TellsStop (nat_le max_trace trace) (record { units = units; carried = nothing_returned trace log; result = Err (error_of 1 (plainly TraceTooLong)) }) (frame s [] call accounts units (nothing_returned trace log)) refl
-    (after_tells [] (go s) (begun s [] call accounts units (nothing_returned trace log)) (λ outer f c none. within_tells s (suc f.machine.units) outer f c none) (begun_tells s [] call accounts units (nothing_returned trace log) refl))
+    either TellsStop (nat_le max_trace trace)
+        (record { units = units; carried = nothing_returned trace log; result = Err
+        (error_of 1 (plainly TraceTooLong)) }) (frame s [] call accounts units (nothing_returned trace log))
+        refl
+    (after_tells [] (go s) (begun s [] call accounts units (nothing_returned trace log))
+        (λ outer f c none. within_tells s (suc f.machine.units) outer f c none)
+        (begun_tells s [] call accounts units (nothing_returned trace log) refl))

@@ -82,7 +82,9 @@ native_counts : (key : Key) (outer keys : List Key) (call : Call) (accounts : Li
 native_counts key outer keys call accounts units c =
     either (λ (e : Ending). c.trace ≤ e.carried.trace) (nat_lt units NATIVE_UNITS) _ _ (omega arith) (omega arith)
 
-entered_counts : (setting : Setting) (keys outer : List Key) (key : Key) (call : Call) (accounts : List Account) (units : ℕ) (c : Carried) (found : Sought) → NextCounts c.trace (program_started setting keys outer key call accounts units c found)
+entered_counts : (setting : Setting) (keys outer : List Key) (key : Key) (call : Call) (accounts : List Account)
+    (units : ℕ) (c : Carried) (found : Sought)
+    → NextCounts c.trace (program_started setting keys outer key call accounts units c found)
 entered_counts setting keys outer key call accounts units c (IsReady image) = omega arith
 entered_counts setting keys outer key call accounts units c IsAbsent = omega arith
 entered_counts setting keys outer key call accounts units c IsNoProgram = omega arith
@@ -134,7 +136,10 @@ within_counts s (suc n) outer f c = follow_counts s outer (within s n) c.trace (
 pub instruction_counts : (s : Fixed) (call : Call) (accounts : List Account) (units trace : ℕ) (log : Log) → trace < max_trace → trace + 1 ≤ (instruction s call accounts units trace log).carried.trace
 instruction_counts s call accounts units trace log few = by_test (nat_le max_trace trace) refl
   where
-    by_test : (b : Bool) → nat_le max_trace trace ≡ b → trace + 1 ≤ (if b then record { units = units; carried = nothing_returned trace log; result = Err (error_of 1 (plainly TraceTooLong)) } else frame s [] call accounts units (nothing_returned trace log)).carried.trace
+    by_test : (b : Bool) → nat_le max_trace trace ≡ b
+        → trace + 1 ≤ (if b then record { units = units; carried = nothing_returned trace log; result = Err
+        (error_of 1 (plainly TraceTooLong)) } else frame s [] call accounts units
+        (nothing_returned trace log)).carried.trace
     by_test true e = absurd (grind (arith, nat_tests))
     by_test false e =
         after_counts [] (go s) (trace + 1) (begun s [] call accounts units (nothing_returned trace log)) (λ outer f c. within_counts s (suc f.machine.units) outer f c)

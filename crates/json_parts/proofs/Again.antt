@@ -36,7 +36,9 @@ pub member_again : {X : Type 0} (name : List ℕ) (one : Data → Read X) (d fou
 unfolding member_in found_in
 member_again name one d found x there is = rw (there, is) refl
 
-pub items_again : {X : Type 0} (one : Data → Read (List ℕ)) (json : X → Data) (spell : X → List ℕ) (Fits : X → Type 0) → ((x : X) → Fits x → IsBytes (spell x) → one (json x) ≡ Ok (spell x)) → (i : ℕ) (xs : List X) → AllByRecursion Fits xs
+pub items_again : {X : Type 0} (one : Data → Read (List ℕ)) (json : X → Data) (spell : X → List ℕ)
+    (Fits : X → Type 0) → ((x : X) → Fits x → IsBytes (spell x) → one (json x) ≡ Ok (spell x))
+    → (i : ℕ) (xs : List X) → AllByRecursion Fits xs
     → IsBytes (flat_map spell xs) → items_in one i (map json xs) ≡ Ok (flat_map spell xs)
 unfolding items_in
 items_again one json spell Fits each i [] fit are = refl
@@ -45,6 +47,8 @@ items_again one json spell Fits each i (x ∷ xs) fit are =
     let more = items_again one json spell Fits each (i + 1) xs fit.1 (after_bytes _ (spell x) (flat_map spell xs) are refl) in
     rw (first, more) refl
 
-pub list_again : {X : Type 0} (most : ℕ) (one : Data → Read (List ℕ)) (json : X → Data) (xs : List X) (bytes : List ℕ) → length xs ≤ most → items_in one 0 (map json xs) ≡ Ok bytes → list_in most one (list_json json xs) ≡ Ok (length xs, bytes)
+pub list_again : {X : Type 0} (most : ℕ) (one : Data → Read (List ℕ)) (json : X → Data) (xs : List X)
+    (bytes : List ℕ) → length xs ≤ most → items_in one 0 (map json xs) ≡ Ok bytes
+    → list_in most one (list_json json xs) ≡ Ok (length xs, bytes)
 unfolding list_in array_in
 list_again most one json xs bytes few read = rw (data_of-items (map json xs), length-map xs json, up_to (length xs) most few, read, length-map xs json) refl

@@ -26,7 +26,9 @@ pub many_items : (most : ℕ) (values : List Value) → most < length values →
 many_items most values many = rw (data_of-items (map view values), length-map values view, many_test (length values) most many) refl
 
 -- one value more is shown
-pub shows_on : {X : Type 0} (json : X → Data) (values new : List Value) (v : Value) (all left after : List X) (x : X) → map view values ++ map json left ≡ map json all → left ≡ x ∷ after → view v ≡ json x → new ≡ values ++ v ∷ [] → map view new ++ map json after ≡ map json all
+pub shows_on : {X : Type 0} (json : X → Data) (values new : List Value) (v : Value) (all left after : List X)
+    (x : X) → map view values ++ map json left ≡ map json all → left ≡ x ∷ after → view v ≡ json x
+    → new ≡ values ++ v ∷ [] → map view new ++ map json after ≡ map json all
 shows_on {X = X} json values new v all left after x so_far next is pushed =
     let grown : map view new ≡ map view values ++ json x ∷ [] = ap (map view) pushed ∙ map-append view values (v ∷ []) ∙ ap (λ (d : Data). map view values ++ d ∷ []) is in
     ap (λ (l : List Data). l ++ map json after) grown ∙ append_assoc (map view values) (json x ∷ []) (map json after) ∙ ap (λ (l : List X). map view values ++ map json l) (sym next) ∙ so_far

@@ -18,15 +18,21 @@ has-shown shown [] name = refl
 has-shown shown (one ∷ names) name = ap (λ (b : Bool). bytes_eq (shown one) name || b) (has-shown shown names name)
 
 -- a member with one of the names is passed over
-pub name_passes : (names : List (List ℕ)) (rest after : List (String Global × Value)) (e : String Global × Value) → rest ≡ e ∷ after → has_name names (string_bytes e.0) ≡ true → names_in names (members_view rest) ≡ names_in names (members_view after)
+pub name_passes : (names : List (List ℕ)) (rest after : List (String Global × Value))
+    (e : String Global × Value) → rest ≡ e ∷ after → has_name names (string_bytes e.0) ≡ true
+    → names_in names (members_view rest) ≡ names_in names (members_view after)
 name_passes names rest after e next is = rw (next, is) refl
 
 -- another is refused
-pub name_refused : (names : List (List ℕ)) (rest after : List (String Global × Value)) (e : String Global × Value) → rest ≡ e ∷ after → has_name names (string_bytes e.0) ≡ false → names_in names (members_view rest) ≡ Err (Refused (Member (string_bytes e.0) ∷ []) Absence)
+pub name_refused : (names : List (List ℕ)) (rest after : List (String Global × Value))
+    (e : String Global × Value) → rest ≡ e ∷ after → has_name names (string_bytes e.0) ≡ false
+    → names_in names (members_view rest) ≡ Err (Refused (Member (string_bytes e.0) ∷ []) Absence)
 name_refused names rest after e next is = rw (next, is) refl
 
 -- the fault that is answered for it, or want of memory
-pub refused_so : (answer fault : JsonFault) (read : Read Unit) → MatchBool (is_json_memory answer) (Unit {0}) (answer ≡ fault) → read ≡ Err fault → MatchBool (is_json_memory answer) (Unit {0}) (read ≡ Err answer)
+pub refused_so : (answer fault : JsonFault) (read : Read Unit)
+    → MatchBool (is_json_memory answer) (Unit {0}) (answer ≡ fault) → read ≡ Err fault
+    → MatchBool (is_json_memory answer) (Unit {0}) (read ≡ Err answer)
 refused_so answer fault read gives is = by_case (is_json_memory answer) gives
   where
     by_case : (b : Bool) → MatchBool b (Unit {0}) (answer ≡ fault) → MatchBool b (Unit {0}) (read ≡ Err answer)

@@ -35,7 +35,9 @@ names_shown : (names : List (List ℕ)) (shown : Data) (ms : Members) → has_na
 names_shown names shown no_members has = rw has refl
 names_shown names shown (member l e ms) has = by_order (slice_cmp nat_cmp (codes "shown") l) (names_shown names shown ms has)
   where
-    by_order : (o : Ordering) → names_in names (put (codes "shown") shown ms) ≡ names_in names ms → names_in names (match_ordering o (member (codes "shown") shown (member l e ms)) (member l shown ms) (member l e (put (codes "shown") shown ms))) ≡ names_in names (member l e ms)
+    by_order : (o : Ordering) → names_in names (put (codes "shown") shown ms) ≡ names_in names ms
+        → names_in names (match_ordering o (member (codes "shown") shown (member l e ms)) (member l shown ms)
+        (member l e (put (codes "shown") shown ms))) ≡ names_in names (member l e ms)
     by_order Less rest = rw has refl
     by_order Equal rest = refl
     by_order Greater rest = rw rest refl

@@ -62,8 +62,12 @@ header_again header required signed unsigned =
     let d = header_json header in
     rw (
       member_again (codes "required") (number_in 0 (2 ^ 8 - 1)) d (number_json header.required) header.required refl (number_again 0 (2 ^ 8 - 1) header.required (omega arith) (omega arith)),
-      member_again (codes "readonly_signed") (number_in 0 (2 ^ 8 - 1)) d (number_json header.readonly_signed) header.readonly_signed refl (number_again 0 (2 ^ 8 - 1) header.readonly_signed (omega arith) (omega arith)),
-      member_again (codes "readonly_unsigned") (number_in 0 (2 ^ 8 - 1)) d (number_json header.readonly_unsigned) header.readonly_unsigned refl (number_again 0 (2 ^ 8 - 1) header.readonly_unsigned (omega arith) (omega arith)),
+      member_again (codes "readonly_signed") (number_in 0 (2 ^ 8 - 1)) d (number_json header.readonly_signed)
+          header.readonly_signed refl
+          (number_again 0 (2 ^ 8 - 1) header.readonly_signed (omega arith) (omega arith)),
+      member_again (codes "readonly_unsigned") (number_in 0 (2 ^ 8 - 1)) d
+          (number_json header.readonly_unsigned) header.readonly_unsigned refl
+          (number_again 0 (2 ^ 8 - 1) header.readonly_unsigned (omega arith) (omega arith)),
     ) refl
 
 record InstructionFits (instruction : Instruction) : Type 0 where
@@ -71,7 +75,9 @@ record InstructionFits (instruction : Instruction) : Type 0 where
   accounts : IsCountable instruction.accounts
   input : IsCountable instruction.input
 
-instruction_again : (instruction : Instruction) → InstructionFits instruction → IsBytes (instruction_bytes instruction) → instruction_in (instruction_json instruction) ≡ Ok (instruction_bytes instruction)
+instruction_again : (instruction : Instruction) → InstructionFits instruction
+    → IsBytes (instruction_bytes instruction)
+    → instruction_in (instruction_json instruction) ≡ Ok (instruction_bytes instruction)
 unfolding instruction_in known_in
 instruction_again instruction fits are =
     let d = instruction_json instruction in
@@ -105,7 +111,9 @@ lookup_again lookup fits are =
     let writable_are = after_bytes _ (compact (length writable)) writable (after_bytes _ table (blob_bytes writable) head_are refl) refl in
     let readonly_are = after_bytes _ (compact (length readonly)) readonly (after_bytes _ head (blob_bytes readonly) are refl) refl in
     let joined : table ++ compact (length writable) ++ writable ++ compact (length readonly) ++ readonly ≡ lookup_bytes lookup =
-    append_assoc (table ++ compact (length writable) ++ writable) (compact (length readonly)) readonly ∙ ap (λ (l : List ℕ). l ++ blob_bytes readonly) (append_assoc table (compact (length writable)) writable) in
+    append_assoc (table ++ compact (length writable) ++ writable) (compact (length readonly)) readonly
+        ∙ ap (λ (l : List ℕ). l ++ blob_bytes readonly)
+        (append_assoc table (compact (length writable)) writable) in
     rw (
       member_again (codes "table") (digits_in 32) d (hex_json table) table refl (digits_again 32 table fits.table table_are),
       member_again (codes "writable") (list_in max_count byte_in) d (list_json number_json writable) (length writable, writable) refl (bytes_again writable fits.writable writable_are),
@@ -123,7 +131,8 @@ record LookupsRead (kind : MessageKind) (lookups : List Lookup) : Type 0 where
   is : list_in (most_lookups kind) lookup_in (list_json lookup_json lookups) ≡ Ok read
   part : lookups_part kind read ≡ lookups_bytes kind lookups
 
-lookups_again : (kind : MessageKind) (lookups : List Lookup) → AllowsLookups kind lookups → IsCountable lookups → AllByRecursion LookupFits lookups → IsBytes (lookups_bytes kind lookups) → LookupsRead kind lookups
+lookups_again : (kind : MessageKind) (lookups : List Lookup) → AllowsLookups kind lookups → IsCountable lookups
+    → AllByRecursion LookupFits lookups → IsBytes (lookups_bytes kind lookups) → LookupsRead kind lookups
 unfolding list_in items_in
 lookups_again Legacy lookups none few fits are = record {
   read = (0, []);
@@ -134,7 +143,9 @@ lookups_again Zero lookups allowed few fits are =
     let all = flat_map lookup_bytes lookups in
     record {
       read = (length lookups, all);
-      is = list_again max_count lookup_in lookup_json lookups all few (items_again lookup_in lookup_json lookup_bytes LookupFits lookup_again 0 lookups fits (after_bytes _ (compact (length lookups)) all are refl));
+      is = list_again max_count lookup_in lookup_json lookups all few
+          (items_again lookup_in lookup_json lookup_bytes LookupFits lookup_again 0 lookups fits
+          (after_bytes _ (compact (length lookups)) all are refl));
       part = refl;
     }
 
@@ -160,17 +171,23 @@ message_again tx bytes is are =
     let keys_are = after_bytes _ key_count keys (after_bytes _ opening (key_count ++ keys) a2 refl) refl in
     let hash_are = after_bytes _ to_keys message.blockhash.0 a3 refl in
     let all_are = after_bytes _ count all (after_bytes _ to_hash (count ++ all) a4 refl) refl in
-    let instructions_fit = recursion_from_All InstructionFits message.instructions (λ k e lt. record { program = has.programs k e lt; accounts = lists.accounts k e lt; input = lists.inputs k e lt }) in
+    let instructions_fit = recursion_from_All InstructionFits message.instructions
+        (λ k e lt. record { program = has.programs k e lt; accounts = lists.accounts k e lt; input =
+        lists.inputs k e lt }) in
     let lookups_fit = recursion_from_All LookupFits message.lookups (λ k e lt. record { table = has.tables k e lt; writable = lists.writable k e lt; readonly = lists.readonly k e lt }) in
     let looked = lookups_again message.kind message.lookups is.allows lists.lookups lookups_fit (after_bytes _ to_instructions lookups are refl) in
     rw (
       member_again (codes "version") kind_in d (version_json message.kind) message.kind refl (kind_again message.kind),
       member_again (codes "header") header_in d (header_json message.header) (header_bytes message.header) refl (header_again message.header has.required has.readonly_signed has.readonly_unsigned),
       member_again (codes "keys") (list_in max_count key_in) d (list_json key_json message.keys) (length message.keys, keys) refl
-          (list_again max_count key_in key_json message.keys keys lists.keys (items_again key_in key_json key_bytes IsKey key_again 0 message.keys (recursion_from_All IsKey message.keys has.keys) keys_are)),
+          (list_again max_count key_in key_json message.keys keys lists.keys
+              (items_again key_in key_json key_bytes IsKey key_again 0 message.keys
+              (recursion_from_All IsKey message.keys has.keys) keys_are)),
       member_again (codes "recent_blockhash") (digits_in 32) d (hex_json message.blockhash.0) message.blockhash.0 refl (digits_again 32 message.blockhash.0 has.blockhash hash_are),
       member_again (codes "instructions") (list_in max_count instruction_in) d (list_json instruction_json message.instructions) (length message.instructions, all) refl
-          (list_again max_count instruction_in instruction_json message.instructions all lists.instructions (items_again instruction_in instruction_json instruction_bytes InstructionFits instruction_again 0 message.instructions instructions_fit all_are)),
+          (list_again max_count instruction_in instruction_json message.instructions all lists.instructions
+              (items_again instruction_in instruction_json instruction_bytes InstructionFits instruction_again 0
+              message.instructions instructions_fit all_are)),
       member_again (codes "lookups") (list_in (most_lookups message.kind) lookup_in) d (list_json lookup_json message.lookups) looked.read refl looked.is,
       looked.part,
       append_assoc opening key_count keys,
@@ -188,7 +205,10 @@ tx_again tx bytes is are =
     rw (
       member_again (codes "signatures") (list_in max_count signature_in) d (list_json signature_json tx.signatures) (length tx.signatures, all) refl
           (list_again max_count signature_in signature_json tx.signatures all is.signatures
-          (items_again signature_in signature_json signature_bytes (λ signature. length signature.0 ≡ 64) signature_again 0 tx.signatures (recursion_from_All (λ (signature : Signature). length signature.0 ≡ 64) tx.signatures is.widths.signatures) (after_bytes _ count all signed_are refl))),
+          (items_again signature_in signature_json signature_bytes (λ signature. length signature.0 ≡ 64)
+              signature_again 0 tx.signatures
+              (recursion_from_All (λ (signature : Signature). length signature.0 ≡ 64) tx.signatures
+              is.widths.signatures) (after_bytes _ count all signed_are refl))),
       message_again tx bytes is message_are,
     ) refl
 

@@ -18,7 +18,9 @@ want (Err BadImage) read g = absurd (cc)
 want (Err (Trailing at)) read g = absurd (cc)
 
 -- what holds of what was read inside holds one step further out
-pub within_gives : {X : Type 0} (step : Step) (inner outer read : Read X) → Gives is_json_memory (λ x. x) inner read → Gives is_json_memory (λ x. x) outer (within step inner) → Gives is_json_memory (λ x. x) outer (within step read)
+pub within_gives : {X : Type 0} (step : Step) (inner outer read : Read X)
+    → Gives is_json_memory (λ x. x) inner read → Gives is_json_memory (λ x. x) outer (within step inner)
+    → Gives is_json_memory (λ x. x) outer (within step read)
 within_gives step (Ok x) outer read h g = rw h g
 within_gives step (Err OutOfMemory) outer read h g = want outer (within step read) g
 within_gives step (Err (NoJson line column)) outer read h g = rw h g

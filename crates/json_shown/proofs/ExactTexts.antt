@@ -9,7 +9,9 @@ use Rattle.bank_json.specs.Texts.{shown, TextIs}
 use Rattle.bank_json.proofs.Texts.{comes_back}
 
 -- they stand for the bytes that they were made of
-pub exact_comes : (meaning : Data → Read (List ℕ)) (written : Read Data) (bytes : List ℕ) → ((d : Data) → written ≡ Ok d → meaning d ≡ Ok bytes) → (answer : Result (String Global) JsonFault) → Gives is_json_memory (λ text. read (string_bytes text)) answer (shown written)
+pub exact_comes : (meaning : Data → Read (List ℕ)) (written : Read Data) (bytes : List ℕ)
+    → ((d : Data) → written ≡ Ok d → meaning d ≡ Ok bytes) → (answer : Result (String Global) JsonFault)
+    → Gives is_json_memory (λ text. read (string_bytes text)) answer (shown written)
     → IfOk answer (λ text. TextIs meaning (string_bytes text) bytes)
 exact_comes meaning written bytes back (Ok text) h = comes_back meaning written (string_bytes text) bytes h back
 exact_comes meaning written bytes back (Err fault) h = tt

@@ -62,10 +62,15 @@ module _ (start disk : Disk) (old : List Event) (stands : Stands start old disk)
 
   -- what is sure of the file that is moved
   moved_whole : moved synced_beside name ≡ Some (Some bytes)
-  moved_whole = ap (option_map (λ (b : List ℕ). Some b)) (cond-true (same_name name name) (written wrote name) (synced wrote name) self ∙ cond-true (same_name name name) (Some bytes) (written old name) self)
+  moved_whole = ap (option_map (λ (b : List ℕ). Some b))
+      (cond-true (same_name name name) (written wrote name) (synced wrote name) self
+      ∙ cond-true (same_name name name) (Some bytes) (written old name) self)
 
   -- a move that is not yet sure
-  moving : (events : List Event) → ((n : Name) → left start events n ≡ (if same_name name n then moved synced_beside n ∷ left start synced_beside n else left start synced_beside n)) → IsStage start disk name bytes events
+  moving : (events : List Event)
+      → ((n : Name) → left start events n
+      ≡ (if same_name name n then moved synced_beside n
+      ∷ left start synced_beside n else left start synced_beside n)) → IsStage start disk name bytes events
   moving events is = record {
     others = λ n apart. is n ∙ cond-false (same_name name n) (moved synced_beside n ∷ left start old n) (left start old n) apart ∙ stands.lasts n;
     file = λ found fits.

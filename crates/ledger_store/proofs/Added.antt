@@ -85,7 +85,9 @@ module _ (before after : Snapshot) (was : IsReadable before) (is : IsReadable af
       let whole = sum_by-cons (λ (d : Entry). d.1.lamports) e es in
       by_test (p e) rest whole
     where
-      by_test : (b : Bool) → lamports_of (filter p es) ≤ lamports_of es → lamports_of (e ∷ es) ≡ e.1.lamports + lamports_of es → lamports_of (cond b (e ∷ filter p es) (filter p es)) ≤ lamports_of (e ∷ es)
+      by_test : (b : Bool) → lamports_of (filter p es) ≤ lamports_of es
+          → lamports_of (e ∷ es) ≡ e.1.lamports + lamports_of es
+          → lamports_of (cond b (e ∷ filter p es) (filter p es)) ≤ lamports_of (e ∷ es)
       by_test true rest whole = omega (arith, rest, whole, sum_by-cons (λ (d : Entry). d.1.lamports) e (filter p es))
       by_test false rest whole = omega (arith, rest, whole)
 
@@ -120,14 +122,18 @@ module _ (before after : Snapshot) (was : IsReadable before) (is : IsReadable af
   }
 
   pub gone_keys : HasWidths before → AllByRecursion IsKey changes.gone
-  gone_keys has = recursion_from_All IsKey changes.gone (All-map IsKey (λ (e : Entry). e.0) (filter went (entries before.accounts)) (All-filter went (λ (e : Entry). IsKey e.0) (entries before.accounts) has.keys))
+  gone_keys has = recursion_from_All IsKey changes.gone
+      (All-map IsKey (λ (e : Entry). e.0) (filter went (entries before.accounts))
+      (All-filter went (λ (e : Entry). IsKey e.0) (entries before.accounts) has.keys))
 
   -- put into the first, it gives the second
   pub next_again : after.recent ≡ next_recent (take 1 after.recent) before.recent → next_of after.slot changes before ≡ Ok after
   unfolding next_of
   next_again recent =
       let accounts : next_accounts changes before.accounts ≡ Some after.accounts =
-      subst (λ (es : List Entry). with_accounts es (without (map (λ (e : Entry). e.0) es) (without changes.gone before.accounts)) ≡ Some after.accounts) (sym back) (changes_back before.accounts after.accounts was.state is.state) in
+      subst (λ (es : List Entry). with_accounts es
+          (without (map (λ (e : Entry). e.0) es) (without changes.gone before.accounts)) ≡ Some after.accounts)
+          (sym back) (changes_back before.accounts after.accounts was.state is.state) in
       let few : nat_le (len after.accounts) max_accounts ≡ true = le-leb (len after.accounts) max_accounts is.accounts in
       let whole : next_snapshot changes before after.accounts ≡ after = λ i. record { slot = after.slot; limits = after.limits; recent = sym recent i; accounts = after.accounts } in
       rw (accounts, few) (ap (λ (s : Snapshot). let r : Result Snapshot LedgerFault = Ok s in r) whole)
@@ -141,7 +147,10 @@ walked-push disk [] slot before = ends (stepped disk slot before)
     ends (Err e) = refl
 walked-push disk (first ∷ slots) slot before = on (stepped disk first before) (λ next. walked-push disk slots slot next)
   where
-    on : (r : Result Snapshot LedgerFault) → ((next : Snapshot) → walked disk (slots ++ slot ∷ []) next ≡ (walked disk slots next >>= stepped disk slot)) → (r >>= walked disk (slots ++ slot ∷ [])) ≡ ((r >>= walked disk slots) >>= stepped disk slot)
+    on : (r : Result Snapshot LedgerFault)
+        → ((next : Snapshot) → walked disk (slots ++ slot ∷ []) next
+        ≡ (walked disk slots next >>= stepped disk slot))
+        → (r >>= walked disk (slots ++ slot ∷ [])) ≡ ((r >>= walked disk slots) >>= stepped disk slot)
     on (Ok next) h = h next
     on (Err e) h = refl
 
@@ -197,11 +206,15 @@ changed_newest disk head slot same =
     ∙ ap (λ (l : List ℕ). drop full l ++ slot ∷ []) (sym (take_all n head.slots (omega arith))) in
     ap (λ (r : Result Snapshot LedgerFault). r >>= walked disk (slots_behind more (n + 1))) first
     ∙ ap (λ (l : List ℕ). full_state disk head n >>= walked disk l) behind
-    ∙ bind_same (full_state disk head n) (walked disk (slots_behind head n ++ slot ∷ [])) (λ s. walked disk (slots_behind head n) s >>= stepped disk slot) (λ s. walked-push disk (slots_behind head n) slot s)
+    ∙ bind_same (full_state disk head n) (walked disk (slots_behind head n ++ slot ∷ []))
+        (λ s. walked disk (slots_behind head n) s >>= stepped disk slot)
+        (λ s. walked-push disk (slots_behind head n) slot s)
     ∙ bind_assoc (full_state disk head n) (walked disk (slots_behind head n)) (stepped disk slot)
 
 -- the slots with one more are those whose blocks are there
-listed : (disk crashed : Disk) (slots : List ℕ) (slot : ℕ) (bytes : List ℕ) → Lists disk slots → AllByRecursion (λ one. one < slot) slots → Agree slot crashed disk → crashed (Block slot) ≡ Some bytes → Lists crashed (slots ++ slot ∷ [])
+listed : (disk crashed : Disk) (slots : List ℕ) (slot : ℕ) (bytes : List ℕ) → Lists disk slots
+    → AllByRecursion (λ one. one < slot) slots → Agree slot crashed disk → crashed (Block slot) ≡ Some bytes
+    → Lists crashed (slots ++ slot ∷ [])
 listed disk crashed slots slot bytes lists below agree here = record {
   ascending = ascends-push slots slot lists.ascending below;
   each = λ at. has_slot-push slots slot at ∙ by_test at (slot == at) refl;
@@ -227,13 +240,18 @@ module _ (ledger : Ledger) (block : BlockValue) (after : Snapshot) (micros : ℕ
   abbrev count : ℕ
   count = length head.slots
 
-  newest_then : (full : Bool) → is_full head.every count ≡ full → (crashed : Disk) → Agree after.slot crashed disk → crashed (state_name full after.slot) ≡ Some (sealed (state_body full ledger.newest after))
+  newest_then : (full : Bool) → is_full head.every count ≡ full → (crashed : Disk)
+      → Agree after.slot crashed disk
+      → crashed (state_name full after.slot) ≡ Some (sealed (state_body full ledger.newest after))
       → state_after crashed (longer head after.slot) (count + 1) ≡ Ok after
   newest_then true full crashed agree there =
       full_newest crashed head after.slot after (after_full head.every count some full) (ap (state_in after.slot) there ∙ state_again after.slot after is has refl)
   newest_then false other crashed agree there =
       let so = opened_so disk ledger opens.same in
-      let read = ap (changes_in after.slot ledger.newest.slot) there ∙ changes_again after.slot ledger.newest.slot (changes_between ledger.newest after) (readable ledger.newest after was is) (widths ledger.newest after was is has) (few_keys ledger.newest after was is) (gone_keys ledger.newest after was is had) had.slot refl in
+      let read = ap (changes_in after.slot ledger.newest.slot) there
+          ∙ changes_again after.slot ledger.newest.slot (changes_between ledger.newest after)
+          (readable ledger.newest after was is) (widths ledger.newest after was is has)
+          (few_keys ledger.newest after was is) (gone_keys ledger.newest after was is had) had.slot refl in
       changed_newest crashed head after.slot (after_other head.every count some other)
       ∙ ap (λ (r : Result Snapshot LedgerFault). r >>= stepped crashed after.slot) (agreed_state_after after.slot crashed disk head count agree later ∙ so.newest_read)
       ∙ ap (λ (r : Result Changes LedgerFault). r >>= λ c. next_of after.slot c ledger.newest) read

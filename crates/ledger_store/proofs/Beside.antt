@@ -91,7 +91,9 @@ same_refusal : {X : Type 0} (free : Bool) (told : Result X LedgerFault) → Matc
 same_refusal true told = tt
 same_refusal false told = refl
 
-unless_gives : {X : Type 0} (first : Option LedgerFault) (told answer : Result X LedgerFault) → Gives is_free (λ x. x) told answer → Gives is_free (λ x. x) (told_unless first told) (told_unless first answer)
+unless_gives : {X : Type 0} (first : Option LedgerFault) (told answer : Result X LedgerFault)
+    → Gives is_free (λ x. x) told answer
+    → Gives is_free (λ x. x) (told_unless first told) (told_unless first answer)
 unless_gives None told answer h = h
 unless_gives {X = X} (Some fault) told answer h = same_refusal {X = X} (is_free fault) (Err fault)
 
@@ -136,7 +138,9 @@ gives_then {X = X} {Y = Y} (Err e) answer (Err f) more h g = by_test (is_ledger_
         let faults : e ≡ f = cc in
         let read : answer ≡ Err e = subst (λ (b : Bool). MatchBool b (Unit {0}) (answer ≡ Err e)) (ap is_ledger_memory faults ∙ is) h in ap (λ (r : Result X LedgerFault). r >>= more) read ∙ same
 
-pub watched_changes : (file : Watched) (slot : ℕ) (bytes : List ℕ) (before : Snapshot) (read : Result Changed LedgerFault) (told : Result Snapshot LedgerFault) → file.name ≡ Changes slot → arc_value file.bytes ≡ bytes
+pub watched_changes : (file : Watched) (slot : ℕ) (bytes : List ℕ) (before : Snapshot)
+    (read : Result Changed LedgerFault) (told : Result Snapshot LedgerFault) → file.name ≡ Changes slot
+    → arc_value file.bytes ≡ bytes
     → Gives is_ledger_memory (λ c. c) read (whole_changes slot before.slot (unsealed bytes)) → Gives is_ledger_memory (λ s. s) told (read >>= λ changes. next_of slot changes before)
     → Gives is_free (λ s. s) (told_unless (unsealed_fault file) told) (stepped_by (slot, Some bytes) before)
 watched_changes file slot bytes before read told name holds gives next =
@@ -144,9 +148,13 @@ watched_changes file slot bytes before read told name holds gives next =
     let own : unsealed_fault file ≡ first =
     ap (λ (l : List ℕ). if is_sealed l then None else Some (Damaged file.name (seal_at l))) holds ∙ ap (λ (n : Name). if is_sealed bytes then None else Some (Damaged n (seal_at bytes))) name in
     let whole : stepped_by (slot, Some bytes) before ≡ told_unless first (changed slot bytes before) = sealed_changes slot bytes before (is_sealed bytes) refl in
-    let both : Gives is_ledger_memory (λ (s : Snapshot). s) told (changed slot bytes before) = gives_then read (whole_changes slot before.slot (unsealed bytes)) told (λ changes. next_of slot changes before) gives next in
+    let both : Gives is_ledger_memory (λ (s : Snapshot). s) told (changed slot bytes before) = gives_then read
+        (whole_changes slot before.slot (unsealed bytes)) told (λ changes. next_of slot changes before) gives
+        next in
     subst (λ (o : Option LedgerFault). Gives is_free (λ (s : Snapshot). s) (told_unless o told) (stepped_by (slot, Some bytes) before)) (sym own)
-    (subst (λ (r : Result Snapshot LedgerFault). Gives is_free (λ (s : Snapshot). s) (told_unless first told) r) (sym whole) (unless_gives first told (changed slot bytes before) (freer told (changed slot bytes before) both)))
+    (subst (λ (r : Result Snapshot LedgerFault). Gives is_free (λ (s : Snapshot). s) (told_unless first told) r)
+        (sym whole) (unless_gives first told (changed slot bytes before)
+        (freer told (changed slot bytes before) both)))
 
 -- a file that is put behind the others
 pub settled_gives : {X : Type 0} (files later : List Watched) (file : Watched) (told answer : Result X LedgerFault) → later ≡ files ++ file ∷ []
@@ -156,7 +164,9 @@ settled_gives {X = X} files later file told answer pushed so =
     (unless_gives (first_unsealed files) (told_unless (unsealed_fault file) told) answer so)
 
 -- a refusal with which no file was put behind the others
-pub settled_same : {X : Type 0} (files later : List Watched) (told answer : Result X LedgerFault) → later ≡ files → Gives is_free (λ x. x) told answer → Gives is_free (λ x. x) (settled later told) (settled files answer)
+pub settled_same : {X : Type 0} (files later : List Watched) (told answer : Result X LedgerFault)
+    → later ≡ files → Gives is_free (λ x. x) told answer
+    → Gives is_free (λ x. x) (settled later told) (settled files answer)
 settled_same {X = X} files later told answer same h =
     subst (λ (l : List Watched). Gives is_free (λ (x : X). x) (settled l told) (settled files answer)) (sym same) (unless_gives (first_unsealed files) told answer h)
 
@@ -180,12 +190,14 @@ pub exact_settled : {X : Type 0} (files : List Watched) (x : X) (answer : Result
 exact_settled files x answer h = exact_unless (first_unsealed files) x answer (λ fault e. (damage files fault e).free) h
 
 -- what follows a call that told a value
-pub more_settled : {X Y : Type 0} (before after : List Watched) (x : X) (answer : Result X LedgerFault) (more : X → Result Y LedgerFault) → Gives is_free (λ x. x) (settled after (Ok x)) (settled before answer)
+pub more_settled : {X Y : Type 0} (before after : List Watched) (x : X) (answer : Result X LedgerFault)
+    (more : X → Result Y LedgerFault) → Gives is_free (λ x. x) (settled after (Ok x)) (settled before answer)
     → settled before (answer >>= more) ≡ settled after (more x)
 more_settled {X = X} {Y = Y} before after x answer more h =
     settled_then before answer more ∙ ap (λ (r : Result X LedgerFault). r >>= more) (exact_settled after x (settled before answer) h) ∙ sym (settled_then {X = X} after (Ok x) more)
 
-stays_unless : {X Y : Type 0} (first : Option LedgerFault) (fault : LedgerFault) (answer : Result X LedgerFault) (more : X → Result Y LedgerFault) → Gives is_free (λ x. x) (told_unless {X = X} first (Err fault)) answer
+stays_unless : {X Y : Type 0} (first : Option LedgerFault) (fault : LedgerFault) (answer : Result X LedgerFault)
+    (more : X → Result Y LedgerFault) → Gives is_free (λ x. x) (told_unless {X = X} first (Err fault)) answer
     → Gives is_free (λ y. y) (told_unless {X = Y} first (Err fault)) (answer >>= more)
 stays_unless None fault answer more h = err_then (is_free fault) fault answer more h
 stays_unless (Some other) fault answer more h = err_then (is_free other) other answer more h
@@ -198,13 +210,16 @@ stays_settled {X = X} {Y = Y} before after fault answer more h =
     (stays_unless {X = X} {Y = Y} (first_unsealed after) fault (settled before answer) more h)
 
 -- the files of a state and of what is behind it, and what they come to
-pub tells_beside : (files later : List Watched) (old new : List Event) (head : Head) (count slot : ℕ) (slots : List ℕ) (found : List ℕ × List (ℕ × Option (List ℕ))) (result : Result Snapshot LedgerFault)
+pub tells_beside : (files later : List Watched) (old new : List Event) (head : Head) (count slot : ℕ)
+    (slots : List ℕ) (found : List ℕ × List (ℕ × Option (List ℕ))) (result : Result Snapshot LedgerFault)
     → ((disk : Disk) → Shows new disk → Shows old disk × (found_in disk slot slots ≡ Ok found)) → Gives is_free (λ s. s) (settled later result) (settled files (told_by slot found.0 found.1))
     → slot ≡ slot_after head (full_before head.every count) → slots ≡ slots_behind head count → Tells old new (settled later result) (λ disk. settled files (state_after disk head count))
 unfolding state_after
 tells_beside files later old new head count slot slots found result first told at behind disk shows =
     let f = first disk shows in
-    let parts = bind_ok (found_or (Missing (State slot)) (disk (State slot))) (λ full. let r : Result (List ℕ × List (ℕ × Option (List ℕ))) LedgerFault = Ok (full, files_of disk slots) in r) found f.1 in
+    let parts = bind_ok (found_or (Missing (State slot)) (disk (State slot)))
+        (λ full. let r : Result (List ℕ × List (ℕ × Option (List ℕ))) LedgerFault = Ok
+        (full, files_of disk slots) in r) found f.1 in
     let both : (let x : List ℕ × List (ℕ × Option (List ℕ)) = (parts.0, files_of disk slots) in x) ≡ found = ok_same {E = LedgerFault} (parts.0, files_of disk slots) found parts.2 in
     let here : (state_in slot (disk (State slot)) >>= walked disk slots) ≡ told_by slot found.0 found.1 =
     ap (λ (r : Result (List ℕ) LedgerFault). (r >>= state_from slot) >>= walked disk slots) parts.1
@@ -223,15 +238,22 @@ pub tells_refused : (files later : List Watched) (old new : List Event) (head : 
 unfolding state_after
 tells_refused files later old new head count slot slots fault same first at disk shows =
     let f = first disk shows in
-    let refused : MatchBool (is_free fault) (Unit {0}) (found_or (Missing (State slot)) (disk (State slot)) ≡ Err fault) = not_found (is_free fault) (found_or (Missing (State slot)) (disk (State slot))) f.1 in
+    let refused : MatchBool (is_free fault) (Unit {0})
+        (found_or (Missing (State slot)) (disk (State slot)) ≡ Err fault) = not_found (is_free fault)
+        (found_or (Missing (State slot)) (disk (State slot))) f.1 in
     let here : MatchBool (is_free fault) (Unit {0}) ((state_in slot (disk (State slot)) >>= walked disk (slots_behind head count)) ≡ Err fault) =
-    err_then (is_free fault) fault (state_in slot (disk (State slot))) (walked disk (slots_behind head count)) (err_then (is_free fault) fault (found_or (Missing (State slot)) (disk (State slot))) (state_from slot) refused) in (
+    err_then (is_free fault) fault (state_in slot (disk (State slot))) (walked disk (slots_behind head count))
+        (err_then (is_free fault) fault (found_or (Missing (State slot)) (disk (State slot))) (state_from slot)
+        refused) in (
       f.0,
       settled_same {X = Snapshot} files later (Err fault) (state_after disk head count) same
           (subst (λ (n : ℕ). MatchBool (is_free fault) (Unit {0}) ((state_in n (disk (State n)) >>= walked disk (slots_behind head count)) ≡ Err fault)) at here),
     )
   where
-    not_found : (free : Bool) (read : Result (List ℕ) LedgerFault) → MatchBool free (Unit {0}) ((read >>= λ full. let r : Result (List ℕ × List (ℕ × Option (List ℕ))) LedgerFault = Ok (full, files_of disk slots) in r) ≡ Err fault) → MatchBool free (Unit {0}) (read ≡ Err fault)
+    not_found : (free : Bool) (read : Result (List ℕ) LedgerFault)
+        → MatchBool free (Unit {0}) ((read >>= λ full. let r : Result (List ℕ × List (ℕ × Option (List ℕ)))
+        LedgerFault = Ok (full, files_of disk slots) in r) ≡ Err fault)
+        → MatchBool free (Unit {0}) (read ≡ Err fault)
     not_found true read h = tt
     not_found false (Ok full) h = absurd (cc)
     not_found false (Err e) h = let e_is : e ≡ fault = cc in ap (λ (x : LedgerFault). let r : Result (List ℕ) LedgerFault = Err x in r) e_is
@@ -284,7 +306,8 @@ counts_unless (Some other) false fault old new never e counts =
 pub refusal_counts : (files : List Watched) (fault : LedgerFault) (old new : ℕ) → LedgerCounts {A = Snapshot} (Err fault) old new → LedgerCounts {A = Ledger} (Err (refusal files fault)) old new
 refusal_counts files fault old new counts = counts_unless (first_unsealed files) (is_failed fault) fault old new (λ other e. (damage files other e).failed) refl counts
 
-opening_unless : (first : Option LedgerFault) (old mid new : List Event) (head : Head) (newest : Snapshot) → TellsListed old mid (Ok head) heading → ((disk : Disk) → Shows mid disk → Lists disk head.slots)
+opening_unless : (first : Option LedgerFault) (old mid new : List Event) (head : Head) (newest : Snapshot)
+    → TellsListed old mid (Ok head) heading → ((disk : Disk) → Shows mid disk → Lists disk head.slots)
     → Tells mid new (told_unless first (Ok newest)) (λ disk. state_after disk head (length head.slots)) → (ledger : Ledger)
     → told_unless first (Ok (record { head = head; newest = newest })) ≡ Ok ledger → IsOpen new ledger
 opening_unless None old mid new head newest told listed second ledger done =

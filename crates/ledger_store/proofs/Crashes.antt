@@ -23,8 +23,14 @@ use Rattle.ledger_store.proofs.Same.{Agree, Later, still_opens}
 
 -- the file of a state is none of another slot, and no block
 state_apart : (full : Bool) (slot : ℕ) (name : Name) → is_of_slot slot name ≡ false → same_name (state_name full slot) name ≡ false
-state_apart true slot name h = (or_parts (same_name (State slot) name) (same_name (Changes slot) name) (or_parts (same_name (State slot) name || same_name (Changes slot) name) (same_name (Block slot) name) h).0).0
-state_apart false slot name h = (or_parts (same_name (State slot) name) (same_name (Changes slot) name) (or_parts (same_name (State slot) name || same_name (Changes slot) name) (same_name (Block slot) name) h).0).1
+state_apart true slot name h =
+    (or_parts (same_name (State slot) name) (same_name (Changes slot) name)
+    (or_parts (same_name (State slot) name || same_name (Changes slot) name) (same_name (Block slot) name)
+    h).0).0
+state_apart false slot name h =
+    (or_parts (same_name (State slot) name) (same_name (Changes slot) name)
+    (or_parts (same_name (State slot) name || same_name (Changes slot) name) (same_name (Block slot) name)
+    h).0).1
 
 block_apart : (slot : ℕ) (name : Name) → is_of_slot slot name ≡ false → same_name (Block slot) name ≡ false
 block_apart slot name h = (or_parts (same_name (State slot) name || same_name (Changes slot) name) (same_name (Block slot) name) h).1
@@ -38,12 +44,17 @@ no_state true slot = refl
 no_state false slot = refl
 
 -- what a crash leaves of the files that are as they were
-pub kept : {start disk : Disk} {name : Name} {bytes : List ℕ} {events : List Event} → IsStage start disk name bytes events → (crashed : Disk) → CrashLeaves start events crashed → (n : Name) → same_name name n ≡ false → crashed n ≡ disk n
+pub kept : {start disk : Disk} {name : Name} {bytes : List ℕ} {events : List Event}
+    → IsStage start disk name bytes events → (crashed : Disk) → CrashLeaves start events crashed → (n : Name)
+    → same_name name n ≡ false → crashed n ≡ disk n
 kept {disk = disk} stage crashed leaves n apart = one_fits (disk n) (crashed n) (subst (λ (l : List Known). Fits l (crashed n)) (stage.others n apart) (leaves n))
 
 module _ (ledger : Ledger) (block : BlockValue) (after : Snapshot) (micros : ℕ) (full : Bool) (state : List ℕ)
     (disk : Disk) (opens : Opens disk ledger) (is_after : Later ledger.head after.slot)
-    (added : (crashed : Disk) → Agree after.slot crashed disk → crashed (state_name full after.slot) ≡ Some state → crashed (Block after.slot) ≡ Some (sealed (kept_bytes block micros)) → Opens crashed (with_block ledger after)) where
+    (added : (crashed : Disk) → Agree after.slot crashed disk
+        → crashed (state_name full after.slot) ≡ Some state
+        → crashed (Block after.slot) ≡ Some (sealed (kept_bytes block micros))
+        → Opens crashed (with_block ledger after)) where
   abbrev slot : ℕ
   slot = after.slot
 
@@ -79,11 +90,21 @@ module _ (ledger : Ledger) (block : BlockValue) (after : Snapshot) (micros : ℕ
       }
 
   -- once both are in their places, the chain has the block
-  pub lasting : (start : Disk) (events : List Event) → Stands start events (with_file (with_file disk name state) (Block slot) record_bytes) → (crashed : Disk) → CrashLeaves start events crashed → IsAfter ledger block after micros crashed
+  pub lasting : (start : Disk) (events : List Event)
+      → Stands start events (with_file (with_file disk name state) (Block slot) record_bytes) → (crashed : Disk)
+      → CrashLeaves start events crashed → IsAfter ledger block after micros crashed
   lasting start events stands crashed leaves =
-      let here : crashed (Block slot) ≡ Some record_bytes = found (Block slot) ∙ cond-true (same_name (Block slot) (Block slot)) (Some record_bytes) (with_file disk name state (Block slot)) (same_name-self (Block slot)) in
-      let there : crashed name ≡ Some state = found name ∙ cond-false (same_name (Block slot) name) (Some record_bytes) (with_file disk name state name) (no_state full slot) ∙ cond-true (same_name name name) (Some state) (disk name) (same_name-self name) in
-      let agree : Agree slot crashed disk = λ n apart. found n ∙ cond-false (same_name (Block slot) n) (Some record_bytes) (with_file disk name state n) (block_apart slot n apart) ∙ cond-false (same_name name n) (Some state) (disk n) (state_apart full slot n apart) in
+      let here : crashed (Block slot) ≡ Some record_bytes = found (Block slot)
+          ∙ cond-true (same_name (Block slot) (Block slot)) (Some record_bytes)
+          (with_file disk name state (Block slot)) (same_name-self (Block slot)) in
+      let there : crashed name ≡ Some state = found name
+          ∙ cond-false (same_name (Block slot) name) (Some record_bytes) (with_file disk name state name)
+          (no_state full slot) ∙ cond-true (same_name name name) (Some state) (disk name) (same_name-self name)
+          in
+      let agree : Agree slot crashed disk = λ n apart. found n
+          ∙ cond-false (same_name (Block slot) n) (Some record_bytes) (with_file disk name state n)
+          (block_apart slot n apart) ∙ cond-false (same_name name n) (Some state) (disk n)
+          (state_apart full slot n apart) in
       record { opens = added crashed agree there here; record_file = here }
     where
       found : (n : Name) → crashed n ≡ with_file (with_file disk name state) (Block slot) record_bytes n

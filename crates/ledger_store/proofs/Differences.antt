@@ -75,7 +75,9 @@ put_there : (after : State) (b : Bool) (q k : Key) (a : Account) (x : Option Acc
 put_there after true q k a x same there = sym there ∙ ap (get after) (sym (same_key-true q k same))
 put_there after false q k a x same there = refl
 
-pub get-puts : (after : State) (es : List Entry) (s : State) (q : Key) → AllByRecursion (λ e. (get after e.0 ≡ Some e.1) × (1 ≤ e.1.lamports)) es → get (puts es s) q ≡ cond (has_key q (keys_of es)) (get after q) (get s q)
+pub get-puts : (after : State) (es : List Entry) (s : State) (q : Key)
+    → AllByRecursion (λ e. (get after e.0 ≡ Some e.1) × (1 ≤ e.1.lamports)) es
+    → get (puts es s) q ≡ cond (has_key q (keys_of es)) (get after q) (get s q)
 get-puts after [] s q all = refl
 get-puts after (e ∷ es) s q all =
     get-puts after es (put s e.0 e.1) q all.1
@@ -94,7 +96,10 @@ less_apart k q less = same_key-false q k (λ e. itself (subst (λ (x : Key). key
 find_at : (q : Key) (e : Entry) (es : List Entry) → find key_cmp q (e ∷ es) ≡ cond (same_key q e.0) (Some e.1) (find key_cmp q es)
 find_at q e es = ap (λ (b : Bool). cond b (Some e.1) (find key_cmp q es)) (same_cmp q e.0)
 
-found_behind : (e : Entry) (es some : List Entry) → AllByRecursion (λ (y : Key). key_cmp e.0 y ≡ Less) (keys_of some) → AllByRecursion (λ d. find key_cmp d.0 es ≡ Some d.1) some → AllByRecursion (λ d. find key_cmp d.0 (e ∷ es) ≡ Some d.1) some
+found_behind : (e : Entry) (es some : List Entry)
+    → AllByRecursion (λ (y : Key). key_cmp e.0 y ≡ Less) (keys_of some)
+    → AllByRecursion (λ d. find key_cmp d.0 es ≡ Some d.1) some
+    → AllByRecursion (λ d. find key_cmp d.0 (e ∷ es) ≡ Some d.1) some
 found_behind e es [] less all = tt
 found_behind e es (d ∷ some) less all = (
   find_at d.0 e es ∙ cond-false (same_key d.0 e.0) (Some e.1) (find key_cmp d.0 es) (less_apart e.0 d.0 less.0) ∙ all.0,
@@ -119,7 +124,9 @@ all_weaker P Q so (x ∷ xs) h = (so x h.0, all_weaker P Q so xs h.1)
 
 less_passed : (k : Key) (p : Entry → Bool) (es : List Entry) → AllByRecursion (λ (y : Key). key_cmp k y ≡ Less) (keys_of es) → AllByRecursion (λ (y : Key). key_cmp k y ≡ Less) (keys_of (filter p es))
 less_passed k p [] h = tt
-less_passed k p (e ∷ es) h = elim (p e) as (λ b. AllByRecursion (λ (y : Key). key_cmp k y ≡ Less) (keys_of (cond b (e ∷ filter p es) (filter p es)))) [ true ↦ (h.0, less_passed k p es h.1) | false ↦ less_passed k p es h.1 ]
+less_passed k p (e ∷ es) h = elim (p e) as
+    (λ b. AllByRecursion (λ (y : Key). key_cmp k y ≡ Less) (keys_of (cond b (e ∷ filter p es) (filter p es))))
+    [ true ↦ (h.0, less_passed k p es h.1) | false ↦ less_passed k p es h.1 ]
 
 pub ascend_passed : (p : Entry → Bool) (es : List Entry) → Ascend es → Ascend (filter p es)
 unfolding IsStrictlySortedBy
@@ -136,13 +143,18 @@ not_passed p (e ∷ es) q a found out = by_test (same_key q e.0) refl (sym (find
     rest_out false passes = sym (ap (λ (b : Bool). has_key q (keys_of (cond b (e ∷ filter p es) (filter p es)))) passes) ∙ out
 
     here : (b : Bool) → p e ≡ b → same_key q e.0 ≡ true → p e ≡ false
-    here true passes same = absurd (both_ways (same_key q e.0) (or_parts (same_key q e.0) (has_key q (keys_of (filter p es))) (sym (ap (λ (b : Bool). has_key q (keys_of (cond b (e ∷ filter p es) (filter p es)))) passes) ∙ out)).0 same)
+    here true passes same = absurd
+        (both_ways (same_key q e.0) (or_parts (same_key q e.0) (has_key q (keys_of (filter p es)))
+        (sym (ap (λ (b : Bool). has_key q (keys_of (cond b (e ∷ filter p es) (filter p es)))) passes) ∙ out)).0
+        same)
     here false passes same = passes
 
     whole : q ≡ e.0 → e.1 ≡ a → e ≡ (let x : Entry = (q, a) in x)
     whole k v = λ i. (sym k i, v i)
 
-    by_test : (b : Bool) → same_key q e.0 ≡ b → cond b (Some e.1) (find key_cmp q es) ≡ Some a → (find key_cmp q es ≡ Some a → has_key q (keys_of (filter p es)) ≡ false → p (q, a) ≡ false) → p (q, a) ≡ false
+    by_test : (b : Bool) → same_key q e.0 ≡ b → cond b (Some e.1) (find key_cmp q es) ≡ Some a
+        → (find key_cmp q es ≡ Some a → has_key q (keys_of (filter p es)) ≡ false → p (q, a) ≡ false)
+        → p (q, a) ≡ false
     by_test true same h later = subst (λ (x : Entry). p x ≡ false) (whole (same_key-true q e.0 same) (same_Some e.1 a h)) (here (p e) refl same)
     by_test false same h later = later h (rest_out (p e) refl)
 
@@ -161,7 +173,9 @@ new_entries before after = entries-from_entries key_cmp_total key_cmp_exact (lef
 -- no more accounts are new than there are
 pub fewer_accounts : (before after : State) → len (from_entries (left_by before after)) ≤ len after
 fewer_accounts before after =
-    omega (arith, len-entries {R = key_cmp} (from_entries (left_by before after)), ap length (new_entries before after), length-filter-most (λ (e : Entry). not (is_kept (get before e.0) e.1)) (entries after), len-entries after)
+    omega (arith, len-entries {R = key_cmp} (from_entries (left_by before after)), ap length
+        (new_entries before after), length-filter-most (λ (e : Entry). not (is_kept (get before e.0) e.1))
+        (entries after), len-entries after)
 
 pub few_gone : (before after : State) → length (gone_by before after) ≤ len before
 few_gone before after =
@@ -244,7 +258,9 @@ sum-puts-le (e ∷ es) s = omega (arith, sum-puts-le es (put s e.0 e.1), sum-put
 pub over_is_with : (s t : State) → IsState t → sum s + sum t ≤ 2 ^ 64 - 1 → with_accounts (entries t) (without (keys_of (entries t)) s) ≡ Some (puts (entries t) s)
 over_is_with s t is fits =
     let few : sum (puts (entries t) s) ≤ 2 ^ 64 - 1 = omega (arith, sum-puts-le (entries t) s, fits) in
-    fits_each (entries t) (without (keys_of (entries t)) s) (sorted-entries key_cmp t) (absent_without (keys_of (entries t)) s (entries t) (λ k h. h)) (subst (λ (u : State). sum u ≤ 2 ^ 64 - 1) (sym (puts_over s t is)) few)
+    fits_each (entries t) (without (keys_of (entries t)) s) (sorted-entries key_cmp t)
+        (absent_without (keys_of (entries t)) s (entries t) (λ k h. h))
+        (subst (λ (u : State). sum u ≤ 2 ^ 64 - 1) (sym (puts_over s t is)) few)
     ∙ ap (λ (u : State). Some u) (puts_over s t is)
 
 -- ---- accounts that are put in where there are none
@@ -287,7 +303,10 @@ module _ (before after : State) (was : IsState before) (is : IsState after) wher
       none None h = refl
       none (Some a) h = absurd (false≢true h)
 
-      by_test : (e : Entry) (es : List Entry) (b : Bool) → gone_test e ≡ b → AllByRecursion (λ k. get after k ≡ None) (map (λ (d : Entry). d.0) (filter gone_test es)) → AllByRecursion (λ k. get after k ≡ None) (map (λ (d : Entry). d.0) (cond b (e ∷ filter gone_test es) (filter gone_test es)))
+      by_test : (e : Entry) (es : List Entry) (b : Bool) → gone_test e ≡ b
+          → AllByRecursion (λ k. get after k ≡ None) (map (λ (d : Entry). d.0) (filter gone_test es))
+          → AllByRecursion (λ k. get after k ≡ None)
+          (map (λ (d : Entry). d.0) (cond b (e ∷ filter gone_test es) (filter gone_test es)))
       by_test e es true h more = (none (get after e.0) h, more)
       by_test e es false h more = more
 
@@ -325,9 +344,14 @@ module _ (before after : State) (was : IsState before) (is : IsState after) wher
   pub puts_back : puts new base ≡ after
   puts_back = same_state (puts new base) after (λ q.
       get-puts after new base q new_found
-      ∙ ap (λ (x : Option Account). cond (has_key q (keys_of new)) (get after q) x) (get-without (keys_of new) (without gone before) q ∙ ap (λ (x : Option Account). cond (has_key q (keys_of new)) None x) (get-without gone before q))
+      ∙ ap (λ (x : Option Account). cond (has_key q (keys_of new)) (get after q) x)
+          (get-without (keys_of new) (without gone before) q
+          ∙ ap (λ (x : Option Account). cond (has_key q (keys_of new)) None x) (get-without gone before q))
       ∙ whole (has_key q (keys_of new)) (has_key q gone) q refl refl)
 
   pub changes_back : with_accounts new base ≡ Some after
   changes_back =
-      fits_each new base (new_ascends before after) (absent_without (keys_of new) (without gone before) new (λ k h. h)) (subst (λ (s : State). sum s ≤ 2 ^ 64 - 1) (sym puts_back) is.fits) ∙ ap (λ (s : State). Some s) puts_back
+      fits_each new base (new_ascends before after)
+          (absent_without (keys_of new) (without gone before) new (λ k h. h))
+          (subst (λ (s : State). sum s ≤ 2 ^ 64 - 1) (sym puts_back) is.fits)
+          ∙ ap (λ (s : State). Some s) puts_back

@@ -54,9 +54,13 @@ gone_again : (before total : ℕ) (keys : List Key) → before < 2 ^ 64 → leng
 unfolding gone_of gone_at before_at
 gone_again before total keys fits few are =
     let behind : flat_map key_bytes keys ++ [] ≡ flat_map key_bytes keys = append-nil (flat_map key_bytes keys) in
-    rw ((read_if_reads Field (λ n. n == before) total (u64_reads Field total)).again before (gone_bytes keys) (fits, eq-eqb before before refl), (u32_reads Field total).again (length keys) (flat_map key_bytes keys) few, ← behind, (many_reads (key_reads Field total) (length keys)).again keys [] (refl, are)) refl
+    rw ((read_if_reads Field (λ n. n == before) total (u64_reads Field total)).again before (gone_bytes keys)
+        (fits, eq-eqb before before refl), (u32_reads Field total).again (length keys) (flat_map key_bytes keys)
+        few, ← behind, (many_reads (key_reads Field total) (length keys)).again keys [] (refl, are)) refl
 
-pub changes_again : (slot before : ℕ) (c : Changes) → IsReadable c.left → HasWidths c.left → length c.gone < 2 ^ 32 → AllByRecursion IsKey c.gone → before < 2 ^ 64 → c.left.slot ≡ slot → changes_in slot before (Some (sealed (changes_bytes before c))) ≡ Ok c
+pub changes_again : (slot before : ℕ) (c : Changes) → IsReadable c.left → HasWidths c.left
+    → length c.gone < 2 ^ 32 → AllByRecursion IsKey c.gone → before < 2 ^ 64 → c.left.slot ≡ slot
+    → changes_in slot before (Some (sealed (changes_bytes before c))) ≡ Ok c
 unfolding changes_from whole_changes
 changes_again slot before c is has few are fits e =
     rw (
@@ -72,10 +76,14 @@ head_fields : (total every start : ℕ) → 1 ≤ every → every < 2 ^ 32 → s
 unfolding head_at magic_at every_at
 head_fields total every start some few fits =
     let front : head_bytes every start ≡ codes "SOLCHAN1" ++ (to_le_bytes w32 every ++ (to_le_bytes w64 start ++ [])) =
-    append_assoc (codes "SOLCHAN1") (to_le_bytes w32 every) (to_le_bytes w64 start) ∙ ap (λ (l : List ℕ). codes "SOLCHAN1" ++ (to_le_bytes w32 every ++ l)) (sym (append-nil (to_le_bytes w64 start))) in
+    append_assoc (codes "SOLCHAN1") (to_le_bytes w32 every) (to_le_bytes w64 start)
+        ∙ ap (λ (l : List ℕ). codes "SOLCHAN1" ++ (to_le_bytes w32 every ++ l))
+        (sym (append-nil (to_le_bytes w64 start))) in
     subst (λ (b : List ℕ). head_at total b ≡ Ok ((every, start), [])) (sym front)
     (rw (
-      (read_if_reads Field (λ (magic : List ℕ). bytes_eq magic (codes "SOLCHAN1")) total (field_reads Field total 8)).again (codes "SOLCHAN1") (to_le_bytes w32 every ++ (to_le_bytes w64 start ++ [])) (refl, refl),
+      (read_if_reads Field (λ (magic : List ℕ). bytes_eq magic (codes "SOLCHAN1")) total
+          (field_reads Field total 8)).again (codes "SOLCHAN1")
+          (to_le_bytes w32 every ++ (to_le_bytes w64 start ++ [])) (refl, refl),
       (read_if_reads Field (λ n. nat_le 1 n) total (u32_reads Field total)).again every (to_le_bytes w64 start ++ []) (few, le-leb 1 every some),
       (u64_reads Field total).again start [] fits,
     ) refl)

@@ -25,7 +25,9 @@ mark_decides a b = (
       let hash : a.hash ≡ b.hash = (same_hash-Decides a.hash b.hash).0 parts.0 in
       let messages : a.messages ≡ b.messages = (names_decide a.messages b.messages).0 parts.1 in
       λ i. record { hash = hash i; messages = messages i },
-  λ e. and_from (same_hash a.hash b.hash) (pointwise same_hash a.messages b.messages) ((same_hash-Decides a.hash b.hash).1 (ap (λ (m : Mark). m.hash) e)) ((names_decide a.messages b.messages).1 (ap (λ (m : Mark). m.messages) e)),
+  λ e. and_from (same_hash a.hash b.hash) (pointwise same_hash a.messages b.messages)
+      ((same_hash-Decides a.hash b.hash).1 (ap (λ (m : Mark). m.hash) e))
+      ((names_decide a.messages b.messages).1 (ap (λ (m : Mark). m.messages) e)),
 )
 
 marks_decide : (xs ys : List Mark) → Decides (pointwise same_mark xs ys) (xs ≡ ys)
@@ -54,10 +56,15 @@ follows_decides before after block = (
 )
 
 -- what is behind the first
-pub more_next : (before after older : List Mark) (n : ℕ) (same : Bool) → 1 ≤ length after → older ≡ take (length after - 1) (drop 1 after) → n ≡ min (max_marks - 1) (length before) → same ≡ pointwise same_mark older (take n before) → same ≡ is_next_recent before after
+pub more_next : (before after older : List Mark) (n : ℕ) (same : Bool) → 1 ≤ length after
+    → older ≡ take (length after - 1) (drop 1 after) → n ≡ min (max_marks - 1) (length before)
+    → same ≡ pointwise same_mark older (take n before) → same ≡ is_next_recent before after
 more_next before [] older n same some is at h = absurd (omega (arith, some))
 more_next before (mark ∷ after) older n same some is at h =
-    h ∙ ap (λ (l : List Mark). pointwise same_mark l (take n before)) (is ∙ take_all (length (mark ∷ after) - 1) after (omega arith)) ∙ ap (λ (l : List Mark). pointwise same_mark after l) (ap (λ (k : ℕ). take k before) at ∙ take_min (max_marks - 1) before)
+    h ∙ ap (λ (l : List Mark). pointwise same_mark l (take n before))
+        (is ∙ take_all (length (mark ∷ after) - 1) after (omega arith))
+        ∙ ap (λ (l : List Mark). pointwise same_mark after l)
+        (ap (λ (k : ℕ). take k before) at ∙ take_min (max_marks - 1) before)
 
 -- where the slot is that of the block
 pub follows_so : (before after : Snapshot) (block : BlockValue) (b a : List Mark) (same : Bool) → (block.slot == after.slot) ≡ true → b ≡ before.recent → a ≡ after.recent → same ≡ is_next_recent b a
@@ -65,14 +72,17 @@ pub follows_so : (before after : Snapshot) (block : BlockValue) (b a : List Mark
 follows_so before after block b a same slot was is e =
     let d = follows_decides before after block in
     let whole : same ≡ is_next_recent before.recent after.recent = e ∙ ap (λ (l : List Mark). is_next_recent l a) was ∙ ap (λ (l : List Mark). is_next_recent before.recent l) is in
-    (λ h. d.0 (and_from (block.slot == after.slot) (is_next_recent before.recent after.recent) slot (sym whole ∙ h)), λ f. whole ∙ (and_parts (block.slot == after.slot) (is_next_recent before.recent after.recent) (d.1 f)).1)
+    (λ h. d.0 (and_from (block.slot == after.slot) (is_next_recent before.recent after.recent) slot
+        (sym whole ∙ h)), λ f. whole
+        ∙ (and_parts (block.slot == after.slot) (is_next_recent before.recent after.recent) (d.1 f)).1)
 
 -- ---- a walk over two lists
 -- the first n are the same
 abbrev pub AreSameTo : List Mark → List Mark → ℕ → Type 0
 AreSameTo xs ys n = pointwise same_mark (take n xs) (take n ys) ≡ true
 
-pub same_next : (xs ys : List Mark) (n : ℕ) (a b : Mark) → length xs ≡ length ys → n < length xs → a ≡ get_or xs n a → b ≡ get_or ys n b → AreSameTo xs ys n → same_mark a b ≡ true → AreSameTo xs ys (suc n)
+pub same_next : (xs ys : List Mark) (n : ℕ) (a b : Mark) → length xs ≡ length ys → n < length xs
+    → a ≡ get_or xs n a → b ≡ get_or ys n b → AreSameTo xs ys n → same_mark a b ≡ true → AreSameTo xs ys (suc n)
 same_next [] ys n a b count below first second same one = absurd (omega (arith, below))
 same_next (x ∷ xs) [] n a b count below first second same one = absurd (omega (arith, count))
 same_next (x ∷ xs) (y ∷ ys) zero a b count below first second same one =

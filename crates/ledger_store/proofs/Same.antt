@@ -30,13 +30,17 @@ bind_same (Err e) f g same = refl
 same_stepped : (one other : Disk) (slot : ℕ) (before : Snapshot) → one (Changes slot) ≡ other (Changes slot) → stepped one slot before ≡ stepped other slot before
 same_stepped one other slot before same = ap (λ (found : Option (List ℕ)). changes_in slot before.slot found >>= λ changes. next_of slot changes before) same
 
-pub same_walked : (one other : Disk) (slots : List ℕ) (before : Snapshot) → AllByRecursion (λ slot. one (Changes slot) ≡ other (Changes slot)) slots → walked one slots before ≡ walked other slots before
+pub same_walked : (one other : Disk) (slots : List ℕ) (before : Snapshot)
+    → AllByRecursion (λ slot. one (Changes slot) ≡ other (Changes slot)) slots
+    → walked one slots before ≡ walked other slots before
 same_walked one other [] before same = refl
 same_walked one other (slot ∷ slots) before same =
     ap (λ (r : Result Snapshot LedgerFault). r >>= walked one slots) (same_stepped one other slot before same.0)
     ∙ bind_same (stepped other slot before) (walked one slots) (walked other slots) (λ next. same_walked one other slots next same.1)
 
-pub same_state_after : (one other : Disk) (head : Head) (count : ℕ) → (let slot = slot_after head (full_before head.every count) in one (State slot)) ≡ (let slot = slot_after head (full_before head.every count) in other (State slot))
+pub same_state_after : (one other : Disk) (head : Head) (count : ℕ)
+    → (let slot = slot_after head (full_before head.every count) in one (State slot))
+    ≡ (let slot = slot_after head (full_before head.every count) in other (State slot))
     → AllByRecursion (λ slot. one (Changes slot) ≡ other (Changes slot)) (slots_behind head count) → state_after one head count ≡ state_after other head count
 unfolding state_after
 same_state_after one other head count full behind =
@@ -76,7 +80,9 @@ other_slot slot one below = ne_eqb slot one (λ e. omega (arith, e, below))
 pub agree_state : (slot : ℕ) (one other : Disk) → Agree slot one other → (at : ℕ) → at < slot → one (State at) ≡ other (State at)
 agree_state slot one other agree at below = agree (State at) (or_from ((slot == at) || false) false (or_from (slot == at) false (other_slot slot at below) refl) refl)
 
-pub agree_changes : (slot : ℕ) (one other : Disk) → Agree slot one other → (slots : List ℕ) → AllByRecursion (λ at. at < slot) slots → AllByRecursion (λ at. one (Changes at) ≡ other (Changes at)) slots
+pub agree_changes : (slot : ℕ) (one other : Disk) → Agree slot one other → (slots : List ℕ)
+    → AllByRecursion (λ at. at < slot) slots
+    → AllByRecursion (λ at. one (Changes at) ≡ other (Changes at)) slots
 agree_changes slot one other agree [] below = tt
 agree_changes slot one other agree (at ∷ slots) below = (
   agree (Changes at) (or_from (slot == at) false (other_slot slot at below.0) refl),
@@ -127,7 +133,9 @@ opens_from disk ledger so =
     rw so.head_read (rw so.head_is (rw so.newest_read refl))
 
 -- files that agree but for a slot after all of a chain open as the same chain
-pub same_opened : (slot : ℕ) (one other : Disk) (ledger : Ledger) → Agree slot one other → Later ledger.head slot → opened other ledger.head.slots ≡ Ok ledger → opened one ledger.head.slots ≡ Ok ledger
+pub same_opened : (slot : ℕ) (one other : Disk) (ledger : Ledger) → Agree slot one other
+    → Later ledger.head slot → opened other ledger.head.slots ≡ Ok ledger
+    → opened one ledger.head.slots ≡ Ok ledger
 same_opened slot one other ledger agree after h =
     let so = opened_so other ledger h in
     opens_from one ledger (record {

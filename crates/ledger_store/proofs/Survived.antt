@@ -22,7 +22,8 @@ use Rattle.ledger_store.proofs.Crashes.{stopped_first, stopped_second, both_last
 use Rattle.ledger_store.proofs.Added.{added}
 
 -- where no step was made
-pub unchanged : (ledger : Ledger) (block : BlockValue) (after : Snapshot) (micros : ℕ) (old new : List Event) → IsOpen old ledger → new ≡ old → LeavesOnly old new (IsBeforeOrAfter ledger block after micros)
+pub unchanged : (ledger : Ledger) (block : BlockValue) (after : Snapshot) (micros : ℕ) (old new : List Event)
+    → IsOpen old ledger → new ≡ old → LeavesOnly old new (IsBeforeOrAfter ledger block after micros)
 unchanged ledger block after micros old new is_open same disk shows later since h =
     at_each_moment (Survives shows.start (IsBeforeOrAfter ledger block after micros disk)) old new later since (record { done = []; each = here; is = same }) h
   where
@@ -35,8 +36,12 @@ unchanged ledger block after micros old new is_open same disk shows later since 
           chain = inl (subst (λ (d : Disk). Opens d ledger) (sym whole) (is_open disk shows));
         }
 
-module _ (ledger : Ledger) (block : BlockValue) (after : Snapshot) (micros : ℕ) (old new : List Event) (is_open : IsOpen old ledger) (some : 1 ≤ ledger.head.every) (was : IsReadable ledger.newest) (is : IsReadable after)
-    (follows : Follows ledger.newest block after) (is_after : is_later ledger.head after.slot ≡ true) (files : NewFiles) (made : files ≡ new_files ledger block after micros) (had : HasWidths ledger.newest) (has : HasWidths after) where
+module _ (ledger : Ledger) (block : BlockValue) (after : Snapshot) (micros : ℕ) (old new : List Event)
+    (is_open : IsOpen old ledger) (some : 1 ≤ ledger.head.every) (was : IsReadable ledger.newest)
+    (is : IsReadable after)
+    (follows : Follows ledger.newest block after) (is_after : is_later ledger.head after.slot ≡ true)
+        (files : NewFiles) (made : files ≡ new_files ledger block after micros) (had : HasWidths ledger.newest)
+        (has : HasWidths after) where
   abbrev Wanted : Type 0
   Wanted = LeavesOnly old new (IsBeforeOrAfter ledger block after micros)
 

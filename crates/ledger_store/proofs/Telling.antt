@@ -32,7 +32,9 @@ freer (Err Exists) answer h = h
 freer (Err OutOfMemory) answer h = tt
 
 -- a refusal stays one whatever was to come after it
-pub err_then : {X Y : Type 0} (free : Bool) (fault : LedgerFault) (read : Result X LedgerFault) (more : X → Result Y LedgerFault) → MatchBool free (Unit {0}) (read ≡ Err fault) → MatchBool free (Unit {0}) ((read >>= more) ≡ Err fault)
+pub err_then : {X Y : Type 0} (free : Bool) (fault : LedgerFault) (read : Result X LedgerFault)
+    (more : X → Result Y LedgerFault) → MatchBool free (Unit {0}) (read ≡ Err fault)
+    → MatchBool free (Unit {0}) ((read >>= more) ≡ Err fault)
 err_then {X = X} true fault read more h = tt
 err_then {X = X} false fault read more h = ap (λ (r : Result X LedgerFault). r >>= more) h
 
@@ -45,7 +47,9 @@ tells_then {X = X} {Y = Y} old mid new x result read more first second disk show
     (f.0, subst (λ (r : Result X LedgerFault). Gives is_free (λ (y : Y). y) result (r >>= more disk)) (sym f.1) s.1)
 
 -- what a chain is by its names
-pub tells_head : (old mid new : List Event) (bytes : List ℕ) (fields : ℕ × ℕ) (slots : List ℕ) → Tells old mid (Ok bytes) (λ disk. found_or (Missing Chain) (disk Chain)) → head_from bytes ≡ Ok fields → new ≡ Listed slots ∷ mid
+pub tells_head : (old mid new : List Event) (bytes : List ℕ) (fields : ℕ × ℕ) (slots : List ℕ)
+    → Tells old mid (Ok bytes) (λ disk. found_or (Missing Chain) (disk Chain)) → head_from bytes ≡ Ok fields
+    → new ≡ Listed slots ∷ mid
     → TellsListed old new (Ok (head_with fields slots)) heading
 tells_head old mid new bytes fields slots first read noted disk shows =
     let s = shows-listed mid slots disk (subst (λ (events : List Event). Shows events disk) noted shows) in
@@ -77,7 +81,9 @@ head_parts disk slots head h =
     (p.0, p.1, ok_same {E = LedgerFault} (head_with p.0 slots) head p.2)
 
 -- what opening then gives
-opened_with : (disk : Disk) (slots : List ℕ) (head : Head) → heading disk slots ≡ Ok head → opened disk slots ≡ (state_after disk head (length slots) >>= λ newest. Ok (record { head = head; newest = newest }))
+opened_with : (disk : Disk) (slots : List ℕ) (head : Head) → heading disk slots ≡ Ok head
+    → opened disk slots ≡ (state_after disk head (length slots) >>= λ newest. Ok
+    (record { head = head; newest = newest }))
 unfolding opened
 opened_with disk slots head h =
     let p = head_parts disk slots head h in
@@ -100,7 +106,9 @@ tells_no_head old new fault told disk shows =
 -- a chain that is opened
 pub tells_opened : (old mid new : List Event) (head : Head) (read : Result Snapshot LedgerFault) (result : Result Ledger LedgerFault) → TellsListed old mid (Ok head) heading
     → ((disk : Disk) → Shows mid disk → Lists disk head.slots) → Tells mid new read (λ disk. state_after disk head (length head.slots))
-    → ((answer : Result Snapshot LedgerFault) → Gives is_free (λ x. x) read answer → Gives is_free (λ x. x) result (answer >>= λ newest. Ok (record { head = head; newest = newest }))) → TellsListed old new result opened
+    → ((answer : Result Snapshot LedgerFault) → Gives is_free (λ x. x) read answer
+        → Gives is_free (λ x. x) result (answer >>= λ newest. Ok (record { head = head; newest = newest })))
+        → TellsListed old new result opened
 tells_opened old mid new head read result first listed second so disk shows =
     let s = second disk shows in
     let f = first disk s.0 in

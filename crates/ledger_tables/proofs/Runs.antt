@@ -19,7 +19,9 @@ module _ {S : Type 0} (g : Ghosts S) where
       → Ran g (inserts sql columns (take i rows)) old mid → Ran g (record { sql = sql; values = columns x } ∷ []) mid new → Ran g (inserts sql columns (take (i + 1) rows)) old new
   inserted_more {X} sql columns rows i x old mid new lt is known before after clean =
       subst (λ statements. AreRun g statements old new)
-      (sym (ap (inserts sql columns) (take_more rows i x lt) ∙ inserts_and (take i rows) (get_or rows i x) ∙ ap (λ y. inserts sql columns (take i rows) ++ record { sql = sql; values = columns y } ∷ []) (sym is)))
+      (sym (ap (inserts sql columns) (take_more rows i x lt) ∙ inserts_and (take i rows) (get_or rows i x)
+          ∙ ap (λ y. inserts sql columns (take i rows) ++ record { sql = sql; values = columns y } ∷ [])
+          (sym is)))
       (ran_then (inserts sql columns (take i rows)) (record { sql = sql; values = columns x } ∷ []) old mid new known before after clean)
     where
       inserts_and : (xs : List X) (y : X) → inserts sql columns (xs ++ y ∷ []) ≡ inserts sql columns xs ++ record { sql = sql; values = columns y } ∷ []
@@ -27,5 +29,6 @@ module _ {S : Type 0} (g : Ghosts S) where
       inserts_and (z ∷ zs) y = ap (λ l. record { sql = sql; values = columns z } ∷ l) (inserts_and zs y)
 
   -- the rows are those that were handed on
-  pub ran_same : {X : Type 0} (sql : List ℕ) (columns : X → List Value) (given rows : List X) (old new : Held S) → given ≡ rows → Ran g (inserts sql columns given) old new → Ran g (inserts sql columns rows) old new
+  pub ran_same : {X : Type 0} (sql : List ℕ) (columns : X → List Value) (given rows : List X) (old new : Held S)
+      → given ≡ rows → Ran g (inserts sql columns given) old new → Ran g (inserts sql columns rows) old new
   ran_same sql columns given rows old new same = subst (λ xs. Ran g (inserts sql columns xs) old new) same

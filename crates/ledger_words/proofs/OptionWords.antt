@@ -21,7 +21,9 @@ short_options options (one ∷ []) short = refl
 short_options options (one ∷ two ∷ more) short = absurd (omega arith)
 
 -- the value that was found is that of the option
-pub found_in : (option : ChainOption) (name : Text) (words : List Text) (result : Option (Bor Text)) (value : Bor Text) → name ≡ name_of option → option_map (λ v. v.now) result ≡ value_in name words → result ≡ Some value
+pub found_in : (option : ChainOption) (name : Text) (words : List Text) (result : Option (Bor Text))
+    (value : Bor Text) → name ≡ name_of option → option_map (λ v. v.now) result ≡ value_in name words
+    → result ≡ Some value
     → value_in (name_of option) words ≡ Some value.now
 found_in option name words result value named found is = subst (λ n. value_in n words ≡ Some value.now) named (sym found ∙ ap (option_map (λ v. v.now)) is)
 

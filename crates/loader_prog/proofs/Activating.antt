@@ -33,7 +33,9 @@ by_parts bytes (Some image) is h = record { image = image; holds = is; verified 
     by_test true is h = is
     by_test false is h = let other = ap (λ (t : Bool). is_verified (cond t Verified Unverified)) (sym is) ∙ h in absurd (cc)
 
-activated_by : (account after : Account) (t : Bool) → is_ready account ≡ t → cond t (Some (record account { executable = true; bytes = rest_in account.bytes })) None ≡ Some after → IsActivated account after
+activated_by : (account after : Account) (t : Bool) → is_ready account ≡ t
+    → cond t (Some (record account { executable = true; bytes = rest_in account.bytes })) None ≡ Some after
+    → IsActivated account after
 activated_by account after true ready h =
     let program : Account = record account { executable = true; bytes = rest_in account.bytes } in
     let same : program ≡ after = same_Some program after h in

@@ -20,7 +20,9 @@ use Rattle.loader_prog.proofs.Inversion.{EndsWell, ends_well, unless_ok}
 use Rattle.loader_prog.proofs.Replacing.{slice_get-set_other}
 
 -- an account that may become a buffer
-initialized : (accounts : List Account) (metas : List Meta) (authority : Key) (bytes : List ℕ) → init_row accounts metas authority ≡ Ok bytes → IsInitialized metas (place_in metas 0) (account_in accounts metas 0)
+initialized : (accounts : List Account) (metas : List Meta) (authority : Key) (bytes : List ℕ)
+    → init_row accounts metas authority ≡ Ok bytes
+    → IsInitialized metas (place_in metas 0) (account_in accounts metas 0)
 unfolding init_row
 initialized accounts metas authority bytes h =
     let owner = unless_ok _ _ _ bytes h in
@@ -30,11 +32,15 @@ initialized accounts metas authority bytes h =
     record { blank = not-false _ blank.0; signs = not-false _ signed.0 }
 
 -- a key of a role is there
-key_there : (keys : List Key) (count : ℕ) (metas : List Meta) (role : ℕ) → count ≡ length keys → AreInRange count metas → role < length metas → slice_get keys (place_in metas role) ≡ Some (key_in keys metas role)
+key_there : (keys : List Key) (count : ℕ) (metas : List Meta) (role : ℕ) → count ≡ length keys
+    → AreInRange count metas → role < length metas
+    → slice_get keys (place_in metas role) ≡ Some (key_in keys metas role)
 key_there keys count metas role same range below = slice_get-get_or keys (place_in metas role) SYSTEM_PROGRAM (omega (arith, range role no_meta below))
 
 -- a buffer whose authority signs
-by_authority : (keys : List Key) (accounts : List Account) (metas : List Meta) (bytes : List ℕ) → length accounts ≡ length keys → AreInRange (length accounts) metas → 2 ≤ length metas → owned keys accounts metas ≡ Ok bytes
+by_authority : (keys : List Key) (accounts : List Account) (metas : List Meta) (bytes : List ℕ)
+    → length accounts ≡ length keys → AreInRange (length accounts) metas → 2 ≤ length metas
+    → owned keys accounts metas ≡ Ok bytes
     → IsWrittenByAuthority keys metas (account_in accounts metas 0)
 unfolding owned
 by_authority keys accounts metas bytes same range two h =
@@ -54,16 +60,26 @@ Allowed : List Key → List Meta → ℕ → Account → Type 0
 Allowed keys metas place was = IsInitialized metas place was ⊎ IsWrittenByAuthority keys metas was
 
 -- whoever changes the first account may
-by_request : (keys : List Key) (accounts : List Account) (metas : List Meta) (request : Request) (bytes : List ℕ) → length accounts ≡ length keys → AreInRange (length accounts) metas → accounts_needed request ≤ length metas
+by_request : (keys : List Key) (accounts : List Account) (metas : List Meta) (request : Request)
+    (bytes : List ℕ) → length accounts ≡ length keys → AreInRange (length accounts) metas
+    → accounts_needed request ≤ length metas
     → data_row keys accounts metas request ≡ Ok bytes → Allowed keys metas (place_in metas 0) (account_in accounts metas 0)
 unfolding Allowed write_row finalize_row set_authority_row
 by_request keys accounts metas (Init authority) bytes same range enough h = inl (initialized accounts metas authority bytes h)
-by_request keys accounts metas (Write offset piece) bytes same range enough h = let first = bind_ok (owned keys accounts metas) _ bytes h in inr (by_authority keys accounts metas first.0 same range enough first.1)
-by_request keys accounts metas Finalize bytes same range enough h = let first = bind_ok (owned keys accounts metas) _ bytes h in inr (by_authority keys accounts metas first.0 same range enough first.1)
-by_request keys accounts metas (SetAuthority authority) bytes same range enough h = let first = bind_ok (owned keys accounts metas) _ bytes h in inr (by_authority keys accounts metas first.0 same range enough first.1)
+by_request keys accounts metas (Write offset piece) bytes same range enough h = let first = bind_ok
+    (owned keys accounts metas) _ bytes h
+    in inr (by_authority keys accounts metas first.0 same range enough first.1)
+by_request keys accounts metas Finalize bytes same range enough h = let first = bind_ok
+    (owned keys accounts metas) _ bytes h
+    in inr (by_authority keys accounts metas first.0 same range enough first.1)
+by_request keys accounts metas (SetAuthority authority) bytes same range enough h = let first = bind_ok
+    (owned keys accounts metas) _ bytes h
+    in inr (by_authority keys accounts metas first.0 same range enough first.1)
 
 -- an account has other data only where that is allowed
-pub only_the_authority : (keys : List Key) (accounts : List Account) (metas : List Meta) (input : List ℕ) (after : List Account) → length accounts ≡ length keys → AreInRange (length accounts) metas → loader_row keys accounts metas input ≡ Ok after
+pub only_the_authority : (keys : List Key) (accounts : List Account) (metas : List Meta) (input : List ℕ)
+    (after : List Account) → length accounts ≡ length keys → AreInRange (length accounts) metas
+    → loader_row keys accounts metas input ≡ Ok after
     → OnlyTheAuthorityWrites keys accounts metas after
 unfolding Allowed
 only_the_authority keys accounts metas input after same range h place was is here there = by_test (nat_eq place (place_in metas 0)) refl

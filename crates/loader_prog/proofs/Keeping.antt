@@ -30,14 +30,18 @@ loader_ends keys accounts metas input after h =
     }
 
 -- what the accounts keep
-pub loader_keeps : (keys : List Key) (accounts : List Account) (metas : List Meta) (input : List ℕ) (after : List Account) → AreInRange (length accounts) metas → loader_row keys accounts metas input ≡ Ok after
+pub loader_keeps : (keys : List Key) (accounts : List Account) (metas : List Meta) (input : List ℕ)
+    (after : List Account) → AreInRange (length accounts) metas
+    → loader_row keys accounts metas input ≡ Ok after
     → AreKeptBy (is_listed_writable metas) accounts after
 loader_keeps keys accounts metas input after range h =
     let ends = loader_ends keys accounts metas input after h in
     AreKeptBy-listed_rules LOADER_PROGRAM metas accounts after ends.count range ends.others ends.unbroken
 
 -- and those that other programs own
-pub loader_foreign : (keys : List Key) (accounts : List Account) (metas : List Meta) (input : List ℕ) (after : List Account) → AreInRange (length accounts) metas → loader_row keys accounts metas input ≡ Ok after
+pub loader_foreign : (keys : List Key) (accounts : List Account) (metas : List Meta) (input : List ℕ)
+    (after : List Account) → AreInRange (length accounts) metas
+    → loader_row keys accounts metas input ≡ Ok after
     → AreForeignKept (LOADER_PROGRAM ∷ []) accounts after
 loader_foreign keys accounts metas input after range h =
     let ends = loader_ends keys accounts metas input after h in

@@ -62,4 +62,6 @@ module _ (keys : List Key) (accounts : List Account) (some others : List Meta) (
 
   pub same_loader : (input : List ℕ) → loader_row keys accounts some input ≡ loader_row keys accounts others input
   unfolding loader_row
-  same_loader input = λ i. request_in input >>= (λ request. unless (nat_lt (same_length some others same i) (accounts_needed request)) NotEnoughAccounts (same_data request i >>= (λ bytes. same_checked bytes i)))
+  same_loader input = λ i. request_in input >>=
+      (λ request. unless (nat_lt (same_length some others same i) (accounts_needed request)) NotEnoughAccounts
+      (same_data request i >>= (λ bytes. same_checked bytes i)))

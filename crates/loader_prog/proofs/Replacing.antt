@@ -24,7 +24,9 @@ slice_get-set_other (x ∷ xs) (suc i) (suc p) a differ = slice_get-set_other xs
 
 -- ---- shares
 -- one share is another
-pub shares_set : (accounts shares : List (Arc Account Global)) (place : ℕ) (x t : Arc Account Global) (bytes : List ℕ) → place < length accounts → x ≡ get_or accounts place x → arc_value t ≡ holding (arc_value x) bytes → accounts_of shares ≡ accounts_of accounts
+pub shares_set : (accounts shares : List (Arc Account Global)) (place : ℕ) (x t : Arc Account Global)
+    (bytes : List ℕ) → place < length accounts → x ≡ get_or accounts place x
+    → arc_value t ≡ holding (arc_value x) bytes → accounts_of shares ≡ accounts_of accounts
     → accounts_of (set shares place t) ≡ set (accounts_of accounts) place (holding (get_or (accounts_of accounts) place empty_account) bytes)
 shares_set accounts shares place x t bytes below there same so_far =
     let value = λ (share : Arc Account Global). arc_value share in
@@ -44,7 +46,9 @@ pub unlisted_same : (metas : List Meta) (before : List Account) (account : Accou
 unlisted_same metas before account some place unlisted =
     slice_get-set_other before (place_in metas 0) place account (λ same. let listed = ap (λ (p : ℕ). is_listed metas p) same ∙ listed_place metas 0 some in absurd (cc))
 
-pub replaced_unlisted : (metas : List Meta) (before : List Account) (place : ℕ) (written : Option (List ℕ)) (touched : List Bool) (after : List Account) → 0 < length metas → place ≡ place_in metas 0 → IsReplaced before place written touched after
+pub replaced_unlisted : (metas : List Meta) (before : List Account) (place : ℕ) (written : Option (List ℕ))
+    (touched : List Bool) (after : List Account) → 0 < length metas → place ≡ place_in metas 0
+    → IsReplaced before place written touched after
     → SameUnlessListed metas before after
 replaced_unlisted metas before place written touched after some first replaced =
     let account : Account = get_or before place empty_account in

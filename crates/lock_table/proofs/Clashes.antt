@@ -14,7 +14,9 @@ module _ (keys : List Key) (distinct : IsDistinct same_key keys) where
   abbrev Within : List NumberedLock → Type 0
   Within set = All (λ lock. lock.number < length keys) set
 
-  one_meets : (a : NumberedLock) (other : List NumberedLock) → a.number < length keys → Within other → list_any (λ b. meets a b) other ≡ list_any (λ b. meet (keyed_lock keys a) b) (map (keyed_lock keys) other)
+  one_meets : (a : NumberedLock) (other : List NumberedLock) → a.number < length keys → Within other
+      → list_any (λ b. meets a b) other
+      ≡ list_any (λ b. meet (keyed_lock keys a) b) (map (keyed_lock keys) other)
   one_meets a [] l w = refl
   one_meets a (b ∷ bs) l w =
       ap₂ (λ s t. (s && (a.write || b.write)) || t)

@@ -67,7 +67,8 @@ number_of-found keys key n h =
     (found.0, sym (same_key-true key (get_or keys n no_key) found.1))
 
 -- one lock more
-pub Numbers-push : (keys more : List Key) (locks : List Lock) (set : List NumberedLock) (lock : Lock) (n : ℕ) → more ≡ with_key keys lock.key → number_of more lock.key ≡ Some n → Numbers keys locks set
+pub Numbers-push : (keys more : List Key) (locks : List Lock) (set : List NumberedLock) (lock : Lock) (n : ℕ)
+    → more ≡ with_key keys lock.key → number_of more lock.key ≡ Some n → Numbers keys locks set
     → Numbers more (locks ++ lock ∷ []) (set ++ record { number = n; write = lock.write } ∷ [])
 Numbers-push keys more locks set lock n e h numbers =
     let found = number_of-found more lock.key n h in
@@ -81,15 +82,22 @@ Numbers-push keys more locks set lock n e h numbers =
     }
 
 -- one lock more on a key that has a number
-pub Numbers-known : (keys : List Key) (locks : List Lock) (set : List NumberedLock) (lock : Lock) (n : ℕ) → has_key lock.key keys ≡ true → number_of keys lock.key ≡ Some n → Numbers keys locks set → Numbers keys (locks ++ lock ∷ []) (set ++ record { number = n; write = lock.write } ∷ [])
+pub Numbers-known : (keys : List Key) (locks : List Lock) (set : List NumberedLock) (lock : Lock) (n : ℕ)
+    → has_key lock.key keys ≡ true → number_of keys lock.key ≡ Some n → Numbers keys locks set
+    → Numbers keys (locks ++ lock ∷ []) (set ++ record { number = n; write = lock.write } ∷ [])
 Numbers-known keys locks set lock n there h numbers = Numbers-push keys keys locks set lock n (sym (cond-true (has_key lock.key keys) keys (keys ++ lock.key ∷ []) there)) h numbers
 
 -- one key more
-pub with_keys-more : (keys : List Key) (locks : List Lock) (i : ℕ) (d : Lock) → i < length locks → with_keys keys (lock_keys (take (i + 1) locks)) ≡ with_key (with_keys keys (lock_keys (take i locks))) (get_or locks i d).key
+pub with_keys-more : (keys : List Key) (locks : List Lock) (i : ℕ) (d : Lock) → i < length locks
+    → with_keys keys (lock_keys (take (i + 1) locks))
+    ≡ with_key (with_keys keys (lock_keys (take i locks))) (get_or locks i d).key
 with_keys-more keys locks i d l =
     ap (with_keys keys) (map_more (λ (lock : Lock). lock.key) locks i d l) ∙ fold_push with_key keys (lock_keys (take i locks)) (get_or locks i d).key
 
-not_among : (keys : List Key) (x : NumberedLock) (set : List NumberedLock) → AllByRecursion (λ key. same_key (keyed_lock keys x).key key ≡ false) (lock_keys (map (keyed_lock keys) set)) → AllByRecursion (λ n. (x.number == n) ≡ false) (map (λ lock. lock.number) set)
+not_among : (keys : List Key) (x : NumberedLock) (set : List NumberedLock)
+    → AllByRecursion (λ key. same_key (keyed_lock keys x).key key ≡ false)
+    (lock_keys (map (keyed_lock keys) set))
+    → AllByRecursion (λ n. (x.number == n) ≡ false) (map (λ lock. lock.number) set)
 not_among keys x [] a = tt
 not_among keys x (y ∷ ys) a = (
   false_from_ne_true _ (λ t. both_ways _ a.0 (subst (λ n. same_key (keyed_lock keys x).key (get_or keys n no_key) ≡ true) (eqb-true x.number y.number t) (same_key-self (keyed_lock keys x).key))),
@@ -102,7 +110,8 @@ distinct_set keys [] a = tt
 distinct_set keys (x ∷ xs) a = (not_among keys x xs a.0, distinct_set keys xs a.1)
 
 -- distinct keys have distinct numbers
-pub Numbers-distinct : (keys : List Key) (locks : List Lock) (set : List NumberedLock) → Numbers keys locks set → IsDistinct same_key (lock_keys locks) → IsDistinct (λ a b. a == b) (map (λ lock. lock.number) set)
+pub Numbers-distinct : (keys : List Key) (locks : List Lock) (set : List NumberedLock) → Numbers keys locks set
+    → IsDistinct same_key (lock_keys locks) → IsDistinct (λ a b. a == b) (map (λ lock. lock.number) set)
 Numbers-distinct keys locks set n a = distinct_set keys set (subst (λ ls. IsDistinct same_key (lock_keys ls)) (sym n.stands_for) a)
 
 -- locks of distinct numbers have each number once
@@ -110,4 +119,6 @@ pub distinct_once : (set : List NumberedLock) → IsDistinct (λ a b. a == b) (m
 distinct_once set distinct i j d l m =
     let e = length-map set (λ (lock : NumberedLock). lock.number) in
     let differ = apart_from_distinct (λ a b. a == b) (map (λ (lock : NumberedLock). lock.number) set) i j d.number distinct l (omega (arith, e, m)) in
-    eqb-false _ _ (ap₂ (λ a b. a == b) (sym (get_or-map (λ (lock : NumberedLock). lock.number) set i d d.number (omega arith))) (sym (get_or-map (λ (lock : NumberedLock). lock.number) set j d d.number m)) ∙ differ)
+    eqb-false _ _ (ap₂ (λ a b. a == b)
+        (sym (get_or-map (λ (lock : NumberedLock). lock.number) set i d d.number (omega arith)))
+        (sym (get_or-map (λ (lock : NumberedLock). lock.number) set j d d.number m)) ∙ differ)

@@ -99,7 +99,8 @@ IsTable-ascending keys n numbers long few up nil = record {
   numbered = λ key out. ap (lookup (is_at (key_cmp key))) nil ∙ sym (position-none (λ k. same_key key k) keys no_key (sym (ap (has_key key) (take_all n keys (omega (arith, long)))) ∙ out));
 }
 
-pub IsTable-push : (keys more : List Key) (asc : ℕ) (numbers next : BTreeMap Key ℕ) (key : Key) (n : ℕ) → IsTable keys asc numbers → number_of keys key ≡ None → length keys < 2 ^ 32 - 1 → n ≡ length keys
+pub IsTable-push : (keys more : List Key) (asc : ℕ) (numbers next : BTreeMap Key ℕ) (key : Key) (n : ℕ)
+    → IsTable keys asc numbers → number_of keys key ≡ None → length keys < 2 ^ 32 - 1 → n ≡ length keys
     → ((q : Key) → get key_cmp next q ≡ cond (is_at (key_cmp key) q) (Some n) (get key_cmp numbers q)) → more ≡ keys ++ key ∷ [] → IsTable more asc next
 IsTable-push keys more asc numbers next key n T none room e puts grown = subst (λ ks. IsTable ks asc next) (sym grown) (record {
   few = let l = length-append keys (key ∷ []) in omega (arith, l, room);
@@ -136,7 +137,10 @@ IsTable-pop keys fewer asc less numbers next key T e least takes = record {
   few = let l = ap length e ∙ length-append fewer (key ∷ []) in let f = T.few in omega (arith, l, f);
   distinct = distinct_front fewer (key ∷ []) distinct;
   within = omega (arith, least);
-  ascend = subst (IsStrictlySortedBy key_cmp) (take-take less asc keys (omega (arith, least)) ∙ ap (take less) e ∙ take-append-le less fewer (key ∷ []) (omega (arith, least))) (sorted_take (take asc keys) less T.ascend);
+  ascend = subst (IsStrictlySortedBy key_cmp)
+      (take-take less asc keys (omega (arith, least)) ∙ ap (take less) e
+      ∙ take-append-le less fewer (key ∷ []) (omega (arith, least)))
+      (sorted_take (take asc keys) less T.ascend);
   numbered = λ q out. takes q ∙ (ap (λ b. cond b None (get key_cmp numbers q)) (is_at-same key q) ∙ by_case q out (same_key q key) refl);
 }
   where
@@ -180,7 +184,9 @@ has_number keys key None there e = absurd (both_ways _ (absent keys key (sym e))
 has_number keys key (Some n) there e = refl
 
 -- what a search among the first keys says
-pub found_number : (shown keys : List Key) (asc : ℕ) (q : Key) (at : ℕ) (d : Key) → shown ≡ keys → asc ≤ length keys → IsDistinct same_key keys → at < length (take asc shown) → HoldsAt (λ k. key_cmp k q ≡ Equal) (take asc shown) at → Some at ≡ number_of keys q
+pub found_number : (shown keys : List Key) (asc : ℕ) (q : Key) (at : ℕ) (d : Key) → shown ≡ keys
+    → asc ≤ length keys → IsDistinct same_key keys → at < length (take asc shown)
+    → HoldsAt (λ k. key_cmp k q ≡ Equal) (take asc shown) at → Some at ≡ number_of keys q
 found_number shown keys asc q at d same within distinct below holds =
     let long = length-take-le asc keys within in
     let lower = ap (λ ks. length (take asc ks)) same in
@@ -252,9 +258,13 @@ module _ (locks : List Lock) (i : ℕ) (d : Lock) (l : i < length locks) where
   one_more = map_more (λ (lock : Lock). lock.key) locks i d l
 
   -- which none of those before is on
-  pub distinct_more : IsDistinct same_key (lock_keys (take i locks)) → list_any (λ lock. same_key (get_or locks i d).key lock.key) (take i locks) ≡ false → IsDistinct same_key (lock_keys (take (i + 1) locks))
+  pub distinct_more : IsDistinct same_key (lock_keys (take i locks))
+      → list_any (λ lock. same_key (get_or locks i d).key lock.key) (take i locks) ≡ false
+      → IsDistinct same_key (lock_keys (take (i + 1) locks))
   distinct_more before none =
-      subst (IsDistinct same_key) (sym one_more) (IsDistinct-push same_key-equiv (lock_keys (take i locks)) (get_or locks i d).key before (has_key-lock_keys (get_or locks i d).key (take i locks) ∙ none))
+      subst (IsDistinct same_key) (sym one_more)
+          (IsDistinct-push same_key-equiv (lock_keys (take i locks)) (get_or locks i d).key before
+          (has_key-lock_keys (get_or locks i d).key (take i locks) ∙ none))
 
   -- or which one of them is on
   pub not_distinct : list_any (λ lock. same_key (get_or locks i d).key lock.key) (take i locks) ≡ true → IsDistinct same_key (lock_keys locks) → ⊥

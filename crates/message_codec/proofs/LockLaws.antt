@@ -42,7 +42,8 @@ none_marked (suc n) zero = refl
 none_marked (suc n) (suc i) = none_marked n i
 
 -- one program more is marked
-pub one_marked : (marks : List Bool) (instructions : List Instruction) (k : ℕ) (x : Instruction) (place i : ℕ) → k < length instructions → x ≡ slice_index_or instructions k x → place ≡ x.program → place < length marks
+pub one_marked : (marks : List Bool) (instructions : List Instruction) (k : ℕ) (x : Instruction) (place i : ℕ)
+    → k < length instructions → x ≡ slice_index_or instructions k x → place ≡ x.program → place < length marks
     → slice_index_or marks i false ≡ is_program (take k instructions) i → slice_index_or (slice_set marks place true) i false ≡ is_program (take (k + 1) instructions) i
 one_marked marks instructions k x place i lt e same_place fits so_far =
     let more : is_program (take (k + 1) instructions) i ≡ (is_program (take k instructions) i || nat_eq x.program i) =

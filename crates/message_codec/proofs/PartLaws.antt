@@ -55,7 +55,9 @@ array_reads one total reads = record { again = array_again one total reads; take
 -- signatures
 
 pub signature_reads : (total : ℕ) → Reads (signature_at total) signature_bytes (λ signature. length signature.0 ≡ 64)
-signature_reads total = read_as_reads (λ (field : List ℕ). let signature : Signature = record { 0 = field } in signature) (λ signature. signature.0) (λ _. refl) (λ _. refl) (field_reads Truncated total 64)
+signature_reads total = read_as_reads
+    (λ (field : List ℕ). let signature : Signature = record { 0 = field } in signature)
+    (λ signature. signature.0) (λ _. refl) (λ _. refl) (field_reads Truncated total 64)
 
 -- instructions
 
@@ -84,7 +86,9 @@ instruction_takes total bytes instruction rest are h =
     let c = taken (blob_reads total) _ b.rest (instruction, rest) b.are_bytes b.goes_on in
     let p = ok_parts _ _ _ _ c.goes_on in
     subst (λ (v : Instruction). InstructionFits v × (bytes ≡ instruction_bytes v ++ rest)) p.0
-    (record { program = a.fits; accounts = b.fits; input = c.fits }, follows (a.value ∷ blob_bytes b.value) (blob_bytes c.value) rest (follows (a.value ∷ []) (blob_bytes b.value) b.rest a.spelled b.spelled) (onward (blob_bytes c.value) c.spelled p.1))
+    (record { program = a.fits; accounts = b.fits; input = c.fits }, follows (a.value ∷ blob_bytes b.value)
+        (blob_bytes c.value) rest (follows (a.value ∷ []) (blob_bytes b.value) b.rest a.spelled b.spelled)
+        (onward (blob_bytes c.value) c.spelled p.1))
 
 pub instruction_reads : (total : ℕ) → Reads (instruction_at total) instruction_bytes InstructionFits
 instruction_reads total = record { again = instruction_again total; takes = instruction_takes total }
@@ -116,7 +120,10 @@ lookup_takes total bytes lookup rest are h =
     let c = taken (blob_reads total) _ b.rest (lookup, rest) b.are_bytes b.goes_on in
     let p = ok_parts _ _ _ _ c.goes_on in
     subst (λ (v : Lookup). LookupFits v × (bytes ≡ lookup_bytes v ++ rest)) p.0
-    (record { table = a.fits; writable = b.fits; readonly = c.fits }, follows (key_bytes a.value ++ blob_bytes b.value) (blob_bytes c.value) rest (follows (key_bytes a.value) (blob_bytes b.value) b.rest a.spelled b.spelled) (onward (blob_bytes c.value) c.spelled p.1))
+    (record { table = a.fits; writable = b.fits; readonly = c.fits }, follows
+        (key_bytes a.value ++ blob_bytes b.value) (blob_bytes c.value) rest
+        (follows (key_bytes a.value) (blob_bytes b.value) b.rest a.spelled b.spelled)
+        (onward (blob_bytes c.value) c.spelled p.1))
 
 pub lookup_reads : (total : ℕ) → Reads (lookup_at total) lookup_bytes LookupFits
 lookup_reads total = record { again = lookup_again total; takes = lookup_takes total }

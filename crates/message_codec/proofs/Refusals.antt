@@ -36,7 +36,9 @@ as_plain : {X Y : Type 0} (shape : X → Y) (one : List ℕ → Read X) (bytes :
 unfolding read_as
 as_plain shape one bytes plain = onward (one bytes) _ plain (λ read. tt)
 
-many_plain : {X : Type 0} (one : List ℕ → Read X) → ((bytes : List ℕ) → IsPlain (one bytes)) → (before : List X) (count : ℕ) (bytes : List ℕ) → IsPlain (many_after (λ _ rest. one rest) before count bytes)
+many_plain : {X : Type 0} (one : List ℕ → Read X) → ((bytes : List ℕ) → IsPlain (one bytes))
+    → (before : List X) (count : ℕ) (bytes : List ℕ)
+    → IsPlain (many_after (λ _ rest. one rest) before count bytes)
 unfolding many_after
 many_plain one plain before zero bytes = tt
 many_plain one plain before (suc count) bytes = onward (one bytes) _ (plain bytes) (λ item. many_plain one plain (before ++ item.0 ∷ []) count item.1)

@@ -28,7 +28,10 @@ payer_place tx most is =
     rw (there, first) refl
 
 no_program : (instructions : List Instruction) (keys : ℕ) → All (λ instruction. (0 < instruction.program) × (instruction.program < keys)) instructions → is_program instructions 0 ≡ false
-no_program instructions keys h = list_any_none (λ instruction. nat_eq instruction.program 0) instructions (All-weaker (λ instruction. (0 < instruction.program) × (instruction.program < keys)) (λ instruction. nat_eq instruction.program 0 ≡ false) (λ instruction e. other instruction.program e.0) instructions h)
+no_program instructions keys h = list_any_none (λ instruction. nat_eq instruction.program 0) instructions
+    (All-weaker (λ instruction. (0 < instruction.program) × (instruction.program < keys))
+    (λ instruction. nat_eq instruction.program 0 ≡ false) (λ instruction e. other instruction.program e.0)
+    instructions h)
   where
     other : (program : ℕ) → 0 < program → nat_eq program 0 ≡ false
     other program lt = grind (arith, nat_tests)
@@ -72,7 +75,9 @@ are_named tx most loaded is has = All-from_recursion (AreNamed tx.message loaded
       record {
         static = p.0.1;
         no_payer = p.0.0;
-        program = ap (λ (l : List Key). slice_get l x.program) (append_assoc tx.message.keys loaded.writable loaded.readonly) ∙ front tx.message.keys (loaded.writable ++ loaded.readonly) x.program p.0.1;
+        program = ap (λ (l : List Key). slice_get l x.program)
+            (append_assoc tx.message.keys loaded.writable loaded.readonly)
+            ∙ front tx.message.keys (loaded.writable ++ loaded.readonly) x.program p.0.1;
         accounts = subst (λ n. All (λ index. index < n) x.accounts) (sym (all_count tx.message loaded has)) a.0;
       },
       both xs p.1 a.1,
@@ -95,8 +100,14 @@ numbered n zero (key ∷ keys) = ap (λ (m : ℕ). let o : Option (ℕ × Key) =
 numbered n (suc i) (key ∷ keys) = numbered (n + 1) i keys ∙ ap (λ m. option_map (λ (key : Key). (m, key)) (slice_get keys i)) (omega arith)
 
 -- the lock at a place is that of the key there
-pub lock_each : (message : Message) (loaded : Loaded) (i : ℕ) → slice_get (locks_of message loaded) i ≡ option_map (λ (key : Key). lock_of message loaded (i, key)) (slice_get (all_keys message loaded) i)
-lock_each message loaded i = slice_get-map (lock_of message loaded) (enumerate_from 0 (all_keys message loaded)) i ∙ ap (option_map (lock_of message loaded)) (numbered 0 i (all_keys message loaded)) ∙ (mapped (slice_get (all_keys message loaded) i) ∙ ap (λ m. option_map (λ (key : Key). lock_of message loaded (m, key)) (slice_get (all_keys message loaded) i)) (zero-add i))
+pub lock_each : (message : Message) (loaded : Loaded) (i : ℕ)
+    → slice_get (locks_of message loaded) i
+    ≡ option_map (λ (key : Key). lock_of message loaded (i, key)) (slice_get (all_keys message loaded) i)
+lock_each message loaded i = slice_get-map (lock_of message loaded) (enumerate_from 0 (all_keys message loaded))
+    i ∙ ap (option_map (lock_of message loaded)) (numbered 0 i (all_keys message loaded))
+    ∙ (mapped (slice_get (all_keys message loaded) i)
+    ∙ ap (λ m. option_map (λ (key : Key). lock_of message loaded (m, key))
+    (slice_get (all_keys message loaded) i)) (zero-add i))
   where
     mapped : (o : Option Key) → option_map (lock_of message loaded) (option_map (λ (key : Key). (0 + i, key)) o) ≡ option_map (λ (key : Key). lock_of message loaded (0 + i, key)) o
     mapped None = refl

@@ -70,7 +70,9 @@ loads_some lookup e = go (length lookup.writable) (length lookup.readonly) e
     go (suc m) n h = omega arith
 
 lookups : (lookups : List Lookup) → lookups_sanitized (empty_lookup lookups) ≡ Ok tt → All (λ lookup. 0 < load_count lookup) lookups
-lookups ls h = All-weaker (λ lookup. loads_none lookup ≡ false) (λ lookup. 0 < load_count lookup) loads_some ls (All-from_recursion (λ lookup. loads_none lookup ≡ false) ls (none_before_end loads_none ls (at_end (nat_lt (position_or_len loads_none ls) (length ls)) refl)))
+lookups ls h = All-weaker (λ lookup. loads_none lookup ≡ false) (λ lookup. 0 < load_count lookup) loads_some ls
+    (All-from_recursion (λ lookup. loads_none lookup ≡ false) ls
+    (none_before_end loads_none ls (at_end (nat_lt (position_or_len loads_none ls) (length ls)) refl)))
   where
     at_end : (t : Bool) → nat_lt (position_or_len loads_none ls) (length ls) ≡ t → t ≡ false
     at_end true e = absurd (refused (rw e at h))
@@ -120,7 +122,10 @@ fails_all : {X : Type 0} (test : X → Bool) (P : X → Type 0) → ((x : X) →
 fails_all test P fails xs h = list_any_none test xs (All-weaker P (λ x. test x ≡ false) fails xs h)
 
 no_bad_program : (instructions : List Instruction) (keys : ℕ) → All (λ instruction. (0 < instruction.program) × (instruction.program < keys)) instructions → has_bad_program instructions keys ≡ false
-no_bad_program instructions keys h = fails_all (λ instruction. nat_eq instruction.program 0 || nat_le keys instruction.program) (λ instruction. (0 < instruction.program) × (instruction.program < keys)) (λ instruction e. in_range instruction.program e) instructions h
+no_bad_program instructions keys h = fails_all
+    (λ instruction. nat_eq instruction.program 0 || nat_le keys instruction.program)
+    (λ instruction. (0 < instruction.program) × (instruction.program < keys))
+    (λ instruction e. in_range instruction.program e) instructions h
   where
     in_range : (program : ℕ) → (0 < program) × (program < keys) → (nat_eq program 0 || nat_le keys program) ≡ false
     in_range program e =
@@ -151,7 +156,9 @@ at_end test (x ∷ xs) h = let later = at_end test xs h.1 in rw h.0 (omega (arit
 
 no_empty : (lookups : List Lookup) → All (λ lookup. 0 < load_count lookup) lookups → lookups_sanitized (empty_lookup lookups) ≡ Ok tt
 no_empty ls h =
-    let none = recursion_from_All (λ lookup. loads_none lookup ≡ false) ls (All-weaker (λ lookup. 0 < load_count lookup) (λ lookup. loads_none lookup ≡ false) (λ lookup e. some (length lookup.writable) (length lookup.readonly) e) ls h) in
+    let none = recursion_from_All (λ lookup. loads_none lookup ≡ false) ls
+        (All-weaker (λ lookup. 0 < load_count lookup) (λ lookup. loads_none lookup ≡ false)
+        (λ lookup e. some (length lookup.writable) (length lookup.readonly) e) ls h) in
     let last = at_end loads_none ls none in
     let past : nat_lt (position_or_len loads_none ls) (length ls) ≡ false = grind (arith, nat_tests) in
     rw past refl

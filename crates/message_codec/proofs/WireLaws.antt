@@ -141,8 +141,12 @@ message_takes total bytes message rest are h =
     let to_header = follows (kind_bytes kind) (header_bytes a.value) a.rest first.1 a.spelled in
     let to_keys = follows (kind_bytes kind ++ header_bytes a.value) (array_bytes key_bytes b.value) b.rest to_header b.spelled in
     let to_blockhash = follows (kind_bytes kind ++ header_bytes a.value ++ array_bytes key_bytes b.value) (hash_bytes c.value) c.rest to_keys c.spelled in
-    let to_instructions = follows (kind_bytes kind ++ header_bytes a.value ++ array_bytes key_bytes b.value ++ hash_bytes c.value) (array_bytes instruction_bytes d.value) d.rest to_blockhash d.spelled in
-    let to_end = follows (kind_bytes kind ++ header_bytes a.value ++ array_bytes key_bytes b.value ++ hash_bytes c.value ++ array_bytes instruction_bytes d.value) (lookups_bytes kind e.value) rest to_instructions (onward (lookups_bytes kind e.value) e.spelled p.1) in
+    let to_instructions = follows
+        (kind_bytes kind ++ header_bytes a.value ++ array_bytes key_bytes b.value ++ hash_bytes c.value)
+        (array_bytes instruction_bytes d.value) d.rest to_blockhash d.spelled in
+    let to_end = follows (kind_bytes kind ++ header_bytes a.value ++ array_bytes key_bytes b.value
+        ++ hash_bytes c.value ++ array_bytes instruction_bytes d.value) (lookups_bytes kind e.value) rest
+        to_instructions (onward (lookups_bytes kind e.value) e.spelled p.1) in
     subst (λ (v : Message). MessageFits v × (bytes ≡ message_bytes v ++ rest)) p.0 (fits, to_end)
 
 pub message_reads : (total : ℕ) → Reads (message_at total) message_bytes MessageFits
@@ -174,12 +178,16 @@ tx_takes total bytes tx rest are h =
 
 -- what reading asks of a transaction, and what the format and the types say
 
-lookups_fit : (kind : MessageKind) (message : Message) → AllowsLookups kind message.lookups → HasShortLists message → All (λ lookup. IsKey lookup.table) message.lookups → LookupsFit kind message.lookups
+lookups_fit : (kind : MessageKind) (message : Message) → AllowsLookups kind message.lookups
+    → HasShortLists message → All (λ lookup. IsKey lookup.table) message.lookups
+    → LookupsFit kind message.lookups
 lookups_fit Legacy message none lists tables = none
 lookups_fit Zero message allows lists tables =
     (lists.lookups, recursion_from_All LookupFits message.lookups (λ k d lt. record { table = tables k d lt; writable = lists.writable k d lt; readonly = lists.readonly k d lt }))
 
-fits_reading : (tx : Tx) → BeginsAsItsKind tx.message.kind tx.message.header → AllowsLookups tx.message.kind tx.message.lookups → IsCountable tx.signatures → HasShortLists tx.message → HasWidths tx → TxFits tx
+fits_reading : (tx : Tx) → BeginsAsItsKind tx.message.kind tx.message.header
+    → AllowsLookups tx.message.kind tx.message.lookups → IsCountable tx.signatures → HasShortLists tx.message
+    → HasWidths tx → TxFits tx
 fits_reading tx begins allows short lists widths = record {
   signatures = (short, recursion_from_All (λ signature. length signature.0 ≡ 64) tx.signatures widths.signatures);
   message = record {

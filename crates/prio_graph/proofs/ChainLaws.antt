@@ -42,7 +42,9 @@ conflict-written one other k l h =
     conflict_at one other first.0 k first.1 l first.2 (or_left (get_or one first.0 no_lock).write (get_or other k no_lock).write first.3)
 
 -- and where the first reads it and the lock writes
-conflict-read : (one other : List NumberedLock) (k : ℕ) → k < length other → reads_number one (get_or other k no_lock).number ≡ true → (get_or other k no_lock).write ≡ true → conflicts one other ≡ true
+conflict-read : (one other : List NumberedLock) (k : ℕ) → k < length other
+    → reads_number one (get_or other k no_lock).number ≡ true → (get_or other k no_lock).write ≡ true
+    → conflicts one other ≡ true
 conflict-read one other k l h w =
     let first = read_place one (get_or other k no_lock).number h in
     conflict_at one other first.0 k first.1 l first.2 (or_right (get_or one first.0 no_lock).write (get_or other k no_lock).write w)
@@ -63,7 +65,9 @@ conflict-both one other n h w = by_case h
 
 -- where two sets conflict, there is a lock in the second whose number the first writes, or reads where the lock writes
 met_at : (one other : List NumberedLock) → conflicts one other ≡ true
-    → (k : ℕ) × (k < length other) × ((writes_number one (get_or other k no_lock).number ≡ true) ⊎ ((reads_number one (get_or other k no_lock).number ≡ true) × ((get_or other k no_lock).write ≡ true)))
+    → (k : ℕ) × (k < length other)
+        × ((writes_number one (get_or other k no_lock).number ≡ true)
+        ⊎ ((reads_number one (get_or other k no_lock).number ≡ true) × ((get_or other k no_lock).write ≡ true)))
 met_at one other h =
     let first = any_place (λ a. list_any (λ b. meets a b) other) one no_lock h in
     let a = get_or one first.0 no_lock in
@@ -85,7 +89,9 @@ last_writer-is : (sets : List (List NumberedLock)) (i n w : ℕ) → last_writer
 last_writer-is sets zero n w e = absurd (cc)
 last_writer-is sets (suc i) n w e = by_case (writes_number (set_at sets i) n) refl e (last_writer-is sets i n w)
   where
-    by_case : (b : Bool) → writes_number (set_at sets i) n ≡ b → cond b (Some i) (last_writer sets i n) ≡ Some w → (last_writer sets i n ≡ Some w → (w < i) × (writes_number (set_at sets w) n ≡ true)) → (w < suc i) × (writes_number (set_at sets w) n ≡ true)
+    by_case : (b : Bool) → writes_number (set_at sets i) n ≡ b → cond b (Some i) (last_writer sets i n) ≡ Some w
+        → (last_writer sets i n ≡ Some w → (w < i) × (writes_number (set_at sets w) n ≡ true))
+        → (w < suc i) × (writes_number (set_at sets w) n ≡ true)
     by_case true t q rest = let same : i ≡ w = cc in (omega (arith, same), subst (λ x. writes_number (set_at sets x) n ≡ true) same t)
     by_case false f q rest = let there = rest q in (omega (arith, there.0), there.1)
 
@@ -94,7 +100,9 @@ last_writer-from : (sets : List (List NumberedLock)) (i n j : ℕ) → j < i →
 last_writer-from sets zero n j l h = absurd (omega arith)
 last_writer-from sets (suc i) n j l h = by_case (writes_number (set_at sets i) n) refl (last_writer-from sets i n j)
   where
-    by_case : (b : Bool) → writes_number (set_at sets i) n ≡ b → (j < i → writes_number (set_at sets j) n ≡ true → (w : ℕ) × (last_writer sets i n ≡ Some w) × (j ≤ w)) → (w : ℕ) × (cond b (Some i) (last_writer sets i n) ≡ Some w) × (j ≤ w)
+    by_case : (b : Bool) → writes_number (set_at sets i) n ≡ b
+        → (j < i → writes_number (set_at sets j) n ≡ true → (w : ℕ) × (last_writer sets i n ≡ Some w) × (j ≤ w))
+        → (w : ℕ) × (cond b (Some i) (last_writer sets i n) ≡ Some w) × (j ≤ w)
     by_case true t rest = (i, refl, omega arith)
     by_case false f rest =
         elim (cases_eq j i) [
@@ -122,7 +130,10 @@ readers_since-is sets (suc i) n j h = by_case (writes_number (set_at sets i) n) 
     by_case false false t g rest = let there = rest g in (omega (arith, there.0), there.1)
 
 -- a reader that no writer follows is one of the readers since
-readers_since-has : (sets : List (List NumberedLock)) (i n j : ℕ) → j < i → reads_number (set_at sets j) n ≡ true → ((m : ℕ) → j ≤ m → m < i → writes_number (set_at sets m) n ≡ false) → has j (readers_since sets i n) ≡ true
+readers_since-has : (sets : List (List NumberedLock)) (i n j : ℕ) → j < i
+    → reads_number (set_at sets j) n ≡ true
+    → ((m : ℕ) → j ≤ m → m < i → writes_number (set_at sets m) n ≡ false)
+    → has j (readers_since sets i n) ≡ true
 readers_since-has sets zero n j l h none = absurd (omega arith)
 readers_since-has sets (suc i) n j l h none =
     by_case (reads_number (set_at sets i) n) refl (λ u. readers_since-has sets i n j u h (λ m a b. none m a (omega arith)))
@@ -147,14 +158,21 @@ readers_since-has sets (suc i) n j l h none =
 
 module _ (sets : List (List NumberedLock)) (i j : ℕ) where
   -- whoever a lock waits for stands before, and writes its number, or reads it where the lock writes
-  awaited_cases : (lock : NumberedLock) → has j (awaited sets i lock) ≡ true → (j < i) × ((writes_number (set_at sets j) lock.number ≡ true) ⊎ ((reads_number (set_at sets j) lock.number ≡ true) × (lock.write ≡ true)))
+  awaited_cases : (lock : NumberedLock) → has j (awaited sets i lock) ≡ true
+      → (j < i) × ((writes_number (set_at sets j) lock.number ≡ true)
+      ⊎ ((reads_number (set_at sets j) lock.number ≡ true) × (lock.write ≡ true)))
   awaited_cases lock h =
-      elim (or_cases (has j (option_to_list (last_writer sets i lock.number))) (has j (cond lock.write (readers_since sets i lock.number) [])) (sym (any-append (λ x. x == j) (option_to_list (last_writer sets i lock.number)) (cond lock.write (readers_since sets i lock.number) [])) ∙ h)) [
+      elim (or_cases (has j (option_to_list (last_writer sets i lock.number)))
+          (has j (cond lock.write (readers_since sets i lock.number) []))
+          (sym (any-append (λ x. x == j) (option_to_list (last_writer sets i lock.number))
+          (cond lock.write (readers_since sets i lock.number) [])) ∙ h)) [
         | inl t ↦ last (last_writer sets i lock.number) refl t
         | inr t ↦ since lock.write refl t
       ]
     where
-      last : (o : Option ℕ) → last_writer sets i lock.number ≡ o → has j (option_to_list o) ≡ true → (j < i) × ((writes_number (set_at sets j) lock.number ≡ true) ⊎ ((reads_number (set_at sets j) lock.number ≡ true) × (lock.write ≡ true)))
+      last : (o : Option ℕ) → last_writer sets i lock.number ≡ o → has j (option_to_list o) ≡ true
+          → (j < i) × ((writes_number (set_at sets j) lock.number ≡ true)
+          ⊎ ((reads_number (set_at sets j) lock.number ≡ true) × (lock.write ≡ true)))
       last None e t = absurd (false≢true t)
       last (Some w) e t =
           elim (or_cases (w == j) false t) [
@@ -162,14 +180,18 @@ module _ (sets : List (List NumberedLock)) (i j : ℕ) where
             | inr q ↦ absurd (false≢true q)
           ]
 
-      since : (b : Bool) → lock.write ≡ b → has j (cond b (readers_since sets i lock.number) []) ≡ true → (j < i) × ((writes_number (set_at sets j) lock.number ≡ true) ⊎ ((reads_number (set_at sets j) lock.number ≡ true) × (lock.write ≡ true)))
+      since : (b : Bool) → lock.write ≡ b → has j (cond b (readers_since sets i lock.number) []) ≡ true
+          → (j < i) × ((writes_number (set_at sets j) lock.number ≡ true)
+          ⊎ ((reads_number (set_at sets j) lock.number ≡ true) × (lock.write ≡ true)))
       since true e t = let is = readers_since-is sets i lock.number j t in (is.0, inr (is.1, e))
       since false e t = absurd (false≢true t)
 
   -- an edge leads from an earlier conflicting position
   pub edge-is : has j (edges_into sets i) ≡ true → (j < i) × (conflicts (set_at sets j) (set_at sets i) ≡ true)
   edge-is h =
-      let found = any_place (λ lock. has j (awaited sets i lock)) (set_at sets i) no_lock (sym (any-flat_map (λ x. x == j) (awaited sets i) (set_at sets i)) ∙ (sym (has-once j (flat_map (awaited sets i) (set_at sets i))) ∙ h)) in
+      let found = any_place (λ lock. has j (awaited sets i lock)) (set_at sets i) no_lock
+          (sym (any-flat_map (λ x. x == j) (awaited sets i) (set_at sets i))
+          ∙ (sym (has-once j (flat_map (awaited sets i) (set_at sets i))) ∙ h)) in
       let cases = awaited_cases (get_or (set_at sets i) found.0 no_lock) found.2 in (
         cases.0,
         elim cases.1 [
@@ -179,7 +201,9 @@ module _ (sets : List (List NumberedLock)) (i j : ℕ) where
       )
 
   edge_at : (k : ℕ) → k < length (set_at sets i) → has j (awaited sets i (get_or (set_at sets i) k no_lock)) ≡ true → has j (edges_into sets i) ≡ true
-  edge_at k l h = has-once j (flat_map (awaited sets i) (set_at sets i)) ∙ (any-flat_map (λ x. x == j) (awaited sets i) (set_at sets i) ∙ any_at (λ lock. has j (awaited sets i lock)) (set_at sets i) k no_lock l h)
+  edge_at k l h = has-once j (flat_map (awaited sets i) (set_at sets i))
+      ∙ (any-flat_map (λ x. x == j) (awaited sets i) (set_at sets i)
+      ∙ any_at (λ lock. has j (awaited sets i lock)) (set_at sets i) k no_lock l h)
 
   -- an edge leads from the last writer
   edge-writer : (k : ℕ) → k < length (set_at sets i) → last_writer sets i (get_or (set_at sets i) k no_lock).number ≡ Some j → has j (edges_into sets i) ≡ true
@@ -190,7 +214,9 @@ module _ (sets : List (List NumberedLock)) (i j : ℕ) where
       ∙ or_left _ _ (ap (λ o. has j (option_to_list o)) e ∙ or_left _ _ (eq-eqb j j refl)))
 
   -- and to a writer from the readers since
-  edge-reader : (k : ℕ) → k < length (set_at sets i) → (get_or (set_at sets i) k no_lock).write ≡ true → has j (readers_since sets i (get_or (set_at sets i) k no_lock).number) ≡ true → has j (edges_into sets i) ≡ true
+  edge-reader : (k : ℕ) → k < length (set_at sets i) → (get_or (set_at sets i) k no_lock).write ≡ true
+      → has j (readers_since sets i (get_or (set_at sets i) k no_lock).number) ≡ true
+      → has j (edges_into sets i) ≡ true
   edge-reader k l w h =
       let lock = get_or (set_at sets i) k no_lock in
       edge_at k l
@@ -211,7 +237,9 @@ module _ (sets : List (List NumberedLock)) (marks : List Mark) (in_order : Start
     edge_done j h = done-is (mark_at marks j) (count-zero (λ x. not (is_done_mark (mark_at marks x))) (edges_into sets i) free j h)
 
     -- whoever conflicts with a done writer before i is done
-    before_writer : (j w n : ℕ) → j < w → w < i → mark_at marks w ≡ Done → (writes_number (set_at sets j) n ≡ true) ⊎ (reads_number (set_at sets j) n ≡ true) → writes_number (set_at sets w) n ≡ true → mark_at marks j ≡ Done
+    before_writer : (j w n : ℕ) → j < w → w < i → mark_at marks w ≡ Done
+        → (writes_number (set_at sets j) n ≡ true) ⊎ (reads_number (set_at sets j) n ≡ true)
+        → writes_number (set_at sets w) n ≡ true → mark_at marks j ≡ Done
     before_writer j w n l m d h t =
         in_order w (omega (arith, below)) (not_waiting (mark_at marks w) d) j l (conflict-both (set_at sets j) (set_at sets w) n h t)
 

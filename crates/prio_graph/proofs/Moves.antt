@@ -52,7 +52,9 @@ module _ (sets : List (List NumberedLock)) (marks : List Mark) (waits : List ℕ
 
   -- the leaf of a ready position shows it
   ready_shown : (i : ℕ) → IsReady now i → leaf tree (length sets) i ≡ i
-  ready_shown i r = K.leaves i r.below ∙ cond-true (is_waiting_mark (mark_at marks i) && (slice_index waits i == 0)) i none (ap₂ (λ m b. is_waiting_mark m && b) r.waits (eq-eqb (slice_index waits i) 0 (ready_free i r)))
+  ready_shown i r = K.leaves i r.below
+      ∙ cond-true (is_waiting_mark (mark_at marks i) && (slice_index waits i == 0)) i none
+      (ap₂ (λ m b. is_waiting_mark m && b) r.waits (eq-eqb (slice_index waits i) 0 (ready_free i r)))
 
   -- and a leaf that shows something shows a ready position
   shown_ready : (i v : ℕ) → i < length sets → leaf tree (length sets) i ≡ v → (v ≡ none → ⊥) → (i ≡ v) × IsReady now i
@@ -67,7 +69,9 @@ module _ (sets : List (List NumberedLock)) (marks : List Mark) (waits : List ℕ
       ]
 
   -- what the least leaf says
-  pub least_is : (v : ℕ) → ((i : ℕ) → i < length sets → v ≤ leaf tree (length sets) i) → (v ≡ none) ⊎ ((i : ℕ) × (i < length sets) × (leaf tree (length sets) i ≡ v)) → (v ≡ none → ⊥) → IsLeastOfReady now v
+  pub least_is : (v : ℕ) → ((i : ℕ) → i < length sets → v ≤ leaf tree (length sets) i)
+      → (v ≡ none) ⊎ ((i : ℕ) × (i < length sets) × (leaf tree (length sets) i ≡ v)) → (v ≡ none → ⊥)
+      → IsLeastOfReady now v
   least_is v least (inl e) d = absurd (d e)
   least_is v least (inr (i, l, e)) d =
       let here = shown_ready i v l e d in
@@ -115,7 +119,9 @@ module _ (sets : List (List NumberedLock)) (marks : List Mark) (waits : List ℕ
         (λ j h. mark-cases (λ x y. not (is_done_mark y) ≡ not (is_done_mark (mark_at marks x))) marks p m (in_marks l) (ap not (b ∙ sym a)) (λ x d. refl) j)
 
     -- p becomes m, and its leaf shows v
-    module _ (m : Mark) (v : ℕ) (l : p < length sets) (a : is_done_mark (mark_at marks p) ≡ false) (b : is_done_mark m ≡ false) (not_done : mark_at marks p ≡ Done → ⊥) (earlier : (m ≡ Waiting → ⊥) → EarlierDone sets marks p)
+    module _ (m : Mark) (v : ℕ) (l : p < length sets) (a : is_done_mark (mark_at marks p) ≡ false)
+        (b : is_done_mark m ≡ false) (not_done : mark_at marks p ≡ Done → ⊥)
+        (earlier : (m ≡ Waiting → ⊥) → EarlierDone sets marks p)
         (shows : v ≡ shown (is_waiting_mark m && (slice_index waits p == 0)) p)
         (after : List ℕ) (after_length : length after ≡ 2 * length sets) (after_tree : IsTree after (length sets))
         (after_leaves : (i : ℕ) → i < length sets → leaf after (length sets) i ≡ (if i == p then v else leaf tree (length sets) i)) where
@@ -185,7 +191,9 @@ module _ (sets : List (List NumberedLock)) (marks : List Mark) (waits : List ℕ
           | inr v ↦ let a = K.never p i v in omega (arith, row_is, a)
         ]
 
-    module _ (after_waits : List ℕ) (waits_length : length after_waits ≡ length waits) (row : List ℕ) (row_is : row ≡ get_or rows p []) (lost : (i : ℕ) → slice_index after_waits i + times i row ≡ slice_index waits i)
+    module _ (after_waits : List ℕ) (waits_length : length after_waits ≡ length waits) (row : List ℕ)
+        (row_is : row ≡ get_or rows p [])
+        (lost : (i : ℕ) → slice_index after_waits i + times i row ≡ slice_index waits i)
         (after : List ℕ) (after_length : length after ≡ 2 * length sets) (after_tree : IsTree after (length sets))
         (after_leaves : (i : ℕ) → i < length sets → leaf after (length sets) i ≡ (if nat_lt 0 (times i row) && (slice_index after_waits i == 0) then i else leaf tree (length sets) i)) where
       row_times : (i : ℕ) → i < length sets → times i row ≡ times p (edges_into sets i)
@@ -237,7 +245,9 @@ module _ (sets : List (List NumberedLock)) (marks : List Mark) (waits : List ℕ
           let same : slice_index waits i ≡ slice_index after_waits i = omega (arith, before, z) in
           K.leaves i u
           ∙ (ap (λ w. shown (is_waiting_mark (mark_at marks i) && (w == 0)) i) same
-          ∙ mark-cases (λ x y. shown (is_waiting_mark (mark_at marks x) && (slice_index after_waits i == 0)) i ≡ shown (is_waiting_mark y && (slice_index after_waits i == 0)) i) marks p Done (in_marks p (below p started))
+          ∙ mark-cases (λ x y. shown (is_waiting_mark (mark_at marks x) && (slice_index after_waits i == 0)) i
+              ≡ shown (is_waiting_mark y && (slice_index after_waits i == 0)) i) marks p Done
+              (in_marks p (below p started))
           (ap (λ m. shown (is_waiting_mark m && (slice_index after_waits i == 0)) i) started) (λ x d. refl) i)
 
       pub finish_keeps : IsGraph sets (set marks p Done) after_waits rows after
@@ -247,7 +257,8 @@ module _ (sets : List (List NumberedLock)) (marks : List Mark) (waits : List ℕ
         waits_length = waits_length ∙ K.waits_length;
         rows_length = K.rows_length;
         tree_length = after_length;
-        in_order = λ i u n j v c. mark-cases (λ x y. (mark_at marks x ≡ Done) ⊎ (x ≡ p) → y ≡ Done) marks p Done (in_marks p (below p started)) (λ h. refl) (λ x d h. elim h [ inl e ↦ e | inr e ↦ absurd (d e) ]) j
+        in_order = λ i u n j v c. mark-cases (λ x y. (mark_at marks x ≡ Done) ⊎ (x ≡ p) → y ≡ Done) marks p Done
+            (in_marks p (below p started)) (λ h. refl) (λ x d h. elim h [ inl e ↦ e | inr e ↦ absurd (d e) ]) j
             (elim (cases_eq i p) [
               | inl e ↦ inl (before p started j (subst (λ x. j < x) e v) (subst (λ x. conflicts (set_at sets j) (set_at sets x) ≡ true) e c))
               | inr d ↦ inl (K.in_order i u (λ w. n (mark-other marks p Done i d ∙ w)) j v c)

@@ -34,7 +34,9 @@ module _ (x : NumberedLock) (rest : List NumberedLock) (position n : ℕ) where
   writer_written last l w =
       elim (cases_eq x.number n) [
         | inl e ↦
-            let put : get_or (set last x.number (Some position)) n None ≡ Some position = subst (λ k. get_or (set last x.number (Some position)) k None ≡ Some position) e (get_or-set_same last x.number (Some position) None l) in
+            let put : get_or (set last x.number (Some position)) n None
+                ≡ Some position = subst (λ k. get_or (set last x.number (Some position)) k None ≡ Some position)
+                e (get_or-set_same last x.number (Some position) None l) in
             let here : writes_number (x ∷ rest) n ≡ true = ap₂ (λ a b. (a && b) || writes_number rest n) (eq-eqb x.number n e) w in
             ap (writer_after rest position n) put
             ∙ (cond_both (writes_number rest n) (Some position) (Some position) (λ v. v ≡ Some position) (λ t. refl) (λ f. refl)
@@ -99,14 +101,24 @@ module _ (locks : List NumberedLock) (k position : ℕ) (last last' : List (Opti
   opened : drop k locks ≡ x ∷ rest
   opened = drop_more locks k no_lock l
 
-  pub step_written : x.number < length last → x.number < length readers → x.write ≡ true → last' ≡ set last x.number (Some position) → readers' ≡ set readers x.number [] → Steps locks k position last last' readers readers'
+  pub step_written : x.number < length last → x.number < length readers → x.write ≡ true
+      → last' ≡ set last x.number (Some position) → readers' ≡ set readers x.number []
+      → Steps locks k position last last' readers readers'
   step_written a b w e f = record {
     writers = λ n. ap (λ ls. writer_after rest position n (get_or ls n None)) e ∙ (writer_written x rest position n last a w ∙ sym (ap (λ ls. writer_after ls position n (get_or last n None)) opened));
-    readers = λ n. ap (λ rs. readers_after rest position n (get_or rs n [])) f ∙ (readers_written x rest position n readers b w (later_differ locks k once l) ∙ sym (ap (λ ls. readers_after ls position n (get_or readers n [])) opened));
+    readers = λ n. ap (λ rs. readers_after rest position n (get_or rs n [])) f
+        ∙ (readers_written x rest position n readers b w (later_differ locks k once l)
+        ∙ sym (ap (λ ls. readers_after ls position n (get_or readers n [])) opened));
   }
 
-  pub step_read : x.number < length readers → x.write ≡ false → last' ≡ last → readers' ≡ set readers x.number (get_or readers x.number [] ++ position ∷ []) → Steps locks k position last last' readers readers'
+  pub step_read : x.number < length readers → x.write ≡ false → last' ≡ last
+      → readers' ≡ set readers x.number (get_or readers x.number [] ++ position ∷ [])
+      → Steps locks k position last last' readers readers'
   step_read b w e f = record {
-    writers = λ n. ap (λ ls. writer_after rest position n (get_or ls n None)) e ∙ (writer_read x rest position n (get_or last n None) w ∙ sym (ap (λ ls. writer_after ls position n (get_or last n None)) opened));
-    readers = λ n. ap (λ rs. readers_after rest position n (get_or rs n [])) f ∙ (readers_read x rest position n readers b w (later_differ locks k once l) ∙ sym (ap (λ ls. readers_after ls position n (get_or readers n [])) opened));
+    writers = λ n. ap (λ ls. writer_after rest position n (get_or ls n None)) e
+        ∙ (writer_read x rest position n (get_or last n None) w
+        ∙ sym (ap (λ ls. writer_after ls position n (get_or last n None)) opened));
+    readers = λ n. ap (λ rs. readers_after rest position n (get_or rs n [])) f
+        ∙ (readers_read x rest position n readers b w (later_differ locks k once l)
+        ∙ sym (ap (λ ls. readers_after ls position n (get_or readers n [])) opened));
   }

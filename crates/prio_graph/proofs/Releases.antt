@@ -71,7 +71,9 @@ module _ (row : List ℕ) (i : ℕ) (l : i < length row) where
         others k u d = leaves k u ∙ ap₂ (λ t w. cond (nat_lt 0 t && (w == 0)) k (leaf old count k)) (sym (times-other k d)) (sym (fewer-other k d))
 
         -- the last edge is gone, and the leaf is written
-        pub leaf_written : slice_index fewer r ≡ 0 → (next : List ℕ) → ((k : ℕ) → k < count → leaf next count k ≡ cond (k == r) r (leaf tree count k)) → (k : ℕ) → k < count → leaf next count k ≡ shows fewer old count (times k (take (i + 1) row)) k
+        pub leaf_written : slice_index fewer r ≡ 0 → (next : List ℕ)
+            → ((k : ℕ) → k < count → leaf next count k ≡ cond (k == r) r (leaf tree count k)) → (k : ℕ)
+            → k < count → leaf next count k ≡ shows fewer old count (times k (take (i + 1) row)) k
         leaf_written z next put k u =
             put k u
             ∙ elim (cases_eq k r) [

@@ -81,12 +81,15 @@ missing (k ∷ keys) (f ∷ found) q none = by_test (same_key q k) refl none (mi
     by_test true t n rest = absurd (cc)
     by_test false t n rest = ap (λ (b : Bool). cond b (Some f) (find key_cmp q (zip keys found))) (same_cmp q k ∙ t) ∙ rest n
 
-found : (keys : List Key) (fs : List Sought) (at : ℕ) (d : Key) (e : Sought) → IsStrictlySortedBy key_cmp keys → at < length keys → at < length fs → find key_cmp (get_or keys at d) (zip keys fs) ≡ Some (get_or fs at e)
+found : (keys : List Key) (fs : List Sought) (at : ℕ) (d : Key) (e : Sought) → IsStrictlySortedBy key_cmp keys
+    → at < length keys → at < length fs → find key_cmp (get_or keys at d) (zip keys fs) ≡ Some (get_or fs at e)
 found [] fs at d e up l m = absurd (omega (arith, l))
 found (k ∷ keys) [] at d e up l m = absurd (omega (arith, m))
 found (k ∷ keys) (f ∷ fs) zero d e up l m = ap (λ (b : Bool). cond b (Some f) (find key_cmp k (zip keys fs))) (same_cmp k k ∙ same_key-self k)
 found (k ∷ keys) (f ∷ fs) (suc at) d e up l m =
-    ap (λ (b : Bool). cond b (Some f) (find key_cmp (get_or keys at d) (zip keys fs))) ((eq_by_cmp_equiv key_cmp_total).symm (get_or keys at d) k ∙ ap is_eq (Less-from_sorted key_cmp (k ∷ keys) 0 (suc at) d up (omega arith) l))
+    ap (λ (b : Bool). cond b (Some f) (find key_cmp (get_or keys at d) (zip keys fs)))
+        ((eq_by_cmp_equiv key_cmp_total).symm (get_or keys at d) k
+        ∙ ap is_eq (Less-from_sorted key_cmp (k ∷ keys) 0 (suc at) d up (omega arith) l))
     ∙ found keys fs at d e (sorted_tail key_cmp k keys up) (omega (arith, l)) (omega (arith, m))
 
 -- what is kept for keys that ascend
@@ -109,8 +112,13 @@ unfolding sought
 sought-none keys kept q none = sym (ap (λ (p : Option Sought). unwrap_or p IsAbsent) (missing keys (each kept_as kept) q none))
 
 -- and one that is
-pub sought-found : (keys : List Key) (kept : List Kept) (q : Key) (at : ℕ) (d : Key) (v : Kept) → AreKept keys kept → at < length keys → get_or keys at d ≡ q → v ≡ get_or kept at v → kept_as v ≡ sought (listing keys kept) q
+pub sought-found : (keys : List Key) (kept : List Kept) (q : Key) (at : ℕ) (d : Key) (v : Kept)
+    → AreKept keys kept → at < length keys → get_or keys at d ≡ q → v ≡ get_or kept at v
+    → kept_as v ≡ sought (listing keys kept) q
 unfolding sought
 sought-found keys kept q at d v are below here is =
-    sym (ap (λ (p : Option Sought). unwrap_or p IsAbsent) (subst (λ k. find key_cmp k (listing keys kept) ≡ Some (get_or (each kept_as kept) at (kept_as v))) here (found keys (each kept_as kept) at d (kept_as v) are.ascend below (let e = are.long in let l = length-map kept kept_as in omega (arith, e, l, below)))
+    sym (ap (λ (p : Option Sought). unwrap_or p IsAbsent)
+        (subst (λ k. find key_cmp k (listing keys kept) ≡ Some (get_or (each kept_as kept) at (kept_as v))) here
+        (found keys (each kept_as kept) at d (kept_as v) are.ascend below
+        (let e = are.long in let l = length-map kept kept_as in omega (arith, e, l, below)))
     ∙ ap Some (get_or-map kept_as kept at v ∙ ap kept_as (sym is))))

@@ -79,7 +79,10 @@ read_from bytes ready e = by_image (image_in bytes) refl e
     by_image None i e = absurd (not_bad e)
     by_image (Some image) i e = let j = judged_ready image ready (unfit image.text) refl e in record { image = image; read = i; verified = j.0; ready_as = j.1 }
 
-by_account : (s : State) (key : Key) (account : Account) (ready : ReadyImage) → get s key ≡ Some account → (b : Bool) → account.executable ≡ b → (let o : Sought = if b then program_in account.bytes else IsNoProgram in o) ≡ IsReady ready → IsProgramOf s key ready
+by_account : (s : State) (key : Key) (account : Account) (ready : ReadyImage) → get s key ≡ Some account
+    → (b : Bool) → account.executable ≡ b
+    → (let o : Sought = if b then program_in account.bytes else IsNoProgram in o) ≡ IsReady ready
+    → IsProgramOf s key ready
 by_account s key account ready there true x e = let r = read_from account.bytes ready e in record {
   account = account;
   image = r.image;

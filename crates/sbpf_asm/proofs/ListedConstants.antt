@@ -50,7 +50,9 @@ as_word bytes = ap (λ (t : Text). codes ".const " ++ t) (sym (append-nil (encod
 
 digits_back : (bytes : List ℕ) → 0 < length bytes → IsBytes bytes → constants_item (encode_lower bytes) ≡ Some (constants bytes)
 digits_back bytes h are =
-    let digits : are_digits (encode_lower bytes) ≡ true = and_from (list_all is_hex_digit (encode_lower bytes)) (nat_lt 0 (length (encode_lower bytes))) (hex_digits bytes are) (lt-ltb 0 (length (encode_lower bytes)) (some_digits bytes h)) in
+    let digits : are_digits (encode_lower bytes)
+        ≡ true = and_from (list_all is_hex_digit (encode_lower bytes)) (nat_lt 0 (length (encode_lower bytes)))
+        (hex_digits bytes are) (lt-ltb 0 (length (encode_lower bytes)) (some_digits bytes h)) in
     ap (λ (b : Bool). if b then decoded (decode_of (encode_lower bytes)) else None) digits ∙ ap decoded (decode_of-encode_lower bytes are)
 
 -- a line of constants is read as them
@@ -139,7 +141,9 @@ on text bytes p j n s are l r =
     }
 
 -- the lines of constants are read as them
-pub read : (text bytes : List ℕ) (p : ℕ) → IsBytes bytes → (fuel j n : ℕ) (s : Source) → line_count bytes ≤ j + fuel → Holds text p (take (j * 32) bytes) s → Read text p n bytes s (constants_from bytes j)
+pub read : (text bytes : List ℕ) (p : ℕ) → IsBytes bytes → (fuel j n : ℕ) (s : Source)
+    → line_count bytes ≤ j + fuel → Holds text p (take (j * 32) bytes) s
+    → Read text p n bytes s (constants_from bytes j)
 read text bytes p are zero j n s few h = at_end text bytes p j n s (omega arith) h
 read text bytes p are (suc fuel) j n s few h = go (read text bytes p are fuel) (nat_lt j (line_count bytes)) refl
   where

@@ -77,7 +77,9 @@ pub record Reads (line : Text) (i : Instruction) : Type 0 where
 reads_row : (i : Instruction) → IsWide i → (i.opcode ≡ 0x8d → IsNumbered i RegisterNumber) → (f : Found IsUsable (is_row_of i) rows) → Reads (row_text f.row i) i
 reads_row i w n f = record {
   text = row_is_text f.row i f.holds.0 w;
-  item = row_back f.row i f.holds.0 w (f.holds.1 i n f.passes) ∙ ap (λ (j : Instruction). Some (instruction (record { instruction = j; target = None }))) (same_instructions (written f.row i) i f.passes);
+  item = row_back f.row i f.holds.0 w (f.holds.1 i n f.passes)
+      ∙ ap (λ (j : Instruction). Some (instruction (record { instruction = j; target = None })))
+      (same_instructions (written f.row i) i f.passes);
 }
 
 -- the line of an instruction that has a row is read as it

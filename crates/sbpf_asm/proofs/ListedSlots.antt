@@ -151,7 +151,8 @@ second_zeros text p rest s =
     eight_is (byte text p 0) (byte text p 1) (byte text p 2) (byte text p 3) rest s.opcode (zero_parts (byte text p 1) s.dst s.src) (omega (arith, both)) (omega (arith, both))
 
 -- an instruction of two slots
-pub two_back : (text : List ℕ) (p : ℕ) → IsBytes text → ((slot_of text p).opcode == 0x18) ≡ true → IsSecond text (p + 1) → instruction_bytes (instruction_of text p) ≡ eight text p ++ eight text (p + 1)
+pub two_back : (text : List ℕ) (p : ℕ) → IsBytes text → ((slot_of text p).opcode == 0x18) ≡ true
+    → IsSecond text (p + 1) → instruction_bytes (instruction_of text p) ≡ eight text p ++ eight text (p + 1)
 two_back text p are e s =
     let low = cast_unsigned w32 (slot_of text p).imm in
     let high = cast_unsigned w32 (slot_of text (p + 1)).imm in
@@ -159,6 +160,7 @@ two_back text p are e s =
     low_half low high (byte text p 4) (byte text p 5) (byte text p 6) (byte text p 7) (are (8 * p + 4)) (are (8 * p + 5)) (are (8 * p + 6)) (are (8 * p + 7)) (half_is text p are) in
     let q = p + 1 in
     let back : drop 4 (low_bytes (pos (wide_number text p))) ≡ imm_of text q =
-    high_half low high (byte text q 4) (byte text q 5) (byte text q 6) (byte text q 7) (half_below text p are) (are (8 * q + 4)) (are (8 * q + 5)) (are (8 * q + 6)) (are (8 * q + 7)) (half_is text q are) in
+    high_half low high (byte text q 4) (byte text q 5) (byte text q 6) (byte text q 7) (half_below text p are)
+        (are (8 * q + 4)) (are (8 * q + 5)) (are (8 * q + 6)) (are (8 * q + 7)) (half_is text q are) in
     rw e (ap₂ (λ (x y : List ℕ). x ++ y) (first_back text p (pos (wide_number text p)) are front)
     (ap (λ (rest : List ℕ). 0 ∷ 0 ∷ 0 ∷ 0 ∷ rest) back ∙ second_zeros text q (imm_of text q) s))

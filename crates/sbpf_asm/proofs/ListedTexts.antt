@@ -72,7 +72,9 @@ offset_fits text p are = signed_16 (byte text p 2 + 256 * byte text p 3) (omega 
 
 imm_fits : (text : List ℕ) (p : ℕ) → IsBytes text → (fits_immediate (slot_of text p).imm ≡ true) × Fits64 (slot_of text p).imm
 unfolding slot_of
-imm_fits text p are = signed_32 (byte text p 4 + 256 * byte text p 5 + 65536 * byte text p 6 + 16777216 * byte text p 7) (omega (arith, are (8 * p + 4), are (8 * p + 5), are (8 * p + 6), are (8 * p + 7)))
+imm_fits text p are = signed_32
+    (byte text p 4 + 256 * byte text p 5 + 65536 * byte text p 6 + 16777216 * byte text p 7)
+    (omega (arith, are (8 * p + 4), are (8 * p + 5), are (8 * p + 6), are (8 * p + 7)))
 
 wide_below : (text : List ℕ) (p : ℕ) → IsBytes text → wide_number text p < 2 ^ 64
 wide_below text p are = omega (arith, half_below text p are, half_below text (p + 1) are)
@@ -107,7 +109,9 @@ numbered : (z : ℤ) → (pos 0 ≤ℤ z) × (z ≤ℤ pos 9) → (unsigned_abs 
 numbered (pos n) h = (below_ten n h.1, refl)
 numbered (negsuc n) h = absurd (not_below n h.0)
 
-is_numbered : (text : List ℕ) (p : ℕ) (k : OpKind) → kind_at (slot_of text p).opcode ≡ Some k → HasRegisters (slot_of text p) k → (instruction_of text p).opcode ≡ 0x8d → IsNumbered (instruction_of text p) RegisterNumber
+is_numbered : (text : List ℕ) (p : ℕ) (k : OpKind) → kind_at (slot_of text p).opcode ≡ Some k
+    → HasRegisters (slot_of text p) k → (instruction_of text p).opcode ≡ 0x8d
+    → IsNumbered (instruction_of text p) RegisterNumber
 is_numbered text p k e r o =
     let narrow : ((slot_of text p).opcode == 0x18) ≡ false = ap (λ (n : ℕ). n == 0x18) o in
     rw narrow (numbered (slot_of text p).imm (r.called (call_kind (slot_of text p).opcode k e o)))

@@ -104,7 +104,9 @@ second_there text p h =
       },
     )
 
-next_wide : (text : List ℕ) (p : ℕ) → IsVerified text → IsBytes text → p < slot_count text → ((slot_of text p).opcode == 0) ≡ false → ((slot_of text p).opcode == 0x18) ≡ true → (p + 1 < slot_count text) × IsSecond text (p + 1) → Next text p
+next_wide : (text : List ℕ) (p : ℕ) → IsVerified text → IsBytes text → p < slot_count text
+    → ((slot_of text p).opcode == 0) ≡ false → ((slot_of text p).opcode == 0x18) ≡ true
+    → (p + 1 < slot_count text) × IsSecond text (p + 1) → Next text p
 next_wide text p v are l there wide half =
     let empty : ((slot_of text (p + 1)).opcode == 0) ≡ true = ap (λ (o : ℕ). o == 0) half.1.opcode in
     let narrow : ((slot_of text (p + 1)).opcode == 0x18) ≡ false = ap (λ (o : ℕ). o == 0x18) half.1.opcode in
@@ -223,7 +225,9 @@ pub walked : (text tail : List ℕ) → IsVerified text → IsBytes text → (fu
 walked text tail v are zero p n s few within starts h = at_end text tail p n s (omega arith) h
 walked text tail v are (suc fuel) p n s few within starts h = go (walked text tail v are fuel) (nat_lt p (slot_count text)) refl
   where
-    go : ((q m : ℕ) (t : Source) → slot_count text ≤ q + fuel → q ≤ slot_count text → (q < slot_count text → ((slot_of text q).opcode == 0) ≡ false) → Holds text q [] t → Walked text m t (lines_from text q) tail)
+    go : ((q m : ℕ) (t : Source) → slot_count text ≤ q + fuel → q ≤ slot_count text
+        → (q < slot_count text → ((slot_of text q).opcode == 0) ≡ false) → Holds text q [] t
+        → Walked text m t (lines_from text q) tail)
         → (b : Bool) → nat_lt p (slot_count text) ≡ b → Walked text n s (lines_from text p) tail
     go rest true e =
         let l : p < slot_count text = grind (arith, nat_tests) in

@@ -139,6 +139,9 @@ operand_clean r i SourcePlace w = clean_place i.src i.offset (omega (arith, w.sr
 operand_clean r i RegisterNumber w = clean_register (unsigned_abs i.imm) (abs_fits i.imm w.imm)
 
 -- the operands of an instruction are read as its fields
-pub operands_back : (r : Row) (i : Instruction) (d : Draft) (os : List Operand) → IsWide i → AllByRecursion (IsNumbered i) os → with_operands r os (map (operand_text r i) os) d ≡ Some (with_instruction d (fold (taken r i) d.instruction os))
+pub operands_back : (r : Row) (i : Instruction) (d : Draft) (os : List Operand) → IsWide i
+    → AllByRecursion (IsNumbered i) os
+    → with_operands r os (map (operand_text r i) os) d
+    ≡ Some (with_instruction d (fold (taken r i) d.instruction os))
 operands_back r i d [] w n = refl
 operands_back r i d (o ∷ os) w n = rw (operand_back r i d o w n.0) (operands_back r i (with_instruction d (taken r i d.instruction o)) os w n.1)

@@ -19,7 +19,9 @@ cut_here at (x ∷ xs) b ys h e =
     rw (not-true (at x) parts.0, cut_here at xs b ys parts.1 e) refl
 
 -- a text that is cut at the place i
-pub cut_found : (at : ℕ → Bool) (text : Text) (i : ℕ) → i < length text → list_all (λ b. not (at b)) (take i text) ≡ true → at (get_or text i 0) ≡ true → cut at text ≡ record { front = take i text; rest = Some (get_or text i 0, drop (i + 1) text) }
+pub cut_found : (at : ℕ → Bool) (text : Text) (i : ℕ) → i < length text
+    → list_all (λ b. not (at b)) (take i text) ≡ true → at (get_or text i 0) ≡ true
+    → cut at text ≡ record { front = take i text; rest = Some (get_or text i 0, drop (i + 1) text) }
 cut_found at text i h none here =
     let parts : text ≡ take i text ++ get_or text i 0 ∷ drop (i + 1) text = sym (ap (λ (t : Text). take i text ++ t) (sym (drop_more text i 0 h)) ∙ take-append-drop i text) in
     ap (cut at) parts ∙ cut_here at (take i text) (get_or text i 0) (drop (i + 1) text) none here

@@ -46,7 +46,9 @@ no_empty n h = grind (arith, nat_tests)
 pub line_cut : (text : Text) → 0 < length text → lines_of text ≡ (cut is_line_feed text).front ∷ lines_of (text_behind (cut is_line_feed text).rest)
 line_cut text h = ap without_last_empty (split_cut is_line_feed text) ∙ go (cut is_line_feed text).rest refl
   where
-    go : (rest : Option (ℕ × Text)) → (cut is_line_feed text).rest ≡ rest → without_last_empty ((cut is_line_feed text).front ∷ parts_after is_line_feed rest) ≡ (cut is_line_feed text).front ∷ lines_of (text_behind rest)
+    go : (rest : Option (ℕ × Text)) → (cut is_line_feed text).rest ≡ rest
+        → without_last_empty ((cut is_line_feed text).front ∷ parts_after is_line_feed rest)
+        ≡ (cut is_line_feed text).front ∷ lines_of (text_behind rest)
     go None e = rw (uncut is_line_feed text e, no_empty (length text) h) refl
     go (Some p) e = rw (split_cut is_line_feed p.1) refl
 
@@ -55,7 +57,8 @@ no_lines [] h = refl
 no_lines (b ∷ bs) h = absurd (omega arith)
 
 -- with one line, and then with the others
-pub lines_on : (n : ℕ) (s t : Source) (rest after line : Text) → lines_of rest ≡ line ∷ lines_of after → with_line n s line ≡ Ok t → with_lines n s (lines_of rest) ≡ with_lines (n + 1) t (lines_of after)
+pub lines_on : (n : ℕ) (s t : Source) (rest after line : Text) → lines_of rest ≡ line ∷ lines_of after
+    → with_line n s line ≡ Ok t → with_lines n s (lines_of rest) ≡ with_lines (n + 1) t (lines_of after)
 lines_on n s t rest after line e f = ap (with_lines n s) e ∙ ap (λ (r : Result Source AsmFault). r >>= (λ next. with_lines (n + 1) next (lines_of after))) f
 
 -- a line that is refused, or for which there is no memory
@@ -73,7 +76,9 @@ pub repeated : (line : ℕ) (s : Source) (name : Text) (o : Option ℕ) → is_s
 repeated line s name None h = absurd (cc)
 repeated line s name (Some place) h = refl
 
-pub new_label : (line : ℕ) (s : Source) (name : Text) (o : Option ℕ) → is_some o ≡ false → with_label line s name o ≡ Ok (record s { labels = s.labels ++ (record { name = name; place = s.slots }) ∷ [] })
+pub new_label : (line : ℕ) (s : Source) (name : Text) (o : Option ℕ) → is_some o ≡ false
+    → with_label line s name o
+    ≡ Ok (record s { labels = s.labels ++ (record { name = name; place = s.slots }) ∷ [] })
 new_label line s name None h = refl
 new_label line s name (Some place) h = absurd (cc)
 

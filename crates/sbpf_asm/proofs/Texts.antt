@@ -76,7 +76,9 @@ gathered_more : (n : ℕ) (s : Source) (item : Item) (items : List Item) → gat
 gathered_more n s nothing items = refl
 gathered_more n s (label name) items = same_source _ _ _ _ _ _ _ _ refl (append_assoc s.labels ((record { name = name; place = s.slots }) ∷ []) (labels_in s.slots items)) refl refl
 gathered_more n s (constants bytes) items = same_source _ _ _ _ _ _ _ _ refl refl (append_assoc s.constants bytes (constants_in items)) refl
-gathered_more n s (instruction d) items = same_source _ _ _ _ _ _ _ _ (append_assoc s.instructions ((record { line = n; place = s.slots; draft = d }) ∷ []) (instructions_in (n + 1) (s.slots + slots_taken d.instruction) items)) refl refl (omega arith)
+gathered_more n s (instruction d) items = same_source _ _ _ _ _ _ _ _
+    (append_assoc s.instructions ((record { line = n; place = s.slots; draft = d }) ∷ [])
+    (instructions_in (n + 1) (s.slots + slots_taken d.instruction) items)) refl refl (omega arith)
 
 allowed_more : (n : ℕ) (s : Source) (item : Item) (items : List Item) → IsAllowed s item → (let t = after n s item in AreAllowed t.labels t.slots items) → AreAllowed s.labels s.slots (item ∷ items)
 allowed_more n s nothing items a rest = rest

@@ -96,7 +96,10 @@ d_s_o : (k : OpKind) (n : ℕ) → used k ≡ fields true true true false → ((
 d_s_o k n f row s e h = let u = of_fields s k _ f h in subst SlotHasRow (slot_is s n s.dst s.src s.offset (pos 0) e refl refl refl (u.imm refl)) (row s.dst s.src s.offset)
 
 -- at the widths of `le` and `be`
-of_width : (s : Slot) (n : ℕ) → ((d : ℕ) → SlotHasRow (slot n d 0 (pos 0) (pos 16))) → ((d : ℕ) → SlotHasRow (slot n d 0 (pos 0) (pos 32))) → ((d : ℕ) → SlotHasRow (slot n d 0 (pos 0) (pos 64))) → s.opcode ≡ n → s.src ≡ 0 → s.offset ≡ pos 0 → (s.imm ≡ pos 16) ⊎ ((s.imm ≡ pos 32) ⊎ (s.imm ≡ pos 64)) → SlotHasRow s
+of_width : (s : Slot) (n : ℕ) → ((d : ℕ) → SlotHasRow (slot n d 0 (pos 0) (pos 16)))
+    → ((d : ℕ) → SlotHasRow (slot n d 0 (pos 0) (pos 32)))
+    → ((d : ℕ) → SlotHasRow (slot n d 0 (pos 0) (pos 64))) → s.opcode ≡ n → s.src ≡ 0 → s.offset ≡ pos 0
+    → (s.imm ≡ pos 16) ⊎ ((s.imm ≡ pos 32) ⊎ (s.imm ≡ pos 64)) → SlotHasRow s
 of_width s n a b c e f g (inl h) = subst SlotHasRow (slot_is s n s.dst 0 (pos 0) (pos 16) e refl f g h) (a s.dst)
 of_width s n a b c e f g (inr (inl h)) = subst SlotHasRow (slot_is s n s.dst 0 (pos 0) (pos 32) e refl f g h) (b s.dst)
 of_width s n a b c e f g (inr (inr h)) = subst SlotHasRow (slot_is s n s.dst 0 (pos 0) (pos 64) e refl f g h) (c s.dst)
@@ -137,13 +140,21 @@ infixr 5 ◌⊕◌
 ◌⊕◌ : {xs ys : List isa.Row} → Covers xs → Covers ys → Covers (xs ++ ys)
 a ⊕ b = record { all = both _ _ a.all b.all }
 
-operations : (op : Operation) (a b c d : ℕ) → ((r : ℕ) (i : ℤ) → SlotHasRow (slot a r 0 (pos 0) i)) → ((r q : ℕ) → SlotHasRow (slot b r q (pos 0) (pos 0))) → ((r : ℕ) (i : ℤ) → SlotHasRow (slot c r 0 (pos 0) i)) → ((r q : ℕ) → SlotHasRow (slot d r q (pos 0) (pos 0))) → Covers (isa.operation op a b c d)
-operations op a b c d w x y z = record { all = (d_i (Binary op Bits64 Immediate) a refl w, (d_s (Binary op Bits64 Register) b refl x, (d_i (Binary op Bits32 Immediate) c refl y, (d_s (Binary op Bits32 Register) d refl z, tt)))) }
+operations : (op : Operation) (a b c d : ℕ) → ((r : ℕ) (i : ℤ) → SlotHasRow (slot a r 0 (pos 0) i))
+    → ((r q : ℕ) → SlotHasRow (slot b r q (pos 0) (pos 0)))
+    → ((r : ℕ) (i : ℤ) → SlotHasRow (slot c r 0 (pos 0) i))
+    → ((r q : ℕ) → SlotHasRow (slot d r q (pos 0) (pos 0))) → Covers (isa.operation op a b c d)
+operations op a b c d w x y z =
+    record { all = (d_i (Binary op Bits64 Immediate) a refl w,
+    (d_s (Binary op Bits64 Register) b refl x,
+    (d_i (Binary op Bits32 Immediate) c refl y, (d_s (Binary op Bits32 Register) d refl z, tt)))) }
 
 jumps : (when : Condition) (a b : ℕ) → ((r : ℕ) (o i : ℤ) → SlotHasRow (slot a r 0 o i)) → ((r q : ℕ) (o : ℤ) → SlotHasRow (slot b r q o (pos 0))) → Covers (isa.jump when a b)
 jumps when a b w x = record { all = (d_o_i (JumpIf when Immediate) a refl w, (d_s_o (JumpIf when Register) b refl x, tt)) }
 
-all_moves : (size : Size) (a b c : ℕ) → ((r q : ℕ) (o : ℤ) → SlotHasRow (slot a r q o (pos 0))) → ((r : ℕ) (o i : ℤ) → SlotHasRow (slot b r 0 o i)) → ((r q : ℕ) (o : ℤ) → SlotHasRow (slot c r q o (pos 0))) → Covers (isa.moves size a b c)
+all_moves : (size : Size) (a b c : ℕ) → ((r q : ℕ) (o : ℤ) → SlotHasRow (slot a r q o (pos 0)))
+    → ((r : ℕ) (o i : ℤ) → SlotHasRow (slot b r 0 o i))
+    → ((r q : ℕ) (o : ℤ) → SlotHasRow (slot c r q o (pos 0))) → Covers (isa.moves size a b c)
 all_moves size a b c w x y = record { all = (d_s_o (Load size) a refl w, (d_o_i (Store size Immediate) b refl x, (d_s_o (Store size Register) c refl y, tt))) }
 
 negations : Covers (isa.row 0x87 (Negate Bits64) ∷ isa.row 0x84 (Negate Bits32) ∷ [])

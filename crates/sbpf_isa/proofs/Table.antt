@@ -10,7 +10,8 @@ passed_over n k a b h = grind (arith, nat_tests)
 other_class : (n k class : ℕ) → n % 8 ≡ class → (k % 8 == class) ≡ false → n ≢ k
 other_class n k class h e same = grind (arith, nat_tests)
 
-one_more : (n class : ℕ) (r : Row) (few all : List Row) (b : Bool) → (r.opcode % 8 == class) ≡ b → n % 8 ≡ class → kind_in n few ≡ kind_in n all → kind_in n (cond b (r ∷ few) few) ≡ kind_in n (r ∷ all)
+one_more : (n class : ℕ) (r : Row) (few all : List Row) (b : Bool) → (r.opcode % 8 == class) ≡ b → n % 8 ≡ class
+    → kind_in n few ≡ kind_in n all → kind_in n (cond b (r ∷ few) few) ≡ kind_in n (r ∷ all)
 one_more n class r few all true e h same = ap (cond (n == r.opcode) (Some r.kind)) same
 one_more n class r few all false e h same =
     same ∙ sym (passed_over n r.opcode (Some r.kind) (kind_in n all) (other_class n r.opcode class h e))

@@ -54,7 +54,10 @@ unless : (a b : Bool) → (not a || b) ≡ true → a ≡ true → b ≡ true
 unless true b h w = h
 unless false b h w = absurd (cc)
 
-class_here : (n : ℕ) (kind : OpKind) (r : Row) (rest : Option OpKind) (b : Bool) → (not (writes r.kind) || has_class r.opcode) ≡ true → (rest ≡ Some kind → writes kind ≡ true → has_class n ≡ true) → (n == r.opcode) ≡ b → (if b then Some r.kind else rest) ≡ Some kind → writes kind ≡ true → has_class n ≡ true
+class_here : (n : ℕ) (kind : OpKind) (r : Row) (rest : Option OpKind) (b : Bool)
+    → (not (writes r.kind) || has_class r.opcode) ≡ true
+    → (rest ≡ Some kind → writes kind ≡ true → has_class n ≡ true) → (n == r.opcode) ≡ b
+    → (if b then Some r.kind else rest) ≡ Some kind → writes kind ≡ true → has_class n ≡ true
 class_here n kind r rest true ok onward is h w =
     let same : r.kind ≡ kind = cc in
     ap has_class (eqb-true n r.opcode is) ∙ unless (writes r.kind) (has_class r.opcode) ok (ap writes same ∙ w)
@@ -95,7 +98,9 @@ new_frame_points : (p : ℕ) (c : Context) → length c.frames + 1 < frame_count
 new_frame_points p c room h = record {
   registers = length-set c.registers 10 ((register c 10 + frame_step) % 2 ^ 64) ∙ h.registers;
   frames = rw (count_more c.frames (frame_kept p c)) room;
-  active = get_or-set_same c.registers 10 ((register c 10 + frame_step) % 2 ^ 64) 0 (omega (arith, h.registers)) ∙ next_end (length c.frames) (register c 10) h.frames h.active ∙ ap frame_end (sym (count_more c.frames (frame_kept p c)));
+  active = get_or-set_same c.registers 10 ((register c 10 + frame_step) % 2 ^ 64) 0 (omega (arith, h.registers))
+      ∙ next_end (length c.frames) (register c 10) h.frames h.active
+      ∙ ap frame_end (sym (count_more c.frames (frame_kept p c)));
   kept = λ k frame there. ⊎_elim
       (λ (old : slice_get c.frames k ≡ Some frame). h.kept k frame old)
       (λ (new : (frame ≡ frame_kept p c) × (k ≡ length c.frames)). ap (λ (f : Kept). f.r10) new.0 ∙ h.active ∙ ap frame_end (sym new.1))

@@ -19,7 +19,9 @@ abbrev RunHolds : List ℕ → (Context → Type 0) → Option State → Type 0
 RunHolds text P None = Unit {0}
 RunHolds text P (Some x) = (x.text ≡ text) × P x.context
 
-followed : (text : List ℕ) (P : Context → Type 0) (p units : ℕ) (next : Next) → ((to : ℕ) (d : Context) → P d → RunHolds text P (first_stop text units to d)) → RowHolds P next → RunHolds text P (follow text p units (first_stop text units) next)
+followed : (text : List ℕ) (P : Context → Type 0) (p units : ℕ) (next : Next)
+    → ((to : ℕ) (d : Context) → P d → RunHolds text P (first_stop text units to d)) → RowHolds P next
+    → RunHolds text P (follow text p units (first_stop text units) next)
 followed text P p units (Go to d) onward h = onward to d h
 followed text P p units (Halt stop d) onward h = (refl, h)
 followed text P p units Stuck onward h = tt

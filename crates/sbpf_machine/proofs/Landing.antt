@@ -69,7 +69,8 @@ address_start text value to h = go (value == program_start + 8 * slot_at_address
         found true slot is h = let same : slot ≡ to = cc in ap (is_start text) (sym same) ∙ is
         found false slot is h = absurd (cc)
 
-enter_at_lands : (text : List ℕ) (value p : ℕ) (c : Context) (to : Option ℕ) → start_at_address text value ≡ to → is_start text (p + 1) ≡ true → GoBack text c.frames → RowLands text (enter_at value p c to)
+enter_at_lands : (text : List ℕ) (value p : ℕ) (c : Context) (to : Option ℕ) → start_at_address text value ≡ to
+    → is_start text (p + 1) ≡ true → GoBack text c.frames → RowLands text (enter_at value p c to)
 enter_at_lands text value p c None h next backs = tt
 enter_at_lands text value p c (Some to) h next backs = enter_lands text to p c (address_start text value to h) next backs
 
@@ -89,7 +90,9 @@ binary32_lands : (text : List ℕ) (op : Operation) (r s p : ℕ) (c : Context) 
 binary32_lands text op r s p c next backs =
     either (RowLands text) (divides op && (s % 2 ^ 32 == 0)) (fault DivideByZero c) (Go (p + 1) (put r (value_of op w32 (register c r % 2 ^ 32) (s % 2 ^ 32)) c)) tt (next, backs)
 
-act_lands : (kind : OpKind) (text : List ℕ) (p : ℕ) (c : Context) → IsVerified text → instruction_at text p ≡ Some kind → GoBack text c.frames → RowLands text (act kind text (operands_at text p kind) p c)
+act_lands : (kind : OpKind) (text : List ℕ) (p : ℕ) (c : Context) → IsVerified text
+    → instruction_at text p ≡ Some kind → GoBack text c.frames
+    → RowLands text (act kind text (operands_at text p kind) p c)
 act_lands (Binary op Bits64 form) text p c v t backs = binary64_lands text op _ _ p c (next_start text p (Binary op Bits64 form) v t refl) backs
 act_lands (Binary op Bits32 form) text p c v t backs = binary32_lands text op _ _ p c (next_start text p (Binary op Bits32 form) v t refl) backs
 act_lands (Negate Bits64) text p c v t backs = (next_start text p (Negate Bits64) v t refl, backs)
@@ -97,7 +100,9 @@ act_lands (Negate Bits32) text p c v t backs = (next_start text p (Negate Bits32
 act_lands LittleEndian text p c v t backs = (next_start text p LittleEndian v t refl, backs)
 act_lands BigEndian text p c v t backs = (next_start text p BigEndian v t refl, backs)
 act_lands Jump text p c v t backs = (jump_start text p Jump _ v t refl, backs)
-act_lands (JumpIf when form) text p c v t backs = (either (λ place. is_start text place ≡ true) _ _ (p + 1) (jump_start text p (JumpIf when form) _ v t refl) (next_start text p (JumpIf when form) v t refl), backs)
+act_lands (JumpIf when form) text p c v t backs =
+    (either (λ place. is_start text place ≡ true) _ _ (p + 1) (jump_start text p (JumpIf when form) _ v t refl)
+    (next_start text p (JumpIf when form) v t refl), backs)
 act_lands Call text p c v t backs =
     let z : ℤ = pos (p + 1) +ℤ (slot_of text p).imm in
     call_lands text p (slot_of text p).src _ z c ((slot_of text p).src == 1) (λ called. jump_start text p Call z v t (rw called refl)) (next_start text p Call v t refl) backs

@@ -35,7 +35,8 @@ operands_are : (text : List ℕ) (place : ℕ) (entry : Entry) → Decodes text 
 operands_are text place entry d = made_same _ _ _ _ _ _ _ _ _ _ (sym d.dst) (sym d.src) (ap natural (sym d.target)) (sym d.offset) (sym d.imm)
 
 -- an instruction may want memory as its entry says
-pub wants_at : (text : List ℕ) (place : ℕ) (entry : Entry) (c : Context) → Decodes text place entry → MayWant (meaning entry.opcode) (operands_of entry) c → MayWantAt text place c (instruction_at text place)
+pub wants_at : (text : List ℕ) (place : ℕ) (entry : Entry) (c : Context) → Decodes text place entry
+    → MayWant (meaning entry.opcode) (operands_of entry) c → MayWantAt text place c (instruction_at text place)
 wants_at text place entry c d wants =
     subst (MayWantAt text place c) (sym d.kind)
     (subst (λ (o : Operands). MayWant (meaning entry.opcode) o c) (sym (operands_are text place entry d)) wants)
@@ -60,7 +61,9 @@ stop_along x y (on {place} {next} {units} {context} {context'} way s) =
     stop_along x (going x.text place context (suc units)) way ∙ ap (follow x.text place units (first_stop x.text units)) s
 
 -- a stop is the first at its place
-pub stop_at : (text : List ℕ) (place units : ℕ) (c d : Context) (stop : Stop) → 0 < units → step text place c ≡ Halt stop d → first_stop text units place c ≡ Some (halted text place d (units - 1) stop)
+pub stop_at : (text : List ℕ) (place units : ℕ) (c d : Context) (stop : Stop) → 0 < units
+    → step text place c ≡ Halt stop d
+    → first_stop text units place c ≡ Some (halted text place d (units - 1) stop)
 unfolding first_stop
 stop_at text place zero c d stop h s = absurd (omega arith)
 stop_at text place (suc units) c d stop h s =

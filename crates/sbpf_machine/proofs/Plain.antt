@@ -81,7 +81,11 @@ step_plain : (text : List ℕ) (p : ℕ) (c : Context) → step text p (plain_co
 unfolding step
 step_plain text p c = row_plain text p c (instruction_at text p)
 
-follow_plain : (text : List ℕ) (p units : ℕ) (next : Next) → ((to : ℕ) (d : Context) → first_stop text units to (plain_context d) ≡ plain_stopped (first_stop text units to d)) → follow text p units (first_stop text units) (plain_next next) ≡ plain_stopped (follow text p units (first_stop text units) next)
+follow_plain : (text : List ℕ) (p units : ℕ) (next : Next)
+    → ((to : ℕ) (d : Context) → first_stop text units to (plain_context d)
+    ≡ plain_stopped (first_stop text units to d))
+    → follow text p units (first_stop text units) (plain_next next)
+    ≡ plain_stopped (follow text p units (first_stop text units) next)
 follow_plain text p units (Go to d) on = on to d
 follow_plain text p units (Halt stop d) on = refl
 follow_plain text p units Stuck on = refl

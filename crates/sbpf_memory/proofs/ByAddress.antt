@@ -70,7 +70,8 @@ part-get xs at len i fits below =
     let same : slice_index_or (take len (drop at xs)) i 0 ≡ slice_index_or xs (at + i) 0 = grind (arith, elements) in
     slice_get-get_or (take len (drop at xs)) i 0 (omega arith) ∙ ap Some same ∙ sym (slice_get-get_or xs (at + i) 0 (omega arith))
 
-read_at : (m : Ranges) (addr len : ℕ) (bytes : List ℕ) (i : ℕ) (p : Option Place) → IsMemory m → i < len → place_of m addr len ≡ p → bytes_at m addr len p ≡ Ok bytes → byte_at m (addr + i) ≡ slice_get bytes i
+read_at : (m : Ranges) (addr len : ℕ) (bytes : List ℕ) (i : ℕ) (p : Option Place) → IsMemory m → i < len
+    → place_of m addr len ≡ p → bytes_at m addr len p ≡ Ok bytes → byte_at m (addr + i) ≡ slice_get bytes i
 read_at m addr len bytes i None is_memory below found read = cc
 read_at m addr len bytes i (Some place) is_memory below found read =
     let stands = stands-from_place m addr len place (omega arith) found in
@@ -87,13 +88,17 @@ pub read-count : (m : Ranges) (addr len : ℕ) (bytes : List ℕ) → IsMemory m
 read-count m addr len bytes is_memory read = rw read at (read-length m addr len is_memory.stack)
 
 -- what a write changes
-stack_in : (m : Ranges) (addr : ℕ) (bytes : List ℕ) (at : ℕ) (region : Region) → at + length bytes ≤ length (range_bytes m region) → IfOk (with_bytes_in m addr bytes at region) (λ after. length after.stack ≡ length m.stack)
+stack_in : (m : Ranges) (addr : ℕ) (bytes : List ℕ) (at : ℕ) (region : Region)
+    → at + length bytes ≤ length (range_bytes m region)
+    → IfOk (with_bytes_in m addr bytes at region) (λ after. length after.stack ≡ length m.stack)
 stack_in m addr bytes at Program fits = tt
 stack_in m addr bytes at Stack fits = length_with m.stack bytes at fits
 stack_in m addr bytes at Heap fits = refl
 stack_in m addr bytes at Input fits = refl
 
-here_in : (m : Ranges) (addr : ℕ) (bytes : List ℕ) (at : ℕ) (region : Region) → IfOk (with_bytes_in m addr bytes at region) (λ after. range_bytes after region ≡ with_bytes (range_bytes m region) at bytes)
+here_in : (m : Ranges) (addr : ℕ) (bytes : List ℕ) (at : ℕ) (region : Region)
+    → IfOk (with_bytes_in m addr bytes at region)
+    (λ after. range_bytes after region ≡ with_bytes (range_bytes m region) at bytes)
 here_in m addr bytes at Program = tt
 here_in m addr bytes at Stack = refl
 here_in m addr bytes at Heap = refl
@@ -105,9 +110,15 @@ Others m after region = (other : Region) → (other ≡ region) ⊎ (range_bytes
 
 others_in : (m : Ranges) (addr : ℕ) (bytes : List ℕ) (at : ℕ) (region : Region) → IfOk (with_bytes_in m addr bytes at region) (λ after. Others m after region)
 others_in m addr bytes at Program = tt
-others_in m addr bytes at Stack = λ other. elim other as (λ o. (o ≡ Stack) ⊎ (range_bytes (with_stack m (with_bytes m.stack at bytes)) o ≡ range_bytes m o)) [ Program ↦ inr refl | Stack ↦ inl refl | Heap ↦ inr refl | Input ↦ inr refl ]
-others_in m addr bytes at Heap = λ other. elim other as (λ o. (o ≡ Heap) ⊎ (range_bytes (with_heap m (with_bytes m.heap at bytes)) o ≡ range_bytes m o)) [ Program ↦ inr refl | Stack ↦ inr refl | Heap ↦ inl refl | Input ↦ inr refl ]
-others_in m addr bytes at Input = λ other. elim other as (λ o. (o ≡ Input) ⊎ (range_bytes (with_input_bytes m at bytes) o ≡ range_bytes m o)) [ Program ↦ inr refl | Stack ↦ inr refl | Heap ↦ inr refl | Input ↦ inl refl ]
+others_in m addr bytes at Stack = λ other. elim other as
+    (λ o. (o ≡ Stack) ⊎ (range_bytes (with_stack m (with_bytes m.stack at bytes)) o ≡ range_bytes m o))
+    [ Program ↦ inr refl | Stack ↦ inl refl | Heap ↦ inr refl | Input ↦ inr refl ]
+others_in m addr bytes at Heap = λ other. elim other as
+    (λ o. (o ≡ Heap) ⊎ (range_bytes (with_heap m (with_bytes m.heap at bytes)) o ≡ range_bytes m o))
+    [ Program ↦ inr refl | Stack ↦ inr refl | Heap ↦ inl refl | Input ↦ inr refl ]
+others_in m addr bytes at Input = λ other. elim other as
+    (λ o. (o ≡ Input) ⊎ (range_bytes (with_input_bytes m at bytes) o ≡ range_bytes m o))
+    [ Program ↦ inr refl | Stack ↦ inr refl | Heap ↦ inr refl | Input ↦ inl refl ]
 
 pub record Written (m after : Ranges) (addr : ℕ) (bytes : List ℕ) : Type 0 where
   pub place : Place
@@ -116,7 +127,8 @@ pub record Written (m after : Ranges) (addr : ℕ) (bytes : List ℕ) : Type 0 w
   pub here : range_bytes after place.region ≡ with_bytes (range_bytes m place.region) place.at bytes
   pub others : Others m after place.region
 
-written_at : (m after : Ranges) (addr : ℕ) (bytes : List ℕ) (p : Option Place) → IsMemory m → 1 ≤ length bytes → place_of m addr (length bytes) ≡ p → with_bytes_at m addr bytes p ≡ Ok after → Written m after addr bytes
+written_at : (m after : Ranges) (addr : ℕ) (bytes : List ℕ) (p : Option Place) → IsMemory m → 1 ≤ length bytes
+    → place_of m addr (length bytes) ≡ p → with_bytes_at m addr bytes p ≡ Ok after → Written m after addr bytes
 written_at m after addr bytes None is_memory some found write = cc
 written_at m after addr bytes (Some place) is_memory some found write =
     let stands = stands-from_place m addr (length bytes) place some found in
@@ -155,7 +167,9 @@ write-bytes m after addr bytes i is_memory write below =
     ∙ set-within (range_bytes m w.place.region) w.place.at bytes i (room-fits m (length bytes) w.place.at w.place.region is_memory.stack w.stands.room) below
 
 -- addresses apart have places apart
-apart_in : (m : Ranges) (at len other : ℕ) (region : Region) → RoomIn m len at region → RoomIn m 1 other region → (address_in other region < address_in at region) ⊎ (address_in at region + len ≤ address_in other region) → (other < at) ⊎ (at + len ≤ other)
+apart_in : (m : Ranges) (at len other : ℕ) (region : Region) → RoomIn m len at region → RoomIn m 1 other region
+    → (address_in other region < address_in at region) ⊎ (address_in at region + len ≤ address_in other region)
+    → (other < at) ⊎ (at + len ≤ other)
 apart_in m at len other Program room single apart = elim apart [ inl before ↦ inl (omega arith) | inr after ↦ inr (omega arith) ]
 apart_in m at len other Stack room single apart = elim apart [ inl before ↦ inl (omega (arith, room.0, single.0)) | inr after ↦ inr (omega (arith, room.0, single.0)) ]
 apart_in m at len other Heap room single apart = elim apart [ inl before ↦ inl (omega arith) | inr after ↦ inr (omega arith) ]
@@ -172,7 +186,8 @@ kept_region m after at bytes other region is_memory room here single apart =
     let within = room-fits m 1 other region is_memory.stack single in
     ap (λ xs. slice_get xs other) here ∙ set-apart (range_bytes m region) at bytes other fits (omega arith) (apart_in m at (length bytes) other region room single apart)
 
-kept_there : (m after : Ranges) (addr : ℕ) (bytes : List ℕ) (other : ℕ) (q : Place) → IsMemory m → (w : Written m after addr bytes) → StandsAt m other 1 q → (other < addr) ⊎ (addr + length bytes ≤ other)
+kept_there : (m after : Ranges) (addr : ℕ) (bytes : List ℕ) (other : ℕ) (q : Place) → IsMemory m
+    → (w : Written m after addr bytes) → StandsAt m other 1 q → (other < addr) ⊎ (addr + length bytes ≤ other)
     → slice_get (range_bytes after q.region) q.at ≡ slice_get (range_bytes m q.region) q.at
 kept_there m after addr bytes other q is_memory w stands apart =
     let at = w.place.at in
@@ -185,20 +200,27 @@ kept_there m after addr bytes other q is_memory w stands apart =
       | inr same ↦ ap (λ xs. slice_get xs q.at) same
     ]
 
-kept_at : (m after : Ranges) (addr : ℕ) (bytes : List ℕ) (other : ℕ) (p : Option Place) → IsMemory m → Written m after addr bytes → place_of m other 1 ≡ p → (other < addr) ⊎ (addr + length bytes ≤ other) → byte_in after p ≡ byte_in m p
+kept_at : (m after : Ranges) (addr : ℕ) (bytes : List ℕ) (other : ℕ) (p : Option Place) → IsMemory m
+    → Written m after addr bytes → place_of m other 1 ≡ p → (other < addr) ⊎ (addr + length bytes ≤ other)
+    → byte_in after p ≡ byte_in m p
 kept_at m after addr bytes other None is_memory w found apart = refl
 kept_at m after addr bytes other (Some q) is_memory w found apart =
     kept_there m after addr bytes other q is_memory w (stands-from_place m other 1 q (omega arith) found) apart
 
-kept_some : (m after : Ranges) (addr : ℕ) (bytes : List ℕ) (other : ℕ) → IsMemory m → Kept m after → Written m after addr bytes → (other < addr) ⊎ (addr + length bytes ≤ other) → byte_at after other ≡ byte_at m other
+kept_some : (m after : Ranges) (addr : ℕ) (bytes : List ℕ) (other : ℕ) → IsMemory m → Kept m after
+    → Written m after addr bytes → (other < addr) ⊎ (addr + length bytes ≤ other)
+    → byte_at after other ≡ byte_at m other
 kept_some m after addr bytes other is_memory kept w apart =
     byte_at-place after other (place_of m other 1) (kept-place m after other 1 kept)
     ∙ kept_at m after addr bytes other (place_of m other 1) is_memory w refl apart
     ∙ sym (byte_at-place m other (place_of m other 1) refl)
 
-pub write-keeps : (m after : Ranges) (addr : ℕ) (bytes : List ℕ) (other : ℕ) → IsMemory m → write_to m addr bytes ≡ Ok after → (other < addr) ⊎ (addr + length bytes ≤ other) → byte_at after other ≡ byte_at m other
+pub write-keeps : (m after : Ranges) (addr : ℕ) (bytes : List ℕ) (other : ℕ) → IsMemory m
+    → write_to m addr bytes ≡ Ok after → (other < addr) ⊎ (addr + length bytes ≤ other)
+    → byte_at after other ≡ byte_at m other
 write-keeps m after addr [] other is_memory write apart = ap (λ x. byte_at x other) (sym (nothing-kept m after addr write))
-write-keeps m after addr (b ∷ bs) other is_memory write apart = kept_some m after addr (b ∷ bs) other is_memory (write-kept m after addr (b ∷ bs) write) (written m after addr (b ∷ bs) is_memory (omega arith) write) apart
+write-keeps m after addr (b ∷ bs) other is_memory write apart = kept_some m after addr (b ∷ bs) other is_memory
+    (write-kept m after addr (b ∷ bs) write) (written m after addr (b ∷ bs) is_memory (omega arith) write) apart
 
 still_memory : (m after : Ranges) → Kept m after → length after.stack ≡ length m.stack → IsMemory m → IsMemory after
 still_memory m after kept stack is_memory = record {

@@ -20,7 +20,8 @@ written_free m addr bytes at Heap free = refl
 written_free m addr bytes at Input free = refl
 
 -- a write at its place
-write_there : (m : Ranges) (addr len : ℕ) (bytes : List ℕ) (target : Place) → 1 ≤ len → length bytes ≡ len → IsTarget m addr len target → write_to m addr bytes ≡ Ok (written_in m bytes target.at target.region)
+write_there : (m : Ranges) (addr len : ℕ) (bytes : List ℕ) (target : Place) → 1 ≤ len → length bytes ≡ len
+    → IsTarget m addr len target → write_to m addr bytes ≡ Ok (written_in m bytes target.at target.region)
 write_there m addr len bytes target some size is =
     write-some m addr bytes (Some target) (omega (arith, size)) (ap (place_of m addr) size ∙ is.found) ∙ written_free m addr bytes target.at target.region is.free
 
@@ -39,7 +40,10 @@ read_here : (m : Ranges) (from len : ℕ) (source : Place) → 1 ≤ len → pla
 read_here m from len source some found = read-some m from len (Some source) some found
 
 -- the write is refused
-pub copy-write : (m : Ranges) (to from len : ℕ) (apart : Bool) (source : Place) → 1 ≤ len → place_of m from len ≡ Some source → source.at + len ≤ length (range_bytes m source.region) → write_refusal m to len ≡ Some (violation_of to len true) → copy_to m to from len apart ≡ Err (refusal_of (violation_of to len true))
+pub copy-write : (m : Ranges) (to from len : ℕ) (apart : Bool) (source : Place) → 1 ≤ len
+    → place_of m from len ≡ Some source → source.at + len ≤ length (range_bytes m source.region)
+    → write_refusal m to len ≡ Some (violation_of to len true)
+    → copy_to m to from len apart ≡ Err (refusal_of (violation_of to len true))
 unfolding copy_to
 copy-write m to from len apart source some found inside refusal =
     let overlap : Bool = apart && nat_lt 0 len && meet to from len in
@@ -48,7 +52,10 @@ copy-write m to from len apart source some found inside refusal =
     ap (or_overlap overlap) (write_to-refused m to bytes (violation_of to len true) (ap (write_refusal m to) (here_length m source len inside) ∙ refusal))
 
 -- the ranges meet
-pub copy-meets : (m : Ranges) (to from len : ℕ) (apart : Bool) (source target : Place) → 1 ≤ len → place_of m from len ≡ Some source → source.at + len ≤ length (range_bytes m source.region) → IsTarget m to len target → (apart && nat_lt 0 len && meet to from len) ≡ true → copy_to m to from len apart ≡ Err Overlap
+pub copy-meets : (m : Ranges) (to from len : ℕ) (apart : Bool) (source target : Place) → 1 ≤ len
+    → place_of m from len ≡ Some source → source.at + len ≤ length (range_bytes m source.region)
+    → IsTarget m to len target → (apart && nat_lt 0 len && meet to from len) ≡ true
+    → copy_to m to from len apart ≡ Err Overlap
 unfolding copy_to
 copy-meets m to from len apart source target some found inside is meets =
     ap (λ b. copy_of m to b (read_from m from len)) meets ∙
@@ -56,7 +63,10 @@ copy-meets m to from len apart source target some found inside is meets =
     ap (or_overlap true) (write_there m to len (bytes_of_place m source len) target some (here_length m source len inside) is)
 
 -- nothing is refused
-pub copy-done : (m : Ranges) (to from len : ℕ) (apart : Bool) (source target : Place) → 1 ≤ len → place_of m from len ≡ Some source → source.at + len ≤ length (range_bytes m source.region) → IsTarget m to len target → (apart && nat_lt 0 len && meet to from len) ≡ false → copy_to m to from len apart ≡ Ok (copied_in m target source len)
+pub copy-done : (m : Ranges) (to from len : ℕ) (apart : Bool) (source target : Place) → 1 ≤ len
+    → place_of m from len ≡ Some source → source.at + len ≤ length (range_bytes m source.region)
+    → IsTarget m to len target → (apart && nat_lt 0 len && meet to from len) ≡ false
+    → copy_to m to from len apart ≡ Ok (copied_in m target source len)
 unfolding copy_to
 copy-done m to from len apart source target some found inside is stands =
     ap (λ b. copy_of m to b (read_from m from len)) stands ∙

@@ -181,7 +181,8 @@ ok_in m addr bytes at Stack writable = refl
 ok_in m addr bytes at Heap writable = refl
 ok_in m addr bytes at Input writable = refl
 
-writes_at : (m : Ranges) (addr : ℕ) (bytes : List ℕ) (p : Option Place) → IsMemory m → 1 ≤ length bytes → place_of m addr (length bytes) ≡ p → IsOk (with_bytes_at m addr bytes p) → WritesIn m addr (length bytes)
+writes_at : (m : Ranges) (addr : ℕ) (bytes : List ℕ) (p : Option Place) → IsMemory m → 1 ≤ length bytes
+    → place_of m addr (length bytes) ≡ p → IsOk (with_bytes_at m addr bytes p) → WritesIn m addr (length bytes)
 writes_at m addr bytes None is_memory some found ok = cc
 writes_at m addr bytes (Some place) is_memory some found ok =
     let stands = stands-from_place m addr (length bytes) place some found in

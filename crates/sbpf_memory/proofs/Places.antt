@@ -12,7 +12,9 @@ outside_frames : (addr len : ℕ) → heap_start ≤ addr → lies_in_frame addr
 outside_frames addr len after = grind (arith, nat_tests)
 
 -- the place within the stack of an address of it
-in_stack : (addr len : ℕ) → stack_start ≤ addr → 1 ≤ len → lies_in_frame addr len ≡ (nat_lt ((addr - stack_start) / frame_step) frame_count && nat_le ((addr - stack_start) % frame_step + len) frame_size)
+in_stack : (addr len : ℕ) → stack_start ≤ addr → 1 ≤ len
+    → lies_in_frame addr len ≡ (nat_lt ((addr - stack_start) / frame_step) frame_count && nat_le
+    ((addr - stack_start) % frame_step + len) frame_size)
 in_stack addr len after some = grind (arith, nat_tests)
 
 -- the first addresses of the ranges are this far apart
@@ -36,7 +38,9 @@ unfolding place_of
 place-program m addr len program some after before = grind (arith, nat_tests)
 
 pub place-stack : (m : Ranges) (addr len : ℕ) → length m.program ≤ 2 ^ 32 → 1 ≤ len → stack_start ≤ addr → addr < heap_start
-    → place_of m addr len ≡ (if nat_lt ((addr - stack_start) / frame_step) frame_count && nat_le ((addr - stack_start) % frame_step + len) frame_size then at_place Stack (frame_size * ((addr - stack_start) / frame_step) + (addr - stack_start) % frame_step) else None)
+    → place_of m addr len ≡ (if nat_lt ((addr - stack_start) / frame_step) frame_count && nat_le
+        ((addr - stack_start) % frame_step + len) frame_size then at_place Stack
+        (frame_size * ((addr - stack_start) / frame_step) + (addr - stack_start) % frame_step) else None)
 unfolding place_of
 place-stack m addr len program some after before = grind (arith, nat_tests, outside, in_stack)
 
@@ -51,7 +55,9 @@ pub rest-program : (m : Ranges) (addr len : ℕ) → length m.program ≤ 2 ^ 32
 rest-program m addr len bound some after before = rw (in_program addr after before) (place-program m addr len bound some after before)
 
 pub rest-stack : (m : Ranges) (addr len : ℕ) → length m.program ≤ 2 ^ 32 → 1 ≤ len → stack_start ≤ addr → addr < heap_start
-    → place_of m addr len ≡ (if nat_lt (addr % range_step / frame_step) frame_count && nat_le (addr % range_step % frame_step + len) frame_size then at_place Stack (frame_size * (addr % range_step / frame_step) + addr % range_step % frame_step) else None)
+    → place_of m addr len ≡ (if nat_lt (addr % range_step / frame_step) frame_count && nat_le
+        (addr % range_step % frame_step + len) frame_size then at_place Stack
+        (frame_size * (addr % range_step / frame_step) + addr % range_step % frame_step) else None)
 rest-stack m addr len bound some after before = rw (in_frames addr after before) (place-stack m addr len bound some after before)
 
 pub rest-heap : (m : Ranges) (addr len : ℕ) → length m.program ≤ 2 ^ 32 → 1 ≤ len → heap_start ≤ addr → addr < input_start

@@ -8,7 +8,9 @@ use Rattle.sbpf_memory.specs.declared.place.Region.TheVariants.{Program, Stack, 
 use Rattle.sbpf_memory.specs.Memory.{Ranges, place_of, bytes_at, read_from, number_in, load_from, width_of, with_bytes_in, with_bytes_at, write_to, store_to, meet, or_overlap, copy_of, copy_to}
 use Rattle.sbpf_memory.specs.Plain.{plain_memory, plain_written, plain_copied}
 
-bytes_in_plain : (m : Ranges) (addr len at : ℕ) (region : Region) → bytes_at (plain_memory m) addr len (Some (record { region = region; at = at })) ≡ bytes_at m addr len (Some (record { region = region; at = at }))
+bytes_in_plain : (m : Ranges) (addr len at : ℕ) (region : Region)
+    → bytes_at (plain_memory m) addr len (Some (record { region = region; at = at }))
+    ≡ bytes_at m addr len (Some (record { region = region; at = at }))
 bytes_in_plain m addr len at Program = refl
 bytes_in_plain m addr len at Stack = refl
 bytes_in_plain m addr len at Heap = refl

@@ -22,7 +22,9 @@ bytes_at-length m addr len (Some place) stack some found =
     let fits = room-fits m len place.at place.region stack (stands-from_place m addr len place some found).room in
     grind (arith, length-take, length-drop)
 
-no_bytes : (b : Bool) (len : ℕ) (result : Result (List ℕ) AccessViolation) → (b ≡ true → len ≡ 0) → (b ≡ false → IfOk result (λ bytes. length bytes ≡ len)) → IfOk (if b then Ok [] else result) (λ bytes. length bytes ≡ len)
+no_bytes : (b : Bool) (len : ℕ) (result : Result (List ℕ) AccessViolation) → (b ≡ true → len ≡ 0)
+    → (b ≡ false → IfOk result (λ bytes. length bytes ≡ len))
+    → IfOk (if b then Ok [] else result) (λ bytes. length bytes ≡ len)
 no_bytes true len result none some = sym (none refl)
 no_bytes false len result none some = some refl
 
@@ -30,7 +32,8 @@ no_bytes false len result none some = some refl
 pub read-length : (m : Ranges) (addr len : ℕ) → length m.stack ≡ stack_size → IfOk (read_from m addr len) (λ bytes. length bytes ≡ len)
 unfolding read_from
 read-length m addr len stack =
-    no_bytes (len == 0) len (bytes_at m addr len (place_of m addr len)) (λ none. grind (arith, nat_tests)) (λ some. bytes_at-length m addr len (place_of m addr len) stack (grind (arith, nat_tests)) refl)
+    no_bytes (len == 0) len (bytes_at m addr len (place_of m addr len)) (λ none. grind (arith, nat_tests))
+        (λ some. bytes_at-length m addr len (place_of m addr len) stack (grind (arith, nat_tests)) refl)
 
 pub ruleset reads = read-length
 

@@ -22,7 +22,8 @@ at_place : (m : Ranges) (addr : ℕ) (bytes : List ℕ) (place : Option Place) �
 at_place m addr bytes None = refl
 at_place m addr bytes (Some place) = in_region m addr bytes place.at place.region
 
-or_nothing : (b : Bool) (m : Ranges) (refusal : Option AccessViolation) (result : Result Ranges AccessViolation) → Follows refusal result → Follows (if b then None else refusal) (if b then Ok m else result)
+or_nothing : (b : Bool) (m : Ranges) (refusal : Option AccessViolation) (result : Result Ranges AccessViolation)
+    → Follows refusal result → Follows (if b then None else refusal) (if b then Ok m else result)
 or_nothing true m refusal result follows = refl
 or_nothing false m refusal result follows = follows
 
@@ -58,7 +59,8 @@ refused_at_place : (m : Ranges) (addr : ℕ) (bytes : List ℕ) (v : AccessViola
 refused_at_place m addr bytes v None refused = cc
 refused_at_place m addr bytes v (Some place) refused = refused_in_region m addr bytes place.at v place.region refused
 
-refused_or : (m : Ranges) (addr : ℕ) (bytes : List ℕ) (v : AccessViolation) (b : Bool) (p : Option Place) → (if b then Ok m else with_bytes_at m addr bytes p) ≡ Err v → v ≡ violation_of addr (length bytes) true
+refused_or : (m : Ranges) (addr : ℕ) (bytes : List ℕ) (v : AccessViolation) (b : Bool) (p : Option Place)
+    → (if b then Ok m else with_bytes_at m addr bytes p) ≡ Err v → v ≡ violation_of addr (length bytes) true
 refused_or m addr bytes v true p refused = cc
 refused_or m addr bytes v false p refused = refused_at_place m addr bytes v p refused
 

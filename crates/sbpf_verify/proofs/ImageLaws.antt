@@ -101,7 +101,9 @@ image_there bytes are magic len =
     read bytes (all ∙ ap image_bytes (sym same)) ∙ ap (λ (parts : ImageParts). Some parts) same
 
 -- a number that is at least what its field was written from is it
-number_is : (n k : ℕ) (bytes : List ℕ) → IsBytes bytes → from_le_bytes w32 (take 4 (drop k bytes)) ≡ from_le_bytes w32 (to_le_bytes w32 n) → n ≤ from_le_bytes w32 (take 4 (drop k bytes)) → from_le_bytes w32 (take 4 (drop k bytes)) ≡ n
+number_is : (n k : ℕ) (bytes : List ℕ) → IsBytes bytes
+    → from_le_bytes w32 (take 4 (drop k bytes)) ≡ from_le_bytes w32 (to_le_bytes w32 n)
+    → n ≤ from_le_bytes w32 (take 4 (drop k bytes)) → from_le_bytes w32 (take 4 (drop k bytes)) ≡ n
 number_is n k bytes are e h = e ∙ from_le_bytes-to_le_bytes_4 n (omega (arith, h, u32_below (take 4 (drop k bytes)) (part_bytes 4 k bytes are)))
 
 image_length : (image : ImageParts) → length (image_bytes image) ≡ 16 + (length image.text + length image.constants)

@@ -13,12 +13,18 @@ rest text place count = flat_map (slot_rows text) (range_with_len place count) +
 -- where none of the first rows applies, the rest decide
 pub first_on : (xs ys : List Row) → first_applying xs ≡ None → first_applying (xs ++ ys) ≡ first_applying ys
 first_on [] ys h = refl
-first_on (x ∷ xs) ys h = elim x.applies as (λ b. cond b (Some x.refusal) (first_applying xs) ≡ None → cond b (Some x.refusal) (first_applying (xs ++ ys)) ≡ first_applying ys) [ true ↦ λ k. absurd (cc) | false ↦ λ k. first_on xs ys k ] h
+first_on (x ∷ xs) ys h = elim x.applies as
+    (λ b. cond b (Some x.refusal) (first_applying xs) ≡ None
+    → cond b (Some x.refusal) (first_applying (xs ++ ys)) ≡ first_applying ys)
+    [ true ↦ λ k. absurd (cc) | false ↦ λ k. first_on xs ys k ] h
 
 -- where one of the first rows applies, it decides
 pub first_off : (xs ys : List Row) (fault : VerifyFault) → first_applying xs ≡ Some fault → first_applying (xs ++ ys) ≡ Some fault
 first_off [] ys fault h = absurd (cc)
-first_off (x ∷ xs) ys fault h = elim x.applies as (λ b. cond b (Some x.refusal) (first_applying xs) ≡ Some fault → cond b (Some x.refusal) (first_applying (xs ++ ys)) ≡ Some fault) [ true ↦ λ k. k | false ↦ λ k. first_off xs ys fault k ] h
+first_off (x ∷ xs) ys fault h = elim x.applies as
+    (λ b. cond b (Some x.refusal) (first_applying xs) ≡ Some fault
+    → cond b (Some x.refusal) (first_applying (xs ++ ys)) ≡ Some fault)
+    [ true ↦ λ k. k | false ↦ λ k. first_off xs ys fault k ] h
 
 append_assoc_rows : (xs ys zs : List Row) → (xs ++ ys) ++ zs ≡ xs ++ (ys ++ zs)
 append_assoc_rows xs ys zs = simp append_assoc
@@ -81,7 +87,8 @@ both_none : (xs ys : List Row) → first_applying (xs ++ ys) ≡ None → (first
 both_none [] ys h = (refl, h)
 both_none (x ∷ xs) ys h = one_none x.applies x.refusal _ _ _ (both_none xs ys) h
 
-rest_both : (text : List ℕ) (place count : ℕ) → first_applying (rest text place (suc count)) ≡ None → (first_applying (slot_rows text place) ≡ None) × (first_applying (rest text (place + 1) count) ≡ None)
+rest_both : (text : List ℕ) (place count : ℕ) → first_applying (rest text place (suc count)) ≡ None
+    → (first_applying (slot_rows text place) ≡ None) × (first_applying (rest text (place + 1) count) ≡ None)
 rest_both text place count h = both_none (slot_rows text place) (rest text (place + 1) count) (ap first_applying (sym (rest-suc text place count)) ∙ h)
 
 each_none : (text : List ℕ) (place count i : ℕ) → first_applying (rest text place count) ≡ None → i < count → NoneApplies (slot_rows text (place + i))

@@ -56,9 +56,13 @@ no_zero o kind h = λ (z : o ≡ 0). let e : kind_at 0 ≡ Some kind = ap kind_a
 
 -- an instruction starts where it is
 pub instruction_starts : (text : List ℕ) (place : ℕ) (kind : OpKind) → instruction_at text place ≡ Some kind → is_start text place ≡ true
-instruction_starts text place kind h = let there : (place < slot_count text) × (kind_at (slot_of text place).opcode ≡ Some kind) = instruction_there text place kind h in make_start text place there.0 (no_zero (slot_of text place).opcode kind there.1)
+instruction_starts text place kind h = let there : (place < slot_count text)
+    × (kind_at (slot_of text place).opcode ≡ Some kind) = instruction_there text place kind h
+    in make_start text place there.0 (no_zero (slot_of text place).opcode kind there.1)
 
-rows_at : (text : List ℕ) (place : ℕ) → IsVerified text → place < slot_count text → (lacks_row text place ≡ false) × NoneApplies (rows_of text place (slot_of text place) (kind_at (slot_of text place).opcode))
+rows_at : (text : List ℕ) (place : ℕ) → IsVerified text → place < slot_count text
+    → (lacks_row text place ≡ false)
+    × NoneApplies (rows_of text place (slot_of text place) (kind_at (slot_of text place).opcode))
 unfolding slot_rows
 rows_at text place v l = v.slots place l
 
@@ -78,11 +82,15 @@ some_row (Some kind) z f h e = (kind, refl)
 pub start_instruction : (text : List ℕ) (place : ℕ) → IsVerified text → is_start text place ≡ true → (kind : OpKind) × (instruction_at text place ≡ Some kind)
 start_instruction text place v h =
     let there : (place < slot_count text) × (((slot_of text place).opcode == 0) ≡ false) = start_there text place h in
-    let found : (kind : OpKind) × (kind_at (slot_of text place).opcode ≡ Some kind) = some_row (kind_at (slot_of text place).opcode) ((slot_of text place).opcode == 0) (follows_wide text place) (rows_at text place v there.0).0 there.1 in
+    let found : (kind : OpKind) × (kind_at (slot_of text place).opcode ≡ Some kind) = some_row
+        (kind_at (slot_of text place).opcode) ((slot_of text place).opcode == 0) (follows_wide text place)
+        (rows_at text place v there.0).0 there.1 in
     (found.0, there_instruction text place there.0 ∙ found.1)
 
 -- a jump, or a call into the program, leads to a start
-pub target_start : (text : List ℕ) (place : ℕ) (kind : OpKind) (target : ℤ) → IsVerified text → instruction_at text place ≡ Some kind → leads_to kind (slot_of text place) place ≡ Some target → is_start_at text target ≡ true
+pub target_start : (text : List ℕ) (place : ℕ) (kind : OpKind) (target : ℤ) → IsVerified text
+    → instruction_at text place ≡ Some kind → leads_to kind (slot_of text place) place ≡ Some target
+    → is_start_at text target ≡ true
 target_start text place kind target v h e =
     not-false (is_start_at text target) (ap (is_astray text) (sym e) ∙ (no_row_applies text place kind v h).1.1.1.1.1.1.0)
 
@@ -154,7 +162,9 @@ after_two : (text : List ℕ) (place : ℕ) → IsVerified text → instruction_
 after_two text place v h =
     let half : (place + 1 < slot_count text) × ((slot_of text (place + 1)).opcode ≡ 0) = second_half text place v h in
     let zero_is_other : (o : ℕ) → o ≡ 0 → (o ≢ 0x95) × ((o ≢ 0x05) × ((o == 0x18) ≡ false)) = λ o e. (omega arith, (omega arith, grind (arith, nat_tests))) in
-    let other : ((slot_of text (place + 1)).opcode ≢ 0x95) × (((slot_of text (place + 1)).opcode ≢ 0x05) × (((slot_of text (place + 1)).opcode == 0x18) ≡ false)) = zero_is_other (slot_of text (place + 1)).opcode half.1 in
+    let other : ((slot_of text (place + 1)).opcode ≢ 0x95)
+        × (((slot_of text (place + 1)).opcode ≢ 0x05) × (((slot_of text (place + 1)).opcode == 0x18) ≡ false)) =
+        zero_is_other (slot_of text (place + 1)).opcode half.1 in
     let same : place + 2 ≡ place + 1 + 1 = omega arith in
     rw same (start_unless_after_wide text (place + 1 + 1) v (not_last text (place + 1) v half.0 other.0 other.1.0) (follows_one text (place + 1) other.1.1))
 
@@ -219,7 +229,9 @@ natural text (pos n) h = (n, (refl, h))
 natural text (negsuc n) h = absurd (cc)
 
 -- the place that a jump leads to, as a number
-pub natural_target : (text : List ℕ) (place : ℕ) (kind : OpKind) (target : ℤ) → IsVerified text → instruction_at text place ≡ Some kind → leads_to kind (slot_of text place) place ≡ Some target → (n : ℕ) × ((target ≡ pos n) × (n < max_slots))
+pub natural_target : (text : List ℕ) (place : ℕ) (kind : OpKind) (target : ℤ) → IsVerified text
+    → instruction_at text place ≡ Some kind → leads_to kind (slot_of text place) place ≡ Some target
+    → (n : ℕ) × ((target ≡ pos n) × (n < max_slots))
 natural_target text place kind target v h e =
     let found : (n : ℕ) × ((target ≡ pos n) × (is_start text n ≡ true)) = natural text target (target_start text place kind target v h e) in
     (found.0, (found.1.0, omega (arith, (start_there text found.0 found.1.1).0, (slots_there text v).1)))
@@ -269,12 +281,16 @@ helper_number z h = (omega (arith, ints), omega (arith, ints))
 no_source : (n : ℕ) → n ≤ 1 → n ≢ 1 → n ≡ 0
 no_source n h other = omega arith
 
-entry_target : (text : List ℕ) (place : ℕ) (kind : OpKind) (n : ℕ) (o : Option ℤ) → IsVerified text → instruction_at text place ≡ Some kind → leads_to kind (slot_of text place) place ≡ o → pos n ≡ unwrap_or o (pos 0) → is_start text n ≡ true
+entry_target : (text : List ℕ) (place : ℕ) (kind : OpKind) (n : ℕ) (o : Option ℤ) → IsVerified text
+    → instruction_at text place ≡ Some kind → leads_to kind (slot_of text place) place ≡ o
+    → pos n ≡ unwrap_or o (pos 0) → is_start text n ≡ true
 entry_target text place kind n None v h e t = let zero : n ≡ 0 = cc in rw zero (first_start text v)
 entry_target text place kind n (Some target) v h e t = ap (is_start_at text) t ∙ target_start text place kind target v h e
 
 -- the entry of a start fits the text
-pub entry_fits : (text : List ℕ) (entries : List Entry) (place : ℕ) (entry : Entry) → IsVerified text → IsDecoded text entries → slice_get entries place ≡ Some entry → is_start text place ≡ true → Fits text place entry
+pub entry_fits : (text : List ℕ) (entries : List Entry) (place : ℕ) (entry : Entry) → IsVerified text
+    → IsDecoded text entries → slice_get entries place ≡ Some entry → is_start text place ≡ true
+    → Fits text place entry
 entry_fits text entries place entry v d found start =
     let is : Decodes text place entry = d.each place entry found start in
     let registers : HasRegisters (slot_of text place) (meaning entry.opcode) = has_registers text place (meaning entry.opcode) v is.kind in

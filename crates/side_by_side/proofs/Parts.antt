@@ -7,7 +7,8 @@ use Rattle.side_by_side.specs.Places.{AcceptsFrom, ChangesFrom}
 use denote.Ref.{MutBor}
 use denote.Param.Members.{Shared}
 
-module _ {F T : Type 0} (g : Shared F (ℕ × (MutBor T × Unit {0})) ((Unit {0}) × (MutBor T × Unit {0}))) (f : F) (base n : ℕ) (xs front rest : List T) (value : xs ≡ front ++ rest) (long : length front ≡ n) where
+module _ {F T : Type 0} (g : Shared F (ℕ × (MutBor T × Unit {0})) ((Unit {0}) × (MutBor T × Unit {0}))) (f : F)
+    (base n : ℕ) (xs front rest : List T) (value : xs ≡ front ++ rest) (long : length front ≡ n) where
   -- an element of the second part
   in_rest : (k : ℕ) (d : T) → get_or xs (n + k) d ≡ get_or rest k d
   in_rest k d = ap (λ ys. get_or ys (n + k) d) value ∙ (ap (λ m. get_or (front ++ rest) (m + k) d) (sym long) ∙ get_or-append-add front rest k d)

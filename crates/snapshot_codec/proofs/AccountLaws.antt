@@ -130,7 +130,9 @@ account_again total before e rest fits =
       (data_reads total).again a.bytes rest (count_fits max_data_len (length a.bytes) (lit< tt) fits.short, tt),
     ) refl)
 
-account_takes : (total : ℕ) (before : List KeyedAccount) (bytes : List ℕ) (e : KeyedAccount) (rest : List ℕ) → IsBytes bytes → account_after total before bytes ≡ Ok (e, rest) → KeyedFits before e × (bytes ≡ keyed_bytes e ++ rest)
+account_takes : (total : ℕ) (before : List KeyedAccount) (bytes : List ℕ) (e : KeyedAccount) (rest : List ℕ)
+    → IsBytes bytes → account_after total before bytes ≡ Ok (e, rest)
+    → KeyedFits before e × (bytes ≡ keyed_bytes e ++ rest)
 unfolding account_after
 account_takes total before bytes e rest are h =
     by_taking (key_after_reads total before) _ bytes (e, rest) are h (λ key r1 f1 e1 b1 g1.
@@ -146,7 +148,8 @@ account_takes total before bytes e rest are h =
     let all = follows front (data_bytes held) rest to_flag (onward (data_bytes held) e5 p.1) in
     let spelled = all ∙ ap (λ (l : List ℕ). l ++ rest) (sym (append_assoc front (to_le_bytes w32 (length held)) held)) in
     subst (λ (v : KeyedAccount). KeyedFits before v × (bytes ≡ keyed_bytes v ++ rest)) p.0
-    (record { key = f1.0; above = f1.1; some = some_lamports before lamports f2; supply_fits = lamports_fit before lamports f2; owner = f3; short = count_le max_data_len (length held) f5.0 }, spelled))))))
+    (record { key = f1.0; above = f1.1; some = some_lamports before lamports f2; supply_fits = lamports_fit
+        before lamports f2; owner = f3; short = count_le max_data_len (length held) f5.0 }, spelled))))))
 
 account_reads : (total : ℕ) (before : List KeyedAccount) → Reads (account_after total before) keyed_bytes (KeyedFits before)
 account_reads total before = record { again = account_again total before; takes = account_takes total before }
@@ -188,7 +191,9 @@ kept Q so list all = AllAfter-all Q [] list (AllAfter-weaker KeyedFits (λ _ e. 
 of_state : (list : List KeyedAccount) → AllAfter KeyedFits [] list → AreOfState (entries_of list)
 of_state list all = record {
   ascend = ascend list all;
-  some = All-from_recursion (λ (e : Key × Account). 1 ≤ e.1.lamports) (entries_of list) (each_entry (λ (e : Key × Account). 1 ≤ e.1.lamports) list (kept (λ e. 1 ≤ e.account.lamports) (λ before e h. h.some) list all));
+  some = All-from_recursion (λ (e : Key × Account). 1 ≤ e.1.lamports) (entries_of list)
+      (each_entry (λ (e : Key × Account). 1 ≤ e.1.lamports) list
+      (kept (λ e. 1 ≤ e.account.lamports) (λ before e h. h.some) list all));
   fits = supply_after [] list all (lit≤ tt);
 }
 
@@ -217,7 +222,9 @@ state_fits list fits =
         fits = subst (λ (es : List (Key × Account)). lamports_of es ≤ 2 ^ 64 - 1) (sym same) (of_state list fits.1).fits;
       };
       keys = subst (AllByRecursion (λ (e : Key × Account). IsKey e.0)) (sym same) (each_entry (λ e. IsKey e.0) list (kept (λ e. IsKey e.key) (λ before e h. h.key) list fits.1));
-      owners = subst (AllByRecursion (λ (e : Key × Account). IsKey e.1.owner)) (sym same) (each_entry (λ e. IsKey e.1.owner) list (kept (λ e. IsKey e.account.owner) (λ before e h. h.owner) list fits.1));
+      owners = subst (AllByRecursion (λ (e : Key × Account). IsKey e.1.owner)) (sym same)
+          (each_entry (λ e. IsKey e.1.owner) list
+          (kept (λ e. IsKey e.account.owner) (λ before e h. h.owner) list fits.1));
     }
 
 spelled-same : (list : List KeyedAccount) → flat_map keyed_bytes list ≡ flat_map account_bytes (entries_of list)
@@ -305,7 +312,9 @@ good_list total bytes list rest are h =
     }
 
 -- the state of a list that was read
-pub state_read : (total : ℕ) (bytes : List ℕ) (list : List KeyedAccount) (rest : List ℕ) (s : State) → IsBytes bytes → entries_at total bytes ≡ Ok (list, rest) → state_of list ≡ Ok s → state_at total bytes ≡ Ok (s, rest)
+pub state_read : (total : ℕ) (bytes : List ℕ) (list : List KeyedAccount) (rest : List ℕ) (s : State)
+    → IsBytes bytes → entries_at total bytes ≡ Ok (list, rest) → state_of list ≡ Ok s
+    → state_at total bytes ≡ Ok (s, rest)
 unfolding state_at read_as
 state_read total bytes list rest s are read gives =
     let same : from_entries (entries_of list) ≡ s = ok_same _ _ (sym (good_list total bytes list rest are read).gives ∙ gives) in

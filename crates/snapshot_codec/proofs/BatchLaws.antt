@@ -121,11 +121,14 @@ takes before bytes b are h =
     later : (slot : ℕ) → nat_lt before slot ≡ true → before < slot
     later slot e = grind (arith, nat_tests)
 
-pub is_found : (before : ℕ) (bytes : List ℕ) (result : Result Batch BatchFault) → IsBytes bytes → Gives is_batch_memory (λ v. v) result (batch_of before bytes) → IfOk result (λ b. IsBatch before bytes b)
+pub is_found : (before : ℕ) (bytes : List ℕ) (result : Result Batch BatchFault) → IsBytes bytes
+    → Gives is_batch_memory (λ v. v) result (batch_of before bytes) → IfOk result (λ b. IsBatch before bytes b)
 is_found before bytes (Ok b) are h = takes before bytes b are h
 is_found before bytes (Err e) are h = tt
 
-pub is_only : (before : ℕ) (bytes : List ℕ) (result : Result Batch BatchFault) → Gives is_batch_memory (λ v. v) result (batch_of before bytes) → (b : Batch) → IsBatch before bytes b → Gives is_batch_memory (λ v. v) result (Ok b)
+pub is_only : (before : ℕ) (bytes : List ℕ) (result : Result Batch BatchFault)
+    → Gives is_batch_memory (λ v. v) result (batch_of before bytes) → (b : Batch) → IsBatch before bytes b
+    → Gives is_batch_memory (λ v. v) result (Ok b)
 is_only before bytes result h b is = subst (Gives is_batch_memory (λ v. v) result) (again before bytes b is) h
 
 pub round_trips : BatchRoundTrip

@@ -77,7 +77,9 @@ limits_takes total bytes limits rest are h =
     let b = follows (to_le_bytes w16 keys ++ height ∷ []) (to_le_bytes w64 key_units) r3 a e3 in
     let c = follows (to_le_bytes w16 keys ++ height ∷ [] ++ to_le_bytes w64 key_units) (to_le_bytes w64 block_units) rest b (onward (to_le_bytes w64 block_units) e4 p.1) in
     subst (λ (v : Limits). AreAllowed v × (bytes ≡ limits_bytes v ++ rest)) p.0
-    (record { keys = in_range max_transaction_keys keys f1.1; height = in_range max_stack_height height f2.1; key_units = in_range max_block_units key_units f3.1; block_units = in_range max_block_units block_units f4.1 }, c)))))
+    (record { keys = in_range max_transaction_keys keys f1.1; height = in_range max_stack_height height f2.1;
+        key_units = in_range max_block_units key_units f3.1; block_units = in_range max_block_units block_units
+        f4.1 }, c)))))
 
 limits_reads : (total : ℕ) → Reads (limits_at total) limits_bytes AreAllowed
 limits_reads total = record { again = limits_again total; takes = limits_takes total }
@@ -85,7 +87,9 @@ limits_reads total = record { again = limits_again total; takes = limits_takes t
 -- slot and limits as one of the two versions has them
 pub record IsHead (bytes : List ℕ) (head : ℕ × Limits) (rest : List ℕ) : Type 0 where
   pub slot : head.0 < 2 ^ 64
-  pub spelled : ((bytes ≡ codes "SOLSNAP1" ++ to_le_bytes w64 head.0 ++ rest) × (head.1 ≡ first_limits)) ⊎ ((bytes ≡ codes "SOLSNAP2" ++ to_le_bytes w64 head.0 ++ limits_bytes head.1 ++ rest) × AreAllowed head.1)
+  pub spelled : ((bytes ≡ codes "SOLSNAP1" ++ to_le_bytes w64 head.0 ++ rest) × (head.1 ≡ first_limits))
+      ⊎ ((bytes ≡ codes "SOLSNAP2" ++ to_le_bytes w64 head.0 ++ limits_bytes head.1 ++ rest)
+      × AreAllowed head.1)
 
 magic_one : names_one (codes "SOLSNAP1") ≡ true
 unfolding names_one
@@ -107,7 +111,9 @@ head_one_again total slot rest fits =
     subst (λ (b : List ℕ). head_at total b ≡ Ok ((slot, first_limits), rest)) (sym front)
     (rw ((field_reads Truncated total 8).again (codes "SOLSNAP1") after refl, magic_one, (u64_reads Truncated total).again slot rest fits) refl)
 
-pub head_two_again : (total slot : ℕ) (limits : Limits) (rest : List ℕ) → slot < 2 ^ 64 → AreAllowed limits → head_at total (codes "SOLSNAP2" ++ to_le_bytes w64 slot ++ limits_bytes limits ++ rest) ≡ Ok ((slot, limits), rest)
+pub head_two_again : (total slot : ℕ) (limits : Limits) (rest : List ℕ) → slot < 2 ^ 64 → AreAllowed limits
+    → head_at total (codes "SOLSNAP2" ++ to_le_bytes w64 slot ++ limits_bytes limits ++ rest)
+    ≡ Ok ((slot, limits), rest)
 unfolding head_at head_two_at
 head_two_again total slot limits rest fits allowed =
     let after = limits_bytes limits ++ rest in
@@ -125,14 +131,18 @@ named_two : (magic : List ℕ) → names_two magic ≡ true → magic ≡ codes 
 unfolding names_two
 named_two magic h = (bytes_decides magic (codes "SOLSNAP2")).0 h
 
-one_takes : (total : ℕ) (bytes : List ℕ) (head : ℕ × Limits) (rest : List ℕ) → IsBytes bytes → head_one_at total bytes ≡ Ok (head, rest) → (head.0 < 2 ^ 64) × (bytes ≡ to_le_bytes w64 head.0 ++ rest) × (head.1 ≡ first_limits)
+one_takes : (total : ℕ) (bytes : List ℕ) (head : ℕ × Limits) (rest : List ℕ) → IsBytes bytes
+    → head_one_at total bytes ≡ Ok (head, rest)
+    → (head.0 < 2 ^ 64) × (bytes ≡ to_le_bytes w64 head.0 ++ rest) × (head.1 ≡ first_limits)
 unfolding head_one_at read_as
 one_takes total bytes head rest are h =
     by_taking (u64_reads Truncated total) _ bytes (head, rest) are h (λ slot r1 f1 e1 b1 g1.
     let p = ok_parts _ _ _ _ g1 in
     subst (λ (v : ℕ × Limits). (v.0 < 2 ^ 64) × (bytes ≡ to_le_bytes w64 v.0 ++ rest) × (v.1 ≡ first_limits)) p.0 (f1, onward (to_le_bytes w64 slot) e1 p.1, refl))
 
-two_takes : (total : ℕ) (bytes : List ℕ) (head : ℕ × Limits) (rest : List ℕ) → IsBytes bytes → head_two_at total bytes ≡ Ok (head, rest) → (head.0 < 2 ^ 64) × (bytes ≡ to_le_bytes w64 head.0 ++ limits_bytes head.1 ++ rest) × AreAllowed head.1
+two_takes : (total : ℕ) (bytes : List ℕ) (head : ℕ × Limits) (rest : List ℕ) → IsBytes bytes
+    → head_two_at total bytes ≡ Ok (head, rest)
+    → (head.0 < 2 ^ 64) × (bytes ≡ to_le_bytes w64 head.0 ++ limits_bytes head.1 ++ rest) × AreAllowed head.1
 unfolding head_two_at
 two_takes total bytes head rest are h =
     by_taking (u64_reads Truncated total) _ bytes (head, rest) are h (λ slot r1 f1 e1 b1 g1.

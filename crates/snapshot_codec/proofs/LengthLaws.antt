@@ -73,7 +73,9 @@ number_takes truncated width total bytes n rest h =
     let a = bind_ok (field_at truncated total (byte_len width) bytes) _ (n, rest) h in
     field_takes truncated total (byte_len width) bytes a.0.0 a.0.1 a.1 ∙ ap Some (ok_parts _ _ _ _ a.2).1
 
-passed : {X E : Type 0} (refusal : ℕ → E) (test : X → Bool) (one : List ℕ → Result (X × List ℕ) E) (total : ℕ) (bytes : List ℕ) (x : X) (rest : List ℕ) → read_if refusal test one total bytes ≡ Ok (x, rest) → one bytes ≡ Ok (x, rest)
+passed : {X E : Type 0} (refusal : ℕ → E) (test : X → Bool) (one : List ℕ → Result (X × List ℕ) E) (total : ℕ)
+    (bytes : List ℕ) (x : X) (rest : List ℕ) → read_if refusal test one total bytes ≡ Ok (x, rest)
+    → one bytes ≡ Ok (x, rest)
 unfolding read_if
 passed {X = X} refusal test one total bytes x rest h =
     let a = bind_ok (one bytes) _ (x, rest) h in
@@ -88,7 +90,9 @@ read_as_takes n shape one takes bytes y rest h =
     let a = bind_ok (one bytes) _ (y, rest) h in
     takes bytes a.0.0 a.0.1 a.1 ∙ ap Some (ok_parts _ _ _ _ a.2).1
 
-field_taken : {E : Type 0} (truncated : ℕ → E) (total n : ℕ) (bytes field rest : List ℕ) → field_at truncated total n bytes ≡ Ok (field, rest) → (nat_lt (length bytes) n ≡ false) × (take n bytes ≡ field) × (drop n bytes ≡ rest)
+field_taken : {E : Type 0} (truncated : ℕ → E) (total n : ℕ) (bytes field rest : List ℕ)
+    → field_at truncated total n bytes ≡ Ok (field, rest)
+    → (nat_lt (length bytes) n ≡ false) × (take n bytes ≡ field) × (drop n bytes ≡ rest)
 unfolding field_at
 field_taken truncated total n bytes field rest h =
     elim (chosen (nat_lt (length bytes) n) _ _ _ h) [
@@ -96,7 +100,9 @@ field_taken truncated total n bytes field rest h =
       | inr q ↦ let k = ok_parts _ _ _ _ q.1 in (q.0, k.0, k.1)
     ]
 
-counted : (bytes field after : List ℕ) (n : ℕ) (rest : List ℕ) → nat_lt (length bytes) 4 ≡ false → take 4 bytes ≡ field → drop 4 bytes ≡ after → from_le_bytes w32 field ≡ n → after ≡ rest → count_in_front bytes ≡ Some (n, rest)
+counted : (bytes field after : List ℕ) (n : ℕ) (rest : List ℕ) → nat_lt (length bytes) 4 ≡ false
+    → take 4 bytes ≡ field → drop 4 bytes ≡ after → from_le_bytes w32 field ≡ n → after ≡ rest
+    → count_in_front bytes ≡ Some (n, rest)
 unfolding count_in_front
 counted bytes field after n rest enough taken left number same =
     let value : from_le_bytes w32 (take 4 bytes) ≡ n = ap (from_le_bytes w32) taken ∙ number in
@@ -139,7 +145,9 @@ names_take total (suc count) before bytes names rest h =
     ap (λ n. behind n bytes) more ∙ behind_sum 32 (count * 32) bytes a.0.1 rest (name_takes total before bytes a.0.0 a.0.1 a.1) (names_take total count (before ++ a.0.0 ∷ []) a.0.1 names rest a.2)
 
 -- a head, a number, and as many bytes as it tells
-sized_behind : (head count : ℕ) (size : ℕ → ℕ) (bytes to_count to_parts rest : List ℕ) → behind head bytes ≡ Some to_count → count_in_front to_count ≡ Some (count, to_parts) → behind (size count) to_parts ≡ Some rest → behind_sized head size bytes ≡ Some rest
+sized_behind : (head count : ℕ) (size : ℕ → ℕ) (bytes to_count to_parts rest : List ℕ)
+    → behind head bytes ≡ Some to_count → count_in_front to_count ≡ Some (count, to_parts)
+    → behind (size count) to_parts ≡ Some rest → behind_sized head size bytes ≡ Some rest
 sized_behind head count size bytes to_count to_parts rest first second third = rw (first, second) third
 
 -- the reading leaves what stands behind an item
@@ -192,7 +200,9 @@ many_take behind_one one takes (suc count) before bytes xs rest h =
     let a = bind_ok (one before bytes) _ (xs, rest) h in
     rw (takes before bytes a.0.0 a.0.1 a.1) (many_take behind_one one takes count (before ++ a.0.0 ∷ []) a.0.1 xs rest a.2)
 
-items_behind : (behind_one : List ℕ → Option (List ℕ)) (count : ℕ) (bytes items rest : List ℕ) → count_in_front bytes ≡ Some (count, items) → behind_many behind_one count items ≡ Some rest → behind_items behind_one bytes ≡ Some rest
+items_behind : (behind_one : List ℕ → Option (List ℕ)) (count : ℕ) (bytes items rest : List ℕ)
+    → count_in_front bytes ≡ Some (count, items) → behind_many behind_one count items ≡ Some rest
+    → behind_items behind_one bytes ≡ Some rest
 unfolding behind_items
 items_behind behind_one count bytes items rest first second = rw first second
 
@@ -200,7 +210,8 @@ marks_take : (total : ℕ) (bytes : List ℕ) (marks : List Mark) (rest : List �
 unfolding marks_at
 marks_take total bytes marks rest h =
     let a = bind_ok (count_at BadField max_marks total bytes) _ (marks, rest) h in
-    items_behind behind_mark a.0.0 bytes a.0.1 rest (counts BadField max_marks total bytes a.0.0 a.0.1 a.1) (many_take behind_mark (λ _. mark_at total) (λ _. mark_takes total) a.0.0 [] a.0.1 marks rest a.2)
+    items_behind behind_mark a.0.0 bytes a.0.1 rest (counts BadField max_marks total bytes a.0.0 a.0.1 a.1)
+        (many_take behind_mark (λ _. mark_at total) (λ _. mark_takes total) a.0.0 [] a.0.1 marks rest a.2)
 
 entries_take : (total : ℕ) (bytes : List ℕ) (entries : List KeyedAccount) (rest : List ℕ) → entries_at total bytes ≡ Ok (entries, rest) → behind_items behind_account bytes ≡ Some rest
 unfolding entries_at
@@ -265,7 +276,9 @@ head_takes total bytes head rest h =
       ]
     ]
 
-snapshot_behind : (bytes marks accounts rest : List ℕ) → behind_head bytes ≡ Some marks → behind_items behind_mark marks ≡ Some accounts → behind_items behind_account accounts ≡ Some rest → behind_snapshot bytes ≡ Some rest
+snapshot_behind : (bytes marks accounts rest : List ℕ) → behind_head bytes ≡ Some marks
+    → behind_items behind_mark marks ≡ Some accounts → behind_items behind_account accounts ≡ Some rest
+    → behind_snapshot bytes ≡ Some rest
 unfolding behind_snapshot
 snapshot_behind bytes marks accounts rest first second third = rw (first, second) third
 
@@ -287,7 +300,9 @@ told bytes prefix h =
 
 -- passing items one by one, as a loop does
 
-pub one_more : (one : List ℕ → Option (List ℕ)) (count i : ℕ) (bytes after : List ℕ) (total : Option (List ℕ)) → i < count → one bytes ≡ Some after → behind_many one (count - i) bytes ≡ total → behind_many one (count - (i + 1)) after ≡ total
+pub one_more : (one : List ℕ → Option (List ℕ)) (count i : ℕ) (bytes after : List ℕ) (total : Option (List ℕ))
+    → i < count → one bytes ≡ Some after → behind_many one (count - i) bytes ≡ total
+    → behind_many one (count - (i + 1)) after ≡ total
 unfolding behind_many
 one_more one count i bytes after total lt h so_far =
     let k : count - i ≡ suc (count - (i + 1)) = omega arith in

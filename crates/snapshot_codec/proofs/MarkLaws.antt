@@ -118,7 +118,9 @@ recent-from_fits marks fits =
 pub marks_are_recent : (total : ℕ) (bytes : List ℕ) (marks : List Mark) (rest : List ℕ) → IsBytes bytes → marks_at total bytes ≡ Ok (marks, rest) → IsRecent marks
 marks_are_recent total bytes marks rest are h = recent-from_fits marks ((marks_reads total).takes bytes marks rest are h).0
 
-pub fits-from_recent : (marks : List Mark) → IsRecent marks → All (λ mark. length mark.messages ≤ max_transactions) marks → All (λ mark. IsHash mark.hash) marks → All (λ mark. All IsHash mark.messages) marks → MarksFit marks
+pub fits-from_recent : (marks : List Mark) → IsRecent marks
+    → All (λ mark. length mark.messages ≤ max_transactions) marks → All (λ mark. IsHash mark.hash) marks
+    → All (λ mark. All IsHash mark.messages) marks → MarksFit marks
 fits-from_recent marks recent few hashes names = record {
   few = recent.few;
   each = recursion_from_All MarkFits marks (λ k d lt. record { hash = hashes k d lt; few = few k d lt; names = recursion_from_All IsHash _ (names k d lt); ascends = recent.ascending k d lt });

@@ -32,7 +32,8 @@ pub record SnapshotFits (s : Snapshot) : Type 0 where
   pub state : StateFits s.accounts
 
 one_again : (total slot : ℕ) (marks : List Mark) (state : State) (rest : List ℕ) → slot < 2 ^ 64 → MarksFit marks → StateFits state
-    → snapshot_at total (codes "SOLSNAP1" ++ to_le_bytes w64 slot ++ marks_bytes marks ++ state_bytes state ++ rest) ≡ Ok (record { slot = slot; limits = first_limits; recent = marks; accounts = state }, rest)
+    → snapshot_at total (codes "SOLSNAP1" ++ to_le_bytes w64 slot ++ marks_bytes marks ++ state_bytes state
+        ++ rest) ≡ Ok (record { slot = slot; limits = first_limits; recent = marks; accounts = state }, rest)
 unfolding snapshot_at
 one_again total slot marks state rest fits marks_fit state_fit =
     let after = state_bytes state ++ rest in
@@ -42,7 +43,9 @@ one_again total slot marks state rest fits marks_fit state_fit =
     (rw (head_one_again total slot (marks_bytes marks ++ after) fits, (marks_reads total).again marks after marks_fit, (state_reads total).again state rest state_fit) refl)
 
 two_again : (total slot : ℕ) (limits : Limits) (marks : List Mark) (state : State) (rest : List ℕ) → slot < 2 ^ 64 → AreAllowed limits → MarksFit marks → StateFits state
-    → snapshot_at total (codes "SOLSNAP2" ++ to_le_bytes w64 slot ++ limits_bytes limits ++ marks_bytes marks ++ state_bytes state ++ rest) ≡ Ok (record { slot = slot; limits = limits; recent = marks; accounts = state }, rest)
+    → snapshot_at total (codes "SOLSNAP2" ++ to_le_bytes w64 slot ++ limits_bytes limits ++ marks_bytes marks
+        ++ state_bytes state ++ rest)
+        ≡ Ok (record { slot = slot; limits = limits; recent = marks; accounts = state }, rest)
 unfolding snapshot_at
 two_again total slot limits marks state rest fits allowed marks_fit state_fit =
     let after = state_bytes state ++ rest in
@@ -90,7 +93,9 @@ snapshot_takes total bytes s rest are h =
     first_allowed : AreAllowed first_limits
     first_allowed = record { keys = (lit≤ tt, lit≤ tt); height = (lit≤ tt, lit≤ tt); key_units = (lit≤ tt, lit≤ tt); block_units = (lit≤ tt, lit≤ tt) }
 
-    whole : (head : ℕ × Limits) (r : List ℕ) → IsHead bytes head r → (marks : List Mark) (r2 : List ℕ) → MarksFit marks → r ≡ marks_bytes marks ++ r2 → (state : State) → StateFits state → r2 ≡ state_bytes state ++ rest
+    whole : (head : ℕ × Limits) (r : List ℕ) → IsHead bytes head r → (marks : List Mark) (r2 : List ℕ)
+        → MarksFit marks → r ≡ marks_bytes marks ++ r2 → (state : State) → StateFits state
+        → r2 ≡ state_bytes state ++ rest
         → IsRead bytes (record { slot = head.0; limits = head.1; recent = marks; accounts = state }) rest
     whole head r is marks r2 marks_fit e2 state state_fit e3 =
         elim is.spelled [
@@ -117,7 +122,9 @@ snapshot_takes total bytes s rest are h =
 readable : (s : Snapshot) → SnapshotFits s → IsReadable s
 readable s fits =
     let each = All-from_recursion MarkFits s.recent fits.marks.each in
-    record { limits = fits.limits; recent = recent-from_fits s.recent fits.marks; messages = λ k d lt. (each k d lt).few; state = fits.state.is_state; accounts = subst (λ n. n ≤ max_accounts) (sym (len-entries s.accounts)) fits.state.few }
+    record { limits = fits.limits; recent = recent-from_fits s.recent fits.marks; messages = λ k d lt.
+        (each k d lt).few; state = fits.state.is_state; accounts = subst (λ n. n ≤ max_accounts)
+        (sym (len-entries s.accounts)) fits.state.few }
 
 widths : (s : Snapshot) → SnapshotFits s → HasWidths s
 widths s fits =
@@ -182,7 +189,9 @@ pub is_found : (bytes : List ℕ) (result : Result Prefix SnapshotFault) → IsB
 is_found bytes (Ok prefix) are h = prefix_takes bytes prefix are h
 is_found bytes (Err e) are h = tt
 
-pub is_only : (bytes : List ℕ) (result : Result Prefix SnapshotFault) → Gives is_snapshot_memory (λ v. v) result (prefix_of bytes) → (prefix : Prefix) → BeginsWith bytes prefix → Gives is_snapshot_memory (λ v. v) result (Ok prefix)
+pub is_only : (bytes : List ℕ) (result : Result Prefix SnapshotFault)
+    → Gives is_snapshot_memory (λ v. v) result (prefix_of bytes) → (prefix : Prefix) → BeginsWith bytes prefix
+    → Gives is_snapshot_memory (λ v. v) result (Ok prefix)
 is_only bytes result h prefix begins = subst (Gives is_snapshot_memory (λ v. v) result) (prefix_again bytes prefix begins) h
 
 -- what is written is read again

@@ -22,12 +22,16 @@ pub record IsWritten {O : Type 0} (holds : O → List ℕ → Type 0) (old new :
 pub begun : {O : Type 0} (holds : O → List ℕ → Type 0) (out : O) (all left : List (Key × Account)) → left ≡ all → IsWritten holds out out all left
 begun holds out all left h = record { done = []; split = h; added = Adds-none holds out }
 
-pub goes_on : {O : Type 0} {holds : O → List ℕ → Type 0} {old mid new : O} (all left after : List (Key × Account)) (e : Key × Account) → IsWritten holds old mid all left → left ≡ e ∷ after → Adds holds mid new (account_bytes e)
+pub goes_on : {O : Type 0} {holds : O → List ℕ → Type 0} {old mid new : O}
+    (all left after : List (Key × Account)) (e : Key × Account) → IsWritten holds old mid all left
+    → left ≡ e ∷ after → Adds holds mid new (account_bytes e)
     → IsWritten holds old new all after
 goes_on all left after e written next added = record {
   done = written.done ++ e ∷ [];
   split = append_assoc written.done (e ∷ []) after ∙ ap (λ (l : List (Key × Account)). written.done ++ l) (sym next) ∙ written.split;
-  added = Adds-as (Adds-then written.added added) (sym (flat_map-append account_bytes written.done (e ∷ []) ∙ ap (λ (l : List ℕ). flat_map account_bytes written.done ++ l) (append-nil (account_bytes e))));
+  added = Adds-as (Adds-then written.added added)
+      (sym (flat_map-append account_bytes written.done (e ∷ [])
+      ∙ ap (λ (l : List ℕ). flat_map account_bytes written.done ++ l) (append-nil (account_bytes e))));
 }
 
 pub ends : {O : Type 0} {holds : O → List ℕ → Type 0} {old new : O} (all left : List (Key × Account)) → IsWritten holds old new all left → left ≡ [] → Adds holds old new (flat_map account_bytes all)
@@ -40,7 +44,9 @@ left_held P [] after e h = h.0
 left_held P (d ∷ done) after e h = left_held P done after e h.1
 
 -- the data of the next account have a length that is allowed
-pub next_is_short : {O : Type 0} {holds : O → List ℕ → Type 0} {old mid : O} (all left after : List (Key × Account)) (e : Key × Account) → AllByRecursion (λ d. IsHeld d.1) all → IsWritten holds old mid all left → left ≡ e ∷ after → length e.1.bytes < 2 ^ 32
+pub next_is_short : {O : Type 0} {holds : O → List ℕ → Type 0} {old mid : O}
+    (all left after : List (Key × Account)) (e : Key × Account) → AllByRecursion (λ d. IsHeld d.1) all
+    → IsWritten holds old mid all left → left ≡ e ∷ after → length e.1.bytes < 2 ^ 32
 next_is_short all left after e held written next =
     let split : all ≡ written.done ++ e ∷ after = sym written.split ∙ ap (λ (l : List (Key × Account)). written.done ++ l) next in
     let is_held = left_held (λ d. IsHeld d.1) written.done after e (subst (AllByRecursion (λ (d : Key × Account). IsHeld d.1)) split held) in
@@ -48,6 +54,8 @@ next_is_short all left after e held written next =
     omega arith
 
 -- where no account is next, none is left
-pub none_left : (r : Option (Bor Key × Bor Shared)) (left after : List (Key × Shared)) → ((x : Bor Key × Bor Shared) → r ≡ Some x → ⊥) → MatchOption r ((left ≡ []) × (after ≡ [])) (λ x. left ≡ (x.0.now, x.1.now) ∷ after) → left ≡ []
+pub none_left : (r : Option (Bor Key × Bor Shared)) (left after : List (Key × Shared))
+    → ((x : Bor Key × Bor Shared) → r ≡ Some x → ⊥)
+    → MatchOption r ((left ≡ []) × (after ≡ [])) (λ x. left ≡ (x.0.now, x.1.now) ∷ after) → left ≡ []
 none_left None left after some h = h.0
 none_left (Some x) left after some h = absurd (some x refl)

@@ -56,7 +56,9 @@ spelled_front (b0 ∷ b1 ∷ b2 ∷ b3 ∷ b4 ∷ b5 ∷ []) p = absurd (omega (
 spelled_front (b0 ∷ b1 ∷ b2 ∷ b3 ∷ b4 ∷ b5 ∷ b6 ∷ []) p = absurd (omega (arith, p))
 
 -- where the first eight bytes differ as numbers, these are in the order of all bytes
-pub front_decides : (xs ys : List ℕ) (x y : ℕ) → 8 ≤ length xs → 8 ≤ length ys → IsBytes xs → IsBytes ys → x ≡ from_be_bytes w64 (take 8 xs) → y ≡ from_be_bytes w64 (take 8 ys) → x ≢ y → nat_cmp x y ≡ slice_cmp nat_cmp xs ys
+pub front_decides : (xs ys : List ℕ) (x y : ℕ) → 8 ≤ length xs → 8 ≤ length ys → IsBytes xs → IsBytes ys
+    → x ≡ from_be_bytes w64 (take 8 xs) → y ≡ from_be_bytes w64 (take 8 ys) → x ≢ y
+    → nat_cmp x y ≡ slice_cmp nat_cmp xs ys
 front_decides xs ys x y p q f g is_x is_y differ =
     let in_x : x ≡ spelled 8 0 xs = is_x ∙ spelled_front xs p in
     let in_y : y ≡ spelled 8 0 ys = is_y ∙ spelled_front ys q in

@@ -42,7 +42,8 @@ same_key-sym a b = by_test (same_key b a) refl
 
 -- and so does that of two hashes
 pub same_hash-Decides : (a b : Hash32) → Decides (same_hash a b) (a ≡ b)
-same_hash-Decides a b = (λ same. ap (λ (bytes : List ℕ). let hash : Hash32 = record { 0 = bytes } in hash) ((bytes_decides a.0 b.0).0 same), λ e. (bytes_decides a.0 b.0).1 (ap (λ (hash : Hash32). hash.0) e))
+same_hash-Decides a b = (λ same. ap (λ (bytes : List ℕ). let hash : Hash32 = record { 0 = bytes } in hash)
+    ((bytes_decides a.0 b.0).0 same), λ e. (bytes_decides a.0 b.0).1 (ap (λ (hash : Hash32). hash.0) e))
 
 -- keys that compare as equal are the same
 pub key_cmp_exact : CmpEqualImpliesEq key_cmp
@@ -62,7 +63,10 @@ same_cmp a b = by_test (same_key a b) refl
 
     by_test : (t : Bool) → same_key a b ≡ t → eq_by_cmp key_cmp a b ≡ t
     by_test true same = subst (λ (key : Key). eq_by_cmp key_cmp a key ≡ true) (same_key-true a b same) ((eq_by_cmp_equiv key_cmp_total).refl a)
-    by_test false differ = false_from_ne_true (eq_by_cmp key_cmp a b) (λ e. both_ways (same_key a b) differ (subst (λ (key : Key). same_key a key ≡ true) (key_cmp_exact a b (equal (key_cmp a b) e)) (same_key-self a)))
+    by_test false differ = false_from_ne_true (eq_by_cmp key_cmp a b)
+        (λ e. both_ways (same_key a b) differ
+        (subst (λ (key : Key). same_key a key ≡ true) (key_cmp_exact a b (equal (key_cmp a b) e))
+        (same_key-self a)))
 
 pub hash_cmp_exact : CmpEqualImpliesEq hash_cmp
 hash_cmp_exact a b h = ap (λ (bytes : List ℕ). let hash : Hash32 = record { 0 = bytes } in hash) (exact_bytes a.0 b.0 h)

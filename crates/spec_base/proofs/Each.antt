@@ -13,7 +13,9 @@ joined-more done y (Ok ys) = ap Ok (sym (append_assoc done (y ∷ []) ys))
 joined-more done y (Err e) = refl
 
 -- one item more is done
-pub each-more : {X Y E : Type 0} (one : X → Result Y E) (done : List Y) (xs : List X) (i : ℕ) (d : X) (y : Y) → i < length xs → one (get_or xs i d) ≡ Ok y → joined done (each one (drop i xs)) ≡ joined (done ++ y ∷ []) (each one (drop (i + 1) xs))
+pub each-more : {X Y E : Type 0} (one : X → Result Y E) (done : List Y) (xs : List X) (i : ℕ) (d : X) (y : Y)
+    → i < length xs → one (get_or xs i d) ≡ Ok y
+    → joined done (each one (drop i xs)) ≡ joined (done ++ y ∷ []) (each one (drop (i + 1) xs))
 unfolding each
 each-more one done xs i d y below h = rw (drop_more xs i d below, h) (joined-more done y (each one (drop (i + 1) xs)))
 
@@ -23,7 +25,9 @@ unfolding each
 each-ends one done xs i d e below h = rw (drop_more xs i d below, h) refl
 
 -- the next is refused, or memory ran out
-pub each-stops : {X Y E : Type 0} (is_memory : E → Bool) (one : X → Result Y E) (done : List Y) (xs : List X) (i : ℕ) (d : X) (e : E) (total : Result (List Y) E) → i < length xs → MatchBool (is_memory e) (Unit {0}) (one (get_or xs i d) ≡ Err e)
+pub each-stops : {X Y E : Type 0} (is_memory : E → Bool) (one : X → Result Y E) (done : List Y) (xs : List X)
+    (i : ℕ) (d : X) (e : E) (total : Result (List Y) E) → i < length xs
+    → MatchBool (is_memory e) (Unit {0}) (one (get_or xs i d) ≡ Err e)
     → joined done (each one (drop i xs)) ≡ total → MatchBool (is_memory e) (Unit {0}) (total ≡ Err e)
 each-stops is_memory one done xs i d e total below h so_far = by_case (is_memory e) h
   where

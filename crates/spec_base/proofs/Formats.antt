@@ -49,7 +49,8 @@ field_again truncated total count field rest h = rw (enough, take_at field rest 
     enough : nat_lt (length (field ++ rest)) count ≡ false
     enough = grind (arith, nat_tests, length-append field rest)
 
-field_takes : {E : Type 0} (truncated : ℕ → E) (total count : ℕ) (bytes field rest : List ℕ) → field_at truncated total count bytes ≡ Ok (field, rest) → (length field ≡ count) × (bytes ≡ field ++ rest)
+field_takes : {E : Type 0} (truncated : ℕ → E) (total count : ℕ) (bytes field rest : List ℕ)
+    → field_at truncated total count bytes ≡ Ok (field, rest) → (length field ≡ count) × (bytes ≡ field ++ rest)
 unfolding field_at
 field_takes truncated total count bytes field rest h =
     elim (chosen (nat_lt (length bytes) count) _ _ _ h) [
@@ -103,11 +104,15 @@ record IsSpelling (width : Width) (bound : ℕ) : Type 0 where
   below : (field : List ℕ) → IsBytes field → from_le_bytes width field < bound
   forth : (field : List ℕ) → length field ≡ byte_len width → IsBytes field → to_le_bytes width (from_le_bytes width field) ≡ field
 
-number_again : {E : Type 0} (truncated : ℕ → E) (width : Width) (bound : ℕ) → IsSpelling width bound → (total n : ℕ) (rest : List ℕ) → n < bound → number_at truncated width total (to_le_bytes width n ++ rest) ≡ Ok (n, rest)
+number_again : {E : Type 0} (truncated : ℕ → E) (width : Width) (bound : ℕ) → IsSpelling width bound
+    → (total n : ℕ) (rest : List ℕ) → n < bound
+    → number_at truncated width total (to_le_bytes width n ++ rest) ≡ Ok (n, rest)
 unfolding number_at
 number_again truncated width bound is total n rest h = rw (field_again truncated total (byte_len width) (to_le_bytes width n) rest (is.len n), is.back n h) refl
 
-number_takes : {E : Type 0} (truncated : ℕ → E) (width : Width) (bound : ℕ) → IsSpelling width bound → (total : ℕ) (bytes : List ℕ) (n : ℕ) (rest : List ℕ) → IsBytes bytes → number_at truncated width total bytes ≡ Ok (n, rest) → (n < bound) × (bytes ≡ to_le_bytes width n ++ rest)
+number_takes : {E : Type 0} (truncated : ℕ → E) (width : Width) (bound : ℕ) → IsSpelling width bound
+    → (total : ℕ) (bytes : List ℕ) (n : ℕ) (rest : List ℕ) → IsBytes bytes
+    → number_at truncated width total bytes ≡ Ok (n, rest) → (n < bound) × (bytes ≡ to_le_bytes width n ++ rest)
 unfolding number_at
 number_takes truncated width bound is total bytes n rest are h =
     let a = bind_ok (field_at truncated total (byte_len width) bytes) _ (n, rest) h in
@@ -162,18 +167,24 @@ u64_reads truncated total = number_reads truncated w64 (2 ^ 64) (record {
 
 -- values that pass a test
 
-read_if_again : {X E : Type 0} (refusal : ℕ → E) (test : X → Bool) (one : List ℕ → Result (X × List ℕ) E) (total : ℕ) (bytes : List ℕ) (x : X) (rest : List ℕ) → one bytes ≡ Ok (x, rest) → test x ≡ true → read_if refusal test one total bytes ≡ Ok (x, rest)
+read_if_again : {X E : Type 0} (refusal : ℕ → E) (test : X → Bool) (one : List ℕ → Result (X × List ℕ) E)
+    (total : ℕ) (bytes : List ℕ) (x : X) (rest : List ℕ) → one bytes ≡ Ok (x, rest) → test x ≡ true
+    → read_if refusal test one total bytes ≡ Ok (x, rest)
 unfolding read_if
 read_if_again refusal test one total bytes x rest read passed = rw (read, passed) refl
 
-read_if_takes : {X E : Type 0} (refusal : ℕ → E) (test : X → Bool) (one : List ℕ → Result (X × List ℕ) E) (total : ℕ) (bytes : List ℕ) (x : X) (rest : List ℕ) → read_if refusal test one total bytes ≡ Ok (x, rest) → (one bytes ≡ Ok (x, rest)) × (test x ≡ true)
+read_if_takes : {X E : Type 0} (refusal : ℕ → E) (test : X → Bool) (one : List ℕ → Result (X × List ℕ) E)
+    (total : ℕ) (bytes : List ℕ) (x : X) (rest : List ℕ) → read_if refusal test one total bytes ≡ Ok (x, rest)
+    → (one bytes ≡ Ok (x, rest)) × (test x ≡ true)
 unfolding read_if
 read_if_takes {X = X} refusal test one total bytes x rest h =
     let a = bind_ok (one bytes) _ (x, rest) h in
     let c = ok_if_true (test a.0.0) (refusal (place total bytes)) a.0 (x, rest) a.2 in
     (a.1 ∙ ap (λ (p : X × List ℕ). Ok p) c.1, subst (λ (p : X × List ℕ). test p.0 ≡ true) c.1 c.0)
 
-pub read_if_reads : {X E : Type 0} {one : List ℕ → Result (X × List ℕ) E} {spell : X → List ℕ} {Fits : X → Type 0} (refusal : ℕ → E) (test : X → Bool) (total : ℕ) → Reads one spell Fits → Reads (read_if refusal test one total) spell (λ x. Fits x × (test x ≡ true))
+pub read_if_reads : {X E : Type 0} {one : List ℕ → Result (X × List ℕ) E} {spell : X → List ℕ}
+    {Fits : X → Type 0} (refusal : ℕ → E) (test : X → Bool) (total : ℕ) → Reads one spell Fits
+    → Reads (read_if refusal test one total) spell (λ x. Fits x × (test x ≡ true))
 read_if_reads {X = X} {one = one} {spell = spell} {Fits = Fits} refusal test total reads = record { again = again; takes = takes }
   where
     again : (x : X) (rest : List ℕ) → Fits x × (test x ≡ true) → read_if refusal test one total (spell x ++ rest) ≡ Ok (x, rest)
@@ -187,18 +198,23 @@ read_if_reads {X = X} {one = one} {spell = spell} {Fits = Fits} refusal test tot
 
 -- values of another shape
 
-read_as_again : {X Y E : Type 0} (shape : X → Y) (one : List ℕ → Result (X × List ℕ) E) (bytes : List ℕ) (x : X) (rest : List ℕ) → one bytes ≡ Ok (x, rest) → read_as shape one bytes ≡ Ok (shape x, rest)
+read_as_again : {X Y E : Type 0} (shape : X → Y) (one : List ℕ → Result (X × List ℕ) E) (bytes : List ℕ) (x : X)
+    (rest : List ℕ) → one bytes ≡ Ok (x, rest) → read_as shape one bytes ≡ Ok (shape x, rest)
 unfolding read_as
 read_as_again shape one bytes x rest read = rw read refl
 
-read_as_takes : {X Y E : Type 0} (shape : X → Y) (one : List ℕ → Result (X × List ℕ) E) (bytes : List ℕ) (y : Y) (rest : List ℕ) → read_as shape one bytes ≡ Ok (y, rest) → (x : X) × (one bytes ≡ Ok (x, rest)) × (shape x ≡ y)
+read_as_takes : {X Y E : Type 0} (shape : X → Y) (one : List ℕ → Result (X × List ℕ) E) (bytes : List ℕ) (y : Y)
+    (rest : List ℕ) → read_as shape one bytes ≡ Ok (y, rest)
+    → (x : X) × (one bytes ≡ Ok (x, rest)) × (shape x ≡ y)
 unfolding read_as
 read_as_takes {X = X} shape one bytes y rest h =
     let a = bind_ok (one bytes) _ (y, rest) h in
     let p = ok_parts _ _ _ _ a.2 in
     (a.0.0, a.1 ∙ ap (λ (after : List ℕ). Ok (a.0.0, after)) p.1, p.0)
 
-pub read_as_reads : {X Y E : Type 0} {one : List ℕ → Result (X × List ℕ) E} {spell : X → List ℕ} {Fits : X → Type 0} (shape : X → Y) (back : Y → X) → ((x : X) → back (shape x) ≡ x) → ((y : Y) → shape (back y) ≡ y)
+pub read_as_reads : {X Y E : Type 0} {one : List ℕ → Result (X × List ℕ) E} {spell : X → List ℕ}
+    {Fits : X → Type 0} (shape : X → Y) (back : Y → X) → ((x : X) → back (shape x) ≡ x)
+    → ((y : Y) → shape (back y) ≡ y)
     → Reads one spell Fits → Reads (read_as shape one) (λ y. spell (back y)) (λ y. Fits (back y))
 read_as_reads {X = X} {Y = Y} {one = one} {spell = spell} {Fits = Fits} shape back there here reads = record { again = again; takes = takes }
   where
@@ -254,7 +270,9 @@ many_after_reads {X = X} {one = one} {spell = spell} {Fits = Fits} reads count =
     again : (xs : List X) (rest : List ℕ) → (length xs ≡ count) × AllAfter Fits [] xs → many_after one [] count (flat_map spell xs ++ rest) ≡ Ok (xs, rest)
     again xs rest h = subst (λ n. many_after one [] n (flat_map spell xs ++ rest) ≡ Ok (xs, rest)) h.0 (many_after_again one spell Fits reads [] xs rest h.1)
 
-    takes : (bytes : List ℕ) (xs : List X) (rest : List ℕ) → IsBytes bytes → many_after one [] count bytes ≡ Ok (xs, rest) → ((length xs ≡ count) × AllAfter Fits [] xs) × (bytes ≡ flat_map spell xs ++ rest)
+    takes : (bytes : List ℕ) (xs : List X) (rest : List ℕ) → IsBytes bytes
+        → many_after one [] count bytes ≡ Ok (xs, rest)
+        → ((length xs ≡ count) × AllAfter Fits [] xs) × (bytes ≡ flat_map spell xs ++ rest)
     takes bytes xs rest are h =
         let l = many_after_takes one spell Fits reads count [] bytes xs rest are h in
         let Claim : List X → Type 0 = λ v. ((length v ≡ count) × AllAfter Fits [] v) × (bytes ≡ flat_map spell v ++ rest) in

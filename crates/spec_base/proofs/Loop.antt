@@ -4,7 +4,9 @@ use Rattle.std.specs.Prelude.{MatchBool}
 use Rattle.spec_base.specs.Reading.{many_after}
 
 -- one item more was read
-pub goes_on : {X E : Type 0} (one : List X → List ℕ → Result (X × List ℕ) E) (before : List X) (count i : ℕ) (bytes : List ℕ) (x : X) (after : List ℕ) (total : Result (List X × List ℕ) E) → i < count → one before bytes ≡ Ok (x, after)
+pub goes_on : {X E : Type 0} (one : List X → List ℕ → Result (X × List ℕ) E) (before : List X) (count i : ℕ)
+    (bytes : List ℕ) (x : X) (after : List ℕ) (total : Result (List X × List ℕ) E) → i < count
+    → one before bytes ≡ Ok (x, after)
     → many_after one before (count - i) bytes ≡ total → many_after one (before ++ x ∷ []) (count - (i + 1)) after ≡ total
 unfolding many_after
 goes_on one before count i bytes x after total lt h so_far =
@@ -13,7 +15,9 @@ goes_on one before count i bytes x after total lt h so_far =
     sym first ∙ so_far
 
 -- the next item is refused
-pub ends : {X E : Type 0} (one : List X → List ℕ → Result (X × List ℕ) E) (is_memory : E → Bool) (e : E) (before : List X) (count i : ℕ) (bytes : List ℕ) (total : Result (List X × List ℕ) E) → i < count → MatchBool (is_memory e) (Unit {0}) (one before bytes ≡ Err e)
+pub ends : {X E : Type 0} (one : List X → List ℕ → Result (X × List ℕ) E) (is_memory : E → Bool) (e : E)
+    (before : List X) (count i : ℕ) (bytes : List ℕ) (total : Result (List X × List ℕ) E) → i < count
+    → MatchBool (is_memory e) (Unit {0}) (one before bytes ≡ Err e)
     → many_after one before (count - i) bytes ≡ total → MatchBool (is_memory e) (Unit {0}) (total ≡ Err e)
 unfolding many_after
 ends one is_memory e before count i bytes total lt h so_far = by_case (is_memory e) h
@@ -26,7 +30,9 @@ ends one is_memory e before count i bytes total lt h so_far = by_case (is_memory
         sym so_far ∙ first
 
 -- all items were read
-pub is_done : {X E : Type 0} (one : List X → List ℕ → Result (X × List ℕ) E) (before : List X) (count i : ℕ) (bytes : List ℕ) (total : Result (List X × List ℕ) E) → count ≤ i → many_after one before (count - i) bytes ≡ total → total ≡ Ok (before, bytes)
+pub is_done : {X E : Type 0} (one : List X → List ℕ → Result (X × List ℕ) E) (before : List X) (count i : ℕ)
+    (bytes : List ℕ) (total : Result (List X × List ℕ) E) → count ≤ i
+    → many_after one before (count - i) bytes ≡ total → total ≡ Ok (before, bytes)
 unfolding many_after
 is_done one before count i bytes total le so_far =
     let k : count - i ≡ 0 = omega arith in

@@ -37,7 +37,9 @@ onto_plain : (k base : ℕ) (upper : Bool) (n : ℕ) (acc : List ℕ) → ((m : 
 onto_plain zero base upper n acc few plain = plain
 onto_plain (suc k) base upper n acc few plain = by_test (n / base == 0) (onto_plain k base upper (n / base) (digit_glyph upper (n % base) ∷ acc) few (glyph_plain upper (n % base) (few n), plain))
   where
-    by_test : (b : Bool) → Plain (digits_onto k base upper (n / base) (digit_glyph upper (n % base) ∷ acc)) → Plain (if b then digit_glyph upper (n % base) ∷ acc else digits_onto k base upper (n / base) (digit_glyph upper (n % base) ∷ acc))
+    by_test : (b : Bool) → Plain (digits_onto k base upper (n / base) (digit_glyph upper (n % base) ∷ acc))
+        → Plain (if b then digit_glyph upper (n % base)
+        ∷ acc else digits_onto k base upper (n / base) (digit_glyph upper (n % base) ∷ acc))
     by_test true more = (glyph_plain upper (n % base) (few n), plain)
     by_test false more = more
 

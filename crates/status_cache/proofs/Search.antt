@@ -34,10 +34,15 @@ above_differs : (a b : Hash32) → hash_cmp a b ≡ Greater → same_hash a b �
 above_differs a b above = differ a b (same_hash a b) refl (λ equal. cc)
 
 missed : (hashes : List Hash32) (hash : Hash32) (i : ℕ) → IsPartitionPoint (λ one. hash_cmp one hash ≡ Less) (λ one. hash_cmp one hash ≡ Greater) hashes i → has_hash hashes hash ≡ false
-missed hashes hash i parts = list_any_none (λ one. same_hash one hash) hashes (λ k d within. elim (cases_lt k i) [ inl early ↦ below_differs _ hash (parts.0 k d (omega arith) early) | inr late ↦ above_differs _ hash (parts.1 k d late within) ])
+missed hashes hash i parts = list_any_none (λ one. same_hash one hash) hashes
+    (λ k d within. elim (cases_lt k i)
+    [ inl early ↦ below_differs _ hash (parts.0 k d (omega arith) early) | inr late ↦ above_differs _ hash
+    (parts.1 k d late within) ])
 
 -- the search finds a hash exactly where it is there
-pub search_tells : (hashes : List Hash32) (hash : Hash32) → Ascends hashes → (r : Result ℕ ℕ) → IsSearchInRange r (length hashes) → IsBinarySearchResult (λ one. hash_cmp one hash) hashes r → is_ok r ≡ has_hash hashes hash
+pub search_tells : (hashes : List Hash32) (hash : Hash32) → Ascends hashes → (r : Result ℕ ℕ)
+    → IsSearchInRange r (length hashes) → IsBinarySearchResult (λ one. hash_cmp one hash) hashes r
+    → is_ok r ≡ has_hash hashes hash
 search_tells hashes hash ascends (Ok i) within here = sym (found hashes hash i within here)
 search_tells hashes hash ascends (Err i) within parts =
     sym (missed hashes hash i (parts (searchable_from_sorted hash_cmp_total (λ (one : Hash32). one) hashes hash (λ k d low high.

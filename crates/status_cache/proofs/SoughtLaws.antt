@@ -22,10 +22,14 @@ same_name name other = by_test (same_hash name other) refl
   where
     by_test : (t : Bool) → same_hash name other ≡ t → is_at (hash_cmp name) other ≡ t
     by_test true same = subst (λ (hash : Hash32). is_at (hash_cmp name) hash ≡ true) ((same_hash-Decides name other).0 same) ((eq_by_cmp_equiv hash_cmp_total).refl name)
-    by_test false differ = false_from_ne_true (is_at (hash_cmp name) other) (λ e. both_ways (same_hash name other) differ ((same_hash-Decides name other).1 (hash_cmp_exact name other ((Equal-is (hash_cmp name other)).0 e))))
+    by_test false differ = false_from_ne_true (is_at (hash_cmp name) other)
+        (λ e. both_ways (same_hash name other) differ
+        ((same_hash-Decides name other).1 (hash_cmp_exact name other ((Equal-is (hash_cmp name other)).0 e))))
 
 -- a name more
-pub name_added : (old new : BTreeSet Hash32) (name : Hash32) → ((q : Hash32) → contains hash_cmp new q ≡ cond (is_at (hash_cmp name) q) true (contains hash_cmp old q)) → (q : Hash32) → has_name new q ≡ (has_name old q || same_hash name q)
+pub name_added : (old new : BTreeSet Hash32) (name : Hash32)
+    → ((q : Hash32) → contains hash_cmp new q ≡ cond (is_at (hash_cmp name) q) true (contains hash_cmp old q))
+    → (q : Hash32) → has_name new q ≡ (has_name old q || same_hash name q)
 name_added old new name puts q = puts q ∙ go (is_at (hash_cmp name) q) (same_hash name q) (same_name name q) (contains hash_cmp old q)
   where
     go : (a b : Bool) → a ≡ b → (o : Bool) → cond a true o ≡ (o || b)
@@ -52,7 +56,9 @@ either true b e = inl refl
 either false b e = inr e
 
 -- a hash more, whose prefix is marked
-pub sought_more : (old new : BTreeSet Hash32) (prefixes : List Bool) (name : Hash32) → IsSought old prefixes → prefix_of name < PREFIXES → ((q : Hash32) → has_name new q ≡ (has_name old q || same_hash name q)) → IsSought new (set prefixes (prefix_of name) true)
+pub sought_more : (old new : BTreeSet Hash32) (prefixes : List Bool) (name : Hash32) → IsSought old prefixes
+    → prefix_of name < PREFIXES → ((q : Hash32) → has_name new q ≡ (has_name old q || same_hash name q))
+    → IsSought new (set prefixes (prefix_of name) true)
 sought_more old new prefixes name known within more = record {
   long = length-set prefixes (prefix_of name) true ∙ known.long;
   marked = λ hash e. by_parts hash (either (has_name old hash) (same_hash name hash) (sym (more hash) ∙ e));
@@ -68,7 +74,9 @@ sought_more old new prefixes name known within more = record {
         (get_or-set_same prefixes (prefix_of name) true false below)
 
 -- what a look answers
-pub told : (hashes : BTreeSet Hash32) (prefixes : List Bool) (hash : Hash32) (b : Bool) → IsSought hashes prefixes → get_or prefixes (prefix_of hash) false ≡ b → (b && has_name hashes hash) ≡ has_name hashes hash
+pub told : (hashes : BTreeSet Hash32) (prefixes : List Bool) (hash : Hash32) (b : Bool)
+    → IsSought hashes prefixes → get_or prefixes (prefix_of hash) false ≡ b
+    → (b && has_name hashes hash) ≡ has_name hashes hash
 told hashes prefixes hash true known e = refl
 told hashes prefixes hash false known e = go (has_name hashes hash) refl
   where

@@ -6,7 +6,10 @@ use Rattle.std.proofs.lemmas.List.{drop_more, drop_all, drop-drop}
 use Rattle.sys_calls.specs.SysCalls.{differing, difference, first_difference}
 
 -- at one place
-pub differing-at : (xs ys : List ℕ) (i : ℕ) → i < length xs → i < length ys → differing (drop i xs) (drop i ys) ≡ (if get_or xs i 0 == get_or ys i 0 then differing (drop (i + 1) xs) (drop (i + 1) ys) else Some (get_or xs i 0, get_or ys i 0))
+pub differing-at : (xs ys : List ℕ) (i : ℕ) → i < length xs → i < length ys
+    → differing (drop i xs) (drop i ys)
+    ≡ (if get_or xs i 0 == get_or ys i 0 then differing (drop (i + 1) xs) (drop (i + 1) ys) else Some
+    (get_or xs i 0, get_or ys i 0))
 differing-at xs ys i one other = rw (drop_more xs i 0 one, drop_more ys i 0 other) refl
 
 -- past the last place
@@ -43,13 +46,17 @@ none-found None rest h = refl
 none-found (Some pair) rest h = absurd (cc)
 
 -- a piece in which bytes differ
-pub piece-found : (xs ys a b : List ℕ) (at n d : ℕ) → a ≡ take n (drop at xs) → b ≡ take n (drop at ys) → Some d ≡ option_map difference (differing a b) → differing xs ys ≡ differing (drop at xs) (drop at ys) → d ≡ first_difference xs ys
+pub piece-found : (xs ys a b : List ℕ) (at n d : ℕ) → a ≡ take n (drop at xs) → b ≡ take n (drop at ys)
+    → Some d ≡ option_map difference (differing a b) → differing xs ys ≡ differing (drop at xs) (drop at ys)
+    → d ≡ first_difference xs ys
 piece-found xs ys a b at n d one other found same =
     let here : Some d ≡ option_map difference (differing (take n (drop at xs)) (take n (drop at ys))) = rw (one, other) at found in
     rw (same, differing-split n (drop at xs) (drop at ys)) (some-found d (differing (take n (drop at xs)) (take n (drop at ys))) (differing (drop n (drop at xs)) (drop n (drop at ys))) here)
 
 -- a piece in which no bytes differ
-pub piece-passed : (xs ys a b : List ℕ) (at n : ℕ) → a ≡ take n (drop at xs) → b ≡ take n (drop at ys) → None ≡ option_map difference (differing a b) → differing xs ys ≡ differing (drop at xs) (drop at ys) → differing xs ys ≡ differing (drop (at + n) xs) (drop (at + n) ys)
+pub piece-passed : (xs ys a b : List ℕ) (at n : ℕ) → a ≡ take n (drop at xs) → b ≡ take n (drop at ys)
+    → None ≡ option_map difference (differing a b) → differing xs ys ≡ differing (drop at xs) (drop at ys)
+    → differing xs ys ≡ differing (drop (at + n) xs) (drop (at + n) ys)
 piece-passed xs ys a b at n one other none same =
     let here : None ≡ option_map difference (differing (take n (drop at xs)) (take n (drop at ys))) = rw (one, other) at none in
     same ∙ differing-split n (drop at xs) (drop at ys)

@@ -22,7 +22,9 @@ use Rattle.sbpf_memory.proofs.Plain.{write-plain}
 use Rattle.sys_calls.proofs.Pieces.{place-part, place-low}
 use Rattle.sys_calls.proofs.Prepares.{done, plain-kept, prepared-written}
 
-written-more : (m : Ranges) (xs ys : List ℕ) (at : ℕ) (region : Region) → at + length xs + length ys ≤ length (range_bytes m region) → written_in (written_in m xs at region) ys (at + length xs) region ≡ written_in m (xs ++ ys) at region
+written-more : (m : Ranges) (xs ys : List ℕ) (at : ℕ) (region : Region)
+    → at + length xs + length ys ≤ length (range_bytes m region)
+    → written_in (written_in m xs at region) ys (at + length xs) region ≡ written_in m (xs ++ ys) at region
 written-more m xs ys at Program fits = refl
 written-more m xs ys at Stack fits = ap (with_stack m) (with_more m.stack xs ys at fits)
 written-more m xs ys at Heap fits = ap (with_heap m) (with_more m.heap xs ys at fits)
@@ -47,7 +49,9 @@ in-written m addr bytes at Stack free = refl
 in-written m addr bytes at Heap free = refl
 in-written m addr bytes at Input free = refl
 
-write-at : (m : Ranges) (addr len : ℕ) (bytes : List ℕ) (place : Place) → 1 ≤ len → length bytes ≡ len → place_of m addr len ≡ Some place → Free place.region → write_to m addr bytes ≡ Ok (written_in m bytes place.at place.region)
+write-at : (m : Ranges) (addr len : ℕ) (bytes : List ℕ) (place : Place) → 1 ≤ len → length bytes ≡ len
+    → place_of m addr len ≡ Some place → Free place.region
+    → write_to m addr bytes ≡ Ok (written_in m bytes place.at place.region)
 write-at m addr len bytes place some size found free =
     let found_it : place_of m addr (length bytes) ≡ Some place = rw size found in
     let has : 1 ≤ length bytes = rw size some in
@@ -74,7 +78,9 @@ prepared_in m count more n at Heap fits h = tt
 prepared_in m count more n at Input fits h =
     λ k below. let same : at + (more + k) ≡ at + more + k = omega arith in subst (λ (p : ℕ). slice_get m.input.prepared p ≡ Some true) same (h (more + k) (omega arith))
 
-prepared-part : (m : Ranges) (addr count more n : ℕ) (place : Place) → IsMemory m → place_of m addr count ≡ Some place → 1 ≤ n → more + n ≤ count → IsPrepared m addr count → IsPrepared m (addr + more) n
+prepared-part : (m : Ranges) (addr count more n : ℕ) (place : Place) → IsMemory m
+    → place_of m addr count ≡ Some place → 1 ≤ n → more + n ≤ count → IsPrepared m addr count
+    → IsPrepared m (addr + more) n
 unfolding IsPrepared
 prepared-part m addr count more n place is found some fits h =
     let whole : PreparedAt m count (Some place) = subst (PreparedAt m count) found h in
@@ -88,7 +94,9 @@ front m addr count n place is found some fits =
     subst (λ (a : ℕ). place_of m a n ≡ Some place) here (moved ∙ ap (λ (a : ℕ). let p : Place = record { region = place.region; at = a } in Some p) there)
 
 -- what was filled so far
-filled-is : (m0 m : Ranges) (to at count b : ℕ) (place : Place) → IsMemory m0 → place_of m0 to count ≡ Some place → Free place.region → at ≤ count → write_to m0 to (replicate at b) ≡ Ok m → m ≡ written_in m0 (replicate at b) place.at place.region
+filled-is : (m0 m : Ranges) (to at count b : ℕ) (place : Place) → IsMemory m0
+    → place_of m0 to count ≡ Some place → Free place.region → at ≤ count
+    → write_to m0 to (replicate at b) ≡ Ok m → m ≡ written_in m0 (replicate at b) place.at place.region
 filled-is m0 m to zero count b place is found free fits wrote =
     let nothing : (let r : Result Ranges AccessViolation = Ok m0 in r) ≡ Ok m = sym (write-nothing m0 to) ∙ wrote in
     let same : m0 ≡ m = cc in
@@ -104,8 +112,13 @@ filled-is m0 m to (suc at) count b place is found free fits wrote =
     ok_is x y h = cc
 
 -- one piece more is filled
-fill_at : (m0 m after : Ranges) (to at n count b : ℕ) (place : Place) (result : Result (Unit {0}) MemFault) → IsMemory m0 → place_of m0 to count ≡ Some place → Free place.region → IsPrepared m0 to count → 1 ≤ n → at + n ≤ count
-    → write_to m0 to (replicate at b) ≡ Ok m → Answers (or_refusal (write_to m (to + at) (replicate n b))) m after result → (IsPrepared m (to + at) (length (replicate n b)) → HasMemory result) → write_to m0 to (replicate (at + n) b) ≡ Ok after
+fill_at : (m0 m after : Ranges) (to at n count b : ℕ) (place : Place) (result : Result (Unit {0}) MemFault)
+    → IsMemory m0 → place_of m0 to count ≡ Some place → Free place.region → IsPrepared m0 to count → 1 ≤ n
+    → at + n ≤ count
+    → write_to m0 to (replicate at b) ≡ Ok m
+        → Answers (or_refusal (write_to m (to + at) (replicate n b))) m after result
+        → (IsPrepared m (to + at) (length (replicate n b)) → HasMemory result)
+        → write_to m0 to (replicate (at + n) b) ≡ Ok after
 fill_at m0 m after to at n count b place result is found free prepared some fits wrote answer ready =
     let kept = write-kept m0 m to (replicate at b) wrote in
     let size : length (replicate n b) ≡ n = length-replicate n b in
@@ -132,7 +145,10 @@ fill_at m0 m after to at n count b place result is found free prepared some fits
     ok_is x y h = cc
 
 pub fill-more : (m0 m after : Ranges) (to at n count b : ℕ) (result : Result (Unit {0}) MemFault) → IsMemory m0 → write_refusal m0 to count ≡ None → IsPrepared m0 to count → 1 ≤ n → at + n ≤ count
-    → write_to m0 to (replicate at b) ≡ Ok m → Answers (or_refusal (write_to m (to + at) (replicate n b))) m after result → (IsPrepared m (to + at) (length (replicate n b)) → HasMemory result) → write_to m0 to (replicate (at + n) b) ≡ Ok after
+    → write_to m0 to (replicate at b) ≡ Ok m
+        → Answers (or_refusal (write_to m (to + at) (replicate n b))) m after result
+        → (IsPrepared m (to + at) (length (replicate n b)) → HasMemory result)
+        → write_to m0 to (replicate (at + n) b) ≡ Ok after
 fill-more m0 m after to at n count b result is free prepared some fits wrote answer ready =
     let t = target m0 to count (omega arith) free in
     fill_at m0 m after to at n count b t.0 result is t.1 t.2 prepared some fits wrote answer ready

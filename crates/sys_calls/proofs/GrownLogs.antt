@@ -100,7 +100,10 @@ module _ (before : Log) where
   answered-grows env (Ok r) grown = grown
   answered-grows env (Err e) grown = tt
 
-  hash_written-grows : (m : Ranges) (env : Env) (result units : ℕ) (hash : Result (List ℕ) SysFault) → HasGrown before env.logs → Grows (hash >>= (λ h. bytes_written m result h >>= (λ after. Ok (service 0 after (record env { units = units })))))
+  hash_written-grows : (m : Ranges) (env : Env) (result units : ℕ) (hash : Result (List ℕ) SysFault)
+      → HasGrown before env.logs → Grows
+      (hash >>= (λ h. bytes_written m result h >>=
+      (λ after. Ok (service 0 after (record env { units = units })))))
   hash_written-grows m env result units (Err e) grown = tt
   hash_written-grows m env result units (Ok hash) grown = wrote-grows (record env { units = units }) (bytes_written m result hash) grown
 
@@ -117,7 +120,9 @@ module _ (before : Log) where
   unfolding return_set
   set-grows m env addr len grown = by_case (nat_lt max_returned len) (bytes_read m addr len)
     where
-      by_case : (long : Bool) (r : Result (List ℕ) SysFault) → Grows (if long then Err ReturnTooLong else r >>= (λ bytes. Ok (service 0 m (record env { returned = bytes; returned_by = env.program }))))
+      by_case : (long : Bool) (r : Result (List ℕ) SysFault)
+          → Grows (if long then Err ReturnTooLong else r >>=
+          (λ bytes. Ok (service 0 m (record env { returned = bytes; returned_by = env.program }))))
       by_case true r = tt
       by_case false (Ok bytes) = grown
       by_case false (Err e) = tt
@@ -144,7 +149,11 @@ module _ (before : Log) where
   unfolding sys_row
   row-grows number arguments m env grown = by_case (nat_lt env.units (cost_of (call_numbered number) arguments (length env.returned)))
     where
-      by_case : (spent : Bool) → Grows (if spent then (let a : SysAnswer = record { units = 0; answer = Err UnitsSpent } in a) else effect_of (call_numbered number) arguments m (record env { units = env.units - cost_of (call_numbered number) arguments (length env.returned) })).answer
+      by_case : (spent : Bool) → Grows
+          (if spent then (let a : SysAnswer = record { units = 0; answer = Err UnitsSpent } in a) else effect_of
+          (call_numbered number) arguments m
+          (record env { units = env.units - cost_of (call_numbered number) arguments (length env.returned)
+          })).answer
       by_case true = tt
       by_case false = effect-grows (call_numbered number) arguments m (record env { units = env.units - cost_of (call_numbered number) arguments (length env.returned) }) grown
 

@@ -21,7 +21,9 @@ low m at len Heap is room = omega (arith, room, is.heap)
 low m at len Input is room = omega (arith, room, is.input)
 
 -- the place of a part
-pub place-part : (m : Ranges) (addr len more count : ℕ) (place : Place) → IsMemory m → place_of m addr len ≡ Some place → 1 ≤ count → more + count ≤ len → place_of m (addr + more) count ≡ Some (record { region = place.region; at = place.at + more })
+pub place-part : (m : Ranges) (addr len more count : ℕ) (place : Place) → IsMemory m
+    → place_of m addr len ≡ Some place → 1 ≤ count → more + count ≤ len
+    → place_of m (addr + more) count ≡ Some (record { region = place.region; at = place.at + more })
 place-part m addr len more count place is found some fits =
     let stands = stands-from_place m addr len place (omega arith) found in
     place-from_stands m (addr + more) count (further place more) is some (inner-stands m addr len more count place stands some fits)
@@ -84,7 +86,9 @@ pub length-held : (m : Ranges) (addr len : ℕ) → IsMemory m → IsOk (read_fr
 length-held m addr len is ok = read-count m addr len (held m addr len) is (read-held m addr len ok)
 
 -- what a read of a part gave
-pub given : (result : Result (Unit {0}) AccessViolation) (r : Result (List ℕ) AccessViolation) (old new bytes : List ℕ) → MatchResult result (λ _. r ≡ Ok new) (λ v. (r ≡ Err v) × (new ≡ old)) → r ≡ Ok bytes → new ≡ bytes
+pub given : (result : Result (Unit {0}) AccessViolation) (r : Result (List ℕ) AccessViolation)
+    (old new bytes : List ℕ) → MatchResult result (λ _. r ≡ Ok new) (λ v. (r ≡ Err v) × (new ≡ old))
+    → r ≡ Ok bytes → new ≡ bytes
 given (Ok done) r old new bytes answer read = cc
 given (Err v) r old new bytes answer read = let refused : r ≡ Err v = answer.0 in absurd (cc)
 

@@ -82,7 +82,9 @@ key_written-kept : (m : Ranges) (program result : ℕ) (slices : List Slice) →
 unfolding key_written
 key_written-kept m program result slices = by_case (has_long_slice slices) (all_read m slices) (bytes_read m program 32)
   where
-    by_case : (long : Bool) (seeds : Result (List (List ℕ)) SysFault) (key : Result (List ℕ) SysFault) → KeptWith m (if long then Ok (1, m) else seeds >>= (λ s. key >>= (λ k. key_or_one m result (program_key_of s (record { 0 = k })))))
+    by_case : (long : Bool) (seeds : Result (List (List ℕ)) SysFault) (key : Result (List ℕ) SysFault)
+        → KeptWith m (if long then Ok (1, m) else seeds >>=
+        (λ s. key >>= (λ k. key_or_one m result (program_key_of s (record { 0 = k })))))
     by_case true seeds key = same m
     by_case false (Ok s) (Ok k) = key_or_one-kept m result (program_key_of s (record { 0 = k }))
     by_case false (Ok s) (Err e) = tt
@@ -129,7 +131,9 @@ logged-kept : (m : Ranges) (env : Env) (line : Result (List ℕ) SysFault) → K
 logged-kept m env (Ok line) = same m
 logged-kept m env (Err e) = tt
 
-hash_written-kept : (m : Ranges) (env : Env) (result units : ℕ) (hash : Result (List ℕ) SysFault) → KeptBy m (hash >>= (λ h. bytes_written m result h >>= (λ after. Ok (service 0 after (record env { units = units })))))
+hash_written-kept : (m : Ranges) (env : Env) (result units : ℕ) (hash : Result (List ℕ) SysFault)
+    → KeptBy m (hash >>= (λ h. bytes_written m result h >>=
+    (λ after. Ok (service 0 after (record env { units = units })))))
 hash_written-kept m env result units (Err e) = tt
 hash_written-kept m env result units (Ok hash) = wrote-kept m (record env { units = units }) (bytes_written m result hash) (written-kept m result hash)
 
@@ -146,7 +150,9 @@ set-kept : (m : Ranges) (env : Env) (addr len : ℕ) → KeptBy m (return_set m 
 unfolding return_set
 set-kept m env addr len = by_case (nat_lt max_returned len) (bytes_read m addr len)
   where
-    by_case : (long : Bool) (r : Result (List ℕ) SysFault) → KeptBy m (if long then Err ReturnTooLong else r >>= (λ bytes. Ok (service 0 m (record env { returned = bytes; returned_by = env.program }))))
+    by_case : (long : Bool) (r : Result (List ℕ) SysFault)
+        → KeptBy m (if long then Err ReturnTooLong else r >>=
+        (λ bytes. Ok (service 0 m (record env { returned = bytes; returned_by = env.program }))))
     by_case true r = tt
     by_case false (Ok bytes) = same m
     by_case false (Err e) = tt
@@ -173,7 +179,11 @@ row-kept : (number : ℕ) (arguments : List ℕ) (m : Ranges) (env : Env) → Ke
 unfolding sys_row
 row-kept number arguments m env = by_case (nat_lt env.units (cost_of (call_numbered number) arguments (length env.returned)))
   where
-    by_case : (spent : Bool) → KeptBy m (if spent then (let a : SysAnswer = record { units = 0; answer = Err UnitsSpent } in a) else effect_of (call_numbered number) arguments m (record env { units = env.units - cost_of (call_numbered number) arguments (length env.returned) })).answer
+    by_case : (spent : Bool) → KeptBy m
+        (if spent then (let a : SysAnswer = record { units = 0; answer = Err UnitsSpent } in a) else effect_of
+        (call_numbered number) arguments m
+        (record env { units = env.units - cost_of (call_numbered number) arguments (length env.returned)
+        })).answer
     by_case true = tt
     by_case false = effect-kept (call_numbered number) arguments m _
 
@@ -229,7 +239,11 @@ pub sys_row-units : (number : ℕ) (arguments : List ℕ) (m : Ranges) (env : En
 unfolding sys_row
 sys_row-units number arguments m env = by_case (nat_lt env.units (cost_of (call_numbered number) arguments (length env.returned)))
   where
-    by_case : (spent : Bool) → (if spent then (let a : SysAnswer = record { units = 0; answer = Err UnitsSpent } in a) else effect_of (call_numbered number) arguments m (record env { units = env.units - cost_of (call_numbered number) arguments (length env.returned) })).units ≤ env.units
+    by_case : (spent : Bool) → (if spent then
+        (let a : SysAnswer = record { units = 0; answer = Err UnitsSpent } in a) else effect_of
+        (call_numbered number) arguments m
+        (record env { units = env.units - cost_of (call_numbered number) arguments (length env.returned)
+        })).units ≤ env.units
     by_case true = omega arith
     by_case false =
         let k = effect-units (call_numbered number) arguments m (record env { units = env.units - cost_of (call_numbered number) arguments (length env.returned) }) in

@@ -69,7 +69,9 @@ read-refuses m to from len a n apart h = refused m to a n _ (read_from m from le
 
 -- what such a copy answers tells whether the range may be read, and the memory stays
 pub record Told (m new : Ranges) (addr len : ℕ) (copied : Result (Unit {0}) MemFault) : Type 0 where
-  pub answer : MatchResult (refused_read copied) (λ _. IsReadable (plain_memory m) addr len) (λ fault. (fault ≡ violated_by (violation_of addr len false)) × (bytes_read (plain_memory m) addr len ≡ Err fault))
+  pub answer : MatchResult (refused_read copied) (λ _. IsReadable (plain_memory m) addr len)
+      (λ fault. (fault ≡ violated_by (violation_of addr len false))
+      × (bytes_read (plain_memory m) addr len ≡ Err fault))
   pub memory : new ≡ m
 
 pub told : (m new : Ranges) (addr len : ℕ) (copied : Result (Unit {0}) MemFault) → 1 ≤ len → Answers (copy_to m addr addr len true) m new copied → Told m new addr len copied

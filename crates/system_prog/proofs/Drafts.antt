@@ -19,14 +19,19 @@ part_of accounts place account below is =
     omega arith
 
 -- one account is changed
-pub changed_at : (shares : List (Arc Account Global)) (accounts : List Account) (place : ℕ) (old new : Arc Account Global) (change : Change) → accounts_of shares ≡ accounts → place < length shares → old ≡ get_or shares place old → arc_value new ≡ changed change (arc_value old) → accounts_of (set shares place new) ≡ set accounts place (changed change (account_at accounts place))
+pub changed_at : (shares : List (Arc Account Global)) (accounts : List Account) (place : ℕ)
+    (old new : Arc Account Global) (change : Change) → accounts_of shares ≡ accounts → place < length shares
+    → old ≡ get_or shares place old → arc_value new ≡ changed change (arc_value old)
+    → accounts_of (set shares place new) ≡ set accounts place (changed change (account_at accounts place))
 changed_at shares accounts place old new change are below is made =
     let value : Arc Account Global → Account = λ one. arc_value one in
     let there : account_at accounts place ≡ arc_value old = ap (λ (list : List Account). account_at list place) (sym are) ∙ get_or-map value shares place old empty_account below ∙ ap value (sym is) in
     map-set value shares place new ∙ ap (λ (list : List Account). set list place (arc_value new)) are ∙ ap (λ (account : Account). set accounts place account) (made ∙ ap (changed change) (sym there))
 
 -- and so the sum of the lamports
-pub lamports_set : (accounts after : List Account) (place : ℕ) (account : Account) → place < length accounts → after ≡ set accounts place account → lamports_in after + (account_at accounts place).lamports ≡ lamports_in accounts + account.lamports
+pub lamports_set : (accounts after : List Account) (place : ℕ) (account : Account) → place < length accounts
+    → after ≡ set accounts place account
+    → lamports_in after + (account_at accounts place).lamports ≡ lamports_in accounts + account.lamports
 lamports_set accounts after place account below is =
     let one = sum_by-set (λ (one : Account). one.lamports) accounts place account empty_account below in
     let same : lamports_in after ≡ lamports_in (set accounts place account) = ap lamports_in is in

@@ -45,14 +45,20 @@ stays-trans one two a b c first second = record {
 
 slice_get-set_other : (accounts : List Account) (at place : ℕ) (account : Account) → place ≢ at → slice_get (set accounts at account) place ≡ slice_get accounts place
 slice_get-set_other accounts at place account differ = elim (cases_lt place (length accounts)) [
-  | inl below ↦ slice_get-get_or (set accounts at account) place empty_account (rw length-set below) ∙ ap Some (get_or-set_other accounts at place account empty_account differ) ∙ sym (slice_get-get_or accounts place empty_account below)
+  | inl below ↦ slice_get-get_or (set accounts at account) place empty_account (rw length-set below)
+      ∙ ap Some (get_or-set_other accounts at place account empty_account differ)
+      ∙ sym (slice_get-get_or accounts place empty_account below)
   | inr past ↦ slice_get_past (set accounts at account) place (rw length-set past) ∙ sym (slice_get_past accounts place past)
 ]
 
 -- one of the two changes
 stays-set : (one two at : ℕ) (accounts : List Account) (account : Account) → (at ≡ one) ⊎ (at ≡ two) → StaysBut one two accounts (set accounts at account)
-stays-set one two at accounts account (inl first) = record { count = length-set accounts at account; same = λ place off_one off_two. slice_get-set_other accounts at place account (λ here. off_one (here ∙ first)) }
-stays-set one two at accounts account (inr second) = record { count = length-set accounts at account; same = λ place off_one off_two. slice_get-set_other accounts at place account (λ here. off_two (here ∙ second)) }
+stays-set one two at accounts account (inl first) =
+    record { count = length-set accounts at account; same = λ place off_one off_two. slice_get-set_other
+    accounts at place account (λ here. off_one (here ∙ first)) }
+stays-set one two at accounts account (inr second) =
+    record { count = length-set accounts at account; same = λ place off_one off_two. slice_get-set_other
+    accounts at place account (λ here. off_two (here ∙ second)) }
 
 -- an answer that is given
 stays-ok : (one two : ℕ) (accounts made after : List Account) → StaysBut one two accounts made → (let answer : Answer = Ok made in answer) ≡ Ok after → StaysBut one two accounts after
@@ -63,7 +69,9 @@ not_refused_by : (test : Bool) (fault : SystemFault) (rest : Answer) (after : Li
 not_refused_by true fault rest after ok = absurd (cc)
 not_refused_by false fault rest after ok = (refl, ok)
 
-either-stays : (one two : ℕ) (test : Bool) (accounts after : List Account) (rest : Answer) → (rest ≡ Ok after → StaysBut one two accounts after) → (if test then Ok accounts else rest) ≡ Ok after → StaysBut one two accounts after
+either-stays : (one two : ℕ) (test : Bool) (accounts after : List Account) (rest : Answer)
+    → (rest ≡ Ok after → StaysBut one two accounts after) → (if test then Ok accounts else rest) ≡ Ok after
+    → StaysBut one two accounts after
 either-stays one two true accounts after rest others ok = stays-ok one two accounts accounts after (stays-refl one two accounts) ok
 either-stays one two false accounts after rest others ok = others ok
 
@@ -76,32 +84,55 @@ is_equal x y same = grind (arith, nat_tests)
 
 -- ---- the steps
 module _ (listed : Listed) (one two : ℕ) where
-  allocate-stays : (authority : Authority) (role space : ℕ) (accounts after : List Account) → (place_in listed role ≡ one) ⊎ (place_in listed role ≡ two) → allocate listed authority role space accounts ≡ Ok after → StaysBut one two accounts after
+  allocate-stays : (authority : Authority) (role space : ℕ) (accounts after : List Account)
+      → (place_in listed role ≡ one) ⊎ (place_in listed role ≡ two)
+      → allocate listed authority role space accounts ≡ Ok after → StaysBut one two accounts after
   unfolding allocate
   allocate-stays authority role space accounts after at ok =
       let account = account_in listed accounts role in
       let signed = not_refused_by (not (signs_in listed authority role)) (MissingSignature role) _ after ok in
       let free = not_refused_by (is_taken account) (Custom 0) _ after signed.1 in
       let small = not_refused_by (nat_lt max_data_len space) (Custom 3) _ after free.1 in
-      stays-ok one two accounts (with_account listed accounts role (record account { bytes = replicate space 0 })) after (stays-set one two (place_in listed role) accounts (record account { bytes = replicate space 0 }) at) small.1
+      stays-ok one two accounts (with_account listed accounts role
+          (record account { bytes = replicate space 0 })) after
+          (stays-set one two (place_in listed role) accounts (record account { bytes = replicate space 0 }) at)
+          small.1
 
-  assign-stays : (authority : Authority) (role : ℕ) (owner : Key) (accounts after : List Account) → (place_in listed role ≡ one) ⊎ (place_in listed role ≡ two) → assign listed authority role owner accounts ≡ Ok after → StaysBut one two accounts after
+  assign-stays : (authority : Authority) (role : ℕ) (owner : Key) (accounts after : List Account)
+      → (place_in listed role ≡ one) ⊎ (place_in listed role ≡ two)
+      → assign listed authority role owner accounts ≡ Ok after → StaysBut one two accounts after
   unfolding assign
   assign-stays authority role owner accounts after at ok =
       let account = account_in listed accounts role in
       let owned : Account = record account { owner = owner } in
-      either-stays one two (same_key account.owner owner) accounts after (if not (signs_in listed authority role) then Err (MissingSignature role) else Ok (with_account listed accounts role owned)) (λ given. stays-ok one two accounts (with_account listed accounts role owned) after (stays-set one two (place_in listed role) accounts owned at) (not_refused_by (not (signs_in listed authority role)) (MissingSignature role) (Ok (with_account listed accounts role owned)) after given).1) ok
+      either-stays one two (same_key account.owner owner) accounts after
+          (if not (signs_in listed authority role) then Err (MissingSignature role) else Ok
+          (with_account listed accounts role owned))
+          (λ given. stays-ok one two accounts (with_account listed accounts role owned) after
+          (stays-set one two (place_in listed role) accounts owned at)
+          (not_refused_by (not (signs_in listed authority role)) (MissingSignature role)
+          (Ok (with_account listed accounts role owned)) after given).1) ok
 
-  moved-stays : (from to lamports : ℕ) (accounts : List Account) → (place_in listed from ≡ one) ⊎ (place_in listed from ≡ two) → (place_in listed to ≡ one) ⊎ (place_in listed to ≡ two) → StaysBut one two accounts (moved listed from to lamports accounts)
+  moved-stays : (from to lamports : ℕ) (accounts : List Account)
+      → (place_in listed from ≡ one) ⊎ (place_in listed from ≡ two)
+      → (place_in listed to ≡ one) ⊎ (place_in listed to ≡ two)
+      → StaysBut one two accounts (moved listed from to lamports accounts)
   moved-stays from to lamports accounts first second =
       let payer = account_in listed accounts from in
       let payee = account_in listed accounts to in
       let paid : Account = record payer { lamports = payer.lamports - lamports } in
       let given : Account = record payee { lamports = payee.lamports + lamports } in
       let half = with_account listed accounts from paid in
-      choice-stays one two (place_in listed from == place_in listed to) accounts accounts (with_account listed half to given) (stays-refl one two accounts) (stays-trans one two accounts half (with_account listed half to given) (stays-set one two (place_in listed from) accounts paid first) (stays-set one two (place_in listed to) half given second))
+      choice-stays one two (place_in listed from == place_in listed to) accounts accounts
+          (with_account listed half to given) (stays-refl one two accounts)
+          (stays-trans one two accounts half (with_account listed half to given)
+          (stays-set one two (place_in listed from) accounts paid first)
+          (stays-set one two (place_in listed to) half given second))
 
-  pay-stays : (from to lamports : ℕ) (accounts after : List Account) → (place_in listed from ≡ one) ⊎ (place_in listed from ≡ two) → (place_in listed to ≡ one) ⊎ (place_in listed to ≡ two) → pay listed from to lamports accounts ≡ Ok after → StaysBut one two accounts after
+  pay-stays : (from to lamports : ℕ) (accounts after : List Account)
+      → (place_in listed from ≡ one) ⊎ (place_in listed from ≡ two)
+      → (place_in listed to ≡ one) ⊎ (place_in listed to ≡ two)
+      → pay listed from to lamports accounts ≡ Ok after → StaysBut one two accounts after
   unfolding pay
   pay-stays from to lamports accounts after first second ok =
       let payer = account_in listed accounts from in
@@ -109,12 +140,19 @@ module _ (listed : Listed) (one two : ℕ) where
       let rich = not_refused_by (nat_lt payer.lamports lamports) (Custom 1) _ after empty.1 in
       stays-ok one two accounts (moved listed from to lamports accounts) after (moved-stays from to lamports accounts first second) rich.1
 
-  transfer-stays : (authority : Authority) (from to lamports : ℕ) (accounts after : List Account) → (place_in listed from ≡ one) ⊎ (place_in listed from ≡ two) → (place_in listed to ≡ one) ⊎ (place_in listed to ≡ two) → transfer listed authority from to lamports accounts ≡ Ok after → StaysBut one two accounts after
+  transfer-stays : (authority : Authority) (from to lamports : ℕ) (accounts after : List Account)
+      → (place_in listed from ≡ one) ⊎ (place_in listed from ≡ two)
+      → (place_in listed to ≡ one) ⊎ (place_in listed to ≡ two)
+      → transfer listed authority from to lamports accounts ≡ Ok after → StaysBut one two accounts after
   unfolding transfer
-  transfer-stays authority from to lamports accounts after first second ok = pay-stays from to lamports accounts after first second (not_refused_by (not (signs_in listed authority from)) (MissingSignature from) _ after ok).1
+  transfer-stays authority from to lamports accounts after first second ok = pay-stays from to lamports accounts
+      after first second (not_refused_by (not (signs_in listed authority from)) (MissingSignature from) _ after
+      ok).1
 
 module _ (listed : Listed) where
-  create-stays : (authority : Authority) (lamports space : ℕ) (owner : Key) (accounts after : List Account) → create listed authority lamports space owner accounts ≡ Ok after → StaysBut (place_in listed 0) (place_in listed 1) accounts after
+  create-stays : (authority : Authority) (lamports space : ℕ) (owner : Key) (accounts after : List Account)
+      → create listed authority lamports space owner accounts ≡ Ok after
+      → StaysBut (place_in listed 0) (place_in listed 1) accounts after
   unfolding create
   create-stays authority lamports space owner accounts after ok =
       let poor = not_refused_by (not ((account_in listed accounts 1).lamports == 0)) (Custom 0) _ after ok in
@@ -125,18 +163,28 @@ module _ (listed : Listed) where
       let third = transfer-stays listed (place_in listed 0) (place_in listed 1) authority 0 1 lamports owned.0 after (inl refl) (inr refl) owned.2 in
       stays-trans _ _ _ _ _ first (stays-trans _ _ _ _ _ second third)
 
-  row-stays : (instruction : Instruction) (accounts after : List Account) → row listed instruction accounts ≡ Ok after → StaysBut (place_in listed (written instruction).0) (place_in listed (written instruction).1) accounts after
+  row-stays : (instruction : Instruction) (accounts after : List Account)
+      → row listed instruction accounts ≡ Ok after
+      → StaysBut (place_in listed (written instruction).0) (place_in listed (written instruction).1) accounts
+      after
   unfolding row create_with_seed allocate_with_seed assign_with_seed transfer_with_seed
   row-stays (CreateAccount lamports space owner) accounts after ok = create-stays Itself lamports space owner accounts after ok
   row-stays (Assign owner) accounts after ok = assign-stays listed (place_in listed 0) (place_in listed 0) Itself 0 owner accounts after (inl refl) ok
   row-stays (Transfer lamports) accounts after ok = transfer-stays listed (place_in listed 0) (place_in listed 1) Itself 0 1 lamports accounts after (inl refl) (inr refl) ok
-  row-stays (CreateAccountWithSeed base seed lamports space owner) accounts after ok = create-stays (by_base listed 1 base) lamports space owner accounts after (bind_ok (derived listed 1 base seed owner) _ after ok).2
+  row-stays (CreateAccountWithSeed base seed lamports space owner) accounts after ok = create-stays
+      (by_base listed 1 base) lamports space owner accounts after
+      (bind_ok (derived listed 1 base seed owner) _ after ok).2
   row-stays (Allocate space) accounts after ok = allocate-stays listed (place_in listed 0) (place_in listed 0) Itself 0 space accounts after (inl refl) ok
   row-stays (AllocateWithSeed base seed space owner) accounts after ok =
       let key = bind_ok (derived listed 0 base seed owner) _ after ok in
       let roomy = bind_ok (allocate listed (by_base listed 0 base) 0 space accounts) _ after key.2 in
-      stays-trans _ _ _ _ _ (allocate-stays listed (place_in listed 0) (place_in listed 0) (by_base listed 0 base) 0 space accounts roomy.0 (inl refl) roomy.1) (assign-stays listed (place_in listed 0) (place_in listed 0) (by_base listed 0 base) 0 owner roomy.0 after (inl refl) roomy.2)
-  row-stays (AssignWithSeed base seed owner) accounts after ok = assign-stays listed (place_in listed 0) (place_in listed 0) (by_base listed 0 base) 0 owner accounts after (inl refl) (bind_ok (derived listed 0 base seed owner) _ after ok).2
+      stays-trans _ _ _ _ _ (allocate-stays listed (place_in listed 0) (place_in listed 0)
+          (by_base listed 0 base) 0 space accounts roomy.0 (inl refl) roomy.1)
+          (assign-stays listed (place_in listed 0) (place_in listed 0) (by_base listed 0 base) 0 owner roomy.0
+          after (inl refl) roomy.2)
+  row-stays (AssignWithSeed base seed owner) accounts after ok = assign-stays listed (place_in listed 0)
+      (place_in listed 0) (by_base listed 0 base) 0 owner accounts after (inl refl)
+      (bind_ok (derived listed 0 base seed owner) _ after ok).2
   row-stays (TransferWithSeed lamports seed owner) accounts after ok =
       let signed = not_refused_by (not (signs_in listed Itself 1)) (MissingSignature 1) _ after ok in
       pay-stays listed (place_in listed 0) (place_in listed 2) 0 2 lamports accounts after (inl refl) (inr refl) (bind_ok (derived listed 0 (key_in listed 1) seed owner) _ after signed.1).2
@@ -162,7 +210,9 @@ not_set : (flags : List Bool) (at place : ℕ) → slice_get (set flags at true)
 not_set flags at place clear = (off_flag flags at place clear, sym (flag-set_other flags at place (off_flag flags at place clear)) ∙ clear)
 
 pub length_flags : (listed : Listed) (roles : ℕ × ℕ) (count : ℕ) → length (flags_of listed roles count) ≡ count
-length_flags listed roles count = length-set (set (replicate count false) (place_in listed roles.0) true) (place_in listed roles.1) true ∙ length-set (replicate count false) (place_in listed roles.0) true ∙ length-replicate count false
+length_flags listed roles count = length-set (set (replicate count false) (place_in listed roles.0) true)
+    (place_in listed roles.1) true ∙ length-set (replicate count false) (place_in listed roles.0) true
+    ∙ length-replicate count false
 
 -- ---- an instruction that ended well
 -- both roles are listed
@@ -189,7 +239,9 @@ module _ (listed : Listed) (instruction : Instruction) (before after : List Acco
 
   -- what is not listed stands in no role
   not_in_role : (role place : ℕ) → role < length listed.metas → is_listed listed.metas place ≡ false → place ≢ place_in listed role
-  not_in_role role place below other here = both_ways (is_listed listed.metas place) other (list_any_at (λ (meta : Meta). nat_eq meta.index place) listed.metas role no_meta below (is_equal (place_in listed role) place here))
+  not_in_role role place below other here = both_ways (is_listed listed.metas place) other
+      (list_any_at (λ (meta : Meta). nat_eq meta.index place) listed.metas role no_meta below
+      (is_equal (place_in listed role) place here))
 
   pub unlisted : SameUnlessListed listed.metas before after
   unlisted place other = stays.same place
@@ -227,13 +279,17 @@ system_ends keys accounts metas input after ok =
     subst (Ends metas accounts) (ok_same ran.0 after ruled.2) ends
 
 -- what the accounts keep
-pub system_keeps : (keys : List Key) (accounts : List Account) (metas : List Meta) (input : List ℕ) (after : List Account) → AreInRange (length accounts) metas → system_row keys accounts metas input ≡ Ok after → AreKeptBy (is_listed_writable metas) accounts after
+pub system_keeps : (keys : List Key) (accounts : List Account) (metas : List Meta) (input : List ℕ)
+    (after : List Account) → AreInRange (length accounts) metas
+    → system_row keys accounts metas input ≡ Ok after → AreKeptBy (is_listed_writable metas) accounts after
 system_keeps keys accounts metas input after range ok =
     let ends = system_ends keys accounts metas input after ok in
     AreKeptBy-listed_rules system_key metas accounts after ends.count range ends.others ends.unbroken
 
 -- and those that other programs own
-pub system_foreign : (keys : List Key) (accounts : List Account) (metas : List Meta) (input : List ℕ) (after : List Account) → AreInRange (length accounts) metas → system_row keys accounts metas input ≡ Ok after → AreForeignKept (system_key ∷ []) accounts after
+pub system_foreign : (keys : List Key) (accounts : List Account) (metas : List Meta) (input : List ℕ)
+    (after : List Account) → AreInRange (length accounts) metas
+    → system_row keys accounts metas input ≡ Ok after → AreForeignKept (system_key ∷ []) accounts after
 system_foreign keys accounts metas input after range ok =
     let ends = system_ends keys accounts metas input after ok in
     AreForeignKept-listed_rules system_key metas accounts after ends.count range ends.others ends.unbroken

@@ -39,8 +39,15 @@ found (meta ∷ metas) test some = by_meta meta.signer (test meta.index) refl re
     before : Found metas test → Found (meta ∷ metas) test
     before there = record { place = there.place; signs_there = or_right (nat_eq meta.index there.place && meta.signer) (is_listed_signer metas there.place) there.signs_there; passes = there.passes }
 
-    by_meta : (s t : Bool) → meta.signer ≡ s → test meta.index ≡ t → ((s && t) || list_any (λ one. one.signer && test one.index) metas) ≡ true → (list_any (λ one. one.signer && test one.index) metas ≡ true → Found metas test) → Found (meta ∷ metas) test
-    by_meta true true signed passed some again = record { place = meta.index; signs_there = or_left (nat_eq meta.index meta.index && meta.signer) (is_listed_signer metas meta.index) (and_from (nat_eq meta.index meta.index) meta.signer (eq-eqb meta.index meta.index refl) signed); passes = passed }
+    by_meta : (s t : Bool) → meta.signer ≡ s → test meta.index ≡ t
+        → ((s && t) || list_any (λ one. one.signer && test one.index) metas) ≡ true
+        → (list_any (λ one. one.signer && test one.index) metas ≡ true → Found metas test)
+        → Found (meta ∷ metas) test
+    by_meta true true signed passed some again =
+        record { place = meta.index; signs_there = or_left (nat_eq meta.index meta.index && meta.signer)
+        (is_listed_signer metas meta.index)
+        (and_from (nat_eq meta.index meta.index) meta.signer (eq-eqb meta.index meta.index refl) signed);
+        passes = passed }
     by_meta true false signed passed some again = before (again some)
     by_meta false t signed passed some again = before (again some)
 
@@ -48,8 +55,13 @@ any-found : (metas : List Meta) (test : ℕ → Bool) (place : ℕ) → is_liste
 any-found [] test place listed passes = absurd (cc)
 any-found (meta ∷ metas) test place listed passes = by_meta (nat_eq meta.index place) meta.signer refl refl listed (λ later. any-found metas test place later passes)
   where
-    by_meta : (s t : Bool) → nat_eq meta.index place ≡ s → meta.signer ≡ t → ((s && t) || is_listed_signer metas place) ≡ true → (is_listed_signer metas place ≡ true → list_any (λ one. one.signer && test one.index) metas ≡ true) → ((meta.signer && test meta.index) || list_any (λ one. one.signer && test one.index) metas) ≡ true
-    by_meta true true same signed some again = or_left (meta.signer && test meta.index) (list_any (λ one. one.signer && test one.index) metas) (and_from meta.signer (test meta.index) signed (ap test (eqb-true meta.index place same) ∙ passes))
+    by_meta : (s t : Bool) → nat_eq meta.index place ≡ s → meta.signer ≡ t
+        → ((s && t) || is_listed_signer metas place) ≡ true
+        → (is_listed_signer metas place ≡ true → list_any (λ one. one.signer && test one.index) metas ≡ true)
+        → ((meta.signer && test meta.index) || list_any (λ one. one.signer && test one.index) metas) ≡ true
+    by_meta true true same signed some again = or_left (meta.signer && test meta.index)
+        (list_any (λ one. one.signer && test one.index) metas)
+        (and_from meta.signer (test meta.index) signed (ap test (eqb-true meta.index place same) ∙ passes))
     by_meta true false same signed some again = or_right (meta.signer && test meta.index) (list_any (λ one. one.signer && test one.index) metas) (again some)
     by_meta false t same signed some again = or_right (meta.signer && test meta.index) (list_any (λ one. one.signer && test one.index) metas) (again some)
 
@@ -106,13 +118,18 @@ module _ (keys : List Key) (some others : List Meta) (same : SameListing some ot
       if has_data (account_at accounts (places from i)) then Err InvalidArgument else
       if nat_lt (account_at accounts (places from i)).lamports lamports then Err (Custom 1) else
       Ok (if places from i == places to i then accounts else
-      set (set accounts (places from i) (record (account_at accounts (places from i)) { lamports = (account_at accounts (places from i)).lamports - lamports })) (places to i) (record (account_at accounts (places to i)) { lamports = (account_at accounts (places to i)).lamports + lamports }))
+      set (set accounts (places from i)
+          (record (account_at accounts (places from i))
+          { lamports = (account_at accounts (places from i)).lamports - lamports })) (places to i)
+          (record (account_at accounts (places to i))
+          { lamports = (account_at accounts (places to i)).lamports + lamports }))
 
   same_transfer : (authority : Authority) (from to lamports : ℕ) (accounts : List Account) → transfer one authority from to lamports accounts ≡ transfer two authority from to lamports accounts
   unfolding transfer
   same_transfer authority from to lamports accounts = λ i. if not (same_signs_in authority from i) then Err (MissingSignature from) else same_pay from to lamports accounts i
 
-  same_create : (authority : Authority) (lamports space : ℕ) (owner : Key) (accounts : List Account) → create one authority lamports space owner accounts ≡ create two authority lamports space owner accounts
+  same_create : (authority : Authority) (lamports space : ℕ) (owner : Key) (accounts : List Account)
+      → create one authority lamports space owner accounts ≡ create two authority lamports space owner accounts
   unfolding create
   same_create authority lamports space owner accounts = λ i.
       if not ((account_at accounts (places 1 i)).lamports == 0) then Err (Custom 0) else

@@ -206,5 +206,7 @@ unfolding system_row
 system_fits keys accounts metas input =
     let count : ℕ = length metas in
     bind_refuses (Fits count) (instruction_in input) _ (instruction_fits count input)
-    (λ instruction is. bind_refuses (Fits count) (counted_row (record { keys = keys; metas = metas }) instruction accounts) _ (counted_fits count (record { keys = keys; metas = metas }) instruction accounts)
+    (λ instruction is. bind_refuses (Fits count)
+        (counted_row (record { keys = keys; metas = metas }) instruction accounts) _
+        (counted_fits count (record { keys = keys; metas = metas }) instruction accounts)
     (λ after made. bind_refuses (Fits count) (rules_kept metas accounts after) _ (rules_fit metas accounts after) (λ kept passed. tt)))

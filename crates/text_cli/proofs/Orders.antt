@@ -7,7 +7,8 @@ use Rattle.admission.specs.Batches.{IsParted}
 use Rattle.admission.proofs.PartLaws.{admitted_batches_are_parted}
 
 -- no more of them than there are
-pub few_run : (start : Start) (wires : List (List ℕ)) (answer : Admitted) (order : List Chosen) (most : ℕ) → answer ≡ admitted start wires → order ≡ answer.order → length wires < most → length order < most
+pub few_run : (start : Start) (wires : List (List ℕ)) (answer : Admitted) (order : List Chosen) (most : ℕ)
+    → answer ≡ admitted start wires → order ≡ answer.order → length wires < most → length order < most
 few_run start wires answer order most is same few =
     let parted = subst (λ (one : Admitted). IsParted wires one) (sym is) (admitted_batches_are_parted start wires) in
     let count = parted.count in

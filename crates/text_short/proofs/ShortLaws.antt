@@ -104,7 +104,9 @@ unfolding array_in
 array_few most d ds h = few most (as_array d) (Array most) ds h
 
 -- as many items as there are values, and what holds of each
-items_hold : {X : Type 0} (one : Data → Read X) (P : X → Type 0) → ((d : Data) (x : X) → one d ≡ Ok x → P x) → (i : ℕ) (ds : List Data) (xs : List X) → items_in (lone one) i ds ≡ Ok xs → (length xs ≡ length ds) × AllByRecursion P xs
+items_hold : {X : Type 0} (one : Data → Read X) (P : X → Type 0) → ((d : Data) (x : X) → one d ≡ Ok x → P x)
+    → (i : ℕ) (ds : List Data) (xs : List X) → items_in (lone one) i ds ≡ Ok xs
+    → (length xs ≡ length ds) × AllByRecursion P xs
 unfolding items_in
 items_hold {X = X} one P each i [] xs h =
     let none : List X = [] in
@@ -118,7 +120,9 @@ items_hold {X = X} one P each i (d ∷ ds) xs h =
     let is : x.0 ∷ b.0 ≡ xs = ap (λ (part : List X). part ++ b.0) (ok_same (x.0 ∷ []) a.0 x.2) ∙ ok_same (a.0 ++ b.0) xs b.2 in
     subst (λ (l : List X). (length l ≡ length (d ∷ ds)) × AllByRecursion P l) is (long, (each d x.0 x.1, more.1))
 
-list_holds : {X : Type 0} (most : ℕ) (one : Data → Read X) (P : X → Type 0) → ((d : Data) (x : X) → one d ≡ Ok x → P x) → (d : Data) (xs : List X) → list_of most one d ≡ Ok xs → (length xs ≤ most) × All P xs
+list_holds : {X : Type 0} (most : ℕ) (one : Data → Read X) (P : X → Type 0)
+    → ((d : Data) (x : X) → one d ≡ Ok x → P x) → (d : Data) (xs : List X) → list_of most one d ≡ Ok xs
+    → (length xs ≤ most) × All P xs
 unfolding list_of
 list_holds most one P each d xs h =
     let a = bind_ok (array_in most d) _ xs h in
@@ -127,7 +131,9 @@ list_holds most one P each d xs h =
 
 -- ---- transactions
 
-limited : (long too : Bool) (bytes b : List ℕ) → is_long bytes ≡ too → (let r : Result (List ℕ) BuildFault = if long then Err TooLong else (if too then Err TooLong else Ok bytes) in r) ≡ Ok b → length b ≤ max_count
+limited : (long too : Bool) (bytes b : List ℕ) → is_long bytes ≡ too
+    → (let r : Result (List ℕ) BuildFault = if long then Err TooLong else
+    (if too then Err TooLong else Ok bytes) in r) ≡ Ok b → length b ≤ max_count
 limited true too bytes b is h = absurd (cc)
 limited false true bytes b is h = absurd (cc)
 limited false false bytes b is h =

@@ -94,7 +94,9 @@ text_same place field text = no_line (bytes_eq text text) (field_line place fiel
 
 bytes_told : (place field left right : List ℕ) → bytes_line place field left right ≡ [] → left ≡ right
 bytes_told place field left right h =
-    (bytes_eq-Decides left right).0 (test_holds (bytes_eq left right) (field_line place field (encode_lower left) (encode_lower right)) (field_some place field (encode_lower left) (encode_lower right)) h)
+    (bytes_eq-Decides left right).0
+        (test_holds (bytes_eq left right) (field_line place field (encode_lower left) (encode_lower right))
+        (field_some place field (encode_lower left) (encode_lower right)) h)
 
 bytes_same : (place field bytes : List ℕ) → bytes_line place field bytes bytes ≡ []
 bytes_same place field bytes = no_line (bytes_eq bytes bytes) (field_line place field (encode_lower bytes) (encode_lower bytes)) ((bytes_eq-Decides bytes bytes).1 refl)
@@ -113,7 +115,10 @@ status_told : (place : List ℕ) (left right : Status) → IsStatus left → IsS
 status_told place left right is_left is_right h =
     let one = status_bytes_of left in
     let two = status_bytes_of right in
-    let same : one ≡ two = (bytes_eq-Decides one two).0 (test_holds (bytes_eq one two) (field_line place (codes "status") (shown_status left) (shown_status right)) (field_some place (codes "status") (shown_status left) (shown_status right)) h) in
+    let same : one ≡ two = (bytes_eq-Decides one two).0
+        (test_holds (bytes_eq one two)
+        (field_line place (codes "status") (shown_status left) (shown_status right))
+        (field_some place (codes "status") (shown_status left) (shown_status right)) h) in
     same_Some left right (sym (status_from-status_bytes_of left is_left) ∙ ap status_from same ∙ status_from-status_bytes_of right is_right)
 
 status_same : (place : List ℕ) (status : Status) → status_line place status status ≡ []
@@ -137,7 +142,9 @@ same_places (x ∷ xs) (y ∷ ys) h =
     let rest = same_places xs ys (λ at. h (suc at)) in
     λ i. first i ∷ rest i
 
-below_told : {X : Type 0} (lines : ℕ → Option X → Option X → List ℕ) (left right : List X) (n : ℕ) → pairs_to lines left right n ≡ [] → (at : ℕ) → at < n → lines at (slice_get left at) (slice_get right at) ≡ []
+below_told : {X : Type 0} (lines : ℕ → Option X → Option X → List ℕ) (left right : List X) (n : ℕ)
+    → pairs_to lines left right n ≡ [] → (at : ℕ) → at < n
+    → lines at (slice_get left at) (slice_get right at) ≡ []
 below_told lines left right zero h at below = absurd (omega arith)
 below_told lines left right (suc n) h at below = elim (cases_lt at n) [
   | inl lower ↦ below_told lines left right n (none_first (pairs_to lines left right n) (lines n (slice_get left n) (slice_get right n)) h) at lower
@@ -155,7 +162,9 @@ right_within m n = cond_both (nat_lt m n) n m (λ k. n ≤ k) (λ e. omega arith
 abbrev Tells : {X : Type 0} → (ℕ → Option X → Option X → List ℕ) → (X → Type 0) → Type 0
 Tells {X = X} lines P = (at : ℕ) (left right : Option X) → IfSome left P → IfSome right P → lines at left right ≡ [] → left ≡ right
 
-lists_told : {X : Type 0} (lines : ℕ → Option X → Option X → List ℕ) (P : X → Type 0) → Tells lines P → (left right : List X) → AllByRecursion P left → AllByRecursion P right → pairs_lines lines left right ≡ [] → left ≡ right
+lists_told : {X : Type 0} (lines : ℕ → Option X → Option X → List ℕ) (P : X → Type 0) → Tells lines P
+    → (left right : List X) → AllByRecursion P left → AllByRecursion P right → pairs_lines lines left right ≡ []
+    → left ≡ right
 lists_told lines P tells left right lefts rights h = same_places left right (λ at. elim (cases_lt at (longer (length left) (length right))) [
   | inl below ↦ tells at (slice_get left at) (slice_get right at) (some_at P left at lefts) (some_at P right at rights) (below_told lines left right (longer (length left) (length right)) h at below)
   | inr past ↦ slice_get_past left at (omega (arith, left_within (length left) (length right))) ∙ sym (slice_get_past right at (omega (arith, right_within (length left) (length right))))
@@ -194,7 +203,9 @@ of_found P s key account all found =
 -- and each entry is found
 found_at : (s : State) (at : ℕ) (e : Key × Account) → slice_get (entries s) at ≡ Some e → get s e.0 ≡ Some e.1
 found_at s at e here =
-    (get-entries s e.0 ∙ find-lookup key_cmp e.0 (entries s)) ∙ lookup_from_place {eq = eq_by_cmp key_cmp} (eq_by_cmp_equiv key_cmp_total) (entries s) at e.0 e.1 (IsDistinct-from_sorted key_cmp (keys_of (entries s)) (sorted-entries key_cmp s)) here
+    (get-entries s e.0 ∙ find-lookup key_cmp e.0 (entries s))
+        ∙ lookup_from_place {eq = eq_by_cmp key_cmp} (eq_by_cmp_equiv key_cmp_total) (entries s) at e.0 e.1
+        (IsDistinct-from_sorted key_cmp (keys_of (entries s)) (sorted-entries key_cmp s)) here
 
 account_told : (key : Key) (left right : Account) → account_lines key left right ≡ [] → left ≡ right
 unfolding account_lines
@@ -216,7 +227,10 @@ account_same : (key : Key) (account : Account) → account_lines key account acc
 unfolding account_lines
 account_same key account =
     let place = account_place key in
-    none_both (none_both (none_both (number_same place (codes "lamports") account.lamports) (bytes_same place (codes "owner") account.owner.0)) (flag_same place (codes "executable") account.executable)) (bytes_same place (codes "data") account.bytes)
+    none_both (none_both (none_both (number_same place (codes "lamports") account.lamports)
+        (bytes_same place (codes "owner") account.owner.0))
+        (flag_same place (codes "executable") account.executable))
+        (bytes_same place (codes "data") account.bytes)
 
 left_told : (right : State) (e : Key × Account) → left_lines right e ≡ [] → get right e.0 ≡ Some e.1
 left_told right e h = by_found (get right e.0) h
@@ -237,13 +251,26 @@ accounts_told left right h = same_state left right (λ key. by_found key (get le
   where
     by_found : (key : Key) (a b : Option Account) → get left key ≡ a → get right key ≡ b → a ≡ b
     by_found key None None e f = refl
-    by_found key None (Some account) e f = absurd (right_told left (key, account) (of_found (λ d. right_lines left d ≡ []) right key account (each_none (right_lines left) (entries right) (none_second (flat_map (left_lines right) (entries left)) (flat_map (right_lines left) (entries right)) h)) f) e)
-    by_found key (Some account) b e f = sym (left_told right (key, account) (of_found (λ d. left_lines right d ≡ []) left key account (each_none (left_lines right) (entries left) (none_first (flat_map (left_lines right) (entries left)) (flat_map (right_lines left) (entries right)) h)) e)) ∙ f
+    by_found key None (Some account) e f = absurd
+        (right_told left (key, account)
+        (of_found (λ d. right_lines left d ≡ []) right key account
+        (each_none (right_lines left) (entries right)
+        (none_second (flat_map (left_lines right) (entries left)) (flat_map (right_lines left) (entries right))
+        h)) f) e)
+    by_found key (Some account) b e f = sym
+        (left_told right (key, account)
+        (of_found (λ d. left_lines right d ≡ []) left key account
+        (each_none (left_lines right) (entries left)
+        (none_first (flat_map (left_lines right) (entries left)) (flat_map (right_lines left) (entries right))
+        h)) e)) ∙ f
 
 accounts_same : (s : State) → accounts_lines s s ≡ []
 accounts_same s =
     none_both
-    (all_none (left_lines s) (entries s) (all_from (λ e. left_lines s e ≡ []) (entries s) (λ at e here. subst (λ (o : Option Account). left_by e.0 e.1 o ≡ []) (sym (found_at s at e here)) (account_same e.0 e.1))))
+    (all_none (left_lines s) (entries s)
+        (all_from (λ e. left_lines s e ≡ []) (entries s)
+        (λ at e here. subst (λ (o : Option Account). left_by e.0 e.1 o ≡ []) (sym (found_at s at e here))
+        (account_same e.0 e.1))))
     (all_none (right_lines s) (entries s) (all_from (λ e. right_lines s e ≡ []) (entries s) (λ at e here. subst (λ (o : Option Account). right_by e.0 o ≡ []) (sym (found_at s at e here)) refl)))
 
 -- ---- marks
@@ -270,7 +297,10 @@ mark_told at left right lefts rights h =
     let a = bytes_line place (codes "hash") left.hash.0 right.hash.0 in
     let b = bytes_line place (codes "messages") (flat_map hash_bytes left.messages) (flat_map hash_bytes right.messages) in
     let hash = bytes_told place (codes "hash") left.hash.0 right.hash.0 (none_first a b h) in
-    let messages = hashes_told left.messages right.messages (recursion_from_All IsHash left.messages lefts) (recursion_from_All IsHash right.messages rights) (bytes_told place (codes "messages") (flat_map hash_bytes left.messages) (flat_map hash_bytes right.messages) (none_second a b h)) in
+    let messages = hashes_told left.messages right.messages (recursion_from_All IsHash left.messages lefts)
+        (recursion_from_All IsHash right.messages rights)
+        (bytes_told place (codes "messages") (flat_map hash_bytes left.messages)
+        (flat_map hash_bytes right.messages) (none_second a b h)) in
     λ i. record { hash = record { 0 = hash i }; messages = messages i }
 
 marks_told : Tells mark_pair HasNames
@@ -305,7 +335,10 @@ limits_same : (limits : Limits) → limits_lines limits limits ≡ []
 unfolding limits_lines
 limits_same limits =
     let place = codes "limits" in
-    none_both (none_both (none_both (number_same place (codes "keys") limits.keys) (number_same place (codes "height") limits.height)) (number_same place (codes "key_units") limits.key_units)) (number_same place (codes "block_units") limits.block_units)
+    none_both (none_both (none_both (number_same place (codes "keys") limits.keys)
+        (number_same place (codes "height") limits.height))
+        (number_same place (codes "key_units") limits.key_units))
+        (number_same place (codes "block_units") limits.block_units)
 
 snapshot_told : (left right : Snapshot) → snapshot_codec.HasWidths left → snapshot_codec.HasWidths right → snapshot_lines left right ≡ [] → left ≡ right
 unfolding snapshot_lines
@@ -319,14 +352,18 @@ snapshot_told left right lefts rights h =
     let two = none_first (a ++ b) c three in
     let slot = number_told place (codes "slot") left.slot right.slot (none_first a b two) in
     let limits = limits_told left.limits right.limits (none_second a b two) in
-    let recent = lists_told mark_pair HasNames marks_told left.recent right.recent (recursion_from_All HasNames left.recent lefts.names) (recursion_from_All HasNames right.recent rights.names) (none_second (a ++ b) c three) in
+    let recent = lists_told mark_pair HasNames marks_told left.recent right.recent
+        (recursion_from_All HasNames left.recent lefts.names)
+        (recursion_from_All HasNames right.recent rights.names) (none_second (a ++ b) c three) in
     let accounts = accounts_told left.accounts right.accounts (none_second (a ++ b ++ c) d h) in
     λ i. record { slot = slot i; limits = limits i; recent = recent i; accounts = accounts i }
 
 snapshot_same : (s : Snapshot) → snapshot_lines s s ≡ []
 unfolding snapshot_lines
 snapshot_same s =
-    none_both (none_both (none_both (number_same (codes "snapshot") (codes "slot") s.slot) (limits_same s.limits)) (pairs_same mark_pair s.recent mark_same (longer (length s.recent) (length s.recent)))) (accounts_same s.accounts)
+    none_both (none_both (none_both (number_same (codes "snapshot") (codes "slot") s.slot)
+        (limits_same s.limits)) (pairs_same mark_pair s.recent mark_same
+        (longer (length s.recent) (length s.recent)))) (accounts_same s.accounts)
 
 pub snapshots_are_told : SnapshotsAreTold
 snapshots_are_told left right lefts rights =
@@ -375,7 +412,11 @@ unfolding entry_lines
 entry_same at None = refl
 entry_same at (Some entry) =
     let place = entry_place at in
-    none_both (none_both (none_both (none_both (bytes_same place (codes "transaction") entry.wire) (status_same place entry.status)) (number_same place (codes "units") entry.units)) (number_same place (codes "fee") entry.fee)) (pairs_same (line_pair place) entry.lines (line_same place) (longer (length entry.lines) (length entry.lines)))
+    none_both (none_both (none_both
+        (none_both (bytes_same place (codes "transaction") entry.wire) (status_same place entry.status))
+        (number_same place (codes "units") entry.units)) (number_same place (codes "fee") entry.fee))
+        (pairs_same (line_pair place) entry.lines (line_same place)
+        (longer (length entry.lines) (length entry.lines)))
 
 entries_told : Tells entry_pair HasStatus
 entries_told at None None lefts rights h = refl
@@ -404,7 +445,9 @@ block_told left right lefts rights h =
     let slot = number_told place (codes "slot") left.slot right.slot (none_first a b two) in
     let collector = bytes_told place (codes "collector") left.collector.0 right.collector.0 (none_second a b two) in
     let previous = bytes_told place (codes "previous") left.previous.0 right.previous.0 (none_second (a ++ b) c three) in
-    let entries = lists_told entry_pair HasStatus entries_told left.entries right.entries (recursion_from_All HasStatus left.entries lefts.statuses) (recursion_from_All HasStatus right.entries rights.statuses) (none_second (a ++ b ++ c) d four) in
+    let entries = lists_told entry_pair HasStatus entries_told left.entries right.entries
+        (recursion_from_All HasStatus left.entries lefts.statuses)
+        (recursion_from_All HasStatus right.entries rights.statuses) (none_second (a ++ b ++ c) d four) in
     let burned = number_told place (codes "burned") left.burned right.burned (none_second (a ++ b ++ c ++ d) e five) in
     let collected = number_told place (codes "collected") left.collected right.collected (none_second (a ++ b ++ c ++ d ++ e) f six) in
     let state = bytes_told place (codes "state") left.state.0 right.state.0 (none_second (a ++ b ++ c ++ d ++ e ++ f) g seven) in
@@ -424,7 +467,15 @@ block_same : (block : Block) → block_lines block block ≡ []
 unfolding block_lines
 block_same block =
     let place = codes "block" in
-    none_both (none_both (none_both (none_both (none_both (none_both (none_both (number_same place (codes "slot") block.slot) (bytes_same place (codes "collector") block.collector.0)) (bytes_same place (codes "previous") block.previous.0)) (pairs_same entry_pair block.entries entry_same (longer (length block.entries) (length block.entries)))) (number_same place (codes "burned") block.burned)) (number_same place (codes "collected") block.collected)) (bytes_same place (codes "state") block.state.0)) (bytes_same place (codes "hash") block.hash.0)
+    none_both (none_both (none_both
+        (none_both (none_both (none_both
+        (none_both (number_same place (codes "slot") block.slot)
+        (bytes_same place (codes "collector") block.collector.0))
+        (bytes_same place (codes "previous") block.previous.0))
+        (pairs_same entry_pair block.entries entry_same (longer (length block.entries) (length block.entries))))
+        (number_same place (codes "burned") block.burned))
+        (number_same place (codes "collected") block.collected))
+        (bytes_same place (codes "state") block.state.0)) (bytes_same place (codes "hash") block.hash.0)
 
 pub blocks_are_told : BlocksAreTold
 blocks_are_told left right lefts rights =

@@ -182,7 +182,9 @@ abbrev pub pending : Option (Bor Key × Bor Shared) → List (Key × Shared) →
 pending None left = []
 pending (Some e) left = seen_entry e ∷ seen left
 
-pub pending_is : (r : Option (Bor Key × Bor Shared)) (before after : List (Key × Shared)) → MatchOption r ((before ≡ []) × (after ≡ [])) (λ x. before ≡ (x.0.now, x.1.now) ∷ after) → pending r after ≡ seen before
+pub pending_is : (r : Option (Bor Key × Bor Shared)) (before after : List (Key × Shared))
+    → MatchOption r ((before ≡ []) × (after ≡ [])) (λ x. before ≡ (x.0.now, x.1.now) ∷ after)
+    → pending r after ≡ seen before
 pending_is None before after h = sym (ap seen h.0)
 pending_is (Some e) before after h = sym (ap seen h)
 
@@ -194,7 +196,9 @@ pub record Walked (s t : State) (all all_others : List ℕ) (out others : List �
   pub told : out ++ flat_map (left_lines t) first ≡ all
   pub told_others : others ++ flat_map (right_lines s) second ≡ all_others
 
-pub Walked-start : (s t : State) (out others : List ℕ) (first second : List Entry) → first ≡ entries s → second ≡ entries t → Walked s t (out ++ flat_map (left_lines t) (entries s)) (others ++ flat_map (right_lines s) (entries t)) out others first second
+pub Walked-start : (s t : State) (out others : List ℕ) (first second : List Entry) → first ≡ entries s
+    → second ≡ entries t → Walked s t (out ++ flat_map (left_lines t) (entries s))
+    (others ++ flat_map (right_lines s) (entries t)) out others first second
 Walked-start s t out others first second a b = record {
   merging = subst (λ (l : List Entry). Merging (entries s) (entries t) l second) (sym a) (subst (λ (l : List Entry). Merging (entries s) (entries t) (entries s) l) (sym b) (Merging-both s t));
   told = ap (λ (l : List Entry). out ++ flat_map (left_lines t) l) a;
@@ -202,7 +206,10 @@ Walked-start s t out others first second a b = record {
 }
 
 module _ (s t : State) (all all_others : List ℕ) (out others : List ℕ) where
-  pub Walked-less : (e f : Entry) (first second next : List Entry) (new : List ℕ) → Walked s t all all_others out others (e ∷ first) (f ∷ second) → key_cmp e.0 f.0 ≡ Less → new ≡ out ++ only_in_a (account_place e.0) → next ≡ first → Walked s t all all_others new others next (f ∷ second)
+  pub Walked-less : (e f : Entry) (first second next : List Entry) (new : List ℕ)
+      → Walked s t all all_others out others (e ∷ first) (f ∷ second) → key_cmp e.0 f.0 ≡ Less
+      → new ≡ out ++ only_in_a (account_place e.0) → next ≡ first
+      → Walked s t all all_others new others next (f ∷ second)
   Walked-less e f first second next new W below added is = subst (λ (l : List Entry). Walked s t all all_others new others l (f ∷ second)) (sym is) (record {
     merging = Merging-first (entries s) (entries t) e f first second W.merging below;
     told = goes_on (left_lines t) out new (e ∷ first) first e all refl
@@ -210,7 +217,10 @@ module _ (s t : State) (all all_others : List ℕ) (out others : List ℕ) where
     told_others = W.told_others;
   })
 
-  pub Walked-greater : (e f : Entry) (first second next : List Entry) (new : List ℕ) → Walked s t all all_others out others (e ∷ first) (f ∷ second) → key_cmp e.0 f.0 ≡ Greater → new ≡ others ++ only_in_b (account_place f.0) → next ≡ second → Walked s t all all_others out new (e ∷ first) next
+  pub Walked-greater : (e f : Entry) (first second next : List Entry) (new : List ℕ)
+      → Walked s t all all_others out others (e ∷ first) (f ∷ second) → key_cmp e.0 f.0 ≡ Greater
+      → new ≡ others ++ only_in_b (account_place f.0) → next ≡ second
+      → Walked s t all all_others out new (e ∷ first) next
   Walked-greater e f first second next new W above added is = subst (λ (l : List Entry). Walked s t all all_others out new (e ∷ first) l) (sym is) (record {
     merging = Merging-second (entries s) (entries t) e f first second W.merging above;
     told = W.told;
@@ -218,8 +228,13 @@ module _ (s t : State) (all all_others : List ℕ) (out others : List ℕ) where
         (added ∙ ap (λ (o : Option Account). others ++ right_by f.0 o) (sym (get_is s f.0 ∙ second_alone (entries s) (entries t) e f first second W.merging above))) W.told_others;
   })
 
-  pub Walked-equal : (e f : Entry) (first second next next' : List Entry) (new : List ℕ) → Walked s t all all_others out others (e ∷ first) (f ∷ second) → key_cmp e.0 f.0 ≡ Equal → new ≡ out ++ account_lines e.0 e.1 f.1 → next ≡ first → next' ≡ second → Walked s t all all_others new others next next'
-  Walked-equal e f first second next next' new W same added is is' = subst (λ (l : List Entry). Walked s t all all_others new others l next') (sym is) (subst (λ (l : List Entry). Walked s t all all_others new others first l) (sym is') (record {
+  pub Walked-equal : (e f : Entry) (first second next next' : List Entry) (new : List ℕ)
+      → Walked s t all all_others out others (e ∷ first) (f ∷ second) → key_cmp e.0 f.0 ≡ Equal
+      → new ≡ out ++ account_lines e.0 e.1 f.1 → next ≡ first → next' ≡ second
+      → Walked s t all all_others new others next next'
+  Walked-equal e f first second next next' new W same added is is' = subst
+      (λ (l : List Entry). Walked s t all all_others new others l next') (sym is)
+      (subst (λ (l : List Entry). Walked s t all all_others new others first l) (sym is') (record {
     merging = Merging-next (entries s) (entries t) e f first second W.merging same;
     told = goes_on (left_lines t) out new (e ∷ first) first e all refl
         (added ∙ ap (λ (o : Option Account). out ++ left_by e.0 e.1 o) (sym (get_is t e.0 ∙ other_of_first (entries s) (entries t) e f first second W.merging same))) W.told;
@@ -227,7 +242,9 @@ module _ (s t : State) (all all_others : List ℕ) (out others : List ℕ) where
         (sym (append-nil others) ∙ ap (λ (o : Option Account). others ++ right_by f.0 o) (sym (get_is s f.0 ∙ other_of_second (entries s) (entries t) e f first second W.merging same))) W.told_others;
   }))
 
-  pub Walked-first : (e : Entry) (first next : List Entry) (new : List ℕ) → Walked s t all all_others out others (e ∷ first) [] → new ≡ out ++ only_in_a (account_place e.0) → next ≡ first → Walked s t all all_others new others next []
+  pub Walked-first : (e : Entry) (first next : List Entry) (new : List ℕ)
+      → Walked s t all all_others out others (e ∷ first) [] → new ≡ out ++ only_in_a (account_place e.0)
+      → next ≡ first → Walked s t all all_others new others next []
   Walked-first e first next new W added is = subst (λ (l : List Entry). Walked s t all all_others new others l []) (sym is) (record {
     merging = Merging-first_end (entries s) (entries t) e first W.merging;
     told = goes_on (left_lines t) out new (e ∷ first) first e all refl
@@ -235,7 +252,9 @@ module _ (s t : State) (all all_others : List ℕ) (out others : List ℕ) where
     told_others = W.told_others;
   })
 
-  pub Walked-second : (f : Entry) (second next : List Entry) (new : List ℕ) → Walked s t all all_others out others [] (f ∷ second) → new ≡ others ++ only_in_b (account_place f.0) → next ≡ second → Walked s t all all_others out new [] next
+  pub Walked-second : (f : Entry) (second next : List Entry) (new : List ℕ)
+      → Walked s t all all_others out others [] (f ∷ second) → new ≡ others ++ only_in_b (account_place f.0)
+      → next ≡ second → Walked s t all all_others out new [] next
   Walked-second f second next new W added is = subst (λ (l : List Entry). Walked s t all all_others out new [] l) (sym is) (record {
     merging = Merging-second_end (entries s) (entries t) f second W.merging;
     told = W.told;

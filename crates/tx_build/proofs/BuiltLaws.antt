@@ -53,7 +53,9 @@ everywhere P each (x ∷ xs) = (each x, everywhere P each xs)
 abbrev Keyed : Mention → Type 0
 Keyed mention = IsKey mention.key
 
-mentions_keyed : (is : List KeyedInstruction) → AllByRecursion (λ i. IsKey i.program) is → AllByRecursion (λ i. All (λ account. IsKey account.key) i.accounts) is → AllByRecursion Keyed (flat_map instruction_mentions is)
+mentions_keyed : (is : List KeyedInstruction) → AllByRecursion (λ i. IsKey i.program) is
+    → AllByRecursion (λ i. All (λ account. IsKey account.key) i.accounts) is
+    → AllByRecursion Keyed (flat_map instruction_mentions is)
 mentions_keyed [] programs accounts = tt
 mentions_keyed (i ∷ is) programs accounts =
     let here = mapped Keyed account_mention i.accounts (recursion_from_All (λ account. IsKey account.key) i.accounts accounts.0) in
@@ -61,7 +63,9 @@ mentions_keyed (i ∷ is) programs accounts =
 
 merged_keyed : (all : List Mention) (n : ℕ) (ms : List Mention) → AllByRecursion Keyed ms → AllByRecursion Keyed (flat_map (added all) (enumerate_from n ms))
 merged_keyed all n [] h = tt
-merged_keyed all n (m ∷ ms) h = AllByRecursion-append Keyed (added all (n, m)) (flat_map (added all) (enumerate_from (n + 1) ms)) (one (list_any (is_of m.key) (take n all))) (merged_keyed all (n + 1) ms h.1)
+merged_keyed all n (m ∷ ms) h = AllByRecursion-append Keyed (added all (n, m))
+    (flat_map (added all) (enumerate_from (n + 1) ms)) (one (list_any (is_of m.key) (take n all)))
+    (merged_keyed all (n + 1) ms h.1)
   where
     one : (b : Bool) → AllByRecursion Keyed (if b then [] else strongest all m.key ∷ [])
     one true = tt
@@ -114,7 +118,8 @@ shares_keyed (table ∷ tables) ms h = (h.0, shares_keyed tables (filter (λ men
 
 lookups_keyed : (version : Version) (shares : List Share) → AllByRecursion (λ share. IsKey share.lookup.table) shares → AllByRecursion (λ lookup. IsKey lookup.table) (lookups_by version shares)
 lookups_keyed first_version shares h = tt
-lookups_keyed (version_zero tables) shares h = mapped (λ lookup. IsKey lookup.table) (λ share. share.lookup) (filter is_used shares) (AllByRecursion-filter (λ share. IsKey share.lookup.table) is_used shares h)
+lookups_keyed (version_zero tables) shares h = mapped (λ lookup. IsKey lookup.table) (λ share. share.lookup)
+    (filter is_used shares) (AllByRecursion-filter (λ share. IsKey share.lookup.table) is_used shares h)
 
 draft_keyed : (draft : Draft) → HasDraftWidths draft → AllByRecursion (λ lookup. IsKey lookup.table) (lookups_by draft.version (draft_shares draft))
 unfolding draft_shares
@@ -145,7 +150,9 @@ record Built (draft : Draft) (bytes : List ℕ) : Type 0 where
   short : length bytes ≤ max_wire_len
   spelled : bytes ≡ tx_bytes (signed (message_of draft))
 
-of_message : (draft : Draft) (too_many : Bool) (message : Message) → has_too_many_keys draft ≡ too_many → (let r : Result Message BuildFault = if too_many then Err TooManyKeys else Ok (message_of draft) in r) ≡ Ok message → (has_too_many_keys draft ≡ false) × (message_of draft ≡ message)
+of_message : (draft : Draft) (too_many : Bool) (message : Message) → has_too_many_keys draft ≡ too_many
+    → (let r : Result Message BuildFault = if too_many then Err TooManyKeys else Ok (message_of draft) in r)
+    ≡ Ok message → (has_too_many_keys draft ≡ false) × (message_of draft ≡ message)
 of_message draft true message is h = absurd (cc)
 of_message draft false message is h = (is, ok_same (message_of draft) message h)
 
@@ -193,7 +200,11 @@ widths draft w own all =
     let signers = count_by-le-length is_readonly_signer mentions in
     let others = count_by-le-length is_readonly_other mentions in
     record {
-      signatures = All-from_recursion (λ signature. length signature.0 ≡ 64) _ (mapped (λ signature. length signature.0 ≡ 64) (signature_of (message_name message)) (signer_keys message) (everywhere (λ key. length (signature_of (message_name message) key).0 ≡ 64) (λ key. long_signature (message_name message) key (length-sha256 (message_bytes message))) (signer_keys message)));
+      signatures = All-from_recursion (λ signature. length signature.0 ≡ 64) _
+          (mapped (λ signature. length signature.0 ≡ 64) (signature_of (message_name message))
+          (signer_keys message) (everywhere (λ key. length (signature_of (message_name message) key).0 ≡ 64)
+          (λ key. long_signature (message_name message) key (length-sha256 (message_bytes message)))
+          (signer_keys message)));
       required = omega (arith, own, required);
       readonly_signed = omega (arith, own, signers);
       readonly_unsigned = omega (arith, own, others);

@@ -17,12 +17,19 @@ use Rattle.tx_build.specs.Built.{tables_of, draft_mentions, own_keys, draft_shar
 -- ---- the message's own keys
 
 -- each is of one class
-classes_count : (ms : List Mention) → length (filter is_writable_signer ms) + length (filter is_readonly_signer ms) + length (filter is_writable_other ms) + length (filter is_readonly_other ms) ≡ length ms
+classes_count : (ms : List Mention)
+    → length (filter is_writable_signer ms) + length (filter is_readonly_signer ms) + length
+    (filter is_writable_other ms) + length (filter is_readonly_other ms) ≡ length ms
 classes_count [] = refl
 classes_count (m ∷ ms) = by_class m.signer m.writable (classes_count ms)
   where
-    by_class : (s w : Bool) → length (filter is_writable_signer ms) + length (filter is_readonly_signer ms) + length (filter is_writable_other ms) + length (filter is_readonly_other ms) ≡ length ms → length (if s && w then m ∷ filter is_writable_signer ms else filter is_writable_signer ms) + length (if s && not w then m ∷ filter is_readonly_signer ms else filter is_readonly_signer ms)
-        + length (if not s && w then m ∷ filter is_writable_other ms else filter is_writable_other ms) + length (if not s && not w then m ∷ filter is_readonly_other ms else filter is_readonly_other ms) ≡ suc (length ms)
+    by_class : (s w : Bool) → length (filter is_writable_signer ms) + length (filter is_readonly_signer ms) +
+        length (filter is_writable_other ms) + length (filter is_readonly_other ms) ≡ length ms
+        → length (if s && w then m ∷ filter is_writable_signer ms else filter is_writable_signer ms) + length
+        (if s && not w then m ∷ filter is_readonly_signer ms else filter is_readonly_signer ms)
+        + length (if not s && w then m ∷ filter is_writable_other ms else filter is_writable_other ms) + length
+            (if not s && not w then m ∷ filter is_readonly_other ms else filter is_readonly_other ms)
+            ≡ suc (length ms)
     by_class true true rest = omega (arith, rest)
     by_class true false rest = omega (arith, rest)
     by_class false true rest = omega (arith, rest)
@@ -35,7 +42,9 @@ ordered_count ms =
     let c = keys_where is_writable_other ms in
     let d = keys_where is_readonly_other ms in
     let key : Mention → Key = λ mention. mention.key in
-    omega (arith, classes_count ms, length-append a b, length-append (a ++ b) c, length-append (a ++ b ++ c) d, length-map (filter is_writable_signer ms) key, length-map (filter is_readonly_signer ms) key, length-map (filter is_writable_other ms) key, length-map (filter is_readonly_other ms) key)
+    omega (arith, classes_count ms, length-append a b, length-append (a ++ b) c, length-append (a ++ b ++ c) d,
+        length-map (filter is_writable_signer ms) key, length-map (filter is_readonly_signer ms) key, length-map
+        (filter is_writable_other ms) key, length-map (filter is_readonly_other ms) key)
 
 -- ---- the loaded keys
 
@@ -47,7 +56,9 @@ loaded_held : (tables : List LookupTable) (ms : List Mention) → AllByRecursion
 loaded_held tables [] = tt
 loaded_held tables (m ∷ ms) = by_test (is_loaded tables m) refl (loaded_held tables ms)
   where
-    by_test : (b : Bool) → is_loaded tables m ≡ b → AllByRecursion (IsHeld tables) (loaded_mentions tables ms) → AllByRecursion (IsHeld tables) (if b then m ∷ loaded_mentions tables ms else loaded_mentions tables ms)
+    by_test : (b : Bool) → is_loaded tables m ≡ b → AllByRecursion (IsHeld tables) (loaded_mentions tables ms)
+        → AllByRecursion (IsHeld tables)
+        (if b then m ∷ loaded_mentions tables ms else loaded_mentions tables ms)
     by_test true is rest = ((and_parts (not m.signer && not m.program) (list_any (λ table. holds table m) tables) is).1, rest)
     by_test false is rest = rest
 
@@ -56,7 +67,11 @@ left_held : (table : LookupTable) (tables : List LookupTable) (ms : List Mention
 left_held table tables [] h = tt
 left_held table tables (m ∷ ms) h = by_test (holds table m) h.0 (left_held table tables ms h.1)
   where
-    by_test : (b : Bool) → (b || list_any (λ later. holds later m) tables) ≡ true → AllByRecursion (IsHeld tables) (filter (λ one. not (holds table one)) ms) → AllByRecursion (IsHeld tables) (if not b then m ∷ filter (λ one. not (holds table one)) ms else filter (λ one. not (holds table one)) ms)
+    by_test : (b : Bool) → (b || list_any (λ later. holds later m) tables) ≡ true
+        → AllByRecursion (IsHeld tables) (filter (λ one. not (holds table one)) ms)
+        → AllByRecursion (IsHeld tables)
+        (if not b then m ∷ filter (λ one. not (holds table one)) ms else filter (λ one. not (holds table one))
+        ms)
     by_test true held rest = rest
     by_test false held rest = (held, rest)
 
@@ -65,14 +80,19 @@ share_count : (table : LookupTable) (ms : List Mention) → length (written_in t
 share_count table [] = refl
 share_count table (m ∷ ms) = by_class (holds table m) m.writable (share_count table ms)
   where
-    by_class : (h w : Bool) → length (written_in table ms) + length (read_in table ms) + length (filter (λ one. not (holds table one)) ms) ≡ length ms → length (if h && w then m ∷ written_in table ms else written_in table ms) + length (if h && not w then m ∷ read_in table ms else read_in table ms)
+    by_class : (h w : Bool) → length (written_in table ms) + length (read_in table ms) + length
+        (filter (λ one. not (holds table one)) ms) ≡ length ms
+        → length (if h && w then m ∷ written_in table ms else written_in table ms) + length
+        (if h && not w then m ∷ read_in table ms else read_in table ms)
         + length (if not h then m ∷ filter (λ one. not (holds table one)) ms else filter (λ one. not (holds table one)) ms) ≡ suc (length ms)
     by_class true true rest = omega (arith, rest)
     by_class true false rest = omega (arith, rest)
     by_class false true rest = omega (arith, rest)
     by_class false false rest = omega (arith, rest)
 
-shares_count : (tables : List LookupTable) (ms : List Mention) → AllByRecursion (IsHeld tables) ms → length (flat_map (λ share. share.writable) (shares_of tables ms)) + length (flat_map (λ share. share.readonly) (shares_of tables ms)) ≡ length ms
+shares_count : (tables : List LookupTable) (ms : List Mention) → AllByRecursion (IsHeld tables) ms
+    → length (flat_map (λ share. share.writable) (shares_of tables ms)) + length
+    (flat_map (λ share. share.readonly) (shares_of tables ms)) ≡ length ms
 shares_count [] [] h = refl
 shares_count [] (m ∷ ms) h = absurd (cc)
 shares_count (table ∷ tables) ms h =

@@ -23,9 +23,17 @@ short_lists message short =
     record {
       keys = countable message.keys inner.0;
       instructions = countable message.instructions instructions.0;
-      accounts = λ k d below. let one = get_or message.instructions k d in countable one.accounts (or_parts (is_long one.accounts) (is_long one.input) (none_passes is_long_instruction message.instructions instructions.1 k d below)).0;
-      inputs = λ k d below. let one = get_or message.instructions k d in countable one.input (or_parts (is_long one.accounts) (is_long one.input) (none_passes is_long_instruction message.instructions instructions.1 k d below)).1;
+      accounts = λ k d below. let one = get_or message.instructions k d
+          in countable one.accounts (or_parts (is_long one.accounts) (is_long one.input)
+          (none_passes is_long_instruction message.instructions instructions.1 k d below)).0;
+      inputs = λ k d below. let one = get_or message.instructions k d
+          in countable one.input (or_parts (is_long one.accounts) (is_long one.input)
+          (none_passes is_long_instruction message.instructions instructions.1 k d below)).1;
       lookups = countable message.lookups lookups.0;
-      writable = λ k d below. let one = get_or message.lookups k d in countable one.writable (or_parts (is_long one.writable) (is_long one.readonly) (none_passes is_long_lookup message.lookups lookups.1 k d below)).0;
-      readonly = λ k d below. let one = get_or message.lookups k d in countable one.readonly (or_parts (is_long one.writable) (is_long one.readonly) (none_passes is_long_lookup message.lookups lookups.1 k d below)).1;
+      writable = λ k d below. let one = get_or message.lookups k d
+          in countable one.writable (or_parts (is_long one.writable) (is_long one.readonly)
+          (none_passes is_long_lookup message.lookups lookups.1 k d below)).0;
+      readonly = λ k d below. let one = get_or message.lookups k d
+          in countable one.readonly (or_parts (is_long one.writable) (is_long one.readonly)
+          (none_passes is_long_lookup message.lookups lookups.1 k d below)).1;
     }

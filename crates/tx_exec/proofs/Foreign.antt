@@ -36,24 +36,33 @@ goes_on programs later a b c count one two =
     (AreForeignKept-fewer programs (programs ++ later) a b (λ owner none. (has_key-append owner programs later none).0) one)
     (AreForeignKept-fewer later (programs ++ later) b c (λ owner none. (has_key-append owner programs later none).1) two)
 
-follow_foreign : (t : Chosen) (index : ℕ) (on : List Account → ℕ → ℕ → Log → Executed) (lists : List Account → ℕ → ℕ → Log → List Key) (programs : List Key) (a : List Account) (result : Result (List Account) InstructionError) (e : Ending) →
-    ((b : List Account) (units trace : ℕ) (log : Log) → length b ≡ length a → EndForeign (lists b units trace log) b (on b units trace log).result) → GoodKeeps t a result → EndForeign programs a result
+follow_foreign : (t : Chosen) (index : ℕ) (on : List Account → ℕ → ℕ → Log → Executed)
+    (lists : List Account → ℕ → ℕ → Log → List Key) (programs : List Key) (a : List Account)
+    (result : Result (List Account) InstructionError) (e : Ending) →
+    ((b : List Account) (units trace : ℕ) (log : Log) → length b ≡ length a
+        → EndForeign (lists b units trace log) b (on b units trace log).result) → GoodKeeps t a result
+        → EndForeign programs a result
     → EndForeign (programs ++ programs_after lists result e) a (following index on result e).result
 follow_foreign t index on lists programs a (Ok b) e all k one = through (on b e.units e.carried.trace e.carried.log).result (all b e.units e.carried.trace e.carried.log k.count)
   where
-    through : (result : Result (List Account) Failure) → EndForeign (lists b e.units e.carried.trace e.carried.log) b result → EndForeign (programs ++ lists b e.units e.carried.trace e.carried.log) a result
+    through : (result : Result (List Account) Failure)
+        → EndForeign (lists b e.units e.carried.trace e.carried.log) b result
+        → EndForeign (programs ++ lists b e.units e.carried.trace e.carried.log) a result
     through (Ok c) two = goes_on programs (lists b e.units e.carried.trace e.carried.log) a b c k.count one two
     through (Err f) two = tt
 follow_foreign t index on lists programs a (Err error) e all k one = tt
 
-executed_foreign : (block : InBlock) (t : Chosen) (index : ℕ) (is : List Instruction) (a : List Account) (units trace : ℕ) (log : Log) → All (IsThere t) is → length a ≡ length (all_keys t.tx.message t.loaded)
+executed_foreign : (block : InBlock) (t : Chosen) (index : ℕ) (is : List Instruction) (a : List Account)
+    (units trace : ℕ) (log : Log) → All (IsThere t) is → length a ≡ length (all_keys t.tx.message t.loaded)
     → EndForeign (programs_of_all (fixed_for block t) t is a units trace log) a (executed (fixed_for block t) t index is a units trace log).result
 unfolding executed programs_of_all
 executed_foreign block t index [] a units trace log there count = AreForeignKept-refl [] a
 executed_foreign block t index (i ∷ is) a units trace log there count =
     let s : Fixed = fixed_for block t in
     let e : Ending = instruction s (call_of t i) a units trace log in
-    let listed : AreListed (length s.keys) (call_of t i).metas a = record { count = count; range = metas_there t (length (all_keys t.tx.message t.loaded)) i.accounts (All-head (IsThere t) i is there) } in
+    let listed : AreListed (length s.keys) (call_of t i).metas a =
+        record { count = count; range = metas_there t (length (all_keys t.tx.message t.loaded)) i.accounts
+        (All-head (IsThere t) i is there) } in
     follow_foreign t index (executed s t (index + 1) is) (programs_of_all s t is) (programs_of_instruction s (call_of t i) a units trace log) a e.result e
     (λ b u n l same. executed_foreign block t (index + 1) is b u n l (All-tail (IsThere t) i is there) (same ∙ count))
     (instruction_keeps s t i a units trace log refl (All-head (IsThere t) i is there) count)
@@ -85,7 +94,9 @@ count_charged [] fee = refl
 count_charged (payer ∷ others) fee = refl
 
 -- ---- the whole
-finished_foreign : (t : Chosen) (programs : List Key) (values : List Account) (units : ℕ) (lines : List (List ℕ)) (result : Result (List Account) Failure) → EndForeign programs (charged values (total_fee t)) result
+finished_foreign : (t : Chosen) (programs : List Key) (values : List Account) (units : ℕ)
+    (lines : List (List ℕ)) (result : Result (List Account) Failure)
+    → EndForeign programs (charged values (total_fee t)) result
     → KeepsForeign t programs values (finished t (charged values (total_fee t)) units lines result).values
 finished_foreign t programs values units lines (Err f) k = from_charged t programs values (charged values (total_fee t)) (AreForeignKept-refl programs (charged values (total_fee t)))
 finished_foreign t programs values units lines (Ok after) k = by_rent (rent_broken (locks t) (charged values (total_fee t)) after)
@@ -95,7 +106,9 @@ finished_foreign t programs values units lines (Ok after) k = by_rent (rent_brok
     by_rent None = from_charged t programs values after k
 
 -- no program touches an account that it does not own
-pub transaction_foreign : (block : InBlock) (t : Chosen) (values : List Account) → IsChosen t → length values ≡ length (all_keys t.tx.message t.loaded) → KeepsForeign t (programs_of block t values) values (transaction block t values).values
+pub transaction_foreign : (block : InBlock) (t : Chosen) (values : List Account) → IsChosen t
+    → length values ≡ length (all_keys t.tx.message t.loaded)
+    → KeepsForeign t (programs_of block t values) values (transaction block t values).values
 unfolding transaction
 transaction_foreign block t values is count = by_cause (dropped values (total_fee t))
   where

@@ -11,11 +11,15 @@ use Rattle.invoke_engine.proofs.GrownLogs.{log_grows}
 use Rattle.tx_exec.specs.Executing.{Executed, call_of, executed, following, performed}
 
 follow_grows : (before : Log) (index : ℕ) (on : List Account → ℕ → ℕ → Log → Executed) (result : Result (List Account) InstructionError) (e : Ending) →
-    ((b : List Account) (units trace : ℕ) (log : Log) → HasGrown before log → HasGrown before (on b units trace log).log) → HasGrown before e.carried.log → HasGrown before (following index on result e).log
+    ((b : List Account) (units trace : ℕ) (log : Log) → HasGrown before log
+        → HasGrown before (on b units trace log).log) → HasGrown before e.carried.log
+        → HasGrown before (following index on result e).log
 follow_grows before index on (Ok b) e all grown = all b e.units e.carried.trace e.carried.log grown
 follow_grows before index on (Err error) e all grown = grown
 
-executed_grows : (before : Log) (s : Fixed) (t : Chosen) (index : ℕ) (is : List Instruction) (a : List Account) (units trace : ℕ) (log : Log) → HasGrown before log → HasGrown before (executed s t index is a units trace log).log
+executed_grows : (before : Log) (s : Fixed) (t : Chosen) (index : ℕ) (is : List Instruction) (a : List Account)
+    (units trace : ℕ) (log : Log) → HasGrown before log
+    → HasGrown before (executed s t index is a units trace log).log
 unfolding executed
 executed_grows before s t index [] a units trace log grown = grown
 executed_grows before s t index (i ∷ is) a units trace log grown =

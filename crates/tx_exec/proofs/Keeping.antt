@@ -47,7 +47,9 @@ use Rattle.tx_exec.proofs.Lent.{lent_lamports}
 -- ---- the rights of an instruction
 
 -- a lock writes what its message lets be written
-lock_there : (f : ℕ × Key → Lock) (n : ℕ) (ks : List Key) (place : ℕ) (lock : Lock) → slice_get (map f (enumerate_from n ks)) place ≡ Some lock → (key : Key) × (slice_get ks place ≡ Some key) × (f (n + place, key) ≡ lock)
+lock_there : (f : ℕ × Key → Lock) (n : ℕ) (ks : List Key) (place : ℕ) (lock : Lock)
+    → slice_get (map f (enumerate_from n ks)) place ≡ Some lock
+    → (key : Key) × (slice_get ks place ≡ Some key) × (f (n + place, key) ≡ lock)
 lock_there f n [] place lock h = absurd (cc)
 lock_there f n (k ∷ ks) zero lock h = let same : n ≡ n + 0 = omega arith in (k, refl, subst (λ m. f (m, k) ≡ lock) same (cc))
 lock_there f n (k ∷ ks) (suc place) lock h =
@@ -92,13 +94,20 @@ IsKept t before after = AreKeptBy (lets_write t) before after
 abbrev pub GoodKeeps : {E : Type 0} → Chosen → List Account → Result (List Account) E → Type 0
 GoodKeeps t a result = MatchResult result (λ b. IsKept t a b) (λ _. Unit {0})
 
-of_end : (t : Chosen) (i : Instruction) (a : List Account) (result : Result (List Account) InstructionError) → MatchResult result (λ b. AreKeptBy (is_listed_writable (call_of t i).metas) a b) (λ _. Unit {0}) → GoodKeeps t a result
+of_end : (t : Chosen) (i : Instruction) (a : List Account) (result : Result (List Account) InstructionError)
+    → MatchResult result (λ b. AreKeptBy (is_listed_writable (call_of t i).metas) a b) (λ _. Unit {0})
+    → GoodKeeps t a result
 of_end t i a (Ok b) k = AreKeptBy-weaker (is_listed_writable (call_of t i).metas) (lets_write t) a b (no_right t i.accounts) k
 of_end t i a (Err error) k = tt
 
-pub instruction_keeps : (s : Fixed) (t : Chosen) (i : Instruction) (a : List Account) (units trace : ℕ) (log : Log) → s.keys ≡ all_keys t.tx.message t.loaded → IsThere t i → length a ≡ length (all_keys t.tx.message t.loaded) → GoodKeeps t a (instruction s (call_of t i) a units trace log).result
+pub instruction_keeps : (s : Fixed) (t : Chosen) (i : Instruction) (a : List Account) (units trace : ℕ)
+    (log : Log) → s.keys ≡ all_keys t.tx.message t.loaded → IsThere t i
+    → length a ≡ length (all_keys t.tx.message t.loaded)
+    → GoodKeeps t a (instruction s (call_of t i) a units trace log).result
 instruction_keeps s t i a units trace log keys there count =
-    let listed : AreListed (length (all_keys t.tx.message t.loaded)) (call_of t i).metas a = record { count = count; range = metas_there t (length (all_keys t.tx.message t.loaded)) i.accounts there } in
+    let listed : AreListed (length (all_keys t.tx.message t.loaded)) (call_of t i).metas a =
+        record { count = count; range = metas_there t (length (all_keys t.tx.message t.loaded)) i.accounts
+        there } in
     cond_both (nat_le max_trace trace) _ _ (λ (e : Ending). GoodKeeps t a e.result) (λ _. tt)
     (λ _. of_end t i a (frame s [] (call_of t i) a units (nothing_returned trace log)).result
     (frame_keeps s [] (call_of t i) a units (nothing_returned trace log) (subst (λ (ks : List Key). AreListed (length ks) (call_of t i).metas a) (sym keys) listed)))
@@ -112,7 +121,9 @@ follow_keeps t index on a (Ok b) e all k = through (on b e.units e.carried.trace
     through (Err f) l = tt
 follow_keeps t index on a (Err error) e all k = tt
 
-executed_keeps : (block : InBlock) (t : Chosen) (index : ℕ) (is : List Instruction) (a : List Account) (units trace : ℕ) (log : Log) → All (IsThere t) is → length a ≡ length (all_keys t.tx.message t.loaded) → GoodKeeps t a (executed (fixed_for block t) t index is a units trace log).result
+executed_keeps : (block : InBlock) (t : Chosen) (index : ℕ) (is : List Instruction) (a : List Account)
+    (units trace : ℕ) (log : Log) → All (IsThere t) is → length a ≡ length (all_keys t.tx.message t.loaded)
+    → GoodKeeps t a (executed (fixed_for block t) t index is a units trace log).result
 unfolding executed
 executed_keeps block t index [] a units trace log there count = AreKeptBy-refl (lets_write t) a
 executed_keeps block t index (i ∷ is) a units trace log there count =
@@ -150,11 +161,14 @@ record IsCharged (t : Chosen) (before after : List Account) : Type 0 where
   pub is : after ≡ charged before (total_fee t)
 
 -- only the first value changes
-other_read : (t : Chosen) (payer less : Account) (others : List Account) → lets_write t 0 ≡ true → (place : ℕ) → lets_write t place ≡ false → slice_get (less ∷ others) place ≡ slice_get (payer ∷ others) place
+other_read : (t : Chosen) (payer less : Account) (others : List Account) → lets_write t 0 ≡ true → (place : ℕ)
+    → lets_write t place ≡ false → slice_get (less ∷ others) place ≡ slice_get (payer ∷ others) place
 other_read t payer less others w zero r = absurd (cc)
 other_read t payer less others w (suc place) r = refl
 
-other_program : (payer less : Account) (others : List Account) → payer.executable ≡ false → (place : ℕ) (account : Account) → slice_get (payer ∷ others) place ≡ Some account → account.executable ≡ true → slice_get (less ∷ others) place ≡ Some account
+other_program : (payer less : Account) (others : List Account) → payer.executable ≡ false
+    → (place : ℕ) (account : Account) → slice_get (payer ∷ others) place ≡ Some account
+    → account.executable ≡ true → slice_get (less ∷ others) place ≡ Some account
 other_program payer less others p zero account h e = let same : payer ≡ account = cc in let none : account.executable ≡ false = ap (λ (a : Account). a.executable) (sym same) ∙ p in absurd (cc)
 other_program payer less others p (suc place) account h e = h
 
@@ -193,7 +207,8 @@ base_keeps t values base f units lines k = record {
   dropped = λ cause e. absurd (cc);
 }
 
-after_keeps : (t : Chosen) (values base after : List Account) (units : ℕ) (lines : List (List ℕ)) → IsCharged t values base → IsKept t base after → Keeps t values (came_to Good units t.fee lines after)
+after_keeps : (t : Chosen) (values base after : List Account) (units : ℕ) (lines : List (List ℕ))
+    → IsCharged t values base → IsKept t base after → Keeps t values (came_to Good units t.fee lines after)
 after_keeps t values base after units lines k l = record {
   count = l.count ∙ k.count;
   lamports = omega (arith, k.lamports, l.lamports);
@@ -205,7 +220,9 @@ after_keeps t values base after units lines k l = record {
   dropped = λ cause e. absurd (cc);
 }
 
-finished_keeps : (t : Chosen) (values base : List Account) (units : ℕ) (lines : List (List ℕ)) (result : Result (List Account) Failure) → IsCharged t values base → GoodKeeps t base result → Keeps t values (finished t base units lines result)
+finished_keeps : (t : Chosen) (values base : List Account) (units : ℕ) (lines : List (List ℕ))
+    (result : Result (List Account) Failure) → IsCharged t values base → GoodKeeps t base result
+    → Keeps t values (finished t base units lines result)
 finished_keeps t values base units lines (Err f) k l = base_keeps t values base f units lines k
 finished_keeps t values base units lines (Ok after) k l = by_rent (rent_broken (locks t) base after)
   where
@@ -253,5 +270,7 @@ fits_kept t values x h k =
       settled = all_settled (lent_for_writing (locks t) x.values);
     }
 
-pub transaction_fits : (block : InBlock) (t : Chosen) (values : List Account) → IsChosen t → length values ≡ length (all_keys t.tx.message t.loaded) → length values ≡ length (locks t) → WritesFit t values (transaction block t values)
+pub transaction_fits : (block : InBlock) (t : Chosen) (values : List Account) → IsChosen t
+    → length values ≡ length (all_keys t.tx.message t.loaded) → length values ≡ length (locks t)
+    → WritesFit t values (transaction block t values)
 transaction_fits block t values is all h = fits_kept t values _ h (transaction_keeps block t values is all)

@@ -56,7 +56,9 @@ follow_fits : (index : ℕ) (on : List Account → ℕ → ℕ → Log → Execu
 follow_fits index on e (Ok b) few h all = all b refl
 follow_fits index on e (Err error) few h all = (few, h)
 
-executed_fits : (s : Fixed) (t : Chosen) (index : ℕ) (is : List Instruction) (a : List Account) (units trace : ℕ) (log : Log) → index ≤ trace → index ≤ max_trace → ResultFits (executed s t index is a units trace log).result
+executed_fits : (s : Fixed) (t : Chosen) (index : ℕ) (is : List Instruction) (a : List Account)
+    (units trace : ℕ) (log : Log) → index ≤ trace → index ≤ max_trace
+    → ResultFits (executed s t index is a units trace log).result
 unfolding executed
 executed_fits s t index [] a units trace log counted few = tt
 executed_fits s t index (i ∷ is) a units trace log counted few =
@@ -87,7 +89,9 @@ rent_fits t is base after = by_place (rent_broken (locks t) base after) (positio
         omega (arith, h, long, count, most)
 
 -- ---- the status
-finished_fits : (t : Chosen) → IsChosen t → (base : List Account) (units : ℕ) (lines : List (List ℕ)) (result : Result (List Account) Failure) → ResultFits result → IsStatus (finished t base units lines result).outcome.status
+finished_fits : (t : Chosen) → IsChosen t
+    → (base : List Account) (units : ℕ) (lines : List (List ℕ)) (result : Result (List Account) Failure)
+    → ResultFits result → IsStatus (finished t base units lines result).outcome.status
 finished_fits t is base units lines (Err f) h = h
 finished_fits t is base units lines (Ok after) h = by_rent (rent_broken (locks t) base after) (rent_fits t is base after)
   where
@@ -101,7 +105,8 @@ follow_units : (limit index : ℕ) (on : List Account → ℕ → ℕ → Log �
 follow_units limit index on e (Ok b) h all = all b e.units e.carried.trace e.carried.log h
 follow_units limit index on e (Err error) h all = h
 
-executed_units : (limit : ℕ) (s : Fixed) (t : Chosen) (index : ℕ) (is : List Instruction) (a : List Account) (units trace : ℕ) (log : Log) → units ≤ limit → (executed s t index is a units trace log).units ≤ limit
+executed_units : (limit : ℕ) (s : Fixed) (t : Chosen) (index : ℕ) (is : List Instruction) (a : List Account)
+    (units trace : ℕ) (log : Log) → units ≤ limit → (executed s t index is a units trace log).units ≤ limit
 unfolding executed
 executed_units limit s t index [] a units trace log h = h
 executed_units limit s t index (i ∷ is) a units trace log h =
@@ -129,7 +134,9 @@ units_add_up block t base =
     omega (arith, left, used)
 
 -- ---- the lines
-finished_lines : (t : Chosen) (base : List Account) (units : ℕ) (lines : List (List ℕ)) (result : Result (List Account) Failure) → AreLogged lines → AreLogged (finished t base units lines result).outcome.lines
+finished_lines : (t : Chosen) (base : List Account) (units : ℕ) (lines : List (List ℕ))
+    (result : Result (List Account) Failure) → AreLogged lines
+    → AreLogged (finished t base units lines result).outcome.lines
 finished_lines t base units lines (Err f) logged = logged
 finished_lines t base units lines (Ok after) logged = by_rent (rent_broken (locks t) base after)
   where

@@ -50,10 +50,14 @@ none_small = record { bytes = lit≤ tt; filled = All-nil (λ (line : List ℕ).
 lines_small : (log : Log) → IsSmall log → AreSmall log.lines
 lines_small log is = record { bytes = is.whole; filled = All-from_recursion (λ (line : List ℕ). 1 ≤ length line) log.lines is.filled }
 
-came_small : (t : Chosen) → IsChosen t → (status : Status) (units : ℕ) (lines : List (List ℕ)) (values : List Account) → AreSmall lines → IsSmallOutcome (came_to status units t.fee lines values).outcome
+came_small : (t : Chosen) → IsChosen t
+    → (status : Status) (units : ℕ) (lines : List (List ℕ)) (values : List Account) → AreSmall lines
+    → IsSmallOutcome (came_to status units t.fee lines values).outcome
 came_small t is status units lines values small = record { fee = fee_small t is; bytes = small.bytes; filled = small.filled }
 
-finished_small : (t : Chosen) → IsChosen t → (base : List Account) (units : ℕ) (lines : List (List ℕ)) (result : Result (List Account) Failure) → AreSmall lines → IsSmallOutcome (finished t base units lines result).outcome
+finished_small : (t : Chosen) → IsChosen t
+    → (base : List Account) (units : ℕ) (lines : List (List ℕ)) (result : Result (List Account) Failure)
+    → AreSmall lines → IsSmallOutcome (finished t base units lines result).outcome
 finished_small t is base units lines (Err f) small = came_small t is _ units lines base small
 finished_small t is base units lines (Ok after) small = by_rent (rent_broken (locks t) base after)
   where

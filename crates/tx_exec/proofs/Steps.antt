@@ -29,7 +29,9 @@ pub record Stands (s : Fixed) (t : Chosen) (base : List Account) (index : ℕ) (
   pub counted : index ≤ trace
 
 -- all instructions ended well
-pub all_done : (s : Fixed) (t : Chosen) (base : List Account) (index : ℕ) (accounts : List Account) (units trace : ℕ) (log : Log) → Stands s t base index accounts units trace log → length t.tx.message.instructions ≤ index
+pub all_done : (s : Fixed) (t : Chosen) (base : List Account) (index : ℕ) (accounts : List Account)
+    (units trace : ℕ) (log : Log) → Stands s t base index accounts units trace log
+    → length t.tx.message.instructions ≤ index
     → performed s t base ≡ record { units = units; log = log; result = Ok accounts }
 unfolding executed
 all_done s t base index accounts units trace log stands past = sym stands.same ∙ rw (drop_all index t.tx.message.instructions past) refl
@@ -54,7 +56,11 @@ pub late : (b : Bool) (x y : Ending) (after : List Account) → (let e : Ending 
 late true x y after h e = h
 late false x y after h e = absurd (cc)
 
-module _ (s : Fixed) (t : Chosen) (keys : s.keys ≡ all_keys t.tx.message t.loaded) (base : List Account) (index : ℕ) (accounts : List Account) (units trace : ℕ) (log : Log) (stands : Stands s t base index accounts units trace log) (i : Instruction) (below : index < length t.tx.message.instructions) (here : i ≡ get_or t.tx.message.instructions index i) where
+module _ (s : Fixed) (t : Chosen) (keys : s.keys ≡ all_keys t.tx.message t.loaded) (base : List Account)
+    (index : ℕ) (accounts : List Account) (units trace : ℕ) (log : Log)
+    (stands : Stands s t base index accounts units trace log) (i : Instruction)
+    (below : index < length t.tx.message.instructions) (here : i ≡ get_or t.tx.message.instructions index i)
+    where
   abbrev pub ending : Ending
   ending = instruction s (call_of t i) accounts units trace log
 
@@ -94,5 +100,7 @@ module _ (s : Fixed) (t : Chosen) (keys : s.keys ≡ all_keys t.tx.message t.loa
           counted = counts (accounts_of after) r;
         }
 
-    pub bad : (error : InstructionError) → ran.ended ≡ Failed error → performed s t base ≡ record { units = ran.units; log = log'; result = Err (record { index = index; cause = error.cause; detail = error.detail }) }
+    pub bad : (error : InstructionError) → ran.ended ≡ Failed error
+        → performed s t base ≡ record { units = ran.units; log = log'; result = Err
+        (record { index = index; cause = error.cause; detail = error.detail }) }
     bad error failed = next ∙ stop index _ ending ran error log' run failed

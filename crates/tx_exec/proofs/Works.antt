@@ -50,7 +50,9 @@ module _ (block : AdmittedBlock) (t : Chosen) (is : IsChosen t) where
         ∙ sym (length-map (filter (λ (lock : Lock). lock.write) t.locks) (λ lock. lock.key))
 
     written_less : lamports_in (effects_at (block_of block) (Some t) vs).written ≤ lamports_in (lent_for_writing t.locks vs)
-    written_less = subst (λ (ls : List Lock). lamports_in (effects_at (block_of block) (Some t) vs).written ≤ lamports_in (lent_for_writing ls vs)) (sym is.locked) (let sum = written_fit.lamports in omega (arith, sum))
+    written_less = subst (λ (ls : List Lock). lamports_in (effects_at (block_of block) (Some t) vs).written ≤
+        lamports_in (lent_for_writing ls vs)) (sym is.locked)
+        (let sum = written_fit.lamports in omega (arith, sum))
 
     written_short : AreShort (effects_at (block_of block) (Some t) vs).written
     written_short = written_fit.short fits.short

@@ -42,7 +42,9 @@ IsText log = AllByRecursion IsUtf8 log.lines
 IsText-with_line : (log : Log) (line : List ℕ) → IsUtf8 line → IsText log → IsText (with_line log line)
 IsText-with_line log line one all = by_test log.truncated (nat_le (sum_by length log.lines + length line) max_log_bytes)
   where
-    by_test : (t f : Bool) → IsText (if t then log else if f then record { lines = log.lines ++ line ∷ []; truncated = false } else record { lines = log.lines ++ truncated_line ∷ []; truncated = true })
+    by_test : (t f : Bool) → IsText
+        (if t then log else if f then record { lines = log.lines ++ line ∷ []; truncated = false } else
+        record { lines = log.lines ++ truncated_line ∷ []; truncated = true })
     by_test true f = all
     by_test false true = pushed IsUtf8 log.lines line all one
     by_test false false = pushed IsUtf8 log.lines truncated_line all (words_text truncated_line refl)

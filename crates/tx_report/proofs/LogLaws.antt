@@ -10,13 +10,17 @@ use Rattle.std.proofs.Math.Seq.{take-append_seam, take-append-add, take-length}
 use Rattle.tx_report.specs.LogLines.{Log, no_lines, with_line, truncated_line, IsLogOf, IsSmall, max_log_bytes}
 
 -- a line with no room left for it
-pub with_line-full : (log : Log) (line : List ℕ) → log.truncated ≡ false → max_log_bytes < sum_by length log.lines + length line → with_line log line ≡ record { lines = log.lines ++ truncated_line ∷ []; truncated = true }
+pub with_line-full : (log : Log) (line : List ℕ) → log.truncated ≡ false
+    → max_log_bytes < sum_by length log.lines + length line
+    → with_line log line ≡ record { lines = log.lines ++ truncated_line ∷ []; truncated = true }
 with_line-full log line whole full =
     let none : nat_le (sum_by length log.lines + length line) max_log_bytes ≡ false = grind (arith, nat_tests) in
     rw (whole, none) refl
 
 -- a line with room for it
-pub with_line-room : (log : Log) (line : List ℕ) → log.truncated ≡ false → sum_by length log.lines + length line ≤ max_log_bytes → with_line log line ≡ record { lines = log.lines ++ line ∷ []; truncated = false }
+pub with_line-room : (log : Log) (line : List ℕ) → log.truncated ≡ false
+    → sum_by length log.lines + length line ≤ max_log_bytes
+    → with_line log line ≡ record { lines = log.lines ++ line ∷ []; truncated = false }
 with_line-room log line whole room =
     let some : nat_le (sum_by length log.lines + length line) max_log_bytes ≡ true = grind (arith, nat_tests) in
     rw (whole, some) refl

@@ -40,7 +40,9 @@ same_parts : (k k' i i' c c' d d' : ℕ) → k ≡ k' → i ≡ i' → c ≡ c' 
 same_parts k k' i i' c c' d d' ek ei ec ed = rw (ek, ei, ec, ed) refl
 
 -- the parts of a status that was found for them
-found_parts : (kind index code detail : ℕ) (status : Status) → status_with kind index code detail ≡ Some status → index < 256 → detail < 2 ^ 32 → IsStatus status × (part_bytes kind index code detail ≡ status_bytes_of status)
+found_parts : (kind index code detail : ℕ) (status : Status) → status_with kind index code detail ≡ Some status
+    → index < 256 → detail < 2 ^ 32
+    → IsStatus status × (part_bytes kind index code detail ≡ status_bytes_of status)
 found_parts kind index code detail status h index_fits detail_fits =
     elim (chosen (nat_eq kind 0 && nat_eq index 0 && nat_eq code 0 && nat_eq detail 0) (Some Good) _ (Some status) h) [
       | inl p ↦ good p.0 p.1
@@ -74,7 +76,9 @@ found_parts kind index code detail status h index_fits detail_fits =
         subst Claim f.2 (tt, same_parts kind 2 index 0 code (drop_code_of f.0) detail 0 (eqb-true _ _ b.0) (eqb-true _ _ b.1) (sym (drop_code_of-drop_cause_with code f.0 f.1)) (eqb-true _ _ a.1))
 
 -- a list of eight bytes is the spelling of the parts that stand in it
-eight : (bytes : List ℕ) → length bytes ≡ 8 → IsBytes bytes → part_bytes (slice_index bytes 0) (slice_index bytes 1) (from_le_bytes w16 (take 2 (drop 2 bytes))) (from_le_bytes w32 (take 4 (drop 4 bytes))) ≡ bytes
+eight : (bytes : List ℕ) → length bytes ≡ 8 → IsBytes bytes
+    → part_bytes (slice_index bytes 0) (slice_index bytes 1) (from_le_bytes w16 (take 2 (drop 2 bytes)))
+    (from_le_bytes w32 (take 4 (drop 4 bytes))) ≡ bytes
 eight (k ∷ i ∷ c ∷ d ∷ w ∷ x ∷ y ∷ z ∷ []) long are =
     ap (λ (front : List ℕ). k ∷ i ∷ [] ++ front ++ to_le_bytes w32 (from_le_bytes w32 (w ∷ x ∷ y ∷ z ∷ []))) (le_bytes_2 (c ∷ d ∷ []) _ refl (two (are 2) (are 3)) refl)
     ∙ ap (λ (back : List ℕ). k ∷ i ∷ c ∷ d ∷ back) (le_bytes_4 (w ∷ x ∷ y ∷ z ∷ []) _ refl (four (are 4) (are 5) (are 6) (are 7)) refl)
@@ -104,7 +108,8 @@ detail_below bytes long are = absurd (omega arith)
 -- what is read is spelled so
 pub status_bytes_of-status_from : (bytes : List ℕ) (status : Status) → length bytes ≡ 8 → IsBytes bytes → status_from bytes ≡ Some status → IsStatus status × (status_bytes_of status ≡ bytes)
 status_bytes_of-status_from bytes status long are h =
-    let p = found_parts (slice_index bytes 0) (slice_index bytes 1) (from_le_bytes w16 (take 2 (drop 2 bytes))) (from_le_bytes w32 (take 4 (drop 4 bytes))) status h (are 1) (detail_below bytes long are) in
+    let p = found_parts (slice_index bytes 0) (slice_index bytes 1) (from_le_bytes w16 (take 2 (drop 2 bytes)))
+        (from_le_bytes w32 (take 4 (drop 4 bytes))) status h (are 1) (detail_below bytes long are) in
     (p.0, sym p.1 ∙ eight bytes long are)
 
 length-status_bytes_of : (status : Status) → length (status_bytes_of status) ≡ 8
@@ -116,13 +121,16 @@ named : {X E : Type 0} (o : Option X) (e : E) (x : X) → ok_or o e ≡ Ok x →
 named (Some y) e x h = cc
 named None e x h = absurd (cc)
 
-status_again : {E : Type 0} (truncated refused : ℕ → E) (total : ℕ) (status : Status) (rest : List ℕ) → IsStatus status → status_at truncated refused total (status_bytes_of status ++ rest) ≡ Ok (status, rest)
+status_again : {E : Type 0} (truncated refused : ℕ → E) (total : ℕ) (status : Status) (rest : List ℕ)
+    → IsStatus status → status_at truncated refused total (status_bytes_of status ++ rest) ≡ Ok (status, rest)
 unfolding status_at
 status_again truncated refused total status rest fits =
     let field = (field_reads truncated total 8).again (status_bytes_of status) rest (length-status_bytes_of status) in
     rw (field, status_from-status_bytes_of status fits) refl
 
-status_takes : {E : Type 0} (truncated refused : ℕ → E) (total : ℕ) (bytes : List ℕ) (status : Status) (rest : List ℕ) → IsBytes bytes → status_at truncated refused total bytes ≡ Ok (status, rest) → IsStatus status × (bytes ≡ status_bytes_of status ++ rest)
+status_takes : {E : Type 0} (truncated refused : ℕ → E) (total : ℕ) (bytes : List ℕ) (status : Status)
+    (rest : List ℕ) → IsBytes bytes → status_at truncated refused total bytes ≡ Ok (status, rest)
+    → IsStatus status × (bytes ≡ status_bytes_of status ++ rest)
 unfolding status_at
 status_takes truncated refused total bytes status rest are h =
     let t = taken (field_reads truncated total 8) _ bytes (status, rest) are h in

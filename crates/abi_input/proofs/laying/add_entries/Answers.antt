@@ -28,17 +28,26 @@ loop-place-preserved c =
     let lends = lent_entry accounts accounts c.args.listings.now.metas.now in
     let more = start_more accounts c.args.listings.now.metas.now c.loop-place.place _ there in
     record {
-      bytes = then_more c.args.draft.now.bytes c.loop-place.draft.bytes c.add_entry.new.draft.bytes (flat_map one (take c.loop-place.place (enumerate_from 0 c.args.listings.now.metas.now))) _ c.loop-place.invariant.bytes c.in_ok-add_entry.ensures.bytes
+      bytes = then_more c.args.draft.now.bytes c.loop-place.draft.bytes c.add_entry.new.draft.bytes
+          (flat_map one (take c.loop-place.place (enumerate_from 0 c.args.listings.now.metas.now))) _
+          c.loop-place.invariant.bytes c.in_ok-add_entry.ensures.bytes
           ∙ ap (λ (l : List ℕ). c.args.draft.now.bytes ++ l) (sym (flat_more one c.args.listings.now.metas.now c.loop-place.place _ there));
-      lent = then_more c.args.draft.now.lent c.loop-place.draft.lent c.add_entry.new.draft.lent (flat_map lends (take c.loop-place.place (enumerate_from 0 c.args.listings.now.metas.now))) _ c.loop-place.invariant.lent c.in_ok-add_entry.ensures.lent
+      lent = then_more c.args.draft.now.lent c.loop-place.draft.lent c.add_entry.new.draft.lent
+          (flat_map lends (take c.loop-place.place (enumerate_from 0 c.args.listings.now.metas.now))) _
+          c.loop-place.invariant.lent c.in_ok-add_entry.ensures.lent
           ∙ ap (λ (l : List (ℕ × Account)). c.args.draft.now.lent ++ l) (sym (flat_more lends c.args.listings.now.metas.now c.loop-place.place _ there));
       size = omega (arith, more, c.in_ok-add_entry.ensures.size, c.loop-place.invariant.size);
     }
 
 pub returns-clause-bytes : goal.returns-clause-bytes
 returns-clause-bytes c =
-    c.loop-place.invariant.bytes ∙ ap (λ (l : List ℕ). c.args.draft.now.bytes ++ l) (flat_all (entry_of c.args.keys.now (accounts_of c.args.accounts.now) c.args.listings.now.metas.now) c.args.listings.now.metas.now c.loop-place.place c.loop-place-test.false)
+    c.loop-place.invariant.bytes
+        ∙ ap (λ (l : List ℕ). c.args.draft.now.bytes ++ l)
+        (flat_all (entry_of c.args.keys.now (accounts_of c.args.accounts.now) c.args.listings.now.metas.now)
+        c.args.listings.now.metas.now c.loop-place.place c.loop-place-test.false)
 
 pub returns-clause-lent : goal.returns-clause-lent
 returns-clause-lent c =
-    c.loop-place.invariant.lent ∙ ap (λ (l : List (ℕ × Account)). c.args.draft.now.lent ++ l) (lent_whole (accounts_of c.args.accounts.now) (accounts_of c.args.accounts.now) c.args.listings.now.metas.now c.loop-place.place c.loop-place-test.false)
+    c.loop-place.invariant.lent ∙ ap (λ (l : List (ℕ × Account)). c.args.draft.now.lent ++ l)
+        (lent_whole (accounts_of c.args.accounts.now) (accounts_of c.args.accounts.now)
+        c.args.listings.now.metas.now c.loop-place.place c.loop-place-test.false)

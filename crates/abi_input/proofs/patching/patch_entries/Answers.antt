@@ -27,7 +27,9 @@ entry_len-entry-requires c = slice_get-get_or c.args.laid.now.listings.metas.now
 pub overflow_add-entry : goal.overflow_add-entry
 overflow_add-entry c =
     let there = slice_get-get_or c.args.laid.now.listings.metas.now c.loop-place.place (record { index = 0; signer = false; writable = false }) c.loop-place-test.true in
-    let whole : entry_start (accounts_of c.args.laid.now.start.now) c.args.laid.now.listings.metas.now (length c.args.laid.now.listings.metas.now) ≤ length c.args.laid.now.region.now.bytes = c.args.laid.now.whole in
+    let whole : entry_start (accounts_of c.args.laid.now.start.now) c.args.laid.now.listings.metas.now
+        (length c.args.laid.now.listings.metas.now) ≤ length c.args.laid.now.region.now.bytes =
+        c.args.laid.now.whole in
     omega (arith, start_within (accounts_of c.args.laid.now.start.now) c.args.laid.now.listings.metas.now c.loop-place.place _ there, c.entry_len-entry.ensures, c.loop-place.invariant.entry)
 
 pub loop-place-preserved : goal.loop-place-preserved
@@ -37,9 +39,13 @@ loop-place-preserved c =
     let lends = lent_entry (accounts_of c.args.laid.now.start.now) (accounts_of c.args.now.now) c.args.laid.now.listings.metas.now in
     let more = start_more (accounts_of c.args.laid.now.start.now) c.args.laid.now.listings.metas.now c.loop-place.place _ there in
     record {
-      bytes = then_more c.args.draft.now.bytes c.loop-place.draft.bytes c.patch_entry.new.draft.bytes (flat_map one (take c.loop-place.place (enumerate_from 0 c.args.laid.now.listings.metas.now))) _ c.loop-place.invariant.bytes c.in_ok-patch_entry.ensures.bytes
+      bytes = then_more c.args.draft.now.bytes c.loop-place.draft.bytes c.patch_entry.new.draft.bytes
+          (flat_map one (take c.loop-place.place (enumerate_from 0 c.args.laid.now.listings.metas.now))) _
+          c.loop-place.invariant.bytes c.in_ok-patch_entry.ensures.bytes
           ∙ ap (λ (l : List ℕ). c.args.draft.now.bytes ++ l) (sym (flat_more one c.args.laid.now.listings.metas.now c.loop-place.place _ there));
-      lent = then_more c.args.draft.now.lent c.loop-place.draft.lent c.patch_entry.new.draft.lent (flat_map lends (take c.loop-place.place (enumerate_from 0 c.args.laid.now.listings.metas.now))) _ c.loop-place.invariant.lent c.in_ok-patch_entry.ensures.lent
+      lent = then_more c.args.draft.now.lent c.loop-place.draft.lent c.patch_entry.new.draft.lent
+          (flat_map lends (take c.loop-place.place (enumerate_from 0 c.args.laid.now.listings.metas.now))) _
+          c.loop-place.invariant.lent c.in_ok-patch_entry.ensures.lent
           ∙ ap (λ (l : List (ℕ × Account)). c.args.draft.now.lent ++ l) (sym (flat_more lends c.args.laid.now.listings.metas.now c.loop-place.place _ there));
       size = omega (arith, more, c.in_ok-patch_entry.ensures.size, c.loop-place.invariant.size);
       entry = omega (arith, more, c.entry_len-entry.ensures, c.loop-place.invariant.entry);
@@ -47,11 +53,17 @@ loop-place-preserved c =
 
 pub returns-clause-bytes : goal.returns-clause-bytes
 returns-clause-bytes c =
-    c.loop-place.invariant.bytes ∙ ap (λ (l : List ℕ). c.args.draft.now.bytes ++ l) (flat_all (patched_entry c.args.laid.now.region.now.bytes (accounts_of c.args.laid.now.start.now) (accounts_of c.args.now.now) c.args.laid.now.listings.metas.now) c.args.laid.now.listings.metas.now c.loop-place.place c.loop-place-test.false)
+    c.loop-place.invariant.bytes
+        ∙ ap (λ (l : List ℕ). c.args.draft.now.bytes ++ l)
+        (flat_all (patched_entry c.args.laid.now.region.now.bytes (accounts_of c.args.laid.now.start.now)
+        (accounts_of c.args.now.now) c.args.laid.now.listings.metas.now) c.args.laid.now.listings.metas.now
+        c.loop-place.place c.loop-place-test.false)
 
 pub patch_entry-requires-clause-start : goal.patch_entry-requires-clause-start
 patch_entry-requires-clause-start c = c.loop-place.invariant.size ∙ sym c.loop-place.invariant.entry
 
 pub returns-clause-lent : goal.returns-clause-lent
 returns-clause-lent c =
-    c.loop-place.invariant.lent ∙ ap (λ (l : List (ℕ × Account)). c.args.draft.now.lent ++ l) (lent_whole (accounts_of c.args.laid.now.start.now) (accounts_of c.args.now.now) c.args.laid.now.listings.metas.now c.loop-place.place c.loop-place-test.false)
+    c.loop-place.invariant.lent ∙ ap (λ (l : List (ℕ × Account)). c.args.draft.now.lent ++ l)
+        (lent_whole (accounts_of c.args.laid.now.start.now) (accounts_of c.args.now.now)
+        c.args.laid.now.listings.metas.now c.loop-place.place c.loop-place-test.false)

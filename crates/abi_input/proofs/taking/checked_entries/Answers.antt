@@ -24,7 +24,9 @@ pub returns-then-is_refused-clause-err : goal.returns-then-is_refused-clause-err
 returns-then-is_refused-clause-err c =
     let test = is_too_long c.args.laid.now.region.now.bytes (accounts_of c.args.laid.now.start.now) c.args.laid.now.listings.metas.now in
     place_of_found (found_among test c.args.laid.now.listings.metas.now (length c.args.laid.now.listings.metas.now)) c.loop-place.place _
-    (found_here test c.args.laid.now.listings.metas.now c.loop-place.place _ c.is_refused.result (slice_get-get_or c.args.laid.now.listings.metas.now c.loop-place.place _ c.loop-place-test.true) c.is_refused.ensures c.if-is_refused.true c.loop-place.invariant.none)
+    (found_here test c.args.laid.now.listings.metas.now c.loop-place.place _ c.is_refused.result
+        (slice_get-get_or c.args.laid.now.listings.metas.now c.loop-place.place _ c.loop-place-test.true)
+        c.is_refused.ensures c.if-is_refused.true c.loop-place.invariant.none)
 
 pub entry_len-entry-requires : goal.entry_len-entry-requires
 entry_len-entry-requires c = slice_get-get_or c.args.laid.now.listings.metas.now c.loop-place.place _ c.loop-place-test.true
@@ -32,7 +34,9 @@ entry_len-entry-requires c = slice_get-get_or c.args.laid.now.listings.metas.now
 pub overflow_add-entry : goal.overflow_add-entry
 overflow_add-entry c =
     let there = slice_get-get_or c.args.laid.now.listings.metas.now c.loop-place.place (record { index = 0; signer = false; writable = false }) c.loop-place-test.true in
-    let whole : entry_start (accounts_of c.args.laid.now.start.now) c.args.laid.now.listings.metas.now (length c.args.laid.now.listings.metas.now) ≤ length c.args.laid.now.region.now.bytes = c.args.laid.now.whole in
+    let whole : entry_start (accounts_of c.args.laid.now.start.now) c.args.laid.now.listings.metas.now
+        (length c.args.laid.now.listings.metas.now) ≤ length c.args.laid.now.region.now.bytes =
+        c.args.laid.now.whole in
     omega (arith, start_within (accounts_of c.args.laid.now.start.now) c.args.laid.now.listings.metas.now c.loop-place.place _ there, c.entry_len-entry.ensures, c.loop-place.invariant.entry)
 
 pub loop-place-preserved : goal.loop-place-preserved
@@ -43,6 +47,11 @@ loop-place-preserved c =
     record {
       long = length-set c.loop-place.entries c.from-index.result c.or.result ∙ long;
       entry = omega (arith, more, c.entry_len-entry.ensures, c.loop-place.invariant.entry);
-      entries = entered_more (accounts_of c.args.laid.now.start.now) c.args.laid.now.listings.metas.now c.loop-place.place _ c.loop-place.entries c.from-index.result c.loop-place.entry _ c.or.result there c.from-index.ensures (omega arith) c.or.ensures c.loop-place.invariant.entry c.loop-place.invariant.entries;
-      none = none_more (is_too_long c.args.laid.now.region.now.bytes (accounts_of c.args.laid.now.start.now) c.args.laid.now.listings.metas.now) c.args.laid.now.listings.metas.now c.loop-place.place _ c.is_refused.result there c.is_refused.ensures c.if-is_refused.false c.loop-place.invariant.none;
+      entries = entered_more (accounts_of c.args.laid.now.start.now) c.args.laid.now.listings.metas.now
+          c.loop-place.place _ c.loop-place.entries c.from-index.result c.loop-place.entry _ c.or.result there
+          c.from-index.ensures (omega arith) c.or.ensures c.loop-place.invariant.entry
+          c.loop-place.invariant.entries;
+      none = none_more (is_too_long c.args.laid.now.region.now.bytes (accounts_of c.args.laid.now.start.now)
+          c.args.laid.now.listings.metas.now) c.args.laid.now.listings.metas.now c.loop-place.place _
+          c.is_refused.result there c.is_refused.ensures c.if-is_refused.false c.loop-place.invariant.none;
     }

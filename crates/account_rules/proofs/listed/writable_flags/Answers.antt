@@ -14,6 +14,13 @@ loop-meta-preserved c =
     let old = is_listed_writable (take c.loop-meta.meta-index c.args.metas.now) in
     let P : List Bool → Type 0 = λ flags. AreFlagsOf new flags in
     elim c.if-meta.branch [
-      | then-meta w ↦ subst P (sym w.flags-is) (one_flag old new c.loop-meta.flags (get_or c.args.metas.now c.loop-meta.meta-index no_meta).index (omega arith) c.loop-meta.invariant (λ place. writable_yes c.args.metas.now c.loop-meta.meta-index no_meta place c.loop-meta-test.true w.if-meta.true))
-      | else-meta w ↦ subst P (sym w.flags-is) (kept_flags old new c.loop-meta.flags c.loop-meta.invariant (λ place. writable_no c.args.metas.now c.loop-meta.meta-index no_meta place c.loop-meta-test.true w.if-meta.false))
+      | then-meta w ↦ subst P (sym w.flags-is)
+          (one_flag old new c.loop-meta.flags (get_or c.args.metas.now c.loop-meta.meta-index no_meta).index
+          (omega arith) c.loop-meta.invariant
+          (λ place. writable_yes c.args.metas.now c.loop-meta.meta-index no_meta place c.loop-meta-test.true
+          w.if-meta.true))
+      | else-meta w ↦ subst P (sym w.flags-is)
+          (kept_flags old new c.loop-meta.flags c.loop-meta.invariant
+          (λ place. writable_no c.args.metas.now c.loop-meta.meta-index no_meta place c.loop-meta-test.true
+          w.if-meta.false))
     ]

@@ -13,4 +13,6 @@ pub weigh_on-requires-clause-sound : goal.weigh_on-requires-clause-sound
 weigh_on-requires-clause-sound g c = λ _ _. all_sound c.args.wires.now c.args.parsed c.requires.read
 
 pub line_up_weighed-requires-clause-weighed : goal.line_up_weighed-requires-clause-weighed
-line_up_weighed-requires-clause-weighed g c = are_weighed (start_of c.args.recent.now c.args.accounts.now c.args.limits.now) c.args.wires.now c.args.parsed c.in_ok-weighed.weighed c.requires.read c.in_ok-weighed.ensures
+line_up_weighed-requires-clause-weighed g c = are_weighed
+    (start_of c.args.recent.now c.args.accounts.now c.args.limits.now) c.args.wires.now c.args.parsed
+    c.in_ok-weighed.weighed c.requires.read c.in_ok-weighed.ensures

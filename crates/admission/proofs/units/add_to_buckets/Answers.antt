@@ -24,8 +24,13 @@ loop-lock-preserved c =
       | then-lock w ↦ let at : w.bucket_of-bucket.result ≡ bucket_of (length c.loop-lock.buckets) lock.key = w.bucket_of-bucket.ensures.exact in
           let summed : w.saturating_add.result ≡ min (slice_index c.loop-lock.buckets (bucket_of (length c.loop-lock.buckets) lock.key) + c.args.limit) (2 ^ 64 - 1) =
           w.saturating_add.ensures ∙ ap (λ n. min (get_or c.loop-lock.buckets n 0 + c.args.limit) (2 ^ 64 - 1)) at in
-          write_grows locks i lock c.loop-lock-test.true is c.args.limit w.saturating_add.result (bucket_sum c.args.buckets.now) c.loop-lock.buckets c.if-lock.buckets w.if-lock.true filled (omega (arith, summed))
+          write_grows locks i lock c.loop-lock-test.true is c.args.limit w.saturating_add.result
+              (bucket_sum c.args.buckets.now) c.loop-lock.buckets c.if-lock.buckets w.if-lock.true filled
+              (omega (arith, summed))
           (w.buckets-is ∙ ap (λ n. set c.loop-lock.buckets n w.saturating_add.result) at) c.loop-lock.invariant
-      | else-lock w ↦ subst (λ (bs : List ℕ). (key : Key) → min (2 ^ 64 - 1) (bucket_sum c.args.buckets.now key + (if locks_write (take (i + 1) locks) key then c.args.limit else 0)) ≤ bucket_sum bs key) (sym w.buckets-is)
+      | else-lock w ↦ subst (λ (bs : List ℕ). (key : Key)
+          → min (2 ^ 64 - 1) (bucket_sum c.args.buckets.now key +
+          (if locks_write (take (i + 1) locks) key then c.args.limit else 0)) ≤ bucket_sum bs key)
+          (sym w.buckets-is)
           (read_grows_none locks i lock c.loop-lock-test.true is c.args.limit (bucket_sum c.args.buckets.now) (bucket_sum c.loop-lock.buckets) w.if-lock.false c.loop-lock.invariant)
     ]

@@ -17,8 +17,12 @@ loop-other-preserved g c =
     record {
       desk = c.join_idle.ensures.desk;
       passes = (All-pop P c.loop-other.passes.items c.pop.new.self.items c.pop.result c.pop.ensures.items i.passes).0;
-      free = free_then (lanes c.args.pass.now) (lanes c.loop-other.pass) (lanes c.join_idle.new.pass) (view c.args.pass.now) (view c.loop-other.pass) (view c.join_idle.new.pass) i.free c.join_idle.ensures.free;
-      behind = behind_then gate (lanes c.args.pass.now) (lanes c.loop-other.pass) (lanes c.join_idle.new.pass) (view c.args.pass.now) (view c.loop-other.pass) (view c.join_idle.new.pass) i.behind c.join_idle.ensures.behind;
+      free = free_then (lanes c.args.pass.now) (lanes c.loop-other.pass) (lanes c.join_idle.new.pass)
+          (view c.args.pass.now) (view c.loop-other.pass) (view c.join_idle.new.pass) i.free
+          c.join_idle.ensures.free;
+      behind = behind_then gate (lanes c.args.pass.now) (lanes c.loop-other.pass) (lanes c.join_idle.new.pass)
+          (view c.args.pass.now) (view c.loop-other.pass) (view c.join_idle.new.pass) i.behind
+          c.join_idle.ensures.behind;
       on = record {
         lane = c.join_idle.ensures.stays.lane ∙ i.on.lane;
         longer = prefix_trans (view c.args.pass.now).seen (view c.loop-other.pass).seen (view c.join_idle.new.pass).seen i.on.longer c.join_idle.ensures.stays.longer;

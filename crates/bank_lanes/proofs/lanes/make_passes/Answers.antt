@@ -24,7 +24,9 @@ loop-preserved g c =
     let same = c.in-Made.ensures.same.0 in
     let new = c.in-Made.ensures.made.2 in
     let gate = g.G.Gate.is_passed c.args.lanes.now.gate.now in
-    let P : g.row.D-Pass.Denot → Type 0 = λ p. g.D.Desk.is_of c.args.desk.now p × IsIdle (g.D.Desk.view p) × HoldsNothing (g.D.Desk.lanes_of p) (g.D.Desk.view p) × CommitBehind gate (g.D.Desk.lanes_of p) (g.D.Desk.view p) in
+    let P : g.row.D-Pass.Denot → Type 0 = λ p. g.D.Desk.is_of c.args.desk.now p × IsIdle (g.D.Desk.view p)
+        × HoldsNothing (g.D.Desk.lanes_of p) (g.D.Desk.view p)
+        × CommitBehind gate (g.D.Desk.lanes_of p) (g.D.Desk.view p) in
     record {
       desk = c.in-Made.ensures.desk;
       idle = record { free = ap holds same ∙ i.idle.free; once = ap returns same ∙ i.idle.once };
@@ -39,7 +41,10 @@ loop-preserved g c =
           (behind_none gate (lanes c.loop.pass) (lanes c.split.new.pass) (view c.loop.pass) (view c.split.new.pass) c.in-Made.ensures.same_lanes c.in-Made.ensures.each);
       passes = subst (λ ps. All P ps) (sym c.in_default.ensures.items)
           (All-push P c.loop.passes.items c.in-Made.made i.passes
-          (c.in-Made.ensures.made.0, record { free = ap holds new.mine; once = ap returns new.mine }, free_new (g.D.Desk.lanes_of c.in-Made.made) (g.D.Desk.view c.in-Made.made) c.in-Made.ensures.one_lane new.own, behind_new gate (g.D.Desk.lanes_of c.in-Made.made) (g.D.Desk.view c.in-Made.made) c.in-Made.ensures.one_lane new.own));
+          (c.in-Made.ensures.made.0, record { free = ap holds new.mine; once = ap returns new.mine }, free_new
+              (g.D.Desk.lanes_of c.in-Made.made) (g.D.Desk.view c.in-Made.made) c.in-Made.ensures.one_lane
+              new.own, behind_new gate (g.D.Desk.lanes_of c.in-Made.made) (g.D.Desk.view c.in-Made.made)
+              c.in-Made.ensures.one_lane new.own));
     }
 
 pub returns-in-AllMade-clause-free : goal.returns-in-AllMade-clause-free

@@ -9,5 +9,8 @@ invariant-loop g l = record {
   on : WentOn (g.D.Desk.view l.initial.pass) (g.D.Desk.view l.pass);
   free : StaysFree (g.D.Desk.lanes_of l.initial.pass) (g.D.Desk.view l.initial.pass) (g.D.Desk.lanes_of l.pass) (g.D.Desk.view l.pass);
   behind : StaysBehind (g.G.Gate.is_passed l.lanes.gate.now) (g.D.Desk.lanes_of l.initial.pass) (g.D.Desk.view l.initial.pass) (g.D.Desk.lanes_of l.pass) (g.D.Desk.view l.pass);
-  passes : All (λ p. g.D.Desk.is_of l.desk p × IsIdle (g.D.Desk.view p) × HoldsNothing (g.D.Desk.lanes_of p) (g.D.Desk.view p) × CommitBehind (g.G.Gate.is_passed l.lanes.gate.now) (g.D.Desk.lanes_of p) (g.D.Desk.view p)) l.passes.items;
+  passes : All (λ p. g.D.Desk.is_of l.desk p × IsIdle (g.D.Desk.view p)
+      × HoldsNothing (g.D.Desk.lanes_of p) (g.D.Desk.view p)
+      × CommitBehind (g.G.Gate.is_passed l.lanes.gate.now) (g.D.Desk.lanes_of p) (g.D.Desk.view p))
+      l.passes.items;
 }

@@ -8,7 +8,10 @@ turns-preserved-in-Loan g c =
     let i = c.turns.invariant in
     record {
       desk = c.take_turn.ensures.desk;
-      keeps = keeps_then (g.G.Gate.is_passed c.args.gate.now) _ _ _ _ _ _ _ i.keeps (subst (λ ms. KeepsTo (g.G.Gate.is_passed c.args.gate.now) ms (g.D.Desk.lanes_of c.turns.pass) (g.D.Desk.view c.turns.pass) (g.D.Desk.lanes_of c.take_turn.new.pass) (g.D.Desk.view c.take_turn.new.pass)) i.same c.take_turn.ensures.keeps);
+      keeps = keeps_then (g.G.Gate.is_passed c.args.gate.now) _ _ _ _ _ _ _ i.keeps
+          (subst (λ ms. KeepsTo (g.G.Gate.is_passed c.args.gate.now) ms (g.D.Desk.lanes_of c.turns.pass)
+          (g.D.Desk.view c.turns.pass) (g.D.Desk.lanes_of c.take_turn.new.pass)
+          (g.D.Desk.view c.take_turn.new.pass)) i.same c.take_turn.ensures.keeps);
       same = c.perform_all.ensures.same ∙ (c.take_turn.ensures.same ∙ i.same);
       seats = c.perform_all.ensures.stays _ _ c.take_turn.ensures.seats;
       kept = c.perform_all.ensures.kept;
@@ -20,7 +23,10 @@ turns-preserved g c =
     let i = c.turns.invariant in
     record {
       desk = c.take_turn.ensures.desk;
-      keeps = keeps_then (g.G.Gate.is_passed c.args.gate.now) _ _ _ _ _ _ _ i.keeps (subst (λ ms. KeepsTo (g.G.Gate.is_passed c.args.gate.now) ms (g.D.Desk.lanes_of c.turns.pass) (g.D.Desk.view c.turns.pass) (g.D.Desk.lanes_of c.take_turn.new.pass) (g.D.Desk.view c.take_turn.new.pass)) i.same c.take_turn.ensures.keeps);
+      keeps = keeps_then (g.G.Gate.is_passed c.args.gate.now) _ _ _ _ _ _ _ i.keeps
+          (subst (λ ms. KeepsTo (g.G.Gate.is_passed c.args.gate.now) ms (g.D.Desk.lanes_of c.turns.pass)
+          (g.D.Desk.view c.turns.pass) (g.D.Desk.lanes_of c.take_turn.new.pass)
+          (g.D.Desk.view c.take_turn.new.pass)) i.same c.take_turn.ensures.keeps);
       same = c.take_turn.ensures.same ∙ i.same;
       seats = c.take_turn.ensures.seats;
       kept = λ k d l. (c.in-Nothing.ensures.found.0 k d l).1;
@@ -32,7 +38,10 @@ turns-preserved-in-Others g c =
     let i = c.turns.invariant in
     record {
       desk = c.take_turn.ensures.desk;
-      keeps = keeps_then (g.G.Gate.is_passed c.args.gate.now) _ _ _ _ _ _ _ i.keeps (subst (λ ms. KeepsTo (g.G.Gate.is_passed c.args.gate.now) ms (g.D.Desk.lanes_of c.turns.pass) (g.D.Desk.view c.turns.pass) (g.D.Desk.lanes_of c.take_turn.new.pass) (g.D.Desk.view c.take_turn.new.pass)) i.same c.take_turn.ensures.keeps);
+      keeps = keeps_then (g.G.Gate.is_passed c.args.gate.now) _ _ _ _ _ _ _ i.keeps
+          (subst (λ ms. KeepsTo (g.G.Gate.is_passed c.args.gate.now) ms (g.D.Desk.lanes_of c.turns.pass)
+          (g.D.Desk.view c.turns.pass) (g.D.Desk.lanes_of c.take_turn.new.pass)
+          (g.D.Desk.view c.take_turn.new.pass)) i.same c.take_turn.ensures.keeps);
       same = c.take_turn.ensures.same ∙ i.same;
       seats = c.take_turn.ensures.seats;
       kept = λ k d l. (c.in-Plenty.ensures.found k d l).1;
@@ -42,12 +51,18 @@ turns-preserved-in-Others g c =
 pub returns-in-End-clause-keeps : goal.returns-in-End-clause-keeps
 returns-in-End-clause-keeps g c =
     let i = c.turns.invariant in
-    keeps_then (g.G.Gate.is_passed c.args.gate.now) _ _ _ _ _ _ _ i.keeps (subst (λ ms. KeepsTo (g.G.Gate.is_passed c.args.gate.now) ms (g.D.Desk.lanes_of c.turns.pass) (g.D.Desk.view c.turns.pass) (g.D.Desk.lanes_of c.take_turn.new.pass) (g.D.Desk.view c.take_turn.new.pass)) i.same c.take_turn.ensures.keeps)
+    keeps_then (g.G.Gate.is_passed c.args.gate.now) _ _ _ _ _ _ _ i.keeps
+        (subst (λ ms. KeepsTo (g.G.Gate.is_passed c.args.gate.now) ms (g.D.Desk.lanes_of c.turns.pass)
+        (g.D.Desk.view c.turns.pass) (g.D.Desk.lanes_of c.take_turn.new.pass)
+        (g.D.Desk.view c.take_turn.new.pass)) i.same c.take_turn.ensures.keeps)
 
 pub returns-in-Alone-clause-keeps : goal.returns-in-Alone-clause-keeps
 returns-in-Alone-clause-keeps g c =
     let i = c.turns.invariant in
-    keeps_then (g.G.Gate.is_passed c.args.gate.now) _ _ _ _ _ _ _ i.keeps (subst (λ ms. KeepsTo (g.G.Gate.is_passed c.args.gate.now) ms (g.D.Desk.lanes_of c.turns.pass) (g.D.Desk.view c.turns.pass) (g.D.Desk.lanes_of c.take_turn.new.pass) (g.D.Desk.view c.take_turn.new.pass)) i.same c.take_turn.ensures.keeps)
+    keeps_then (g.G.Gate.is_passed c.args.gate.now) _ _ _ _ _ _ _ i.keeps
+        (subst (λ ms. KeepsTo (g.G.Gate.is_passed c.args.gate.now) ms (g.D.Desk.lanes_of c.turns.pass)
+        (g.D.Desk.view c.turns.pass) (g.D.Desk.lanes_of c.take_turn.new.pass)
+        (g.D.Desk.view c.take_turn.new.pass)) i.same c.take_turn.ensures.keeps)
 
 pub returns-in-Alone-clause-end : goal.returns-in-Alone-clause-end
 returns-in-Alone-clause-end g c = record {

@@ -4,4 +4,6 @@ use Rattle.bank_show.proofs.Values.{text_of_value}
 use Rattle.bank_show.proofs.json.block_text.Goals as goal
 
 pub returns : goal.returns
-returns c = text_of_value c.from_slice.result c.as_bytes.result.now c.args.block.now (view c.in_ok-block_value.field-0) c.from_slice.ensures c.in_ok-block_value.ensures (λ fine. c.as_bytes.ensures.value ∙ c.in_ok-text.ensures.text fine)
+returns c = text_of_value c.from_slice.result c.as_bytes.result.now c.args.block.now
+    (view c.in_ok-block_value.field-0) c.from_slice.ensures c.in_ok-block_value.ensures
+    (λ fine. c.as_bytes.ensures.value ∙ c.in_ok-text.ensures.text fine)

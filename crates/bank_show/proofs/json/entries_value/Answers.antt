@@ -11,4 +11,7 @@ pub entry_value-requires : goal.entry_value-requires
 entry_value-requires c = lines_at c.args.entries.now c.loop-entry.entry-index c.entry-item.result c.loop-entry-test.true c.requires c.entry-item.is
 
 pub returns : goal.returns
-returns c = view-Array c.loop-entry.values ∙ ap (λ (ds : List Data). array (items_of ds)) (c.loop-entry.invariant ∙ ap (map entry_json) (take_all c.loop-entry.entry-index c.args.entries.now c.loop-entry-test.false))
+returns c = view-Array c.loop-entry.values
+    ∙ ap (λ (ds : List Data). array (items_of ds))
+    (c.loop-entry.invariant ∙ ap (map entry_json)
+    (take_all c.loop-entry.entry-index c.args.entries.now c.loop-entry-test.false))

@@ -7,7 +7,10 @@ use Rattle.block_end.proofs.Closings.{closes_as, end_writable, ends_close, names
 use Rattle.block_end.proofs.closing.close.Goals as goal
 
 pub snapshot_after-requires : goal.snapshot_after-requires
-snapshot_after-requires g c = names_ascend c.args.parts c.args.chain.limits c.args.chain.recent (ran_of g.W.Work.job c.args.ended.origin.value c.args.outcomes) c.in_ok-end.field-0 (record { end = c.in_ok-end.ensures.end; names = c.in_ok-end.ensures.names; front = c.in_ok-end.ensures.front })
+snapshot_after-requires g c = names_ascend c.args.parts c.args.chain.limits c.args.chain.recent
+    (ran_of g.W.Work.job c.args.ended.origin.value c.args.outcomes) c.in_ok-end.field-0
+    (record { end = c.in_ok-end.ensures.end; names = c.in_ok-end.ensures.names; front =
+    c.in_ok-end.ensures.front })
 
 pub returns : goal.returns
 returns g c =
@@ -15,7 +18,9 @@ returns g c =
     let ran = ran_of g.W.Work.job c.args.ended.origin.value c.args.outcomes in
     let ends = c.in_ok-end.field-0 in
     let are : AreEnds parts ran ends = record { end = c.in_ok-end.ensures.end; names = c.in_ok-end.ensures.names; front = c.in_ok-end.ensures.front } in
-    let same = closes_as parts c.args.chain.limits c.args.chain.recent ran ends c.in_ok-unsealed.unsealed.block c.seal-block.result c.in_ok-after.after c.in_ok-unsealed.ensures.block c.seal-block.ensures.exact c.in_ok-after.ensures in
+    let same = closes_as parts c.args.chain.limits c.args.chain.recent ran ends c.in_ok-unsealed.unsealed.block
+        c.seal-block.result c.in_ok-after.after c.in_ok-unsealed.ensures.block c.seal-block.ensures.exact
+        c.in_ok-after.ensures in
     record {
       exact = same ∙ ends_close parts c.args.chain.limits c.args.chain.recent ran ends c.requires.previous are;
       counted = c.seal-block.ensures.counted;

@@ -21,5 +21,7 @@ returns c =
     let here = get_or_read c.args.wires.now c.args.chosen.now.position c.index-wires-chosen.result c.requires.of.below c.index-wires-chosen.is [] in
     on_ok_weaker c.write_parts.result
     (λ adds. adds.after c.args.out.now refl
-    ∙ ap (λ (wire : List ℕ). let entry : Entry = record { wire = wire; status = outcome.status; units = outcome.units; fee = outcome.base_paid + outcome.priority_paid; lines = outcome.lines } in c.args.out.now ++ entry_bytes entry) here)
+    ∙ ap (λ (wire : List ℕ). let entry : Entry =
+        record { wire = wire; status = outcome.status; units = outcome.units; fee = outcome.base_paid +
+        outcome.priority_paid; lines = outcome.lines } in c.args.out.now ++ entry_bytes entry) here)
     c.write_parts.ensures

@@ -16,4 +16,7 @@ loop-ahead-preserved g c =
     c.in_ok-ahead.ensures.ahead all c.loop-ahead.invariant part.1
 
 pub returns : goal.returns
-returns g c = ahead_ends c.args.parts c.args.outcomes.now c.loop-ahead.ahead.count c.loop-ahead.ahead.hasher c.loop-ahead.ahead.bytes c.loop-ahead.ahead.last _ c.loop-ahead.invariant (let long = ap (λ (os : List Outcome). length os) c.as_slice-all.ensures in omega (arith, long)) c.hash_last.ensures refl
+returns g c = ahead_ends c.args.parts c.args.outcomes.now c.loop-ahead.ahead.count c.loop-ahead.ahead.hasher
+    c.loop-ahead.ahead.bytes c.loop-ahead.ahead.last _ c.loop-ahead.invariant
+    (let long = ap (λ (os : List Outcome). length os) c.as_slice-all.ensures in omega (arith, long))
+    c.hash_last.ensures refl

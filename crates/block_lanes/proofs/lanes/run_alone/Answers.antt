@@ -22,7 +22,9 @@ turns-smaller g c =
     let position = c.in-Loan.loan.position in
     let origin = c.commit.ensures.origin ∙ c.in-Loan.ensures.origin in
     let commit = c.commit.ensures.journal ∙ ap (λ lane. with_event lent Commit lane position) c.in-Loan.ensures.take.0 in
-    subst (λ o. 2 * (g.W.Work.job o.told).count + 1 - length c.commit.new.self.journal.items < 2 * (g.W.Work.job c.turns.core.origin.value.told).count + 1 - length c.turns.core.journal.items) (sym origin)
+    subst (λ o. 2 * (g.W.Work.job o.told).count + 1 - length c.commit.new.self.journal.items < 2 *
+        (g.W.Work.job c.turns.core.origin.value.told).count + 1 - length c.turns.core.journal.items)
+        (sym origin)
     (fewer_turns c.turns.core.journal.items lent position c.turns.invariant.alone c.in-Loan.ensures.journal c.commit.new.self.journal.items commit
     (g.W.Work.job c.turns.core.origin.value.told) (at c.turns.core.origin.value.start) c.in-Loan.ensures.legal)
 
@@ -36,5 +38,7 @@ turns-preserved g c =
       origin = c.commit.ensures.origin ∙ (c.in-Loan.ensures.origin ∙ i.origin);
       one = c.commit.ensures.lanes ∙ (c.in-Loan.ensures.lanes ∙ i.one);
       alone = stays_alone c.turns.core.journal.items lent position i.alone c.in-Loan.ensures.journal c.commit.new.self.journal.items commit;
-      passed = passes_granted c.turns.core.journal.items lent position i.alone c.in-Loan.ensures.journal c.commit.new.self.journal.items commit (g.G.Gate.is_passed c.args.gate.now) c.turns.passes c.pass.new.self i.passed (search rules);
+      passed = passes_granted c.turns.core.journal.items lent position i.alone c.in-Loan.ensures.journal
+          c.commit.new.self.journal.items commit (g.G.Gate.is_passed c.args.gate.now) c.turns.passes
+          c.pass.new.self i.passed (search rules);
     }

@@ -7,7 +7,8 @@ use Rattle.block_run.proofs.Calls.{admitted_are_of, admitted_result}
 use Rattle.block_run.proofs.run.record_parsed.Goals as goal
 
 pub record_order-requires-clause-of : goal.record_order-requires-clause-of
-record_order-requires-clause-of g c κs within = admitted_are_of c.args.snapshot c.args.decoded.batch.wires (told_by c.in_ok-order.field-0) c.requires.readable c.requires.few c.in_ok-order.ensures.exact
+record_order-requires-clause-of g c κs within = admitted_are_of c.args.snapshot c.args.decoded.batch.wires
+    (told_by c.in_ok-order.field-0) c.requires.readable c.requires.few c.in_ok-order.ensures.exact
 
 pub returns : goal.returns
 returns g c =

@@ -17,7 +17,9 @@ overflow_add-end c =
     omega (arith, long, fits, e)
 
 pub loop-position-init : goal.loop-position-init
-loop-position-init c = Held-none c.args.measure c.args.order.now c.args.starts.now c.new-written.result c.new-read.result c.in_ok-holders.holders.items c.in_ok-holders.ensures.items c.new-written.ensures.empty c.new-read.ensures.empty
+loop-position-init c = Held-none c.args.measure c.args.order.now c.args.starts.now c.new-written.result
+    c.new-read.result c.in_ok-holders.holders.items c.in_ok-holders.ensures.items c.new-written.ensures.empty
+    c.new-read.ensures.empty
 
 pub loop-position-preserved : goal.loop-position-preserved
 loop-position-preserved c =

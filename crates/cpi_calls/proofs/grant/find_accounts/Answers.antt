@@ -12,7 +12,9 @@ returns-in-None c =
 pub loop-i-preserved : goal.loop-i-preserved
 loop-i-preserved c = record {
   same = c.loop-i.invariant.same ∙ present-at c.args.keys.now c.args.caller.now c.args.asked.now c.loop-i.i _ c.in-Some.index c.loop-i-test.true c.in-Some.ensures;
-  found = rw c.in_ok-push-in-Some.ensures.ok (found-more c.args.keys.now c.args.caller.now c.args.asked.now c.loop-i.metas c.loop-i.i _ c.in-Some.index c.loop-i-test.true c.loop-i.invariant.found c.in-Some.ensures);
+  found = rw c.in_ok-push-in-Some.ensures.ok
+      (found-more c.args.keys.now c.args.caller.now c.args.asked.now c.loop-i.metas c.loop-i.i _ c.in-Some.index
+      c.loop-i-test.true c.loop-i.invariant.found c.in-Some.ensures);
 }
 
 pub returns : goal.returns

@@ -15,7 +15,10 @@ loop-done-preserved c =
     let inside : c.loop-done.done + c.min-count.result ≤ c.args.len = omega (arith, few, c.loop-done-test.true) in
     let now : List ℕ = bytes_in c.loop-done.pieces in
     let chunk = range_length now (c.args.from + c.loop-done.done) c.min-count.result (omega (arith, inside, c.requires.from, c.loop-done.invariant.size)) in
-    let size : length (bytes_in c.move_chunk.new.pieces) ≡ length now = rw c.move_chunk.ensures.bytes (length_with now _ (c.args.to + c.loop-done.done) (omega (arith, chunk, inside, c.requires.lower, c.requires.from, c.loop-done.invariant.size))) in
+    let size : length (bytes_in c.move_chunk.new.pieces)
+        ≡ length now = rw c.move_chunk.ensures.bytes
+        (length_with now _ (c.args.to + c.loop-done.done)
+        (omega (arith, chunk, inside, c.requires.lower, c.requires.from, c.loop-done.invariant.size))) in
     record {
       some = inside;
       order = c.move_chunk.ensures.order;
@@ -23,5 +26,7 @@ loop-done-preserved c =
       own = c.move_chunk.ensures.own ∙ c.loop-done.invariant.own;
       prepared = c.move_chunk.ensures.prepared ∙ c.loop-done.invariant.prepared;
       size = size ∙ c.loop-done.invariant.size;
-      bytes = c.move_chunk.ensures.bytes ∙ move_more _ now c.args.to c.args.from c.loop-done.done c.min-count.result c.requires.lower (omega (arith, inside, c.requires.from)) c.loop-done.invariant.bytes;
+      bytes = c.move_chunk.ensures.bytes
+          ∙ move_more _ now c.args.to c.args.from c.loop-done.done c.min-count.result c.requires.lower
+          (omega (arith, inside, c.requires.from)) c.loop-done.invariant.bytes;
     }

@@ -15,7 +15,8 @@ returns-then-meet-eq0-clause-ok c = λ ready place below.
     let meets = c.meet.ensures in
     let start = start_at c.args.pieces.now c.args.index c.index-pieces-index.result c.requires.order c.requires.index in
     let next = before_more c.args.pieces.now c.args.index c.index-pieces-index.result c.requires.index in
-    ap (λ (pieces : List Piece). slice_get (tests_in (test_of c.args.prepare) pieces) (c.args.at + place)) (set-get_or c.args.pieces.now c.args.index c.index-pieces-index.result) ∙ ready place (omega arith)
+    ap (λ (pieces : List Piece). slice_get (tests_in (test_of c.args.prepare) pieces) (c.args.at + place))
+        (set-get_or c.args.pieces.now c.args.index c.index-pieces-index.result) ∙ ready place (omega arith)
 
 pub returns-clause-order : goal.returns-clause-order
 returns-clause-order c = order_set c.args.pieces.now c.args.index c.index-pieces-index.result _ c.requires.order c.requires.index refl (same_size c)
@@ -27,7 +28,9 @@ pub returns-clause-starts : goal.returns-clause-starts
 returns-clause-starts c = λ place. starts_kept c.args.pieces.now c.args.index place c.index-pieces-index.result _ c.requires.index c.make_own.ensures.bytes
 
 pub returns-clause-ok : goal.returns-clause-ok
-returns-clause-ok c = on_ok_weaker c.make_own.result (λ passes. ready_set (test_of c.args.prepare) c.args.pieces.now c.args.index c.args.at c.args.len c.index-pieces-index.result _ c.requires.index (same_size c) passes) c.make_own.ensures.ok
+returns-clause-ok c = on_ok_weaker c.make_own.result
+    (λ passes. ready_set (test_of c.args.prepare) c.args.pieces.now c.args.index c.args.at c.args.len
+    c.index-pieces-index.result _ c.requires.index (same_size c) passes) c.make_own.ensures.ok
 
 pub returns-clause-plain : goal.returns-clause-plain
 returns-clause-plain c = λ plain. tests_kept is_prepared c.args.pieces.now c.args.index c.index-pieces-index.result _ c.requires.index (same_size c) (c.make_own.ensures.plain plain)
@@ -45,7 +48,9 @@ returns-clause-ready c = λ ready.
     let some : 0 < meeting.count = omega (arith, c.if-meet-eq0.false) in
     let same = meets.same some in
     let place = start_at c.args.pieces.now c.args.index c.index-pieces-index.result c.requires.order c.requires.index in
-    c.make_own.ensures.ready (passes_there is_own c.args.pieces.now c.args.index c.args.at c.args.len meeting.from meeting.done c.index-pieces-index.result c.requires.index ready (omega arith) (omega arith) (omega arith))
+    c.make_own.ensures.ready (passes_there is_own c.args.pieces.now c.args.index c.args.at c.args.len
+        meeting.from meeting.done c.index-pieces-index.result c.requires.index ready (omega arith) (omega arith)
+        (omega arith))
 
 pub returns-clause-lent : goal.returns-clause-lent
 returns-clause-lent c = lent_set c.args.pieces.now c.args.index c.index-pieces-index.result _ c.requires.index refl c.make_own.ensures.shared

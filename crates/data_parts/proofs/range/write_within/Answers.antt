@@ -9,7 +9,9 @@ overflow_sub-from c =
     omega arith
 
 -- the bytes have room in the piece
-inside : (c : goal.After-write) → c.args.at - (get_or c.args.pieces.now c.args.index c.index-pieces-index.result).start + length c.args.bytes.now ≤ length (piece_bytes (get_or c.args.pieces.now c.args.index c.index-pieces-index.result))
+inside : (c : goal.After-write)
+    → c.args.at - (get_or c.args.pieces.now c.args.index c.index-pieces-index.result).start + length
+    c.args.bytes.now ≤ length (piece_bytes (get_or c.args.pieces.now c.args.index c.index-pieces-index.result))
 inside c =
     let size = c.len.ensures in
     omega arith
@@ -25,7 +27,8 @@ pub returns-clause-prepared : goal.returns-clause-prepared
 returns-clause-prepared c = tests_kept is_prepared c.args.pieces.now c.args.index c.index-pieces-index.result _ c.requires.index (same_size c) c.write.ensures.prepared
 
 pub returns-clause-all : goal.returns-clause-all
-returns-clause-all c = λ all. write_there c.args.pieces.now c.args.index c.args.at c.index-pieces-index.result _ c.args.bytes.now c.requires.order c.requires.index c.requires.first (inside c) c.write.ensures.bytes
+returns-clause-all c = λ all. write_there c.args.pieces.now c.args.index c.args.at c.index-pieces-index.result _
+    c.args.bytes.now c.requires.order c.requires.index c.requires.first (inside c) c.write.ensures.bytes
 
 pub returns-clause-lent : goal.returns-clause-lent
 returns-clause-lent c = lent_set c.args.pieces.now c.args.index c.index-pieces-index.result _ c.requires.index refl c.write.ensures.shared

@@ -10,7 +10,9 @@ returns-then-senders-eq1-clause-parsed c =
     IfOk-weaker c.as_they_come.result _ _ (λ g is. is ∙ came_in_order c.args.wires.now c.args.senders c.args.tickets c.if-senders-eq1.true c.requires) c.as_they_come.ensures.parsed
 
 pub places_of-requires : goal.places_of-requires
-places_of-requires c = subst (All (λ (t : Ticket). t.position < length c.args.wires.now)) (sym c.as_slice-2.ensures) (λ k d lt. (all_fair c.args.wires.now c.args.senders c.args.tickets c.requires k d lt).0)
+places_of-requires c = subst (All (λ (t : Ticket). t.position < length c.args.wires.now))
+    (sym c.as_slice-2.ensures) (λ k d lt.
+    (all_fair c.args.wires.now c.args.senders c.args.tickets c.requires k d lt).0)
 
 pub by_position-requires-clause-tickets : goal.by_position-requires-clause-tickets
 by_position-requires-clause-tickets c =

@@ -22,15 +22,22 @@ refusal : (i : ℕ) (reason : Reason) → refuse by_length (let r : Result (List
 refusal i reason h = cc
 
 -- a patch that was refused ends the caller where its machine stood before it
-patch_refused : (outer : List Key) (f g : Running) (accounts : List Account) (units : ℕ) (c : Carried) (reason : Reason) (wanted : Result (List ℕ) ℕ) (e : Ending) → refuse by_length wanted ≡ Err (Refused reason) → g.program ≡ f.program → g.had ≡ f.had → g.machine.place ≡ f.machine.place
+patch_refused : (outer : List Key) (f g : Running) (accounts : List Account) (units : ℕ) (c : Carried)
+    (reason : Reason) (wanted : Result (List ℕ) ℕ) (e : Ending) → refuse by_length wanted ≡ Err (Refused reason)
+    → g.program ≡ f.program → g.had ≡ f.had → g.machine.place ≡ f.machine.place
     → e ≡ closes outer g units c (Err (Refused reason)) → patching outer f accounts units c wanted ≡ Done e
 patch_refused outer f g accounts units c reason (Ok region) e refused program had place is = absurd (cc)
 patch_refused outer f g accounts units c reason (Err i) e refused program had place is =
     let same : closes outer g units c (Err (Refused reason)) ≡ closes outer f units c (Err (Refused reason)) =
-    ap (λ (k : Key). closes_at outer units c reason k g.had g.machine.place) program ∙ ap (λ (n : ℕ). closes_at outer units c reason f.program n g.machine.place) had ∙ ap (λ (n : ℕ). closes_at outer units c reason f.program f.had n) place in
+    ap (λ (k : Key). closes_at outer units c reason k g.had g.machine.place) program
+        ∙ ap (λ (n : ℕ). closes_at outer units c reason f.program n g.machine.place) had
+        ∙ ap (λ (n : ℕ). closes_at outer units c reason f.program f.had n) place in
     ap Done (ap (λ (s : Stopped). closes outer f units c (Err s)) (refusal i reason refused) ∙ sym (is ∙ same))
 
-return_refused : (outer : List Key) (f g : Running) (result : Result (List Account) InstructionError) (accounts : List Account) (units : ℕ) (c : Carried) (reason : Reason) (e : Ending) → result ≡ Ok accounts → refuse by_length (patched f.machine.context.memory.input.bytes f.start accounts f.metas) ≡ Err (Refused reason) → g.program ≡ f.program → g.had ≡ f.had → g.machine.place ≡ f.machine.place
+return_refused : (outer : List Key) (f g : Running) (result : Result (List Account) InstructionError)
+    (accounts : List Account) (units : ℕ) (c : Carried) (reason : Reason) (e : Ending) → result ≡ Ok accounts
+    → refuse by_length (patched f.machine.context.memory.input.bytes f.start accounts f.metas)
+    ≡ Err (Refused reason) → g.program ≡ f.program → g.had ≡ f.had → g.machine.place ≡ f.machine.place
     → e ≡ closes outer g units c (Err (Refused reason)) → returned outer f (record { units = units; carried = c; result = result }) ≡ Done e
 unfolding returned
 return_refused outer f g result accounts units c reason e good refused program had place is =
@@ -38,7 +45,16 @@ return_refused outer f g result accounts units c reason e good refused program h
 
 pub returns-in-Err-Refused-clause-next : goal.returns-in-Err-Refused-clause-next
 returns-in-Err-Refused-clause-next c =
-    let told : PatchesAs (patched c.args.frame.machine.context.memory.input.bytes c.args.frame.start c.in-Ok.accounts c.args.frame.metas) c.in-Ok.accounts c.args.frame c.write_over.new.frame (Err (Refused c.in-Err-Refused.reason)) =
-    subst (λ (s : Stopped). PatchesAs (patched c.args.frame.machine.context.memory.input.bytes c.args.frame.start c.in-Ok.accounts c.args.frame.metas) c.in-Ok.accounts c.args.frame c.write_over.new.frame (Err s)) c.in-Err-Refused.field-0-is c.in-Err-Refused.ensures.answer in
-    return_refused (programs_of c.args.outer.now) c.args.frame c.write_over.new.frame c.args.ending.result c.in-Ok.accounts c.args.ending.units c.args.carrier.now c.in-Err-Refused.reason _ c.in-Ok.is told.0 told.1 told.2 told.3
-    (c.in_ok-ending-in-Err-Refused.ensures ∙ ap (λ (r : Reason). closes (programs_of c.args.outer.now) c.write_over.new.frame c.args.ending.units c.args.carrier.now (Err (Refused r))) c.in-Err-Refused.reason-is)
+    let told : PatchesAs (patched c.args.frame.machine.context.memory.input.bytes c.args.frame.start
+        c.in-Ok.accounts c.args.frame.metas) c.in-Ok.accounts c.args.frame c.write_over.new.frame
+        (Err (Refused c.in-Err-Refused.reason)) =
+    subst (λ (s : Stopped). PatchesAs
+        (patched c.args.frame.machine.context.memory.input.bytes c.args.frame.start c.in-Ok.accounts
+        c.args.frame.metas) c.in-Ok.accounts c.args.frame c.write_over.new.frame (Err s))
+        c.in-Err-Refused.field-0-is c.in-Err-Refused.ensures.answer in
+    return_refused (programs_of c.args.outer.now) c.args.frame c.write_over.new.frame c.args.ending.result
+        c.in-Ok.accounts c.args.ending.units c.args.carrier.now c.in-Err-Refused.reason _ c.in-Ok.is told.0
+        told.1 told.2 told.3
+    (c.in_ok-ending-in-Err-Refused.ensures
+        ∙ ap (λ (r : Reason). closes (programs_of c.args.outer.now) c.write_over.new.frame c.args.ending.units
+        c.args.carrier.now (Err (Refused r))) c.in-Err-Refused.reason-is)

@@ -6,4 +6,7 @@ use Rattle.serde_json.proofs.Views.{view-Array}
 use Rattle.json_parts.proofs.list.list_value.Goals as goal
 
 pub returns : goal.returns
-returns g c = view-Array c.loop-item.values ∙ ap (λ (ds : List Data). array (items_of ds)) (c.loop-item.invariant ∙ ap (map g.S.InJson.json_of) (take_all c.loop-item.item-index c.args.items.now c.loop-item-test.false))
+returns g c = view-Array c.loop-item.values
+    ∙ ap (λ (ds : List Data). array (items_of ds))
+    (c.loop-item.invariant ∙ ap (map g.S.InJson.json_of)
+    (take_all c.loop-item.item-index c.args.items.now c.loop-item-test.false))

@@ -5,4 +5,6 @@ use Rattle.json_shown.proofs.ExactTexts.{exact_comes}
 use Rattle.json_shown.proofs.text.json_of_record_with_shown.Goals as goal
 
 pub returns-clause-comes_back : goal.returns-clause-comes_back
-returns-clause-comes_back c = exact_comes record_of_data (data_of_record c.args.bytes.now) c.args.bytes.now (λ d written. records_again c.args.bytes.now d (λ i. omega (arith, c.type_inv.bytes i)) written) c.json_of_record.result c.json_of_record.ensures
+returns-clause-comes_back c = exact_comes record_of_data (data_of_record c.args.bytes.now) c.args.bytes.now
+    (λ d written. records_again c.args.bytes.now d (λ i. omega (arith, c.type_inv.bytes i)) written)
+    c.json_of_record.result c.json_of_record.ensures

@@ -7,11 +7,15 @@ pub returns-then-is_some-clause-reads : goal.returns-then-is_some-clause-reads
 returns-then-is_some-clause-reads g c = reads_chain (g.F.Folder.events c.args.folder.now) (g.F.Folder.events c.read.new.self) c.in_ok-found.found c.in_ok-found.ensures.noted
 
 pub returns-in_err-slots-clause-reads : goal.returns-in_err-slots-clause-reads
-returns-in_err-slots-clause-reads g c = reads_chain (g.F.Folder.events c.args.folder.now) (g.F.Folder.events c.blocks-2.new.self) c.in_ok-found.found (c.in_err-slots.ensures.noted ∙ c.in_ok-found.ensures.noted)
+returns-in_err-slots-clause-reads g c = reads_chain (g.F.Folder.events c.args.folder.now)
+    (g.F.Folder.events c.blocks-2.new.self) c.in_ok-found.found
+    (c.in_err-slots.ensures.noted ∙ c.in_ok-found.ensures.noted)
 
 pub returns-clause-reads : goal.returns-clause-reads
 returns-clause-reads g c =
-    reads_both (g.F.Folder.events c.args.folder.now) (g.F.Folder.events c.read.new.self) (g.F.Folder.events c.blocks-2.new.self) c.in_ok-found.found c.in_ok-slots.slots c.in_ok-found.ensures.noted c.in_ok-slots.ensures.noted
+    reads_both (g.F.Folder.events c.args.folder.now) (g.F.Folder.events c.read.new.self)
+        (g.F.Folder.events c.blocks-2.new.self) c.in_ok-found.found c.in_ok-slots.slots
+        c.in_ok-found.ensures.noted c.in_ok-slots.ensures.noted
 
 pub returns-clause-taken : goal.returns-clause-taken
 returns-clause-taken g c other =

@@ -21,7 +21,9 @@ loop-slot-preserved g c = record {
       let same : here ≡ seen file = ok_same {E = LedgerFault} here (seen file) s.1 in
       let step = at_drop_more (λ (l : List ℕ). map seen files ++ files_of disk l) slots i 0 c.loop-slot-test.true in (
         b.0,
-        ap (λ (l : List Ahead). map seen l ++ rest) c.in_ok-push.ensures.ok ∙ ap (λ (l : List (ℕ × Option (List ℕ))). l ++ rest) (map-append seen files (file ∷ [])) ∙ append_assoc (map seen files) (seen file ∷ []) rest
+        ap (λ (l : List Ahead). map seen l ++ rest) c.in_ok-push.ensures.ok
+            ∙ ap (λ (l : List (ℕ × Option (List ℕ))). l ++ rest) (map-append seen files (file ∷ []))
+            ∙ append_assoc (map seen files) (seen file ∷ []) rest
             ∙ ap (λ (x : ℕ × Option (List ℕ)). map seen files ++ x ∷ rest) (sym same) ∙ sym step ∙ b.1,
       );
   stands = c.in_ok-file.ensures.counts ∙ c.loop-slot.invariant.stands;

@@ -9,7 +9,9 @@ pub loop-key-init : goal.loop-key-init
 loop-key-init g c = Adds-none g.O.Output.holds c.args.out.now
 
 pub loop-key-preserved : goal.loop-key-preserved
-loop-key-preserved g c = Adds-as (Adds-then c.loop-key.invariant c.in_ok-append.ensures.ok) (sym (flat_map-more key_bytes c.args.keys.now c.loop-key.key-index (record { 0 = [] }) c.loop-key-test.true))
+loop-key-preserved g c = Adds-as (Adds-then c.loop-key.invariant c.in_ok-append.ensures.ok)
+    (sym (flat_map-more key_bytes c.args.keys.now c.loop-key.key-index (record { 0 = [] })
+    c.loop-key-test.true))
 
 pub returns : goal.returns
 returns g c = Adds-as c.loop-key.invariant (ap (flat_map key_bytes) (take_all c.loop-key.key-index c.args.keys.now c.loop-key-test.false))

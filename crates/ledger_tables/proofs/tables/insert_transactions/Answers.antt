@@ -6,7 +6,9 @@ use Rattle.ledger_tables.proofs.tables.insert_transactions.Goals as goal
 
 pub loop-row-preserved : goal.loop-row-preserved
 loop-row-preserved g c = (
-  inserted_more g.S.Store INSERT_TRANSACTION.now transaction_columns c.args.rows.now c.loop-row.row-index c.row-item.result c.args.conn.now c.loop-row.conn c.insert_transaction.new.conn c.loop-row-test.true c.row-item.is
+  inserted_more g.S.Store INSERT_TRANSACTION.now transaction_columns c.args.rows.now c.loop-row.row-index
+      c.row-item.result c.args.conn.now c.loop-row.conn c.insert_transaction.new.conn c.loop-row-test.true
+      c.row-item.is
       c.insert_transaction.ensures.known c.loop-row.invariant.0 c.in_ok-insert_transaction.ensures.ran,
   omega (arith, c.loop-row.invariant.1, c.insert_transaction.ensures.known),
 )

@@ -16,7 +16,9 @@ loop-i-preserved c =
 pub returns-then-has_lock : goal.returns-then-has_lock
 returns-then-has_lock c = (
   λ t. absurd (cc),
-  λ d. absurd (not_distinct c.as_slice-locks.result.now c.loop-i.i _ c.loop-i-test.true (sym c.has_lock.ensures ∙ c.if-has_lock.true) (subst (λ (locks : List Lock). IsDistinct same_key (lock_keys locks)) (sym c.as_slice-locks.ensures) d)),
+  λ d. absurd (not_distinct c.as_slice-locks.result.now c.loop-i.i _ c.loop-i-test.true
+      (sym c.has_lock.ensures ∙ c.if-has_lock.true)
+      (subst (λ (locks : List Lock). IsDistinct same_key (lock_keys locks)) (sym c.as_slice-locks.ensures) d)),
 )
 
 pub returns : goal.returns

@@ -17,8 +17,11 @@ loop-lock-preserved c =
     let b : lock.number < length c.loop-lock.readers = omega (arith, in_readers, same_readers) in
     let step : Steps c.args.locks.now k c.args.position c.loop-lock.last c.if-lock.last c.loop-lock.readers c.if-lock.readers =
     elim c.if-lock.branch [
-      | then-lock w ↦ step_written c.args.locks.now k c.args.position c.loop-lock.last _ c.loop-lock.readers _ c.requires.once c.loop-lock-test.true a b w.if-lock.true w.last-is (w.readers-is ∙ w.clear_at.ensures)
-      | else-lock+in_ok-push_at w ↦ step_read c.args.locks.now k c.args.position c.loop-lock.last _ c.loop-lock.readers _ c.requires.once c.loop-lock-test.true b w.if-lock.false w.last-is (w.readers-is ∙ w.in_ok-push_at.ensures.ok)
+      | then-lock w ↦ step_written c.args.locks.now k c.args.position c.loop-lock.last _ c.loop-lock.readers _
+          c.requires.once c.loop-lock-test.true a b w.if-lock.true w.last-is (w.readers-is ∙ w.clear_at.ensures)
+      | else-lock+in_ok-push_at w ↦ step_read c.args.locks.now k c.args.position c.loop-lock.last _
+          c.loop-lock.readers _ c.requires.once c.loop-lock-test.true b w.if-lock.false w.last-is
+          (w.readers-is ∙ w.in_ok-push_at.ensures.ok)
     ] in
     record {
       writers = λ n l. step.writers n ∙ c.loop-lock.invariant.writers n (omega (arith, l, still_last));

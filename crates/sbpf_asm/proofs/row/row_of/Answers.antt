@@ -11,7 +11,10 @@ find_view : (m : Text) (rs : List Row) → option_map row_view (find (λ r. byte
 find_view m [] = refl
 find_view m (r ∷ rs) = go (find_view m rs) (bytes_eq r.mnemonic.now m) refl
   where
-    go : option_map row_view (find (λ r. bytes_eq r.mnemonic.now m) rs) ≡ find (λ r. bytes_eq r.mnemonic m) (map row_view rs) → (b : Bool) → bytes_eq r.mnemonic.now m ≡ b → option_map row_view (find (λ r. bytes_eq r.mnemonic.now m) (r ∷ rs)) ≡ find (λ r. bytes_eq r.mnemonic m) (map row_view (r ∷ rs))
+    go : option_map row_view (find (λ r. bytes_eq r.mnemonic.now m) rs)
+        ≡ find (λ r. bytes_eq r.mnemonic m) (map row_view rs) → (b : Bool) → bytes_eq r.mnemonic.now m ≡ b
+        → option_map row_view (find (λ r. bytes_eq r.mnemonic.now m) (r ∷ rs))
+        ≡ find (λ r. bytes_eq r.mnemonic m) (map row_view (r ∷ rs))
     go rest true e = rw e refl
     go rest false e = rw e rest
 

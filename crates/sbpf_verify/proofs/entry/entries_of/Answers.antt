@@ -16,7 +16,9 @@ pushed (y ∷ es) e x (suc k) h = ⊎_elim inl (λ (p : (k ≡ length es) × (x 
 abbrev EachDecodes : List ℕ → List Entry → Type 0
 EachDecodes text es = (k : ℕ) (e : Entry) → slice_get es k ≡ Some e → is_start text k ≡ true → Decodes text k e
 
-one_more : (text : List ℕ) (es new : List Entry) (place : ℕ) (e : Entry) → new ≡ es ++ e ∷ [] → length es ≡ place → EachDecodes text es → (is_start text place ≡ true → Decodes text place e) → EachDecodes text new
+one_more : (text : List ℕ) (es new : List Entry) (place : ℕ) (e : Entry) → new ≡ es ++ e ∷ []
+    → length es ≡ place → EachDecodes text es → (is_start text place ≡ true → Decodes text place e)
+    → EachDecodes text new
 one_more text es new place e same count each here = λ k x h start. ⊎_elim
     (λ (old : slice_get es k ≡ Some x). each k x old start)
     (λ (p : (k ≡ length es) × (x ≡ e)). let at : k ≡ place = p.0 ∙ count in rw (at, p.1) (here (rw at at start)))

@@ -13,7 +13,9 @@ is_magic bytes r value h = sym ((bytes_eq-Decides (codes "SBPFIMG1") (take 8 byt
 no_magic : (bytes : List ℕ) (r : Bool) → r ≡ bytes_eq (codes "SBPFIMG1") (take 8 bytes) → r ≡ false → take 8 bytes ≡ codes "SBPFIMG1" → ⊥
 no_magic bytes r value h same = let e : r ≡ true = value ∙ (bytes_eq-Decides (codes "SBPFIMG1") (take 8 bytes)).1 (sym same) in absurd (cc)
 
-same_slices : (text left text' left' : List ℕ) → text ≡ text' → left ≡ left' → (let a : ImageParts = record { text = text; constants = left } in Some a) ≡ (let b : ImageParts = record { text = text'; constants = left' } in Some b)
+same_slices : (text left text' left' : List ℕ) → text ≡ text' → left ≡ left'
+    → (let a : ImageParts = record { text = text; constants = left } in Some a)
+    ≡ (let b : ImageParts = record { text = text'; constants = left' } in Some b)
 same_slices text left text' left' t k = λ i. Some (record { text = t i; constants = k i })
 
 slices : (bytes : List ℕ) (n m : ℕ) → n ≡ slots_named bytes → length bytes ≡ 16 + 8 * n + m

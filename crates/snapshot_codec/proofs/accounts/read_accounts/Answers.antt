@@ -16,14 +16,22 @@ read_account-requires c = rw c.as_slice.ensures c.loop.invariant.counted
 pub returns-in_err-entry : goal.returns-in_err-entry
 returns-in_err-entry c =
     let p = err_from_is_err_and c.from_residual-in_err-entry.result c.from_residual-in_err-entry.ensures.1 in
-    rw (p.1, p.2) (ends (account_after c.args.total) is_snapshot_memory c.in_err-entry.field-0.0 c.loop.accounts c.args.count c.loop.counter c.loop.rest.now (many_after (account_after c.args.total) [] c.args.count c.args.bytes.now) c.loop-test.true (rw c.as_slice.ensures at c.in_err-entry.ensures.gives) c.loop.invariant.so_far)
+    rw (p.1, p.2) (ends (account_after c.args.total) is_snapshot_memory c.in_err-entry.field-0.0 c.loop.accounts
+        c.args.count c.loop.counter c.loop.rest.now
+        (many_after (account_after c.args.total) [] c.args.count c.args.bytes.now) c.loop-test.true
+        (rw c.as_slice.ensures at c.in_err-entry.ensures.gives) c.loop.invariant.so_far)
 
 pub loop-preserved : goal.loop-preserved
 loop-preserved c =
     rw c.in_ok-push.ensures.ok (record {
-      so_far = goes_on (account_after c.args.total) c.loop.accounts c.args.count c.loop.counter c.loop.rest.now c.in_ok-entry.entry c.in_ok-entry.after.now (many_after (account_after c.args.total) [] c.args.count c.args.bytes.now) c.loop-test.true (rw c.as_slice.ensures at c.in_ok-entry.ensures.gives) c.loop.invariant.so_far;
+      so_far = goes_on (account_after c.args.total) c.loop.accounts c.args.count c.loop.counter c.loop.rest.now
+          c.in_ok-entry.entry c.in_ok-entry.after.now
+          (many_after (account_after c.args.total) [] c.args.count c.args.bytes.now) c.loop-test.true
+          (rw c.as_slice.ensures at c.in_ok-entry.ensures.gives) c.loop.invariant.so_far;
       counted = ap (λ n. n + c.in_ok-entry.entry.account.lamports) c.loop.invariant.counted ∙ sym (supply-more c.loop.accounts c.in_ok-entry.entry);
     })
 
 pub returns : goal.returns
-returns c = is_done (account_after c.args.total) c.loop.accounts c.args.count c.loop.counter c.loop.rest.now (many_after (account_after c.args.total) [] c.args.count c.args.bytes.now) c.loop-test.false c.loop.invariant.so_far
+returns c = is_done (account_after c.args.total) c.loop.accounts c.args.count c.loop.counter c.loop.rest.now
+    (many_after (account_after c.args.total) [] c.args.count c.args.bytes.now) c.loop-test.false
+    c.loop.invariant.so_far

@@ -9,4 +9,5 @@ pub from_sorted-requires-clause-short : goal.from_sorted-requires-clause-short
 from_sorted-requires-clause-short c = (good_list c.args.total c.args.bytes.now c.in_ok-entries.entries c.in_ok-entries.rest.now (λ i. omega (arith, c.type_inv.bytes i)) c.in_ok-entries.ensures).short
 
 pub returns-in-Ok : goal.returns-in-Ok
-returns-in-Ok c = state_read c.args.total c.args.bytes.now c.in_ok-entries.entries c.in_ok-entries.rest.now c.in-Ok.accounts (λ i. omega (arith, c.type_inv.bytes i)) c.in_ok-entries.ensures c.in-Ok.ensures
+returns-in-Ok c = state_read c.args.total c.args.bytes.now c.in_ok-entries.entries c.in_ok-entries.rest.now
+    c.in-Ok.accounts (λ i. omega (arith, c.type_inv.bytes i)) c.in_ok-entries.ensures c.in-Ok.ensures

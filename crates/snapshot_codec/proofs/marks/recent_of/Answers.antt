@@ -9,7 +9,9 @@ pub advance-requires : goal.advance-requires
 advance-requires c = taken_ascends c.args.marks c.loop-mark.marks c.pop.new.self c.loop-mark.recent c.in-Some.mark c.requires c.in-Some.ensures.some c.loop-mark.invariant
 
 pub loop-mark-preserved : goal.loop-mark-preserved
-loop-mark-preserved c = moved c.args.marks c.loop-mark.marks c.pop.new.self c.loop-mark.recent c.advance.new.self c.in-Some.mark c.requires c.in-Some.ensures.some c.loop-mark.invariant c.in_ok-advance.ensures.ok
+loop-mark-preserved c = moved c.args.marks c.loop-mark.marks c.pop.new.self c.loop-mark.recent
+    c.advance.new.self c.in-Some.mark c.requires c.in-Some.ensures.some c.loop-mark.invariant
+    c.in_ok-advance.ensures.ok
 
 pub loop-mark-smaller : goal.loop-mark-smaller
 loop-mark-smaller c = fewer c.loop-mark.marks c.pop.new.self c.in-Some.mark c.in-Some.ensures.some

@@ -9,7 +9,9 @@ pub loop-name-init : goal.loop-name-init
 loop-name-init g c = Adds-none g.O.Output.holds c.args.out.now
 
 pub loop-name-preserved : goal.loop-name-preserved
-loop-name-preserved g c = Adds-as (Adds-then c.loop-name.invariant c.in_ok-append.ensures.ok) (sym (flat_map-more hash_bytes c.args.names.now c.loop-name.name-index (record { 0 = [] }) c.loop-name-test.true))
+loop-name-preserved g c = Adds-as (Adds-then c.loop-name.invariant c.in_ok-append.ensures.ok)
+    (sym (flat_map-more hash_bytes c.args.names.now c.loop-name.name-index (record { 0 = [] })
+    c.loop-name-test.true))
 
 pub returns : goal.returns
 returns g c = Adds-as c.loop-name.invariant (ap (flat_map hash_bytes) (take_all c.loop-name.name-index c.args.names.now c.loop-name-test.false))

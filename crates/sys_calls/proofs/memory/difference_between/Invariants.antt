@@ -8,7 +8,9 @@ use Rattle.sys_calls.proofs.memory.difference_between.Given as goal
 abbrev pub invariant-loop-at : goal.invariant-loop-at
 invariant-loop-at l = record {
   within : l.at ≤ l.count;
-  same : differing (held (plain_memory l.memory) l.one l.count) (held (plain_memory l.memory) l.other l.count) ≡ differing (drop l.at (held (plain_memory l.memory) l.one l.count)) (drop l.at (held (plain_memory l.memory) l.other l.count));
+  same : differing (held (plain_memory l.memory) l.one l.count) (held (plain_memory l.memory) l.other l.count)
+      ≡ differing (drop l.at (held (plain_memory l.memory) l.one l.count))
+      (drop l.at (held (plain_memory l.memory) l.other l.count));
 }
 
 abbrev pub decreases-loop-at : goal.decreases-loop-at

@@ -20,7 +20,9 @@ loop-at-preserved c =
     let piece : take c.min-len.result (replicate PIECE c.args.byte) ≡ replicate c.min-len.result c.args.byte = take-replicate c.min-len.result PIECE c.args.byte short in
     record {
       within = omega arith;
-      filled = fill-more c.args.memory.now c.loop-at.memory c.write.new.self c.args.to c.loop-at.at c.min-len.result c.args.count c.args.byte c.write.result c.is_memory.ensures c.requires.free c.requires.ready (omega arith) (omega arith)
+      filled = fill-more c.args.memory.now c.loop-at.memory c.write.new.self c.args.to c.loop-at.at
+          c.min-len.result c.args.count c.args.byte c.write.result c.is_memory.ensures c.requires.free
+          c.requires.ready (omega arith) (omega arith)
           c.loop-at.invariant.filled (rw piece at c.write.ensures.answer) (rw piece at c.write.ensures.ready);
     }
 

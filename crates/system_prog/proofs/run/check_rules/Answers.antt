@@ -16,14 +16,23 @@ pub check_listed-requires-clause-lists : goal.check_listed-requires-clause-lists
 check_listed-requires-clause-lists c =
     let flags : c.as_slice.result.now ≡ flags_of c.args.frame.now (written c.args.instruction.now) (length c.args.before.now) = c.as_slice.ensures.value ∙ c.in_ok-touched.ensures in
     record {
-      marks = ap length flags ∙ length_flags c.args.frame.now (written c.args.instruction.now) (length c.args.before.now) ∙ sym (length-map c.args.before.now (λ share. let account : Account = arc_value share in account));
+      marks = ap length flags ∙ length_flags c.args.frame.now (written c.args.instruction.now)
+          (length c.args.before.now) ∙ sym
+          (length-map c.args.before.now (λ share. let account : Account = arc_value share in account));
       count = (stays c.args.frame.now c.args.instruction.now (accounts_of c.args.before.now) (accounts_of c.args.after.now) c.requires.ended).count;
     }
 
 pub check_listed-requires-clause-unlisted : goal.check_listed-requires-clause-unlisted
-check_listed-requires-clause-unlisted c = subst (λ (metas : List Meta). SameUnlessListed metas (accounts_of c.args.before.now) (accounts_of c.args.after.now)) (sym c.metas.ensures.value) (unlisted c.args.frame.now c.args.instruction.now (accounts_of c.args.before.now) (accounts_of c.args.after.now) c.requires.ended)
+check_listed-requires-clause-unlisted c = subst
+    (λ (metas : List Meta). SameUnlessListed metas (accounts_of c.args.before.now)
+    (accounts_of c.args.after.now)) (sym c.metas.ensures.value)
+    (unlisted c.args.frame.now c.args.instruction.now (accounts_of c.args.before.now)
+    (accounts_of c.args.after.now) c.requires.ended)
 
 pub check_listed-requires-clause-untouched : goal.check_listed-requires-clause-untouched
 check_listed-requires-clause-untouched c =
     let flags : c.as_slice.result.now ≡ flags_of c.args.frame.now (written c.args.instruction.now) (length c.args.before.now) = c.as_slice.ensures.value ∙ c.in_ok-touched.ensures in
-    subst (λ (flags : List Bool). SameUnlessTouched flags (accounts_of c.args.before.now) (accounts_of c.args.after.now)) (sym flags) (untouched c.args.frame.now c.args.instruction.now (accounts_of c.args.before.now) (accounts_of c.args.after.now) c.requires.ended (length c.args.before.now))
+    subst (λ (flags : List Bool). SameUnlessTouched flags (accounts_of c.args.before.now)
+        (accounts_of c.args.after.now)) (sym flags)
+        (untouched c.args.frame.now c.args.instruction.now (accounts_of c.args.before.now)
+        (accounts_of c.args.after.now) c.requires.ended (length c.args.before.now))

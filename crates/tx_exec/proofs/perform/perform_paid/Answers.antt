@@ -15,7 +15,10 @@ use Rattle.tx_exec.proofs.Fitting.{fits_given, given_fits}
 use Rattle.tx_exec.proofs.perform.perform_paid.Goals as goal
 
 -- the accounts once the instructions ended well
-after_fits : (t : Chosen) (keys : List Key) (ended : Result (List Account) Failure) (left after : List Account) → IsChosen t → keys ≡ all_keys t.tx.message t.loaded → MatchResult ended (λ vs. AreAccountsOf (length keys) vs) (λ _. Unit {0}) → ended ≡ Ok left → after ≡ left → Fits t.locks after
+after_fits : (t : Chosen) (keys : List Key) (ended : Result (List Account) Failure) (left after : List Account)
+    → IsChosen t → keys ≡ all_keys t.tx.message t.loaded
+    → MatchResult ended (λ vs. AreAccountsOf (length keys) vs) (λ _. Unit {0}) → ended ≡ Ok left → after ≡ left
+    → Fits t.locks after
 after_fits t keys ended left after is its given good same =
     let there = subst (λ (r : Result (List Account) Failure). MatchResult r (λ vs. AreAccountsOf (length keys) vs) (λ _. Unit {0})) good given in
     subst (λ (vs : List Account). Fits t.locks vs) (sym same) (given_fits t left is (subst (λ (ks : List Key). AreAccountsOf (length ks) left) its there))
@@ -28,8 +31,12 @@ execute-requires-clause-base c =
 
 pub broken_rent-broken-requires-clause-after : goal.broken_rent-broken-requires-clause-after
 broken_rent-broken-requires-clause-after c =
-    after_fits c.args.transaction.now.chosen.now c.args.transaction.now.context.keys c.in_ok-left.field-0.result c.in-Ok.after (accounts_of c.as_slice-after.result.now) c.requires.chosen c.requires.keys c.in_ok-left.ensures.fits c.in-Ok.is c.as_slice-after.ensures
+    after_fits c.args.transaction.now.chosen.now c.args.transaction.now.context.keys c.in_ok-left.field-0.result
+        c.in-Ok.after (accounts_of c.as_slice-after.result.now) c.requires.chosen c.requires.keys
+        c.in_ok-left.ensures.fits c.in-Ok.is c.as_slice-after.ensures
 
 pub finish-requires-clause-after : goal.finish-requires-clause-after
 finish-requires-clause-after c =
-    (after_fits c.args.transaction.now.chosen.now c.args.transaction.now.context.keys c.in_ok-left.field-0.result c.in-Ok.after (accounts_of c.as_slice-after.result.now) c.requires.chosen c.requires.keys c.in_ok-left.ensures.fits c.in-Ok.is c.as_slice-after.ensures).one_each
+    (after_fits c.args.transaction.now.chosen.now c.args.transaction.now.context.keys
+        c.in_ok-left.field-0.result c.in-Ok.after (accounts_of c.as_slice-after.result.now) c.requires.chosen
+        c.requires.keys c.in_ok-left.ensures.fits c.in-Ok.is c.as_slice-after.ensures).one_each

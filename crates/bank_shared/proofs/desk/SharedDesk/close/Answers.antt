@@ -18,4 +18,6 @@ pub returns-clause-each : goal.returns-clause-each
 returns-clause-each g c = ap (λ k. own_of k.journal.items c.args.pass.seat.me.0.lanes) c.into_inner.ensures ∙ c.take_turn-core.ensures.gets.knows.mine.own
 
 pub returns-clause-mine : goal.returns-clause-mine
-returns-clause-mine g c = ap (λ k. own k.journal.items c.args.pass.lane) c.into_inner.ensures ∙ covered _ _ _ _ c.take_turn-core.ensures.gets.knows.mine (of_desk _ _ c.requires.desk.1 c.args.pass.lane_is)
+returns-clause-mine g c = ap (λ k. own k.journal.items c.args.pass.lane) c.into_inner.ensures
+    ∙ covered _ _ _ _ c.take_turn-core.ensures.gets.knows.mine
+    (of_desk _ _ c.requires.desk.1 c.args.pass.lane_is)

@@ -24,7 +24,10 @@ overflow_add-len c =
     let yielded : List Part = c.loop-part.yielded in
     let left : List Part = into_iter_items c.next.new.self in
     let split : yielded ++ c.in-Some.part ∷ left ≡ c.args.parts = ap (λ (l : List Part). yielded ++ l) (sym c.in-Some.ensures.steps.0) ∙ c.loop-part.invariant.all in
-    let bound : length (bytes_of yielded) + length (part_bytes c.in-Some.part) ≤ length (bytes_of c.args.parts) = subst (λ (l : List Part). length (bytes_of yielded) + length (part_bytes c.in-Some.part) ≤ length (bytes_of l)) split (parts_bound yielded left c.in-Some.part) in
+    let bound : length (bytes_of yielded) + length (part_bytes c.in-Some.part) ≤ length
+        (bytes_of c.args.parts) = subst
+        (λ (l : List Part). length (bytes_of yielded) + length (part_bytes c.in-Some.part) ≤ length
+        (bytes_of l)) split (parts_bound yielded left c.in-Some.part) in
     let before_it = ap length c.loop-part.invariant.bytes in
     let part = ap length c.of_part-backing.ensures.bytes in
     omega arith
@@ -42,8 +45,14 @@ loop-part-preserved c =
     record {
       all = append_assoc yielded (c.in-Some.part ∷ []) left ∙ split;
       order = subst AreInOrder (sym pushed) (order_push pieces y c.loop-part.invariant.order c.loop-part.invariant.size);
-      bytes = bytes ∙ ap (λ (l : List _). l ++ piece_bytes y) c.loop-part.invariant.bytes ∙ ap (λ (l : List _). bytes_of yielded ++ l) c.of_part-backing.ensures.bytes ∙ sym (parts_push yielded c.in-Some.part);
-      plain = subst (λ (ps : List Piece). tests_in is_prepared ps ≡ replicate (length (bytes_in ps)) false) (sym pushed) (plain_push pieces y c.loop-part.invariant.plain c.of_part-backing.ensures.prepared);
-      lent = subst (AreLentBy (lent_from 0 (yielded ++ c.in-Some.part ∷ []))) (sym pushed) (lent_push yielded c.in-Some.part pieces y c.loop-part.invariant.lent (c.loop-part.invariant.size ∙ ap length c.loop-part.invariant.bytes) c.of_part-backing.ensures.shared);
+      bytes = bytes ∙ ap (λ (l : List _). l ++ piece_bytes y) c.loop-part.invariant.bytes
+          ∙ ap (λ (l : List _). bytes_of yielded ++ l) c.of_part-backing.ensures.bytes
+          ∙ sym (parts_push yielded c.in-Some.part);
+      plain = subst (λ (ps : List Piece). tests_in is_prepared ps ≡ replicate (length (bytes_in ps)) false)
+          (sym pushed) (plain_push pieces y c.loop-part.invariant.plain c.of_part-backing.ensures.prepared);
+      lent = subst (AreLentBy (lent_from 0 (yielded ++ c.in-Some.part ∷ []))) (sym pushed)
+          (lent_push yielded c.in-Some.part pieces y c.loop-part.invariant.lent
+          (c.loop-part.invariant.size ∙ ap length c.loop-part.invariant.bytes)
+          c.of_part-backing.ensures.shared);
       size = ap (λ n. n + c.len-len.result) c.loop-part.invariant.size ∙ ap (λ n. length (bytes_in pieces) + n) c.len-len.ensures ∙ sym size;
     }

@@ -14,7 +14,9 @@ not_both : (answer : Option (List ℕ)) (found : List ℕ) → answer ≡ Some f
 not_both answer found some none = absurd (cc)
 
 -- N bytes of a piece are those of the list
-there : (pieces all : List Piece) (i at N : ℕ) (x : Piece) (found : List ℕ) → pieces ≡ all → AreInOrder all → i < length pieces → x ≡ get_or pieces i x → ArrayStandsAt x at N found → ArrayStandsIn (bytes_in all) at N found
+there : (pieces all : List Piece) (i at N : ℕ) (x : Piece) (found : List ℕ) → pieces ≡ all → AreInOrder all
+    → i < length pieces → x ≡ get_or pieces i x → ArrayStandsAt x at N found
+    → ArrayStandsIn (bytes_in all) at N found
 there pieces all i at N x found same order h is stands =
     let kept : AreInOrder pieces = subst AreInOrder (sym same) order in
     let start = item_start pieces i x kept h is in
@@ -36,6 +38,8 @@ returns g c =
     let list : List Piece = c.self.inside.list.items in
     elim (cases_lt c.self.inside.place (length list)) [
       | inl h ↦ IfSome_then c.array-2.result c.array-2.ensures.bytes (λ found stands.
-          there _ c.args.self.now c.self.inside.place c.args.at g.row.N c.self.inside.opened found c.self.view_is c.requires.order (rw length-set h) (apart_is list c.self.inside.place c.self.inside.opened h) stands)
+          there _ c.args.self.now c.self.inside.place c.args.at g.row.N c.self.inside.opened found
+              c.self.view_is c.requires.order (rw length-set h)
+              (apart_is list c.self.inside.place c.self.inside.opened h) stands)
       | inr h ↦ subst (λ (answer : Option (List ℕ)). IfSome answer (ArrayStandsIn (bytes_in c.args.self.now) c.args.at g.row.N)) (sym (c.array-2.ensures.blank (c.self.invariant.1 h))) (search rules)
     ]

@@ -12,13 +12,18 @@ returns-clause-order g c =
 
 pub returns-clause-prepared : goal.returns-clause-prepared
 returns-clause-prepared g c =
-    apart_tests is_prepared c.self.inside.list.items c.self.inside.place c.self.inside.opened c.put.new.self c.put.ensures.size c.put.ensures.prepared ∙ ap (λ (l : List Piece). tests_in is_prepared l) c.self.view_is
+    apart_tests is_prepared c.self.inside.list.items c.self.inside.place c.self.inside.opened c.put.new.self
+        c.put.ensures.size c.put.ensures.prepared
+        ∙ ap (λ (l : List Piece). tests_in is_prepared l) c.self.view_is
 
 pub returns-clause-all : goal.returns-clause-all
 returns-clause-all g c = λ all.
     let list : List Piece = c.self.inside.list.items in
     elim (cases_lt c.self.inside.place (length list)) [
-      | inl h ↦ apart_write list c.self.inside.place c.args.at c.self.inside.opened c.put.new.self c.args.put h (subst AreInOrder (sym c.self.view_is) c.requires.order) (c.put.ensures.first all) (c.put.ensures.within all) (c.put.ensures.all all) ∙ ap (λ (l : List Piece). with_bytes (bytes_in l) c.args.at c.args.put) c.self.view_is
+      | inl h ↦ apart_write list c.self.inside.place c.args.at c.self.inside.opened c.put.new.self c.args.put h
+          (subst AreInOrder (sym c.self.view_is) c.requires.order) (c.put.ensures.first all)
+          (c.put.ensures.within all) (c.put.ensures.all all)
+          ∙ ap (λ (l : List Piece). with_bytes (bytes_in l) c.args.at c.args.put) c.self.view_is
       | inr h ↦ let no = c.put.ensures.never (c.self.invariant.1 h) in absurd (cc)
     ]
 

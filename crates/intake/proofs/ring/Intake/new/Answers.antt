@@ -23,6 +23,8 @@ loop-sender-preserved c =
     let n : suc c.loop-sender.sender ≡ c.loop-sender.sender + 1 = omega arith in (
       search rules,
       r.0 ∙ ap with_seat_made i.1 ∙ ap taker_view n,
-      subst (All (λ (s : SendSeat). IsPassOf c.in_ok-ring.ring s.pass × (sent_by s ≡ []))) (sym e) (All-push (λ (s : SendSeat). IsPassOf c.in_ok-ring.ring s.pass × (sent_by s ≡ [])) c.loop-sender.seats _ i.2 (search rules, ap (λ v. v.sent) r.1)),
+      subst (All (λ (s : SendSeat). IsPassOf c.in_ok-ring.ring s.pass × (sent_by s ≡ []))) (sym e)
+          (All-push (λ (s : SendSeat). IsPassOf c.in_ok-ring.ring s.pass × (sent_by s ≡ [])) c.loop-sender.seats
+          _ i.2 (search rules, ap (λ v. v.sent) r.1)),
       ap (map sender_of) e ∙ map-append sender_of c.loop-sender.seats (_ ∷ []) ∙ ap (λ xs. xs ++ c.loop-sender.sender ∷ []) i.3 ∙ sym (range_more c.loop-sender.sender),
     )

@@ -22,14 +22,20 @@ pub returns-in_default-writable-clause-answer : goal.returns-in_default-writable
 returns-in_default-writable-clause-answer c =
     let m : Ranges = c.args.self.now in
     let wanted : Result Ranges MemFault = copy_to m c.args.to c.args.from c.args.len c.args.apart in
-    let refused : c.from-in_default-writable.result ≡ refusal_of (violation_of c.args.to c.args.len true) = c.from-in_default-writable.ensures ∙ ap refusal_of c.violation-in_default-writable.ensures in
+    let refused : c.from-in_default-writable.result
+        ≡ refusal_of (violation_of c.args.to c.args.len true) = c.from-in_default-writable.ensures
+        ∙ ap refusal_of c.violation-in_default-writable.ensures in
     subst (λ (f : MemFault). Answers wanted m m (Err f)) (sym refused)
-    (copy-write m c.args.to c.args.from c.args.len c.args.apart c.in-Some.source (omega (arith, c.if-len-eq0.false)) (sym c.in-Some.ensures.value) c.in-Some.ensures.within c.in_default-writable.ensures, refl)
+    (copy-write m c.args.to c.args.from c.args.len c.args.apart c.in-Some.source
+        (omega (arith, c.if-len-eq0.false)) (sym c.in-Some.ensures.value) c.in-Some.ensures.within
+        c.in_default-writable.ensures, refl)
 
 pub returns-then-overlaps-clause-answer : goal.returns-then-overlaps-clause-answer
 returns-then-overlaps-clause-answer c =
     let m : Ranges = c.args.self.now in (
-      copy-meets m c.args.to c.args.from c.args.len c.args.apart c.in-Some.source c.in-Some-writable.target (omega (arith, c.if-len-eq0.false)) (sym c.in-Some.ensures.value) c.in-Some.ensures.within c.in-Some-writable.ensures (sym c.overlaps.ensures ∙ c.if-overlaps.true),
+      copy-meets m c.args.to c.args.from c.args.len c.args.apart c.in-Some.source c.in-Some-writable.target
+          (omega (arith, c.if-len-eq0.false)) (sym c.in-Some.ensures.value) c.in-Some.ensures.within
+          c.in-Some-writable.ensures (sym c.overlaps.ensures ∙ c.if-overlaps.true),
       refl,
     )
 
@@ -37,7 +43,9 @@ pub returns-clause-answer : goal.returns-clause-answer
 returns-clause-answer c =
     let m : Ranges = c.args.self.now in
     let done : copy_to m c.args.to c.args.from c.args.len c.args.apart ≡ Ok (copied_in m c.in-Some-writable.target c.in-Some.source c.args.len) =
-    copy-done m c.args.to c.args.from c.args.len c.args.apart c.in-Some.source c.in-Some-writable.target (omega (arith, c.if-len-eq0.false)) (sym c.in-Some.ensures.value) c.in-Some.ensures.within c.in-Some-writable.ensures (sym c.overlaps.ensures ∙ c.if-overlaps.false) in
+    copy-done m c.args.to c.args.from c.args.len c.args.apart c.in-Some.source c.in-Some-writable.target
+        (omega (arith, c.if-len-eq0.false)) (sym c.in-Some.ensures.value) c.in-Some.ensures.within
+        c.in-Some-writable.ensures (sym c.overlaps.ensures ∙ c.if-overlaps.false) in
     subst (λ (wanted : Result Ranges MemFault). Answers wanted m c.copy_at.new.self c.copy_at.result) (sym done) c.copy_at.ensures.answer
 
 pub returns-clause-ready : goal.returns-clause-ready
