@@ -93,9 +93,9 @@ unfolding first_entry
 first_added signer writable s w x room v a key d d1 d2 d3 d4 d5 d6 zeros last is_signer is_writable is_executable same is_room one two three four five six is_zeros is_last =
     let flags : List ℕ = not_listed_before ∷ from_bool signer ∷ from_bool writable ∷ from_bool a.executable ∷ [] in
     let e1 : d1 ≡ d ++ flags = one ∙ ap (λ n. d ++ (not_listed_before ∷ n ∷ w ∷ x ∷ [])) is_signer
-        ∙ ap (λ n. d ++ (not_listed_before ∷ from_bool signer ∷ n ∷ x ∷ [])) is_writable
-        ∙ ap (λ n. d ++ (not_listed_before ∷ from_bool signer ∷ from_bool writable ∷ n ∷ []))
-        (is_executable ∙ ap (λ (y : Account). from_bool y.executable) same) in
+    ∙ ap (λ n. d ++ (not_listed_before ∷ from_bool signer ∷ n ∷ x ∷ [])) is_writable
+    ∙ ap (λ n. d ++ (not_listed_before ∷ from_bool signer ∷ from_bool writable ∷ n ∷ []))
+    (is_executable ∙ ap (λ (y : Account). from_bool y.executable) same) in
     let state : List ℕ = state_bytes (room_of a) a in
     let e4 : d4 ≡ d3 ++ state = four ∙ ap (λ n. d3 ++ state_bytes n a) (is_room ∙ ap (λ (y : Account). room_of y) same) in
     let pad : List ℕ = replicate (padding (length a.bytes)) 0 in
@@ -166,5 +166,5 @@ pub copied_more : (all before d new part : List ℕ) (at done count n : ℕ) →
 copied_more all before d new part at done count n was read e size =
     let piece : part ≡ take count (drop done (drop at all)) = read ∙ ap (λ m. take m (drop (at + done) all)) size ∙ ap (λ (l : List ℕ). take count l) (sym (drop-drop done at all)) in
     then_more before d new (take done (drop at all)) part was e
-        ∙ ap (λ (l : List ℕ). before ++ (take done (drop at all) ++ l)) piece
-        ∙ ap (λ (l : List ℕ). before ++ l) (sym (take-add done count (drop at all)))
+    ∙ ap (λ (l : List ℕ). before ++ (take done (drop at all) ++ l)) piece
+    ∙ ap (λ (l : List ℕ). before ++ l) (sym (take-add done count (drop at all)))

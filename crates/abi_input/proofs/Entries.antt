@@ -85,9 +85,9 @@ start_within start metas k meta e =
 pub account_there : (shares : List (Arc Account Global)) (i : ℕ) (x : Arc Account Global) → i < length shares → x ≡ get_or shares i x → account_in (accounts_of shares) i ≡ arc_value x
 account_there shares i x lt is =
     ap (λ (o : Option Account). unwrap_or o empty_account)
-        (slice_get-map (λ (share : Arc Account Global). arc_value share) shares i
-        ∙ ap (λ (o : Option (Arc Account Global)). option_value o)
-        (slice_get_read shares (length shares) i x refl lt is))
+    (slice_get-map (λ (share : Arc Account Global). arc_value share) shares i
+    ∙ ap (λ (o : Option (Arc Account Global)). option_value o)
+    (slice_get_read shares (length shares) i x refl lt is))
   where
     option_value : Option (Arc Account Global) → Option Account
     option_value None = None
@@ -106,8 +106,8 @@ index_in count metas k meta range e =
 -- an entry at a first listing
 entry_first : (keys : List Key) (accounts : List Account) (metas : List Meta) (k : ℕ) (meta : Meta) (key : Key) (account : Account) → is_first_listing metas (k, meta) ≡ true
     → key_in keys meta.index ≡ key → account_in accounts meta.index ≡ account
-        → entry_of keys accounts metas (k, meta)
-        ≡ first_entry (is_listed_signer metas meta.index) (is_listed_writable metas meta.index) key account
+    → entry_of keys accounts metas (k, meta)
+    ≡ first_entry (is_listed_signer metas meta.index) (is_listed_writable metas meta.index) key account
 entry_first keys accounts metas k meta key account first same_key same_account =
     let signer : Bool = is_listed_signer metas meta.index in
     let writable : Bool = is_listed_writable metas meta.index in
@@ -119,9 +119,9 @@ pub entry_again : (keys : List Key) (accounts : List Account) (metas : List Meta
     → entry_of keys accounts metas (k, meta) ≡ repeated_entry i
 entry_again keys accounts metas k meta i again is =
     cond-false (is_first_listing metas (k, meta))
-        (first_entry (is_listed_signer metas meta.index) (is_listed_writable metas meta.index)
-        (key_in keys meta.index) (account_in accounts meta.index))
-        (repeated_entry (first_place metas meta.index)) again ∙ ap (λ n. repeated_entry n) (sym is)
+    (first_entry (is_listed_signer metas meta.index) (is_listed_writable metas meta.index)
+    (key_in keys meta.index) (account_in accounts meta.index))
+    (repeated_entry (first_place metas meta.index)) again ∙ ap (λ n. repeated_entry n) (sym is)
 
 pub size_first : (start : List Account) (metas : List Meta) (k : ℕ) (meta : Meta) (account : Account)
     → is_first_listing metas (k, meta) ≡ true → account_in start meta.index ≡ account
@@ -156,8 +156,8 @@ start_most accounts metas short most =
     let all : sum_by size (take (length metas) items) ≡ sum_by size items = ap (λ (l : List (ℕ × Meta)). sum_by size l) (all_items metas) in
     let meta : Meta = record { index = 0; signer = false; writable = false } in
     let each : All (λ (x : ℕ × Meta). size x ≤ 10496103) items = All-from_get_or
-        (λ (x : ℕ × Meta). size x ≤ 10496103) items (0, meta)
-        (λ i lt. size_most accounts metas (get_or items i (0, meta)) short) in
+    (λ (x : ℕ × Meta). size x ≤ 10496103) items (0, meta)
+    (λ i lt. size_most accounts metas (get_or items i (0, meta)) short) in
     let bound : sum_by size items ≤ length items * 10496103 = sum_by-le size 10496103 items each in
     let long : length items ≡ length metas = length-enumerate_from 0 metas in
     omega arith
@@ -204,9 +204,9 @@ pub not_outgrown : (start now : List Account) (metas : List Meta) (k : ℕ) (met
     → length n.bytes ≤ room_of s
 not_outgrown start now metas k meta s n fits same_start same_now =
     ltb-false (room_of s) (length n.bytes)
-        (ap (λ (x : Account). nat_lt (room_of x) (length n.bytes)) (sym same_start)
-        ∙ ap (λ (x : Account). nat_lt (room_of (account_in start meta.index)) (length x.bytes)) (sym same_now)
-        ∙ fits)
+    (ap (λ (x : Account). nat_lt (room_of x) (length n.bytes)) (sym same_start)
+    ∙ ap (λ (x : Account). nat_lt (room_of (account_in start meta.index)) (length x.bytes)) (sym same_now)
+    ∙ fits)
 
 -- an entry that is written over, as the code finds it
 pub patched_first : (region : List ℕ) (start now : List Account) (metas : List Meta) (k : ℕ) (meta : Meta)

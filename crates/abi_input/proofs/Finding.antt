@@ -20,9 +20,9 @@ found_step test metas k meta e =
     let items : List (ℕ × Meta) = enumerate_from 0 metas in
     let first : ℕ × Meta → Bool = is_first_listing metas in
     ap (λ (l : List (ℕ × Meta)). find test l)
-        (filter_more first items k (k, meta) (item_within metas k meta e)
-        ∙ ap (λ (x : ℕ × Meta). filter first (take k items) ++ cond (first x) (x ∷ []) [])
-        (item_at metas k meta e))
+    (filter_more first items k (k, meta) (item_within metas k meta e)
+    ∙ ap (λ (x : ℕ × Meta). filter first (take k items) ++ cond (first x) (x ∷ []) [])
+    (item_at metas k meta e))
     ∙ find-append test (filter first (take k items)) (cond (first (k, meta)) ((k, meta) ∷ []) [])
     ∙ ap (λ (o : Option (ℕ × Meta)). option_or (found_among test metas k) o) (one (first (k, meta)) (k, meta))
   where

@@ -27,8 +27,8 @@ from_push p i (x ∷ xs) y =
 position_push : {X : Type 0} (p : X → Bool) (xs : List X) (y : X) → position p (xs ++ y ∷ []) ≡ option_or (position p xs) (cond (p y) (Some (length xs)) None)
 position_push p xs y =
     position_from-zero p (xs ++ y ∷ []) ∙ from_push p 0 xs y
-        ∙ ap (λ n. option_or (position_from p 0 xs) (cond (p y) (Some n) None)) (zero_add (length xs))
-        ∙ ap (λ o. option_or o (cond (p y) (Some (length xs)) None)) (sym (position_from-zero p xs))
+    ∙ ap (λ n. option_or (position_from p 0 xs) (cond (p y) (Some n) None)) (zero_add (length xs))
+    ∙ ap (λ o. option_or o (cond (p y) (Some (length xs)) None)) (sym (position_from-zero p xs))
   where
     zero_add : (n : ℕ) → 0 + n ≡ n
     zero_add n = omega arith
@@ -116,8 +116,8 @@ lists_itself metas k x e =
     let same : nat_eq (get_or metas k x).index x.index ≡ true = ap (λ (m : Meta). nat_eq m.index x.index) there ∙ self x.index in
     let any : is_listed (take (k + 1) metas) x.index ≡ true = list_any_more (λ (m : Meta). nat_eq m.index x.index) metas k x lt ∙ ap (λ b. is_listed (take k metas) x.index || b) same ∙ or-true _ in
     let below : Before true (first_place metas x.index) (k + 1) = subst
-        (λ (b : Bool). Before b (first_place metas x.index) (k + 1)) any
-        (before (λ (m : Meta). nat_eq m.index x.index) metas (k + 1) (omega arith)) in
+    (λ (b : Bool). Before b (first_place metas x.index) (k + 1)) any
+    (before (λ (m : Meta). nat_eq m.index x.index) metas (k + 1) (omega arith)) in
     as_le below
   where
     self : (n : ℕ) → nat_eq n n ≡ true

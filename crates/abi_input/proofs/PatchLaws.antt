@@ -16,8 +16,8 @@ pub patched_whole : (region : List ℕ) (start now : List Account) (metas : List
     (end n : ℕ) → found_among (is_outgrown start now) metas (length metas) ≡ None → d ≡ []
     → d1 ≡ d ++ take 8 region
     → d2 ≡ d1 ++ flat_map (patched_entry region start now metas) (enumerate_from 0 metas)
-        → d3 ≡ d2 ++ take n (drop end region) → end ≡ entry_start start metas (length metas)
-        → n ≡ length region - end → patched region start now metas ≡ Ok d3
+    → d3 ≡ d2 ++ take n (drop end region) → end ≡ entry_start start metas (length metas)
+    → n ≡ length region - end → patched region start now metas ≡ Ok d3
 unfolding patched
 patched_whole region start now metas d d1 d2 d3 end n fits none one two three at rest =
     let entries : List ℕ = flat_map (patched_entry region start now metas) (enumerate_from 0 metas) in

@@ -81,8 +81,8 @@ length-state_bytes : (room : ℕ) (account : Account) → length account.bytes �
 unfolding state_bytes
 length-state_bytes room account fits has =
     sized account.owner.0 (number_bytes account.lamports) (number_bytes (length account.bytes)) account.bytes
-        (replicate (room - length account.bytes) 0) has.owner_is_key refl refl
-        (length-replicate (room - length account.bytes) 0) fits
+    (replicate (room - length account.bytes) 0) has.owner_is_key refl refl
+    (length-replicate (room - length account.bytes) 0) fits
   where
     sized : (o l n b z : List ℕ) → length o ≡ 32 → length l ≡ 8 → length n ≡ 8 → length z ≡ room - length b → length b ≤ room → length ((((o ++ l) ++ n) ++ b) ++ z) ≡ 48 + room
     sized o l n b z eo el en ez le = omega (arith, length-append o l, length-append (o ++ l) n, length-append ((o ++ l) ++ n) b, length-append (((o ++ l) ++ n) ++ b) z)
@@ -141,8 +141,8 @@ module _ (start : List Account) (metas : List Meta) (entry : ℕ × Meta → Lis
       ap length (flat_more entry metas k meta there) ∙ length-append (flat_map entry (take k (enumerate_from 0 metas))) (entry (k, meta)) in
       let next : suc k ≡ k + 1 = omega arith in
       let step : 8 + length (flat_map entry (take (k + 1) (enumerate_from 0 metas)))
-          ≡ entry_start start metas (k + 1) = omega
-          (arith, more, so_far, sized k meta there, start_more start metas k meta there) in
+      ≡ entry_start start metas (k + 1) = omega
+      (arith, more, so_far, sized k meta there, start_more start metas k meta there) in
       subst (λ n. 8 + length (flat_map entry (take n (enumerate_from 0 metas))) ≡ entry_start start metas n) (sym next) step
 
   split : (all number tail : List ℕ) → all ≡ (number ++ flat_map entry (enumerate_from 0 metas)) ++ tail
@@ -154,8 +154,8 @@ module _ (start : List Account) (metas : List Meta) (entry : ℕ × Meta → Lis
       let after : List ℕ = flat_map entry (drop (k + 1) items) in
       let all_entries : flat_map entry items ≡ (before ++ entry (k, meta)) ++ after =
       ap (λ (l : List (ℕ × Meta)). flat_map entry l) (sym (take-append-drop (k + 1) items))
-          ∙ flat_map-append entry (take (k + 1) items) (drop (k + 1) items)
-          ∙ ap (λ (l : List ℕ). l ++ after) (flat_more entry metas k meta e) in
+      ∙ flat_map-append entry (take (k + 1) items) (drop (k + 1) items)
+      ∙ ap (λ (l : List ℕ). l ++ after) (flat_more entry metas k meta e) in
       let below : k ≤ length metas = omega (arith, slice_get_within metas k meta e) in
       record {
         front = number ++ before;
@@ -170,8 +170,8 @@ module _ (start : List Account) (metas : List Meta) (entry : ℕ × Meta → Lis
 module _ (start now : List Account) (metas : List Meta) (region : List ℕ)
     (stand : (k : ℕ) (meta : Meta) → slice_get metas k ≡ Some meta → is_first_listing metas (k, meta) ≡ true → Stands region (entry_start start metas k) (account_in now meta.index))
     (short : (k : ℕ) (meta : Meta) → slice_get metas k ≡ Some meta → is_first_listing metas (k, meta) ≡ true
-        → (length (account_in now meta.index).bytes ≤ room_of (account_in start meta.index))
-        × (length (account_in now meta.index).bytes ≤ max_data_len)) where
+    → (length (account_in now meta.index).bytes ≤ room_of (account_in start meta.index))
+    × (length (account_in now meta.index).bytes ≤ max_data_len)) where
   no_more_than : (room len most : ℕ) → len ≤ room → len ≤ most → (nat_lt room len || nat_lt most len) ≡ false
   no_more_than room len most r m = grind (arith, nat_tests)
 
@@ -203,8 +203,8 @@ module _ (start now : List Account) (metas : List Meta) (region : List ℕ)
       at_first meta first =
           let is : account_in now meta.index ≡ account = ap (λ n. account_in now n) first.same ∙ there in
           let s : Stands region (entry_start start metas (first_place metas i)) account = subst
-              (λ (a : Account). Stands region (entry_start start metas (first_place metas i)) a) is
-              (stand (first_place metas i) meta first.there first.first) in
+          (λ (a : Account). Stands region (entry_start start metas (first_place metas i)) a) is
+          (stand (first_place metas i) meta first.there first.first) in
           same_account region (entry_start start metas (first_place metas i)) account s.lamports s.owner s.len s.bytes
 
       by_case : (b : Bool) → is_listed metas i ≡ b → cond b (account_at region (entry_start start metas (first_place metas i)) account) account ≡ account
@@ -232,8 +232,8 @@ widths_of_meta : (accounts : List Account) (metas : List Meta) → AreInRange (l
 widths_of_meta accounts metas range have k meta e =
     let lt : meta.index < length accounts = index_in (length accounts) metas k meta range e in
     subst HasWidths (sym (ap (λ (o : Option Account). unwrap_or o empty_account)
-        (slice_get-get_or accounts meta.index empty_account lt)))
-        (All-get_or HasWidths accounts meta.index empty_account lt have)
+    (slice_get-get_or accounts meta.index empty_account lt)))
+    (All-get_or HasWidths accounts meta.index empty_account lt have)
 
 module _ (keys : List Key) (accounts : List Account) (metas : List Meta) (count : length accounts ≡ length keys)
     (range : AreInRange (length accounts) metas) (are_keys : AreKeys keys) (have : HaveWidths accounts) where
@@ -311,8 +311,8 @@ pub what_was_laid_out : (keys : List Key) (accounts : List Account) (metas : Lis
 what_was_laid_out keys accounts metas input program count range are_keys have =
     taken accounts accounts metas (input_of keys accounts metas input program)
     (laid_stands keys accounts metas count range are_keys have (input_of keys accounts metas input program)
-        (number_bytes (length input) ++ (input ++ program.0))
-        (laid_whole keys accounts metas count range are_keys have input program))
+    (number_bytes (length input) ++ (input ++ program.0))
+    (laid_whole keys accounts metas count range are_keys have input program))
     (λ k meta e first. (omega arith, (widths_of_meta accounts metas range have k meta e).is_short))
 
 module _ (start now : List Account) (metas : List Meta) (region : List ℕ) (count : length now ≡ length start)
@@ -350,8 +350,8 @@ module _ (start now : List Account) (metas : List Meta) (region : List ℕ) (cou
   over_sized : (k : ℕ) (meta : Meta) → slice_get metas k ≡ Some meta → length (over (k, meta)) ≡ entry_size start metas (k, meta)
   over_sized k meta e =
       over_length (is_first_listing metas (k, meta)) (account_in start meta.index) (account_in now meta.index)
-          (take (entry_size start metas (k, meta)) (drop (entry_start start metas k) region))
-          (entry_size start metas (k, meta))
+      (take (entry_size start metas (k, meta)) (drop (entry_start start metas k) region))
+      (entry_size start metas (k, meta))
       (old_length k meta e) refl (λ first. not_grown k meta e first) (widths_now k meta e)
 
   -- a first listing has the account that was written over it

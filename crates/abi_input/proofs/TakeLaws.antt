@@ -83,8 +83,8 @@ entered_more start metas k meta entries i entry d new e is below new_is at seen 
     by_case false other =
         let apart : index ≢ i = λ same. absurd (grind (arith, nat_tests)) in
         get_or-set_other entries i index new None apart ∙ seen index
-            ∙ ap (λ b. cond b (Some (entry_start start metas (first_place metas index))) None)
-            (sym (or-false (is_listed (take k metas) index)))
+        ∙ ap (λ b. cond b (Some (entry_start start metas (first_place metas index))) None)
+        (sym (or-false (is_listed (take k metas) index)))
 
 -- an account that is listed has its entry in the region, with all data that it says it has
 pub entry_holds : (region : List ℕ) (start : List Account) (metas : List Meta) (index : ℕ) (o : Option ℕ)
@@ -101,12 +101,12 @@ entry_holds region start metas index o entry whole fits is has = by_case (is_lis
         let k : ℕ = first_place metas index in
         let short : is_too_long region start metas (k, meta) ≡ false = none_passes (is_too_long region start metas) metas k meta first.there fits first.first in
         let len : data_len_at region (entry_start start metas k) ≤ room_of (account_in start meta.index) =
-            ltb-false (room_of (account_in start meta.index)) (data_len_at region (entry_start start metas k))
-            (left (has_outgrown (account_in start meta.index) (data_len_at region (entry_start start metas k)))
-            (nat_lt max_data_len (data_len_at region (entry_start start metas k))) short) in
+        ltb-false (room_of (account_in start meta.index)) (data_len_at region (entry_start start metas k))
+        (left (has_outgrown (account_in start meta.index) (data_len_at region (entry_start start metas k)))
+        (nat_lt max_data_len (data_len_at region (entry_start start metas k))) short) in
         let within : entry_start start metas k + first_size (account_in start meta.index) ≤ entry_start start
-            metas (length metas) = first_fits start metas k meta (account_in start meta.index) first.there
-            first.first refl in
+        metas (length metas) = first_fits start metas k meta (account_in start meta.index) first.there
+        first.first refl in
         subst (λ (n : ℕ). IsEntryOf region n) at (omega arith)
       where
         left : (a b : Bool) → (a || b) ≡ false → a ≡ false
@@ -126,9 +126,9 @@ pub account_by_is : (region : List ℕ) (start : List Account) (metas : List Met
     → account_by region o account ≡ account_back region start metas (index, account)
 account_by_is region start metas index o account is =
     ap (λ (p : Option ℕ). account_by region p account)
-        (is ∙ ap (λ (l : List Meta). cond (is_listed l index)
-        (Some (entry_start start metas (first_place metas index))) None)
-        (take_all (length metas) metas (omega arith)))
+    (is ∙ ap (λ (l : List Meta). cond (is_listed l index)
+    (Some (entry_start start metas (first_place metas index))) None)
+    (take_all (length metas) metas (omega arith)))
     ∙ by_case (is_listed metas index)
   where
     by_case : (b : Bool) → account_by region
@@ -147,12 +147,12 @@ taken_more f now shares k x t lt there is so_far =
     let d : Account = arc_value x in
     let long : k < length (accounts_of now) = rw length_map lt in
     let at : get_or (accounts_of now) k d
-        ≡ arc_value x = get_or-map (λ (share : Arc Account Global). arc_value share) now k x d lt
-        ∙ ap (λ (share : Arc Account Global). arc_value share) (sym there) in
+    ≡ arc_value x = get_or-map (λ (share : Arc Account Global). arc_value share) now k x d lt
+    ∙ ap (λ (share : Arc Account Global). arc_value share) (sym there) in
     let zero_first : 0 + k ≡ k = omega arith in
     let item : get_or items k (k, d)
-        ≡ (k, arc_value x) = get_or-enumerate_from 0 (accounts_of now) k (k, d) long
-        ∙ ap (λ (n : ℕ). (n, get_or (accounts_of now) k d)) zero_first ∙ ap (λ (a : Account). (k, a)) at in
+    ≡ (k, arc_value x) = get_or-enumerate_from 0 (accounts_of now) k (k, d) long
+    ∙ ap (λ (n : ℕ). (n, get_or (accounts_of now) k d)) zero_first ∙ ap (λ (a : Account). (k, a)) at in
     map-append (λ (share : Arc Account Global). arc_value share) shares (t ∷ []) ∙ ap (λ (l : List Account). l ++ arc_value t ∷ []) so_far
     ∙ ap (λ (a : Account). map f (take k items) ++ a ∷ []) (is ∙ ap f (sym item)) ∙ sym (map_more f items k (k, d) (rw length-enumerate_from long))
   where
@@ -245,8 +245,8 @@ pub shared_at : (now : List (Arc Account Global)) (k : ℕ) (x : Arc Account Glo
 shared_at now k x lt there =
     let long : k < length (accounts_of now) = rw length_map lt in
     slice_get-get_or (accounts_of now) k (arc_value x) long
-        ∙ ap Some (get_or-map (λ (share : Arc Account Global). arc_value share) now k x (arc_value x) lt
-        ∙ ap (λ (share : Arc Account Global). arc_value share) (sym there))
+    ∙ ap Some (get_or-map (λ (share : Arc Account Global). arc_value share) now k x (arc_value x) lt
+    ∙ ap (λ (share : Arc Account Global). arc_value share) (sym there))
   where
     length_map : length (accounts_of now) ≡ length now
     length_map = length-map now (λ (share : Arc Account Global). arc_value share)

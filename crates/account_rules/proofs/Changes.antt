@@ -59,8 +59,12 @@ module _ (program : Key) (writable : List Bool) (before after : List (Arc Accoun
     (same_accounts : length (accounts_of after) ≡ length (accounts_of before)) where
   length-all : length (changes writable (accounts_of before) (accounts_of after)) ≡ length writable
   length-all = length-enumerate_from 0 (zip writable (zip (accounts_of before) (accounts_of after)))
-      ∙ omega (arith, length-zip writable (zip (accounts_of before) (accounts_of after)), length-zip
-      (accounts_of before) (accounts_of after))
+      ∙ omega (
+        arith,
+        length-zip writable (zip (accounts_of before) (accounts_of after)),
+        length-zip
+            (accounts_of before) (accounts_of after),
+      )
 
   -- what the account at a place breaks
   broken_at : (n : ℕ) (b a : Arc Account Global) → n < length writable → b ≡ get_or before n b
@@ -75,16 +79,16 @@ module _ (program : Key) (writable : List Bool) (before after : List (Arc Accoun
       let long : length (zip (accounts_of before) (accounts_of after)) ≡ length writable = omega (arith, length-zip (accounts_of before) (accounts_of after)) in
       let long_all : length (zip writable (zip (accounts_of before) (accounts_of after))) ≡ length writable = omega (arith, length-zip writable (zip (accounts_of before) (accounts_of after))) in
       let pair : get_or (zip (accounts_of before) (accounts_of after)) n (arc_value b, arc_value a)
-          ≡ (arc_value b, arc_value a) = get_or-zip (accounts_of before) (accounts_of after) n
-          (arc_value b, arc_value a) (omega arith) (omega arith) ∙ (λ i. (before_is i, after_is i)) in
+      ≡ (arc_value b, arc_value a) = get_or-zip (accounts_of before) (accounts_of after) n
+      (arc_value b, arc_value a) (omega arith) (omega arith) ∙ (λ i. (before_is i, after_is i)) in
       let entry : get_or (zip writable (zip (accounts_of before) (accounts_of after))) n
-          (false, (arc_value b, arc_value a))
-          ≡ (get_or writable n false, (arc_value b, arc_value a)) = get_or-zip writable
-          (zip (accounts_of before) (accounts_of after)) n (false, (arc_value b, arc_value a)) below
-          (omega arith) ∙ (λ i. (get_or writable n false, pair i)) in
+      (false, (arc_value b, arc_value a))
+      ≡ (get_or writable n false, (arc_value b, arc_value a)) = get_or-zip writable
+      (zip (accounts_of before) (accounts_of after)) n (false, (arc_value b, arc_value a)) below
+      (omega arith) ∙ (λ i. (get_or writable n false, pair i)) in
       ap (broken_by program) (get_or-enumerate_from 0
-          (zip writable (zip (accounts_of before) (accounts_of after))) n
-          (n, (false, (arc_value b, arc_value a))) (omega arith) ∙ (λ i. (zero-add n i, entry i)))
+      (zip writable (zip (accounts_of before) (accounts_of after))) n
+      (n, (false, (arc_value b, arc_value a))) (omega arith) ∙ (λ i. (zero-add n i, entry i)))
 
   pub goes_on : (n : ℕ) (b a : Arc Account Global) → n < length writable → b ≡ get_or before n b
       → a ≡ get_or after n a → NoneBroken program writable (accounts_of before) (accounts_of after) n
@@ -111,15 +115,15 @@ module _ (program : Key) (writable : List Bool) (before after : List (Arc Accoun
   unfolding rules
   ends n over none =
       let whole : filter_map (broken_by program) (changes writable (accounts_of before) (accounts_of after))
-          ≡ [] = ap (filter_map (broken_by program))
-          (sym (take-length (changes writable (accounts_of before) (accounts_of after)))
-          ∙ ap (λ m. take m (changes writable (accounts_of before) (accounts_of after)))
-          (length-all ∙ sym over)) ∙ none in
+      ≡ [] = ap (filter_map (broken_by program))
+      (sym (take-length (changes writable (accounts_of before) (accounts_of after)))
+      ∙ ap (λ m. take m (changes writable (accounts_of before) (accounts_of after)))
+      (length-all ∙ sym over)) ∙ none in
       ap (λ faults. first_of (faults
-          ++ (if unbalanced (befores (changes writable (accounts_of before) (accounts_of after)))
-          (afters (changes writable (accounts_of before) (accounts_of after))) then Unbalanced ∷ [] else [])))
-          whole ∙ ap last_of (unbalanced-changes writable (accounts_of before) (accounts_of after) same_flags
-          same_accounts)
+      ++ (if unbalanced (befores (changes writable (accounts_of before) (accounts_of after)))
+      (afters (changes writable (accounts_of before) (accounts_of after))) then Unbalanced ∷ [] else [])))
+      whole ∙ ap last_of (unbalanced-changes writable (accounts_of before) (accounts_of after) same_flags
+      same_accounts)
 
   pub ends_unbalanced : (n : ℕ) → n ≡ length writable
       → NoneBroken program writable (accounts_of before) (accounts_of after) n

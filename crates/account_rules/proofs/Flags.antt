@@ -28,15 +28,15 @@ one_flag old new flags at within was more place below = by_test (nat_eq at place
     by_test true here =
         let same : at ≡ place = grind (arith, nat_tests) in
         slice_get-get_or (set flags at true) place false (long below)
-            ∙ ap Some (ap (λ p. get_or (set flags at true) p false) (sym same)
-            ∙ get_or-set_same flags at true false (slice_get_within flags at (old at) (was at within))
-            ∙ sym (more place ∙ ap (λ t. old place || t) here ∙ or-true (old place)))
+        ∙ ap Some (ap (λ p. get_or (set flags at true) p false) (sym same)
+        ∙ get_or-set_same flags at true false (slice_get_within flags at (old at) (was at within))
+        ∙ sym (more place ∙ ap (λ t. old place || t) here ∙ or-true (old place)))
     by_test false other =
         let differ : place ≢ at = grind (arith, nat_tests) in
         slice_get-get_or (set flags at true) place false (long below)
-            ∙ ap Some (get_or-set_other flags at place true false differ
-            ∙ get_or_from_slice_get flags place (old place) false (was place below)
-            ∙ sym (more place ∙ ap (λ t. old place || t) other ∙ or-false (old place)))
+        ∙ ap Some (get_or-set_other flags at place true false differ
+        ∙ get_or_from_slice_get flags place (old place) false (was place below)
+        ∙ sym (more place ∙ ap (λ t. old place || t) other ∙ or-false (old place)))
 
 -- a flag that is set already
 pub again_flag : (old new : ℕ → Bool) (flags : List Bool) (at : ℕ) → AreFlagsOf old flags → old at ≡ true → ((place : ℕ) → new place ≡ (old place || nat_eq at place)) → AreFlagsOf new flags

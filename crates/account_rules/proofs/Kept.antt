@@ -66,8 +66,11 @@ kept program writable before after n none =
       owner = elim (and_cases (not (same_key before.owner after.owner)) (not (owns program before) || has_byte after) three.0) [
         | inl same ↦ inl (same_key-true before.owner after.owner (not-false (same_key before.owner after.owner) same))
         | inr given ↦ let parts = or_parts (not (owns program before)) (has_byte after) given
-            in inr (same_key-true before.owner program (not-false (owns program before) parts.0), no_byte
-            after.bytes parts.1)
+            in inr (
+              same_key-true before.owner program (not-false (owns program before) parts.0),
+              no_byte
+                  after.bytes parts.1,
+            )
       ];
       lamports = elim (and_cases (nat_lt after.lamports before.lamports) (not (owns program before)) four.0) [
         | inl more ↦ inl (ltb-false after.lamports before.lamports more)

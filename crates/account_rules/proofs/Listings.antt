@@ -112,9 +112,9 @@ pub rule_at : (program : Key) (metas : List Meta) (before after : List (Arc Acco
     ≡ broken_rule program writable x y n
 rule_at program metas before after n meta writable b a x y below_b below_a flag is_b is_a is_x is_y =
     let first : get_or (accounts_of before) meta.index empty_account
-        ≡ x = get_or_from_slice_get (accounts_of before) meta.index (arc_value b) empty_account
-        (value_at before meta.index b below_b is_b) ∙ sym is_x in
+    ≡ x = get_or_from_slice_get (accounts_of before) meta.index (arc_value b) empty_account
+    (value_at before meta.index b below_b is_b) ∙ sym is_x in
     let second : get_or (accounts_of after) meta.index empty_account
-        ≡ y = get_or_from_slice_get (accounts_of after) meta.index (arc_value a) empty_account
-        (value_at after meta.index a below_a is_a) ∙ sym is_y in
+    ≡ y = get_or_from_slice_get (accounts_of after) meta.index (arc_value a) empty_account
+    (value_at after meta.index a below_a is_a) ∙ sym is_y in
     λ i. broken_rule program (flag i) (first i) (second i) n

@@ -38,16 +38,16 @@ unfolding rest
 rest-one p q at [] d below was now others = absurd (omega arith)
 rest-one p q zero (account ∷ accounts) d below was now others =
     let tails : rest (λ place. p (suc place)) accounts
-        ≡ rest (λ place. q (suc place)) accounts = rest-same (λ place. p (suc place)) (λ place. q (suc place))
-        accounts (λ place. sym (others (suc place) (omega arith))) in
+    ≡ rest (λ place. q (suc place)) accounts = rest-same (λ place. p (suc place)) (λ place. q (suc place))
+    accounts (λ place. sym (others (suc place) (omega arith))) in
     let first : (if p 0 then 0 else account.lamports) ≡ account.lamports = ap (λ t. if t then 0 else account.lamports) was in
     let second : (if q 0 then 0 else account.lamports) ≡ 0 = ap (λ t. if t then 0 else account.lamports) now in
     omega arith
 rest-one p q (suc at) (account ∷ accounts) d below was now others =
     let tails : rest (λ place. p (suc place)) accounts
-        ≡ (get_or accounts at d).lamports + rest (λ place. q (suc place)) accounts = rest-one
-        (λ place. p (suc place)) (λ place. q (suc place)) at accounts d (omega arith) was now
-        (λ place differ. others (suc place) (omega arith)) in
+    ≡ (get_or accounts at d).lamports + rest (λ place. q (suc place)) accounts = rest-one
+    (λ place. p (suc place)) (λ place. q (suc place)) at accounts d (omega arith) was now
+    (λ place differ. others (suc place) (omega arith)) in
     let heads : (if q 0 then 0 else account.lamports) ≡ (if p 0 then 0 else account.lamports) = ap (λ t. if t then 0 else account.lamports) (others 0 (omega arith)) in
     omega arith
 
@@ -88,9 +88,9 @@ listed_in-more metas accounts n below =
     let split = filter_more (is_first_listing metas) (listings metas) n (n, no_meta) within in
     let entry : get_or (listings metas) n (n, no_meta) ≡ (n, get_or metas n no_meta) = listing_at metas n no_meta below in
     ap (sum_by (lamports_at accounts))
-        (split ∙ ap (λ (l : ℕ × Meta). filter (is_first_listing metas) (take n (listings metas))
-        ++ picked metas l) entry) ∙ sum_by-append (lamports_at accounts)
-        (filter (is_first_listing metas) (take n (listings metas))) (picked metas (n, get_or metas n no_meta))
+    (split ∙ ap (λ (l : ℕ × Meta). filter (is_first_listing metas) (take n (listings metas))
+    ++ picked metas l) entry) ∙ sum_by-append (lamports_at accounts)
+    (filter (is_first_listing metas) (take n (listings metas))) (picked metas (n, get_or metas n no_meta))
 
 -- they are parted from the lamports of the others
 parted_more : (metas : List Meta) (accounts : List Account) (n : ℕ) → n < length metas
@@ -105,25 +105,25 @@ parted_more metas accounts n below range so_far = by_test (is_listed (take n met
     by_test : (t : Bool) → is_listed (take n metas) (get_or metas n no_meta).index ≡ t → listed_in metas accounts (n + 1) + rest (is_listed (take (n + 1) metas)) accounts ≡ lamports_in accounts
     by_test true again =
         let none : sum_by (lamports_at accounts) (picked metas (n, get_or metas n no_meta))
-            ≡ 0 = ap (λ (t : Bool). sum_by (lamports_at accounts)
-            (if not t then (n, get_or metas n no_meta) ∷ [] else [])) again in
+        ≡ 0 = ap (λ (t : Bool). sum_by (lamports_at accounts)
+        (if not t then (n, get_or metas n no_meta) ∷ [] else [])) again in
         let same : rest (is_listed (take (n + 1) metas)) accounts
-            ≡ rest (is_listed (take n metas)) accounts = rest-same (is_listed (take (n + 1) metas))
-            (is_listed (take n metas)) accounts (λ place. listed_again metas n no_meta place below again) in
+        ≡ rest (is_listed (take n metas)) accounts = rest-same (is_listed (take (n + 1) metas))
+        (is_listed (take n metas)) accounts (λ place. listed_again metas n no_meta place below again) in
         omega (arith, one_more, so_far)
     by_test false first =
         let one : sum_by (lamports_at accounts) (picked metas (n, get_or metas n no_meta))
-            ≡ (get_or accounts (get_or metas n no_meta).index empty_account).lamports = ap
-            (λ (t : Bool). sum_by (lamports_at accounts)
-            (if not t then (n, get_or metas n no_meta) ∷ [] else [])) first
-            ∙ sum_by-cons (lamports_at accounts) (n, get_or metas n no_meta) []
-            ∙ add-zero ((get_or accounts (get_or metas n no_meta).index empty_account).lamports) in
+        ≡ (get_or accounts (get_or metas n no_meta).index empty_account).lamports = ap
+        (λ (t : Bool). sum_by (lamports_at accounts)
+        (if not t then (n, get_or metas n no_meta) ∷ [] else [])) first
+        ∙ sum_by-cons (lamports_at accounts) (n, get_or metas n no_meta) []
+        ∙ add-zero ((get_or accounts (get_or metas n no_meta).index empty_account).lamports) in
         let less : rest (is_listed (take n metas)) accounts
-            ≡ (get_or accounts (get_or metas n no_meta).index empty_account).lamports + rest
-            (is_listed (take (n + 1) metas)) accounts = rest-one (is_listed (take n metas))
-            (is_listed (take (n + 1) metas)) (get_or metas n no_meta).index accounts empty_account
-            (range n no_meta below) first (listed_here metas n no_meta below)
-            (λ place differ. listed_else metas n no_meta place below differ) in
+        ≡ (get_or accounts (get_or metas n no_meta).index empty_account).lamports + rest
+        (is_listed (take (n + 1) metas)) accounts = rest-one (is_listed (take n metas))
+        (is_listed (take (n + 1) metas)) (get_or metas n no_meta).index accounts empty_account
+        (range n no_meta below) first (listed_here metas n no_meta below)
+        (λ place differ. listed_else metas n no_meta place below differ) in
         omega (arith, one_more, so_far)
 
 parted : (metas : List Meta) (accounts : List Account) (n : ℕ) → n ≤ length metas
@@ -163,12 +163,12 @@ module _ (metas : List Meta) (before after : List Account) (count : length after
   one_sum =
       let others : ℕ = rest (is_listed metas) before in
       let before_is : listed_in metas before (length metas) + rest (is_listed metas) before
-          ≡ lamports_in before = ap (λ (ms : List Meta). listed_in metas before (length metas) + rest
-          (is_listed ms) before) (sym all_metas) ∙ parted metas before (length metas) (omega arith) range in
+      ≡ lamports_in before = ap (λ (ms : List Meta). listed_in metas before (length metas) + rest
+      (is_listed ms) before) (sym all_metas) ∙ parted metas before (length metas) (omega arith) range in
       let after_is : listed_in metas after (length metas) + rest (is_listed metas) after
-          ≡ lamports_in after = ap (λ (ms : List Meta). listed_in metas after (length metas) + rest
-          (is_listed ms) after) (sym all_metas)
-          ∙ parted metas after (length metas) (omega arith) (rw count range) in
+      ≡ lamports_in after = ap (λ (ms : List Meta). listed_in metas after (length metas) + rest
+      (is_listed ms) after) (sym all_metas)
+      ∙ parted metas after (length metas) (omega arith) (rw count range) in
       let kept : rest (is_listed metas) after ≡ rest (is_listed metas) before = rest-kept (is_listed metas) before after count same in
       (rest (is_listed metas) before, (omega (arith, befores_sum), omega (arith, afters_sum)))
 

@@ -133,9 +133,14 @@ module _ {K X : Type 0} {R : K → K → Ordering} (o : IsTotalOrder R) where
   unfolding IsStrictlySortedBy
   sorted-remove_entry test [] h = tt
   sorted-remove_entry test (e ∷ es) h = elim (test e.0) as
-      (λ b. IsStrictlySortedBy R (keys_of (cond b es (e ∷ remove_entry test es))))
-      [ true ↦ h.1 | false ↦ (still_all (λ (y : K). R e.0 y ≡ Less) test es h.0, sorted-remove_entry test es
-      h.1) ]
+      (λ b. IsStrictlySortedBy R (keys_of (cond b es (e ∷ remove_entry test es)))) [
+        | true ↦ h.1
+        | false ↦ (
+          still_all (λ (y : K). R e.0 y ≡ Less) test es h.0,
+          sorted-remove_entry test es
+              h.1,
+        )
+      ]
 
   -- the entries of a map without a key
   pub entries-remove_entry : IsAntisymmetric R → (m : FinMap R X) (k : K) → entries (remove m k) ≡ remove_entry (is_at (R k)) (entries m)

@@ -70,8 +70,8 @@ removed_next start now next keys n d taken more o below apart R found removed pu
   found =
       ap (map (option_map arc_value)) pushed ∙ map-append (option_map arc_value) taken (o ∷ [])
       ∙ ap₂ (λ (os : List (Option Account)) (x : Option Account). os ++ x ∷ []) R.found
-          (found ∙ ap (λ s. get s k) R.rest ∙ get-without start (take n keys) k
-          ∙ ap (λ b. cond (not b) (get start k) None) apart)
+      (found ∙ ap (λ s. get s k) R.rest ∙ get-without start (take n keys) k
+      ∙ ap (λ b. cond (not b) (get start k) None) apart)
       ∙ sym (map_more (get start) keys n d below);
   rest = removed ∙ ap (λ s. remove s k) R.rest ∙ without-more start (take n keys) k ∙ ap (without start) (sym (take_more keys n d below));
 }
@@ -111,11 +111,11 @@ joined es fs xs tree more after is up distinct made moved end =
     get-state_seen fs q ∙ ap (λ l. option_map arc_value (lookup (is_at (key_cmp q)) l)) (sym end)
     ∙ ap (option_map arc_value) (
     moved.0 q ∙ update_all_distinct (eq_by_cmp_equiv key_cmp_total) (eq_by_cmp key_cmp) (λ x y. refl)
-        (λ k. lookup (is_at (key_cmp k)) tree.entries) more.entries q
-        (IsDistinct-from_sorted key_cmp (keys_of more.entries) made.1)
+    (λ k. lookup (is_at (key_cmp k)) tree.entries) more.entries q
+    (IsDistinct-from_sorted key_cmp (keys_of more.entries) made.1)
     ∙ ap₂ (λ o p. option_or o p)
-        (made.0 q ∙ update_all_none (eq_by_cmp_equiv key_cmp_total) (eq_by_cmp key_cmp) (λ x y. refl) xs q
-        (distinct_by (keys_of xs) distinct)) (ap (λ l. lookup (is_at (key_cmp q)) l) is)
+    (made.0 q ∙ update_all_none (eq_by_cmp_equiv key_cmp_total) (eq_by_cmp key_cmp) (λ x y. refl) xs q
+    (distinct_by (keys_of xs) distinct)) (ap (λ l. lookup (is_at (key_cmp q)) l) is)
     ∙ sym (lookup-append (is_at (key_cmp q)) xs es))
     ∙ sym (get-state_seen (xs ++ es) q))
     ∙ sym (with_entries-seen xs es up)
@@ -134,8 +134,8 @@ pub record ArePut (s : State) (ys : List (Key × Account)) : Type 0 where
 still_absent : (s : State) (y : Key × Account) (ys : List (Key × Account)) → ArePut s (y ∷ ys) → at (with_entries s ys) y.0 ≡ empty_account
 still_absent s y ys P =
     let found : get (with_entries s ys) y.0 ≡ None = get-from_entries key_cmp_total (ys ++ entries s) y.0
-        ∙ find-apart y.0 ys (entries s) (IsDistinct-head same_key y.0 (keys_of ys) P.distinct)
-        (sym (get-entries s y.0) ∙ P.absent.0) in
+    ∙ find-apart y.0 ys (entries s) (IsDistinct-head same_key y.0 (keys_of ys) P.distinct)
+    (sym (get-entries s y.0) ∙ P.absent.0) in
     rw found refl
 
 pub sum-with : (s : State) (ys : List (Key × Account)) → IsState s → ArePut s ys

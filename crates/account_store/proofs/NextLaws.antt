@@ -51,9 +51,9 @@ between k (e ∷ es) = elim (is_lt (key_cmp k e.0)) as
     (entries_between key_cmp (Excluded k) Unbounded es))
     ≡ cond b ((e.0, arc_value e.1) ∷ filter (λ d. is_above (Some k) d.0) (seen es))
     (filter (λ d. is_above (Some k) d.0) (seen es))) [
-  | true ↦ ap (λ (l : List (Key × Account)). (e.0, arc_value e.1) ∷ l) (between k es)
-  | false ↦ between k es
-]
+      | true ↦ ap (λ (l : List (Key × Account)). (e.0, arc_value e.1) ∷ l) (between k es)
+      | false ↦ between k es
+    ]
 
 -- the accounts of a map that stand above a key are those after it
 pub entries_between-seen : (es : List (Key × Shared)) (k : Key) → IsStrictlySortedBy key_cmp (keys_of es)

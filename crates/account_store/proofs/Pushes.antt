@@ -97,8 +97,8 @@ IsKept-pushed es new total n s e v is shown same put ascends none short counted 
     let fine = IsFine-from_none (entries s) (entry_of e) none in
     let after : state_seen new ≡ map.insert s e.key e.account = state-pushed es new s e v shown same put in
     let all : sum (map.insert s e.key e.account)
-        ≡ sum s + e.account.lamports = ap lamports_of (entries-insert s (entry_of e) none)
-        ∙ sum_by_push (λ (d : Entry). d.1.lamports) (entries s) (entry_of e) in
+    ≡ sum s + e.account.lamports = ap lamports_of (entries-insert s (entry_of e) none)
+    ∙ sum_by_push (λ (d : Entry). d.1.lamports) (entries s) (entry_of e) in
     let state : IsState s = subst IsState shown is.is_state in
     record {
       ascends = ascends;

@@ -44,10 +44,10 @@ seen-insert_entry (e ∷ es) k v = elim (key_cmp k e.0) as
     (λ o. seen (match_ordering o ((k, v) ∷ e ∷ es) ((e.0, v) ∷ es) (e ∷ insert_entry key_cmp es k v))
     ≡ match_ordering o ((k, arc_value v) ∷ seen (e ∷ es)) ((e.0, arc_value v) ∷ seen es)
     ((e.0, arc_value e.1) ∷ insert_entry key_cmp (seen es) k (arc_value v))) [
-  | Less ↦ refl
-  | Equal ↦ refl
-  | Greater ↦ ap (λ (l : List (Key × Account)). (e.0, arc_value e.1) ∷ l) (seen-insert_entry es k v)
-]
+      | Less ↦ refl
+      | Equal ↦ refl
+      | Greater ↦ ap (λ (l : List (Key × Account)). (e.0, arc_value e.1) ∷ l) (seen-insert_entry es k v)
+    ]
 
 seen-remove_entry : (es : List (Key × Shared)) (test : Key → Bool) → seen (remove_entry test es) ≡ remove_entry test (seen es)
 seen-remove_entry [] test = refl

@@ -26,9 +26,11 @@ has_key-dedup : (keys : List Key) (key : Key) → has_key key (dedup same_key ke
 has_key-dedup keys key =
     let kept = is_member-Decides same_key-Decides (dedup same_key keys) key in
     let all = is_member-Decides same_key-Decides keys key in
-    let among : Decides (has_key key keys) (Contains (dedup same_key keys) key) =
-        (λ t. Contains-dedup same_key-equiv same_key-true keys key (all.0 t), λ m. all.1
-        (Contains-from_dedup same_key keys key m)) in
+    let among : Decides (has_key key keys) (Contains (dedup same_key keys) key) = (
+      λ t. Contains-dedup same_key-equiv same_key-true keys key (all.0 t),
+      λ m. all.1
+          (Contains-from_dedup same_key keys key m),
+    ) in
     same_from_decides (has_key key (dedup same_key keys)) (has_key key keys) kept among
 
 -- the same keys
@@ -45,8 +47,8 @@ module _ {X : Type 0} (key : X → Key) (xs : List X) (q : Key) where
       let long = length-map xs key in
       let less = Less-from_sorted key_cmp (map key xs) k (k + 1) (key d) sorted (omega arith) (omega (arith, below, long)) in
       ap is_lt (key_cmp_total.antisymm (key (get_or xs (k + 1) d)) (key (get_or xs k d))
-          ∙ ap ordering_reverse (ap₂ key_cmp (sym (get_or-map key xs k d (key d) (omega (arith, below))))
-          (sym (get_or-map key xs (k + 1) d (key d) below)) ∙ less)))
+      ∙ ap ordering_reverse (ap₂ key_cmp (sym (get_or-map key xs k d (key d) (omega (arith, below))))
+      (sym (get_or-map key xs (k + 1) d (key d) below)) ∙ less)))
 
   pub search_none : (at : ℕ) → IsStrictlySortedBy key_cmp (map key xs)
       → (IsNonDecreasingBy (λ x. ordering_index (key_cmp (key x) q)) xs

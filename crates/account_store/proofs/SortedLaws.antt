@@ -239,10 +239,13 @@ wrong-from_fault before e fault are h =
           elim (chosen (nat_eq e.1.lamports 0) (Some (Empty (length before))) _ (Some fault) p.1) [
             | inl q ↦ subst (IsWrongAfter before e) (same_Some _ fault q.1) (refl, ascend, (let t = q.0 in grind (arith, nat_tests)))
             | inr q ↦ elim (chosen (nat_lt (2 ^ 64 - 1) (lamports_of before + e.1.lamports)) (Some SupplyTooLarge) None (Some fault) q.1) [
-              | inl r ↦ subst (IsWrongAfter before e) (same_Some _ fault r.1)
-                  (ascend, (let t = q.0 in grind (arith, nat_tests)), rw
-                  (sum_by_push (λ (d : Entry). d.1.lamports) before e)
-                  (let t = r.0 in grind (arith, nat_tests)))
+              | inl r ↦ subst (IsWrongAfter before e) (same_Some _ fault r.1) (
+                ascend,
+                (let t = q.0 in grind (arith, nat_tests)),
+                rw
+                    (sum_by_push (λ (d : Entry). d.1.lamports) before e)
+                    (let t = r.0 in grind (arith, nat_tests)),
+              )
               | inr r ↦ absurd (some_is_not_none _ (sym r.1))
             ]
           ]

@@ -349,9 +349,9 @@ pub weight_more : (es : Entries) (i : ℕ) (e : Key × Shared) → i < length es
     × (weight (take i es) + (let a : Account = arc_value e.1 in a.lamports) ≤ weight es)
 weight_more es i e below is =
     let more : weight (take (i + 1) es)
-        ≡ weight (take i es) + (let a : Account = arc_value e.1 in a.lamports) = ap weight
-        (take_more es i e below ∙ ap (λ (d : Key × Shared). take i es ++ d ∷ []) (sym is))
-        ∙ weight-push (take i es) e in
+    ≡ weight (take i es) + (let a : Account = arc_value e.1 in a.lamports) = ap weight
+    (take_more es i e below ∙ ap (λ (d : Key × Shared). take i es ++ d ∷ []) (sym is))
+    ∙ weight-push (take i es) e in
     let parts : weight (take (i + 1) es) + weight (drop (i + 1) es) ≡ weight es =
     sym (sum_by-append (λ (d : Key × Account). d.1.lamports) (seen (take (i + 1) es)) (seen (drop (i + 1) es)))
     ∙ ap lamports_of (sym (map-append (λ (d : Key × Shared). (d.0, arc_value d.1)) (take (i + 1) es) (drop (i + 1) es)) ∙ ap seen (take-append-drop (i + 1) es)) in

@@ -94,8 +94,8 @@ chosen_is start is_before position (Good tx name) chosen few sound e = go (stand
   where
     go : (a : Result Loaded Refusal) → stands start tx name ≡ a → (b : Bool) → (r : Result Budget BudgetFault) → budget_in tx.message ≡ r
         → (a >>= λ loaded. if b then Err RepeatedInBatch else
-            (as_cause no_budget r >>= λ budget. Ok (chosen_with position tx name loaded budget))) ≡ Ok chosen
-            → IsChosen chosen × (chosen.position ≡ position)
+        (as_cause no_budget r >>= λ budget. Ok (chosen_with position tx name loaded budget))) ≡ Ok chosen
+        → IsChosen chosen × (chosen.position ≡ position)
     go (Err cause) ea b r er e = absurd (cc)
     go (Ok loaded) ea true r er e = absurd (cc)
     go (Ok loaded) ea false (Err fault) er e = absurd (cc)

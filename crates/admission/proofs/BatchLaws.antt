@@ -60,18 +60,18 @@ module _ (start : Start) (wires : List (List ℕ)) (batch : List Parsed) (few : 
   all_chosen : (found : List Chosen) (admission : Admitted) → AllByRecursion (StandsIn 0 (length batch)) found → admission.order ≡ (walk start.limits found).order → All IsChosen admission.order
   all_chosen found admission all order =
       All-from_recursion IsChosen admission.order
-          (subst (AllByRecursion IsChosen) (sym order)
-          (weaker (StandsIn 0 (length batch)) IsChosen (λ one is. is.is) (walk start.limits found).order
-          (all_run (StandsIn 0 (length batch)) start.limits found all)))
+      (subst (AllByRecursion IsChosen) (sym order)
+      (weaker (StandsIn 0 (length batch)) IsChosen (λ one is. is.is) (walk start.limits found).order
+      (all_run (StandsIn 0 (length batch)) start.limits found all)))
 
   -- what a walk over transactions that stand comes to
   is_answer : (found : List Chosen) (causes : List (Option Refusal)) (result : Result InLine OutOfMemory)
       → AllByRecursion (StandsIn 0 (length batch)) found
       → causes ≡ map (early start batch) (enumerate_from 0 batch)
       → IfOk result (λ a. a.order ≡ (walk start.limits found).order)
-          → IfOk result (λ a. a.refused ≡ numbered_in (with_late (walk start.limits found).refused causes))
-          → IfOk result (λ a. IsAnswer (answer_of start (map parsed_of wires) (walk start.limits found))
-          (told_by a))
+      → IfOk result (λ a. a.refused ≡ numbered_in (with_late (walk start.limits found).refused causes))
+      → IfOk result (λ a. IsAnswer (answer_of start (map parsed_of wires) (walk start.limits found))
+      (told_by a))
   is_answer found causes (Ok a) all c order refused = record { exact = exact found causes (told_by a) c order refused; chosen = all_chosen found (told_by a) all order }
   is_answer found causes (Err e) all c order refused = tt
 
@@ -79,8 +79,8 @@ module _ (start : Start) (wires : List (List ℕ)) (batch : List Parsed) (few : 
       (result : Result InLine OutOfMemory) → standing ≡ sifted_out start batch → found ≡ line standing
       → causes ≡ map (early start batch) (enumerate_from 0 batch)
       → IfOk result (λ a. a.order ≡ (walk start.limits found).order)
-          → IfOk result (λ a. a.refused ≡ numbered_in (with_late (walk start.limits found).refused causes))
-          → IfOk result (λ a. IsAnswer (admitted start wires) (told_by a))
+      → IfOk result (λ a. a.refused ≡ numbered_in (with_late (walk start.limits found).refused causes))
+      → IfOk result (λ a. IsAnswer (admitted start wires) (told_by a))
   unfolding admitted
   is_admitted standing found causes result e l c order refused =
       subst (λ ls. IfOk result (λ a. IsAnswer (answer_of start (map parsed_of wires) (walk start.limits ls)) (told_by a))) (l ∙ ap line (e ∙ ap (sifted_out start) (are_parsed wires batch are).0))
@@ -89,8 +89,8 @@ module _ (start : Start) (wires : List (List ℕ)) (batch : List Parsed) (few : 
   pub is_listed : (standing : List Chosen) (causes : List (Option Refusal)) (result : Result InLine OutOfMemory)
       → standing ≡ sifted_out start batch → causes ≡ map (early start batch) (enumerate_from 0 batch)
       → IfOk result (λ a. a.order ≡ (walk start.limits standing).order)
-          → IfOk result (λ a. a.refused ≡ numbered_in (with_late (walk start.limits standing).refused causes))
-          → IfOk result (λ a. IsAnswer (listed start wires) (told_by a))
+      → IfOk result (λ a. a.refused ≡ numbered_in (with_late (walk start.limits standing).refused causes))
+      → IfOk result (λ a. IsAnswer (listed start wires) (told_by a))
   unfolding listed
   is_listed standing causes result e c order refused =
       subst (λ ls. IfOk result (λ a. IsAnswer (answer_of start (map parsed_of wires) (walk start.limits ls)) (told_by a))) (e ∙ ap (sifted_out start) (are_parsed wires batch are).0)

@@ -20,8 +20,8 @@ all_fresh marks noted wires slots e sound told = subst (All (IsFresh marks noted
 
 alone_from : (start : Start) (n : ℕ) (wires : List Parsed) (new : List Slot) (found : List Weighed) → length new ≡ length wires
     → ((i : ℕ) (d : Slot) → i < length wires
-        → WeighsAt start (n + i) (get_or (map fresh wires) i d) (get_or new i d))
-        → map (λ (one : Weighed). Some one) found ≡ map found_in new → found ≡ weighed_from start n wires
+    → WeighsAt start (n + i) (get_or (map fresh wires) i d) (get_or new i d))
+    → map (λ (one : Weighed). Some one) found ≡ map found_in new → found ≡ weighed_from start n wires
 alone_from start n [] [] [] count each is = refl
 alone_from start n [] [] (one ∷ found) count each is = absurd (cc)
 alone_from start n [] (slot ∷ new) found count each is = absurd (omega arith)
@@ -35,8 +35,8 @@ alone_from start n (wire ∷ wires) (slot ∷ new) (one ∷ found) count each is
     let first : one ≡ weighed start n wire = subst (λ (o : Option Weighed). IfSome o (λ w. w ≡ weighed start (n + 0) wire)) head here ∙ ap (λ k. weighed start k wire) at in
     let others : found ≡ weighed_from start (n + 1) wires =
     alone_from start (n + 1) wires new found (omega arith)
-        (λ k d below. subst (λ m. WeighsAt start m (get_or (map fresh wires) k d) (get_or new k d)) (onward k)
-        (each (suc k) d (omega arith))) tail in
+    (λ k d below. subst (λ m. WeighsAt start m (get_or (map fresh wires) k d) (get_or new k d)) (onward k)
+    (each (suc k) d (omega arith))) tail in
     λ i. first i ∷ others i
   where
     onward : (k : ℕ) → n + suc k ≡ n + 1 + k
@@ -46,9 +46,9 @@ pub found_alone : (start : Start) (wires : List Parsed) (old new : List Slot) (f
     → ((i : ℕ) (d : Slot) → i < length old → WeighsAt start i (get_or old i d) (get_or new i d)) → map (λ (one : Weighed). Some one) found ≡ map found_in new → found ≡ weighed_from start 0 wires
 found_alone start wires old new found e count each is =
     alone_from start 0 wires new found count
-        (λ k d below. subst (λ m. WeighsAt start m (get_or (map fresh wires) k d) (get_or new k d)) (zeroth k)
-        (subst (λ (slots : List Slot). WeighsAt start k (get_or slots k d) (get_or new k d)) e
-        (each k d (subst (λ n. k < n) (sym (ap length e ∙ simp length-map)) below)))) is
+    (λ k d below. subst (λ m. WeighsAt start m (get_or (map fresh wires) k d) (get_or new k d)) (zeroth k)
+    (subst (λ (slots : List Slot). WeighsAt start k (get_or slots k d) (get_or new k d)) e
+    (each k d (subst (λ n. k < n) (sym (ap length e ∙ simp length-map)) below)))) is
   where
     zeroth : (k : ℕ) → k ≡ 0 + k
     zeroth k = omega arith

@@ -140,14 +140,14 @@ late_cause_plain (one ∷ refused) position all = go (one.position == position) 
 
 causes_plain : (start : Start) (batch : List Parsed) (refused : List Refused) → AllByRecursion (λ refused. is_refusal_memory refused.cause ≡ false) refused → (n : ℕ) (wires : List (List ℕ))
     → AllByRecursion (λ refused. is_refusal_memory refused.cause ≡ false)
-        (filter_map (λ entry. option_map
-        (λ (cause : Refusal). let one : Refused = record { position = entry.0; cause = cause } in one)
-        (refusal start batch refused entry)) (enumerate_from n (map parsed_of wires)))
+    (filter_map (λ entry. option_map
+    (λ (cause : Refusal). let one : Refused = record { position = entry.0; cause = cause } in one)
+    (refusal start batch refused entry)) (enumerate_from n (map parsed_of wires)))
 causes_plain start batch refused all n [] = tt
 causes_plain start batch refused all n (wire ∷ wires) =
     go (late_cause refused n) (late_cause_plain refused n all) (sifted_in start batch (n, parsed_of wire))
-        (sifted_plain start (has_hash (standing_names start (take n batch))) n wire)
-        (causes_plain start batch refused all (n + 1) wires)
+    (sifted_plain start (has_hash (standing_names start (take n batch))) n wire)
+    (causes_plain start batch refused all (n + 1) wires)
   where
     rest : List Refused
     rest = filter_map (λ entry. option_map
@@ -156,8 +156,8 @@ causes_plain start batch refused all n (wire ∷ wires) =
 
     go : (o : Option Refusal) → NoneOfMemory o → (r : Result Chosen Refusal) → IsPlain r → AllByRecursion (λ refused. is_refusal_memory refused.cause ≡ false) rest
         → AllByRecursion (λ refused. is_refusal_memory refused.cause ≡ false)
-            (cons_option (option_map (λ (cause : Refusal). let one : Refused =
-            record { position = n; cause = cause } in one) (or_else o (refusal_in r))) rest)
+        (cons_option (option_map (λ (cause : Refusal). let one : Refused =
+        record { position = n; cause = cause } in one) (or_else o (refusal_in r))) rest)
     go (Some cause) plain r early more = (plain, more)
     go None plain (Ok chosen) early more = more
     go None plain (Err cause) early more = (early, more)
@@ -167,8 +167,8 @@ module _ (start : Start) (wires : List (List ℕ)) where
   plain standing =
       let late = walked_plain start.limits (record { order = []; refused = [] }) standing tt in
       All-from_recursion (λ (refused : Refused). is_refusal_memory refused.cause ≡ false)
-          (refused_in start (map parsed_of wires) (walk start.limits standing).refused)
-          (causes_plain start (map parsed_of wires) (walk start.limits standing).refused late 0 wires)
+      (refused_in start (map parsed_of wires) (walk start.limits standing).refused)
+      (causes_plain start (map parsed_of wires) (walk start.limits standing).refused late 0 wires)
 
   pub refusals_by_priority_are_of_the_input : All (λ refused. is_refusal_memory refused.cause ≡ false) (admitted start wires).refused
   unfolding admitted

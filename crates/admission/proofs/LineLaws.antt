@@ -81,11 +81,19 @@ placed_ranked (other ∷ others) one lower ranked = go (nat_lt (priority other) 
   where
     go : (b : Bool) → nat_lt (priority other) (priority one) ≡ b → Ranked (with_next others one) → Ranked (cond b (one ∷ other ∷ others) (other ∷ with_next others one))
     go true t more =
-        let l : priority other < priority one = grind (arith, nat_tests) in
-        ((record { higher = omega (arith, l); earlier = λ e. absurd (omega (arith, e, l)) }, weaker
-            (StandsBefore other) (StandsBefore one)
-            (λ next b. record { higher = omega (arith, l, b.higher); earlier = λ e. absurd
-            (omega (arith, e, l, b.higher)) }) others ranked.0), ranked)
+        let l : priority other < priority one = grind (arith, nat_tests) in (
+          (
+            record { higher = omega (arith, l); earlier = λ e. absurd (omega (arith, e, l)) },
+            weaker
+                (StandsBefore other) (StandsBefore one)
+                (λ next b. record {
+                  higher = omega (arith, l, b.higher);
+                  earlier = λ e. absurd
+                      (omega (arith, e, l, b.higher));
+                }) others ranked.0,
+          ),
+          ranked,
+        )
     go false t more =
         let l : priority one ≤ priority other = grind (arith, nat_tests) in
         (all_placed (StandsBefore other) others one ranked.0 (record { higher = l; earlier = λ e. lower.0 }), more)
@@ -94,12 +102,12 @@ ranked_from : (done left : List Chosen) → PositionsAscend (done ++ left) → R
 ranked_from done [] up ranked = ranked
 ranked_from done (one ∷ left) up ranked =
     let more : Ranked (line (done ++ one ∷ [])) = subst Ranked (sym (fold-append with_next [] done (one ∷ [])))
-        (placed_ranked (line done) one
-        (all_line (λ other. other.position < one.position) done (lower_before done left one up)) ranked) in
+    (placed_ranked (line done) one
+    (all_line (λ other. other.position < one.position) done (lower_before done left one up)) ranked) in
     subst (λ (before : List Chosen). Ranked (fold with_next before left))
-        (fold-append with_next [] done (one ∷ []))
-        (ranked_from (done ++ one ∷ []) left
-        (subst PositionsAscend (sym (append_assoc done (one ∷ []) left)) up) more)
+    (fold-append with_next [] done (one ∷ []))
+    (ranked_from (done ++ one ∷ []) left
+    (subst PositionsAscend (sym (append_assoc done (one ∷ []) left)) up) more)
 
 pub pairs_ranked : (standing : List Chosen) → Ranked standing → AllPairs StandsBefore standing
 pairs_ranked [] ranked = λ i j d before within. absurd (omega (arith, within))
@@ -168,8 +176,8 @@ past_lower x one (other ∷ others) all = go (ties higher x one) refl (ties high
   where
     go : (a : Bool) → ties higher x one ≡ a → (b : Bool) → ties higher x other ≡ b → cond a (one ∷ level x others) (level x others) ≡ level x (others ++ one ∷ [])
         → cond a (one ∷ cond b (other ∷ level x others) (level x others))
-            (cond b (other ∷ level x others) (level x others))
-            ≡ cond b (other ∷ level x (others ++ one ∷ [])) (level x (others ++ one ∷ []))
+        (cond b (other ∷ level x others) (level x others))
+        ≡ cond b (other ∷ level x (others ++ one ∷ [])) (level x (others ++ one ∷ []))
     go true s true t more = absurd (omega (arith, same_priority x one s, same_priority x other t, all.0))
     go true s false t more = more
     go false s true t more = ap (λ left. other ∷ left) more

@@ -45,11 +45,11 @@ pub loaded_counts : (s : State) (lookups : List Lookup) → length (loaded_to_wr
 loaded_counts s [] = refl
 loaded_counts s (lookup ∷ lookups) =
     let w : length (loaded_to_write s (lookup ∷ lookups))
-        ≡ length (picked s lookup.table lookup.writable) + length (loaded_to_write s lookups) = length-append
-        (picked s lookup.table lookup.writable) (loaded_to_write s lookups) in
+    ≡ length (picked s lookup.table lookup.writable) + length (loaded_to_write s lookups) = length-append
+    (picked s lookup.table lookup.writable) (loaded_to_write s lookups) in
     let r : length (loaded_to_read s (lookup ∷ lookups))
-        ≡ length (picked s lookup.table lookup.readonly) + length (loaded_to_read s lookups) = length-append
-        (picked s lookup.table lookup.readonly) (loaded_to_read s lookups) in
+    ≡ length (picked s lookup.table lookup.readonly) + length (loaded_to_read s lookups) = length-append
+    (picked s lookup.table lookup.readonly) (loaded_to_read s lookups) in
     let wl : length (picked s lookup.table lookup.writable) ≡ length lookup.writable = simp length-map in
     let rl : length (picked s lookup.table lookup.readonly) ≡ length lookup.readonly = simp length-map in
     let more = loaded_counts s lookups in

@@ -59,8 +59,8 @@ comes_from start is_before position (Good tx name) chosen e = go (stands start t
   where
     go : (a : Result Loaded Refusal) → stands start tx name ≡ a → (b : Bool) → is_before name ≡ b → (r : Result Budget BudgetFault)
         → (a >>= λ loaded. if b then Err RepeatedInBatch else
-            (as_cause no_budget r >>= λ budget. Ok (chosen_with position tx name loaded budget))) ≡ Ok chosen
-            → ComesFrom start is_before position (Good tx name) chosen
+        (as_cause no_budget r >>= λ budget. Ok (chosen_with position tx name loaded budget))) ≡ Ok chosen
+        → ComesFrom start is_before position (Good tx name) chosen
     go (Err cause) ea b eb r e = absurd (cc)
     go (Ok loaded) ea true eb r e = absurd (cc)
     go (Ok loaded) ea false eb (Err fault) e = absurd (cc)
@@ -158,8 +158,8 @@ module _ (start : Start) (batch : List Parsed) where
       go : (r : Result Chosen Refusal) → sifted_in start batch (n, x) ≡ r
           → AllByRecursion (NotNamed (done ++ x ∷ [])) (standing_from (n + 1) rest) × IsDistinct same_hash (map (λ one. one.name) (standing_from (n + 1) rest))
           → AllByRecursion (NotNamed done) (cons_option (result_ok r) (standing_from (n + 1) rest))
-              × IsDistinct same_hash (map (λ one. one.name)
-              (cons_option (result_ok r) (standing_from (n + 1) rest)))
+          × IsDistinct same_hash (map (λ one. one.name)
+          (cons_option (result_ok r) (standing_from (n + 1) rest)))
       go (Err cause) er more = (fewer (standing_from (n + 1) rest) more.0, more.1)
       go (Ok chosen) er more =
           let from = comes_from start (has_hash (standing_names start (take n batch))) n x chosen er in
@@ -292,9 +292,9 @@ numbered_ascend n (Some cause ∷ causes) =
     let others = filter_map numbered_at (enumerate_from (n + 1) causes) in
     let above = all_above n others (numbered_from (n + 1) causes) in
     AllPairs-cons (λ (one other : Refused). one.position < other.position)
-        (record { position = n; cause = cause }) others
-        (All-from_recursion (λ (other : Refused). n < other.position) others above)
-        (numbered_ascend (n + 1) causes)
+    (record { position = n; cause = cause }) others
+    (All-from_recursion (λ (other : Refused). n < other.position) others above)
+    (numbered_ascend (n + 1) causes)
 
 -- none of them is at a position that has no cause
 not_numbered : (n i : ℕ) (causes : List (Option Refusal)) → get_or causes i None ≡ None → AllByRecursion (λ refused. n + i ≢ refused.position) (filter_map numbered_at (enumerate_from n causes))
@@ -336,22 +336,22 @@ module _ (limits : Limits) (causes : List (Option Refusal)) where
   others_free refused one cause [] apart all = tt
   others_free refused one cause (other ∷ left) apart all =
       let late : late_cause (record { position = one.position; cause = cause } ∷ refused) other.position
-          ≡ None = ap (λ b. if b then Some cause else late_cause refused other.position) apart.0 ∙ all.0.late in
+      ≡ None = ap (λ b. if b then Some cause else late_cause refused other.position) apart.0 ∙ all.0.late in
       (record { below = all.0.below; early = all.0.early; late = late }, others_free refused one cause left apart.1 all.1)
 
   -- those that run are free of what was refused
   ran_free : (before : Walk) (left : List Chosen) → AllByRecursion (IsFree before.refused causes) (before.order ++ left) → IsDistinct nat_eq (map (λ one. one.position) (before.order ++ left))
       → AllByRecursion (IsFree (fold (λ before one. walk_with before one (late limits before.order one)) before
-          left).refused causes) (fold (λ before one. walk_with before one (late limits before.order one)) before
-          left).order
+      left).refused causes) (fold (λ before one. walk_with before one (late limits before.order one)) before
+      left).order
   ran_free before [] all apart = subst (AllByRecursion (IsFree before.refused causes)) (append-nil before.order) all
   ran_free before (one ∷ left) all apart = go (late limits before.order one) (λ walk. ran_free walk left)
     where
       Free : Walk → Type 0
       Free walk = AllByRecursion (IsFree walk.refused causes) (walk.order ++ left) → IsDistinct nat_eq (map (λ one. one.position) (walk.order ++ left))
           → AllByRecursion (IsFree (fold (λ before one. walk_with before one (late limits before.order one))
-              walk left).refused causes) (fold
-              (λ before one. walk_with before one (late limits before.order one)) walk left).order
+          walk left).refused causes) (fold
+          (λ before one. walk_with before one (late limits before.order one)) walk left).order
 
       go : (o : Option Refusal) → ((walk : Walk) → Free walk)
           → AllByRecursion (IsFree (fold (λ before one. walk_with before one (late limits before.order one)) (walk_with before one o) left).refused causes)
@@ -359,7 +359,7 @@ module _ (limits : Limits) (causes : List (Option Refusal)) where
       go None more =
           let same : before.order ++ one ∷ left ≡ (before.order ++ one ∷ []) ++ left = sym (append_assoc before.order (one ∷ []) left) in
           more (walk_with before one None) (subst (AllByRecursion (IsFree before.refused causes)) same all)
-              (subst (λ (line : List Chosen). IsDistinct nat_eq (map (λ one. one.position) line)) same apart)
+          (subst (λ (line : List Chosen). IsDistinct nat_eq (map (λ one. one.position) line)) same apart)
       go (Some cause) more =
           more (walk_with before one (Some cause))
           (others_free before.refused one cause (before.order ++ left) (one_apart before.order one left apart) (all_dropped (IsFree before.refused causes) before.order one left all))
@@ -369,8 +369,8 @@ module _ (limits : Limits) (causes : List (Option Refusal)) where
       → IsDistinct nat_eq (map (λ one. one.position) left)
       → free (with_late before.refused causes) ≡ length before.order + length left
       → free (with_late (fold (λ before one. walk_with before one (late limits before.order one)) before
-          left).refused causes) ≡ length
-          (fold (λ before one. walk_with before one (late limits before.order one)) before left).order
+      left).refused causes) ≡ length
+      (fold (λ before one. walk_with before one (late limits before.order one)) before left).order
   unfolding IsDistinct
   free_walked before [] all apart count = omega (arith, count)
   free_walked before (one ∷ left) all apart count = go (late limits before.order one) (λ walk. free_walked walk left)
@@ -378,8 +378,8 @@ module _ (limits : Limits) (causes : List (Option Refusal)) where
       Counts : Walk → Type 0
       Counts walk = AllByRecursion (IsFree walk.refused causes) left → IsDistinct nat_eq (map (λ one. one.position) left) → free (with_late walk.refused causes) ≡ length walk.order + length left
           → free (with_late (fold (λ before one. walk_with before one (late limits before.order one)) walk
-              left).refused causes) ≡ length
-              (fold (λ before one. walk_with before one (late limits before.order one)) walk left).order
+          left).refused causes) ≡ length
+          (fold (λ before one. walk_with before one (late limits before.order one)) walk left).order
 
       go : (o : Option Refusal) → ((walk : Walk) → Counts walk)
           → free (with_late (fold (λ before one. walk_with before one (late limits before.order one)) (walk_with before one o) left).refused causes)
@@ -470,26 +470,26 @@ module _ (start : Start) (wires : List (List ℕ)) where
       let after = walk start.limits found in
       let refused : numbered_in (with_late after.refused causes) ≡ refused_in start batch after.refused = refused_by_causes start batch after.refused in
       let names = IsDistinct-IsPermutation same_hash hash_flips (map (λ one. one.name) (sifted_out start batch))
-          (map (λ one. one.name) found)
-          (IsPermutation-map (λ one. one.name) (sifted_out start batch) found same)
-          (standing_names_differ start batch) in
+      (map (λ one. one.name) found)
+      (IsPermutation-map (λ one. one.name) (sifted_out start batch) found same)
+      (standing_names_differ start batch) in
       let positions = IsDistinct-IsPermutation nat_eq nat_eq_flips
-          (map (λ one. one.position) (sifted_out start batch)) (map (λ one. one.position) found)
-          (IsPermutation-map (λ one. one.position) (sifted_out start batch) found same)
-          (positions_differ (sifted_out start batch) (standing_positions_ascend start batch)) in
+      (map (λ one. one.position) (sifted_out start batch)) (map (λ one. one.position) found)
+      (IsPermutation-map (λ one. one.position) (sifted_out start batch) found same)
+      (positions_differ (sifted_out start batch) (standing_positions_ascend start batch)) in
       let stands : free (with_late [] causes) ≡ length found = ap free (sym (none_late causes)) ∙ free_standing 0 batch ∙ sym (length_permutation (sifted_out start batch) found same) in
       let ran : free (with_late after.refused causes)
-          ≡ length after.order = free_walked start.limits causes (record { order = []; refused = [] }) found
-          (in_place (IsFree [] causes) found same each_free) positions (omega (arith, stands)) in
+      ≡ length after.order = free_walked start.limits causes (record { order = []; refused = [] }) found
+      (in_place (IsFree [] causes) found same each_free) positions (omega (arith, stands)) in
       let all_free : AllByRecursion (IsFree after.refused causes) after.order = ran_free start.limits causes
-          (record { order = []; refused = [] }) found (in_place (IsFree [] causes) found same each_free)
-          positions in
+      (record { order = []; refused = [] }) found (in_place (IsFree [] causes) found same each_free)
+      positions in
       let all : length (numbered_in (with_late after.refused causes)) + free (with_late after.refused causes)
-          ≡ length (with_late after.refused causes) = numbered_count 0 (with_late after.refused causes) in
+      ≡ length (with_late after.refused causes) = numbered_count 0 (with_late after.refused causes) in
       let late_count : length (with_late after.refused causes) ≡ length wires = count_late after.refused causes ∙ cause_count in
       let lower = All-from_recursion (λ (one : Refused). one.position < length wires)
-          (numbered_in (with_late after.refused causes))
-          (numbered_below 0 (length wires) (with_late after.refused causes) (omega (arith, late_count))) in
+      (numbered_in (with_late after.refused causes))
+      (numbered_below 0 (length wires) (with_late after.refused causes) (omega (arith, late_count))) in
       record {
         each = All-from_recursion (IsOf wires) after.order (all_run (IsOf wires) start.limits found (in_place (IsOf wires) found same each_of));
         apart = kept_run (λ line. IsDistinct same_hash (map (λ one. one.name) line)) names_dropped start.limits found names;

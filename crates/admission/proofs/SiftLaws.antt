@@ -179,9 +179,11 @@ module _ (batch done left more : List Weighed) (standing : List Chosen) (causes 
       let within : length done < length (enumerate_from 0 batch) = rw (length-enumerate_from 0 batch) below in
       let entry : get_or (enumerate_from 0 batch) (length done) (length done, x) ≡ (length done, x) =
       get_or-enumerate_from 0 batch (length done) (length done, x) below
-          ∙ (λ j. (zero-add (length done) j,
-          (ap (λ (ls : List Weighed). get_or ls (length done) x) (sym whole)
-          ∙ get_or_at done x more x (length done) refl) j)) in
+      ∙ (λ j. (
+        zero-add (length done) j,
+        (ap (λ (ls : List Weighed). get_or ls (length done) x) (sym whole)
+            ∙ get_or_at done x more x (length done) refl) j,
+      )) in
       ap (λ n. get_or told n d) (cause_count batch done left standing causes so_far)
       ∙ ap (λ (bs : List Bool). get_or bs (length done) d) are_told
       ∙ get_or-map (is_repeated batch) (enumerate_from 0 batch) (length done) (length done, x) d within
@@ -200,12 +202,12 @@ module _ (batch done left more : List Weighed) (standing : List Chosen) (causes 
           s ∙ ap (λ (cs : List Chosen). cs ++ cons_option (result_ok found) []) so_far.stand
           ∙ ap (λ (r : Result Chosen Refusal). filter_map (λ entry. result_ok (sifted_among batch entry)) (enumerate_from 0 done) ++ cons_option (result_ok r) []) (sym here)
           ∙ sym (ap (filter_map (λ entry. result_ok (sifted_among batch entry))) (enumerate-push done x)
-              ∙ filter_map-append (λ entry. result_ok (sifted_among batch entry)) (enumerate_from 0 done)
-              ((length done, x) ∷ []));
+          ∙ filter_map-append (λ entry. result_ok (sifted_among batch entry)) (enumerate_from 0 done)
+          ((length done, x) ∷ []));
       caused =
           c ∙ ap (λ (cs : List (Option Refusal)). cs ++ refusal_in found ∷ []) so_far.caused
           ∙ ap (λ (r : Result Chosen Refusal). map (λ entry. refusal_in (sifted_among batch entry)) (enumerate_from 0 done) ++ refusal_in r ∷ []) (sym here)
           ∙ sym (ap (map (λ entry. refusal_in (sifted_among batch entry))) (enumerate-push done x)
-              ∙ map-append (λ entry. refusal_in (sifted_among batch entry)) (enumerate_from 0 done)
-              ((length done, x) ∷ []));
+          ∙ map-append (λ entry. refusal_in (sifted_among batch entry)) (enumerate_from 0 done)
+          ((length done, x) ∷ []));
     }

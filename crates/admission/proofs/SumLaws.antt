@@ -71,8 +71,8 @@ sums_more order units buckets buckets' sums sums' one has fits apart same grown 
       let whole = units_more order one in
       let grows = grown key in
       within (units_on key order) (if locks_write one.locks key then one.budget.limit else 0)
-          (bucket_sum buckets key) (bucket_sum buckets' key) (units_on key (order ++ one ∷ [])) most more
-          (omega (arith, all, part, whole, fits)) grows;
+      (bucket_sum buckets key) (bucket_sum buckets' key) (units_on key (order ++ one ∷ [])) most more
+      (omega (arith, all, part, whole, fits)) grows;
   each = each;
   apart = All-push (λ (chosen : Chosen). IsDistinct same_key (lock_keys chosen.locks)) order one has.apart apart;
 }
@@ -83,7 +83,7 @@ sums_more order units buckets buckets' sums sums' one has fits apart same grown 
 -- no key passes where no bucket does
 pub none_passes : (order : List Chosen) (buckets : List ℕ) (limit top : ℕ) → ((key : Key) → units_on key order ≤ bucket_sum buckets key) → (locks : List Lock)
     → list_any (λ (lock : Lock). lock.write && passes (bucket_sum buckets lock.key) limit top) locks ≡ false
-        → list_any (λ (lock : Lock). lock.write && nat_lt top (units_on lock.key order + limit)) locks ≡ false
+    → list_any (λ (lock : Lock). lock.write && nat_lt top (units_on lock.key order + limit)) locks ≡ false
 none_passes order buckets limit top most [] none = refl
 none_passes order buckets limit top most (lock ∷ locks) none =
     go lock.write (nat_lt top (bucket_sum buckets lock.key + limit)) refl (nat_lt top (units_on lock.key order + limit)) refl
@@ -120,7 +120,7 @@ module _ (limits : Limits) (order inside : List Chosen) (one : Chosen) (view : i
 
   pub late_by_keys : (sums : BTreeMap Key ℕ) (locks : List Lock) (tested b : Bool) → ((key : Key) → sum_at sums key ≡ units_on key inside) → locks ≡ one.locks
       → tested ≡ list_any (λ (lock : Lock). lock.write && passes (sum_at sums lock.key) one.budget.limit
-          limits.key_units) locks → tested ≡ b → (if b then Some KeyUnits else None) ≡ late limits order one
+      limits.key_units) locks → tested ≡ b → (if b then Some KeyUnits else None) ≡ late limits order one
   late_by_keys sums locks tested b told l is e =
       late_by b ((λ i. list_any (λ (lock : Lock). lock.write && nat_lt limits.key_units (sym (told lock.key) i + one.budget.limit)) one.locks)
       ∙ ap (λ (ls : List Lock). list_any (λ (lock : Lock). lock.write && passes (sum_at sums lock.key) one.budget.limit limits.key_units) ls) (sym l) ∙ sym is ∙ e)
@@ -132,8 +132,8 @@ pub room_for : (order : List Chosen) (i : ℕ) (one : Chosen) (key : Key) → i 
 room_for order i one key l is fits =
     let part = part_of_all key (take i order) in
     let more : units_of (take i order) + one.budget.limit ≤ units_of order = subst
-        (λ (o : Chosen). units_of (take i order) + o.budget.limit ≤ units_of order) (sym is)
-        (sum_by_more_le (λ (chosen : Chosen). chosen.budget.limit) order i one l) in
+    (λ (o : Chosen). units_of (take i order) + o.budget.limit ≤ units_of order) (sym is)
+    (sum_by_more_le (λ (chosen : Chosen). chosen.budget.limit) order i one l) in
     omega (arith, part, more, fits)
 
 pub room_in : (order : List Chosen) (sums : Option (BTreeMap Key ℕ)) (limit : ℕ) → AreSums order sums
@@ -175,8 +175,8 @@ module _ (locks : List Lock) (i : ℕ) (x : Lock) (l : i < length locks) (is_x :
       → (key : Key) → sums key ≡ first key + (if locks_write (take (i + 1) locks) key then limit else 0)
   read_adds_none limit first sums none so_far key =
       so_far key ∙ ap (λ b. first key + (if b then limit else 0))
-          (sym (writes_more key ∙ ap (λ w. locks_write (take i locks) key || (w && same_key x.key key)) none
-          ∙ or-false (locks_write (take i locks) key)))
+      (sym (writes_more key ∙ ap (λ w. locks_write (take i locks) key || (w && same_key x.key key)) none
+      ∙ or-false (locks_write (take i locks) key)))
 
   -- a key that is first written now has its first sum
   pub first_sum : (limit : ℕ) (first sums : Key → ℕ) → IsDistinct same_key (lock_keys locks)
@@ -188,8 +188,8 @@ module _ (locks : List Lock) (i : ℕ) (x : Lock) (l : i < length locks) (is_x :
   pub write_adds : (limit sum : ℕ) (first : Key → ℕ) (sums next : BTreeMap Key ℕ) → x.write ≡ true → IsDistinct same_key (lock_keys locks) → sum ≡ sum_at sums x.key
       → ((key : Key) → get key_cmp next key ≡ cond (is_at (key_cmp x.key) key) (Some (sum + limit)) (get key_cmp sums key))
       → ((key : Key) → sum_at sums key ≡ first key + (if locks_write (take i locks) key then limit else 0))
-          → (key : Key) → sum_at next key
-          ≡ first key + (if locks_write (take (i + 1) locks) key then limit else 0)
+      → (key : Key) → sum_at next key
+      ≡ first key + (if locks_write (take (i + 1) locks) key then limit else 0)
   write_adds limit sum first sums next some d is_sum puts so_far key = go (same_key x.key key) refl
     where
       now : sum_at next key ≡ cond (same_key x.key key) (sum + limit) (sum_at sums key)
@@ -217,8 +217,8 @@ module _ (locks : List Lock) (i : ℕ) (x : Lock) (l : i < length locks) (is_x :
       → (key : Key) → min (2 ^ 64 - 1) (first key + (if locks_write (take (i + 1) locks) key then limit else 0)) ≤ sums key
   read_grows_none limit first sums none so_far key =
       subst (λ b. min (2 ^ 64 - 1) (first key + (if b then limit else 0)) ≤ sums key)
-          (sym (writes_more key ∙ ap (λ w. locks_write (take i locks) key || (w && same_key x.key key)) none
-          ∙ or-false (locks_write (take i locks) key))) (so_far key)
+      (sym (writes_more key ∙ ap (λ w. locks_write (take i locks) key || (w && same_key x.key key)) none
+      ∙ or-false (locks_write (take i locks) key))) (so_far key)
 
   pub write_grows : (limit sum : ℕ) (first : Key → ℕ) (buckets next : List ℕ) → x.write ≡ true
       → 0 < length buckets → min (2 ^ 64 - 1) (slice_index buckets (bucket_of (length buckets) x.key) + limit) ≤
@@ -245,19 +245,19 @@ module _ (locks : List Lock) (i : ℕ) (x : Lock) (l : i < length locks) (is_x :
       go true e =
           let same : bucket_of (length buckets) key ≡ bucket_of (length buckets) x.key = eqb-true _ _ e in
           let is : bucket_sum next key ≡ sum = now
-              ∙ ap (λ n. get_or (set buckets (bucket_of (length buckets) x.key) sum) n 0) same
-              ∙ get_or-set_same buckets (bucket_of (length buckets) x.key) sum 0
-              (in_buckets (length buckets) x.key filled) in
+          ∙ ap (λ n. get_or (set buckets (bucket_of (length buckets) x.key) sum) n 0) same
+          ∙ get_or-set_same buckets (bucket_of (length buckets) x.key) sum 0
+          (in_buckets (length buckets) x.key filled) in
           subst (λ n. min (2 ^ 64 - 1) (first key + (if locks_write (take (i + 1) locks) key then limit else 0)) ≤ n) (sym is)
           (grown (first key) (bucket_sum buckets key) sum (locks_write (take i locks) key)
-              (locks_write (take (i + 1) locks) key) (so_far key)
-              (subst (λ n. min (2 ^ 64 - 1) (slice_index buckets n + limit) ≤ sum) (sym same) is_sum))
+          (locks_write (take (i + 1) locks) key) (so_far key)
+          (subst (λ n. min (2 ^ 64 - 1) (slice_index buckets n + limit) ≤ sum) (sym same) is_sum))
       go false e =
           let other : bucket_of (length buckets) key ≢ bucket_of (length buckets) x.key = λ q. both_ways _ e (eq-eqb _ _ q) in
           let is : bucket_sum next key ≡ bucket_sum buckets key = now ∙ get_or-set_other buckets (bucket_of (length buckets) x.key) (bucket_of (length buckets) key) sum 0 other in
           let differ : same_key x.key key ≡ false = false_from_ne_true (same_key x.key key) (λ q. other (ap (bucket_of (length buckets)) (sym (same_key-true x.key key q)))) in
           subst (λ n. min (2 ^ 64 - 1) (first key + (if locks_write (take (i + 1) locks) key then limit else 0)) ≤ n) (sym is)
           (subst (λ b. min (2 ^ 64 - 1) (first key + (if b then limit else 0)) ≤ bucket_sum buckets key)
-              (sym (writes_more key ∙ ap (λ b. locks_write (take i locks) key || (x.write && b)) differ
-              ∙ ap (λ b. locks_write (take i locks) key || b) (and-false x.write)
-              ∙ or-false (locks_write (take i locks) key))) (so_far key))
+          (sym (writes_more key ∙ ap (λ b. locks_write (take i locks) key || (x.write && b)) differ
+          ∙ ap (λ b. locks_write (take i locks) key || b) (and-false x.write)
+          ∙ or-false (locks_write (take i locks) key))) (so_far key))

@@ -34,8 +34,8 @@ set_from refused one n k [] e l = absurd (omega arith)
 set_from refused one n zero (cause ∷ causes) e l =
     let here : eqb one.position n ≡ true = eq-eqb one.position n (omega arith) in
     ap (λ more. Some one.cause ∷ more) (sym (same_with_more))
-        ∙ ap (λ b. or_else (cond b (Some one.cause) (late_cause refused n)) cause
-        ∷ map (cause_with (one ∷ refused)) (enumerate_from (n + 1) causes)) (sym here)
+    ∙ ap (λ b. or_else (cond b (Some one.cause) (late_cause refused n)) cause
+    ∷ map (cause_with (one ∷ refused)) (enumerate_from (n + 1) causes)) (sym here)
   where
     same_with_more : map (cause_with (one ∷ refused)) (enumerate_from (n + 1) causes) ≡ map (cause_with refused) (enumerate_from (n + 1) causes)
     same_with_more = same_with refused one (n + 1) causes (omega arith)
@@ -87,31 +87,31 @@ pub record AreWalked (limits : Limits) (line done left order : List Chosen) (fir
 
 module _ (limits : Limits) (line done left more order : List Chosen) (first causes : List (Option Refusal))
     (so_far : AreWalked limits line done left order first causes) (one : Chosen) (next : left ≡ one ∷ more)
-    where
-  pub split : done ++ one ∷ more ≡ line
-  split = ap (λ (ls : List Chosen). done ++ ls) (sym next) ∙ so_far.all
+  where
+    pub split : done ++ one ∷ more ≡ line
+    split = ap (λ (ls : List Chosen). done ++ ls) (sym next) ∙ so_far.all
 
-  all_more : (done ++ one ∷ []) ++ more ≡ line
-  all_more = append_assoc done (one ∷ []) more ∙ split
+    all_more : (done ++ one ∷ []) ++ more ≡ line
+    all_more = append_assoc done (one ∷ []) more ∙ split
 
-  walk_by : (o : Option Refusal) → late limits order one ≡ o → walk limits (done ++ one ∷ []) ≡ walk_with (walk limits done) one o
-  walk_by o is = walk_more limits done one ∙ ap (walk_with (walk limits done) one) (ap (λ (ls : List Chosen). late limits ls one) (sym so_far.ordered) ∙ is)
+    walk_by : (o : Option Refusal) → late limits order one ≡ o → walk limits (done ++ one ∷ []) ≡ walk_with (walk limits done) one o
+    walk_by o is = walk_more limits done one ∙ ap (walk_with (walk limits done) one) (ap (λ (ls : List Chosen). late limits ls one) (sym so_far.ordered) ∙ is)
 
-  pub same_count : length causes ≡ length first
-  same_count = ap length so_far.caused ∙ count_late (walk limits done).refused first
+    pub same_count : length causes ≡ length first
+    same_count = ap length so_far.caused ∙ count_late (walk limits done).refused first
 
-  -- a late cause
-  pub walked_late : (cause : Refusal) (causes' : List (Option Refusal)) → late limits order one ≡ Some cause
-      → one.position < length first → causes' ≡ set causes one.position (Some cause)
-      → AreWalked limits line (done ++ one ∷ []) more order first causes'
-  walked_late cause causes' is below put = record {
-    all = all_more;
-    ordered = so_far.ordered ∙ ap (λ (w : Walk). w.order) (sym (walk_by (Some cause) is));
-    caused =
-        put ∙ ap (λ cs. set cs one.position (Some cause)) so_far.caused
-        ∙ late_more (walk limits done).refused (record { position = one.position; cause = cause }) first below
-        ∙ ap (λ (w : Walk). with_late w.refused first) (sym (walk_by (Some cause) is));
-  }
+    -- a late cause
+    pub walked_late : (cause : Refusal) (causes' : List (Option Refusal)) → late limits order one ≡ Some cause
+        → one.position < length first → causes' ≡ set causes one.position (Some cause)
+        → AreWalked limits line (done ++ one ∷ []) more order first causes'
+    walked_late cause causes' is below put = record {
+      all = all_more;
+      ordered = so_far.ordered ∙ ap (λ (w : Walk). w.order) (sym (walk_by (Some cause) is));
+      caused =
+          put ∙ ap (λ cs. set cs one.position (Some cause)) so_far.caused
+          ∙ late_more (walk limits done).refused (record { position = one.position; cause = cause }) first below
+          ∙ ap (λ (w : Walk). with_late w.refused first) (sym (walk_by (Some cause) is));
+    }
 
 -- one more cause is numbered
 pub numbered_more : (causes : List (Option Refusal)) (i : ℕ) (o : Option Refusal)

@@ -117,7 +117,7 @@ found_more start first wires done left more position found found' so_far x split
           put ∙ ap (λ (ws : List Weighed). ws ++ weighed start position x ∷ []) so_far.weigh
           ∙ ap (λ n. weighed_from start first done ++ weighed start n x ∷ []) so_far.place
           ∙ sym (ap (map (λ (entry : ℕ × Parsed). weighed start entry.0 entry.1))
-              (enumerate-append first done (x ∷ []))
-              ∙ map-append (λ (entry : ℕ × Parsed). weighed start entry.0 entry.1) (enumerate_from first done)
-              (enumerate_from (first + length done) (x ∷ [])));
+          (enumerate-append first done (x ∷ []))
+          ∙ map-append (λ (entry : ℕ × Parsed). weighed start entry.0 entry.1) (enumerate_from first done)
+          (enumerate_from (first + length done) (x ∷ [])));
     }

@@ -190,10 +190,17 @@ pub stops : (words : List (List ℕ)) (left : Option (List ℕ)) (old new : ℕ)
     → Stops (reads_input words) old new
     → EndsEarly words left old new out out notes notes ⊎ FailsEarly words old new out out notes notes
 stops words None old new out notes (inl stands) = inl
-    (record { told = answer words []; tells =
-    record { bytes = []; input = tt; defined = refl; stands = stands }; begun = nothing_begins _ out notes })
+    (record {
+      told = answer words [];
+      tells =
+          record { bytes = []; input = tt; defined = refl; stands = stands };
+      begun = nothing_begins _ out notes;
+    })
 stops words (Some bytes) old new out notes (inl stands) = inl
-    (record { told = answer words bytes; tells =
-    record { bytes = bytes; input = refl; defined = refl; stands = stands }; begun = nothing_begins _ out notes
+    (record {
+      told = answer words bytes;
+      tells =
+          record { bytes = bytes; input = refl; defined = refl; stands = stands };
+      begun = nothing_begins _ out notes;
     })
 stops words left old new out notes (inr failed) = inr (record { in_form = failed.0; rose = failed.1; begun = nothing_begins _ out notes })

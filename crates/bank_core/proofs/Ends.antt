@@ -78,8 +78,8 @@ module _ (job : Job) (start rest : State) (ks : List Key) (p : Positions) (slots
   core_outcomes =
       let all = outcomes_end job (at start) journal K.legal D in
       listed outcomes (result job (at start)) 0
-          (λ i l. let below : i < job.count = let e = K.outcomes_length in omega (arith, e, l) in K.kept i below
-          ∙ ap outcome_of (all i below) ∙ ap (λ n. Some (result job (at start) n)) (omega arith))
+      (λ i l. let below : i < job.count = let e = K.outcomes_length in omega (arith, e, l) in K.kept i below
+      ∙ ap outcome_of (all i below) ∙ ap (λ n. Some (result job (at start) n)) (omega arith))
       ∙ ap (λ n. map (result job (at start)) (range_with_len 0 n)) K.outcomes_length
 
 -- two facts of a value that may be there
@@ -113,8 +113,11 @@ module _ (job : Job) (start rest : State) (ks : List Key) (slots : List (Option 
   pub back_held : All (λ e. IsHeld (value_of e.1)) Back
   back_held = All-from_recursion _ Back
       (held_each (λ e. IsHeld (value_of e.1)) ks slots
-      (λ n share l here more. (more, subst (λ slot. IsShort (in_slot (option_map value_of slot))) here
-      (slot_fits n l).0)))
+      (λ n share l here more. (
+        more,
+        subst (λ slot. IsShort (in_slot (option_map value_of slot))) here
+            (slot_fits n l).0,
+      )))
 
   pub back_fits : sum rest + lamports_of (seen Back) ≤ 2 ^ 64 - 1
   back_fits =

@@ -102,8 +102,8 @@ lend_step slots next locks i values more a old d h l distinct lent left grown = 
       ∙ (ap (λ o. cond (has n (write_numbers (lock ∷ []))) None o) (h.left n)
       ∙ (both (has n (write_numbers (take i locks))) (has n (write_numbers (lock ∷ []))) (old n)
       ∙ ap (λ b. cond b None (old n))
-          (sym (has_more n (write_numbers (take i locks)) (write_numbers (lock ∷ [])))
-          ∙ ap (has n) (sym (write_numbers_more (take i locks) lock) ∙ ap write_numbers (sym longer)))));
+      (sym (has_more n (write_numbers (take i locks)) (write_numbers (lock ∷ [])))
+      ∙ ap (has n) (sym (write_numbers_more (take i locks) lock) ∙ ap write_numbers (sym longer)))));
 }
   where
     lock : NumberedLock
@@ -124,8 +124,8 @@ back_is (x ∷ xs) old slots n = go x.write (n == x.number) refl (back_is xs old
   where
     go : (b c : Bool) → (n == x.number) ≡ c → put_back_at xs (found xs old) slots n ≡ cond (has n (write_numbers xs)) (Some (in_slot (old n))) (slots n)
         → cond (b && c) (Some (in_slot (old x.number))) (put_back_at xs (found xs old) slots n)
-            ≡ cond (has n (numbers (cond b (x ∷ filter (λ l. l.write) xs) (filter (λ l. l.write) xs))))
-            (Some (in_slot (old n))) (slots n)
+        ≡ cond (has n (numbers (cond b (x ∷ filter (λ l. l.write) xs) (filter (λ l. l.write) xs))))
+        (Some (in_slot (old n))) (slots n)
     go true true e ih = ap (λ m. Some (in_slot (old m))) (sym (eqb-true n x.number e)) ∙ sym (ap (λ t. cond (t || has n (write_numbers xs)) (Some (in_slot (old n))) (slots n)) e)
     go true false e ih = ih ∙ sym (ap (λ t. cond (t || has n (write_numbers xs)) (Some (in_slot (old n))) (slots n)) e)
     go false c e ih = ih

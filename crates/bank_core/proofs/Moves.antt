@@ -149,8 +149,8 @@ module _ (job : Job) (start : Key → Account) (ks : List Key) (p : Positions) (
       slots_length = same_length ∙ K.slots_length;
       stored = λ n l. puts n ∙ (returned_is ks job i (set_at p.sets i) N K.distinct (account_at slots) s.store K.stored once values many n l
           ∙ (ap (λ vs. Rattle.bank_law.specs.Machine.put_in (write_keys job i) (keys job i) vs s.store
-              (numbered_key ks n)) (lent ∙ sym held_loan)
-              ∙ sym (ap (λ (t : State). t.store (numbered_key ks n)) grown)));
+          (numbered_key ks n)) (lent ∙ sym held_loan)
+          ∙ sym (ap (λ (t : State). t.store (numbered_key ks n)) grown)));
       outcomes_length = K.outcomes_length;
       kept = λ j l. outcomes_next j l ∙ sym (ap (λ (t : State). outcome_of (t.stage j)) grown);
     }
@@ -191,9 +191,9 @@ module _ (job : Job) (start : Key → Account) (ks : List Key) (p : Positions) (
         let n : ℕ = (get_or (set_at p.sets i) k d).number in
         let below : n < length ks = ready_set.within k d l in
         let dec : declares job i (numbered_key ks n)
-            ≡ true = ap (has_key (numbered_key ks n)) (keys_is ks job i (set_at p.sets i) ready_set)
-            ∙ (has_is ks K.distinct n (numbers (set_at p.sets i)) below
-            (numbers_within ks job i (set_at p.sets i) ready_set) ∙ number_stands (set_at p.sets i) k d l) in
+        ≡ true = ap (has_key (numbered_key ks n)) (keys_is ks job i (set_at p.sets i) ready_set)
+        ∙ (has_is ks K.distinct n (numbers (set_at p.sets i)) below
+        (numbers_within ks job i (set_at p.sets i) ready_set) ∙ number_stands (set_at p.sets i) k d l) in
         subst IsSome (sym (K.stored n below ∙ ready_there job start s i sound r (numbered_key ks n) dec)) refl
 
     -- and those of the serial run
@@ -304,8 +304,8 @@ module _ (job : Job) (lanes : ℕ) (journal : List Event) (buffers : List (Vec S
       by_case l d below none (inl same) = let h = ap holds (own_same journal e l same) ∙ holds_push (own journal l) e in absurd (cc)
       by_case l d below none (inr other) =
           subst (λ v. (vec_len v ≡ 0) × IsWide job (vec_capacity v))
-              (sym (get_or-set_other buffers lane l b d (λ q. other (sym q))))
-              (B.free l d below (sym (ap holds (own_other journal e l other)) ∙ none))
+          (sym (get_or-set_other buffers lane l b d (λ q. other (sym q))))
+          (B.free l d below (sym (ap holds (own_other journal e l other)) ∙ none))
 
   module _ (b : Vec Shared Global) (empty : vec_len b ≡ 0) (wide : IsWide job (vec_capacity b)) where
     pub kept_buffers : HasBuffers job lanes journal (set buffers lane b)
@@ -320,9 +320,9 @@ module _ (job : Job) (lanes : ℕ) (journal : List Event) (buffers : List (Vec S
             × IsWide job (vec_capacity (get_or (set buffers lane b) l d))
         by_case l d below none (inl same) =
             subst (λ v. (vec_len v ≡ 0) × IsWide job (vec_capacity v))
-                (sym (ap (λ k. get_or (set buffers lane b) k d) same
-                ∙ get_or-set_same buffers lane b d (let m = B.buffers_length in omega (arith, below, m, same))))
-                (empty, wide)
+            (sym (ap (λ k. get_or (set buffers lane b) k d) same
+            ∙ get_or-set_same buffers lane b d (let m = B.buffers_length in omega (arith, below, m, same))))
+            (empty, wide)
         by_case l d below none (inr other) =
             subst (λ v. (vec_len v ≡ 0) × IsWide job (vec_capacity v)) (sym (get_or-set_other buffers lane l b d other)) (B.free l d below none)
 
@@ -341,13 +341,13 @@ module _ (job : Job) (lanes : ℕ) (journal : List Event) (buffers : List (Vec S
             × IsWide job (vec_capacity (get_or (set buffers lane b) l d))
         by_case l d below none (inl same) =
             subst (λ v. (vec_len v ≡ 0) × IsWide job (vec_capacity v))
-                (sym (ap (λ k. get_or (set buffers lane b) k d) same
-                ∙ get_or-set_same buffers lane b d (let m = B.buffers_length in omega (arith, below, m, same))))
-                (empty, wide)
+            (sym (ap (λ k. get_or (set buffers lane b) k d) same
+            ∙ get_or-set_same buffers lane b d (let m = B.buffers_length in omega (arith, below, m, same))))
+            (empty, wide)
         by_case l d below none (inr other) =
             subst (λ v. (vec_len v ≡ 0) × IsWide job (vec_capacity v))
-                (sym (get_or-set_other buffers lane l b d other))
-                (B.free l d below (sym (ap holds (own_other journal e l (λ q. other (sym q)))) ∙ none))
+            (sym (get_or-set_other buffers lane l b d other))
+            (B.free l d below (sym (ap holds (own_other journal e l (λ q. other (sym q)))) ∙ none))
 
 -- the same, in other words
 pub keeps_same : (job : Job) (start : Key → Account) (ks : List Key) (p p' : Positions)
@@ -356,9 +356,9 @@ pub keeps_same : (job : Job) (start : Key → Account) (ks : List Key) (p p' : P
     → p' ≡ p → slots' ≡ slots → outcomes' ≡ outcomes → journal' ≡ journal → Keeps job start ks p slots outcomes journal → Keeps job start ks p' slots' outcomes' journal'
 keeps_same job start ks p p' slots slots' outcomes outcomes' journal journal' a b c d K =
     subst (λ x. Keeps job start ks x slots' outcomes' journal') (sym a)
-        (subst (λ x. Keeps job start ks p x outcomes' journal') (sym b)
-        (subst (λ x. Keeps job start ks p slots x journal') (sym c)
-        (subst (λ x. Keeps job start ks p slots outcomes x) (sym d) K)))
+    (subst (λ x. Keeps job start ks p x outcomes' journal') (sym b)
+    (subst (λ x. Keeps job start ks p slots x journal') (sym c)
+    (subst (λ x. Keeps job start ks p slots outcomes x) (sym d) K)))
 
 pub room_after : (count lanes capacity more : ℕ) (journal next : List Event) (e : Event)
     → HasRoom count lanes capacity journal → e.lane < lanes

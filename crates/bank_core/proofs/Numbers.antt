@@ -38,9 +38,9 @@ written_are ks (x ∷ xs) = go x.write (written_are ks xs)
   where
     go : (b : Bool) → lock_keys (filter (λ lock. lock.write) (map (keyed_lock ks) xs)) ≡ map (numbered_key ks) (write_numbers xs)
         → lock_keys (cond b (keyed_lock ks x ∷ filter (λ lock. lock.write) (map (keyed_lock ks) xs))
-            (filter (λ lock. lock.write) (map (keyed_lock ks) xs)))
-            ≡ map (numbered_key ks) (numbers
-            (cond b (x ∷ filter (λ lock. lock.write) xs) (filter (λ lock. lock.write) xs)))
+        (filter (λ lock. lock.write) (map (keyed_lock ks) xs)))
+        ≡ map (numbered_key ks) (numbers
+        (cond b (x ∷ filter (λ lock. lock.write) xs) (filter (λ lock. lock.write) xs)))
     go true rest = ap (λ r. numbered_key ks x.number ∷ r) rest
     go false rest = rest
 
@@ -92,7 +92,7 @@ module _ (ks : List Key) (job : Job) (i : ℕ) (set : List NumberedLock) (N : Nu
     written_is vs n l =
         ap₂ (λ b o. cond b (Some (beside_number n (write_numbers set) vs)) o) (sym (has_is ks distinct n (write_numbers set) l written_within)) (stored n l)
         ∙ (ap (λ v. cond (has_key (numbered_key ks n) (map (numbered_key ks) (write_numbers set))) (Some v)
-            (store (numbered_key ks n))) (sym (beside_is ks distinct n (write_numbers set) vs l written_within))
+        (store (numbered_key ks n))) (sym (beside_is ks distinct n (write_numbers set) vs l written_within))
         ∙ ap (λ wk. put_in wk wk vs store (numbered_key ks n)) (sym write_keys_is))
 
     -- and the values that go back
@@ -102,7 +102,7 @@ module _ (ks : List Key) (job : Job) (i : ℕ) (set : List NumberedLock) (N : Nu
         back_is set vs n once many
         ∙ (ap₂ (λ b o. cond b (Some (beside_number n (numbers set) vs)) o) (sym (has_is ks distinct n (write_numbers set) l written_within)) (stored n l)
         ∙ (ap (λ v. cond (has_key (numbered_key ks n) (map (numbered_key ks) (write_numbers set))) (Some v)
-            (store (numbered_key ks n))) (sym (beside_is ks distinct n (numbers set) vs l numbers_within))
+        (store (numbered_key ks n))) (sym (beside_is ks distinct n (numbers set) vs l numbers_within))
         ∙ ap₂ (λ wk k. put_in wk k vs store (numbered_key ks n)) (sym write_keys_is) (sym keys_is)))
       where
         none_has : (m : ℕ) (ns : List ℕ) → AllByRecursion (λ y. (m == y) ≡ false) ns → has m ns ≡ false

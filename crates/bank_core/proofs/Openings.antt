@@ -112,7 +112,7 @@ slot_at sets slots i is below =
 pub sets_read : (job : Job) (ks : List Key) (old new slots : List (Option (List NumberedLock)))
     (result : Result (List (List NumberedLock)) OutOfMemory) → length old ≡ job.count → length new ≡ length old
     → ((i : ℕ) (d : Option (List NumberedLock)) → i < length old → NumbersAt ks (job.locks i) (get_or new i d))
-        → slots ≡ new → IfOk result (λ sets. map (λ (set : List NumberedLock). Some set) sets ≡ slots)
+    → slots ≡ new → IfOk result (λ sets. map (λ (set : List NumberedLock). Some set) sets ≡ slots)
     → IfOk result (λ sets. (i : ℕ) → i < job.count → Numbers ks (job.locks i) (set_at sets i))
 sets_read job ks old new slots (Err _) count kept each same is = tt
 sets_read job ks old new slots (Ok sets) count kept each same is = λ i l.
@@ -205,8 +205,8 @@ pub opening_buffers : (job : Job) (ks : List Key) (sets : List (List NumberedLoc
     (journal : List Event) (buffers : List (Vec Shared Global)) → length sets ≡ job.count
     → ((i : ℕ) → i < job.count → Numbers ks (job.locks i) (set_at sets i))
     → ((i : ℕ) → i < length sets → length (set_at sets i) ≤ room) → length buffers ≡ lanes
-        → ((lane : ℕ) (d : Vec Shared Global) → lane < lanes
-        → (vec_len (get_or buffers lane d) ≡ 0) × (room ≤ vec_capacity (get_or buffers lane d)))
+    → ((lane : ℕ) (d : Vec Shared Global) → lane < lanes
+    → (vec_len (get_or buffers lane d) ≡ 0) × (room ≤ vec_capacity (get_or buffers lane d)))
     → HasBuffers job lanes journal buffers
 opening_buffers job ks sets lanes room journal buffers long numbered most many free = record {
   buffers_length = many;

@@ -32,8 +32,8 @@ write_numbers_more (y ∷ ys) x = go y.write (write_numbers_more ys x)
   where
     go : (b : Bool) → write_numbers (ys ++ x ∷ []) ≡ write_numbers ys ++ write_numbers (x ∷ [])
         → numbers (cond b (y ∷ filter (λ l. l.write) (ys ++ x ∷ [])) (filter (λ l. l.write) (ys ++ x ∷ [])))
-            ≡ numbers (cond b (y ∷ filter (λ l. l.write) ys) (filter (λ l. l.write) ys))
-            ++ write_numbers (x ∷ [])
+        ≡ numbers (cond b (y ∷ filter (λ l. l.write) ys) (filter (λ l. l.write) ys))
+        ++ write_numbers (x ∷ [])
     go true ih = ap (λ ns. y.number ∷ ns) ih
     go false ih = ih
 
@@ -100,8 +100,8 @@ module _ (slots : List (Option Shared)) (locks : List NumberedLock) (i : ℕ) (a
 -- one turn from the back, where a lock writes, and where it reads
 pub put_write_at : (slots : List (Option Shared)) (locks : List NumberedLock) (at : ℕ) (all left rest : List Shared) (o : Option Shared) (old : ℕ → Option Account) (lock d : NumberedLock)
     → PutSoFar slots locks at all left old → 0 < at → lock ≡ get_or locks (at - 1) d
-        → IfSome o (λ x. left ≡ rest ++ x ∷ []) → IfNone o ((left ≡ []) × (rest ≡ [])) → lock.write ≡ true
-        → All (λ l. l.number < length slots) locks
+    → IfSome o (λ x. left ≡ rest ++ x ∷ []) → IfNone o ((left ≡ []) × (rest ≡ [])) → lock.write ≡ true
+    → All (λ l. l.number < length slots) locks
     → PutSoFar (set slots lock.number o) locks (at - 1) all rest old
 put_write_at slots locks at all left rest o old lock d h more here some none w within = by_case o some none
   where
@@ -180,8 +180,8 @@ module _ (slots : List (Option Shared)) (locks : List NumberedLock) (all left re
       → BackSoFar (set slots (get_or locks at d).number (Some a)) locks all rest old
   back_write first within same w =
       let l : (get_or locks at d).number < length slots = subst (λ k. (get_or locks at d).number < k) (sym same)
-          (within at d (let r = h.fewer in let e = ap length pop
-          ∙ length_push rest a in omega (arith, fits, here))) in
+      (within at d (let r = h.fewer in let e = ap length pop
+      ∙ length_push rest a in omega (arith, fits, here))) in
       back_step slots (set slots (get_or locks at d).number (Some a)) locks all left rest a old (get_or locks at d) h pop fits read_lock (λ n.
       account_set slots (get_or locks at d).number n (Some a) l ∙ ap (λ b. cond (b && (n == (get_or locks at d).number)) (Some (value_of a)) (account_at slots n)) (sym w))
 

@@ -50,8 +50,8 @@ module _ (job : Job) (start : Key → Account) where
   told_serial events legal from zero within = refl
   told_serial events legal from (suc most) within =
       one_told from ((Run job start events).stage from)
-          (map (λ i. outcome_of ((Run job start events).stage i)) (range_with_len (from + 1) most))
-          ((run_sound job start events legal).agrees from) (omega (arith, within))
+      (map (λ i. outcome_of ((Run job start events).stage i)) (range_with_len (from + 1) most))
+      ((run_sound job start events legal).agrees from) (omega (arith, within))
       (told_serial events legal (from + 1) most (omega (arith, within)))
 
   -- those of a core are copied from its list

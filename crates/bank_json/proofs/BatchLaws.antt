@@ -41,8 +41,8 @@ fields_again batch is are =
       member_again (codes "collector") (digits_in 32) d (hex_json batch.collector.0) batch.collector.0 refl (digits_again 32 batch.collector.0 is.collector collector_are),
       member_again (codes "transactions") (list_in max_transactions sized_in) d (list_json transaction_json batch.wires) (length batch.wires, wires) refl
           (list_again max_transactions sized_in transaction_json batch.wires wires is.few
-              (items_again sized_in transaction_json sized_bytes IsShortWire sized_again 0 batch.wires
-              (recursion_from_All IsShortWire batch.wires is.short) wires_are)),
+          (items_again sized_in transaction_json sized_bytes IsShortWire sized_again 0 batch.wires
+          (recursion_from_All IsShortWire batch.wires is.short) wires_are)),
     ) refl
 
 all_again : (bytes : List ℕ) (batch : Batch) → IsBytes bytes → batch_of 0 bytes ≡ Ok batch → batch_of_data (batch_json batch) ≡ Ok bytes

@@ -64,8 +64,8 @@ status_again (Failed index cause detail) fits =
 status_again (Dropped cause) fits =
     let code = drop_code_of-fits cause in
     rw (member_again (codes "dropped") (number_in 0 (2 ^ 16 - 1)) (status_json (Dropped cause))
-        (number_json (drop_code_of cause)) (drop_code_of cause) refl
-        (number_again 0 (2 ^ 16 - 1) (drop_code_of cause) (omega arith) (omega (arith, code)))) refl
+    (number_json (drop_code_of cause)) (drop_code_of cause) refl
+    (number_again 0 (2 ^ 16 - 1) (drop_code_of cause) (omega arith) (omega (arith, code)))) refl
 
 -- ---- entries
 
@@ -147,8 +147,8 @@ fields_again block bytes is are =
       member_again (codes "previous") (digits_in 32) d (hex_json block.previous.0) block.previous.0 refl (digits_again 32 block.previous.0 has.previous previous_are),
       member_again (codes "entries") (list_in max_transactions entry_in) d (list_json entry_json block.entries) (length block.entries, all) refl
           (list_again max_transactions entry_in entry_json block.entries all is.counted.entries
-              (items_again entry_in entry_json entry_bytes EntryFits entry_again 0 block.entries entries_fit
-              all_are)),
+          (items_again entry_in entry_json entry_bytes EntryFits entry_again 0 block.entries entries_fit
+          all_are)),
       number_there (codes "burned") block.burned refl has.burned,
       number_there (codes "collected") block.collected refl has.collected,
       member_again (codes "state") (digits_in 32) d (hex_json state) state refl (digits_again 32 state has.state state_are),

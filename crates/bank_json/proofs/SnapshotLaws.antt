@@ -149,12 +149,12 @@ sections_again s d recent accounts fits marks_are state_are =
     rw (
       member_again (codes "recent") (list_in max_marks mark_in) d (list_json mark_json s.recent) (length s.recent, marks) recent
           (list_again max_marks mark_in mark_json s.recent marks fits.marks.few
-              (items_again mark_in mark_json mark_bytes MarkFits mark_again 0 s.recent fits.marks.each
-              (after_bytes _ mark_count marks marks_are refl))),
+          (items_again mark_in mark_json mark_bytes MarkFits mark_again 0 s.recent fits.marks.each
+          (after_bytes _ mark_count marks marks_are refl))),
       member_again (codes "accounts") (list_in max_accounts account_in) d (list_json account_json es) (length es, all) accounts
           (list_again max_accounts account_in account_json es all fits.few
-              (items_again account_in account_json account_bytes AccountFits account_again 0 es fits.accounts
-              (after_bytes _ count all state_are refl))),
+          (items_again account_in account_json account_bytes AccountFits account_again 0 es fits.accounts
+          (after_bytes _ count all state_are refl))),
     ) (ap Ok (append_assoc (mark_count ++ marks) count all))
 
 slot_again : (s : Snapshot) (d : Data) → get (codes "slot") d ≡ Some (number_json s.slot) → Fits s → member_in (codes "slot") (number_in 0 (2 ^ 64 - 1)) d ≡ Ok s.slot

@@ -104,9 +104,14 @@ module _ {T L S : Type 0} (loan : L → LoanView T) (spent : S → LoanView T) (
       let back : returns (own new lane) ≡ 0 = (let a = grown_returns old new Grant lane position grown in omega (arith, a, none)) in
       record {
         holding = subst (IsHeldBy origin lane new) (sym seen)
-            (record { lane_is = on; origin_is = from; held = ap (λ (k : ℕ). holds (own new k)) on
-                ∙ (grown_holds old new Grant lane position grown ∙ ap Some (sym at)); once = ap
-                (λ (k : ℕ). returns (own new k)) on ∙ back });
+            (record {
+              lane_is = on;
+              origin_is = from;
+              held = ap (λ (k : ℕ). holds (own new k)) on
+                  ∙ (grown_holds old new Grant lane position grown ∙ ap Some (sym at));
+              once = ap
+                  (λ (k : ℕ). returns (own new k)) on ∙ back;
+            });
         once = λ _. back;
         passes_lane = its;
         passed = tt;
@@ -163,8 +168,8 @@ module _ {T L S : Type 0} (loan : L → LoanView T) (spent : S → LoanView T) (
     lanes_are = record { within = λ k l. wider (get_or (seat_lanes seats) k 0) (all.lanes_are.within k l); apart = all.lanes_are.apart };
     each = λ k d l. seat_stays (get_or seats k d) old new
         (same_own lanes old new (get_or seats k d).lane same
-            (subst (λ (n : ℕ). is_one_of lanes n ≡ true) (lane_at seats k d l)
-            (all.lanes_are.within k (let n = lanes_length seats in omega (arith, l, n)))))
+        (subst (λ (n : ℕ). is_one_of lanes n ≡ true) (lane_at seats k d l)
+        (all.lanes_are.within k (let n = lanes_length seats in omega (arith, l, n)))))
         (all.each k d l);
   }
 

@@ -48,8 +48,8 @@ pub changed : (job : Job) (f : Stage → Bool) (s : ℕ → Stage) (i : ℕ) (x 
     → count_below (λ j. f (at_stage s i x j)) job.count + one_if (f (s i)) ≡ count_below (λ j. f (s j)) job.count + one_if (f x)
 changed job f s i x l =
     count-change (λ j. f (s j)) (λ j. f (at_stage s i x j)) i job.count l
-        (λ j n. sym (ap f (at_stage-other s i x j n)))
-        ∙ ap (λ y. count_below (λ j. f (s j)) job.count + one_if (f y)) (at_stage-same s i x)
+    (λ j n. sym (ap f (at_stage-other s i x j n)))
+    ∙ ap (λ y. count_below (λ j. f (s j)) job.count + one_if (f y)) (at_stage-same s i x)
 
 pub held_counts : (x : Stage) (lane : ℕ) → is_held_by lane x ≡ true → (one_if (is_held x) ≡ 1) × (one_if (is_done x) ≡ 0)
 held_counts waiting lane h = absurd (cc)

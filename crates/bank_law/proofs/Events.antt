@@ -168,8 +168,8 @@ commit_sound job start s lane i S h = record {
         (λ j u wj d.
         let n : j ≡ i → ⊥ = λ e. omega arith in
         held_undone (s.stage i) lane h
-            (S.earlier j i (done_started (s.stage j) (was_done j n d)) (omega arith)
-            (clash-first (job.locks i) (job.locks j) key wr (written_declared (job.locks j) key wj))))
+        (S.earlier j i (done_started (s.stage j) (was_done j n d)) (omega arith)
+        (clash-first (job.locks i) (job.locks j) key wr (written_declared (job.locks j) key wj))))
 
     put : (key : Key) → writes job i key ≡ true → beside key (write_keys job i) (job.effects i (loan (s.stage i))).written ≡ serial job start (suc i) key
     put key wr = ap (λ vs. beside key (write_keys job i) (job.effects i vs).written) lent ∙ sym (cond-true (writes job i key) _ (serial job start i key) wr)
@@ -188,9 +188,9 @@ return_sound job start s lane i S h = record {
       (λ wr.
       let d = written_declared (job.locks i) key wr in
       ap (beside key (keys job i)) lent
-          ∙ (beside-map (serial job start i) key (keys job i) d
-          ∙ sym (same_due key ∙ turn job start s i S (S.within i started) (held_undone (s.stage i) lane h)
-          (λ j u c. S.earlier i j started u c) key d)))
+      ∙ (beside-map (serial job start i) key (keys job i) d
+      ∙ sym (same_due key ∙ turn job start s i S (S.within i started) (held_undone (s.stage i) lane h)
+      (λ j u c. S.earlier i j started u c) key d)))
       (λ e. by_store _ _ _ _ (s.store key)
       (λ l. lent_stays job s i waiting t.store key _ _ (sym (same_due key)) l (λ q. both_ways _ e (subst (λ m. writes job m key ≡ true) q l.written)))
       (λ v q. q ∙ sym (same_due key)) (S.values key));

@@ -18,8 +18,8 @@ own_same events e lane same =
 pub own_other : (events : List Event) (e : Event) (lane : ℕ) → (e.lane ≡ lane → ⊥) → own (events ++ e ∷ []) lane ≡ own events lane
 own_other events e lane other =
     filter-append (λ (event : Event). event.lane == lane) events (e ∷ [])
-        ∙ (ap (λ es. own events lane ++ es) (cond-false (e.lane == lane) (e ∷ []) [] (ne_eqb e.lane lane other))
-        ∙ append-nil (own events lane))
+    ∙ (ap (λ es. own events lane ++ es) (cond-false (e.lane == lane) (e ∷ []) [] (ne_eqb e.lane lane other))
+    ∙ append-nil (own events lane))
 
 -- no event of a lane where all are of lanes below
 pub own_none : (lanes : ℕ) (events : List Event) (lane : ℕ) → All (λ e. e.lane < lanes) events → lanes ≤ lane → own events lane ≡ []
@@ -27,8 +27,8 @@ own_none lanes [] lane below l = refl
 own_none lanes (e ∷ es) lane below l =
     let first = All-head (λ (event : Event). event.lane < lanes) e es below in
     cond-false (e.lane == lane) (e ∷ own es lane) (own es lane)
-        (ne_eqb e.lane lane (λ q. omega (arith, first, l, q)))
-        ∙ own_none lanes es lane (All-tail (λ (event : Event). event.lane < lanes) e es below) l
+    (ne_eqb e.lane lane (λ q. omega (arith, first, l, q)))
+    ∙ own_none lanes es lane (All-tail (λ (event : Event). event.lane < lanes) e es below) l
 
 pub last_push : (d : Option Event) (events : List Event) (e : Event) → last_or d (events ++ e ∷ []) ≡ Some e
 last_push d [] e = refl

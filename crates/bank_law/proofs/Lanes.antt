@@ -63,9 +63,9 @@ lane_holds job s (e ∷ es) lane last l just = by_case (e.lane == lane) refl (la
   where
     by_case : (b : Bool) → (e.lane == lane) ≡ b
         → ((last : Option Event) → IsLegalFrom job (after_event job s e) es
-            → HoldsJust lane (after_event job s e).stage (held_by_last last)
-            → HoldsJust lane (after job (after_event job s e) es).stage
-            (held_by_last (last_or last (own es lane))))
+        → HoldsJust lane (after_event job s e).stage (held_by_last last)
+        → HoldsJust lane (after job (after_event job s e) es).stage
+        (held_by_last (last_or last (own es lane))))
         → HoldsJust lane (after job (after_event job s e) es).stage (held_by_last (last_or last (cond b (e ∷ own es lane) (own es lane))))
     by_case true q rest = rest (Some e) l.1 (own_step job s e.kind e.lane e.position lane (held_by_last last) (eqb-true e.lane lane q) l.0 just)
     by_case false q rest = rest last l.1 (other_step job s e.kind e.lane e.position lane (held_by_last last) (λ t. both_ways _ q (eq-eqb e.lane lane t)) l.0 just)

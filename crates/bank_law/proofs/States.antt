@@ -68,8 +68,8 @@ put_held s k a h short =
           (all-remove_entry IsHeld (is_at (key_cmp k)) (entries s) h))
       | inr m ↦ let more : 1 ≤ a.lamports = omega (arith, m) in
           subst AreHeld (sym (put-more s k a more))
-              (subst (AllByRecursion (λ e. IsHeld e.1)) (sym (entries-insert_entry key_cmp_total s k a))
-              (all-insert_entry key_cmp IsHeld (entries s) k a h (more, short)))
+          (subst (AllByRecursion (λ e. IsHeld e.1)) (sym (entries-insert_entry key_cmp_total s k a))
+          (all-insert_entry key_cmp IsHeld (entries s) k a h (more, short)))
     ]
 
 each_held : (s : State) (ks : List Key) (vs : List Account) → AreHeld s → AreShort vs → AreHeld (put_each s ks vs)

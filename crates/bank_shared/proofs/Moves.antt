@@ -94,9 +94,9 @@ module _ {C O : Type 0} (origin : C → O) (journal : C → List Event) (drawn :
   unmoved s r id cs v w at same mine lanes =
       subst (λ (ws : List ℕ). Rule record { words = ws; homes = s.homes; views = set s.views id w }) (sym (set-get_or s.words 0 0))
       (stays s r id v w at s.words s.homes r.history r.count r.holder refl refl r.placed
-          (subst (λ (x : Option (List Event × ℕ)). IfSome x
-          (λ p. (r.holder ≡ Some id) × (p ≡ (r.history, r.count)))) (sym same) (r.turn id v at)) (λ j _ is. is)
-          mine lanes)
+      (subst (λ (x : Option (List Event × ℕ)). IfSome x
+      (λ p. (r.holder ≡ Some id) × (p ≡ (r.history, r.count)))) (sym same) (r.turn id v at)) (λ j _ is. is)
+      mine lanes)
 
   -- a look (`looked`)
   pub looks : (slots id : ℕ) (me : Me (Option C) (View O)) (st : Step (Option C)) → Allows Rule slots id me 0 (λ n. n) (looked st me)
@@ -108,17 +108,23 @@ module _ {C O : Type 0} (origin : C → O) (journal : C → List Event) (drawn :
         keeps,
         tt,
         unmoved s r id me.1 v w at refl (record { desk = k.desk; mine = whole r.history (lanes_of v); joined = λ i d lt. absurd (omega arith); drawn = k.drawn }) (λ l. refl),
-        (r.history, refl, k.mine, k.joined, λ l. dite (dec_le r.count l)
-            (λ above. let n = r.never l above in omega (arith, n, term_le (stands l) s.views id v at))
-            (λ not. let n = r.once l (grind (arith, not))
-            in omega (arith, n, term_le (stands l) s.views id v at))),
+        (
+          r.history,
+          refl,
+          k.mine,
+          k.joined,
+          λ l. dite (dec_le r.count l)
+              (λ above. let n = r.never l above in omega (arith, n, term_le (stands l) s.views id v at))
+              (λ not. let n = r.once l (grind (arith, not))
+              in omega (arith, n, term_le (stands l) s.views id v at)),
+        ),
       )
 
   -- the turn is taken (`took`)
   takes_turn : (s : St) (r : Rule s) (id old : ℕ) (v : View O) → get_elem? s.views id ≡ some v → v.origin ≡ Some o → old % 2 ≡ 0 → slice_index s.words 0 ≡ old
       → (c : C) × (get_elem? s.homes 0 ≡ some (some (Some c)))
-          × Rule (stepped s 0 (old + 1) id [] (holding v (journal c) (drawn c)) (takes 0 (Some c)))
-          × Taken origin journal drawn v c old (holding v (journal c) (drawn c), (0, Some c) ∷ [])
+      × Rule (stepped s 0 (old + 1) id [] (holding v (journal c) (drawn c)) (takes 0 (Some c)))
+      × Taken origin journal drawn v c old (holding v (journal c) (drawn c), (0, Some c) ∷ [])
   takes_turn s r id old v at is_desk even found =
       let free = at_home r.holder r.history r.count s.words s.homes r.placed (ap (λ (n : ℕ). n % 2) found ∙ even) in
       let home = free.1 in
@@ -132,8 +138,8 @@ module _ {C O : Type 0} (origin : C → O) (journal : C → List Event) (drawn :
       let known : Knows (origin c) (journal c) (drawn c) v = subst (λ (x : O × List Event × ℕ). Knows x.0 x.1 x.2 v) (λ i. (sym is_o i, sym is_h i, sym is_d i)) (r.knows id v at) in
       let w = holding v (journal c) (drawn c) in
       let mine : Knows o (journal c) (drawn c) w = let k = subst (λ (x : List Event × ℕ). Knows o x.0 x.1 v)
-          (λ i. (sym is_h i, sym is_d i)) (r.knows id v at)
-          in record { desk = k.desk; mine = k.mine; joined = k.joined; drawn = k.drawn } in (
+      (λ i. (sym is_h i, sym is_d i)) (r.knows id v at)
+      in record { desk = k.desk; mine = k.mine; joined = k.joined; drawn = k.drawn } in (
         c,
         ap (λ (hs : Homes). get_elem? hs 0) homes,
         stays s r id v w at _ _ (journal c) (drawn c) (Some id) (sym is_h) (sym is_d)
@@ -187,29 +193,34 @@ module _ {C O : Type 0} (origin : C → O) (journal : C → List Event) (drawn :
       let w = done v (journal c) (drawn c) in
       let fresh = range_with_len r.count (drawn c - r.count) in
       let fresh_is : drawn_since v.turn (drawn c)
-          ≡ fresh = ap (λ (x : Option (List Event × ℕ)). drawn_since x (drawn c)) mine.turn
-          ∙ ap (λ (p : List Event × ℕ). range_with_len p.1 (drawn c - p.1)) t.1 in
+      ≡ fresh = ap (λ (x : Option (List Event × ℕ)). drawn_since x (drawn c)) mine.turn
+      ∙ ap (λ (p : List Event × ℕ). range_with_len p.1 (drawn c - p.1)) t.1 in
       let count : (l : ℕ) → stands l w ≡ times l fresh + stands l v = λ l. ap (λ (x : List ℕ). times l (x ++ lanes_of v)) fresh_is ∙ sum_append (λ x. cond {A = ℕ} (eqb x l) 1 0) fresh (lanes_of v) in
       let below : (e : Event) → is_one_of (lanes_of v) e.lane ≡ true
-          → e.lane < r.count = λ e is. let one = one_stands e.lane (lanes_of v) is
-          in dite (dec_le r.count e.lane)
-          (λ above. let none_yet = r.never e.lane above
-          in absurd (omega (arith, term_le (stands e.lane) s.views id v at))) (λ not. grind (arith, not)) in
+      → e.lane < r.count = λ e is. let one = one_stands e.lane (lanes_of v) is
+      in dite (dec_le r.count e.lane)
+      (λ above. let none_yet = r.never e.lane above
+      in absurd (omega (arith, term_le (stands e.lane) s.views id v at))) (λ not. grind (arith, not)) in
       let drawn_lanes : All (λ e. e.lane < r.count) more = All-weaker (λ (e : Event). is_one_of (lanes_of v) e.lane ≡ true) (λ (e : Event). e.lane < r.count) below more theirs in
       let later : All (λ e. e.lane < r.count) (journal c) = subst
-          (λ (l : List Event). All (λ e. e.lane < r.count) l) (sym same_h)
-          (All-append (λ (x : Event). x.lane < r.count) r.history more r.later drawn_lanes) in
+      (λ (l : List Event). All (λ e. e.lane < r.count) l) (sym same_h)
+      (All-append (λ (x : Event). x.lane < r.count) r.history more r.later drawn_lanes) in
       let grown : (j : ℕ) (u : View O) → j ≢ id → get_elem? s.views j ≡ some u → Knows o (journal c) (drawn c) u =
       λ j u ne there.
       let q = r.knows j u there in
       let apart : All (λ e. stands e.lane u ≡ 0) more = All-weaker
-          (λ (e : Event). is_one_of (lanes_of v) e.lane ≡ true) (λ (e : Event). stands e.lane u ≡ 0)
-          (λ e is. let one = one_stands e.lane (lanes_of v) is in let once = r.once e.lane (below e is)
-          in omega (arith, terms_le (stands e.lane) s.views id j v u ne at there)) more theirs in
+      (λ (e : Event). is_one_of (lanes_of v) e.lane ≡ true) (λ (e : Event). stands e.lane u ≡ 0)
+      (λ e is. let one = one_stands e.lane (lanes_of v) is in let once = r.once e.lane (below e is)
+      in omega (arith, terms_le (stands e.lane) s.views id j v u ne at there)) more theirs in
       let known = others r.history more r.count u q apart in
       subst (λ (x : List Event). Knows o x (drawn c) u) (sym same_h)
-          (record { desk = known.desk; mine = known.mine; joined = known.joined; drawn =
-          (let n = known.drawn in omega (arith, n, grown_d)) }) in (
+      (record {
+        desk = known.desk;
+        mine = known.mine;
+        joined = known.joined;
+        drawn =
+            (let n = known.drawn in omega (arith, n, grown_d));
+      }) in (
         w,
         gives,
         tt,
@@ -224,18 +235,23 @@ module _ {C O : Type 0} (origin : C → O) (journal : C → List Event) (drawn :
               (at_set s.views id j w u there);
           knows = λ j u there. ⊎_elim
               (λ (m : (j ≡ id) × (w ≡ u)). subst (Knows o (journal c) (drawn c)) m.1
-                  (record { desk = k.desk; mine = whole (journal c)
-                  (drawn_since v.turn (drawn c) ++ lanes_of v); joined = λ i d lt. absurd (omega arith); drawn =
-                  omega arith }))
+              (record {
+                desk = k.desk;
+                mine = whole (journal c)
+                    (drawn_since v.turn (drawn c) ++ lanes_of v);
+                joined = λ i d lt. absurd (omega arith);
+                drawn =
+                    omega arith;
+              }))
               (λ (m : (j ≢ id) × (get_elem? s.views j ≡ some u)). grown j u m.0 m.1)
               (at_set s.views id j w u there);
           once = λ l under. dite (dec_le r.count l)
               (λ above. let was = r.never l above
-                  in let n = times_in l r.count (drawn c - r.count) above (omega (arith, under, grown_d))
-                  in omega (arith, was, n, count l, sum_set (stands l) s.views id v w at))
+              in let n = times_in l r.count (drawn c - r.count) above (omega (arith, under, grown_d))
+              in omega (arith, was, n, count l, sum_set (stands l) s.views id v w at))
               (λ not. let lower : l < r.count = grind (arith, not) in let was = r.once l lower
-                  in let n = times_before l r.count (drawn c - r.count) lower
-                  in omega (arith, was, n, count l, sum_set (stands l) s.views id v w at));
+              in let n = times_before l r.count (drawn c - r.count) lower
+              in omega (arith, was, n, count l, sum_set (stands l) s.views id v w at));
           never = λ l above. let was = r.never l (omega (arith, above, grown_d))
               in let n = times_behind l r.count (drawn c - r.count) (omega (arith, above, grown_d))
               in omega (arith, was, n, count l, sum_set (stands l) s.views id v w at);
@@ -249,12 +265,17 @@ module _ {C O : Type 0} (origin : C → O) (journal : C → List Event) (drawn :
       → Rule (record { words = s.words; homes = s.homes; views = set s.views id v ++ u ∷ [] })
   parts id v u no_turn nowhere s r at fresh =
       let was : (j : ℕ) (w : View O) → get_elem? (set s.views id v) j ≡ some w
-          → get_elem? s.views j ≡ some w = λ j w there. subst (λ (l : List (View O)). get_elem? l j ≡ some w)
-          (set_again s.views id v at) there in
+      → get_elem? s.views j ≡ some w = λ j w there. subst (λ (l : List (View O)). get_elem? l j ≡ some w)
+      (set_again s.views id v at) there in
       let count : (l : ℕ) → total (stands l) (set s.views id v ++ u ∷ [])
-          ≡ total (stands l) s.views = λ l. let z = nowhere l
-          in omega (arith, z, ap (total (stands l)) (set_again s.views id v at), sum_append (stands l)
-          (set s.views id v) (u ∷ [])) in
+      ≡ total (stands l) s.views = λ l. let z = nowhere l
+      in omega (
+        arith,
+        z,
+        ap (total (stands l)) (set_again s.views id v at),
+        sum_append (stands l)
+            (set s.views id v) (u ∷ []),
+      ) in
       record {
         history = r.history;
         count = r.count;
@@ -263,9 +284,9 @@ module _ {C O : Type 0} (origin : C → O) (journal : C → List Event) (drawn :
         turn = λ j w there. ⊎_elim
             (λ was_there. r.turn j w (was j w was_there))
             (λ (is : u ≡ w). subst (λ (x : View O). IfSome x.turn
-                (λ p. (r.holder ≡ Some j) × (p ≡ (r.history, r.count)))) is
-                (subst (λ (x : Option (List Event × ℕ)). IfSome x
-                (λ p. (r.holder ≡ Some j) × (p ≡ (r.history, r.count)))) (sym no_turn) tt))
+            (λ p. (r.holder ≡ Some j) × (p ≡ (r.history, r.count)))) is
+            (subst (λ (x : Option (List Event × ℕ)). IfSome x
+            (λ p. (r.holder ≡ Some j) × (p ≡ (r.history, r.count)))) (sym no_turn) tt))
             (at_snoc (set s.views id v) u w j there);
         knows = λ j w there. ⊎_elim (λ was_there. r.knows j w (was j w was_there)) (λ (is : u ≡ w). subst (Knows o r.history r.count) is fresh) (at_snoc (set s.views id v) u w j there);
         once = λ l below. count l ∙ r.once l below;
@@ -277,24 +298,34 @@ module _ {C O : Type 0} (origin : C → O) (journal : C → List Event) (drawn :
   splits id v s r at =
       let k = r.knows id v at in
       parts id v (new_view v) refl (λ l. refl) s r at
-          (record { desk = k.desk; mine =
-          record { longer = k.mine.longer; own = no_lanes r.history ∙ sym (no_lanes v.seen) }; joined = λ i d
-          lt. absurd (omega arith); drawn = k.drawn })
+      (record {
+        desk = k.desk;
+        mine =
+            record { longer = k.mine.longer; own = no_lanes r.history ∙ sym (no_lanes v.seen) };
+        joined = λ i d
+            lt. absurd (omega arith);
+        drawn = k.drawn;
+      })
 
   -- the same with one that knows nothing
   pub blanks : (id : ℕ) (v : View O) → Splits Rule id v v spent_view
   blanks id v s r at = parts id v spent_view refl (λ l. refl) s r at
-      (record { desk = tt; mine = record { longer = (r.history, refl); own = no_lanes r.history }; joined = λ i
-      d lt. absurd (omega arith); drawn = omega arith })
+      (record {
+        desk = tt;
+        mine = record { longer = (r.history, refl); own = no_lanes r.history };
+        joined = λ i
+            d lt. absurd (omega arith);
+        drawn = omega arith;
+      })
 
   -- a seat is joined into another (`joined_view`)
   pub joins : (id : ℕ) (v : View O) (other : ℕ) (w : View O) → Joins Rule id v other w (joined_view v w) spent_view
   joins id v other w s r at apart there =
       let k = r.knows id v at in
       let old_w : get_elem? s.views other
-          ≡ some w = ⊎_elim (λ (t : (other ≡ id) × (joined_view v w ≡ w)). absurd (apart t.0))
-          (λ (t : (other ≢ id) × (get_elem? s.views other ≡ some w)). t.1)
-          (at_set s.views id other (joined_view v w) w there) in
+      ≡ some w = ⊎_elim (λ (t : (other ≡ id) × (joined_view v w ≡ w)). absurd (apart t.0))
+      (λ (t : (other ≢ id) × (get_elem? s.views other ≡ some w)). t.1)
+      (at_set s.views id other (joined_view v w) w there) in
       let q = r.knows other w old_w in
       let mine : Knows o r.history r.count (joined_view v w) = record {
         desk = k.desk;
@@ -312,8 +343,8 @@ module _ {C O : Type 0} (origin : C → O) (journal : C → List Event) (drawn :
       let c : stands l (joined_view v w) ≡ total f (w.lanes ++ part_lanes (w.joined ++ v.joined)) + total f v.lanes = sum_append f (w.lanes ++ part_lanes (w.joined ++ v.joined)) v.lanes in
       let d : total f (w.lanes ++ part_lanes (w.joined ++ v.joined)) ≡ total f w.lanes + total f (part_lanes (w.joined ++ v.joined)) = sum_append f w.lanes (part_lanes (w.joined ++ v.joined)) in
       let e : total f (part_lanes (w.joined ++ v.joined))
-          ≡ total f (part_lanes w.joined) + total f (part_lanes v.joined) = ap (total f) both
-          ∙ sum_append f (part_lanes w.joined) (part_lanes v.joined) in
+      ≡ total f (part_lanes w.joined) + total f (part_lanes v.joined) = ap (total f) both
+      ∙ sum_append f (part_lanes w.joined) (part_lanes v.joined) in
       let m : stands l v ≡ total f (part_lanes v.joined) + total f v.lanes = sum_append f (part_lanes v.joined) v.lanes in
       let n : stands l w ≡ total f (part_lanes w.joined) + total f w.lanes = sum_append f (part_lanes w.joined) w.lanes in
       omega (arith, a, b, c, d, e, m, n) in
@@ -331,8 +362,12 @@ module _ {C O : Type 0} (origin : C → O) (journal : C → List Event) (drawn :
             (at_set (set s.views id (joined_view v w)) other j spent_view u at_j);
         knows = λ j u at_j. ⊎_elim
             (λ (m : (j ≡ other) × (spent_view ≡ u)). subst (Knows o r.history r.count) m.1
-                (record { desk = tt; mine = record { longer = (r.history, refl); own = no_lanes r.history };
-                joined = λ i d lt. absurd (omega arith); drawn = omega arith }))
+            (record {
+              desk = tt;
+              mine = record { longer = (r.history, refl); own = no_lanes r.history };
+              joined = λ i d lt. absurd (omega arith);
+              drawn = omega arith;
+            }))
             (λ (m : (j ≢ other) × (get_elem? (set s.views id (joined_view v w)) j ≡ some u)). ⊎_elim
             (λ (n : (j ≡ id) × (joined_view v w ≡ u)). subst (Knows o r.history r.count) n.1 mine)
             (λ (n : (j ≢ id) × (get_elem? s.views j ≡ some u)). r.knows j u n.1)
@@ -370,16 +405,16 @@ module _ {C O : Type 0} (origin : C → O) (journal : C → List Event) (drawn :
       → Allows Rule slots id me 0 (λ n. either (eqb n old) (old + 1) n) (took origin journal drawn (step slots 0 old (old + 1) x) me)
   takes_at slots id old me x empty is_desk even =
       subst (λ (cs : List (ℕ × Option C)). Allows Rule slots id (me.0, cs) 0
-          (λ n. either (eqb n old) (old + 1) n)
-          (took origin journal drawn (step slots 0 old (old + 1) x) (me.0, cs))) (sym empty)
-          (takes_or_not slots id old me.0 x is_desk even)
+      (λ n. either (eqb n old) (old + 1) n)
+      (took origin journal drawn (step slots 0 old (old + 1) x) (me.0, cs))) (sym empty)
+      (takes_or_not slots id old me.0 x is_desk even)
 
   pub releases_at : (slots id new : ℕ) (me : Me (Option C) (View O)) (c : C) → me.1 ≡ (0, Some c) ∷ [] → HasTurn me.0 (journal c) (drawn c) → origin c ≡ o → new ≡ 2 * length (journal c)
       → Allows Rule slots id me 0 (λ _. new) (λ _. released journal drawn (step slots 0 new 0 none) me new)
   releases_at slots id new me c slot mine is_o is_new =
       subst (λ (cs : List (ℕ × Option C)). Allows Rule slots id (me.0, cs) 0 (λ _. new)
-          (λ _. released journal drawn (step slots 0 new 0 none) (me.0, cs) new)) (sym slot)
-          (releases slots id new me.0 c mine is_o is_new)
+      (λ _. released journal drawn (step slots 0 new 0 none) (me.0, cs) new)) (sym slot)
+      (releases slots id new me.0 c mine is_o is_new)
 
   -- what a compare-exchange told
   pub hit : (slots old new : ℕ) (me : Me (Option C) (View O)) (n : ℕ) (me' : Me (Option C) (View O)) → n ≡ old
@@ -405,9 +440,9 @@ module _ {C O : Type 0} (origin : C → O) (journal : C → List Event) (drawn :
   pub gets_some : (slots old new : ℕ) (me : Me (Option C) (View O)) (n : ℕ) (me' : Me (Option C) (View O))
       → me.0.origin ≡ Some o → n ≡ old → took origin journal drawn (step slots 0 old new none) me n me'
       → (x : Option C) (last : Me (Option C) (View O)) → me'.1 ≡ (0, x) ∷ rest me'.1
-          → last ≡ (me'.0, (0, None) ∷ rest me'.1) → (P : Type 0)
-          → (IfNone x P) × (IfSome x (λ k. (last ≡ (holding me.0 (journal k) (drawn k), (0, None) ∷ []))
-          × Gets o (origin k) (journal k) (drawn k) me.0))
+      → last ≡ (me'.0, (0, None) ∷ rest me'.1) → (P : Type 0)
+      → (IfNone x P) × (IfSome x (λ k. (last ≡ (holding me.0 (journal k) (drawn k), (0, None) ∷ []))
+      × Gets o (origin k) (journal k) (drawn k) me.0))
   gets_some slots old new me n me' is_desk is told x last out then P =
       let t = hit slots old new me n me' is told in
       let c = t.0 in

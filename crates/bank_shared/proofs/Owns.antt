@@ -80,14 +80,14 @@ pub parts_grow : (h more : List Event) (parts : List Part) → All (λ e. times 
 parts_grow h more [] none all = λ i d lt. absurd (omega arith)
 parts_grow h more (p ∷ ps) none all =
     let split : (e : Event) → times e.lane (p.lanes ++ part_lanes ps)
-        ≡ times e.lane p.lanes + times e.lane (part_lanes ps) = λ e. sum_append
-        (λ k. cond {A = ℕ} (eqb k e.lane) 1 0) p.lanes (part_lanes ps) in
+    ≡ times e.lane p.lanes + times e.lane (part_lanes ps) = λ e. sum_append
+    (λ k. cond {A = ℕ} (eqb k e.lane) 1 0) p.lanes (part_lanes ps) in
     let here : All (λ e. times e.lane p.lanes ≡ 0) more = All-weaker
-        (λ (e : Event). times e.lane (p.lanes ++ part_lanes ps) ≡ 0) (λ (e : Event). times e.lane p.lanes ≡ 0)
-        (λ e z. omega (arith, z, split e)) more none in
+    (λ (e : Event). times e.lane (p.lanes ++ part_lanes ps) ≡ 0) (λ (e : Event). times e.lane p.lanes ≡ 0)
+    (λ e z. omega (arith, z, split e)) more none in
     let there : All (λ e. times e.lane (part_lanes ps) ≡ 0) more = All-weaker
-        (λ (e : Event). times e.lane (p.lanes ++ part_lanes ps) ≡ 0)
-        (λ (e : Event). times e.lane (part_lanes ps) ≡ 0) (λ e z. omega (arith, z, split e)) more none in
+    (λ (e : Event). times e.lane (p.lanes ++ part_lanes ps) ≡ 0)
+    (λ (e : Event). times e.lane (part_lanes ps) ≡ 0) (λ e z. omega (arith, z, split e)) more none in
     All-cons (λ (q : Part). Covers (h ++ more) q.lanes q.seen) p ps
     (grows h more p.lanes p.seen (All-head (λ (q : Part). Covers h q.lanes q.seen) p ps all) here)
     (parts_grow h more ps there (All-tail (λ (q : Part). Covers h q.lanes q.seen) p ps all))

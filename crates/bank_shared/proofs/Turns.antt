@@ -137,12 +137,16 @@ module _ {O : Type 0} where
       let seen : w.seen ≡ h = ap (λ (u : View O). u.seen) last in
       let theirs : Covers h other.lanes other.seen = All-head (λ (x : Part). Covers h x.lanes x.seen) (record { lanes = other.lanes; seen = other.seen }) (other.joined ++ v.joined) all in
       let lanes : w.lanes ≡ other.lanes ++ v.lanes = ap (λ (u : View O). u.lanes) last
-          ∙ (ap (λ (x : List Part). (other.lanes ++ part_lanes x) ++ v.lanes)
-          (λ i. no_parts_too i ++ no_parts i) ∙ ap (λ (x : List ℕ). x ++ v.lanes) (append-nil other.lanes)) in (
+      ∙ (ap (λ (x : List Part). (other.lanes ++ part_lanes x) ++ v.lanes)
+      (λ i. no_parts_too i ++ no_parts i) ∙ ap (λ (x : List ℕ). x ++ v.lanes) (append-nil other.lanes)) in (
         record {
-          keeps = record { origin = ap (λ (u : View O). u.origin) last; longer = subst (IsPrefix v.seen)
-              (sym seen) mine.longer; drawn =
-              (let m : w.drawn ≡ max v.drawn other.drawn = ap (λ (u : View O). u.drawn) last in omega arith) };
+          keeps = record {
+            origin = ap (λ (u : View O). u.origin) last;
+            longer = subst (IsPrefix v.seen)
+                (sym seen) mine.longer;
+            drawn =
+                (let m : w.drawn ≡ max v.drawn other.drawn = ap (λ (u : View O). u.drawn) last in omega arith);
+          };
           mine = ap (λ (es : List Event). own es l) seen ∙ covered h v.lanes v.seen l mine lane;
           all = ap (λ (es : List Event). own_of es v.lanes) seen ∙ mine.own;
           turns = ap (λ (u : View O). u.turns) last;
@@ -153,8 +157,14 @@ module _ {O : Type 0} where
           apart = λ k is. none_of k v.lanes
               (let one = one_stands k other.lanes is in let n = once k in let f : ℕ
               → ℕ = λ x. cond {A = ℕ} (eqb x k) 1 0 in let rest = part_lanes (other.joined ++ v.joined)
-              in omega (arith, one, n, sum_append f (other.lanes ++ rest) v.lanes, sum_append f other.lanes
-              rest));
+              in omega (
+                arith,
+                one,
+                n,
+                sum_append f (other.lanes ++ rest) v.lanes,
+                sum_append f other.lanes
+                    rest,
+              ));
           all = ap (λ (es : List Event). own_of es other.lanes) seen ∙ theirs.own;
           drawn = ap (λ (u : View O). u.drawn) last;
         },
@@ -169,8 +179,8 @@ module _ {O : Type 0} where
   folds_at l v other m cs last no_parts no_parts_too lane is told =
       folds told.0 l v other last.0 no_parts no_parts_too lane (ap (λ (x : Me _ (View O)). x.0) told.1 ∙ ap (λ (x : View O). caught_up x told.0) is)
       (subst (λ (x : View O). Covers told.0 x.lanes x.seen) is told.2)
-          (subst (λ (x : View O). All (λ part. Covers told.0 part.lanes part.seen) x.joined) is told.3)
-          (subst (λ (x : View O). (k : ℕ) → stands k x ≤ 1) is told.4)
+      (subst (λ (x : View O). All (λ part. Covers told.0 part.lanes part.seen) x.joined) is told.3)
+      (subst (λ (x : View O). (k : ℕ) → stands k x ≤ 1) is told.4)
 
 -- what a pass knows of a lane's events is all that the history has of it
 pub mine_is : {O : Type 0} (o : O) (h : List Event) (d l : ℕ) (v : View O) → Knows o h d v → is_one_of v.lanes l ≡ true → own h l ≡ own v.seen l
@@ -210,8 +220,8 @@ module _ {W T : Type 0} {G : _} where
   module _ (job : T → Job) (core desk : Origin T) (old new seen : List Event) (l : ℕ) (same : core ≡ desk) (all : seen ≡ new) where
     pub take_tells : (t : Take W T G) → MatchTake t (λ loan. new ≡ with_event old Grant l loan.position) (λ held. new ≡ old) (new ≡ old) (new ≡ old)
         → MatchTake t (λ loan. (loan.lane ≡ l) × (loan.origin.value ≡ core)
-            × IsLeastReadyAfter job core old loan.position) (λ held. IsNotNowAfter job core old held)
-            (AllDoneAfter job core old) (ReadsLeastAfter job core old)
+        × IsLeastReadyAfter job core old loan.position) (λ held. IsNotNowAfter job core old held)
+        (AllDoneAfter job core old) (ReadsLeastAfter job core old)
         → MatchTake t (λ loan. (loan.lane ≡ l) × (loan.origin.value ≡ desk)) (λ held. IsNotNowAfter job desk seen held) (AllDoneAfter job desk seen) (ReadsLeastAfter job desk seen)
     take_tells (take.Loan loan) is told = (told.0, told.1 ∙ same)
     take_tells (take.NotNow held) is told = subst₂ (λ o events. IsNotNowAfter job o events held) same (sym (all ∙ is)) told
@@ -220,8 +230,8 @@ module _ {W T : Type 0} {G : _} where
 
     pub take_least : (t : Take W T G) → MatchTake t (λ loan. new ≡ with_event old Grant l loan.position) (λ held. new ≡ old) (new ≡ old) (new ≡ old)
         → MatchTake t (λ loan. (loan.lane ≡ l) × (loan.origin.value ≡ core)
-            × IsLeastReadyAfter job core old loan.position) (λ held. IsNotNowAfter job core old held)
-            (AllDoneAfter job core old) (ReadsLeastAfter job core old)
+        × IsLeastReadyAfter job core old loan.position) (λ held. IsNotNowAfter job core old held)
+        (AllDoneAfter job core old) (ReadsLeastAfter job core old)
         → MatchTake t (λ loan. IsLeastReadyAfter job desk (before_last seen) loan.position) (λ held. ⊤) ⊤ ⊤
     take_least (take.Loan loan) is told =
         subst₂ (λ o events. IsLeastReadyAfter job o events loan.position) same

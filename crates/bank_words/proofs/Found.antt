@@ -169,5 +169,5 @@ reads_run uses all = ap (λ (rs : List Row). is_set (first_of (codes "run") rs))
     go false e =
         let absent : has_row (codes "run") (rows_for uses) ≡ false = has_row-rows_for (codes "run") uses ∙ e in
         ap (λ (rs : List Row). is_set (first_of (codes "run") rs))
-            (flag_default (rows_for uses) (codes "run") absent)
-            ∙ ap is_set (find_last (codes "run") (rows_for uses) (default_row (codes "run")) absent refl)
+        (flag_default (rows_for uses) (codes "run") absent)
+        ∙ ap is_set (find_last (codes "run") (rows_for uses) (default_row (codes "run")) absent refl)

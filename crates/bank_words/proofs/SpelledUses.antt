@@ -99,17 +99,30 @@ pub spelled_after : (o : Options) (before : List Use) (ws : List Written) → Ar
     → uses_after o before None (flat_map words_of ws) ≡ Some (before ++ map use_of ws)
 spelled_after o before [] named fit once = rw append-nil refl
 spelled_after o before (apart name value ∷ ws) named fit once =
-    rw (long_alone name (named name (known (takes o name) fit.0.0)), fit.0.0, fit.0.1, fresh before name
-        (map name_of ws) once) (spelled_after o (before ++ use_of (apart name value) ∷ []) ws named fit.1
-        (one_used before (use_of (apart name value)) (map name_of ws) once)
-        ∙ ap Some (append_assoc before (use_of (apart name value) ∷ []) (map use_of ws)))
+    rw (
+      long_alone name (named name (known (takes o name) fit.0.0)),
+      fit.0.0,
+      fit.0.1,
+      fresh before name
+          (map name_of ws) once,
+    ) (spelled_after o (before ++ use_of (apart name value) ∷ []) ws named fit.1
+    (one_used before (use_of (apart name value)) (map name_of ws) once)
+    ∙ ap Some (append_assoc before (use_of (apart name value) ∷ []) (map use_of ws)))
 spelled_after o before (joined name value ∷ ws) named fit once =
-    rw (long_joined name value (named name (known (takes o name) fit.0)), fit.0, fresh before name
-        (map name_of ws) once) (spelled_after o (before ++ use_of (joined name value) ∷ []) ws named fit.1
-        (one_used before (use_of (joined name value)) (map name_of ws) once)
-        ∙ ap Some (append_assoc before (use_of (joined name value) ∷ []) (map use_of ws)))
+    rw (
+      long_joined name value (named name (known (takes o name) fit.0)),
+      fit.0,
+      fresh before name
+          (map name_of ws) once,
+    ) (spelled_after o (before ++ use_of (joined name value) ∷ []) ws named fit.1
+    (one_used before (use_of (joined name value)) (map name_of ws) once)
+    ∙ ap Some (append_assoc before (use_of (joined name value) ∷ []) (map use_of ws)))
 spelled_after o before (alone name ∷ ws) named fit once =
-    rw (long_alone name (named name (known_flag (takes o name) fit.0)), fit.0, fresh before name
-        (map name_of ws) once) (spelled_after o (before ++ use_of (alone name) ∷ []) ws named fit.1
-        (one_used before (use_of (alone name)) (map name_of ws) once)
-        ∙ ap Some (append_assoc before (use_of (alone name) ∷ []) (map use_of ws)))
+    rw (
+      long_alone name (named name (known_flag (takes o name) fit.0)),
+      fit.0,
+      fresh before name
+          (map name_of ws) once,
+    ) (spelled_after o (before ++ use_of (alone name) ∷ []) ws named fit.1
+    (one_used before (use_of (alone name)) (map name_of ws) once)
+    ∙ ap Some (append_assoc before (use_of (alone name) ∷ []) (map use_of ws)))

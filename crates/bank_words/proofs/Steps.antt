@@ -59,8 +59,8 @@ step_awaiting name o word words read all next uses n skip t = by_dash (is_dashed
 
     by_use : (b : Bool) → has_use n uses ≡ b → is_dashed word ≡ false
         → Ends (faults_from name o (stands (awaiting uses n skip) (option n)) (word ∷ words))
-            (rows_from o (stands (awaiting uses n skip) (option n)) (word ∷ words))
-            (more uses (value_use n word) (λ us. uses_after o us None words))
+        (rows_from o (stands (awaiting uses n skip) (option n)) (word ∷ words))
+        (more uses (value_use n word) (λ us. uses_after o us None words))
     by_use true again d = rw again
         (let turn = plain_turn name o uses n skip word t d in
         go_on name o _ (stands (got uses n word skip) idle) word words None turn.0 turn.1
@@ -69,13 +69,16 @@ step_awaiting name o word words read all next uses n skip t = by_dash (is_dashed
         (let turn = plain_turn name o uses n skip word t d in
         go_on name o _ (stands (got uses n word skip) idle) word words (uses_after o (uses ++ value_use n word ∷ []) None words) turn.0 turn.1
         (next (uses ++ value_use n word ∷ []) (got uses n word skip)
-            (record { fine = rw (id_known o n number t) (value_fine uses n word fresh); rows = rw
-            (id_known o n number t) (value_rows uses n word fresh) })))
+        (record {
+          fine = rw (id_known o n number t) (value_fine uses n word fresh);
+          rows = rw
+              (id_known o n number t) (value_rows uses n word fresh);
+        })))
 
     by_dash : (b : Bool) → is_dashed word ≡ b
         → Ends (faults_from name o (stands (awaiting uses n skip) (option n)) (word ∷ words))
-            (rows_from o (stands (awaiting uses n skip) (option n)) (word ∷ words))
-            (uses_after o uses (Some n) (word ∷ words))
+        (rows_from o (stands (awaiting uses n skip) (option n)) (word ∷ words))
+        (uses_after o uses (Some n) (word ∷ words))
     by_dash true d = rw d (stop_here name o (stands (awaiting uses n skip) (option n)) word words (by_form (long_of word) refl d))
     by_dash false d = rw d (by_use (has_use n uses) refl d)
 

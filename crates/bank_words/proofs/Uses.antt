@@ -192,8 +192,11 @@ idle_value name o uses h word x value words next i e t = by_use (has_use x uses)
         (go_on name o (stands h idle) _ word words (uses_after o (uses ++ value_use x value ∷ []) None words)
         (turn.0 ∙ rw (i.fine, i.rows, value_fine uses x value fresh) refl) turn.1
         (next (uses ++ value_use x value ∷ []) (reacted (rules_of o) (number_rule x) (value ∷ []) h)
-            (record { fine = refl; rows = ap (λ (rs : List Row). used (number_rule x) (value ∷ []) rs) i.rows
-            ∙ value_rows uses x value fresh })))
+        (record {
+          fine = refl;
+          rows = ap (λ (rs : List Row). used (number_rule x) (value ∷ []) rs) i.rows
+              ∙ value_rows uses x value fresh;
+        })))
 
 pub idle_flag : (name : Text) (o : Options) (uses : List Use) (h : Held) (word x : Text) (words : List Text)
     → FromIdle name o words → IsIdle o h uses → long_of word ≡ Some (x, None) → takes o x ≡ nothing

@@ -72,9 +72,9 @@ find-map f q (e ∷ es) = elim (eq_by_cmp key_cmp q e.0) as
     (λ b. cond b (Some (f e.1)) (finite.find key_cmp q
     (map (λ (e : Key × Account). let d : Key × Account = (e.0, f e.1) in d) es))
     ≡ option_map f (cond b (Some e.1) (finite.find key_cmp q es))) [
-  | true ↦ refl
-  | false ↦ find-map f q es
-]
+      | true ↦ refl
+      | false ↦ find-map f q es
+    ]
 
 pub get-activate_all : (s : State) (q : Key) → get (activate_all s) q ≡ option_map active (get s q)
 unfolding activate_all

@@ -23,8 +23,8 @@ entries_more wires order done outcome entries new t so_far below pushed =
 -- the bytes of one entry more
 pub bytes_more : (wires : List (List ℕ)) (order : List Chosen) (outcomes : List Outcome) (i : ℕ) (t : Chosen) (o : Outcome) → i < length order → i < length outcomes
     → flat_map entry_bytes (entries_of wires (take (i + 1) order) (take (i + 1) outcomes))
-        ≡ flat_map entry_bytes (entries_of wires (take i order) (take i outcomes))
-        ++ entry_bytes (entry_of wires (get_or order i t, get_or outcomes i o))
+    ≡ flat_map entry_bytes (entries_of wires (take i order) (take i outcomes))
+    ++ entry_bytes (entry_of wires (get_or order i t, get_or outcomes i o))
 bytes_more wires order outcomes i t o here there =
     let done = entries_of wires (take i order) (take i outcomes) in
     let one = entry_of wires (get_or order i t, get_or outcomes i o) in

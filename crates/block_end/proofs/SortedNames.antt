@@ -100,9 +100,11 @@ has_dedup : (names : List Hash32) (q : Hash32) → list_any (λ one. same_hash q
 has_dedup names q =
     let kept = is_member-Decides same_hash-Decides (dedup same_hash names) q in
     let all = is_member-Decides same_hash-Decides names q in
-    let among : Decides (list_any (λ one. same_hash q one) names) (Contains (dedup same_hash names) q) =
-        (λ t. Contains-dedup same_hash-equiv same_hash-true names q (all.0 t), λ m. all.1
-        (Contains-from_dedup same_hash names q m)) in
+    let among : Decides (list_any (λ one. same_hash q one) names) (Contains (dedup same_hash names) q) = (
+      λ t. Contains-dedup same_hash-equiv same_hash-true names q (all.0 t),
+      λ m. all.1
+          (Contains-from_dedup same_hash names q m),
+    ) in
     same_from_decides (list_any (λ one. same_hash q one) (dedup same_hash names)) (list_any (λ one. same_hash q one) names) kept among
 
 pub sorted_is : (names sorted : List Hash32) → IsPermutation names sorted → IsSorted hash_cmp sorted → dedup same_hash sorted ≡ ascending names

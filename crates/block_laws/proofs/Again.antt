@@ -117,11 +117,11 @@ module _ (start : Start) (wires : List (List ℕ)) (order : List Chosen) (apart 
   all_sifted n done [] count whole before all = refl
   all_sifted n done (t ∷ rest) count whole before all =
       ap (λ (r : Result Chosen Refusal). cons_option (result_ok r)
-          (filter_map (λ entry. result_ok (sifted_in start batch entry))
-          (enumerate_from (n + 1) (map parsed_at rest)))) (sifted_again n done t rest count whole before all.0)
+      (filter_map (λ entry. result_ok (sifted_in start batch entry))
+      (enumerate_from (n + 1) (map parsed_at rest)))) (sifted_again n done t rest count whole before all.0)
       ∙ ap (λ (l : List Chosen). record t { position = n } ∷ l)
-          (all_sifted (n + 1) (done ++ t ∷ []) rest (omega (arith, count, length-append done (t ∷ [])))
-          (append_assoc done (t ∷ []) rest ∙ whole) (push_all done t before all.0) all.1)
+      (all_sifted (n + 1) (done ++ t ∷ []) rest (omega (arith, count, length-append done (t ∷ [])))
+      (append_assoc done (t ∷ []) rest ∙ whole) (push_all done t before all.0) all.1)
 
   abbrev with_place : ℕ × Parsed → Refusal → Refused
   with_place entry cause = record { position = entry.0; cause = cause }
@@ -131,8 +131,8 @@ module _ (start : Start) (wires : List (List ℕ)) (order : List Chosen) (apart 
   none_refused n done [] count whole before all = refl
   none_refused n done (t ∷ rest) count whole before all =
       ap (λ (r : Result Chosen Refusal). cons_option (option_map (with_place (n, parsed_at t)) (refusal_in r))
-          (filter_map (λ entry. option_map (λ cause. with_place entry cause) (refusal start batch [] entry))
-          (enumerate_from (n + 1) (map parsed_at rest)))) (sifted_again n done t rest count whole before all.0)
+      (filter_map (λ entry. option_map (λ cause. with_place entry cause) (refusal start batch [] entry))
+      (enumerate_from (n + 1) (map parsed_at rest)))) (sifted_again n done t rest count whole before all.0)
       ∙ none_refused (n + 1) (done ++ t ∷ []) rest (omega (arith, count, length-append done (t ∷ []))) (append_assoc done (t ∷ []) rest ∙ whole) (push_all done t before all.0) all.1
 
 -- ---- the walk
@@ -143,9 +143,11 @@ AllRun limits done (one ∷ left) = (late limits done one ≡ None) × AllRun li
 
 run_more : (limits : Limits) (done order : List Chosen) (one : Chosen) → AllRun limits done order → late limits (done ++ order) one ≡ None → AllRun limits done (order ++ one ∷ [])
 run_more limits done [] one all none = (subst (λ (l : List Chosen). late limits l one ≡ None) (append-nil done) none, tt)
-run_more limits done (t ∷ order) one all none =
-    (all.0, run_more limits (done ++ t ∷ []) order one all.1
-    (subst (λ (l : List Chosen). late limits l one ≡ None) (sym (append_assoc done (t ∷ []) order)) none))
+run_more limits done (t ∷ order) one all none = (
+  all.0,
+  run_more limits (done ++ t ∷ []) order one all.1
+      (subst (λ (l : List Chosen). late limits l one ≡ None) (sym (append_assoc done (t ∷ []) order)) none),
+)
 
 walked_run : (limits : Limits) (before : Walk) (left : List Chosen) → AllRun limits [] before.order
     → AllRun limits [] (fold (λ before one. walk_with before one (late limits before.order one)) before
@@ -179,8 +181,8 @@ writers_alike key (t ∷ ts) = go (may_write_key key t) (writers_alike key ts)
   where
     go : (b : Bool) → filter (may_write_key key) (map unplaced ts) ≡ map unplaced (filter (may_write_key key) ts)
         → cond b (unplaced t ∷ filter (may_write_key key) (map unplaced ts))
-            (filter (may_write_key key) (map unplaced ts))
-            ≡ map unplaced (cond b (t ∷ filter (may_write_key key) ts) (filter (may_write_key key) ts))
+        (filter (may_write_key key) (map unplaced ts))
+        ≡ map unplaced (cond b (t ∷ filter (may_write_key key) ts) (filter (may_write_key key) ts))
     go true more = ap (λ (l : List Chosen). unplaced t ∷ l) more
     go false more = more
 
@@ -204,11 +206,13 @@ run_alike limits done (one ∷ left) all =
 
 run_back : (limits : Limits) (done left : List Chosen) → AllRun limits (map unplaced done) (map unplaced left) → AllRun limits done left
 run_back limits done [] all = tt
-run_back limits done (one ∷ left) all =
-    (sym (late_alike limits done one)
-        ∙ all.0, run_back limits (done ++ one ∷ []) left
-        (subst (λ (l : List Chosen). AllRun limits l (map unplaced left))
-        (sym (map-append unplaced done (one ∷ []))) all.1))
+run_back limits done (one ∷ left) all = (
+  sym (late_alike limits done one)
+      ∙ all.0,
+  run_back limits (done ++ one ∷ []) left
+      (subst (λ (l : List Chosen). AllRun limits l (map unplaced left))
+      (sym (map-append unplaced done (one ∷ []))) all.1),
+)
 
 walk_again : (limits : Limits) (found : List Chosen) → walk limits (renumbered 0 (walk limits found).order) ≡ record { order = renumbered 0 (walk limits found).order; refused = [] }
 walk_again limits found =
@@ -236,16 +240,16 @@ module _ (start : Start) (wires : List (List ℕ)) where
   unfolding listed
   again found same order is of apart =
       let alone = recursion_from_All (Stands start) found
-          (All-permutation (Stands start) (sifted_out start whole) found same
-          (All-from_recursion (Stands start) (sifted_out start whole) each_again)) in
+      (All-permutation (Stands start) (sifted_out start whole) found same
+      (All-from_recursion (Stands start) (sifted_out start whole) each_again)) in
       let all = join order (subst (AllByRecursion (Stands start)) (sym is) (all_run (Stands start) start.limits found alone)) of in
       let parsed : map parsed_of (wires_in wires order) ≡ map (λ t. parsed_of (wire_in wires t.position)) order = map_twice order in
       let sift = all_sifted start wires order apart 0 [] order refl refl tt all in
       let none = none_refused start wires order apart 0 [] order refl refl tt all in
       let walked : walk start.limits (renumbered 0 order)
-          ≡ record { order = renumbered 0 order; refused = [] } = subst
-          (λ (l : List Chosen). walk start.limits (renumbered 0 l)
-          ≡ record { order = renumbered 0 l; refused = [] }) (sym is) (walk_again start.limits found) in
+      ≡ record { order = renumbered 0 order; refused = [] } = subst
+      (λ (l : List Chosen). walk start.limits (renumbered 0 l)
+      ≡ record { order = renumbered 0 l; refused = [] }) (sym is) (walk_again start.limits found) in
       ap (λ (b : List Parsed). answer_of start b (walk start.limits (sifted_out start b))) parsed
       ∙ ap (λ (l : List Chosen). answer_of start (map (λ t. parsed_of (wire_in wires t.position)) order) (walk start.limits l)) sift
       ∙ ap (answer_of start (map (λ t. parsed_of (wire_in wires t.position)) order)) walked
@@ -261,5 +265,5 @@ module _ (start : Start) (wires : List (List ℕ)) where
   admitted_again =
       let parts = admitted_batches_are_parted start wires in
       again (line (sifted_out start whole)) (line_permutes (sifted_out start whole))
-          (admitted start wires).order refl
-          (recursion_from_All (IsOf wires) (admitted start wires).order parts.each) parts.apart
+      (admitted start wires).order refl
+      (recursion_from_All (IsOf wires) (admitted start wires).order parts.each) parts.apart

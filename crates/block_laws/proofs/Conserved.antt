@@ -43,8 +43,8 @@ sum-share s collector split =
     let paid = more (at s collector) split.rest in
     let a = sum-put s collector paid in
     either_sum _ (sum s + (split.burned + split.rest))
-        (record { accounts = put s collector paid; burned = split.burned; collected = split.rest })
-        (record { accounts = s; burned = split.burned + split.rest; collected = 0 })
+    (record { accounts = put s collector paid; burned = split.burned; collected = split.rest })
+    (record { accounts = s; burned = split.burned + split.rest; collected = 0 })
     (omega (arith, a)) refl
 
 split_all : (base priority : ℕ) → (split_of base priority).burned + (split_of base priority).rest ≡ base + priority
@@ -128,10 +128,13 @@ shared_before s collector split key a executable = by_case (not (split.rest == 0
 
     by_case : (b : Bool) → (not (split.rest == 0) && may_collect collector (more (at s collector) split.rest)) ≡ b
         → get (cond b (let r : Shares =
-            record { accounts = put s collector (more (at s collector) split.rest); burned = split.burned;
-            collected = split.rest } in r)
-            (record { accounts = s; burned = split.burned + split.rest; collected = 0 })).accounts key ≡ Some a
-            → get s key ≡ Some a
+        record {
+          accounts = put s collector (more (at s collector) split.rest);
+          burned = split.burned;
+          collected = split.rest;
+        } in r)
+        (record { accounts = s; burned = split.burned + split.rest; collected = 0 })).accounts key ≡ Some a
+        → get s key ≡ Some a
     by_case true may e =
         by_key (and_parts (not (split.rest == 0)) (may_collect collector (more (at s collector) split.rest)) may).1 (same_key key collector)
         (sym (get-put_key s collector (more (at s collector) split.rest) key) ∙ e)

@@ -56,14 +56,14 @@ placed f key (lock ∷ ls) (v ∷ after) count has = by_write (placed f key ls a
       there = refl;
       beside_is =
           ap (λ (b : Bool). beside key
-              (lock_keys (cond b (lock ∷ filter (λ lock. lock.write) ls) (filter (λ lock. lock.write) ls)))
-              (map settled (cond b (v ∷ lent_for_writing ls after) (lent_for_writing ls after)))) w
+          (lock_keys (cond b (lock ∷ filter (λ lock. lock.write) ls) (filter (λ lock. lock.write) ls)))
+          (map settled (cond b (v ∷ lent_for_writing ls after) (lent_for_writing ls after)))) w
           ∙ ap (λ (b : Bool). cond b (settled v) (beside key (written_keys ls) (map settled (lent_for_writing ls after)))) same;
     }
     by_key rest w false apart h = later f key lock v ls after (rest h)
         (ap (λ (b : Bool). beside key
-            (lock_keys (cond b (lock ∷ filter (λ lock. lock.write) ls) (filter (λ lock. lock.write) ls)))
-            (map settled (cond b (v ∷ lent_for_writing ls after) (lent_for_writing ls after)))) w
+        (lock_keys (cond b (lock ∷ filter (λ lock. lock.write) ls) (filter (λ lock. lock.write) ls)))
+        (map settled (cond b (v ∷ lent_for_writing ls after) (lent_for_writing ls after)))) w
         ∙ ap (λ (b : Bool). cond b (settled v) (beside key (written_keys ls) (map settled (lent_for_writing ls after)))) apart)
 
     by_write : (has_key key (written_keys ls) ≡ true → Placed f key ls after) → (b : Bool) → lock.write ≡ b
@@ -72,8 +72,8 @@ placed f key (lock ∷ ls) (v ∷ after) count has = by_write (placed f key ls a
     by_write rest true w h = by_key rest w (same_key key lock.key) refl h
     by_write rest false w h = later f key lock v ls after (rest h)
         (ap (λ (b : Bool). beside key
-            (lock_keys (cond b (lock ∷ filter (λ lock. lock.write) ls) (filter (λ lock. lock.write) ls)))
-            (map settled (cond b (v ∷ lent_for_writing ls after) (lent_for_writing ls after)))) w)
+        (lock_keys (cond b (lock ∷ filter (λ lock. lock.write) ls) (filter (λ lock. lock.write) ls)))
+        (map settled (cond b (v ∷ lent_for_writing ls after) (lent_for_writing ls after)))) w)
 
 -- an executable account is not the empty one
 not_empty : (a : Account) → a.executable ≡ true → a ≡ empty_account → ⊥
@@ -151,16 +151,16 @@ module _ (admitted : AdmittedBlock) (all : All IsChosen admitted.chosen) (start 
           → (beside key (write_keys (job_of admitted) n) (performed (job_of admitted) (serial (job_of admitted) (at start) n) n).written ≡ a) ↔ (serial (job_of admitted) (at start) n key ≡ a)
       here has = at_position admitted all
           (λ o. has_key key (written_keys (locks_at o)) ≡ true
-              → (beside key (written_keys (locks_at o))
-              (effects_at (block_of admitted) o
-              (map (serial (job_of admitted) (at start) n) (lock_keys (locks_at o)))).written ≡ a) ↔
-              (serial (job_of admitted) (at start) n key ≡ a))
+          → (beside key (written_keys (locks_at o))
+          (effects_at (block_of admitted) o
+          (map (serial (job_of admitted) (at start) n) (lock_keys (locks_at o)))).written ≡ a) ↔
+          (serial (job_of admitted) (at start) n key ≡ a))
           (λ t fits has. stays_one admitted t fits (serial (job_of admitted) (at start) n) (fine_run n (omega (arith, l))) key has a executable) n l has
 
       by_case : (b : Bool) → writes (job_of admitted) n key ≡ b
           → (cond b (beside key (write_keys (job_of admitted) n)
-              (performed (job_of admitted) (serial (job_of admitted) (at start) n) n).written)
-              (serial (job_of admitted) (at start) n key) ≡ a) ↔ (serial (job_of admitted) (at start) n key ≡ a)
+          (performed (job_of admitted) (serial (job_of admitted) (at start) n) n).written)
+          (serial (job_of admitted) (at start) n key) ≡ a) ↔ (serial (job_of admitted) (at start) n key ≡ a)
       by_case true w = here w
       by_case false w = (λ e. e, λ e. e)
 

@@ -45,8 +45,8 @@ shared_state s collector split is fits =
     let paid = more (at s collector) split.rest in
     let total = sum-put s collector paid in
     shared_either (not (split.rest == 0) && may_collect collector paid)
-        (record { accounts = put s collector paid; burned = split.burned; collected = split.rest })
-        (record { accounts = s; burned = split.burned + split.rest; collected = 0 })
+    (record { accounts = put s collector paid; burned = split.burned; collected = split.rest })
+    (record { accounts = s; burned = split.burned + split.rest; collected = 0 })
     (IsState-put s collector paid is (at_fits s is collector).0 (omega (arith, total, fits))) is
 
 shared_fees_state : (s : State) (collector : Key) (outcomes : List Outcome) → IsState s

@@ -312,9 +312,9 @@ module _ (start : Start) (wires : List (List ℕ)) where
     found_at p at =
         at_one (λ t. t.position ≡ p) (λ t. At t.position found) (At p found) (λ t e h. subst (λ q. At q found) e h) (sifted_out start batch) at
         (recursion_from_All (λ t. At t.position found) (sifted_out start batch)
-            (All-permutation (λ t. At t.position found) found (sifted_out start batch)
-            (IsPermutation-sym (sifted_out start batch) found same)
-            (All-from_recursion (λ t. At t.position found) found (each_there found (λ p h. h)))))
+        (All-permutation (λ t. At t.position found) found (sifted_out start batch)
+        (IsPermutation-sym (sifted_out start batch) found same)
+        (All-from_recursion (λ t. At t.position found) found (each_there found (λ p h. h)))))
       where
         each_there : (ts : List Chosen) → ((p : ℕ) → At p ts → At p found) → AllByRecursion (λ t. At t.position found) ts
         each_there [] into = tt
@@ -342,8 +342,8 @@ module _ (start : Start) (wires : List (List ℕ)) where
         go : (o : Option Refusal) → get_or all_causes p None ≡ o → At p after.order ⊎ AnyByRecursion (λ refused. refused.position ≡ p) (refused_in start batch after.refused)
         go (Some cause) e =
             inr (subst (AnyByRecursion (λ refused. refused.position ≡ p)) refused_is
-                (subst (λ m. AnyByRecursion (λ refused. refused.position ≡ m) (numbered_in all_causes))
-                (zero-add p) (refused_at 0 p all_causes cause (omega (arith, l, all_count)) e)))
+            (subst (λ m. AnyByRecursion (λ refused. refused.position ≡ m) (numbered_in all_causes))
+            (zero-add p) (refused_at 0 p all_causes cause (omega (arith, l, all_count)) e)))
         go None e =
             let none = neither (late_cause after.refused p) (get_or causes p None) (sym (cause_at p l) ∙ e) in
             let stands : At (0 + p) (sifted_out start batch) = stands_at 0 p batch (omega (arith, l, length-map wires parsed_of)) none.1 in
@@ -355,12 +355,12 @@ module _ (start : Start) (wires : List (List ℕ)) where
         let is : has.place ≡ p = let e = has.is in omega (arith, e) in
         let l : p < length wires = let b = has.below in omega (arith, b, is, all_count) in
         let late : late_cause after.refused p
-            ≡ None = at_one (λ t. t.position ≡ p) (HasNone after.refused) (late_cause after.refused p ≡ None)
-            (λ t e h. subst (λ q. late_cause after.refused q ≡ None) e h) after.order runs walked.none in
+        ≡ None = at_one (λ t. t.position ≡ p) (HasNone after.refused) (late_cause after.refused p ≡ None)
+        (λ t e h. subst (λ q. late_cause after.refused q ≡ None) e h) after.order runs walked.none in
         let early : get_or causes p None
-            ≡ None = at_one (λ t. t.position ≡ p) HasNoEarly (get_or causes p None ≡ None)
-            (λ t e h. subst (λ q. get_or causes q None ≡ None) e h) after.order runs
-            (all_run HasNoEarly start.limits found (in_place HasNoEarly found same none_early)) in
+        ≡ None = at_one (λ t. t.position ≡ p) HasNoEarly (get_or causes p None ≡ None)
+        (λ t e h. subst (λ q. get_or causes q None ≡ None) e h) after.order runs
+        (all_run HasNoEarly start.limits found (in_place HasNoEarly found same none_early)) in
         let none : get_or all_causes p None ≡ None = cause_at p l ∙ ap₂ or_else late early in
         let some : get_or all_causes p None ≡ Some has.cause = subst (λ q. get_or all_causes q None ≡ Some has.cause) is has.there in
         contra (get_or all_causes p None) has.cause none some

@@ -94,8 +94,8 @@ collected_fits s collector outcomes fits =
     let split : FeeSplit = split_of (base_fees outcomes) (priority_fees outcomes) in
     let paid : Account = more (at s collector) split.rest in
     either_below (not (split.rest == 0) && may_collect collector paid) (2 ^ 64)
-        (record { accounts = put s collector paid; burned = split.burned; collected = split.rest })
-        (record { accounts = s; burned = split.burned + split.rest; collected = 0 })
+    (record { accounts = put s collector paid; burned = split.burned; collected = split.rest })
+    (record { accounts = s; burned = split.burned + split.rest; collected = 0 })
     (rest_fits (base_fees outcomes) (priority_fees outcomes) fits) (let none : 0 < 2 ^ 64 = lit≤ tt in none)
   where
     rest_fits : (base priority : ℕ) → base + priority < 2 ^ 64 → (split_of base priority).rest < 2 ^ 64

@@ -200,8 +200,8 @@ tail_same block =
     let state = in_hash of_block state_field block.state block.state in
     neither (burned ++ collected ++ state) (in_hash of_block Hash block.hash block.hash)
     (neither (burned ++ collected) state
-        (neither burned collected (number_none of_block Burned block.burned)
-        (number_none of_block Collected block.collected)) (hash_none of_block state_field block.state))
+    (neither burned collected (number_none of_block Burned block.burned)
+    (number_none of_block Collected block.collected)) (hash_none of_block state_field block.state))
     (hash_none of_block Hash block.hash)
 
 head_same : (slot : ℕ) (newest : Hash32) (block : Block) → slot < block.slot → block.previous ≡ newest → head_differences slot newest block ≡ []
@@ -232,5 +232,5 @@ replays_match s batch later =
     ap (λ (l : Listed). verdict s.slot (newest_of s.recent) (block_result s batch).block l) (blocks_run_again s batch)
     ∙ ap (λ (b : Block). verdict s.slot (newest_of s.recent) b (record { block = b; halted = false })) (made_is s batch)
     ∙ matches_itself s.slot (newest_of s.recent) (made s batch) false
-        (subst (λ n. s.slot < n) (sym (slot_is s (head_of batch) batch.wires (order s batch))) later)
-        (previous_is s (head_of batch) batch.wires (order s batch))
+    (subst (λ n. s.slot < n) (sym (slot_is s (head_of batch) batch.wires (order s batch))) later)
+    (previous_is s (head_of batch) batch.wires (order s batch))

@@ -197,8 +197,8 @@ block_takes total bytes b rest are h =
     let c6 = follows (to_slot_bytes slot ++ key_bytes collector ++ hash_bytes previous ++ entries_bytes entries ++ to_le_bytes w64 burned) (to_le_bytes w64 collected) r6 c5 e6 in
     let c7 = follows (to_slot_bytes slot ++ key_bytes collector ++ hash_bytes previous ++ entries_bytes entries ++ to_le_bytes w64 burned ++ to_le_bytes w64 collected) (hash_bytes state) r7 c6 e7 in
     let all = follows (to_slot_bytes slot ++ key_bytes collector ++ hash_bytes previous ++ entries_bytes entries
-        ++ to_le_bytes w64 burned ++ to_le_bytes w64 collected ++ hash_bytes state) (hash_bytes hash) rest c7
-        (onward (hash_bytes hash) e8 p.1) in
+    ++ to_le_bytes w64 burned ++ to_le_bytes w64 collected ++ hash_bytes state) (hash_bytes hash) rest c7
+    (onward (hash_bytes hash) e8 p.1) in
     subst (λ (v : Block). BlockFits v × (bytes ≡ bytes_of_record v ++ rest)) p.0
     (record { slot = f1; collector = f2; previous = f3; entries = f4; burned = f5; collected = f6; state = f7; hash = f8 }, all))))))))))
 
@@ -309,8 +309,8 @@ front_takes bytes front are h =
     begins b rest fits split =
         let e : place (length bytes) rest ≡ length (bytes_of_record b) = omega (arith, ap length split, length-append (bytes_of_record b) rest) in
         let text : take (place (length bytes) rest) bytes ≡ bytes_of_record b = ap (λ n. take n bytes) e
-            ∙ ap (λ (l : List ℕ). take (length (bytes_of_record b)) l) split
-            ∙ take-append_seam (bytes_of_record b) rest in
+        ∙ ap (λ (l : List ℕ). take (length (bytes_of_record b)) l) split
+        ∙ take-append_seam (bytes_of_record b) rest in
         record {
           within = omega arith;
           is = record { spelled = text; counted = counted b fits; texts = texts b fits; widths = widths b fits };
@@ -322,8 +322,8 @@ front_again bytes front begins =
     let rest = drop front.length bytes in
     let is = begins.is in
     let read : block_at (length bytes) (bytes_of_record front.block ++ rest)
-        ≡ Ok (front.block, rest) = block_again (length bytes) front.block rest
-        (fits_reading front.block is.counted is.texts is.widths) in
+    ≡ Ok (front.block, rest) = block_again (length bytes) front.block rest
+    (fits_reading front.block is.counted is.texts is.widths) in
     let split : bytes_of_record front.block ++ rest ≡ bytes = ap (λ (l : List ℕ). l ++ rest) (sym is.spelled) ∙ take-append-drop front.length bytes in
     let here : block_at (length bytes) bytes ≡ Ok (front.block, rest) = subst (λ (l : List ℕ). block_at (length bytes) l ≡ Ok (front.block, rest)) split read in
     let long : length bytes - length rest ≡ front.length = let t = begins.within in omega (arith, length-drop front.length bytes) in

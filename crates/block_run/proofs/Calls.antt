@@ -65,8 +65,13 @@ pub same_end : (s : Snapshot) (head : Head) (wires given : List (List ℕ)) (ord
     (chain : Chain) (origin : Origin AdmittedBlock) (outcomes : List Outcome) → given ≡ wires → chosen ≡ order
     → chain ≡ record { limits = s.limits; recent = s.recent }
     → ran_of job_of origin outcomes ≡ serial_run s head.slot order
-    → closed_with (record { slot = 0; limits = chain.limits; recent = chain.recent; accounts = state_at_end
-        job_of origin }) head given chosen (ran_of job_of origin outcomes) ≡ closed s head wires order
+    → closed_with (record {
+      slot = 0;
+      limits = chain.limits;
+      recent = chain.recent;
+      accounts = state_at_end
+          job_of origin;
+    }) head given chosen (ran_of job_of origin outcomes) ≡ closed s head wires order
 unfolding closed
 same_end s head wires given order chosen chain origin outcomes read same kept ran_is =
     ap (λ (c : Chain). closed_with (record { slot = 0; limits = c.limits; recent = c.recent; accounts = state_at_end job_of origin }) head given chosen (ran_of job_of origin outcomes)) kept
@@ -114,9 +119,12 @@ listed_is s given wires answer end halted read is ended same =
     ap₂ (λ (e : Closed) (h : Bool). let r : Listed = record { block = e.block; halted = h } in r) ended same
     ∙ ap (λ (a : Admitted). let r : Listed = record { block = (closed s (head_again given) wires (before_refused a.refused a.order)).block; halted = is_halted a.refused } in r) is
     ∙ ap (λ (w : List (List ℕ)). let a = listed (start_in s) w
-        in let r : Listed = record { block =
-        (closed s (head_again given) w (before_refused a.refused a.order)).block; halted = is_halted a.refused }
-        in r) read
+    in let r : Listed = record {
+      block =
+          (closed s (head_again given) w (before_refused a.refused a.order)).block;
+      halted = is_halted a.refused;
+    }
+    in r) read
 
 -- how many entries there are
 cut_by : (wires : List (List ℕ)) (order : List Chosen) (refused : List Refused) (count : ℕ) → length order + length refused ≡ length wires → All (λ one. one.position < length wires) refused

@@ -61,8 +61,8 @@ module _ (admitted : AdmittedBlock) (all : All IsChosen admitted.chosen) where
       → lamports_in ((job_of admitted).effects i vs).written + paid_in ((job_of admitted).effects i vs) ≡ lamports_in (lent_for_writing ((job_of admitted).locks i) vs)
   position_pays i l vs = at_position admitted all
       (λ o. length vs ≡ length (locks_at o)
-          → lamports_in (effects_at (block_of admitted) o vs).written + paid_in
-          (effects_at (block_of admitted) o vs) ≡ lamports_in (lent_for_writing (locks_at o) vs))
+      → lamports_in (effects_at (block_of admitted) o vs).written + paid_in
+      (effects_at (block_of admitted) o vs) ≡ lamports_in (lent_for_writing (locks_at o) vs))
       (λ t is. pays admitted t is vs) i l
 
   pub position_is_small : (i : ℕ) → i < length admitted.chosen → (vs : List Account) → IsSmallOutcome ((job_of admitted).effects i vs).outcome

@@ -57,7 +57,7 @@ module _ (admitted : AdmittedBlock) (all : All IsChosen admitted.chosen) (start 
   -- a position takes its fees out of the accounts
   pub pays_once : (n : ℕ) → n < length admitted.chosen
       → sum (serial_state (job_of admitted) start (suc n)) + (result (job_of admitted) (at start) n).base_paid +
-          (result (job_of admitted) (at start) n).priority_paid ≡ sum (serial_state (job_of admitted) start n)
+      (result (job_of admitted) (at start) n).priority_paid ≡ sum (serial_state (job_of admitted) start n)
   pays_once n l =
       let vs = map (serial (job_of admitted) (at start) n) (keys (job_of admitted) n) in
       let a = sums_move (job_of admitted) start W is n l in
@@ -68,8 +68,8 @@ module _ (admitted : AdmittedBlock) (all : All IsChosen admitted.chosen) (start 
   more_paid paid n =
       let z : 0 + n ≡ n = omega arith in
       subst (λ m. sum_by paid (map (result (job_of admitted) (at start)) (range_with_len 0 m))
-          ≡ sum_by paid (map (result (job_of admitted) (at start)) (range_with_len 0 n)) + paid
-          (result (job_of admitted) (at start) n)) (add-one n)
+      ≡ sum_by paid (map (result (job_of admitted) (at start)) (range_with_len 0 n)) + paid
+      (result (job_of admitted) (at start) n)) (add-one n)
       (sum_by-map-range_with_len_more paid (result (job_of admitted) (at start)) 0 n n z)
 
   -- and all of them theirs

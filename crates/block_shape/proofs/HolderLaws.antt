@@ -205,8 +205,8 @@ Held-none measure order starts written read holders h w r = record {
 module _ (measure : Measure) (order : List Chosen) (starts : List ℕ) (written read : BTreeMap Key Reach) (holders : List (Option ℕ)) (i : ℕ) (H : Held measure order starts written read holders i)
     (ended : HaveEnded measure order starts i (slice_index starts i)) (place : ℕ)
     (above : All (λ lock. held_place written read (slice_index starts i) lock ≤ place) (locks_at order i))
-        (least : (bound : ℕ) → All (λ lock. held_place written read (slice_index starts i) lock ≤ bound)
-        (locks_at order i) → place ≤ bound) where
+    (least : (bound : ℕ) → All (λ lock. held_place written read (slice_index starts i) lock ≤ bound)
+    (locks_at order i) → place ≤ bound) where
   behind : (j : ℕ) → j < i → clash (locks_at order j) (locks_at order i) ≡ true → end_at measure order starts j ≡ slice_index starts i → j + 1 ≤ place
   behind = place_above (locks_at order) (end_at measure order starts) i written read H.writers H.readers (slice_index starts i) ended place above least
 
@@ -263,8 +263,8 @@ module _ (measure : Measure) (order : List Chosen) (starts : List ℕ) (written 
               (subst (HolderIs measure order starts i) (sym (ap (λ (xs : List (Option ℕ)). slice_index_or xs i None) pushed ∙ get_or_push holders (holder_of place) None i H.long)) holder_here)
           | inr d ↦ let under : m < i = omega (arith, l, d) in
               subst (HolderIs measure order starts m)
-                  (sym (ap (λ (xs : List (Option ℕ)). slice_index_or xs m None) pushed
-                  ∙ get_or_append_left holders (holder_of place ∷ []) None m
-                  (let e = H.long in omega (arith, e, under)))) (H.each m under)
+              (sym (ap (λ (xs : List (Option ℕ)). slice_index_or xs m None) pushed
+              ∙ get_or_append_left holders (holder_of place ∷ []) None m
+              (let e = H.long in omega (arith, e, under)))) (H.each m under)
         ];
   }

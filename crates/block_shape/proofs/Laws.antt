@@ -131,8 +131,12 @@ in_any [] other h = absurd (false≢true h)
 in_any (a ∷ more) other h =
     elim (or_cases (list_any (λ b. meet a b) other) (clash more other) h) [
       | inl t ↦ let found = any_place (λ b. meet a b) other t
-          in (found.0, found.1, or_left (meet a (get_or other found.0 no_lock))
-          (list_any (λ x. meet x (get_or other found.0 no_lock)) more) found.2)
+          in (
+            found.0,
+            found.1,
+            or_left (meet a (get_or other found.0 no_lock))
+                (list_any (λ x. meet x (get_or other found.0 no_lock)) more) found.2,
+          )
       | inr r ↦ let found = in_any more other r in (found.0, found.1, or_right (meet a (get_or other found.0 no_lock)) (list_any (λ x. meet x (get_or other found.0 no_lock)) more) found.2)
     ]
 

@@ -60,8 +60,8 @@ lists-sized : (m : Ranges) (caller : Key) (arguments : List ℕ) (program : Key)
 unfolding lists_read
 lists-sized m caller arguments program call few short =
     lists-of program call.meta_count call.data_len (metas_read m call.metas call.meta_count)
-        (bytes_read m call.data_at call.data_len)
-        (signers_read m caller (slice_index arguments 3) (slice_index arguments 4))
+    (bytes_read m call.data_at call.data_len)
+    (signers_read m caller (slice_index arguments 3) (slice_index arguments 4))
     (items-count _ call.meta_count) (bytes-most m call.data_at call.data_len) few short
 
 -- what holds of the answers of a request whose units were some number
@@ -113,8 +113,8 @@ request-fits : (arguments : List ℕ) (m : Ranges) (caller : Key) (units : ℕ) 
 unfolding request_of
 request-fits arguments m caller units =
     cost-fits call_cost units (λ left. by_header m caller arguments left
-        (header_read m (slice_index arguments 0)))
-        (header-fits m caller arguments (units - call_cost) (header_read m (slice_index arguments 0)))
+    (header_read m (slice_index arguments 0)))
+    (header-fits m caller arguments (units - call_cost) (header_read m (slice_index arguments 0)))
 
 -- no request gains units
 pub request-units : (arguments : List ℕ) (m : Ranges) (caller : Key) (units : ℕ) → (request_of arguments m caller units).units ≤ units

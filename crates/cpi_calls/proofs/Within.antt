@@ -52,8 +52,8 @@ in-range : (keys : List Key) (caller : List Meta) (asked : List KeyMeta) → Now
 in-range keys caller [] all = All-nil _
 in-range keys caller (x ∷ xs) all =
     All-cons (λ (meta : Meta). meta.index < length keys) (meta_of keys caller x) (map (meta_of keys caller) xs)
-        (place-within keys caller x.key _ (there (place_of keys caller x.key) all.0))
-        (in-range keys caller xs all.1)
+    (place-within keys caller x.key _ (there (place_of keys caller x.key) all.0))
+    (in-range keys caller xs all.1)
 
 may-write : (signer writable sign write : Bool) → ((signer && not sign) || (writable && not write)) ≡ false → writable ≡ true → write ≡ true
 may-write signer writable sign true h asks = refl
@@ -111,9 +111,9 @@ within-of : (request : CallRequest) (keys : List Key) (caller : List Meta) (gran
     → place_of keys caller request.program ≡ program
     → position_from (exceeds keys request.signers caller) 0 request.metas ≡ exceeded
     → (or_missing missing (map (meta_of keys caller) request.metas) >>=
-        (λ metas. program_found (length request.metas) program >>=
-        (λ place. or_escalation exceeded >>= (λ allowed. Ok (record { program = place; metas = metas })))))
-        ≡ Ok granted
+    (λ metas. program_found (length request.metas) program >>=
+    (λ place. or_escalation exceeded >>= (λ allowed. Ok (record { program = place; metas = metas })))))
+    ≡ Ok granted
     → IsWithin request keys caller granted
 within-of request keys caller granted None (Some place) None all found fits h =
     let e : (let g : Granted = record { program = place; metas = map (meta_of keys caller) request.metas } in g) ≡ granted = cc in
@@ -133,5 +133,5 @@ pub rights-within : (request : CallRequest) (keys : List Key) (caller : List Met
 unfolding rights_of
 rights-within request keys caller granted h =
     within-of request keys caller granted (position_from (is_missing keys caller) 0 request.metas)
-        (place_of keys caller request.program)
-        (position_from (exceeds keys request.signers caller) 0 request.metas) refl refl refl h
+    (place_of keys caller request.program)
+    (position_from (exceeds keys request.signers caller) 0 request.metas) refl refl refl h

@@ -38,17 +38,17 @@ flat_map_at f xs i d h =
 flat_map_set : {X A : Type 0} (f : X → List A) (xs : List X) (i : ℕ) (y : X) → i < length xs → flat_map f (set xs i y) ≡ flat_map f (take i xs) ++ (f y ++ flat_map f (drop (i + 1) xs))
 flat_map_set f xs i y h =
     ap (flat_map f) (sym (take-append-drop i (set xs i y)))
-        ∙ flat_map-append f (take i (set xs i y)) (drop i (set xs i y))
-        ∙ ap (λ ys. flat_map f ys ++ flat_map f (drop i (set xs i y))) (take-set xs i y)
-        ∙ ap (λ ys. flat_map f (take i xs) ++ flat_map f ys) (drop-set xs i y h)
+    ∙ flat_map-append f (take i (set xs i y)) (drop i (set xs i y))
+    ∙ ap (λ ys. flat_map f ys ++ flat_map f (drop i (set xs i y))) (take-set xs i y)
+    ∙ ap (λ ys. flat_map f (take i xs) ++ flat_map f ys) (drop-set xs i y h)
 
 -- one piece more stands before the next
 flat_map_more : {X A : Type 0} (f : X → List A) (xs : List X) (i : ℕ) (d : X) → i < length xs → length (flat_map f (take (i + 1) xs)) ≡ length (flat_map f (take i xs)) + length (f (get_or xs i d))
 flat_map_more f xs i d h =
     ap (λ ys. length (flat_map f ys)) (take_more xs i d h)
-        ∙ ap length (flat_map-append f (take i xs) (get_or xs i d ∷ []))
-        ∙ length-append (flat_map f (take i xs)) (f (get_or xs i d) ++ [])
-        ∙ ap (λ ys. length (flat_map f (take i xs)) + length ys) (append-nil (f (get_or xs i d)))
+    ∙ ap length (flat_map-append f (take i xs) (get_or xs i d ∷ []))
+    ∙ length-append (flat_map f (take i xs)) (f (get_or xs i d) ++ [])
+    ∙ ap (λ ys. length (flat_map f (take i xs)) + length ys) (append-nil (f (get_or xs i d)))
 
 -- what lies within a piece lies so in the list
 take_within : {A : Type 0} (xs ys zs : List A) (from count : ℕ) → from + count ≤ length ys → take count (drop (length xs + from) (xs ++ (ys ++ zs))) ≡ take count (drop from ys)
@@ -95,9 +95,9 @@ move_more list now to from done count lower within is =
     let chunk : List ℕ = take count (drop (from + done) list) in
     let chunk_size : length chunk ≡ count = range_length list (from + done) count within in
     ap (λ l. with_bytes now (to + done) (take count l)) more ∙ ap (λ l. with_bytes l (to + done) chunk) is
-        ∙ ap (λ n. with_bytes (with_bytes list to moved) (to + n) chunk) (sym size)
-        ∙ with_more list moved chunk to (omega (arith, size, chunk_size))
-        ∙ ap (λ l. with_bytes list to l) (range_more list from done count)
+    ∙ ap (λ n. with_bytes (with_bytes list to moved) (to + n) chunk) (sym size)
+    ∙ with_more list moved chunk to (omega (arith, size, chunk_size))
+    ∙ ap (λ l. with_bytes list to l) (range_more list from done count)
 
 -- a range is moved to higher places one chunk on
 pub move_less : (list now : List ℕ) (to from rest count done : ℕ) → from ≤ to
@@ -111,11 +111,11 @@ move_less list now to from rest count done higher within is =
     let chunk : List ℕ = take count (drop (from + rest) list) in
     let chunk_size : length chunk ≡ count = range_length list (from + rest) count (omega arith) in
     let same : take count (drop (from + rest) now) ≡ chunk = ap (λ l. take count (drop (from + rest) l)) is
-        ∙ take_with list moved (to + rest + count) (from + rest) count (omega arith) (omega (arith, size)) in
+    ∙ take_with list moved (to + rest + count) (from + rest) count (omega arith) (omega (arith, size)) in
     ap (λ l. with_bytes now (to + rest) l) same ∙ ap (λ l. with_bytes l (to + rest) chunk) is
-        ∙ ap (λ n. with_bytes (with_bytes list (to + rest + n) moved) (to + rest) chunk) (sym chunk_size)
-        ∙ with_less list moved chunk (to + rest) (omega (arith, size, chunk_size))
-        ∙ ap (λ l. with_bytes list (to + rest) l) (range_more list (from + rest) count done)
+    ∙ ap (λ n. with_bytes (with_bytes list (to + rest + n) moved) (to + rest) chunk) (sym chunk_size)
+    ∙ with_less list moved chunk (to + rest) (omega (arith, size, chunk_size))
+    ∙ ap (λ l. with_bytes list (to + rest) l) (range_more list (from + rest) count done)
 
 -- a write of nothing changes nothing
 pub with_none : (list : List ℕ) (at : ℕ) → with_bytes list at [] ≡ list
@@ -137,12 +137,12 @@ write_more whole xs ys zs bytes at from done (suc n) inside range same within wa
     let place : length xs + from ≡ at + length (take done bytes) = omega arith in
     let one : xs ++ (with_bytes ys from more ++ zs) ≡ with_bytes (xs ++ (ys ++ zs)) (length xs + from) more = with_within xs ys zs more from (omega arith) in
     let two : with_bytes (xs ++ (ys ++ zs)) (length xs + from) more
-        ≡ with_bytes (with_bytes whole at (take done bytes)) (at + length (take done bytes)) more = ap
-        (λ p. with_bytes (xs ++ (ys ++ zs)) p more) place
-        ∙ ap (λ l. with_bytes l (at + length (take done bytes)) more) was in
+    ≡ with_bytes (with_bytes whole at (take done bytes)) (at + length (take done bytes)) more = ap
+    (λ p. with_bytes (xs ++ (ys ++ zs)) p more) place
+    ∙ ap (λ l. with_bytes l (at + length (take done bytes)) more) was in
     let three : with_bytes (with_bytes whole at (take done bytes)) (at + length (take done bytes)) more
-        ≡ with_bytes whole at (take done bytes ++ more) = with_more whole (take done bytes) more at
-        (omega arith) in
+    ≡ with_bytes whole at (take done bytes ++ more) = with_more whole (take done bytes) more at
+    (omega arith) in
     let four : take (done + suc n) bytes ≡ take done bytes ++ more = take-add done (suc n) bytes in
     one ∙ two ∙ three ∙ ap (λ l. with_bytes whole at l) (sym four)
 
@@ -160,26 +160,26 @@ read_more whole xs ys zs into start at from done (suc n) is inside range same wi
     let place : at + done ≡ length xs + from = omega arith in
     let more : take (suc n) (drop from ys) ≡ take (suc n) (drop done all) =
     sym (take_within xs ys zs from (suc n) inside) ∙ ap (λ l. take (suc n) (drop (length xs + from) l)) (sym is)
-        ∙ ap (λ p. take (suc n) (drop p whole)) (sym place)
-        ∙ ap (λ l. take (suc n) l) (sym (drop-drop done at whole)) in
+    ∙ ap (λ p. take (suc n) (drop p whole)) (sym place)
+    ∙ ap (λ l. take (suc n) l) (sym (drop-drop done at whole)) in
     let head : take done into ≡ take done all = ap (λ l. take done l) was ∙ take_at (take done all) (drop done start) done front in
     let tail : drop (suc n) (drop done into)
-        ≡ drop (done + suc n) start = ap (λ l. drop (suc n) (drop done l)) was
-        ∙ ap (λ l. drop (suc n) l) (drop_at (take done all) (drop done start) done front)
-        ∙ drop-drop (suc n) done start in
+    ≡ drop (done + suc n) start = ap (λ l. drop (suc n) (drop done l)) was
+    ∙ ap (λ l. drop (suc n) l) (drop_at (take done all) (drop done start) done front)
+    ∙ drop-drop (suc n) done start in
     ap (λ l. l ++ (take (suc n) (drop from ys) ++ drop (suc n) (drop done into))) head
-        ∙ ap (λ l. take done all ++ (l ++ drop (suc n) (drop done into))) more
-        ∙ ap (λ l. take done all ++ (take (suc n) (drop done all) ++ l)) tail
-        ∙ sym (append_assoc (take done all) (take (suc n) (drop done all)) (drop (done + suc n) start))
-        ∙ ap (λ l. l ++ drop (done + suc n) start) (sym (take-add done (suc n) all))
+    ∙ ap (λ l. take done all ++ (l ++ drop (suc n) (drop done into))) more
+    ∙ ap (λ l. take done all ++ (take (suc n) (drop done all) ++ l)) tail
+    ∙ sym (append_assoc (take done all) (take (suc n) (drop done all)) (drop (done + suc n) start))
+    ∙ ap (λ l. l ++ drop (done + suc n) start) (sym (take-add done (suc n) all))
 
 -- the middle of three lists, where it says one thing
 middle : {A : Type 0} (xs zs : List A) (x : A) (n i : ℕ) → i < n → slice_get (xs ++ (replicate n x ++ zs)) (length xs + i) ≡ Some x
 middle xs zs x n i h =
     slice_get-get_or (xs ++ (replicate n x ++ zs)) (length xs + i) x
-        (simp (length-append, length-replicate) (omega arith))
-        ∙ ap Some (get_or-append-add xs (replicate n x ++ zs) i x
-        ∙ get_or_append_left (replicate n x) zs x i (rw length-replicate h) ∙ get_or-replicate n i x x h)
+    (simp (length-append, length-replicate) (omega arith))
+    ∙ ap Some (get_or-append-add xs (replicate n x ++ zs) i x
+    ∙ get_or_append_left (replicate n x) zs x i (rw length-replicate h) ∙ get_or-replicate n i x x h)
 
 -- what stays of a list, stays of a longer one
 stay_after : (xs ys zs : List Bool) → StayPrepared ys zs → StayPrepared (xs ++ ys) (xs ++ zs)
@@ -207,8 +207,8 @@ ready_more : (xs zs : List Bool) (x : Bool) (n at len : ℕ)
 ready_more xs zs x n at len ready place below =
     let goal : Type 0 = slice_get (xs ++ (replicate n true ++ zs)) (at + place) ≡ Some true in
     let here : (length xs ≤ at + place)
-        → goal = λ past. subst (λ (p : ℕ). slice_get (xs ++ (replicate n true ++ zs)) p ≡ Some true)
-        (omega arith) (middle xs zs true n (at + place - length xs) (omega arith)) in
+    → goal = λ past. subst (λ (p : ℕ). slice_get (xs ++ (replicate n true ++ zs)) p ≡ Some true)
+    (omega arith) (middle xs zs true n (at + place - length xs) (omega arith)) in
     let there : (at + place < length xs) → goal = λ h. front xs (replicate n true ++ zs) (at + place) h ∙ sym (front xs (replicate n x ++ zs) (at + place) h) ∙ ready place (omega arith) in
     elim (cases_lt (at + place) (length xs)) [ inl h ↦ there h | inr h ↦ here h ]
 
@@ -220,8 +220,8 @@ start_from place [] i d order h = absurd (omega arith)
 start_from place (piece ∷ pieces) zero d order h = let same : piece.start ≡ place = (cc) in same ∙ sym (add-zero place)
 start_from place (piece ∷ pieces) (suc i) d order h =
     let rest : (get_or pieces i d).start
-        ≡ place + length (piece_bytes piece) + length (flat_map piece_bytes (take i pieces)) = start_from
-        (place + length (piece_bytes piece)) pieces i d (cc) (omega arith) in
+    ≡ place + length (piece_bytes piece) + length (flat_map piece_bytes (take i pieces)) = start_from
+    (place + length (piece_bytes piece)) pieces i d (cc) (omega arith) in
     rest ∙ omega (arith, length-append (piece_bytes piece) (flat_map piece_bytes (take i pieces)))
 
 -- pieces stay in order, where one gets another backing of the same length
@@ -233,13 +233,13 @@ order_from place [] i d y h start size order = absurd (omega arith)
 order_from place (piece ∷ pieces) zero d y h start size order =
     let first : y.start ≡ place = (cc) in
     let rest : map (λ (p : Piece). p.start) pieces
-        ≡ starts_from (place + length (piece_bytes y)) pieces = subst
-        (λ (n : ℕ). map (λ (p : Piece). p.start) pieces ≡ starts_from (place + n) pieces) (sym size) (cc) in
+    ≡ starts_from (place + length (piece_bytes y)) pieces = subst
+    (λ (n : ℕ). map (λ (p : Piece). p.start) pieces ≡ starts_from (place + n) pieces) (sym size) (cc) in
     cc
 order_from place (piece ∷ pieces) (suc i) d y h start size order =
     let rest : map (λ (p : Piece). p.start) (set pieces i y)
-        ≡ starts_from (place + length (piece_bytes piece)) (set pieces i y) = order_from
-        (place + length (piece_bytes piece)) pieces i d y (omega arith) start size (cc) in
+    ≡ starts_from (place + length (piece_bytes piece)) (set pieces i y) = order_from
+    (place + length (piece_bytes piece)) pieces i d y (omega arith) start size (cc) in
     cc
 
 -- pieces stay in order, where one more follows the last
@@ -250,9 +250,9 @@ order_push_from : (place : ℕ) (pieces : List Piece) (y : Piece)
 order_push_from place [] y start order = let same : y.start ≡ place = start ∙ add-zero place in cc
 order_push_from place (piece ∷ pieces) y start order =
     let rest : map (λ (p : Piece). p.start) (pieces ++ y ∷ [])
-        ≡ starts_from (place + length (piece_bytes piece)) (pieces ++ y ∷ []) = order_push_from
-        (place + length (piece_bytes piece)) pieces y
-        (start ∙ omega (arith, length-append (piece_bytes piece) (flat_map piece_bytes pieces))) (cc) in
+    ≡ starts_from (place + length (piece_bytes piece)) (pieces ++ y ∷ []) = order_push_from
+    (place + length (piece_bytes piece)) pieces y
+    (start ∙ omega (arith, length-append (piece_bytes piece) (flat_map piece_bytes pieces))) (cc) in
     cc
 
 -- as many bytes as answers to a test
@@ -358,10 +358,10 @@ pub before_kept : (pieces : List Piece) (i : ℕ) (d y : Piece) → i < length p
     → before (set pieces i y) (i + 1) ≡ before pieces (i + 1)
 before_kept pieces i d y h size =
     before_more (set pieces i y) i d (rw length-set h)
-        ∙ ap (λ (p : Piece). before (set pieces i y) i + length (piece_bytes p))
-        (get_or-set_same pieces i y d h)
-        ∙ ap (λ (ps : List Piece). length (bytes_in ps) + length (piece_bytes y)) (take-set pieces i y)
-        ∙ ap (λ n. before pieces i + n) size ∙ sym (before_more pieces i d h)
+    ∙ ap (λ (p : Piece). before (set pieces i y) i + length (piece_bytes p))
+    (get_or-set_same pieces i y d h)
+    ∙ ap (λ (ps : List Piece). length (bytes_in ps) + length (piece_bytes y)) (take-set pieces i y)
+    ∙ ap (λ n. before pieces i + n) size ∙ sym (before_more pieces i d h)
 
 -- a piece that a range meets passes the test that each place of the range passes
 pub passes_there : (test : Backing → Bool) (pieces : List Piece) (i at len from done : ℕ) (d : Piece)
@@ -373,13 +373,13 @@ passes_there test pieces i at len from done d h ready below inside same =
     let last : List Bool = tests_in test (drop (i + 1) pieces) in
     let size : length first ≡ before pieces i = tests_length test (take i pieces) in
     let here : slice_get (first ++ (for_each_byte test (get_or pieces i d) ++ last)) (length first + from)
-        ≡ Some (test (get_or pieces i d).backing) = middle first last (test (get_or pieces i d).backing)
-        (length (piece_bytes (get_or pieces i d))) from inside in
+    ≡ Some (test (get_or pieces i d).backing) = middle first last (test (get_or pieces i d).backing)
+    (length (piece_bytes (get_or pieces i d))) from inside in
     let there : slice_get (first ++ (for_each_byte test (get_or pieces i d) ++ last)) (length first + from)
-        ≡ Some true = ap (λ (p : ℕ). slice_get (first ++ (for_each_byte test (get_or pieces i d) ++ last)) p)
-        (ap (λ n. n + from) size ∙ same)
-        ∙ ap (λ (l : List Bool). slice_get l (at + done)) (sym (tests_at test pieces i d h))
-        ∙ ready done below in
+    ≡ Some true = ap (λ (p : ℕ). slice_get (first ++ (for_each_byte test (get_or pieces i d) ++ last)) p)
+    (ap (λ n. n + from) size ∙ same)
+    ∙ ap (λ (l : List Bool). slice_get l (at + done)) (sym (tests_at test pieces i d h))
+    ∙ ready done below in
     cc
 
 -- a piece passes the test that a place of it passes
@@ -407,12 +407,12 @@ stay_set test pieces i d y h size gains =
     let n : ℕ = length (piece_bytes (get_or pieces i d)) in
     let is : tests_in test pieces ≡ first ++ (for_each_byte test (get_or pieces i d) ++ last) = tests_at test pieces i d h in
     let comes : first ++ (replicate n (test y.backing) ++ last)
-        ≡ tests_in test (set pieces i y) = ap (λ (m : ℕ). first ++ (replicate m (test y.backing) ++ last))
-        (sym size) ∙ sym (tests_set test pieces i y h) in
+    ≡ tests_in test (set pieces i y) = ap (λ (m : ℕ). first ++ (replicate m (test y.backing) ++ last))
+    (sym size) ∙ sym (tests_set test pieces i y h) in
     let stay : StayPrepared (first ++ (for_each_byte test (get_or pieces i d) ++ last))
-        (first ++ (replicate n (test y.backing) ++ last)) = stay_after first
-        (for_each_byte test (get_or pieces i d) ++ last) (replicate n (test y.backing) ++ last)
-        (stay_within (test (get_or pieces i d).backing) (test y.backing) n last gains) in
+    (first ++ (replicate n (test y.backing) ++ last)) = stay_after first
+    (for_each_byte test (get_or pieces i d) ++ last) (replicate n (test y.backing) ++ last)
+    (stay_within (test (get_or pieces i d).backing) (test y.backing) n last gains) in
     λ place was. ap (λ (l : List Bool). slice_get l place) (sym comes) ∙ stay place (ap (λ (l : List Bool). slice_get l place) (sym is) ∙ was)
 
 -- a range passes a test one piece on, where that piece comes to pass it
@@ -427,12 +427,12 @@ ready_set test pieces i at len d y h size passes ready place below =
     let starts : length first ≡ before pieces i = tests_length test (take i pieces) in
     let ends : before pieces (i + 1) ≡ before pieces i + n = before_more pieces i d h in
     let was : ArePrepared (first ++ (for_each_byte test (get_or pieces i d) ++ last)) at
-        (min len (length first - at)) = λ p under. ap (λ (l : List Bool). slice_get l (at + p))
-        (sym (tests_at test pieces i d h)) ∙ ready p (omega arith) in
+    (min len (length first - at)) = λ p under. ap (λ (l : List Bool). slice_get l (at + p))
+    (sym (tests_at test pieces i d h)) ∙ ready p (omega arith) in
     let comes : tests_in test (set pieces i y)
-        ≡ first ++ (replicate n true ++ last) = tests_set test pieces i y h
-        ∙ ap (λ (m : ℕ). first ++ (replicate m (test y.backing) ++ last)) size
-        ∙ ap (λ (b : Bool). first ++ (replicate n b ++ last)) passes in
+    ≡ first ++ (replicate n true ++ last) = tests_set test pieces i y h
+    ∙ ap (λ (m : ℕ). first ++ (replicate m (test y.backing) ++ last)) size
+    ∙ ap (λ (b : Bool). first ++ (replicate n b ++ last)) passes in
     ap (λ (l : List Bool). slice_get l (at + place)) comes ∙ ready_more first last (test (get_or pieces i d).backing) n at len was place (omega arith)
 
 -- a range is written one piece on
@@ -456,13 +456,13 @@ write_step pieces i at from done count d y bytes order h within inside range sam
     let some : done + count - done ≡ count = omega arith in
     let is_done : min (length bytes) (before pieces i - at) ≡ done = ap (λ (p : ℕ). min (length bytes) (p - at)) (sym place) ∙ sym start in
     let comes : done + count ≡ min (length bytes) (before pieces (i + 1) - at) = end
-        ∙ ap (λ (p : ℕ). min (length bytes) (p + length old - at)) place
-        ∙ ap (λ (p : ℕ). min (length bytes) (p - at)) (sym (before_more pieces i d h)) in
+    ∙ ap (λ (p : ℕ). min (length bytes) (p + length old - at)) place
+    ∙ ap (λ (p : ℕ). min (length bytes) (p - at)) (sym (before_more pieces i d h)) in
     let before_it : first ++ (old ++ last) ≡ with_bytes whole at (take done bytes) = sym (bytes_at pieces i d h) ∙ was ∙ ap (λ (n : ℕ). with_bytes whole at (take n bytes)) is_done in
     let step : first ++ (with_bytes old from (take count (drop done bytes)) ++ last)
-        ≡ with_bytes whole at (take (done + count) bytes) = write_more whole first old last bytes at from done
-        count inside range (λ some_bytes. let e : (get_or pieces i d).start + from ≡ at + done = same some_bytes
-        in omega arith) (omega arith) before_it in
+    ≡ with_bytes whole at (take (done + count) bytes) = write_more whole first old last bytes at from done
+    count inside range (λ some_bytes. let e : (get_or pieces i d).start + from ≡ at + done = same some_bytes
+    in omega arith) (omega arith) before_it in
     let piece : piece_bytes y ≡ with_bytes old from (take count (drop done bytes)) = becomes ∙ ap (λ (n : ℕ). with_bytes old from (take n (drop done bytes))) some in
     bytes_set pieces i y h ∙ ap (λ (l : List ℕ). first ++ (l ++ last)) piece ∙ step ∙ ap (λ (n : ℕ). with_bytes whole at (take n bytes)) comes
 
@@ -485,10 +485,10 @@ read_step pieces i at from done count x into start order h is within size inside
     let comes : done + count ≡ min (length start) (before pieces (i + 1) - at) = omega arith in
     let all : List ℕ = drop at (bytes_in pieces) in
     read_more (bytes_in pieces) (bytes_in (take i pieces)) (piece_bytes x) (bytes_in (drop (i + 1) pieces)) into
-        start at from done count (item_bytes pieces i x h is) inside (omega arith)
-        (λ some. let e : x.start + from ≡ at + done = same some in omega arith) within
-        (was ∙ ap (λ (n : ℕ). take n all ++ drop n start) is_done)
-        ∙ ap (λ (n : ℕ). take n all ++ drop n start) comes
+    start at from done count (item_bytes pieces i x h is) inside (omega arith)
+    (λ some. let e : x.start + from ≡ at + done = same some in omega arith) within
+    (was ∙ ap (λ (n : ℕ). take n all ++ drop n start) is_done)
+    ∙ ap (λ (n : ℕ). take n all ++ drop n start) comes
 
 -- a range is read where the pieces before one hold all of it
 pub read_end : (all into start : List ℕ) (at past : ℕ) → at + length start ≤ past
@@ -497,8 +497,8 @@ pub read_end : (all into start : List ℕ) (at past : ℕ) → at + length start
 read_end all into start at past h was =
     let end : min (length start) (past - at) ≡ length start = omega arith in
     was ∙ ap (λ (n : ℕ). take n (drop at all) ++ drop n start) end
-        ∙ ap (λ (l : List ℕ). take (length start) (drop at all) ++ l)
-        (drop_all (length start) start (omega arith)) ∙ append-nil (take (length start) (drop at all))
+    ∙ ap (λ (l : List ℕ). take (length start) (drop at all) ++ l)
+    (drop_all (length start) start (omega arith)) ∙ append-nil (take (length start) (drop at all))
 
 -- a range is written where the pieces before one hold all of it
 pub write_end : (all now bytes : List ℕ) (at past : ℕ) → at + length bytes ≤ past → now ≡ with_bytes all at (take (min (length bytes) (past - at)) bytes) → now ≡ with_bytes all at bytes
@@ -515,10 +515,10 @@ unfolding bytes_in
 before_rises pieces i j h =
     let front : List Piece = take j pieces in
     let parts : length (flat_map piece_bytes front)
-        ≡ length (flat_map piece_bytes (take i front)) + length (flat_map piece_bytes (drop i front)) = ap
-        (λ (ps : List Piece). length (flat_map piece_bytes ps)) (sym (take-append-drop i front))
-        ∙ ap length (flat_map-append piece_bytes (take i front) (drop i front))
-        ∙ length-append (flat_map piece_bytes (take i front)) (flat_map piece_bytes (drop i front)) in
+    ≡ length (flat_map piece_bytes (take i front)) + length (flat_map piece_bytes (drop i front)) = ap
+    (λ (ps : List Piece). length (flat_map piece_bytes ps)) (sym (take-append-drop i front))
+    ∙ ap length (flat_map-append piece_bytes (take i front) (drop i front))
+    ∙ length-append (flat_map piece_bytes (take i front)) (flat_map piece_bytes (drop i front)) in
     let same : length (flat_map piece_bytes (take i front)) ≡ length (flat_map piece_bytes (take i pieces)) = ap (λ (ps : List Piece). length (flat_map piece_bytes ps)) (take-take i j pieces h) in
     omega arith
 
@@ -575,9 +575,9 @@ get_there pieces i at x order h is first last =
     let from : ℕ = at - x.start in
     let place : length front + from ≡ at = omega arith in
     sym (get_or_append_left (piece_bytes x) rest 0 from (omega arith))
-        ∙ sym (get_or-append-add front (piece_bytes x ++ rest) from 0)
-        ∙ ap (λ (l : List ℕ). get_or l (length front + from) 0) (sym (item_bytes pieces i x h is))
-        ∙ ap (λ (n : ℕ). get_or (bytes_in pieces) n 0) place
+    ∙ sym (get_or-append-add front (piece_bytes x ++ rest) from 0)
+    ∙ ap (λ (l : List ℕ). get_or l (length front + from) 0) (sym (item_bytes pieces i x h is))
+    ∙ ap (λ (n : ℕ). get_or (bytes_in pieces) n 0) place
 
 -- a range of a piece in the list
 pub read_there : (pieces : List Piece) (i at len : ℕ) (x : Piece) → AreInOrder pieces → i < length pieces
@@ -590,8 +590,8 @@ read_there pieces i at len x order h is first inside =
     let from : ℕ = at - x.start in
     let place : length front + from ≡ at = omega arith in
     sym (take_within front (piece_bytes x) rest from len inside)
-        ∙ ap (λ (l : List ℕ). take len (drop (length front + from) l)) (sym (item_bytes pieces i x h is))
-        ∙ ap (λ (n : ℕ). take len (drop n (bytes_in pieces))) place
+    ∙ ap (λ (l : List ℕ). take len (drop (length front + from) l)) (sym (item_bytes pieces i x h is))
+    ∙ ap (λ (n : ℕ). take len (drop n (bytes_in pieces))) place
 
 -- the data of an account that a piece lends stand where the piece starts
 pub data_there : (pieces : List Piece) (i at : ℕ) (x : Piece) (account : Account) → AreInOrder pieces
@@ -603,16 +603,16 @@ data_there pieces i at x account order h is start same =
     let first : x.start ≡ before pieces i = item_start pieces i x order h is in
     let size : length account.bytes ≡ length (piece_bytes x) = ap length same in
     let whole : length (bytes_in pieces)
-        ≡ length front + (length (piece_bytes x) + length rest) = ap length (item_bytes pieces i x h is)
-        ∙ length-append front (piece_bytes x ++ rest)
-        ∙ ap (λ n. length front + n) (length-append (piece_bytes x) rest) in
+    ≡ length front + (length (piece_bytes x) + length rest) = ap length (item_bytes pieces i x h is)
+    ∙ length-append front (piece_bytes x ++ rest)
+    ∙ ap (λ n. length front + n) (length-append (piece_bytes x) rest) in
     let there : take (length (piece_bytes x)) (drop (at - x.start) (piece_bytes x))
-        ≡ take (length (piece_bytes x)) (drop at (bytes_in pieces)) = read_there pieces i at
-        (length (piece_bytes x)) x order h is (omega arith) (omega arith) in
+    ≡ take (length (piece_bytes x)) (drop at (bytes_in pieces)) = read_there pieces i at
+    (length (piece_bytes x)) x order h is (omega arith) (omega arith) in
     let all : take (length (piece_bytes x)) (drop (at - x.start) (piece_bytes x))
-        ≡ piece_bytes x = ap (λ n. take (length (piece_bytes x)) (drop n (piece_bytes x)))
-        (let none : at - x.start ≡ 0 = omega arith in none)
-        ∙ take_all (length (piece_bytes x)) (piece_bytes x) (omega arith) in
+    ≡ piece_bytes x = ap (λ n. take (length (piece_bytes x)) (drop n (piece_bytes x)))
+    (let none : at - x.start ≡ 0 = omega arith in none)
+    ∙ take_all (length (piece_bytes x)) (piece_bytes x) (omega arith) in
     (omega arith, ap (λ n. take n (drop at (bytes_in pieces))) size ∙ sym there ∙ all ∙ sym same)
 
 -- a write within a piece is one within the list
@@ -629,9 +629,9 @@ write_there pieces i at d y bytes order h first inside becomes =
     let from : ℕ = at - (get_or pieces i d).start in
     let place : length front + from ≡ at = omega arith in
     bytes_set pieces i y h ∙ ap (λ (l : List ℕ). front ++ (l ++ rest)) becomes
-        ∙ with_within front piece rest bytes from inside
-        ∙ ap (λ (l : List ℕ). with_bytes l (length front + from) bytes) (sym (bytes_at pieces i d h))
-        ∙ ap (λ (n : ℕ). with_bytes (bytes_in pieces) n bytes) place
+    ∙ with_within front piece rest bytes from inside
+    ∙ ap (λ (l : List ℕ). with_bytes l (length front + from) bytes) (sym (bytes_at pieces i d h))
+    ∙ ap (λ (n : ℕ). with_bytes (bytes_in pieces) n bytes) place
 
 -- a backing that is prepared is the list's own
 own_if_prepared : (backing : Backing) → is_prepared backing ≡ true → is_own backing ≡ true
@@ -646,8 +646,8 @@ own_in (piece ∷ pieces) =
     let n : ℕ = length (piece_bytes piece) in
     let rest : List Bool = flat_map (for_each_byte is_prepared) pieces in
     λ place was. stay_after (replicate n (is_own piece.backing)) rest (flat_map (for_each_byte is_own) pieces)
-        (own_in pieces) place (stay_within (is_prepared piece.backing) (is_own piece.backing) n rest
-        (own_if_prepared piece.backing) place was)
+    (own_in pieces) place (stay_within (is_prepared piece.backing) (is_own piece.backing) n rest
+    (own_if_prepared piece.backing) place was)
 
 pub prepared_is_own : (pieces : List Piece) → StayPrepared (tests_in is_prepared pieces) (tests_in is_own pieces)
 unfolding tests_in
@@ -677,10 +677,10 @@ plain_push pieces y plain last =
     let piece : for_each_byte is_prepared y ≡ replicate (length (piece_bytes y)) false = ap (λ (b : Bool). replicate (length (piece_bytes y)) b) last in
     let size : length (bytes_in (pieces ++ y ∷ [])) ≡ length (bytes_in pieces) + length (piece_bytes y) = ap length (bytes_push pieces y) ∙ length-append (bytes_in pieces) (piece_bytes y) in
     flat_map_push (for_each_byte is_prepared) pieces y
-        ∙ ap (λ (l : List Bool). l ++ for_each_byte is_prepared y) plain
-        ∙ ap (λ (l : List Bool). replicate (length (bytes_in pieces)) false ++ l) piece
-        ∙ replicate-append-replicate (length (bytes_in pieces)) (length (piece_bytes y)) false
-        ∙ ap (λ (n : ℕ). replicate n false) (sym size)
+    ∙ ap (λ (l : List Bool). l ++ for_each_byte is_prepared y) plain
+    ∙ ap (λ (l : List Bool). replicate (length (bytes_in pieces)) false ++ l) piece
+    ∙ replicate-append-replicate (length (bytes_in pieces)) (length (piece_bytes y)) false
+    ∙ ap (λ (n : ℕ). replicate n false) (sym size)
 
 -- a part that comes with others has no more bytes than all have
 pub parts_bound : (parts rest : List Part) (part : Part) → length (bytes_of parts) + length (part_bytes part) ≤ length (bytes_of (parts ++ part ∷ rest))
@@ -753,8 +753,8 @@ none_from place at [] past = refl
 none_from place at (part ∷ parts) past =
     let size = length-append (part_bytes part) (flat_map part_bytes parts) in
     find_none (λ (item : ℕ × Account). item.0 == at) (lent_by place part)
-        (lent_from (place + length (part_bytes part)) parts) (none_by place at part (omega arith))
-        (none_from (place + length (part_bytes part)) at parts (omega arith))
+    (lent_from (place + length (part_bytes part)) parts) (none_by place at part (omega arith))
+    (none_from (place + length (part_bytes part)) at parts (omega arith))
 
 -- the accounts that parts lend, where one more follows the last
 lent_more : (place : ℕ) (parts : List Part) (part : Part) → lent_from place (parts ++ part ∷ []) ≡ lent_from place parts ++ lent_by (place + length (flat_map part_bytes parts)) part
@@ -763,12 +763,12 @@ lent_more place [] part = append-nil (lent_by place part) ∙ ap (λ (n : ℕ). 
 lent_more place (first ∷ parts) part =
     let next : ℕ = place + length (part_bytes first) in
     let size : next + length (flat_map part_bytes parts)
-        ≡ place + length (part_bytes first ++ flat_map part_bytes parts) = omega
-        (arith, length-append (part_bytes first) (flat_map part_bytes parts)) in
+    ≡ place + length (part_bytes first ++ flat_map part_bytes parts) = omega
+    (arith, length-append (part_bytes first) (flat_map part_bytes parts)) in
     ap (λ (l : List _). lent_by place first ++ l)
-        (lent_more next parts part ∙ ap (λ (n : ℕ). lent_from next parts ++ lent_by n part) size)
-        ∙ sym (append_assoc (lent_by place first) (lent_from next parts)
-        (lent_by (place + length (part_bytes first ++ flat_map part_bytes parts)) part))
+    (lent_more next parts part ∙ ap (λ (n : ℕ). lent_from next parts ++ lent_by n part) size)
+    ∙ sym (append_assoc (lent_by place first) (lent_from next parts)
+    (lent_by (place + length (part_bytes first ++ flat_map part_bytes parts)) part))
 
 -- the account that is lent last is found where it begins
 lent_last : (lent : List (ℕ × Account)) (y : Piece) (part : Part) (shared : Arc Account Global)
@@ -796,6 +796,6 @@ lent_push parts part pieces y all start lends =
     let is : lent_from 0 (parts ++ part ∷ []) ≡ lent ++ more = lent_more 0 parts part ∙ ap (λ (n : ℕ). lent ++ lent_by n part) place in
     let front : All (IsLentBy (lent ++ more)) pieces = λ k d below shared same some. find_kept _ lent more _ (all k d below shared same some) in
     let last : IsLentBy (lent ++ more) y = λ shared same some. lent_last lent y part shared
-        (none_from 0 y.start parts (omega arith)) (lends shared same)
-        (subst (λ (b : Backing). 0 < length (backing_bytes b)) same some) in
+    (none_from 0 y.start parts (omega arith)) (lends shared same)
+    (subst (λ (b : Backing). 0 < length (backing_bytes b)) same some) in
     subst (λ (l : List (ℕ × Account)). All (IsLentBy l) (pieces ++ y ∷ [])) (sym is) (All-push (IsLentBy (lent ++ more)) pieces y front last)

@@ -26,8 +26,8 @@ front_size (x ∷ xs) zero (suc k) d y h size =
     length-append (piece_bytes y) rest ∙ ap (λ n. n + length rest) size ∙ sym (length-append (piece_bytes x) rest)
 front_size (x ∷ xs) (suc i) (suc k) d y h size =
     length-append (piece_bytes x) (flat_map piece_bytes (take k (set xs i y)))
-        ∙ ap (λ n. length (piece_bytes x) + n) (front_size xs i k d y (omega arith) size)
-        ∙ sym (length-append (piece_bytes x) (flat_map piece_bytes (take k xs)))
+    ∙ ap (λ n. length (piece_bytes x) + n) (front_size xs i k d y (omega arith) size)
+    ∙ sym (length-append (piece_bytes x) (flat_map piece_bytes (take k xs)))
 
 before_size : (pieces : List Piece) (i k : ℕ) (d y : Piece) → i < length pieces → length (piece_bytes y) ≡ length (piece_bytes (get_or pieces i d)) → before (set pieces i y) k ≡ before pieces k
 unfolding bytes_in
@@ -72,10 +72,10 @@ pub in_list : (list : List Piece) (place i : ℕ) (piece x : Piece) → set list
     → i < length list → x ≡ get_or list i x → is_blank x.backing ≢ true → x ≡ get_or (set list place piece) i x
 in_list list place i piece x blank h is full =
     let other : i ≢ place = λ same. full
-        (ap (λ (p : Piece). is_blank p.backing)
-        (is ∙ ap (λ (l : List Piece). get_or l i x) (sym blank)
-        ∙ ap (λ (n : ℕ). get_or (set list place (blank_of piece)) n x) same
-        ∙ get_or-set_same list place (blank_of piece) x (subst (λ (n : ℕ). n < length list) same h))) in
+    (ap (λ (p : Piece). is_blank p.backing)
+    (is ∙ ap (λ (l : List Piece). get_or l i x) (sym blank)
+    ∙ ap (λ (n : ℕ). get_or (set list place (blank_of piece)) n x) same
+    ∙ get_or-set_same list place (blank_of piece) x (subst (λ (n : ℕ). n < length list) same h))) in
     is ∙ sym (get_or-set_other list place i piece x other)
 
 -- the piece that stands apart is one of the pieces
@@ -90,9 +90,9 @@ apart_order list place piece y order start size =
     elim (cases_lt place (length list)) [
       | inl h ↦ let same : get_or (set list place piece) place piece ≡ piece = get_or-set_same list place piece piece h in
           subst AreInOrder (set_twice list place piece y)
-              (order_set (set list place piece) place piece y order (rw length-set h)
-              (start ∙ ap (λ (p : Piece). p.start) (sym same))
-              (size ∙ ap (λ (p : Piece). length (piece_bytes p)) (sym same)))
+          (order_set (set list place piece) place piece y order (rw length-set h)
+          (start ∙ ap (λ (p : Piece). p.start) (sym same))
+          (size ∙ ap (λ (p : Piece). length (piece_bytes p)) (sym same)))
       | inr h ↦ subst AreInOrder (set_past list place piece h ∙ sym (set_past list place y h)) order
     ]
 
@@ -103,9 +103,9 @@ apart_tests test list place piece y size answer =
     elim (cases_lt place (length list)) [
       | inl h ↦ let same : get_or (set list place piece) place piece ≡ piece = get_or-set_same list place piece piece h in
           ap (tests_in test) (sym (set_twice list place piece y))
-              ∙ tests_kept test (set list place piece) place piece y (rw length-set h)
-              (size ∙ ap (λ (p : Piece). length (piece_bytes p)) (sym same))
-              (answer ∙ ap (λ (p : Piece). test p.backing) (sym same))
+          ∙ tests_kept test (set list place piece) place piece y (rw length-set h)
+          (size ∙ ap (λ (p : Piece). length (piece_bytes p)) (sym same))
+          (answer ∙ ap (λ (p : Piece). test p.backing) (sym same))
       | inr h ↦ ap (tests_in test) (set_past list place y h ∙ sym (set_past list place piece h))
     ]
 
@@ -122,9 +122,9 @@ apart_lent list place piece y start stays lent all =
     elim (cases_lt place (length list)) [
       | inl h ↦ let same : get_or (set list place piece) place piece ≡ piece = get_or-set_same list place piece piece h in
           subst (AreLentBy lent) (set_twice list place piece y)
-              (lent_set (set list place piece) place piece y (rw length-set h)
-              (start ∙ ap (λ (p : Piece). p.start) (sym same))
-              (subst (λ (p : Piece). StaysShared p.backing y.backing) (sym same) stays) lent all)
+          (lent_set (set list place piece) place piece y (rw length-set h)
+          (start ∙ ap (λ (p : Piece). p.start) (sym same))
+          (subst (λ (p : Piece). StaysShared p.backing y.backing) (sym same) stays) lent all)
       | inr h ↦ subst (AreLentBy lent) (set_past list place piece h ∙ sym (set_past list place y h)) all
     ]
 
@@ -141,10 +141,10 @@ apart_write list place at piece y bytes h order first inside becomes =
     let start : (get_or all place piece).start ≡ before all place = start_at all place piece order some in
     let begins : (get_or all place piece).start ≡ piece.start = ap (λ (p : Piece). p.start) same in
     ap bytes_in (sym (set_twice list place piece y))
-        ∙ write_there all place at piece y bytes order some (omega arith)
-        (subst (λ (p : Piece). at - p.start + length bytes ≤ length (piece_bytes p)) (sym same) inside)
-        (subst (λ (p : Piece). piece_bytes y ≡ with_bytes (piece_bytes p) (at - p.start) bytes) (sym same)
-        becomes)
+    ∙ write_there all place at piece y bytes order some (omega arith)
+    (subst (λ (p : Piece). at - p.start + length bytes ≤ length (piece_bytes p)) (sym same) inside)
+    (subst (λ (p : Piece). piece_bytes y ≡ with_bytes (piece_bytes p) (at - p.start) bytes) (sym same)
+    becomes)
 
 -- no piece has more bytes than all have
 pub piece_bound : (pieces : List Piece) (i : ℕ) (x : Piece) → i < length pieces → x ≡ get_or pieces i x → length (piece_bytes x) ≤ length (bytes_in pieces)
@@ -208,19 +208,19 @@ read_over list place at from done count x into blank order h within inside range
     let size : length (piece_bytes x) ≡ length empty = sym (length-replicate (length (piece_bytes x)) 0) in
     let head : take d into ≡ take d (drop at (bytes_in all)) =
     ap (λ (l : List ℕ). take d l) was ∙ take-take d len (drop at (bytes_in list)) (omega arith)
-        ∙ ap (λ (l : List ℕ). take d (drop at l)) holed
-        ∙ front_same front (empty ++ rest) (piece_bytes x ++ rest) at d (omega arith)
-        ∙ ap (λ (l : List ℕ). take d (drop at l)) (sym whole) in
+    ∙ ap (λ (l : List ℕ). take d (drop at l)) holed
+    ∙ front_same front (empty ++ rest) (piece_bytes x ++ rest) at d (omega arith)
+    ∙ ap (λ (l : List ℕ). take d (drop at l)) (sym whole) in
     let tail : drop e into ≡ drop e (take len (drop at (bytes_in all))) =
     ap (λ (l : List ℕ). drop e l) was ∙ ap (λ (l : List ℕ). drop e (take len (drop at l))) holed
-        ∙ back_same front empty (piece_bytes x) rest at len e (sym size) (λ more. omega arith)
-        ∙ ap (λ (l : List ℕ). drop e (take len (drop at l))) (sym whole) in
+    ∙ back_same front empty (piece_bytes x) rest at len e (sym size) (λ more. omega arith)
+    ∙ ap (λ (l : List ℕ). drop e (take len (drop at l))) (sym whole) in
     let before_it : into ≡ take d (drop at (bytes_in all)) ++ drop d into = sym (take-append-drop d into) ∙ ap (λ (l : List ℕ). l ++ drop d into) head in
     read_step all place at from done count x into into order some (sym is) within refl inside range same begin
-        end before_it ∙ ap (λ (l : List ℕ). take e (drop at (bytes_in all)) ++ l) tail
-        ∙ ap (λ (l : List ℕ). l ++ drop e (take len (drop at (bytes_in all))))
-        (sym (take-take e len (drop at (bytes_in all)) (omega arith)))
-        ∙ take-append-drop e (take len (drop at (bytes_in all)))
+    end before_it ∙ ap (λ (l : List ℕ). take e (drop at (bytes_in all)) ++ l) tail
+    ∙ ap (λ (l : List ℕ). l ++ drop e (take len (drop at (bytes_in all))))
+    (sym (take-take e len (drop at (bytes_in all)) (omega arith)))
+    ∙ take-append-drop e (take len (drop at (bytes_in all)))
 
 -- two items that are set in two places may be set in either order
 set_swap : {A : Type 0} (xs : List A) (i j : ℕ) (x y : A) → i ≢ j → set (set xs i x) j y ≡ set (set xs j y) i x
@@ -329,7 +329,7 @@ lands_write list place i at piece x y bytes lands h full order first inside beco
           let start : (get_or all i x).start ≡ before all i = start_at all i x order some in
           let begins : x.start ≡ (get_or all i x).start = ap (λ (p : Piece). p.start) is.1 in
           ap bytes_in is.0 ∙ write_there all i at x y bytes order some (omega arith)
-              (subst (λ (p : Piece). at - p.start + length bytes ≤ length (piece_bytes p)) is.1 inside)
-              (subst (λ (p : Piece). piece_bytes y ≡ with_bytes (piece_bytes p) (at - p.start) bytes) is.1
-              becomes)
+          (subst (λ (p : Piece). at - p.start + length bytes ≤ length (piece_bytes p)) is.1 inside)
+          (subst (λ (p : Piece). piece_bytes y ≡ with_bytes (piece_bytes p) (at - p.start) bytes) is.1
+          becomes)
     ]

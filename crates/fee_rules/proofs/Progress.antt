@@ -37,25 +37,45 @@ other_kind kind requests request other = ap (λ xs. slice_get xs 0)
 
 asked_more : (requests : List Request) (request : Request) → has_asked (asked_of requests) request ≡ false → asked_with (asked_of requests) request ≡ asked_of (requests ++ request ∷ [])
 asked_more requests (HeapFrame n) none = λ i.
-    record { heap = sym (first_of_kind heap_in requests (HeapFrame n) none) i; limit = sym
-    (other_kind limit_in requests (HeapFrame n) refl) i; price = sym
-    (other_kind price_in requests (HeapFrame n) refl) i; loaded = sym
-    (other_kind loaded_in requests (HeapFrame n) refl) i }
+    record {
+      heap = sym (first_of_kind heap_in requests (HeapFrame n) none) i;
+      limit = sym
+          (other_kind limit_in requests (HeapFrame n) refl) i;
+      price = sym
+          (other_kind price_in requests (HeapFrame n) refl) i;
+      loaded = sym
+          (other_kind loaded_in requests (HeapFrame n) refl) i;
+    }
 asked_more requests (UnitLimit n) none = λ i.
-    record { heap = sym (other_kind heap_in requests (UnitLimit n) refl) i; limit = sym
-    (first_of_kind limit_in requests (UnitLimit n) none) i; price = sym
-    (other_kind price_in requests (UnitLimit n) refl) i; loaded = sym
-    (other_kind loaded_in requests (UnitLimit n) refl) i }
+    record {
+      heap = sym (other_kind heap_in requests (UnitLimit n) refl) i;
+      limit = sym
+          (first_of_kind limit_in requests (UnitLimit n) none) i;
+      price = sym
+          (other_kind price_in requests (UnitLimit n) refl) i;
+      loaded = sym
+          (other_kind loaded_in requests (UnitLimit n) refl) i;
+    }
 asked_more requests (UnitPrice n) none = λ i.
-    record { heap = sym (other_kind heap_in requests (UnitPrice n) refl) i; limit = sym
-    (other_kind limit_in requests (UnitPrice n) refl) i; price = sym
-    (first_of_kind price_in requests (UnitPrice n) none) i; loaded = sym
-    (other_kind loaded_in requests (UnitPrice n) refl) i }
+    record {
+      heap = sym (other_kind heap_in requests (UnitPrice n) refl) i;
+      limit = sym
+          (other_kind limit_in requests (UnitPrice n) refl) i;
+      price = sym
+          (first_of_kind price_in requests (UnitPrice n) none) i;
+      loaded = sym
+          (other_kind loaded_in requests (UnitPrice n) refl) i;
+    }
 asked_more requests (LoadedLimit n) none = λ i.
-    record { heap = sym (other_kind heap_in requests (LoadedLimit n) refl) i; limit = sym
-    (other_kind limit_in requests (LoadedLimit n) refl) i; price = sym
-    (other_kind price_in requests (LoadedLimit n) refl) i; loaded = sym
-    (first_of_kind loaded_in requests (LoadedLimit n) none) i }
+    record {
+      heap = sym (other_kind heap_in requests (LoadedLimit n) refl) i;
+      limit = sym
+          (other_kind limit_in requests (LoadedLimit n) refl) i;
+      price = sym
+          (other_kind price_in requests (LoadedLimit n) refl) i;
+      loaded = sym
+          (first_of_kind loaded_in requests (LoadedLimit n) none) i;
+    }
 
 -- ---- instructions
 -- the first n instructions have no fault, ask for that, and are so many beside their requests
@@ -133,9 +153,9 @@ unfolding budget_in
 all_asked message n asked others so_far over =
     let whole : take n message.instructions ≡ message.instructions = ap (λ m. take m message.instructions) over ∙ take-length message.instructions in
     let all : take n (enumerate_from 0 message.instructions)
-        ≡ enumerate_from 0 message.instructions = ap (λ m. take m (enumerate_from 0 message.instructions))
-        (over ∙ sym (length-enumerate_from 0 message.instructions))
-        ∙ take-length (enumerate_from 0 message.instructions) in
+    ≡ enumerate_from 0 message.instructions = ap (λ m. take m (enumerate_from 0 message.instructions))
+    (over ∙ sym (length-enumerate_from 0 message.instructions))
+    ∙ take-length (enumerate_from 0 message.instructions) in
     let none : faults_in message.keys message.instructions ≡ [] = ap (filter_map (fault_at message.keys message.instructions)) (sym all) ∙ so_far.none_wrong in
     let asks : asked_of (requests_in message.keys message.instructions) ≡ asked = ap (λ is. asked_of (requests_in message.keys is)) (sym whole) ∙ sym so_far.asks in
     let counted : others_in message.keys message.instructions ≡ others = ap (others_in message.keys) (sym whole) ∙ sym so_far.counted in

@@ -44,5 +44,5 @@ all_behind gate count senders seats done sent some numbered all long each p belo
     let m = mod-lt p some in
     let lt : s < length done = omega (arith, l, m) in
     kept_at (gate s) (λ q. eqb (q % senders) s) p 0 count (eq-eqb s s refl)
-        (each_done (λ t _. IsShareBehind gate count senders t) senders seats done sent numbered all long each s
-        (some_of done s lt) lt) (omega arith) (omega (arith, below))
+    (each_done (λ t _. IsShareBehind gate count senders t) senders seats done sent numbered all long each s
+    (some_of done s lt) lt) (omega arith) (omega (arith, below))

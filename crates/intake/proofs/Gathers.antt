@@ -78,11 +78,11 @@ each_carries : (P : ℕ → ℕ × Parsed → Type 0) (ts : List Ticket) → ((s
 each_carries P [] all = All-nil _
 each_carries P (t ∷ ts) all =
     let first : All (P t.sender) (map carried (t ∷ of ts t.sender)) = subst
-        (λ (b : Bool). All (P t.sender) (map carried (cond b (t ∷ of ts t.sender) (of ts t.sender))))
-        (eq-eqb t.sender t.sender refl) (all t.sender) in
+    (λ (b : Bool). All (P t.sender) (map carried (cond b (t ∷ of ts t.sender) (of ts t.sender))))
+    (eq-eqb t.sender t.sender refl) (all t.sender) in
     All-cons (λ (t : Ticket). P t.sender (carried t)) t ts
-        (All-head (P t.sender) (carried t) (map carried (of ts t.sender)) first)
-        (each_carries P ts (λ s. without_first (P s) t (of ts s) (eqb t.sender s) (all s)))
+    (All-head (P t.sender) (carried t) (map carried (of ts t.sender)) first)
+    (each_carries P ts (λ s. without_first (P s) t (of ts s) (eqb t.sender s) (all s)))
 
 -- what is true of each ticket
 abbrev pub IsFair : List (List ℕ) → ℕ → Ticket → Type 0
@@ -107,8 +107,8 @@ in_share n senders s (x ∷ xs) all =
 pub all_fair : (wires : List (List ℕ)) (senders : ℕ) (ts : List Ticket) → CarriesShares wires senders ts → All (IsFair wires senders) ts
 all_fair wires senders ts carries = each_carries (FairAt wires senders) ts (λ s. subst (All (FairAt wires senders s)) (sym (carries s))
     (All-map (FairAt wires senders s) (parsed_at wires) (share_of (length wires) senders s)
-        (λ i d lt. let h = in_share (length wires) senders s (range_with_len 0 (length wires))
-        (below_count (length wires)) i d lt in (h.0, h.1, refl))))
+    (λ i d lt. let h = in_share (length wires) senders s (range_with_len 0 (length wires))
+    (below_count (length wires)) i d lt in (h.0, h.1, refl))))
 
 -- the positions of a sender's tickets are its share
 positions_carried : (ts : List Ticket) → positions_in ts ≡ map (λ (x : ℕ × Parsed). x.0) (map carried ts)
@@ -165,8 +165,8 @@ times_filter f p (x ∷ xs) passes =
     let others = times_filter f p xs passes in
     dite (ℕ_discrete x p)
     (λ is. let e : f x ≡ true = ap f is
-        ∙ passes in ap (λ (b : Bool). times p (cond b (x ∷ filter f xs) (filter f xs))) e
-        ∙ times_same x p (filter f xs) is ∙ ap (λ (k : ℕ). 1 + k) others ∙ sym (times_same x p xs is))
+    ∙ passes in ap (λ (b : Bool). times p (cond b (x ∷ filter f xs) (filter f xs))) e
+    ∙ times_same x p (filter f xs) is ∙ ap (λ (k : ℕ). 1 + k) others ∙ sym (times_same x p xs is))
     (λ not. times_dropped x p (filter f xs) (f x) not ∙ others ∙ sym (times_other x p xs not))
 
 times_of : (s p : ℕ) (ts : List Ticket) → All (λ (t : Ticket). t.position ≡ p → t.sender ≡ s) ts → times p (positions_in ts) ≡ times p (positions_in (of ts s))
@@ -176,9 +176,9 @@ times_of s p (t ∷ ts) all =
     dite (ℕ_discrete t.sender s)
     (λ is. ap (λ (k : ℕ). cond (eqb t.position p) 1 0 + k) others ∙ sym (ap (λ (b : Bool). times p (positions_in (cond b (t ∷ of ts s) (of ts s)))) (eq-eqb t.sender s is)))
     (λ not. times_other t.position p (positions_in ts)
-        (λ is. not (All-head (λ (t : Ticket). t.position ≡ p → t.sender ≡ s) t ts all is)) ∙ others
-        ∙ sym (ap (λ (b : Bool). times p (positions_in (cond b (t ∷ of ts s) (of ts s))))
-        (ne_eqb t.sender s not)))
+    (λ is. not (All-head (λ (t : Ticket). t.position ≡ p → t.sender ≡ s) t ts all is)) ∙ others
+    ∙ sym (ap (λ (b : Bool). times p (positions_in (cond b (t ∷ of ts s) (of ts s))))
+    (ne_eqb t.sender s not)))
 
 -- each position has one ticket
 one_ticket : (wires : List (List ℕ)) (senders : ℕ) (ts : List Ticket) → CarriesShares wires senders ts → (p : ℕ) → p < length wires → times p (positions_in ts) ≡ 1
@@ -186,8 +186,8 @@ one_ticket wires senders ts carries p lt =
     let s = p % senders in
     let fair = all_fair wires senders ts carries in
     times_of s p ts (λ i d below is. sym (fair i d below).1 ∙ ap (λ (k : ℕ). k % senders) is)
-        ∙ ap (times p) (positions_of wires senders ts carries s)
-        ∙ times_filter (λ q. eqb (q % senders) s) p (range_with_len 0 (length wires)) (eq-eqb s s refl)
+    ∙ ap (times p) (positions_of wires senders ts carries s)
+    ∙ times_filter (λ q. eqb (q % senders) s) p (range_with_len 0 (length wires)) (eq-eqb s s refl)
     ∙ times_range p 0 (length wires) (omega arith) (omega (arith, lt))
 
 positions_arrived : (ts : List Ticket) → positions (map arrival_of ts) ≡ positions_in ts
@@ -252,8 +252,8 @@ pub all_lead : (wires : List (List ℕ)) (senders : ℕ) (ts : List Ticket) (pla
 all_lead wires senders ts places carries all p lt =
     let one = one_ticket wires senders ts carries p lt in
     let leads : LeadsTo places ts p = standing p ts (LeadsTo places ts p) (omega (arith, one))
-        (λ k t below at is. subst (LeadsTo places ts) (ap (λ (u : Ticket). u.position) at ∙ is) (all k t below))
-        in (
+    (λ k t below at is. subst (LeadsTo places ts) (ap (λ (u : Ticket). u.position) at ∙ is) (all k t below))
+    in (
       leads.0,
       λ d.
           let fair = all_fair wires senders ts carries (place_of places p) d leads.0 in
@@ -383,6 +383,6 @@ pub left_carries : (intake : Intake) (wires : List (List ℕ)) (senders made : �
     → CarriesShares wires senders left
 left_carries intake wires senders made seats done sent taken left some numbered all long each none is closed others =
     carries_shares intake wires senders done taken left some
-        (done_length seats done sent senders numbered all long) none
-        (shares_sent intake wires senders seats done sent numbered all long each) closed
-        (λ s le. others s (omega (arith, is, le)))
+    (done_length seats done sent senders numbered all long) none
+    (shares_sent intake wires senders seats done sent numbered all long each) closed
+    (λ s le. others s (omega (arith, is, le)))

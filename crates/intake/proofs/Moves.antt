@@ -81,10 +81,10 @@ pushes n pass v x own place items views room r at =
     let long : r.taken ++ (items ++ x ∷ []) ≡ m = sym (append_assoc r.taken items (x ∷ [])) in
     let mine : (r.seat s ≡ Some pass) × (of l s ≡ v.sent) = subst (λ (y : Option ℕ). IfSome y (λ z. (r.seat z ≡ Some pass) × (of l z ≡ v.sent))) own k.sends in
     let joined : (u : PassView) → All
-        (λ (y : ℕ × List Ticket). (r.seat y.0 ≡ None) × (y.0 < r.made) × (of l y.0 ≡ y.1)) u.joined
-        → All (λ (y : ℕ × List Ticket). (r.seat y.0 ≡ None) × (y.0 < r.made) × (of m y.0 ≡ y.1)) u.joined = λ u
-        all. All-weaker (λ (y : ℕ × List Ticket). (r.seat y.0 ≡ None) × (y.0 < r.made) × (of l y.0 ≡ y.1))
-        (λ (y : ℕ × List Ticket). (r.seat y.0 ≡ None) × (y.0 < r.made) × (of m y.0 ≡ y.1))
+    (λ (y : ℕ × List Ticket). (r.seat y.0 ≡ None) × (y.0 < r.made) × (of l y.0 ≡ y.1)) u.joined
+    → All (λ (y : ℕ × List Ticket). (r.seat y.0 ≡ None) × (y.0 < r.made) × (of m y.0 ≡ y.1)) u.joined = λ u
+    all. All-weaker (λ (y : ℕ × List Ticket). (r.seat y.0 ≡ None) × (y.0 < r.made) × (of l y.0 ≡ y.1))
+    (λ (y : ℕ × List Ticket). (r.seat y.0 ≡ None) × (y.0 < r.made) × (of m y.0 ≡ y.1))
     (λ y h. (h.0, h.1, of_other l x y.0 (λ is. seat_is_made (r.seat s) pass mine.0 (ap r.seat is ∙ h.0)) ∙ h.2)) u.joined all in
     let fits : (j : ℕ) (u : PassView) → get_elem? (set views pass w) j ≡ some u → Fits r.reader r.made r.taken m r.seat j u =
     each_after_set (Fits r.reader r.made r.taken m r.seat) views pass w
@@ -110,9 +110,9 @@ pushes n pass v x own place items views room r at =
         unmade = λ z le. let h = r.unmade z le in (h.0, ap (λ (t : List Ticket). of t z) long ∙ (of_other l x z (λ is. seat_is_made (r.seat s) pass mine.0 (ap r.seat is ∙ h.0)) ∙ h.1));
         placed = λ z. subst (λ (t : List Ticket). ArePlacedFrom 0 (of t z)) (sym long) (dite (ℕ_discrete s z)
             (λ is. subst (ArePlacedFrom 0) (sym (of_same l x z is))
-                (placed_more 0 (of l z) x (r.placed z)
-                (let q : length (of l z) ≡ length v.sent = ap (λ (y : ℕ). length (of l y)) (sym is)
-                ∙ ap length mine.1 in omega arith)))
+            (placed_more 0 (of l z) x (r.placed z)
+            (let q : length (of l z) ≡ length v.sent = ap (λ (y : ℕ). length (of l y)) (sym is)
+            ∙ ap length mine.1 in omega arith)))
             (λ not. subst (ArePlacedFrom 0) (sym (of_other l x z not)) (r.placed z)));
       },
       refl,
@@ -172,13 +172,13 @@ forks pass v takes items views r at =
     let was_none = r.unmade r.made (omega arith) in
     let F : ℕ → PassView → Type 0 = Fits r.reader (suc r.made) r.taken l seat in
     let sends : (j : ℕ) (u : PassView) → IfSome u.sender (λ z. (r.seat z ≡ Some j) × (of l z ≡ u.sent))
-        → IfSome u.sender (λ z. (seat z ≡ Some j) × (of l z ≡ u.sent)) = λ j u sends. IfSome_then u.sender sends
-        (λ z h. (before z (λ is. seat_is_made (r.seat z) j h.0 (ap r.seat is ∙ was_none.0)) ∙ h.0, h.1)) in
+    → IfSome u.sender (λ z. (seat z ≡ Some j) × (of l z ≡ u.sent)) = λ j u sends. IfSome_then u.sender sends
+    (λ z h. (before z (λ is. seat_is_made (r.seat z) j h.0 (ap r.seat is ∙ was_none.0)) ∙ h.0, h.1)) in
     let joined : (u : PassView) → All
-        (λ (y : ℕ × List Ticket). (r.seat y.0 ≡ None) × (y.0 < r.made) × (of l y.0 ≡ y.1)) u.joined
-        → All (λ (y : ℕ × List Ticket). (seat y.0 ≡ None) × (y.0 < suc r.made) × (of l y.0 ≡ y.1)) u.joined =
-        λ u. All-weaker (λ (y : ℕ × List Ticket). (r.seat y.0 ≡ None) × (y.0 < r.made) × (of l y.0 ≡ y.1))
-        (λ (y : ℕ × List Ticket). (seat y.0 ≡ None) × (y.0 < suc r.made) × (of l y.0 ≡ y.1))
+    (λ (y : ℕ × List Ticket). (r.seat y.0 ≡ None) × (y.0 < r.made) × (of l y.0 ≡ y.1)) u.joined
+    → All (λ (y : ℕ × List Ticket). (seat y.0 ≡ None) × (y.0 < suc r.made) × (of l y.0 ≡ y.1)) u.joined =
+    λ u. All-weaker (λ (y : ℕ × List Ticket). (r.seat y.0 ≡ None) × (y.0 < r.made) × (of l y.0 ≡ y.1))
+    (λ (y : ℕ × List Ticket). (seat y.0 ≡ None) × (y.0 < suc r.made) × (of l y.0 ≡ y.1))
     (λ y h. (before y.0 (λ is. omega (arith, h.1, is)) ∙ h.0, omega (arith, h.1), h.2)) u.joined in
     let old : (j : ℕ) (u : PassView) → get_elem? vs j ≡ some u → F j u = each_after_set F views pass (with_seat_made v)
     (record { taker = λ _. (t.0, ap suc t.1, t.2); sends = sends pass v k.sends; joined = joined v k.joined })
@@ -200,9 +200,9 @@ merges pass v other w s own items views r at apart there =
     let k = r.fits pass v at in
     let vs : List PassView = set views pass (with_joined v w) in
     let old_w : get_elem? views other
-        ≡ some w = ⊎_elim (λ (t : (other ≡ pass) × (with_joined v w ≡ w)). absurd (apart t.0))
-        (λ (t : (other ≢ pass) × (get_elem? views other ≡ some w)). t.1)
-        (at_set views pass other (with_joined v w) w there) in
+    ≡ some w = ⊎_elim (λ (t : (other ≡ pass) × (with_joined v w ≡ w)). absurd (apart t.0))
+    (λ (t : (other ≢ pass) × (get_elem? views other ≡ some w)). t.1)
+    (at_set views pass other (with_joined v w) w there) in
     let q = r.fits other w old_w in
     let mine : (r.seat s ≡ Some other) × (of l s ≡ w.sent) = subst (λ (y : Option ℕ). IfSome y (λ z. (r.seat z ≡ Some other) × (of l z ≡ w.sent))) own q.sends in
     let below : s < r.made = dite (dec_le r.made s) (λ le. absurd (seat_is_made (r.seat s) other mine.0 (r.unmade s le).0)) (λ not. grind (arith, not)) in
@@ -213,15 +213,18 @@ merges pass v other w s own items views r at apart there =
     let F : ℕ → PassView → Type 0 = Fits r.reader r.made r.taken l seat in
     let P : ℕ × List Ticket → Type 0 = λ y. (seat y.0 ≡ None) × (y.0 < r.made) × (of l y.0 ≡ y.1) in
     let sends : (j : ℕ) (u : PassView) → j ≢ other
-        → IfSome u.sender (λ z. (r.seat z ≡ Some j) × (of l z ≡ u.sent))
-        → IfSome u.sender (λ z. (seat z ≡ Some j) × (of l z ≡ u.sent)) = λ j u ne sends. IfSome_then u.sender
-        sends (λ z h. (before z (λ is. ne (seated_apart (r.seat z) j other h.0 (ap r.seat is ∙ mine.0)))
-        ∙ h.0, h.1)) in
+    → IfSome u.sender (λ z. (r.seat z ≡ Some j) × (of l z ≡ u.sent))
+    → IfSome u.sender (λ z. (seat z ≡ Some j) × (of l z ≡ u.sent)) = λ j u ne sends. IfSome_then u.sender
+    sends (λ z h. (
+      before z (λ is. ne (seated_apart (r.seat z) j other h.0 (ap r.seat is ∙ mine.0)))
+          ∙ h.0,
+      h.1,
+    )) in
     let joined : (u : PassView) → All
-        (λ (y : ℕ × List Ticket). (r.seat y.0 ≡ None) × (y.0 < r.made) × (of l y.0 ≡ y.1)) u.joined
-        → All P u.joined = λ u. All-weaker
-        (λ (y : ℕ × List Ticket). (r.seat y.0 ≡ None) × (y.0 < r.made) × (of l y.0 ≡ y.1)) P
-        (λ y h. (still y.0 h.0, h.1, h.2)) u.joined in
+    (λ (y : ℕ × List Ticket). (r.seat y.0 ≡ None) × (y.0 < r.made) × (of l y.0 ≡ y.1)) u.joined
+    → All P u.joined = λ u. All-weaker
+    (λ (y : ℕ × List Ticket). (r.seat y.0 ≡ None) × (y.0 < r.made) × (of l y.0 ≡ y.1)) P
+    (λ y h. (still y.0 h.0, h.1, h.2)) u.joined in
     let one : All P (sender_with w.sender w.sent) = subst (λ (y : Option ℕ). All P (sender_with y w.sent)) (sym own) (All-cons P (s, w.sent) [] (gone, below, mine.1) (All-nil P)) in
     let mid : (j : ℕ) (u : PassView) → j ≢ other → get_elem? vs j ≡ some u → F j u = λ j u away e.
     each_after_set (λ j u. j ≢ other → F j u) views pass (with_joined v w)
@@ -262,8 +265,8 @@ of_seats tickets [] all = All-nil _
 of_seats tickets (s ∷ ss) all =
     let P : ℕ × List Ticket → Type 0 = λ k. of tickets k.0 ≡ k.1 in
     All-cons (λ (s : SendSeat). of tickets (sender_of s) ≡ sent_by s) s ss
-        (All-head P (sender_and_sent s) (map sender_and_sent ss) all)
-        (of_seats tickets ss (All-tail P (sender_and_sent s) (map sender_and_sent ss) all))
+    (All-head P (sender_and_sent s) (map sender_and_sent ss) all)
+    (of_seats tickets ss (All-tail P (sender_and_sent s) (map sender_and_sent ss) all))
 
 -- the ring is empty, and all seats are joined
 pub all_left : (v : PassView) (tickets : List Ticket) (seats : List SendSeat) (made : ℕ) → v.taken ≡ tickets → v.joined ≡ map sender_and_sent seats → v.made ≡ made → Held 0 (Balances v)

@@ -44,8 +44,8 @@ native_fits : (n : ℕ) (key : Key) (outer keys : List Key) (call : Call) (accou
 native_fits n key outer keys call accounts units c range g =
     either (EndingFits n) (nat_lt units NATIVE_UNITS) _ _ tt
     (or_error_fits n (units - NATIVE_UNITS) c (height outer) (native_row key keys accounts call)
-        (λ after h. kept_given n (is_listed_writable call.metas) accounts after g
-        (native_row_keeps n key keys accounts call after (record { count = g.count; range = range }) h)))
+    (λ after h. kept_given n (is_listed_writable call.metas) accounts after g
+    (native_row_keeps n key keys accounts call after (record { count = g.count; range = range }) h)))
 
 -- where a frame ends at once, its end fits
 abbrev pub DoneFits : ℕ → Next → Type 0

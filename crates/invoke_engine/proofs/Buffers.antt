@@ -48,8 +48,8 @@ native_writes outer keys call accounts units c listed =
     either (Writes keys accounts call.metas) (nat_lt units NATIVE_UNITS) _ _ tt
     (or_error_writes keys accounts call.metas (height outer) (native_row LOADER_PROGRAM keys accounts call)
     (λ after h. only_the_authority keys accounts call.metas call.input after listed.count
-        (in_range (length keys) (length accounts) call.metas listed.count listed.range)
-        (refuse_ok by_loader _ after (sym (loader_row_is keys accounts call) ∙ h))))
+    (in_range (length keys) (length accounts) call.metas listed.count listed.range)
+    (refuse_ok by_loader _ after (sym (loader_row_is keys accounts call) ∙ h))))
 
 crowded_writes : (keys : List Key) (accounts : List Account) (metas : List Meta) (s : Fixed) (key : Key)
     (outer : List Key) (units : ℕ) (c : Carried)

@@ -70,9 +70,12 @@ settled_foreign : (n : ℕ) (f : Running) (after : List Account) → AreListed n
 settled_foreign n f after listed h =
     let from : Settles f after = settles f after h in
     let count : length after ≡ length f.before = back_count _ _ _ _ after from.taken in
-    record { count = count; kept = AreForeignKept-listed_rules f.program f.metas f.before after count
-        (in_range n (length f.before) f.metas listed.count listed.range) (back_others _ _ _ _ after from.taken)
-        from.rules }
+    record {
+      count = count;
+      kept = AreForeignKept-listed_rules f.program f.metas f.before after count
+          (in_range n (length f.before) f.metas listed.count listed.range) (back_others _ _ _ _ after from.taken)
+          from.rules;
+    }
 
 -- what a turn of a frame leaves of its accounts
 abbrev TurnForeign : ℕ → Running → Turn → Type 0
@@ -117,8 +120,8 @@ stop_foreign setting keys outer f c (Some (Faulted fault)) listed = tt
 stop_foreign setting keys outer f c (Some (Helper number)) listed =
     either (TurnForeign (length keys) f) (number == invoke_call) (call_turn setting keys outer f c) (serve_turn setting outer f c number)
     (calling_foreign outer keys f c setting.height (requested f).units
-        (called setting.height keys outer f c.trace (requested f).answer) listed
-        (λ callee k. called_from setting.height keys outer f c.trace (requested f).answer callee k))
+    (called setting.height keys outer f c.trace (requested f).answer) listed
+    (λ callee k. called_from setting.height keys outer f c.trace (requested f).answer callee k))
     (serving_foreign (length keys) outer f c (served setting outer f c number).units (served setting outer f c number).answer)
 
 run_foreign : (setting : Setting) (keys outer : List Key) (f : Running) (c : Carried) (o : Option State)
@@ -187,16 +190,22 @@ native_row_foreign n key keys accounts call after listed h = by_tests (same_key 
     by_system_program : same_key key SYSTEM_PROGRAM ≡ true → system_row keys accounts call.metas call.input ≡ Ok after → Foreign (key ∷ []) accounts after
     by_system_program is g =
         let own : Foreign (system_key ∷ []) accounts after =
-            record { count = (system_ends keys accounts call.metas call.input after g).count; kept =
-            system_foreign keys accounts call.metas call.input after range g } in
+        record {
+          count = (system_ends keys accounts call.metas call.input after g).count;
+          kept =
+              system_foreign keys accounts call.metas call.input after range g;
+        } in
         let same : key ≡ system_key = same_key-true key SYSTEM_PROGRAM is in
         subst (λ (k : Key). Foreign (k ∷ []) accounts after) (sym same) own
 
     by_loader_program : same_key key LOADER_PROGRAM ≡ true → loader_row keys accounts call.metas call.input ≡ Ok after → Foreign (key ∷ []) accounts after
     by_loader_program is g =
         let own : Foreign (LOADER_PROGRAM ∷ []) accounts after =
-            record { count = (loader_ends keys accounts call.metas call.input after g).count; kept =
-            loader_foreign keys accounts call.metas call.input after range g } in
+        record {
+          count = (loader_ends keys accounts call.metas call.input after g).count;
+          kept =
+              loader_foreign keys accounts call.metas call.input after range g;
+        } in
         subst (λ (k : Key). Foreign (k ∷ []) accounts after) (sym (same_key-true key LOADER_PROGRAM is)) own
 
     by_tests : (a b : Bool) → same_key key SYSTEM_PROGRAM ≡ a → same_key key LOADER_PROGRAM ≡ b
@@ -314,12 +323,12 @@ follow_foreign n s outer goo calls f (Calls g d callee units) all listed k =
     let program : Key = key_at s.keys callee.call.program in
     let there : AreListed n callee.call.metas callee.accounts = record { count = k.2.count ∙ listed.count; range = k.3 } in
     let its : EndingForeign (program ∷ called_next inner calls next) callee.accounts e.result = after_foreign n
-        inner goo calls program callee.call.metas callee.accounts next all there
-        (begun_foreign n s inner callee.call callee.accounts units d there) in
+    inner goo calls program callee.call.metas callee.accounts next all there
+    (begun_foreign n s inner callee.call callee.accounts units d there) in
     let back : ReturnForeign f.program f.metas e.result (returned outer g e) = subst
-        (λ (p : Key). ReturnForeign p f.metas e.result (returned outer g e)) k.0
-        (subst (λ (ms : List Meta). ReturnForeign g.program ms e.result (returned outer g e)) k.1
-        (returned_foreign outer g e)) in
+    (λ (p : Key). ReturnForeign p f.metas e.result (returned outer g e)) k.0
+    (subst (λ (ms : List Meta). ReturnForeign g.program ms e.result (returned outer g e)) k.1
+    (returned_foreign outer g e)) in
     resumed_foreign n outer goo calls all f.program program f.metas f.before callee.accounts listed k.2 (called_next inner calls next) e.result (returned outer g e) its back
 follow_foreign n s outer goo calls f (Leaves e) all listed k = k
 
@@ -336,8 +345,8 @@ frame_result : (s : Fixed) (outer : List Key) (call : Call) (accounts : List Acc
     (frame s outer call accounts units c).result
 frame_result s outer call accounts units c listed =
     after_foreign (length s.keys) outer (go s) (called_in s) (key_at s.keys call.program) call.metas accounts
-        (begun s outer call accounts units c) (λ o f d here. within_foreign s (suc f.machine.units) o f d here)
-        listed
+    (begun s outer call accounts units c) (λ o f d here. within_foreign s (suc f.machine.units) o f d here)
+    listed
     (begun_foreign (length s.keys) s outer call accounts units c listed)
 
 -- a frame that ends well keeps what is owned by programs that do not run in it
@@ -356,8 +365,12 @@ pub instruction_foreign : (s : Fixed) (call : Call) (accounts : List Account) (u
 instruction_foreign s call accounts units trace log listed = by_test (nat_le max_trace trace)
   where
     by_test : (b : Bool) → IfOk (if b then
-        record { units = units; carried = nothing_returned trace log; result = Err
-        (error_of 1 (plainly TraceTooLong)) } else frame s [] call accounts units
+        record {
+          units = units;
+          carried = nothing_returned trace log;
+          result = Err
+              (error_of 1 (plainly TraceTooLong));
+        } else frame s [] call accounts units
         (nothing_returned trace log)).result
         (λ after. AreForeignKept (if b then [] else programs_of_frame s [] call accounts units
         (nothing_returned trace log)) accounts after)

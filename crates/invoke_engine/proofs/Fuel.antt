@@ -163,8 +163,8 @@ pub instruction_units : (s : Fixed) (call : Call) (accounts : List Account) (uni
 instruction_units s call accounts units trace log =
     either (λ (e : Ending). e.units ≤ units) (nat_le max_trace trace) _ _ (omega arith)
     (after_units [] (go s) units (begun s [] call accounts units (nothing_returned trace log))
-        (λ outer f c going. within_units s (suc f.machine.units) outer f c going)
-        (begun_takes s [] call accounts units (nothing_returned trace log)))
+    (λ outer f c going. within_units s (suc f.machine.units) outer f c going)
+    (begun_takes s [] call accounts units (nothing_returned trace log)))
 
 -- two are the same below so many units
 abbrev SameBelow : ℕ → (List Key → Running → Carried → Ending) → (List Key → Running → Carried → Ending) → Type 0

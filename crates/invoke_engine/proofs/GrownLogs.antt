@@ -50,7 +50,7 @@ invoke_line-written : (program : Key) (height : ℕ) → IsLine (invoke_line pro
 invoke_line-written program height =
     program_line-written program (codes " invoke [" ++ decimal height ++ codes "]")
     (IsUtf8-append (codes " invoke [") (decimal height ++ codes "]") (words_text (codes " invoke [") refl)
-        (IsUtf8-append (decimal height) (codes "]") (decimal_text height) (words_text (codes "]") refl)))
+    (IsUtf8-append (decimal height) (codes "]") (decimal_text height) (words_text (codes "]") refl)))
 
 consumed_line-written : (program : Key) (used had : ℕ) → IsLine (consumed_line program used had)
 consumed_line-written program used had =
@@ -59,8 +59,8 @@ consumed_line-written program used had =
     (IsUtf8-append (of ++ decimal had) (codes " compute units")
     (IsUtf8-append of (decimal had)
     (IsUtf8-append (codes " consumed " ++ decimal used) (codes " of ")
-        (IsUtf8-append (codes " consumed ") (decimal used) (words_text (codes " consumed ") refl)
-        (decimal_text used)) (words_text (codes " of ") refl)) (decimal_text had))
+    (IsUtf8-append (codes " consumed ") (decimal used) (words_text (codes " consumed ") refl)
+    (decimal_text used)) (words_text (codes " of ") refl)) (decimal_text had))
     (words_text (codes " compute units") refl))
 
 last-written : (program : Key) (result : Result (List Account) InstructionError) → IsLine (last_line program result)
@@ -181,8 +181,8 @@ module _ (before : Log) where
   unfolding begun
   begun-grows s outer call accounts units c grown =
       entering-grows s outer (key_at s.keys call.program) call accounts units
-          (started (key_at s.keys call.program) (height outer) c)
-          (started-grows (key_at s.keys call.program) (height outer) c grown)
+      (started (key_at s.keys call.program) (height outer) c)
+      (started-grows (key_at s.keys call.program) (height outer) c grown)
 
   -- whole frames
   abbrev Grow : (List Key → Running → Carried → Ending) → Type 0
@@ -210,9 +210,13 @@ module _ (before : Log) where
   pub log_grows : (s : Fixed) (call : Call) (accounts : List Account) (units trace : ℕ) (log : Log) → HasGrown before log → HasGrown before (instruction s call accounts units trace log).carried.log
   log_grows s call accounts units trace log grown =
       either (λ (e : Ending). HasGrown before e.carried.log) (nat_le max_trace trace)
-          (record { units = units; carried = nothing_returned trace log; result = Err
-          (error_of 1 (plainly TraceTooLong)) }) (frame s [] call accounts units (nothing_returned trace log))
-          grown
+      (record {
+        units = units;
+        carried = nothing_returned trace log;
+        result = Err
+            (error_of 1 (plainly TraceTooLong));
+      }) (frame s [] call accounts units (nothing_returned trace log))
+      grown
       (after-grows [] (go s) (begun s [] call accounts units (nothing_returned trace log)) (λ outer f c. within-grows s (suc f.machine.units) outer f c)
       (begun-grows s [] call accounts units (nothing_returned trace log) grown))
 

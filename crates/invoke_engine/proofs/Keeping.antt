@@ -131,8 +131,8 @@ pub settled_keeps : (n : ℕ) (f : Running) (after : List Account) → AreListed
 settled_keeps n f after listed h =
     let from : Settles f after = settles f after h in
     AreKeptBy-listed_rules f.program f.metas f.before after (back_count _ _ _ _ after from.taken)
-        (in_range n (length f.before) f.metas listed.count listed.range) (back_others _ _ _ _ after from.taken)
-        from.rules
+    (in_range n (length f.before) f.metas listed.count listed.range) (back_others _ _ _ _ after from.taken)
+    from.rules
 
 -- a good exit leaves the accounts so
 pub left_settled : (f : Running) (r0 : ℕ) (after : List Account) → left f r0 ≡ Ok after → lawful_accounts f ≡ Ok after

@@ -100,8 +100,8 @@ stop_keeps setting keys outer f c (Some (Faulted fault)) listed = tt
 stop_keeps setting keys outer f c (Some (Helper number)) listed =
     either (TurnKeeps (length keys) f) (number == invoke_call) (call_turn setting keys outer f c) (serve_turn setting outer f c number)
     (calling_keeps outer keys f c setting.height (requested f).units
-        (called setting.height keys outer f c.trace (requested f).answer) listed
-        (λ callee k. called_from setting.height keys outer f c.trace (requested f).answer callee k))
+    (called setting.height keys outer f c.trace (requested f).answer) listed
+    (λ callee k. called_from setting.height keys outer f c.trace (requested f).answer callee k))
     (serving_keeps (length keys) outer f c (served setting outer f c number).units (served setting outer f c number).answer)
 
 run_keeps : (setting : Setting) (keys outer : List Key) (f : Running) (c : Carried) (o : Option State)
@@ -267,8 +267,8 @@ stop_rules setting keys outer f c (Some (Faulted fault)) = tt
 stop_rules setting keys outer f c (Some (Helper number)) =
     either (TurnRules f) (number == invoke_call) (call_turn setting keys outer f c) (serve_turn setting outer f c number)
     (calling_rules outer keys f c setting.height (requested f).units
-        (called setting.height keys outer f c.trace (requested f).answer)
-        (λ callee k. called_from setting.height keys outer f c.trace (requested f).answer callee k))
+    (called setting.height keys outer f c.trace (requested f).answer)
+    (λ callee k. called_from setting.height keys outer f c.trace (requested f).answer callee k))
     (serving_rules outer f c (served setting outer f c number).units (served setting outer f c number).answer)
 
 run_rules : (setting : Setting) (keys outer : List Key) (f : Running) (c : Carried) (o : Option State) → TurnRules f (run_to setting keys outer f c o)

@@ -163,12 +163,12 @@ next_fits n (Done e) h k = k
 
 pub step_begun : (s : Fixed) (fs : List Running) (f : Running) (c : Carried) (g : Running) (d : Carried) (callee : Callee) (left : ℕ) (gs : List Running) (next : Next) →
     gs ≡ g ∷ fs → Stands s fs (Runs f c) → Works s (programs_of fs) f c (Calls g d callee left)
-        → begun s (programs_of gs) callee.call callee.accounts left d ≡ next → RunsFit (length s.keys) next
-        → Steps s fs (Runs f c) gs next
+    → begun s (programs_of gs) callee.call callee.accounts left d ≡ next → RunsFit (length s.keys) next
+    → Steps s fs (Runs f c) gs next
 step_begun s fs f c g d callee left gs next same h w begins fits =
     let ends : DoneFits (length s.keys) next = subst (DoneFits (length s.keys)) begins
-        (begun_fits (length s.keys) s (programs_of gs) callee.call callee.accounts left d w.fits.call.range
-        w.fits.accounts) in
+    (begun_fits (length s.keys) s (programs_of gs) callee.call callee.accounts left d w.fits.call.range
+    w.fits.accounts) in
     subst (λ (hs : List Running). begun s (programs_of hs) callee.call callee.accounts left d ≡ next → Steps s fs (Runs f c) hs next) (sym same)
     (λ (k : begun s (programs_of (g ∷ fs)) callee.call callee.accounts left d ≡ next). step_calls s fs f c g d callee left next h w k (next_fits (length s.keys) next fits ends)) begins
 
@@ -183,17 +183,17 @@ leaves_at s fs gs f c g d e same h w t =
 
 pub calls_at : (s : Fixed) (fs gs hs : List Running) (f : Running) (c : Carried) (g : Running) (d : Carried) (caller : Running) (e : Carried) (callee : Callee) (left : ℕ) (next : Next) →
     gs ≡ fs → Stands s fs (Runs f c) → Working s (programs_of gs) f c g d
-        → turn s.setting s.keys (programs_of gs) g d ≡ Calls caller e callee left → hs ≡ caller ∷ gs
-        → begun s (programs_of hs) callee.call callee.accounts left e ≡ next → RunsFit (length s.keys) next
-        → Steps s fs (Runs f c) hs next
+    → turn s.setting s.keys (programs_of gs) g d ≡ Calls caller e callee left → hs ≡ caller ∷ gs
+    → begun s (programs_of hs) callee.call callee.accounts left e ≡ next → RunsFit (length s.keys) next
+    → Steps s fs (Runs f c) hs next
 calls_at s fs gs hs f c g d caller e callee left next same h w t pushed begins fits =
     subst (λ (xs : List Running). Stands s xs (Runs f c) → Steps s xs (Runs f c) hs next) same
     (λ (k : Stands s gs (Runs f c)). step_begun s gs f c caller e callee left hs next pushed k (working_last s (programs_of gs) f c g d (Calls caller e callee left) w t) begins fits) h
 
 pub step_resumed : (s : Fixed) (stack : List Running) (now : NextValue) (c : Carried) (f : Running) (fs : List Running) (ending : EndingValue) (next : Next) →
     Stands s stack (next_as now c) → stack ≡ f ∷ fs → now ≡ DoneValue ending
-        → returned (programs_of fs) f (ending_as ending c) ≡ next → RunsFit (length s.keys) next
-        → Steps s stack (next_as now c) fs next
+    → returned (programs_of fs) f (ending_as ending c) ≡ next → RunsFit (length s.keys) next
+    → Steps s stack (next_as now c) fs next
 step_resumed s stack now c f fs ending next h same is r runs =
     let ends : DoneFits (length s.keys) next = subst (DoneFits (length s.keys)) r (returned_fits (length s.keys) (programs_of fs) f (ending_as ending c)) in
     let fits : NextFits (length s.keys) (returned (programs_of fs) f (ending_as ending c)) = subst (NextFits (length s.keys)) (sym r) (next_fits (length s.keys) next runs ends) in
@@ -211,8 +211,8 @@ end_of_all s stack now c ending total none is h =
 
 pub first_stands : (s : Fixed) (stack : List Running) (call : Call) (accounts : List Account) (units : ℕ) (c : Carried) (next : Next) →
     stack ≡ [] → 1 ≤ s.setting.height → AreInRange (length s.keys) call.metas
-        → AreAccountsOf (length s.keys) accounts → begun s (programs_of stack) call accounts units c ≡ next
-        → RunsFit (length s.keys) next → Stands s stack next
+    → AreAccountsOf (length s.keys) accounts → begun s (programs_of stack) call accounts units c ≡ next
+    → RunsFit (length s.keys) next → Stands s stack next
 first_stands s stack call accounts units c next none some range given begins fits =
     let empty : length stack ≡ 0 = ap length none in
     record {
@@ -230,8 +230,13 @@ first_ending s stack call accounts units c next none begins =
     (λ (k : begun s [] call accounts units c ≡ next). ap (after [] (go s)) (sym k)) begins
 
 pub carried_first : (trace : ℕ) (kept : List ℕ) (log given : Log) → kept ≡ [] → log ≡ given
-    → (let c : Carried = record { trace = trace; returned = kept; keeper = SYSTEM_PROGRAM; log = log;
-    stopped_at = None } in c) ≡ nothing_returned trace given
+    → (let c : Carried = record {
+      trace = trace;
+      returned = kept;
+      keeper = SYSTEM_PROGRAM;
+      log = log;
+      stopped_at = None;
+    } in c) ≡ nothing_returned trace given
 carried_first trace kept log given h k = rw (h, k) refl
 
 -- what a run answers, by the code's own first values

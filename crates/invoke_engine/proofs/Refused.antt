@@ -173,9 +173,9 @@ unfolding lawful_accounts
 lawful_fits f short =
     bind_refuses Fits (refuse by_length (back f.machine.context.memory.input.bytes f.start f.before f.metas)) _
     (refuse_fits by_length (λ i. i < length f.metas)
-        (back f.machine.context.memory.input.bytes f.start f.before f.metas)
-        (λ i below. small (length f.metas) i short below)
-        (back_within f.machine.context.memory.input.bytes f.start f.before f.metas))
+    (back f.machine.context.memory.input.bytes f.start f.before f.metas)
+    (λ i below. small (length f.metas) i short below)
+    (back_within f.machine.context.memory.input.bytes f.start f.before f.metas))
     (λ accounts taken. bind_refuses Fits (refuse by_rule (listed_rules f.program f.metas f.before accounts)) _
     (refuse_fits by_rule (NamesWithin (length f.metas)) (listed_rules f.program f.metas f.before accounts) (rule_fits (length f.metas) short) (listed_within f.program f.metas f.before accounts))
     (λ passed is. tt))
@@ -251,8 +251,8 @@ stop_fits setting keys outer f c (Some (Helper number)) short =
     either TurnFits (number == invoke_call) (call_turn setting keys outer f c) (serve_turn setting outer f c number)
     (calling_fits outer f c (requested f).units (called setting.height keys outer f c.trace (requested f).answer) short
     (called_fits setting.height keys outer f c.trace (requested f).answer
-        (λ request is. request-small (arguments_in f.machine.context.registers) f.machine.context.memory
-        f.program f.machine.units request is) short))
+    (λ request is. request-small (arguments_in f.machine.context.registers) f.machine.context.memory
+    f.program f.machine.units request is) short))
     (serving_fits outer f c (served setting outer f c number).units (served setting outer f c number).answer short)
 
 run_fits : (setting : Setting) (keys outer : List Key) (f : Running) (c : Carried) (o : Option State) → Short f → TurnFits (run_to setting keys outer f c o)
@@ -286,10 +286,10 @@ unfolding native_row
 native_row_fits key keys accounts call most =
     either (λ (r : Result (List Account) Stopped). IfErr r Fits) (same_key key SYSTEM_PROGRAM) _ _
     (refuse_fits by_system (SystemFits (length call.metas)) (system_row keys accounts call.metas call.input)
-        (system_fault_fits (length call.metas) most) (system_fits keys accounts call.metas call.input))
+    (system_fault_fits (length call.metas) most) (system_fits keys accounts call.metas call.input))
     (either (λ (r : Result (List Account) Stopped). IfErr r Fits) (same_key key LOADER_PROGRAM) _ _
     (refuse_fits by_loader (LoaderFits (length call.metas)) (loader_row keys accounts call.metas call.input)
-        (loader_fault_fits (length call.metas) most) (loader_fits keys accounts call.metas call.input)) tt)
+    (loader_fault_fits (length call.metas) most) (loader_fits keys accounts call.metas call.input)) tt)
 
 native_fits : (key : Key) (outer keys : List Key) (call : CallValue) (accounts : List Account) (units : ℕ)
     (c : Carried) → length call.metas ≤ max_metas
@@ -355,9 +355,13 @@ pub instruction-error : (s : Fixed) (call : CallValue) (accounts : List Account)
     → IfErr (instruction s call accounts units trace log).result (λ error. error.detail < 2 ^ 32)
 instruction-error s call accounts units trace log =
     either (λ (e : Ending). EndingFits e.result) (nat_le max_trace trace)
-        (record { units = units; carried = nothing_returned trace log; result = Err
-        (error_of 1 (plainly TraceTooLong)) }) (frame s [] call accounts units (nothing_returned trace log))
-        (lit< tt)
+    (record {
+      units = units;
+      carried = nothing_returned trace log;
+      result = Err
+          (error_of 1 (plainly TraceTooLong));
+    }) (frame s [] call accounts units (nothing_returned trace log))
+    (lit< tt)
     (after_fits [] (go s) (begun s [] call accounts units (nothing_returned trace log))
-        (λ outer f c short. within_fits s (suc f.machine.units) outer f c short)
-        (begun_fits s [] call accounts units (nothing_returned trace log)))
+    (λ outer f c short. within_fits s (suc f.machine.units) outer f c short)
+    (begun_fits s [] call accounts units (nothing_returned trace log)))

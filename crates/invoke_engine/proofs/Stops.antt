@@ -309,9 +309,13 @@ within_tells s (suc n) outer f c none = follow_tells s outer (within s n) (turn 
 pub instruction-tells : (s : Fixed) (call : CallValue) (accounts : List Account) (units trace : ℕ) (log : Log) → TellsStop (instruction s call accounts units trace log)
 instruction-tells s call accounts units trace log =
     either TellsStop (nat_le max_trace trace)
-        (record { units = units; carried = nothing_returned trace log; result = Err
-        (error_of 1 (plainly TraceTooLong)) }) (frame s [] call accounts units (nothing_returned trace log))
-        refl
+    (record {
+      units = units;
+      carried = nothing_returned trace log;
+      result = Err
+          (error_of 1 (plainly TraceTooLong));
+    }) (frame s [] call accounts units (nothing_returned trace log))
+    refl
     (after_tells [] (go s) (begun s [] call accounts units (nothing_returned trace log))
-        (λ outer f c none. within_tells s (suc f.machine.units) outer f c none)
-        (begun_tells s [] call accounts units (nothing_returned trace log) refl))
+    (λ outer f c none. within_tells s (suc f.machine.units) outer f c none)
+    (begun_tells s [] call accounts units (nothing_returned trace log) refl))

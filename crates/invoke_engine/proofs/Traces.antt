@@ -137,8 +137,12 @@ pub instruction_counts : (s : Fixed) (call : Call) (accounts : List Account) (un
 instruction_counts s call accounts units trace log few = by_test (nat_le max_trace trace) refl
   where
     by_test : (b : Bool) → nat_le max_trace trace ≡ b
-        → trace + 1 ≤ (if b then record { units = units; carried = nothing_returned trace log; result = Err
-        (error_of 1 (plainly TraceTooLong)) } else frame s [] call accounts units
+        → trace + 1 ≤ (if b then record {
+          units = units;
+          carried = nothing_returned trace log;
+          result = Err
+              (error_of 1 (plainly TraceTooLong));
+        } else frame s [] call accounts units
         (nothing_returned trace log)).carried.trace
     by_test true e = absurd (grind (arith, nat_tests))
     by_test false e =

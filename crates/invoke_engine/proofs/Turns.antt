@@ -46,8 +46,8 @@ pub turn_at : (setting : Setting) (keys outer : List Key) (f g : Running) (c : C
 unfolding turn
 turn_at setting keys outer f g c stop r =
     ap (run_to setting keys outer f c) r.steps
-        ∙ ap (at_stop setting keys outer (record f { machine = g.machine }) c) r.stop
-        ∙ ap (λ (x : Running). at_stop setting keys outer x c (Some stop)) (sym r.rest)
+    ∙ ap (at_stop setting keys outer (record f { machine = g.machine }) c) r.stop
+    ∙ ap (λ (x : Running). at_stop setting keys outer x c (Some stop)) (sym r.rest)
 
 chosen_true : (b : Bool) (x y : Turn) → b ≡ true → cond b x y ≡ x
 chosen_true true x y h = refl

@@ -41,8 +41,8 @@ items-ends one done values i d e below h = rw (drop_more values i d below, h) re
 -- the next is refused, or memory ran out
 pub items-stops : {X : Type 0} (one : Data → Read (List X)) (done : List X) (values : List Value) (i : ℕ) (d : Value) (e : JsonFault) (total : Read (List X)) → i < length values
     → MatchBool (is_json_memory e) (Unit {0}) (within (Item i) (one (view (get_or values i d))) ≡ Err e)
-        → joined done (items_in one i (map view (drop i values))) ≡ total
-        → MatchBool (is_json_memory e) (Unit {0}) (total ≡ Err e)
+    → joined done (items_in one i (map view (drop i values))) ≡ total
+    → MatchBool (is_json_memory e) (Unit {0}) (total ≡ Err e)
 items-stops {X = X} one done values i d e total below h so_far = by_case (is_json_memory e) h
   where
     by_case : (b : Bool) → MatchBool b (Unit {0}) (within (Item i) (one (view (get_or values i d))) ≡ Err e) → MatchBool b (Unit {0}) (total ≡ Err e)
@@ -65,8 +65,8 @@ pub item-more : {X : Type 0} (one : Data → Read (List X)) (done : List X) (val
     (v : Value) (inner outer : Read (List X)) (part : List X) (total : Read (List X)) → i < length values
     → v ≡ get_or values i v → Gives is_json_memory (λ x. x) inner (one (view v))
     → Gives is_json_memory (λ x. x) outer (within (Item i) inner) → outer ≡ Ok part
-        → joined done (items_in one i (map view (drop i values))) ≡ total
-        → joined (done ++ part) (items_in one (i + 1) (map view (drop (i + 1) values))) ≡ total
+    → joined done (items_in one i (map view (drop i values))) ≡ total
+    → joined (done ++ part) (items_in one (i + 1) (map view (drop (i + 1) values))) ≡ total
 item-more {X = X} one done values i v inner outer part total below is inside outside answered so_far =
     let gives = within_gives (Item i) inner outer (one (view v)) inside outside in
     let here : within (Item i) (one (view v)) ≡ Ok part = subst (λ (o : Read (List X)). Gives is_json_memory (λ x. x) o (within (Item i) (one (view v)))) answered gives in
@@ -78,11 +78,11 @@ pub item-stops : {X : Type 0} (one : Data → Read (List X)) (done : List X) (va
     (v : Value) (inner outer : Read (List X)) (e : JsonFault) (total : Read (List X)) → i < length values
     → v ≡ get_or values i v → Gives is_json_memory (λ x. x) inner (one (view v))
     → Gives is_json_memory (λ x. x) outer (within (Item i) inner) → outer ≡ Err e
-        → joined done (items_in one i (map view (drop i values))) ≡ total
-        → MatchBool (is_json_memory e) (Unit {0}) (total ≡ Err e)
+    → joined done (items_in one i (map view (drop i values))) ≡ total
+    → MatchBool (is_json_memory e) (Unit {0}) (total ≡ Err e)
 item-stops {X = X} one done values i v inner outer e total below is inside outside answered so_far =
     let gives = within_gives (Item i) inner outer (one (view v)) inside outside in
     let here : MatchBool (is_json_memory e) (Unit {0}) (within (Item i) (one (view v)) ≡ Err e) = subst
-        (λ (o : Read (List X)). Gives is_json_memory (λ x. x) o (within (Item i) (one (view v)))) answered gives
-        in
+    (λ (o : Read (List X)). Gives is_json_memory (λ x. x) o (within (Item i) (one (view v)))) answered gives
+    in
     items-stops one done values i v e total below (subst (λ (w : Value). MatchBool (is_json_memory e) (Unit {0}) (within (Item i) (one (view w)) ≡ Err e)) is here) so_far

@@ -112,8 +112,8 @@ lookup_again lookup fits are =
     let readonly_are = after_bytes _ (compact (length readonly)) readonly (after_bytes _ head (blob_bytes readonly) are refl) refl in
     let joined : table ++ compact (length writable) ++ writable ++ compact (length readonly) ++ readonly ≡ lookup_bytes lookup =
     append_assoc (table ++ compact (length writable) ++ writable) (compact (length readonly)) readonly
-        ∙ ap (λ (l : List ℕ). l ++ blob_bytes readonly)
-        (append_assoc table (compact (length writable)) writable) in
+    ∙ ap (λ (l : List ℕ). l ++ blob_bytes readonly)
+    (append_assoc table (compact (length writable)) writable) in
     rw (
       member_again (codes "table") (digits_in 32) d (hex_json table) table refl (digits_again 32 table fits.table table_are),
       member_again (codes "writable") (list_in max_count byte_in) d (list_json number_json writable) (length writable, writable) refl (bytes_again writable fits.writable writable_are),
@@ -172,8 +172,12 @@ message_again tx bytes is are =
     let hash_are = after_bytes _ to_keys message.blockhash.0 a3 refl in
     let all_are = after_bytes _ count all (after_bytes _ to_hash (count ++ all) a4 refl) refl in
     let instructions_fit = recursion_from_All InstructionFits message.instructions
-        (λ k e lt. record { program = has.programs k e lt; accounts = lists.accounts k e lt; input =
-        lists.inputs k e lt }) in
+    (λ k e lt. record {
+      program = has.programs k e lt;
+      accounts = lists.accounts k e lt;
+      input =
+          lists.inputs k e lt;
+    }) in
     let lookups_fit = recursion_from_All LookupFits message.lookups (λ k e lt. record { table = has.tables k e lt; writable = lists.writable k e lt; readonly = lists.readonly k e lt }) in
     let looked = lookups_again message.kind message.lookups is.allows lists.lookups lookups_fit (after_bytes _ to_instructions lookups are refl) in
     rw (
@@ -181,13 +185,13 @@ message_again tx bytes is are =
       member_again (codes "header") header_in d (header_json message.header) (header_bytes message.header) refl (header_again message.header has.required has.readonly_signed has.readonly_unsigned),
       member_again (codes "keys") (list_in max_count key_in) d (list_json key_json message.keys) (length message.keys, keys) refl
           (list_again max_count key_in key_json message.keys keys lists.keys
-              (items_again key_in key_json key_bytes IsKey key_again 0 message.keys
-              (recursion_from_All IsKey message.keys has.keys) keys_are)),
+          (items_again key_in key_json key_bytes IsKey key_again 0 message.keys
+          (recursion_from_All IsKey message.keys has.keys) keys_are)),
       member_again (codes "recent_blockhash") (digits_in 32) d (hex_json message.blockhash.0) message.blockhash.0 refl (digits_again 32 message.blockhash.0 has.blockhash hash_are),
       member_again (codes "instructions") (list_in max_count instruction_in) d (list_json instruction_json message.instructions) (length message.instructions, all) refl
           (list_again max_count instruction_in instruction_json message.instructions all lists.instructions
-              (items_again instruction_in instruction_json instruction_bytes InstructionFits instruction_again 0
-              message.instructions instructions_fit all_are)),
+          (items_again instruction_in instruction_json instruction_bytes InstructionFits instruction_again 0
+          message.instructions instructions_fit all_are)),
       member_again (codes "lookups") (list_in (most_lookups message.kind) lookup_in) d (list_json lookup_json message.lookups) looked.read refl looked.is,
       looked.part,
       append_assoc opening key_count keys,
@@ -206,9 +210,9 @@ tx_again tx bytes is are =
       member_again (codes "signatures") (list_in max_count signature_in) d (list_json signature_json tx.signatures) (length tx.signatures, all) refl
           (list_again max_count signature_in signature_json tx.signatures all is.signatures
           (items_again signature_in signature_json signature_bytes (λ signature. length signature.0 ≡ 64)
-              signature_again 0 tx.signatures
-              (recursion_from_All (λ (signature : Signature). length signature.0 ≡ 64) tx.signatures
-              is.widths.signatures) (after_bytes _ count all signed_are refl))),
+          signature_again 0 tx.signatures
+          (recursion_from_All (λ (signature : Signature). length signature.0 ≡ 64) tx.signatures
+          is.widths.signatures) (after_bytes _ count all signed_are refl))),
       message_again tx bytes is message_are,
     ) refl
 

@@ -40,8 +40,8 @@ pub lent_next : (locks : List Lock) (vs : List Account) (i : ℕ) (d : Lock) (u 
 lent_next locks vs i d u l e =
     ap₂ lent_for_writing (take_more locks i d l) (take_more vs i u (omega (arith, l, e)))
     ∙ lent_more (take i locks) (take i vs) (get_or locks i d) (get_or vs i u)
-        (let a = length-take-le i locks (omega (arith, l)) in let b = length-take-le i vs (omega (arith, l, e))
-        in omega (arith, a, b))
+    (let a = length-take-le i locks (omega (arith, l)) in let b = length-take-le i vs (omega (arith, l, e))
+    in omega (arith, a, b))
 
 -- what is written once one lock more is passed, which writes
 module _ (locks : List Lock) (shares written : List Shared) (i : ℕ) (d : Lock) (u : Account) (l : i < length locks) (e : length shares ≡ length locks)

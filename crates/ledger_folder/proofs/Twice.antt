@@ -45,9 +45,16 @@ module _ (start disk : Disk) (old : List Event) (stands : Stands start old disk)
   done_stopped new stopped =
       ⊎_elim (λ e. record { done = Spoiled name ∷ []; each = (survives (Spoiled name ∷ old) (at_spoiled start disk old stands name bytes), nothing); is = e })
       (λ more. ⊎_elim (λ e. record { done = Spoiled name ∷ Wrote name bytes ∷ []; each = (survives (Spoiled name ∷ wrote) (at_spoiled_sync start disk old stands name bytes), each_wrote); is = e })
-      (λ more. ⊎_elim (λ e. record { done = RenameFailed name ∷ Synced name ∷ Wrote name bytes
-          ∷ []; each = (survives (RenameFailed name ∷ synced)
-          (at_rename_failed start disk old stands name bytes), each_synced); is = e })
+      (λ more. ⊎_elim (λ e. record {
+        done = RenameFailed name ∷ Synced name ∷ Wrote name bytes
+            ∷ [];
+        each = (
+          survives (RenameFailed name ∷ synced)
+              (at_rename_failed start disk old stands name bytes),
+          each_synced,
+        );
+        is = e;
+      })
       (λ e. record { done = Renamed name ∷ Synced name ∷ Wrote name bytes ∷ []; each = each_renamed; is = e }) more) more) stopped
 
   -- and all of them

@@ -132,8 +132,8 @@ module _ (before after : Snapshot) (was : IsReadable before) (is : IsReadable af
   next_again recent =
       let accounts : next_accounts changes before.accounts ≡ Some after.accounts =
       subst (λ (es : List Entry). with_accounts es
-          (without (map (λ (e : Entry). e.0) es) (without changes.gone before.accounts)) ≡ Some after.accounts)
-          (sym back) (changes_back before.accounts after.accounts was.state is.state) in
+      (without (map (λ (e : Entry). e.0) es) (without changes.gone before.accounts)) ≡ Some after.accounts)
+      (sym back) (changes_back before.accounts after.accounts was.state is.state) in
       let few : nat_le (len after.accounts) max_accounts ≡ true = le-leb (len after.accounts) max_accounts is.accounts in
       let whole : next_snapshot changes before after.accounts ≡ after = λ i. record { slot = after.slot; limits = after.limits; recent = sym recent i; accounts = after.accounts } in
       rw (accounts, few) (ap (λ (s : Snapshot). let r : Result Snapshot LedgerFault = Ok s in r) whole)
@@ -207,8 +207,8 @@ changed_newest disk head slot same =
     ap (λ (r : Result Snapshot LedgerFault). r >>= walked disk (slots_behind more (n + 1))) first
     ∙ ap (λ (l : List ℕ). full_state disk head n >>= walked disk l) behind
     ∙ bind_same (full_state disk head n) (walked disk (slots_behind head n ++ slot ∷ []))
-        (λ s. walked disk (slots_behind head n) s >>= stepped disk slot)
-        (λ s. walked-push disk (slots_behind head n) slot s)
+    (λ s. walked disk (slots_behind head n) s >>= stepped disk slot)
+    (λ s. walked-push disk (slots_behind head n) slot s)
     ∙ bind_assoc (full_state disk head n) (walked disk (slots_behind head n)) (stepped disk slot)
 
 -- the slots with one more are those whose blocks are there
@@ -249,9 +249,9 @@ module _ (ledger : Ledger) (block : BlockValue) (after : Snapshot) (micros : ℕ
   newest_then false other crashed agree there =
       let so = opened_so disk ledger opens.same in
       let read = ap (changes_in after.slot ledger.newest.slot) there
-          ∙ changes_again after.slot ledger.newest.slot (changes_between ledger.newest after)
-          (readable ledger.newest after was is) (widths ledger.newest after was is has)
-          (few_keys ledger.newest after was is) (gone_keys ledger.newest after was is had) had.slot refl in
+      ∙ changes_again after.slot ledger.newest.slot (changes_between ledger.newest after)
+      (readable ledger.newest after was is) (widths ledger.newest after was is has)
+      (few_keys ledger.newest after was is) (gone_keys ledger.newest after was is had) had.slot refl in
       changed_newest crashed head after.slot (after_other head.every count some other)
       ∙ ap (λ (r : Result Snapshot LedgerFault). r >>= stepped crashed after.slot) (agreed_state_after after.slot crashed disk head count agree later ∙ so.newest_read)
       ∙ ap (λ (r : Result Changes LedgerFault). r >>= λ c. next_of after.slot c ledger.newest) read

@@ -36,9 +36,9 @@ placed-placing start events name bytes =
     let self = same_name-self name in
     cond-true (same_name name name) (moved (Synced name ∷ Wrote name bytes ∷ events) name) (placed start (Synced name ∷ Wrote name bytes ∷ events) name) self
     ∙ ap (option_map (λ (b : List ℕ). Some b))
-        (cond-true (same_name name name) (written (Wrote name bytes ∷ events) name)
-        (synced (Wrote name bytes ∷ events) name) self
-        ∙ cond-true (same_name name name) (Some bytes) (written events name) self)
+    (cond-true (same_name name name) (written (Wrote name bytes ∷ events) name)
+    (synced (Wrote name bytes ∷ events) name) self
+    ∙ cond-true (same_name name name) (Some bytes) (written events name) self)
 
 -- the first state alone
 first_state : (disk : Disk) (head : Head) (snapshot : Snapshot) → head.slots ≡ [] → state_in head.start (disk (State head.start)) ≡ Ok snapshot → state_after disk head 0 ≡ Ok snapshot
@@ -74,9 +74,9 @@ module _ (snapshot : Snapshot) (every : ℕ) (some : 1 ≤ every) (few : every <
   opens_on before disk shows =
       opens_files disk (same_Some (disk Chain) (Some chain_bytes) (sym (shows.stands.holds Chain)))
       (same_Some (disk (State snapshot.slot)) (Some state_bytes)
-          (sym (shows.stands.holds (State snapshot.slot))
-          ∙ placed-placing shows.start (Listed [] ∷ Read Chain None ∷ before) (State snapshot.slot)
-          state_bytes))
+      (sym (shows.stands.holds (State snapshot.slot))
+      ∙ placed-placing shows.start (Listed [] ∷ Read Chain None ∷ before) (State snapshot.slot)
+      state_bytes))
       (record {
         ascending = tt;
         each = λ slot. subst (λ (k : Known). AllowsBlock k false) (shows.stands.holds (Block slot)) (shows.honest.1.each slot);
@@ -100,8 +100,8 @@ module _ (snapshot : Snapshot) (every : ℕ) (some : 1 ≤ every) (few : every <
         ⊎_elim (λ old. inl old)
         (λ new. inr (λ lists. opens_files crashed new
         (kept stage crashed leaves (State snapshot.slot) refl
-            ∙ cond-true (same_name (State snapshot.slot) (State snapshot.slot)) (Some state_bytes)
-            (disk (State snapshot.slot)) (same_name-self (State snapshot.slot)))
+        ∙ cond-true (same_name (State snapshot.slot) (State snapshot.slot)) (Some state_bytes)
+        (disk (State snapshot.slot)) (same_name-self (State snapshot.slot)))
         (record { ascending = tt; each = λ slot. lists.each slot ∙ ap is_some (sym (kept stage crashed leaves (Block slot) refl)) })))
         (stage.file (crashed Chain) (leaves Chain))
 
@@ -139,12 +139,16 @@ module _ (snapshot : Snapshot) (every : ℕ) (some : 1 ≤ every) (few : every <
 
     each_read : (start : Disk) (old reads : List Event) → AreReads reads → Stands start old disk → AtEach (Survives start Either) reads old
     each_read start old [] are stands = untouched start old stands
-    each_read start old (Read m found ∷ reads) are stands =
-        (untouched start (Read m found ∷ (reads ++ old))
-        (stands_behind start old (Read m found ∷ reads) are stands), each_read start old reads are stands)
-    each_read start old (Listed slots ∷ reads) are stands =
-        (untouched start (Listed slots ∷ (reads ++ old))
-        (stands_behind start old (Listed slots ∷ reads) are stands), each_read start old reads are stands)
+    each_read start old (Read m found ∷ reads) are stands = (
+      untouched start (Read m found ∷ (reads ++ old))
+          (stands_behind start old (Read m found ∷ reads) are stands),
+      each_read start old reads are stands,
+    )
+    each_read start old (Listed slots ∷ reads) are stands = (
+      untouched start (Listed slots ∷ (reads ++ old))
+          (stands_behind start old (Listed slots ∷ reads) are stands),
+      each_read start old reads are stands,
+    )
     each_read start old (Wrote m bytes ∷ reads) are stands = absurd are
     each_read start old (Synced m ∷ reads) are stands = absurd are
     each_read start old (Spoiled m ∷ reads) are stands = absurd are
@@ -180,8 +184,8 @@ module _ (snapshot : Snapshot) (every : ℕ) (some : 1 ≤ every) (few : every <
       ⊎_elim (λ one. done_stopped start disk mid stands (State snapshot.slot) state_bytes (IsBegunOrNot snapshot every disk) (first disk start) new one)
       (λ two. Done-then (Survives start (IsBegunOrNot snapshot every disk)) mid (placing (State snapshot.slot) state_bytes mid) new state_done
       (done_stopped start (with_file disk (State snapshot.slot) state_bytes)
-          (placing (State snapshot.slot) state_bytes mid) on Chain chain_bytes
-          (IsBegunOrNot snapshot every disk) (second disk start) new two)) given in
+      (placing (State snapshot.slot) state_bytes mid) on Chain chain_bytes
+      (IsBegunOrNot snapshot every disk) (second disk start) new two)) given in
       at_each_moment (Survives start (IsBegunOrNot snapshot every disk)) old new later since (Done-then (Survives start (IsBegunOrNot snapshot every disk)) old mid new before whole) h
 
   -- where all were made
@@ -195,8 +199,8 @@ module _ (snapshot : Snapshot) (every : ℕ) (some : 1 ≤ every) (few : every <
       let whole : Done (Survives start (IsBegunOrNot snapshot every disk)) mid new =
       Done-then (Survives start (IsBegunOrNot snapshot every disk)) mid (placing (State snapshot.slot) state_bytes mid) new state_done
       (done_placed start (with_file disk (State snapshot.slot) state_bytes)
-          (placing (State snapshot.slot) state_bytes mid) on Chain chain_bytes
-          (IsBegunOrNot snapshot every disk) (second disk start) new e) in
+      (placing (State snapshot.slot) state_bytes mid) on Chain chain_bytes
+      (IsBegunOrNot snapshot every disk) (second disk start) new e) in
       at_each_moment (Survives start (IsBegunOrNot snapshot every disk)) old new later since (Done-then (Survives start (IsBegunOrNot snapshot every disk)) old mid new before whole) h
 
   -- what the last call says of both
@@ -208,8 +212,8 @@ module _ (snapshot : Snapshot) (every : ℕ) (some : 1 ≤ every) (few : every <
       → LeavesOnly old new (IsBegunOrNot snapshot every)
   begin_ends (Ok x) old mid new state head state_is head_is reads made stopped =
       begin_placed old mid new reads
-          (made ∙ ap (λ (l : List ℕ). placing Chain l (placing (State snapshot.slot) state mid)) head_is
-          ∙ ap (λ (l : List ℕ). placing Chain chain_bytes (placing (State snapshot.slot) l mid)) state_is)
+      (made ∙ ap (λ (l : List ℕ). placing Chain l (placing (State snapshot.slot) state mid)) head_is
+      ∙ ap (λ (l : List ℕ). placing Chain chain_bytes (placing (State snapshot.slot) l mid)) state_is)
   begin_ends (Err e) old mid new state head state_is head_is reads made stopped =
       begin_stopped old mid new reads
       (subst (λ (l : List ℕ). StoppedPlacing (State snapshot.slot) l mid new ⊎ StoppedPlacing Chain chain_bytes (placing (State snapshot.slot) l mid) new) state_is
@@ -223,8 +227,8 @@ pub begins : (snapshot : Snapshot) (every : ℕ) {T : Type 0} (result : Result T
     → OnOk result (new ≡ beginning snapshot every old)
 begins snapshot every (Ok x) old mid new state head state_is head_is none made =
     made ∙ ap (λ (l : List ℕ). placing Chain l (placing (State snapshot.slot) state mid)) head_is
-        ∙ ap (λ (l : List ℕ). placing Chain (sealed (head_bytes every snapshot.slot))
-        (placing (State snapshot.slot) l mid)) state_is
+    ∙ ap (λ (l : List ℕ). placing Chain (sealed (head_bytes every snapshot.slot))
+    (placing (State snapshot.slot) l mid)) state_is
     ∙ ap (λ (l : List Event). placing Chain (sealed (head_bytes every snapshot.slot)) (placing (State snapshot.slot) (sealed (snapshot_bytes snapshot)) l)) none
 begins snapshot every (Err e) old mid new state head state_is head_is none made = tt
 

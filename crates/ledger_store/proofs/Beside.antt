@@ -149,12 +149,12 @@ watched_changes file slot bytes before read told name holds gives next =
     ap (λ (l : List ℕ). if is_sealed l then None else Some (Damaged file.name (seal_at l))) holds ∙ ap (λ (n : Name). if is_sealed bytes then None else Some (Damaged n (seal_at bytes))) name in
     let whole : stepped_by (slot, Some bytes) before ≡ told_unless first (changed slot bytes before) = sealed_changes slot bytes before (is_sealed bytes) refl in
     let both : Gives is_ledger_memory (λ (s : Snapshot). s) told (changed slot bytes before) = gives_then read
-        (whole_changes slot before.slot (unsealed bytes)) told (λ changes. next_of slot changes before) gives
-        next in
+    (whole_changes slot before.slot (unsealed bytes)) told (λ changes. next_of slot changes before) gives
+    next in
     subst (λ (o : Option LedgerFault). Gives is_free (λ (s : Snapshot). s) (told_unless o told) (stepped_by (slot, Some bytes) before)) (sym own)
     (subst (λ (r : Result Snapshot LedgerFault). Gives is_free (λ (s : Snapshot). s) (told_unless first told) r)
-        (sym whole) (unless_gives first told (changed slot bytes before)
-        (freer told (changed slot bytes before) both)))
+    (sym whole) (unless_gives first told (changed slot bytes before)
+    (freer told (changed slot bytes before) both)))
 
 -- a file that is put behind the others
 pub settled_gives : {X : Type 0} (files later : List Watched) (file : Watched) (told answer : Result X LedgerFault) → later ≡ files ++ file ∷ []
@@ -218,8 +218,8 @@ unfolding state_after
 tells_beside files later old new head count slot slots found result first told at behind disk shows =
     let f = first disk shows in
     let parts = bind_ok (found_or (Missing (State slot)) (disk (State slot)))
-        (λ full. let r : Result (List ℕ × List (ℕ × Option (List ℕ))) LedgerFault = Ok
-        (full, files_of disk slots) in r) found f.1 in
+    (λ full. let r : Result (List ℕ × List (ℕ × Option (List ℕ))) LedgerFault = Ok
+    (full, files_of disk slots) in r) found f.1 in
     let both : (let x : List ℕ × List (ℕ × Option (List ℕ)) = (parts.0, files_of disk slots) in x) ≡ found = ok_same {E = LedgerFault} (parts.0, files_of disk slots) found parts.2 in
     let here : (state_in slot (disk (State slot)) >>= walked disk slots) ≡ told_by slot found.0 found.1 =
     ap (λ (r : Result (List ℕ) LedgerFault). (r >>= state_from slot) >>= walked disk slots) parts.1
@@ -239,12 +239,12 @@ unfolding state_after
 tells_refused files later old new head count slot slots fault same first at disk shows =
     let f = first disk shows in
     let refused : MatchBool (is_free fault) (Unit {0})
-        (found_or (Missing (State slot)) (disk (State slot)) ≡ Err fault) = not_found (is_free fault)
-        (found_or (Missing (State slot)) (disk (State slot))) f.1 in
+    (found_or (Missing (State slot)) (disk (State slot)) ≡ Err fault) = not_found (is_free fault)
+    (found_or (Missing (State slot)) (disk (State slot))) f.1 in
     let here : MatchBool (is_free fault) (Unit {0}) ((state_in slot (disk (State slot)) >>= walked disk (slots_behind head count)) ≡ Err fault) =
     err_then (is_free fault) fault (state_in slot (disk (State slot))) (walked disk (slots_behind head count))
-        (err_then (is_free fault) fault (found_or (Missing (State slot)) (disk (State slot))) (state_from slot)
-        refused) in (
+    (err_then (is_free fault) fault (found_or (Missing (State slot)) (disk (State slot))) (state_from slot)
+    refused) in (
       f.0,
       settled_same {X = Snapshot} files later (Err fault) (state_after disk head count) same
           (subst (λ (n : ℕ). MatchBool (is_free fault) (Unit {0}) ((state_in n (disk (State n)) >>= walked disk (slots_behind head count)) ≡ Err fault)) at here),

@@ -52,9 +52,9 @@ kept {disk = disk} stage crashed leaves n apart = one_fits (disk n) (crashed n) 
 module _ (ledger : Ledger) (block : BlockValue) (after : Snapshot) (micros : ℕ) (full : Bool) (state : List ℕ)
     (disk : Disk) (opens : Opens disk ledger) (is_after : Later ledger.head after.slot)
     (added : (crashed : Disk) → Agree after.slot crashed disk
-        → crashed (state_name full after.slot) ≡ Some state
-        → crashed (Block after.slot) ≡ Some (sealed (kept_bytes block micros))
-        → Opens crashed (with_block ledger after)) where
+    → crashed (state_name full after.slot) ≡ Some state
+    → crashed (Block after.slot) ≡ Some (sealed (kept_bytes block micros))
+    → Opens crashed (with_block ledger after)) where
   abbrev slot : ℕ
   slot = after.slot
 
@@ -95,16 +95,16 @@ module _ (ledger : Ledger) (block : BlockValue) (after : Snapshot) (micros : ℕ
       → CrashLeaves start events crashed → IsAfter ledger block after micros crashed
   lasting start events stands crashed leaves =
       let here : crashed (Block slot) ≡ Some record_bytes = found (Block slot)
-          ∙ cond-true (same_name (Block slot) (Block slot)) (Some record_bytes)
-          (with_file disk name state (Block slot)) (same_name-self (Block slot)) in
+      ∙ cond-true (same_name (Block slot) (Block slot)) (Some record_bytes)
+      (with_file disk name state (Block slot)) (same_name-self (Block slot)) in
       let there : crashed name ≡ Some state = found name
-          ∙ cond-false (same_name (Block slot) name) (Some record_bytes) (with_file disk name state name)
-          (no_state full slot) ∙ cond-true (same_name name name) (Some state) (disk name) (same_name-self name)
-          in
+      ∙ cond-false (same_name (Block slot) name) (Some record_bytes) (with_file disk name state name)
+      (no_state full slot) ∙ cond-true (same_name name name) (Some state) (disk name) (same_name-self name)
+      in
       let agree : Agree slot crashed disk = λ n apart. found n
-          ∙ cond-false (same_name (Block slot) n) (Some record_bytes) (with_file disk name state n)
-          (block_apart slot n apart) ∙ cond-false (same_name name n) (Some state) (disk n)
-          (state_apart full slot n apart) in
+      ∙ cond-false (same_name (Block slot) n) (Some record_bytes) (with_file disk name state n)
+      (block_apart slot n apart) ∙ cond-false (same_name name n) (Some state) (disk n)
+      (state_apart full slot n apart) in
       record { opens = added crashed agree there here; record_file = here }
     where
       found : (n : Name) → crashed n ≡ with_file (with_file disk name state) (Block slot) record_bytes n

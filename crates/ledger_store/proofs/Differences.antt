@@ -173,9 +173,15 @@ new_entries before after = entries-from_entries key_cmp_total key_cmp_exact (lef
 -- no more accounts are new than there are
 pub fewer_accounts : (before after : State) → len (from_entries (left_by before after)) ≤ len after
 fewer_accounts before after =
-    omega (arith, len-entries {R = key_cmp} (from_entries (left_by before after)), ap length
-        (new_entries before after), length-filter-most (λ (e : Entry). not (is_kept (get before e.0) e.1))
-        (entries after), len-entries after)
+    omega (
+      arith,
+      len-entries {R = key_cmp} (from_entries (left_by before after)),
+      ap length
+          (new_entries before after),
+      length-filter-most (λ (e : Entry). not (is_kept (get before e.0) e.1))
+          (entries after),
+      len-entries after,
+    )
 
 pub few_gone : (before after : State) → length (gone_by before after) ≤ len before
 few_gone before after =
@@ -259,8 +265,8 @@ pub over_is_with : (s t : State) → IsState t → sum s + sum t ≤ 2 ^ 64 - 1 
 over_is_with s t is fits =
     let few : sum (puts (entries t) s) ≤ 2 ^ 64 - 1 = omega (arith, sum-puts-le (entries t) s, fits) in
     fits_each (entries t) (without (keys_of (entries t)) s) (sorted-entries key_cmp t)
-        (absent_without (keys_of (entries t)) s (entries t) (λ k h. h))
-        (subst (λ (u : State). sum u ≤ 2 ^ 64 - 1) (sym (puts_over s t is)) few)
+    (absent_without (keys_of (entries t)) s (entries t) (λ k h. h))
+    (subst (λ (u : State). sum u ≤ 2 ^ 64 - 1) (sym (puts_over s t is)) few)
     ∙ ap (λ (u : State). Some u) (puts_over s t is)
 
 -- ---- accounts that are put in where there are none
@@ -345,13 +351,13 @@ module _ (before after : State) (was : IsState before) (is : IsState after) wher
   puts_back = same_state (puts new base) after (λ q.
       get-puts after new base q new_found
       ∙ ap (λ (x : Option Account). cond (has_key q (keys_of new)) (get after q) x)
-          (get-without (keys_of new) (without gone before) q
-          ∙ ap (λ (x : Option Account). cond (has_key q (keys_of new)) None x) (get-without gone before q))
+      (get-without (keys_of new) (without gone before) q
+      ∙ ap (λ (x : Option Account). cond (has_key q (keys_of new)) None x) (get-without gone before q))
       ∙ whole (has_key q (keys_of new)) (has_key q gone) q refl refl)
 
   pub changes_back : with_accounts new base ≡ Some after
   changes_back =
       fits_each new base (new_ascends before after)
-          (absent_without (keys_of new) (without gone before) new (λ k h. h))
-          (subst (λ (s : State). sum s ≤ 2 ^ 64 - 1) (sym puts_back) is.fits)
-          ∙ ap (λ (s : State). Some s) puts_back
+      (absent_without (keys_of new) (without gone before) new (λ k h. h))
+      (subst (λ (s : State). sum s ≤ 2 ^ 64 - 1) (sym puts_back) is.fits)
+      ∙ ap (λ (s : State). Some s) puts_back

@@ -54,9 +54,14 @@ gone_again : (before total : ℕ) (keys : List Key) → before < 2 ^ 64 → leng
 unfolding gone_of gone_at before_at
 gone_again before total keys fits few are =
     let behind : flat_map key_bytes keys ++ [] ≡ flat_map key_bytes keys = append-nil (flat_map key_bytes keys) in
-    rw ((read_if_reads Field (λ n. n == before) total (u64_reads Field total)).again before (gone_bytes keys)
-        (fits, eq-eqb before before refl), (u32_reads Field total).again (length keys) (flat_map key_bytes keys)
-        few, ← behind, (many_reads (key_reads Field total) (length keys)).again keys [] (refl, are)) refl
+    rw (
+      (read_if_reads Field (λ n. n == before) total (u64_reads Field total)).again before (gone_bytes keys)
+          (fits, eq-eqb before before refl),
+      (u32_reads Field total).again (length keys) (flat_map key_bytes keys)
+          few,
+      ← behind,
+      (many_reads (key_reads Field total) (length keys)).again keys [] (refl, are),
+    ) refl
 
 pub changes_again : (slot before : ℕ) (c : Changes) → IsReadable c.left → HasWidths c.left
     → length c.gone < 2 ^ 32 → AllByRecursion IsKey c.gone → before < 2 ^ 64 → c.left.slot ≡ slot
@@ -77,8 +82,8 @@ unfolding head_at magic_at every_at
 head_fields total every start some few fits =
     let front : head_bytes every start ≡ codes "SOLCHAN1" ++ (to_le_bytes w32 every ++ (to_le_bytes w64 start ++ [])) =
     append_assoc (codes "SOLCHAN1") (to_le_bytes w32 every) (to_le_bytes w64 start)
-        ∙ ap (λ (l : List ℕ). codes "SOLCHAN1" ++ (to_le_bytes w32 every ++ l))
-        (sym (append-nil (to_le_bytes w64 start))) in
+    ∙ ap (λ (l : List ℕ). codes "SOLCHAN1" ++ (to_le_bytes w32 every ++ l))
+    (sym (append-nil (to_le_bytes w64 start))) in
     subst (λ (b : List ℕ). head_at total b ≡ Ok ((every, start), [])) (sym front)
     (rw (
       (read_if_reads Field (λ (magic : List ℕ). bytes_eq magic (codes "SOLCHAN1")) total

@@ -62,19 +62,21 @@ pub more_next : (before after older : List Mark) (n : ℕ) (same : Bool) → 1 �
 more_next before [] older n same some is at h = absurd (omega (arith, some))
 more_next before (mark ∷ after) older n same some is at h =
     h ∙ ap (λ (l : List Mark). pointwise same_mark l (take n before))
-        (is ∙ take_all (length (mark ∷ after) - 1) after (omega arith))
-        ∙ ap (λ (l : List Mark). pointwise same_mark after l)
-        (ap (λ (k : ℕ). take k before) at ∙ take_min (max_marks - 1) before)
+    (is ∙ take_all (length (mark ∷ after) - 1) after (omega arith))
+    ∙ ap (λ (l : List Mark). pointwise same_mark after l)
+    (ap (λ (k : ℕ). take k before) at ∙ take_min (max_marks - 1) before)
 
 -- where the slot is that of the block
 pub follows_so : (before after : Snapshot) (block : BlockValue) (b a : List Mark) (same : Bool) → (block.slot == after.slot) ≡ true → b ≡ before.recent → a ≡ after.recent → same ≡ is_next_recent b a
     → (same ≡ true → Follows before block after) × (Follows before block after → same ≡ true)
 follows_so before after block b a same slot was is e =
     let d = follows_decides before after block in
-    let whole : same ≡ is_next_recent before.recent after.recent = e ∙ ap (λ (l : List Mark). is_next_recent l a) was ∙ ap (λ (l : List Mark). is_next_recent before.recent l) is in
-    (λ h. d.0 (and_from (block.slot == after.slot) (is_next_recent before.recent after.recent) slot
-        (sym whole ∙ h)), λ f. whole
-        ∙ (and_parts (block.slot == after.slot) (is_next_recent before.recent after.recent) (d.1 f)).1)
+    let whole : same ≡ is_next_recent before.recent after.recent = e ∙ ap (λ (l : List Mark). is_next_recent l a) was ∙ ap (λ (l : List Mark). is_next_recent before.recent l) is in (
+      λ h. d.0 (and_from (block.slot == after.slot) (is_next_recent before.recent after.recent) slot
+          (sym whole ∙ h)),
+      λ f. whole
+          ∙ (and_parts (block.slot == after.slot) (is_next_recent before.recent after.recent) (d.1 f)).1,
+    )
 
 -- ---- a walk over two lists
 -- the first n are the same

@@ -40,8 +40,8 @@ module _ (ledger : Ledger) (block : BlockValue) (after : Snapshot) (micros : ℕ
     (is_open : IsOpen old ledger) (some : 1 ≤ ledger.head.every) (was : IsReadable ledger.newest)
     (is : IsReadable after)
     (follows : Follows ledger.newest block after) (is_after : is_later ledger.head after.slot ≡ true)
-        (files : NewFiles) (made : files ≡ new_files ledger block after micros) (had : HasWidths ledger.newest)
-        (has : HasWidths after) where
+    (files : NewFiles) (made : files ≡ new_files ledger block after micros) (had : HasWidths ledger.newest)
+    (has : HasWidths after) where
   abbrev Wanted : Type 0
   Wanted = LeavesOnly old new (IsBeforeOrAfter ledger block after micros)
 

@@ -107,8 +107,8 @@ tells_no_head old new fault told disk shows =
 pub tells_opened : (old mid new : List Event) (head : Head) (read : Result Snapshot LedgerFault) (result : Result Ledger LedgerFault) → TellsListed old mid (Ok head) heading
     → ((disk : Disk) → Shows mid disk → Lists disk head.slots) → Tells mid new read (λ disk. state_after disk head (length head.slots))
     → ((answer : Result Snapshot LedgerFault) → Gives is_free (λ x. x) read answer
-        → Gives is_free (λ x. x) result (answer >>= λ newest. Ok (record { head = head; newest = newest })))
-        → TellsListed old new result opened
+    → Gives is_free (λ x. x) result (answer >>= λ newest. Ok (record { head = head; newest = newest })))
+    → TellsListed old new result opened
 tells_opened old mid new head read result first listed second so disk shows =
     let s = second disk shows in
     let f = first disk s.0 in

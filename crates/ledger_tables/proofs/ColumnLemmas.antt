@@ -17,15 +17,15 @@ bound_or_null (Some text) value is = ap bound_value is
 
 pub block_values : (row : BlockRow) (slot burned collected micros : Value) (hash previous collector state : List ℕ)
     → slot ≡ number row.slot → hash ≡ row.hash → previous ≡ row.previous → collector ≡ row.collector
-        → state ≡ row.state → burned ≡ number row.burned → collected ≡ number row.collected
-        → micros ≡ number row.micros
+    → state ≡ row.state → burned ≡ number row.burned → collected ≡ number row.collected
+    → micros ≡ number row.micros
     → bound_value slot ∷ Text hash ∷ Text previous ∷ Text collector ∷ Text state ∷ bound_value burned ∷ bound_value collected ∷ bound_value micros ∷ [] ≡ block_columns row
 block_values row slot burned collected micros hash previous collector state a b c d e f g h =
     rw (ap bound_value a, b, c, d, e, ap bound_value f, ap bound_value g, ap bound_value h) refl
 
 pub transaction_values : (row : TransactionRow) (slot position units fee signature payer : Value) (status : List ℕ)
     → slot ≡ number row.slot → position ≡ number row.position → signature ≡ or_null Text row.signature
-        → payer ≡ or_null Text row.payer → status ≡ row.status → units ≡ number row.units → fee ≡ number row.fee
+    → payer ≡ or_null Text row.payer → status ≡ row.status → units ≡ number row.units → fee ≡ number row.fee
     → bound_value slot ∷ bound_value position ∷ bound_value signature ∷ bound_value payer ∷ Text status ∷ bound_value units ∷ bound_value fee ∷ [] ≡ transaction_columns row
 transaction_values row slot position units fee signature payer status a b c d e f g =
     rw (ap bound_value a, ap bound_value b, bound_or_null row.signature signature c, bound_or_null row.payer payer d, e, ap bound_value f, ap bound_value g) refl

@@ -20,8 +20,8 @@ module _ {S : Type 0} (g : Ghosts S) where
   inserted_more {X} sql columns rows i x old mid new lt is known before after clean =
       subst (λ statements. AreRun g statements old new)
       (sym (ap (inserts sql columns) (take_more rows i x lt) ∙ inserts_and (take i rows) (get_or rows i x)
-          ∙ ap (λ y. inserts sql columns (take i rows) ++ record { sql = sql; values = columns y } ∷ [])
-          (sym is)))
+      ∙ ap (λ y. inserts sql columns (take i rows) ++ record { sql = sql; values = columns y } ∷ [])
+      (sym is)))
       (ran_then (inserts sql columns (take i rows)) (record { sql = sql; values = columns x } ∷ []) old mid new known before after clean)
     where
       inserts_and : (xs : List X) (y : X) → inserts sql columns (xs ++ y ∷ []) ≡ inserts sql columns xs ++ record { sql = sql; values = columns y } ∷ []

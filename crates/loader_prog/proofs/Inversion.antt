@@ -39,8 +39,8 @@ unfolding loader_row
 ends_well keys accounts metas input after h =
     let first = bind_ok (request_in input) _ after h in
     let second = unless_ok (nat_lt (length metas) (accounts_needed first.0)) NotEnoughAccounts
-        (data_row keys accounts metas first.0 >>=
-        (λ (bytes : List ℕ). ruled metas accounts (with_data accounts metas bytes))) after first.2 in
+    (data_row keys accounts metas first.0 >>=
+    (λ (bytes : List ℕ). ruled metas accounts (with_data accounts metas bytes))) after first.2 in
     let third = bind_ok (data_row keys accounts metas first.0) (λ (bytes : List ℕ). ruled metas accounts (with_data accounts metas bytes)) after second.1 in
     let last = or_rule_ok (listed_rules LOADER_PROGRAM metas accounts (with_data accounts metas third.0)) (with_data accounts metas third.0) after third.2 in
     record {

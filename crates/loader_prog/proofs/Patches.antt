@@ -9,9 +9,9 @@ same_patch bytes piece at there =
     let k = length piece in
     sym (append_assoc (take at bytes) piece (drop (at + k) bytes)
     ∙ ap (λ (l : List ℕ). take at bytes ++ l)
-        (ap (λ (p : List ℕ). p ++ drop (at + k) bytes) (sym there)
-        ∙ ap (λ (q : List ℕ). take k (drop at bytes) ++ q) (sym (drop-drop k at bytes))
-        ∙ take-append-drop k (drop at bytes))
+    (ap (λ (p : List ℕ). p ++ drop (at + k) bytes) (sym there)
+    ∙ ap (λ (q : List ℕ). take k (drop at bytes) ++ q) (sym (drop-drop k at bytes))
+    ∙ take-append-drop k (drop at bytes))
     ∙ take-append-drop at bytes)
 
 -- bytes that compare as equal to what stands there

@@ -120,5 +120,5 @@ distinct_once set distinct i j d l m =
     let e = length-map set (λ (lock : NumberedLock). lock.number) in
     let differ = apart_from_distinct (λ a b. a == b) (map (λ (lock : NumberedLock). lock.number) set) i j d.number distinct l (omega (arith, e, m)) in
     eqb-false _ _ (ap₂ (λ a b. a == b)
-        (sym (get_or-map (λ (lock : NumberedLock). lock.number) set i d d.number (omega arith)))
-        (sym (get_or-map (λ (lock : NumberedLock). lock.number) set j d d.number m)) ∙ differ)
+    (sym (get_or-map (λ (lock : NumberedLock). lock.number) set i d d.number (omega arith)))
+    (sym (get_or-map (λ (lock : NumberedLock). lock.number) set j d d.number m)) ∙ differ)

@@ -263,8 +263,8 @@ module _ (locks : List Lock) (i : ℕ) (d : Lock) (l : i < length locks) where
       → IsDistinct same_key (lock_keys (take (i + 1) locks))
   distinct_more before none =
       subst (IsDistinct same_key) (sym one_more)
-          (IsDistinct-push same_key-equiv (lock_keys (take i locks)) (get_or locks i d).key before
-          (has_key-lock_keys (get_or locks i d).key (take i locks) ∙ none))
+      (IsDistinct-push same_key-equiv (lock_keys (take i locks)) (get_or locks i d).key before
+      (has_key-lock_keys (get_or locks i d).key (take i locks) ∙ none))
 
   -- or which one of them is on
   pub not_distinct : list_any (λ lock. same_key (get_or locks i d).key lock.key) (take i locks) ≡ true → IsDistinct same_key (lock_keys locks) → ⊥

@@ -85,10 +85,12 @@ instruction_takes total bytes instruction rest are h =
     let b = taken (blob_reads total) _ a.rest (instruction, rest) a.are_bytes a.goes_on in
     let c = taken (blob_reads total) _ b.rest (instruction, rest) b.are_bytes b.goes_on in
     let p = ok_parts _ _ _ _ c.goes_on in
-    subst (λ (v : Instruction). InstructionFits v × (bytes ≡ instruction_bytes v ++ rest)) p.0
-    (record { program = a.fits; accounts = b.fits; input = c.fits }, follows (a.value ∷ blob_bytes b.value)
-        (blob_bytes c.value) rest (follows (a.value ∷ []) (blob_bytes b.value) b.rest a.spelled b.spelled)
-        (onward (blob_bytes c.value) c.spelled p.1))
+    subst (λ (v : Instruction). InstructionFits v × (bytes ≡ instruction_bytes v ++ rest)) p.0 (
+      record { program = a.fits; accounts = b.fits; input = c.fits },
+      follows (a.value ∷ blob_bytes b.value)
+          (blob_bytes c.value) rest (follows (a.value ∷ []) (blob_bytes b.value) b.rest a.spelled b.spelled)
+          (onward (blob_bytes c.value) c.spelled p.1),
+    )
 
 pub instruction_reads : (total : ℕ) → Reads (instruction_at total) instruction_bytes InstructionFits
 instruction_reads total = record { again = instruction_again total; takes = instruction_takes total }
@@ -119,11 +121,13 @@ lookup_takes total bytes lookup rest are h =
     let b = taken (blob_reads total) _ a.rest (lookup, rest) a.are_bytes a.goes_on in
     let c = taken (blob_reads total) _ b.rest (lookup, rest) b.are_bytes b.goes_on in
     let p = ok_parts _ _ _ _ c.goes_on in
-    subst (λ (v : Lookup). LookupFits v × (bytes ≡ lookup_bytes v ++ rest)) p.0
-    (record { table = a.fits; writable = b.fits; readonly = c.fits }, follows
-        (key_bytes a.value ++ blob_bytes b.value) (blob_bytes c.value) rest
-        (follows (key_bytes a.value) (blob_bytes b.value) b.rest a.spelled b.spelled)
-        (onward (blob_bytes c.value) c.spelled p.1))
+    subst (λ (v : Lookup). LookupFits v × (bytes ≡ lookup_bytes v ++ rest)) p.0 (
+      record { table = a.fits; writable = b.fits; readonly = c.fits },
+      follows
+          (key_bytes a.value ++ blob_bytes b.value) (blob_bytes c.value) rest
+          (follows (key_bytes a.value) (blob_bytes b.value) b.rest a.spelled b.spelled)
+          (onward (blob_bytes c.value) c.spelled p.1),
+    )
 
 pub lookup_reads : (total : ℕ) → Reads (lookup_at total) lookup_bytes LookupFits
 lookup_reads total = record { again = lookup_again total; takes = lookup_takes total }

@@ -157,8 +157,8 @@ at_end test (x ∷ xs) h = let later = at_end test xs h.1 in rw h.0 (omega (arit
 no_empty : (lookups : List Lookup) → All (λ lookup. 0 < load_count lookup) lookups → lookups_sanitized (empty_lookup lookups) ≡ Ok tt
 no_empty ls h =
     let none = recursion_from_All (λ lookup. loads_none lookup ≡ false) ls
-        (All-weaker (λ lookup. 0 < load_count lookup) (λ lookup. loads_none lookup ≡ false)
-        (λ lookup e. some (length lookup.writable) (length lookup.readonly) e) ls h) in
+    (All-weaker (λ lookup. 0 < load_count lookup) (λ lookup. loads_none lookup ≡ false)
+    (λ lookup e. some (length lookup.writable) (length lookup.readonly) e) ls h) in
     let last = at_end loads_none ls none in
     let past : nat_lt (position_or_len loads_none ls) (length ls) ≡ false = grind (arith, nat_tests) in
     rw past refl

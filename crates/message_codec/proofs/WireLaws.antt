@@ -142,11 +142,11 @@ message_takes total bytes message rest are h =
     let to_keys = follows (kind_bytes kind ++ header_bytes a.value) (array_bytes key_bytes b.value) b.rest to_header b.spelled in
     let to_blockhash = follows (kind_bytes kind ++ header_bytes a.value ++ array_bytes key_bytes b.value) (hash_bytes c.value) c.rest to_keys c.spelled in
     let to_instructions = follows
-        (kind_bytes kind ++ header_bytes a.value ++ array_bytes key_bytes b.value ++ hash_bytes c.value)
-        (array_bytes instruction_bytes d.value) d.rest to_blockhash d.spelled in
+    (kind_bytes kind ++ header_bytes a.value ++ array_bytes key_bytes b.value ++ hash_bytes c.value)
+    (array_bytes instruction_bytes d.value) d.rest to_blockhash d.spelled in
     let to_end = follows (kind_bytes kind ++ header_bytes a.value ++ array_bytes key_bytes b.value
-        ++ hash_bytes c.value ++ array_bytes instruction_bytes d.value) (lookups_bytes kind e.value) rest
-        to_instructions (onward (lookups_bytes kind e.value) e.spelled p.1) in
+    ++ hash_bytes c.value ++ array_bytes instruction_bytes d.value) (lookups_bytes kind e.value) rest
+    to_instructions (onward (lookups_bytes kind e.value) e.spelled p.1) in
     subst (λ (v : Message). MessageFits v × (bytes ≡ message_bytes v ++ rest)) p.0 (fits, to_end)
 
 pub message_reads : (total : ℕ) → Reads (message_at total) message_bytes MessageFits

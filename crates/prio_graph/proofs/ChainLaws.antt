@@ -66,8 +66,8 @@ conflict-both one other n h w = by_case h
 -- where two sets conflict, there is a lock in the second whose number the first writes, or reads where the lock writes
 met_at : (one other : List NumberedLock) → conflicts one other ≡ true
     → (k : ℕ) × (k < length other)
-        × ((writes_number one (get_or other k no_lock).number ≡ true)
-        ⊎ ((reads_number one (get_or other k no_lock).number ≡ true) × ((get_or other k no_lock).write ≡ true)))
+    × ((writes_number one (get_or other k no_lock).number ≡ true)
+    ⊎ ((reads_number one (get_or other k no_lock).number ≡ true) × ((get_or other k no_lock).write ≡ true)))
 met_at one other h =
     let first = any_place (λ a. list_any (λ b. meets a b) other) one no_lock h in
     let a = get_or one first.0 no_lock in
@@ -163,9 +163,9 @@ module _ (sets : List (List NumberedLock)) (i j : ℕ) where
       ⊎ ((reads_number (set_at sets j) lock.number ≡ true) × (lock.write ≡ true)))
   awaited_cases lock h =
       elim (or_cases (has j (option_to_list (last_writer sets i lock.number)))
-          (has j (cond lock.write (readers_since sets i lock.number) []))
-          (sym (any-append (λ x. x == j) (option_to_list (last_writer sets i lock.number))
-          (cond lock.write (readers_since sets i lock.number) [])) ∙ h)) [
+      (has j (cond lock.write (readers_since sets i lock.number) []))
+      (sym (any-append (λ x. x == j) (option_to_list (last_writer sets i lock.number))
+      (cond lock.write (readers_since sets i lock.number) [])) ∙ h)) [
         | inl t ↦ last (last_writer sets i lock.number) refl t
         | inr t ↦ since lock.write refl t
       ]
@@ -190,8 +190,8 @@ module _ (sets : List (List NumberedLock)) (i j : ℕ) where
   pub edge-is : has j (edges_into sets i) ≡ true → (j < i) × (conflicts (set_at sets j) (set_at sets i) ≡ true)
   edge-is h =
       let found = any_place (λ lock. has j (awaited sets i lock)) (set_at sets i) no_lock
-          (sym (any-flat_map (λ x. x == j) (awaited sets i) (set_at sets i))
-          ∙ (sym (has-once j (flat_map (awaited sets i) (set_at sets i))) ∙ h)) in
+      (sym (any-flat_map (λ x. x == j) (awaited sets i) (set_at sets i))
+      ∙ (sym (has-once j (flat_map (awaited sets i) (set_at sets i))) ∙ h)) in
       let cases = awaited_cases (get_or (set_at sets i) found.0 no_lock) found.2 in (
         cases.0,
         elim cases.1 [

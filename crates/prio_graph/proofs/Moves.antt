@@ -246,8 +246,8 @@ module _ (sets : List (List NumberedLock)) (marks : List Mark) (waits : List ℕ
           K.leaves i u
           ∙ (ap (λ w. shown (is_waiting_mark (mark_at marks i) && (w == 0)) i) same
           ∙ mark-cases (λ x y. shown (is_waiting_mark (mark_at marks x) && (slice_index after_waits i == 0)) i
-              ≡ shown (is_waiting_mark y && (slice_index after_waits i == 0)) i) marks p Done
-              (in_marks p (below p started))
+          ≡ shown (is_waiting_mark y && (slice_index after_waits i == 0)) i) marks p Done
+          (in_marks p (below p started))
           (ap (λ m. shown (is_waiting_mark m && (slice_index after_waits i == 0)) i) started) (λ x d. refl) i)
 
       pub finish_keeps : IsGraph sets (set marks p Done) after_waits rows after

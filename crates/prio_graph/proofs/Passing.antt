@@ -35,8 +35,8 @@ module _ (x : NumberedLock) (rest : List NumberedLock) (position n : ℕ) where
       elim (cases_eq x.number n) [
         | inl e ↦
             let put : get_or (set last x.number (Some position)) n None
-                ≡ Some position = subst (λ k. get_or (set last x.number (Some position)) k None ≡ Some position)
-                e (get_or-set_same last x.number (Some position) None l) in
+            ≡ Some position = subst (λ k. get_or (set last x.number (Some position)) k None ≡ Some position)
+            e (get_or-set_same last x.number (Some position) None l) in
             let here : writes_number (x ∷ rest) n ≡ true = ap₂ (λ a b. (a && b) || writes_number rest n) (eq-eqb x.number n e) w in
             ap (writer_after rest position n) put
             ∙ (cond_both (writes_number rest n) (Some position) (Some position) (λ v. v ≡ Some position) (λ t. refl) (λ f. refl)

@@ -88,8 +88,8 @@ found (k ∷ keys) [] at d e up l m = absurd (omega (arith, m))
 found (k ∷ keys) (f ∷ fs) zero d e up l m = ap (λ (b : Bool). cond b (Some f) (find key_cmp k (zip keys fs))) (same_cmp k k ∙ same_key-self k)
 found (k ∷ keys) (f ∷ fs) (suc at) d e up l m =
     ap (λ (b : Bool). cond b (Some f) (find key_cmp (get_or keys at d) (zip keys fs)))
-        ((eq_by_cmp_equiv key_cmp_total).symm (get_or keys at d) k
-        ∙ ap is_eq (Less-from_sorted key_cmp (k ∷ keys) 0 (suc at) d up (omega arith) l))
+    ((eq_by_cmp_equiv key_cmp_total).symm (get_or keys at d) k
+    ∙ ap is_eq (Less-from_sorted key_cmp (k ∷ keys) 0 (suc at) d up (omega arith) l))
     ∙ found keys fs at d e (sorted_tail key_cmp k keys up) (omega (arith, l)) (omega (arith, m))
 
 -- what is kept for keys that ascend
@@ -118,7 +118,7 @@ pub sought-found : (keys : List Key) (kept : List Kept) (q : Key) (at : ℕ) (d 
 unfolding sought
 sought-found keys kept q at d v are below here is =
     sym (ap (λ (p : Option Sought). unwrap_or p IsAbsent)
-        (subst (λ k. find key_cmp k (listing keys kept) ≡ Some (get_or (each kept_as kept) at (kept_as v))) here
-        (found keys (each kept_as kept) at d (kept_as v) are.ascend below
-        (let e = are.long in let l = length-map kept kept_as in omega (arith, e, l, below)))
+    (subst (λ k. find key_cmp k (listing keys kept) ≡ Some (get_or (each kept_as kept) at (kept_as v))) here
+    (found keys (each kept_as kept) at d (kept_as v) are.ascend below
+    (let e = are.long in let l = length-map kept kept_as in omega (arith, e, l, below)))
     ∙ ap Some (get_or-map kept_as kept at v ∙ ap kept_as (sym is))))

@@ -51,8 +51,8 @@ as_word bytes = ap (λ (t : Text). codes ".const " ++ t) (sym (append-nil (encod
 digits_back : (bytes : List ℕ) → 0 < length bytes → IsBytes bytes → constants_item (encode_lower bytes) ≡ Some (constants bytes)
 digits_back bytes h are =
     let digits : are_digits (encode_lower bytes)
-        ≡ true = and_from (list_all is_hex_digit (encode_lower bytes)) (nat_lt 0 (length (encode_lower bytes)))
-        (hex_digits bytes are) (lt-ltb 0 (length (encode_lower bytes)) (some_digits bytes h)) in
+    ≡ true = and_from (list_all is_hex_digit (encode_lower bytes)) (nat_lt 0 (length (encode_lower bytes)))
+    (hex_digits bytes are) (lt-ltb 0 (length (encode_lower bytes)) (some_digits bytes h)) in
     ap (λ (b : Bool). if b then decoded (decode_of (encode_lower bytes)) else None) digits ∙ ap decoded (decode_of-encode_lower bytes are)
 
 -- a line of constants is read as them

@@ -161,6 +161,6 @@ two_back text p are e s =
     let q = p + 1 in
     let back : drop 4 (low_bytes (pos (wide_number text p))) ≡ imm_of text q =
     high_half low high (byte text q 4) (byte text q 5) (byte text q 6) (byte text q 7) (half_below text p are)
-        (are (8 * q + 4)) (are (8 * q + 5)) (are (8 * q + 6)) (are (8 * q + 7)) (half_is text q are) in
+    (are (8 * q + 4)) (are (8 * q + 5)) (are (8 * q + 6)) (are (8 * q + 7)) (half_is text q are) in
     rw e (ap₂ (λ (x y : List ℕ). x ++ y) (first_back text p (pos (wide_number text p)) are front)
     (ap (λ (rest : List ℕ). 0 ∷ 0 ∷ 0 ∷ 0 ∷ rest) back ∙ second_zeros text q (imm_of text q) s))

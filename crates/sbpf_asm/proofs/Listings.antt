@@ -37,8 +37,8 @@ none_read text = record { slots = refl; constants = refl; settles = refl }
 all_read : (image : ImageParts) → IsVerified image.text → IsBytes image.text → IsBytes image.constants → Read image.text (slot_count image.text) 1 image.constants empty (listing image)
 all_read image v text constants =
     let w = walked image.text (constant_lines image.constants) v text (slot_count image.text) 0 1 empty
-        (omega arith) (omega arith) (λ l. (start_there image.text 0 (first_start image.text v)).1)
-        (none_read image.text) in
+    (omega arith) (omega arith) (λ l. (start_there image.text 0 (first_start image.text v)).1)
+    (none_read image.text) in
     let r = read image.text image.constants (slot_count image.text) constants ((length image.constants + 31) / 32) 0 w.number w.source (omega arith) w.holds in
     let slots : slot_count image.text ≡ slot_count image.text - 0 = omega arith in
     let lines : (length image.constants + 31) / 32 ≡ (length image.constants + 31) / 32 - 0 = omega arith in
@@ -67,8 +67,8 @@ image_again image s v fit few h =
     ∙ ap (λ (c : List ℕ). nat_lt max_slots (slot_count image.text) || nat_lt max_data_len (16 + 8 * slot_count image.text + length c)) h.constants
     ∙ within (slot_count image.text) (length image.constants) (slots_there image.text v).1 few in
     let text : slots_after s.labels [] s.instructions ≡ Ok image.text = h.settles
-        ∙ ap (λ (t : List ℕ). Ok t) (take_all (8 * slot_count image.text) image.text
-        (whole_slots (length image.text) v.len)) in
+    ∙ ap (λ (t : List ℕ). Ok t) (take_all (8 * slot_count image.text) image.text
+    (whole_slots (length image.text) v.len)) in
     ap (λ (b : Bool). if b then Err TooLong else slots_after s.labels [] s.instructions >>= (λ t. verified_image t s.constants)) short
     ∙ ap (λ (r : Result (List ℕ) AsmFault). r >>= (λ t. verified_image t s.constants)) text
     ∙ ap (verified_image image.text) h.constants

@@ -145,9 +145,15 @@ operations : (op : Operation) (a b c d : ℕ) → ((r : ℕ) (i : ℤ) → SlotH
     → ((r : ℕ) (i : ℤ) → SlotHasRow (slot c r 0 (pos 0) i))
     → ((r q : ℕ) → SlotHasRow (slot d r q (pos 0) (pos 0))) → Covers (isa.operation op a b c d)
 operations op a b c d w x y z =
-    record { all = (d_i (Binary op Bits64 Immediate) a refl w,
-    (d_s (Binary op Bits64 Register) b refl x,
-    (d_i (Binary op Bits32 Immediate) c refl y, (d_s (Binary op Bits32 Register) d refl z, tt)))) }
+    record {
+      all = (
+        d_i (Binary op Bits64 Immediate) a refl w,
+        (
+          d_s (Binary op Bits64 Register) b refl x,
+          (d_i (Binary op Bits32 Immediate) c refl y, (d_s (Binary op Bits32 Register) d refl z, tt)),
+        ),
+      );
+    }
 
 jumps : (when : Condition) (a b : ℕ) → ((r : ℕ) (o i : ℤ) → SlotHasRow (slot a r 0 o i)) → ((r q : ℕ) (o : ℤ) → SlotHasRow (slot b r q o (pos 0))) → Covers (isa.jump when a b)
 jumps when a b w x = record { all = (d_o_i (JumpIf when Immediate) a refl w, (d_s_o (JumpIf when Register) b refl x, tt)) }

@@ -57,8 +57,8 @@ binary64_keeps op r s p c =
 binary32_keeps : (op : Operation) (r s p : ℕ) (c : Context) → RowKeeps c.memory (binary32 op r s p c)
 binary32_keeps op r s p c =
     either (RowKeeps c.memory) (divides op && (s % 2 ^ 32 == 0)) (fault DivideByZero c)
-        (Go (p + 1) (put r (value_of op w32 (register c r % 2 ^ 32) (s % 2 ^ 32)) c)) (same_ranges c.memory)
-        (same_ranges c.memory)
+    (Go (p + 1) (put r (value_of op w32 (register c r % 2 ^ 32) (s % 2 ^ 32)) c)) (same_ranges c.memory)
+    (same_ranges c.memory)
 
 leave_keeps : (c : Context) (kept : Option Kept) → RowKeeps c.memory (leave kept c)
 leave_keeps c None = same_ranges c.memory

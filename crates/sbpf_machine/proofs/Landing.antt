@@ -100,9 +100,11 @@ act_lands (Negate Bits32) text p c v t backs = (next_start text p (Negate Bits32
 act_lands LittleEndian text p c v t backs = (next_start text p LittleEndian v t refl, backs)
 act_lands BigEndian text p c v t backs = (next_start text p BigEndian v t refl, backs)
 act_lands Jump text p c v t backs = (jump_start text p Jump _ v t refl, backs)
-act_lands (JumpIf when form) text p c v t backs =
-    (either (λ place. is_start text place ≡ true) _ _ (p + 1) (jump_start text p (JumpIf when form) _ v t refl)
-    (next_start text p (JumpIf when form) v t refl), backs)
+act_lands (JumpIf when form) text p c v t backs = (
+  either (λ place. is_start text place ≡ true) _ _ (p + 1) (jump_start text p (JumpIf when form) _ v t refl)
+      (next_start text p (JumpIf when form) v t refl),
+  backs,
+)
 act_lands Call text p c v t backs =
     let z : ℤ = pos (p + 1) +ℤ (slot_of text p).imm in
     call_lands text p (slot_of text p).src _ z c ((slot_of text p).src == 1) (λ called. jump_start text p Call z v t (rw called refl)) (next_start text p Call v t refl) backs

@@ -99,9 +99,9 @@ at_stack m addr at len is_memory some address inside below =
     let same : frame_size * ((addr - stack_start) / frame_step) + (addr - stack_start) % frame_step ≡ at = omega arith in
     place-stack m addr len is_memory.program some (omega arith) (omega arith)
     ∙ some_place (nat_lt ((addr - stack_start) / frame_step) frame_count && nat_le
-        ((addr - stack_start) % frame_step + len) frame_size)
-        (at_place Stack (frame_size * ((addr - stack_start) / frame_step) + (addr - stack_start) % frame_step))
-        (at_place Stack at)
+    ((addr - stack_start) % frame_step + len) frame_size)
+    (at_place Stack (frame_size * ((addr - stack_start) / frame_step) + (addr - stack_start) % frame_step))
+    (at_place Stack at)
     (grind (arith, nat_tests)) (ap (at_place Stack) same)
 
 at_region : (m : Ranges) (addr len at : ℕ) (region : Region) → IsMemory m → 1 ≤ len → addr ≡ address_in at region → RoomIn m len at region → place_of m addr len ≡ at_place region at

@@ -39,8 +39,8 @@ place-program m addr len program some after before = grind (arith, nat_tests)
 
 pub place-stack : (m : Ranges) (addr len : ℕ) → length m.program ≤ 2 ^ 32 → 1 ≤ len → stack_start ≤ addr → addr < heap_start
     → place_of m addr len ≡ (if nat_lt ((addr - stack_start) / frame_step) frame_count && nat_le
-        ((addr - stack_start) % frame_step + len) frame_size then at_place Stack
-        (frame_size * ((addr - stack_start) / frame_step) + (addr - stack_start) % frame_step) else None)
+    ((addr - stack_start) % frame_step + len) frame_size then at_place Stack
+    (frame_size * ((addr - stack_start) / frame_step) + (addr - stack_start) % frame_step) else None)
 unfolding place_of
 place-stack m addr len program some after before = grind (arith, nat_tests, outside, in_stack)
 
@@ -56,8 +56,8 @@ rest-program m addr len bound some after before = rw (in_program addr after befo
 
 pub rest-stack : (m : Ranges) (addr len : ℕ) → length m.program ≤ 2 ^ 32 → 1 ≤ len → stack_start ≤ addr → addr < heap_start
     → place_of m addr len ≡ (if nat_lt (addr % range_step / frame_step) frame_count && nat_le
-        (addr % range_step % frame_step + len) frame_size then at_place Stack
-        (frame_size * (addr % range_step / frame_step) + addr % range_step % frame_step) else None)
+    (addr % range_step % frame_step + len) frame_size then at_place Stack
+    (frame_size * (addr % range_step / frame_step) + addr % range_step % frame_step) else None)
 rest-stack m addr len bound some after before = rw (in_frames addr after before) (place-stack m addr len bound some after before)
 
 pub rest-heap : (m : Ranges) (addr len : ℕ) → length m.program ≤ 2 ^ 32 → 1 ≤ len → heap_start ≤ addr → addr < input_start

@@ -33,7 +33,7 @@ pub read-length : (m : Ranges) (addr len : ℕ) → length m.stack ≡ stack_siz
 unfolding read_from
 read-length m addr len stack =
     no_bytes (len == 0) len (bytes_at m addr len (place_of m addr len)) (λ none. grind (arith, nat_tests))
-        (λ some. bytes_at-length m addr len (place_of m addr len) stack (grind (arith, nat_tests)) refl)
+    (λ some. bytes_at-length m addr len (place_of m addr len) stack (grind (arith, nat_tests)) refl)
 
 pub ruleset reads = read-length
 

@@ -83,8 +83,8 @@ pub start_instruction : (text : List ℕ) (place : ℕ) → IsVerified text → 
 start_instruction text place v h =
     let there : (place < slot_count text) × (((slot_of text place).opcode == 0) ≡ false) = start_there text place h in
     let found : (kind : OpKind) × (kind_at (slot_of text place).opcode ≡ Some kind) = some_row
-        (kind_at (slot_of text place).opcode) ((slot_of text place).opcode == 0) (follows_wide text place)
-        (rows_at text place v there.0).0 there.1 in
+    (kind_at (slot_of text place).opcode) ((slot_of text place).opcode == 0) (follows_wide text place)
+    (rows_at text place v there.0).0 there.1 in
     (found.0, there_instruction text place there.0 ∙ found.1)
 
 -- a jump, or a call into the program, leads to a start
@@ -163,8 +163,8 @@ after_two text place v h =
     let half : (place + 1 < slot_count text) × ((slot_of text (place + 1)).opcode ≡ 0) = second_half text place v h in
     let zero_is_other : (o : ℕ) → o ≡ 0 → (o ≢ 0x95) × ((o ≢ 0x05) × ((o == 0x18) ≡ false)) = λ o e. (omega arith, (omega arith, grind (arith, nat_tests))) in
     let other : ((slot_of text (place + 1)).opcode ≢ 0x95)
-        × (((slot_of text (place + 1)).opcode ≢ 0x05) × (((slot_of text (place + 1)).opcode == 0x18) ≡ false)) =
-        zero_is_other (slot_of text (place + 1)).opcode half.1 in
+    × (((slot_of text (place + 1)).opcode ≢ 0x05) × (((slot_of text (place + 1)).opcode == 0x18) ≡ false)) =
+    zero_is_other (slot_of text (place + 1)).opcode half.1 in
     let same : place + 2 ≡ place + 1 + 1 = omega arith in
     rw same (start_unless_after_wide text (place + 1 + 1) v (not_last text (place + 1) v half.0 other.0 other.1.0) (follows_one text (place + 1) other.1.1))
 

@@ -147,9 +147,18 @@ account_takes total before bytes e rest are h =
     let front = key_bytes key ++ to_le_bytes w64 lamports ++ key_bytes owner ++ flag executable ∷ [] in
     let all = follows front (data_bytes held) rest to_flag (onward (data_bytes held) e5 p.1) in
     let spelled = all ∙ ap (λ (l : List ℕ). l ++ rest) (sym (append_assoc front (to_le_bytes w32 (length held)) held)) in
-    subst (λ (v : KeyedAccount). KeyedFits before v × (bytes ≡ keyed_bytes v ++ rest)) p.0
-    (record { key = f1.0; above = f1.1; some = some_lamports before lamports f2; supply_fits = lamports_fit
-        before lamports f2; owner = f3; short = count_le max_data_len (length held) f5.0 }, spelled))))))
+    subst (λ (v : KeyedAccount). KeyedFits before v × (bytes ≡ keyed_bytes v ++ rest)) p.0 (
+      record {
+        key = f1.0;
+        above = f1.1;
+        some = some_lamports before lamports f2;
+        supply_fits = lamports_fit
+            before lamports f2;
+        owner = f3;
+        short = count_le max_data_len (length held) f5.0;
+      },
+      spelled,
+    ))))))
 
 account_reads : (total : ℕ) (before : List KeyedAccount) → Reads (account_after total before) keyed_bytes (KeyedFits before)
 account_reads total before = record { again = account_again total before; takes = account_takes total before }

@@ -76,10 +76,16 @@ limits_takes total bytes limits rest are h =
     let a = follows (to_le_bytes w16 keys) (height ∷ []) r2 e1 e2 in
     let b = follows (to_le_bytes w16 keys ++ height ∷ []) (to_le_bytes w64 key_units) r3 a e3 in
     let c = follows (to_le_bytes w16 keys ++ height ∷ [] ++ to_le_bytes w64 key_units) (to_le_bytes w64 block_units) rest b (onward (to_le_bytes w64 block_units) e4 p.1) in
-    subst (λ (v : Limits). AreAllowed v × (bytes ≡ limits_bytes v ++ rest)) p.0
-    (record { keys = in_range max_transaction_keys keys f1.1; height = in_range max_stack_height height f2.1;
-        key_units = in_range max_block_units key_units f3.1; block_units = in_range max_block_units block_units
-        f4.1 }, c)))))
+    subst (λ (v : Limits). AreAllowed v × (bytes ≡ limits_bytes v ++ rest)) p.0 (
+      record {
+        keys = in_range max_transaction_keys keys f1.1;
+        height = in_range max_stack_height height f2.1;
+        key_units = in_range max_block_units key_units f3.1;
+        block_units = in_range max_block_units block_units
+            f4.1;
+      },
+      c,
+    )))))
 
 limits_reads : (total : ℕ) → Reads (limits_at total) limits_bytes AreAllowed
 limits_reads total = record { again = limits_again total; takes = limits_takes total }

@@ -211,7 +211,7 @@ unfolding marks_at
 marks_take total bytes marks rest h =
     let a = bind_ok (count_at BadField max_marks total bytes) _ (marks, rest) h in
     items_behind behind_mark a.0.0 bytes a.0.1 rest (counts BadField max_marks total bytes a.0.0 a.0.1 a.1)
-        (many_take behind_mark (λ _. mark_at total) (λ _. mark_takes total) a.0.0 [] a.0.1 marks rest a.2)
+    (many_take behind_mark (λ _. mark_at total) (λ _. mark_takes total) a.0.0 [] a.0.1 marks rest a.2)
 
 entries_take : (total : ℕ) (bytes : List ℕ) (entries : List KeyedAccount) (rest : List ℕ) → entries_at total bytes ≡ Ok (entries, rest) → behind_items behind_account bytes ≡ Some rest
 unfolding entries_at

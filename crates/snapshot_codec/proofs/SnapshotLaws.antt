@@ -33,7 +33,7 @@ pub record SnapshotFits (s : Snapshot) : Type 0 where
 
 one_again : (total slot : ℕ) (marks : List Mark) (state : State) (rest : List ℕ) → slot < 2 ^ 64 → MarksFit marks → StateFits state
     → snapshot_at total (codes "SOLSNAP1" ++ to_le_bytes w64 slot ++ marks_bytes marks ++ state_bytes state
-        ++ rest) ≡ Ok (record { slot = slot; limits = first_limits; recent = marks; accounts = state }, rest)
+    ++ rest) ≡ Ok (record { slot = slot; limits = first_limits; recent = marks; accounts = state }, rest)
 unfolding snapshot_at
 one_again total slot marks state rest fits marks_fit state_fit =
     let after = state_bytes state ++ rest in
@@ -44,8 +44,8 @@ one_again total slot marks state rest fits marks_fit state_fit =
 
 two_again : (total slot : ℕ) (limits : Limits) (marks : List Mark) (state : State) (rest : List ℕ) → slot < 2 ^ 64 → AreAllowed limits → MarksFit marks → StateFits state
     → snapshot_at total (codes "SOLSNAP2" ++ to_le_bytes w64 slot ++ limits_bytes limits ++ marks_bytes marks
-        ++ state_bytes state ++ rest)
-        ≡ Ok (record { slot = slot; limits = limits; recent = marks; accounts = state }, rest)
+    ++ state_bytes state ++ rest)
+    ≡ Ok (record { slot = slot; limits = limits; recent = marks; accounts = state }, rest)
 unfolding snapshot_at
 two_again total slot limits marks state rest fits allowed marks_fit state_fit =
     let after = state_bytes state ++ rest in
@@ -122,9 +122,15 @@ snapshot_takes total bytes s rest are h =
 readable : (s : Snapshot) → SnapshotFits s → IsReadable s
 readable s fits =
     let each = All-from_recursion MarkFits s.recent fits.marks.each in
-    record { limits = fits.limits; recent = recent-from_fits s.recent fits.marks; messages = λ k d lt.
-        (each k d lt).few; state = fits.state.is_state; accounts = subst (λ n. n ≤ max_accounts)
-        (sym (len-entries s.accounts)) fits.state.few }
+    record {
+      limits = fits.limits;
+      recent = recent-from_fits s.recent fits.marks;
+      messages = λ k d lt.
+          (each k d lt).few;
+      state = fits.state.is_state;
+      accounts = subst (λ n. n ≤ max_accounts)
+          (sym (len-entries s.accounts)) fits.state.few;
+    }
 
 widths : (s : Snapshot) → SnapshotFits s → HasWidths s
 widths s fits =

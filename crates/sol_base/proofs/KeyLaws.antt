@@ -42,8 +42,11 @@ same_key-sym a b = by_test (same_key b a) refl
 
 -- and so does that of two hashes
 pub same_hash-Decides : (a b : Hash32) → Decides (same_hash a b) (a ≡ b)
-same_hash-Decides a b = (λ same. ap (λ (bytes : List ℕ). let hash : Hash32 = record { 0 = bytes } in hash)
-    ((bytes_decides a.0 b.0).0 same), λ e. (bytes_decides a.0 b.0).1 (ap (λ (hash : Hash32). hash.0) e))
+same_hash-Decides a b = (
+  λ same. ap (λ (bytes : List ℕ). let hash : Hash32 = record { 0 = bytes } in hash)
+      ((bytes_decides a.0 b.0).0 same),
+  λ e. (bytes_decides a.0 b.0).1 (ap (λ (hash : Hash32). hash.0) e),
+)
 
 -- keys that compare as equal are the same
 pub key_cmp_exact : CmpEqualImpliesEq key_cmp

@@ -15,5 +15,5 @@ pub first_found : {X Y : Type 0} (f : X → Option Y) (xs : List X) (n : ℕ) (d
 first_found f xs n d y below none here =
     let split : xs ≡ take n xs ++ (get_or xs n d ∷ drop (n + 1) xs) = sym (take-append-drop n xs) ∙ ap (λ ys. take n xs ++ ys) (rw add-one (drop-cons xs n d below)) in
     ap (filter_map f) split ∙ filter_map-append f (take n xs) (get_or xs n d ∷ drop (n + 1) xs)
-        ∙ ap (λ ys. ys ++ filter_map f (get_or xs n d ∷ drop (n + 1) xs)) none
-        ∙ ap (λ o. cons_option o (filter_map f (drop (n + 1) xs))) here
+    ∙ ap (λ ys. ys ++ filter_map f (get_or xs n d ∷ drop (n + 1) xs)) none
+    ∙ ap (λ o. cons_option o (filter_map f (drop (n + 1) xs))) here

@@ -35,9 +35,11 @@ above_differs a b above = differ a b (same_hash a b) refl (λ equal. cc)
 
 missed : (hashes : List Hash32) (hash : Hash32) (i : ℕ) → IsPartitionPoint (λ one. hash_cmp one hash ≡ Less) (λ one. hash_cmp one hash ≡ Greater) hashes i → has_hash hashes hash ≡ false
 missed hashes hash i parts = list_any_none (λ one. same_hash one hash) hashes
-    (λ k d within. elim (cases_lt k i)
-    [ inl early ↦ below_differs _ hash (parts.0 k d (omega arith) early) | inr late ↦ above_differs _ hash
-    (parts.1 k d late within) ])
+    (λ k d within. elim (cases_lt k i) [
+      | inl early ↦ below_differs _ hash (parts.0 k d (omega arith) early)
+      | inr late ↦ above_differs _ hash
+          (parts.1 k d late within)
+    ])
 
 -- the search finds a hash exactly where it is there
 pub search_tells : (hashes : List Hash32) (hash : Hash32) → Ascends hashes → (r : Result ℕ ℕ)

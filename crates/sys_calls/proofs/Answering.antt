@@ -62,8 +62,8 @@ pub served : (number : ℕ) (arguments : List ℕ) (old new : Ranges) (env env' 
     → cost ≡ cost_of call arguments kept
     → (let r : Result (Unit {0}) SysFault = Ok tt in r) ≡ (if nat_lt env.units cost then Err UnitsSpent else Ok tt) → units ≡ env.units - cost
     → Does (effect_of call arguments (plain_memory old) (record env { units = units })) old new
-        (record env { units = units }) env' result
-        → Serves (sys_row number arguments (plain_memory old) env) old new env env' result
+    (record env { units = units }) env' result
+    → Serves (sys_row number arguments (plain_memory old) env) old new env env' result
 served number arguments old new env env' units cost kept call result call_is kept_is cost_is taken left does =
     let all = cost_of (call_numbered number) arguments (length env.returned) in
     let e : cost ≡ all = cost_is ∙ ap (λ (k : SystemCall). cost_of k arguments kept) call_is ∙ ap (λ (n : ℕ). cost_of (call_numbered number) arguments n) kept_is in
@@ -72,8 +72,8 @@ served number arguments old new env env' units cost kept call result call_is kep
     subst (λ (k : SystemCall). Does (effect_of k arguments (plain_memory old) (record env { units = units })) old new (record env { units = units }) env' result) call_is does in
     let by_units : Does (effect_of (call_numbered number) arguments (plain_memory old) (record env { units = env.units - all })) old new (record env { units = env.units - all }) env' result =
     subst (λ (n : ℕ). Does (effect_of (call_numbered number) arguments (plain_memory old)
-        (record env { units = n })) old new (record env { units = n }) env' result)
-        (left ∙ ap (λ (n : ℕ). env.units - n) e) by_call in
+    (record env { units = n })) old new (record env { units = n }) env' result)
+    (left ∙ ap (λ (n : ℕ). env.units - n) e) by_call in
     subst (λ (row : SysAnswer). Serves row old new env env' result) (sym (row-paid number arguments (plain_memory old) env paid))
     (does-serves (effect_of (call_numbered number) arguments (plain_memory old) (record env { units = env.units - all })) old new env env' (env.units - all) result by_units)
 

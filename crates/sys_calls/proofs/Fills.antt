@@ -116,9 +116,9 @@ fill_at : (m0 m after : Ranges) (to at n count b : ℕ) (place : Place) (result 
     → IsMemory m0 → place_of m0 to count ≡ Some place → Free place.region → IsPrepared m0 to count → 1 ≤ n
     → at + n ≤ count
     → write_to m0 to (replicate at b) ≡ Ok m
-        → Answers (or_refusal (write_to m (to + at) (replicate n b))) m after result
-        → (IsPrepared m (to + at) (length (replicate n b)) → HasMemory result)
-        → write_to m0 to (replicate (at + n) b) ≡ Ok after
+    → Answers (or_refusal (write_to m (to + at) (replicate n b))) m after result
+    → (IsPrepared m (to + at) (length (replicate n b)) → HasMemory result)
+    → write_to m0 to (replicate (at + n) b) ≡ Ok after
 fill_at m0 m after to at n count b place result is found free prepared some fits wrote answer ready =
     let kept = write-kept m0 m to (replicate at b) wrote in
     let size : length (replicate n b) ≡ n = length-replicate n b in
@@ -146,9 +146,9 @@ fill_at m0 m after to at n count b place result is found free prepared some fits
 
 pub fill-more : (m0 m after : Ranges) (to at n count b : ℕ) (result : Result (Unit {0}) MemFault) → IsMemory m0 → write_refusal m0 to count ≡ None → IsPrepared m0 to count → 1 ≤ n → at + n ≤ count
     → write_to m0 to (replicate at b) ≡ Ok m
-        → Answers (or_refusal (write_to m (to + at) (replicate n b))) m after result
-        → (IsPrepared m (to + at) (length (replicate n b)) → HasMemory result)
-        → write_to m0 to (replicate (at + n) b) ≡ Ok after
+    → Answers (or_refusal (write_to m (to + at) (replicate n b))) m after result
+    → (IsPrepared m (to + at) (length (replicate n b)) → HasMemory result)
+    → write_to m0 to (replicate (at + n) b) ≡ Ok after
 fill-more m0 m after to at n count b result is free prepared some fits wrote answer ready =
     let t = target m0 to count (omega arith) free in
     fill_at m0 m after to at n count b t.0 result is t.1 t.2 prepared some fits wrote answer ready

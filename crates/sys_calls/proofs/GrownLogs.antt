@@ -152,7 +152,8 @@ module _ (before : Log) where
       by_case : (spent : Bool) → Grows
           (if spent then (let a : SysAnswer = record { units = 0; answer = Err UnitsSpent } in a) else effect_of
           (call_numbered number) arguments m
-          (record env { units = env.units - cost_of (call_numbered number) arguments (length env.returned)
+          (record env {
+            units = env.units - cost_of (call_numbered number) arguments (length env.returned);
           })).answer
       by_case true = tt
       by_case false = effect-grows (call_numbered number) arguments m (record env { units = env.units - cost_of (call_numbered number) arguments (length env.returned) }) grown

@@ -48,10 +48,14 @@ pub slice-refused : (old new : Ranges) (env : Env) (slices count result units : 
     → Does (hashed (plain_memory old) env slices count result) old new env (record env { units = units }) (Err e)
 slice-refused old new env slices count result units list e few read refused left same =
     let g = gathered (plain_memory old) env.units list in
-    rw (hashed-row (plain_memory old) env slices count result list (few-slices count few) read)
-    (told (is_sys_memory e) (refused-answer (plain_memory old) env result g e (sym refused)), λ input. sym left,
-        block env units, rw left (gathered-units (plain_memory old) env.units list),
-        (ap plain_memory same, refl), ap (λ (m : Ranges). m.input.lent) same)
+    rw (hashed-row (plain_memory old) env slices count result list (few-slices count few) read) (
+      told (is_sys_memory e) (refused-answer (plain_memory old) env result g e (sym refused)),
+      λ input. sym left,
+      block env units,
+      rw left (gathered-units (plain_memory old) env.units list),
+      (ap plain_memory same, refl),
+      ap (λ (m : Ranges). m.input.lent) same,
+    )
 
 -- the hash is not written
 pub hash-refused : (old new : Ranges) (env : Env) (slices count result units : ℕ) (list : List Slice)
@@ -61,10 +65,15 @@ pub hash-refused : (old new : Ranges) (env : Env) (slices count result units : �
     → Does (hashed (plain_memory old) env slices count result) old new env (record env { units = units }) (Err e)
 hash-refused old new env slices count result units list hash e few read given left stopped same lent =
     let g = gathered (plain_memory old) env.units list in
-    rw (hashed-row (plain_memory old) env slices count result list (few-slices count few) read)
-    (stops (is_sys_memory e) (write-answer (plain_memory old) env result g hash e (sym given)) stopped, λ input.
-        sym left, block env units, rw left (gathered-units (plain_memory old) env.units list), (same, refl),
-        lent)
+    rw (hashed-row (plain_memory old) env slices count result list (few-slices count few) read) (
+      stops (is_sys_memory e) (write-answer (plain_memory old) env result g hash e (sym given)) stopped,
+      λ input.
+          sym left,
+      block env units,
+      rw left (gathered-units (plain_memory old) env.units list),
+      (same, refl),
+      lent,
+    )
 
 written-answer : (m after : Ranges) (env : Env) (result units : ℕ) (g : Gathered) (hash : List ℕ) → hash_of g.bytes ≡ Ok hash → bytes_written m result hash ≡ Ok after → units ≡ g.units
     → (hash_written m env result g).answer ≡ Ok (record { r0 = 0; memory = after; log = env.logs; returned = env.returned; keeper = env.returned_by })
@@ -77,6 +86,12 @@ pub hash-written : (old new : Ranges) (env : Env) (slices count result units : �
     → Does (hashed (plain_memory old) env slices count result) old new env (record env { units = units }) (Ok 0)
 hash-written old new env slices count result units list hash few read given left wrote lent =
     let g = gathered (plain_memory old) env.units list in
-    rw (hashed-row (plain_memory old) env slices count result list (few-slices count few) read)
-    (written-answer (plain_memory old) (plain_memory new) env result units g hash (sym given) wrote left, sym
-        left, block env units, rw left (gathered-units (plain_memory old) env.units list), tt, lent)
+    rw (hashed-row (plain_memory old) env slices count result list (few-slices count few) read) (
+      written-answer (plain_memory old) (plain_memory new) env result units g hash (sym given) wrote left,
+      sym
+          left,
+      block env units,
+      rw left (gathered-units (plain_memory old) env.units list),
+      tt,
+      lent,
+    )

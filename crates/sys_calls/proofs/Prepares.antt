@@ -77,16 +77,16 @@ done m after (Err v) (Err (violation a b c)) ok has answer = absurd (cc)
 pub both-done : (m0 m1 m2 m3 m4 : Ranges) (to : ℕ) (first : List ℕ) (other : ℕ) (second : List ℕ) (result : Result (Unit {0}) MemFault) → KeepsBytes m0 m1 → KeepsBytes m1 m2
     → write_refusal m1 other (length second) ≡ None → IsPrepared m2 other (length second) → or_refusal (write_to m2 to first) ≡ Ok m3
     → Answers (or_refusal (write_to m3 other second)) m3 m4 result
-        → (IsPrepared m3 other (length second) → HasMemory result)
-        → both_written (plain_memory m0) to first other second ≡ Ok (plain_memory m4)
+    → (IsPrepared m3 other (length second) → HasMemory result)
+    → both_written (plain_memory m0) to first other second ≡ Ok (plain_memory m4)
 unfolding both_written
 both-done m0 m1 m2 m3 m4 to first other second result one two free prepared wrote answer ready =
     let w1 : write_to m2 to first ≡ Ok m3 = ok-of m3 (write_to m2 to first) wrote in
     let kept = write-kept m2 m3 to first w1 in
     let free3 : write_refusal m3 other (length second) ≡ None = refusal-written m2 m3 other (length second) kept ∙ refusal-kept m1 m2 other (length second) two ∙ free in
     let w2 : write_to m3 other second
-        ≡ Ok m4 = done m3 m4 (write_to m3 other second) result (write_to-ok m3 other second free3)
-        (ready (prepared-written m2 m3 other (length second) kept prepared)) answer in
+    ≡ Ok m4 = done m3 m4 (write_to m3 other second) result (write_to-ok m3 other second free3)
+    (ready (prepared-written m2 m3 other (length second) kept prepared)) answer in
     let same : plain_memory m2 ≡ plain_memory m0 = plain-kept m1 m2 two ∙ plain-kept m0 m1 one in
     rw (← same, write-plain m2 to first, w1, write-plain m3 other second, w2) refl
 
@@ -96,8 +96,8 @@ then-refused : (m m1 : Ranges) (to : ℕ) (first : List ℕ) (other : ℕ) (seco
     → (or_violation (plain_written r) >>= (λ after. bytes_written after other second)) ≡ Err e
 then-refused m m1 to first other second e (Ok after) kept wrote ok h =
     let same : write_refusal after other (length second)
-        ≡ write_refusal m1 other (length second) = refusal-written m after other (length second)
-        (write-kept m after to first wrote) ∙ sym (refusal-kept m m1 other (length second) kept) in
+    ≡ write_refusal m1 other (length second) = refusal-written m after other (length second)
+    (write-kept m after to first wrote) ∙ sym (refusal-kept m m1 other (length second) kept) in
     checked-refuses after other (length second) second e refl (ap or_tt same ∙ h)
 then-refused m m1 to first other second e (Err v) kept wrote ok h = absurd (cc)
 

@@ -182,7 +182,8 @@ row-kept number arguments m env = by_case (nat_lt env.units (cost_of (call_numbe
     by_case : (spent : Bool) → KeptBy m
         (if spent then (let a : SysAnswer = record { units = 0; answer = Err UnitsSpent } in a) else effect_of
         (call_numbered number) arguments m
-        (record env { units = env.units - cost_of (call_numbered number) arguments (length env.returned)
+        (record env {
+          units = env.units - cost_of (call_numbered number) arguments (length env.returned);
         })).answer
     by_case true = tt
     by_case false = effect-kept (call_numbered number) arguments m _
@@ -242,7 +243,8 @@ sys_row-units number arguments m env = by_case (nat_lt env.units (cost_of (call_
     by_case : (spent : Bool) → (if spent then
         (let a : SysAnswer = record { units = 0; answer = Err UnitsSpent } in a) else effect_of
         (call_numbered number) arguments m
-        (record env { units = env.units - cost_of (call_numbered number) arguments (length env.returned)
+        (record env {
+          units = env.units - cost_of (call_numbered number) arguments (length env.returned);
         })).units ≤ env.units
     by_case true = omega arith
     by_case false =

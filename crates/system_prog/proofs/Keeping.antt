@@ -54,11 +54,17 @@ slice_get-set_other accounts at place account differ = elim (cases_lt place (len
 -- one of the two changes
 stays-set : (one two at : ℕ) (accounts : List Account) (account : Account) → (at ≡ one) ⊎ (at ≡ two) → StaysBut one two accounts (set accounts at account)
 stays-set one two at accounts account (inl first) =
-    record { count = length-set accounts at account; same = λ place off_one off_two. slice_get-set_other
-    accounts at place account (λ here. off_one (here ∙ first)) }
+    record {
+      count = length-set accounts at account;
+      same = λ place off_one off_two. slice_get-set_other
+          accounts at place account (λ here. off_one (here ∙ first));
+    }
 stays-set one two at accounts account (inr second) =
-    record { count = length-set accounts at account; same = λ place off_one off_two. slice_get-set_other
-    accounts at place account (λ here. off_two (here ∙ second)) }
+    record {
+      count = length-set accounts at account;
+      same = λ place off_one off_two. slice_get-set_other
+          accounts at place account (λ here. off_two (here ∙ second));
+    }
 
 -- an answer that is given
 stays-ok : (one two : ℕ) (accounts made after : List Account) → StaysBut one two accounts made → (let answer : Answer = Ok made in answer) ≡ Ok after → StaysBut one two accounts after
@@ -94,9 +100,9 @@ module _ (listed : Listed) (one two : ℕ) where
       let free = not_refused_by (is_taken account) (Custom 0) _ after signed.1 in
       let small = not_refused_by (nat_lt max_data_len space) (Custom 3) _ after free.1 in
       stays-ok one two accounts (with_account listed accounts role
-          (record account { bytes = replicate space 0 })) after
-          (stays-set one two (place_in listed role) accounts (record account { bytes = replicate space 0 }) at)
-          small.1
+      (record account { bytes = replicate space 0 })) after
+      (stays-set one two (place_in listed role) accounts (record account { bytes = replicate space 0 }) at)
+      small.1
 
   assign-stays : (authority : Authority) (role : ℕ) (owner : Key) (accounts after : List Account)
       → (place_in listed role ≡ one) ⊎ (place_in listed role ≡ two)
@@ -106,12 +112,12 @@ module _ (listed : Listed) (one two : ℕ) where
       let account = account_in listed accounts role in
       let owned : Account = record account { owner = owner } in
       either-stays one two (same_key account.owner owner) accounts after
-          (if not (signs_in listed authority role) then Err (MissingSignature role) else Ok
-          (with_account listed accounts role owned))
-          (λ given. stays-ok one two accounts (with_account listed accounts role owned) after
-          (stays-set one two (place_in listed role) accounts owned at)
-          (not_refused_by (not (signs_in listed authority role)) (MissingSignature role)
-          (Ok (with_account listed accounts role owned)) after given).1) ok
+      (if not (signs_in listed authority role) then Err (MissingSignature role) else Ok
+      (with_account listed accounts role owned))
+      (λ given. stays-ok one two accounts (with_account listed accounts role owned) after
+      (stays-set one two (place_in listed role) accounts owned at)
+      (not_refused_by (not (signs_in listed authority role)) (MissingSignature role)
+      (Ok (with_account listed accounts role owned)) after given).1) ok
 
   moved-stays : (from to lamports : ℕ) (accounts : List Account)
       → (place_in listed from ≡ one) ⊎ (place_in listed from ≡ two)
@@ -124,10 +130,10 @@ module _ (listed : Listed) (one two : ℕ) where
       let given : Account = record payee { lamports = payee.lamports + lamports } in
       let half = with_account listed accounts from paid in
       choice-stays one two (place_in listed from == place_in listed to) accounts accounts
-          (with_account listed half to given) (stays-refl one two accounts)
-          (stays-trans one two accounts half (with_account listed half to given)
-          (stays-set one two (place_in listed from) accounts paid first)
-          (stays-set one two (place_in listed to) half given second))
+      (with_account listed half to given) (stays-refl one two accounts)
+      (stays-trans one two accounts half (with_account listed half to given)
+      (stays-set one two (place_in listed from) accounts paid first)
+      (stays-set one two (place_in listed to) half given second))
 
   pay-stays : (from to lamports : ℕ) (accounts after : List Account)
       → (place_in listed from ≡ one) ⊎ (place_in listed from ≡ two)
@@ -179,9 +185,9 @@ module _ (listed : Listed) where
       let key = bind_ok (derived listed 0 base seed owner) _ after ok in
       let roomy = bind_ok (allocate listed (by_base listed 0 base) 0 space accounts) _ after key.2 in
       stays-trans _ _ _ _ _ (allocate-stays listed (place_in listed 0) (place_in listed 0)
-          (by_base listed 0 base) 0 space accounts roomy.0 (inl refl) roomy.1)
-          (assign-stays listed (place_in listed 0) (place_in listed 0) (by_base listed 0 base) 0 owner roomy.0
-          after (inl refl) roomy.2)
+      (by_base listed 0 base) 0 space accounts roomy.0 (inl refl) roomy.1)
+      (assign-stays listed (place_in listed 0) (place_in listed 0) (by_base listed 0 base) 0 owner roomy.0
+      after (inl refl) roomy.2)
   row-stays (AssignWithSeed base seed owner) accounts after ok = assign-stays listed (place_in listed 0)
       (place_in listed 0) (by_base listed 0 base) 0 owner accounts after (inl refl)
       (bind_ok (derived listed 0 base seed owner) _ after ok).2

@@ -44,10 +44,13 @@ found (meta ∷ metas) test some = by_meta meta.signer (test meta.index) refl re
         → (list_any (λ one. one.signer && test one.index) metas ≡ true → Found metas test)
         → Found (meta ∷ metas) test
     by_meta true true signed passed some again =
-        record { place = meta.index; signs_there = or_left (nat_eq meta.index meta.index && meta.signer)
-        (is_listed_signer metas meta.index)
-        (and_from (nat_eq meta.index meta.index) meta.signer (eq-eqb meta.index meta.index refl) signed);
-        passes = passed }
+        record {
+          place = meta.index;
+          signs_there = or_left (nat_eq meta.index meta.index && meta.signer)
+              (is_listed_signer metas meta.index)
+              (and_from (nat_eq meta.index meta.index) meta.signer (eq-eqb meta.index meta.index refl) signed);
+          passes = passed;
+        }
     by_meta true false signed passed some again = before (again some)
     by_meta false t signed passed some again = before (again some)
 
@@ -119,10 +122,10 @@ module _ (keys : List Key) (some others : List Meta) (same : SameListing some ot
       if nat_lt (account_at accounts (places from i)).lamports lamports then Err (Custom 1) else
       Ok (if places from i == places to i then accounts else
       set (set accounts (places from i)
-          (record (account_at accounts (places from i))
-          { lamports = (account_at accounts (places from i)).lamports - lamports })) (places to i)
-          (record (account_at accounts (places to i))
-          { lamports = (account_at accounts (places to i)).lamports + lamports }))
+      (record (account_at accounts (places from i))
+      { lamports = (account_at accounts (places from i)).lamports - lamports })) (places to i)
+      (record (account_at accounts (places to i))
+      { lamports = (account_at accounts (places to i)).lamports + lamports }))
 
   same_transfer : (authority : Authority) (from to lamports : ℕ) (accounts : List Account) → transfer one authority from to lamports accounts ≡ transfer two authority from to lamports accounts
   unfolding transfer

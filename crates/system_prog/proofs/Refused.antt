@@ -207,6 +207,6 @@ system_fits keys accounts metas input =
     let count : ℕ = length metas in
     bind_refuses (Fits count) (instruction_in input) _ (instruction_fits count input)
     (λ instruction is. bind_refuses (Fits count)
-        (counted_row (record { keys = keys; metas = metas }) instruction accounts) _
-        (counted_fits count (record { keys = keys; metas = metas }) instruction accounts)
+    (counted_row (record { keys = keys; metas = metas }) instruction accounts) _
+    (counted_fits count (record { keys = keys; metas = metas }) instruction accounts)
     (λ after made. bind_refuses (Fits count) (rules_kept metas accounts after) _ (rules_fit metas accounts after) (λ kept passed. tt)))

@@ -45,21 +45,21 @@ pub item-more : {X : Type 0} (one : Data → Read X) (done : List X) (values : L
     (inner outer : Read X) (x : X) (total : Read (List X)) → i < length values → v ≡ get_or values i v
     → Gives is_json_memory (λ y. y) inner (one (view v))
     → Gives is_json_memory (λ y. y) outer (within (Item i) inner) → outer ≡ Ok x
-        → lists.joined done (items_in (lone one) i (map view (drop i values))) ≡ total
-        → lists.joined (done ++ x ∷ []) (items_in (lone one) (i + 1) (map view (drop (i + 1) values))) ≡ total
+    → lists.joined done (items_in (lone one) i (map view (drop i values))) ≡ total
+    → lists.joined (done ++ x ∷ []) (items_in (lone one) (i + 1) (map view (drop (i + 1) values))) ≡ total
 item-more one done values i v inner outer x total below is inside outside answered so_far =
     lists.item-more (lone one) done values i v (listed inner) (listed outer) (x ∷ []) total below is
-        (listed_gives inner (one (view v)) inside) (outer_gives (Item i) inner outer outside)
-        (ap listed answered) so_far
+    (listed_gives inner (one (view v)) inside) (outer_gives (Item i) inner outer outside)
+    (ap listed answered) so_far
 
 -- one is refused, or memory ran out
 pub item-stops : {X : Type 0} (one : Data → Read X) (done : List X) (values : List Value) (i : ℕ) (v : Value)
     (inner outer : Read X) (e : JsonFault) (total : Read (List X)) → i < length values → v ≡ get_or values i v
     → Gives is_json_memory (λ y. y) inner (one (view v))
     → Gives is_json_memory (λ y. y) outer (within (Item i) inner) → outer ≡ Err e
-        → lists.joined done (items_in (lone one) i (map view (drop i values))) ≡ total
-        → MatchBool (is_json_memory e) (Unit {0}) (total ≡ Err e)
+    → lists.joined done (items_in (lone one) i (map view (drop i values))) ≡ total
+    → MatchBool (is_json_memory e) (Unit {0}) (total ≡ Err e)
 item-stops one done values i v inner outer e total below is inside outside answered so_far =
     lists.item-stops (lone one) done values i v (listed inner) (listed outer) e total below is
-        (listed_gives inner (one (view v)) inside) (outer_gives (Item i) inner outer outside)
-        (ap listed answered) so_far
+    (listed_gives inner (one (view v)) inside) (outer_gives (Item i) inner outer outside)
+    (ap listed answered) so_far

@@ -95,8 +95,8 @@ text_same place field text = no_line (bytes_eq text text) (field_line place fiel
 bytes_told : (place field left right : List ℕ) → bytes_line place field left right ≡ [] → left ≡ right
 bytes_told place field left right h =
     (bytes_eq-Decides left right).0
-        (test_holds (bytes_eq left right) (field_line place field (encode_lower left) (encode_lower right))
-        (field_some place field (encode_lower left) (encode_lower right)) h)
+    (test_holds (bytes_eq left right) (field_line place field (encode_lower left) (encode_lower right))
+    (field_some place field (encode_lower left) (encode_lower right)) h)
 
 bytes_same : (place field bytes : List ℕ) → bytes_line place field bytes bytes ≡ []
 bytes_same place field bytes = no_line (bytes_eq bytes bytes) (field_line place field (encode_lower bytes) (encode_lower bytes)) ((bytes_eq-Decides bytes bytes).1 refl)
@@ -116,9 +116,9 @@ status_told place left right is_left is_right h =
     let one = status_bytes_of left in
     let two = status_bytes_of right in
     let same : one ≡ two = (bytes_eq-Decides one two).0
-        (test_holds (bytes_eq one two)
-        (field_line place (codes "status") (shown_status left) (shown_status right))
-        (field_some place (codes "status") (shown_status left) (shown_status right)) h) in
+    (test_holds (bytes_eq one two)
+    (field_line place (codes "status") (shown_status left) (shown_status right))
+    (field_some place (codes "status") (shown_status left) (shown_status right)) h) in
     same_Some left right (sym (status_from-status_bytes_of left is_left) ∙ ap status_from same ∙ status_from-status_bytes_of right is_right)
 
 status_same : (place : List ℕ) (status : Status) → status_line place status status ≡ []
@@ -204,8 +204,8 @@ of_found P s key account all found =
 found_at : (s : State) (at : ℕ) (e : Key × Account) → slice_get (entries s) at ≡ Some e → get s e.0 ≡ Some e.1
 found_at s at e here =
     (get-entries s e.0 ∙ find-lookup key_cmp e.0 (entries s))
-        ∙ lookup_from_place {eq = eq_by_cmp key_cmp} (eq_by_cmp_equiv key_cmp_total) (entries s) at e.0 e.1
-        (IsDistinct-from_sorted key_cmp (keys_of (entries s)) (sorted-entries key_cmp s)) here
+    ∙ lookup_from_place {eq = eq_by_cmp key_cmp} (eq_by_cmp_equiv key_cmp_total) (entries s) at e.0 e.1
+    (IsDistinct-from_sorted key_cmp (keys_of (entries s)) (sorted-entries key_cmp s)) here
 
 account_told : (key : Key) (left right : Account) → account_lines key left right ≡ [] → left ≡ right
 unfolding account_lines
@@ -228,9 +228,9 @@ unfolding account_lines
 account_same key account =
     let place = account_place key in
     none_both (none_both (none_both (number_same place (codes "lamports") account.lamports)
-        (bytes_same place (codes "owner") account.owner.0))
-        (flag_same place (codes "executable") account.executable))
-        (bytes_same place (codes "data") account.bytes)
+    (bytes_same place (codes "owner") account.owner.0))
+    (flag_same place (codes "executable") account.executable))
+    (bytes_same place (codes "data") account.bytes)
 
 left_told : (right : State) (e : Key × Account) → left_lines right e ≡ [] → get right e.0 ≡ Some e.1
 left_told right e h = by_found (get right e.0) h
@@ -268,9 +268,9 @@ accounts_same : (s : State) → accounts_lines s s ≡ []
 accounts_same s =
     none_both
     (all_none (left_lines s) (entries s)
-        (all_from (λ e. left_lines s e ≡ []) (entries s)
-        (λ at e here. subst (λ (o : Option Account). left_by e.0 e.1 o ≡ []) (sym (found_at s at e here))
-        (account_same e.0 e.1))))
+    (all_from (λ e. left_lines s e ≡ []) (entries s)
+    (λ at e here. subst (λ (o : Option Account). left_by e.0 e.1 o ≡ []) (sym (found_at s at e here))
+    (account_same e.0 e.1))))
     (all_none (right_lines s) (entries s) (all_from (λ e. right_lines s e ≡ []) (entries s) (λ at e here. subst (λ (o : Option Account). right_by e.0 o ≡ []) (sym (found_at s at e here)) refl)))
 
 -- ---- marks
@@ -298,9 +298,9 @@ mark_told at left right lefts rights h =
     let b = bytes_line place (codes "messages") (flat_map hash_bytes left.messages) (flat_map hash_bytes right.messages) in
     let hash = bytes_told place (codes "hash") left.hash.0 right.hash.0 (none_first a b h) in
     let messages = hashes_told left.messages right.messages (recursion_from_All IsHash left.messages lefts)
-        (recursion_from_All IsHash right.messages rights)
-        (bytes_told place (codes "messages") (flat_map hash_bytes left.messages)
-        (flat_map hash_bytes right.messages) (none_second a b h)) in
+    (recursion_from_All IsHash right.messages rights)
+    (bytes_told place (codes "messages") (flat_map hash_bytes left.messages)
+    (flat_map hash_bytes right.messages) (none_second a b h)) in
     λ i. record { hash = record { 0 = hash i }; messages = messages i }
 
 marks_told : Tells mark_pair HasNames
@@ -336,9 +336,9 @@ unfolding limits_lines
 limits_same limits =
     let place = codes "limits" in
     none_both (none_both (none_both (number_same place (codes "keys") limits.keys)
-        (number_same place (codes "height") limits.height))
-        (number_same place (codes "key_units") limits.key_units))
-        (number_same place (codes "block_units") limits.block_units)
+    (number_same place (codes "height") limits.height))
+    (number_same place (codes "key_units") limits.key_units))
+    (number_same place (codes "block_units") limits.block_units)
 
 snapshot_told : (left right : Snapshot) → snapshot_codec.HasWidths left → snapshot_codec.HasWidths right → snapshot_lines left right ≡ [] → left ≡ right
 unfolding snapshot_lines
@@ -353,8 +353,8 @@ snapshot_told left right lefts rights h =
     let slot = number_told place (codes "slot") left.slot right.slot (none_first a b two) in
     let limits = limits_told left.limits right.limits (none_second a b two) in
     let recent = lists_told mark_pair HasNames marks_told left.recent right.recent
-        (recursion_from_All HasNames left.recent lefts.names)
-        (recursion_from_All HasNames right.recent rights.names) (none_second (a ++ b) c three) in
+    (recursion_from_All HasNames left.recent lefts.names)
+    (recursion_from_All HasNames right.recent rights.names) (none_second (a ++ b) c three) in
     let accounts = accounts_told left.accounts right.accounts (none_second (a ++ b ++ c) d h) in
     λ i. record { slot = slot i; limits = limits i; recent = recent i; accounts = accounts i }
 
@@ -362,8 +362,8 @@ snapshot_same : (s : Snapshot) → snapshot_lines s s ≡ []
 unfolding snapshot_lines
 snapshot_same s =
     none_both (none_both (none_both (number_same (codes "snapshot") (codes "slot") s.slot)
-        (limits_same s.limits)) (pairs_same mark_pair s.recent mark_same
-        (longer (length s.recent) (length s.recent)))) (accounts_same s.accounts)
+    (limits_same s.limits)) (pairs_same mark_pair s.recent mark_same
+    (longer (length s.recent) (length s.recent)))) (accounts_same s.accounts)
 
 pub snapshots_are_told : SnapshotsAreTold
 snapshots_are_told left right lefts rights =
@@ -413,10 +413,10 @@ entry_same at None = refl
 entry_same at (Some entry) =
     let place = entry_place at in
     none_both (none_both (none_both
-        (none_both (bytes_same place (codes "transaction") entry.wire) (status_same place entry.status))
-        (number_same place (codes "units") entry.units)) (number_same place (codes "fee") entry.fee))
-        (pairs_same (line_pair place) entry.lines (line_same place)
-        (longer (length entry.lines) (length entry.lines)))
+    (none_both (bytes_same place (codes "transaction") entry.wire) (status_same place entry.status))
+    (number_same place (codes "units") entry.units)) (number_same place (codes "fee") entry.fee))
+    (pairs_same (line_pair place) entry.lines (line_same place)
+    (longer (length entry.lines) (length entry.lines)))
 
 entries_told : Tells entry_pair HasStatus
 entries_told at None None lefts rights h = refl
@@ -446,8 +446,8 @@ block_told left right lefts rights h =
     let collector = bytes_told place (codes "collector") left.collector.0 right.collector.0 (none_second a b two) in
     let previous = bytes_told place (codes "previous") left.previous.0 right.previous.0 (none_second (a ++ b) c three) in
     let entries = lists_told entry_pair HasStatus entries_told left.entries right.entries
-        (recursion_from_All HasStatus left.entries lefts.statuses)
-        (recursion_from_All HasStatus right.entries rights.statuses) (none_second (a ++ b ++ c) d four) in
+    (recursion_from_All HasStatus left.entries lefts.statuses)
+    (recursion_from_All HasStatus right.entries rights.statuses) (none_second (a ++ b ++ c) d four) in
     let burned = number_told place (codes "burned") left.burned right.burned (none_second (a ++ b ++ c ++ d) e five) in
     let collected = number_told place (codes "collected") left.collected right.collected (none_second (a ++ b ++ c ++ d ++ e) f six) in
     let state = bytes_told place (codes "state") left.state.0 right.state.0 (none_second (a ++ b ++ c ++ d ++ e ++ f) g seven) in
@@ -468,14 +468,14 @@ unfolding block_lines
 block_same block =
     let place = codes "block" in
     none_both (none_both (none_both
-        (none_both (none_both (none_both
-        (none_both (number_same place (codes "slot") block.slot)
-        (bytes_same place (codes "collector") block.collector.0))
-        (bytes_same place (codes "previous") block.previous.0))
-        (pairs_same entry_pair block.entries entry_same (longer (length block.entries) (length block.entries))))
-        (number_same place (codes "burned") block.burned))
-        (number_same place (codes "collected") block.collected))
-        (bytes_same place (codes "state") block.state.0)) (bytes_same place (codes "hash") block.hash.0)
+    (none_both (none_both (none_both
+    (none_both (number_same place (codes "slot") block.slot)
+    (bytes_same place (codes "collector") block.collector.0))
+    (bytes_same place (codes "previous") block.previous.0))
+    (pairs_same entry_pair block.entries entry_same (longer (length block.entries) (length block.entries))))
+    (number_same place (codes "burned") block.burned))
+    (number_same place (codes "collected") block.collected))
+    (bytes_same place (codes "state") block.state.0)) (bytes_same place (codes "hash") block.hash.0)
 
 pub blocks_are_told : BlocksAreTold
 blocks_are_told left right lefts rights =

@@ -28,8 +28,8 @@ classes_count (m ∷ ms) = by_class m.signer m.writable (classes_count ms)
         → length (if s && w then m ∷ filter is_writable_signer ms else filter is_writable_signer ms) + length
         (if s && not w then m ∷ filter is_readonly_signer ms else filter is_readonly_signer ms)
         + length (if not s && w then m ∷ filter is_writable_other ms else filter is_writable_other ms) + length
-            (if not s && not w then m ∷ filter is_readonly_other ms else filter is_readonly_other ms)
-            ≡ suc (length ms)
+        (if not s && not w then m ∷ filter is_readonly_other ms else filter is_readonly_other ms)
+        ≡ suc (length ms)
     by_class true true rest = omega (arith, rest)
     by_class true false rest = omega (arith, rest)
     by_class false true rest = omega (arith, rest)
@@ -42,9 +42,18 @@ ordered_count ms =
     let c = keys_where is_writable_other ms in
     let d = keys_where is_readonly_other ms in
     let key : Mention → Key = λ mention. mention.key in
-    omega (arith, classes_count ms, length-append a b, length-append (a ++ b) c, length-append (a ++ b ++ c) d,
-        length-map (filter is_writable_signer ms) key, length-map (filter is_readonly_signer ms) key, length-map
-        (filter is_writable_other ms) key, length-map (filter is_readonly_other ms) key)
+    omega (
+      arith,
+      classes_count ms,
+      length-append a b,
+      length-append (a ++ b) c,
+      length-append (a ++ b ++ c) d,
+      length-map (filter is_writable_signer ms) key,
+      length-map (filter is_readonly_signer ms) key,
+      length-map
+          (filter is_writable_other ms) key,
+      length-map (filter is_readonly_other ms) key,
+    )
 
 -- ---- the loaded keys
 

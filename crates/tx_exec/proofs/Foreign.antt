@@ -40,8 +40,8 @@ follow_foreign : (t : Chosen) (index : ℕ) (on : List Account → ℕ → ℕ �
     (lists : List Account → ℕ → ℕ → Log → List Key) (programs : List Key) (a : List Account)
     (result : Result (List Account) InstructionError) (e : Ending) →
     ((b : List Account) (units trace : ℕ) (log : Log) → length b ≡ length a
-        → EndForeign (lists b units trace log) b (on b units trace log).result) → GoodKeeps t a result
-        → EndForeign programs a result
+    → EndForeign (lists b units trace log) b (on b units trace log).result) → GoodKeeps t a result
+    → EndForeign programs a result
     → EndForeign (programs ++ programs_after lists result e) a (following index on result e).result
 follow_foreign t index on lists programs a (Ok b) e all k one = through (on b e.units e.carried.trace e.carried.log).result (all b e.units e.carried.trace e.carried.log k.count)
   where
@@ -61,8 +61,11 @@ executed_foreign block t index (i ∷ is) a units trace log there count =
     let s : Fixed = fixed_for block t in
     let e : Ending = instruction s (call_of t i) a units trace log in
     let listed : AreListed (length s.keys) (call_of t i).metas a =
-        record { count = count; range = metas_there t (length (all_keys t.tx.message t.loaded)) i.accounts
-        (All-head (IsThere t) i is there) } in
+    record {
+      count = count;
+      range = metas_there t (length (all_keys t.tx.message t.loaded)) i.accounts
+          (All-head (IsThere t) i is there);
+    } in
     follow_foreign t index (executed s t (index + 1) is) (programs_of_all s t is) (programs_of_instruction s (call_of t i) a units trace log) a e.result e
     (λ b u n l same. executed_foreign block t (index + 1) is b u n l (All-tail (IsThere t) i is there) (same ∙ count))
     (instruction_keeps s t i a units trace log refl (All-head (IsThere t) i is there) count)

@@ -12,8 +12,8 @@ use Rattle.tx_exec.specs.Executing.{Executed, call_of, executed, following, perf
 
 follow_grows : (before : Log) (index : ℕ) (on : List Account → ℕ → ℕ → Log → Executed) (result : Result (List Account) InstructionError) (e : Ending) →
     ((b : List Account) (units trace : ℕ) (log : Log) → HasGrown before log
-        → HasGrown before (on b units trace log).log) → HasGrown before e.carried.log
-        → HasGrown before (following index on result e).log
+    → HasGrown before (on b units trace log).log) → HasGrown before e.carried.log
+    → HasGrown before (following index on result e).log
 follow_grows before index on (Ok b) e all grown = all b e.units e.carried.trace e.carried.log grown
 follow_grows before index on (Err error) e all grown = grown
 

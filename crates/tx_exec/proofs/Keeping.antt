@@ -106,8 +106,11 @@ pub instruction_keeps : (s : Fixed) (t : Chosen) (i : Instruction) (a : List Acc
     → GoodKeeps t a (instruction s (call_of t i) a units trace log).result
 instruction_keeps s t i a units trace log keys there count =
     let listed : AreListed (length (all_keys t.tx.message t.loaded)) (call_of t i).metas a =
-        record { count = count; range = metas_there t (length (all_keys t.tx.message t.loaded)) i.accounts
-        there } in
+    record {
+      count = count;
+      range = metas_there t (length (all_keys t.tx.message t.loaded)) i.accounts
+          there;
+    } in
     cond_both (nat_le max_trace trace) _ _ (λ (e : Ending). GoodKeeps t a e.result) (λ _. tt)
     (λ _. of_end t i a (frame s [] (call_of t i) a units (nothing_returned trace log)).result
     (frame_keeps s [] (call_of t i) a units (nothing_returned trace log) (subst (λ (ks : List Key). AreListed (length ks) (call_of t i).metas a) (sym keys) listed)))

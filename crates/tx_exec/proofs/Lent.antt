@@ -34,9 +34,9 @@ lent_lamports (l ∷ ls) (x ∷ a) (y ∷ b) h k same =
   where
     by_test : (w : Bool) → l.write ≡ w → lamports_in (lent_for_writing ls b) + lamports_in a ≡ lamports_in (lent_for_writing ls a) + lamports_in b →
         lamports_in (if w then y ∷ lent_for_writing ls b else lent_for_writing ls b) +
-            (x.lamports + lamports_in a)
-            ≡ lamports_in (if w then x ∷ lent_for_writing ls a else lent_for_writing ls a) +
-            (y.lamports + lamports_in b)
+        (x.lamports + lamports_in a)
+        ≡ lamports_in (if w then x ∷ lent_for_writing ls a else lent_for_writing ls a) +
+        (y.lamports + lamports_in b)
     by_test true e r = let one = lamports_in-cons y (lent_for_writing ls b) in let two = lamports_in-cons x (lent_for_writing ls a) in omega (arith, one, two, r)
     by_test false e r = let s : Some y ≡ Some x = same 0 l refl e in let t : y ≡ x = cc in let u : y.lamports ≡ x.lamports = ap (λ (z : Account). z.lamports) t in omega (arith, u, r)
 
@@ -62,8 +62,8 @@ pub written_more : (ls : List Lock) (shares so_far next : List (Arc Account Glob
     accounts_of next ≡ map settled (lent_for_writing (take (i + 1) ls) (take (i + 1) (accounts_of shares)))
 written_more ls shares so_far next i l share h k here before pushed =
     let value : get_or (accounts_of shares) i (arc_value share)
-        ≡ arc_value share = get_or-map (λ (s : Arc Account Global). arc_value s) shares i share
-        (arc_value share) k ∙ ap (λ (s : Arc Account Global). arc_value s) (sym here) in
+    ≡ arc_value share = get_or-map (λ (s : Arc Account Global). arc_value s) shares i share
+    (arc_value share) k ∙ ap (λ (s : Arc Account Global). arc_value s) (sym here) in
     let count : length (accounts_of shares) ≡ length shares = length-map shares (λ (s : Arc Account Global). arc_value s) in
     let more = one_more ls (accounts_of shares) i l (arc_value share) h (omega (arith, count, k)) in
     let step : suc i ≡ i + 1 = omega arith in

@@ -22,8 +22,8 @@ dropped_shares : (shares : List (Arc Account Global)) (i : ℕ) (share : Arc Acc
 dropped_shares shares i share h here =
     let count : length (accounts_of shares) ≡ length shares = length-map shares (λ (s : Arc Account Global). arc_value s) in
     let value : get_or (accounts_of shares) i (arc_value share)
-        ≡ arc_value share = get_or-map (λ (s : Arc Account Global). arc_value s) shares i share
-        (arc_value share) h ∙ ap (λ (s : Arc Account Global). arc_value s) (sym here) in
+    ≡ arc_value share = get_or-map (λ (s : Arc Account Global). arc_value s) shares i share
+    (arc_value share) h ∙ ap (λ (s : Arc Account Global). arc_value s) (sym here) in
     drop_more (accounts_of shares) i (arc_value share) (omega (arith, count, h)) ∙ ap (λ (v : Account). v ∷ drop (i + 1) (accounts_of shares)) value
 
 module _ (ls : List Lock) (olds news : List (Arc Account Global)) (i : ℕ) (l : Lock)

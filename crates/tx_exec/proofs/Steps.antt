@@ -60,47 +60,51 @@ module _ (s : Fixed) (t : Chosen) (keys : s.keys ≡ all_keys t.tx.message t.loa
     (index : ℕ) (accounts : List Account) (units trace : ℕ) (log : Log)
     (stands : Stands s t base index accounts units trace log) (i : Instruction)
     (below : index < length t.tx.message.instructions) (here : i ≡ get_or t.tx.message.instructions index i)
-    where
-  abbrev pub ending : Ending
-  ending = instruction s (call_of t i) accounts units trace log
+  where
+    abbrev pub ending : Ending
+    ending = instruction s (call_of t i) accounts units trace log
 
-  next : performed s t base ≡ following index (executed s t (index + 1) (drop (index + 1) t.tx.message.instructions)) ending.result ending
-  unfolding executed
-  next = sym stands.same ∙ rw (drop_more t.tx.message.instructions index i below, ← here) refl
+    next : performed s t base ≡ following index (executed s t (index + 1) (drop (index + 1) t.tx.message.instructions)) ending.result ending
+    unfolding executed
+    next = sym stands.same ∙ rw (drop_more t.tx.message.instructions index i below, ← here) refl
 
-  module _ (named : AreNamed t.tx.message t.loaded i) (ran : Ran) (log' : Log) (run : IsRun ending ran log') where
-    -- the 65th is not started
-    no_start : {after : List Account} → nat_le max_trace trace ≡ true → ending.result ≡ Ok after → ⊥
-    no_start {after} e good = refused (late (nat_le max_trace trace) _ _ after good e)
+    module _ (named : AreNamed t.tx.message t.loaded i) (ran : Ran) (log' : Log) (run : IsRun ending ran log') where
+      -- the 65th is not started
+      no_start : {after : List Account} → nat_le max_trace trace ≡ true → ending.result ≡ Ok after → ⊥
+      no_start {after} e good = refused (late (nat_le max_trace trace) _ _ after good e)
 
-    kept : GoodKeeps t accounts ending.result
-    kept = instruction_keeps s t i accounts units trace log keys named.accounts (stands.given.count ∙ ap length keys)
+      kept : GoodKeeps t accounts ending.result
+      kept = instruction_keeps s t i accounts units trace log keys named.accounts (stands.given.count ∙ ap length keys)
 
-    counts : (after : List Account) → ending.result ≡ Ok after → index + 1 ≤ ran.trace
-    counts after good = by_test (nat_le max_trace trace) refl
-      where
-        by_test : (b : Bool) → nat_le max_trace trace ≡ b → index + 1 ≤ ran.trace
-        by_test true e = absurd (no_start e good)
-        by_test false e =
-            let few : trace < max_trace = grind (arith, nat_tests) in
-            let more = instruction_counts s (call_of t i) accounts units trace log few in
-            let same = run.trace in
-            let old = stands.counted in
-            omega (arith, more, same, old)
+      counts : (after : List Account) → ending.result ≡ Ok after → index + 1 ≤ ran.trace
+      counts after good = by_test (nat_le max_trace trace) refl
+        where
+          by_test : (b : Bool) → nat_le max_trace trace ≡ b → index + 1 ≤ ran.trace
+          by_test true e = absurd (no_start e good)
+          by_test false e =
+              let few : trace < max_trace = grind (arith, nat_tests) in
+              let more = instruction_counts s (call_of t i) accounts units trace log few in
+              let same = run.trace in
+              let old = stands.counted in
+              omega (arith, more, same, old)
 
-    pub good : (after : List (Arc Account Global)) → ran.ended ≡ Good after → Stands s t base (index + 1) (accounts_of after) ran.units ran.trace log'
-    good after well =
-        let r : ending.result ≡ Ok (accounts_of after) = sym run.ended ∙ ap result_as well in
-        let k = subst (λ (result : Result (List Account) InstructionError). GoodKeeps t accounts result) r kept in
-        let lamports = k.lamports in
-        let supply = stands.given.supply in
-        record {
-          same = sym (go_on index _ ending ran after log' run well) ∙ sym next;
-          given = record { count = k.count ∙ stands.given.count; short = k.short stands.given.short; supply = omega (arith, lamports, supply) };
-          counted = counts (accounts_of after) r;
-        }
+      pub good : (after : List (Arc Account Global)) → ran.ended ≡ Good after → Stands s t base (index + 1) (accounts_of after) ran.units ran.trace log'
+      good after well =
+          let r : ending.result ≡ Ok (accounts_of after) = sym run.ended ∙ ap result_as well in
+          let k = subst (λ (result : Result (List Account) InstructionError). GoodKeeps t accounts result) r kept in
+          let lamports = k.lamports in
+          let supply = stands.given.supply in
+          record {
+            same = sym (go_on index _ ending ran after log' run well) ∙ sym next;
+            given = record { count = k.count ∙ stands.given.count; short = k.short stands.given.short; supply = omega (arith, lamports, supply) };
+            counted = counts (accounts_of after) r;
+          }
 
-    pub bad : (error : InstructionError) → ran.ended ≡ Failed error
-        → performed s t base ≡ record { units = ran.units; log = log'; result = Err
-        (record { index = index; cause = error.cause; detail = error.detail }) }
-    bad error failed = next ∙ stop index _ ending ran error log' run failed
+      pub bad : (error : InstructionError) → ran.ended ≡ Failed error
+          → performed s t base ≡ record {
+            units = ran.units;
+            log = log';
+            result = Err
+                (record { index = index; cause = error.cause; detail = error.detail });
+          }
+      bad error failed = next ∙ stop index _ ending ran error log' run failed

@@ -109,7 +109,7 @@ detail_below bytes long are = absurd (omega arith)
 pub status_bytes_of-status_from : (bytes : List ℕ) (status : Status) → length bytes ≡ 8 → IsBytes bytes → status_from bytes ≡ Some status → IsStatus status × (status_bytes_of status ≡ bytes)
 status_bytes_of-status_from bytes status long are h =
     let p = found_parts (slice_index bytes 0) (slice_index bytes 1) (from_le_bytes w16 (take 2 (drop 2 bytes)))
-        (from_le_bytes w32 (take 4 (drop 4 bytes))) status h (are 1) (detail_below bytes long are) in
+    (from_le_bytes w32 (take 4 (drop 4 bytes))) status h (are 1) (detail_below bytes long are) in
     (p.0, sym p.1 ∙ eight bytes long are)
 
 length-status_bytes_of : (status : Status) → length (status_bytes_of status) ≡ 8

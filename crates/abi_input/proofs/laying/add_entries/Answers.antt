@@ -42,12 +42,12 @@ loop-place-preserved c =
 pub returns-clause-bytes : goal.returns-clause-bytes
 returns-clause-bytes c =
     c.loop-place.invariant.bytes
-        ∙ ap (λ (l : List ℕ). c.args.draft.now.bytes ++ l)
-        (flat_all (entry_of c.args.keys.now (accounts_of c.args.accounts.now) c.args.listings.now.metas.now)
-        c.args.listings.now.metas.now c.loop-place.place c.loop-place-test.false)
+    ∙ ap (λ (l : List ℕ). c.args.draft.now.bytes ++ l)
+    (flat_all (entry_of c.args.keys.now (accounts_of c.args.accounts.now) c.args.listings.now.metas.now)
+    c.args.listings.now.metas.now c.loop-place.place c.loop-place-test.false)
 
 pub returns-clause-lent : goal.returns-clause-lent
 returns-clause-lent c =
     c.loop-place.invariant.lent ∙ ap (λ (l : List (ℕ × Account)). c.args.draft.now.lent ++ l)
-        (lent_whole (accounts_of c.args.accounts.now) (accounts_of c.args.accounts.now)
-        c.args.listings.now.metas.now c.loop-place.place c.loop-place-test.false)
+    (lent_whole (accounts_of c.args.accounts.now) (accounts_of c.args.accounts.now)
+    c.args.listings.now.metas.now c.loop-place.place c.loop-place-test.false)

@@ -18,14 +18,14 @@ returns-clause-value c =
     let all = laid_out c.args.keys.now accounts c.args.metas.now c.args.input.now c.args.program.now _ _ c.in_ok-draft.ensures.bytes c.in_ok-add_instruction.ensures.bytes in
     let lent : c.add_instruction.new.draft.lent ≡ lent_in accounts accounts c.args.metas.now = c.add_instruction.ensures.lent ∙ c.in_ok-draft.ensures.lent in
     IfOk-weaker c.finish.result _ _
-        (λ region h. h ∙ ap (λ l. unprepared c.add_instruction.new.draft.bytes l) lent
-        ∙ ap (λ l. unprepared l (lent_in accounts accounts c.args.metas.now)) all) c.finish.ensures
+    (λ region h. h ∙ ap (λ l. unprepared c.add_instruction.new.draft.bytes l) lent
+    ∙ ap (λ l. unprepared l (lent_in accounts accounts c.args.metas.now)) all) c.finish.ensures
 
 pub returns-clause-size : goal.returns-clause-size
 returns-clause-size c =
     let enough : entry_start (accounts_of c.args.accounts.now) c.args.metas.now (length c.args.metas.now) ≤
-        length c.add_instruction.new.draft.bytes = omega
-        (arith, c.in_ok-draft.ensures.size, c.in_ok-add_instruction.ensures.size) in
+    length c.add_instruction.new.draft.bytes = omega
+    (arith, c.in_ok-draft.ensures.size, c.in_ok-add_instruction.ensures.size) in
     IfOk-weaker c.finish.result _ _
-        (λ region h. subst (λ (r : Content). entry_start (accounts_of c.args.accounts.now) c.args.metas.now
-        (length c.args.metas.now) ≤ length r.bytes) (sym h) enough) c.finish.ensures
+    (λ region h. subst (λ (r : Content). entry_start (accounts_of c.args.accounts.now) c.args.metas.now
+    (length c.args.metas.now) ≤ length r.bytes) (sym h) enough) c.finish.ensures

@@ -11,8 +11,8 @@ returns-then-outgrows-clause-err c =
     let test = is_outgrown (accounts_of c.args.laid.now.start.now) (accounts_of c.args.now.now) in
     place_of_found (found_among test c.args.laid.now.listings.metas.now (length c.args.laid.now.listings.metas.now)) c.loop-place.place _
     (found_here test c.args.laid.now.listings.metas.now c.loop-place.place _ c.outgrows.result
-        (slice_get-get_or c.args.laid.now.listings.metas.now c.loop-place.place _ c.loop-place-test.true)
-        c.outgrows.ensures c.if-outgrows.true c.loop-place.invariant)
+    (slice_get-get_or c.args.laid.now.listings.metas.now c.loop-place.place _ c.loop-place-test.true)
+    c.outgrows.ensures c.if-outgrows.true c.loop-place.invariant)
 
 pub loop-place-preserved : goal.loop-place-preserved
 loop-place-preserved c =

@@ -18,8 +18,8 @@ room_for-requires c =
     let same = sym (c.deref-start.ensures ∙ c.account_of.ensures) in
     let first : is_first_listing c.args.laid.now.listings.metas.now (c.args.place, c.args.meta.now) ≡ true = sym c.is_first.ensures ∙ c.if-not-is_first.false in
     let whole : entry_start (accounts_of c.args.laid.now.start.now) c.args.laid.now.listings.metas.now
-        (length c.args.laid.now.listings.metas.now) ≤ length c.args.laid.now.region.now.bytes =
-        c.args.laid.now.whole in
+    (length c.args.laid.now.listings.metas.now) ≤ length c.args.laid.now.region.now.bytes =
+    c.args.laid.now.whole in
     let small = c.args.laid.now.small in
     omega (arith, first_fits (accounts_of c.args.laid.now.start.now) c.args.laid.now.listings.metas.now c.args.place c.args.meta.now c.deref-start.result.now c.requires.there first same)
 
@@ -27,6 +27,6 @@ pub returns : goal.returns
 returns c =
     let first : is_first_listing c.args.laid.now.listings.metas.now (c.args.place, c.args.meta.now) ≡ true = sym c.is_first.ensures ∙ c.if-not-is_first.false in
     outgrown_is (accounts_of c.args.laid.now.start.now) (accounts_of c.args.now.now)
-        c.args.laid.now.listings.metas.now c.args.place c.args.meta.now c.deref-start.result.now
-        c.deref-now.result.now c.room_for.result c.len.result first
+    c.args.laid.now.listings.metas.now c.args.place c.args.meta.now c.deref-start.result.now
+    c.deref-now.result.now c.room_for.result c.len.result first
     (sym (c.deref-start.ensures ∙ c.account_of.ensures)) (sym (c.deref-now.ensures ∙ c.account_of-2.ensures)) c.room_for.ensures c.len.ensures

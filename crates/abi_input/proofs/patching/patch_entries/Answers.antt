@@ -28,8 +28,8 @@ pub overflow_add-entry : goal.overflow_add-entry
 overflow_add-entry c =
     let there = slice_get-get_or c.args.laid.now.listings.metas.now c.loop-place.place (record { index = 0; signer = false; writable = false }) c.loop-place-test.true in
     let whole : entry_start (accounts_of c.args.laid.now.start.now) c.args.laid.now.listings.metas.now
-        (length c.args.laid.now.listings.metas.now) ≤ length c.args.laid.now.region.now.bytes =
-        c.args.laid.now.whole in
+    (length c.args.laid.now.listings.metas.now) ≤ length c.args.laid.now.region.now.bytes =
+    c.args.laid.now.whole in
     omega (arith, start_within (accounts_of c.args.laid.now.start.now) c.args.laid.now.listings.metas.now c.loop-place.place _ there, c.entry_len-entry.ensures, c.loop-place.invariant.entry)
 
 pub loop-place-preserved : goal.loop-place-preserved
@@ -54,10 +54,10 @@ loop-place-preserved c =
 pub returns-clause-bytes : goal.returns-clause-bytes
 returns-clause-bytes c =
     c.loop-place.invariant.bytes
-        ∙ ap (λ (l : List ℕ). c.args.draft.now.bytes ++ l)
-        (flat_all (patched_entry c.args.laid.now.region.now.bytes (accounts_of c.args.laid.now.start.now)
-        (accounts_of c.args.now.now) c.args.laid.now.listings.metas.now) c.args.laid.now.listings.metas.now
-        c.loop-place.place c.loop-place-test.false)
+    ∙ ap (λ (l : List ℕ). c.args.draft.now.bytes ++ l)
+    (flat_all (patched_entry c.args.laid.now.region.now.bytes (accounts_of c.args.laid.now.start.now)
+    (accounts_of c.args.now.now) c.args.laid.now.listings.metas.now) c.args.laid.now.listings.metas.now
+    c.loop-place.place c.loop-place-test.false)
 
 pub patch_entry-requires-clause-start : goal.patch_entry-requires-clause-start
 patch_entry-requires-clause-start c = c.loop-place.invariant.size ∙ sym c.loop-place.invariant.entry
@@ -65,5 +65,5 @@ patch_entry-requires-clause-start c = c.loop-place.invariant.size ∙ sym c.loop
 pub returns-clause-lent : goal.returns-clause-lent
 returns-clause-lent c =
     c.loop-place.invariant.lent ∙ ap (λ (l : List (ℕ × Account)). c.args.draft.now.lent ++ l)
-        (lent_whole (accounts_of c.args.laid.now.start.now) (accounts_of c.args.now.now)
-        c.args.laid.now.listings.metas.now c.loop-place.place c.loop-place-test.false)
+    (lent_whole (accounts_of c.args.laid.now.start.now) (accounts_of c.args.now.now)
+    c.args.laid.now.listings.metas.now c.loop-place.place c.loop-place-test.false)

@@ -10,5 +10,5 @@ pub returns : goal.returns
 returns c =
     let count = length-map c.args.accounts.now (λ share. arc_value share) in
     sym (account_there c.args.accounts.now c.from.result c.index-accounts-from.result
-        (omega (arith, count, c.from.ensures, c.requires)) c.index-accounts-from.is)
-        ∙ ap (λ n. account_in (accounts_of c.args.accounts.now) n) c.from.ensures
+    (omega (arith, count, c.from.ensures, c.requires)) c.index-accounts-from.is)
+    ∙ ap (λ n. account_in (accounts_of c.args.accounts.now) n) c.from.ensures

@@ -25,8 +25,8 @@ returns-then-is_refused-clause-err c =
     let test = is_too_long c.args.laid.now.region.now.bytes (accounts_of c.args.laid.now.start.now) c.args.laid.now.listings.metas.now in
     place_of_found (found_among test c.args.laid.now.listings.metas.now (length c.args.laid.now.listings.metas.now)) c.loop-place.place _
     (found_here test c.args.laid.now.listings.metas.now c.loop-place.place _ c.is_refused.result
-        (slice_get-get_or c.args.laid.now.listings.metas.now c.loop-place.place _ c.loop-place-test.true)
-        c.is_refused.ensures c.if-is_refused.true c.loop-place.invariant.none)
+    (slice_get-get_or c.args.laid.now.listings.metas.now c.loop-place.place _ c.loop-place-test.true)
+    c.is_refused.ensures c.if-is_refused.true c.loop-place.invariant.none)
 
 pub entry_len-entry-requires : goal.entry_len-entry-requires
 entry_len-entry-requires c = slice_get-get_or c.args.laid.now.listings.metas.now c.loop-place.place _ c.loop-place-test.true
@@ -35,8 +35,8 @@ pub overflow_add-entry : goal.overflow_add-entry
 overflow_add-entry c =
     let there = slice_get-get_or c.args.laid.now.listings.metas.now c.loop-place.place (record { index = 0; signer = false; writable = false }) c.loop-place-test.true in
     let whole : entry_start (accounts_of c.args.laid.now.start.now) c.args.laid.now.listings.metas.now
-        (length c.args.laid.now.listings.metas.now) ≤ length c.args.laid.now.region.now.bytes =
-        c.args.laid.now.whole in
+    (length c.args.laid.now.listings.metas.now) ≤ length c.args.laid.now.region.now.bytes =
+    c.args.laid.now.whole in
     omega (arith, start_within (accounts_of c.args.laid.now.start.now) c.args.laid.now.listings.metas.now c.loop-place.place _ there, c.entry_len-entry.ensures, c.loop-place.invariant.entry)
 
 pub loop-place-preserved : goal.loop-place-preserved

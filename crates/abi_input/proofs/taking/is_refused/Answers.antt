@@ -13,8 +13,8 @@ has_long_data-requires-clause-within c =
     let same = sym (c.deref.ensures ∙ c.account_of.ensures) in
     let first : is_first_listing c.args.laid.now.listings.metas.now (c.args.place, c.args.meta.now) ≡ true = sym c.is_first.ensures ∙ c.if-not-is_first.false in
     let whole : entry_start (accounts_of c.args.laid.now.start.now) c.args.laid.now.listings.metas.now
-        (length c.args.laid.now.listings.metas.now) ≤ length c.args.laid.now.region.now.bytes =
-        c.args.laid.now.whole in
+    (length c.args.laid.now.listings.metas.now) ≤ length c.args.laid.now.region.now.bytes =
+    c.args.laid.now.whole in
     omega (arith, first_fits (accounts_of c.args.laid.now.start.now) c.args.laid.now.listings.metas.now c.args.place c.args.meta.now c.deref.result.now c.requires.there first same, c.requires.entry)
 
 pub has_long_data-requires-clause-start : goal.has_long_data-requires-clause-start
@@ -22,8 +22,8 @@ has_long_data-requires-clause-start c =
     let same = sym (c.deref.ensures ∙ c.account_of.ensures) in
     let first : is_first_listing c.args.laid.now.listings.metas.now (c.args.place, c.args.meta.now) ≡ true = sym c.is_first.ensures ∙ c.if-not-is_first.false in
     let whole : entry_start (accounts_of c.args.laid.now.start.now) c.args.laid.now.listings.metas.now
-        (length c.args.laid.now.listings.metas.now) ≤ length c.args.laid.now.region.now.bytes =
-        c.args.laid.now.whole in
+    (length c.args.laid.now.listings.metas.now) ≤ length c.args.laid.now.region.now.bytes =
+    c.args.laid.now.whole in
     omega (arith, first_fits (accounts_of c.args.laid.now.start.now) c.args.laid.now.listings.metas.now c.args.place c.args.meta.now c.deref.result.now c.requires.there first same, c.requires.entry)
 
 pub returns : goal.returns
@@ -31,5 +31,5 @@ returns c =
     let same = sym (c.deref.ensures ∙ c.account_of.ensures) in
     let first : is_first_listing c.args.laid.now.listings.metas.now (c.args.place, c.args.meta.now) ≡ true = sym c.is_first.ensures ∙ c.if-not-is_first.false in
     c.has_long_data.ensures ∙ too_long_is c.args.laid.now.region.now.bytes
-        (accounts_of c.args.laid.now.start.now) c.args.laid.now.listings.metas.now c.args.place c.args.meta.now
-        c.deref.result.now c.args.entry first same c.requires.entry
+    (accounts_of c.args.laid.now.start.now) c.args.laid.now.listings.metas.now c.args.place c.args.meta.now
+    c.deref.result.now c.args.entry first same c.requires.entry

@@ -19,5 +19,5 @@ returns-clause-answer c =
     let same = same_back c.args.region.now.bytes laid.region.now.bytes (accounts_of c.args.start.now) (accounts_of laid.start.now) (accounts_of c.args.now.now) c.args.metas.now laid.listings.metas.now
     (ap (λ (r : Content). r.bytes) c.of-laid.ensures.region) (ap (λ (s : List _). accounts_of s) c.of-laid.ensures.start) c.of-laid.ensures.metas in
     sym same ∙ back_is laid.region.now.bytes (accounts_of laid.start.now) (accounts_of c.args.now.now)
-        laid.listings.metas.now (accounts_of c.in_ok-taken_by.field-0.accounts) c.in_ok-entries.ensures.none
-        c.in_ok-taken_by.ensures.accounts
+    laid.listings.metas.now (accounts_of c.in_ok-taken_by.field-0.accounts) c.in_ok-entries.ensures.none
+    c.in_ok-taken_by.ensures.accounts

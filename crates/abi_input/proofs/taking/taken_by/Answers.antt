@@ -14,15 +14,15 @@ use Rattle.abi_input.proofs.taking.taken_by.Goals as goal
 pub take_one-requires-clause-entry : goal.take_one-requires-clause-entry
 take_one-requires-clause-entry c =
     λ entry has. entry_holds c.args.laid.now.region.now.bytes (accounts_of c.args.laid.now.start.now)
-        c.args.laid.now.listings.metas.now c.loop-index.index c.entry_at.result entry c.args.laid.now.whole
-        c.requires.lengths (c.entry_at.ensures ∙ c.requires.entries c.loop-index.index) has
+    c.args.laid.now.listings.metas.now c.loop-index.index c.entry_at.result entry c.args.laid.now.whole
+    c.requires.lengths (c.entry_at.ensures ∙ c.requires.entries c.loop-index.index) has
 
 pub take_one-requires-clause-lent : goal.take_one-requires-clause-lent
 take_one-requires-clause-lent c =
     let x = c.index-now-index.result in
     λ entry has. lent_at_entry (accounts_of c.args.laid.now.start.now) (accounts_of c.args.now.now)
-        c.args.laid.now.listings.metas.now c.args.laid.now.region.now.lent c.loop-index.index c.entry_at.result
-        entry (arc_value x) c.requires.lent (c.entry_at.ensures ∙ c.requires.entries c.loop-index.index) has
+    c.args.laid.now.listings.metas.now c.args.laid.now.region.now.lent c.loop-index.index c.entry_at.result
+    entry (arc_value x) c.requires.lent (c.entry_at.ensures ∙ c.requires.entries c.loop-index.index) has
     (account_there c.args.now.now c.loop-index.index x c.loop-index-test.true c.index-now-index.is)
 
 pub loop-index-preserved : goal.loop-index-preserved
@@ -32,9 +32,9 @@ loop-index-preserved c =
     let t = c.in_ok-take_one.field-0.account in
     let flag = c.in_ok-take_one.field-0.touched in
     let value = c.in_ok-take_one.ensures.value
-        ∙ account_by_is c.args.laid.now.region.now.bytes (accounts_of c.args.laid.now.start.now)
-        c.args.laid.now.listings.metas.now c.loop-index.index c.entry_at.result (arc_value x)
-        (c.entry_at.ensures ∙ c.requires.entries c.loop-index.index) in
+    ∙ account_by_is c.args.laid.now.region.now.bytes (accounts_of c.args.laid.now.start.now)
+    c.args.laid.now.listings.metas.now c.loop-index.index c.entry_at.result (arc_value x)
+    (c.entry_at.ensures ∙ c.requires.entries c.loop-index.index) in
     let more = pushed c.loop-index.back.accounts c.push.new.self.accounts t c.in_ok-push.ensures.accounts in
     let there = shared_at c.args.now.now c.loop-index.index x c.loop-index-test.true c.index-now-index.is in
     let long = length-map c.loop-index.back.accounts (λ share. arc_value share) ∙ c.loop-index.invariant.count in

@@ -28,9 +28,9 @@ broken_at-fault-requires c clear =
     let meta = get_or c.args.metas.now c.loop-at.at no_meta in
     let range : meta.index < length (accounts_of c.args.before.now) = c.requires.range c.loop-at.at no_meta c.loop-at-test.true in
     c.deref-in-loop-at.ensures ∙ same_at c.args.touched.now c.args.before.now c.args.after.now
-        c.requires.untouched meta.index c.index-before-place.result c.index-after-place.result
-        (omega (arith, range)) range (omega (arith, range)) c.index-before-place.is c.index-after-place.is clear
-        ∙ sym c.deref.ensures
+    c.requires.untouched meta.index c.index-before-place.result c.index-after-place.result
+    (omega (arith, range)) range (omega (arith, range)) c.index-before-place.is c.index-after-place.is clear
+    ∙ sym c.deref.ensures
 
 pub returns-in-Some : goal.returns-in-Some
 returns-in-Some c =
@@ -40,12 +40,12 @@ returns-in-Some c =
     let range : meta.index < length (accounts_of c.args.before.now) = c.requires.range n no_meta c.loop-at-test.true in
     let new : is_listed (take n metas) meta.index ≡ false = flag_at (is_listed (take n metas)) c.loop-at.seen meta.index false c.loop-at.invariant.seen (omega arith) c.if-seen-place.false in
     let flag = flag_at (is_listed_writable metas) c.writable_flags-writable.result meta.index
-        (get_or c.writable_flags-writable.result meta.index false) c.writable_flags-writable.ensures
-        (omega arith) refl in
+    (get_or c.writable_flags-writable.result meta.index false) c.writable_flags-writable.ensures
+    (omega arith) refl in
     let rule = rule_at c.args.program.now metas c.args.before.now c.args.after.now n meta
-        (get_or c.writable_flags-writable.result meta.index false) c.index-before-place.result
-        c.index-after-place.result c.deref.result.now c.deref-in-loop-at.result.now range (omega (arith, range))
-        flag c.index-before-place.is c.index-after-place.is c.deref.ensures c.deref-in-loop-at.ensures in
+    (get_or c.writable_flags-writable.result meta.index false) c.index-before-place.result
+    c.index-after-place.result c.deref.result.now c.deref-in-loop-at.result.now range (omega (arith, range))
+    flag c.index-before-place.is c.index-after-place.is c.deref.ensures c.deref-in-loop-at.ensures in
     let here = at_first c.args.program.now metas (accounts_of c.args.before.now) (accounts_of c.args.after.now) n meta new ∙ rule ∙ sym c.broken_at-fault.ensures in
     sym (stops c.args.program.now metas (accounts_of c.args.before.now) (accounts_of c.args.after.now) n no_meta c.in-Some.fault c.loop-at-test.true c.loop-at.invariant.none (here ∙ c.in-Some.is))
 
@@ -57,12 +57,12 @@ loop-at-preserved c =
     let range : meta.index < length (accounts_of c.args.before.now) = c.requires.range n no_meta c.loop-at-test.true in
     let new : is_listed (take n metas) meta.index ≡ false = flag_at (is_listed (take n metas)) c.loop-at.seen meta.index false c.loop-at.invariant.seen (omega arith) c.if-seen-place.false in
     let flag = flag_at (is_listed_writable metas) c.writable_flags-writable.result meta.index
-        (get_or c.writable_flags-writable.result meta.index false) c.writable_flags-writable.ensures
-        (omega arith) refl in
+    (get_or c.writable_flags-writable.result meta.index false) c.writable_flags-writable.ensures
+    (omega arith) refl in
     let rule = rule_at c.args.program.now metas c.args.before.now c.args.after.now n meta
-        (get_or c.writable_flags-writable.result meta.index false) c.index-before-place.result
-        c.index-after-place.result c.deref.result.now c.deref-in-loop-at.result.now range (omega (arith, range))
-        flag c.index-before-place.is c.index-after-place.is c.deref.ensures c.deref-in-loop-at.ensures in
+    (get_or c.writable_flags-writable.result meta.index false) c.index-before-place.result
+    c.index-after-place.result c.deref.result.now c.deref-in-loop-at.result.now range (omega (arith, range))
+    flag c.index-before-place.is c.index-after-place.is c.deref.ensures c.deref-in-loop-at.ensures in
     let here = at_first c.args.program.now metas (accounts_of c.args.before.now) (accounts_of c.args.after.now) n meta new ∙ rule ∙ sym c.broken_at-fault.ensures in
     record {
       seen = one_flag (is_listed (take n metas)) (is_listed (take (n + 1) metas)) c.loop-at.seen meta.index

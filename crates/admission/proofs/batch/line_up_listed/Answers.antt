@@ -28,11 +28,11 @@ admit_line-requires-clause-places c =
     let wires = c.args.wires.now in
     let are = are_weighed start wires c.in_ok-parsed.parsed c.in_ok-weighed.weighed c.in_ok-parsed.ensures c.in_ok-weighed.ensures in
     places c.in_ok-standing.field-0.standing.items (length (map parsed_of wires))
-        c.in_ok-standing.field-0.causes.items
-        (cause_count start (map parsed_of wires) c.in_ok-standing.field-0.causes.items
-        (c.in_ok-standing.ensures.causes ∙ causes_alone start wires c.in_ok-weighed.weighed are))
+    c.in_ok-standing.field-0.causes.items
+    (cause_count start (map parsed_of wires) c.in_ok-standing.field-0.causes.items
+    (c.in_ok-standing.ensures.causes ∙ causes_alone start wires c.in_ok-weighed.weighed are))
     (stand start wires (map parsed_of wires) c.requires.keys are.read c.in_ok-standing.field-0.standing.items
-        (c.in_ok-standing.ensures.standing ∙ standing_alone start wires c.in_ok-weighed.weighed are))
+    (c.in_ok-standing.ensures.standing ∙ standing_alone start wires c.in_ok-weighed.weighed are))
 
 pub admit_line-requires-clause-apart : goal.admit_line-requires-clause-apart
 admit_line-requires-clause-apart c =
@@ -41,7 +41,7 @@ admit_line-requires-clause-apart c =
     let are = are_weighed start wires c.in_ok-parsed.parsed c.in_ok-weighed.weighed c.in_ok-parsed.ensures c.in_ok-weighed.ensures in
     aparts c.in_ok-standing.field-0.standing.items (length (map parsed_of wires))
     (stand start wires (map parsed_of wires) c.requires.keys are.read c.in_ok-standing.field-0.standing.items
-        (c.in_ok-standing.ensures.standing ∙ standing_alone start wires c.in_ok-weighed.weighed are))
+    (c.in_ok-standing.ensures.standing ∙ standing_alone start wires c.in_ok-weighed.weighed are))
 
 pub returns : goal.returns
 returns c =

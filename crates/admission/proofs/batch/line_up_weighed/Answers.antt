@@ -19,12 +19,12 @@ admit_line-requires-clause-places c =
     let wires = c.args.wires.now in
     let are = c.requires.weighed in
     places c.in_ok-line.line.items (length (map parsed_of wires)) c.in_ok-standing.field-0.causes.items
-        (cause_count start (map parsed_of wires) c.in_ok-standing.field-0.causes.items
-        (c.in_ok-standing.ensures.causes ∙ causes_alone start wires c.args.weighed are))
+    (cause_count start (map parsed_of wires) c.in_ok-standing.field-0.causes.items
+    (c.in_ok-standing.ensures.causes ∙ causes_alone start wires c.args.weighed are))
     (stand_in_line start wires (map parsed_of wires) c.requires.keys are.read
-        c.in_ok-standing.field-0.standing.items c.in_ok-line.line.items
-        (c.in_ok-standing.ensures.standing ∙ standing_alone start wires c.args.weighed are)
-        c.in_ok-line.ensures)
+    c.in_ok-standing.field-0.standing.items c.in_ok-line.line.items
+    (c.in_ok-standing.ensures.standing ∙ standing_alone start wires c.args.weighed are)
+    c.in_ok-line.ensures)
 
 pub admit_line-requires-clause-apart : goal.admit_line-requires-clause-apart
 admit_line-requires-clause-apart c =
@@ -33,9 +33,9 @@ admit_line-requires-clause-apart c =
     let are = c.requires.weighed in
     aparts c.in_ok-line.line.items (length (map parsed_of wires))
     (stand_in_line start wires (map parsed_of wires) c.requires.keys are.read
-        c.in_ok-standing.field-0.standing.items c.in_ok-line.line.items
-        (c.in_ok-standing.ensures.standing ∙ standing_alone start wires c.args.weighed are)
-        c.in_ok-line.ensures)
+    c.in_ok-standing.field-0.standing.items c.in_ok-line.line.items
+    (c.in_ok-standing.ensures.standing ∙ standing_alone start wires c.args.weighed are)
+    c.in_ok-line.ensures)
 
 pub returns : goal.returns
 returns c =
@@ -44,6 +44,6 @@ returns c =
     let are = c.requires.weighed in
     is_admitted start wires (map parsed_of wires) c.requires.keys are.read
     c.in_ok-standing.field-0.standing.items c.in_ok-line.line.items c.in_ok-standing.field-0.causes.items
-        c.admit_line.result (c.in_ok-standing.ensures.standing ∙ standing_alone start wires c.args.weighed are)
-        c.in_ok-line.ensures
+    c.admit_line.result (c.in_ok-standing.ensures.standing ∙ standing_alone start wires c.args.weighed are)
+    c.in_ok-line.ensures
     (c.in_ok-standing.ensures.causes ∙ causes_alone start wires c.args.weighed are) c.admit_line.ensures.order c.admit_line.ensures.refused

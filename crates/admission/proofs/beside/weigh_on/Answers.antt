@@ -23,6 +23,6 @@ returns g c =
     let full : length c.weigh_each.new.slots ≡ c.in_ok-slots.slots.len = omega (arith, kept, c.as_mut_slice.ensures.len) in
     found_all (start_of c.args.recent.now c.args.accounts.now c.args.limits.now) c.args.wires c.as_mut_slice.result.now c.weigh_each.new.slots
     (take c.in_ok-slots.slots.len
-        (c.weigh_each.new.slots ++ drop (length c.weigh_each.new.slots) c.in_ok-slots.slots.items))
-        c.weighed_in.result (c.as_mut_slice.ensures.value ∙ c.in_ok-slots.ensures) count c.weigh_each.ensures
+    (c.weigh_each.new.slots ++ drop (length c.weigh_each.new.slots) c.in_ok-slots.slots.items))
+    c.weighed_in.result (c.as_mut_slice.ensures.value ∙ c.in_ok-slots.ensures) count c.weigh_each.ensures
     (take_at c.weigh_each.new.slots (drop (length c.weigh_each.new.slots) c.in_ok-slots.slots.items) c.in_ok-slots.slots.len full) c.weighed_in.ensures

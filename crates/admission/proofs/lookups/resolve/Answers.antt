@@ -16,8 +16,8 @@ returns-in_err-table-clause-exact c =
     let message = c.args.message.now in
     let fault = c.in_err-table.field-0.0 in
     let first = refused s c.as_slice-lookup-items.result.now c.loop-place.place c.loop-place.writable
-        c.loop-place.readonly c.loop-place.invariant c.lookup-item.result c.loop-place-test.true
-        c.lookup-item.is
+    c.loop-place.readonly c.loop-place.invariant c.lookup-item.result c.loop-place-test.true
+    c.lookup-item.is
     fault (if_apart message (loaded_in s message.lookups)) c.in_err-table.ensures.fault in
     rw (p.1, p.2) (or_memory fault (load s message) (load_refused s message fault
     (subst (λ (ls : List Lookup). first_or (filter_map (lookup_fault s) (enumerate_from 0 ls)) (if_apart message (loaded_in s message.lookups)) ≡ Err fault) c.as_slice-lookup-items.ensures first)))
@@ -26,7 +26,7 @@ pub loop-place-preserved : goal.loop-place-preserved
 loop-place-preserved c =
     let lookup = c.lookup-item.result in
     loaded_more c.args.accounts.now c.as_slice-lookup-items.result.now c.loop-place.place c.loop-place.writable
-        c.loop-place.readonly c.loop-place.invariant lookup c.loop-place-test.true c.lookup-item.is
+    c.loop-place.readonly c.loop-place.invariant lookup c.loop-place-test.true c.lookup-item.is
     c.push_picked.new.keys c.push_picked-in-loop-place.new.keys c.in_ok-table.ensures.fault
     (c.in_ok-push_picked.ensures
     ∙ ap (λ bytes. c.loop-place.writable ++ map (address_at bytes) c.as_slice.result.now) c.in_ok-table.ensures.bytes

@@ -10,7 +10,7 @@ pub index-requires : goal.index-requires
 index-requires c =
     let told = c.in_ok-repeats.ensures ∙ ap (λ (batch : List Weighed). map (is_repeated batch) (enumerate_from 0 batch)) c.as_slice.ensures in
     let place = has_place c.args.batch c.loop-one.yielded (into_iter_items c.loop-one.one-iterator)
-        (into_iter_items c.next.new.self) c.loop-one.standing.items c.loop-one.causes.items c.loop-one.invariant
+    (into_iter_items c.next.new.self) c.loop-one.standing.items c.loop-one.causes.items c.loop-one.invariant
     c.in-Some.one c.in-Some.ensures.steps.0 c.in_ok-repeats.repeats.items told in
     omega (arith, place, c.len-in-loop-one.ensures)
 

@@ -25,8 +25,8 @@ loop-lock-preserved c =
           let summed : w.saturating_add.result ≡ min (slice_index c.loop-lock.buckets (bucket_of (length c.loop-lock.buckets) lock.key) + c.args.limit) (2 ^ 64 - 1) =
           w.saturating_add.ensures ∙ ap (λ n. min (get_or c.loop-lock.buckets n 0 + c.args.limit) (2 ^ 64 - 1)) at in
           write_grows locks i lock c.loop-lock-test.true is c.args.limit w.saturating_add.result
-              (bucket_sum c.args.buckets.now) c.loop-lock.buckets c.if-lock.buckets w.if-lock.true filled
-              (omega (arith, summed))
+          (bucket_sum c.args.buckets.now) c.loop-lock.buckets c.if-lock.buckets w.if-lock.true filled
+          (omega (arith, summed))
           (w.buckets-is ∙ ap (λ n. set c.loop-lock.buckets n w.saturating_add.result) at) c.loop-lock.invariant
       | else-lock w ↦ subst (λ (bs : List ℕ). (key : Key)
           → min (2 ^ 64 - 1) (bucket_sum c.args.buckets.now key +

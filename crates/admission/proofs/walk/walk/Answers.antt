@@ -22,8 +22,12 @@ index_mut-requires c =
     let left = into_iter_items c.loop-one.one-iterator in
     let more = into_iter_items c.next.new.self in
     let so_far : AreWalked c.args.limits.now line c.loop-one.yielded left c.loop-one.order first
-        c.loop-one.causes.items = record { all = c.loop-one.invariant.all; ordered =
-        c.loop-one.invariant.ordered; caused = c.loop-one.invariant.caused } in
+    c.loop-one.causes.items = record {
+      all = c.loop-one.invariant.all;
+      ordered =
+          c.loop-one.invariant.ordered;
+      caused = c.loop-one.invariant.caused;
+    } in
     let whole = split c.args.limits.now line c.loop-one.yielded left more c.loop-one.order first c.loop-one.causes.items so_far c.in-Some.one c.in-Some.ensures.steps.0 in
     let count = same_count c.args.limits.now line c.loop-one.yielded left more c.loop-one.order first c.loop-one.causes.items so_far c.in-Some.one c.in-Some.ensures.steps.0 in
     let below = next-of-all (λ (one : Chosen). one.position < length first) c.loop-one.yielded more line c.in-Some.one c.requires.places whole in
@@ -37,14 +41,18 @@ loop-one-preserved-in-Some-branch-3 c =
     let left = into_iter_items c.loop-one.one-iterator in
     let more = into_iter_items c.next.new.self in
     let so_far : AreWalked c.args.limits.now line c.loop-one.yielded left c.loop-one.order first
-        c.loop-one.causes.items = record { all = c.loop-one.invariant.all; ordered =
-        c.loop-one.invariant.ordered; caused = c.loop-one.invariant.caused } in
+    c.loop-one.causes.items = record {
+      all = c.loop-one.invariant.all;
+      ordered =
+          c.loop-one.invariant.ordered;
+      caused = c.loop-one.invariant.caused;
+    } in
     let whole = split c.args.limits.now line c.loop-one.yielded left more c.loop-one.order first c.loop-one.causes.items so_far c.in-Some.one c.in-Some.ensures.steps.0 in
     let below = next-of-all (λ (one : Chosen). one.position < length first) c.loop-one.yielded more line c.in-Some.one c.requires.places whole in
     let next = walked_late c.args.limits.now line c.loop-one.yielded left more c.loop-one.order first c.loop-one.causes.items so_far c.in-Some.one c.in-Some.ensures.steps.0
     c.in-Some-2.cause (set c.loop-one.causes.items c.chosen-in-Some-2.result.now.position
-        (Some c.in-Some-2.cause)) (ap (late c.args.limits.now c.loop-one.order) (sym c.chosen.ensures)
-        ∙ sym c.in_ok-cause.ensures.exact ∙ c.in-Some-2.is) below
+    (Some c.in-Some-2.cause)) (ap (late c.args.limits.now c.loop-one.order) (sym c.chosen.ensures)
+    ∙ sym c.in_ok-cause.ensures.exact ∙ c.in-Some-2.is) below
     (ap (λ (one : Chosen). set c.loop-one.causes.items one.position (Some c.in-Some-2.cause)) c.chosen-in-Some-2.ensures) in
     record { all = next.all; ordered = c.in_ok-cause.ensures.same ∙ next.ordered; caused = next.caused }
 

@@ -24,10 +24,10 @@ returns-in-Ok c =
     let start = start_of c.args.before.recent.now c.args.before.accounts.now c.args.before.limits.now in
     let same : weighed start c.args.position c.args.wire ≡ with_loaded c.args.position c.in-Good.tx c.in-Good.name (Ok c.in-Ok.loaded) =
     ap (λ (wire : Parsed). weighed start c.args.position wire) c.in-Good.is
-        ∙ ap (with_loaded c.args.position c.in-Good.tx c.in-Good.name)
-        (sym (c.in_ok-loaded.ensures c.in-Good.name
-        (subst (λ (w : Parsed). IsTold c.args.before.recent.now w c.args.was_processed) c.in-Good.is
-        c.requires.told)) ∙ c.in-Ok.is) in
+    ∙ ap (with_loaded c.args.position c.in-Good.tx c.in-Good.name)
+    (sym (c.in_ok-loaded.ensures c.in-Good.name
+    (subst (λ (w : Parsed). IsTold c.args.before.recent.now w c.args.was_processed) c.in-Good.is
+    c.requires.told)) ∙ c.in-Ok.is) in
     subst (λ (w : Weighed). IfOk c.with_budget.result (λ found. found ≡ w)) (sym same) c.with_budget.ensures
 
 pub returns-in-Err : goal.returns-in-Err
@@ -35,7 +35,7 @@ unfolding weighed
 returns-in-Err c =
     let start = start_of c.args.before.recent.now c.args.before.accounts.now c.args.before.limits.now in
     sym (ap (λ (wire : Parsed). weighed start c.args.position wire) c.in-Good.is
-        ∙ ap (with_loaded c.args.position c.in-Good.tx c.in-Good.name)
-        (sym (c.in_ok-loaded.ensures c.in-Good.name
-        (subst (λ (w : Parsed). IsTold c.args.before.recent.now w c.args.was_processed) c.in-Good.is
-        c.requires.told)) ∙ c.in-Err.is))
+    ∙ ap (with_loaded c.args.position c.in-Good.tx c.in-Good.name)
+    (sym (c.in_ok-loaded.ensures c.in-Good.name
+    (subst (λ (w : Parsed). IsTold c.args.before.recent.now w c.args.was_processed) c.in-Good.is
+    c.requires.told)) ∙ c.in-Err.is))

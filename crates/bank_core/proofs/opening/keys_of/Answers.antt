@@ -8,5 +8,5 @@ loop-position-init g c = keys_first (g.L.Locked.job c.args.locked.now) c.new-key
 pub loop-position-preserved : goal.loop-position-preserved
 loop-position-preserved g c =
     keys_next (g.L.Locked.job c.args.locked.now) c.loop-position.keys.items c.push_keys.new.keys.items
-        c.loop-position.position c.locks.result.now c.loop-position.invariant c.locks.ensures
-        c.in_ok-push_keys.ensures
+    c.loop-position.position c.locks.result.now c.loop-position.invariant c.locks.ensures
+    c.in_ok-push_keys.ensures

@@ -11,11 +11,11 @@ lend_one-requires-clause-there c =
 pub returns-in-Err-clause-same : goal.returns-in-Err-clause-same
 returns-in-Err-clause-same c =
     restored c.loop-lock.slots c.put_back.new.slots c.args.locks.now c.loop-lock.lock-index
-        c.loop-lock.values.items (account_at c.args.slots.now) c.loop-lock.invariant.so_far
-        (let t = c.loop-lock-test.true in omega arith) c.requires.there
+    c.loop-lock.values.items (account_at c.args.slots.now) c.loop-lock.invariant.so_far
+    (let t = c.loop-lock-test.true in omega arith) c.requires.there
     (subst (λ s. (n : _) → account_at c.put_back.new.slots n
-        ≡ put_back_at (take (length c.loop-lock.values.items) c.args.locks.now)
-        (accounts_of c.loop-lock.values.items) (account_at s) n) c.in-Err.ensures.err c.put_back.ensures.back)
+    ≡ put_back_at (take (length c.loop-lock.values.items) c.args.locks.now)
+    (accounts_of c.loop-lock.values.items) (account_at s) n) c.in-Err.ensures.err c.put_back.ensures.back)
 
 pub loop-lock-preserved : goal.loop-lock-preserved
 loop-lock-preserved c = record {

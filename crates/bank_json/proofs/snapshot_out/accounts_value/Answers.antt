@@ -13,9 +13,9 @@ use Rattle.bank_json.proofs.snapshot_out.accounts_value.Goals as goal
 pub loop-key-preserved : goal.loop-key-preserved
 loop-key-preserved c =
     shows_on account_json c.loop-key.values.items c.push.new.self.items c.in_ok-account_value.field-0
-        (entries c.args.accounts.now) (seen c.loop-key.rest) (seen c.next.new.self)
-        (c.in-Some.key.now, arc_value c.in-Some.account.now) c.loop-key.invariant
-        (ap seen c.in-Some.ensures.steps)
+    (entries c.args.accounts.now) (seen c.loop-key.rest) (seen c.next.new.self)
+    (c.in-Some.key.now, arc_value c.in-Some.account.now) c.loop-key.invariant
+    (ap seen c.in-Some.ensures.steps)
     (c.in_ok-account_value.ensures ∙ ap (λ (a : Account). account_json (c.in-Some.key.now, a)) c.deref.ensures) c.in_ok-push.ensures.items
 
 pub loop-key-smaller : goal.loop-key-smaller

@@ -30,6 +30,6 @@ returns-then-is_empty-clause-passes g c =
     let i = c.loop-at.invariant in
     let within : c.loop-at.at < length c.loop-at.seats = omega arith in
     passes_all (g.G.Gate.is_passed c.args.gate.now) g.D.Desk.loan c.args.seats.now c.loop-at.seats c.loop-at.at
-        (search rules) c.requires.filled
-        (λ d. subst IsEmpty (get_or_default c.loop-at.seats c.loop-at.at c.index-seats-at.result d within)
-        (c.is_empty.ensures.empty c.if-is_empty.true)) i.rest i.passes
+    (search rules) c.requires.filled
+    (λ d. subst IsEmpty (get_or_default c.loop-at.seats c.loop-at.at c.index-seats-at.result d within)
+    (c.is_empty.ensures.empty c.if-is_empty.true)) i.rest i.passes

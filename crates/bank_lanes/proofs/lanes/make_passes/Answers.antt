@@ -25,8 +25,8 @@ loop-preserved g c =
     let new = c.in-Made.ensures.made.2 in
     let gate = g.G.Gate.is_passed c.args.lanes.now.gate.now in
     let P : g.row.D-Pass.Denot → Type 0 = λ p. g.D.Desk.is_of c.args.desk.now p × IsIdle (g.D.Desk.view p)
-        × HoldsNothing (g.D.Desk.lanes_of p) (g.D.Desk.view p)
-        × CommitBehind gate (g.D.Desk.lanes_of p) (g.D.Desk.view p) in
+    × HoldsNothing (g.D.Desk.lanes_of p) (g.D.Desk.view p)
+    × CommitBehind gate (g.D.Desk.lanes_of p) (g.D.Desk.view p) in
     record {
       desk = c.in-Made.ensures.desk;
       idle = record { free = ap holds same ∙ i.idle.free; once = ap returns same ∙ i.idle.once };
@@ -40,11 +40,15 @@ loop-preserved g c =
       behind = behind_then gate (lanes c.args.pass.now) (lanes c.loop.pass) (lanes c.split.new.pass) (view c.args.pass.now) (view c.loop.pass) (view c.split.new.pass) i.behind
           (behind_none gate (lanes c.loop.pass) (lanes c.split.new.pass) (view c.loop.pass) (view c.split.new.pass) c.in-Made.ensures.same_lanes c.in-Made.ensures.each);
       passes = subst (λ ps. All P ps) (sym c.in_default.ensures.items)
-          (All-push P c.loop.passes.items c.in-Made.made i.passes
-          (c.in-Made.ensures.made.0, record { free = ap holds new.mine; once = ap returns new.mine }, free_new
-              (g.D.Desk.lanes_of c.in-Made.made) (g.D.Desk.view c.in-Made.made) c.in-Made.ensures.one_lane
-              new.own, behind_new gate (g.D.Desk.lanes_of c.in-Made.made) (g.D.Desk.view c.in-Made.made)
-              c.in-Made.ensures.one_lane new.own));
+          (All-push P c.loop.passes.items c.in-Made.made i.passes (
+            c.in-Made.ensures.made.0,
+            record { free = ap holds new.mine; once = ap returns new.mine },
+            free_new
+                (g.D.Desk.lanes_of c.in-Made.made) (g.D.Desk.view c.in-Made.made) c.in-Made.ensures.one_lane
+                new.own,
+            behind_new gate (g.D.Desk.lanes_of c.in-Made.made) (g.D.Desk.view c.in-Made.made)
+                c.in-Made.ensures.one_lane new.own,
+          ));
     }
 
 pub returns-in-AllMade-clause-free : goal.returns-in-AllMade-clause-free

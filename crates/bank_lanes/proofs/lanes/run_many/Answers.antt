@@ -7,11 +7,11 @@ returns-then-eq-clause-behind g c =
     let view = g.D.Desk.view in
     let gate = g.G.Gate.is_passed c.args.lanes.now.gate.now in
     behind_then gate (lanes c.args.pass.now) (lanes c.make_passes.new.pass) (lanes c.join_all.new.pass)
-        (view c.args.pass.now) (view c.make_passes.new.pass) (view c.join_all.new.pass)
-        c.make_passes.ensures.behind
+    (view c.args.pass.now) (view c.make_passes.new.pass) (view c.join_all.new.pass)
+    c.make_passes.ensures.behind
     (behind_then gate (lanes c.make_passes.new.pass) (lanes c.run_all-end.new.pass) (lanes c.join_all.new.pass)
-        (view c.make_passes.new.pass) (view c.run_all-end.new.pass) (view c.join_all.new.pass)
-        c.run_all-end.ensures.behind c.join_all.ensures.behind)
+    (view c.make_passes.new.pass) (view c.run_all-end.new.pass) (view c.join_all.new.pass)
+    c.run_all-end.ensures.behind c.join_all.ensures.behind)
 
 pub returns-in-Finished-clause-behind : goal.returns-in-Finished-clause-behind
 returns-in-Finished-clause-behind g c =
@@ -19,14 +19,14 @@ returns-in-Finished-clause-behind g c =
     let view = g.D.Desk.view in
     let gate = g.G.Gate.is_passed c.args.lanes.now.gate.now in
     behind_then gate (lanes c.args.pass.now) (lanes c.make_passes.new.pass) (lanes c.run_thread.new.pass)
-        (view c.args.pass.now) (view c.make_passes.new.pass) (view c.run_thread.new.pass)
-        c.make_passes.ensures.behind
+    (view c.args.pass.now) (view c.make_passes.new.pass) (view c.run_thread.new.pass)
+    c.make_passes.ensures.behind
     (behind_then gate (lanes c.make_passes.new.pass) (lanes c.run_all-end.new.pass)
-        (lanes c.run_thread.new.pass) (view c.make_passes.new.pass) (view c.run_all-end.new.pass)
-        (view c.run_thread.new.pass) c.run_all-end.ensures.behind
+    (lanes c.run_thread.new.pass) (view c.make_passes.new.pass) (view c.run_all-end.new.pass)
+    (view c.run_thread.new.pass) c.run_all-end.ensures.behind
     (behind_then gate (lanes c.run_all-end.new.pass) (lanes c.join_all.new.pass) (lanes c.run_thread.new.pass)
-        (view c.run_all-end.new.pass) (view c.join_all.new.pass) (view c.run_thread.new.pass)
-        c.join_all.ensures.behind c.run_thread.ensures.behind))
+    (view c.run_all-end.new.pass) (view c.join_all.new.pass) (view c.run_thread.new.pass)
+    c.join_all.ensures.behind c.run_thread.ensures.behind))
 
 pub returns-in-NoShare-clause-behind : goal.returns-in-NoShare-clause-behind
 returns-in-NoShare-clause-behind g c =
@@ -34,11 +34,11 @@ returns-in-NoShare-clause-behind g c =
     let view = g.D.Desk.view in
     let gate = g.G.Gate.is_passed c.args.lanes.now.gate.now in
     behind_then gate (lanes c.args.pass.now) (lanes c.make_passes.new.pass) (lanes c.run_thread.new.pass)
-        (view c.args.pass.now) (view c.make_passes.new.pass) (view c.run_thread.new.pass)
-        c.make_passes.ensures.behind
+    (view c.args.pass.now) (view c.make_passes.new.pass) (view c.run_thread.new.pass)
+    c.make_passes.ensures.behind
     (behind_then gate (lanes c.make_passes.new.pass) (lanes c.run_all-end.new.pass)
-        (lanes c.run_thread.new.pass) (view c.make_passes.new.pass) (view c.run_all-end.new.pass)
-        (view c.run_thread.new.pass) c.run_all-end.ensures.behind
+    (lanes c.run_thread.new.pass) (view c.make_passes.new.pass) (view c.run_all-end.new.pass)
+    (view c.run_thread.new.pass) c.run_all-end.ensures.behind
     (behind_then gate (lanes c.run_all-end.new.pass) (lanes c.join_all.new.pass) (lanes c.run_thread.new.pass)
-        (view c.run_all-end.new.pass) (view c.join_all.new.pass) (view c.run_thread.new.pass)
-        c.join_all.ensures.behind c.run_thread.ensures.behind))
+    (view c.run_all-end.new.pass) (view c.join_all.new.pass) (view c.run_thread.new.pass)
+    c.join_all.ensures.behind c.run_thread.ensures.behind))

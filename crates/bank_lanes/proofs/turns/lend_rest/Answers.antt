@@ -9,41 +9,41 @@ pub lend_to-requires-clause-lane : goal.lend_to-requires-clause-lane
 lend_to-requires-clause-lane g c = λ κs live.
     let within : c.loop-at.at < length c.loop-at.seats = omega arith in
     lane_within g.D.Desk.loan g.D.Desk.spent g.W.Work.job (g.D.Desk.origin c.args.desk.now)
-        (g.G.Gate.is_passed c.args.gate.now) _ c.loop-at.seats _ c.loop-at.at c.index-seats-at.result within
-        c.loop-at.invariant.seats
+    (g.G.Gate.is_passed c.args.gate.now) _ c.loop-at.seats _ c.loop-at.at c.index-seats-at.result within
+    c.loop-at.invariant.seats
 
 pub returns-then-ne-clause-keeps : goal.returns-then-ne-clause-keeps
 returns-then-ne-clause-keeps g c =
     let i = c.loop-at.invariant in
     let within : c.loop-at.at < length c.loop-at.seats = omega arith in
     (advance g.D.Desk.loan g.D.Desk.spent g.W.Work.job (g.D.Desk.origin c.args.desk.now)
-        (g.G.Gate.is_passed c.args.gate.now) (seat_lanes c.args.seats.now) _
-        (g.D.Desk.turn_lanes c.loop-at.turn) (g.D.Desk.turn_lanes c.lend_to.new.turn) _
-        (g.D.Desk.turn_view c.loop-at.turn) (g.D.Desk.turn_view c.lend_to.new.turn)
+    (g.G.Gate.is_passed c.args.gate.now) (seat_lanes c.args.seats.now) _
+    (g.D.Desk.turn_lanes c.loop-at.turn) (g.D.Desk.turn_lanes c.lend_to.new.turn) _
+    (g.D.Desk.turn_view c.loop-at.turn) (g.D.Desk.turn_view c.lend_to.new.turn)
     c.loop-at.seats c.loop-at.at c.lend_to.new.seat c.index-seats-at.result within i.same i.keeps i.seats
-        c.lend_to.ensures.lanes c.lend_to.ensures.lane c.lend_to.ensures.step c.lend_to.ensures.seat).0
+    c.lend_to.ensures.lanes c.lend_to.ensures.lane c.lend_to.ensures.step c.lend_to.ensures.seat).0
 
 pub returns-then-ne-clause-same : goal.returns-then-ne-clause-same
 returns-then-ne-clause-same g c =
     let i = c.loop-at.invariant in
     let within : c.loop-at.at < length c.loop-at.seats = omega arith in
     (advance g.D.Desk.loan g.D.Desk.spent g.W.Work.job (g.D.Desk.origin c.args.desk.now)
-        (g.G.Gate.is_passed c.args.gate.now) (seat_lanes c.args.seats.now) _
-        (g.D.Desk.turn_lanes c.loop-at.turn) (g.D.Desk.turn_lanes c.lend_to.new.turn) _
-        (g.D.Desk.turn_view c.loop-at.turn) (g.D.Desk.turn_view c.lend_to.new.turn)
+    (g.G.Gate.is_passed c.args.gate.now) (seat_lanes c.args.seats.now) _
+    (g.D.Desk.turn_lanes c.loop-at.turn) (g.D.Desk.turn_lanes c.lend_to.new.turn) _
+    (g.D.Desk.turn_view c.loop-at.turn) (g.D.Desk.turn_view c.lend_to.new.turn)
     c.loop-at.seats c.loop-at.at c.lend_to.new.seat c.index-seats-at.result within i.same i.keeps i.seats
-        c.lend_to.ensures.lanes c.lend_to.ensures.lane c.lend_to.ensures.step c.lend_to.ensures.seat).1
+    c.lend_to.ensures.lanes c.lend_to.ensures.lane c.lend_to.ensures.step c.lend_to.ensures.seat).1
 
 pub returns-then-ne-clause-seats : goal.returns-then-ne-clause-seats
 returns-then-ne-clause-seats g c =
     let i = c.loop-at.invariant in
     let within : c.loop-at.at < length c.loop-at.seats = omega arith in
     (advance g.D.Desk.loan g.D.Desk.spent g.W.Work.job (g.D.Desk.origin c.args.desk.now)
-        (g.G.Gate.is_passed c.args.gate.now) (seat_lanes c.args.seats.now) _
-        (g.D.Desk.turn_lanes c.loop-at.turn) (g.D.Desk.turn_lanes c.lend_to.new.turn) _
-        (g.D.Desk.turn_view c.loop-at.turn) (g.D.Desk.turn_view c.lend_to.new.turn)
+    (g.G.Gate.is_passed c.args.gate.now) (seat_lanes c.args.seats.now) _
+    (g.D.Desk.turn_lanes c.loop-at.turn) (g.D.Desk.turn_lanes c.lend_to.new.turn) _
+    (g.D.Desk.turn_view c.loop-at.turn) (g.D.Desk.turn_view c.lend_to.new.turn)
     c.loop-at.seats c.loop-at.at c.lend_to.new.seat c.index-seats-at.result within i.same i.keeps i.seats
-        c.lend_to.ensures.lanes c.lend_to.ensures.lane c.lend_to.ensures.step c.lend_to.ensures.seat).2
+    c.lend_to.ensures.lanes c.lend_to.ensures.lane c.lend_to.ensures.step c.lend_to.ensures.seat).2
 
 pub returns-then-ne-clause-kept : goal.returns-then-ne-clause-kept
 returns-then-ne-clause-kept g c = All-set HasKept c.loop-at.seats c.loop-at.at c.lend_to.new.seat c.lend_to.ensures.kept c.loop-at.invariant.kept
@@ -53,11 +53,11 @@ loop-at-preserved g c =
     let i = c.loop-at.invariant in
     let within : c.loop-at.at < length c.loop-at.seats = omega arith in
     let next = advance g.D.Desk.loan g.D.Desk.spent g.W.Work.job (g.D.Desk.origin c.args.desk.now)
-        (g.G.Gate.is_passed c.args.gate.now) (seat_lanes c.args.seats.now) _
-        (g.D.Desk.turn_lanes c.loop-at.turn) (g.D.Desk.turn_lanes c.lend_to.new.turn) _
-        (g.D.Desk.turn_view c.loop-at.turn) (g.D.Desk.turn_view c.lend_to.new.turn)
+    (g.G.Gate.is_passed c.args.gate.now) (seat_lanes c.args.seats.now) _
+    (g.D.Desk.turn_lanes c.loop-at.turn) (g.D.Desk.turn_lanes c.lend_to.new.turn) _
+    (g.D.Desk.turn_view c.loop-at.turn) (g.D.Desk.turn_view c.lend_to.new.turn)
     c.loop-at.seats c.loop-at.at c.lend_to.new.seat c.index-seats-at.result within i.same i.keeps i.seats
-        c.lend_to.ensures.lanes c.lend_to.ensures.lane c.lend_to.ensures.step c.lend_to.ensures.seat in
+    c.lend_to.ensures.lanes c.lend_to.ensures.lane c.lend_to.ensures.step c.lend_to.ensures.seat in
     record {
       desk = c.lend_to.ensures.desk;
       own = c.lend_to.ensures.step.own;

@@ -9,13 +9,13 @@ use Rattle.bank_lanes.proofs.turns.lend_to.Goals as goal
 pub returns-in-Loan-clause-seat : goal.returns-in-Loan-clause-seat
 returns-in-Loan-clause-seat g c =
     subst (λ s. IsSeatOf g.D.Desk.loan g.D.Desk.spent g.W.Work.job (g.D.Desk.origin c.args.desk.now)
-        (g.G.Gate.is_passed c.args.gate.now) s (g.D.Desk.turn_view c.lend.new.turn).seen) (sym c.hold.ensures)
+    (g.G.Gate.is_passed c.args.gate.now) s (g.D.Desk.turn_view c.lend.new.turn).seen) (sym c.hold.ensures)
     (seat_lent g.D.Desk.loan g.D.Desk.spent g.W.Work.job (g.D.Desk.origin c.args.desk.now)
-        (g.G.Gate.is_passed c.args.gate.now) c.args.seat.now.lane c.args.seat.now.gave_back
-        c.args.seat.now.passes c.in-Loan.loan _ c.in-Loan.loan.position
+    (g.G.Gate.is_passed c.args.gate.now) c.args.seat.now.lane c.args.seat.now.gave_back
+    c.args.seat.now.passes c.in-Loan.loan _ c.in-Loan.loan.position
     (g.D.Desk.turn_view c.args.turn.now).seen (g.D.Desk.turn_view c.lend.new.turn).seen
-        (c.requires.loans c.in-Loan.loan) (ap (λ v. v.seen) c.in-Loan.ensures.event) c.in-Loan.ensures.take.0
-        refl c.in-Loan.ensures.take.1 (c.requires.seat.once c.requires.free.1) c.requires.seat.passes_lane)
+    (c.requires.loans c.in-Loan.loan) (ap (λ v. v.seen) c.in-Loan.ensures.event) c.in-Loan.ensures.take.0
+    refl c.in-Loan.ensures.take.1 (c.requires.seat.once c.requires.free.1) c.requires.seat.passes_lane)
 
 pub returns-in-Loan-clause-found : goal.returns-in-Loan-clause-found
 returns-in-Loan-clause-found g c =
@@ -32,5 +32,5 @@ returns-in-NotNow-clause-found g c =
 pub returns-in-Loan-clause-step : goal.returns-in-Loan-clause-step
 returns-in-Loan-clause-step g c =
     stepped (g.G.Gate.is_passed c.args.gate.now) (g.D.Desk.turn_view c.args.turn.now)
-        (g.D.Desk.turn_view c.lend.new.turn) Grant c.args.seat.now.lane c.in-Loan.loan.position
-        c.args.seat.now.lane refl c.in-Loan.ensures.event (λ e. absurd (cc e))
+    (g.D.Desk.turn_view c.lend.new.turn) Grant c.args.seat.now.lane c.in-Loan.loan.position
+    c.args.seat.now.lane refl c.in-Loan.ensures.event (λ e. absurd (cc e))

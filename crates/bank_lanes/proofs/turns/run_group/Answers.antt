@@ -52,17 +52,17 @@ pub returns-in-End-clause-keeps : goal.returns-in-End-clause-keeps
 returns-in-End-clause-keeps g c =
     let i = c.turns.invariant in
     keeps_then (g.G.Gate.is_passed c.args.gate.now) _ _ _ _ _ _ _ i.keeps
-        (subst (λ ms. KeepsTo (g.G.Gate.is_passed c.args.gate.now) ms (g.D.Desk.lanes_of c.turns.pass)
-        (g.D.Desk.view c.turns.pass) (g.D.Desk.lanes_of c.take_turn.new.pass)
-        (g.D.Desk.view c.take_turn.new.pass)) i.same c.take_turn.ensures.keeps)
+    (subst (λ ms. KeepsTo (g.G.Gate.is_passed c.args.gate.now) ms (g.D.Desk.lanes_of c.turns.pass)
+    (g.D.Desk.view c.turns.pass) (g.D.Desk.lanes_of c.take_turn.new.pass)
+    (g.D.Desk.view c.take_turn.new.pass)) i.same c.take_turn.ensures.keeps)
 
 pub returns-in-Alone-clause-keeps : goal.returns-in-Alone-clause-keeps
 returns-in-Alone-clause-keeps g c =
     let i = c.turns.invariant in
     keeps_then (g.G.Gate.is_passed c.args.gate.now) _ _ _ _ _ _ _ i.keeps
-        (subst (λ ms. KeepsTo (g.G.Gate.is_passed c.args.gate.now) ms (g.D.Desk.lanes_of c.turns.pass)
-        (g.D.Desk.view c.turns.pass) (g.D.Desk.lanes_of c.take_turn.new.pass)
-        (g.D.Desk.view c.take_turn.new.pass)) i.same c.take_turn.ensures.keeps)
+    (subst (λ ms. KeepsTo (g.G.Gate.is_passed c.args.gate.now) ms (g.D.Desk.lanes_of c.turns.pass)
+    (g.D.Desk.view c.turns.pass) (g.D.Desk.lanes_of c.take_turn.new.pass)
+    (g.D.Desk.view c.take_turn.new.pass)) i.same c.take_turn.ensures.keeps)
 
 pub returns-in-Alone-clause-end : goal.returns-in-Alone-clause-end
 returns-in-Alone-clause-end g c = record {

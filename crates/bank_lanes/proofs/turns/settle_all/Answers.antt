@@ -11,19 +11,19 @@ pub settle-requires-clause-lane : goal.settle-requires-clause-lane
 settle-requires-clause-lane g c = λ κs live.
     let within : c.loop-at.at < length c.loop-at.seats = omega arith in
     lane_within g.D.Desk.loan g.D.Desk.spent g.W.Work.job (g.D.Desk.origin c.args.desk.now)
-        (g.G.Gate.is_passed c.args.gate.now) _ c.loop-at.seats _ c.loop-at.at c.index-seats-at-in-loop-at.result
-        within c.loop-at.invariant.seats
+    (g.G.Gate.is_passed c.args.gate.now) _ c.loop-at.seats _ c.loop-at.at c.index-seats-at-in-loop-at.result
+    within c.loop-at.invariant.seats
 
 pub loop-at-preserved : goal.loop-at-preserved
 loop-at-preserved g c =
     let i = c.loop-at.invariant in
     let within : c.loop-at.at < length c.loop-at.seats = omega arith in
     let next = advance g.D.Desk.loan g.D.Desk.spent g.W.Work.job (g.D.Desk.origin c.args.desk.now)
-        (g.G.Gate.is_passed c.args.gate.now) (seat_lanes c.args.seats.now) _
-        (g.D.Desk.turn_lanes c.loop-at.turn) (g.D.Desk.turn_lanes c.settle.new.turn) _
-        (g.D.Desk.turn_view c.loop-at.turn) (g.D.Desk.turn_view c.settle.new.turn)
+    (g.G.Gate.is_passed c.args.gate.now) (seat_lanes c.args.seats.now) _
+    (g.D.Desk.turn_lanes c.loop-at.turn) (g.D.Desk.turn_lanes c.settle.new.turn) _
+    (g.D.Desk.turn_view c.loop-at.turn) (g.D.Desk.turn_view c.settle.new.turn)
     c.loop-at.seats c.loop-at.at c.settle.new.seat c.index-seats-at-in-loop-at.result within i.same i.keeps
-        i.seats c.settle.ensures.lanes c.settle.ensures.lane c.settle.ensures.step c.settle.ensures.seat in
+    i.seats c.settle.ensures.lanes c.settle.ensures.lane c.settle.ensures.step c.settle.ensures.seat in
     record {
       desk = c.settle.ensures.desk;
       own = c.settle.ensures.step.own;
@@ -36,7 +36,7 @@ loop-at-preserved g c =
         | then-seats-at w ↦ λ t. absurd (cc (w.kept-is, t))
         | else-seats-at w ↦ λ t.
             All-set HasKept c.loop-at.seats c.loop-at.at c.settle.new.seat
-                (subst HasKept (get_or-set_same c.loop-at.seats c.loop-at.at c.settle.new.seat _ within)
-                w.if-seats-at.false) (i.kept (sym w.kept-is ∙ t))
+            (subst HasKept (get_or-set_same c.loop-at.seats c.loop-at.at c.settle.new.seat _ within)
+            w.if-seats-at.false) (i.kept (sym w.kept-is ∙ t))
       ];
     }

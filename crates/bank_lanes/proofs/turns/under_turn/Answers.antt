@@ -8,8 +8,8 @@ pub returns-clause-keeps : goal.returns-clause-keeps
 returns-clause-keeps g c =
     keeps_then (g.G.Gate.is_passed c.args.gate.now) _ _ _ _ _ _ _ c.settle_all.ensures.keeps
     (subst (λ ms. KeepsTo (g.G.Gate.is_passed c.args.gate.now) ms (g.D.Desk.turn_lanes c.settle_all.new.turn)
-        (g.D.Desk.turn_view c.settle_all.new.turn) (g.D.Desk.turn_lanes c.lend_share.new.turn)
-        (g.D.Desk.turn_view c.lend_share.new.turn)) c.settle_all.ensures.same c.lend_share.ensures.keeps)
+    (g.D.Desk.turn_view c.settle_all.new.turn) (g.D.Desk.turn_lanes c.lend_share.new.turn)
+    (g.D.Desk.turn_view c.lend_share.new.turn)) c.settle_all.ensures.same c.lend_share.ensures.keeps)
 
 pub returns-clause-way : goal.returns-clause-way
 returns-clause-way g c = λ others empty. not_plenty c.lend_share.result _ _ _ c.lend_share.ensures.found

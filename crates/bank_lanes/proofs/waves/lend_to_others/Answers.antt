@@ -15,9 +15,9 @@ loop-lane-preserved g c =
       | else-not-seat-via-then-not-seat+else-not-lend_to w ↦
           let same = ap (λ k. k.journal.items) w.core-is in
           let next = seats_set c.loop-lane.seats c.loop-lane.core.origin.value w.lend_to.new.core.origin.value
-              c.loop-lane.core.journal.items w.lend_to.new.core.journal.items c.loop-lane.lane
-              w.lend_to.new.seat (omega arith) w.lend_to.ensures.origin w.lend_to.ensures.grew i.seats
-              w.lend_to.ensures.seat in
+          c.loop-lane.core.journal.items w.lend_to.new.core.journal.items c.loop-lane.lane
+          w.lend_to.new.seat (omega arith) w.lend_to.ensures.origin w.lend_to.ensures.grew i.seats
+          w.lend_to.ensures.seat in
           record {
             origin = ap (λ k. k.origin.value) w.core-is ∙ (w.lend_to.ensures.origin ∙ i.origin);
             lanes = ap (λ k. k.lanes) w.core-is ∙ (w.lend_to.ensures.lanes ∙ i.lanes);

@@ -39,16 +39,16 @@ returns-in-Finished-clause-free g c =
     let next = c.take.new.self in
     nothing_held (g.W.Work.job next.origin.value.told) (at next.origin.value.start) next.journal.items next.lanes next.runs.legal next.room.lanes_below
     (λ lane l. ap (λ j. holds (own j lane)) c.in-Finished.ensures.journal
-        ∙ all_hold_none c.waves.seats c.waves.core.origin.value c.waves.core.journal.items
-        c.waves.invariant.seats c.waves.invariant.empty lane (omega (arith, l, c.in-Finished.ensures.lanes)))
+    ∙ all_hold_none c.waves.seats c.waves.core.origin.value c.waves.core.journal.items
+    c.waves.invariant.seats c.waves.invariant.empty lane (omega (arith, l, c.in-Finished.ensures.lanes)))
 
 pub returns-in-OutOfMemory-clause-free : goal.returns-in-OutOfMemory-clause-free
 returns-in-OutOfMemory-clause-free g c =
     let next = c.take.new.self in
     nothing_held (g.W.Work.job next.origin.value.told) (at next.origin.value.start) next.journal.items next.lanes next.runs.legal next.room.lanes_below
     (λ lane l. ap (λ j. holds (own j lane)) c.in-OutOfMemory.ensures.journal
-        ∙ all_hold_none c.waves.seats c.waves.core.origin.value c.waves.core.journal.items
-        c.waves.invariant.seats c.waves.invariant.empty lane (omega (arith, l, c.in-OutOfMemory.ensures.lanes)))
+    ∙ all_hold_none c.waves.seats c.waves.core.origin.value c.waves.core.journal.items
+    c.waves.invariant.seats c.waves.invariant.empty lane (omega (arith, l, c.in-OutOfMemory.ensures.lanes)))
 
 pub lend_to_others-requires-clause-seats : goal.lend_to_others-requires-clause-seats
 lend_to_others-requires-clause-seats g c =
@@ -68,7 +68,7 @@ lend_to_others-requires-clause-seats g c =
 pub settle_all-requires-clause-seats : goal.settle_all-requires-clause-seats
 settle_all-requires-clause-seats g c =
     seats_same c.lend_to_others.new.seats c.perform_all.new.seats c.lend_to_others.new.core.origin.value
-        c.lend_to_others.new.core.journal.items c.perform_all.ensures.same c.lend_to_others.ensures.seats
+    c.lend_to_others.new.core.journal.items c.perform_all.ensures.same c.lend_to_others.ensures.seats
 
 pub returns-then-seats-offset0-clause-free : goal.returns-then-seats-offset0-clause-free
 returns-then-seats-offset0-clause-free g c =
@@ -83,8 +83,8 @@ returns-then-seats-offset0-clause-behind g c = λ behind.
     let next = c.take.new.self in
     let lent = c.lend_to_others.new.core in
     behind_wave (g.G.Gate.is_passed c.args.gate.now) (g.W.Work.job (g.W.Work.told c.args.work.now))
-        c.perform_all.new.seats lent.origin.value old.journal.items next.journal.items lent.journal.items
-        c.settle_all.new.core.journal.items 0 c.in-Loan.loan.position
+    c.perform_all.new.seats lent.origin.value old.journal.items next.journal.items lent.journal.items
+    c.settle_all.new.core.journal.items 0 c.in-Loan.loan.position
     c.in-Loan.ensures.journal c.lend_to_others.ensures.longer c.lend_to_others.ensures.grants c.settle_all.ensures.longer c.settle_all.ensures.commits
     (seats_same c.lend_to_others.new.seats c.perform_all.new.seats lent.origin.value lent.journal.items c.perform_all.ensures.same c.lend_to_others.ensures.seats)
     c.perform_all.ensures.done (c.waves.invariant.behind behind)
@@ -98,8 +98,8 @@ waves-preserved g c = record {
       let next = c.take.new.self in
       let lent = c.lend_to_others.new.core in
       behind_wave (g.G.Gate.is_passed c.args.gate.now) (g.W.Work.job (g.W.Work.told c.args.work.now))
-          c.perform_all.new.seats lent.origin.value old.journal.items next.journal.items lent.journal.items
-          c.settle_all.new.core.journal.items 0 c.in-Loan.loan.position
+      c.perform_all.new.seats lent.origin.value old.journal.items next.journal.items lent.journal.items
+      c.settle_all.new.core.journal.items 0 c.in-Loan.loan.position
       c.in-Loan.ensures.journal c.lend_to_others.ensures.longer c.lend_to_others.ensures.grants c.settle_all.ensures.longer c.settle_all.ensures.commits
       (seats_same c.lend_to_others.new.seats c.perform_all.new.seats lent.origin.value lent.journal.items c.perform_all.ensures.same c.lend_to_others.ensures.seats)
       c.perform_all.ensures.done (c.waves.invariant.behind behind);

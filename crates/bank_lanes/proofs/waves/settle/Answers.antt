@@ -33,5 +33,5 @@ returns-in-Some-Some-clause-commits g c =
 pub returns-in-Some-None-clause-commits : goal.returns-in-Some-None-clause-commits
 returns-in-Some-None-clause-commits g c =
     one_new (IsBehind (λ l position. (l ≡ c.args.lane) × HasPerformed position c.args.seat.now))
-        c.args.core.now.journal.items c.give_back.new.self.journal.items _ c.give_back.ensures.journal
-        (λ e. absurd (cc))
+    c.args.core.now.journal.items c.give_back.new.self.journal.items _ c.give_back.ensures.journal
+    (λ e. absurd (cc))

@@ -17,8 +17,8 @@ loop-lane-preserved g c =
       commits = more_new (IsBehind (HasPerformedAt c.args.seats.now)) c.args.core.now.journal.items
           c.loop-lane.core.journal.items c.settle.new.core.journal.items c.settle.ensures.grew.longer i.commits
           (commits_at c.args.seats.now c.loop-lane.seats c.loop-lane.core.journal.items
-              c.settle.new.core.journal.items c.loop-lane.lane c.index-seats-lane.result (omega arith) i.rest
-              c.settle.ensures.commits);
+          c.settle.new.core.journal.items c.loop-lane.lane c.index-seats-lane.result (omega arith) i.rest
+          c.settle.ensures.commits);
       seats = seats_set c.loop-lane.seats c.loop-lane.core.origin.value c.settle.new.core.origin.value
           c.loop-lane.core.journal.items c.settle.new.core.journal.items c.loop-lane.lane c.settle.new.seat
           within c.settle.ensures.origin c.settle.ensures.grew i.seats c.settle.ensures.seat;

@@ -26,13 +26,13 @@ add-added-requires-clause-follows g c =
 pub returns-in_err-answer-clause-any_moment : goal.returns-in_err-answer-clause-any_moment
 returns-in_err-answer-clause-any_moment g c done had has =
     opened_added c.args.opening.ledger c.in-Ok.ledger c.args.batch.now c.in_ok-ran.ran c.in_ok-ran.run'
-        (g.F.Folder.events c.args.files.now) (g.F.Folder.events c.add-added.new.folder) c.in-Ok.ensures.same
-        c.in_ok-ran.ensures had has
+    (g.F.Folder.events c.args.files.now) (g.F.Folder.events c.add-added.new.folder) c.in-Ok.ensures.same
+    c.in_ok-ran.ensures had has
     c.add-added.ensures.any_moment
 
 pub returns-clause-any_moment : goal.returns-clause-any_moment
 returns-clause-any_moment g c done had has =
     opened_added c.args.opening.ledger c.in-Ok.ledger c.args.batch.now c.in_ok-ran.ran c.in_ok-ran.run'
-        (g.F.Folder.events c.args.files.now) (g.F.Folder.events c.add-added.new.folder) c.in-Ok.ensures.same
-        c.in_ok-ran.ensures had has
+    (g.F.Folder.events c.args.files.now) (g.F.Folder.events c.add-added.new.folder) c.in-Ok.ensures.same
+    c.in_ok-ran.ensures had has
     c.add-added.ensures.any_moment

@@ -15,17 +15,17 @@ returns-in-Err c = rw c.fault_of.ensures
 pub returns-in-Some-command_of : goal.returns-in-Some-command_of
 returns-in-Some-command_of c =
     let read = told (map (λ w. w.now) c.args.words.now) _ c.in-Ok.matches c.in-Some.name.now
-        (found_of c.in-Some.inner.now)
-        (all_map c.args.words.now ∙ sym c.are_plain.ensures ∙ c.if-not-are_plain.false) c.in_ok-command.ensures
-        c.in-Ok.ensures.kinds c.in-Ok.ensures.matches (sym c.in-Some.ensures.name) (sym c.in-Some.ensures.rows)
-        in
+    (found_of c.in-Some.inner.now)
+    (all_map c.args.words.now ∙ sym c.are_plain.ensures ∙ c.if-not-are_plain.false) c.in_ok-command.ensures
+    c.in-Ok.ensures.kinds c.in-Ok.ensures.matches (sym c.in-Some.ensures.name) (sym c.in-Some.ensures.rows)
+    in
     sym read ∙ sym c.command_of.ensures ∙ c.in-Some-command_of.is
 
 pub returns-in-Some : goal.returns-in-Some
 returns-in-Some c =
     let read = told (map (λ w. w.now) c.args.words.now) _ c.in-Ok.matches c.in-Some.name.now
-        (found_of c.in-Some.inner.now)
-        (all_map c.args.words.now ∙ sym c.are_plain.ensures ∙ c.if-not-are_plain.false) c.in_ok-command.ensures
-        c.in-Ok.ensures.kinds c.in-Ok.ensures.matches (sym c.in-Some.ensures.name) (sym c.in-Some.ensures.rows)
-        in
+    (found_of c.in-Some.inner.now)
+    (all_map c.args.words.now ∙ sym c.are_plain.ensures ∙ c.if-not-are_plain.false) c.in_ok-command.ensures
+    c.in-Ok.ensures.kinds c.in-Ok.ensures.matches (sym c.in-Some.ensures.name) (sym c.in-Some.ensures.rows)
+    in
     sym read ∙ sym c.command_of.ensures ∙ c.in-None-command_of.is

@@ -8,8 +8,8 @@ loop-t-init c = rw c.in_ok-wires.ensures (none_drawn c.args.number)
 pub loop-t-preserved : goal.loop-t-preserved
 loop-t-preserved c =
     rw c.in_ok-draw_wire.ensures.state
-        (one_more c.args.number c.loop-t.t c.loop-t.draws.state c.loop-t.wires c.push.new.self
-        c.in_ok-draw_wire.field-0 c.loop-t.invariant c.in_ok-draw_wire.ensures.wire c.in_ok-push.ensures.ok)
+    (one_more c.args.number c.loop-t.t c.loop-t.draws.state c.loop-t.wires c.push.new.self
+    c.in_ok-draw_wire.field-0 c.loop-t.invariant c.in_ok-draw_wire.ensures.wire c.in_ok-push.ensures.ok)
 
 pub returns-clause-few : goal.returns-clause-few
 returns-clause-few c =

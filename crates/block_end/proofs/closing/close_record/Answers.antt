@@ -13,8 +13,12 @@ use Rattle.block_end.proofs.closing.close_record.Goals as goal
 pub snapshot_after-requires : goal.snapshot_after-requires
 snapshot_after-requires g c = names_ascend c.args.parts c.args.chain.limits c.args.chain.recent
     (ran_of g.W.Work.job c.args.ended.origin.value c.args.outcomes.now) c.in_ok-end.field-0
-    (record { end = c.in_ok-end.ensures.end; names = c.in_ok-end.ensures.names; front =
-    c.in_ok-end.ensures.front })
+    (record {
+      end = c.in_ok-end.ensures.end;
+      names = c.in_ok-end.ensures.names;
+      front =
+          c.in_ok-end.ensures.front;
+    })
 
 pub returns : goal.returns
 returns g c =

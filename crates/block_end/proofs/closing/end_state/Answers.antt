@@ -14,8 +14,12 @@ pub returns : goal.returns
 returns c = record {
   shares =
       ap (λ (accounts : State). let shares : Shares =
-          record { accounts = accounts; burned = c.in_ok-accounts.field-0.burned; collected =
-          c.in_ok-accounts.field-0.collected } in shares) c.in_ok-accounts-2.ensures
+      record {
+        accounts = accounts;
+        burned = c.in_ok-accounts.field-0.burned;
+        collected =
+            c.in_ok-accounts.field-0.collected;
+      } in shares) c.in_ok-accounts-2.ensures
       ∙ ap (λ (s : Shares). record s { accounts = activate_all s.accounts }) c.in_ok-accounts.ensures;
   state = c.in_ok-state.ensures;
 }

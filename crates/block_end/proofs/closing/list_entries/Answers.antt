@@ -13,8 +13,16 @@ returns c =
     let parts = c.args.parts in
     let is =
     ap (λ (es : List Entry). let block : Block =
-        record { slot = parts.head.now.slot; collector = parts.head.now.collector; previous = parts.previous;
-        entries = es; burned = 0; collected = 0; state = no_hash; hash = no_hash } in block)
+    record {
+      slot = parts.head.now.slot;
+      collector = parts.head.now.collector;
+      previous = parts.previous;
+      entries = es;
+      burned = 0;
+      collected = 0;
+      state = no_hash;
+      hash = no_hash;
+    } in block)
     c.in_ok-entries_of.ensures.each in
     record {
       block = is;

@@ -21,9 +21,9 @@ loop-outcome-preserved c =
     let place = c.len.ensures ∙ i.count in
     let t : c.index-order-len.result ≡ get_or c.args.order.now (length done) c.index-order-len.result = c.index-order-len.is ∙ ap (λ n. get_or c.args.order.now n c.index-order-len.result) place in
     let pushed = c.in_ok-push.ensures.ok
-        ∙ ap (λ (e : Entry). c.loop-outcome.entries ++ e ∷ [])
-        (c.in_ok-entry_of.ensures ∙ ap (λ (x : Chosen). entry_of c.args.wires.now (x, outcome))
-        (c.chosen-chosen.ensures ∙ t)) in
+    ∙ ap (λ (e : Entry). c.loop-outcome.entries ++ e ∷ [])
+    (c.in_ok-entry_of.ensures ∙ ap (λ (x : Chosen). entry_of c.args.wires.now (x, outcome))
+    (c.chosen-chosen.ensures ∙ t)) in
     let more = ap length c.in_ok-push.ensures.ok ∙ length-append c.loop-outcome.entries (c.in_ok-entry_of.field-0 ∷ []) in
     record {
       so_far = entries_more c.args.wires.now c.args.order.now done outcome c.loop-outcome.entries c.push.new.self c.index-order-len.result i.so_far below pushed;

@@ -22,6 +22,12 @@ returns c =
     on_ok_weaker c.write_parts.result
     (λ adds. adds.after c.args.out.now refl
     ∙ ap (λ (wire : List ℕ). let entry : Entry =
-        record { wire = wire; status = outcome.status; units = outcome.units; fee = outcome.base_paid +
-        outcome.priority_paid; lines = outcome.lines } in c.args.out.now ++ entry_bytes entry) here)
+    record {
+      wire = wire;
+      status = outcome.status;
+      units = outcome.units;
+      fee = outcome.base_paid +
+          outcome.priority_paid;
+      lines = outcome.lines;
+    } in c.args.out.now ++ entry_bytes entry) here)
     c.write_parts.ensures

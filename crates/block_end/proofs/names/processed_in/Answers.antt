@@ -25,8 +25,8 @@ loop-at-preserved c =
     ∙ ap (λ (l : List Hash32). l ++ option_to_list c.processed_by.result) c.loop-at.invariant
     ∙ ap (λ (o : Option Hash32). processed_in (take at order) (take at outcomes) ++ option_to_list o)
     (c.processed_by.ensures ∙ ap (λ (t : Chosen). processed_by t.name c.value.result.now.status)
-        c.chosen.ensures ∙ ap (λ (o : Outcome). processed_by c.index-order-at.result.name o.status)
-        (c.value.ensures ∙ c.index-outcomes-at.is)
-        ∙ ap (λ (t : Chosen). processed_by t.name (get_or outcomes at c.index-outcomes-at.result).status)
-        c.index-order-at.is)
+    c.chosen.ensures ∙ ap (λ (o : Outcome). processed_by c.index-order-at.result.name o.status)
+    (c.value.ensures ∙ c.index-outcomes-at.is)
+    ∙ ap (λ (t : Chosen). processed_by t.name (get_or outcomes at c.index-outcomes-at.result).status)
+    c.index-order-at.is)
     ∙ sym (processed_more order outcomes at c.index-order-at.result c.index-outcomes-at.result here there)

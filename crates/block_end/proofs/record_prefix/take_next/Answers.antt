@@ -14,8 +14,8 @@ returns-clause-taken c =
     let next = next_entries parts.wires.now parts.order.now c.args.outcomes.now count _ (omega arith) in
     let written = c.in_ok-write_entries.ensures ∙ ap (λ (es : List Entry). c.in_ok-buffer.buffer ++ flat_map entry_bytes es) next in
     let tail = tail_is c.in_ok-buffer.buffer
-        (flat_map entry_bytes (entries_of parts.wires.now (drop count parts.order.now) c.args.outcomes.now))
-        c.as_slice.result.now c.len-from.result (c.as_slice.ensures ∙ written) c.len-from.ensures in
+    (flat_map entry_bytes (entries_of parts.wires.now (drop count parts.order.now) c.args.outcomes.now))
+    c.as_slice.result.now c.len-from.result (c.as_slice.ensures ∙ written) c.len-from.ensures in
     λ taken h. subst (λ (bs : List ℕ). Holds256 c.update.new.self (taken ++ bs)) tail (c.update.ensures taken h)
 
 pub returns-clause-kept : goal.returns-clause-kept

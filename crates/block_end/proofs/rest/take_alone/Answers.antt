@@ -13,8 +13,8 @@ loop-begun-preserved c =
     let part = told_part all _ from (c.min-next.result - from) (ap (λ (os : List Outcome). take (c.min-next.result - from) (drop from os)) c.as_slice-all.ensures) (omega (arith, least, long)) in
     let told = part.0 in
     goes_on c.args.parts all _ c.loop-begun.begun c.in_ok-begun.begun c.loop-begun.invariant part.1
-        (omega (arith, least, long, each, told)) c.in_ok-begun.ensures.count c.in_ok-begun.ensures.taken
-        c.in_ok-begun.ensures.kept
+    (omega (arith, least, long, each, told)) c.in_ok-begun.ensures.count c.in_ok-begun.ensures.taken
+    c.in_ok-begun.ensures.kept
 
 pub returns : goal.returns
 returns c = is_written c.args.parts c.args.outcomes.now c.loop-begun.begun c.loop-begun.invariant (let long = ap (λ (os : List Outcome). length os) c.as_slice-all.ensures in omega (arith, long))

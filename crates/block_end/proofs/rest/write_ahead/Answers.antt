@@ -13,8 +13,8 @@ returns-clause-ahead g c =
     let next = next_entries parts.wires.now parts.order.now c.args.outcomes.now count _ (omega arith) in
     λ all is told_is.
     goes_ahead parts all c.args.outcomes.now count _ c.args.ahead.hasher c.call_both-both.result.0.0
-        c.args.ahead.bytes c.args.ahead.last c.in_ok-bytes.bytes c.in_ok-bytes.last is told_is c.requires.within
-        refl
+    c.args.ahead.bytes c.args.ahead.last c.in_ok-bytes.bytes c.in_ok-bytes.last is told_is c.requires.within
+    refl
     c.call_both-both.ensures.first
     (IfOk-at_ok _ c.in_ok-bytes.was c.call_both-both.ensures.second.0 ∙ ap (λ (es : List Entry). flat_map entry_bytes es) next)
     (IfOk-at_ok _ c.in_ok-bytes.was c.call_both-both.ensures.second.1)

@@ -23,8 +23,8 @@ turns-smaller g c =
     let origin = c.commit.ensures.origin ∙ c.in-Loan.ensures.origin in
     let commit = c.commit.ensures.journal ∙ ap (λ lane. with_event lent Commit lane position) c.in-Loan.ensures.take.0 in
     subst (λ o. 2 * (g.W.Work.job o.told).count + 1 - length c.commit.new.self.journal.items < 2 *
-        (g.W.Work.job c.turns.core.origin.value.told).count + 1 - length c.turns.core.journal.items)
-        (sym origin)
+    (g.W.Work.job c.turns.core.origin.value.told).count + 1 - length c.turns.core.journal.items)
+    (sym origin)
     (fewer_turns c.turns.core.journal.items lent position c.turns.invariant.alone c.in-Loan.ensures.journal c.commit.new.self.journal.items commit
     (g.W.Work.job c.turns.core.origin.value.told) (at c.turns.core.origin.value.start) c.in-Loan.ensures.legal)
 

@@ -13,9 +13,9 @@ pub loop-entry-preserved : goal.loop-entry-preserved
 loop-entry-preserved g c =
     Adds-as (Adds-then c.loop-entry.invariant c.in_ok-write_entry.ensures)
     (ap (λ (x : Entry). flat_map entry_bytes (take c.loop-entry.entry-index c.args.entries.now)
-        ++ entry_bytes x) c.entry-item.is
-        ∙ sym (flat_map-more entry_bytes c.args.entries.now c.loop-entry.entry-index c.entry-item.result
-        c.loop-entry-test.true))
+    ++ entry_bytes x) c.entry-item.is
+    ∙ sym (flat_map-more entry_bytes c.args.entries.now c.loop-entry.entry-index c.entry-item.result
+    c.loop-entry-test.true))
 
 pub returns : goal.returns
 returns g c = Adds-as c.loop-entry.invariant (ap (flat_map entry_bytes) (take_all c.loop-entry.entry-index c.args.entries.now c.loop-entry-test.false))

@@ -12,8 +12,8 @@ pub loop-line-preserved : goal.loop-line-preserved
 loop-line-preserved g c =
     Adds-as (Adds-then c.loop-line.invariant c.in_ok-write_sized.ensures)
     (ap (λ (x : List ℕ). flat_map sized_bytes (take c.loop-line.line-index c.args.lines.now) ++ sized_bytes x)
-        c.line-item.is ∙ sym (flat_map-more sized_bytes c.args.lines.now c.loop-line.line-index
-        c.line-item.result c.loop-line-test.true))
+    c.line-item.is ∙ sym (flat_map-more sized_bytes c.args.lines.now c.loop-line.line-index
+    c.line-item.result c.loop-line-test.true))
 
 pub returns : goal.returns
 returns g c = Adds-as c.loop-line.invariant (ap (flat_map sized_bytes) (take_all c.loop-line.line-index c.args.lines.now c.loop-line-test.false))

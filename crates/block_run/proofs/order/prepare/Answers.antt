@@ -7,7 +7,7 @@ use Rattle.block_run.proofs.order.prepare.Goals as goal
 pub returns-clause-programs : goal.returns-clause-programs
 returns-clause-programs g c =
     let made : c.in_ok-programs.field-0
-        ≡ programs_of c.args.accounts.now c.in_ok-sorted.sorted = subst
-        (λ r. IfOk r (λ p. p ≡ programs_of c.args.accounts.now c.in_ok-sorted.sorted)) c.in_ok-programs.was
-        c.call_both-numbered.ensures.second in
+    ≡ programs_of c.args.accounts.now c.in_ok-sorted.sorted = subst
+    (λ r. IfOk r (λ p. p ≡ programs_of c.args.accounts.now c.in_ok-sorted.sorted)) c.in_ok-programs.was
+    c.call_both-numbered.ensures.second in
     made ∙ programs-same c.args.accounts.now c.in_ok-sorted.sorted (keys_in c.args.order.now) (λ key. c.in_ok-sorted.ensures.same key)

@@ -20,8 +20,8 @@ close_record-requires-clause-run g c κs within =
     let opened = c.in_ok-work in
     let ended = c.in_ok-ended in
     let same = same_run s c.head_of-head.result.slot c.args.order opened.field-0.core.origin.value
-        ended.ended.origin.value ended.outcomes opened.ensures.origin ended.ensures.origin
-        ended.ensures.outcomes in
+    ended.ended.origin.value ended.outcomes opened.ensures.origin ended.ensures.origin
+    ended.ensures.outcomes in
     let chosen = c.chosen.ensures ∙ ap (λ (t : AdmittedBlock). t.chosen) opened.ensures.told in
     same_may_end c.args.batch.wires c.as_slice-2.result.now c.args.order c.chosen.result.now _ _ c.as_slice-2.ensures chosen same
     (run_may_end s c.head_of-head.result.slot c.args.batch.wires c.args.order c.requires.readable c.requires.chosen c.requires.of)
@@ -32,11 +32,11 @@ returns g c =
     let opened = c.in_ok-work in
     let ended = c.in_ok-ended in
     let same = same_run s c.head_of-head.result.slot c.args.order opened.field-0.core.origin.value
-        ended.ended.origin.value ended.outcomes opened.ensures.origin ended.ensures.origin
-        ended.ensures.outcomes in
+    ended.ended.origin.value ended.outcomes opened.ensures.origin ended.ensures.origin
+    ended.ensures.outcomes in
     let chosen = c.chosen.ensures ∙ ap (λ (t : AdmittedBlock). t.chosen) opened.ensures.told in
     let end = same_end s c.head_of-head.result c.args.batch.wires c.as_slice-2.result.now c.args.order
-        c.chosen.result.now opened.field-0.chain ended.ended.origin.value ended.outcomes c.as_slice-2.ensures
-        chosen opened.ensures.chain same in
+    c.chosen.result.now opened.field-0.chain ended.ended.origin.value ended.outcomes c.as_slice-2.ensures
+    chosen opened.ensures.chain same in
     subst (λ (head : Head). IsClosedRecord (closed s head c.args.batch.wires c.args.order) c.in_ok-end.end) c.head_of-head.ensures
     (subst (λ (wanted : Closed). IsClosedRecord wanted c.in_ok-end.end) end c.in_ok-end.ensures)

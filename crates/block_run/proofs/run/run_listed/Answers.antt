@@ -30,8 +30,8 @@ returns-clause-exact g c =
     let order = c.before_refused-order.ensures ∙ ap (λ refused. before_refused refused c.in_ok-order.field-0.order) c.as_slice-2.ensures in
     let ended = c.in_ok-block.ensures.exact ∙ ap (λ (o : List Chosen). closed c.args.snapshot (head_again c.args.given.now) c.in_ok-wires.wires o) order in
     listed_is c.args.snapshot c.args.given.now c.in_ok-wires.wires (told_by c.in_ok-order.field-0)
-        c.in_ok-block.field-0 c.is_halted.result read c.in_ok-order.ensures.exact ended
-        (c.is_halted.ensures ∙ ap is_halted c.as_slice-3.ensures)
+    c.in_ok-block.field-0 c.is_halted.result read c.in_ok-order.ensures.exact ended
+    (c.is_halted.ensures ∙ ap is_halted c.as_slice-3.ensures)
 
 pub returns-clause-cut : goal.returns-clause-cut
 returns-clause-cut g c =
@@ -39,5 +39,5 @@ returns-clause-cut g c =
     let order = c.before_refused-order.ensures ∙ ap (λ refused. before_refused refused c.in_ok-order.field-0.order) c.as_slice-2.ensures in
     let ended = c.in_ok-block.ensures.exact ∙ ap (λ (o : List Chosen). closed c.args.snapshot (head_again c.args.given.now) c.in_ok-wires.wires o) order in
     listed_cut c.args.snapshot c.args.given.now c.in_ok-wires.wires (told_by c.in_ok-order.field-0)
-        c.in_ok-block.field-0 c.is_halted.result c.requires.readable read c.in_ok-order.ensures.exact ended
-        (c.is_halted.ensures ∙ ap is_halted c.as_slice-3.ensures)
+    c.in_ok-block.field-0 c.is_halted.result c.requires.readable read c.in_ok-order.ensures.exact ended
+    (c.is_halted.ensures ∙ ap is_halted c.as_slice-3.ensures)

@@ -18,8 +18,8 @@ close-requires-clause-run g c κs within =
     let opened = c.in_ok-work in
     let ended = c.in_ok-ended in
     let same = same_run s c.args.head.now.slot c.args.order opened.field-0.core.origin.value
-        ended.ended.origin.value ended.outcomes opened.ensures.origin ended.ensures.origin
-        ended.ensures.outcomes in
+    ended.ended.origin.value ended.outcomes opened.ensures.origin ended.ensures.origin
+    ended.ensures.outcomes in
     let chosen = c.chosen.ensures ∙ ap (λ (t : AdmittedBlock). t.chosen) opened.ensures.told in
     same_may_end c.args.wires.now c.as_slice-2.result.now c.args.order c.chosen.result.now _ _ c.as_slice-2.ensures chosen same
     (run_may_end s c.args.head.now.slot c.args.wires.now c.args.order c.requires.readable c.requires.chosen c.requires.of)
@@ -30,10 +30,10 @@ returns g c =
     let opened = c.in_ok-work in
     let ended = c.in_ok-ended in
     let same = same_run s c.args.head.now.slot c.args.order opened.field-0.core.origin.value
-        ended.ended.origin.value ended.outcomes opened.ensures.origin ended.ensures.origin
-        ended.ensures.outcomes in
+    ended.ended.origin.value ended.outcomes opened.ensures.origin ended.ensures.origin
+    ended.ensures.outcomes in
     let chosen = c.chosen.ensures ∙ ap (λ (t : AdmittedBlock). t.chosen) opened.ensures.told in
     let end = same_end s c.args.head.now c.args.wires.now c.as_slice-2.result.now c.args.order
-        c.chosen.result.now opened.field-0.chain ended.ended.origin.value ended.outcomes c.as_slice-2.ensures
-        chosen opened.ensures.chain same in
+    c.chosen.result.now opened.field-0.chain ended.ended.origin.value ended.outcomes c.as_slice-2.ensures
+    chosen opened.ensures.chain same in
     subst (λ (wanted : Closed). IfOk c.close.result (IsClosed wanted)) end c.close.ensures

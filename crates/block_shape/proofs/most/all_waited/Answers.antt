@@ -5,7 +5,7 @@ use Rattle.block_shape.proofs.most.all_waited.Goals as goal
 pub loop-key-preserved : goal.loop-key-preserved
 loop-key-preserved c =
     none_listed (c.in-Some.key.now, c.in-Some.wait.now) c.loop-key.rest c.next.new.self c.loop-key.waited.items
-        _ c.in-Some.ensures.steps (le-ltb 0 c.in-Some.wait.now.count c.if-wait-gt0.false) c.loop-key.invariant
+    _ c.in-Some.ensures.steps (le-ltb 0 c.in-Some.wait.now.count c.if-wait-gt0.false) c.loop-key.invariant
 
 pub returns-clause-listed : goal.returns-clause-listed
 returns-clause-listed c =

@@ -13,8 +13,8 @@ loop-lock-preserved c =
     let most = c.max-latest.ensures in
     let is = c.held_place.ensures in
     let so_far : All (λ (lock : Lock). held_place written read c.args.time lock ≤ c.max-latest.result)
-        (take c.loop-lock.lock-index c.args.locks.now) = λ k d l. let u = c.loop-lock.invariant.above k d l
-        in omega (arith, u, most) in
+    (take c.loop-lock.lock-index c.args.locks.now) = λ k d l. let u = c.loop-lock.invariant.above k d l
+    in omega (arith, u, most) in
     record {
       above = All-more (λ (lock : Lock). held_place written read c.args.time lock ≤ c.max-latest.result)
           c.args.locks.now c.loop-lock.lock-index no_lock c.loop-lock-test.true so_far
@@ -25,5 +25,5 @@ loop-lock-preserved c =
 pub returns-clause-above : goal.returns-clause-above
 returns-clause-above c =
     subst (All (λ (lock : Lock). held_place c.args.written.now c.args.read.now c.args.time lock ≤
-        c.loop-lock.latest)) (take_all c.loop-lock.lock-index c.args.locks.now c.loop-lock-test.false)
-        c.loop-lock.invariant.above
+    c.loop-lock.latest)) (take_all c.loop-lock.lock-index c.args.locks.now c.loop-lock-test.false)
+    c.loop-lock.invariant.above

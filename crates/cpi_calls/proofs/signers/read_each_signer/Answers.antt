@@ -9,18 +9,18 @@ pub returns-in_err-signer : goal.returns-in_err-signer
 returns-in_err-signer c =
     let p = err_from_is_err_and c.from_residual-in_err-signer.result c.from_residual-in_err-signer.ensures.1 in
     rw (p.1, p.2) (items-stops (λ index. signer_read (plain_memory c.args.memory.now) c.args.caller.now
-        (item_at c.args.list index)) c.loop-index.signers c.args.count c.loop-index.index
-        c.in_err-signer.field-0.0 (items_read (signer_read (plain_memory c.args.memory.now) c.args.caller.now)
-        c.args.list c.args.count) c.loop-index-test.true
-        (rw c.item_addr-addr.ensures at c.in_err-signer.ensures) c.loop-index.invariant)
+    (item_at c.args.list index)) c.loop-index.signers c.args.count c.loop-index.index
+    c.in_err-signer.field-0.0 (items_read (signer_read (plain_memory c.args.memory.now) c.args.caller.now)
+    c.args.list c.args.count) c.loop-index-test.true
+    (rw c.item_addr-addr.ensures at c.in_err-signer.ensures) c.loop-index.invariant)
 
 pub loop-index-preserved : goal.loop-index-preserved
 loop-index-preserved c =
     rw c.in_ok-push.ensures.ok (sym
-        (items-more (λ index. signer_read (plain_memory c.args.memory.now) c.args.caller.now
-        (item_at c.args.list index)) c.loop-index.signers c.args.count c.loop-index.index c.in_ok-signer.signer
-        c.loop-index-test.true (rw c.item_addr-addr.ensures at c.in_ok-signer.ensures))
-        ∙ c.loop-index.invariant)
+    (items-more (λ index. signer_read (plain_memory c.args.memory.now) c.args.caller.now
+    (item_at c.args.list index)) c.loop-index.signers c.args.count c.loop-index.index c.in_ok-signer.signer
+    c.loop-index-test.true (rw c.item_addr-addr.ensures at c.in_ok-signer.ensures))
+    ∙ c.loop-index.invariant)
 
 pub returns : goal.returns
 returns c = sym c.loop-index.invariant

@@ -6,7 +6,7 @@ use Rattle.data_parts.proofs.moves.copy_range.Goals as goal
 pub returns-in_err-own_on-clause-ready : goal.returns-in_err-own_on-clause-ready
 returns-in_err-own_on-clause-ready c = λ prepared.
     let ok : IsOk c.own_on.result = c.own_on.ensures.ready
-        (prepared_are_own c.move_within.new.pieces (tests_in is_prepared c.args.pieces.now) c.args.to c.args.len
-        c.move_within.ensures.prepared prepared) in
+    (prepared_are_own c.move_within.new.pieces (tests_in is_prepared c.args.pieces.now) c.args.to c.args.len
+    c.move_within.ensures.prepared prepared) in
     let no = rw c.in_err-own_on.was at ok in
     absurd (cc)

@@ -21,16 +21,16 @@ loop-rest-preserved c =
     let now : List ℕ = bytes_in c.loop-rest.pieces in
     let chunk = range_length now (c.args.from + rest) count (omega (arith, some, most, c.requires.higher, c.requires.to, c.loop-rest.invariant.size)) in
     let size : length (bytes_in c.move_chunk.new.pieces)
-        ≡ length now = rw c.move_chunk.ensures.bytes
-        (length_with now _ (c.args.to + rest)
-        (omega (arith, chunk, some, most, c.requires.to, c.loop-rest.invariant.size))) in
+    ≡ length now = rw c.move_chunk.ensures.bytes
+    (length_with now _ (c.args.to + rest)
+    (omega (arith, chunk, some, most, c.requires.to, c.loop-rest.invariant.size))) in
     let done : ℕ = c.args.len - c.loop-rest.rest in
     let past : c.args.to + c.loop-rest.rest ≡ c.args.to + rest + count = omega (arith, some) in
     let source : c.args.from + c.loop-rest.rest ≡ c.args.from + rest + count = omega (arith, some) in
     let was : now ≡ with_bytes list (c.args.to + rest + count) (take done (drop (c.args.from + rest + count) list)) =
     c.loop-rest.invariant.bytes ∙ ap
-        (λ n. with_bytes list n (take done (drop (c.args.from + c.loop-rest.rest) list))) past
-        ∙ ap (λ n. with_bytes list (c.args.to + rest + count) (take done (drop n list))) source in
+    (λ n. with_bytes list n (take done (drop (c.args.from + c.loop-rest.rest) list))) past
+    ∙ ap (λ n. with_bytes list (c.args.to + rest + count) (take done (drop n list))) source in
     let more : count + done ≡ c.args.len - rest = omega (arith, some, most) in
     record {
       some = omega (arith, most);

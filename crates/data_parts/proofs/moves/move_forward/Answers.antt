@@ -16,9 +16,9 @@ loop-done-preserved c =
     let now : List ℕ = bytes_in c.loop-done.pieces in
     let chunk = range_length now (c.args.from + c.loop-done.done) c.min-count.result (omega (arith, inside, c.requires.from, c.loop-done.invariant.size)) in
     let size : length (bytes_in c.move_chunk.new.pieces)
-        ≡ length now = rw c.move_chunk.ensures.bytes
-        (length_with now _ (c.args.to + c.loop-done.done)
-        (omega (arith, chunk, inside, c.requires.lower, c.requires.from, c.loop-done.invariant.size))) in
+    ≡ length now = rw c.move_chunk.ensures.bytes
+    (length_with now _ (c.args.to + c.loop-done.done)
+    (omega (arith, chunk, inside, c.requires.lower, c.requires.from, c.loop-done.invariant.size))) in
     record {
       some = inside;
       order = c.move_chunk.ensures.order;

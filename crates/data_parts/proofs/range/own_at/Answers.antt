@@ -16,7 +16,7 @@ returns-then-meet-eq0-clause-ok c = λ ready place below.
     let start = start_at c.args.pieces.now c.args.index c.index-pieces-index.result c.requires.order c.requires.index in
     let next = before_more c.args.pieces.now c.args.index c.index-pieces-index.result c.requires.index in
     ap (λ (pieces : List Piece). slice_get (tests_in (test_of c.args.prepare) pieces) (c.args.at + place))
-        (set-get_or c.args.pieces.now c.args.index c.index-pieces-index.result) ∙ ready place (omega arith)
+    (set-get_or c.args.pieces.now c.args.index c.index-pieces-index.result) ∙ ready place (omega arith)
 
 pub returns-clause-order : goal.returns-clause-order
 returns-clause-order c = order_set c.args.pieces.now c.args.index c.index-pieces-index.result _ c.requires.order c.requires.index refl (same_size c)
@@ -49,8 +49,8 @@ returns-clause-ready c = λ ready.
     let same = meets.same some in
     let place = start_at c.args.pieces.now c.args.index c.index-pieces-index.result c.requires.order c.requires.index in
     c.make_own.ensures.ready (passes_there is_own c.args.pieces.now c.args.index c.args.at c.args.len
-        meeting.from meeting.done c.index-pieces-index.result c.requires.index ready (omega arith) (omega arith)
-        (omega arith))
+    meeting.from meeting.done c.index-pieces-index.result c.requires.index ready (omega arith) (omega arith)
+    (omega arith))
 
 pub returns-clause-lent : goal.returns-clause-lent
 returns-clause-lent c = lent_set c.args.pieces.now c.args.index c.index-pieces-index.result _ c.requires.index refl c.make_own.ensures.shared

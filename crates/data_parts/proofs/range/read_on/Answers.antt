@@ -17,11 +17,11 @@ loop-index-preserved c =
     let size : length (take (done + count - done) (drop done into)) ≡ count = omega (arith, length-take {A = ℕ}, length-drop {A = ℕ}) in
     let read : c.read.new.into ≡ take count (drop meeting.from old) = c.read.ensures ∙ ap (λ (n : ℕ). take n (drop meeting.from old)) size in
     ap (λ (l : List ℕ). take done into ++ (l ++ drop (done + count - done) (drop done into))) read
-        ∙ ap (λ (n : ℕ). take done into ++ (take count (drop meeting.from old) ++ drop n (drop done into))) some
-        ∙ read_step c.args.pieces.now c.loop-index.index c.args.at meeting.from done count piece into
-        c.args.into.now c.requires.order c.loop-index-test.true c.index-pieces-index-in-loop-index.is
-        c.requires.within c.loop-index.auto.into meets.piece meets.range meets.same meets.first meets.last
-        c.loop-index.invariant
+    ∙ ap (λ (n : ℕ). take done into ++ (take count (drop meeting.from old) ++ drop n (drop done into))) some
+    ∙ read_step c.args.pieces.now c.loop-index.index c.args.at meeting.from done count piece into
+    c.args.into.now c.requires.order c.loop-index-test.true c.index-pieces-index-in-loop-index.is
+    c.requires.within c.loop-index.auto.into meets.piece meets.range meets.same meets.first meets.last
+    c.loop-index.invariant
 
 pub returns-else-pieces-index : goal.returns-else-pieces-index
 returns-else-pieces-index c =

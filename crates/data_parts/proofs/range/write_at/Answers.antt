@@ -39,8 +39,8 @@ returns-clause-bytes c =
     let meeting = c.meet-meeting.result in
     let meets = c.meet-meeting.ensures in
     write_step c.args.pieces.now c.args.index c.args.at meeting.from meeting.done meeting.count
-        c.index-pieces-index.result _ c.args.bytes.now c.requires.order c.requires.index c.requires.within
-        meets.piece meets.range meets.same meets.first meets.last c.write.ensures.bytes
+    c.index-pieces-index.result _ c.args.bytes.now c.requires.order c.requires.index c.requires.within
+    meets.piece meets.range meets.same meets.first meets.last c.write.ensures.bytes
 
 pub returns-clause-lent : goal.returns-clause-lent
 returns-clause-lent c = lent_set c.args.pieces.now c.args.index c.index-pieces-index.result _ c.requires.index refl c.write.ensures.shared

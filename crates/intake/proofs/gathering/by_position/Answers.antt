@@ -16,8 +16,8 @@ loop-position-preserved c =
     let i = c.loop-position.invariant in
     let taken = c.take_parsed.ensures in
     let h = one_taken c.args.wires.now c.args.places.now c.loop-position.tickets.items
-        c.take_parsed.new.tickets.items c.loop-position.parsed c.push.new.self c.take_parsed.result
-        c.loop-position.position (place_of c.args.places.now c.loop-position.position)
+    c.take_parsed.new.tickets.items c.loop-position.parsed c.push.new.self c.take_parsed.result
+    c.loop-position.position (place_of c.args.places.now c.loop-position.position)
     c.loop-position-test.true refl taken.taken taken.count taken.others c.in_ok-push.ensures.ok i.parsed i.tickets in
     record { parsed = h.0; tickets = h.1 }
 

@@ -11,5 +11,5 @@ returns-clause-behind g c = λ i d r lt.
     let given = (c.in_ok-sent.ensures.each i r (omega (arith, long, lt))).1 in
     let of_seat : given.job ≡ get_or c.args.seats i d = sym (given.job_is d) ∙ ap (λ (l : List SendSeat). get_or l i d) seats in
     subst (λ (s : SendSeat). IfOk (get_or c.in_ok-sent.sent.items i r)
-        (λ _. IsShareBehind (g.G.SendGate.is_passed c.args.gate.now) (length c.args.wires.now) c.args.senders
-        (sender_of s))) of_seat given.call.met.1
+    (λ _. IsShareBehind (g.G.SendGate.is_passed c.args.gate.now) (length c.args.wires.now) c.args.senders
+    (sender_of s))) of_seat given.call.met.1

@@ -30,8 +30,8 @@ patch_refused outer f g accounts units c reason (Ok region) e refused program ha
 patch_refused outer f g accounts units c reason (Err i) e refused program had place is =
     let same : closes outer g units c (Err (Refused reason)) ≡ closes outer f units c (Err (Refused reason)) =
     ap (λ (k : Key). closes_at outer units c reason k g.had g.machine.place) program
-        ∙ ap (λ (n : ℕ). closes_at outer units c reason f.program n g.machine.place) had
-        ∙ ap (λ (n : ℕ). closes_at outer units c reason f.program f.had n) place in
+    ∙ ap (λ (n : ℕ). closes_at outer units c reason f.program n g.machine.place) had
+    ∙ ap (λ (n : ℕ). closes_at outer units c reason f.program f.had n) place in
     ap Done (ap (λ (s : Stopped). closes outer f units c (Err s)) (refusal i reason refused) ∙ sym (is ∙ same))
 
 return_refused : (outer : List Key) (f g : Running) (result : Result (List Account) InstructionError)
@@ -46,15 +46,15 @@ return_refused outer f g result accounts units c reason e good refused program h
 pub returns-in-Err-Refused-clause-next : goal.returns-in-Err-Refused-clause-next
 returns-in-Err-Refused-clause-next c =
     let told : PatchesAs (patched c.args.frame.machine.context.memory.input.bytes c.args.frame.start
-        c.in-Ok.accounts c.args.frame.metas) c.in-Ok.accounts c.args.frame c.write_over.new.frame
-        (Err (Refused c.in-Err-Refused.reason)) =
+    c.in-Ok.accounts c.args.frame.metas) c.in-Ok.accounts c.args.frame c.write_over.new.frame
+    (Err (Refused c.in-Err-Refused.reason)) =
     subst (λ (s : Stopped). PatchesAs
-        (patched c.args.frame.machine.context.memory.input.bytes c.args.frame.start c.in-Ok.accounts
-        c.args.frame.metas) c.in-Ok.accounts c.args.frame c.write_over.new.frame (Err s))
-        c.in-Err-Refused.field-0-is c.in-Err-Refused.ensures.answer in
+    (patched c.args.frame.machine.context.memory.input.bytes c.args.frame.start c.in-Ok.accounts
+    c.args.frame.metas) c.in-Ok.accounts c.args.frame c.write_over.new.frame (Err s))
+    c.in-Err-Refused.field-0-is c.in-Err-Refused.ensures.answer in
     return_refused (programs_of c.args.outer.now) c.args.frame c.write_over.new.frame c.args.ending.result
-        c.in-Ok.accounts c.args.ending.units c.args.carrier.now c.in-Err-Refused.reason _ c.in-Ok.is told.0
-        told.1 told.2 told.3
+    c.in-Ok.accounts c.args.ending.units c.args.carrier.now c.in-Err-Refused.reason _ c.in-Ok.is told.0
+    told.1 told.2 told.3
     (c.in_ok-ending-in-Err-Refused.ensures
-        ∙ ap (λ (r : Reason). closes (programs_of c.args.outer.now) c.write_over.new.frame c.args.ending.units
-        c.args.carrier.now (Err (Refused r))) c.in-Err-Refused.reason-is)
+    ∙ ap (λ (r : Reason). closes (programs_of c.args.outer.now) c.write_over.new.frame c.args.ending.units
+    c.args.carrier.now (Err (Refused r))) c.in-Err-Refused.reason-is)

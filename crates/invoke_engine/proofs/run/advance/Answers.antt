@@ -39,7 +39,7 @@ begin_callee-requires-clause-fits c =
 pub returns-in-Calls : goal.returns-in-Calls
 returns-in-Calls c = all_ok c.begin_callee.result _ _ _ _ c.begin_callee.ensures.stack c.begin_callee.ensures.next c.begin_callee.ensures.fits (λ next pushed begins fits.
     calls_at (fixed_in c.args.context.now) c.args.stack.now c.loop-frame.stack c.begin_callee.new.stack
-        c.args.frame c.args.carrier.now c.loop-frame.frame c.loop-frame.carrier c.take_turn.new.frame
-        c.take_turn.new.carrier c.in-Calls.callee c.in-Calls.units (next_as next c.begin_callee.new.carrier)
+    c.args.frame c.args.carrier.now c.loop-frame.frame c.loop-frame.carrier c.take_turn.new.frame
+    c.take_turn.new.carrier c.in-Calls.callee c.in-Calls.units (next_as next c.begin_callee.new.carrier)
     c.loop-frame.invariant.same c.requires.stands c.loop-frame.invariant.works
     (c.in_ok-take_turn.ensures ∙ ap (λ (t : TurnValue). turn_as t c.take_turn.new.frame c.take_turn.new.carrier) c.in-Calls.is) pushed begins fits)

@@ -12,16 +12,16 @@ pub loop-next-smaller : goal.loop-next-smaller
 loop-next-smaller c =
     let step : Steps (fixed_in c.args.context.now) c.loop-next.stack (next_as c.loop-next.next c.loop-next.carrier) c.pop.new.self (next_as c.in_ok-next-in-Some.next c.resume.new.carrier) =
     step_resumed (fixed_in c.args.context.now) c.loop-next.stack c.loop-next.next c.loop-next.carrier
-        c.in-Some.frame c.pop.new.self c.in-Done.ending (next_as c.in_ok-next-in-Some.next c.resume.new.carrier)
-        c.loop-next.invariant.stands c.in-Some.ensures.some c.in-Done.is c.in_ok-next-in-Some.ensures.next
-        c.in_ok-next-in-Some.ensures.fits in
+    c.in-Some.frame c.pop.new.self c.in-Done.ending (next_as c.in_ok-next-in-Some.next c.resume.new.carrier)
+    c.loop-next.invariant.stands c.in-Some.ensures.some c.in-Done.is c.in_ok-next-in-Some.ensures.next
+    c.in_ok-next-in-Some.ensures.fits in
     step.falls
 
 pub loop-next-preserved : goal.loop-next-preserved
 loop-next-preserved c =
     let step : Steps (fixed_in c.args.context.now) c.loop-next.stack (next_as c.loop-next.next c.loop-next.carrier) c.pop.new.self (next_as c.in_ok-next-in-Some.next c.resume.new.carrier) =
     step_resumed (fixed_in c.args.context.now) c.loop-next.stack c.loop-next.next c.loop-next.carrier
-        c.in-Some.frame c.pop.new.self c.in-Done.ending (next_as c.in_ok-next-in-Some.next c.resume.new.carrier)
-        c.loop-next.invariant.stands c.in-Some.ensures.some c.in-Done.is c.in_ok-next-in-Some.ensures.next
-        c.in_ok-next-in-Some.ensures.fits in
+    c.in-Some.frame c.pop.new.self c.in-Done.ending (next_as c.in_ok-next-in-Some.next c.resume.new.carrier)
+    c.loop-next.invariant.stands c.in-Some.ensures.some c.in-Done.is c.in_ok-next-in-Some.ensures.next
+    c.in_ok-next-in-Some.ensures.fits in
     record { stands = step.stands; same = step.same ∙ c.loop-next.invariant.same }

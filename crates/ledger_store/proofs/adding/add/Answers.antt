@@ -22,22 +22,22 @@ pub returns-in_err-place_block-clause-any_moment : goal.returns-in_err-place_blo
 returns-in_err-place_block-clause-any_moment g c had has =
     let is_after : is_later c.args.ledger.now.head c.args.after.slot ≡ true = sym c.is_later.ensures ∙ c.if-not-is_later.false in
     stopped c.args.ledger.now c.args.block.now c.args.after c.args.micros (g.F.Folder.events c.args.folder.now)
-        (g.F.Folder.events c.place_block.new.folder) c.requires.opens c.requires.every c.requires.before
-        c.requires.after c.requires.follows is_after c.in_ok-files.files c.in_ok-files.ensures had has
+    (g.F.Folder.events c.place_block.new.folder) c.requires.opens c.requires.every c.requires.before
+    c.requires.after c.requires.follows is_after c.in_ok-files.files c.in_ok-files.ensures had has
     c.in_err-place_block.ensures.stopped
 
 pub returns-clause-any_moment : goal.returns-clause-any_moment
 returns-clause-any_moment g c had has =
     let is_after : is_later c.args.ledger.now.head c.args.after.slot ≡ true = sym c.is_later.ensures ∙ c.if-not-is_later.false in
     placed c.args.ledger.now c.args.block.now c.args.after c.args.micros (g.F.Folder.events c.args.folder.now)
-        (g.F.Folder.events c.place_block.new.folder) c.requires.opens c.requires.every c.requires.before
-        c.requires.after c.requires.follows is_after c.in_ok-files.files c.in_ok-files.ensures had has
+    (g.F.Folder.events c.place_block.new.folder) c.requires.opens c.requires.every c.requires.before
+    c.requires.after c.requires.follows is_after c.in_ok-files.files c.in_ok-files.ensures had has
     c.in_ok-place_block.ensures.placed
 
 pub returns-clause-lasts : goal.returns-clause-lasts
 returns-clause-lasts g c had has =
     let is_after : is_later c.args.ledger.now.head c.args.after.slot ≡ true = sym c.is_later.ensures ∙ c.if-not-is_later.false in
     lasts c.args.ledger.now c.args.block.now c.args.after c.args.micros (g.F.Folder.events c.args.folder.now)
-        (g.F.Folder.events c.place_block.new.folder) c.requires.opens c.requires.every c.requires.before
-        c.requires.after c.requires.follows is_after c.in_ok-files.files c.in_ok-files.ensures had has
+    (g.F.Folder.events c.place_block.new.folder) c.requires.opens c.requires.every c.requires.before
+    c.requires.after c.requires.follows is_after c.in_ok-files.files c.in_ok-files.ensures had has
     c.in_ok-place_block.ensures.placed

@@ -14,8 +14,8 @@ returns-in_err-slots-clause-reads g c = reads_chain (g.F.Folder.events c.args.fo
 pub returns-clause-reads : goal.returns-clause-reads
 returns-clause-reads g c =
     reads_both (g.F.Folder.events c.args.folder.now) (g.F.Folder.events c.read.new.self)
-        (g.F.Folder.events c.blocks-2.new.self) c.in_ok-found.found c.in_ok-slots.slots
-        c.in_ok-found.ensures.noted c.in_ok-slots.ensures.noted
+    (g.F.Folder.events c.blocks-2.new.self) c.in_ok-found.found c.in_ok-slots.slots
+    c.in_ok-found.ensures.noted c.in_ok-slots.ensures.noted
 
 pub returns-clause-taken : goal.returns-clause-taken
 returns-clause-taken g c other =

@@ -17,9 +17,9 @@ from_sorted-requires-clause-few c =
 pub from_sorted-requires-clause-short : goal.from_sorted-requires-clause-short
 from_sorted-requires-clause-short c =
     short c.in_ok-left_by.field-0 _ c.in_ok-left_by.ensures
-        (AllByRecursion-filter (λ (e : Entry). IsHeld e.1)
-        (λ (e : Entry). not (is_kept (get c.args.before.now e.0) e.1)) (entries c.args.after.now)
-        c.requires.state.held)
+    (AllByRecursion-filter (λ (e : Entry). IsHeld e.1)
+    (λ (e : Entry). not (is_kept (get c.args.before.now e.0) e.1)) (entries c.args.after.now)
+    c.requires.state.held)
 
 pub returns-in-Ok-clause-fewer : goal.returns-in-Ok-clause-fewer
 returns-in-Ok-clause-fewer c =

@@ -12,8 +12,8 @@ loop-left-preserved c =
     let within : i + 1 ≤ length marks = omega (arith, c.loop-left.invariant.within, c.loop-left-test.true) in
     let next : c.loop-left.left ≡ i + 1 = omega (arith, c.loop-left-test.true) in
     let more : drop i marks ≡ one ∷ drop c.loop-left.left marks = drop_more marks i one (omega (arith, within))
-        ∙ ap (λ (m : Mark). m ∷ drop (i + 1) marks) (sym c.index-marks-left.is)
-        ∙ ap (λ n. one ∷ drop n marks) (sym next) in
+    ∙ ap (λ (m : Mark). m ∷ drop (i + 1) marks) (sym c.index-marks-left.is)
+    ∙ ap (λ n. one ∷ drop n marks) (sym next) in
     record {
       within = omega (arith, within);
       same =

@@ -23,7 +23,13 @@ loop-key-preserved c =
     record {
       same = ap (puts left) put_in ∙ sym (ap (λ (es : List Entry). puts es c.loop-key.accounts) steps) ∙ c.loop-key.invariant.same;
       held = (subst (λ (es : List Entry). AllByRecursion (λ (d : Entry). IsHeld d.1) es) steps c.loop-key.invariant.held).1;
-      fits = omega (arith, c.loop-key.invariant.fits, ap (λ (es : List Entry). lamports_of es) steps,
-          sum_by-cons (λ (d : Entry). d.1.lamports) e left, sum-put-le c.loop-key.accounts e.0 e.1, ap sum
-          put_in);
+      fits = omega (
+        arith,
+        c.loop-key.invariant.fits,
+        ap (λ (es : List Entry). lamports_of es) steps,
+        sum_by-cons (λ (d : Entry). d.1.lamports) e left,
+        sum-put-le c.loop-key.accounts e.0 e.1,
+        ap sum
+            put_in,
+      );
     }

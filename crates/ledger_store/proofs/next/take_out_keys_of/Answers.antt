@@ -24,5 +24,5 @@ loop-key-smaller c = omega (arith, ap length c.in-Some.ensures.steps)
 pub returns : goal.returns
 returns c =
     sym (ap (λ (es : List (Key × Account)). without (keys es) c.loop-key.accounts)
-        (ap seen (none_left c.next.result c.loop-key.rest c.next.new.self c.in_default.not-Some
-        c.next.ensures.steps))) ∙ c.loop-key.invariant
+    (ap seen (none_left c.next.result c.loop-key.rest c.next.new.self c.in_default.not-Some
+    c.next.ensures.steps))) ∙ c.loop-key.invariant

@@ -10,7 +10,7 @@ returns-clause-tells g c =
     let full = c.full_before-full.result in
     let behind : take (count - full) (drop full c.as_slice.result.now) ≡ slots_behind head count =
     ap (λ (l : List ℕ). take (count - full) (drop full l)) c.as_slice.ensures
-        ∙ sym (part full count head.slots (omega (arith, c.full_before-full.ensures)))
-        ∙ ap (λ (f : ℕ). drop f (take count head.slots)) c.full_before-full.ensures in
+    ∙ sym (part full count head.slots (omega (arith, c.full_before-full.ensures)))
+    ∙ ap (λ (f : ℕ). drop f (take count head.slots)) c.full_before-full.ensures in
     tells_state _ _ _ head count c.slot_after.result (take (count - full) (drop full c.as_slice.result.now)) c.in_ok-before.before c.walk.result c.in_ok-before.ensures.tells c.walk.ensures.tells
     (c.slot_after.ensures ∙ ap (slot_after head) c.full_before-full.ensures) behind

@@ -30,8 +30,8 @@ returns-in-Ok-clause-tells g c =
     let newest = c.in-Ok.newest in
     let told = tells_alone c.new-files.result files mid new head c.len-count.result (Ok newest) c.new-files.ensures c.len-count.ensures c.in-Ok.ensures.tells in
     tells_opened old mid new head (settled files (Ok newest))
-        (settled {X = Ledger} files (Ok (record { head = head; newest = newest }))) c.in_ok-head.ensures.tells
-        c.in_ok-head.ensures.lists told (so_settled files head newest)
+    (settled {X = Ledger} files (Ok (record { head = head; newest = newest }))) c.in_ok-head.ensures.tells
+    c.in_ok-head.ensures.lists told (so_settled files head newest)
 
 pub returns-in-Ok-clause-opens : goal.returns-in-Ok-clause-opens
 returns-in-Ok-clause-opens g c =

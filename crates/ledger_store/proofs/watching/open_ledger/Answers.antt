@@ -16,8 +16,8 @@ returns-in_err-opening-clause-tells g c =
 pub returns-clause-tells : goal.returns-clause-tells
 returns-clause-tells g c =
     subst (λ (r : Result Ledger LedgerFault). TellsListed (g.F.Folder.events c.args.folder.now)
-        (g.F.Folder.events c.begin_opening.new.folder) r opened) (sym c.finish.ensures.finished)
-        c.in_ok-opening.ensures.tells
+    (g.F.Folder.events c.begin_opening.new.folder) r opened) (sym c.finish.ensures.finished)
+    c.in_ok-opening.ensures.tells
 
 pub returns-clause-opens : goal.returns-clause-opens
 returns-clause-opens g c = is_open_finished (g.F.Folder.events c.begin_opening.new.folder) c.in_ok-opening.opening c.finish.result c.finish.ensures.finished c.in_ok-opening.ensures.opens

@@ -20,8 +20,8 @@ returns-in_err-begun-clause-tells g c =
     let same = p.1 ∙ ap (λ (e : LedgerFault). let r : Result Snapshot LedgerFault = Err e in r) p.2 in
     subst (λ (r : Result Snapshot LedgerFault). Tells old new (settled files r) (λ disk. settled files (state_after disk head c.args.count))) (sym same)
     (tells_refused files files old new head c.args.count c.slot_after-slot.result slots c.in_err-begun.field-0.0
-        refl c.in_err-begun.ensures.tells
-        (c.slot_after-slot.ensures ∙ ap (slot_after head) c.full_before-full.ensures))
+    refl c.in_err-begun.ensures.tells
+    (c.slot_after-slot.ensures ∙ ap (slot_after head) c.full_before-full.ensures))
 
 pub returns-clause-tells : goal.returns-clause-tells
 returns-clause-tells g c =
@@ -31,7 +31,7 @@ returns-clause-tells g c =
     let slots = take (count - full) (drop full c.as_slice.result.now) in
     let behind : slots ≡ slots_behind head count =
     ap (λ (l : List ℕ). take (count - full) (drop full l)) c.as_slice.ensures
-        ∙ sym (part full count head.slots (omega (arith, c.full_before-full.ensures)))
-        ∙ ap (λ (f : ℕ). drop f (take count head.slots)) c.full_before-full.ensures in
+    ∙ sym (part full count head.slots (omega (arith, c.full_before-full.ensures)))
+    ∙ ap (λ (f : ℕ). drop f (take count head.slots)) c.full_before-full.ensures in
     tells_beside c.args.files.now c.told_by.new.files (g.F.Folder.events c.args.folder.now) (g.F.Folder.events c.begin_reading.new.folder) head count c.slot_after-slot.result slots
     (seen_files c.in_ok-begun.begun) c.told_by.result c.in_ok-begun.ensures.tells c.told_by.ensures.tells (c.slot_after-slot.ensures ∙ ap (slot_after head) c.full_before-full.ensures) behind

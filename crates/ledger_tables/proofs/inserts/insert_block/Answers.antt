@@ -9,5 +9,5 @@ pub returns-clause-ran : goal.returns-clause-ran
 returns-clause-ran g c =
     let P : List Value → Type 0 = λ values. OnOk c.run.result (Ran g.S.Store (record { sql = INSERT_BLOCK.now; values = values } ∷ []) c.args.conn.now c.run.new.conn) in
     subst P (block_values c.args.row.now _ _ _ _ _ _ _ _ c.in_ok-number.ensures.ok c.as_slice.ensures
-        c.as_slice-2.ensures c.as_slice-3.ensures c.as_slice-4.ensures c.in_ok-number-2.ensures.ok
-        c.in_ok-number-3.ensures.ok c.in_ok-number-4.ensures.ok) c.run.ensures.ran
+    c.as_slice-2.ensures c.as_slice-3.ensures c.as_slice-4.ensures c.in_ok-number-2.ensures.ok
+    c.in_ok-number-3.ensures.ok c.in_ok-number-4.ensures.ok) c.run.ensures.ran

@@ -6,6 +6,6 @@ use Rattle.ledger_tables.proofs.instructions.instruction_rows.Goals as goal
 pub loop-position-preserved : goal.loop-position-preserved
 loop-position-preserved c =
     appended_more (rows_of_entry c.args.before.now c.args.block.now.slot) c.loop-position.position
-        c.as_slice-entries.result.now c.index-entries-position.result [] c.loop-position.rows
-        c.push_entry.new.rows c.loop-position-test.true c.index-entries-position.is c.loop-position.invariant
-        c.in_ok-push_entry.ensures
+    c.as_slice-entries.result.now c.index-entries-position.result [] c.loop-position.rows
+    c.push_entry.new.rows c.loop-position-test.true c.index-entries-position.is c.loop-position.invariant
+    c.in_ok-push_entry.ensures

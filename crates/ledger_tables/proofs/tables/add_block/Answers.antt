@@ -8,6 +8,6 @@ pub returns-clause-ran : goal.returns-clause-ran
 returns-clause-ran g c =
     let rows = block_inserts c.args.rows.now in
     let begun = ran_then g.S.Store (plain BEGIN.now ∷ []) rows c.args.conn.now c.run.new.conn
-        c.insert_rows.new.conn c.insert_rows.ensures.known c.in_ok-run.ensures.ran
-        c.in_ok-insert_rows.ensures.ran in
+    c.insert_rows.new.conn c.insert_rows.ensures.known c.in_ok-run.ensures.ran
+    c.in_ok-insert_rows.ensures.ran in
     ran_then g.S.Store (plain BEGIN.now ∷ rows) (plain COMMIT.now ∷ []) c.args.conn.now c.insert_rows.new.conn c.run-2.new.conn c.run-2.ensures.known begun c.in_ok-run-2.ensures.ran

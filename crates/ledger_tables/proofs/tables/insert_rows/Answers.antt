@@ -18,12 +18,12 @@ returns-clause-ran g c =
     let gone = inserts INSERT_ACCOUNT.now account_columns rows.gone in
     let two = ran_then s block transactions first c.insert_block.new.conn c.insert_transactions.new.conn c.insert_transactions.ensures.known c.in_ok-insert_block.ensures.ran
     (ran_same s INSERT_TRANSACTION.now transaction_columns c.as_slice.result.now rows.transactions
-        c.insert_block.new.conn c.insert_transactions.new.conn c.as_slice.ensures
-        c.in_ok-insert_transactions.ensures.ran) in
+    c.insert_block.new.conn c.insert_transactions.new.conn c.as_slice.ensures
+    c.in_ok-insert_transactions.ensures.ran) in
     let three = ran_then s (block ++ transactions) instructions first c.insert_transactions.new.conn c.insert_instructions.new.conn c.insert_instructions.ensures.known two
     (ran_same s INSERT_INSTRUCTION.now instruction_columns c.as_slice-2.result.now rows.instructions
-        c.insert_transactions.new.conn c.insert_instructions.new.conn c.as_slice-2.ensures
-        c.in_ok-insert_instructions.ensures.ran) in
+    c.insert_transactions.new.conn c.insert_instructions.new.conn c.as_slice-2.ensures
+    c.in_ok-insert_instructions.ensures.ran) in
     let four = ran_then s (block ++ transactions ++ instructions) logs first c.insert_instructions.new.conn c.insert_logs.new.conn c.insert_logs.ensures.known three
     (ran_same s INSERT_LOG.now log_columns c.as_slice-3.result.now rows.logs c.insert_instructions.new.conn c.insert_logs.new.conn c.as_slice-3.ensures c.in_ok-insert_logs.ensures.ran) in
     let five = ran_then s (block ++ transactions ++ instructions ++ logs) changed first c.insert_logs.new.conn c.insert_accounts.new.conn c.insert_accounts.ensures.known four

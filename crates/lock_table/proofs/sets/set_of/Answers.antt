@@ -42,6 +42,6 @@ loop-lock-preserved c =
 pub invariant_of-result : goal.invariant_of-result
 invariant_of-result c =
     let all = subst (λ (locks : List Lock). Numbers c.loop-lock.table locks c.loop-lock.numbered.items)
-        (take_all c.loop-lock.lock-index c.as_slice-locks.result.now (omega arith) ∙ c.as_slice-locks.ensures)
-        c.loop-lock.invariant.set in
+    (take_all c.loop-lock.lock-index c.as_slice-locks.result.now (omega arith) ∙ c.as_slice-locks.ensures)
+    c.loop-lock.invariant.set in
     distinct_once c.loop-lock.numbered.items (Numbers-distinct c.loop-lock.table c.args.locks.now c.loop-lock.numbered.items all c.requires.distinct)

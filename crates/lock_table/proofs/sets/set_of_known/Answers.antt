@@ -20,7 +20,7 @@ loop-lock-preserved c =
     let i = c.loop-lock.lock-index in
     let same = c.as_slice-locks.ensures in
     let there = subst (λ ls. has_key (get_or ls i no_lock).key c.args.table.now ≡ true) (sym same)
-        (c.requires.known i no_lock (subst (λ (ls : List Lock). i < length ls) same c.loop-lock-test.true)) in
+    (c.requires.known i no_lock (subst (λ (ls : List Lock). i < length ls) same c.loop-lock-test.true)) in
     let before = c.loop-lock.invariant in
     let added = c.push_with_room.ensures.items in
     let one_lock = take_more c.as_slice-locks.result.now i no_lock c.loop-lock-test.true in
@@ -34,6 +34,6 @@ loop-lock-preserved c =
 pub invariant_of-result : goal.invariant_of-result
 invariant_of-result c =
     let all = subst (λ (locks : List Lock). Numbers c.args.table.now locks c.loop-lock.numbered.items)
-        (take_all c.loop-lock.lock-index c.as_slice-locks.result.now (omega arith) ∙ c.as_slice-locks.ensures)
-        c.loop-lock.invariant.set in
+    (take_all c.loop-lock.lock-index c.as_slice-locks.result.now (omega arith) ∙ c.as_slice-locks.ensures)
+    c.loop-lock.invariant.set in
     distinct_once c.loop-lock.numbered.items (Numbers-distinct c.args.table.now c.args.locks.now c.loop-lock.numbered.items all c.requires.distinct)

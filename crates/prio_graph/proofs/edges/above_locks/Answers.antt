@@ -9,8 +9,8 @@ pub loop-lock-preserved : goal.loop-lock-preserved
 loop-lock-preserved c =
     let most = c.max-above.ensures in
     let so_far : All (λ (lock : NumberedLock). lock.number < c.max-above.result)
-        (take c.loop-lock.lock-index c.args.locks.now) = λ k d l. let u = c.loop-lock.invariant.1 k d l
-        in omega (arith, u, most) in
+    (take c.loop-lock.lock-index c.args.locks.now) = λ k d l. let u = c.loop-lock.invariant.1 k d l
+    in omega (arith, u, most) in
     (omega (arith, most), All-more (λ (lock : NumberedLock). lock.number < c.max-above.result) c.args.locks.now c.loop-lock.lock-index no_lock c.loop-lock-test.true so_far (omega (arith, most)))
 
 pub returns-clause-above : goal.returns-clause-above

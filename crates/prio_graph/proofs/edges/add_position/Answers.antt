@@ -16,8 +16,8 @@ pub awaited-requires-clause-readers : goal.awaited-requires-clause-readers
 awaited-requires-clause-readers c =
     let here = c.items-locks.ensures.items ∙ (c.index-sets-position.is ∙ get_or_default c.args.sets.now c.args.position c.index-sets-position.result [] c.requires.below) in
     subst (All (λ (lock : NumberedLock). lock.number < length c.args.readers.now)) (sym here)
-        (λ k d l. let u = c.requires.chained.numbers c.args.position k d l
-        in omega (arith, u, c.requires.chained.readers_length))
+    (λ k d l. let u = c.requires.chained.numbers c.args.position k d l
+    in omega (arith, u, c.requires.chained.readers_length))
 
 pub pass_locks-requires-clause-last : goal.pass_locks-requires-clause-last
 pass_locks-requires-clause-last c =
@@ -28,8 +28,8 @@ pub pass_locks-requires-clause-readers : goal.pass_locks-requires-clause-readers
 pass_locks-requires-clause-readers c =
     let here = c.items-locks.ensures.items ∙ (c.index-sets-position.is ∙ get_or_default c.args.sets.now c.args.position c.index-sets-position.result [] c.requires.below) in
     subst (All (λ (lock : NumberedLock). lock.number < length c.args.readers.now)) (sym here)
-        (λ k d l. let u = c.requires.chained.numbers c.args.position k d l
-        in omega (arith, u, c.requires.chained.readers_length))
+    (λ k d l. let u = c.requires.chained.numbers c.args.position k d l
+    in omega (arith, u, c.requires.chained.readers_length))
 
 pub add_edges-requires-clause-within : goal.add_edges-requires-clause-within
 add_edges-requires-clause-within c =
@@ -45,11 +45,11 @@ returns c =
     let edges = ap once earlier ∙ awaited-is c.args.sets.now c.args.position c.args.last.now c.args.readers.now c.args.later.now c.args.waits.now c.requires.chained in
     let pass = c.in_ok-pass_locks.ensures in
     let writers = subst (λ locks. (n : ℕ) → n < length c.args.last.now
-        → get_or c.pass_locks.new.last n None
-        ≡ writer_after locks c.args.position n (get_or c.args.last.now n None)) here pass.writers in
+    → get_or c.pass_locks.new.last n None
+    ≡ writer_after locks c.args.position n (get_or c.args.last.now n None)) here pass.writers in
     let since = subst (λ locks. (n : ℕ) → n < length c.args.readers.now
-        → get_or c.pass_locks.new.readers n []
-        ≡ readers_after locks c.args.position n (get_or c.args.readers.now n [])) here pass.readers in
+    → get_or c.pass_locks.new.readers n []
+    ≡ readers_after locks c.args.position n (get_or c.args.readers.now n [])) here pass.readers in
     let added = c.in_ok-waits.ensures in
     subst (λ n. Chained c.args.sets.now (c.args.position + 1) c.pass_locks.new.last c.pass_locks.new.readers c.add_edges.new.rows (set c.args.waits.now c.args.position n)) (sym added.added)
     (Chained-next c.args.sets.now c.args.position c.args.last.now c.args.readers.now c.args.later.now c.args.waits.now c.requires.chained

@@ -50,11 +50,11 @@ loop-i-preserved c =
       leaves = elim c.if-waits-at-eq0.branch [
         | then-waits-at-eq0 w ↦ λ k l. ap (λ t. leaf t count k) w.tree-is
             ∙ leaf_written c.args.row.now i c.loop-i-test.true c.args.waits.now c.loop-i.waits before.waits
-                c.requires.enough inside count c.args.tree.now c.loop-i.tree before.leaves
-                w.if-waits-at-eq0.true w.write_leaf.new.tree w.write_leaf.ensures.leaves k l
+            c.requires.enough inside count c.args.tree.now c.loop-i.tree before.leaves
+            w.if-waits-at-eq0.true w.write_leaf.new.tree w.write_leaf.ensures.leaves k l
         | else-waits-at-eq0 w ↦ λ k l. ap (λ t. leaf t count k) w.tree-is
             ∙ leaf_kept c.args.row.now i c.loop-i-test.true c.args.waits.now c.loop-i.waits before.waits
-                c.requires.enough inside count c.args.tree.now c.loop-i.tree before.leaves
-                w.if-waits-at-eq0.false k l
+            c.requires.enough inside count c.args.tree.now c.loop-i.tree before.leaves
+            w.if-waits-at-eq0.false k l
       ];
     }

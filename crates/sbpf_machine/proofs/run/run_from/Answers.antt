@@ -51,8 +51,8 @@ returns-in-Off-clause-ends c =
     stop_along _ _ c.loop-units.invariant.reached ∙
     stop_at c.args.program.now c.loop-units.place c.loop-units.units c.loop-units.context c.step.new.context c.in-Off.stop c.loop-units-test.true
     (row_is c.args.program.now c.loop-units.place _ c.loop-units.context
-        (decodes c.args.program.now c.args.entries.now c.loop-units.place _ c.requires.decoded
-        c.loop-units.invariant.start) ∙ sym c.in-Off.ensures.does)
+    (decodes c.args.program.now c.args.entries.now c.loop-units.place _ c.requires.decoded
+    c.loop-units.invariant.start) ∙ sym c.in-Off.ensures.does)
 
 pub returns-in-NoMemory-clause-ends : goal.returns-in-NoMemory-clause-ends
 returns-in-NoMemory-clause-ends c =
@@ -75,8 +75,8 @@ onward : (c : goal.Joined-step) (to : ℕ) → c.match-step.place ≡ to
     → Go to c.step.new.context ≡ act (meaning (entry c).opcode) c.args.program.now (operands_of (entry c))
     c.loop-units.place c.loop-units.context → is_start c.args.program.now to ≡ true →
     Reaches (going c.args.program.now c.args.start c.args.context.now c.args.given)
-        (going c.args.program.now c.match-step.place c.step.new.context (c.loop-units.units - 1))
-        × (is_start c.args.program.now c.match-step.place ≡ true)
+    (going c.args.program.now c.match-step.place c.step.new.context (c.loop-units.units - 1))
+    × (is_start c.args.program.now c.match-step.place ≡ true)
 onward c to same row start =
     let text : List ℕ = c.args.program.now in
     let way = on_by _ c.loop-units.place to c.loop-units.units c.loop-units.context c.step.new.context c.loop-units.invariant.reached c.loop-units-test.true

@@ -15,7 +15,7 @@ pub returns-in-None : goal.returns-in-None
 returns-in-None c = λ start.
     let found : (kind : OpKind) × (instruction_at c.args.text.now c.args.place ≡ Some kind) = start_instruction c.args.text.now c.args.place c.requires.verified start in
     let none : instruction_at c.args.text.now c.args.place
-        ≡ None = there_instruction c.args.text.now c.args.place c.requires.there
-        ∙ ap (λ (slot : Slot). kind_at slot.opcode) (sym c.slot_at-slot.ensures) ∙ sym c.kind_of.ensures
-        ∙ c.in-None.is in
+    ≡ None = there_instruction c.args.text.now c.args.place c.requires.there
+    ∙ ap (λ (slot : Slot). kind_at slot.opcode) (sym c.slot_at-slot.ensures) ∙ sym c.kind_of.ensures
+    ∙ c.in-None.is in
     absurd (let clash : Some found.0 ≡ None = sym found.1 ∙ none in cc)

@@ -18,8 +18,8 @@ pub returns-in-Some : goal.returns-in-Some
 returns-in-Some c =
     let more : 0 < slot_count c.args.text.now - c.loop-at.at = omega arith in
     sym (unfit_rest c.args.text.now (sym c.has_bad_length.ensures ∙ c.if-has_bad_length.false)
-        ∙ c.loop-at.invariant ∙ rest_off c.args.text.now c.loop-at.at _ c.in-Some.fault more
-        (sym c.slot_refusal.ensures ∙ c.in-Some.is))
+    ∙ c.loop-at.invariant ∙ rest_off c.args.text.now c.loop-at.at _ c.in-Some.fault more
+    (sym c.slot_refusal.ensures ∙ c.in-Some.is))
 
 pub returns : goal.returns
 returns c =

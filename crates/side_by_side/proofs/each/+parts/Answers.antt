@@ -12,5 +12,5 @@ pub start_from-returns : goal.start_from-returns
 start_from-returns g t c =
     let cut = c.split_at_mut-part in
     changes_both g.F.Fn c.args.f.now c.args.base c.min-count.result c.args.list.now cut.result.0.now
-        cut.result.1.now cut.ensures.value cut.ensures.front_len _ _ c.start_part.ensures.part
-        c.start_part.ensures.rest
+    cut.result.1.now cut.ensures.value cut.ensures.front_len _ _ c.start_part.ensures.part
+    c.start_part.ensures.rest

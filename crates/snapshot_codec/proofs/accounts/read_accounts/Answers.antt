@@ -17,9 +17,9 @@ pub returns-in_err-entry : goal.returns-in_err-entry
 returns-in_err-entry c =
     let p = err_from_is_err_and c.from_residual-in_err-entry.result c.from_residual-in_err-entry.ensures.1 in
     rw (p.1, p.2) (ends (account_after c.args.total) is_snapshot_memory c.in_err-entry.field-0.0 c.loop.accounts
-        c.args.count c.loop.counter c.loop.rest.now
-        (many_after (account_after c.args.total) [] c.args.count c.args.bytes.now) c.loop-test.true
-        (rw c.as_slice.ensures at c.in_err-entry.ensures.gives) c.loop.invariant.so_far)
+    c.args.count c.loop.counter c.loop.rest.now
+    (many_after (account_after c.args.total) [] c.args.count c.args.bytes.now) c.loop-test.true
+    (rw c.as_slice.ensures at c.in_err-entry.ensures.gives) c.loop.invariant.so_far)
 
 pub loop-preserved : goal.loop-preserved
 loop-preserved c =

@@ -14,9 +14,9 @@ loop-key-init g c = begun g.O.Output.holds c.args.out.now (entries c.args.accoun
 pub write_account-requires : goal.write_account-requires
 write_account-requires g c =
     subst (λ (a : Account). length a.bytes < 2 ^ 32) (sym c.deref.ensures)
-        (next_is_short (entries c.args.accounts.now) (seen c.loop-key.rest) (seen c.next.new.self)
-        (c.in-Some.key.now, arc_value c.in-Some.account.now) c.iter-rest.ensures.state.held c.loop-key.invariant
-        (ap seen c.in-Some.ensures.steps))
+    (next_is_short (entries c.args.accounts.now) (seen c.loop-key.rest) (seen c.next.new.self)
+    (c.in-Some.key.now, arc_value c.in-Some.account.now) c.iter-rest.ensures.state.held c.loop-key.invariant
+    (ap seen c.in-Some.ensures.steps))
 
 pub loop-key-preserved : goal.loop-key-preserved
 loop-key-preserved g c =

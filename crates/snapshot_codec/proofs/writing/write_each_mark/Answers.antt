@@ -13,8 +13,8 @@ pub loop-mark-preserved : goal.loop-mark-preserved
 loop-mark-preserved g c =
     Adds-as (Adds-then c.loop-mark.invariant c.in_ok-write_mark.ensures)
     (ap (λ (m : Mark). flat_map mark_bytes (take c.loop-mark.mark-index c.args.marks.now) ++ mark_bytes m)
-        c.mark-item.is ∙ sym (flat_map-more mark_bytes c.args.marks.now c.loop-mark.mark-index
-        c.mark-item.result c.loop-mark-test.true))
+    c.mark-item.is ∙ sym (flat_map-more mark_bytes c.args.marks.now c.loop-mark.mark-index
+    c.mark-item.result c.loop-mark-test.true))
 
 pub returns : goal.returns
 returns g c = Adds-as c.loop-mark.invariant (ap (flat_map mark_bytes) (take_all c.loop-mark.mark-index c.args.marks.now c.loop-mark-test.false))

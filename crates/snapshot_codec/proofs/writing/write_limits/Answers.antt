@@ -7,6 +7,6 @@ pub returns : goal.returns
 returns g c =
     on_ok_weaker c.append-4.result
     (λ last. Adds-as (Adds-then (Adds-then (Adds-then c.in_ok-append.ensures.ok c.in_ok-append-2.ensures.ok)
-        c.in_ok-append-3.ensures.ok) last)
-        (rw (c.to_le_bytes.ensures, c.to_le_bytes-2.ensures, c.to_le_bytes-3.ensures) refl))
+    c.in_ok-append-3.ensures.ok) last)
+    (rw (c.to_le_bytes.ensures, c.to_le_bytes-2.ensures, c.to_le_bytes-3.ensures) refl))
     c.append-4.ensures.ok

@@ -13,7 +13,7 @@ loop-message-preserved c =
     let m = get_or c.args.messages.now c.loop-message.message-index d in
     let old = c.loop-message.found in
     found_more (has_name c.args.sought.now) (has_name c.args.found.now) (has_name old) (has_name c.if-has.found)
-        c.args.messages.now c.loop-message.message-index d c.loop-message-test.true c.loop-message.invariant
+    c.args.messages.now c.loop-message.message-index d c.loop-message-test.true c.loop-message.invariant
     (elim c.if-has.branch [
       | then-has+in_ok-insert w ↦ λ q.
           ap (λ s. has_name s q) w.found-is ∙ name_added old w.insert.new.self m w.in_ok-insert.ensures.updates.0 q

@@ -19,8 +19,8 @@ loop-at-preserved c =
       within = omega arith;
       same =
           piece-passed (held (plain_memory c.args.memory.now) c.args.one c.args.count)
-              (held (plain_memory c.args.memory.now) c.args.other c.args.count) c.read_piece-a.result.now
-              c.read_piece-b.result.now
+          (held (plain_memory c.args.memory.now) c.args.other c.args.count) c.read_piece-a.result.now
+          c.read_piece-b.result.now
           c.loop-at.at (length c.read_piece-a.result.now) (rw size c.read_piece-a.ensures.bytes) (rw size c.read_piece-b.ensures.bytes) c.in-None.ensures c.loop-at.invariant.same;
     }
 

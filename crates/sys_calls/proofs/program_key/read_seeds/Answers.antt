@@ -13,16 +13,16 @@ returns-in_err-seed c =
     let p = err_from_is_err_and c.from_residual-in_err-seed.result c.from_residual-in_err-seed.ensures.1 in
     rw (p.1, p.2)
     (each-stops is_sys_memory (λ (slice : Slice). bytes_read (plain_memory c.args.memory.now) slice.addr
-        slice.len) c.loop-slice.seeds c.args.slices.now c.loop-slice.slice-index no_slice
-        c.in_err-seed.field-0.0 (all_read (plain_memory c.args.memory.now) c.args.slices.now)
-        c.loop-slice-test.true c.in_err-seed.ensures c.loop-slice.invariant)
+    slice.len) c.loop-slice.seeds c.args.slices.now c.loop-slice.slice-index no_slice
+    c.in_err-seed.field-0.0 (all_read (plain_memory c.args.memory.now) c.args.slices.now)
+    c.loop-slice-test.true c.in_err-seed.ensures c.loop-slice.invariant)
 
 pub loop-slice-preserved : goal.loop-slice-preserved
 loop-slice-preserved c =
     rw c.in_ok-push.ensures.ok
     (sym (each-more (λ (slice : Slice). bytes_read (plain_memory c.args.memory.now) slice.addr slice.len)
-        c.loop-slice.seeds c.args.slices.now c.loop-slice.slice-index no_slice c.in_ok-seed.seed
-        c.loop-slice-test.true c.in_ok-seed.ensures) ∙ c.loop-slice.invariant)
+    c.loop-slice.seeds c.args.slices.now c.loop-slice.slice-index no_slice c.in_ok-seed.seed
+    c.loop-slice-test.true c.in_ok-seed.ensures) ∙ c.loop-slice.invariant)
 
 pub returns : goal.returns
 returns c =

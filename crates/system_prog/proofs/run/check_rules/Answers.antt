@@ -33,6 +33,6 @@ pub check_listed-requires-clause-untouched : goal.check_listed-requires-clause-u
 check_listed-requires-clause-untouched c =
     let flags : c.as_slice.result.now ≡ flags_of c.args.frame.now (written c.args.instruction.now) (length c.args.before.now) = c.as_slice.ensures.value ∙ c.in_ok-touched.ensures in
     subst (λ (flags : List Bool). SameUnlessTouched flags (accounts_of c.args.before.now)
-        (accounts_of c.args.after.now)) (sym flags)
-        (untouched c.args.frame.now c.args.instruction.now (accounts_of c.args.before.now)
-        (accounts_of c.args.after.now) c.requires.ended (length c.args.before.now))
+    (accounts_of c.args.after.now)) (sym flags)
+    (untouched c.args.frame.now c.args.instruction.now (accounts_of c.args.before.now)
+    (accounts_of c.args.after.now) c.requires.ended (length c.args.before.now))

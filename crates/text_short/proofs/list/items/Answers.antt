@@ -15,17 +15,17 @@ returns-in_err-item g c =
     let p = err_from_is_err_and c.from_residual.result c.from_residual.ensures.1 in
     let one = g.R.ReadsItems.item_in c.args.reader.now in
     rw (p.1, p.2) (item-stops one c.loop-at.items c.args.values.now c.loop-at.at c.index-values-at.result
-        c.read.result c.in_item.result c.in_err-item.field-0.0
-        (items_in (lone one) 0 (map view c.args.values.now)) c.loop-at-test.true c.index-values-at.is
-        c.read.ensures c.in_item.ensures c.in_err-item.was c.loop-at.invariant)
+    c.read.result c.in_item.result c.in_err-item.field-0.0
+    (items_in (lone one) 0 (map view c.args.values.now)) c.loop-at-test.true c.index-values-at.is
+    c.read.ensures c.in_item.ensures c.in_err-item.was c.loop-at.invariant)
 
 pub loop-at-preserved : goal.loop-at-preserved
 loop-at-preserved g c =
     let one = g.R.ReadsItems.item_in c.args.reader.now in
     rw c.in_ok-push.ensures.ok (item-more one c.loop-at.items c.args.values.now c.loop-at.at
-        c.index-values-at.result c.read.result c.in_item.result c.in_ok-item.item
-        (items_in (lone one) 0 (map view c.args.values.now)) c.loop-at-test.true c.index-values-at.is
-        c.read.ensures c.in_item.ensures c.in_ok-item.was c.loop-at.invariant)
+    c.index-values-at.result c.read.result c.in_item.result c.in_ok-item.item
+    (items_in (lone one) 0 (map view c.args.values.now)) c.loop-at-test.true c.index-values-at.is
+    c.read.ensures c.in_item.ensures c.in_ok-item.was c.loop-at.invariant)
 
 pub returns : goal.returns
 returns g c = sym c.loop-at.invariant ∙ items-done (lone (g.R.ReadsItems.item_in c.args.reader.now)) c.loop-at.items c.args.values.now c.loop-at.at c.loop-at-test.false

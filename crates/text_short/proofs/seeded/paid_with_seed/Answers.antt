@@ -5,6 +5,9 @@ use Rattle.text_short.proofs.seeded.paid_with_seed.Goals as goal
 
 pub returns-in_default : goal.returns-in_default
 unfolding paid_with_seed
-returns-in_default c = rw (differs (codes "CreateAccountWithSeed") c.args.name.now
-    c.in_default.not-CreateAccountWithSeed, differs (codes "TransferWithSeed") c.args.name.now
-    c.in_default.not-TransferWithSeed) c.set_with_seed.ensures
+returns-in_default c = rw (
+  differs (codes "CreateAccountWithSeed") c.args.name.now
+      c.in_default.not-CreateAccountWithSeed,
+  differs (codes "TransferWithSeed") c.args.name.now
+      c.in_default.not-TransferWithSeed,
+) c.set_with_seed.ensures

@@ -10,5 +10,5 @@ pub returns : goal.returns
 returns c = λ key.
     get_changed c.args.strongest.now c.insert.new.self c.args.mention.now.key (Some c.joined.result) c.in_ok-insert.ensures.updates.0 key
     ∙ ap (λ (m : Mention). if is_of key c.args.mention.now then Some m else get key_cmp c.args.strongest.now
-        key) (c.joined.ensures ∙ ap (λ (o : Option Mention). joined o c.args.mention.now)
-        (c.copied-before.ensures ∙ c.get.ensures.value))
+    key) (c.joined.ensures ∙ ap (λ (o : Option Mention). joined o c.args.mention.now)
+    (c.copied-before.ensures ∙ c.get.ensures.value))

@@ -22,10 +22,10 @@ returns-then-broken-clause-exact c =
     let before = c.requires.before in
     let after = c.requires.after in
     as_place c.args.locks.now (accounts_of c.args.before.now) (accounts_of c.args.after.now) _
-        (c.loop-place.invariant ∙ broken-found c.args.locks.now c.args.before.now c.args.after.now
-        c.loop-place.place _ c.index-before-place.result c.index-after-place.result below
-        (omega (arith, below, before)) (omega (arith, below, after)) c.index-before-place.is
-        c.index-after-place.is (sym c.is_rent_broken-broken.ensures ∙ c.if-broken.true))
+    (c.loop-place.invariant ∙ broken-found c.args.locks.now c.args.before.now c.args.after.now
+    c.loop-place.place _ c.index-before-place.result c.index-after-place.result below
+    (omega (arith, below, before)) (omega (arith, below, after)) c.index-before-place.is
+    c.index-after-place.is (sym c.is_rent_broken-broken.ensures ∙ c.if-broken.true))
 
 pub loop-place-preserved : goal.loop-place-preserved
 loop-place-preserved c =
@@ -33,12 +33,12 @@ loop-place-preserved c =
     let before = c.requires.before in
     let after = c.requires.after in
     c.loop-place.invariant ∙ broken-more c.args.locks.now c.args.before.now c.args.after.now c.loop-place.place
-        _ c.index-before-place.result c.index-after-place.result below (omega (arith, below, before))
-        (omega (arith, below, after)) c.index-before-place.is c.index-after-place.is
-        (sym c.is_rent_broken-broken.ensures ∙ c.if-broken.false)
+    _ c.index-before-place.result c.index-after-place.result below (omega (arith, below, before))
+    (omega (arith, below, after)) c.index-before-place.is c.index-after-place.is
+    (sym c.is_rent_broken-broken.ensures ∙ c.if-broken.false)
 
 pub returns-clause-exact : goal.returns-clause-exact
 returns-clause-exact c =
     as_place c.args.locks.now (accounts_of c.args.before.now) (accounts_of c.args.after.now) _
-        (c.loop-place.invariant ∙ broken-none c.args.locks.now (accounts_of c.args.before.now)
-        (accounts_of c.args.after.now) c.loop-place.place c.loop-place-test.false)
+    (c.loop-place.invariant ∙ broken-none c.args.locks.now (accounts_of c.args.before.now)
+    (accounts_of c.args.after.now) c.loop-place.place c.loop-place-test.false)

@@ -32,11 +32,11 @@ execute-requires-clause-base c =
 pub broken_rent-broken-requires-clause-after : goal.broken_rent-broken-requires-clause-after
 broken_rent-broken-requires-clause-after c =
     after_fits c.args.transaction.now.chosen.now c.args.transaction.now.context.keys c.in_ok-left.field-0.result
-        c.in-Ok.after (accounts_of c.as_slice-after.result.now) c.requires.chosen c.requires.keys
-        c.in_ok-left.ensures.fits c.in-Ok.is c.as_slice-after.ensures
+    c.in-Ok.after (accounts_of c.as_slice-after.result.now) c.requires.chosen c.requires.keys
+    c.in_ok-left.ensures.fits c.in-Ok.is c.as_slice-after.ensures
 
 pub finish-requires-clause-after : goal.finish-requires-clause-after
 finish-requires-clause-after c =
     (after_fits c.args.transaction.now.chosen.now c.args.transaction.now.context.keys
-        c.in_ok-left.field-0.result c.in-Ok.after (accounts_of c.as_slice-after.result.now) c.requires.chosen
-        c.requires.keys c.in_ok-left.ensures.fits c.in-Ok.is c.as_slice-after.ensures).one_each
+    c.in_ok-left.field-0.result c.in-Ok.after (accounts_of c.as_slice-after.result.now) c.requires.chosen
+    c.requires.keys c.in_ok-left.ensures.fits c.in-Ok.is c.as_slice-after.ensures).one_each

@@ -28,8 +28,8 @@ push-requires-clause-few c = few-before c.loop-entry.ascending c.loop-entry.yiel
 pub push-requires-clause-short : goal.push-requires-clause-short
 push-requires-clause-short c =
     let split : c.loop-entry.yielded ++ c.in-Some.entry ∷ into_iter_items c.next.new.self
-        ≡ c.args.entries = ap (λ (l : List KeyedAccount). c.loop-entry.yielded ++ l)
-        (sym c.in-Some.ensures.steps.0) ∙ c.loop-entry.invariant.all in
+    ≡ c.args.entries = ap (λ (l : List KeyedAccount). c.loop-entry.yielded ++ l)
+    (sym c.in-Some.ensures.steps.0) ∙ c.loop-entry.invariant.all in
     next-of-all (λ (e : KeyedAccount). IsShort e.account) c.loop-entry.yielded (into_iter_items c.next.new.self) c.args.entries c.in-Some.entry c.requires.short split
 
 pub loop-entry-preserved : goal.loop-entry-preserved
@@ -40,9 +40,9 @@ loop-entry-preserved c =
     let has = c.loop-entry.invariant.entries in
     let split : so_far ++ e ∷ left ≡ c.args.entries = ap (λ (l : List KeyedAccount). so_far ++ l) (sym c.in-Some.ensures.steps.0) ∙ c.loop-entry.invariant.all in
     let fault : fault_after [] (entries_of c.args.entries)
-        ≡ fault_after (entries_of so_far) (entries_of (e ∷ left)) = c.loop-entry.invariant.fault
-        ∙ ap (λ (l : List KeyedAccount). fault_after (entries_of so_far) (entries_of l))
-        c.in-Some.ensures.steps.0 in
+    ≡ fault_after (entries_of so_far) (entries_of (e ∷ left)) = c.loop-entry.invariant.fault
+    ∙ ap (λ (l : List KeyedAccount). fault_after (entries_of so_far) (entries_of l))
+    c.in-Some.ensures.steps.0 in
     record {
       entries = c.in_ok-push.ensures.pushed ∙ ap (λ (l : List Entry). l ++ entry_of e ∷ []) has ∙ sym (map-append entry_of so_far (e ∷ []));
       all = append_assoc so_far (e ∷ []) left ∙ split;
@@ -56,9 +56,9 @@ returns-in_err-push c =
     let so_far = c.loop-entry.yielded in
     let left = into_iter_items c.next.new.self in
     let fault : fault_after [] (entries_of c.args.entries)
-        ≡ fault_after (entries_of so_far) (entries_of (e ∷ left)) = c.loop-entry.invariant.fault
-        ∙ ap (λ (l : List KeyedAccount). fault_after (entries_of so_far) (entries_of l))
-        c.in-Some.ensures.steps.0 in
+    ≡ fault_after (entries_of so_far) (entries_of (e ∷ left)) = c.loop-entry.invariant.fault
+    ∙ ap (λ (l : List KeyedAccount). fault_after (entries_of so_far) (entries_of l))
+    c.in-Some.ensures.steps.0 in
     rw (p.1, p.2) (refused-at c.args.entries so_far left e c.loop-entry.ascending c.in_err-push.field-0.0 c.loop-entry.invariant.entries fault c.in_err-push.ensures.err)
 
 pub returns : goal.returns

@@ -48,8 +48,8 @@ returns-clause-state c =
     let same = c.total_after-self-inside.ensures ∙ ap (λ n. total - n + c.deref.result.now.lamports) (ap shared_lamports c.in_ok-before.ensures.old)
     ∙ ap (λ (a : Account). total - shared_lamports (lookup (is_at (key_cmp c.args.key)) es) + a.lamports) c.deref.ensures in
     (IsKept-insert es c.insert.new.self.entries total _ c.args.key c.args.account c.self.invariant
-        c.in_ok-before.ensures.entries c.in_ok-before.ensures.ordered (more, c.requires.short) fits
-        same).is_state
+    c.in_ok-before.ensures.entries c.in_ok-before.ensures.ordered (more, c.requires.short) fits
+    same).is_state
 
 pub returns-clause-ok : goal.returns-clause-ok
 returns-clause-ok c =

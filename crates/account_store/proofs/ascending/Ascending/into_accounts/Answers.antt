@@ -7,8 +7,8 @@ use Rattle.account_store.proofs.ascending.Ascending.into_accounts.Goals as goal
 pub invariant_of-result : goal.invariant_of-result
 invariant_of-result c =
     subst (λ (es : List (Key × Shared)). IsKept es c.self.inside.total)
-        (sym (made_is c.self.inside.entries.items c.in_ok-tree_of.field-0 c.self.invariant.ascends
-        c.in_ok-tree_of.ensures)) c.self.invariant
+    (sym (made_is c.self.inside.entries.items c.in_ok-tree_of.field-0 c.self.invariant.ascends
+    c.in_ok-tree_of.ensures)) c.self.invariant
 
 pub returns : goal.returns
 returns c = ap state_seen (made_is c.self.inside.entries.items c.in_ok-tree_of.field-0 c.self.invariant.ascends c.in_ok-tree_of.ensures) ∙ c.self.view_is

@@ -12,8 +12,8 @@ invariant_of-self-2 c =
     let put = put-last es new s c.args.entry c.in_ok-new.field-0 c.self.invariant.ascends c.self.view_is c.in_ok-push.ensures.items c.in_ok-total.ensures.fine in
     let ascends = ascends-last es new s c.args.entry c.in_ok-new.field-0 c.self.invariant.ascends c.self.view_is c.in_ok-push.ensures.items c.in_ok-total.ensures.fine in
     IsKept-pushed es new c.self.inside.total c.in_ok-total.total s c.args.entry c.in_ok-new.field-0
-        c.self.invariant c.self.view_is c.in_ok-new.ensures.ok put ascends c.in_ok-total.ensures.fine
-        c.requires.short c.in_ok-total.ensures.ok
+    c.self.invariant c.self.view_is c.in_ok-new.ensures.ok put ascends c.in_ok-total.ensures.fine
+    c.requires.short c.in_ok-total.ensures.ok
 
 pub returns-clause-pushed : goal.returns-clause-pushed
 returns-clause-pushed c =

@@ -17,8 +17,8 @@ sums_with-requires-clause-fits c =
     let same : units_of c.self.inside.chosen.items ≡ units_of c.args.self.now = ap (λ (order : List Chosen). units_of order) c.self.view_is in
     let limit = ap (λ (one : Chosen). one.budget.limit) c.chosen-chosen.ensures in
     room_in c.self.inside.chosen.items c.take.result c.chosen-chosen.result.now.budget.limit
-        (subst (AreSums c.self.inside.chosen.items) (sym c.take.ensures.value) c.self.invariant.each)
-        (omega (arith, same, limit, c.requires.fits))
+    (subst (AreSums c.self.inside.chosen.items) (sym c.take.ensures.value) c.self.invariant.each)
+    (omega (arith, same, limit, c.requires.fits))
 
 pub invariant_of-self-2 : goal.invariant_of-self-2
 invariant_of-self-2 c =
@@ -39,16 +39,16 @@ invariant_of-self-2 c =
     subst (λ n. (key : Key) → min (2 ^ 64 - 1) (bucket_sum old key + (if locks_write one.locks key then n else 0)) ≤ bucket_sum new key) c.from-limit.ensures
     (subst (λ (ls : List Lock). (key : Key) → min (2 ^ 64 - 1) (bucket_sum old key + (if locks_write ls key then c.from-limit.result else 0)) ≤ bucket_sum new key) c.as_slice.ensures
     (subst (λ (bs : List ℕ). (key : Key)
-        → min (2 ^ 64 - 1) (bucket_sum bs key +
-        (if locks_write c.as_slice.result.now key then c.from-limit.result else 0)) ≤ bucket_sum new key)
-        c.as_mut_slice.ensures.value c.add_to_buckets.ensures)) in
+    → min (2 ^ 64 - 1) (bucket_sum bs key +
+    (if locks_write c.as_slice.result.now key then c.from-limit.result else 0)) ≤ bucket_sum new key)
+    c.as_mut_slice.ensures.value c.add_to_buckets.ensures)) in
     let each = c.in_ok-self-inside.ensures order (subst (AreSums order) (sym c.take.ensures.value) c.self.invariant.each) in
     let has : HasSums (order ++ one ∷ []) (c.self.inside.units + one.budget.limit) new sums =
     sums_more order c.self.inside.units old new c.self.inside.key_units sums one c.self.invariant room apart count grown each in
     let back : take c.self.inside.buckets.len (new ++ drop (length new) old) ≡ new = take_at new (drop (length new) old) c.self.inside.buckets.len full in
     subst (λ (bs : List ℕ). HasSums c.push_reserved.new.self.items (c.self.inside.units + c.from-limit.result) bs sums) (sym back)
     (subst (λ (items : List Chosen). HasSums items (c.self.inside.units + c.from-limit.result) new sums)
-        (sym (c.push_reserved.ensures.items
-        ∙ ap (λ (order : List Chosen). order ++ c.args.one ∷ []) c.in_ok-reserve.ensures.items
-        ∙ ap (λ (last : Chosen). order ++ last ∷ []) (sym c.chosen-chosen.ensures)))
+    (sym (c.push_reserved.ensures.items
+    ∙ ap (λ (order : List Chosen). order ++ c.args.one ∷ []) c.in_ok-reserve.ensures.items
+    ∙ ap (λ (last : Chosen). order ++ last ∷ []) (sym c.chosen-chosen.ensures)))
     (subst (λ n. HasSums (order ++ one ∷ []) (c.self.inside.units + n) new sums) (sym c.from-limit.ensures) has))

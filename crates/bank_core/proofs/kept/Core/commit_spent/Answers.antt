@@ -27,8 +27,8 @@ put_written-requires-clause-one_each g c =
     let row = c.items.ensures.items ∙ c.set.ensures.set in
     let due = map (serial job (at self.origin.value.start) c.args.spent.position) (keys job c.args.spent.position) in
     let fits = subst (λ o. Fits ((g.W.Work.job o.told).locks c.args.spent.position)
-        (map (serial (g.W.Work.job o.told) (at o.start) c.args.spent.position)
-        (keys (g.W.Work.job o.told) c.args.spent.position))) c.requires.origin c.args.spent.fits in
+    (map (serial (g.W.Work.job o.told) (at o.start) c.args.spent.position)
+    (keys (g.W.Work.job o.told) c.args.spent.position))) c.requires.origin c.args.spent.fits in
     sym (length-map c.args.effects.written value_of) ∙ (ap (λ e. length e.written) c.requires.right
     ∙ (self.lawful.one_each c.args.spent.position due below fits
     ∙ (as_many_written _ job c.args.spent.position _ (K.of.numbered c.args.spent.position below) ∙ ap (λ s. length (write_numbers s)) (sym row))))
@@ -80,9 +80,12 @@ invariant_of-self g c = record {
       (λ n. c.put_written.ensures n ∙ ap₂ (λ s sl. put_at (write_numbers s) (accounts_of c.args.effects.written) (account_at sl) n) row c.deref_mut.ensures.value)));
   apart = c.args.self.now.apart;
   room = (let self = c.args.self.now in
-      room_after _ _ _ _ _ _ (record { kind = Commit; lane = c.args.spent.lane; position = c.args.spent.position
-          }) self.room (holder_below _ _ _ _ _ _ self.room c.requires.held) (λ t. absurd (cc))
-          c.end_loan.ensures.journal c.end_loan.ensures.capacity);
+      room_after _ _ _ _ _ _ (record {
+        kind = Commit;
+        lane = c.args.spent.lane;
+        position = c.args.spent.position;
+      }) self.room (holder_below _ _ _ _ _ _ self.room c.requires.held) (λ t. absurd (cc))
+      c.end_loan.ensures.journal c.end_loan.ensures.capacity);
   buffered = (let self = c.args.self.now in
       let job = g.W.Work.job self.origin.value.told in
       let wide = subst (λ o. IsWide (g.W.Work.job o.told) (vec_capacity c.args.spent.buffer)) c.requires.origin c.args.spent.room in

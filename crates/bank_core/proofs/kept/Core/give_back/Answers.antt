@@ -56,22 +56,25 @@ invariant_of-self g c = record {
       let position = c.args.loan.position in
       let row = c.items.ensures.items ∙ c.set.ensures.set in
       let lent = subst (λ o. accounts_of c.args.loan.values.items
-          ≡ map (serial (g.W.Work.job o.told) (at o.start) position) (keys (g.W.Work.job o.told) position))
-          c.requires.origin c.args.loan.lent in
+      ≡ map (serial (g.W.Work.job o.told) (at o.start) position) (keys (g.W.Work.job o.told) position))
+      c.requires.origin c.args.loan.lent in
       let N = K.of.numbered position (held_below_count _ _ _ _ _ _ _ K _ _ h) in
       let many = lent_many (g.W.Work.job self.origin.value.told) (at self.origin.value.start) self.table position (set_at self.graph.sets position) c.args.loan.values.items N lent in
       let all = take_all (length c.args.loan.values.items) c.items.result.now (let e = ap length row in omega (arith, many, e)) in
       let filled = with_items_is self.slots c.put_back.new.slots (c.put_back.auto.slots ∙ c.deref_mut.ensures.len) in
       keeps_same _ _ _ _ _ _ _ _ _ _ _ c.unstart.ensures filled refl c.end_loan.ensures.journal
       (return_keeps _ _ _ _ _ _ _ K c.args.loan.lane position h self.lawful
-          (accounts_of c.args.loan.values.items) lent c.put_back.new.slots
-          (c.put_back.auto.slots ∙ ap length c.deref_mut.ensures.value)
+      (accounts_of c.args.loan.values.items) lent c.put_back.new.slots
+      (c.put_back.auto.slots ∙ ap length c.deref_mut.ensures.value)
       (λ n. c.put_back.ensures.back n ∙ ap₂ (λ s sl. put_back_at s (accounts_of c.args.loan.values.items) (account_at sl) n) (all ∙ row) c.deref_mut.ensures.value)));
   apart = c.args.self.now.apart;
   room = (let self = c.args.self.now in
-      room_after _ _ _ _ _ _ (record { kind = Return; lane = c.args.loan.lane; position = c.args.loan.position
-          }) self.room (holder_below _ _ _ _ _ _ self.room c.requires.held) (λ t. c.requires.once)
-          c.end_loan.ensures.journal c.end_loan.ensures.capacity);
+      room_after _ _ _ _ _ _ (record {
+        kind = Return;
+        lane = c.args.loan.lane;
+        position = c.args.loan.position;
+      }) self.room (holder_below _ _ _ _ _ _ self.room c.requires.held) (λ t. c.requires.once)
+      c.end_loan.ensures.journal c.end_loan.ensures.capacity);
   buffered = (let self = c.args.self.now in
       let job = g.W.Work.job self.origin.value.told in
       let wide = subst (λ o. IsWide (g.W.Work.job o.told) (vec_capacity c.args.loan.values)) c.requires.origin c.args.loan.room in
@@ -79,8 +82,8 @@ invariant_of-self g c = record {
       let long = c.put_back.new.values.ok.0 in
       subst₂ (λ j b. HasBuffers job self.lanes j b) (sym c.end_loan.ensures.journal) (sym c.end_loan.ensures.buffers)
       (ended_buffers job self.lanes self.journal.items self.buffers.items self.buffered c.args.loan.lane
-          c.put_back.new.values (omega (arith, none, long)) (wide_as job _ _ c.put_back.ensures.capacity wide)
-          Return c.args.loan.position));
+      c.put_back.new.values (omega (arith, none, long)) (wide_as job _ _ c.put_back.ensures.capacity wide)
+      Return c.args.loan.position));
   counted = (let self = c.args.self.now in
       let K = self.runs in
       let job = g.W.Work.job self.origin.value.told in

@@ -38,8 +38,8 @@ invariant_of-self g c = record {
       let filled = with_items_is self.slots c.lend.new.slots (c.lend.auto.slots ∙ c.deref_mut.ensures.len) in
       keeps_same _ _ _ _ _ _ _ _ _ _ _ refl filled refl refl
       (same_slots_keep _ _ _ _ _ _ _ self.runs c.lend.new.slots
-          (c.lend.auto.slots ∙ ap length c.deref_mut.ensures.value)
-          (λ n. c.in-Err.ensures.same n ∙ ap (λ sl. account_at sl n) c.deref_mut.ensures.value)));
+      (c.lend.auto.slots ∙ ap length c.deref_mut.ensures.value)
+      (λ n. c.in-Err.ensures.same n ∙ ap (λ sl. account_at sl n) c.deref_mut.ensures.value)));
   apart = c.args.self.now.apart;
   room = c.args.self.now.room;
   buffered = (let self = c.args.self.now in
@@ -48,8 +48,8 @@ invariant_of-self g c = record {
       let none = ap length c.in-Err.ensures.emptied in
       let long = c.lend.new.values.ok.0 in
       subst (HasBuffers job self.lanes self.journal.items)
-          (sym (c.write_at.ensures ∙ (ap (λ b. set b c.args.lane c.lend.new.values)
-          c.take_at-values.ensures.left ∙ set-set self.buffers.items c.args.lane _ c.lend.new.values)))
+      (sym (c.write_at.ensures ∙ (ap (λ b. set b c.args.lane c.lend.new.values)
+      c.take_at-values.ensures.left ∙ set-set self.buffers.items c.args.lane _ c.lend.new.values)))
       (kept_buffers job self.lanes self.journal.items self.buffers.items self.buffered c.args.lane c.lend.new.values (omega (arith, none, long)) (wide_as job _ _ c.lend.ensures.capacity B.1)));
   counted = c.args.self.now.counted;
 }
@@ -99,13 +99,13 @@ invariant_of-self-2 g c = record {
       let filled = with_items_is self.slots c.lend.new.slots (c.lend.auto.slots ∙ c.deref_mut.ensures.len) in
       keeps_same _ _ _ _ _ _ _ _ _ _ _ c.start.ensures filled refl c.push_with_room.ensures.items
       (grant_keeps _ _ _ _ _ _ _ K c.args.position c.requires.least.ready c.args.lane
-          (holds_none _ _ _ K.legal _ c.requires.free) c.lend.new.slots
-          (c.lend.auto.slots ∙ ap length c.deref_mut.ensures.value)
+      (holds_none _ _ _ K.legal _ c.requires.free) c.lend.new.slots
+      (c.lend.auto.slots ∙ ap length c.deref_mut.ensures.value)
       (λ n. c.in_default.ensures.left n ∙ ap₂ (λ s sl. taken_at (write_numbers s) (account_at sl) n) row c.deref_mut.ensures.value)));
   apart = c.args.self.now.apart;
   room = (let self = c.args.self.now in
       room_after _ _ _ _ _ _ (record { kind = Grant; lane = c.args.lane; position = c.args.position }) self.room
-          c.requires.lane (λ t. absurd (cc)) c.push_with_room.ensures.items c.push_with_room.ensures.capacity);
+      c.requires.lane (λ t. absurd (cc)) c.push_with_room.ensures.items c.push_with_room.ensures.capacity);
   buffered = (let self = c.args.self.now in
       let job = g.W.Work.job self.origin.value.told in
       subst₂ (λ j b. HasBuffers job self.lanes j b) (sym c.push_with_room.ensures.items) (sym c.take_at-values.ensures.left)
@@ -129,13 +129,13 @@ invariant_of-result g c =
     let row = c.items.ensures.items ∙ c.set.ensures.set in
     let values = c.lend.new.values in
     let lent : accounts_of values.items
-        ≡ map (serial job start position) (keys job position) = lent_right _ _ _ _ _ _ _ K position ready
-        c.args.lane (accounts_of values.items)
-        (c.in_default.ensures.lent ∙ ap₂ (λ s sl. found s (account_at sl)) row c.deref_mut.ensures.value) in
+    ≡ map (serial job start position) (keys job position) = lent_right _ _ _ _ _ _ _ K position ready
+    c.args.lane (accounts_of values.items)
+    (c.in_default.ensures.lent ∙ ap₂ (λ s sl. found s (account_at sl)) row c.deref_mut.ensures.value) in
     let fits = subst (Fits (job.locks position)) (sym lent)
-        (turn_fits job start self.table self.lawful
-        (is_start job self.origin.value.start self.rest self.table _ _ _ _ K self.apart) position ready.below).0
-        in
+    (turn_fits job start self.table self.lawful
+    (is_start job self.origin.value.start self.rest self.table _ _ _ _ K self.apart) position ready.below).0
+    in
     let B = free_buffer job self.lanes _ _ _ c.take_at-values.result self.buffered c.requires.lane c.requires.free c.take_at-values.ensures.taken in
     let wide = wide_as job _ _ c.lend.ensures.capacity B.1 in
     record {

@@ -14,8 +14,8 @@ returns-clause-exact g c =
     let self = c.args.self.now in
     IfOk-weaker c.shares_of.result _ (λ (told : List Outcome). told ≡ done_from (state_after g.W.Work.job self.origin.value self.journal.items).stage c.args.from c.args.most)
     (λ told is. is ∙ told_is (g.W.Work.job self.origin.value.told) (at self.origin.value.start) self.table
-        self.graph self.slots.items self.outcomes.items self.journal.items self.runs c.args.from c.args.most
-        c.requires _ c.as_slice.ensures.value)
+    self.graph self.slots.items self.outcomes.items self.journal.items self.runs c.args.from c.args.most
+    c.requires _ c.as_slice.ensures.value)
     c.shares_of.ensures
 
 pub returns-clause-serial : goal.returns-clause-serial
@@ -24,8 +24,8 @@ returns-clause-serial g c =
     IfOk-weaker c.shares_of.result _ (λ (told : List Outcome). told ≡ take (length told) (drop c.args.from (outcomes_at_end g.W.Work.job self.origin.value)))
     (λ told is.
     let exact = is ∙ told_is (g.W.Work.job self.origin.value.told) (at self.origin.value.start) self.table
-        self.graph self.slots.items self.outcomes.items self.journal.items self.runs c.args.from c.args.most
-        c.requires _ c.as_slice.ensures.value in
+    self.graph self.slots.items self.outcomes.items self.journal.items self.runs c.args.from c.args.most
+    c.requires _ c.as_slice.ensures.value in
     subst (λ (told : List Outcome). told ≡ take (length told) (drop c.args.from (outcomes_at_end g.W.Work.job self.origin.value))) (sym exact)
     (told_serial (g.W.Work.job self.origin.value.told) (at self.origin.value.start) self.journal.items self.runs.legal c.args.from c.args.most c.requires))
     c.shares_of.ensures

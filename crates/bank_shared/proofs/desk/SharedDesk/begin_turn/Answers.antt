@@ -25,8 +25,8 @@ invariant_of-result g c =
       lane_is = ap (λ m. is_one_of m.0.lanes c.args.pass.now.lane) me ∙ of_desk _ _ c.requires.desk.1 c.args.pass.now.lane_is;
       below = λ l is.
           let drawn = lane_drawn v d l c.args.pass.now.no_parts
-              (subst (λ w. (k : ℕ) → d ≤ k → stands k w ≡ 0) same c.take_turn-kept.ensures.gets.below)
-              (sym (ap (λ m. is_one_of m.0.lanes l) me) ∙ is) in
+          (subst (λ w. (k : ℕ) → d ≤ k → stands k w ≡ 0) same c.take_turn-kept.ensures.gets.below)
+          (sym (ap (λ m. is_one_of m.0.lanes l) me) ∙ is) in
           let few = c.take_turn-kept.result.below in
           omega (arith, drawn, few);
       events = subst (λ m. IsOnTurn m.0 h d) (sym me) (turn_begun v h d);
@@ -37,6 +37,6 @@ returns-clause-same g c =
     let same = ap (λ s. s.me.0) c.swap.ensures.y_after ∙ ap (λ m. m.0) c.split_seat-seat.ensures.2 in
     let h = journal_of c.take_turn-kept.result in
     mine_is c.args.self.now.table.shared.key.value h c.take_turn-kept.result.drawn c.args.pass.now.lane
-        c.args.pass.now.seat.me.0 (subst
-        (λ w. Knows c.args.self.now.table.shared.key.value h c.take_turn-kept.result.drawn w) same
-        c.take_turn-kept.ensures.gets.knows) (of_desk _ _ c.requires.desk.1 c.args.pass.now.lane_is)
+    c.args.pass.now.seat.me.0 (subst
+    (λ w. Knows c.args.self.now.table.shared.key.value h c.take_turn-kept.result.drawn w) same
+    c.take_turn-kept.ensures.gets.knows) (of_desk _ _ c.requires.desk.1 c.args.pass.now.lane_is)

@@ -18,8 +18,8 @@ pub commit_spent-requires-clause-held : goal.commit_spent-requires-clause-held
 commit_spent-requires-clause-held g c =
     subst₂ (λ l p. holds (own c.deref_mut.result.now.journal.items l) ≡ Some p) (sym (c.spend-spent.ensures.1 ∙ c.requires.lane)) (sym c.spend-spent.ensures.0)
     (ap (λ k. holds (own k.journal.items c.args.pass.now.lane)) c.deref_mut.ensures.value
-        ∙ ap holds (mine_is _ _ _ c.args.pass.now.lane _ c.take_turn-kept.ensures.gets.knows
-        (of_desk _ _ c.requires.desk c.args.pass.now.lane_is)) ∙ c.requires.held)
+    ∙ ap holds (mine_is _ _ _ c.args.pass.now.lane _ c.take_turn-kept.ensures.gets.knows
+    (of_desk _ _ c.requires.desk c.args.pass.now.lane_is)) ∙ c.requires.held)
 
 pub commit_spent-requires-clause-right : goal.commit_spent-requires-clause-right
 commit_spent-requires-clause-right g c = spent_right g.W.Work.job _ _ _ _ _ _ _ c.requires.origin
@@ -33,8 +33,11 @@ release-requires g c =
     record {
       table = c.take_turn-kept.ensures.table ∙ c.requires.table;
       desk = (λ i. record { origin = c.commit_spent.ensures.origin i; lanes = c.commit_spent.ensures.lanes i })
-          ∙ ((λ i. record { origin = (c.deref_mut.ensures.value i).origin.value; lanes =
-          (c.deref_mut.ensures.value i).lanes }) ∙ c.take_turn-kept.ensures.gets.desk);
+          ∙ ((λ i. record {
+            origin = (c.deref_mut.ensures.value i).origin.value;
+            lanes =
+                (c.deref_mut.ensures.value i).lanes;
+          }) ∙ c.take_turn-kept.ensures.gets.desk);
       slot = ap (λ m. m.1) c.take_turn-kept.ensures.me;
       turn = has_turn _ _ _ _ c.args.pass.now.lane (e ∷ []) c.args.pass.now.seat.me.0 _
           c.take_turn-kept.ensures.me c.args.pass.now.no_parts
@@ -46,26 +49,26 @@ pub returns-clause-kept : goal.returns-clause-kept
 returns-clause-kept g c =
     let e : Event = record { kind = Commit; lane = c.args.pass.now.lane; position = c.args.loan.position } in
     turn_keeps _ _ _ _ c.args.pass.now.lane (e ∷ []) _ _ c.take_turn-kept.ensures.gets.knows
-        c.args.pass.now.no_parts (of_desk _ _ c.requires.desk c.args.pass.now.lane_is) (refl, tt)
-        (event_is _ _ _ Commit _ _ _ _ c.commit_spent.ensures.journal
-        (ap (λ k. k.journal.items) c.deref_mut.ensures.value) (c.spend-spent.ensures.1 ∙ c.requires.lane)
-        c.spend-spent.ensures.0)
+    c.args.pass.now.no_parts (of_desk _ _ c.requires.desk c.args.pass.now.lane_is) (refl, tt)
+    (event_is _ _ _ Commit _ _ _ _ c.commit_spent.ensures.journal
+    (ap (λ k. k.journal.items) c.deref_mut.ensures.value) (c.spend-spent.ensures.1 ∙ c.requires.lane)
+    c.spend-spent.ensures.0)
     (ap (λ m. m.0) c.release.ensures.me ∙ ap (λ m. done m.0 c.commit_spent.new.self.journal.items c.take_turn-kept.result.drawn) c.take_turn-kept.ensures.me)
 
 pub returns-clause-legal : goal.returns-clause-legal
 returns-clause-legal g c =
     subst₂ (λ o j. IsLegalFor g.W.Work.job o j)
-        (c.commit_spent.ensures.origin
-        ∙ (ap (λ k. k.origin.value) c.deref_mut.ensures.value
-        ∙ ap (λ r. r.origin) c.take_turn-kept.ensures.gets.desk))
-        (sym (ap (λ m. m.0.seen) c.release.ensures.me)) c.commit_spent.new.self.runs.legal
+    (c.commit_spent.ensures.origin
+    ∙ (ap (λ k. k.origin.value) c.deref_mut.ensures.value
+    ∙ ap (λ r. r.origin) c.take_turn-kept.ensures.gets.desk))
+    (sym (ap (λ m. m.0.seen) c.release.ensures.me)) c.commit_spent.new.self.runs.legal
 
 pub returns-clause-event : goal.returns-clause-event
 returns-clause-event g c =
     let e : Event = record { kind = Commit; lane = c.args.pass.now.lane; position = c.args.loan.position } in
     turn_adds _ _ _ _ c.args.pass.now.lane (e ∷ []) _ _ c.take_turn-kept.ensures.gets.knows
-        c.args.pass.now.no_parts (of_desk _ _ c.requires.desk c.args.pass.now.lane_is) (refl, tt)
-        (event_is _ _ _ Commit _ _ _ _ c.commit_spent.ensures.journal
-        (ap (λ k. k.journal.items) c.deref_mut.ensures.value) (c.spend-spent.ensures.1 ∙ c.requires.lane)
-        c.spend-spent.ensures.0)
+    c.args.pass.now.no_parts (of_desk _ _ c.requires.desk c.args.pass.now.lane_is) (refl, tt)
+    (event_is _ _ _ Commit _ _ _ _ c.commit_spent.ensures.journal
+    (ap (λ k. k.journal.items) c.deref_mut.ensures.value) (c.spend-spent.ensures.1 ∙ c.requires.lane)
+    c.spend-spent.ensures.0)
     (ap (λ m. m.0) c.release.ensures.me ∙ ap (λ m. done m.0 c.commit_spent.new.self.journal.items c.take_turn-kept.result.drawn) c.take_turn-kept.ensures.me)

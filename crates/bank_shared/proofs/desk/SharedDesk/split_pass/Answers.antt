@@ -26,10 +26,16 @@ invariant_of-result g c =
     let fresh = c.split_seat-seat.ensures.4 in
     let me = c.release.ensures.me ∙ ap (λ m. (done m.0 h (d + 1), [])) (c.take_turn-kept.ensures.me ∙ ap (λ m. (holding m.0 h d, (0, None) ∷ [])) fresh) in
     let b = begins _ v _ h d (subst (λ m. Knows c.args.self.now.table.shared.key.value h d m.0) fresh c.take_turn-kept.ensures.gets.knows) c.take_turn-kept.ensures.gets.later (ap (λ m. m.0) me) in
-    record { no_slot = ap (λ m. m.1) me; no_turn = b.1; no_parts = b.3; lane_is = of_any _ b.4; within = subst
-        (λ o. IfSome o (λ root. d < root.lanes)) (sym (b.2 ∙ c.requires.desk))
-        (subst (λ r. d < r.lanes) c.take_turn-kept.ensures.gets.desk
-        (subst (λ k. d < k.lanes) c.deref.ensures (subst (λ n. d < n) c.lanes.ensures c.if-lane-lanes.true))) }
+    record {
+      no_slot = ap (λ m. m.1) me;
+      no_turn = b.1;
+      no_parts = b.3;
+      lane_is = of_any _ b.4;
+      within = subst
+          (λ o. IfSome o (λ root. d < root.lanes)) (sym (b.2 ∙ c.requires.desk))
+          (subst (λ r. d < r.lanes) c.take_turn-kept.ensures.gets.desk
+          (subst (λ k. d < k.lanes) c.deref.ensures (subst (λ n. d < n) c.lanes.ensures c.if-lane-lanes.true)));
+    }
 
 pub returns-then-lane-lanes-clause-made : goal.returns-then-lane-lanes-clause-made
 returns-then-lane-lanes-clause-made g c =

@@ -25,9 +25,9 @@ overflow_add-len c =
     let left : List Part = into_iter_items c.next.new.self in
     let split : yielded ++ c.in-Some.part ∷ left ≡ c.args.parts = ap (λ (l : List Part). yielded ++ l) (sym c.in-Some.ensures.steps.0) ∙ c.loop-part.invariant.all in
     let bound : length (bytes_of yielded) + length (part_bytes c.in-Some.part) ≤ length
-        (bytes_of c.args.parts) = subst
-        (λ (l : List Part). length (bytes_of yielded) + length (part_bytes c.in-Some.part) ≤ length
-        (bytes_of l)) split (parts_bound yielded left c.in-Some.part) in
+    (bytes_of c.args.parts) = subst
+    (λ (l : List Part). length (bytes_of yielded) + length (part_bytes c.in-Some.part) ≤ length
+    (bytes_of l)) split (parts_bound yielded left c.in-Some.part) in
     let before_it = ap length c.loop-part.invariant.bytes in
     let part = ap length c.of_part-backing.ensures.bytes in
     omega arith

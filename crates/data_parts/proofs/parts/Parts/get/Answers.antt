@@ -17,6 +17,6 @@ get-requires c =
 pub returns : goal.returns
 returns c =
     let there = get_there c.self.inside.pieces c.find_from.result c.args.at c.at-piece.result.now
-        c.self.invariant.0 c.find_from.ensures.piece c.at-piece.ensures c.find_from.ensures.first
-        c.find_from.ensures.last in
+    c.self.invariant.0 c.find_from.ensures.piece c.at-piece.ensures c.find_from.ensures.first
+    c.find_from.ensures.last in
     c.get.ensures ∙ there ∙ ap (λ (content : Content). get_or content.bytes c.args.at 0) c.self.view_is

@@ -10,9 +10,9 @@ pub returns-then-piece-at-clause-bytes : goal.returns-then-piece-at-clause-bytes
 returns-then-piece-at-clause-bytes c =
     IfSome_then c.lent.result c.lent.ensures.shared (λ lent same.
     let there : DataStandAt (arc_value lent.now) (bytes_in c.self.inside.pieces) c.args.at = data_there
-        c.self.inside.pieces c.find_from.result c.args.at c.at-piece.result.now (arc_value lent.now)
-        c.self.invariant.0 c.find_from.ensures.piece c.at-piece.ensures c.if-piece-at.true
-        (sym (ap backing_bytes same)) in
+    c.self.inside.pieces c.find_from.result c.args.at c.at-piece.result.now (arc_value lent.now)
+    c.self.invariant.0 c.find_from.ensures.piece c.at-piece.ensures c.if-piece-at.true
+    (sym (ap backing_bytes same)) in
     subst (λ (list : List ℕ). DataStandAt (arc_value lent.now) list c.args.at) (ap (λ (content : Content). content.bytes) c.self.view_is) there)
 
 pub returns-then-piece-at-clause-account : goal.returns-then-piece-at-clause-account
@@ -23,15 +23,15 @@ returns-then-piece-at-clause-account c =
     let first = c.find_from.ensures.first in
     let last = c.find_from.ensures.last in
     let there : IsLentAt c.self.inside.lent.value c.at-piece.result.now.start (arc_value lent.now) = item_lent
-        c.self.inside.lent.value pieces c.find_from.result c.at-piece.result.now c.self.invariant.1
-        c.find_from.ensures.piece c.at-piece.ensures lent.now same (omega arith) in
+    c.self.inside.lent.value pieces c.find_from.result c.at-piece.result.now c.self.invariant.1
+    c.find_from.ensures.piece c.at-piece.ensures lent.now same (omega arith) in
     subst (λ (place : ℕ). IsLentAt c.args.self.now.lent place (arc_value lent.now)) c.if-piece-at.true
-        (subst (λ (list : List (ℕ × Account)). IsLentAt list c.at-piece.result.now.start (arc_value lent.now))
-        (ap (λ (content : Content). content.lent) c.self.view_is) there))
+    (subst (λ (list : List (ℕ × Account)). IsLentAt list c.at-piece.result.now.start (arc_value lent.now))
+    (ap (λ (content : Content). content.lent) c.self.view_is) there))
 
 pub returns-then-piece-at-clause-own : goal.returns-then-piece-at-clause-own
 returns-then-piece-at-clause-own c = λ prepared.
     let same : slice_get (tests_in is_prepared c.self.inside.pieces) c.args.at ≡ Some true = ap (λ (content : Content). slice_get content.prepared c.args.at) c.self.view_is ∙ prepared in
     c.lent.ensures.own (passes_at is_prepared c.self.inside.pieces c.find_from.result c.args.at
-        c.at-piece.result.now c.find_from.ensures.piece c.at-piece.ensures c.find_from.ensures.first
-        c.find_from.ensures.last same)
+    c.at-piece.result.now c.find_from.ensures.piece c.at-piece.ensures c.find_from.ensures.first
+    c.find_from.ensures.last same)

@@ -12,6 +12,6 @@ pub returns-then-from-into : goal.returns-then-from-into
 returns-then-from-into c =
     let size = c.len.ensures in
     let there = read_there c.self.inside.pieces c.find_from-first.result c.args.at (length c.args.into.now)
-        c.at-piece.result.now c.self.invariant.0 c.find_from-first.ensures.piece c.at-piece.ensures
-        c.find_from-first.ensures.first (omega arith) in
+    c.at-piece.result.now c.self.invariant.0 c.find_from-first.ensures.piece c.at-piece.ensures
+    c.find_from-first.ensures.first (omega arith) in
     c.read.ensures ∙ there ∙ ap (λ (content : Content). take (length c.args.into.now) (drop c.args.at content.bytes)) c.self.view_is

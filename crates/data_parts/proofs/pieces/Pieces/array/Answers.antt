@@ -39,7 +39,7 @@ returns g c =
     elim (cases_lt c.self.inside.place (length list)) [
       | inl h ↦ IfSome_then c.array-2.result c.array-2.ensures.bytes (λ found stands.
           there _ c.args.self.now c.self.inside.place c.args.at g.row.N c.self.inside.opened found
-              c.self.view_is c.requires.order (rw length-set h)
-              (apart_is list c.self.inside.place c.self.inside.opened h) stands)
+          c.self.view_is c.requires.order (rw length-set h)
+          (apart_is list c.self.inside.place c.self.inside.opened h) stands)
       | inr h ↦ subst (λ (answer : Option (List ℕ)). IfSome answer (ArrayStandsIn (bytes_in c.args.self.now) c.args.at g.row.N)) (sym (c.array-2.ensures.blank (c.self.invariant.1 h))) (search rules)
     ]

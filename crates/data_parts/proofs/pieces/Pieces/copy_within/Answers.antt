@@ -24,9 +24,9 @@ returns-clause-ok c =
     let was : c.as_mut_slice.result.now ≡ c.args.self.now = c.as_mut_slice.ensures.value ∙ c.take-list.ensures in
     subst (λ (l : List Piece). OnOk c.copy_range-moved.result (bytes_in l ≡ with_bytes (bytes_in c.args.self.now) c.args.to (take c.args.len (drop c.args.from (bytes_in c.args.self.now))))) (sym is)
     (subst (λ (l : List Piece). OnOk c.copy_range-moved.result
-        (bytes_in c.copy_range-moved.new.pieces
-        ≡ with_bytes (bytes_in l) c.args.to (take c.args.len (drop c.args.from (bytes_in l))))) was
-        c.copy_range-moved.ensures.ok)
+    (bytes_in c.copy_range-moved.new.pieces
+    ≡ with_bytes (bytes_in l) c.args.to (take c.args.len (drop c.args.from (bytes_in l))))) was
+    c.copy_range-moved.ensures.ok)
 
 pub returns-clause-err : goal.returns-clause-err
 returns-clause-err c =

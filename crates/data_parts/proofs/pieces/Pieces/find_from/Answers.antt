@@ -7,15 +7,15 @@ use Rattle.data_parts.proofs.pieces.Pieces.find_from.Goals as goal
 pub find_from-requires-clause-order : goal.find_from-requires-clause-order
 find_from-requires-clause-order c =
     subst AreInOrder (sym c.as_slice.ensures.value)
-        (like_order c.self.inside.list.items c.self.inside.place c.self.inside.opened c.self.invariant.0
-        (subst AreInOrder (sym c.self.view_is) c.requires.order))
+    (like_order c.self.inside.list.items c.self.inside.place c.self.inside.opened c.self.invariant.0
+    (subst AreInOrder (sym c.self.view_is) c.requires.order))
 
 pub find_from-requires-clause-within : goal.find_from-requires-clause-within
 find_from-requires-clause-within c =
     let size : length (bytes_in c.as_slice.result.now)
-        ≡ length (bytes_in c.args.self.now) = ap (λ (l : List Piece). length (bytes_in l))
-        c.as_slice.ensures.value ∙ like_length c.self.inside.list.items c.self.inside.place c.self.inside.opened
-        c.self.invariant.0 ∙ ap (λ (l : List Piece). length (bytes_in l)) c.self.view_is in
+    ≡ length (bytes_in c.args.self.now) = ap (λ (l : List Piece). length (bytes_in l))
+    c.as_slice.ensures.value ∙ like_length c.self.inside.list.items c.self.inside.place c.self.inside.opened
+    c.self.invariant.0 ∙ ap (λ (l : List Piece). length (bytes_in l)) c.self.view_is in
     omega arith
 
 -- as many bytes stand before each piece as before the one in its place

@@ -15,8 +15,8 @@ invariant_of-self c =
     let sizes : length list ≡ length c.as_mut_slice-list.result.now = ap length c.put_back.ensures ∙ length-set c.as_mut_slice-list.result.now c.self.inside.place c.self.inside.opened in
     let items : (with_items c.self.inside.list left).items ≡ left = with_items_is c.self.inside.list left (search (rules, places)) in
     let same : set left c.args.index (blank_of piece)
-        ≡ left = ap (λ (l : List Piece). set l c.args.index (blank_of piece)) c.take_at.ensures.left
-        ∙ set_twice list c.args.index (blank_of piece) (blank_of piece) ∙ sym c.take_at.ensures.left in
+    ≡ left = ap (λ (l : List Piece). set l c.args.index (blank_of piece)) c.take_at.ensures.left
+    ∙ set_twice list c.args.index (blank_of piece) (blank_of piece) ∙ sym c.take_at.ensures.left in
     let view = ap length c.self.view_is in
     let own = length-set c.self.inside.list.items c.self.inside.place c.self.inside.opened in
     let was = ap length c.as_mut_slice-list.ensures.value in
@@ -32,9 +32,9 @@ returns c =
     let sizes : length list ≡ length c.as_mut_slice-list.result.now = ap length c.put_back.ensures ∙ length-set c.as_mut_slice-list.result.now c.self.inside.place c.self.inside.opened in
     let items : (with_items c.self.inside.list left).items ≡ left = with_items_is c.self.inside.list left (search (rules, places)) in
     let back : set left c.args.index piece
-        ≡ list = ap (λ (l : List Piece). set l c.args.index piece) c.take_at.ensures.left
-        ∙ set_twice list c.args.index (blank_of piece) piece
-        ∙ ap (λ (p : Piece). set list c.args.index p) c.take_at.ensures.taken
-        ∙ set-get_or list c.args.index piece in
+    ≡ list = ap (λ (l : List Piece). set l c.args.index piece) c.take_at.ensures.left
+    ∙ set_twice list c.args.index (blank_of piece) piece
+    ∙ ap (λ (p : Piece). set list c.args.index p) c.take_at.ensures.taken
+    ∙ set-get_or list c.args.index piece in
     let old : list ≡ c.args.self.now = c.put_back.ensures ∙ ap (λ (l : List Piece). set l c.self.inside.place c.self.inside.opened) c.as_mut_slice-list.ensures.value ∙ c.self.view_is in
     ap (λ (l : List Piece). set l c.args.index piece) items ∙ back ∙ old

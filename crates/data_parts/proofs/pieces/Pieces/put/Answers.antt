@@ -13,8 +13,8 @@ returns-clause-order g c =
 pub returns-clause-prepared : goal.returns-clause-prepared
 returns-clause-prepared g c =
     apart_tests is_prepared c.self.inside.list.items c.self.inside.place c.self.inside.opened c.put.new.self
-        c.put.ensures.size c.put.ensures.prepared
-        ∙ ap (λ (l : List Piece). tests_in is_prepared l) c.self.view_is
+    c.put.ensures.size c.put.ensures.prepared
+    ∙ ap (λ (l : List Piece). tests_in is_prepared l) c.self.view_is
 
 pub returns-clause-all : goal.returns-clause-all
 returns-clause-all g c = λ all.

@@ -24,8 +24,8 @@ returns-clause-ok c =
     let was : c.as_mut_slice.result.now ≡ c.args.self.now = c.as_mut_slice.ensures.value ∙ c.take-list.ensures in
     subst (λ (l : List Piece). OnOk c.write_range-written.result (bytes_in l ≡ with_bytes (bytes_in c.args.self.now) c.args.at c.args.bytes.now)) (sym is)
     (subst (λ (l : List Piece). OnOk c.write_range-written.result
-        (bytes_in c.write_range-written.new.pieces ≡ with_bytes (bytes_in l) c.args.at c.args.bytes.now)) was
-        c.write_range-written.ensures.ok)
+    (bytes_in c.write_range-written.new.pieces ≡ with_bytes (bytes_in l) c.args.at c.args.bytes.now)) was
+    c.write_range-written.ensures.ok)
 
 pub returns-clause-err : goal.returns-clause-err
 returns-clause-err c =

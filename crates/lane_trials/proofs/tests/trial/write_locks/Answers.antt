@@ -17,9 +17,9 @@ loop-i-preserved c =
           ap accounts_of (w.written-is ∙ w.in_ok-push.ensures.ok)
           ∙ written_more c.args.locks.now c.args.values.now c.loop-i.written c.loop-i.i none empty_account c.loop-i-test.true c.requires c.loop-i.invariant w.in_ok-new.field-0 w.if-lock.true
           (w.in_ok-new.ensures.ok ∙ (w.in_ok-spend.ensures
-              ∙ ap spent (ap value_of w.index-values-i.is
-              ∙ sym (get_or-map value_of c.args.values.now c.loop-i.i w.index-values-i.result empty_account
-              below))))
+          ∙ ap spent (ap value_of w.index-values-i.is
+          ∙ sym (get_or-map value_of c.args.values.now c.loop-i.i w.index-values-i.result empty_account
+          below))))
       | else-lock w ↦
           ap accounts_of w.written-is
           ∙ read_more c.args.locks.now c.args.values.now c.loop-i.written c.loop-i.i none empty_account c.loop-i-test.true c.requires c.loop-i.invariant w.if-lock.false

@@ -18,6 +18,6 @@ returns-in-Err c =
     let asc = c.self.inside.ascending in
     c.copied.ensures ∙ c.get.ensures.value
     ∙ T.numbered c.args.key.now (not_found (take asc c.deref.result.now) (take asc c.self.inside.keys.items)
-        c.args.key.now c.in-Err.field-0 (ap (take asc) c.deref.ensures.value) T.ascend
-        c.in-Err.ensures.position)
+    c.args.key.now c.in-Err.field-0 (ap (take asc) c.deref.ensures.value) T.ascend
+    c.in-Err.ensures.position)
     ∙ ap (λ ks. number_of ks c.args.key.now) c.self.view_is

@@ -17,8 +17,8 @@ release-freed-requires-clause-within c =
     let row = c.as_slice.ensures ∙ (c.index.ensures ∙ get_or_default c.self.inside.later.items c.args.position c.index.result.now [] (omega (arith, K.rows_length, here))) in
     let waits = ap length c.deref_mut.ensures.value in
     λ k d l. let one = row_within c.self.inside.sets c.self.inside.marks.items c.self.inside.waits.items
-        c.self.inside.later.items c.self.inside.ready.items K c.args.position started c.as_slice.result.now row
-        k d l in omega (arith, one, waits)
+    c.self.inside.later.items c.self.inside.ready.items K c.args.position started c.as_slice.result.now row
+    k d l in omega (arith, one, waits)
 
 pub release-freed-requires-clause-enough : goal.release-freed-requires-clause-enough
 release-freed-requires-clause-enough c =
@@ -55,16 +55,16 @@ invariant_of-self c =
     let lost = subst (λ waits. (i : ℕ) → slice_index c.release-freed.new.waits i + times i c.as_slice.result.now ≡ slice_index waits i) c.deref_mut.ensures.value c.release-freed.ensures.waits in
     let is_tree = subst (IsTree c.release-freed.new.tree) count c.release-freed.ensures.is_tree in
     let leaves = subst₂ (λ tree n. (i : ℕ) → i < n
-        → leaf c.release-freed.new.tree n i
-        ≡ (if nat_lt 0 (times i c.as_slice.result.now) && (slice_index c.release-freed.new.waits i == 0) then i
-        else leaf tree n i)) c.deref_mut-2.ensures.value count c.release-freed.ensures.leaves in
+    → leaf c.release-freed.new.tree n i
+    ≡ (if nat_lt 0 (times i c.as_slice.result.now) && (slice_index c.release-freed.new.waits i == 0) then i
+    else leaf tree n i)) c.deref_mut-2.ensures.value count c.release-freed.ensures.leaves in
     let keeps = finish_keeps c.self.inside.sets c.self.inside.marks.items c.self.inside.waits.items
-        c.self.inside.later.items c.self.inside.ready.items K c.args.position started c.release-freed.new.waits
-        waits_long c.as_slice.result.now row lost c.release-freed.new.tree tree_long is_tree leaves in
+    c.self.inside.later.items c.self.inside.ready.items K c.args.position started c.release-freed.new.waits
+    waits_long c.as_slice.result.now row lost c.release-freed.new.tree tree_long is_tree leaves in
     let more = subst (λ waits. free_count waits + c.release-freed.result ≡ free_count c.release-freed.new.waits) c.deref_mut.ensures.value c.release-freed.ensures.freed in
     let counts = finish_counts c.self.inside.sets c.self.inside.marks.items c.self.inside.waits.items
-        c.self.inside.later.items c.self.inside.ready.items K c.args.position started c.release-freed.new.waits
-        c.release-freed.new.tree waits_long keeps c.release-freed.result more in (
+    c.self.inside.later.items c.self.inside.ready.items K c.args.position started c.release-freed.new.waits
+    c.release-freed.new.tree waits_long keeps c.release-freed.result more in (
       subst₂ (λ waits tree. IsGraph c.self.inside.sets (set c.self.inside.marks.items c.args.position Done) waits c.self.inside.later.items tree) (sym waits_written) (sym tree_written) keeps,
       ap (λ n. n + c.release-freed.result) c.self.invariant.1 ∙ (counts ∙ ap (waiting_free_count (set c.self.inside.marks.items c.args.position Done)) (sym waits_written)),
     )

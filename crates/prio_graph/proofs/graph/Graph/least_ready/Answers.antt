@@ -13,7 +13,7 @@ returns-then-least-clause-none c =
     let least = subst₂ (Least c.least_leaf-least.result) c.as_slice.ensures.value c.len.ensures c.least_leaf-least.ensures.least in
     subst (λ (p : Positions). (i : ℕ) → IsReady p i → ⊥) c.self.view_is
     (none_is c.self.inside.sets c.self.inside.marks.items c.self.inside.waits.items c.self.inside.later.items
-        c.self.inside.ready.items c.self.invariant.0 c.least_leaf-least.result least c.if-least.true)
+    c.self.inside.ready.items c.self.invariant.0 c.least_leaf-least.result least c.if-least.true)
 
 pub returns-else-least-clause-least : goal.returns-else-least-clause-least
 returns-else-least-clause-least c =

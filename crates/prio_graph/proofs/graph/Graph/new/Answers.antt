@@ -21,6 +21,6 @@ invariant_of-result c =
     (subst (λ waits. Shows waits c.in_ok-ready.ready.items) c.as_slice-2.ensures.value shows) in
     let long = keeps.waits_length in
     let counts = opening_counts c.in_ok-marks.marks.items c.in_ok-edges.edges.waits.items
-        (λ i l. ap (λ ms. mark_at ms i) marks
-        ∙ get_or-replicate (length c.args.sets) i Waiting Done (omega (arith, l, long))) in
+    (λ i l. ap (λ ms. mark_at ms i) marks
+    ∙ get_or-replicate (length c.args.sets) i Waiting Done (omega (arith, l, long))) in
     (keeps, c.count_free-ready_count.ensures ∙ (ap free_count c.as_slice-3.ensures.value ∙ counts))

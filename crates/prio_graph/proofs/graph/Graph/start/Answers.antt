@@ -23,13 +23,13 @@ invariant_of-self c =
     let long : length c.write_leaf.new.tree ≡ 2 * length c.self.inside.sets = c.write_leaf.auto.tree ∙ (ap length c.deref_mut.ensures.value ∙ K.tree_length) in
     let is_tree = subst (IsTree c.write_leaf.new.tree) c.len.ensures c.write_leaf.ensures.is_tree in
     let leaves = subst₂ (λ tree count. (i : ℕ) → i < count
-        → leaf c.write_leaf.new.tree count i ≡ (if i == c.args.position then none else leaf tree count i))
-        c.deref_mut.ensures.value c.len.ensures c.write_leaf.ensures.leaves in
+    → leaf c.write_leaf.new.tree count i ≡ (if i == c.args.position then none else leaf tree count i))
+    c.deref_mut.ensures.value c.len.ensures c.write_leaf.ensures.leaves in
     let ready = subst (λ (p : Positions). IsReady p c.args.position) (sym c.self.view_is) c.requires in (
       subst (IsGraph c.self.inside.sets _ c.self.inside.waits.items c.self.inside.later.items) (sym written)
           (start_keeps c.self.inside.sets c.self.inside.marks.items c.self.inside.waits.items
-              c.self.inside.later.items c.self.inside.ready.items K c.args.position ready c.write_leaf.new.tree
-              long is_tree leaves),
+          c.self.inside.later.items c.self.inside.ready.items K c.args.position ready c.write_leaf.new.tree
+          long is_tree leaves),
       let counts = start_counts c.self.inside.sets c.self.inside.marks.items c.self.inside.waits.items c.self.inside.later.items c.self.inside.ready.items K c.args.position ready in
           let was = c.self.invariant.1 in
           omega (arith, counts, was),

@@ -21,6 +21,6 @@ returns-in-Ok c =
 pub returns-in-Err : goal.returns-in-Err
 returns-in-Err c =
     sought-none c.self.inside.keys.items c.self.inside.kept.items c.args.key.now
-        (not_found c.deref.result.now c.self.inside.keys.items c.args.key.now c.in-Err.field-0
-        c.deref.ensures.value c.self.invariant.ascend c.in-Err.ensures.position)
+    (not_found c.deref.result.now c.self.inside.keys.items c.args.key.now c.in-Err.field-0
+    c.deref.ensures.value c.self.invariant.ascend c.in-Err.ensures.position)
     ∙ ap (λ (programs : Listing). sought programs c.args.key.now) c.self.view_is

@@ -12,9 +12,9 @@ invariant_of-result c =
 pub returns : goal.returns
 returns c =
     listing-programs c.args.accounts.now c.sort_keys.new.keys.items c.in_ok-kept.kept.items
-        c.sort_keys.ensures.ascend (c.in_ok-kept.ensures
-        ∙ ap (map (sought_in c.args.accounts.now)) c.deref.ensures.value)
+    c.sort_keys.ensures.ascend (c.in_ok-kept.ensures
+    ∙ ap (map (sought_in c.args.accounts.now)) c.deref.ensures.value)
     ∙ programs-same c.args.accounts.now c.sort_keys.new.keys.items c.args.keys.now
-        (λ key. c.sort_keys.ensures.same key
-        ∙ ap (has_key key) (c.in_ok-extend_from_slice.ensures.items
-        ∙ ap₂ (λ (a b : List Key). a ++ b) c.in_ok-asked.ensures.items c.as_slice.ensures))
+    (λ key. c.sort_keys.ensures.same key
+    ∙ ap (has_key key) (c.in_ok-extend_from_slice.ensures.items
+    ∙ ap₂ (λ (a b : List Key). a ++ b) c.in_ok-asked.ensures.items c.as_slice.ensures))

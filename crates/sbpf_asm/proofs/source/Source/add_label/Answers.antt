@@ -19,7 +19,7 @@ returns-in-Ok-clause-added c =
     let name = c.args.name.now in
     let none = sym c.contains_key.ensures ∙ c.if-contains_key.false in
     let grown = ap labels_view (c.in-Ok.ensures.entries
-        ∙ insert_entry-new _ old.labels c.args.name old.slots (none_there _ none))
-        ∙ map-append label_view old.labels.entries ((c.args.name, old.slots) ∷ []) in
+    ∙ insert_entry-new _ old.labels c.args.name old.slots (none_there _ none))
+    ∙ map-append label_view old.labels.entries ((c.args.name, old.slots) ∷ []) in
     new_label c.args.line (source_view old) name _ (ap is_some (place_found name old.labels.entries) ∙ none)
     ∙ ap (λ (labels : List Label). Ok (record (source_view old) { labels = labels })) (sym grown)

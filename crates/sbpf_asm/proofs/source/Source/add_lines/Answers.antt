@@ -20,8 +20,8 @@ pub returns-in_err-add_line : goal.returns-in_err-add_line
 returns-in_err-add_line c =
     let p = err_from_is_err_and c.from_residual.result c.from_residual.ensures.1 in
     rw (p.1, p.2) (lines_stop (c.loop-rest.number + 1) (source_view c.loop-rest.self) c.loop-rest.rest.now
-        c.first_line-lines.result.1.now c.first_line-lines.result.0.now c.in_err-add_line.field-0.0 _
-        c.first_line-lines.ensures.lines c.loop-rest.invariant.same c.in_err-add_line.ensures.added)
+    c.first_line-lines.result.1.now c.first_line-lines.result.0.now c.in_err-add_line.field-0.0 _
+    c.first_line-lines.ensures.lines c.loop-rest.invariant.same c.in_err-add_line.ensures.added)
 
 pub returns : goal.returns
 returns c = sym c.loop-rest.invariant.same

@@ -23,12 +23,14 @@ returns-in_default-writable-clause-answer c =
     let m : Ranges = c.args.self.now in
     let wanted : Result Ranges MemFault = copy_to m c.args.to c.args.from c.args.len c.args.apart in
     let refused : c.from-in_default-writable.result
-        ≡ refusal_of (violation_of c.args.to c.args.len true) = c.from-in_default-writable.ensures
-        ∙ ap refusal_of c.violation-in_default-writable.ensures in
-    subst (λ (f : MemFault). Answers wanted m m (Err f)) (sym refused)
-    (copy-write m c.args.to c.args.from c.args.len c.args.apart c.in-Some.source
-        (omega (arith, c.if-len-eq0.false)) (sym c.in-Some.ensures.value) c.in-Some.ensures.within
-        c.in_default-writable.ensures, refl)
+    ≡ refusal_of (violation_of c.args.to c.args.len true) = c.from-in_default-writable.ensures
+    ∙ ap refusal_of c.violation-in_default-writable.ensures in
+    subst (λ (f : MemFault). Answers wanted m m (Err f)) (sym refused) (
+      copy-write m c.args.to c.args.from c.args.len c.args.apart c.in-Some.source
+          (omega (arith, c.if-len-eq0.false)) (sym c.in-Some.ensures.value) c.in-Some.ensures.within
+          c.in_default-writable.ensures,
+      refl,
+    )
 
 pub returns-then-overlaps-clause-answer : goal.returns-then-overlaps-clause-answer
 returns-then-overlaps-clause-answer c =
@@ -44,8 +46,8 @@ returns-clause-answer c =
     let m : Ranges = c.args.self.now in
     let done : copy_to m c.args.to c.args.from c.args.len c.args.apart ≡ Ok (copied_in m c.in-Some-writable.target c.in-Some.source c.args.len) =
     copy-done m c.args.to c.args.from c.args.len c.args.apart c.in-Some.source c.in-Some-writable.target
-        (omega (arith, c.if-len-eq0.false)) (sym c.in-Some.ensures.value) c.in-Some.ensures.within
-        c.in-Some-writable.ensures (sym c.overlaps.ensures ∙ c.if-overlaps.false) in
+    (omega (arith, c.if-len-eq0.false)) (sym c.in-Some.ensures.value) c.in-Some.ensures.within
+    c.in-Some-writable.ensures (sym c.overlaps.ensures ∙ c.if-overlaps.false) in
     subst (λ (wanted : Result Ranges MemFault). Answers wanted m c.copy_at.new.self c.copy_at.result) (sym done) c.copy_at.ensures.answer
 
 pub returns-clause-ready : goal.returns-clause-ready
