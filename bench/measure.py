@@ -89,34 +89,31 @@ def warn(text):
 
 # ---- Programs
 
-def found(name, words):
-    """The program of that name that ./bank runs, as its last call says."""
-    subprocess.run([TOP / 'bank', *words], stdin=subprocess.DEVNULL, stdout=subprocess.DEVNULL,
-                   stderr=subprocess.DEVNULL)
-    noted = TOP / 'crates' / name / 'out' / 'checked'
-    there = noted.read_text().strip() if noted.exists() else TOP / 'program' / name
-    return str(pathlib.Path(there).resolve())
+def found(name):
+    """The program of that name that ./bank runs."""
+    ended = subprocess.run([TOP / 'bank', '--programs', name], stdin=subprocess.DEVNULL, stdout=subprocess.PIPE, check=True)
+    return ended.stdout.decode().strip()
 
 
 def find_program():
     """The program of the variable PROGRAM, or the one that ./bank runs."""
     if os.environ.get('PROGRAM'):
         return str(pathlib.Path(os.environ['PROGRAM']).resolve())
-    return found('bank_program', ['make', '--number', '1', '--count', '1', '--run'])
+    return found('bank_program')
 
 
 def find_text_program():
     """The program for texts: that of the variable TEXT_PROGRAM, or the one that ./bank runs."""
     if os.environ.get('TEXT_PROGRAM'):
         return str(pathlib.Path(os.environ['TEXT_PROGRAM']).resolve())
-    return found('bank_text', ['why'])
+    return found('bank_text')
 
 
 def find_chain_program():
     """The program for chains: that of the variable CHAIN_PROGRAM, or the one that ./bank runs."""
     if os.environ.get('CHAIN_PROGRAM'):
         return str(pathlib.Path(os.environ['CHAIN_PROGRAM']).resolve())
-    return found('bank_ledger', ['chain', '--version'])
+    return found('bank_ledger')
 
 
 def plain_program():

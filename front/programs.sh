@@ -217,7 +217,6 @@ checksums() {
   printf 'sources %s\n' "$from"
 }
 
-says_program() { find_program && printf '%s\n' "$program"; }
 says_sources() { printf '%s %s\n' "$name" "$(sources)"; }
 
 # Does the same with each program, up to the first that fails.
@@ -226,5 +225,19 @@ each_program() {
   for each in bank_program bank_text bank_ledger; do
     choose "$each"
     "$@" || return
+  done
+}
+
+# The files of the programs that run, of all or of those that are named.
+list_programs() {
+  local each
+  [ "$#" -gt 0 ] || set -- bank_program bank_text bank_ledger
+  for each; do
+    case $each in
+      bank_program | bank_text | bank_ledger) choose "$each" ;;
+      *) refuse "there is no program $each" ;;
+    esac
+    find_program || return
+    printf '%s\n' "$program"
   done
 }

@@ -116,7 +116,8 @@ overview() {
 TEXT
   ! is_checkout || cat << 'TEXT'
   bank --build         proves every crate of the programs and builds them, whatever is there
-  bank --programs      the files of the programs that run, which are built first if need be
+  bank --programs [NAME..]
+                       the files of the programs that run, which are built first if need be
   bank --sources       a line for each program, with one checksum of all that it is built from
   bank --files         a line for each file that the programs are built from, with part of its checksum
   ./test               proves and tests everything

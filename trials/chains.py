@@ -19,7 +19,7 @@ def find_chain_program():
     given = os.environ.get('CHAIN_PROGRAM')
     if given:
         return str(pathlib.Path(given).resolve())
-    return None if os.environ.get('PROGRAM') else under.run_by_bank('bank_ledger', ['chain', '--version'])
+    return None if os.environ.get('PROGRAM') else under.run_by_bank('bank_ledger')
 
 
 def start(payers):

@@ -26,7 +26,7 @@ NOT_BUILT = 125
 
 def find_program():
     given = os.environ.get('PROGRAM')
-    return str(pathlib.Path(given).resolve()) if given else run_by_bank('bank_program', ['make', '--number', '1', '--count', '1'])
+    return str(pathlib.Path(given).resolve()) if given else run_by_bank('bank_program')
 
 
 def find_text_program():
@@ -34,16 +34,15 @@ def find_text_program():
     given = os.environ.get('TEXT_PROGRAM')
     if given:
         return str(pathlib.Path(given).resolve())
-    return None if os.environ.get('PROGRAM') else run_by_bank('bank_text', ['json', 'image'])
+    return None if os.environ.get('PROGRAM') else run_by_bank('bank_text')
 
 
-def run_by_bank(name, words):
-    """The program that ./bank runs on these words."""
-    if subprocess.run([TOP / 'bank', *words], stdin=subprocess.DEVNULL, capture_output=True).returncode == NOT_BUILT:
+def run_by_bank(name):
+    """The program of this name that ./bank runs."""
+    ended = subprocess.run([TOP / 'bank', '--programs', name], stdin=subprocess.DEVNULL, capture_output=True)
+    if ended.returncode == NOT_BUILT:
         raise RuntimeError(f'./bank could not build {name}')
-    out = TOP / 'crates' / name / 'out'
-    checked = out / 'checked'
-    return checked.read_text().strip() if checked.exists() else str(out / name)
+    return ended.stdout.decode().strip()
 
 
 def skip(name, why):
