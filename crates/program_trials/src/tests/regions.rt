@@ -28,13 +28,6 @@ const TWICE: [Meta; 2] = [
     },
 ];
 
-/// The one account, listed once.
-const ONCE: [Meta; 1] = [Meta {
-    index: 0,
-    signer: false,
-    writable: false,
-}];
-
 /// The bytes of the region of 16 data bytes that are listed twice.
 const SIZE: usize = 10_408;
 
@@ -153,22 +146,5 @@ fn a_region_is_laid_out(rt: HostRuntime) -> Result<(), Fail> {
     for (place, bytes) in &STANDS {
         assert!(rt; stands(&region, *place, bytes));
     }
-    Ok(())
-}
-
-/// The bytes of the region of 17 data bytes that are listed once, and of an instruction of two.
-fn padded_size(alloc: Global) -> Result<usize, OutOfMemory> {
-    let start = [account_of(alloc, 5, &[7; 17])?];
-    let region = lay_out(alloc, &[KEY], &start, &ONCE, b"ab", &PROGRAM)?;
-    Ok(region.len())
-}
-
-/// The number of accounts, the entry up to its data, the data and their room, padding, the rent
-/// epoch, the instruction with its length, and the program's key.
-const PADDED: usize = 8 + 88 + 17 + 10_240 + 7 + 8 + 8 + 2 + 32;
-
-#[test]
-fn padding_follows_the_length_at_the_start(rt: HostRuntime) -> Result<(), Fail> {
-    assert!(rt; padded_size(rt.alloc())? == PADDED);
     Ok(())
 }
