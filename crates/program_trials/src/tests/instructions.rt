@@ -224,11 +224,16 @@ fn ran_alone(
     run(alloc, &programs, 5, &keys, &accounts, &call, units, trace)
 }
 
+/// Whether the instruction of a row comes to what is wanted.
+fn is_done(alloc: Global, row: &(Native, u64, u8, Wanted)) -> Result<bool, OutOfMemory> {
+    let (ran, lines) = ran_alone(alloc, row.0, row.1, row.2)?;
+    Ok(comes_to(&ran, lines, row.1, &row.3))
+}
+
 #[test]
 fn instructions_of_one_program_each(rt: HostRuntime) -> Result<(), Fail> {
-    for (native, units, trace, wanted) in &CALLS {
-        let (ran, lines) = ran_alone(rt.alloc(), *native, *units, *trace)?;
-        assert!(rt; comes_to(&ran, lines, *units, wanted));
+    for row in &CALLS {
+        assert!(rt; is_done(rt.alloc(), row)?);
     }
     Ok(())
 }
@@ -475,6 +480,23 @@ fn programs_with(alloc: Global, text: Text, number: u8) -> Result<Programs, Stor
     Ok(programs_under(alloc, &state, &[PROGRAM, OTHER])?)
 }
 
+/// What comes of an instruction of the first program over these accounts.
+fn ran_over(
+    alloc: Global,
+    programs: &Programs,
+    accounts: &[Arc<Account>; 4],
+    second: Second,
+    height: u8,
+    units: u64,
+) -> Result<(Ran, usize), OutOfMemory>
+    requires height { (1 ≤ height) × (height ≤ 9) }
+    requires accounts { AreAccountsOf 4 (accounts_of accounts.now) }
+{
+    let keys = [PROGRAM, second_key(second), ABSENT, SYSTEM_PROGRAM];
+    let call = call_of(alloc, &METAS)?;
+    run(alloc, programs, height, &keys, accounts, &call, units, 0)
+}
+
 /// What comes of an instruction of the program.
 fn ran_with(
     alloc: Global,
@@ -487,18 +509,27 @@ fn ran_with(
     requires height { (1 ≤ height) × (height ≤ 9) }
 {
     let programs = programs_with(alloc, text, number)?;
-    let keys = [PROGRAM, second_key(second), ABSENT, SYSTEM_PROGRAM];
     let accounts = given(alloc, text, number, second)?;
-    let call = call_of(alloc, &METAS)?;
-    Ok(run(alloc, &programs, height, &keys, &accounts, &call, units, 0)?)
+    Ok(ran_over(alloc, &programs, &accounts, second, height, units)?)
+}
+
+/// Whether the instruction of a row comes to what is wanted.
+fn is_example(
+    alloc: Global,
+    row: &(Text, u8, Second, u8, u64, Wanted),
+) -> Result<bool, StoreFault> {
+    let (height, units) = (row.3, row.4);
+    if height < 1 || height > 9 {
+        return Ok(false);
+    }
+    let (ran, lines) = ran_with(alloc, row.0, row.1, row.2, height, units)?;
+    Ok(comes_to(&ran, lines, units, &row.5))
 }
 
 #[test]
 fn examples_of_programs(rt: HostRuntime) -> Result<(), Fail> {
-    for (text, number, second, height, units, wanted) in &EXAMPLES {
-        assert!(rt; 1 <= *height && *height <= 9);
-        let (ran, lines) = ran_with(rt.alloc(), *text, *number, *second, *height, *units)?;
-        assert!(rt; comes_to(&ran, lines, *units, wanted));
+    for row in &EXAMPLES {
+        assert!(rt; is_example(rt.alloc(), row)?);
     }
     Ok(())
 }
@@ -581,11 +612,16 @@ const STOPS: [(Text, u8, Second, Option<StoppedAt>); 8] = [
     (Text::Plain, 0, Second::Own, None),
 ];
 
+/// Whether the instruction of a row stops where it should.
+fn is_stop(alloc: Global, row: &(Text, u8, Second, Option<StoppedAt>)) -> Result<bool, StoreFault> {
+    let (ran, _) = ran_with(alloc, row.0, row.1, row.2, 5, 5_000)?;
+    Ok(ran.stopped_at == row.3)
+}
+
 #[test]
 fn programs_that_fail_tell_where(rt: HostRuntime) -> Result<(), Fail> {
-    for (text, number, second, wanted) in &STOPS {
-        let (ran, _) = ran_with(rt.alloc(), *text, *number, *second, 5, 5_000)?;
-        assert!(rt; ran.stopped_at == *wanted);
+    for row in &STOPS {
+        assert!(rt; is_stop(rt.alloc(), row)?);
     }
     Ok(())
 }

@@ -193,7 +193,10 @@ fn data_after(
 type Call = (Pieces, Listed, Pieces);
 
 /// Whether an instruction leaves the buffer with these data.
-fn leaves(alloc: Global, (before, listed, input): Call, want: Pieces) -> Result<bool, LoaderFault> {
+fn leaves(
+    alloc: Global,
+    ((before, listed, input), want): (Call, Pieces),
+) -> Result<bool, LoaderFault> {
     let after = data_after(alloc, joined(alloc, before)?, listed, input)?;
     let want = joined(alloc, want)?;
     Ok(after.as_slice() == want.as_slice())
@@ -250,8 +253,8 @@ const GOOD: [(Call, Pieces); 7] = [
 
 #[test]
 fn instructions_change_a_buffer(rt: HostRuntime) -> Result<(), Fail> {
-    for (call, want) in GOOD {
-        assert!(rt; leaves(rt.alloc(), call, want)?);
+    for row in &GOOD {
+        assert!(rt; leaves(rt.alloc(), *row)?);
     }
     Ok(())
 }
@@ -261,12 +264,12 @@ fn is_refused(
     alloc: Global,
     owner: Key,
     (before, listed, input): Call,
-    want: LoaderFault,
+    want: &LoaderFault,
 ) -> Result<bool, OutOfMemory> {
     Ok(
         match answer(alloc, owner, joined(alloc, before)?, listed, input) {
             Ok(_) => false,
-            Err(fault) => fault == want,
+            Err(fault) => fault == *want,
         },
     )
 }
@@ -383,8 +386,8 @@ const REFUSED: [(Call, LoaderFault); 20] = [
 
 #[test]
 fn the_first_refusal_is_the_answer(rt: HostRuntime) -> Result<(), Fail> {
-    for (call, fault) in REFUSED {
-        assert!(rt; is_refused(rt.alloc(), LOADER_PROGRAM, call, fault)?);
+    for row in &REFUSED {
+        assert!(rt; is_refused(rt.alloc(), LOADER_PROGRAM, row.0, &row.1)?);
     }
     Ok(())
 }
@@ -397,8 +400,8 @@ const OVER_ANOTHER: [Call; 2] = [
 
 #[test]
 fn an_account_of_another_program_is_refused(rt: HostRuntime) -> Result<(), Fail> {
-    for call in OVER_ANOTHER {
-        assert!(rt; is_refused(rt.alloc(), Key(OTHER), call, FOREIGN)?);
+    for call in &OVER_ANOTHER {
+        assert!(rt; is_refused(rt.alloc(), Key(OTHER), *call, &FOREIGN)?);
     }
     Ok(())
 }

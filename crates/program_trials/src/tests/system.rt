@@ -168,10 +168,10 @@ fn are_left(accounts: &[Arc<Account>], want: &Left) -> bool {
 }
 
 /// Whether the answer is this refusal.
-fn is_refusal(answer: Result<Items<Arc<Account>>, SystemFault>, want: SystemFault) -> bool {
+fn is_refusal(answer: Result<Items<Arc<Account>>, SystemFault>, want: &SystemFault) -> bool {
     match answer {
         Ok(_) => false,
-        Err(fault) => fault == want,
+        Err(fault) => fault == *want,
     }
 }
 
@@ -209,7 +209,7 @@ fn a_failed_second_instruction(rt: HostRuntime) -> Result<(), Fail> {
     assert!(rt; are_left(after.as_slice(), &(1_999_099_120, 890_880, PROGRAM, 0)));
     let before = pair(rt.alloc(), 1_999_099_120, 890_880, &[])?;
     let answer = run(rt.alloc(), &EXAMPLE_KEYS, &before, FIRST, &[TRANSFER, MUCH]);
-    assert!(rt; is_refusal(answer, POOR));
+    assert!(rt; is_refusal(answer, &POOR));
     Ok(())
 }
 
@@ -266,11 +266,16 @@ const GOOD: [(Call, Left); 8] = [
     ),
 ];
 
+/// Whether an instruction leaves the two accounts so.
+fn leaves(alloc: Global, call: Call, want: &Left) -> Result<bool, SystemFault> {
+    let after = run_call(alloc, call)?;
+    Ok(are_left(after.as_slice(), want))
+}
+
 #[test]
 fn each_instruction_ends_well(rt: HostRuntime) -> Result<(), Fail> {
-    for (call, left) in GOOD {
-        let after = run_call(rt.alloc(), call)?;
-        assert!(rt; are_left(after.as_slice(), &left));
+    for row in &GOOD {
+        assert!(rt; leaves(rt.alloc(), row.0, &row.1)?);
     }
     Ok(())
 }
@@ -342,8 +347,8 @@ const REFUSED: [(Call, SystemFault); 15] = [
 
 #[test]
 fn each_refusal_comes(rt: HostRuntime) {
-    for (call, fault) in REFUSED {
-        assert!(rt; is_refusal(run_call(rt.alloc(), call), fault));
+    for row in &REFUSED {
+        assert!(rt; is_refusal(run_call(rt.alloc(), row.0), &row.1));
     }
 }
 
@@ -370,7 +375,7 @@ const ALONE: [(Pieces, SystemFault); 2] = [
 
 #[test]
 fn data_come_before_accounts(rt: HostRuntime) {
-    for (pieces, fault) in ALONE {
-        assert!(rt; is_refusal(run_alone(rt.alloc(), pieces), fault));
+    for row in &ALONE {
+        assert!(rt; is_refusal(run_alone(rt.alloc(), row.0), &row.1));
     }
 }
