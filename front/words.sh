@@ -134,13 +134,6 @@ overview_of_chains() {
   printf '\n  bank help chain COMMAND    its arguments, their values, the statuses and an example\n'
 }
 
-# How a command is written, in short.
-usage() {
-  printf 'usage: bank %s\n' "$use"
-  meanings
-  printf "bank help %s says more\n" "$1"
-}
-
 # distance A B: how many letters are to be changed, added, left out or exchanged with the next.
 distance() {
   local a=$1 b=$2 i j least
@@ -177,11 +170,11 @@ nearest() {
   printf %s "$best"
 }
 
-# meant WORD NAME..: a question with the nearest name, or nothing.
+# meant WORD NAME..: a question with the nearest name in brackets, or nothing.
 meant() {
   local name
   name=$(nearest "$@")
-  printf %s "${name:+; did you mean $name?}"
+  printf %s "${name:+ (did you mean $name?)}"
 }
 
 # is_number TEXT LEAST MOST: decimal digits for a number in this range, which may need 64 bits.
