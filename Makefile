@@ -24,7 +24,7 @@ install: uninstall
 	./bank --sources > "$(library)/program/sources"
 	install bank "$(library)/bank"
 	install front/pages "$(library)/front/pages"
-	install -m 644 front/programs.sh front/words.sh front/groups front/statuses front/version "$(library)/front"
+	install -m 644 front/programs.sh front/words.sh front/running.sh front/groups front/statuses front/version "$(library)/front"
 	install -m 644 front/commands/* "$(library)/front/commands"
 	cp -R sdk LICENSE "$(library)"
 	ln -s ../lib/zarbulex/bank "$(root)/bin/bank"
