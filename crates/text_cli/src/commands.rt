@@ -3,6 +3,7 @@ use crate::build::built;
 use crate::compared::compared;
 use crate::files::{not_written, standard_input};
 use crate::json::{told_bytes, told_json};
+use crate::kinds::other_kind;
 use crate::shape::shaped;
 use crate::why::explained;
 use block_record::{RecordFault, read_front};
@@ -13,7 +14,7 @@ use sol_base::{Key, OutOfMemory};
 use std::alloc::Global;
 use std::rt::Files;
 use text_views::{Split, split_output, view_account, view_entry};
-use text_words::{Sought, TextCommand, USAGE};
+use text_words::{Form, Sought, TextCommand, USAGE};
 use whole_files::{NewFile, write_files};
 
 /// The answer to a command.
@@ -54,6 +55,15 @@ pub(crate) fn answer_command<R: Files + Input + AllocGlobal>(
     }
 }
 
+/// The answer where no record stands at the front.
+fn no_record(alloc: Global, bytes: &[u8], fault: &RecordFault) -> Result<Answer, OutOfMemory> {
+    let text = match other_kind(alloc, Form::Record, bytes)? {
+        Some(text) => text,
+        None => fault.to_string(alloc)?,
+    };
+    noted(alloc, INPUT_REFUSED, "record", text.as_str())
+}
+
 /// Writes the two parts of what `produce` wrote.
 fn parted<R: Files + AllocGlobal>(
     rt: &R,
@@ -64,10 +74,7 @@ fn parted<R: Files + AllocGlobal>(
     let alloc = rt.alloc();
     let length = match split_output(alloc, bytes)? {
         Split::Parts { record } => record,
-        Split::NoRecord(fault) => {
-            let text = fault.to_string(alloc)?;
-            return noted(alloc, INPUT_REFUSED, "record", text.as_str());
-        }
+        Split::NoRecord(fault) => return no_record(alloc, bytes, &fault),
         Split::NoSnapshot(fault) => {
             let text = fault.to_string(alloc)?;
             return noted(alloc, INPUT_REFUSED, "snapshot", text.as_str());

@@ -1,5 +1,6 @@
 //! The commands `json` and `bytes`: bytes as JSON, and back.
 use crate::forms::{FormFault, Missing, bytes_of, missing_text};
+use crate::kinds::other_kind;
 use crate::lines::line_of;
 use bank_json::{Layout, json_of_batch, json_of_image, json_of_record, json_of_snapshot};
 use command_parts::{Answer, INPUT_REFUSED, READ_FAILED, noted, written};
@@ -54,6 +55,22 @@ fn refused(alloc: Global, form: Form, fault: &JsonFault) -> Result<Answer, OutOf
         name_of(form),
         fault.to_string(alloc)?.as_str(),
     )
+}
+
+/// The answer where bytes are refused. What else they are comes before what is wrong with them.
+fn refused_bytes(
+    alloc: Global,
+    form: Form,
+    bytes: &[u8],
+    fault: &JsonFault,
+) -> Result<Answer, OutOfMemory> {
+    if let JsonFault::OutOfMemory = fault {
+        return Err(OutOfMemory);
+    }
+    match other_kind(alloc, form, bytes)? {
+        Some(text) => noted(alloc, INPUT_REFUSED, name_of(form), text.as_str()),
+        None => refused(alloc, form, fault),
+    }
 }
 
 /// A note that the way to a value begins, with the name of the whole before it.
@@ -116,7 +133,7 @@ pub(crate) fn told_json(
             text.push('\n')?;
             written(alloc, text.as_bytes())
         }
-        Err(fault) => refused(alloc, form, &fault),
+        Err(fault) => refused_bytes(alloc, form, bytes, &fault),
     }
 }
 

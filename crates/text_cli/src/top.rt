@@ -1,7 +1,8 @@
 //! From words to the answer.
 use crate::commands::answer_command;
-use command_parts::{Answer, WORDS_REFUSED, lent_words, written};
-use sol_base::{Blob, OutOfMemory};
+use crate::refusal::refused_words;
+use command_parts::{Answer, lent_words, written};
+use sol_base::OutOfMemory;
 use std::rt::Files;
 use text_words::{TextCommand, TextWordsFault, USAGE, VERSION, read_text_words};
 
@@ -15,11 +16,7 @@ pub fn answer_of<R: Files + Input + AllocGlobal>(
         Ok(TextCommand::Help) => written(rt.alloc(), USAGE.as_bytes()),
         Ok(TextCommand::Version) => written(rt.alloc(), VERSION.as_bytes()),
         Ok(command) => answer_command(rt, &command),
-        Err(TextWordsFault::Refused) => Ok(Answer {
-            status: WORDS_REFUSED,
-            output: Blob::new(rt.alloc()),
-            notes: Blob::from_slice(rt.alloc(), USAGE.as_bytes())?,
-        }),
+        Err(TextWordsFault::Refused) => refused_words(rt.alloc(), words.as_slice()),
         Err(TextWordsFault::OutOfMemory) => Err(OutOfMemory),
     }
 }
