@@ -1,8 +1,8 @@
 //! The command `build`: a batch in the short form as bytes.
 use crate::files::file;
 use crate::json::refused_text;
+use crate::readings::snapshot_in;
 use command_parts::{Answer, Given, INPUT_REFUSED, noted, written};
-use snapshot_codec::{SnapshotFault, read_snapshot};
 use sol_base::{Hash32, OutOfMemory};
 use std::alloc::Global;
 use std::rt::Files;
@@ -12,13 +12,9 @@ use text_words::Form;
 
 /// The newest blockhash of the snapshot, or the answer where it is none.
 fn newest_in(alloc: Global, bytes: &[u8]) -> Result<Given<Option<Hash32>>, OutOfMemory> {
-    match read_snapshot(alloc, bytes) {
-        Ok(prefix) => Ok(Given::Value(Some(prefix.snapshot.recent.newest()))),
-        Err(SnapshotFault::OutOfMemory) => Err(OutOfMemory),
-        Err(fault) => {
-            let text = fault.to_string(alloc)?;
-            Ok(Given::Nothing(noted(alloc, INPUT_REFUSED, "snapshot", text.as_str())?))
-        }
+    match snapshot_in(alloc, "snapshot", bytes)? {
+        Given::Value(prefix) => Ok(Given::Value(Some(prefix.snapshot.recent.newest()))),
+        Given::Nothing(told) => Ok(Given::Nothing(told)),
     }
 }
 

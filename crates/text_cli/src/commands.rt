@@ -4,21 +4,22 @@ use crate::compared::compared;
 use crate::files::{not_written, standard_input};
 use crate::json::{told_bytes, told_json};
 use crate::kinds::other_kind;
+use crate::readings::snapshot_in;
 use crate::shape::shaped;
 use crate::why::explained;
 use block_record::{RecordFault, read_front};
 use command_parts::{Answer, DIFFERS, Given, INPUT_REFUSED, noted, path_of, written};
 use message_codec::Signature;
-use snapshot_codec::{SnapshotFault, read_snapshot};
 use sol_base::{Key, OutOfMemory};
 use std::alloc::Global;
+use std::fs::File;
 use std::rt::Files;
 use text_views::{Split, split_output, view_account, view_entry};
 use text_words::{Form, Sought, TextCommand, USAGE};
 use whole_files::{NewFile, write_files};
 
 /// The answer to a command.
-pub(crate) fn answer_command<R: Files + Input + AllocGlobal>(
+pub(crate) fn answer_command<R: Files<File = File> + Input + AllocGlobal>(
     rt: &R,
     command: &TextCommand,
 ) -> Result<Answer, OutOfMemory> {
@@ -65,7 +66,7 @@ fn no_record(alloc: Global, bytes: &[u8], fault: &RecordFault) -> Result<Answer,
 }
 
 /// Writes the two parts of what `produce` wrote.
-fn parted<R: Files + AllocGlobal>(
+fn parted<R: Files<File = File> + AllocGlobal>(
     rt: &R,
     bytes: &[u8],
     record: &str,
@@ -120,13 +121,9 @@ fn viewed(alloc: Global, bytes: &[u8], sought: &Sought) -> Result<Answer, OutOfM
 }
 
 fn viewed_account(alloc: Global, bytes: &[u8], key: &Key) -> Result<Answer, OutOfMemory> {
-    let prefix = match read_snapshot(alloc, bytes) {
-        Ok(prefix) => prefix,
-        Err(SnapshotFault::OutOfMemory) => return Err(OutOfMemory),
-        Err(fault) => {
-            let text = fault.to_string(alloc)?;
-            return noted(alloc, INPUT_REFUSED, "snapshot", text.as_str());
-        }
+    let prefix = match snapshot_in(alloc, "snapshot", bytes)? {
+        Given::Value(prefix) => prefix,
+        Given::Nothing(told) => return Ok(told),
     };
     match view_account(alloc, &prefix.snapshot.accounts, key)? {
         Some(text) => written(alloc, text.as_slice()),

@@ -1,8 +1,8 @@
 //! The command `diff`: two snapshots or two records.
 use crate::files::file;
-use block_record::{Block, RecordFault, read_record};
+use crate::readings::{record_in, snapshot_in};
 use command_parts::{Answer, DIFFERS, Given, INPUT_REFUSED, noted};
-use snapshot_codec::{Prefix, Snapshot, SnapshotFault, read_snapshot};
+use snapshot_codec::{Prefix, Snapshot};
 use sol_base::{Blob, OutOfMemory};
 use std::alloc::Global;
 use std::rt::Files;
@@ -48,30 +48,16 @@ fn told_lines(alloc: Global, lines: Blob) -> Answer {
     }
 }
 
-/// The file's record, or the answer where it is none.
-fn whole_record(alloc: Global, name: &str, bytes: &[u8]) -> Result<Given<Block>, OutOfMemory> {
-    match read_record(alloc, bytes) {
-        Ok(block) => Ok(Given::Value(block)),
-        Err(RecordFault::OutOfMemory) => Err(OutOfMemory),
-        Err(fault) => Ok(Given::Nothing(noted(
-            alloc,
-            INPUT_REFUSED,
-            name,
-            fault.to_string(alloc)?.as_str(),
-        )?)),
-    }
-}
-
 fn compared_records(
     alloc: Global,
     left: (&str, &[u8]),
     right: (&str, &[u8]),
 ) -> Result<Answer, OutOfMemory> {
-    let one = match whole_record(alloc, left.0, left.1)? {
+    let one = match record_in(alloc, left.0, left.1)? {
         Given::Value(block) => block,
         Given::Nothing(told) => return Ok(told),
     };
-    let two = match whole_record(alloc, right.0, right.1)? {
+    let two = match record_in(alloc, right.0, right.1)? {
         Given::Value(block) => block,
         Given::Nothing(told) => return Ok(told),
     };
@@ -80,15 +66,15 @@ fn compared_records(
 
 /// The file's snapshot, or the answer where it is none or other bytes follow it.
 fn whole_snapshot(alloc: Global, name: &str, bytes: &[u8]) -> Result<Given<Snapshot>, OutOfMemory> {
-    let told = match read_snapshot(alloc, bytes) {
-        Ok(Prefix { snapshot, length }) if length == bytes.len() => {
-            return Ok(Given::Value(snapshot));
+    match snapshot_in(alloc, name, bytes)? {
+        Given::Value(Prefix { snapshot, length }) if length == bytes.len() => {
+            Ok(Given::Value(snapshot))
         }
-        Ok(_) => noted(alloc, INPUT_REFUSED, name, "bytes follow the snapshot")?,
-        Err(SnapshotFault::OutOfMemory) => return Err(OutOfMemory),
-        Err(fault) => noted(alloc, INPUT_REFUSED, name, fault.to_string(alloc)?.as_str())?,
-    };
-    Ok(Given::Nothing(told))
+        Given::Value(_) => {
+            Ok(Given::Nothing(noted(alloc, INPUT_REFUSED, name, "bytes follow the snapshot")?))
+        }
+        Given::Nothing(told) => Ok(Given::Nothing(told)),
+    }
 }
 
 fn compared_snapshots(

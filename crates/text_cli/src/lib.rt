@@ -11,6 +11,7 @@ mod kinds;
 mod lines;
 mod picture;
 mod places;
+mod readings;
 mod refusal;
 mod rows;
 mod shape;

@@ -150,28 +150,39 @@ fn about_words<'a>(command: &'a str, words: &[&'a str]) -> Complaint<'a> {
     }
 }
 
-fn add(out: &mut Blob, texts: &[&str]) -> Result<(), OutOfMemory> {
-    for text in texts {
-        out.append(text.as_bytes())?;
+fn add(out: &mut Blob, text: &str) -> Result<(), OutOfMemory> {
+    out.append(text.as_bytes())
+}
+
+/// Adds the complaint behind the word that it is about.
+fn add_complaint(out: &mut Blob, about: Complaint<'_>) -> Result<(), OutOfMemory> {
+    if !about.word.is_empty() {
+        add(out, "`")?;
+        add(out, about.word)?;
+        add(out, "` ")?;
     }
-    Ok(())
+    add(out, about.text)?;
+    add(out, "\n")
 }
 
 /// A line with the complaint, and one with the usage of the command.
 fn lines(alloc: Global, command: &str, about: Complaint<'_>) -> Result<Blob, OutOfMemory> {
     let mut out = Blob::new(alloc);
-    let usage = words_of(command);
-    let subject = if usage.is_some() { command } else { "bank" };
-    if about.word.is_empty() {
-        add(&mut out, &[subject, ": ", about.text, "\n"])?;
-    } else {
-        add(
-            &mut out,
-            &[subject, ": `", about.word, "` ", about.text, "\n"],
-        )?;
-    }
-    let usage = usage.unwrap_or("json|bytes|build|split|view|diff|shape|why WORDS..");
-    add(&mut out, &["usage: bank ", usage, "\n"])?;
+    let usage = match words_of(command) {
+        Some(usage) => {
+            add(&mut out, command)?;
+            usage
+        }
+        None => {
+            add(&mut out, "bank")?;
+            "json|bytes|build|split|view|diff|shape|why WORDS.."
+        }
+    };
+    add(&mut out, ": ")?;
+    add_complaint(&mut out, about)?;
+    add(&mut out, "usage: bank ")?;
+    add(&mut out, usage)?;
+    add(&mut out, "\n")?;
     Ok(out)
 }
 

@@ -10,6 +10,7 @@ use command_parts::{Answer, INPUT_REFUSED, noted, written};
 use snapshot_codec::{Batch, BatchFault, Snapshot, SnapshotFault, read_batch, read_snapshot};
 use sol_base::{Blob, OutOfMemory, key_text};
 use std::alloc::Global;
+use std::fs::File;
 use std::rt::Files;
 use whole_files::{NewFile, write_files};
 
@@ -43,7 +44,7 @@ fn shape_text(
 }
 
 /// The shape of the batch after the snapshot, and its picture where a file is named.
-fn shape_answer<R: Files + AllocGlobal>(
+fn shape_answer<R: Files<File = File> + AllocGlobal>(
     rt: &R,
     snapshot: &Snapshot,
     batch: &Batch,
@@ -78,7 +79,7 @@ fn shape_answer<R: Files + AllocGlobal>(
 }
 
 /// The answer to `shape`: a snapshot and a batch after it.
-pub(crate) fn shaped<R: Files + AllocGlobal>(
+pub(crate) fn shaped<R: Files<File = File> + AllocGlobal>(
     rt: &R,
     bytes: &[u8],
     file: Option<&str>,

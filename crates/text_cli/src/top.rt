@@ -3,11 +3,12 @@ use crate::commands::answer_command;
 use crate::refusal::refused_words;
 use command_parts::{Answer, lent_words, written};
 use sol_base::OutOfMemory;
+use std::fs::File;
 use std::rt::Files;
 use text_words::{TextCommand, TextWordsFault, USAGE, VERSION, read_text_words};
 
 /// The answer to the words.
-pub fn answer_of<R: Files + Input + AllocGlobal>(
+pub fn answer_of<R: Files<File = File> + Input + AllocGlobal>(
     rt: &R,
     texts: &[String],
 ) -> Result<Answer, OutOfMemory> {

@@ -1,7 +1,7 @@
 //! A file on its way to its place.
 use crate::owner::take_over;
 use crate::place::{Found, Place, folder_of};
-use std::fs::OpenOptions;
+use std::fs::{File, OpenOptions};
 use std::io::{Error, ErrorKind, Write};
 use std::os::unix::fs::OpenOptionsExt;
 use std::rt::Files;
@@ -88,7 +88,10 @@ impl<'a> Change<'a> {
 
     /// Writes the whole file beside its place. A file that replaces another can be read by nobody
     /// else until it has the other one's mode.
-    pub(crate) fn write_beside<R: Files + AllocGlobal>(&mut self, rt: &R) -> io::Result<()> {
+    pub(crate) fn write_beside<R: Files<File = File> + AllocGlobal>(
+        &mut self,
+        rt: &R,
+    ) -> io::Result<()> {
         let mode = match &self.place.found {
             Found::Device => return Ok(()),
             Found::Nothing => 0o666,

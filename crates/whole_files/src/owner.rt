@@ -1,8 +1,8 @@
 //! What a new file takes over from the one that it replaces.
 use crate::place::folder_of;
-use std::fs::{Metadata, OpenFile};
+use std::fs::{File, Metadata};
 use std::io::{Error, ErrorKind};
-use std::os::unix::fs::{MetadataExt, lchown};
+use std::os::unix::fs::{MetadataExt, fchown};
 use std::rt::Files;
 use std::{fs, io};
 
@@ -20,7 +20,7 @@ fn may_replace(user: u32, folder: &Metadata, file: &Metadata) -> bool {
 pub(crate) fn take_over<R: Files>(
     rt: &R,
     path: &str,
-    file: &R::File,
+    file: &File,
     former: &Metadata,
 ) -> io::Result<()> {
     let new = file.metadata()?;
@@ -29,10 +29,10 @@ pub(crate) fn take_over<R: Files>(
         return Err(Error::from(ErrorKind::PermissionDenied));
     }
     if new.uid() != former.uid() {
-        let _ = lchown(rt, path, Some(former.uid()), None);
+        let _ = fchown(file, Some(former.uid()), None);
     }
     if new.gid() != former.gid() {
-        let _ = lchown(rt, path, None, Some(former.gid()));
+        let _ = fchown(file, None, Some(former.gid()));
     }
     file.set_permissions(former.permissions())
 }

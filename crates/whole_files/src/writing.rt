@@ -1,6 +1,7 @@
 //! Writing files: all of them or none.
 use crate::change::Change;
 use crate::place::{Place, is_one_file, place_of};
+use std::fs::File;
 use std::io;
 use std::io::Error;
 use std::rt::Files;
@@ -60,7 +61,7 @@ fn changes_of<'a, R: Files + AllocGlobal>(
 }
 
 /// Writes all that can be taken back.
-fn prepare<'a, R: Files + AllocGlobal>(
+fn prepare<'a, R: Files<File = File> + AllocGlobal>(
     rt: &R,
     changes: &mut [Change<'a>],
 ) -> Result<(), FileFault<'a>> {
@@ -93,7 +94,7 @@ fn put<'a, R: Files + AllocGlobal>(
     Ok(())
 }
 
-fn carry_out<'a, R: Files + AllocGlobal>(
+fn carry_out<'a, R: Files<File = File> + AllocGlobal>(
     rt: &R,
     changes: &mut [Change<'a>],
 ) -> Result<(), FileFault<'a>> {
@@ -106,7 +107,7 @@ fn carry_out<'a, R: Files + AllocGlobal>(
 /// under a name that nothing has, and moved there once all are written; a link stays and what it
 /// points to is replaced, with its mode. Devices, pipes and sockets are written into. Nothing is left
 /// behind where it fails.
-pub fn write_files<'a, R: Files + AllocGlobal>(
+pub fn write_files<'a, R: Files<File = File> + AllocGlobal>(
     rt: &R,
     files: &[NewFile<'a>],
 ) -> Result<(), FileFault<'a>> {
