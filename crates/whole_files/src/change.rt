@@ -134,7 +134,8 @@ impl<'a> Change<'a> {
         }
         Ok(())
     }
-    /// Undoes what was done, as far as it was done beside and in the place.
+
+    /// Undoes what was done beside the place and in it.
     pub(crate) fn undo<R: Files>(&self, rt: &R) {
         match (&self.former, &self.place.found) {
             (Some(former), _) if self.is_there => {
