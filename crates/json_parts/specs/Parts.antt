@@ -1,7 +1,8 @@
 -- What the values of JSON texts stand for: numbers, flags, digits, members and lists.
-use Rattle.std.specs.Prelude.{ℕ, ◌+◌, List, [], ◌∷◌, ◌++◌, length, nat_le, bytes_eq, is_some, codes, Bool, if◌then◌else◌, ◌&&◌, Option, Some, None, option_and_then, ok_or, Ok, Err}
+use Rattle.std.specs.Prelude.{ℕ, ◌+◌, List, [], ◌∷◌, ◌++◌, length, nat_lt, nat_le, bytes_eq, is_some, codes, Bool, if◌then◌else◌, ◌&&◌, Option, Some, None, option_and_then, ok_or, Ok, Err}
 use Rattle.std.specs.Result.{result_ok}
-use Rattle.std.specs.List.{list_any}
+use Rattle.std.specs.List.{list_all, list_any}
+use Rattle.std.specs.Char.{is_ascii_hexdigit}
 use Rattle.spec_base.specs.Reading.{◌>>=◌}
 use Rattle.hex.specs.Hex.{decode_sized, decode_of}
 use Rattle.base64.specs.Engines.{standard}
@@ -10,7 +11,7 @@ use Rattle.serde_json.specs.Data.{Data, Members, no_members, member, Items, no_i
 use Rattle.serde_json.specs.Find.{get, as_number, as_u64, as_bool, as_str, as_array, as_object}
 use Rattle.json_parts.specs.declared.fault.Step.TheVariants.{Member, Item}
 use Rattle.json_parts.specs.declared.fault.Wanted.{Wanted}
-use Rattle.json_parts.specs.declared.fault.Wanted.TheVariants.{Object, Array, Number, Digits, Bytes, Flag, Presence, Absence}
+use Rattle.json_parts.specs.declared.fault.Wanted.TheVariants.{Object, Array, Number, Digits, DigitCount, Bytes, Flag, Presence, Absence}
 use Rattle.json_parts.specs.declared.fault.JsonFault.TheVariants.{Refused}
 use Rattle.json_parts.specs.Faults.{Read, within}
 
@@ -29,11 +30,20 @@ number_in least most d =
     (option_and_then (if_between least most) (option_and_then as_u64 (as_number d)))
     (Number least most)
 
+-- hexadecimal digits, in either case, and nothing else
+abbrev pub is_digits : List ℕ → Bool
+is_digits text = nat_lt 0 (length text) && list_all is_ascii_hexdigit text
+
+-- what is wanted in place of a text that stands for no so many bytes
+abbrev pub digits_wanted : ℕ → List ℕ → Wanted
+digits_wanted count text =
+    if is_digits text then DigitCount count (length text) else Digits count
+
 -- so many bytes as hexadecimal digits, in either case
 unfoldable pub digits_in : ℕ → Data → Read (List ℕ)
-digits_in count d =
-    or_refused (option_and_then (λ text. result_ok (decode_sized text count)) (as_str d))
-    (Digits count)
+digits_in count d = do
+  text ← or_refused (as_str d) (Digits count)
+  or_refused (result_ok (decode_sized text count)) (digits_wanted count text)
 
 unfoldable pub flag_in : Data → Read Bool
 flag_in d = or_refused (as_bool d) Flag

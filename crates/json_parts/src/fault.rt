@@ -29,6 +29,10 @@ pub enum Wanted {
     Number { least: u64, most: u64 },
     /// Two hexadecimal digits for each of so many bytes.
     Digits { bytes: usize },
+    /// Two hexadecimal digits for each of so many bytes, where another number of them was found.
+    DigitCount { bytes: usize, found: usize },
+    /// 64 hexadecimal digits, or a name.
+    KeyOrName,
     /// No more bytes than these, in one of their spellings.
     Bytes { most: usize },
     /// True or false.

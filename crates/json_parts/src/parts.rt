@@ -1,10 +1,11 @@
 //! The values of a JSON text: numbers, flags, digits and members.
 ghost use Rattle.std.specs.Prelude.{◌≡◌, ◌≤◌, IfOk, bytes_eq, map};
-ghost use Rattle.std.specs.List.{list_any};
+ghost use Rattle.std.specs.List.{list_all, list_any};
+ghost use Rattle.std.specs.Char.{is_ascii_hexdigit};
 ghost use Rattle.spec_base.specs.Reading.{Gives};
 ghost use Rattle.serde_json.specs.View.{view, members_view};
 ghost use Rattle.json_parts.specs.Faults.{is_json_memory};
-ghost use Rattle.json_parts.specs.Parts.{number_in, digits_in, flag_in, found_in, member_in, names_in, known_in};
+ghost use Rattle.json_parts.specs.Parts.{number_in, is_digits, digits_wanted, digits_in, flag_in, found_in, member_in, names_in, known_in};
 
 use crate::fault::{JsonFault, Wanted, in_member, refused, refused_member};
 use hex::FromHex;
@@ -33,7 +34,33 @@ fn flag(alloc: Global, value: &Value) -> Result<bool, JsonFault>
     }
 }
 
-/// The bytes that hexadecimal digits stand for.
+fn are_digits(text: &[u8]) -> bool
+    ensures { result ≡ list_all is_ascii_hexdigit text.now }
+{
+    text.iter().all(|byte| byte.is_ascii_hexdigit())
+}
+
+/// Whether the text has hexadecimal digits, in either case, and nothing else.
+pub fn is_digits(text: &str) -> bool
+    ensures { result ≡ is_digits text.now }
+{
+    !text.is_empty() && are_digits(text.as_bytes())
+}
+
+/// What is wanted in place of a text that stands for no so many bytes.
+fn digits_wanted(text: &str, bytes: usize) -> Wanted
+    ensures { result ≡ digits_wanted bytes text.now }
+{
+    if is_digits(text) {
+        let found = text.len();
+        Wanted::DigitCount { bytes, found }
+    } else {
+        Wanted::Digits { bytes }
+    }
+}
+
+/// The bytes that hexadecimal digits stand for. Where the text has digits alone, but another number of
+/// them, the refusal has their number.
 #[tactic(auto, unfolding(crate::specs::Parts::digits_in))]
 pub fn digits<const N: usize>(alloc: Global, value: &Value) -> Result<[u8; N], JsonFault>
     ensures { Gives is_json_memory (λ bytes. bytes) result (digits_in N (view value.now)) }
@@ -41,7 +68,7 @@ pub fn digits<const N: usize>(alloc: Global, value: &Value) -> Result<[u8; N], J
     match value.as_str() {
         Some(text) => match <[u8; N] as FromHex>::from_hex(text) {
             Ok(bytes) => Ok(bytes),
-            Err(_) => Err(refused(alloc, Wanted::Digits { bytes: N })),
+            Err(_) => Err(refused(alloc, digits_wanted(text, N))),
         },
         None => Err(refused(alloc, Wanted::Digits { bytes: N })),
     }

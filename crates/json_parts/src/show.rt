@@ -12,11 +12,20 @@ impl fmt::Display for Wanted {
                 write!(f, "a number of {least} to {most} is wanted")
             }
             Wanted::Digits { bytes } => {
+                let wanted = bytes.saturating_mul(2);
+                write!(f, "{wanted} hexadecimal digits are wanted")
+            }
+            Wanted::DigitCount { bytes, found } => {
+                let wanted = bytes.saturating_mul(2);
                 write!(
                     f,
-                    "two hexadecimal digits for each of {bytes} bytes are wanted"
+                    "{wanted} hexadecimal digits are wanted, {found} stand here"
                 )
             }
+            Wanted::KeyOrName => write!(
+                f,
+                "64 hexadecimal digits, or a name of up to 31 letters, digits, _, - and . that begins with a letter, are wanted"
+            ),
             Wanted::Bytes { most } => write!(f, "at most {most} bytes are wanted"),
             Wanted::Flag => write!(f, "true or false is wanted"),
             Wanted::Text => write!(f, "a text is wanted"),

@@ -1,6 +1,8 @@
 -- What JSON in the short form stands for is read as a batch.
 use Rattle.std.proofs.Common.{◌≡◌, ◌≤◌, ◌+◌, ◌-◌, ◌^◌, ℕ, List, [], ◌∷◌, ◌++◌, length, All, Option, Some, None, Result, Ok, Err, Bool, true, false, if◌then◌else◌, ◌&&◌, refl, sym, ap, subst, ◌∙◌, arith, lit≤}
-use Rattle.std.specs.Prelude.{IfOk, nat_le, option_and_then, codes}
+use Rattle.std.specs.Prelude.{IfOk, IfSome, nat_le, bytes_eq, option_map, option_and_then, codes}
+use Rattle.std.specs.Option.{option_or}
+use Rattle.std.specs.Result.{result_ok}
 use Rattle.std.specs.List.{AllByRecursion}
 use Rattle.std.proofs.lemmas.Bool.{and_parts}
 use Rattle.std.proofs.lemmas.Bool.Decides.{nat_tests}
@@ -10,12 +12,14 @@ use Rattle.hex.specs.declared.error.FromHexError.{FromHexError}
 use Rattle.hex.proofs.HexLemmas.{decode_sized-ok, decode_sized-twice, decode_of-ok}
 use Rattle.sha2.proofs.Facts256.{length-sha256}
 use Rattle.spec_base.specs.Bytes.{max_count}
+use Rattle.spec_base.specs.Sha256.{sha256}
 use Rattle.spec_base.specs.Reading.{Gives}
 use Rattle.spec_base.proofs.Binding.{bind_ok, ok_same}
 use Rattle.serde_json.specs.Data.{Data, Items}
 use Rattle.serde_json.specs.Find.{as_number, as_u64, as_array}
 use Rattle.sol_base.specs.declared.key.Key.{Key}
 use Rattle.sol_base.specs.declared.key.Hash32.{Hash32}
+use Rattle.sol_base.specs.declared.key.TheConstants.{SYSTEM_PROGRAM, LOADER_PROGRAM, COMPUTE_BUDGET_PROGRAM}
 use Rattle.sol_base.specs.Keys.{IsKey}
 use Rattle.sol_base.specs.Limits.{max_transactions}
 use Rattle.message_codec.specs.declared.message.Message.{Message}
@@ -34,7 +38,7 @@ use Rattle.json_parts.specs.declared.fault.Wanted.{Wanted}
 use Rattle.json_parts.specs.declared.fault.Wanted.TheVariants.{Number, Array}
 use Rattle.json_parts.specs.Faults.{Read, is_json_memory, within}
 use Rattle.json_parts.specs.Parts.{or_refused, if_between, number_in, found_in, member_in, known_in, data_of, if_few, items_in, array_in}
-use Rattle.text_short.specs.Names.{key_by, named_key}
+use Rattle.text_short.specs.Names.{is_name, program_named, key_of_digits, key_of_name, key_wanted, named_key}
 use Rattle.text_short.specs.Members.{text_in, key_in, lone, list_of}
 use Rattle.text_short.specs.ShortForm.{draft_in, wire_by, transaction_in, batch_names, short_batch_in}
 use Rattle.text_short.specs.Laws.{BuiltBatchesAreRead}
@@ -79,15 +83,39 @@ decoded text bytes h =
     let facts = decode_of-ok text bytes (sym (decode_sized-twice text 32 long) ∙ h) in
     omega (arith, long, facts.2)
 
-key_of : (r : Result (List ℕ) FromHexError) (text : List ℕ) → ((bytes : List ℕ) → r ≡ Ok bytes → length bytes ≡ 32) → IsKey (key_by r text)
-key_of (Ok bytes) text long = long bytes refl
-key_of (Err e) text long = length-sha256 text
+program_long : (system loader budget : Bool) → IfSome (if system then Some SYSTEM_PROGRAM else (if loader then Some LOADER_PROGRAM else (if budget then Some COMPUTE_BUDGET_PROGRAM else None))) IsKey
+program_long true loader budget = refl
+program_long false true budget = refl
+program_long false false true = refl
+program_long false false false = tt
+
+digits_long : (r : Result (List ℕ) FromHexError) → ((bytes : List ℕ) → r ≡ Ok bytes → length bytes ≡ 32) → IfSome (option_map (λ bytes. (let key : Key = record { 0 = bytes } in key)) (result_ok r)) IsKey
+digits_long (Ok bytes) long = long bytes refl
+digits_long (Err e) long = tt
+
+name_long : (b : Bool) (text : List ℕ) → IfSome (if b then Some (let key : Key = record { 0 = sha256 text } in key) else None) IsKey
+name_long true text = length-sha256 text
+name_long false text = tt
+
+first_long : (one other : Option Key) → IfSome one IsKey → IfSome other IsKey → IfSome (option_or one other) IsKey
+first_long (Some key) other long others = long
+first_long None other long others = others
+
+read_long : (found : Option Key) (wanted : Wanted) (key : Key) → IfSome found IsKey → or_refused found wanted ≡ Ok key → IsKey key
+read_long (Some found) wanted key long h = subst IsKey (ok_same found key h) long
+read_long None wanted key long h = absurd (cc)
+
+named_long : (text : List ℕ) (key : Key) → named_key text ≡ Ok key → IsKey key
+unfolding named_key program_named
+named_long text key h =
+    let programs = program_long (bytes_eq (codes "system") text) (bytes_eq (codes "loader") text) (bytes_eq (codes "budget") text) in
+    let digits = digits_long (decode_sized text 32) (decoded text) in
+    let others = first_long (key_of_digits text) (key_of_name text) digits (name_long (is_name text) text) in
+    read_long (option_or (program_named text) (option_or (key_of_digits text) (key_of_name text))) (key_wanted text) key (first_long (program_named text) (option_or (key_of_digits text) (key_of_name text)) programs others) h
 
 key_long : (d : Data) (key : Key) → key_in d ≡ Ok key → IsKey key
 unfolding key_in
-key_long d key h =
-    let a = bind_ok (text_in d) _ key h in
-    subst IsKey (ok_same (named_key a.0) key a.2) (key_of (decode_sized a.0 32) a.0 (decoded a.0))
+key_long d key h = let a = bind_ok (text_in d) _ key h in named_long a.0 key a.2
 
 -- ---- lists
 

@@ -19,7 +19,7 @@ text_in d = or_refused (as_str d) Text
 unfoldable pub key_in : Data → Read Key
 key_in d = do
   text ← text_in d
-  Ok (named_key text)
+  named_key text
 
 -- what one item stands for, as a list of one
 abbrev pub lone : {X : Type 0} → (Data → Read X) → Data → Read (List X)

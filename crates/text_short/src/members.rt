@@ -41,13 +41,13 @@ pub(crate) fn text_member<'a>(
     }
 }
 
-/// A key by its digits or its name.
+/// A key, as `named_key` reads its text.
 #[tactic(auto, unfolding(crate::specs::Members::key_in))]
 fn key(alloc: Global, value: &Value) -> Result<Key, JsonFault>
     ensures { Gives is_json_memory (λ x. x) result (key_in (view value.now)) }
 {
     let text = text(alloc, value)?;
-    Ok(named_key(text))
+    named_key(alloc, text)
 }
 
 /// Lists of keys.
