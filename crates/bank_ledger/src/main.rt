@@ -2,20 +2,8 @@
 //! folder of files, the output to standard output, notes to standard error.
 #![tactic(auto)]
 
-mod add;
-mod begin;
-mod chain;
-mod check;
-mod clock;
-mod commands;
-mod export;
-mod input;
-mod lines;
-mod reads;
-mod replaying;
-
 use command_parts::{OUT_OF_MEMORY, words_after_name, write_answer};
-use commands::answer_words;
+use ledger_cli::answer_words;
 use sol_base::OutOfMemory;
 use sol_io::StdSink;
 use std::io::IsTerminal;

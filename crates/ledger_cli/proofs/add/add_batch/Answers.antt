@@ -1,8 +1,8 @@
 use Rattle.std.proofs.Common.{sym, subst}
 use Rattle.ledger_store.specs.declared.opening.Ledger.{Ledger}
 use Rattle.ledger_store.specs.Adding.{Follows}
-use Rattle.bank_ledger.proofs.Nexts.{nothing_added, opened_added, result_follows, result_readable}
-use Rattle.bank_ledger.proofs.add.add_batch.Goals as goal
+use Rattle.ledger_cli.proofs.Nexts.{nothing_added, opened_added, result_follows, result_readable}
+use Rattle.ledger_cli.proofs.add.add_batch.Goals as goal
 
 pub returns-in_err-ran-clause-any_moment : goal.returns-in_err-ran-clause-any_moment
 returns-in_err-ran-clause-any_moment g c done had has = nothing_added c.args.opening.ledger c.args.batch.now (g.F.Folder.events c.args.files.now) (c.requires.opening c.args.opening.ledger done)

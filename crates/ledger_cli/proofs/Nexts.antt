@@ -18,7 +18,7 @@ use Rattle.ledger_store.specs.declared.opening.Ledger.{Ledger}
 use Rattle.ledger_store.specs.Adding.{Follows, IsBeforeOrAfter}
 use Rattle.ledger_store.specs.Reading.{IsOpen}
 use Rattle.ledger_store.proofs.Survived.{unchanged}
-use Rattle.bank_ledger.specs.Batches.{IsWithBatchOrNot}
+use Rattle.ledger_cli.specs.Batches.{IsWithBatchOrNot}
 
 block_follows : (s : Snapshot) (batch : Batch) → Follows s (block_result s batch).block (block_result s batch).after
 unfolding block_result closed

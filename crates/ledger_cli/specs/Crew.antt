@@ -1,7 +1,7 @@
 -- What runs a block (the project's own).
 use Rattle.std.specs.Prelude.{◌≤◌}
 use Rattle.sol_base.specs.Limits.{max_lanes, max_senders}
-use Rattle.bank_ledger.specs.declared.add.Crew.{Crew}
+use Rattle.ledger_cli.specs.declared.add.Crew.{Crew}
 
 -- as many lanes and senders as there may be
 pub record IsCrew (crew : Crew) : Type 0 where

@@ -2,7 +2,7 @@
 ghost use Rattle.std.specs.Prelude.{◌≡◌, ◌≤◌, IfOk, Ok};
 ghost use Rattle.snapshot_codec.specs.Snapshot.{BeginsWith, IsReadable};
 ghost use Rattle.snapshot_codec.specs.SnapshotReading.{prefix_of};
-ghost use Rattle.bank_ledger.specs.Given.{IfValue, IsReadWhole};
+ghost use Rattle.ledger_cli.specs.Given.{IfValue, IsReadWhole};
 
 use crate::chain::{locked, refused};
 use crate::input::standard_input;

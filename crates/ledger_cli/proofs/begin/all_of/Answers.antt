@@ -1,7 +1,7 @@
 use Rattle.std.proofs.Common.{◌≡◌, ℕ, length, Result, Ok, ap, ◌∙◌, arith}
 use Rattle.snapshot_codec.specs.declared.fault.SnapshotFault.{SnapshotFault}
 use Rattle.snapshot_codec.specs.declared.snapshot.Prefix.{Prefix}
-use Rattle.bank_ledger.proofs.begin.all_of.Goals as goal
+use Rattle.ledger_cli.proofs.begin.all_of.Goals as goal
 
 pub returns-clause-whole : goal.returns-clause-whole
 returns-clause-whole c =

@@ -98,7 +98,7 @@ fn answer_command<R: Files + Input + Clock + AllocGlobal + Clone + Drop, T: Thre
 }
 
 /// The answer to the words.
-pub(crate) fn answer_words<
+pub fn answer_words<
     R: Files + Input + Clock + AllocGlobal + Clone + Drop,
     T: Threads + Wait + Sync,
 >(

@@ -11,8 +11,8 @@ ghost use Rattle.block_run.specs.Answers.{IsBlockResult};
 ghost use Rattle.block_run.specs.Blocks.{block_result};
 ghost use Rattle.ledger_folder.specs.Crash.{LeavesOnly};
 ghost use Rattle.ledger_store.specs.Watching.{IsOpening, finished};
-ghost use Rattle.bank_ledger.specs.Batches.{IsWithBatchOrNot};
-ghost use Rattle.bank_ledger.specs.Crew.{IsCrew};
+ghost use Rattle.ledger_cli.specs.Batches.{IsWithBatchOrNot};
+ghost use Rattle.ledger_cli.specs.Crew.{IsCrew};
 
 use crate::chain::{copied, locked, refused};
 use crate::clock::{now, since};

@@ -1,0 +1,16 @@
+//! The commands for chains: words and an input in, a folder of files, and an answer out.
+#![tactic(auto)]
+
+mod add;
+mod begin;
+mod chain;
+mod check;
+mod clock;
+mod commands;
+mod export;
+mod input;
+mod lines;
+mod reads;
+mod replaying;
+
+pub use commands::answer_words;
