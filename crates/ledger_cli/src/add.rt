@@ -111,8 +111,9 @@ fn run_batch<R: Clock + AllocGlobal, T: Threads + Wait + Sync>(
 }
 
 /// The answer once a block was to be added: its line, or why it was not.
-fn told(
-    alloc: Global,
+fn told<R: Files + AllocGlobal>(
+    rt: &R,
+    folder: &str,
     added: Result<(), LedgerFault>,
     block: &Block,
     unrun: &[Refused],
@@ -120,8 +121,9 @@ fn told(
 ) -> Result<Answer, OutOfMemory>
     requires { IsCounted block.now }
 {
+    let alloc = rt.alloc();
     if let Err(fault) = added {
-        return refused(alloc, WRITE_FAILED, fault);
+        return refused(rt, WRITE_FAILED, folder, fault);
     }
     let line = added_line(alloc, block, unrun.len(), times)?;
     Ok(Answer {
@@ -142,9 +144,10 @@ fn has_room(after: &Snapshot) -> bool
 /// Runs a batch over the newest state of a chain, and adds the block once the chain's files are known to
 /// be what was written. Nothing of the block is given back: a user waits for the answer, and the program
 /// ends with it.
-fn add_batch<R: Clock + AllocGlobal, F: Folder, T: Threads + Wait + Sync>(
+fn add_batch<R: Files + Clock + AllocGlobal, F: Folder, T: Threads + Wait + Sync>(
     rt: &R,
     threads: &T,
+    folder: &str,
     files: &mut F,
     opening: Opening,
     batch: &Batch,
@@ -170,7 +173,7 @@ fn add_batch<R: Clock + AllocGlobal, F: Folder, T: Threads + Wait + Sync>(
     let waits = now(rt);
     let mut ledger = match opening.finish(threads) {
         Ok(ledger) => ledger,
-        Err(fault) => return refused(alloc, READ_FAILED, fault),
+        Err(fault) => return refused(rt, READ_FAILED, folder, fault),
     };
     let open = opened.saturating_add(since(rt, &waits));
     let BlockResult {
@@ -186,7 +189,7 @@ fn add_batch<R: Clock + AllocGlobal, F: Folder, T: Threads + Wait + Sync>(
     let added = add(threads, alloc, files, &mut ledger, &block, after, run);
     let keep = since(rt, &began);
     let times = Times { open, run, keep };
-    let answer = told(alloc, added, &block, unrun.as_slice(), &times)?;
+    let answer = told(rt, folder, added, &block, unrun.as_slice(), &times)?;
     forget((ledger, block, unrun));
     Ok(answer)
 }
@@ -206,21 +209,45 @@ fn open_synced<F: Folder, T: Threads>(
     begin_opening(threads, alloc, files)
 }
 
-/// The answer to a batch that is refused, unless the chain is: its files come before.
-fn refused_batch<T: Threads>(
-    threads: &T,
+/// The slot of a batch, which stands behind its first eight bytes.
+fn slot_in(bytes: &[u8]) -> Option<u64> {
+    let (slot, _) = bytes.get(8..)?.split_first_chunk::<8>()?;
+    Some(u64::from_le_bytes(*slot))
+}
+
+/// Why a batch is refused by a chain whose newest slot is this.
+fn batch_text(
     alloc: Global,
+    bytes: &[u8],
+    newest: u64,
+    fault: BatchFault,
+) -> Result<String, OutOfMemory> {
+    match (fault, slot_in(bytes)) {
+        (BatchFault::SlotNotLater, Some(slot)) => {
+            Ok(format!(in alloc; "slot {slot}: the chain is at slot {newest} already")?)
+        }
+        (fault, _) => Ok(fault.to_string(alloc)?),
+    }
+}
+
+/// The answer to a batch that is refused, unless the chain is: its files come before.
+fn refused_batch<R: Files + AllocGlobal, T: Threads>(
+    rt: &R,
+    threads: &T,
+    folder: &str,
     opening: Opening,
+    bytes: &[u8],
     fault: BatchFault,
 ) -> Result<Answer, OutOfMemory> {
     if let BatchFault::OutOfMemory = fault {
         return Err(OutOfMemory);
     }
+    let newest = opening.ledger.newest.slot;
     if let Err(fault) = opening.finish(threads) {
-        return refused(alloc, READ_FAILED, fault);
+        return refused(rt, READ_FAILED, folder, fault);
     }
-    let text = fault.to_string(alloc)?;
-    noted(alloc, INPUT_REFUSED, "batch", text.as_str())
+    let text = batch_text(rt.alloc(), bytes, newest, fault)?;
+    noted(rt.alloc(), INPUT_REFUSED, "batch", text.as_str())
 }
 
 /// The batch that the bytes are, for a block after a slot.
@@ -247,14 +274,16 @@ fn add_locked<R: Files + Clock + AllocGlobal + Clone + Drop, T: Threads + Wait +
     let mut files = StdFolder::new(rt, folder)?;
     let opening = match open_synced(threads, alloc, &mut files) {
         Ok(opening) => opening,
-        Err(fault) => return refused(alloc, READ_FAILED, fault),
+        Err(fault) => return refused(rt, READ_FAILED, folder, fault),
     };
     let opened = since(rt, &began);
     let batch = match batch_in(alloc, bytes, opening.ledger.newest.slot) {
         Ok(batch) => batch,
-        Err(fault) => return refused_batch(threads, alloc, opening, fault),
+        Err(fault) => return refused_batch(rt, threads, folder, opening, bytes, fault),
     };
-    let answer = add_batch(rt, threads, &mut files, opening, &batch, crew, opened)?;
+    let answer = add_batch(
+        rt, threads, folder, &mut files, opening, &batch, crew, opened,
+    )?;
     forget(batch);
     Ok(answer)
 }

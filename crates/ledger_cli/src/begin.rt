@@ -5,6 +5,7 @@ ghost use Rattle.snapshot_codec.specs.SnapshotReading.{prefix_of};
 ghost use Rattle.ledger_cli.specs.Given.{IfValue, IsReadWhole};
 
 use crate::chain::{locked, refused};
+use crate::failures::unmade;
 use crate::input::standard_input;
 use command_parts::{Answer, Given, INPUT_REFUSED, WRITE_FAILED, noted, written};
 use ledger_folder::{Folder, StdFolder, make_folder};
@@ -12,7 +13,6 @@ use ledger_store::{LedgerFault, create};
 use snapshot_codec::{Prefix, Snapshot, SnapshotFault, read_snapshot};
 use sol_base::OutOfMemory;
 use std::alloc::Global;
-use std::io::ErrorKind;
 use std::rt::Files;
 
 /// The snapshot that the bytes begin with, unless others follow it.
@@ -76,8 +76,7 @@ fn begin<R: Files + AllocGlobal + Clone + Drop>(
     let alloc = rt.alloc();
     match make_folder(rt, folder) {
         Ok(()) => {}
-        Err(e) if e.kind() == ErrorKind::OutOfMemory => return Err(OutOfMemory),
-        Err(_) => return noted(alloc, WRITE_FAILED, "chain", "its folder cannot be made"),
+        Err(e) => return unmade(alloc, folder, e.kind()),
     }
     let _lock = match locked(rt, folder)? {
         Given::Value(lock) => lock,
@@ -86,7 +85,7 @@ fn begin<R: Files + AllocGlobal + Clone + Drop>(
     let mut files = StdFolder::new(rt, folder)?;
     match create_synced(alloc, &mut files, snapshot, every) {
         Ok(()) => written(alloc, b""),
-        Err(fault) => refused(alloc, WRITE_FAILED, fault),
+        Err(fault) => refused(rt, WRITE_FAILED, folder, fault),
     }
 }
 

@@ -2,8 +2,9 @@
 ghost use Rattle.std.specs.Prelude.{◌≡◌, ◌≤◌, IfOk};
 ghost use Rattle.snapshot_codec.specs.Snapshot.{IsReadable};
 
+use crate::failures::failed;
 use command_parts::{Answer, Given, INPUT_REFUSED, READ_FAILED, WRITE_FAILED, noted};
-use ledger_folder::{Folder, FolderLock, LockFault, StdFolder, lock_folder};
+use ledger_folder::{Folder, FolderLock, LockFault, Name, StdFolder, lock_folder};
 use ledger_store::{Head, LedgerFault, copy_snapshot, read_head, read_state};
 use snapshot_codec::Snapshot;
 use sol_base::OutOfMemory;
@@ -52,24 +53,41 @@ pub(crate) fn copied(alloc: Global, snapshot: &Snapshot) -> Result<Snapshot, Out
     Ok(copy)
 }
 
-/// The answer where a file of a chain is not what was written, or the folder fails, which has the
-/// given status.
-pub(crate) fn refused(
-    alloc: Global,
-    status: u8,
-    fault: LedgerFault,
-) -> Result<Answer, OutOfMemory> {
-    let status = match fault {
-        LedgerFault::Failed => status,
-        LedgerFault::OutOfMemory => return Err(OutOfMemory),
-        _ => INPUT_REFUSED,
-    };
-    noted(alloc, status, "chain", fault.to_string(alloc)?.as_str())
+/// The answer where a folder has no chain.
+fn no_chain(alloc: Global, folder: &str) -> Result<Answer, OutOfMemory> {
+    let text = format!(in alloc; "there is no chain (no file {folder}/chain)")?;
+    noted(alloc, INPUT_REFUSED, folder, text.as_str())
 }
 
-/// The same for a chain that is read.
-pub(crate) fn unread(alloc: Global, fault: LedgerFault) -> Result<Answer, OutOfMemory> {
-    refused(alloc, READ_FAILED, fault)
+/// The answer where a file of a chain is not what was written, or the folder fails, which has the
+/// given status.
+pub(crate) fn refused<R: Files + AllocGlobal>(
+    rt: &R,
+    status: u8,
+    folder: &str,
+    fault: LedgerFault,
+) -> Result<Answer, OutOfMemory> {
+    let alloc = rt.alloc();
+    match fault {
+        LedgerFault::OutOfMemory => Err(OutOfMemory),
+        LedgerFault::Missing { name: Name::Chain } => no_chain(alloc, folder),
+        LedgerFault::Failed => failed(rt, status, folder, "one of its files failed"),
+        fault => noted(
+            alloc,
+            INPUT_REFUSED,
+            "chain",
+            fault.to_string(alloc)?.as_str(),
+        ),
+    }
+}
+
+/// The answer where a chain is not read.
+pub(crate) fn unread<R: Files + AllocGlobal>(
+    rt: &R,
+    folder: &str,
+    fault: LedgerFault,
+) -> Result<Answer, OutOfMemory> {
+    refused(rt, READ_FAILED, folder, fault)
 }
 
 /// The answer where the chain has no block of a slot.
@@ -78,18 +96,28 @@ pub(crate) fn no_block(alloc: Global, slot: u64) -> Result<Answer, OutOfMemory> 
     noted(alloc, INPUT_REFUSED, "chain", text.as_str())
 }
 
+/// The answer where a folder is not locked.
+fn unlocked<R: Files + AllocGlobal>(
+    rt: &R,
+    folder: &str,
+    fault: LockFault,
+) -> Result<Answer, OutOfMemory> {
+    let alloc = rt.alloc();
+    let text = fault.to_string(alloc)?;
+    match fault {
+        LockFault::Held => noted(alloc, INPUT_REFUSED, "chain", text.as_str()),
+        LockFault::Failed => failed(rt, WRITE_FAILED, folder, text.as_str()),
+        LockFault::OutOfMemory => Err(OutOfMemory),
+    }
+}
+
 /// The lock of the one who writes, or the answer where there is none to have.
 pub(crate) fn locked<R: Files + AllocGlobal + Clone + Drop>(
     rt: &R,
     folder: &str,
 ) -> Result<Given<FolderLock<R>>, OutOfMemory> {
-    let alloc = rt.alloc();
-    let (status, fault) = match lock_folder(rt, folder) {
-        Ok(lock) => return Ok(Given::Value(lock)),
-        Err(LockFault::OutOfMemory) => return Err(OutOfMemory),
-        Err(LockFault::Held) => (INPUT_REFUSED, LockFault::Held),
-        Err(LockFault::Failed) => (WRITE_FAILED, LockFault::Failed),
-    };
-    let told = noted(alloc, status, "chain", fault.to_string(alloc)?.as_str())?;
-    Ok(Given::Nothing(told))
+    match lock_folder(rt, folder) {
+        Ok(lock) => Ok(Given::Value(lock)),
+        Err(fault) => Ok(Given::Nothing(unlocked(rt, folder, fault)?)),
+    }
 }

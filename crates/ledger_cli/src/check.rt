@@ -9,6 +9,7 @@ use ledger_store::Head;
 use side_by_side::for_each_mut;
 use sol_base::{Blob, OutOfMemory};
 use std::alloc::Global;
+use std::rt::Files;
 use std::sync::Wait;
 use std::sync::atomic::{AtomicBool, AtomicU64};
 use std::thread::Threads;
@@ -25,7 +26,7 @@ pub(crate) struct Wanted {
     pub(crate) shows: bool,
 }
 
-/// How many pieces there are for each of those who replay, so that they end at about the same time.
+/// How many pieces there are for each of those who replay.
 const PIECES: usize = 8;
 
 /// The one who replays, and where it stopped.
@@ -123,16 +124,68 @@ fn differs(alloc: Global, slot: u64, what: &str) -> Result<Answer, OutOfMemory> 
 }
 
 /// The answer where the replay stopped at the block of a slot.
-fn told_stop(alloc: Global, slot: u64, cause: Cause) -> Result<Answer, OutOfMemory> {
+fn told_stop<R: Files + AllocGlobal>(
+    rt: &R,
+    folder: &str,
+    slot: u64,
+    cause: Cause,
+) -> Result<Answer, OutOfMemory> {
+    let alloc = rt.alloc();
     match cause {
         Cause::Record { entry, field } => {
             let what = place_text(alloc, entry, field)?;
             differs(alloc, slot, what.as_str())
         }
         Cause::Kept => differs(alloc, slot, "kept state"),
-        Cause::Refused(fault) => unread(alloc, fault),
+        Cause::Refused(fault) => unread(rt, folder, fault),
         Cause::OutOfMemory => Err(OutOfMemory),
     }
+}
+
+/// Pieces of blocks for so many who replay them: each takes some, so that all end at about the same
+/// time.
+fn piece_of(blocks: usize, jobs: usize) -> usize {
+    blocks.div_ceil(jobs.saturating_mul(PIECES).max(1)).max(1)
+}
+
+/// The answer where all blocks of a range are what a replay gives.
+fn told_match(alloc: Global, range: &Range<'_>) -> Result<Answer, OutOfMemory> {
+    let slots = range.head.slots.as_slice();
+    let count = range.len();
+    let from = slots.get(range.first).copied().unwrap_or(0);
+    let to = slots.get(range.end.saturating_sub(1)).copied().unwrap_or(0);
+    let line = format!(in alloc; "match blocks {count} from {from} to {to}\n")?;
+    written(alloc, line.as_bytes())
+}
+
+/// Replays a range that has blocks.
+fn check_range<T: Threads + Wait + Sync>(
+    rt: &HostRuntime,
+    threads: &T,
+    range: &Range<'_>,
+    jobs: usize,
+) -> Result<Answer, OutOfMemory>
+    requires { 1 ≤ range.now.head.now.every }
+{
+    let stop = replay_range(rt, threads, range, jobs)?;
+    if range.shows {
+        let _ = eprintln!(rt; "");
+    }
+    match stop {
+        Some(Stop { place, cause }) => {
+            let slot = range.head.slots.as_slice().get(place).copied().unwrap_or(0);
+            told_stop(rt, range.folder, slot, cause)
+        }
+        None => told_match(rt.alloc(), range),
+    }
+}
+
+/// The answer where no block is wanted. A chain that has none is as it is to be.
+fn told_none(alloc: Global, head: &Head, wanted: &Wanted) -> Result<Answer, OutOfMemory> {
+    if head.slots.is_empty() && wanted.from.is_none() && wanted.to.is_none() {
+        return written(alloc, b"match blocks 0\n");
+    }
+    noted(alloc, INPUT_REFUSED, "chain", "it has no such blocks")
 }
 
 /// Replays what is wanted of an open chain.
@@ -145,14 +198,9 @@ fn check_chain<T: Threads + Wait + Sync>(
 ) -> Result<Answer, OutOfMemory>
     requires { 1 ≤ head.now.every }
 {
-    let alloc = rt.alloc();
     let (first, end) = wanted_places(head, wanted);
-    let slots = head.slots.as_slice();
-    let (Some(from), Some(to)) = (slots.get(first), slots.get(end.saturating_sub(1))) else {
-        return noted(alloc, INPUT_REFUSED, "chain", "it has no such blocks");
-    };
     if first >= end {
-        return noted(alloc, INPUT_REFUSED, "chain", "it has no such blocks");
+        return told_none(rt.alloc(), head, wanted);
     }
     let jobs = wanted.jobs as usize;
     let range = Range {
@@ -160,26 +208,10 @@ fn check_chain<T: Threads + Wait + Sync>(
         head,
         first,
         end,
-        piece: (end - first)
-            .div_ceil(jobs.saturating_mul(PIECES).max(1))
-            .max(1),
+        piece: piece_of(end - first, jobs),
         shows: wanted.shows,
     };
-    let stop = replay_range(rt, threads, &range, jobs)?;
-    if wanted.shows {
-        let _ = eprintln!(rt; "");
-    }
-    match stop {
-        Some(Stop { place, cause }) => {
-            let slot = slots.get(place).copied().unwrap_or(0);
-            told_stop(alloc, slot, cause)
-        }
-        None => {
-            let count = range.len();
-            let line = format!(in alloc; "match blocks {count} from {from} to {to}\n")?;
-            written(alloc, line.as_bytes())
-        }
-    }
+    check_range(rt, threads, &range, jobs)
 }
 
 /// The answer to `check`.
@@ -191,6 +223,6 @@ pub(crate) fn checked<T: Threads + Wait + Sync>(
 ) -> Result<Answer, OutOfMemory> {
     match open_chain(rt, folder) {
         Ok(OpenChain { files: _, head }) => check_chain(rt, threads, folder, &head, wanted),
-        Err(fault) => unread(rt.alloc(), fault),
+        Err(fault) => unread(rt, folder, fault),
     }
 }

@@ -6,6 +6,7 @@ use crate::begin::begun;
 use crate::check::{Wanted, checked};
 use crate::export::exported;
 use crate::reads::{block, listed, state};
+use crate::word_faults::fault_text;
 use command_parts::{Answer, WORDS_REFUSED, lent_words, path_of, written};
 use ledger_words::{ChainCommand, ChainWordsFault, USAGE, VERSION, read_chain_words};
 use sol_base::{Blob, OutOfMemory};
@@ -14,29 +15,13 @@ use std::rt::{Clock, Files};
 use std::sync::Wait;
 use std::thread::Threads;
 
-/// What is wrong with the words.
-fn fault_text(alloc: Global, fault: ChainWordsFault) -> Result<String, OutOfMemory> {
-    match fault {
-        ChainWordsFault::Command => Ok(format!(in alloc; "there is no such command")?),
-        ChainWordsFault::Folder => Ok(format!(in alloc; "a folder is to follow the command")?),
-        ChainWordsFault::Options => Ok(format!(in alloc;
-            "the folder's options are to follow it, each with a value and at most once"
-        )?),
-        ChainWordsFault::Missing { option } => {
-            let name = option.name();
-            Ok(format!(in alloc; "{name} is missing")?)
-        }
-        ChainWordsFault::Value { option } => {
-            let name = option.name();
-            Ok(format!(in alloc; "the value of {name} is not in form")?)
-        }
-        ChainWordsFault::OutOfMemory => Err(OutOfMemory),
-    }
-}
-
 /// The answer to words that are no command: what is wrong, and how commands are written.
-fn refused_words(alloc: Global, fault: ChainWordsFault) -> Result<Answer, OutOfMemory> {
-    let text = fault_text(alloc, fault)?;
+fn refused_words(
+    alloc: Global,
+    words: &[&str],
+    fault: ChainWordsFault,
+) -> Result<Answer, OutOfMemory> {
+    let text = fault_text(alloc, words, fault)?;
     let mut notes = Blob::from_slice(alloc, b"chain: ")?;
     notes.append(text.as_bytes())?;
     notes.append(b"\n")?;
@@ -111,6 +96,6 @@ pub fn answer_words<
     let words = lent_words(rt.alloc(), texts)?;
     match read_chain_words(rt.alloc(), words.as_slice()) {
         Ok(command) => answer_command(host, rt, threads, &command, shows),
-        Err(fault) => refused_words(rt.alloc(), fault),
+        Err(fault) => refused_words(rt.alloc(), words.as_slice(), fault),
     }
 }

@@ -3,6 +3,7 @@ ghost use Rattle.std.specs.Prelude.{◌≤◌, IfOk};
 ghost use Rattle.snapshot_codec.specs.Snapshot.{IsReadable};
 
 use crate::chain::{OpenChain, copied, open_chain, state_after, unread};
+use crate::failures::caused;
 use command_parts::{Answer, INPUT_REFUSED, WRITE_FAILED, noted, written};
 use ledger_folder::Folder;
 use ledger_store::{Changes, Head, Kept, LedgerFault, changes_between, next_state, read_block};
@@ -137,9 +138,15 @@ fn remove<R: Files>(rt: &R, parts: &Parts) {
 }
 
 /// The answer where a chain does not become tables.
-fn stopped(alloc: Global, file: &str, stop: Stop) -> Result<Answer, OutOfMemory> {
+fn stopped<R: Files + AllocGlobal>(
+    rt: &R,
+    folder: &str,
+    file: &str,
+    stop: Stop,
+) -> Result<Answer, OutOfMemory> {
+    let alloc = rt.alloc();
     match stop {
-        Stop::Chain(fault) => unread(alloc, fault),
+        Stop::Chain(fault) => unread(rt, folder, fault),
         Stop::Tables(TablesFault::OutOfMemory) => Err(OutOfMemory),
         Stop::Tables(
             TablesFault::Sql {
@@ -166,7 +173,7 @@ pub(crate) fn exported<R: Files + AllocGlobal + Clone + Drop>(
     let alloc = rt.alloc();
     let mut chain = match open_chain(rt, folder) {
         Ok(chain) => chain,
-        Err(fault) => return unread(alloc, fault),
+        Err(fault) => return unread(rt, folder, fault),
     };
     if let Ok(true) = fs::exists(rt, file) {
         return noted(alloc, INPUT_REFUSED, file, "it is there already");
@@ -175,12 +182,12 @@ pub(crate) fn exported<R: Files + AllocGlobal + Clone + Drop>(
     remove(rt, &parts);
     if let Err(stop) = make_tables(host, &mut chain, parts.file.as_str()) {
         remove(rt, &parts);
-        return stopped(alloc, file, stop);
+        return stopped(rt, folder, file, stop);
     }
     let moved = fs::rename(rt, parts.file.as_str(), file);
     remove(rt, &parts);
     match moved {
         Ok(()) => written(alloc, b""),
-        Err(_) => noted(alloc, WRITE_FAILED, file, "write failed"),
+        Err(e) => caused(alloc, WRITE_FAILED, file, e.kind()),
     }
 }

@@ -8,9 +8,11 @@ mod check;
 mod clock;
 mod commands;
 mod export;
+mod failures;
 mod input;
 mod lines;
 mod reads;
 mod replaying;
+mod word_faults;
 
 pub use commands::answer_words;

@@ -30,7 +30,7 @@ pub(crate) fn state<R: Files + AllocGlobal + Clone + Drop>(
     let alloc = rt.alloc();
     let OpenChain { mut files, head } = match open_chain(rt, folder) {
         Ok(opened) => opened,
-        Err(fault) => return unread(alloc, fault),
+        Err(fault) => return unread(rt, folder, fault),
     };
     let Some(count) = blocks_up_to(&head, slot) else {
         return no_block(alloc, slot.unwrap_or(0));
@@ -38,7 +38,7 @@ pub(crate) fn state<R: Files + AllocGlobal + Clone + Drop>(
     readable_snapshots_are_writable();
     match state_after(alloc, &mut files, &head, count) {
         Ok(snapshot) => written(alloc, snapshot_bytes(alloc, &snapshot)?.as_slice()),
-        Err(fault) => unread(alloc, fault),
+        Err(fault) => unread(rt, folder, fault),
     }
 }
 
@@ -51,14 +51,14 @@ pub(crate) fn block<R: Files + AllocGlobal + Clone + Drop>(
     let alloc = rt.alloc();
     let OpenChain { mut files, head } = match open_chain(rt, folder) {
         Ok(opened) => opened,
-        Err(fault) => return unread(alloc, fault),
+        Err(fault) => return unread(rt, folder, fault),
     };
     if head.slots.as_slice().binary_search(&slot).is_err() {
         return no_block(alloc, slot);
     }
     match read_block(alloc, &mut files, slot) {
         Ok(Kept { block, micros: _ }) => written(alloc, record_bytes(alloc, &block)?.as_slice()),
-        Err(fault) => unread(alloc, fault),
+        Err(fault) => unread(rt, folder, fault),
     }
 }
 
@@ -88,6 +88,6 @@ pub(crate) fn listed<R: Files + AllocGlobal + Clone + Drop>(
     };
     match told {
         Ok(lines) => written(alloc, lines.as_slice()),
-        Err(fault) => unread(alloc, fault),
+        Err(fault) => unread(rt, folder, fault),
     }
 }

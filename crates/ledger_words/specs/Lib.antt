@@ -1,2 +1,4 @@
-pub mod Options
+pub mod Parameters
+pub mod Arguments
+pub mod Values
 pub mod Commands

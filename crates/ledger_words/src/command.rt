@@ -1,4 +1,5 @@
-//! The commands for chains, and their options.
+//! The commands for chains.
+use crate::parameter::Parameter;
 use sol_base::{Blob, OutOfMemory};
 
 /// A command with what its words say. Folders and files are texts.
@@ -44,53 +45,21 @@ pub enum ChainCommand {
     },
 }
 
-/// An option of a command.
-#[derive(Clone, Copy, PartialEq, Eq)]
-pub enum ChainOption {
-    Every,
-    Lanes,
-    Senders,
-    Slot,
-    From,
-    To,
-    Jobs,
-    Sqlite,
-}
-
-impl ChainOption {
-    ghost use Rattle.std.specs.Prelude.{◌≡◌};
-    ghost use Rattle.ledger_words.specs.Options.{name_of};
-
-    /// The word that the option is.
-    pub fn name(self) -> &'static str
-        ensures { result.now ≡ name_of self }
-    {
-        match self {
-            ChainOption::Every => "--every",
-            ChainOption::Lanes => "--lanes",
-            ChainOption::Senders => "--senders",
-            ChainOption::Slot => "--slot",
-            ChainOption::From => "--from",
-            ChainOption::To => "--to",
-            ChainOption::Jobs => "--jobs",
-            ChainOption::Sqlite => "--sqlite",
-        }
-    }
-}
-
 /// Why there is no command.
-#[derive(Clone, Copy, PartialEq, Eq)]
+#[derive(Drop)]
 pub enum ChainWordsFault {
     /// The words name no command.
     Command,
-    /// No folder follows the command's name.
-    Folder,
-    /// What follows the folder is not the options of the command, each with a value and at most once.
-    Options,
-    /// The command needs this option.
-    Missing { option: ChainOption },
-    /// The value of this option is not in its form.
-    Value { option: ChainOption },
+    /// The command has no option of this name.
+    Unknown { name: Blob },
+    /// The parameter is given twice.
+    Repeated { parameter: Parameter },
+    /// No value follows the option.
+    NoValue { parameter: Parameter },
+    /// The value of the parameter is not in its form.
+    Value { parameter: Parameter },
+    /// The command needs this parameter.
+    Missing { parameter: Parameter },
     OutOfMemory,
 }
 

@@ -1,58 +1,59 @@
 //! From words to a command.
 ghost use Rattle.std.specs.Prelude.{◌≡◌, IfOk, map};
 ghost use Rattle.spec_base.specs.Reading.{Gives};
-ghost use Rattle.ledger_words.specs.Commands.{IsInRange, add_in, alone, block_in, check_in, command_named, command_of, export_in, file_in, folder_in, is_path, is_words_memory, list_in, new_in, other_named, seen_folder, state_in};
+ghost use Rattle.ledger_words.specs.Arguments.{setting_of};
+ghost use Rattle.ledger_words.specs.Commands.{IsInRange, add_by, alone, asks_for_help, block_by, check_by, command_by, command_from, command_of, export_by, folder_command, is_words_memory, list_by, new_by, other_named, state_by};
 
-use crate::command::{ChainCommand, ChainOption, ChainWordsFault};
-use crate::options::{are_options, count_of, slot_of, value_of};
-use sol_base::{Blob, MAX_LANES, MAX_SENDERS};
+use crate::arguments::{Argument, arguments_in};
+use crate::command::{ChainCommand, ChainWordsFault};
+use crate::parameter::{CommandName, Parameter, command_named};
+use crate::values::{MAX_EVERY, MAX_JOBS, count_of, path_in, slot_of};
+use sol_base::{MAX_LANES, MAX_SENDERS};
 use std::alloc::Global;
-
-/// The most blocks from one full state of a chain to the next (the project's own).
-const MAX_EVERY: u32 = 65_536;
-
-/// The most blocks that are replayed at once (the project's own).
-const MAX_JOBS: u32 = 64;
 
 /// How many blocks stand between full states where nothing is said.
 const EVERY: u32 = 16;
 
 /// The command that the words are (the project's own commands), or the first thing that is wrong
-/// with them: the command, the folder, its options, and then their values one after the other.
+/// with them: the command's name, then the words behind it one after the other, then their values,
+/// and then what is missing.
 pub fn read_chain_words(alloc: Global, words: &[&str]) -> Result<ChainCommand, ChainWordsFault>
     ensures exact { Gives is_words_memory (λ command. command) result
         (command_of (map (λ w. w.now) words.now)) }
     ensures range { IfOk result IsInRange }
 {
     match words {
-        [first, name, rest @ ..] if *first == "chain" => command_named(alloc, name, rest),
+        [first, word, rest @ ..] if *first == "chain" => {
+            command_from(alloc, command_named(word), word, rest)
+        }
         _ => Err(ChainWordsFault::Command),
     }
 }
 
-fn command_named(alloc: Global, name: &str, words: &[&str]) -> Result<ChainCommand, ChainWordsFault>
+/// The command of a word and the words behind it.
+fn command_from(
+    alloc: Global,
+    name: Option<CommandName>,
+    word: &str,
+    words: &[&str],
+) -> Result<ChainCommand, ChainWordsFault>
     ensures exact { Gives is_words_memory (λ command. command) result
-        (command_named name.now (map (λ w. w.now) words.now)) }
+        (command_from name word.now (map (λ w. w.now) words.now)) }
     ensures range { IfOk result IsInRange }
 {
     match name {
-        "new" => new_in(alloc, words),
-        "add" => add_in(alloc, words),
-        "state" => state_in(alloc, words),
-        "block" => block_in(alloc, words),
-        _ => other_named(alloc, name, words),
+        None => other_named(word, words),
+        Some(_) if asks_for_help(words) => Ok(ChainCommand::Help),
+        Some(name) => folder_command(alloc, name, words),
     }
 }
 
-fn other_named(alloc: Global, name: &str, words: &[&str]) -> Result<ChainCommand, ChainWordsFault>
-    ensures exact { Gives is_words_memory (λ command. command) result
-        (other_named name.now (map (λ w. w.now) words.now)) }
+/// The command of a word that is none of a command with a folder.
+fn other_named(word: &str, words: &[&str]) -> Result<ChainCommand, ChainWordsFault>
+    ensures exact { result ≡ other_named word.now (map (λ w. w.now) words.now) }
     ensures range { IfOk result IsInRange }
 {
-    match name {
-        "check" => check_in(alloc, words),
-        "list" => list_in(alloc, words),
-        "export" => export_in(alloc, words),
+    match word {
         "--help" => alone(ChainCommand::Help, words),
         "--version" => alone(ChainCommand::Version, words),
         _ => Err(ChainWordsFault::Command),
@@ -72,59 +73,71 @@ fn alone(command: ChainCommand, words: &[&str]) -> Result<ChainCommand, ChainWor
     }
 }
 
-/// Whether the word names a file or a folder: it is not empty, and begins with no hyphen.
-fn is_path(word: &str) -> bool
-    ensures { result ≡ is_path word.now }
-{
-    match word.as_bytes() {
-        [] => false,
-        [b'-', ..] => false,
-        _ => true,
-    }
-}
-
-/// The folder, and the words of its options behind it.
-fn folder_in<'a>(
-    options: &[ChainOption],
-    words: &'a [&'a str],
-) -> Result<(&'a str, &'a [&'a str]), ChainWordsFault>
-    ensures { Gives is_words_memory seen_folder result
-        (folder_in options.now (map (λ w. w.now) words.entry.now)) }
+/// Whether the words behind a command's name ask for help.
+fn asks_for_help(words: &[&str]) -> bool
+    ensures { result ≡ asks_for_help (map (λ w. w.now) words.now) }
 {
     match words {
-        [folder, rest @ ..] if is_path(folder) => {
-            if are_options(options, rest) {
-                Ok((*folder, rest))
-            } else {
-                Err(ChainWordsFault::Options)
-            }
-        }
-        _ => Err(ChainWordsFault::Folder),
+        [word] => *word == "--help",
+        _ => false,
     }
 }
 
-#[tactic(auto, unfolding(crate::specs::Commands::new_in))]
-fn new_in(alloc: Global, words: &[&str]) -> Result<ChainCommand, ChainWordsFault>
+#[tactic(auto, unfolding(crate::specs::Commands::folder_command))]
+fn folder_command(
+    alloc: Global,
+    name: CommandName,
+    words: &[&str],
+) -> Result<ChainCommand, ChainWordsFault>
     ensures exact { Gives is_words_memory (λ command. command) result
-        (new_in (map (λ w. w.now) words.now)) }
+        (folder_command name (map (λ w. w.now) words.now)) }
     ensures range { IfOk result IsInRange }
 {
-    let (folder, options) = folder_in(&[ChainOption::Every], words)?;
-    let every = count_of(ChainOption::Every, MAX_EVERY, EVERY, options)?;
-    let folder = Blob::from_slice(alloc, folder.as_bytes())?;
+    let arguments = arguments_in(alloc, name.options(), words)?;
+    command_by(alloc, name, arguments.as_slice())
+}
+
+/// The command of a name with these arguments.
+fn command_by(
+    alloc: Global,
+    name: CommandName,
+    arguments: &[Argument<'_>],
+) -> Result<ChainCommand, ChainWordsFault>
+    ensures exact { Gives is_words_memory (λ command. command) result
+        (command_by name (map setting_of arguments.now)) }
+    ensures range { IfOk result IsInRange }
+{
+    match name {
+        CommandName::New => new_by(alloc, arguments),
+        CommandName::Add => add_by(alloc, arguments),
+        CommandName::State => state_by(alloc, arguments),
+        CommandName::Block => block_by(alloc, arguments),
+        CommandName::Check => check_by(alloc, arguments),
+        CommandName::List => list_by(alloc, arguments),
+        CommandName::Export => export_by(alloc, arguments),
+    }
+}
+
+#[tactic(auto, unfolding(crate::specs::Commands::new_by))]
+fn new_by(alloc: Global, arguments: &[Argument<'_>]) -> Result<ChainCommand, ChainWordsFault>
+    ensures exact { Gives is_words_memory (λ command. command) result
+        (new_by (map setting_of arguments.now)) }
+    ensures range { IfOk result IsInRange }
+{
+    let every = count_of(Parameter::Every, MAX_EVERY, EVERY, arguments)?;
+    let folder = path_in(alloc, Parameter::Folder, arguments)?;
     Ok(ChainCommand::New { folder, every })
 }
 
-#[tactic(auto, unfolding(crate::specs::Commands::add_in))]
-fn add_in(alloc: Global, words: &[&str]) -> Result<ChainCommand, ChainWordsFault>
+#[tactic(auto, unfolding(crate::specs::Commands::add_by))]
+fn add_by(alloc: Global, arguments: &[Argument<'_>]) -> Result<ChainCommand, ChainWordsFault>
     ensures exact { Gives is_words_memory (λ command. command) result
-        (add_in (map (λ w. w.now) words.now)) }
+        (add_by (map setting_of arguments.now)) }
     ensures range { IfOk result IsInRange }
 {
-    let (folder, options) = folder_in(&[ChainOption::Lanes, ChainOption::Senders], words)?;
-    let lanes = count_of(ChainOption::Lanes, MAX_LANES, 1, options)?;
-    let senders = count_of(ChainOption::Senders, MAX_SENDERS, 1, options)?;
-    let folder = Blob::from_slice(alloc, folder.as_bytes())?;
+    let lanes = count_of(Parameter::Lanes, MAX_LANES, 1, arguments)?;
+    let senders = count_of(Parameter::Senders, MAX_SENDERS, 1, arguments)?;
+    let folder = path_in(alloc, Parameter::Folder, arguments)?;
     Ok(ChainCommand::Add {
         folder,
         lanes,
@@ -132,46 +145,43 @@ fn add_in(alloc: Global, words: &[&str]) -> Result<ChainCommand, ChainWordsFault
     })
 }
 
-#[tactic(auto, unfolding(crate::specs::Commands::state_in))]
-fn state_in(alloc: Global, words: &[&str]) -> Result<ChainCommand, ChainWordsFault>
+#[tactic(auto, unfolding(crate::specs::Commands::state_by))]
+fn state_by(alloc: Global, arguments: &[Argument<'_>]) -> Result<ChainCommand, ChainWordsFault>
     ensures exact { Gives is_words_memory (λ command. command) result
-        (state_in (map (λ w. w.now) words.now)) }
+        (state_by (map setting_of arguments.now)) }
     ensures range { IfOk result IsInRange }
 {
-    let (folder, options) = folder_in(&[ChainOption::Slot], words)?;
-    let slot = slot_of(ChainOption::Slot, options)?;
-    let folder = Blob::from_slice(alloc, folder.as_bytes())?;
+    let slot = slot_of(Parameter::Slot, arguments)?;
+    let folder = path_in(alloc, Parameter::Folder, arguments)?;
     Ok(ChainCommand::State { folder, slot })
 }
 
-#[tactic(auto, unfolding(crate::specs::Commands::block_in))]
-fn block_in(alloc: Global, words: &[&str]) -> Result<ChainCommand, ChainWordsFault>
+#[tactic(auto, unfolding(crate::specs::Commands::block_by))]
+fn block_by(alloc: Global, arguments: &[Argument<'_>]) -> Result<ChainCommand, ChainWordsFault>
     ensures exact { Gives is_words_memory (λ command. command) result
-        (block_in (map (λ w. w.now) words.now)) }
+        (block_by (map setting_of arguments.now)) }
     ensures range { IfOk result IsInRange }
 {
-    let (folder, options) = folder_in(&[ChainOption::Slot], words)?;
-    let Some(slot) = slot_of(ChainOption::Slot, options)? else {
-        return Err(ChainWordsFault::Missing {
-            option: ChainOption::Slot,
-        });
-    };
-    let folder = Blob::from_slice(alloc, folder.as_bytes())?;
-    Ok(ChainCommand::Block { folder, slot })
+    let given = slot_of(Parameter::Slot, arguments)?;
+    let folder = path_in(alloc, Parameter::Folder, arguments)?;
+    match given {
+        Some(slot) => Ok(ChainCommand::Block { folder, slot }),
+        None => Err(ChainWordsFault::Missing {
+            parameter: Parameter::Slot,
+        }),
+    }
 }
 
-#[tactic(auto, unfolding(crate::specs::Commands::check_in))]
-fn check_in(alloc: Global, words: &[&str]) -> Result<ChainCommand, ChainWordsFault>
+#[tactic(auto, unfolding(crate::specs::Commands::check_by))]
+fn check_by(alloc: Global, arguments: &[Argument<'_>]) -> Result<ChainCommand, ChainWordsFault>
     ensures exact { Gives is_words_memory (λ command. command) result
-        (check_in (map (λ w. w.now) words.now)) }
+        (check_by (map setting_of arguments.now)) }
     ensures range { IfOk result IsInRange }
 {
-    let known = [ChainOption::From, ChainOption::To, ChainOption::Jobs];
-    let (folder, options) = folder_in(&known, words)?;
-    let from = slot_of(ChainOption::From, options)?;
-    let to = slot_of(ChainOption::To, options)?;
-    let jobs = count_of(ChainOption::Jobs, MAX_JOBS, 1, options)?;
-    let folder = Blob::from_slice(alloc, folder.as_bytes())?;
+    let from = slot_of(Parameter::From, arguments)?;
+    let to = slot_of(Parameter::To, arguments)?;
+    let jobs = count_of(Parameter::Jobs, MAX_JOBS, 1, arguments)?;
+    let folder = path_in(alloc, Parameter::Folder, arguments)?;
     Ok(ChainCommand::Check {
         folder,
         from,
@@ -180,42 +190,23 @@ fn check_in(alloc: Global, words: &[&str]) -> Result<ChainCommand, ChainWordsFau
     })
 }
 
-#[tactic(auto, unfolding(crate::specs::Commands::list_in))]
-fn list_in(alloc: Global, words: &[&str]) -> Result<ChainCommand, ChainWordsFault>
+#[tactic(auto, unfolding(crate::specs::Commands::list_by))]
+fn list_by(alloc: Global, arguments: &[Argument<'_>]) -> Result<ChainCommand, ChainWordsFault>
     ensures exact { Gives is_words_memory (λ command. command) result
-        (list_in (map (λ w. w.now) words.now)) }
+        (list_by (map setting_of arguments.now)) }
     ensures range { IfOk result IsInRange }
 {
-    let (folder, _options) = folder_in(&[], words)?;
-    let folder = Blob::from_slice(alloc, folder.as_bytes())?;
+    let folder = path_in(alloc, Parameter::Folder, arguments)?;
     Ok(ChainCommand::List { folder })
 }
 
-/// The file of `--sqlite`, which `export` needs.
-fn file_in<'a>(words: &'a [&'a str]) -> Result<&'a str, ChainWordsFault>
-    ensures { Gives is_words_memory (λ file. file.now) result
-        (file_in (map (λ w. w.now) words.entry.now)) }
-{
-    match value_of(ChainOption::Sqlite.name(), words) {
-        None => Err(ChainWordsFault::Missing {
-            option: ChainOption::Sqlite,
-        }),
-        Some(file) if is_path(file) => Ok(file),
-        Some(_) => Err(ChainWordsFault::Value {
-            option: ChainOption::Sqlite,
-        }),
-    }
-}
-
-#[tactic(auto, unfolding(crate::specs::Commands::export_in))]
-fn export_in(alloc: Global, words: &[&str]) -> Result<ChainCommand, ChainWordsFault>
+#[tactic(auto, unfolding(crate::specs::Commands::export_by))]
+fn export_by(alloc: Global, arguments: &[Argument<'_>]) -> Result<ChainCommand, ChainWordsFault>
     ensures exact { Gives is_words_memory (λ command. command) result
-        (export_in (map (λ w. w.now) words.now)) }
+        (export_by (map setting_of arguments.now)) }
     ensures range { IfOk result IsInRange }
 {
-    let (folder, options) = folder_in(&[ChainOption::Sqlite], words)?;
-    let file = file_in(options)?;
-    let folder = Blob::from_slice(alloc, folder.as_bytes())?;
-    let file = Blob::from_slice(alloc, file.as_bytes())?;
+    let folder = path_in(alloc, Parameter::Folder, arguments)?;
+    let file = path_in(alloc, Parameter::Sqlite, arguments)?;
     Ok(ChainCommand::Export { folder, file })
 }

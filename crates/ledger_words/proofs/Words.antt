@@ -1,0 +1,72 @@
+-- The words behind a command's name, one after the other.
+use Rattle.std.proofs.Common.{◌≡◌, ◌≤◌, ◌<◌, List, [], ◌∷◌, length, map, take, drop, slice_index_or, ◌-◌, Bool, true, false, Option, None, Result, Ok, Err, refl, sym, ap, ◌∙◌, subst, arith}
+use Rattle.std.specs.Prelude.{MatchBool}
+use Rattle.std.specs.Borrow.{Bor}
+use Rattle.std.proofs.lemmas.List.{take_rest}
+use Rattle.spec_base.specs.Reading.{◌>>=◌}
+use Rattle.ledger_words.specs.Parameters.{Text}
+use Rattle.ledger_words.specs.Arguments.{Read, Setting, Start, ended, next_of, setting_of, settings_after, value_in, waits_of, with_start}
+use Rattle.ledger_words.specs.Commands.{is_words_memory}
+use Rattle.ledger_words.specs.declared.arguments.Argument.{Argument}
+use Rattle.ledger_words.specs.declared.command.ChainWordsFault.{ChainWordsFault}
+use Rattle.ledger_words.specs.declared.parameter.Parameter.{Parameter}
+
+first_word : (others : List (Bor Text)) (d : Bor Text) → 1 ≤ length others
+    → map (λ w. w.now) others ≡ (slice_index_or others 0 d).now ∷ map (λ w. w.now) (drop 1 others)
+first_word [] d some = absurd (omega arith)
+first_word (word ∷ words) d some = refl
+
+-- where no argument is left, none sets a parameter
+pub none_in_empty : (parameter : Parameter) (others : List Argument) → length others < 1
+    → value_in parameter (map setting_of others) ≡ None
+none_in_empty parameter [] short = refl
+none_in_empty parameter (one ∷ more) short = absurd (omega arith)
+
+-- where no word is left, the settings are those so far
+pub all_read : (options : List Parameter) (settings : List Setting) (waits : Option Parameter)
+    (others : List (Bor Text)) → length others < 1
+    → settings_after options settings waits (map (λ w. w.now) others) ≡ ended settings waits
+all_read options settings waits [] short = refl
+all_read options settings waits (one ∷ more) short = absurd (omega arith)
+
+abbrev after_start : List Parameter → List Setting → List Text → Read Start → Read (List Setting)
+after_start options settings words read =
+    read >>= (λ start. settings_after options (with_start settings start) (waits_of start) words)
+
+by_first : (options : List Parameter) (settings : List Setting) (waits : Option Parameter)
+    (others : List (Bor Text)) (d : Bor Text) (first : Read Start) (read : Read (List Setting))
+    → 1 ≤ length others → read ≡ settings_after options settings waits (map (λ w. w.now) others)
+    → next_of options settings waits (slice_index_or others 0 d).now ≡ first
+    → read ≡ after_start options settings (map (λ w. w.now) (drop 1 others)) first
+by_first options settings waits others d first read some same is =
+    same ∙ ap (settings_after options settings waits) (first_word others d some)
+    ∙ ap (after_start options settings (map (λ w. w.now) (drop 1 others))) is
+
+-- the settings behind a word that starts something
+pub started : (options : List Parameter) (settings settings' : List Setting)
+    (waits waits' : Option Parameter) (others : List (Bor Text)) (d : Bor Text) (start : Start)
+    (read : Read (List Setting))
+    → 1 ≤ length others → read ≡ settings_after options settings waits (map (λ w. w.now) others)
+    → next_of options settings waits (slice_index_or others 0 d).now ≡ Ok start
+    → settings' ≡ with_start settings start → waits' ≡ waits_of start
+    → read ≡ settings_after options settings' waits'
+    (map (λ w. w.now) (take (length others - 1) (drop 1 others)))
+started options settings settings' waits waits' others d start read some same is with_it waits_for =
+    rw (take_rest others 1, with_it, waits_for)
+    (by_first options settings waits others d (Ok start) read some same is)
+
+-- a word that is refused refuses all
+pub refused : (options : List Parameter) (settings : List Setting) (waits : Option Parameter)
+    (others : List (Bor Text)) (d : Bor Text) (fault : ChainWordsFault) (read : Read (List Setting))
+    → 1 ≤ length others → read ≡ settings_after options settings waits (map (λ w. w.now) others)
+    → MatchBool (is_words_memory fault) (Unit {0})
+    (next_of options settings waits (slice_index_or others 0 d).now ≡ Err fault)
+    → MatchBool (is_words_memory fault) (Unit {0}) (read ≡ Err fault)
+refused options settings waits others d fault read some same given =
+    by_case (is_words_memory fault) given
+  where
+    by_case : (b : Bool)
+        → MatchBool b (Unit {0}) (next_of options settings waits (slice_index_or others 0 d).now ≡ Err fault)
+        → MatchBool b (Unit {0}) (read ≡ Err fault)
+    by_case true none = tt
+    by_case false is = by_first options settings waits others d (Err fault) read some same is

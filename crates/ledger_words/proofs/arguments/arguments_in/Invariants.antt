@@ -1,0 +1,12 @@
+use Rattle.std.proofs.Common.{◌≡◌, length, map}
+use Rattle.ledger_words.specs.Arguments.{setting_of, settings_after, settings_in}
+use Rattle.ledger_words.proofs.arguments.arguments_in.Given as goal
+
+-- the words before the others have set the arguments, and an option may wait for its value
+abbrev pub invariant-loop-others : goal.invariant-loop-others
+invariant-loop-others l =
+    settings_in l.options (map (λ w. w.now) l.words)
+    ≡ settings_after l.options (map setting_of l.arguments.items) l.waits (map (λ w. w.now) l.others)
+
+abbrev pub decreases-loop-others : goal.decreases-loop-others
+decreases-loop-others l = length l.others
