@@ -1,6 +1,6 @@
 -- The arguments behind a command's name, as words (the project's own): a folder and options, in any
 -- order, each at most once. An option is `--name value`, two words, or `--name=value`, one.
-use Rattle.std.specs.Prelude.{ℕ, ◌==◌, Bool, true, false, not, is_some, List, [], ◌∷◌, ◌++◌, length, nat_lt, Option, Some, None, Result, Ok, Err, if◌then◌else◌}
+use Rattle.std.specs.Prelude.{ℕ, ◌==◌, Bool, false, is_some, List, [], ◌∷◌, ◌++◌, length, nat_lt, Option, Some, None, Result, Ok, Err, if◌then◌else◌}
 use Rattle.std.specs.List.{before_first, after_first, position_or_len}
 use Rattle.std.specs.Str.{bytes_eq}
 use Rattle.spec_base.specs.Reading.{◌>>=◌}

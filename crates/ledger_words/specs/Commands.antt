@@ -1,6 +1,6 @@
 -- The commands for chains as words (the project's own): `chain`, the name of the command, and then its
 -- folder and its options, in any order.
-use Rattle.std.specs.Prelude.{ℕ, Bool, true, false, codes, List, [], ◌∷◌, Option, Some, None, Result, Ok, Err, if◌then◌else◌}
+use Rattle.std.specs.Prelude.{ℕ, Bool, true, false, codes, List, [], ◌∷◌, Option, Some, None, Ok, Err, if◌then◌else◌}
 use Rattle.std.specs.Str.{bytes_eq}
 use Rattle.spec_base.specs.Reading.{◌>>=◌}
 use Rattle.sol_base.specs.Limits.{max_lanes, max_senders}

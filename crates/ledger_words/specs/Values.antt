@@ -1,9 +1,8 @@
 -- The values of arguments, as texts (the project's own).
-use Rattle.std.specs.Prelude.{ℕ, ◌≤◌, ◌^◌, ◌-◌, ◌==◌, Bool, false, not, List, [], ◌∷◌, Option, Some, None, Result, Ok, Err, if◌then◌else◌}
+use Rattle.std.specs.Prelude.{ℕ, ◌≤◌, ◌^◌, ◌-◌, ◌==◌, Bool, false, not, List, [], ◌∷◌, Option, Some, None, Ok, Err, if◌then◌else◌}
 use Rattle.command_parts.specs.Numbers.{number_in}
 use Rattle.ledger_words.specs.Parameters.{Text}
 use Rattle.ledger_words.specs.Arguments.{Read, Setting, value_in}
-use Rattle.ledger_words.specs.declared.command.ChainWordsFault.{ChainWordsFault}
 use Rattle.ledger_words.specs.declared.command.ChainWordsFault.TheVariants.{Value, Missing}
 use Rattle.ledger_words.specs.declared.parameter.Parameter.{Parameter}
 
