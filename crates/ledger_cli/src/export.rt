@@ -1,5 +1,5 @@
 //! The command `export`: a chain as the tables of a SQLite file.
-ghost use Rattle.std.specs.Prelude.{◌≤◌, IfOk};
+ghost use Rattle.std.specs.Prelude.{◌≤◌, ◌<◌, IfOk, length};
 ghost use Rattle.snapshot_codec.specs.Snapshot.{IsReadable};
 
 use crate::chain::{OpenChain, copied, open_chain, state_after, unread};
@@ -8,7 +8,8 @@ use command_parts::{Answer, INPUT_REFUSED, WRITE_FAILED, noted, written};
 use ledger_folder::Folder;
 use ledger_store::{Changes, Head, Kept, LedgerFault, changes_between, next_state, read_block};
 use ledger_tables::{
-    TablesFault, account_rows, add_accounts, add_block, add_indexes, add_tables, block_rows,
+    BlockRows, TablesFault, account_rows, add_accounts, add_block, add_indexes, add_tables,
+    block_rows,
 };
 use snapshot_codec::Snapshot;
 use sol_base::OutOfMemory;
@@ -44,6 +45,48 @@ impl From<OutOfMemory> for Stop {
     }
 }
 
+/// The rows of a block, by the states before and after it.
+fn rows_between(
+    alloc: Global,
+    before: &Snapshot,
+    kept: &Kept,
+    after: &Snapshot,
+) -> Result<BlockRows, OutOfMemory>
+    requires before { IsReadable before.now }
+    requires after { IsReadable after.now }
+{
+    let Changes { left, gone } = changes_between(alloc, before, after)?;
+    block_rows(
+        alloc,
+        &before.accounts,
+        &kept.block,
+        kept.micros,
+        &left.accounts,
+        gone.as_slice(),
+    )
+}
+
+/// The rows of the block at a place of the chain, over the state before it, and the state after it.
+fn rows_at<F: Folder>(
+    alloc: Global,
+    files: &mut F,
+    head: &Head,
+    place: usize,
+    before: Snapshot,
+) -> Result<(BlockRows, Snapshot), Stop>
+    requires every { 1 ≤ head.now.every }
+    requires place { place < length head.now.slots }
+    requires before { IsReadable before }
+    ensures { IfOk result (λ both. IsReadable both.1) }
+{
+    let slot = head.slots.as_slice()[place];
+    let kept = read_block(alloc, files, slot)?;
+    let start = copied(alloc, &before)?;
+    let after = next_state(alloc, files, head, place, before)?;
+    let rows = rows_between(alloc, &start, &kept, &after)?;
+    Ok((rows, after))
+}
+
 /// Adds the block at a place of the chain, over the state before it, and answers the state after it.
 fn add_place<F: Folder, S: Alter>(
     alloc: Global,
@@ -60,19 +103,7 @@ fn add_place<F: Folder, S: Alter>(
     if head.slots.len() <= place {
         return Ok(before);
     }
-    let slot = head.slots.as_slice()[place];
-    let Kept { block, micros } = read_block(alloc, files, slot)?;
-    let start = copied(alloc, &before)?;
-    let after = next_state(alloc, files, head, place, before)?;
-    let Changes { left, gone } = changes_between(alloc, &start, &after)?;
-    let rows = block_rows(
-        alloc,
-        &start.accounts,
-        &block,
-        micros,
-        &left.accounts,
-        gone.as_slice(),
-    )?;
+    let (rows, after) = rows_at(alloc, files, head, place, before)?;
     add_block(conn, &rows)?;
     Ok(after)
 }
@@ -163,6 +194,41 @@ fn stopped<R: Files + AllocGlobal>(
     }
 }
 
+/// Moves the file that is whole to its name.
+fn placed<R: Files + AllocGlobal>(
+    rt: &R,
+    parts: &Parts,
+    file: &str,
+) -> Result<Answer, OutOfMemory> {
+    let moved = fs::rename(rt, parts.file.as_str(), file);
+    remove(rt, parts);
+    match moved {
+        Ok(()) => written(rt.alloc(), b""),
+        Err(e) => caused(rt.alloc(), WRITE_FAILED, file, e.kind()),
+    }
+}
+
+/// Writes an open chain to a new file.
+fn export_to<R: Files + AllocGlobal + Clone + Drop>(
+    host: &HostRuntime,
+    rt: &R,
+    folder: &str,
+    chain: &mut OpenChain<R>,
+    file: &str,
+) -> Result<Answer, OutOfMemory>
+    requires { 1 ≤ chain.old.head.every }
+{
+    let parts = parts_of(rt.alloc(), file)?;
+    remove(rt, &parts);
+    match make_tables(host, chain, parts.file.as_str()) {
+        Ok(()) => placed(rt, &parts, file),
+        Err(stop) => {
+            remove(rt, &parts);
+            stopped(rt, folder, file, stop)
+        }
+    }
+}
+
 /// The answer to `export`. The file is new, and is there whole or not at all.
 pub(crate) fn exported<R: Files + AllocGlobal + Clone + Drop>(
     host: &HostRuntime,
@@ -170,24 +236,12 @@ pub(crate) fn exported<R: Files + AllocGlobal + Clone + Drop>(
     folder: &str,
     file: &str,
 ) -> Result<Answer, OutOfMemory> {
-    let alloc = rt.alloc();
     let mut chain = match open_chain(rt, folder) {
         Ok(chain) => chain,
         Err(fault) => return unread(rt, folder, fault),
     };
     if let Ok(true) = fs::exists(rt, file) {
-        return noted(alloc, INPUT_REFUSED, file, "it is there already");
+        return noted(rt.alloc(), INPUT_REFUSED, file, "it is there already");
     }
-    let parts = parts_of(alloc, file)?;
-    remove(rt, &parts);
-    if let Err(stop) = make_tables(host, &mut chain, parts.file.as_str()) {
-        remove(rt, &parts);
-        return stopped(rt, folder, file, stop);
-    }
-    let moved = fs::rename(rt, parts.file.as_str(), file);
-    remove(rt, &parts);
-    match moved {
-        Ok(()) => written(alloc, b""),
-        Err(e) => caused(alloc, WRITE_FAILED, file, e.kind()),
-    }
+    export_to(host, rt, folder, &mut chain, file)
 }

@@ -1,4 +1,6 @@
 //! The commands `state`, `block` and `list`.
+ghost use Rattle.std.specs.Prelude.{◌≤◌};
+
 use crate::chain::{OpenChain, no_block, open_chain, state_after, unread};
 use crate::lines::append_listed;
 use block_record::record_bytes;
@@ -21,23 +23,48 @@ fn blocks_up_to(head: &Head, slot: Option<u64>) -> Option<usize> {
     }
 }
 
+/// The state of a chain that is open.
+fn state_in<R: Files + AllocGlobal + Clone + Drop>(
+    rt: &R,
+    folder: &str,
+    chain: &mut OpenChain<R>,
+    slot: Option<u64>,
+) -> Result<Answer, OutOfMemory>
+    requires { 1 ≤ chain.old.head.every }
+{
+    let alloc = rt.alloc();
+    let Some(count) = blocks_up_to(&chain.head, slot) else {
+        return no_block(alloc, slot.unwrap_or(0));
+    };
+    readable_snapshots_are_writable();
+    match state_after(alloc, &mut chain.files, &chain.head, count) {
+        Ok(snapshot) => written(alloc, snapshot_bytes(alloc, &snapshot)?.as_slice()),
+        Err(fault) => unread(rt, folder, fault),
+    }
+}
+
 /// The answer to `state`.
 pub(crate) fn state<R: Files + AllocGlobal + Clone + Drop>(
     rt: &R,
     folder: &str,
     slot: Option<u64>,
 ) -> Result<Answer, OutOfMemory> {
+    match open_chain(rt, folder) {
+        Ok(mut chain) => state_in(rt, folder, &mut chain, slot),
+        Err(fault) => unread(rt, folder, fault),
+    }
+}
+
+/// The block of a slot, which the chain has.
+fn block_in<R: Files + AllocGlobal + Clone + Drop>(
+    rt: &R,
+    folder: &str,
+    chain: &mut OpenChain<R>,
+    slot: u64,
+) -> Result<Answer, OutOfMemory> {
     let alloc = rt.alloc();
-    let OpenChain { mut files, head } = match open_chain(rt, folder) {
-        Ok(opened) => opened,
-        Err(fault) => return unread(rt, folder, fault),
-    };
-    let Some(count) = blocks_up_to(&head, slot) else {
-        return no_block(alloc, slot.unwrap_or(0));
-    };
-    readable_snapshots_are_writable();
-    match state_after(alloc, &mut files, &head, count) {
-        Ok(snapshot) => written(alloc, snapshot_bytes(alloc, &snapshot)?.as_slice()),
+    match read_block(alloc, &mut chain.files, slot) {
+        Ok(Kept { block, micros: _ }) => written(alloc, record_bytes(alloc, &block)?.as_slice()),
         Err(fault) => unread(rt, folder, fault),
     }
 }
@@ -48,18 +75,14 @@ pub(crate) fn block<R: Files + AllocGlobal + Clone + Drop>(
     folder: &str,
     slot: u64,
 ) -> Result<Answer, OutOfMemory> {
-    let alloc = rt.alloc();
-    let OpenChain { mut files, head } = match open_chain(rt, folder) {
-        Ok(opened) => opened,
+    let mut chain = match open_chain(rt, folder) {
+        Ok(chain) => chain,
         Err(fault) => return unread(rt, folder, fault),
     };
-    if head.slots.as_slice().binary_search(&slot).is_err() {
-        return no_block(alloc, slot);
+    if chain.head.slots.as_slice().binary_search(&slot).is_err() {
+        return no_block(rt.alloc(), slot);
     }
-    match read_block(alloc, &mut files, slot) {
-        Ok(Kept { block, micros: _ }) => written(alloc, record_bytes(alloc, &block)?.as_slice()),
-        Err(fault) => unread(rt, folder, fault),
-    }
+    block_in(rt, folder, &mut chain, slot)
 }
 
 /// A line for each block.
