@@ -138,6 +138,42 @@ fn follow_two<R: Wait>(
     (pass, right && one_free && other_free)
 }
 
+/// Makes the second lane, and follows the rows of both.
+fn follow_rest<R: Wait>(
+    rt: &R,
+    desk: &SharedDesk<Trial>,
+    reader: &mut Reader<Trial>,
+    trial: &Trial,
+    first: TrialLane,
+    rows: &[Row],
+) -> (Pass<Trial>, bool)
+    requires told { (desk_origin desk.now).told ≡ trial.now.locks }
+    requires reader { IsReaderOf desk.now reader.old }
+    requires first { IsPassOf desk.now first.pass }
+    requires first_loan { Holds first.loan (desk_origin desk.now)
+        (view_of first.pass) }
+    requires first_once { ReturnsOnce first.gave_back
+        (view_of first.pass) }
+    ensures desk { IsPassOf desk.now result.0 }
+    ensures free { holds (view_of result.0).mine ≡ None }
+{
+    let mut first = first;
+    match second_of::<Trial, SharedDesk<Trial>, R>(rt, desk, &mut first.pass) {
+        Some(pass) => {
+            let second = Lane {
+                pass,
+                loan: None,
+                gave_back: false,
+            };
+            follow_two(rt, desk, reader, trial, (first, second), rows)
+        }
+        None => {
+            let (pass, _) = settled::<Trial, SharedDesk<Trial>, R>(rt, desk, trial, first);
+            (pass, false)
+        }
+    }
+}
+
 /// The same of all rows, of which the first is the first lane's. Then the second lane is made.
 fn follow_all<R: Wait>(
     rt: &R,
@@ -159,22 +195,9 @@ fn follow_all<R: Wait>(
         loan: None,
         gave_back: false,
     };
-    let (mut first, so) = follow_row(rt, desk, &mut reader, trial, lane, row);
-    match second_of::<Trial, SharedDesk<Trial>, R>(rt, desk, &mut first.pass) {
-        Some(pass) => {
-            let second = Lane {
-                pass,
-                loan: None,
-                gave_back: false,
-            };
-            let (pass, right) = follow_two(rt, desk, &mut reader, trial, (first, second), rows);
-            (pass, so && right)
-        }
-        None => {
-            let (pass, _) = settled::<Trial, SharedDesk<Trial>, R>(rt, desk, trial, first);
-            (pass, false)
-        }
-    }
+    let (first, so) = follow_row(rt, desk, &mut reader, trial, lane, row);
+    let (pass, right) = follow_rest(rt, desk, &mut reader, trial, first, rows);
+    (pass, so && right)
 }
 
 /// What a desk ends with, where a lane that holds nothing finds that all is done.

@@ -1,5 +1,6 @@
 //! Groups of lanes over a shared desk.
-ghost use Rattle.std.specs.Prelude.{◌≤◌};
+ghost use Rattle.std.specs.Prelude.{◌≡◌, ◌≤◌};
+ghost use Rattle.bank_shared.specs.Face.{desk_origin, first_pass, IsPassOf, view_of};
 
 use crate::tests::drives::have_units;
 use crate::tests::ends::end_by_groups;
@@ -9,7 +10,8 @@ use crate::tests::trial::{READ, Trial, WRITE, accounts_of_ten, accounts_with, tr
 use crate::tests::watches::watched;
 use bank_core::{Desk, Split};
 use bank_lanes::{OpenGate, run_lanes};
-use bank_shared::SharedDesk;
+use bank_shared::{Pass, SharedDesk};
+use sol_base::OutOfMemory;
 use std::alloc::Global;
 use std::process::Abort;
 use std::sync::Wait;
@@ -106,17 +108,32 @@ fn four_groups_meet(rt: HostRuntime) -> Result<(), Fail> {
 /// Positions that all wait for the one before them.
 const CHAIN: [&[(u8, bool)]; 8] = [A; 8];
 
-/// Whether they are done by a desk's first lane alone: its second is still to be drawn.
-fn chain_stays<R: Threads + Wait + Abort + Sync>(rt: &R, alloc: Global) -> Result<bool, Fail> {
-    let trial = trial_of(rt, alloc, &CHAIN)?;
-    let accounts = accounts_of_ten(rt, alloc, &[1])?;
-    let (desk, mut pass) = desk_of_two(alloc, accounts, &trial)?;
+/// Whether a desk's lanes end with the first one alone: its second is still to be drawn.
+fn stays_alone<R: Threads + Wait + Abort + Sync>(
+    rt: &R,
+    alloc: Global,
+    desk: SharedDesk<Trial>,
+    mut pass: Pass<Trial>,
+    trial: &Trial,
+) -> Result<bool, OutOfMemory>
+    requires told { (desk_origin desk).told ≡ trial.now.locks }
+    requires pass { IsPassOf desk pass }
+    requires view { view_of pass ≡ first_pass }
+{
     let gate = OpenGate;
-    run_lanes::<Trial, SharedDesk<Trial>, OpenGate, R>(rt, alloc, &desk, &mut pass, &trial, &gate)?;
+    run_lanes::<Trial, SharedDesk<Trial>, OpenGate, R>(rt, alloc, &desk, &mut pass, trial, &gate)?;
     match desk.split(rt, &mut pass) {
         Split::Made(_second) => Ok(true),
         Split::AllMade => Ok(false),
     }
+}
+
+/// Whether they are done by a desk's first lane alone.
+fn chain_stays<R: Threads + Wait + Abort + Sync>(rt: &R, alloc: Global) -> Result<bool, Fail> {
+    let trial = trial_of(rt, alloc, &CHAIN)?;
+    let accounts = accounts_of_ten(rt, alloc, &[1])?;
+    let (desk, pass) = desk_of_two(alloc, accounts, &trial)?;
+    Ok(stays_alone(rt, alloc, desk, pass, &trial)?)
 }
 
 /// No lane is drawn, and no thread started, as long as no more than one position is ready.

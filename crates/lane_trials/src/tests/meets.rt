@@ -4,7 +4,7 @@ ghost use Rattle.std.specs.Prelude.{◌≤◌};
 use crate::tests::ends::end_of_trial;
 use crate::tests::gates::{MeetingGate, PairingGate};
 use crate::tests::readers::{desk_of_two, sleeps_until_dismissed};
-use crate::tests::trial::{READ, WRITE, accounts_of_ten, trial_of};
+use crate::tests::trial::{READ, Trial, WRITE, accounts_of_ten, trial_of};
 use crate::tests::watches::watched;
 use bank_lanes::OpenGate;
 use std::alloc::Global;
@@ -113,6 +113,19 @@ const PAIRS: [&[(u8, bool)]; 24] = [
     ONE, OTHER, BOTH, ONE, OTHER, BOTH, ONE, OTHER,
 ];
 
+/// Whether two lanes share those.
+fn pair_ends<R: Threads + Wait + Abort + Sync>(
+    rt: &R,
+    alloc: Global,
+    dawdle: u64,
+    trial: &Trial,
+) -> Result<bool, Fail> {
+    let accounts = accounts_of_ten(rt, alloc, &[1, 2])?;
+    let gate = PairingGate::new(dawdle);
+    let end = end_of_trial(rt, alloc, accounts, 2, trial, &gate)?;
+    Ok(gate.were_paired() && end.outcomes.len() == 24)
+}
+
 /// Whether two lanes share those, so many times.
 fn pairs_end<R: Threads + Wait + Abort + Sync>(
     rt: &R,
@@ -122,10 +135,7 @@ fn pairs_end<R: Threads + Wait + Abort + Sync>(
 ) -> Result<bool, Fail> {
     let trial = trial_of(rt, alloc, &PAIRS)?;
     for _ in 0..times {
-        let accounts = accounts_of_ten(rt, alloc, &[1, 2])?;
-        let gate = PairingGate::new(dawdle);
-        let end = end_of_trial(rt, alloc, accounts, 2, &trial, &gate)?;
-        if !gate.were_paired() || end.outcomes.len() != 24 {
+        if !pair_ends(rt, alloc, dawdle, &trial)? {
             return Ok(false);
         }
     }
