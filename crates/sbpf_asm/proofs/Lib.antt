@@ -3,15 +3,15 @@ pub mod Digits
 pub mod Labels
 pub mod Drafts
 pub mod Lists
+pub mod Wide
 pub mod Rows
 pub mod Sources
 pub mod Texts
 pub mod Numbers
 pub mod Clean
 pub mod Operands
-pub mod OpcodeRows
-pub mod VerifiedRows
 pub mod ListedLines
+pub mod Cover
 pub mod ListedInstructions
 pub mod ListedSlots
 pub mod ListedTexts

@@ -1,20 +1,22 @@
 -- The line of an instruction, read again.
 use Rattle.std.proofs.Common.{◌≡◌, ◌<◌, ℕ, ◌==◌, not, true, false, List, [], ◌∷◌, ◌++◌, length, Some, None, refl, ap, ap₂, ◌∙◌, map, arith, rules, append-nil, codes, sym}
-use Rattle.std.specs.Prelude.{option_map}
+use Rattle.std.specs.Prelude.{ℤ, pos, fold, option_map}
 use Rattle.std.specs.List.{list_all, AllByRecursion, slice_split}
 use Rattle.std.specs.Str.{bytes_eq}
 use Rattle.std.proofs.lemmas.Bool.Decides.{nat_tests}
 use Rattle.std.proofs.lemmas.List.{length_push}
 use Rattle.sbpf_asm.specs.declared.instruction.Instruction.{Instruction}
+use Rattle.sbpf_isa.specs.declared.rows.OpKind.{OpKind}
+use Rattle.sbpf_isa.specs.declared.rows.OpKind.TheVariants.{Call, LittleEndian, BigEndian}
 use Rattle.sbpf_asm.specs.declared.row.Operand.{Operand}
 use Rattle.sbpf_asm.specs.Words.{Text, Cut, is_blank, is_comma, is_semicolon, trim, cut, ends_with}
-use Rattle.sbpf_asm.specs.Rows.{Row, rows, row_of, start, with_instruction, draft_of, operand_text, operands_text, row_text, written}
-use Rattle.sbpf_asm.specs.Lines.{instruction, code_item, parts_item, word_item, operands_of, after_word, item_of}
+use Rattle.sbpf_asm.specs.Rows.{Row, rows, row_of, start, with_instruction, draft_of, operand_text, operands_of, operands_text, row_text}
+use Rattle.sbpf_asm.specs.Lines.{instruction, code_item, parts_item, word_item, operands_of as line_operands, after_word, item_of}
 use Rattle.sbpf_asm.specs.Assembly.{is_text_byte, is_text}
 use Rattle.sbpf_asm.proofs.Pieces.{cut_none, cut_here, split_none, split_here, trim_framed, all_append}
 use Rattle.sbpf_asm.proofs.Clean.{Clean, is_plain, weaker, plain_not_blank, plain_no_comma, plain_no_semicolon, plain_no_colon, Ends, ends_after, ends_append, clean_ends, framed, clean_framed}
 use Rattle.sbpf_asm.proofs.Sources.{no_empty}
-use Rattle.sbpf_asm.proofs.Operands.{IsWide, IsNumbered, operand_clean, operands_back, ends_push}
+use Rattle.sbpf_asm.proofs.Operands.{IsWide, IsNumbered, operand_clean, operands_back, ends_push, taken}
 
 -- ---- operands parted by commas
 
@@ -42,14 +44,14 @@ trim_all : (texts : List Text) → AllClean texts → map trim (map (λ (u : Tex
 trim_all [] all = refl
 trim_all (u ∷ texts) all = ap₂ (λ (t : Text) (ts : List Text). t ∷ ts) (trim_clean u all.0) (trim_all texts all.1)
 
-operands_some : (text : Text) → 0 < length text → operands_of text ≡ map trim (slice_split is_comma text)
+operands_some : (text : Text) → 0 < length text → line_operands text ≡ map trim (slice_split is_comma text)
 operands_some text h = rw (no_empty (length text) h) refl
 
 some_more : (t rest : Text) → 0 < length t → 0 < length (t ++ rest)
 some_more [] rest h = absurd (omega arith)
 some_more (b ∷ t) rest h = omega arith
 
-operands_read : (t : Text) (texts : List Text) → Clean t → AllClean texts → operands_of (t ++ more_operands texts) ≡ t ∷ texts
+operands_read : (t : Text) (texts : List Text) → Clean t → AllClean texts → line_operands (t ++ more_operands texts) ≡ t ∷ texts
 operands_read t texts h all =
     operands_some (t ++ more_operands texts) (some_more t (more_operands texts) h.some)
     ∙ ap (map trim) (split_operands t texts (weaker is_plain (λ b. not (is_comma b)) plain_no_comma t h.all) all)
@@ -74,11 +76,11 @@ read_operands word texts e h all = ap
     (λ (w : Text). word_item w (after_word (cut is_blank (word_text word texts)).rest)) (front texts)
     ∙ rw e (ap (λ (ts : List Text). option_map instruction (draft_of (row_of word) ts)) (parts texts all))
   where
-    parts : (texts : List Text) → AllClean texts → operands_of (after_word (cut is_blank (word_text word texts)).rest) ≡ texts
+    parts : (texts : List Text) → AllClean texts → line_operands (after_word (cut is_blank (word_text word texts)).rest) ≡ texts
     parts [] all = rw (append-nil word, word_alone word h) refl
     parts (t ∷ texts) all =
-        ap (λ (c : Cut). operands_of (after_word c.rest)) (word_first word (t ++ more_operands texts) h)
-        ∙ ap operands_of (trim_framed (t ++ more_operands texts) (framed t (more_operands texts) all.0 (ends_more t texts all.0 all.1)))
+        ap (λ (c : Cut). line_operands (after_word c.rest)) (word_first word (t ++ more_operands texts) h)
+        ∙ ap line_operands (trim_framed (t ++ more_operands texts) (framed t (more_operands texts) all.0 (ends_more t texts all.0 all.1)))
         ∙ operands_read t texts all.0 all.1
 
     front : (texts : List Text) → (cut is_blank (word_text word texts)).front ≡ word
@@ -123,28 +125,40 @@ line_parts word texts h all =
 
 -- ---- the rows
 
-clean_texts : (r : Row) (i : Instruction) (os : List Operand) → IsWide i → AllClean (map (operand_text r i) os)
-clean_texts r i [] w = tt
-clean_texts r i (o ∷ os) w = (operand_clean r i o w, clean_texts r i os w)
+clean_texts : (i : Instruction) (os : List Operand) → IsWide i → AllClean (map (operand_text i) os)
+clean_texts i [] w = tt
+clean_texts i (o ∷ os) w = (operand_clean i o w, clean_texts i os w)
+
+-- what a row has of itself: `call` its source, `le` and `be` their bits, and the others nothing
+abbrev pub IsBare : OpKind → ℕ → ℤ → Type 0
+IsBare Call src imm = imm ≡ pos 0
+IsBare LittleEndian src imm = src ≡ 0
+IsBare BigEndian src imm = src ≡ 0
+IsBare kind src imm = (src ≡ 0) × (imm ≡ pos 0)
 
 -- a row's mnemonic is clean and its own
 pub record IsRow (r : Row) : Type 0 where
   pub own : row_of r.mnemonic ≡ Some r
   pub some : 0 < length r.mnemonic
   pub plain : list_all is_plain r.mnemonic ≡ true
+  pub bare : IsBare r.kind r.src r.imm
   pub no_const : bytes_eq r.mnemonic (codes ".const") ≡ false
 
 clean_row : (r : Row) → IsRow r → Clean r.mnemonic
 clean_row r is_row = record { some = is_row.some; all = is_row.plain }
 
+-- what a row writes of an instruction: its own fields, and those of the operands
+abbrev pub written : Row → Instruction → Instruction
+written r i = fold (taken i) (start r).instruction (operands_of r.kind r.src)
+
 -- the line of an instruction is read as what its row writes of it
-pub row_back : (r : Row) (i : Instruction) → IsRow r → IsWide i → AllByRecursion (IsNumbered i) r.operands → item_of (row_text r i) ≡ Some (instruction (with_instruction (start r) (written r i)))
+pub row_back : (r : Row) (i : Instruction) → IsRow r → IsWide i → AllByRecursion (IsNumbered i) (operands_of r.kind r.src) → item_of (row_text r i) ≡ Some (instruction (with_instruction (start r) (written r i)))
 row_back r i is_row w n =
-    let texts = map (operand_text r i) r.operands in
-    let all = clean_texts r i r.operands w in
+    let texts = map (operand_text i) (operands_of r.kind r.src) in
+    let all = clean_texts i (operands_of r.kind r.src) w in
     line_parts r.mnemonic texts (clean_row r is_row) all
     ∙ read_operands r.mnemonic texts is_row.no_const (clean_row r is_row) all
-    ∙ rw (is_row.own, operands_back r i (start r) r.operands w n) refl
+    ∙ rw (is_row.own, operands_back i (start r) (operands_of r.kind r.src) w n) refl
 
 -- its bytes are text
 plain_text : (c : ℕ) → is_plain c ≡ true → is_text_byte c ≡ true
@@ -162,7 +176,7 @@ word_is_text word texts h all = all_append is_text_byte word (operands_text (cod
     rest (t ∷ texts) all = all_append is_text_byte t (more_operands texts) (weaker is_plain is_text_byte plain_text t all.0.all) (more texts all.1)
 
 pub row_is_text : (r : Row) (i : Instruction) → IsRow r → IsWide i → is_text (row_text r i) ≡ true
-row_is_text r i is_row w = word_is_text r.mnemonic (map (operand_text r i) r.operands) (clean_row r is_row) (clean_texts r i r.operands w)
+row_is_text r i is_row w = word_is_text r.mnemonic (map (operand_text i) (operands_of r.kind r.src)) (clean_row r is_row) (clean_texts i (operands_of r.kind r.src) w)
 
 pub all_rows : AllByRecursion IsRow rows
 unfolding rows

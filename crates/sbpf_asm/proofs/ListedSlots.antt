@@ -1,13 +1,18 @@
 -- The bytes of a slot of a text are those of the instruction that is listed for it.
-use Rattle.std.proofs.Common.{◌≡◌, ◌<◌, ◌≤◌, ◌+◌, ◌*◌, ◌/◌, ◌%◌, ◌-◌, ◌^◌, ℕ, zero, suc, ◌==◌, Bool, true, false, List, [], ◌∷◌, ◌++◌, take, drop, length, get_or, refl, ap, ap₂, ◌∙◌, arith, append-nil, ◌⊎◌, inl, inr}
+use Rattle.std.proofs.Common.{◌≡◌, ◌<◌, ◌≤◌, ◌+◌, ◌*◌, ◌/◌, ◌%◌, ◌-◌, ◌^◌, ℕ, zero, suc, ◌==◌, Bool, true, false, List, [], ◌∷◌, ◌++◌, take, drop, length, get_or, Some, refl, ap, ap₂, ◌∙◌, arith, append-nil, ◌⊎◌, inl, inr}
 use Rattle.std.specs.Prelude.{ℤ, pos, nat_lt}
 use Rattle.std.specs.Int.{w16, w32, w64, w128, cast_unsigned, cast_signed, to_le_bytes}
 use Rattle.std.proofs.Math.Seq.{take-add}
 use Rattle.std.proofs.lemmas.Int.{of_z-to_z}
 use Rattle.std.proofs.lemmas.List.{drop_more}
 use Rattle.spec_base.specs.Bytes.{IsBytes}
+use Rattle.sbpf_isa.specs.declared.rows.OpKind.{OpKind}
+use Rattle.sbpf_isa.specs.declared.rows.OpKind.TheVariants.{LoadWide}
+use Rattle.sbpf_isa.specs.Rows.{kind_at, opcode_of}
 use Rattle.sbpf_isa.specs.Slots.{slot_of, byte}
+use Rattle.sbpf_isa.proofs.Opcodes.{opcode_of_kind}
 use Rattle.sbpf_asm.specs.declared.instruction.Instruction.{Instruction}
+use Rattle.sbpf_asm.specs.Rows.{is_wide}
 use Rattle.sbpf_asm.specs.Assembly.{low_bytes, first_slot, instruction_bytes}
 use Rattle.sbpf_asm.specs.Listing.{instruction_of, wide_number}
 
@@ -86,27 +91,28 @@ eight_more text p h =
     let bytes : take 8 (drop (8 * p) text) ≡ eight text p = ap (λ (i : ℕ). take 8 (drop i text)) here ∙ bytes_from text (8 * p) 0 8 (omega arith) in
     ap (λ (n : ℕ). take n text) next ∙ take-add (8 * p) 8 text ∙ ap (λ (rest : List ℕ). take (8 * p) text ++ rest) bytes
 
-abbrev with_imm : List ℕ → ℕ → ℤ → Instruction
-with_imm text p z = record { opcode = (slot_of text p).opcode; dst = (slot_of text p).dst; src = (slot_of text p).src; offset = (slot_of text p).offset; imm = z }
+abbrev with_imm : List ℕ → ℕ → OpKind → ℤ → Instruction
+with_imm text p k z = record { kind = k; dst = (slot_of text p).dst; src = (slot_of text p).src; offset = (slot_of text p).offset; imm = z }
 
 abbrev imm_of : List ℕ → ℕ → List ℕ
 imm_of text p = byte text p 4 ∷ byte text p 5 ∷ byte text p 6 ∷ byte text p 7 ∷ []
 
-first_back : (text : List ℕ) (p : ℕ) (z : ℤ) → IsBytes text → take 4 (low_bytes z) ≡ imm_of text p → first_slot (with_imm text p z) ≡ eight text p
+first_back : (text : List ℕ) (p : ℕ) (k : OpKind) (z : ℤ) → IsBytes text → kind_at (slot_of text p).opcode ≡ Some k → take 4 (low_bytes z) ≡ imm_of text p → first_slot (with_imm text p k z) ≡ eight text p
 unfolding slot_of
-first_back text p z are h =
+first_back text p k z are is h =
+    let opcode : opcode_of k ≡ byte text p 0 = opcode_of_kind (byte text p 0) k is in
     let below : byte text p 1 < 256 = are (8 * p + 1) in
     let registers : 16 * (byte text p 1 / 16 % 16) + byte text p 1 % 16 % 16 ≡ byte text p 1 = omega arith in
-    ap₂ (λ (r : ℕ) (rest : List ℕ). byte text p 0 ∷ r ∷ rest) registers
-    (ap₂ (λ (o i : List ℕ). o ++ i) (offset_bytes (byte text p 2) (byte text p 3) (are (8 * p + 2)) (are (8 * p + 3))) h)
+    rw opcode (ap₂ (λ (r : ℕ) (rest : List ℕ). byte text p 0 ∷ r ∷ rest) registers
+    (ap₂ (λ (o i : List ℕ). o ++ i) (offset_bytes (byte text p 2) (byte text p 3) (are (8 * p + 2)) (are (8 * p + 3))) h))
 
 slot_imm_bytes : (text : List ℕ) (p : ℕ) → IsBytes text → take 4 (low_bytes (slot_of text p).imm) ≡ imm_of text p
 unfolding slot_of
 slot_imm_bytes text p are = imm_bytes (byte text p 4) (byte text p 5) (byte text p 6) (byte text p 7) (are (8 * p + 4)) (are (8 * p + 5)) (are (8 * p + 6)) (are (8 * p + 7))
 
 -- an instruction of one slot
-pub one_back : (text : List ℕ) (p : ℕ) → IsBytes text → ((slot_of text p).opcode == 0x18) ≡ false → instruction_bytes (instruction_of text p) ≡ eight text p
-one_back text p are e = rw e (append-nil (first_slot (with_imm text p (slot_of text p).imm)) ∙ first_back text p (slot_of text p).imm are (slot_imm_bytes text p are))
+pub one_back : (text : List ℕ) (p : ℕ) (k : OpKind) → IsBytes text → kind_at (slot_of text p).opcode ≡ Some k → is_wide k ≡ false → instruction_bytes (instruction_of text p k) ≡ eight text p
+one_back text p k are is e = rw e (append-nil (first_slot (with_imm text p k (slot_of text p).imm)) ∙ first_back text p k (slot_of text p).imm are is (slot_imm_bytes text p are))
 
 -- the low half and the high half of the number of `lddw`
 half_is : (text : List ℕ) (p : ℕ) → IsBytes text → cast_unsigned w32 (slot_of text p).imm ≡ byte text p 4 + 256 * byte text p 5 + 65536 * byte text p 6 + 16777216 * byte text p 7
@@ -151,16 +157,14 @@ second_zeros text p rest s =
     eight_is (byte text p 0) (byte text p 1) (byte text p 2) (byte text p 3) rest s.opcode (zero_parts (byte text p 1) s.dst s.src) (omega (arith, both)) (omega (arith, both))
 
 -- an instruction of two slots
-pub two_back : (text : List ℕ) (p : ℕ) → IsBytes text → ((slot_of text p).opcode == 0x18) ≡ true
-    → IsSecond text (p + 1) → instruction_bytes (instruction_of text p) ≡ eight text p ++ eight text (p + 1)
-two_back text p are e s =
+pub two_back : (text : List ℕ) (p : ℕ) → IsBytes text → kind_at (slot_of text p).opcode ≡ Some LoadWide → IsSecond text (p + 1) → instruction_bytes (instruction_of text p LoadWide) ≡ eight text p ++ eight text (p + 1)
+two_back text p are is s =
     let low = cast_unsigned w32 (slot_of text p).imm in
     let high = cast_unsigned w32 (slot_of text (p + 1)).imm in
     let front : take 4 (low_bytes (pos (wide_number text p))) ≡ imm_of text p =
     low_half low high (byte text p 4) (byte text p 5) (byte text p 6) (byte text p 7) (are (8 * p + 4)) (are (8 * p + 5)) (are (8 * p + 6)) (are (8 * p + 7)) (half_is text p are) in
     let q = p + 1 in
     let back : drop 4 (low_bytes (pos (wide_number text p))) ≡ imm_of text q =
-    high_half low high (byte text q 4) (byte text q 5) (byte text q 6) (byte text q 7) (half_below text p are)
-    (are (8 * q + 4)) (are (8 * q + 5)) (are (8 * q + 6)) (are (8 * q + 7)) (half_is text q are) in
-    rw e (ap₂ (λ (x y : List ℕ). x ++ y) (first_back text p (pos (wide_number text p)) are front)
-    (ap (λ (rest : List ℕ). 0 ∷ 0 ∷ 0 ∷ 0 ∷ rest) back ∙ second_zeros text q (imm_of text q) s))
+    high_half low high (byte text q 4) (byte text q 5) (byte text q 6) (byte text q 7) (half_below text p are) (are (8 * q + 4)) (are (8 * q + 5)) (are (8 * q + 6)) (are (8 * q + 7)) (half_is text q are) in
+    ap₂ (λ (x y : List ℕ). x ++ y) (first_back text p LoadWide (pos (wide_number text p)) are is front)
+    (ap (λ (rest : List ℕ). 0 ∷ 0 ∷ 0 ∷ 0 ∷ rest) back ∙ second_zeros text q (imm_of text q) s)

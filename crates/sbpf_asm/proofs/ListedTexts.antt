@@ -1,14 +1,12 @@
 -- The lines of the instructions of a verified text, read again one by one.
-use Rattle.std.proofs.Common.{◌≡◌, ◌<◌, ◌≤◌, ◌+◌, ◌*◌, ◌^◌, ℕ, ◌==◌, Bool, true, false, List, Some, refl, sym, ap, ◌∙◌, arith}
+use Rattle.std.proofs.Common.{◌≡◌, ◌<◌, ◌≤◌, ◌+◌, ◌*◌, ◌^◌, ℕ, Bool, true, false, List, Some, refl, arith}
 use Rattle.std.specs.Prelude.{ℤ, pos, negsuc, nat_lt, unsigned_abs, ◌≤ℤ◌, if◌then◌else◌}
 use Rattle.std.specs.Int.{w16, w32, cast_signed}
-use Rattle.std.proofs.lemmas.Bool.{eqb-true}
 use Rattle.std.proofs.lemmas.Bool.Decides.{nat_tests}
 use Rattle.std.proofs.lemmas.Int.{ints}
 use Rattle.spec_base.specs.Bytes.{IsBytes}
 use Rattle.sbpf_isa.specs.Rows.{kind_at}
 use Rattle.sbpf_isa.specs.Slots.{slot_of, byte}
-use Rattle.sbpf_isa.specs.declared.slot.Slot.{Slot}
 use Rattle.sbpf_isa.specs.declared.rows.OpKind.{OpKind}
 use Rattle.sbpf_isa.specs.declared.rows.OpKind.TheVariants.{CallRegister, LoadWide}
 use Rattle.sbpf_verify.specs.Places.{instruction_at}
@@ -16,39 +14,23 @@ use Rattle.sbpf_verify.specs.Verified.{IsVerified, has_bad_field}
 use Rattle.sbpf_verify.proofs.Starts.{instruction_there, no_row_applies, has_registers}
 use Rattle.sbpf_verify.specs.Instructions.{HasRegisters}
 use Rattle.sbpf_asm.specs.declared.row.Operand.TheVariants.{RegisterNumber}
+use Rattle.sbpf_asm.specs.Rows.{is_wide}
 use Rattle.sbpf_asm.specs.Assembly.{is_in_range, fits_offset, fits_immediate, fits_wide}
 use Rattle.sbpf_asm.specs.Listing.{instruction_of, instruction_text, wide_number}
 use Rattle.sbpf_asm.proofs.Numbers.{Fits64}
 use Rattle.sbpf_asm.proofs.Operands.{IsWide, IsNumbered}
-use Rattle.sbpf_asm.proofs.OpcodeRows.{HasRow}
-use Rattle.sbpf_asm.proofs.VerifiedRows.{has_row}
+use Rattle.sbpf_asm.proofs.Cover.{Fit, fit_slot}
 use Rattle.sbpf_asm.proofs.ListedInstructions.{Reads, instruction_back}
 use Rattle.sbpf_asm.proofs.ListedSlots.{half_below}
 
 -- ---- the instruction of a slot
 
-pub wide_kind : (o : ℕ) (k : OpKind) → kind_at o ≡ Some k → (o == 0x18) ≡ true → k ≡ LoadWide
-unfolding kind_at
-wide_kind o k h e = let same : kind_at 0x18 ≡ Some k = ap kind_at (sym (eqb-true o 0x18 e)) ∙ h in cc
-
-call_kind : (o : ℕ) (k : OpKind) → kind_at o ≡ Some k → o ≡ 0x8d → k ≡ CallRegister
-unfolding kind_at
-call_kind o k h e = let same : kind_at 0x8d ≡ Some k = ap kind_at (sym e) ∙ h in cc
-
-abbrev with_imm : Slot → ℤ → Slot
-with_imm s z = record s { imm = z }
-
-wide_field : (s : Slot) (k : OpKind) (z : ℤ) → k ≡ LoadWide → has_bad_field s k ≡ false → has_bad_field (with_imm s z) k ≡ false
-wide_field s k z e h =
-    let wide : has_bad_field s LoadWide ≡ false = ap (has_bad_field s) (sym e) ∙ h in
-    ap (has_bad_field (with_imm s z)) e ∙ wide
-
-instruction_has_row : (text : List ℕ) (p : ℕ) (k : OpKind) → kind_at (slot_of text p).opcode ≡ Some k → has_bad_field (slot_of text p) k ≡ false → HasRow (instruction_of text p)
-instruction_has_row text p k e h = go ((slot_of text p).opcode == 0x18) refl
-  where
-    go : (b : Bool) → ((slot_of text p).opcode == 0x18) ≡ b → HasRow (instruction_of text p)
-    go true w = rw w (has_row (with_imm (slot_of text p) (pos (wide_number text p))) k e (wide_field (slot_of text p) k (pos (wide_number text p)) (wide_kind (slot_of text p).opcode k e w) h))
-    go false w = rw w (has_row (slot_of text p) k e h)
+fit : (text : List ℕ) (p : ℕ) (k : OpKind) → has_bad_field (slot_of text p) k ≡ false → Fit (instruction_of text p k)
+fit text p LoadWide h =
+    let slot = slot_of text p in
+    let number = pos (wide_number text p) in
+    fit_slot (record slot { imm = number }) LoadWide number h refl
+fit text p k h = fit_slot (slot_of text p) k (slot_of text p).imm h refl
 
 -- ---- its numbers
 
@@ -72,9 +54,7 @@ offset_fits text p are = signed_16 (byte text p 2 + 256 * byte text p 3) (omega 
 
 imm_fits : (text : List ℕ) (p : ℕ) → IsBytes text → (fits_immediate (slot_of text p).imm ≡ true) × Fits64 (slot_of text p).imm
 unfolding slot_of
-imm_fits text p are = signed_32
-    (byte text p 4 + 256 * byte text p 5 + 65536 * byte text p 6 + 16777216 * byte text p 7)
-    (omega (arith, are (8 * p + 4), are (8 * p + 5), are (8 * p + 6), are (8 * p + 7)))
+imm_fits text p are = signed_32 (byte text p 4 + 256 * byte text p 5 + 65536 * byte text p 6 + 16777216 * byte text p 7) (omega (arith, are (8 * p + 4), are (8 * p + 5), are (8 * p + 6), are (8 * p + 7)))
 
 wide_below : (text : List ℕ) (p : ℕ) → IsBytes text → wide_number text p < 2 ^ 64
 wide_below text p are = omega (arith, half_below text p are, half_below text (p + 1) are)
@@ -82,22 +62,22 @@ wide_below text p are = omega (arith, half_below text p are, half_below text (p 
 natural_fits : (n : ℕ) → n < 2 ^ 64 → fits_wide (pos n) ≡ true
 natural_fits n h = grind (arith, nat_tests)
 
-pub in_range : (text : List ℕ) (p : ℕ) → IsBytes text → is_in_range (instruction_of text p) ≡ true
-in_range text p are = go ((slot_of text p).opcode == 0x18) refl
+pub in_range : (text : List ℕ) (p : ℕ) (k : OpKind) → IsBytes text → is_in_range (instruction_of text p k) ≡ true
+in_range text p k are = go (is_wide k) refl
   where
-    go : (b : Bool) → ((slot_of text p).opcode == 0x18) ≡ b → is_in_range (instruction_of text p) ≡ true
+    go : (b : Bool) → is_wide k ≡ b → is_in_range (instruction_of text p k) ≡ true
     go true w = rw (w, (offset_fits text p are).0) (natural_fits (wide_number text p) (wide_below text p are))
     go false w = rw (w, (offset_fits text p are).0) (imm_fits text p are).0
 
-number_fits : (text : List ℕ) (p : ℕ) → IsBytes text → Fits64 (instruction_of text p).imm
-number_fits text p are = go ((slot_of text p).opcode == 0x18)
+number_fits : (text : List ℕ) (p : ℕ) (k : OpKind) → IsBytes text → Fits64 (instruction_of text p k).imm
+number_fits text p k are = go (is_wide k)
   where
     go : (b : Bool) → Fits64 (if b then pos (wide_number text p) else (slot_of text p).imm)
     go true = wide_below text p are
     go false = (imm_fits text p are).1
 
-is_wide : (text : List ℕ) (p : ℕ) (k : OpKind) → IsBytes text → HasRegisters (slot_of text p) k → IsWide (instruction_of text p)
-is_wide text p k are r = record { dst = r.dst; src = r.src; offset = (offset_fits text p are).1; imm = number_fits text p are }
+is_wide_slot : (text : List ℕ) (p : ℕ) (k : OpKind) → IsBytes text → HasRegisters (slot_of text p) k → IsWide (instruction_of text p k)
+is_wide_slot text p k are r = record { dst = r.dst; src = r.src; offset = (offset_fits text p are).1; imm = number_fits text p k are }
 
 below_ten : (n : ℕ) → pos n ≤ℤ pos 9 → n ≤ 10
 below_ten n h = omega (arith, ints)
@@ -109,18 +89,12 @@ numbered : (z : ℤ) → (pos 0 ≤ℤ z) × (z ≤ℤ pos 9) → (unsigned_abs 
 numbered (pos n) h = (below_ten n h.1, refl)
 numbered (negsuc n) h = absurd (not_below n h.0)
 
-is_numbered : (text : List ℕ) (p : ℕ) (k : OpKind) → kind_at (slot_of text p).opcode ≡ Some k
-    → HasRegisters (slot_of text p) k → (instruction_of text p).opcode ≡ 0x8d
-    → IsNumbered (instruction_of text p) RegisterNumber
-is_numbered text p k e r o =
-    let narrow : ((slot_of text p).opcode == 0x18) ≡ false = ap (λ (n : ℕ). n == 0x18) o in
-    rw narrow (numbered (slot_of text p).imm (r.called (call_kind (slot_of text p).opcode k e o)))
+is_numbered : (text : List ℕ) (p : ℕ) (k : OpKind) → HasRegisters (slot_of text p) k → k ≡ CallRegister → IsNumbered (instruction_of text p k) RegisterNumber
+is_numbered text p k r e = rw e (numbered (slot_of text p).imm (r.called e))
 
 -- the line of an instruction of a verified text is read as it
-pub reads : (text : List ℕ) (p : ℕ) (k : OpKind) → IsVerified text → IsBytes text → instruction_at text p ≡ Some k → Reads (instruction_text (instruction_of text p)) (instruction_of text p)
+pub reads : (text : List ℕ) (p : ℕ) (k : OpKind) → IsVerified text → IsBytes text → instruction_at text p ≡ Some k → Reads (instruction_text (instruction_of text p k)) (instruction_of text p k)
 reads text p k v are h =
-    let there = instruction_there text p k h in
     let registers = has_registers text p k v h in
-    instruction_back (instruction_of text p)
-    (instruction_has_row text p k there.1 (no_row_applies text p k v h).1.1.1.0)
-    (is_wide text p k are registers) (is_numbered text p k there.1 registers)
+    instruction_back (instruction_of text p k) (is_wide_slot text p k are registers)
+    (fit text p k (no_row_applies text p k v h).1.1.1.0) (is_numbered text p k registers)

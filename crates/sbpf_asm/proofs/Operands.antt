@@ -13,7 +13,7 @@ use Rattle.sbpf_asm.specs.declared.row.Operand.{Operand}
 use Rattle.sbpf_asm.specs.declared.row.Operand.TheVariants.{Destination, Source, RegisterOrNumber, Number, JumpTarget, DestinationPlace, SourcePlace, RegisterNumber}
 use Rattle.sbpf_asm.specs.Words.{Text, cut, is_sign, positive, negative, ends_with}
 use Rattle.sbpf_asm.specs.Operands.{offset, register_of, register_text, target_of, signed_text, place_of, place_text, place_within, place_by}
-use Rattle.sbpf_asm.specs.Rows.{Row, Draft, with_instruction, with_operand, with_operands, operand_text, distance, taken}
+use Rattle.sbpf_asm.specs.Rows.{Draft, with_instruction, with_operand, with_operands, operand_text, distance, leading, is_call, takes_register, with_register}
 use Rattle.sbpf_asm.proofs.Pieces.{cut_here}
 use Rattle.sbpf_asm.proofs.Numbers.{IsNumber, decimal_number, unsigned_back, number_back, register_back, Fits64}
 use Rattle.sbpf_asm.proofs.Clean.{Clean, weaker, clean_register, clean_number, clean_signed, clean_place}
@@ -102,6 +102,19 @@ abbrev pub IsNumbered : Instruction → Operand → Type 0
 IsNumbered i RegisterNumber = (unsigned_abs i.imm ≤ 10) × (pos (unsigned_abs i.imm) ≡ i.imm)
 IsNumbered i _ = Unit {0}
 
+-- an instruction with the fields that the operand has in another
+abbrev pub taken : Instruction → Instruction → Operand → Instruction
+taken i d Destination = record d { dst = i.dst }
+taken i d Source = record d { src = i.src }
+taken i d RegisterOrNumber =
+    if takes_register i.kind then record d { kind = with_register d.kind; src = i.src }
+    else record d { imm = i.imm }
+taken i d Number = record d { imm = i.imm }
+taken i d JumpTarget = leading (distance i) d
+taken i d DestinationPlace = record d { dst = i.dst; offset = i.offset }
+taken i d SourcePlace = record d { src = i.src; offset = i.offset }
+taken i d RegisterNumber = record d { imm = i.imm }
+
 fits_either : (b : Bool) (x y : ℤ) → Fits64 x → Fits64 y → Fits64 (if b then x else y)
 fits_either true x y h k = h
 fits_either false x y h k = k
@@ -110,38 +123,35 @@ abs_fits : (z : ℤ) → Fits64 z → unsigned_abs z < 2 ^ 64
 abs_fits (pos n) h = h
 abs_fits (negsuc n) h = omega arith
 
-operand_back : (r : Row) (i : Instruction) (d : Draft) (o : Operand) → IsWide i → IsNumbered i o → with_operand r o (operand_text r i o) d ≡ Some (with_instruction d (taken r i d.instruction o))
-operand_back r i d Destination w n = rw (register_back i.dst w.dst) refl
-operand_back r i d Source w n = rw (register_back i.src w.src) refl
-operand_back r i d RegisterOrNumber w n = go (i.opcode == r.opcode) refl
+operand_back : (i : Instruction) (d : Draft) (o : Operand) → IsWide i → IsNumbered i o → with_operand o (operand_text i o) d ≡ Some (with_instruction d (taken i d.instruction o))
+operand_back i d Destination w n = rw (register_back i.dst w.dst) refl
+operand_back i d Source w n = rw (register_back i.src w.src) refl
+operand_back i d RegisterOrNumber w n = go (takes_register i.kind) refl
   where
-    go : (b : Bool) → (i.opcode == r.opcode) ≡ b → with_operand r RegisterOrNumber (operand_text r i RegisterOrNumber) d ≡ Some (with_instruction d (taken r i d.instruction RegisterOrNumber))
-    go true e = rw (e, number_no_register i.imm w.imm, number_back i.imm w.imm) refl
-    go false e = rw (e, register_back i.src w.src) refl
-operand_back r i d Number w n = rw (number_back i.imm w.imm) refl
-operand_back r i d JumpTarget w n = rw (target_back (distance i) (fits_either (i.opcode == 0x85) i.imm i.offset w.imm w.offset)) refl
-operand_back r i d DestinationPlace w n = rw (place_back i.dst i.offset w.dst w.offset) refl
-operand_back r i d SourcePlace w n = rw (place_back i.src i.offset w.src w.offset) refl
-operand_back r i d RegisterNumber w n = rw (register_back (unsigned_abs i.imm) n.0, n.1) refl
+    go : (b : Bool) → takes_register i.kind ≡ b → with_operand RegisterOrNumber (operand_text i RegisterOrNumber) d ≡ Some (with_instruction d (taken i d.instruction RegisterOrNumber))
+    go true e = rw (e, register_back i.src w.src) refl
+    go false e = rw (e, number_no_register i.imm w.imm, number_back i.imm w.imm) refl
+operand_back i d Number w n = rw (number_back i.imm w.imm) refl
+operand_back i d JumpTarget w n = rw (target_back (distance i) (fits_either (is_call i.kind) i.imm i.offset w.imm w.offset)) refl
+operand_back i d DestinationPlace w n = rw (place_back i.dst i.offset w.dst w.offset) refl
+operand_back i d SourcePlace w n = rw (place_back i.src i.offset w.src w.offset) refl
+operand_back i d RegisterNumber w n = rw (register_back (unsigned_abs i.imm) n.0, n.1) refl
 
-pub operand_clean : (r : Row) (i : Instruction) (o : Operand) → IsWide i → Clean (operand_text r i o)
-operand_clean r i Destination w = clean_register i.dst (omega (arith, w.dst))
-operand_clean r i Source w = clean_register i.src (omega (arith, w.src))
-operand_clean r i RegisterOrNumber w = go (i.opcode == r.opcode)
+pub operand_clean : (i : Instruction) (o : Operand) → IsWide i → Clean (operand_text i o)
+operand_clean i Destination w = clean_register i.dst (omega (arith, w.dst))
+operand_clean i Source w = clean_register i.src (omega (arith, w.src))
+operand_clean i RegisterOrNumber w = go (takes_register i.kind)
   where
-    go : (b : Bool) → Clean (if b then signed_decimal i.imm else register_text i.src)
-    go true = clean_number i.imm w.imm
-    go false = clean_register i.src (omega (arith, w.src))
-operand_clean r i Number w = clean_number i.imm w.imm
-operand_clean r i JumpTarget w = clean_signed (distance i) (fits_either (i.opcode == 0x85) i.imm i.offset w.imm w.offset)
-operand_clean r i DestinationPlace w = clean_place i.dst i.offset (omega (arith, w.dst)) w.offset
-operand_clean r i SourcePlace w = clean_place i.src i.offset (omega (arith, w.src)) w.offset
-operand_clean r i RegisterNumber w = clean_register (unsigned_abs i.imm) (abs_fits i.imm w.imm)
+    go : (b : Bool) → Clean (if b then register_text i.src else signed_decimal i.imm)
+    go true = clean_register i.src (omega (arith, w.src))
+    go false = clean_number i.imm w.imm
+operand_clean i Number w = clean_number i.imm w.imm
+operand_clean i JumpTarget w = clean_signed (distance i) (fits_either (is_call i.kind) i.imm i.offset w.imm w.offset)
+operand_clean i DestinationPlace w = clean_place i.dst i.offset (omega (arith, w.dst)) w.offset
+operand_clean i SourcePlace w = clean_place i.src i.offset (omega (arith, w.src)) w.offset
+operand_clean i RegisterNumber w = clean_register (unsigned_abs i.imm) (abs_fits i.imm w.imm)
 
 -- the operands of an instruction are read as its fields
-pub operands_back : (r : Row) (i : Instruction) (d : Draft) (os : List Operand) → IsWide i
-    → AllByRecursion (IsNumbered i) os
-    → with_operands r os (map (operand_text r i) os) d
-    ≡ Some (with_instruction d (fold (taken r i) d.instruction os))
-operands_back r i d [] w n = refl
-operands_back r i d (o ∷ os) w n = rw (operand_back r i d o w n.0) (operands_back r i (with_instruction d (taken r i d.instruction o)) os w n.1)
+pub operands_back : (i : Instruction) (d : Draft) (os : List Operand) → IsWide i → AllByRecursion (IsNumbered i) os → with_operands os (map (operand_text i) os) d ≡ Some (with_instruction d (fold (taken i) d.instruction os))
+operands_back i d [] w n = refl
+operands_back i d (o ∷ os) w n = rw (operand_back i d o w n.0) (operands_back i (with_instruction d (taken i d.instruction o)) os w n.1)

@@ -5,6 +5,7 @@ use Rattle.std.specs.Str.{bytes_eq}
 use Rattle.std.specs.Int.{w64, w128, cast_unsigned, to_le_bytes}
 use Rattle.spec_base.specs.Reading.{◌>>=◌, ok_if}
 use Rattle.sol_base.specs.Accounts.{max_data_len}
+use Rattle.sbpf_isa.specs.Rows.{opcode_of}
 use Rattle.sbpf_verify.specs.Images.{image_bytes}
 use Rattle.sbpf_verify.specs.Places.{max_slots}
 use Rattle.sbpf_verify.specs.Verified.{unfit}
@@ -13,7 +14,7 @@ use Rattle.sbpf_asm.specs.declared.fault.AsmFault.{AsmFault}
 use Rattle.sbpf_asm.specs.declared.fault.AsmFault.TheVariants.{NotText, Syntax, Range, RepeatedLabel, UnknownLabel, TooLong, Unverified, OutOfMemory}
 use Rattle.sbpf_asm.specs.declared.instruction.Instruction.{Instruction}
 use Rattle.sbpf_asm.specs.Words.{Text}
-use Rattle.sbpf_asm.specs.Rows.{Draft, leading}
+use Rattle.sbpf_asm.specs.Rows.{Draft, is_wide, leading}
 use Rattle.sbpf_asm.specs.Lines.{Item, nothing, label, constants, instruction, item_of, lines_of}
 
 -- the one answer that no text shows
@@ -47,11 +48,11 @@ fits_wide = is_within (negsuc 9223372036854775807) (pos 18446744073709551615)
 
 abbrev pub is_in_range : Instruction → Bool
 is_in_range i =
-    fits_offset i.offset && (if i.opcode == 0x18 then fits_wide i.imm else fits_immediate i.imm)
+    fits_offset i.offset && (if is_wide i.kind then fits_wide i.imm else fits_immediate i.imm)
 
 -- how many slots an instruction takes
 abbrev pub slots_taken : Instruction → ℕ
-slots_taken i = if i.opcode == 0x18 then 2 else 1
+slots_taken i = if is_wide i.kind then 2 else 1
 
 -- an instruction with the number of its line, and with its place: the number of slots before it
 pub record Placed : Type 0 where
@@ -136,11 +137,11 @@ low_bytes z = to_le_bytes w64 (cast_unsigned w128 z)
 -- `lddw`, and the high half stands in a second slot
 abbrev pub first_slot : Instruction → List ℕ
 first_slot i =
-    i.opcode ∷ (16 * (i.src % 16) + i.dst % 16)
+    opcode_of i.kind ∷ (16 * (i.src % 16) + i.dst % 16)
     ∷ (take 2 (low_bytes i.offset) ++ take 4 (low_bytes i.imm))
 
 abbrev pub second_slot : Instruction → List ℕ
-second_slot i = if i.opcode == 0x18 then 0 ∷ 0 ∷ 0 ∷ 0 ∷ drop 4 (low_bytes i.imm) else []
+second_slot i = if is_wide i.kind then 0 ∷ 0 ∷ 0 ∷ 0 ∷ drop 4 (low_bytes i.imm) else []
 
 abbrev pub instruction_bytes : Instruction → List ℕ
 instruction_bytes i = first_slot i ++ second_slot i

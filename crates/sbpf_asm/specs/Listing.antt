@@ -5,6 +5,8 @@ use Rattle.std.specs.List.{flat_map, range_with_len}
 use Rattle.std.specs.Fork.{slice_chunk}
 use Rattle.std.specs.Int.{w32, cast_unsigned}
 use Rattle.hex.specs.Hex.{encode_lower}
+use Rattle.sbpf_isa.specs.declared.rows.OpKind.{OpKind}
+use Rattle.sbpf_isa.specs.Rows.{kind_at}
 use Rattle.sbpf_isa.specs.Slots.{slot_of}
 use Rattle.sbpf_verify.specs.Images.{ImageParts, image_in}
 use Rattle.sbpf_verify.specs.Places.{slot_count}
@@ -14,7 +16,7 @@ use Rattle.sbpf_asm.specs.declared.fault.ListFault.{ListFault}
 use Rattle.sbpf_asm.specs.declared.fault.ListFault.TheVariants.{BadImage, Unverified, OutOfMemory}
 use Rattle.sbpf_asm.specs.declared.instruction.Instruction.{Instruction}
 use Rattle.sbpf_asm.specs.Words.{Text}
-use Rattle.sbpf_asm.specs.Rows.{Row, row_for, row_text}
+use Rattle.sbpf_asm.specs.Rows.{Row, is_wide, row_for, row_text}
 
 -- the one answer that no image shows
 abbrev pub is_list_memory : ListFault → Bool
@@ -28,15 +30,15 @@ wide_number text place =
     cast_unsigned w32 (slot_of text place).imm
     + 2 ^ 32 * cast_unsigned w32 (slot_of text (place + 1)).imm
 
--- the instruction of a slot
-abbrev pub instruction_of : List ℕ → ℕ → Instruction
-instruction_of text place =
+-- the instruction of a slot, which is of this kind
+abbrev pub instruction_of : List ℕ → ℕ → OpKind → Instruction
+instruction_of text place kind =
     let slot = slot_of text place in record {
-      opcode = slot.opcode;
+      kind = kind;
       dst = slot.dst;
       src = slot.src;
       offset = slot.offset;
-      imm = if slot.opcode == 0x18 then pos (wide_number text place) else slot.imm;
+      imm = if is_wide kind then pos (wide_number text place) else slot.imm;
     }
 
 abbrev pub text_by : Option Row → Instruction → Text
@@ -48,10 +50,12 @@ abbrev pub instruction_text : Instruction → Text
 instruction_text i = text_by (row_for i) i
 
 -- the line of a slot, or nothing for the second slot of `lddw`
+abbrev pub line_of : List ℕ → ℕ → Option OpKind → Text
+line_of text place None = []
+line_of text place (Some kind) = instruction_text (instruction_of text place kind) ++ codes "\n"
+
 abbrev pub slot_line : List ℕ → ℕ → Text
-slot_line text place =
-    if (slot_of text place).opcode == 0 then []
-    else instruction_text (instruction_of text place) ++ codes "\n"
+slot_line text place = line_of text place (kind_at (slot_of text place).opcode)
 
 -- the lines of the instructions
 abbrev pub instruction_lines : List ℕ → Text

@@ -13,10 +13,6 @@ use Rattle.sbpf_asm.specs.declared.piece.Cut.{Cut as Parts}
 use Rattle.sbpf_asm.specs.declared.operand.Target.{Target as TargetSlice}
 use Rattle.sbpf_asm.specs.declared.operand.Target.TheVariants.{Label as LabelTarget, Offset as OffsetTarget}
 use Rattle.sbpf_asm.specs.declared.row.Row.{Row as TableRow}
-use Rattle.sbpf_asm.specs.declared.row.Operand.{Operand}
-use Rattle.sbpf_asm.specs.declared.row.Operand.TheVariants.{Destination, Source, RegisterOrNumber, Number, JumpTarget, DestinationPlace, SourcePlace, RegisterNumber}
-use Rattle.sbpf_asm.specs.declared.row.Shape.{Shape}
-use Rattle.sbpf_asm.specs.declared.row.Shape.TheVariants.{NoOperand, OneRegister, RegisterAndEither, Compare, Jump, OneNumber, NumberedRegister, Load, StoreNumber, StoreRegister, RegisterAndNumber}
 use Rattle.sbpf_asm.specs.declared.draft.Draft.{Draft as DraftSlices}
 use Rattle.sbpf_asm.specs.Assembly.{Placed, Label as PlacedLabel, Source as Sourced}
 use Rattle.sbpf_asm.specs.declared.source.Placed.{Placed as PlacedSlices}
@@ -45,34 +41,13 @@ abbrev pub target_view : TargetSlice → Target
 target_view (LabelTarget name) = named name.now
 target_view (OffsetTarget away) = offset away
 
-abbrev pub operands_of : Shape → List Operand
-operands_of NoOperand = []
-operands_of OneRegister = Destination ∷ []
-operands_of RegisterAndEither = Destination ∷ RegisterOrNumber ∷ []
-operands_of Compare = Destination ∷ RegisterOrNumber ∷ JumpTarget ∷ []
-operands_of Jump = JumpTarget ∷ []
-operands_of OneNumber = Number ∷ []
-operands_of NumberedRegister = RegisterNumber ∷ []
-operands_of Load = Destination ∷ SourcePlace ∷ []
-operands_of StoreNumber = DestinationPlace ∷ Number ∷ []
-operands_of StoreRegister = DestinationPlace ∷ Source ∷ []
-operands_of RegisterAndNumber = Destination ∷ Number ∷ []
-
 -- the operands that are left to be read, where a text is left
 abbrev pub operands_left : Option Text → List Text
 operands_left None = []
 operands_left (Some text) = map trim (slice_split is_comma text)
 
 abbrev pub row_view : TableRow → Row
-row_view r =
-    record {
-      mnemonic = r.mnemonic.now;
-      opcode = r.opcode;
-      register_opcode = r.register_opcode;
-      src = r.src;
-      imm = r.imm;
-      operands = operands_of r.shape;
-    }
+row_view r = record { mnemonic = r.mnemonic.now; kind = r.kind; src = r.src; imm = r.imm }
 
 abbrev pub draft_view : DraftSlices → Draft
 draft_view d =

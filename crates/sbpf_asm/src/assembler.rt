@@ -10,9 +10,10 @@ ghost use Rattle.sbpf_verify.specs.Places.{max_slots};
 
 use crate::draft::leading;
 use crate::fault::AsmFault;
-use crate::instruction::{Instruction, LOAD_WIDE};
+use crate::instruction::{Instruction, is_wide};
 use crate::source::{Placed, Source, is_in_range};
 use indexmap::IndexMap;
+use sbpf_isa::opcode_of;
 use sbpf_verify::{MAX_SLOTS, first_refusal};
 use sol_base::{Blob, MAX_DATA_LEN, OutOfMemory};
 use std::alloc::Global;
@@ -63,10 +64,10 @@ fn linked(labels: &IndexMap<&[u8], u64>, placed: Placed<'_>) -> Result<Instructi
 fn append_instruction(out: &mut Blob, i: Instruction) -> Result<(), OutOfMemory>
     ensures { OnOk result (out.new ≡ out.old ++ instruction_bytes i) }
 {
-    out.append(&[i.opcode, 16 * (i.src % 16) + i.dst % 16])?;
+    out.append(&[opcode_of(i.kind), 16 * (i.src % 16) + i.dst % 16])?;
     out.append(&i.offset.to_le_bytes()[..2])?;
     out.append(&i.imm.to_le_bytes()[..4])?;
-    if i.opcode == LOAD_WIDE {
+    if is_wide(i.kind) {
         out.append(&[0, 0, 0, 0])?;
         out.append(&i.imm.to_le_bytes()[4..8])?;
     }

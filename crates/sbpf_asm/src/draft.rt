@@ -4,7 +4,7 @@ ghost use Rattle.sbpf_asm.specs.Rows.{draft_of, finished, leading, start, with_f
 ghost use Rattle.sbpf_asm.specs.Lines.{operands_of};
 ghost use Rattle.sbpf_asm.specs.Views.{behind, draft_view, operands_left, rest_view, row_view, target_view};
 
-use crate::instruction::{CALL, Instruction};
+use crate::instruction::{Instruction, is_call, with_register};
 use crate::number::number_of;
 use crate::operand::{Target, place_of, register_of, target_of};
 use crate::piece::{Mark, cut_at, trim};
@@ -21,7 +21,7 @@ pub(crate) struct Draft<'a> {
 pub(crate) fn leading(away: i128, instruction: Instruction) -> Instruction
     ensures { result ≡ leading away instruction }
 {
-    if instruction.opcode == CALL {
+    if is_call(instruction.kind) {
         Instruction {
             imm: away,
             ..instruction
@@ -50,8 +50,8 @@ fn with_target<'a>(draft: Draft<'a>, target: Target<'a>) -> Draft<'a>
 }
 
 /// The instruction with the fields that an operand gives it. A target gives none.
-fn with_fields(row: Row, operand: Operand, text: &[u8], i: Instruction) -> Option<Instruction>
-    ensures { result ≡ with_fields (row_view row) operand text.now i }
+fn with_fields(operand: Operand, text: &[u8], i: Instruction) -> Option<Instruction>
+    ensures { result ≡ with_fields operand text.now i }
 {
     Some(match operand {
         Operand::Destination => Instruction {
@@ -64,7 +64,7 @@ fn with_fields(row: Row, operand: Operand, text: &[u8], i: Instruction) -> Optio
         },
         Operand::RegisterOrNumber => match register_of(text) {
             Some(src) => Instruction {
-                opcode: row.register_opcode,
+                kind: with_register(i.kind),
                 src,
                 ..i
             },
@@ -102,19 +102,14 @@ fn with_fields(row: Row, operand: Operand, text: &[u8], i: Instruction) -> Optio
 }
 
 /// The draft with one more operand.
-fn with_operand<'a>(
-    row: Row,
-    operand: Operand,
-    text: &'a [u8],
-    draft: Draft<'a>,
-) -> Option<Draft<'a>>
+fn with_operand<'a>(operand: Operand, text: &'a [u8], draft: Draft<'a>) -> Option<Draft<'a>>
     ensures { option_map draft_view result
-        ≡ with_operand (row_view row) operand text.entry.now (draft_view draft.entry) }
+        ≡ with_operand operand text.entry.now (draft_view draft.entry) }
 {
     match operand {
         Operand::JumpTarget => Some(with_target(draft, target_of(text)?)),
         _ => Some(Draft {
-            instruction: with_fields(row, operand, text, draft.instruction)?,
+            instruction: with_fields(operand, text, draft.instruction)?,
             target: draft.target,
         }),
     }
@@ -126,7 +121,7 @@ fn start<'a>(row: Row) -> Draft<'a>
 {
     Draft {
         instruction: Instruction {
-            opcode: row.opcode,
+            kind: row.kind,
             dst: 0,
             src: row.src,
             offset: 0,
@@ -176,9 +171,9 @@ pub(crate) fn draft_of(row: Row, operands: &[u8]) -> Option<Draft<'_>>
 {
     let mut draft = start(row);
     let mut rest = operands_left(operands);
-    for operand in operands_of(row.shape) {
+    for operand in operands_of(row) {
         let parts = cut_at(Mark::Comma, rest?);
-        draft = with_operand(row, *operand, trim(parts.front), draft)?;
+        draft = with_operand(*operand, trim(parts.front), draft)?;
         rest = text_behind(parts.rest);
     }
     finished(rest, draft)

@@ -16,5 +16,7 @@ mod source;
 
 pub use assembler::assemble;
 pub use fault::{AsmFault, ListFault};
-pub use laws::{assembled_texts_are_lines_of_items, listings_assemble_again};
+pub use laws::{
+    assembled_texts_are_lines_of_items, listings_assemble_again, opcodes_have_their_mnemonics,
+};
 pub use lister::list;

@@ -1,21 +1,22 @@
 //! From an image to its listing.
-ghost use Rattle.std.specs.Prelude.{◌≡◌, ◌++◌, ◌*◌, ◌<◌, ◌≤◌, OnOk, codes, find, length, map, option_map};
+ghost use Rattle.std.specs.Prelude.{◌≡◌, ◌++◌, ◌*◌, ◌<◌, ◌≤◌, OnOk, Some, codes, find, length, map, option_map};
 ghost use Rattle.std.specs.Fork.{slice_chunk};
 ghost use Rattle.spec_base.specs.Reading.{Gives};
 ghost use Rattle.std.specs.Fmt.{signed_decimal};
+ghost use Rattle.sbpf_isa.specs.Rows.{kind_at};
+ghost use Rattle.sbpf_isa.specs.Slots.{slot_of};
 ghost use Rattle.sbpf_verify.specs.Places.{slot_count};
 ghost use Rattle.sbpf_verify.specs.Verified.{IsVerified};
-ghost use Rattle.sbpf_asm.specs.Rows.{distance, operand_text, row_for, row_text, written, is_row_of, taken};
+ghost use Rattle.sbpf_asm.specs.Rows.{distance, is_row_of, operand_text, row_for, row_text};
 ghost use Rattle.sbpf_asm.specs.Operands.{register_text, signed_text, place_text};
 ghost use Rattle.sbpf_asm.specs.Listing.{constant_line, constant_lines, instruction_lines, instruction_of, instruction_text, is_list_memory, listed, slot_line};
 ghost use Rattle.sbpf_asm.specs.Views.{row_view};
 
-use crate::draft::leading;
 use crate::fault::ListFault;
-use crate::instruction::{CALL, Instruction, LOAD_WIDE};
+use crate::instruction::{Instruction, is_call, takes_register, with_immediate};
 use crate::row::{Operand, Row, operands_of, rows};
 use itoa::Buffer;
-use sbpf_isa::slot_at;
+use sbpf_isa::{OpKind, kind_of, opcode_of, slot_at};
 use sbpf_verify::{first_refusal, read_image};
 use sol_base::{Blob, OutOfMemory};
 use std::alloc::Global;
@@ -56,25 +57,20 @@ fn append_place(out: &mut Blob, register: u8, offset: i128) -> Result<(), OutOfM
 fn distance(i: Instruction) -> i128
     ensures { result ≡ distance i }
 {
-    if i.opcode == CALL { i.imm } else { i.offset }
+    if is_call(i.kind) { i.imm } else { i.offset }
 }
 
-fn append_operand(
-    out: &mut Blob,
-    row: Row,
-    i: Instruction,
-    operand: Operand,
-) -> Result<(), OutOfMemory>
-    ensures { OnOk result (out.new ≡ out.old ++ operand_text (row_view row) i operand) }
+fn append_operand(out: &mut Blob, i: Instruction, operand: Operand) -> Result<(), OutOfMemory>
+    ensures { OnOk result (out.new ≡ out.old ++ operand_text i operand) }
 {
     match operand {
         Operand::Destination => append_register(out, i.dst),
         Operand::Source => append_register(out, i.src),
         Operand::RegisterOrNumber => {
-            if i.opcode == row.opcode {
-                append_number(out, i.imm)
-            } else {
+            if takes_register(i.kind) {
                 append_register(out, i.src)
+            } else {
+                append_number(out, i.imm)
             }
         }
         Operand::Number => append_number(out, i.imm),
@@ -88,69 +84,31 @@ fn append_operand(
     }
 }
 
-/// An instruction with the fields that an operand has in another.
-fn taken(row: Row, i: Instruction, onto: Instruction, operand: Operand) -> Instruction
-    ensures { result ≡ taken (row_view row) i onto operand }
+/// Whether a row names an instruction: it has its kind, but for a register in place of the
+/// immediate, and its source or its bits where it has them by itself.
+fn is_row_of(row: Row, i: Instruction) -> bool
+    ensures { result ≡ is_row_of i (row_view row) }
 {
-    match operand {
-        Operand::Destination => Instruction { dst: i.dst, ..onto },
-        Operand::Source => Instruction { src: i.src, ..onto },
-        Operand::RegisterOrNumber => {
-            if i.opcode == row.opcode {
-                Instruction { imm: i.imm, ..onto }
-            } else {
-                Instruction {
-                    opcode: row.register_opcode,
-                    src: i.src,
-                    ..onto
-                }
-            }
+    opcode_of(row.kind) == opcode_of(with_immediate(i.kind))
+        && match row.kind {
+            OpKind::Call => row.src == i.src,
+            OpKind::LittleEndian | OpKind::BigEndian => row.imm == i.imm,
+            _ => true,
         }
-        Operand::Number => Instruction { imm: i.imm, ..onto },
-        Operand::JumpTarget => leading(distance(i), onto),
-        Operand::DestinationPlace => Instruction {
-            dst: i.dst,
-            offset: i.offset,
-            ..onto
-        },
-        Operand::SourcePlace => Instruction {
-            src: i.src,
-            offset: i.offset,
-            ..onto
-        },
-        Operand::RegisterNumber => Instruction { imm: i.imm, ..onto },
-    }
-}
-
-/// What a row writes of an instruction.
-fn written(row: Row, i: Instruction) -> Instruction
-    ensures { result ≡ written (row_view row) i }
-{
-    let mut made = Instruction {
-        opcode: row.opcode,
-        dst: 0,
-        src: row.src,
-        offset: 0,
-        imm: row.imm,
-    };
-    for operand in operands_of(row.shape) {
-        made = taken(row, i, made, *operand);
-    }
-    made
 }
 
 fn row_in(rows: &[Row], i: Instruction) -> Option<Row>
     ensures { option_map row_view result ≡ find (is_row_of i) (map row_view rows.now) }
 {
     for row in rows {
-        if written(*row, i) == i {
+        if is_row_of(*row, i) {
             return Some(*row);
         }
     }
     None
 }
 
-/// The row of an instruction: the first that writes all of it.
+/// The row of an instruction.
 fn row_for(i: Instruction) -> Option<Row>
     ensures { option_map row_view result ≡ row_for i }
 {
@@ -162,29 +120,32 @@ fn append_row(out: &mut Blob, row: Row, i: Instruction) -> Result<(), OutOfMemor
 {
     out.append(row.mnemonic)?;
     let mut parting: &[u8] = b" ";
-    for operand in operands_of(row.shape) {
+    for operand in operands_of(row) {
         out.append(parting)?;
-        append_operand(out, row, i, *operand)?;
+        append_operand(out, i, *operand)?;
         parting = b", ";
     }
     Ok(())
 }
 
-/// The instruction of a slot.
-fn instruction_of(text: &[u8], place: usize) -> Instruction
+/// The instruction of a slot, which is of this kind.
+#[tactic(auto, using(crate::proofs::Wide::second_there))]
+fn instruction_of(text: &[u8], place: usize, kind: OpKind) -> Instruction
     requires verified { IsVerified text.now }
     requires there { place < slot_count text.now }
-    ensures { result ≡ instruction_of text.now place }
+    requires known { kind_at (slot_of text.now place).opcode ≡ Some kind }
+    ensures { result ≡ instruction_of text.now place kind }
 {
     let slot = slot_at(text, place);
-    let imm = if slot.opcode == LOAD_WIDE {
-        let high = slot_at(text, place + 1).imm.cast_unsigned();
-        i128::from(u64::from(slot.imm.cast_unsigned()) | u64::from(high) << 32)
-    } else {
-        i128::from(slot.imm)
+    let imm = match kind {
+        OpKind::LoadWide => {
+            let high = slot_at(text, place + 1).imm.cast_unsigned();
+            i128::from(u64::from(slot.imm.cast_unsigned()) | u64::from(high) << 32)
+        }
+        _ => i128::from(slot.imm),
     };
     Instruction {
-        opcode: slot.opcode,
+        kind,
         dst: slot.dst,
         src: slot.src,
         offset: i128::from(slot.offset),
@@ -215,10 +176,10 @@ fn append_slot(out: &mut Blob, text: &[u8], place: usize) -> Result<(), OutOfMem
     requires there { place < slot_count text.now }
     ensures { OnOk result (out.new ≡ out.old ++ slot_line text.now place) }
 {
-    if slot_at(text, place).opcode == 0 {
-        return Ok(());
+    match kind_of(slot_at(text, place).opcode) {
+        None => Ok(()),
+        Some(kind) => append_line(out, instruction_of(text, place, kind)),
     }
-    append_line(out, instruction_of(text, place))
 }
 
 fn append_instructions(out: &mut Blob, text: &[u8]) -> Result<(), OutOfMemory>

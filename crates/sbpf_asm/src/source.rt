@@ -9,7 +9,7 @@ ghost use Rattle.hex.specs.Hex.{decode_of};
 
 use crate::draft::Draft;
 use crate::fault::AsmFault;
-use crate::instruction::{Instruction, LOAD_WIDE};
+use crate::instruction::{Instruction, is_wide};
 use crate::line::{Item, item_of};
 use crate::piece::{Mark, cut_at};
 use indexmap::IndexMap;
@@ -51,7 +51,7 @@ pub(crate) fn is_in_range(i: Instruction) -> bool
     ensures { result ≡ is_in_range i }
 {
     let fits_offset = -0x8000 <= i.offset && i.offset <= 0x7fff;
-    if i.opcode == LOAD_WIDE {
+    if is_wide(i.kind) {
         fits_offset && -0x8000_0000_0000_0000 <= i.imm && i.imm <= 0xffff_ffff_ffff_ffff
     } else {
         fits_offset && -0x8000_0000 <= i.imm && i.imm <= 0x7fff_ffff
@@ -136,7 +136,7 @@ impl<'a> Source<'a> {
             place: self.slots,
             draft,
         })?;
-        self.slots += if draft.instruction.opcode == LOAD_WIDE {
+        self.slots += if is_wide(draft.instruction.kind) {
             2
         } else {
             1

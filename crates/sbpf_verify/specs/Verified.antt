@@ -3,7 +3,8 @@
 use Rattle.std.specs.Prelude.{◌≡◌, ℕ, zero, suc, ◌+◌, ◌-◌, ◌%◌, ◌<◌, ◌==◌, ◌&&◌, ◌||◌, not, Bool, true, false, List, [], ◌∷◌, ◌++◌, length, nat_lt, Option, Some, None, is_none, if◌then◌else◌, ℤ, pos, int_lt}
 use Rattle.std.specs.List.{AllByRecursion, flat_map, range_with_len}
 use Rattle.std.specs.Ordering.{int_eq}
-use Rattle.sbpf_isa.specs.Rows.{kind_at}
+use Rattle.sbpf_isa.specs.Fields.{used}
+use Rattle.sbpf_isa.specs.Rows.{exit, jump_always, kind_at, load_wide}
 use Rattle.sbpf_isa.specs.Slots.{slot_of}
 use Rattle.sbpf_isa.specs.declared.slot.Slot.{Slot}
 use Rattle.sbpf_isa.specs.declared.rows.Operation.TheVariants.{Div, Mod, Lsh, Rsh, Arsh}
@@ -13,6 +14,7 @@ use Rattle.sbpf_isa.specs.declared.rows.Operand.TheVariants.{Immediate, Register
 use Rattle.sbpf_isa.specs.declared.rows.OpKind.{OpKind}
 use Rattle.sbpf_isa.specs.declared.rows.OpKind.TheVariants.{Binary, Negate, LittleEndian, BigEndian, Jump as JumpKind, JumpIf, Call, CallRegister, Exit, Load, Store, LoadWide}
 use Rattle.sbpf_verify.specs.Places.{slot_count, max_slots, is_start_at, leads_to}
+use Rattle.sbpf_isa.specs.declared.fields.Fields.{Fields}
 use Rattle.sbpf_verify.specs.declared.fault.VerifyFault.{VerifyFault}
 use Rattle.sbpf_verify.specs.declared.fault.VerifyFault.TheVariants.{Length, Opcode, Register, WritesFrame, ZeroDivisor, Shift, HalfWide, Jump, Helper, OpenEnd, Field}
 use Rattle.sbpf_isa.specs.Calls.{invoke_call}
@@ -29,7 +31,7 @@ has_bad_length text =
 -- the slot before is `lddw`
 abbrev pub follows_wide : List ℕ → ℕ → Bool
 follows_wide text zero = false
-follows_wide text (suc before) = (slot_of text before).opcode == 0x18
+follows_wide text (suc before) = (slot_of text before).opcode == load_wide
 
 -- Opcode: no row in the table of instructions, but for opcode 0 directly after `lddw`
 abbrev pub lacks_row : List ℕ → ℕ → Bool
@@ -63,34 +65,6 @@ abbrev pub writes_frame : Slot → Bool
 writes_frame slot =
     let class = slot.opcode % 8 in ((class == 0) || (class == 1) || (class == 4) || (class == 7))
     && (slot.dst == 10)
-
--- the fields that a row uses
-pub record Fields : Type 0 where
-  pub dst : Bool
-  pub src : Bool
-  pub offset : Bool
-  pub imm : Bool
-
--- by destination, source, offset and immediate
-abbrev pub fields : Bool → Bool → Bool → Bool → Fields
-fields d s o i = record { dst = d; src = s; offset = o; imm = i }
-
-abbrev pub used : OpKind → Fields
-used (Binary operation width Immediate) = fields true false false true
-used (Binary operation width RegisterOperand) = fields true true false false
-used (Negate width) = fields true false false false
-used LittleEndian = fields true false false true
-used BigEndian = fields true false false true
-used JumpKind = fields false false true false
-used (JumpIf when Immediate) = fields true false true true
-used (JumpIf when RegisterOperand) = fields true true true false
-used Call = fields false true false true
-used CallRegister = fields false false false true
-used Exit = fields false false false false
-used (Load size) = fields true true true false
-used (Store size Immediate) = fields true false true true
-used (Store size RegisterOperand) = fields true true true false
-used LoadWide = fields true false false true
 
 -- Field: a field that the row does not use is not 0; `le` and `be` with an immediate other than 16,
 -- 32 and 64; `call` with a source above 1
@@ -147,7 +121,7 @@ calls_no_helper slot _ = false
 abbrev pub has_open_end : List ℕ → Bool
 has_open_end text =
     let opcode = (slot_of text (slot_count text - 1)).opcode in
-    not ((opcode == 0x95) || (opcode == 0x05))
+    not ((opcode == exit) || (opcode == jump_always))
 
 -- a row of the table: whether it applies, and its refusal
 pub record Row : Type 0 where

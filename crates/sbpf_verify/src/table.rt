@@ -1,20 +1,17 @@
 //! The rows of the table of refusals, each by itself.
-ghost use Rattle.std.specs.Prelude.{◌≡◌, ◌<◌, ◌≤◌, length};
+ghost use Rattle.std.specs.Prelude.{◌≡◌, ◌<◌, ◌≤◌, ◌&&◌, length, not, pos};
+ghost use Rattle.std.specs.Ordering.{int_eq};
+ghost use Rattle.sbpf_isa.specs.Fields.{used};
 ghost use Rattle.sbpf_verify.specs.Places.{slot_count};
 ghost use Rattle.sbpf_verify.specs.Verified as Table;
 
 use crate::places::{is_start_at, leads_to};
-use sbpf_isa::{INVOKE_CALL, OpKind, Operand, Operation, Slot, Width, slot_at};
+use sbpf_isa::{
+    EXIT, INVOKE_CALL, JUMP, LOAD_WIDE, OpKind, Operand, Operation, Slot, Width, slot_at, used,
+};
 
 /// The most slots of a text (the project's own).
 pub const MAX_SLOTS: usize = 65_536;
-
-/// The opcodes of `lddw`, `exit` and `ja`.
-const LOAD_WIDE: u8 = 0x18;
-
-const EXIT: u8 = 0x95;
-
-const JUMP: u8 = 0x05;
 
 /// Row `Length` of the table of refusals: what the length of a text may not be.
 pub fn has_bad_length(text: &[u8]) -> bool
@@ -69,26 +66,27 @@ pub fn writes_frame(slot: Slot) -> bool
     matches!(slot.opcode % 8, 0 | 1 | 4 | 7) && slot.dst == 10
 }
 
+fn is_zero(number: i32) -> bool
+    ensures { result ≡ int_eq number (pos 0) }
+{
+    number == 0
+}
+
+fn is_stray(is_used: bool, is_zero: bool) -> bool
+    ensures { result ≡ (not is_used && not is_zero) }
+{
+    !is_used && !is_zero
+}
+
 /// Whether a field that the instruction does not use is not 0.
 fn has_stray_field(slot: Slot, kind: OpKind) -> bool
-    ensures { result ≡ Table.has_stray_field slot (Table.used kind) }
+    ensures { result ≡ Table.has_stray_field slot (used kind) }
 {
-    match kind {
-        OpKind::Binary(_, _, Operand::Immediate)
-        | OpKind::LittleEndian
-        | OpKind::BigEndian
-        | OpKind::LoadWide => slot.src != 0 || slot.offset != 0,
-        OpKind::Binary(_, _, Operand::Register) => slot.offset != 0 || slot.imm != 0,
-        OpKind::Negate(_) => slot.src != 0 || slot.offset != 0 || slot.imm != 0,
-        OpKind::Jump => slot.dst != 0 || slot.src != 0 || slot.imm != 0,
-        OpKind::JumpIf(_, Operand::Immediate) => slot.src != 0,
-        OpKind::JumpIf(_, Operand::Register) => slot.imm != 0,
-        OpKind::Load(_) | OpKind::Store(_, Operand::Register) => slot.imm != 0,
-        OpKind::Store(_, Operand::Immediate) => slot.src != 0,
-        OpKind::Call => slot.dst != 0 || slot.offset != 0,
-        OpKind::CallRegister => slot.dst != 0 || slot.src != 0 || slot.offset != 0,
-        OpKind::Exit => slot.dst != 0 || slot.src != 0 || slot.offset != 0 || slot.imm != 0,
-    }
+    let row = used(kind);
+    is_stray(row.dst, slot.dst == 0)
+        || is_stray(row.src, slot.src == 0)
+        || is_stray(row.offset, is_zero(i32::from(slot.offset)))
+        || is_stray(row.imm, is_zero(slot.imm))
 }
 
 /// Whether a field that the instruction uses has a value that means nothing.

@@ -9,4 +9,4 @@ abbrev pub invariant-loop-operand : goal.invariant-loop-operand
 invariant-loop-operand l =
     let row = row_view l.row in
     let draft : Draft = record { instruction = l.draft.0; target = option_map (λ name. name.now) l.draft.1.0 } in
-    with_operands row (drop l.operand-index l.operand-items) (operands_left (option_map (λ text. text.now) l.rest)) draft ≡ draft_of (Some row) (operands_of l.operands)
+    with_operands (drop l.operand-index l.operand-items) (operands_left (option_map (λ text. text.now) l.rest)) draft ≡ draft_of (Some row) (operands_of l.operands)
