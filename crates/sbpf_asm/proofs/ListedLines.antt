@@ -152,7 +152,9 @@ abbrev pub written : Row → Instruction → Instruction
 written r i = fold (taken i) (start r).instruction (operands_of r.kind r.src)
 
 -- the line of an instruction is read as what its row writes of it
-pub row_back : (r : Row) (i : Instruction) → IsRow r → IsWide i → AllByRecursion (IsNumbered i) (operands_of r.kind r.src) → item_of (row_text r i) ≡ Some (instruction (with_instruction (start r) (written r i)))
+pub row_back : (r : Row) (i : Instruction) → IsRow r → IsWide i
+    → AllByRecursion (IsNumbered i) (operands_of r.kind r.src)
+    → item_of (row_text r i) ≡ Some (instruction (with_instruction (start r) (written r i)))
 row_back r i is_row w n =
     let texts = map (operand_text i) (operands_of r.kind r.src) in
     let all = clean_texts i (operands_of r.kind r.src) w in

@@ -54,7 +54,9 @@ offset_fits text p are = signed_16 (byte text p 2 + 256 * byte text p 3) (omega 
 
 imm_fits : (text : List ℕ) (p : ℕ) → IsBytes text → (fits_immediate (slot_of text p).imm ≡ true) × Fits64 (slot_of text p).imm
 unfolding slot_of
-imm_fits text p are = signed_32 (byte text p 4 + 256 * byte text p 5 + 65536 * byte text p 6 + 16777216 * byte text p 7) (omega (arith, are (8 * p + 4), are (8 * p + 5), are (8 * p + 6), are (8 * p + 7)))
+imm_fits text p are = signed_32
+    (byte text p 4 + 256 * byte text p 5 + 65536 * byte text p 6 + 16777216 * byte text p 7)
+    (omega (arith, are (8 * p + 4), are (8 * p + 5), are (8 * p + 6), are (8 * p + 7)))
 
 wide_below : (text : List ℕ) (p : ℕ) → IsBytes text → wide_number text p < 2 ^ 64
 wide_below text p are = omega (arith, half_below text p are, half_below text (p + 1) are)

@@ -89,7 +89,8 @@ program_long false true budget = refl
 program_long false false true = refl
 program_long false false false = tt
 
-digits_long : (r : Result (List ℕ) FromHexError) → ((bytes : List ℕ) → r ≡ Ok bytes → length bytes ≡ 32) → IfSome (option_map (λ bytes. (let key : Key = record { 0 = bytes } in key)) (result_ok r)) IsKey
+digits_long : (r : Result (List ℕ) FromHexError) → ((bytes : List ℕ) → r ≡ Ok bytes → length bytes ≡ 32)
+    → IfSome (option_map (λ bytes. (let key : Key = record { 0 = bytes } in key)) (result_ok r)) IsKey
 digits_long (Ok bytes) long = long bytes refl
 digits_long (Err e) long = tt
 
@@ -111,7 +112,9 @@ named_long text key h =
     let programs = program_long (bytes_eq (codes "system") text) (bytes_eq (codes "loader") text) (bytes_eq (codes "budget") text) in
     let digits = digits_long (decode_sized text 32) (decoded text) in
     let others = first_long (key_of_digits text) (key_of_name text) digits (name_long (is_name text) text) in
-    read_long (option_or (program_named text) (option_or (key_of_digits text) (key_of_name text))) (key_wanted text) key (first_long (program_named text) (option_or (key_of_digits text) (key_of_name text)) programs others) h
+    read_long (option_or (program_named text) (option_or (key_of_digits text) (key_of_name text)))
+    (key_wanted text) key (first_long (program_named text)
+    (option_or (key_of_digits text) (key_of_name text)) programs others) h
 
 key_long : (d : Data) (key : Key) → key_in d ≡ Ok key → IsKey key
 unfolding key_in
