@@ -11,6 +11,7 @@ mod meets;
 mod notes;
 mod passes;
 mod readers;
+mod tables;
 mod trial;
 mod watches;
 mod works;

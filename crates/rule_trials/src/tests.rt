@@ -1,4 +1,5 @@
 //! The worked examples that name a call of a format or of a rule, and each front of the formats.
+mod admitted;
 mod batches;
 mod derived;
 mod devices;
@@ -8,5 +9,6 @@ mod logs;
 mod pieces;
 mod records;
 mod rent;
+mod rules;
 mod snapshots;
 mod store;
