@@ -149,9 +149,7 @@ call_written : (b : Bool) (d s src : ℕ) (o m imm : ℤ) → (src == 0) ≡ b �
 call_written true d s src o m imm z e f g = rw z (same Call _ _ _ _ _ _ _ _ e f g refl)
 call_written false d s src o m imm z e f g = rw z (same Call _ _ _ _ _ _ _ _ e f g refl)
 
-pub written_back : (k : OpKind) (d s : ℕ) (o m : ℤ) (src : ℕ) (imm : ℤ) → Unused d s o m (used k)
-    → IsBare (with_immediate k) src imm → HasOwn k src imm s m
-    → written_of (with_immediate k) src imm (instruction k d s o m) ≡ instruction k d s o m
+pub written_back : (k : OpKind) (d s : ℕ) (o m : ℤ) (src : ℕ) (imm : ℤ) → Unused d s o m (used k) → IsBare (with_immediate k) src imm → HasOwn k src imm s m → written_of (with_immediate k) src imm (instruction k d s o m) ≡ instruction k d s o m
 written_back (Binary op w Immediate) d s o m src imm u b own = same _ _ _ _ _ _ _ _ _ refl (b.0 ∙ sym (u.src refl)) (sym (u.offset refl)) refl
 written_back (Binary op w Register) d s o m src imm u b own = same _ _ _ _ _ _ _ _ _ refl refl (sym (u.offset refl)) (b.1 ∙ sym (u.imm refl))
 written_back (Negate w) d s o m src imm u b own = same _ _ _ _ _ _ _ _ _ refl (b.0 ∙ sym (u.src refl)) (sym (u.offset refl)) (b.1 ∙ sym (u.imm refl))
