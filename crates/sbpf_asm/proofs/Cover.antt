@@ -1,8 +1,8 @@
 -- Each instruction that the verifier lets pass has its row, which writes all of it.
-use Rattle.std.proofs.Common.{◌≡◌, ℕ, zero, suc, ◌==◌, ◌&&◌, not, Bool, true, false, Some, refl, sym, subst, arith, ◌∙◌, rules, inl, inr, ◌⊎◌}
+use Rattle.std.proofs.Common.{◌≡◌, ℕ, zero, suc, ◌==◌, ◌&&◌, not, Bool, true, false, refl, sym, subst, arith, ◌∙◌, inl, inr, ◌⊎◌}
 use Rattle.std.specs.Prelude.{ℤ, pos, nat_lt, fold}
 use Rattle.std.specs.Ordering.{int_eq}
-use Rattle.std.specs.List.{AllByRecursion, list_any}
+use Rattle.std.specs.List.{list_any}
 use Rattle.std.proofs.lemmas.Bool.{or_parts, not-false, eqb-true}
 use Rattle.std.proofs.lemmas.Bool.Decides.{Decides-int_eq, nat_tests}
 use Rattle.sbpf_isa.specs.declared.slot.Slot.{Slot}
@@ -149,7 +149,9 @@ call_written : (b : Bool) (d s src : ℕ) (o m imm : ℤ) → (src == 0) ≡ b �
 call_written true d s src o m imm z e f g = rw z (same Call _ _ _ _ _ _ _ _ e f g refl)
 call_written false d s src o m imm z e f g = rw z (same Call _ _ _ _ _ _ _ _ e f g refl)
 
-pub written_back : (k : OpKind) (d s : ℕ) (o m : ℤ) (src : ℕ) (imm : ℤ) → Unused d s o m (used k) → IsBare (with_immediate k) src imm → HasOwn k src imm s m → written_of (with_immediate k) src imm (instruction k d s o m) ≡ instruction k d s o m
+pub written_back : (k : OpKind) (d s : ℕ) (o m : ℤ) (src : ℕ) (imm : ℤ) → Unused d s o m (used k)
+    → IsBare (with_immediate k) src imm → HasOwn k src imm s m
+    → written_of (with_immediate k) src imm (instruction k d s o m) ≡ instruction k d s o m
 written_back (Binary op w Immediate) d s o m src imm u b own = same _ _ _ _ _ _ _ _ _ refl (b.0 ∙ sym (u.src refl)) (sym (u.offset refl)) refl
 written_back (Binary op w Register) d s o m src imm u b own = same _ _ _ _ _ _ _ _ _ refl refl (sym (u.offset refl)) (b.1 ∙ sym (u.imm refl))
 written_back (Negate w) d s o m src imm u b own = same _ _ _ _ _ _ _ _ _ refl (b.0 ∙ sym (u.src refl)) (sym (u.offset refl)) (b.1 ∙ sym (u.imm refl))

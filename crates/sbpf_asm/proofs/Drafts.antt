@@ -22,12 +22,15 @@ pub one_operand : (os : List Operand) (i : ℕ) (z : Operand) (text t : Text) (p
     → with_operands (drop i os) (operands_left (Some text)) d ≡ option_and_then (with_operands (drop (i + 1) os) (operands_left (behind parts.rest))) (with_operand (get_or os i z) t d)
 one_operand os i z text t parts d h p q = rw (q, p) (ap₂ (λ (kinds : List Operand) (texts : List Text). with_operands kinds texts d) (drop_more os i z h) (operands_cut text))
 
-pub next_operand : (os : List Operand) (i : ℕ) (z : Operand) (text t : Text) (parts : Cut) (d e : Draft) → i < length os → parts ≡ cut is_comma text → t ≡ trim parts.front → with_operand (get_or os i z) t d ≡ Some e
+pub next_operand : (os : List Operand) (i : ℕ) (z : Operand) (text t : Text) (parts : Cut) (d e : Draft)
+    → i < length os → parts ≡ cut is_comma text → t ≡ trim parts.front
+    → with_operand (get_or os i z) t d ≡ Some e
     → with_operands (drop i os) (operands_left (Some text)) d ≡ with_operands (drop (i + 1) os) (operands_left (behind parts.rest)) e
 next_operand os i z text t parts d e h p q w =
     one_operand os i z text t parts d h p q ∙ ap (option_and_then (with_operands (drop (i + 1) os) (operands_left (behind parts.rest)))) w
 
-pub refused_operand : (os : List Operand) (i : ℕ) (z : Operand) (text t : Text) (parts : Cut) (d : Draft) → i < length os → parts ≡ cut is_comma text → t ≡ trim parts.front → with_operand (get_or os i z) t d ≡ None
+pub refused_operand : (os : List Operand) (i : ℕ) (z : Operand) (text t : Text) (parts : Cut) (d : Draft)
+    → i < length os → parts ≡ cut is_comma text → t ≡ trim parts.front → with_operand (get_or os i z) t d ≡ None
     → with_operands (drop i os) (operands_left (Some text)) d ≡ None
 refused_operand os i z text t parts d h p q w =
     one_operand os i z text t parts d h p q ∙ ap (option_and_then (with_operands (drop (i + 1) os) (operands_left (behind parts.rest)))) w

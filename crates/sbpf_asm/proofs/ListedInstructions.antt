@@ -1,7 +1,6 @@
 -- The line of an instruction that the verifier lets pass is read as that instruction.
 use Rattle.std.proofs.Common.{◌≡◌, ◌==◌, ℕ, Bool, true, false, List, [], ◌∷◌, Some, None, refl, sym, ap, subst, ◌∙◌}
-use Rattle.std.specs.Prelude.{ℤ, find}
-use Rattle.std.specs.Ordering.{int_eq}
+use Rattle.std.specs.Prelude.{find}
 use Rattle.std.specs.List.{AllByRecursion, list_any}
 use Rattle.std.proofs.lemmas.Bool.{and_parts, eqb-true}
 use Rattle.std.proofs.lemmas.Bool.Decides.{Decides-int_eq}
@@ -19,7 +18,7 @@ use Rattle.sbpf_asm.specs.Assembly.{is_text}
 use Rattle.sbpf_asm.specs.Listing.{instruction_text}
 use Rattle.sbpf_asm.proofs.Operands.{IsWide, IsNumbered}
 use Rattle.sbpf_asm.proofs.ListedLines.{IsRow, IsBare, all_rows, row_back, row_is_text, written}
-use Rattle.sbpf_asm.proofs.Cover.{Fit, HasOwn, HasRow, written_back, written_of}
+use Rattle.sbpf_asm.proofs.Cover.{Fit, HasOwn, written_back, written_of}
 
 -- a row that passes a test, with what holds of all rows
 record Found (P : Row → Type 0) (test : Row → Bool) (rs : List Row) : Type 0 where

@@ -69,8 +69,12 @@ word_alone word h = cut_none is_blank word (weaker is_plain (λ b. not (is_blank
 pub word_first : (word rest : Text) → Clean word → cut is_blank (word ++ 32 ∷ rest) ≡ record { front = word; rest = Some (32, rest) }
 word_first word rest h = cut_here is_blank word 32 rest (weaker is_plain (λ b. not (is_blank b)) plain_not_blank word h.all) refl
 
-read_operands : (word : Text) (texts : List Text) → bytes_eq word (codes ".const") ≡ false → Clean word → AllClean texts → parts_item (cut is_blank (word_text word texts)) ≡ option_map instruction (draft_of (row_of word) texts)
-read_operands word texts e h all = ap (λ (w : Text). word_item w (after_word (cut is_blank (word_text word texts)).rest)) (front texts) ∙ rw e (ap (λ (ts : List Text). option_map instruction (draft_of (row_of word) ts)) (parts texts all))
+read_operands : (word : Text) (texts : List Text) → bytes_eq word (codes ".const") ≡ false → Clean word
+    → AllClean texts → parts_item (cut is_blank (word_text word texts))
+    ≡ option_map instruction (draft_of (row_of word) texts)
+read_operands word texts e h all = ap
+    (λ (w : Text). word_item w (after_word (cut is_blank (word_text word texts)).rest)) (front texts)
+    ∙ rw e (ap (λ (ts : List Text). option_map instruction (draft_of (row_of word) ts)) (parts texts all))
   where
     parts : (texts : List Text) → AllClean texts → line_operands (after_word (cut is_blank (word_text word texts)).rest) ≡ texts
     parts [] all = rw (append-nil word, word_alone word h) refl
@@ -148,7 +152,9 @@ abbrev pub written : Row → Instruction → Instruction
 written r i = fold (taken i) (start r).instruction (operands_of r.kind r.src)
 
 -- the line of an instruction is read as what its row writes of it
-pub row_back : (r : Row) (i : Instruction) → IsRow r → IsWide i → AllByRecursion (IsNumbered i) (operands_of r.kind r.src) → item_of (row_text r i) ≡ Some (instruction (with_instruction (start r) (written r i)))
+pub row_back : (r : Row) (i : Instruction) → IsRow r → IsWide i
+    → AllByRecursion (IsNumbered i) (operands_of r.kind r.src)
+    → item_of (row_text r i) ≡ Some (instruction (with_instruction (start r) (written r i)))
 row_back r i is_row w n =
     let texts = map (operand_text i) (operands_of r.kind r.src) in
     let all = clean_texts i (operands_of r.kind r.src) w in

@@ -1,5 +1,5 @@
 -- The bytes of a slot of a text are those of the instruction that is listed for it.
-use Rattle.std.proofs.Common.{◌≡◌, ◌<◌, ◌≤◌, ◌+◌, ◌*◌, ◌/◌, ◌%◌, ◌-◌, ◌^◌, ℕ, zero, suc, ◌==◌, Bool, true, false, List, [], ◌∷◌, ◌++◌, take, drop, length, get_or, Some, refl, ap, ap₂, ◌∙◌, arith, append-nil, ◌⊎◌, inl, inr}
+use Rattle.std.proofs.Common.{◌≡◌, ◌<◌, ◌≤◌, ◌+◌, ◌*◌, ◌/◌, ◌%◌, ◌-◌, ◌^◌, ℕ, zero, suc, Bool, true, false, List, [], ◌∷◌, ◌++◌, take, drop, length, get_or, Some, refl, ap, ap₂, ◌∙◌, arith, append-nil, ◌⊎◌, inl, inr}
 use Rattle.std.specs.Prelude.{ℤ, pos, nat_lt}
 use Rattle.std.specs.Int.{w16, w32, w64, w128, cast_unsigned, cast_signed, to_le_bytes}
 use Rattle.std.proofs.Math.Seq.{take-add}
@@ -97,7 +97,9 @@ with_imm text p k z = record { kind = k; dst = (slot_of text p).dst; src = (slot
 abbrev imm_of : List ℕ → ℕ → List ℕ
 imm_of text p = byte text p 4 ∷ byte text p 5 ∷ byte text p 6 ∷ byte text p 7 ∷ []
 
-first_back : (text : List ℕ) (p : ℕ) (k : OpKind) (z : ℤ) → IsBytes text → kind_at (slot_of text p).opcode ≡ Some k → take 4 (low_bytes z) ≡ imm_of text p → first_slot (with_imm text p k z) ≡ eight text p
+first_back : (text : List ℕ) (p : ℕ) (k : OpKind) (z : ℤ) → IsBytes text
+    → kind_at (slot_of text p).opcode ≡ Some k → take 4 (low_bytes z) ≡ imm_of text p
+    → first_slot (with_imm text p k z) ≡ eight text p
 unfolding slot_of
 first_back text p k z are is h =
     let opcode : opcode_of k ≡ byte text p 0 = opcode_of_kind (byte text p 0) k is in
@@ -157,7 +159,9 @@ second_zeros text p rest s =
     eight_is (byte text p 0) (byte text p 1) (byte text p 2) (byte text p 3) rest s.opcode (zero_parts (byte text p 1) s.dst s.src) (omega (arith, both)) (omega (arith, both))
 
 -- an instruction of two slots
-pub two_back : (text : List ℕ) (p : ℕ) → IsBytes text → kind_at (slot_of text p).opcode ≡ Some LoadWide → IsSecond text (p + 1) → instruction_bytes (instruction_of text p LoadWide) ≡ eight text p ++ eight text (p + 1)
+pub two_back : (text : List ℕ) (p : ℕ) → IsBytes text → kind_at (slot_of text p).opcode ≡ Some LoadWide
+    → IsSecond text (p + 1) → instruction_bytes (instruction_of text p LoadWide)
+    ≡ eight text p ++ eight text (p + 1)
 two_back text p are is s =
     let low = cast_unsigned w32 (slot_of text p).imm in
     let high = cast_unsigned w32 (slot_of text (p + 1)).imm in
@@ -165,6 +169,7 @@ two_back text p are is s =
     low_half low high (byte text p 4) (byte text p 5) (byte text p 6) (byte text p 7) (are (8 * p + 4)) (are (8 * p + 5)) (are (8 * p + 6)) (are (8 * p + 7)) (half_is text p are) in
     let q = p + 1 in
     let back : drop 4 (low_bytes (pos (wide_number text p))) ≡ imm_of text q =
-    high_half low high (byte text q 4) (byte text q 5) (byte text q 6) (byte text q 7) (half_below text p are) (are (8 * q + 4)) (are (8 * q + 5)) (are (8 * q + 6)) (are (8 * q + 7)) (half_is text q are) in
+    high_half low high (byte text q 4) (byte text q 5) (byte text q 6) (byte text q 7) (half_below text p are)
+    (are (8 * q + 4)) (are (8 * q + 5)) (are (8 * q + 6)) (are (8 * q + 7)) (half_is text q are) in
     ap₂ (λ (x y : List ℕ). x ++ y) (first_back text p LoadWide (pos (wide_number text p)) are is front)
     (ap (λ (rest : List ℕ). 0 ∷ 0 ∷ 0 ∷ 0 ∷ rest) back ∙ second_zeros text q (imm_of text q) s)

@@ -5,13 +5,12 @@ use Rattle.std.specs.Int.{w16, w32, cast_signed}
 use Rattle.std.proofs.lemmas.Bool.Decides.{nat_tests}
 use Rattle.std.proofs.lemmas.Int.{ints}
 use Rattle.spec_base.specs.Bytes.{IsBytes}
-use Rattle.sbpf_isa.specs.Rows.{kind_at}
 use Rattle.sbpf_isa.specs.Slots.{slot_of, byte}
 use Rattle.sbpf_isa.specs.declared.rows.OpKind.{OpKind}
 use Rattle.sbpf_isa.specs.declared.rows.OpKind.TheVariants.{CallRegister, LoadWide}
 use Rattle.sbpf_verify.specs.Places.{instruction_at}
 use Rattle.sbpf_verify.specs.Verified.{IsVerified, has_bad_field}
-use Rattle.sbpf_verify.proofs.Starts.{instruction_there, no_row_applies, has_registers}
+use Rattle.sbpf_verify.proofs.Starts.{no_row_applies, has_registers}
 use Rattle.sbpf_verify.specs.Instructions.{HasRegisters}
 use Rattle.sbpf_asm.specs.declared.row.Operand.TheVariants.{RegisterNumber}
 use Rattle.sbpf_asm.specs.Rows.{is_wide}

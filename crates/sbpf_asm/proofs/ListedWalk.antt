@@ -111,7 +111,9 @@ no_row_of_zero : (o : ℕ) → o ≡ 0 → kind_at o ≡ None
 unfolding kind_at
 no_row_of_zero o e = rw e refl
 
-next_wide : (text : List ℕ) (p : ℕ) → IsVerified text → IsBytes text → p < slot_count text → kind_at (slot_of text p).opcode ≡ Some LoadWide → (p + 1 < slot_count text) × IsSecond text (p + 1) → Next text p LoadWide
+next_wide : (text : List ℕ) (p : ℕ) → IsVerified text → IsBytes text → p < slot_count text
+    → kind_at (slot_of text p).opcode ≡ Some LoadWide → (p + 1 < slot_count text) × IsSecond text (p + 1)
+    → Next text p LoadWide
 next_wide text p v are l is half =
     let narrow : ((slot_of text (p + 1)).opcode == 0x18) ≡ false = ap (λ (o : ℕ). o == 0x18) half.1.opcode in
     let line : Text = instruction_text (instruction_of text p LoadWide) ++ codes "\n" in
@@ -172,7 +174,8 @@ slots_push labels before (p ∷ ps) line place i bytes h =
 one_line : (n : ℕ) (s : Source) (line : Text) (i : Instruction) → Reads line i → is_in_range i ≡ true → with_line n s line ≡ Ok (with_draft n s (listed_draft i))
 one_line n s line i r fits = rw (r.text, r.item, fits) refl
 
-holds_more : (text : List ℕ) (p n : ℕ) (bytes : List ℕ) (s : Source) → Holds text p bytes s → (k : OpKind) → (x : Next text p k) → Holds text x.place bytes (with_draft n s (listed_draft (instruction_of text p k)))
+holds_more : (text : List ℕ) (p n : ℕ) (bytes : List ℕ) (s : Source) → Holds text p bytes s → (k : OpKind)
+    → (x : Next text p k) → Holds text x.place bytes (with_draft n s (listed_draft (instruction_of text p k)))
 holds_more text p n bytes s h k x = record {
   slots = ap (λ (m : ℕ). m + slots_taken (instruction_of text p k)) h.slots ∙ x.taken;
   constants = h.constants;
@@ -234,12 +237,16 @@ pub walked : (text tail : List ℕ) → IsVerified text → IsBytes text → (fu
 walked text tail v are zero p n s few within starts h = at_end text tail p n s (omega arith) h
 walked text tail v are (suc fuel) p n s few within starts h = go (walked text tail v are fuel) (nat_lt p (slot_count text)) refl
   where
-    go : ((q m : ℕ) (t : Source) → slot_count text ≤ q + fuel → q ≤ slot_count text → (q < slot_count text → ((slot_of text q).opcode == 0) ≡ false) → Holds text q [] t → Walked text m t (lines_from text q) tail)
+    go : ((q m : ℕ) (t : Source) → slot_count text ≤ q + fuel → q ≤ slot_count text
+        → (q < slot_count text → ((slot_of text q).opcode == 0) ≡ false) → Holds text q [] t
+        → Walked text m t (lines_from text q) tail)
         → (b : Bool) → nat_lt p (slot_count text) ≡ b → Walked text n s (lines_from text p) tail
     go rest true e =
         let l : p < slot_count text = grind (arith, nat_tests) in
         let kind = start_instruction text p v (start_at text p l (starts l)) in
         let x = next text p kind.0 v are kind.1 in
         let later = x.later in
-        on text tail p n s kind.0 v are kind.1 x (rest x.place (n + 1) (with_draft n s (listed_draft (instruction_of text p kind.0))) (omega arith) x.within x.starts (holds_more text p n [] s h kind.0 x))
+        on text tail p n s kind.0 v are kind.1 x
+        (rest x.place (n + 1) (with_draft n s (listed_draft (instruction_of text p kind.0))) (omega arith)
+        x.within x.starts (holds_more text p n [] s h kind.0 x))
     go rest false e = let l : slot_count text ≤ p = grind (arith, nat_tests) in at_end text tail p n s (omega arith) h

@@ -152,6 +152,8 @@ operand_clean i SourcePlace w = clean_place i.src i.offset (omega (arith, w.src)
 operand_clean i RegisterNumber w = clean_register (unsigned_abs i.imm) (abs_fits i.imm w.imm)
 
 -- the operands of an instruction are read as its fields
-pub operands_back : (i : Instruction) (d : Draft) (os : List Operand) → IsWide i → AllByRecursion (IsNumbered i) os → with_operands os (map (operand_text i) os) d ≡ Some (with_instruction d (fold (taken i) d.instruction os))
+pub operands_back : (i : Instruction) (d : Draft) (os : List Operand) → IsWide i
+    → AllByRecursion (IsNumbered i) os
+    → with_operands os (map (operand_text i) os) d ≡ Some (with_instruction d (fold (taken i) d.instruction os))
 operands_back i d [] w n = refl
 operands_back i d (o ∷ os) w n = rw (operand_back i d o w n.0) (operands_back i (with_instruction d (taken i d.instruction o)) os w n.1)

@@ -12,7 +12,7 @@ use Rattle.sbpf_isa.specs.declared.rows.Condition.TheVariants.{Equal}
 use Rattle.sbpf_isa.specs.declared.rows.Size.{Size}
 use Rattle.sbpf_isa.specs.declared.rows.Size.TheVariants.{Four}
 use Rattle.sbpf_isa.specs.declared.rows.OpKind.{OpKind}
-use Rattle.sbpf_isa.specs.declared.rows.OpKind.TheVariants.{Binary, Negate, LittleEndian, BigEndian, Jump, JumpIf, Call, CallRegister, Exit, Load, Store, LoadWide}
+use Rattle.sbpf_isa.specs.declared.rows.OpKind.TheVariants.{Binary, Negate, JumpIf, Load, Store}
 use Rattle.sbpf_isa.specs.Rows.{Row, row, rows, kinds, kind_at, kind_in, opcode_of}
 
 abbrev IsOwn : OpKind → Type 0

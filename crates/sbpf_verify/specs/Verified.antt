@@ -1,6 +1,6 @@
 -- The verified texts: the table of refusals, and the first that applies (sBPF, in this project's
 -- profile).
-use Rattle.std.specs.Prelude.{◌≡◌, ℕ, zero, suc, ◌+◌, ◌-◌, ◌%◌, ◌<◌, ◌==◌, ◌&&◌, ◌||◌, not, Bool, true, false, List, [], ◌∷◌, ◌++◌, length, nat_lt, Option, Some, None, is_none, if◌then◌else◌, ℤ, pos, int_lt}
+use Rattle.std.specs.Prelude.{◌≡◌, ℕ, zero, suc, ◌+◌, ◌-◌, ◌%◌, ◌<◌, ◌==◌, ◌&&◌, ◌||◌, not, Bool, false, List, [], ◌∷◌, ◌++◌, length, nat_lt, Option, Some, None, is_none, if◌then◌else◌, ℤ, pos, int_lt}
 use Rattle.std.specs.List.{AllByRecursion, flat_map, range_with_len}
 use Rattle.std.specs.Ordering.{int_eq}
 use Rattle.sbpf_isa.specs.Fields.{used}
@@ -10,9 +10,9 @@ use Rattle.sbpf_isa.specs.declared.slot.Slot.{Slot}
 use Rattle.sbpf_isa.specs.declared.rows.Operation.TheVariants.{Div, Mod, Lsh, Rsh, Arsh}
 use Rattle.sbpf_isa.specs.declared.rows.Width.{Width}
 use Rattle.sbpf_isa.specs.declared.rows.Width.TheVariants.{Bits64, Bits32}
-use Rattle.sbpf_isa.specs.declared.rows.Operand.TheVariants.{Immediate, Register as RegisterOperand}
+use Rattle.sbpf_isa.specs.declared.rows.Operand.TheVariants.{Immediate}
 use Rattle.sbpf_isa.specs.declared.rows.OpKind.{OpKind}
-use Rattle.sbpf_isa.specs.declared.rows.OpKind.TheVariants.{Binary, Negate, LittleEndian, BigEndian, Jump as JumpKind, JumpIf, Call, CallRegister, Exit, Load, Store, LoadWide}
+use Rattle.sbpf_isa.specs.declared.rows.OpKind.TheVariants.{Binary, LittleEndian, BigEndian, Call, CallRegister, LoadWide}
 use Rattle.sbpf_verify.specs.Places.{slot_count, max_slots, is_start_at, leads_to}
 use Rattle.sbpf_isa.specs.declared.fields.Fields.{Fields}
 use Rattle.sbpf_verify.specs.declared.fault.VerifyFault.{VerifyFault}
