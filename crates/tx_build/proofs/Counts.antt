@@ -118,3 +118,18 @@ shares_count (table ∷ tables) ms h =
     )
 
 -- ---- all keys
+
+pub keys_are_listed : (draft : Draft) → length (keys_of draft) ≡ length (listed draft)
+unfolding draft_mentions own_keys draft_shares keys_of
+keys_are_listed draft =
+    let tables = tables_of draft.version in
+    let all = listed draft in
+    let shares = draft_shares draft in
+    omega (
+      arith,
+      ordered_count (own_mentions tables all),
+      shares_count tables (loaded_mentions tables all) (loaded_held tables all),
+      length-filter_both (is_loaded tables) (λ m. not (is_loaded tables m)) (λ m. refl) all,
+      length-append (own_keys draft) (loaded_keys shares),
+      length-append (flat_map (λ share. share.writable) shares) (flat_map (λ share. share.readonly) shares),
+    )
