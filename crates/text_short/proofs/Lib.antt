@@ -1,3 +1,4 @@
 mod MemberNames
 mod LoneItems
+mod KeyLaws
 pub mod ShortLaws

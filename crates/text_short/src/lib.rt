@@ -15,5 +15,5 @@ mod system;
 mod transaction;
 
 pub use batch::short_batch_of_json;
-pub use laws::built_batches_are_read;
+pub use laws::{built_batches_are_read, digits_are_the_key, mistyped_keys_are_refused};
 pub use names::named_key;
