@@ -9,6 +9,8 @@ mod logs;
 mod pieces;
 mod records;
 mod rent;
+mod roles;
 mod rules;
 mod snapshots;
 mod store;
+mod values;
