@@ -240,8 +240,8 @@ module _ (s t : State) (all all_others : List ℕ) (out others : List ℕ) where
             (added ∙ ap (λ (o : Option Account). out ++ left_by e.0 e.1 o) (sym (get_is t e.0 ∙ other_of_first (entries s) (entries t) e f first second W.merging same))) W.told;
         told_others = goes_on (right_lines s) others others (f ∷ second) second f all_others refl
             (sym (append-nil others) ∙ ap (λ (o : Option Account). others ++ right_by f.0 o)
-                (sym (get_is s f.0 ∙ other_of_second (entries s) (entries t) e f first second W.merging same)))
-                W.told_others;
+            (sym (get_is s f.0 ∙ other_of_second (entries s) (entries t) e f first second W.merging same)))
+            W.told_others;
       }))
 
   pub Walked-first : (e : Entry) (first next : List Entry) (new : List ℕ)
