@@ -113,7 +113,7 @@ say_more() {
     "$REFUSED") say_refused ;;
     3) say_parts ;;
     "$READING_FAILED") say 'reading failed' ;;
-    "$WRITING_FAILED") [ -p /dev/fd/1 ] || say 'writing failed' ;;
+    "$WRITING_FAILED") [ -p /dev/fd/1 ] || [[ $last = "$command: "* ]] || say 'writing failed' ;;
     "$OUT_OF_MEMORY") say 'out of memory' ;;
   esac
 }

@@ -177,6 +177,9 @@ meant() {
   printf %s "${name:+ (did you mean $name?)}"
 }
 
+# printable WORD: the word, as one that a terminal may show.
+printable() { if [[ $1 =~ ^[[:graph:]]*$ ]]; then printf %s "$1"; else printf %q "$1"; fi; }
+
 # is_number TEXT LEAST MOST: decimal digits for a number in this range, which may need 64 bits.
 is_number() {
   [[ $1 =~ ^0*([0-9]+)$ ]] && is_at_most "$2" "${BASH_REMATCH[1]}" && is_at_most "${BASH_REMATCH[1]}" "$3"
@@ -196,7 +199,7 @@ is_one_of() {
 # fault_of_value LINE TEXT: what is wrong with a value, if something is.
 fault_of_value() {
   part "$1"
-  is_one_of "$values" "$2" || printf '%s is %s, and not %s\n' "${term% [A-Z]}" "$values" "$2"
+  is_one_of "$values" "$2" || printf '%s is %s, and not %s\n' "${term% [A-Z]}" "$values" "$(printable "$2")"
 }
 
 # find_option NAME: the line of an option, as `option`.
@@ -237,7 +240,7 @@ sort_arguments() {
 # fault_of_option OPTION: what is wrong with an option as sort_arguments has it, if something is.
 fault_of_option() {
   local name=${1%%=*} option
-  find_option "$name" || { echo "there is no option $name$(meant "$name" "${options[@]%% *}")"; return; }
+  find_option "$name" || { echo "there is no option $(printable "$name")$(meant "$name" "${options[@]%% *}")"; return; }
   part "$option"
   if [ "$term" = "$name" ]; then
     [ "$1" = "$name" ] || echo "$name takes no value"
@@ -254,7 +257,7 @@ faults_of_options() {
   for one in "${given_options[@]}"; do
     name=${one%%=*}
     fault_of_option "$one"
-    [[ $met != *" $name "* ]] || echo "$name is given twice"
+    [[ $met != *" $name "* ]] || echo "$(printable "$name") is given twice"
     met+="$name "
   done
   for name in $(needed_options); do
@@ -273,7 +276,7 @@ faults_of_others() {
     most=$((most - 1))
   done
   shift "$(($# < most ? $# : most))"
-  [ "$#" = 0 ] || echo "there is one argument too many: $1"
+  [ "$#" = 0 ] || echo "there is one argument too many: $(printable "$1")"
 }
 
 # fault_of_arguments WORDS..: the first thing that is wrong with the arguments of the page that was read, in
