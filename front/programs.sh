@@ -49,7 +49,7 @@ sums_of_files() {
   local crate
   for crate in $(crates_of_program); do
     find "crates/$crate/src" "crates/$crate/specs" "crates/$crate/proofs" \
-      -type f \( -name '*.rt' -o -name '*.antt' \) 2>/dev/null
+      -type f \( -name '*.rt' -o -name '*.antt' \) ! -name '.*' 2>/dev/null
   done | LC_ALL=C sort | tr '\n' '\0' | xargs -0 -r sha256sum
 }
 
