@@ -14,7 +14,7 @@ left_behind None = refl
 left_behind (Some p) = refl
 
 -- the operands of a text: the first, and those that are left behind the comma
-operands_cut : (text : Text) → operands_left (Some text) ≡ trim (cut is_comma text).front ∷ operands_left (behind (cut is_comma text).rest)
+pub operands_cut : (text : Text) → operands_left (Some text) ≡ trim (cut is_comma text).front ∷ operands_left (behind (cut is_comma text).rest)
 operands_cut text = ap (map trim) (split_cut is_comma text) ∙ ap (λ (texts : List Text). trim (cut is_comma text).front ∷ texts) (left_behind (cut is_comma text).rest)
 
 -- with one operand of a row, and then with the others

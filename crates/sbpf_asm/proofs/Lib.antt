@@ -4,7 +4,7 @@ pub mod Labels
 pub mod Drafts
 pub mod Lists
 pub mod Wide
-pub mod Rows
+pub mod FirstRow
 pub mod Sources
 pub mod Texts
 pub mod Numbers

@@ -12,7 +12,7 @@ use crate::row::{Operand, Row, operands_of};
 
 /// An instruction as a line writes it: its target may be a label that is still to be put in.
 #[derive(Clone, Copy)]
-pub(crate) struct Draft<'a> {
+pub struct Draft<'a> {
     pub instruction: Instruction,
     pub target: Option<&'a [u8]>,
 }
@@ -132,7 +132,7 @@ fn start<'a>(row: Row) -> Draft<'a>
 }
 
 /// The operands, or None where there is none.
-fn operands_left(operands: &[u8]) -> Option<&[u8]>
+pub fn operands_left(operands: &[u8]) -> Option<&[u8]>
     ensures { operands_left (option_map (λ text. text.now) result) ≡ operands_of operands.now }
 {
     if operands.is_empty() {
@@ -143,7 +143,7 @@ fn operands_left(operands: &[u8]) -> Option<&[u8]>
 }
 
 /// What follows the byte that a text is cut at.
-fn text_behind<'a>(rest: Option<(u8, &'a [u8])>) -> Option<&'a [u8]>
+pub fn text_behind<'a>(rest: Option<(u8, &'a [u8])>) -> Option<&'a [u8]>
     ensures { option_map (λ text. text.now) result ≡ behind (rest_view rest.entry) }
 {
     match rest {

@@ -7,7 +7,7 @@ use sbpf_isa::{OpKind, Operand as Second};
 /// An instruction with its numbers as a line writes them, which are not yet known to be in range.
 /// The immediate of `lddw` is its whole number.
 #[derive(Clone, Copy)]
-pub(crate) struct Instruction {
+pub struct Instruction {
     pub kind: OpKind,
     pub dst: u8,
     pub src: u8,
@@ -16,14 +16,14 @@ pub(crate) struct Instruction {
 }
 
 /// Whether it is `lddw`, the only instruction of two slots.
-pub(crate) fn is_wide(kind: OpKind) -> bool
+pub fn is_wide(kind: OpKind) -> bool
     ensures { result ≡ is_wide kind }
 {
     matches!(kind, OpKind::LoadWide)
 }
 
 /// Whether it is `call`, which has its target in its immediate.
-pub(crate) fn is_call(kind: OpKind) -> bool
+pub fn is_call(kind: OpKind) -> bool
     ensures { result ≡ is_call kind }
 {
     matches!(kind, OpKind::Call)

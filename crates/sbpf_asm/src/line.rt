@@ -11,7 +11,7 @@ use crate::row::row_of;
 
 /// What a line stands for.
 #[derive(Clone, Copy)]
-pub(crate) enum Item<'a> {
+pub enum Item<'a> {
     Nothing,
     Label(&'a [u8]),
     /// Lower case hexadecimal digits, of which there may be an odd number.
@@ -49,7 +49,7 @@ fn word_item<'a>(word: &[u8], rest: &'a [u8]) -> Option<Item<'a>>
 }
 
 /// The text after the first word.
-fn after_word<'a>(rest: Option<(u8, &'a [u8])>) -> &'a [u8]
+pub fn after_word<'a>(rest: Option<(u8, &'a [u8])>) -> &'a [u8]
     ensures { result.now ≡ after_word (rest_view rest.entry) }
 {
     match rest {
@@ -72,7 +72,7 @@ fn code_item(code: &[u8]) -> Option<Item<'_>>
 }
 
 /// What a line stands for, or None where it is spelled as nothing that there is.
-pub(crate) fn item_of(line: &[u8]) -> Option<Item<'_>>
+pub fn item_of(line: &[u8]) -> Option<Item<'_>>
     ensures { option_and_then item_view result ≡ item_of line.now }
 {
     code_item(trim(cut_at(Mark::Semicolon, line).front))

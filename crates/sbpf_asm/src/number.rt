@@ -107,7 +107,7 @@ pub(crate) fn signed_of(sign: u8, text: &[u8]) -> Option<i128>
 }
 
 /// A number with an optional `-` before it.
-pub(crate) fn number_of(text: &[u8]) -> Option<i128>
+pub fn number_of(text: &[u8]) -> Option<i128>
     ensures { result ≡ number_of text.now }
 {
     if text.starts_with(b"-") {

@@ -9,19 +9,20 @@ use crate::piece::{Cut, Mark, cut_at};
 
 /// Where an instruction leads: to a label, or so many slots on from the next.
 #[derive(Clone, Copy)]
-pub(crate) enum Target<'a> {
+pub enum Target<'a> {
     Label(&'a [u8]),
     Offset(i128),
 }
 
 /// A place in memory: what a register holds, and an offset.
 #[derive(Clone, Copy)]
-pub(crate) struct Place {
+pub struct Place {
     pub register: u8,
     pub offset: i128,
 }
 
-pub(crate) fn register_of(text: &[u8]) -> Option<u8>
+/// The register of a text, where it is one.
+pub fn register_of(text: &[u8]) -> Option<u8>
     ensures { result ≡ register_of text.now }
 {
     if text == b"r10".as_slice() {
@@ -40,7 +41,8 @@ fn are_name_bytes(text: &[u8]) -> bool
         .all(|byte| byte.is_ascii_alphanumeric() || *byte == b'_')
 }
 
-pub(crate) fn is_name(text: &[u8]) -> bool
+/// Whether a text is a name: 1 to 64 letters, digits and `_`, and no digit first.
+pub fn is_name(text: &[u8]) -> bool
     ensures { result ≡ is_name text.now }
 {
     are_name_bytes(text) && 0 < text.len() && text.len() <= 64 && !text[0].is_ascii_digit()
@@ -52,7 +54,8 @@ fn starts_with_sign(text: &[u8]) -> bool
     text.starts_with(b"+") || text.starts_with(b"-")
 }
 
-pub(crate) fn target_of(text: &[u8]) -> Option<Target<'_>>
+/// The target of a text, where it is one.
+pub fn target_of(text: &[u8]) -> Option<Target<'_>>
     ensures { option_map target_view result ≡ target_of text.now }
 {
     if starts_with_sign(text) {
@@ -75,7 +78,8 @@ fn place_within(parts: Cut<'_>) -> Option<Place>
     Some(Place { register, offset })
 }
 
-pub(crate) fn place_of(text: &[u8]) -> Option<Place>
+/// The place in memory of a text, where it is one.
+pub fn place_of(text: &[u8]) -> Option<Place>
     ensures { result ≡ place_of text.now }
 {
     if 1 < text.len() && text.starts_with(b"[") && text.ends_with(b"]") {

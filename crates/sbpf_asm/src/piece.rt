@@ -5,7 +5,7 @@ ghost use Rattle.sbpf_asm.specs.Views.{cut_view, is_mark};
 
 /// What a text is cut at.
 #[derive(Clone, Copy)]
-pub(crate) enum Mark {
+pub enum Mark {
     Blank,
     Comma,
     Semicolon,
@@ -15,7 +15,7 @@ pub(crate) enum Mark {
 
 /// What stands before the first byte of a kind, and that byte with what follows it.
 #[derive(Clone, Copy)]
-pub(crate) struct Cut<'a> {
+pub struct Cut<'a> {
     pub front: &'a [u8],
     pub rest: Option<(u8, &'a [u8])>,
 }
@@ -38,7 +38,8 @@ fn is_mark(mark: Mark, byte: u8) -> bool
     }
 }
 
-pub(crate) fn cut_at<'a>(mark: Mark, text: &'a [u8]) -> Cut<'a>
+/// A text cut at its first byte of a kind.
+pub fn cut_at<'a>(mark: Mark, text: &'a [u8]) -> Cut<'a>
     ensures { cut_view result ≡ cut (is_mark mark) text.entry.now }
 {
     for at in 0..text.len() {
@@ -77,7 +78,7 @@ fn without_last_blanks(text: &[u8]) -> &[u8]
 }
 
 /// The text without blanks at both ends.
-pub(crate) fn trim(text: &[u8]) -> &[u8]
+pub fn trim(text: &[u8]) -> &[u8]
     ensures { result.now ≡ trim text.now }
 {
     without_last_blanks(without_first_blanks(text))

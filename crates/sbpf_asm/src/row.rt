@@ -8,7 +8,7 @@ use sbpf_isa::{Condition, OpKind, Operand as Second, Operation, Size, Width};
 
 /// What an operand gives.
 #[derive(Clone, Copy)]
-pub(crate) enum Operand {
+pub enum Operand {
     Destination,
     Source,
     /// The source register, or the immediate.
@@ -26,7 +26,7 @@ pub(crate) enum Operand {
 
 /// A row of the table: a mnemonic, and what its instruction has without operands.
 #[derive(Clone, Copy)]
-pub(crate) struct Row {
+pub struct Row {
     pub mnemonic: &'static [u8],
     /// What the instruction is, with an immediate where a register may stand too.
     pub kind: OpKind,
@@ -108,7 +108,7 @@ static ROWS: [Row; 61] = [
 ];
 
 /// The operands of a row, in their order.
-pub(crate) fn operands_of(row: Row) -> &'static [Operand]
+pub fn operands_of(row: Row) -> &'static [Operand]
     ensures { result.now ≡ operands_of row.kind row.src }
 {
     match row.kind {
@@ -132,7 +132,7 @@ pub(crate) fn operands_of(row: Row) -> &'static [Operand]
 
 /// The table.
 #[tactic(auto, unfolding(crate::specs::Rows::rows))]
-pub(crate) fn rows() -> &'static [Row]
+pub fn rows() -> &'static [Row]
     ensures { map row_view result.now ≡ rows }
 {
     &ROWS
@@ -150,7 +150,7 @@ fn row_in(rows: &[Row], mnemonic: &[u8]) -> Option<Row>
 }
 
 /// The row of a mnemonic.
-pub(crate) fn row_of(mnemonic: &[u8]) -> Option<Row>
+pub fn row_of(mnemonic: &[u8]) -> Option<Row>
     ensures { option_map row_view result ≡ row_of mnemonic.now }
 {
     row_in(rows(), mnemonic)

@@ -34,7 +34,8 @@ pub(crate) struct Source<'a> {
     pub slots: u64,
 }
 
-fn is_text_byte(byte: u8) -> bool
+/// Whether a line may have a byte: a tab, or 0x20 to 0x7e.
+pub fn is_text_byte(byte: u8) -> bool
     ensures { result ≡ is_text_byte byte }
 {
     byte == b'\t' || (32 <= byte && byte <= 126)
@@ -69,7 +70,7 @@ fn text_behind<'a>(rest: Option<(u8, &'a [u8])>) -> &'a [u8]
 }
 
 /// The first line of a text, and what follows it.
-fn first_line<'a>(text: &'a [u8]) -> (&'a [u8], &'a [u8])
+pub fn first_line<'a>(text: &'a [u8]) -> (&'a [u8], &'a [u8])
     requires { 0 < length text.now }
     ensures lines { lines_of text.entry.now ≡ result.0.now ∷ lines_of result.1.now }
     ensures shorter { length result.1.now < length text.entry.now }

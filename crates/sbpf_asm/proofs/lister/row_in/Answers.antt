@@ -1,6 +1,6 @@
 use Rattle.std.proofs.Common.{sym, ◌∙◌}
 use Rattle.sbpf_asm.specs.Rows.{is_row_of}
-use Rattle.sbpf_asm.proofs.Rows.{found_here, not_here}
+use Rattle.sbpf_asm.proofs.FirstRow.{found_here, not_here}
 use Rattle.sbpf_asm.proofs.lister.row_in.Goals as goal
 
 pub returns-then-is_row_of : goal.returns-then-is_row_of
