@@ -10,7 +10,7 @@ use Rattle.sbpf_asm.specs.Words.{Text, Cut, cut, is_blank, number_of, ends_with}
 use Rattle.sbpf_asm.specs.Operands.{is_name, place_of, register_of, target_of}
 use Rattle.sbpf_asm.specs.Rows.{Row, Draft, is_call, is_wide, operands_of, row_of, rows}
 use Rattle.sbpf_asm.specs.Lines.{Item, instruction, after_word, code_of, item_of, lines_of, operands_of as texts_of}
-use Rattle.sbpf_asm.specs.Assembly.{fits_immediate, fits_offset, fits_wide, is_text_byte}
+use Rattle.sbpf_asm.specs.Assembly.{fits_immediate, fits_offset, fits_wide, is_text_byte, slots_taken}
 use Rattle.asm_hints.specs.declared.hint.Limit.{Limit}
 use Rattle.asm_hints.specs.declared.hint.Limit.TheVariants.{Offset, Immediate, Wide, Jump, Call}
 use Rattle.asm_hints.specs.declared.hint.Hint.{Hint}
@@ -128,6 +128,18 @@ same_hint before code [] = None
 same_hint before code (line ∷ lines) =
     if bytes_eq (code_of line) code then Some (Repeated (before + 1))
     else same_hint (before + 1) code lines
+
+-- how many slots what a line stands for takes
+abbrev pub slots_of : Option Item → ℕ
+slots_of (Some (instruction d)) = slots_taken d.instruction
+slots_of _ = 0
+
+-- the number of the line whose instruction has the slot, of which so many lines stand before
+abbrev pub line_of_slot : ℕ → ℕ → List Text → Option ℕ
+line_of_slot slot before [] = None
+line_of_slot slot before (line ∷ lines) =
+    let taken = slots_of (item_of line) in
+    if nat_lt slot taken then Some (before + 1) else line_of_slot (slot - taken) (before + 1) lines
 
 -- what was wanted where a text is refused
 unfoldable pub hint_at : AsmFault → Text → Option Hint

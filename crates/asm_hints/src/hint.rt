@@ -51,7 +51,8 @@ pub enum Hint {
 /// How an operand is spelled.
 fn spelling(operand: Operand) -> &'static str {
     match operand {
-        Operand::Destination | Operand::Source | Operand::RegisterNumber => "a register, r0 to r10,",
+        Operand::Destination | Operand::Source | Operand::RegisterNumber =>
+            "a register, r0 to r10,",
         Operand::RegisterOrNumber => "a register, r0 to r10, or a number, as 5, -5 or 0x5,",
         Operand::Number => "a number, as 5, -5 or 0x5,",
         Operand::JumpTarget => "a label, or + or - and a number,",

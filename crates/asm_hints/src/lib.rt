@@ -11,4 +11,4 @@ pub use hint::{Hint, Limit};
 pub use laws::refused_lines_have_hints;
 pub use line::{line_hint, word_of};
 pub use nearest::nearest_mnemonic;
-pub use place::{hint_of, line_at};
+pub use place::{hint_of, line_at, line_of_slot};

@@ -96,7 +96,11 @@ fn word_hint(word: &[u8], rest: &[u8]) -> Option<Hint>
 fn name_hint(name: &[u8]) -> Option<Hint>
     ensures { result ≡ name_hint name.now }
 {
-    if is_name(name) { None } else { Some(Hint::Name) }
+    if is_name(name) {
+        None
+    } else {
+        Some(Hint::Name)
+    }
 }
 
 fn code_hint(code: &[u8]) -> Option<Hint>

@@ -2,7 +2,7 @@
 ghost use Rattle.std.specs.Prelude.{◌≡◌, option_and_then};
 ghost use Rattle.sbpf_asm.specs.Lines.{lines_of};
 ghost use Rattle.sbpf_asm.specs.Views.{draft_view, item_view};
-ghost use Rattle.asm_hints.specs.Hints.{hint_at, limit_of, line_in, range_hint, same_hint};
+ghost use Rattle.asm_hints.specs.Hints.{hint_at, limit_of, line_in, line_of_slot, range_hint, same_hint, slots_of};
 
 use crate::hint::{Hint, Limit};
 use crate::line::{byte_hint, code_of, line_hint};
@@ -71,6 +71,37 @@ fn range_hint(item: Option<Item<'_>>) -> Option<Hint>
         }),
         _ => None,
     }
+}
+
+/// How many slots what a line stands for takes.
+fn slots_taken(item: Option<Item<'_>>) -> usize
+    ensures { result ≡ slots_of (option_and_then item_view item.entry) }
+{
+    match item {
+        Some(Item::Instruction(draft)) if is_wide(draft.instruction.kind) => 2,
+        Some(Item::Instruction(_)) => 1,
+        _ => 0,
+    }
+}
+
+/// The number of the line whose instruction has a slot, both of them where it has two.
+pub fn line_of_slot(text: &[u8], slot: u32) -> Option<usize>
+    ensures { result ≡ line_of_slot slot 0 (lines_of text.now) }
+{
+    let mut left = slot as usize;
+    let mut before = 0usize;
+    let mut rest = text;
+    while !rest.is_empty() {
+        let lines = first_line(rest);
+        before += 1;
+        let taken = slots_taken(item_of(lines.0));
+        if left < taken {
+            return Some(before);
+        }
+        left -= taken;
+        rest = lines.1;
+    }
+    None
 }
 
 /// What was wanted where a text is refused. None where that is the verifier's to say.

@@ -15,6 +15,7 @@ mod readings;
 mod refusal;
 mod rows;
 mod shape;
+mod source;
 mod top;
 mod why;
 

@@ -1,5 +1,6 @@
 //! The command `why`: the refusal of an input as a sentence.
 use crate::places::{batch_field, image_end, record_field, snapshot_field};
+use crate::source::{is_source, why_source};
 use block_record::{RecordFault, read_record};
 use command_parts::{Answer, INPUT_REFUSED, noted, written};
 use sbpf_verify::{VerifyFault, first_refusal, read_image};
@@ -204,8 +205,8 @@ fn why_image(alloc: Global, bytes: &[u8]) -> Result<Answer, OutOfMemory> {
     sentence(alloc, "image", (end.field, at), text.as_str(), bytes)
 }
 
-/// The refusal of a snapshot, a batch, a record, a program image, or a snapshot and what follows it,
-/// as a sentence.
+/// The refusal of a snapshot, a batch, a record, a program image, an assembler text, or a snapshot and
+/// what follows it, as a sentence.
 pub(crate) fn explained(alloc: Global, bytes: &[u8]) -> Result<Answer, OutOfMemory> {
     if bytes.starts_with(b"SOLBATC1") {
         return why_batch(alloc, bytes, 0);
@@ -215,6 +216,9 @@ pub(crate) fn explained(alloc: Global, bytes: &[u8]) -> Result<Answer, OutOfMemo
     }
     if bytes.starts_with(b"SBPFIMG1") {
         return why_image(alloc, bytes);
+    }
+    if is_source(bytes) {
+        return why_source(alloc, bytes);
     }
     let prefix = match read_snapshot(alloc, bytes) {
         Ok(prefix) => prefix,
