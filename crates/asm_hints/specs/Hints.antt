@@ -8,7 +8,7 @@ use Rattle.sbpf_asm.specs.declared.row.Operand.{Operand}
 use Rattle.sbpf_asm.specs.declared.row.Operand.TheVariants.{Destination, Source, RegisterOrNumber, Number, JumpTarget, DestinationPlace, SourcePlace, RegisterNumber}
 use Rattle.sbpf_asm.specs.Words.{Text, Cut, cut, is_blank, number_of, ends_with}
 use Rattle.sbpf_asm.specs.Operands.{is_name, place_of, register_of, target_of}
-use Rattle.sbpf_asm.specs.Rows.{Row, Draft, is_call, is_wide, operands_of, row_of, rows}
+use Rattle.sbpf_asm.specs.Rows.{Row, Draft, behind_first, first_of, is_call, is_wide, operands_of, row_of, rows}
 use Rattle.sbpf_asm.specs.Lines.{Item, instruction, after_word, code_of, item_of, lines_of, operands_of as texts_of}
 use Rattle.sbpf_asm.specs.Assembly.{fits_immediate, fits_offset, fits_wide, is_text_byte, slots_taken}
 use Rattle.asm_hints.specs.declared.hint.Limit.{Limit}
@@ -40,14 +40,6 @@ abbrev pub operand_hint : ℕ → Operand → Option Text → Option Hint
 operand_hint number wanted None = Some (Missing number wanted)
 operand_hint number wanted (Some text) =
     if is_operand wanted text then None else Some (blank_hint number wanted (cut is_blank text))
-
-abbrev pub first_of : List Text → Option Text
-first_of [] = None
-first_of (text ∷ texts) = Some text
-
-abbrev pub behind_first : List Text → List Text
-behind_first [] = []
-behind_first (text ∷ texts) = texts
 
 abbrev pub or_else : Option Hint → Option Hint → Option Hint
 or_else (Some hint) other = Some hint

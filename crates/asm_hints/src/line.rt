@@ -3,12 +3,12 @@ ghost use Rattle.std.specs.Prelude.{◌≡◌, map, option_map};
 ghost use Rattle.sbpf_asm.specs.Lines.{code_of, operands_of as texts_of};
 ghost use Rattle.sbpf_asm.specs.Rows.{operands_of};
 ghost use Rattle.sbpf_asm.specs.Views.{operands_left, row_view};
-ghost use Rattle.asm_hints.specs.Hints.{behind_first, byte_hint, code_hint, first_of, is_operand, line_hint, name_hint, operand_hint, operands_hint, word_hint, word_of};
+ghost use Rattle.asm_hints.specs.Hints.{byte_hint, code_hint, is_operand, line_hint, name_hint, operand_hint, operands_hint, word_hint, word_of};
 
 use crate::hint::Hint;
 use sbpf_asm::{
-    Mark, Operand, after_word, cut_at, is_name, is_text_byte, number_of, operands_left,
-    operands_of, place_of, register_of, row_of, target_of, text_behind, trim,
+    Mark, Operand, after_word, cut_at, first_operand, is_name, is_text_byte, number_of, operands_left,
+    operands_of, other_operands, place_of, register_of, row_of, target_of, trim,
 };
 
 /// Whether a text is spelled as an operand of this kind.
@@ -44,33 +44,17 @@ fn operand_hint<'a>(number: usize, wanted: Operand, text: Option<&'a [u8]>) -> O
     }
 }
 
-/// The first operand of a text.
-fn first_of<'a>(rest: Option<&'a [u8]>) -> Option<&'a [u8]>
-    ensures { option_map (λ text. text.now) result
-        ≡ first_of (operands_left (option_map (λ text. text.now) rest.entry)) }
-{
-    Some(trim(cut_at(Mark::Comma, rest?).front))
-}
-
-/// What is left behind the first operand of a text.
-fn behind_first<'a>(rest: Option<&'a [u8]>) -> Option<&'a [u8]>
-    ensures { operands_left (option_map (λ text. text.now) result)
-        ≡ behind_first (operands_left (option_map (λ text. text.now) rest.entry)) }
-{
-    text_behind(cut_at(Mark::Comma, rest?).rest)
-}
-
 /// What was wanted of the operands of a line.
 fn operands_hint(operands: &[Operand], text: &[u8]) -> Option<Hint>
     ensures { result ≡ operands_hint 0 operands.now (texts_of text.now) }
 {
     let mut rest = operands_left(text);
     for at in 0..operands.len() {
-        let hint = operand_hint(at + 1, operands[at], first_of(rest));
+        let hint = operand_hint(at + 1, operands[at], first_operand(rest));
         if hint.is_some() {
             return hint;
         }
-        rest = behind_first(rest);
+        rest = other_operands(rest);
     }
     match rest {
         None => None,

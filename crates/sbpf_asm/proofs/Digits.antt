@@ -3,7 +3,7 @@ use Rattle.std.proofs.Common.{◌≡◌, ◌<◌, ◌≤◌, ◌+◌, ◌-◌, �
 use Rattle.std.specs.List.{list_all}
 use Rattle.std.specs.Char.{is_ascii_digit, digit_value}
 use Rattle.std.specs.Str.Parse.{digits_value, digits_value_after}
-use Rattle.std.proofs.Math.Nat.{pow-suc, pow-le-pow_right}
+use Rattle.std.proofs.Math.Nat.{mul-le-mul_left, pow-suc, pow-le-pow_right}
 use Rattle.std.proofs.lemmas.Bool.{and_parts}
 use Rattle.std.proofs.lemmas.Bool.Decides.{nat_tests}
 use Rattle.std.proofs.lemmas.List.{take_more}
@@ -23,21 +23,15 @@ all_get p [] i h l = absurd (omega arith)
 all_get p (d ∷ ds) zero h l = (and_parts (p d) (list_all p ds) h).0
 all_get p (d ∷ ds) (suc i) h l = all_get p ds i (and_parts (p d) (list_all p ds) h).1 (omega arith)
 
-pub decimal_digit : (c : ℕ) → is_ascii_digit c ≡ true → (48 ≤ c) × ((c ≤ 57) × (digit_value c ≡ c - 48))
-decimal_digit c h = (grind (arith, nat_tests), (grind (arith, nat_tests), grind (arith, nat_tests)))
-
 pub hex_digit_below : (c : ℕ) → is_hex_digit c ≡ true → digit_value c < 16
 hex_digit_below c h = grind (arith, nat_tests)
 
--- a power of ten or of sixteen, one step on and as a bound
-pub ten_more : (i : ℕ) → 10 ^ (i + 1) ≡ 10 ^ i * 10
-ten_more i = rw add-one (pow-suc 10 i)
-
-pub ten_most : (i : ℕ) → i ≤ 20 → 10 ^ i ≤ 10 ^ 20
-ten_most i h = pow-le-pow_right (omega arith) h
+-- the next number is below the next power of sixteen
+pub one_more : (value radix digit power : ℕ) → value < power → radix ≤ 16 → digit < 16 → value * radix + digit < power * 16
+one_more value radix digit power h k l = omega (arith, mul-le-mul_left value k)
 
 pub sixteen_more : (i : ℕ) → 16 ^ (i + 1) ≡ 16 ^ i * 16
 sixteen_more i = rw add-one (pow-suc 16 i)
 
-pub sixteen_most : (i : ℕ) → i ≤ 16 → 16 ^ i ≤ 16 ^ 16
+pub sixteen_most : (i : ℕ) → i ≤ 20 → 16 ^ i ≤ 16 ^ 20
 sixteen_most i h = pow-le-pow_right (omega arith) h

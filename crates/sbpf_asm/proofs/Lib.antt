@@ -4,7 +4,6 @@ pub mod Labels
 pub mod Drafts
 pub mod Lists
 pub mod Wide
-pub mod FirstRow
 pub mod Sources
 pub mod Texts
 pub mod Numbers

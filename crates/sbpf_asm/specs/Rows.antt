@@ -179,11 +179,19 @@ abbrev pub finished : List Text → Draft → Option Draft
 finished [] d = Some d
 finished (t ∷ texts) d = None
 
+abbrev pub first_of : List Text → Option Text
+first_of [] = None
+first_of (text ∷ texts) = Some text
+
+abbrev pub behind_first : List Text → List Text
+behind_first [] = []
+behind_first (text ∷ texts) = texts
+
 abbrev pub with_operands : List Operand → List Text → Draft → Option Draft
 with_operands [] texts d = finished texts d
-with_operands (o ∷ os) [] d = None
-with_operands (o ∷ os) (t ∷ texts) d =
-    option_and_then (with_operands os texts) (with_operand o t d)
+with_operands (o ∷ os) texts d =
+    option_and_then (with_operands os (behind_first texts))
+    (option_and_then (λ t. with_operand o t d) (first_of texts))
 
 abbrev pub draft_of : Option Row → List Text → Option Draft
 draft_of None texts = None

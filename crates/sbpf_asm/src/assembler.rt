@@ -1,7 +1,7 @@
 //! From an assembler text to an image.
 ghost use Rattle.std.specs.Prelude.{◌≡◌, ◌++◌, ◌<◌, ◌≤◌, ◌*◌, ◌+◌, ◌^◌, [], IfOk, OnOk, length, pos, ◌-ℤ◌};
 ghost use Rattle.spec_base.specs.Reading.{Gives};
-ghost use Rattle.sbpf_asm.specs.Assembly.{assembled, image_of, instruction_bytes, is_asm_memory, is_too_long, linked, slots_after, verified_image};
+ghost use Rattle.sbpf_asm.specs.Assembly.{assembled, image_of, instruction_bytes, is_asm_memory, is_too_long, led_to, linked, slots_after, verified_image};
 ghost use Rattle.sbpf_asm.specs.Rows.{leading};
 ghost use Rattle.sbpf_asm.specs.Views.{labels_view, placed_view, source_view};
 ghost use Rattle.sol_base.specs.Accounts.{max_data_len};
@@ -40,23 +40,29 @@ fn led(instruction: Instruction, target: u64, place: u64) -> Instruction
     leading(distance(target, place), instruction)
 }
 
+/// The instruction that leads to a label's place.
+fn led_to(placed: Placed<'_>, target: Option<u64>) -> Result<Instruction, AsmFault>
+    ensures { result ≡ led_to (placed_view placed.entry) target }
+{
+    let Some(target) = target else {
+        return Err(AsmFault::UnknownLabel { line: placed.line });
+    };
+    let instruction = led(placed.draft.instruction, target, placed.place);
+    if is_in_range(instruction) {
+        Ok(instruction)
+    } else {
+        Err(AsmFault::Range { line: placed.line })
+    }
+}
+
 /// The instruction with its label put in.
 fn linked(labels: &IndexMap<&[u8], u64>, placed: Placed<'_>) -> Result<Instruction, AsmFault>
     ensures { let p = placed_view placed.entry
         in result ≡ linked (labels_view labels.now.entries) p p.draft.target }
 {
-    let instruction = placed.draft.instruction;
-    let Some(name) = placed.draft.target else {
-        return Ok(instruction);
-    };
-    let Some(target) = labels.get(name) else {
-        return Err(AsmFault::UnknownLabel { line: placed.line });
-    };
-    let instruction = led(instruction, *target, placed.place);
-    if is_in_range(instruction) {
-        Ok(instruction)
-    } else {
-        Err(AsmFault::Range { line: placed.line })
+    match placed.draft.target {
+        None => Ok(placed.draft.instruction),
+        Some(name) => led_to(placed, labels.get(name).copied()),
     }
 }
 

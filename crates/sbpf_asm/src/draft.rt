@@ -1,6 +1,6 @@
 //! Instructions whose labels are still to be put in.
 ghost use Rattle.std.specs.Prelude.{◌≡◌, option_map, Some};
-ghost use Rattle.sbpf_asm.specs.Rows.{draft_of, finished, leading, start, with_fields, with_operand, with_target};
+ghost use Rattle.sbpf_asm.specs.Rows.{behind_first, draft_of, finished, first_of, leading, start, with_fields, with_operand, with_target};
 ghost use Rattle.sbpf_asm.specs.Lines.{operands_of};
 ghost use Rattle.sbpf_asm.specs.Views.{behind, draft_view, operands_left, rest_view, row_view, target_view};
 
@@ -143,13 +143,29 @@ pub fn operands_left(operands: &[u8]) -> Option<&[u8]>
 }
 
 /// What follows the byte that a text is cut at.
-pub fn text_behind<'a>(rest: Option<(u8, &'a [u8])>) -> Option<&'a [u8]>
+fn text_behind<'a>(rest: Option<(u8, &'a [u8])>) -> Option<&'a [u8]>
     ensures { option_map (λ text. text.now) result ≡ behind (rest_view rest.entry) }
 {
     match rest {
         None => None,
         Some((_, text)) => Some(text),
     }
+}
+
+/// The first operand of a text that is left.
+pub fn first_operand<'a>(rest: Option<&'a [u8]>) -> Option<&'a [u8]>
+    ensures { option_map (λ text. text.now) result
+        ≡ first_of (operands_left (option_map (λ text. text.now) rest.entry)) }
+{
+    Some(trim(cut_at(Mark::Comma, rest?).front))
+}
+
+/// What is left behind the first operand of a text.
+pub fn other_operands<'a>(rest: Option<&'a [u8]>) -> Option<&'a [u8]>
+    ensures { operands_left (option_map (λ text. text.now) result)
+        ≡ behind_first (operands_left (option_map (λ text. text.now) rest.entry)) }
+{
+    text_behind(cut_at(Mark::Comma, rest?).rest)
 }
 
 /// The draft, where no operand is left.
@@ -172,9 +188,8 @@ pub(crate) fn draft_of(row: Row, operands: &[u8]) -> Option<Draft<'_>>
     let mut draft = start(row);
     let mut rest = operands_left(operands);
     for operand in operands_of(row) {
-        let parts = cut_at(Mark::Comma, rest?);
-        draft = with_operand(*operand, trim(parts.front), draft)?;
-        rest = text_behind(parts.rest);
+        draft = with_operand(*operand, first_operand(rest)?, draft)?;
+        rest = other_operands(rest);
     }
     finished(rest, draft)
 }

@@ -15,7 +15,7 @@ mod row;
 mod source;
 
 pub use assembler::assemble;
-pub use draft::{Draft, operands_left, text_behind};
+pub use draft::{Draft, first_operand, operands_left, other_operands};
 pub use fault::{AsmFault, ListFault};
 pub use instruction::{Instruction, is_call, is_wide};
 pub use laws::{

@@ -24,20 +24,7 @@ pub(crate) fn are_hex_digits(text: &[u8]) -> bool
     text.iter().all(|digit| is_hex_digit(*digit))
 }
 
-fn decimal_value(text: &[u8]) -> u128
-    requires digits { list_all is_ascii_digit text.now ≡ true }
-    requires few { length text.now ≤ 20 }
-    ensures value { result ≡ digits_value 10 text.now }
-    ensures below { result < 2 ^ 127 }
-{
-    let mut value = 0u128;
-    for digit in text {
-        value = value * 10 + u128::from(*digit - b'0');
-    }
-    value
-}
-
-fn hex_digit_value(digit: u8) -> u8
+fn digit_value(digit: u8) -> u8
     requires { is_hex_digit digit ≡ true }
     ensures { result ≡ digit_value digit }
 {
@@ -48,15 +35,17 @@ fn hex_digit_value(digit: u8) -> u8
     }
 }
 
-fn hex_value(text: &[u8]) -> u128
+/// The number that digits write.
+fn value_of(text: &[u8], radix: u8) -> u128
     requires digits { list_all is_hex_digit text.now ≡ true }
-    requires few { length text.now ≤ 16 }
-    ensures value { result ≡ digits_value 16 text.now }
+    requires few { length text.now ≤ 20 }
+    requires radix { radix ≤ 16 }
+    ensures value { result ≡ digits_value radix text.now }
     ensures below { result < 2 ^ 127 }
 {
     let mut value = 0u128;
     for digit in text {
-        value = value * 16 + u128::from(hex_digit_value(*digit));
+        value = value * u128::from(radix) + u128::from(digit_value(*digit));
     }
     value
 }
@@ -66,7 +55,7 @@ fn decimal_of(text: &[u8]) -> Option<u128>
     ensures below { IfSome result (λ n. n < 2 ^ 127) }
 {
     if are_decimal_digits(text) && 0 < text.len() && text.len() <= 20 {
-        Some(decimal_value(text))
+        Some(value_of(text, 10))
     } else {
         None
     }
@@ -77,7 +66,7 @@ fn hex_of(text: &[u8]) -> Option<u128>
     ensures below { IfSome result (λ n. n < 2 ^ 127) }
 {
     if are_hex_digits(text) && 0 < text.len() && text.len() <= 16 {
-        Some(hex_value(text))
+        Some(value_of(text, 16))
     } else {
         None
     }

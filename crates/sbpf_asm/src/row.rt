@@ -139,7 +139,8 @@ pub fn rows() -> &'static [Row]
 }
 
 fn row_in(rows: &[Row], mnemonic: &[u8]) -> Option<Row>
-    ensures { result ≡ find (λ r. bytes_eq r.mnemonic.now mnemonic.now) rows.now }
+    ensures { option_map row_view result
+        ≡ find (λ r. bytes_eq r.mnemonic mnemonic.now) (map row_view rows.now) }
 {
     for row in rows {
         if row.mnemonic == mnemonic {

@@ -2,9 +2,9 @@ use Rattle.std.proofs.Common.{List, ℕ, Option, sym, ap, ◌∙◌}
 use Rattle.std.specs.Prelude.{option_map}
 use Rattle.std.specs.Borrow.{Bor}
 use Rattle.sbpf_asm.specs.Views.{cut_view, operands_left}
-use Rattle.asm_hints.specs.Hints.{behind_first}
-use Rattle.asm_hints.proofs.Steps.{behind_cut}
-use Rattle.asm_hints.proofs.line.behind_first.Goals as goal
+use Rattle.sbpf_asm.specs.Rows.{behind_first}
+use Rattle.sbpf_asm.proofs.Drafts.{behind_cut}
+use Rattle.sbpf_asm.proofs.draft.other_operands.Goals as goal
 
 pub returns : goal.returns
 returns c =

@@ -2,9 +2,9 @@ use Rattle.std.proofs.Common.{List, ℕ, Option, sym, ap, ◌∙◌}
 use Rattle.std.specs.Prelude.{option_map}
 use Rattle.std.specs.Borrow.{Bor}
 use Rattle.sbpf_asm.specs.Views.{cut_view, operands_left}
-use Rattle.asm_hints.specs.Hints.{first_of}
-use Rattle.asm_hints.proofs.Steps.{first_cut}
-use Rattle.asm_hints.proofs.line.first_of.Goals as goal
+use Rattle.sbpf_asm.specs.Rows.{first_of}
+use Rattle.sbpf_asm.proofs.Drafts.{first_cut}
+use Rattle.sbpf_asm.proofs.draft.first_operand.Goals as goal
 
 pub returns : goal.returns
 returns c =
