@@ -21,7 +21,7 @@ use Rattle.sbpf_machine.proofs.Paths.{either}
 use Rattle.sbpf_machine.specs.Keeping.{Keeps, KeepsRanges}
 use Rattle.sbpf_machine.specs.Steps.{Next, Go, Halt, Stuck, Operands, State, Reaches, steps, step, row_of, act, operands_at, address, binary32, binary64, bytes_in, fault, new_frame, put, source, enter, enter_at, leave, last_kept, load, store, register, start_at_address}
 
-same_ranges : (m : Ranges) → KeepsRanges m m
+pub same_ranges : (m : Ranges) → KeepsRanges m m
 same_ranges m = record { program = refl; prepared = refl; lent = refl; input = refl; memory = λ h. h; bounds = λ _. refl }
 
 then_ranges : (a b c : Ranges) → KeepsRanges a b → KeepsRanges b c → KeepsRanges a c

@@ -1,8 +1,9 @@
 -- Ways from one machine to another, instruction by instruction.
 use Rattle.std.proofs.Common.{Bool, if◌then◌else◌, ◌≡◌, ◌<◌, ◌-◌, ℕ, zero, suc, true, false, List, [], ◌∷◌, length, Option, Some, None, refl, ap, sym, subst, ◌∙◌, arith, get_or}
 use Rattle.std.specs.Prelude.{slice_get, is_some}
-use Rattle.sbpf_verify.specs.Entries.{Decodes}
-use Rattle.sbpf_verify.specs.Places.{instruction_at}
+use Rattle.sbpf_verify.specs.Entries.{Decodes, IsDecoded}
+use Rattle.sbpf_verify.specs.Places.{instruction_at, is_start, slot_count}
+use Rattle.sbpf_verify.proofs.Starts.{start_there}
 use Rattle.sbpf_verify.specs.Opcodes.{meaning}
 use Rattle.sbpf_verify.specs.declared.entry.Entry.{Entry}
 use Rattle.sbpf_machine.specs.declared.context.Context.{Context}
@@ -23,6 +24,14 @@ pub fetched : (entries : List Entry) (place : ℕ) (other : Entry) → place < l
 fetched [] place other h = absurd (omega arith)
 fetched (e ∷ entries) zero other h = refl
 fetched (e ∷ entries) (suc place) other h = fetched entries place other (omega arith)
+
+-- a place where an instruction starts has an entry
+pub entry_there : (text : List ℕ) (entries : List Entry) (place : ℕ) → IsDecoded text entries → is_start text place ≡ true → place < length entries
+entry_there text entries place decoded start = let below : place < slot_count text = (start_there text place start).0 in omega (arith, below, decoded.count)
+
+-- it is the instruction there
+pub decodes_at : (text : List ℕ) (entries : List Entry) (place : ℕ) (other : Entry) → IsDecoded text entries → is_start text place ≡ true → Decodes text place (get_or entries place other)
+decodes_at text entries place other decoded start = decoded.each place _ (fetched entries place other (entry_there text entries place decoded start)) start
 
 abbrev made : ℕ → ℕ → ℕ → ℕ → ℕ → Operands
 made dst src target offset imm = record { dst = dst; src = src; target = target; offset = offset; imm = imm }

@@ -225,6 +225,21 @@ steps_by x None = first_stop x.text x.units x.place x.context
 unfoldable pub steps : State → Option State
 steps x = steps_by x x.stop
 
+-- the machine after its next instruction, or at the stop where no unit is left; one that stands at a
+-- stop stays there
+abbrev pub after_one : List ℕ → ℕ → Context → ℕ → Option State
+after_one text place context zero = Some (halted text place context 0 (faulted UnitsSpent))
+after_one text place context (suc units) =
+    follow text place units (λ next context'. Some (going text next context' units))
+    (step text place context)
+
+abbrev pub stepped_by : State → Option Stop → Option State
+stepped_by x (Some stop) = Some x
+stepped_by x None = after_one x.text x.place x.context x.units
+
+unfoldable pub stepped : State → Option State
+stepped x = stepped_by x x.stop
+
 -- the machines that one comes to by whole instructions, without a stop
 pub data Reaches (x : State) : State → Type 0 where
   here : Reaches x x

@@ -1,16 +1,16 @@
 //! The machine.
-ghost use Rattle.std.specs.Prelude.{◌≡◌, ◌≤◌, true, Some, None, IfSome, IfOk, IfErr};
+ghost use Rattle.std.specs.Prelude.{◌≡◌, ◌≤◌, true, Some, None, IfSome, IfOk, IfErr, OnOk, OnErr, is_none};
 ghost use Rattle.std.specs.Arc.{arc_value};
 ghost use Rattle.std.specs.Borrow.{sem};
 ghost use Rattle.sbpf_machine.specs.Keeping.{TakesUnits};
 ghost use Rattle.sbpf_machine.specs.Lending.{LendsMemory};
 ghost use Rattle.sbpf_machine.specs.Runs.{ComesTo, IsNumbered};
-ghost use Rattle.sbpf_machine.specs.Steps.{IsHelper, StandsBeforeStore, arguments_in, first_state, resumed, steps, with_units};
+ghost use Rattle.sbpf_machine.specs.Steps.{IsHelper, StandsBeforeStore, arguments_in, first_state, resumed, stepped, steps, with_units};
 ghost use Rattle.sbpf_verify.specs.Places.{is_start};
 
 use crate::context::Context;
 use crate::frames::Frames;
-use crate::run::run_from;
+use crate::run::{run_from, step_from};
 use crate::stop::Stop;
 use sbpf_memory::{FRAME_SIZE, INPUT_START, Memory, STACK_START};
 use sbpf_verify::{Decoded, Verified};
@@ -119,6 +119,35 @@ impl Machine {
         self.stop = ended.stop;
     }
 
+    /// Does the next instruction, or comes to the stop where no unit is left. A machine that stands at
+    /// a stop stays there.
+    pub fn step(&mut self) -> Result<(), OutOfMemory>
+        ensures ok { OnOk result (stepped self.old ≡ Some self.new) }
+        ensures err { OnErr result (self.new ≡ self.old) }
+    {
+        if self.stop.is_some() {
+            return Ok(());
+        }
+        let ended = step_from(
+            self.code.program(),
+            self.code.entries(),
+            self.place,
+            self.units,
+            &mut self.context,
+        )?;
+        self.place = ended.place;
+        self.units = ended.units;
+        self.stop = ended.stop;
+        Ok(())
+    }
+
+    /// Whether it stands at no stop.
+    pub fn is_going(&self) -> bool
+        ensures { result ≡ is_none self.now.stop }
+    {
+        self.stop.is_none()
+    }
+
     /// Goes on after a system call, with its answer in r0, at the next `run`.
     pub fn resume(&mut self, r0: u64)
         requires { IsHelper self.old.stop }
@@ -127,6 +156,12 @@ impl Machine {
         self.context.registers[0] = r0;
         self.place += 1;
         self.stop = None;
+    }
+
+    pub fn registers(&self) -> [u64; 11]
+        ensures { result ≡ self.now.context.registers }
+    {
+        self.context.registers
     }
 
     /// r1 to r5: the arguments of a system call.

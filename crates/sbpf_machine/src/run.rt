@@ -1,7 +1,8 @@
 //! The machine's loop.
-ghost use Rattle.std.specs.Prelude.{◌≡◌, true};
+ghost use Rattle.std.specs.Prelude.{◌≡◌, Some, true, IfOk, OnErr};
 ghost use Rattle.sbpf_machine.specs.Flows.{GoBack};
 ghost use Rattle.sbpf_machine.specs.Runs.{Ends, StandsAtStart};
+ghost use Rattle.sbpf_machine.specs.Steps.{going, state, stepped};
 ghost use Rattle.sbpf_verify.specs.Entries.{IsDecoded};
 ghost use Rattle.sbpf_verify.specs.Places.{is_start};
 ghost use Rattle.sbpf_verify.specs.Verified.{IsVerified};
@@ -10,6 +11,7 @@ use crate::context::Context;
 use crate::instruction::{Flow, step};
 use crate::stop::{Fault, Stop};
 use sbpf_verify::{Entry, Verified};
+use sol_base::OutOfMemory;
 
 /// The end of a run: the stop, or None where a store found no memory.
 #[derive(Clone, Copy)]
@@ -65,4 +67,44 @@ pub fn run_from(
         place,
         units,
     }
+}
+
+/// Does one instruction, or comes to the stop where no unit is left.
+pub fn step_from(
+    program: &Verified,
+    entries: &[Entry],
+    place: u32,
+    units: u64,
+    context: &mut Context,
+) -> Result<Ended, OutOfMemory>
+    requires verified { IsVerified program.now }
+    requires decoded { IsDecoded program.now entries.now }
+    requires start { is_start program.now place ≡ true }
+    requires backs { GoBack program.now context.old.frames }
+    ensures ok { IfOk result (λ ended. stepped (going program.now place context.old units)
+        ≡ Some (state program.now ended.place context.new ended.units ended.stop)) }
+    ensures stands { IfOk result (λ ended.
+        StandsAtStart program.now ended.place context.new ended.stop) }
+    ensures err { OnErr result (context.new ≡ context.old) }
+{
+    if units == 0 {
+        return Ok(Ended {
+            stop: Some(Stop::Fault(Fault::UnitsSpent)),
+            place,
+            units,
+        });
+    }
+    let entry = entries[place as usize];
+    let (stop, to) = match step(program, entry, place, context) {
+        Flow::Next => (None, place + 1),
+        Flow::Jump => (None, entry.target),
+        Flow::To(other) => (None, other),
+        Flow::Off(stop) => (Some(stop), place),
+        Flow::NoMemory => return Err(OutOfMemory),
+    };
+    Ok(Ended {
+        stop,
+        place: to,
+        units: units - 1,
+    })
 }

@@ -1,24 +1,15 @@
-use Rattle.std.proofs.Common.{◌≡◌, ◌<◌, ◌+◌, ◌-◌, ℕ, true, List, length, sym, ◌∙◌, arith, rules, refl, get_or, subst}
-use Rattle.sbpf_verify.specs.Entries.{Decodes, IsDecoded}
+use Rattle.std.proofs.Common.{◌≡◌, ◌<◌, ◌+◌, ◌-◌, ℕ, true, List, sym, ◌∙◌, arith, rules, refl, get_or, subst}
 use Rattle.sbpf_verify.specs.Opcodes.{meaning}
-use Rattle.sbpf_verify.specs.Places.{is_start, slot_count, max_slots}
+use Rattle.sbpf_verify.specs.Places.{is_start, max_slots}
 use Rattle.sbpf_verify.specs.declared.entry.Entry.{Entry}
 use Rattle.sbpf_verify.specs.declared.opcode.Opcode.TheVariants.{Add64Immediate}
-use Rattle.sbpf_verify.proofs.Starts.{start_there, start_below, entry_fits}
+use Rattle.sbpf_verify.proofs.Starts.{start_below, entry_fits}
 use Rattle.sbpf_machine.specs.declared.context.Context.{Context}
 use Rattle.sbpf_machine.specs.Flows.{operands_of}
 use Rattle.sbpf_machine.specs.Steps.{Go, GoesOn, Reaches, StandsBeforeStore, State, act, going}
-use Rattle.sbpf_machine.proofs.Paths.{fetched, row_is, on_by, spent, stop_along, stop_at, wants_at}
+use Rattle.sbpf_machine.proofs.Paths.{decodes_at, entry_there, fetched, row_is, on_by, spent, stop_along, stop_at, wants_at}
 use Rattle.sbpf_machine.proofs.run.run_from.Goals as goal
 use Rattle.sbpf_machine.proofs.run.run_from.Goals.{in-Next, in-Jump, in-To}
-
--- the place has an entry
-in_entries : (text : List ℕ) (entries : List Entry) (place : ℕ) → IsDecoded text entries → is_start text place ≡ true → place < length entries
-in_entries text entries place decoded start = let below : place < slot_count text = (start_there text place start).0 in omega (arith, below, decoded.count)
-
--- it is the instruction there
-decodes : (text : List ℕ) (entries : List Entry) (place : ℕ) (other : Entry) → IsDecoded text entries → is_start text place ≡ true → Decodes text place (get_or entries place other)
-decodes text entries place other decoded start = decoded.each place _ (fetched entries place other (in_entries text entries place decoded start)) start
 
 -- the entry of a turn of the loop
 abbrev other : Entry
@@ -31,7 +22,7 @@ pub loop-units-init : goal.loop-units-init
 loop-units-init c = record { reached = Reaches.here; start = c.requires.start; backs = c.requires.backs }
 
 pub bounds-entries-place : goal.bounds-entries-place
-bounds-entries-place c = in_entries c.args.program.now c.args.entries.now c.loop-units.place c.requires.decoded c.loop-units.invariant.start
+bounds-entries-place c = entry_there c.args.program.now c.args.entries.now c.loop-units.place c.requires.decoded c.loop-units.invariant.start
 
 pub step-requires-clause-room : goal.step-requires-clause-room
 step-requires-clause-room c = start_below c.args.program.now c.loop-units.place c.requires.verified c.loop-units.invariant.start
@@ -39,7 +30,7 @@ step-requires-clause-room c = start_below c.args.program.now c.loop-units.place 
 pub step-requires-clause-fits : goal.step-requires-clause-fits
 step-requires-clause-fits c =
     entry_fits c.args.program.now c.args.entries.now c.loop-units.place _ c.requires.verified c.requires.decoded
-    (fetched c.args.entries.now c.loop-units.place _ (in_entries c.args.program.now c.args.entries.now c.loop-units.place c.requires.decoded c.loop-units.invariant.start))
+    (fetched c.args.entries.now c.loop-units.place _ (entry_there c.args.program.now c.args.entries.now c.loop-units.place c.requires.decoded c.loop-units.invariant.start))
     c.loop-units.invariant.start
 
 pub overflow_add-place : goal.overflow_add-place
@@ -51,7 +42,7 @@ returns-in-Off-clause-ends c =
     stop_along _ _ c.loop-units.invariant.reached ∙
     stop_at c.args.program.now c.loop-units.place c.loop-units.units c.loop-units.context c.step.new.context c.in-Off.stop c.loop-units-test.true
     (row_is c.args.program.now c.loop-units.place _ c.loop-units.context
-    (decodes c.args.program.now c.args.entries.now c.loop-units.place _ c.requires.decoded
+    (decodes_at c.args.program.now c.args.entries.now c.loop-units.place _ c.requires.decoded
     c.loop-units.invariant.start) ∙ sym c.in-Off.ensures.does)
 
 pub returns-in-NoMemory-clause-ends : goal.returns-in-NoMemory-clause-ends
@@ -59,7 +50,7 @@ returns-in-NoMemory-clause-ends c =
     let text : List ℕ = c.args.program.now in
     let place : ℕ = c.loop-units.place in
     let begin : State = going text c.args.start c.args.context.now c.args.given in
-    let is = decodes text c.args.entries.now place _ c.requires.decoded c.loop-units.invariant.start in
+    let is = decodes_at text c.args.entries.now place _ c.requires.decoded c.loop-units.invariant.start in
     let wants = c.in-NoMemory.ensures.want in
     subst (λ (d : Context). StandsBeforeStore begin (going text place d c.loop-units.units)) (sym wants.2)
     (record {
@@ -80,7 +71,7 @@ onward : (c : goal.Joined-step) (to : ℕ) → c.match-step.place ≡ to
 onward c to same row start =
     let text : List ℕ = c.args.program.now in
     let way = on_by _ c.loop-units.place to c.loop-units.units c.loop-units.context c.step.new.context c.loop-units.invariant.reached c.loop-units-test.true
-    (row_is text c.loop-units.place (entry c) c.loop-units.context (decodes text c.args.entries.now c.loop-units.place other c.requires.decoded c.loop-units.invariant.start) ∙ sym row) in
+    (row_is text c.loop-units.place (entry c) c.loop-units.context (decodes_at text c.args.entries.now c.loop-units.place other c.requires.decoded c.loop-units.invariant.start) ∙ sym row) in
     rw same (way, start)
 
 pub loop-units-preserved : goal.loop-units-preserved
