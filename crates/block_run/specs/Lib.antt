@@ -1,3 +1,4 @@
 pub mod SerialRun
 pub mod Blocks
 pub mod Answers
+pub mod Watching

@@ -7,6 +7,8 @@ mod block;
 mod keys;
 mod order;
 mod run;
+mod watching;
 
 pub use block::{BlockResult, Decoded, Recorded, Spent};
 pub use run::{record_parsed, run_block, run_listed, run_parsed};
+pub use watching::{Seen, Wanted, Watched, watch_order};

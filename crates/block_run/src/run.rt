@@ -36,14 +36,14 @@ use tx_exec::TxWork;
 /// A block before its transactions run: they as a work, a core over the accounts, and what else the
 /// snapshot has.
 #[derive(Drop)]
-struct Opened {
-    work: TxWork,
-    core: Core<TxWork>,
-    chain: Chain,
+pub(crate) struct Opened {
+    pub(crate) work: TxWork,
+    pub(crate) core: Core<TxWork>,
+    pub(crate) chain: Chain,
 }
 
 /// Opens a block of these transactions, in their order, over a snapshot, for so many lane numbers.
-fn open<G: Gate, R: Threads + Sync>(
+pub(crate) fn open<G: Gate, R: Threads + Sync>(
     crew: &Crew<'_, G, R>,
     lane_numbers: u32,
     snapshot: Snapshot,

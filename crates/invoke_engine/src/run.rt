@@ -8,7 +8,7 @@ ghost use Rattle.invoke_engine.specs.Endings.{ending_as};
 ghost use Rattle.invoke_engine.specs.FrameLoop.{Stands, Steps, ending_in};
 ghost use Rattle.invoke_engine.specs.Frame as Spec;
 ghost use Rattle.invoke_engine.specs.Frame.{Carried};
-ghost use Rattle.invoke_engine.specs.Frames.{fixed, max_trace};
+ghost use Rattle.invoke_engine.specs.Frames.{fixed, max_height, max_trace};
 ghost use Rattle.invoke_engine.specs.Invoked.{fixed_in};
 ghost use Rattle.invoke_engine.specs.Conditions.{AreAccountsOf, CallFits, IsCall, RunsFit};
 ghost use Rattle.invoke_engine.specs.Suspended.{programs_of};
@@ -24,7 +24,8 @@ use crate::ending::{Callee, Ending};
 use crate::frame::{Frame, Stack};
 use crate::resume::resume;
 use crate::stop::MAX_TRACE;
-use crate::turn::{Turn, take_turn};
+use crate::turn::{Turn, height_in, take_turn};
+use crate::watch::{Unwatched, Watch};
 use program_cache::Programs;
 use sol_base::{Account, Blob, Key, OutOfMemory, SYSTEM_PROGRAM};
 use std::alloc::Global;
@@ -33,14 +34,37 @@ use std::sync::Arc;
 use sys_calls::Env;
 use tx_report::{Cause, InstructionError, Logs};
 
+/// A frame at its start, which is seen before.
+fn begin_watched<W: Watch>(
+    context: &Context<'_>,
+    outer: &Stack,
+    invocation: Invocation<'_>,
+    carrier: &mut Carrier,
+    watch: &mut W,
+) -> Result<Next, OutOfMemory>
+    requires outer { length outer.now < max_height }
+    requires call { IsCall (length context.now.keys) invocation.call }
+    requires accounts { AreAccountsOf (length context.now.keys) invocation.accounts }
+    requires trace { carrier.old.trace < max_trace }
+    ensures next { IfOk result (λ next.
+        begun (fixed_in context.now) (programs_of outer.now) invocation.entry.call
+        invocation.entry.accounts invocation.entry.units carrier.old
+        ≡ next_as next carrier.new) }
+    ensures fits { IfOk result (λ next. RunsFit (length context.now.keys) (next_as next carrier.new)) }
+{
+    watch.begins(height_in(outer), context, &invocation, carrier)?;
+    begin(context, outer, invocation, carrier)
+}
+
 /// Begins the frame of a callee, for which its caller waits.
-fn begin_callee(
+fn begin_callee<W: Watch>(
     context: &Context<'_>,
     stack: &mut Stack,
     caller: Frame,
     callee: Callee,
     units: u64,
     carrier: &mut Carrier,
+    watch: &mut W,
 ) -> Result<Next, OutOfMemory>
     requires most { context.now.setting.height ≤ max_stack_height }
     requires fits { CallFits (length context.now.keys) context.now.setting.height
@@ -61,15 +85,16 @@ fn begin_callee(
         accounts,
         units,
     };
-    begin(context, stack, invocation, carrier)
+    begin_watched(context, stack, invocation, carrier, watch)
 }
 
 /// Runs the frame until it ends or another is begun.
-fn advance(
+fn advance<W: Watch>(
     context: &Context<'_>,
     stack: &mut Stack,
     frame: Frame,
     carrier: &mut Carrier,
+    watch: &mut W,
 ) -> Result<Next, OutOfMemory>
     requires keys { length context.now.keys ≤ max_keys }
     requires most { context.now.setting.height ≤ max_stack_height }
@@ -79,22 +104,26 @@ fn advance(
 {
     let mut frame = frame;
     loop {
-        match take_turn(context, stack, &mut frame, carrier)? {
+        match take_turn(context, stack, &mut frame, carrier, watch)? {
             Turn::GoesOn => {}
             Turn::Calls(callee, units) => {
-                return begin_callee(context, stack, frame, callee, units, carrier);
+                return begin_callee(context, stack, frame, callee, units, carrier, watch);
             }
-            Turn::Leaves(ending) => return Ok(Next::Done(ending)),
+            Turn::Leaves(ending) => {
+                watch.stops(&frame, &ending)?;
+                return Ok(Next::Done(ending));
+            }
         }
     }
 }
 
 /// Runs all frames to the end of the outermost.
-fn drive(
+fn drive<W: Watch>(
     context: &Context<'_>,
     stack: &mut Stack,
     first: Next,
     carrier: &mut Carrier,
+    watch: &mut W,
 ) -> Result<Ending, OutOfMemory>
     requires keys { length context.now.keys ≤ max_keys }
     requires most { context.now.setting.height ≤ max_stack_height }
@@ -105,20 +134,24 @@ fn drive(
     let mut next = first;
     loop {
         next = match next {
-            Next::Runs(frame) => advance(context, stack, frame, carrier)?,
-            Next::Done(ending) => match stack.pop() {
-                None => return Ok(ending),
-                Some(frame) => resume(context, stack, frame, ending, carrier)?,
-            },
+            Next::Runs(frame) => advance(context, stack, frame, carrier, watch)?,
+            Next::Done(ending) => {
+                watch.ends(&ending, carrier)?;
+                match stack.pop() {
+                    None => return Ok(ending),
+                    Some(frame) => resume(context, stack, frame, ending, carrier)?,
+                }
+            }
         };
     }
 }
 
 /// A frame that starts and runs to its end, with those that it calls.
-fn run_frame(
+fn run_frame<W: Watch>(
     context: &Context<'_>,
     invocation: Invocation<'_>,
     carrier: &mut Carrier,
+    watch: &mut W,
 ) -> Result<Ending, OutOfMemory>
     requires keys { length context.now.keys ≤ max_keys }
     requires height { (1 ≤ context.now.setting.height) × (context.now.setting.height ≤ max_stack_height) }
@@ -130,8 +163,8 @@ fn run_frame(
         carrier.old) }
 {
     let mut stack = Stack::new(context.alloc);
-    let first = begin(context, &stack, invocation, carrier)?;
-    drive(context, &mut stack, first, carrier)
+    let first = begin_watched(context, &stack, invocation, carrier, watch)?;
+    drive(context, &mut stack, first, carrier, watch)
 }
 
 /// What an instruction did that ended so.
@@ -153,11 +186,12 @@ fn ran_of(ending: Ending, trace: u8, stopped_at: Option<StoppedAt>) -> Ran
 }
 
 /// Runs an instruction that is started.
-fn run_started(
+fn run_started<W: Watch>(
     context: &Context<'_>,
     invocation: Invocation<'_>,
     trace: u8,
     logs: &mut Logs,
+    watch: &mut W,
 ) -> Result<Ran, OutOfMemory>
     requires keys { length context.now.keys ≤ max_keys }
     requires height { (1 ≤ context.now.setting.height) × (context.now.setting.height ≤ max_stack_height) }
@@ -182,7 +216,7 @@ fn run_started(
             logs: mem::replace(logs, Logs::new(context.alloc)),
         },
     };
-    let answer = run_frame(context, invocation, &mut carrier);
+    let answer = run_frame(context, invocation, &mut carrier, watch);
     let Carrier {
         trace,
         stopped_at,
@@ -193,12 +227,14 @@ fn run_started(
     Ok(ran_of(answer?, trace, stopped_at))
 }
 
-/// What `run_instruction` does, for one who hands the accounts over and lends the lists of the call.
-pub fn run_invocation(
+/// What `run_instruction` does, for one who hands the accounts over, lends the lists of the call, and
+/// sees the frames.
+pub fn watch_invocation<W: Watch>(
     context: &Context<'_>,
     invocation: Invocation<'_>,
     trace: u8,
     logs: &mut Logs,
+    watch: &mut W,
 ) -> Result<Ran, OutOfMemory>
     requires keys { length context.now.keys ≤ max_keys }
     requires height { (1 ≤ context.now.setting.height) × (context.now.setting.height ≤ max_stack_height) }
@@ -221,7 +257,26 @@ pub fn run_invocation(
             stopped_at: None,
         });
     }
-    run_started(context, invocation, trace, logs)
+    run_started(context, invocation, trace, logs, watch)
+}
+
+/// What `run_instruction` does, for one who hands the accounts over and lends the lists of the call.
+pub fn run_invocation(
+    context: &Context<'_>,
+    invocation: Invocation<'_>,
+    trace: u8,
+    logs: &mut Logs,
+) -> Result<Ran, OutOfMemory>
+    requires keys { length context.now.keys ≤ max_keys }
+    requires height { (1 ≤ context.now.setting.height) × (context.now.setting.height ≤ max_stack_height) }
+    requires call { IsCall (length context.now.keys) invocation.call }
+    requires accounts { AreAccountsOf (length context.now.keys) invocation.accounts }
+    ensures { IfOk result (λ ran. IsRun
+        (Spec.instruction (fixed_in context.now) invocation.entry.call invocation.entry.accounts invocation.entry.units trace
+        logs.old)
+        ran logs.new) }
+{
+    watch_invocation(context, invocation, trace, logs, &mut Unwatched)
 }
 
 /// Runs one top instruction with its cross-program calls (Solana; docs/SOLANA.md lists what is the

@@ -26,8 +26,9 @@ use crate::lines::close;
 use crate::program::NamedProgram;
 use crate::stop::{called, left};
 use crate::stopped::{Reason, Stopped};
+use crate::watch::Watch;
 use sbpf_isa::INVOKE_CALL;
-use sbpf_machine::{Fault, Stop};
+use sbpf_machine::{Fault, Machine, Stop};
 use sbpf_memory::AccessViolation;
 use sol_base::OutOfMemory;
 use std::alloc::Global;
@@ -194,11 +195,12 @@ fn call_turn(
 }
 
 /// One turn of a frame.
-pub(crate) fn take_turn(
+pub(crate) fn take_turn<W: Watch>(
     context: &Context<'_>,
     outer: &Stack,
     frame: &mut Frame,
     carrier: &mut Carrier,
+    watch: &mut W,
 ) -> Result<Turn, OutOfMemory>
     requires keys { length context.now.keys ≤ max_keys }
     requires outer { length outer.now < max_height }
@@ -208,7 +210,7 @@ pub(crate) fn take_turn(
         carrier.old
         ≡ Turns.turn_as t frame.new carrier.new) }
 {
-    match run(frame)? {
+    match run(frame, watch)? {
         Stop::Exit { r0 } => Ok(Turn::Leaves(leave(context, outer, frame, r0, carrier)?)),
         Stop::Fault(fault) => {
             let units = frame.machine.units();
@@ -226,12 +228,26 @@ pub(crate) fn take_turn(
 }
 
 /// Runs the frame's machine to its first stop.
-fn run(frame: &mut Frame) -> Result<Stop, OutOfMemory>
+fn run<W: Watch>(frame: &mut Frame, watch: &mut W) -> Result<Stop, OutOfMemory>
     ensures steps { IfOk result (λ stop.
         (steps frame.old.machine ≡ Some frame.new.machine)
         × (frame.new.machine.stop ≡ Some stop)) }
     ensures number { IfOk result IsNumbered }
     ensures rest { frame.new ≡ record frame.old { machine = frame.new.machine } }
 {
-    frame.machine.run()
+    run_seen(&mut frame.machine, watch)
+}
+
+/// Runs a machine to its first stop. One who wants to see each instruction sees it before it is done.
+fn run_seen<W: Watch>(machine: &mut Machine, watch: &mut W) -> Result<Stop, OutOfMemory>
+    ensures stops { IfOk result (λ stop.
+        (steps machine.old ≡ Some machine.new) × (machine.new.stop ≡ Some stop)) }
+    ensures number { IfOk result IsNumbered }
+    ensures lent { machine.new.context.memory.input.lent ≡ machine.old.context.memory.input.lent }
+{
+    while watch.sees_steps() && machine.is_going() {
+        watch.steps(machine)?;
+        machine.step()?;
+    }
+    machine.run()
 }

@@ -1,6 +1,6 @@
 -- A machine after its next instruction.
-use Rattle.std.proofs.Common.{◌≡◌, ◌<◌, ◌-◌, ℕ, zero, suc, true, List, Option, Some, None, refl, ap, sym, subst, ◌∙◌, arith}
-use Rattle.std.specs.Prelude.{is_some}
+use Rattle.std.proofs.Common.{◌≡◌, ◌<◌, ◌+◌, ◌-◌, ℕ, zero, suc, true, List, Option, Some, None, refl, ap, sym, subst, ◌∙◌, arith}
+use Rattle.std.specs.Prelude.{is_none, is_some}
 use Rattle.sbpf_machine.specs.declared.context.Context.{Context}
 use Rattle.sbpf_machine.specs.declared.stop.Fault.TheVariants.{UnitsSpent}
 use Rattle.sbpf_machine.specs.declared.stop.Stop.{Stop}
@@ -92,16 +92,31 @@ stepped_keeps x y e = by_stop x.stop refl e
         subst (λ (z : State). Keeps z y) (ap (λ (s : Option Stop). state x.text x.place x.context x.units s) (sym h))
         (keeps_one x.text x.place x.context x.units y k)
 
--- it has fewer units where it goes on
-pub stepped_falls : (x y : State) → stepped x ≡ Some y → x.stop ≡ None → y.stop ≡ None → y.units < x.units
-unfolding stepped
-stepped_falls x y e h k = by_units x.units refl (ap (stepped_by x) (sym h) ∙ e)
-  where
-    by_row : (units : ℕ) (row : Next) → follow x.text x.place units (λ n d. Some (going x.text n d units)) row ≡ Some y → y.units < suc units
-    by_row units (Go next d) g = let whole : going x.text next d units ≡ y = cc in let same : units ≡ y.units = ap (λ (z : State). z.units) whole in omega (arith, same)
-    by_row units (Halt stop d) g = absurd (cc)
-    by_row units Stuck g = absurd (cc)
+-- how many instructions it may come to before a stop, and the stop
+abbrev pub to_go_by : Option Stop → ℕ → ℕ
+to_go_by None units = units + 1
+to_go_by (Some stop) units = units
 
-    by_units : (units : ℕ) → x.units ≡ units → stepped_by x None ≡ Some y → y.units < x.units
-    by_units zero u g = absurd (cc)
-    by_units (suc units) u g = subst (λ n. y.units < n) (sym u) (by_row units (step x.text x.place x.context) (ap (after_one x.text x.place x.context) (sym u) ∙ g))
+abbrev pub to_go : State → ℕ
+to_go x = to_go_by x.stop x.units
+
+pub stepped_nearer : (x y : State) → stepped x ≡ Some y → is_none x.stop ≡ true → to_go y < to_go x
+unfolding stepped
+stepped_nearer x y e going_on = by_stop x.stop refl going_on e
+  where
+    by_row : (units : ℕ) (row : Next) → follow x.text x.place units (λ n d. Some (going x.text n d units)) row ≡ Some y → to_go y < suc units + 1
+    by_row units (Go next d) g =
+        let whole : going x.text next d units ≡ y = cc in
+        subst (λ (z : State). to_go z < suc units + 1) whole (omega arith)
+    by_row units (Halt stop d) g =
+        let whole : halted x.text x.place d units stop ≡ y = cc in
+        subst (λ (z : State). to_go z < suc units + 1) whole (omega arith)
+    by_row units Stuck g = absurd (cc)
+    by_units : (units : ℕ) → after_one x.text x.place x.context units ≡ Some y → to_go y < units + 1
+    by_units zero g =
+        let whole : halted x.text x.place x.context 0 (faulted UnitsSpent) ≡ y = cc in
+        subst (λ (z : State). to_go z < 1) whole (omega arith)
+    by_units (suc units) g = by_row units (step x.text x.place x.context) g
+    by_stop : (stop : Option Stop) → x.stop ≡ stop → is_none stop ≡ true → stepped_by x stop ≡ Some y → to_go y < to_go x
+    by_stop (Some stop) h t k = absurd (cc)
+    by_stop None h t k = subst (λ (s : Option Stop). to_go y < to_go_by s x.units) (sym h) (by_units x.units k)

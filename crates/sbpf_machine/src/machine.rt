@@ -125,7 +125,7 @@ impl Machine {
         ensures ok { OnOk result (stepped self.old ≡ Some self.new) }
         ensures err { OnErr result (self.new ≡ self.old) }
     {
-        if self.stop.is_some() {
+        if !self.is_going() {
             return Ok(());
         }
         let ended = step_from(

@@ -14,7 +14,7 @@ ghost use Rattle.tx_exec.specs.Executing.{call_of, performed};
 use crate::failure::Failure;
 use crate::roles::metas_of;
 use crate::transaction::Transaction;
-use invoke_engine::{Accounts, Ended, Invocation, Ran, run_invocation};
+use invoke_engine::{Accounts, Ended, Invocation, Ran, Watch, watch_invocation};
 use message_codec::Instruction;
 use sol_base::{Account, OutOfMemory};
 use std::sync::Arc;
@@ -30,9 +30,10 @@ pub struct Executed {
 }
 
 /// Runs all instructions on these accounts, with the units of the budget.
-pub fn execute(
+pub fn execute<W: Watch>(
     transaction: &Transaction<'_>,
     base: &[Arc<Account>],
+    watch: &mut W,
 ) -> Result<Executed, OutOfMemory>
     requires height { (1 ≤ transaction.now.context.setting.height)
         × (transaction.now.context.setting.height ≤ max_stack_height) }
@@ -53,7 +54,9 @@ pub fn execute(
     let mut trace: u8 = 0;
     let message = &transaction.chosen.tx.message;
     for (index, instruction) in message.instructions.as_slice().iter().enumerate() {
-        let ran = run_one(transaction, instruction, accounts, units, trace, &mut log)?;
+        let ran = run_one(
+            transaction, instruction, accounts, units, trace, &mut log, watch,
+        )?;
         units = ran.units;
         trace = ran.trace;
         let Ran { ended, .. } = ran;
@@ -81,13 +84,14 @@ pub fn execute(
 }
 
 /// Runs one instruction, after others that came to these accounts, units, trace and log.
-fn run_one(
+fn run_one<W: Watch>(
     transaction: &Transaction<'_>,
     instruction: &Instruction,
     accounts: Accounts,
     units: u64,
     trace: u8,
     logs: &mut Logs,
+    watch: &mut W,
 ) -> Result<Ran, OutOfMemory>
     requires height { (1 ≤ transaction.now.context.setting.height)
         × (transaction.now.context.setting.height ≤ max_stack_height) }
@@ -111,5 +115,5 @@ fn run_one(
         accounts,
         units,
     };
-    run_invocation(&transaction.context, invocation, trace, logs)
+    watch_invocation(&transaction.context, invocation, trace, logs, watch)
 }

@@ -22,7 +22,7 @@ use crate::transaction::Transaction;
 use admission::Chosen;
 use bank_core::{Effects, SharedOutcome};
 use fee_rules::total;
-use invoke_engine::{Context, Setting};
+use invoke_engine::{Context, Setting, Unwatched, Watch};
 use message_codec::keys_of;
 use sol_base::{Account, Blob, Items, Key, OutOfMemory};
 use std::alloc::Global;
@@ -44,23 +44,41 @@ pub fn perform_one(
     ensures { IfOk result (λ e. effects_seen e
         ≡ effects (block_of block.now) chosen.now (accounts_of values.now)) }
 {
+    watch_one(alloc, block, chosen, values, &mut Unwatched)
+}
+
+/// The same for one who sees its frames.
+pub fn watch_one<W: Watch>(
+    alloc: Global,
+    block: &AdmittedBlock,
+    chosen: &Chosen,
+    values: &[Arc<Account>],
+    watch: &mut W,
+) -> Result<Effects, OutOfMemory>
+    requires height { (1 ≤ block.now.height) × (block.now.height ≤ max_stack_height) }
+    requires chosen { IsChosen chosen.now }
+    requires fits { Fits chosen.now.locks (accounts_of values.now) }
+    ensures { IfOk result (λ e. effects_seen e
+        ≡ effects (block_of block.now) chosen.now (accounts_of values.now)) }
+{
     let message = &chosen.tx.message;
     let loaded = &chosen.loaded;
     if loaded.writable.is_empty() && loaded.readonly.is_empty() {
-        return perform_with(alloc, block, chosen, message.keys.as_slice(), values);
+        return perform_with(alloc, block, chosen, message.keys.as_slice(), values, watch);
     }
     let keys = keys_of(alloc, message, loaded)?;
-    perform_with(alloc, block, chosen, keys.as_slice(), values)
+    perform_with(alloc, block, chosen, keys.as_slice(), values, watch)
 }
 
 /// The same, where these are its keys.
 #[tactic(auto, unfolding(crate::specs::Transaction::transaction))]
-fn perform_with<'a>(
+fn perform_with<'a, W: Watch>(
     alloc: Global,
     block: &'a AdmittedBlock,
     chosen: &'a Chosen,
     keys: &'a [Key],
     values: &[Arc<Account>],
+    watch: &mut W,
 ) -> Result<Effects, OutOfMemory>
     requires height { (1 ≤ block.now.height) × (block.now.height ≤ max_stack_height) }
     requires chosen { IsChosen chosen.now }
@@ -80,11 +98,15 @@ fn perform_with<'a>(
         setting,
         keys,
     };
-    perform(&Transaction { context, chosen }, values)
+    perform(&Transaction { context, chosen }, values, watch)
 }
 
 /// The same, once what is fixed over the transaction is at hand.
-fn perform(transaction: &Transaction<'_>, values: &[Arc<Account>]) -> Result<Effects, OutOfMemory>
+fn perform<W: Watch>(
+    transaction: &Transaction<'_>,
+    values: &[Arc<Account>],
+    watch: &mut W,
+) -> Result<Effects, OutOfMemory>
     requires height { (1 ≤ transaction.now.context.setting.height)
         × (transaction.now.context.setting.height ≤ max_stack_height) }
     requires chosen { IsChosen transaction.now.chosen.now }
@@ -98,7 +120,7 @@ fn perform(transaction: &Transaction<'_>, values: &[Arc<Account>]) -> Result<Eff
 {
     match why_dropped(values, total(&transaction.chosen.fee)) {
         Some(cause) => drop_it(transaction, values, cause),
-        None => perform_paid(transaction, values),
+        None => perform_paid(transaction, values, watch),
     }
 }
 
@@ -135,9 +157,10 @@ fn broken_rent(
 }
 
 /// Takes the fee, and performs the transaction.
-fn perform_paid(
+fn perform_paid<W: Watch>(
     transaction: &Transaction<'_>,
     values: &[Arc<Account>],
+    watch: &mut W,
 ) -> Result<Effects, OutOfMemory>
     requires height { (1 ≤ transaction.now.context.setting.height)
         × (transaction.now.context.setting.height ≤ max_stack_height) }
@@ -166,7 +189,7 @@ fn perform_paid(
         units: left,
         log,
         result,
-    } = execute(transaction, base)?;
+    } = execute(transaction, base, watch)?;
     let units = u64::from(budget.limit).saturating_sub(left);
     let lines = log.into_lines();
     match result {

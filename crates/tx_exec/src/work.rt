@@ -3,15 +3,18 @@ ghost use Rattle.std.specs.Prelude.{◌≡◌, ◌<◌, ◌≤◌, ◌^◌, All,
 ghost use Rattle.std.proofs.Props.{props};
 ghost use Rattle.std.proofs.lemmas.Map.Keys.{IsDistinct-prop};
 ghost use Rattle.sol_base.specs.Limits.{max_stack_height};
-ghost use Rattle.bank_law.specs.Lawful.{IsLawful};
+ghost use Rattle.bank_core.specs.Effects.{effects_seen};
+ghost use Rattle.bank_law.specs.Lawful.{Fits, IsLawful};
+ghost use Rattle.sol_base.specs.Accounts.{accounts_of};
 ghost use Rattle.bank_law.proofs.Props.{IsLawful-prop};
 ghost use Rattle.admission.specs.Chosen.{IsChosen};
 ghost use Rattle.tx_exec.specs.AdmittedBlock.{job_of};
 
 use crate::admitted::AdmittedBlock;
-use crate::perform::perform_one;
+use crate::perform::{perform_one, watch_one};
 use admission::{Candidate, Chosen};
 use bank_core::{Effects, Work};
+use invoke_engine::Watch;
 use program_cache::Programs;
 use sol_base::{Account, Items, LockList, OutOfMemory};
 use std::alloc::Global;
@@ -87,6 +90,23 @@ impl TxWork {
         ensures { result.now ≡ self.now.told.chosen }
     {
         self.told.chosen.as_slice()
+    }
+
+    /// Performs a position for one who sees its frames.
+    pub fn watch<W: Watch>(
+        &self,
+        position: u32,
+        values: &[Arc<Account>],
+        watch: &mut W,
+    ) -> Result<Effects, OutOfMemory>
+        requires below { position < (job_of self.now.told).count }
+        requires fits { Fits ((job_of self.now.told).locks position) (accounts_of values.now) }
+        ensures { IfOk result (λ effects. effects_seen effects
+            ≡ (job_of self.now.told).effects position (accounts_of values.now)) }
+    {
+        let chosen = self.told.chosen.as_slice()[position as usize].chosen();
+        watch.transaction(position)?;
+        watch_one(self.alloc, &self.told, chosen, values, watch)
     }
 }
 

@@ -5,10 +5,10 @@ use Rattle.invoke_engine.proofs.Loops.{Working}
 use Rattle.invoke_engine.proofs.run.advance.Given as goal
 
 abbrev pub invariant-loop-frame : goal.invariant-loop-frame
-invariant-loop-frame l = record {
+invariant-loop-frame g l = record {
   same : l.stack ≡ l.fn.stack;
   works : Working (fixed_in l.context) (programs_of l.stack) l.fn.frame l.fn.carrier l.frame l.carrier;
 }
 
 abbrev pub decreases-loop-frame : goal.decreases-loop-frame
-decreases-loop-frame l = l.frame.machine.units
+decreases-loop-frame g l = l.frame.machine.units

@@ -6,7 +6,7 @@ use Rattle.invoke_engine.proofs.Loops.{carried_first, run_is}
 use Rattle.invoke_engine.proofs.run.run_started.Goals as goal
 
 pub returns : goal.returns
-returns c =
+returns g c =
     run_is (frame (fixed_in c.args.context.now) [] c.args.invocation.call c.args.invocation.accounts
     c.args.invocation.units) c.ran_of.result _ (nothing_returned c.args.trace c.args.logs.now)
     c.run_frame-answer.new.carrier c.in_ok-answer.field-0 c.carrier.inside.env.logs

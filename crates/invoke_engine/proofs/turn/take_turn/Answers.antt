@@ -13,7 +13,7 @@ use Rattle.invoke_engine.proofs.Turns.{Ran, ran_keeps, turn_at, turn_calls, turn
 use Rattle.invoke_engine.proofs.turn.take_turn.Goals as goal
 
 pub leave-requires-clause-frame : goal.leave-requires-clause-frame
-leave-requires-clause-frame c =
+leave-requires-clause-frame g c =
     let r : Ran c.args.frame.now c.run.new.frame (Exit c.in-Exit.r0) =
     record {
       steps = c.in_ok-r0.ensures.steps.0;
@@ -24,7 +24,7 @@ leave-requires-clause-frame c =
     ran_keeps (length c.args.context.now.keys) c.args.frame.now c.run.new.frame _ c.requires.frame r
 
 pub call_turn-requires-clause-frame : goal.call_turn-requires-clause-frame
-call_turn-requires-clause-frame c =
+call_turn-requires-clause-frame g c =
     let r : Ran c.args.frame.now c.run.new.frame (Helper c.in-Helper.number) =
     record {
       steps = c.in_ok-r0.ensures.steps.0;
@@ -35,7 +35,7 @@ call_turn-requires-clause-frame c =
     ran_keeps (length c.args.context.now.keys) c.args.frame.now c.run.new.frame _ c.requires.frame r
 
 pub returns-in_ok-leave-in-Exit : goal.returns-in_ok-leave-in-Exit
-returns-in_ok-leave-in-Exit c =
+returns-in_ok-leave-in-Exit g c =
     let r : Ran c.args.frame.now c.run.new.frame (Exit c.in-Exit.r0) =
     record {
       steps = c.in_ok-r0.ensures.steps.0;
@@ -46,7 +46,7 @@ returns-in_ok-leave-in-Exit c =
     turn_at c.args.context.now.setting c.args.context.now.keys (programs_of c.args.outer.now) c.args.frame.now c.run.new.frame c.args.carrier.now _ r ∙ ap Leaves (sym c.in_ok-leave-in-Exit.ensures)
 
 pub returns-in_ok-fail-in-Fault : goal.returns-in_ok-fail-in-Fault
-returns-in_ok-fail-in-Fault c =
+returns-in_ok-fail-in-Fault g c =
     let r : Ran c.args.frame.now c.run.new.frame (Faulted c.in-Fault.fault) =
     record {
       steps = c.in_ok-r0.ensures.steps.0;
@@ -62,7 +62,7 @@ returns-in_ok-fail-in-Fault c =
     ap Leaves (sym c.in_ok-fail-in-Fault.ensures)
 
 pub returns-then-number-eq-INVOKE_CALL : goal.returns-then-number-eq-INVOKE_CALL
-returns-then-number-eq-INVOKE_CALL c =
+returns-then-number-eq-INVOKE_CALL g c =
     let r : Ran c.args.frame.now c.run.new.frame (Helper c.in-Helper.number) =
     record {
       steps = c.in_ok-r0.ensures.steps.0;
@@ -76,7 +76,7 @@ returns-then-number-eq-INVOKE_CALL c =
     ∙ h) c.call_turn.ensures
 
 pub returns-else-number-eq-INVOKE_CALL : goal.returns-else-number-eq-INVOKE_CALL
-returns-else-number-eq-INVOKE_CALL c =
+returns-else-number-eq-INVOKE_CALL g c =
     let r : Ran c.args.frame.now c.run.new.frame (Helper c.in-Helper.number) =
     record {
       steps = c.in_ok-r0.ensures.steps.0;

@@ -9,7 +9,7 @@ use Rattle.tx_exec.proofs.Steps.{Stands, all_done, bad, good}
 use Rattle.tx_exec.proofs.executing.execute.Goals as goal
 
 pub returns-in-Failed-clause-exact : goal.returns-in-Failed-clause-exact
-returns-in-Failed-clause-exact c =
+returns-in-Failed-clause-exact g c =
     let items = c.as_slice-instruction-items.ensures ∙ ap (λ (t : Transaction). t.chosen.now.tx.message.instructions) c.transaction.view_is in
     let here = subst (λ (is : List Instruction). c.instruction-item.result ≡ get_or is c.loop-index.index c.instruction-item.result) items c.instruction-item.is in
     let below = subst (λ (is : List Instruction). c.loop-index.index < length is) items c.loop-index-test.true in
@@ -21,7 +21,7 @@ returns-in-Failed-clause-exact c =
     c.in-Failed.error c.in-Failed.is)
 
 pub loop-index-preserved : goal.loop-index-preserved
-loop-index-preserved c =
+loop-index-preserved g c =
     let items = c.as_slice-instruction-items.ensures ∙ ap (λ (t : Transaction). t.chosen.now.tx.message.instructions) c.transaction.view_is in
     let here = subst (λ (is : List Instruction). c.instruction-item.result ≡ get_or is c.loop-index.index c.instruction-item.result) items c.instruction-item.is in
     let below = subst (λ (is : List Instruction). c.loop-index.index < length is) items c.loop-index-test.true in
@@ -36,7 +36,7 @@ loop-index-preserved c =
     c.in-Good.after c.in-Good.is)
 
 pub returns-clause-exact : goal.returns-clause-exact
-returns-clause-exact c =
+returns-clause-exact g c =
     let items = c.as_slice-instruction-items.ensures ∙ ap (λ (t : Transaction). t.chosen.now.tx.message.instructions) c.transaction.view_is in
     let past = subst (λ (is : List Instruction). length is ≤ c.loop-index.index) items c.loop-index-test.false in
     sym (all_done (fixed_in c.args.transaction.now.context) c.args.transaction.now.chosen.now

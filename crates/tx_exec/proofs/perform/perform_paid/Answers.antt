@@ -24,19 +24,19 @@ after_fits t keys ended left after is its given good same =
     subst (λ (vs : List Account). Fits t.locks vs) (sym same) (given_fits t left is (subst (λ (ks : List Key). AreAccountsOf (length ks) left) its there))
 
 pub execute-requires-clause-base : goal.execute-requires-clause-base
-execute-requires-clause-base c =
+execute-requires-clause-base g c =
     subst (λ (ks : List Key). AreAccountsOf (length ks) (accounts_of c.as_slice-base.result.now)) (sym c.requires.keys)
     (fits_given c.args.transaction.now.chosen.now (accounts_of c.as_slice-base.result.now) c.requires.chosen
     (subst (λ (vs : List (Arc Account Global)). Fits c.args.transaction.now.chosen.now.locks (accounts_of vs)) (sym c.as_slice-base.ensures) c.in_ok-accounts.ensures.fits))
 
 pub broken_rent-broken-requires-clause-after : goal.broken_rent-broken-requires-clause-after
-broken_rent-broken-requires-clause-after c =
+broken_rent-broken-requires-clause-after g c =
     after_fits c.args.transaction.now.chosen.now c.args.transaction.now.context.keys c.in_ok-left.field-0.result
     c.in-Ok.after (accounts_of c.as_slice-after.result.now) c.requires.chosen c.requires.keys
     c.in_ok-left.ensures.fits c.in-Ok.is c.as_slice-after.ensures
 
 pub finish-requires-clause-after : goal.finish-requires-clause-after
-finish-requires-clause-after c =
+finish-requires-clause-after g c =
     (after_fits c.args.transaction.now.chosen.now c.args.transaction.now.context.keys
     c.in_ok-left.field-0.result c.in-Ok.after (accounts_of c.as_slice-after.result.now) c.requires.chosen
     c.requires.keys c.in_ok-left.ensures.fits c.in-Ok.is c.as_slice-after.ensures).one_each
