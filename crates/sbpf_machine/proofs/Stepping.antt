@@ -1,6 +1,6 @@
 -- A machine after its next instruction.
-use Rattle.std.proofs.Common.{◌≡◌, ◌<◌, ◌+◌, ◌-◌, ℕ, zero, suc, true, List, Option, Some, None, refl, ap, sym, subst, ◌∙◌, arith}
-use Rattle.std.specs.Prelude.{is_none, is_some}
+use Rattle.std.proofs.Common.{◌≡◌, ◌<◌, ◌+◌, ◌-◌, ℕ, zero, suc, false, true, List, Option, Some, None, refl, ap, sym, subst, ◌∙◌, arith}
+use Rattle.std.specs.Prelude.{is_none}
 use Rattle.sbpf_machine.specs.declared.context.Context.{Context}
 use Rattle.sbpf_machine.specs.declared.stop.Fault.TheVariants.{UnitsSpent}
 use Rattle.sbpf_machine.specs.declared.stop.Stop.{Stop}
@@ -31,7 +31,7 @@ unfolding stepped
 one_spent text place zero c h = refl
 one_spent text place (suc units) c h = absurd (omega arith)
 
-pub one_stays : (x : State) (stop : Option Stop) → x.stop ≡ stop → is_some stop ≡ true → stepped x ≡ Some x
+pub one_stays : (x : State) (stop : Option Stop) → x.stop ≡ stop → is_none stop ≡ false → stepped x ≡ Some x
 unfolding stepped
 one_stays x (Some stop) h t = ap (stepped_by x) h
 one_stays x None h t = absurd (cc)

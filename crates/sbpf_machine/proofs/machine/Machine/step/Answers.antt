@@ -1,8 +1,8 @@
-use Rattle.std.proofs.Common.{◌≡◌, sym, ◌∙◌, subst, Some, refl}
-use Rattle.sbpf_machine.specs.Steps.{State, stepped}
+use Rattle.std.proofs.Common.{◌≡◌, false, refl}
+use Rattle.std.specs.Prelude.{is_none}
 use Rattle.sbpf_machine.proofs.Stepping.{one_stays}
 use Rattle.sbpf_machine.proofs.machine.Machine.step.Goals as goal
 
-pub returns-then-is_some-clause-ok : goal.returns-then-is_some-clause-ok
-returns-then-is_some-clause-ok c =
-    subst (λ (x : State). stepped x ≡ Some x) c.self.view_is (one_stays _ c.self.inside.stop refl (sym c.is_some.ensures ∙ c.if-is_some.true))
+pub returns-then-not-is_going-clause-ok : goal.returns-then-not-is_going-clause-ok
+returns-then-not-is_going-clause-ok c =
+    let none : is_none c.args.self.now.stop ≡ false = cc in one_stays c.args.self.now c.args.self.now.stop refl none
