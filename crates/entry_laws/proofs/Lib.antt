@@ -1,0 +1,8 @@
+pub mod Steps
+pub mod EntryLaws
+pub mod LeftLaws
+pub mod TotalLaws
+pub mod OrderLaws
+pub mod OnceLaws
+pub mod StretchLaws
+pub mod OwnerLaws
