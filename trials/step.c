@@ -16,7 +16,7 @@
                 is all
        gives    the giver goes on for so many instructions, then the waiter, until it sleeps or has the turn;
                 ALL: neither does
-       as       AS_BUILT, or how a wrong body would do: LOOKS_AGAIN, a wait expects the word as it is when it
+       as       AS_BUILT, or how a mutant would do: LOOKS_AGAIN, a wait expects the word as it is when it
                 begins; WAKES_NOBODY
        bound    seconds for the whole run
 
@@ -125,7 +125,7 @@ static int is_as_expected(struct thread *thread) {
   return (uint32_t)peek(thread, thread->word) == thread->expected;
 }
 
-/* At the beginning of a call. What a wrong body would do is done here. */
+/* At the beginning of a call. What a mutant would do is done here. */
 static void begin_call(struct thread *thread, struct user_regs_struct *values) {
   thread->in_call = 1;
   thread->where = IN_CALL;
@@ -298,7 +298,7 @@ static void wait_for_stop(struct thread *thread) {
   thread->where = SLEEPS;
 }
 
-/* Through its door into the kernel. A wrong body has looked at the word once more. */
+/* Through its door into the kernel. A mutant has looked at the word once more. */
 static void enter(struct thread *thread) {
   if (!thread->in_call) go(thread, PTRACE_SYSCALL);
   if (wanted.as == LOOKS_AGAIN) {
