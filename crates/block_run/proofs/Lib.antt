@@ -4,3 +4,4 @@ pub mod Orders
 pub mod Calls
 pub mod Declared
 pub mod Collecting
+pub mod SeenSerial

@@ -59,6 +59,7 @@ pub(crate) fn open<G: Gate, R: Threads + Sync>(
     ensures origin { IfOk result (λ opened. opened.core.origin.value
         ≡ record { start = snapshot.accounts; told = told_in snapshot slot order }) }
     ensures journal { IfOk result (λ opened. opened.core.journal.items ≡ []) }
+    ensures lanes { IfOk result (λ opened. opened.core.lanes ≡ lane_numbers) }
     ensures chain { IfOk result (λ opened. opened.chain
         ≡ record { limits = snapshot.limits; recent = snapshot.recent }) }
 {

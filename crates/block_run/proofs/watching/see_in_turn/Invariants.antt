@@ -11,7 +11,7 @@ invariant-turns g l = record {
   origin : l.core.origin.value ≡ l.initial.core.origin.value;
   one : l.core.lanes ≡ 1;
   alone : IsAlone l.core.journal.items;
-  serial : All (IsSerial (job_of l.initial.core.origin.value.told) (at l.initial.core.origin.value.start)) l.seen;
+  serial : All (IsSerial (job_of l.work.told) (at l.initial.core.origin.value.start)) l.seen;
 }
 
 -- a position takes two events
