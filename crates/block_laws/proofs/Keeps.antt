@@ -17,7 +17,7 @@ use Rattle.block_run.proofs.Orders.{before_are_chosen}
 pub admitted_fit : (s : Snapshot) (batch : Batch) → CanRun s batch.wires → All IsChosen (order_of s batch)
 admitted_fit s batch runs = admitted_are_chosen (start_in s) batch.wires runs.0.limits.keys.1 runs.1
 
-listed_fit : (s : Snapshot) (given : Block) → CanRun s (wires_of given) → All IsChosen (order_again s given)
+pub listed_fit : (s : Snapshot) (given : Block) → CanRun s (wires_of given) → All IsChosen (order_again s given)
 listed_fit s given runs =
     let a = listed (start_in s) (wires_of given) in
     before_are_chosen a.refused a.order (listed_are_chosen (start_in s) (wires_of given) runs.0.limits.keys.1 runs.1)

@@ -51,7 +51,7 @@ use Rattle.block_laws.proofs.Keeps.{admitted_fit}
 use Rattle.block_laws.proofs.Budgets.{limit_fits}
 
 -- ---- the outcomes
-record IsWritten (outcome : Outcome) : Type 0 where
+pub record IsWritten (outcome : Outcome) : Type 0 where
   pub texts : AllByRecursion IsUtf8 outcome.lines
   pub status : IsStatus outcome.status
   pub units : outcome.units < 2 ^ 64
@@ -117,7 +117,7 @@ module _ (s : Snapshot) (head : Head) (wires : List (List ℕ)) (order : List Ch
       let block = told_in s head.slot order in
       recursion_from_All IsWritten (serial_outcomes (job_of block) (at s.accounts)) (all_written block all s.accounts)
 
-  each_entry : (P : Entry → Type 0) → ((t : Chosen) (o : Outcome) → IsWritten o → P (entry_of wires (t, o))) → All P (entries_of wires order run.outcomes)
+  pub each_entry : (P : Entry → Type 0) → ((t : Chosen) (o : Outcome) → IsWritten o → P (entry_of wires (t, o))) → All P (entries_of wires order run.outcomes)
   each_entry P each = All-from_recursion P (entries_of wires order run.outcomes) (entries_all P wires each order run.outcomes outcomes_written)
 
   texts : HasTexts (closed s head wires order).block

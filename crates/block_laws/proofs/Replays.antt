@@ -88,7 +88,7 @@ module _ (s : Snapshot) (head : Head) (wires : List (List ℕ)) (order : List Ch
   unfolding closed
   head_is = refl
 
-  previous_is : (closed s head wires order).block.previous ≡ newest_of s.recent
+  pub previous_is : (closed s head wires order).block.previous ≡ newest_of s.recent
   unfolding closed
   previous_is = refl
 
@@ -96,7 +96,7 @@ module _ (s : Snapshot) (head : Head) (wires : List (List ℕ)) (order : List Ch
   unfolding closed
   slot_is = refl
 
-  wires_are : wires_of (closed s head wires order).block ≡ wires_in wires order
+  pub wires_are : wires_of (closed s head wires order).block ≡ wires_in wires order
   wires_are = ap (map (λ (entry : Entry). entry.wire)) entries_are ∙ wires_back wires order run.outcomes outcome_each
 
 -- the same transactions alone, with their wires in their order, come to the same block
@@ -221,7 +221,7 @@ itself slot newest block later same =
     (neither (head_differences slot newest block ++ entries_differences es es) rest
     (neither (head_differences slot newest block) (entries_differences es es) (head_same slot newest block later same) (entries_same 0 es)) (refused_none es)) (tail_same block)
 
-matches_itself : (slot : ℕ) (newest : Hash32) (block : Block) (halted : Bool) → slot < block.slot
+pub matches_itself : (slot : ℕ) (newest : Hash32) (block : Block) (halted : Bool) → slot < block.slot
     → block.previous ≡ newest → verdict slot newest block (record { block = block; halted = halted }) ≡ Match
 unfolding verdict
 matches_itself slot newest block halted later same = ap (λ (ds : List Verdict). unwrap_or (slice_get ds 0) Match) (itself slot newest block later same)

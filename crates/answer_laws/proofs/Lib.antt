@@ -1,0 +1,4 @@
+pub mod Listed
+pub mod Matches
+pub mod SameBlocks
+pub mod Stops

@@ -1,0 +1,4 @@
+pub mod Matching
+pub mod Equal
+pub mod Reading
+pub mod Stopping
