@@ -38,7 +38,7 @@ use Rattle.tx_exec.specs.Payer.{charged, dropped, less, total_fee}
 use Rattle.tx_exec.specs.Transaction.{by_drop, data_in, failing, finished, finishing, paid, ran, rent_broken, transaction}
 use Rattle.tx_exec.specs.TransactionLaws.{Keeps}
 use Rattle.invoke_engine.specs.Frame.{Fixed}
-use Rattle.block_end.specs.BlockEnd.{Shares, base_fees, may_collect, more, priority_fees, share, share_fees}
+use Rattle.block_end.specs.BlockEnd.{base_fees, may_collect, more, priority_fees, share, share_fees}
 use Rattle.block_end.proofs.Activating.{get-activate_all}
 use Rattle.block_end.specs.Blocks.{entry_of}
 use Rattle.block_run.specs.Blocks.{block_result, closed}
@@ -46,7 +46,8 @@ use Rattle.block_run.specs.SerialRun.{serial_run, told_in}
 use Rattle.block_laws.specs.Keeping.{CanRun, order_of}
 use Rattle.block_laws.proofs.Keeps.{admitted_fit}
 use Rattle.entry_laws.specs.Entries.{IsPayer, state_in}
-use Rattle.entry_laws.specs.Left.{DroppedEntriesLeaveNothing, FailedEntriesPayAlone, NoneMayWrite, PaysAlone, UnwrittenKeysStay}
+use Rattle.entry_laws.specs.Left.{EndsPayAndActivate, paid_to, DroppedEntriesLeaveNothing, FailedEntriesPayAlone, NoneMayWrite, PaysAlone, UnwrittenKeysStay}
+use Rattle.entry_laws.proofs.TotalLaws.{shares_by}
 use Rattle.entry_laws.proofs.EntryLaws.{IsOfEntry, all_at, of_entry}
 use Rattle.tx_exec.proofs.Works.{there}
 use Rattle.entry_laws.proofs.Steps.{comes_to, is_state, it_keeps, settled_is, under_its_keys, under_other_keys, under_unwritten_keys}
@@ -255,29 +256,42 @@ module _ (s : Snapshot) (batch : Batch) (runs : CanRun s batch.wires) where
         get-at (state_in s batch (suc n)) key (state (suc n) l) ∙ ap kept same
         ∙ sym (get-at (state_in s batch n) key (state n (omega (arith, l)))) ∙ stays n (omega (arith, l))
 
--- a key that does not collect
-shared_elsewhere : (state : State) (collector : Key) (split : FeeSplit) (key : Key) → key ≢ collector → get (share state collector split).accounts key ≡ get state key
-shared_elsewhere state collector split key other = by_case (not (split.rest == 0) && may_collect collector (more (at state collector) split.rest))
-  where
-    by_case : (b : Bool) → get (cond b (let r : Shares =
-        record {
-          accounts = put state collector (more (at state collector) split.rest);
-          burned = split.burned;
-          collected = split.rest;
-        } in r)
-        (record { accounts = state; burned = split.burned + split.rest; collected = 0 })).accounts key ≡ get state key
-    by_case true =
-        get-put_key state collector (more (at state collector) split.rest) key
-        ∙ ap (λ (b : Bool). cond b (kept (more (at state collector) split.rest)) (get state key)) (same_key-false key collector other)
-    by_case false = refl
+-- ---- the end of a block
+more_none : (account : Account) → more account 0 ≡ account
+more_none account = ap (λ n. let a : Account = record account { lamports = n } in a) (let e : account.lamports + 0 ≡ account.lamports = omega arith in e)
 
-after_is : (s : Snapshot) (batch : Batch) (key : Key) → key ≢ batch.collector
-    → get (block_result s batch).after.accounts key ≡ option_map active (get (state_in s batch (length (order_of s batch))) key)
+shared_at : (state : State) (collector : Key) (split : FeeSplit) (key : Key) → IsState state
+    → get (share state collector split).accounts key ≡ kept (paid_to collector (share state collector split).collected key (at state key))
+shared_at state collector split key is = by_case (not (split.rest == 0) && may_collect collector (more (at state collector) split.rest))
+  where
+    paid : (b : Bool) → same_key key collector ≡ b
+        → cond b (kept (more (at state collector) split.rest)) (get state key) ≡ kept (cond b (more (at state key) split.rest) (at state key))
+    paid true same = ap (λ (k : Key). kept (more (at state k) split.rest)) (sym (same_key-true key collector same))
+    paid false same = get-at state key is
+
+    unpaid : (b : Bool) → kept (at state key) ≡ kept (cond b (more (at state key) 0) (at state key))
+    unpaid true = ap kept (sym (more_none (at state key)))
+    unpaid false = refl
+
+    by_case : (b : Bool) → get (shares_by state collector split b).accounts key ≡ kept (paid_to collector (shares_by state collector split b).collected key (at state key))
+    by_case true = get-put_key state collector (more (at state collector) split.rest) key ∙ paid (same_key key collector) refl
+    by_case false = get-at state key is ∙ unpaid (same_key key collector)
+
+pub ends_pay_and_activate : EndsPayAndActivate
 unfolding block_result closed serial_run share_fees
-after_is s batch key other =
+ends_pay_and_activate s batch runs key =
     let r = serial_run s batch.slot (order_of s batch) in
     get-activate_all (share_fees r.accounts batch.collector r.outcomes).accounts key
-    ∙ ap (option_map active) (shared_elsewhere r.accounts batch.collector (split_of (base_fees r.outcomes) (priority_fees r.outcomes)) key other)
+    ∙ ap (option_map active)
+    (shared_at r.accounts batch.collector (split_of (base_fees r.outcomes) (priority_fees r.outcomes)) key (state s batch runs (length (order_of s batch)) (omega arith)))
+
+stays_after : (s : Snapshot) (batch : Batch) → CanRun s batch.wires → (key : Key) → key ≢ batch.collector
+    → get (block_result s batch).after.accounts key ≡ option_map active (get (state_in s batch (length (order_of s batch))) key)
+stays_after s batch runs key other =
+    let last = state_in s batch (length (order_of s batch)) in
+    ends_pay_and_activate s batch runs key
+    ∙ ap (λ (b : Bool). option_map active (kept (cond b (more (at last key) (block_result s batch).block.collected) (at last key)))) (same_key-false key batch.collector other)
+    ∙ ap (option_map active) (sym (get-at last key (state s batch runs (length (order_of s batch)) (omega arith))))
 
 pub failed_pay_alone : FailedEntriesPayAlone
 failed_pay_alone s batch runs i entry tx name e payer pays index cause detail failed =
@@ -289,5 +303,5 @@ dropped_leave_nothing s batch runs i entry tx name e cause dropped_is = leaves_n
 pub unwritten_stay : UnwrittenKeysStay
 unwritten_stay s batch runs key none = record {
   running = stays s batch runs key none;
-  after = λ other. after_is s batch key other ∙ ap (option_map active) (stays s batch runs key none (length (order_of s batch)) (omega arith));
+  after = λ other. stays_after s batch runs key other ∙ ap (option_map active) (stays s batch runs key none (length (order_of s batch)) (omega arith));
 }

@@ -1,7 +1,7 @@
 pub mod Steps
 pub mod EntryLaws
-pub mod LeftLaws
 pub mod TotalLaws
+pub mod LeftLaws
 pub mod OrderLaws
 pub mod OnceLaws
 pub mod StretchLaws

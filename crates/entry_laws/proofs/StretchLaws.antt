@@ -163,7 +163,9 @@ begun_fine : (s : Fixed) (outer : List Key) (goo : Goes) (parts : Parts) (call :
 begun_fine s outer goo parts call accounts units c all listed = by_next (begun s outer call accounts units c) refl
   where
     counted : (e : Ending) → begun s outer call accounts units c ≡ Done e → IfOk e.result (λ after. length after ≡ length accounts)
-    counted e h = kept_count call.metas accounts e.result (subst (λ (next : Next). IsGoodKept call.metas accounts (after outer (go s) next).result) h (frame_keeps s outer call accounts units c listed))
+    counted e h =
+        kept_count call.metas accounts e.result
+        (subst (λ (next : Next). IsGoodKept call.metas accounts (after outer (go s) next).result) h (frame_keeps s outer call accounts units c listed))
 
     by_next : (next : Next) → begun s outer call accounts units c ≡ next → IsFine accounts (stretches_next (key_at s.keys call.program) accounts outer parts next) (after outer goo next).result
     by_next (Runs f d) h =
@@ -171,7 +173,8 @@ begun_fine s outer goo parts call accounts units c all listed = by_next (begun s
         runs_fine (length s.keys) outer goo parts call.metas accounts f d all listed first.1 first.2
     by_next (Done e) h =
         ended (key_at s.keys call.program) accounts e.result
-        (subst (λ (next : Next). IfOk (after outer (go s) next).result (AreForeignKept (key_at s.keys call.program ∷ called_next outer (called_in s) next) accounts)) h (frame_foreign s outer call accounts units c listed))
+        (subst (λ (next : Next). IfOk (after outer (go s) next).result (AreForeignKept (key_at s.keys call.program ∷ called_next outer (called_in s) next) accounts)) h
+        (frame_foreign s outer call accounts units c listed))
         (counted e h)
 
 -- where a callee has returned and the frame does not run on, it fails

@@ -41,7 +41,8 @@ use Rattle.entry_laws.specs.Sums.{FeesAreShared, UnitsAreWithinLimits, fees_in, 
 use Rattle.entry_laws.proofs.EntryLaws.{all_at, entries_are}
 
 -- ---- the fees
-abbrev shares_by : State → Key → FeeSplit → Bool → Shares
+-- how fees are shared, told whether the collector is paid
+abbrev pub shares_by : State → Key → FeeSplit → Bool → Shares
 shares_by s collector split b = cond b
     (record { accounts = put s collector (more (at s collector) split.rest); burned = split.burned; collected = split.rest })
     (record { accounts = s; burned = split.burned + split.rest; collected = 0 })
@@ -108,7 +109,8 @@ within_key : (key : Key) (wires : List (List ℕ)) (order : List Chosen) (outcom
     → units_in (writers_of key order (entries_of wires order outcomes)) ≤ units_on key order
 within_key key wires [] outcomes within = omega arith
 within_key key wires (t ∷ ts) [] within = omega arith
-within_key key wires (t ∷ ts) (o ∷ os) within = by_case (filter (λ (e : Chosen × Entry). may_write_key key e.0) (zip ts (entries_of wires ts os))) (may_write_key key t) (within_key key wires ts os within.1)
+within_key key wires (t ∷ ts) (o ∷ os) within =
+    by_case (filter (λ (e : Chosen × Entry). may_write_key key e.0) (zip ts (entries_of wires ts os))) (may_write_key key t) (within_key key wires ts os within.1)
   where
     by_case : (rest : List (Chosen × Entry)) (b : Bool) → units_in (map (λ (e : Chosen × Entry). e.1) rest) ≤ units_of (filter (may_write_key key) ts)
         → units_in (map (λ (e : Chosen × Entry). e.1) (cond b ((t, entry_of wires (t, o)) ∷ rest) rest)) ≤ units_of (cond b (t ∷ filter (may_write_key key) ts) (filter (may_write_key key) ts))

@@ -1,12 +1,14 @@
 -- What entries leave as it is.
-use Rattle.std.specs.Prelude.{◌≡◌, ◌≢◌, ℕ, suc, ◌≤◌, length, false, All, List, option_map}
+use Rattle.std.specs.Prelude.{◌≡◌, ◌≢◌, ℕ, suc, ◌≤◌, length, false, All, List, option_map, if◌then◌else◌}
 use Rattle.sol_base.specs.declared.key.Key.{Key}
 use Rattle.sol_base.specs.declared.key.Hash32.{Hash32}
+use Rattle.sol_base.specs.declared.account.Account.{Account}
+use Rattle.sol_base.specs.Keys.{same_key}
 use Rattle.message_codec.specs.declared.message.Tx.{Tx}
 use Rattle.tx_report.specs.declared.cause.Cause.{Cause}
 use Rattle.tx_report.specs.declared.cause.DropCause.{DropCause}
 use Rattle.tx_report.specs.declared.status.Status.TheVariants.{Dropped, Failed}
-use Rattle.account_store.specs.State.{State, at, get, put}
+use Rattle.account_store.specs.State.{State, at, get, kept, put}
 use Rattle.loader_prog.specs.Loader.{active}
 use Rattle.snapshot_codec.specs.declared.batch.Batch.{Batch}
 use Rattle.snapshot_codec.specs.declared.snapshot.Snapshot.{Snapshot}
@@ -14,6 +16,7 @@ use Rattle.block_record.specs.declared.block.Entry.{Entry}
 use Rattle.admission.specs.declared.chosen.Chosen.{Chosen}
 use Rattle.admission.specs.Admission.{may_write_key}
 use Rattle.tx_exec.specs.Payer.{less}
+use Rattle.block_end.specs.BlockEnd.{more}
 use Rattle.block_run.specs.Blocks.{block_result}
 use Rattle.block_laws.specs.Keeping.{CanRun, order_of}
 use Rattle.entry_laws.specs.Entries.{IsEntry, IsPayer, state_in}
@@ -57,3 +60,17 @@ abbrev pub UnwrittenKeysStay : Type 0
 UnwrittenKeysStay =
     (s : Snapshot) (batch : Batch) → CanRun s batch.wires
     → (key : Key) → NoneMayWrite key (order_of s batch) → KeyStays s batch key
+
+-- the collector has what a block collected, and the others have what they had
+abbrev pub paid_to : Key → ℕ → Key → Account → Account
+paid_to collector collected key account =
+    if same_key key collector then more account collected else account
+
+-- the end of a block changes no other account than the collector's, but for what the loader makes of
+-- final buffers
+abbrev pub EndsPayAndActivate : Type 0
+EndsPayAndActivate =
+    (s : Snapshot) (batch : Batch) → CanRun s batch.wires → (key : Key)
+    → get (block_result s batch).after.accounts key
+    ≡ option_map active (kept (paid_to batch.collector (block_result s batch).block.collected key
+    (at (state_in s batch (length (order_of s batch))) key)))

@@ -8,7 +8,7 @@ mod order;
 mod owners;
 mod sums;
 
-pub use left::{failed_entries_leave_their_fee, unwritten_keys_stay};
+pub use left::{block_ends_pay_and_activate, failed_entries_leave_their_fee, unwritten_keys_stay};
 pub use once::messages_run_once;
 pub use order::entries_are_in_order;
 pub use owners::good_entries_run_in_stretches;
