@@ -72,11 +72,11 @@ abbrev pub state_of : List KeyedAccount → Result State StoreFault
 state_of list =
     first_or (entry_faults (entries_of list)) (Ok (from_entries (entries_of list)))
 
--- want of memory, which no input shows
+-- out of memory, which no input shows
 abbrev pub is_store_memory : StoreFault → Bool
 is_store_memory OutOfMemory = true
 is_store_memory _ = false
 
--- it is the fault that was found, or want of memory
+-- it is the fault that was found, or out of memory
 abbrev pub IsFaultOr : Option StoreFault → StoreFault → Type 0
 IsFaultOr found fault = MatchBool (is_store_memory fault) (Unit {0}) (found ≡ Some fault)

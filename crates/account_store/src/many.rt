@@ -47,7 +47,7 @@ impl Accounts {
         }
     }
 
-    /// The same by a walk, where the keys ascend.
+    /// Takes out the accounts of keys that ascend, by one walk over both.
     fn walk_out(self, alloc: Global, keys: &[Key]) -> Result<TakenOut, OutOfMemory>
         requires { IsStrictlySortedBy key_cmp keys.now }
         ensures taken { IfOk result (λ out.
@@ -83,7 +83,7 @@ impl Accounts {
         Ok(TakenOut { accounts, rest })
     }
 
-    /// The same by a look-up for each key.
+    /// Takes out the accounts of keys in any order, by a look-up for each.
     fn remove_each(mut self, alloc: Global, keys: &[Key]) -> Result<TakenOut, OutOfMemory>
         requires { IsDistinct same_key keys.now }
         ensures taken { IfOk result (λ out.

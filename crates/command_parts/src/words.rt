@@ -66,7 +66,7 @@ pub fn words_after_name<R: Env + AllocGlobal>(rt: &R) -> Result<Vec<String>, NoW
     }
 }
 
-/// The same words, lent.
+/// The words of these texts, lent.
 pub fn lent_words(alloc: Global, texts: &[String]) -> Result<Vec<&str>, OutOfMemory>
     ensures { IfOk result (λ words. map (λ word. word.now) words.items
         ≡ map string_bytes texts.entry.now) }

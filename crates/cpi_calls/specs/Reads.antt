@@ -15,7 +15,7 @@ use Rattle.cpi_calls.specs.declared.request.Call.{Call}
 use Rattle.cpi_calls.specs.declared.fault.CallFault.{CallFault}
 use Rattle.cpi_calls.specs.declared.fault.CallFault.TheVariants.{AccessViolation, BadFlag, BadSeeds, TooManySigners, OutOfMemory as no_memory}
 
--- want of memory, which no input shows
+-- out of memory, which no input shows
 abbrev pub is_call_memory : CallFault → Bool
 is_call_memory no_memory = true
 is_call_memory _ = false

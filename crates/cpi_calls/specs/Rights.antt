@@ -77,7 +77,7 @@ rights_of request keys caller = do
   allowed ← or_escalation (position_from (exceeds keys request.signers caller) 0 request.metas)
   Ok (record { program = program; metas = metas })
 
--- want of memory, which no input shows
+-- out of memory, which no input shows
 abbrev pub is_rights_memory : RightsFault → Bool
 is_rights_memory no_room = true
 is_rights_memory _ = false

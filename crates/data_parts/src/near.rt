@@ -50,7 +50,7 @@ pub fn hinted(hints: &[Hint], at: usize) -> Option<usize> {
     Some(hint.piece as usize + usize::from(at >= hint.end as usize))
 }
 
-/// The same, and the first piece for a place behind all.
+/// The piece that a hint names for a place, and the first piece for a place behind all.
 #[inline(always)]
 pub fn nearest(hints: &[Hint], at: usize) -> usize {
     hinted(hints, at).unwrap_or(0)

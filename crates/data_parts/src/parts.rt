@@ -157,7 +157,7 @@ impl Parts {
         self.pieces.array(near, at)
     }
 
-    /// The same, which may lie over several parts. This stands apart so that room for the answer of
+    /// Reads bytes that may lie over several parts. This stands apart so that room for the answer of
     /// a call is made where there is one, and not where most reads go.
     #[inline(always)]
     fn array_over<const N: usize>(&self, at: usize) -> Option<[u8; N]>

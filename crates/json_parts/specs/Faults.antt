@@ -4,7 +4,7 @@ use Rattle.json_parts.specs.declared.fault.Step.{Step}
 use Rattle.json_parts.specs.declared.fault.JsonFault.{JsonFault}
 use Rattle.json_parts.specs.declared.fault.JsonFault.TheVariants.{NoJson, Refused, BadSnapshot, BadBatch, BadRecord, BadImage, Trailing, OutOfMemory}
 
--- want of memory, which no text shows
+-- out of memory, which no text shows
 abbrev pub is_json_memory : JsonFault → Bool
 is_json_memory (NoJson _ _) = false
 is_json_memory (Refused _ _) = false

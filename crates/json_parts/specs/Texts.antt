@@ -12,7 +12,7 @@ abbrev pub shown : Read Data → Read (Option Data)
 shown (Ok d) = Ok (Some d)
 shown (Err fault) = Err fault
 
--- that a text is no JSON, or want of memory
+-- that a text is no JSON, or out of memory
 abbrev pub is_of_text : JsonFault → Bool
 is_of_text (NoJson _ _) = true
 is_of_text (Refused _ _) = false

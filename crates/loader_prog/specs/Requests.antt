@@ -9,7 +9,7 @@ use Rattle.loader_prog.specs.declared.fault.LoaderFault.TheVariants.{InvalidInst
 use Rattle.loader_prog.specs.declared.instruction.Instruction.{Instruction}
 use Rattle.loader_prog.specs.declared.instruction.Instruction.TheVariants.{Init as AsInit, Write as AsWrite, Finalize as AsFinalize, SetAuthority as AsSetAuthority}
 
--- want of memory, which no input shows
+-- out of memory, which no input shows
 abbrev pub is_loader_memory : LoaderFault → Bool
 is_loader_memory no_memory = true
 is_loader_memory _ = false

@@ -12,7 +12,7 @@ use std::alloc::Global;
 #[derive(Drop)]
 pub enum Parsed {
     Good { tx: Tx, name: Hash32 },
-    /// The refusal, which is never want of memory.
+    /// The refusal, which is never out of memory.
     Bad(WireFault),
 }
 

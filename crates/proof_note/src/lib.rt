@@ -44,7 +44,7 @@ impl<T> Note<T> {
         Note::make()
     }
 
-    /// The same note again.
+    /// A second note of the same value.
     pub fn again(&self) -> Note<T>
         ensures { result.value ≡ self.now.value }
     {

@@ -3,7 +3,7 @@ use Rattle.std.specs.Prelude.{ℕ, Option, Some, None}
 use Rattle.sbpf_memory.specs.declared.fault.MemFault.{MemFault}
 use Rattle.sbpf_memory.specs.declared.fault.MemFault.TheVariants.{AccessViolation, Overlap, OutOfMemory}
 
--- want of memory is no refusal
+-- out of memory is no refusal
 abbrev pub fault_number : MemFault → Option ℕ
 fault_number (AccessViolation addr len write) = Some 1
 fault_number Overlap = Some 2

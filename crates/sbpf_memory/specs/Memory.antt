@@ -208,7 +208,7 @@ unfoldable pub IsPrepared : Ranges → ℕ → ℕ → Type 0
 IsPrepared m addr len = PreparedAt m len (place_of m addr len)
 
 -- What a call that writes answers, by what the definition gives: the memory, or the refusal, or
--- want of memory. Either refusal leaves the memory as it was, and want of memory comes only where
+-- out of memory. Either refusal leaves the memory as it was, and out of memory comes only where
 -- nothing else is to refuse.
 abbrev pub Answers : Result Ranges MemFault → Ranges → Ranges → Result (Unit {0}) MemFault → Type 0
 Answers wanted old new (Ok _) = wanted ≡ Ok new
@@ -247,7 +247,7 @@ pub record KeepsBytes (old new : Ranges) : Type 0 where
   pub prepared : StayPrepared old.input.prepared new.input.prepared
   pub lent : new.input.lent ≡ old.input.lent
 
--- an answer that is not want of memory
+-- a result that is not out of memory
 abbrev pub HasMemory : Result (Unit {0}) MemFault → Type 0
 HasMemory (Err no_memory) = ⊥
 HasMemory _ = Unit {0}

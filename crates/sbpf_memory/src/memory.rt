@@ -254,7 +254,7 @@ impl Memory {
         }
     }
 
-    /// The same for an address below those of the input.
+    /// The place of an address below those of the input.
     #[inline(always)]
     #[tactic(auto, using(std::proofs::lemmas::Bool::Decides::nat_tests, crate::proofs::Places::places), unfolding(crate::specs::Memory::place_of))]
     fn place_below(&self, addr: u64, len: u64) -> Option<Place>

@@ -10,7 +10,7 @@ use sol_base::Blob;
 use std::alloc::Global;
 
 /// The refusals of calls that read a memory: each has one that carries the access that is refused,
-/// and one for want of memory.
+/// and one for out of memory.
 pub trait ReadFault {
     ghost use Rattle.std.specs.Prelude.{◌≡◌, Bool, true, false};
     ghost use Rattle.sbpf_memory.specs.declared.fault.AccessViolation.{AccessViolation as Violation};
@@ -18,7 +18,7 @@ pub trait ReadFault {
     /// The refusal of an access.
     ghost violated: { Violation → Self };
 
-    /// Whether it is want of memory, which no input shows.
+    /// Whether it is out of memory, which no input shows.
     ghost is_memory: { Self → Bool };
 
     fn access_violation(violation: AccessViolation) -> Self

@@ -12,7 +12,7 @@ pub fn is_start(text: &[u8], place: usize) -> bool
     place < text.len() / 8 && slot_at(text, place).opcode != 0
 }
 
-/// The same of a place that a jump leads to.
+/// Whether an instruction starts at the place that a jump leads to.
 pub fn is_start_at(text: &[u8], place: i64) -> bool
     ensures { result ≡ is_start_at text.now place }
 {

@@ -10,7 +10,7 @@ pub trait Refusal {
     /// The refusal of a field that does not fit in the bytes left, by its place.
     ghost cut_at: { ℕ → Self };
 
-    /// Whether it is want of memory, which no input shows.
+    /// Whether it is out of memory, which no input shows.
     ghost is_memory: { Self → Bool };
 
     /// The field at this place does not fit in the bytes left.

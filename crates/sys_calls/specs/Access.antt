@@ -9,7 +9,7 @@ use Rattle.sbpf_memory.specs.declared.fault.MemFault.TheVariants as Memory
 use Rattle.sys_calls.specs.declared.fault.SysFault.{SysFault}
 use Rattle.sys_calls.specs.declared.fault.SysFault.TheVariants.{AccessViolation, Overlap, OutOfMemory as no_memory}
 
--- want of memory, which no input shows
+-- out of memory, which no input shows
 abbrev pub is_sys_memory : SysFault → Bool
 is_sys_memory no_memory = true
 is_sys_memory _ = false

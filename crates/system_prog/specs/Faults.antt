@@ -3,7 +3,7 @@ use Rattle.std.specs.Prelude.{Bool, true, false}
 use Rattle.system_prog.specs.declared.fault.SystemFault.{SystemFault}
 use Rattle.system_prog.specs.declared.fault.SystemFault.TheVariants.{OutOfMemory as no_memory}
 
--- want of memory, which no input shows
+-- out of memory, which no input shows
 abbrev pub is_system_memory : SystemFault → Bool
 is_system_memory no_memory = true
 is_system_memory _ = false

@@ -59,7 +59,7 @@ impl Logs {
         Ok(())
     }
 
-    /// The same, where the line is handed over.
+    /// Adds a line that is handed over, as `push_line` adds one.
     pub fn add_line(&mut self, line: Blob) -> Result<(), OutOfMemory>
         ensures ok { OnOk result (self.new ≡ with_line self.old line) }
         ensures err { OnErr result (self.new ≡ self.old) }
