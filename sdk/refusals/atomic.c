@@ -1,4 +1,4 @@
-/* Threads, which a program has not. */
+/* Threads, which a program does not have. */
 #include "../solana_block.h"
 uint64_t entrypoint(uint8_t *region) {
   __sync_fetch_and_add((uint64_t *)region, 1);
