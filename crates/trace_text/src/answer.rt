@@ -26,19 +26,18 @@ const MAX_STEPS: u32 = 100_000;
 /// How the command is written.
 const USAGE: &str = "trace [--position P|--signature S] [--steps] [--accounts] [--json]";
 
-/// The notes of one transaction, which begin behind a place and end before the next one's.
-fn notes_of(notes: &[Note], position: u32) -> &[Note] {
-    let mut from = notes.len();
+/// How many notes the first transaction has: those before the next one begins.
+fn first_count(notes: &[Note]) -> usize
+    ensures { result ≤ length notes.now }
+{
     for (place, note) in notes.iter().enumerate() {
-        if let Note::Transaction(other) = note {
-            if *other == position {
-                from = place;
-            } else if place > from {
-                return &notes[from..place];
+        if let Note::Transaction(_) = note {
+            if place > 0 {
+                return place;
             }
         }
     }
-    &notes[from..]
+    notes.len()
 }
 
 /// The transactions that were seen, each with its notes.
@@ -49,13 +48,16 @@ fn told_of<'a>(
 ) -> Result<Items<Told<'a>>, OutOfMemory> {
     let order: &'a [Candidate] = watched.work.chosen();
     let mut all = Items::new(alloc);
+    let mut rest = notes;
     for seen in watched.seen.as_slice() {
+        let (own, others) = rest.split_at(first_count(rest));
+        rest = others;
         if let Some(one) = order.get(seen.position as usize) {
             all.push(Told {
                 position: seen.position,
                 chosen: one.chosen(),
                 outcome: seen.outcome.value(),
-                notes: notes_of(notes, seen.position),
+                notes: own,
             })?;
         }
     }

@@ -288,7 +288,7 @@ fn add_note<'a>(
             list_innermost(frames)?;
             if let (Some(error), Some(Note::Ends(finished))) = (
                 error_behind(notes, place),
-                notes.get(place + 1),
+                notes.get(place.saturating_add(1)),
             ) {
                 events.push(stop(frames, halted, finished, error)?)?;
             }

@@ -126,9 +126,9 @@ fn tell_begin<'a>(
     page.end()?;
     frames.active.push(began)?;
     for (place, meta) in began.metas.as_slice().iter().enumerate() {
-        tell_meta(page, frames, began, place, meta, depth + 1)?;
+        tell_meta(page, frames, began, place, meta, depth.saturating_add(1))?;
     }
-    page.indent(depth + 1)?;
+    page.indent(depth.saturating_add(1))?;
     page.text("data ")?;
     page.hex(began.data.as_slice())?;
     page.end()
@@ -399,7 +399,10 @@ fn tell_note<'a>(
     match notes.get(place) {
         Some(Note::Begins(began)) => tell_begin(page, frames, began),
         Some(Note::Steps(step)) => tell_step(page, frames, notes, place, step),
-        Some(Note::Stops(halted)) => match (error_behind(notes, place), notes.get(place + 1)) {
+        Some(Note::Stops(halted)) => match (
+            error_behind(notes, place),
+            notes.get(place.saturating_add(1)),
+        ) {
             (Some(error), Some(Note::Ends(finished))) => {
                 tell_stop(page, frames, halted, finished, error)
             }

@@ -38,6 +38,29 @@ fn signature_in(text: &str) -> Option<Sought> {
     }
 }
 
+/// One transaction that is sought, unless one is already.
+fn one_of(before: Sought, sought: Option<Sought>) -> Option<Sought> {
+    if before == Sought::All { sought } else { None }
+}
+
+/// Takes an argument, which is the value of an option if there is one before it. The option whose value
+/// is to follow, or an empty text; None if the argument is wrong.
+fn take_word(asked: &mut Asked, option: &str, word: &str) -> Option<&'static str> {
+    match option {
+        "--position" => asked.sought = one_of(asked.sought, place_in(word))?,
+        "--signature" => asked.sought = one_of(asked.sought, signature_in(word))?,
+        _ => match word {
+            "--steps" => asked.steps = true,
+            "--accounts" => asked.accounts = true,
+            "--json" => asked.json = true,
+            "--position" => return Some("--position"),
+            "--signature" => return Some("--signature"),
+            _ => return None,
+        },
+    }
+    Some("")
+}
+
 /// What the arguments behind `trace` ask for.
 fn asked_in<'a>(words: &[&'a str]) -> Words<'a> {
     let mut asked = Asked {
@@ -46,41 +69,20 @@ fn asked_in<'a>(words: &[&'a str]) -> Words<'a> {
         accounts: false,
         json: false,
     };
-    let mut rest = words;
-    loop {
-        match rest {
-            [] => return Words::Trace(asked),
-            ["--steps", others @ ..] => {
-                asked.steps = true;
-                rest = others;
-            }
-            ["--accounts", others @ ..] => {
-                asked.accounts = true;
-                rest = others;
-            }
-            ["--json", others @ ..] => {
-                asked.json = true;
-                rest = others;
-            }
-            ["--position", text, others @ ..] => match place_in(text) {
-                Some(sought) if asked.sought == Sought::All => {
-                    asked.sought = sought;
-                    rest = others;
-                }
-                _ => return Words::Wrong(text, "is no place of one transaction in a batch"),
-            },
-            ["--signature", text, others @ ..] => match signature_in(text) {
-                Some(sought) if asked.sought == Sought::All => {
-                    asked.sought = sought;
-                    rest = others;
-                }
-                _ => return Words::Wrong(
-                    text,
-                    "is no signature of one transaction: 128 hexadecimal digits",
-                ),
-            },
-            [word, ..] => return Words::Wrong(word, "is no argument of trace, or lacks its value"),
-        }
+    let mut option = "";
+    for word in words {
+        option = match take_word(&mut asked, option, word) {
+            Some(option) => option,
+            None => return Words::Wrong(
+                word,
+                "is no argument of trace, or not the value of its option",
+            ),
+        };
+    }
+    if option.is_empty() {
+        Words::Trace(asked)
+    } else {
+        Words::Wrong(option, "is to be followed by its value")
     }
 }
 
