@@ -110,7 +110,7 @@ fn performed<W: Work, D: Desk<W, Loan = Loan<W>>, G: Gate>(
     }
 }
 
-/// The same of the loan in a seat, if there is one.
+/// Passes the gate and performs the loan in a seat, if there is one.
 fn perform<W: Work, D: Desk<W, Loan = Loan<W>>, G: Gate>(
     desk: &D,
     seat: &mut GroupSeat<Loan<W>, D::Spent>,
@@ -140,7 +140,7 @@ fn perform<W: Work, D: Desk<W, Loan = Loan<W>>, G: Gate>(
     }
 }
 
-/// The same of each seat, in their order, up to the first that holds nothing: no seat behind it holds
+/// Performs the loan of each seat, in their order, up to the first that holds nothing: no seat behind it holds
 /// anything.
 pub(crate) fn perform_all<W: Work, D: Desk<W, Loan = Loan<W>>, G: Gate>(
     desk: &D,

@@ -401,7 +401,7 @@ pub fn run_groups<W: Work + Sync, D: Desk<W, Loan = Loan<W>>, G: Gate, R: Thread
     }
 }
 
-/// The same with one lane to a thread.
+/// Runs the lanes of a desk, each on a thread of its own, until all positions are done.
 pub fn run_lanes<W: Work + Sync, D: Desk<W, Loan = Loan<W>>, G: Gate, R: Threads + Wait + Sync>(
     rt: &R,
     alloc: Global,

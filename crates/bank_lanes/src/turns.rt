@@ -77,7 +77,7 @@ fn settle<W: Work, D: Desk<W, Loan = Loan<W>>, G: Gate>(
     }
 }
 
-/// The same of each seat, in their order, up to the first that holds nothing: no seat behind it holds
+/// Settles each seat, in their order, up to the first that holds nothing: no seat behind it holds
 /// anything. It says whether none gave back.
 fn settle_all<W: Work, D: Desk<W, Loan = Loan<W>>, G: Gate>(
     desk: &D,

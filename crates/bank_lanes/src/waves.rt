@@ -109,7 +109,7 @@ fn perform_own<W: Work, G: Gate>(work: &W, gate: &G, seats: &mut [Seat<W>])
     seats[0].perform(work, gate);
 }
 
-/// The same, of lane 0 by the caller and of each other lane by a thread of its own.
+/// Performs the loans of all seats: that of lane 0 by the caller, each other by a thread of its own.
 fn perform_all<W: Work + Sync, G: Gate, R: Threads + Sync>(
     rt: &R,
     work: &W,
@@ -165,7 +165,7 @@ fn settle<W: Work>(core: &mut Core<W>, lane: u32, seat: &mut Seat<W>)
     }
 }
 
-/// The same of each seat, in the order of the lanes.
+/// Settles each seat, in the order of the lanes.
 fn settle_all<W: Work>(core: &mut Core<W>, seats: &mut [Seat<W>])
     requires long { length seats.old ≡ core.old.lanes }
     requires seats { AreSeats seats.old core.old.origin.value core.old.journal.items }

@@ -52,8 +52,8 @@ impl<W: Work> SharedDesk<W> {
         told
     }
 
-    /// The same. Where there are none, it first sleeps until lanes have gone on or the reader is
-    /// dismissed.
+    /// Shares of outcomes as `outcomes_from` gives them. If there are none, it first sleeps until lanes
+    /// have gone on or the reader is dismissed.
     pub fn next_outcomes<R: Wait>(
         &self,
         rt: &R,

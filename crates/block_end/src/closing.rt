@@ -72,7 +72,7 @@ fn end_state(
     })
 }
 
-/// The same of the accounts that a run leaves, once they are joined; and the names of messages that
+/// The end of the accounts that a run leaves, once they are joined; and the names of messages that
 /// were processed, in ascending order.
 fn end_state_of_run<W: Work>(
     alloc: Global,
@@ -302,7 +302,7 @@ pub fn close<W: Work, G, R: Threads + Sync>(
     Ok(Closed { after, block })
 }
 
-/// The same with the block as its record, whose bytes were kept.
+/// Ends a run whose record's bytes were kept: the block as that record, and the snapshot after it.
 pub fn close_record<W: Work, G, R: Threads + Sync>(
     crew: &Crew<'_, G, R>,
     chain: Chain,

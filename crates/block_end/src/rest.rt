@@ -48,7 +48,7 @@ pub(crate) fn take_rest<R: Threads + Sync>(
     }
 }
 
-/// The same on one thread.
+/// Takes the entries of all outcomes that are left, on the caller's thread.
 fn take_alone(
     alloc: Global,
     parts: RecordParts<'_>,
@@ -86,7 +86,7 @@ struct Ahead {
     spare: Blob,
 }
 
-/// The same with entries that are written while those before them are hashed.
+/// Takes the entries of all outcomes that are left: some are written while those before are hashed.
 fn take_ahead<R: Threads + Sync>(
     rt: &R,
     alloc: Global,

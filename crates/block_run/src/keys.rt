@@ -96,7 +96,7 @@ fn keys_in(alloc: Global, order: &[Candidate]) -> Result<Vec<Key>, OutOfMemory>
     Ok(collected.keys)
 }
 
-/// The same in ascending order, each once.
+/// The keys that the transactions declare, in ascending order, each once.
 pub(crate) fn sorted_keys_in(alloc: Global, order: &[Candidate]) -> Result<Items<Key>, OutOfMemory>
     ensures { IfOk result (AreKeysIn order.now) }
 {

@@ -127,8 +127,8 @@ fn send_share<R: Wait, G: SendGate>(
     Ok(seat)
 }
 
-/// The same, with the record of the sender's passes: it passes the gate before each position of its
-/// share, and before no other.
+/// One sender at work, with the record of its passes: it passes the gate before each position of its
+/// share, and by this record before no other.
 fn send_behind_gate<R: Wait, G: SendGate>(
     rt: &R,
     alloc: Global,

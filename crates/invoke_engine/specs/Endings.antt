@@ -20,7 +20,7 @@ ending_as e c = record { units = e.units; carried = c; result = e.result }
 abbrev pub say : List ℕ → Carried → Carried
 say line c = record c { log = with_line c.log line }
 
--- the error of a frame at this height; no definition gives want of memory
+-- the error of a frame at this height; no definition gives out of memory
 abbrev pub error_of : ℕ → Stopped → InstructionError
 error_of height (Refused reason) =
     record { cause = reason.cause; detail = reason.detail; height = height }

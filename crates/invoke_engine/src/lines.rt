@@ -112,7 +112,7 @@ pub(crate) fn ending_of(
     })
 }
 
-/// The same where the program was ready.
+/// The end of a frame whose program was ready, with its last line.
 pub(crate) fn close(
     alloc: Global,
     program: &NamedProgram,

@@ -112,11 +112,13 @@ stepped_nearer x y e going_on = by_stop x.stop refl going_on e
         let whole : halted x.text x.place d units stop ≡ y = cc in
         subst (λ (z : State). to_go z < suc units + 1) whole (omega arith)
     by_row units Stuck g = absurd (cc)
+
     by_units : (units : ℕ) → after_one x.text x.place x.context units ≡ Some y → to_go y < units + 1
     by_units zero g =
         let whole : halted x.text x.place x.context 0 (faulted UnitsSpent) ≡ y = cc in
         subst (λ (z : State). to_go z < 1) whole (omega arith)
     by_units (suc units) g = by_row units (step x.text x.place x.context) g
+
     by_stop : (stop : Option Stop) → x.stop ≡ stop → is_none stop ≡ true → stepped_by x stop ≡ Some y → to_go y < to_go x
     by_stop (Some stop) h t k = absurd (cc)
     by_stop None h t k = subst (λ (s : Option Stop). to_go y < to_go_by s x.units) (sym h) (by_units x.units k)

@@ -55,7 +55,13 @@ pub fn execute<W: Watch>(
     let message = &transaction.chosen.tx.message;
     for (index, instruction) in message.instructions.as_slice().iter().enumerate() {
         let ran = run_one(
-            transaction, instruction, accounts, units, trace, &mut log, watch,
+            transaction,
+            instruction,
+            accounts,
+            units,
+            trace,
+            &mut log,
+            watch,
         )?;
         units = ran.units;
         trace = ran.trace;

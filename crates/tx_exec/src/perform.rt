@@ -47,7 +47,7 @@ pub fn perform_one(
     watch_one(alloc, block, chosen, values, &mut Unwatched)
 }
 
-/// The same for one who sees its frames.
+/// Performs a transaction of a block for one who sees its frames.
 pub fn watch_one<W: Watch>(
     alloc: Global,
     block: &AdmittedBlock,
@@ -70,7 +70,7 @@ pub fn watch_one<W: Watch>(
     perform_with(alloc, block, chosen, keys.as_slice(), values, watch)
 }
 
-/// The same, where these are its keys.
+/// Performs a transaction whose keys are these.
 #[tactic(auto, unfolding(crate::specs::Transaction::transaction))]
 fn perform_with<'a, W: Watch>(
     alloc: Global,
@@ -101,7 +101,7 @@ fn perform_with<'a, W: Watch>(
     perform(&Transaction { context, chosen }, values, watch)
 }
 
-/// The same, once what is fixed over the transaction is at hand.
+/// Performs a transaction once what is fixed over it is at hand.
 fn perform<W: Watch>(
     transaction: &Transaction<'_>,
     values: &[Arc<Account>],

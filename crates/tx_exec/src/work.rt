@@ -60,7 +60,7 @@ impl TxWork {
         Ok(TxWork::over(alloc, boxed(alloc, chosen)?, programs, slot, height))
     }
 
-    /// The same over transactions that are pointers.
+    /// A work over admitted transactions that are pointers, with the programs among their keys.
     pub fn over(
         alloc: Global,
         chosen: Items<Candidate>,

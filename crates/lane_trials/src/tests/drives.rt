@@ -174,7 +174,7 @@ fn follow_rest<R: Wait>(
     }
 }
 
-/// The same of all rows, of which the first is the first lane's. Then the second lane is made.
+/// Follows all rows, of which the first is the first lane's. Then the second lane is made.
 fn follow_all<R: Wait>(
     rt: &R,
     desk: &SharedDesk<Trial>,

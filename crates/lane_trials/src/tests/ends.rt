@@ -58,7 +58,7 @@ pub fn end_of_desk<W: Work + Sync, G: Gate, R: Threads + Wait + Sync>(
     core.finish()
 }
 
-/// The same of a work of few locks.
+/// How a run by lanes ends, of a work of few locks.
 pub fn end_by_lanes<W: Work + Sync, G: Gate, R: Threads + Wait + Sync>(
     rt: &R,
     alloc: Global,
@@ -126,7 +126,7 @@ pub fn end_by_groups<G: Gate, R: Threads + Wait + Sync>(
     end_of_groups(rt, made, trial, lanes)
 }
 
-/// The same of a small work.
+/// How a run by lanes ends, of a small work.
 pub fn end_of_trial<G: Gate, R: Threads + Wait + Sync>(
     rt: &R,
     alloc: Global,

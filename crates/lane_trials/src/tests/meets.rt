@@ -36,7 +36,7 @@ fn four_lanes_meet(rt: HostRuntime) -> Result<(), Fail> {
     Ok(())
 }
 
-/// The same of 64.
+/// Each of 64 positions is held until all 64 are.
 #[test]
 fn sixty_four_lanes_meet(rt: HostRuntime) -> Result<(), Fail> {
     assert!(rt; watched(&rt, || meet(&rt, rt.alloc(), 64))?);

@@ -78,7 +78,7 @@ fn is_edge(
         && memory.prepare(addr, len) == answer
 }
 
-/// The same, over as many bytes as the row says.
+/// Whether the row's address is an edge, over as many bytes as the row says.
 fn has_edge(
     alloc: Global,
     memory: &mut Memory,

@@ -43,7 +43,7 @@ const CALLS_OTHER: [u64; 32] = [
     0x6666_6666_6666_6666,
 ];
 
-/// The same with a call of the first program.
+/// A program that calls the first program of its accounts.
 const CALLS_BACK: [u64; 26] = [
     0x78_0000_000a,
     0x50_0000_0118,
@@ -189,7 +189,7 @@ const LOADS: [u64; 5] = [0x04, 0xb7, 0x2b7, 0x2079, 0x95];
 /// `mov64 r1, 0`, `mov64 r2, NUMBER`, `syscall 2`, `exit`.
 const LOGS: [u64; 5] = [0x04, 0x1b7, 0x2b7, 0x2_0000_0085, 0x95];
 
-/// The same with `syscall 17`.
+/// `mov64 r1, 0`, `mov64 r2, NUMBER`, `syscall 17`, `exit`.
 const ASKS: [u64; 5] = [0x04, 0x1b7, 0x2b7, 0x11_0000_0085, 0x95];
 
 /// The key of the seed `vault` and the program of 32 bytes 0x77.

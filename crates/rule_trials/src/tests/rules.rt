@@ -40,7 +40,7 @@ fn a_byte_changed(rt: HostRuntime) -> Result<(), Fail> {
     Ok(())
 }
 
-/// The same beside an account of another program that nothing has touched.
+/// The answer to a changed byte beside an account of another program that nothing has touched.
 fn answer_touched(alloc: Global, owner: u8) -> Result<Result<(), RuleFault>, OutOfMemory> {
     let foreign = with_byte(alloc, 0x55, 9)?;
     let share = Arc::try_clone(&foreign)?;
@@ -71,7 +71,7 @@ fn meta_of(index: u8, writable: bool) -> Meta
     }
 }
 
-/// The same where the account is the last of three: one is not listed, and one is not touched.
+/// The answer to a changed byte of the last of three accounts: one is not listed, one is not touched.
 fn answer_listed(
     alloc: Global,
     owner: u8,

@@ -56,11 +56,11 @@ turns-preserved g c =
       one = c.commit.ensures.lanes ∙ (c.in-Loan.ensures.lanes ∙ i.one);
       alone = stays_alone c.turns.core.journal.items lent position i.alone c.in-Loan.ensures.journal c.commit.new.self.journal.items commit;
       serial = subst (λ (all : List Seen). All (IsSerial (job_of c.args.work.now.told) (at c.args.core.now.origin.value.start)) all)
-    (sym c.in-Ok.ensures.seen)
-    (seen_kept (job_of c.args.work.now.told) (at c.args.core.now.origin.value.start) (wants c.args.wanted c.position-position.result)
-    c.position-position.result c.in-Ok.effects.outcome c.turns.seen c.turns.invariant.serial
-    (came c.args.core.now.origin.value c.in-Loan.loan.origin.value c.args.work.now.told (effects_seen c.in-Ok.effects)
-    c.position-position.result c.in-Loan.loan.position (accounts_of c.values.result.now)
-    (c.in-Loan.ensures.take.1 ∙ c.turns.invariant.origin) c.requires.told c.position-position.ensures c.in-Ok.ensures.effects
-    (ap accounts_of c.values.ensures ∙ c.in-Loan.loan.lent)));
+          (sym c.in-Ok.ensures.seen)
+          (seen_kept (job_of c.args.work.now.told) (at c.args.core.now.origin.value.start) (wants c.args.wanted c.position-position.result)
+          c.position-position.result c.in-Ok.effects.outcome c.turns.seen c.turns.invariant.serial
+          (came c.args.core.now.origin.value c.in-Loan.loan.origin.value c.args.work.now.told (effects_seen c.in-Ok.effects)
+          c.position-position.result c.in-Loan.loan.position (accounts_of c.values.result.now)
+          (c.in-Loan.ensures.take.1 ∙ c.turns.invariant.origin) c.requires.told c.position-position.ensures c.in-Ok.ensures.effects
+          (ap accounts_of c.values.ensures ∙ c.in-Loan.loan.lent)));
     }
