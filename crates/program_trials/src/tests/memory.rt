@@ -78,7 +78,7 @@ fn is_edge(
         && memory.prepare(addr, len) == answer
 }
 
-/// Whether the row's address is an edge, over as many bytes as the row says.
+/// Whether as many bytes as the row says are read, written and prepared as it says.
 fn has_edge(
     alloc: Global,
     memory: &mut Memory,
