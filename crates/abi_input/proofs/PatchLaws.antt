@@ -38,7 +38,7 @@ refused region start now metas (LengthTooLarge i) h =
     (ap (λ (o : Option (ℕ × Meta)). unless_found o whole) (sym (found_all (is_outgrown start now) metas)) ∙ refused_back (found_among (is_outgrown start now) metas (length metas)) i whole h, refl)
 refused region start now metas OutOfMemory h = refl
 
--- the same, of what the region was laid out from
+-- a patch is refused, by what the region was laid out from
 pub patch_refused : (region : List ℕ) (start laid_start now : List Account) (metas laid_metas : List Meta) (fault : PatchFault) → laid_start ≡ start → laid_metas ≡ metas
     → RefusesPatch (found_among (is_outgrown laid_start now) laid_metas (length laid_metas)) fault → Patches (patched region start now metas) region region (Err fault)
 patch_refused region start laid_start now metas laid_metas fault same_start same_metas h =

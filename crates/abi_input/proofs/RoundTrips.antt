@@ -30,7 +30,7 @@ standing : (all front part behind : List ℕ) (n m : ℕ) → all ≡ front ++ (
 standing all front part behind n m e at long =
     ap (λ (l : List ℕ). take m (drop n l)) e ∙ ap (λ (l : List ℕ). take m l) (drop_at front (part ++ behind) n at) ∙ take_at part behind m long
 
--- the same a part further on
+-- a part behind two others is a part behind both together
 further : (all front part behind : List ℕ) → all ≡ front ++ (part ++ behind) → all ≡ (front ++ part) ++ behind
 further all front part behind e = e ∙ sym (append_assoc front part behind)
 

@@ -113,7 +113,7 @@ fn patched_region(
     draft.finish()
 }
 
-/// Adds all entries, the states of the accounts written over them. Answers where they end.
+/// Adds all entries, the states of the accounts written over them. Returns where they end.
 fn patch_entries(
     draft: &mut Draft,
     laid: &LaidOut<'_>,

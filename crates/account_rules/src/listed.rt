@@ -10,7 +10,7 @@ use crate::rules::{RuleFault, sum_of};
 use sol_base::{Account, Key, Meta};
 use std::sync::Arc;
 
-/// What `check` answers for the accounts that a frame lists, each once and in the order of their
+/// What `check` returns for the accounts that a frame lists, each once and in the order of their
 /// first metas, told as lists of all accounts of the transaction. An account has the rights of all
 /// its metas together, and the place of a fault is that of its first meta. `touched` says of each
 /// account of the transaction whether it may differ; one that is not touched, or not listed, must

@@ -51,7 +51,7 @@ pub fn check(
     check_each(program, writable, None, before, after)
 }
 
-/// What `check` answers, for a caller that knows which accounts the program wrote. `touched` says
+/// What `check` returns, for a caller that knows which accounts the program wrote. `touched` says
 /// of each account whether it may differ; one that is not touched must have the same value before
 /// and after. No data byte of such an account is read, only their number, so the time goes by what
 /// was written and not by all that the frame holds. Its lamports count in the sums as ever.

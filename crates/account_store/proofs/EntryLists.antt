@@ -37,7 +37,7 @@ less Equal p = absurd p
 less Greater p = absurd p
 
 module _ {K X : Type 0} (R : K → K → Ordering) where
-  -- the same search under two names
+  -- `find` and `lookup` are one search
   pub find-lookup : (q : K) (es : List (K × X)) → find R q es ≡ lookup (is_at (R q)) es
   find-lookup q [] = refl
   find-lookup q (e ∷ es) = ap (cond (is_at (R q) e.0) (Some e.1)) (find-lookup q es)
@@ -47,7 +47,7 @@ module _ {K X : Type 0} (R : K → K → Ordering) where
   same_step Equal a b c = refl
   same_step Greater a b c = refl
 
-  -- the same insertion under two names
+  -- `put` and `insert_entry` are one insertion
   pub put-insert_entry : (k : K) (v : X) (es : List (K × X)) → put R k v es ≡ insert_entry R es k v
   put-insert_entry k v [] = refl
   put-insert_entry k v (e ∷ es) = ap

@@ -33,7 +33,7 @@ has_key-dedup keys key =
     ) in
     same_from_decides (has_key key (dedup same_key keys)) (has_key key keys) kept among
 
--- the same keys
+-- a sorted list without repeats has the keys of the list
 pub has_key-sorted : (keys sorted : List Key) (key : Key) → IsPermutation keys sorted → has_key key (dedup same_key sorted) ≡ has_key key keys
 has_key-sorted keys sorted key moved = has_key-dedup sorted key ∙ sym (list_any-IsPermutation (λ k. same_key key k) keys sorted moved)
 

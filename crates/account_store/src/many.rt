@@ -47,7 +47,7 @@ impl Accounts {
         }
     }
 
-    /// Takes out the accounts of keys that ascend, by one walk over both.
+    /// Takes the accounts of ascending keys out, by one walk over all accounts.
     fn walk_out(self, alloc: Global, keys: &[Key]) -> Result<TakenOut, OutOfMemory>
         requires { IsStrictlySortedBy key_cmp keys.now }
         ensures taken { IfOk result (λ out.
@@ -83,7 +83,7 @@ impl Accounts {
         Ok(TakenOut { accounts, rest })
     }
 
-    /// Takes out the accounts of keys in any order, by a look-up for each.
+    /// Takes the accounts of distinct keys out, by a look-up for each.
     fn remove_each(mut self, alloc: Global, keys: &[Key]) -> Result<TakenOut, OutOfMemory>
         requires { IsDistinct same_key keys.now }
         ensures taken { IfOk result (λ out.

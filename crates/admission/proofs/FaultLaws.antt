@@ -1,4 +1,4 @@
--- No refusal says want of memory.
+-- No refusal says out of memory.
 use Rattle.std.proofs.Common.{◌≡◌, ℕ, ◌+◌, ◌||◌, Bool, true, false, not, List, [], ◌∷◌, map, take, fold, refl, subst, Option, Some, None, option_map, Result, Ok, Err, All, nat_lt}
 use Rattle.std.specs.Prelude.{◌==◌, if◌then◌else◌}
 use Rattle.std.specs.List.{AllByRecursion, cons_option, enumerate_from, filter_map}
@@ -31,7 +31,7 @@ use Rattle.admission.specs.Admission.{Start, Walk, admitted, as_cause, budgeted,
 use Rattle.admission.specs.Lookups.{is_beyond, is_lookup_memory, is_table, load, loaded_in, lookup_fault, lookup_faults, table_fault}
 use Rattle.admission.specs.Refusals.{is_refusal_memory}
 
--- the answer is no refusal for want of memory
+-- the answer is no refusal for lack of memory
 abbrev IsPlain : {X : Type 0} → Result X Refusal → Type 0
 IsPlain (Ok x) = Unit {0}
 IsPlain (Err cause) = is_refusal_memory cause ≡ false

@@ -36,7 +36,7 @@ all_told marks noted wires each k d below = one (get_or wires k d) refl
     one (Bad fault) is = tt
     one (Good tx name) is = each name ∙ ap (λ b. b && processed marks name) (in_names wires k d name below (ap name_in is))
 
--- the same of what was found
+-- what is noted of the names that were found tells of each wire
 pub noted_in : (marks : List Mark) (wires : List Parsed) (names : List Hash32) (r : Result (BTreeSet Hash32) OutOfMemory) → names ≡ filter_map name_in wires
     → IfOk r (λ found. (name : Hash32) → has_name found name ≡ (has_hash names name && processed marks name)) → IfOk r (λ noted. All (λ wire. IsTold marks wire (is_noted noted wire)) wires)
 noted_in marks wires names (Err _) are each = tt

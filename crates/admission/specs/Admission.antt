@@ -79,7 +79,7 @@ budgeted position tx name loaded =
     as_cause no_budget (budget_in tx.message) >>=
     λ budget. Ok (chosen_with position tx name loaded budget)
 
--- the same of a transaction, told whether its message stands before it
+-- a transaction with its budget, or why it does not run, told whether its message comes before it
 abbrev pub budgeted_once : Bool → ℕ → Tx → Hash32 → Loaded → Result Chosen Refusal
 budgeted_once is_before position tx name loaded =
     if is_before then Err RepeatedInBatch else budgeted position tx name loaded
@@ -91,7 +91,7 @@ sifted start is_before position (Bad fault) = Err (no_wire fault)
 sifted start is_before position (Good tx name) =
     stands start tx name >>= λ loaded. budgeted_once (is_before name) position tx name loaded
 
--- the same in a batch
+-- the transaction of a position of a batch, or the first of the seven early causes
 abbrev pub sifted_in : Start → List Parsed → ℕ × Parsed → Result Chosen Refusal
 sifted_in start batch (position, parsed) =
     sifted start (has_hash (standing_names start (take position batch))) position parsed

@@ -14,7 +14,7 @@ use Rattle.account_store.specs.State.{State, at, get}
 use Rattle.admission.specs.declared.lookups.LookupFault.{LookupFault}
 use Rattle.admission.specs.declared.lookups.LookupFault.TheVariants.{NoTable, BadTable, BadIndex, RepeatedKey, OutOfMemory}
 
--- want of memory, which no input shows
+-- out of memory, which no input shows
 abbrev pub is_lookup_memory : LookupFault → Bool
 is_lookup_memory (NoTable _) = false
 is_lookup_memory (BadTable _) = false

@@ -13,7 +13,7 @@ use Rattle.admission.specs.Lookups.{is_lookup_memory}
 use Rattle.admission.specs.declared.refusal.Refusal.{Refusal}
 use Rattle.admission.specs.declared.refusal.Refusal.TheVariants.{Wire, Sanitize, Lookup, UnknownBlockhash, AlreadyProcessed, RepeatedInBatch, Budget, BlockUnits, KeyUnits}
 
--- the fault within is want of memory, which no input shows
+-- the fault within is out of memory, which no input shows
 abbrev pub is_refusal_memory : Refusal → Bool
 is_refusal_memory (Wire fault) = is_wire_memory fault
 is_refusal_memory (Sanitize fault) = false

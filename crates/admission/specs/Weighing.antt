@@ -93,7 +93,7 @@ sifted_when repeated (NoBudget name fault) =
     if repeated then Err RepeatedInBatch else Err (no_budget fault)
 sifted_when repeated (Ready chosen) = if repeated then Err RepeatedInBatch else Ok chosen
 
--- the same in a batch
+-- the transaction of an entry of a batch, or its first early cause
 abbrev pub sifted_among : List Weighed → ℕ × Weighed → Result Chosen Refusal
 sifted_among batch entry = sifted_when (is_repeated batch entry) entry.1
 

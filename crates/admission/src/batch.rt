@@ -41,7 +41,8 @@ pub fn admit(
     unboxed(alloc, line)
 }
 
-/// The same with the transactions that run as pointers.
+/// Which transactions of a batch run, as pointers in the order of their priorities, and why the others
+/// do not.
 pub fn line_up(
     alloc: Global,
     wires: &Items<Blob>,
@@ -77,7 +78,8 @@ pub fn admit_parsed(
     unboxed(alloc, line)
 }
 
-/// The same with the transactions that run as pointers.
+/// Which transactions of a batch whose wires were read before run, as pointers in the order of their
+/// priorities, and why the others do not.
 fn line_up_parsed(
     alloc: Global,
     wires: &Items<Blob>,
@@ -96,8 +98,9 @@ fn line_up_parsed(
     line_up_weighed(alloc, wires, recent, accounts, limits, weighed)
 }
 
-/// The same where there are so many lanes: on several, a few threads weigh the wires beside each
-/// other. Few wires are weighed by the caller alone, and on one lane no thread is started.
+/// Which transactions of a batch whose wires were read before run, on so many lanes: on several, a few
+/// threads weigh the wires beside each other. Few wires are weighed by the caller alone, and on one
+/// lane no thread is started.
 pub fn line_up_on<R: Threads + Sync>(
     rt: &R,
     alloc: Global,
@@ -118,8 +121,8 @@ pub fn line_up_on<R: Threads + Sync>(
     line_up_weighed(alloc, wires, recent, accounts, limits, weighed)
 }
 
-/// The same for wires that were weighed before, each alone. The wires, the blocks that are
-/// remembered and the accounts are not looked at again: they say what was weighed.
+/// Which transactions of a batch run whose wires were weighed before, each alone. The wires, the blocks
+/// that are remembered and the accounts are not looked at again: they say what was weighed.
 fn line_up_weighed(
     alloc: Global,
     wires: &Items<Blob>,
@@ -156,7 +159,7 @@ pub fn admit_listed(
     unboxed(alloc, line)
 }
 
-/// The same with the transactions that run as pointers.
+/// What becomes of a batch where its transactions run in its own order, those that run as pointers.
 pub fn line_up_listed(
     alloc: Global,
     wires: &Items<Blob>,
@@ -175,7 +178,7 @@ pub fn line_up_listed(
     admit_line(alloc, limits, standing, causes)
 }
 
-/// The same with the transactions themselves.
+/// What becomes of a batch, with the transactions that run in place of pointers to them.
 fn unboxed(alloc: Global, line: InLine) -> Result<Admitted, OutOfMemory>
     ensures { IfOk result (λ answer. answer ≡ told_by line) }
 {

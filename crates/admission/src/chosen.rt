@@ -29,7 +29,8 @@ pub struct Admitted {
     pub refused: Items<Refused>,
 }
 
-/// The same with the transactions that run as pointers.
+/// What becomes of a batch: the transactions that run, in their order and as pointers, and those that
+/// do not, by their positions.
 #[derive(Drop)]
 pub struct InLine {
     pub order: Items<Candidate>,

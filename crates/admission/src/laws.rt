@@ -24,7 +24,7 @@ pub fn lines_are_by_priority()
         AllPairs StandsBefore (admitted start wires).order }
 {}
 
-/// A law: no refusal of a batch says want of memory.
+/// A law: no refusal of a batch says out of memory.
 pub fn refusals_are_of_the_input()
     ensures by_priority { (start : Start) (wires : List (List ℕ)) →
         All (λ refused. is_refusal_memory refused.cause ≡ false) (admitted start wires).refused }

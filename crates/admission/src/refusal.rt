@@ -4,7 +4,7 @@ use fee_rules::BudgetFault;
 use message_codec::{SanitizeFault, WireFault};
 use thiserror::Error;
 
-/// Why a transaction of a batch does not run. The faults within are never want of memory.
+/// Why a transaction of a batch does not run. The faults within are never out of memory.
 #[derive(Clone, Copy, Debug, PartialEq, Eq, Error)]
 pub enum Refusal {
     #[error("its bytes are no transaction: {0}")]

@@ -65,7 +65,7 @@ fn sift_one(one: Weighed, is_repeated: bool) -> Result<Candidate, Refusal>
     }
 }
 
-/// Whether the message of each position stands before it.
+/// Whether the message of each position occurs before it.
 fn repeats(alloc: Global, batch: &[Weighed]) -> Result<Vec<bool>, OutOfMemory>
     ensures { IfOk result (λ repeats.
         repeats.items ≡ map (is_repeated batch.now) (enumerate_from 0 batch.now)) }
@@ -76,7 +76,7 @@ fn repeats(alloc: Global, batch: &[Weighed]) -> Result<Vec<bool>, OutOfMemory>
     find_repeats(alloc, batch)
 }
 
-/// The same where a message may stand twice.
+/// Whether the message of each position occurs before it, where some message may occur twice.
 fn find_repeats(alloc: Global, batch: &[Weighed]) -> Result<Vec<bool>, OutOfMemory>
     ensures { IfOk result (λ repeats.
         repeats.items ≡ map (is_repeated batch.now) (enumerate_from 0 batch.now)) }

@@ -1,4 +1,4 @@
-//! The texts of notes and lines, and answers that are one of them.
+//! The texts of notes and lines, and results that are one of them.
 ghost use Rattle.std.specs.Prelude.{◌≡◌, ◌++◌, false, IfOk, OnOk};
 ghost use Rattle.std.specs.Fmt.{decimal};
 ghost use Rattle.hex.specs.Hex.{encode_lower};

@@ -17,9 +17,9 @@ use std::alloc::Global;
 use std::sync::Wait;
 use std::thread::Threads;
 
-/// Answers the words and the input: the output and the notes are written, and the status is
-/// answered (Solana for what a block comes to; the commands, texts and formats are the project's
-/// own).
+/// Runs the command that the arguments are over the input: the output and the notes are written, and
+/// the status is returned (Solana for what a block comes to; the commands, texts and formats are the
+/// project's own).
 ///
 /// A lane passes `gate` before it works, and a sender of `produce` passes `send` before it parses.
 pub fn bank_main<S: Source, O: Sink, N: Sink, G: Gate, H: SendGate, R: Threads + Wait + Sync>(

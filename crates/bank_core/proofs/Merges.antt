@@ -31,7 +31,7 @@ Slots = List (Option Shared)
 abbrev Held : List Key → Slots → List (Key × Shared)
 Held ks slots = held_in (zip ks slots)
 
--- the same with a slot that has an account, by whether it has no lamports
+-- what is put back with a slot that has an account, by whether it has no lamports
 abbrev Next : Key → Shared → List Key → Slots → Bool → List (Key × Shared)
 Next k share ks slots b = cons_option (cond b None (Some (k, share))) (Held ks slots)
 

@@ -349,7 +349,7 @@ module _ (job : Job) (lanes : ℕ) (journal : List Event) (buffers : List (Vec S
             (sym (get_or-set_other buffers lane l b d other))
             (B.free l d below (sym (ap holds (own_other journal e l (λ q. other (sym q)))) ∙ none))
 
--- the same, in other words
+-- `Keeps` holds of equal parts
 pub keeps_same : (job : Job) (start : Key → Account) (ks : List Key) (p p' : Positions)
     (slots slots' : List (Option Shared)) (outcomes outcomes' : List (Option Outcome))
     (journal journal' : List Event)

@@ -14,7 +14,7 @@ use Rattle.bank_core.specs.declared.origin.Origin.{Origin}
 abbrev pub serial_outcomes : Job → (Key → Account) → List Outcome
 serial_outcomes job start = map (result job start) (range_with_len 0 job.count)
 
--- the same of a core's origin
+-- what the serial run ends with, by the origin of a core
 module _ {T : Type 0} (job : T → Job) (origin : Origin T) where
   -- each key has the account of the serial run
   abbrev pub HasSerialAccounts : State → Type 0

@@ -32,7 +32,7 @@ pub record ReadsLeast (job : Job) (s : State) : Type 0 where
   pub least : IsLeastReady job s position
   pub reads : list_any (λ lock. not lock.write) (job.locks position) ≡ true
 
--- the same of a core's origin and journal
+-- facts of a take, by the origin and the journal of a core
 module _ {T : Type 0} (job : T → Job) (origin : Origin T) where
   abbrev pub IsNotNowAfter : List Event → ℕ → Type 0
   IsNotNowAfter events held = IsNotNow (job origin.told) (state_after job origin events) held

@@ -50,7 +50,7 @@ pub trait Desk<W: Work>: Sync {
     /// A loan whose values are let go.
     type Spent: Send;
 
-    /// What a loan whose values are let go is seen as: with those that it had.
+    /// What a loan whose values are let go is seen as: as it was with them.
     ghost spent: { Self.Spent → LoanView W.Told };
 
     /// The turn of a pass: under it the pass's lanes may do any number of events. It must be ended.

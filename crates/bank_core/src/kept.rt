@@ -301,7 +301,7 @@ impl<W: Work> Core<W> {
         Ok((ended, outcomes))
     }
 
-    /// Ends the run, with its accounts joined to the rest of the store.
+    /// Ends a core whose positions are all done: its accounts, all together, and the outcomes.
     pub fn finish(self) -> Result<Sealed, OutOfMemory>
         requires { AllDoneAfter W.job self.origin.value self.journal.items }
         ensures accounts { IfOk result

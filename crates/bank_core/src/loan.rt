@@ -88,7 +88,7 @@ pub struct Spent<W: Work> {
         → length ((W.job origin.value.told).locks i) ≤ vec_capacity buffer },
 }
 
-/// What a take answers: a loan, or how many positions are held where none is ready, or that all are
+/// What a take returns: a loan, or how many positions are held where none is ready, or that all are
 /// done.
 pub enum Take<W: Work> {
     Loan(Loan<W>),

@@ -123,9 +123,9 @@ pub fn number<L: Locked>(alloc: Global, locked: &L) -> Result<Numbered, OutOfMem
     with_graph(alloc, table, sets)
 }
 
-/// The same on so many threads, where the keys of all locks stand in a list. Where the list ascends,
-/// it is not sorted again. Few positions are numbered by the caller alone, and on one thread none is
-/// started.
+/// Numbers the keys that positions lock, and makes the graph of the positions, on so many threads and
+/// from a list that has the keys of all locks. A list that ascends is not sorted again. Few positions
+/// are numbered by the caller alone, and on one thread none is started.
 pub fn number_among<L: Locked + Sync, R: Threads + Sync>(
     rt: &R,
     alloc: Global,
@@ -266,7 +266,8 @@ impl<W: Work> Core<W> {
         Core::over(alloc, accounts, work, lanes, numbered)
     }
 
-    /// The same where the keys of the work's locks were numbered before, and for more lanes.
+    /// A core over these accounts, with no event yet, where the keys of the work's locks were numbered
+    /// before. It may have more lanes than one that numbers them itself.
     pub fn over(
         alloc: Global,
         accounts: Accounts,

@@ -60,7 +60,7 @@ impl SharedOutcome {
     }
 }
 
-/// A copy of these lines.
+/// A copy of lines.
 fn copy_of_lines(alloc: Global, lines: &[Blob]) -> Result<Items<Blob>, OutOfMemory>
     ensures { IfOk result (λ copy. copy ≡ lines.now) }
 {
@@ -71,7 +71,7 @@ fn copy_of_lines(alloc: Global, lines: &[Blob]) -> Result<Items<Blob>, OutOfMemo
     Ok(copy)
 }
 
-/// A copy of this outcome.
+/// A copy of an outcome.
 fn copy_of(alloc: Global, outcome: &Outcome) -> Result<Outcome, OutOfMemory>
     ensures { IfOk result (λ copy. copy ≡ outcome.now) }
 {

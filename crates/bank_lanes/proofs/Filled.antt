@@ -17,7 +17,7 @@ module _ {L S : Type 0} where
     | inr not ↦ empty k d (omega (arith, b, not)) l
   ]
 
-  -- the same, where nothing was lent to the next one
+  -- so many are lent, nothing was lent to the next one, and all behind it are empty
   pub filled_none : (seats : List (GroupSeat L S)) (at : ℕ) (seat : GroupSeat L S) → at < length seats
       → AllWithin IsLent seats 0 at → IsEmpty seat → AllWithin IsEmpty seats at (length seats)
       → AreFilledFrom 0 (set seats at seat)

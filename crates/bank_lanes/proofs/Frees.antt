@@ -56,7 +56,7 @@ keeps_free gate mine ls ms v w keeps free l one was = by_case (is_one_of mine l)
     by_case true e = free l e
     by_case false e = let here = subst (λ (x : List ℕ). is_one_of x l ≡ true) keeps.lanes one in ap holds (keeps.others l here e) ∙ was here
 
--- the same of a lane that gave nothing back
+-- a lane that gave nothing back has still given nothing back
 pub keeps_once : (gate : ℕ → ℕ → Type 0) (mine ls ms : List ℕ) (v w : PassView) (l : ℕ)
     → KeepsTo gate mine ls v ms w → is_one_of ls l ≡ true → returns (own v.seen l) ≡ 0
     → (is_one_of mine l ≡ true → returns (own w.seen l) ≡ 0) → returns (own w.seen l) ≡ 0

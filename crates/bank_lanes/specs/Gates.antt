@@ -50,6 +50,6 @@ pub record HasPassedGranted (gate : ℕ → ℕ → Type 0) (lane : ℕ) (events
 abbrev pub IsBehind : (ℕ → ℕ → Type 0) → Event → Type 0
 IsBehind gate event = event.kind ≡ Commit → gate event.lane event.position
 
--- the same of each event
+-- what each of these events commits, its lane has passed this gate before
 abbrev pub AreBehind : (ℕ → ℕ → Type 0) → List Event → Type 0
 AreBehind gate events = All (IsBehind gate) events

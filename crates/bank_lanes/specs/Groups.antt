@@ -111,7 +111,7 @@ module _ {L S : Type 0} where
   PassesFor gate loan (what.Loan l) old new = HasPassedOnce gate old (loan l).position new
   PassesFor gate loan (what.Performed s effects) old new = new ≡ old
 
-  -- the same for each seat
+  -- each seat has passed this gate once more if it was lent something, and else not
   abbrev pub PassForEach : {T : Type 0} → (ℕ → ℕ → Type 0) → (L → LoanView T)
       → List (GroupSeat L S) → List (GroupSeat L S) → Type 0
   PassForEach gate loan old new =

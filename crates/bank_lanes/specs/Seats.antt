@@ -98,7 +98,7 @@ module _ {W T : Type 0} {G : _} where
       MatchOption seat.loan ⊥ (λ loan. MatchOption seat.effects ⊥ (λ effects.
       loan.position ≡ position))
 
-  -- the same of the seat of this lane
+  -- the seat of this lane has the effects of its loan, which is of this position
   abbrev pub HasPerformedAt : List (Seat W T G) → ℕ → ℕ → Type 0
   HasPerformedAt seats lane position =
       (lane < length seats) × HoldsAt (HasPerformed position) seats lane

@@ -5,8 +5,8 @@ ghost use Rattle.bank_lanes.specs.Gates.{HasJustPassed, HasNoPasses, HasPassedOn
 use proof_note::Note;
 use sol_base::Items;
 
-/// What a lane passes after each grant, outside any turn, before it works. It answers nothing, so a
-/// loop shows by a record how often it was passed, `Passes`, and by `is_passed` that it was this gate.
+/// What a lane passes before it works on a position that it was granted. It returns nothing, so a loop
+/// shows by a record how often it was passed, `Passes`, and by `is_passed` that it was this gate.
 pub trait Gate: Sync {
     /// The lane has passed this gate before this position. Of a gate that is not known nothing but
     /// `pass` shows it.

@@ -140,8 +140,8 @@ fn perform<W: Work, D: Desk<W, Loan = Loan<W>>, G: Gate>(
     }
 }
 
-/// Performs the loan of each seat, in their order, up to the first that holds nothing: no seat behind it holds
-/// anything.
+/// Passes the gate and performs the loan of each seat, in their order, up to the first that holds
+/// nothing: no seat behind it holds anything.
 pub(crate) fn perform_all<W: Work, D: Desk<W, Loan = Loan<W>>, G: Gate>(
     desk: &D,
     seats: &mut [GroupSeat<Loan<W>, D::Spent>],

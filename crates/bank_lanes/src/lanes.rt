@@ -401,7 +401,7 @@ pub fn run_groups<W: Work + Sync, D: Desk<W, Loan = Loan<W>>, G: Gate, R: Thread
     }
 }
 
-/// Runs the lanes of a desk, each on a thread of its own, until all positions are done.
+/// Runs a desk's lanes without barriers, one lane to a thread, until all positions are done.
 pub fn run_lanes<W: Work + Sync, D: Desk<W, Loan = Loan<W>>, G: Gate, R: Threads + Wait + Sync>(
     rt: &R,
     alloc: Global,

@@ -77,8 +77,8 @@ fn settle<W: Work, D: Desk<W, Loan = Loan<W>>, G: Gate>(
     }
 }
 
-/// Settles each seat, in their order, up to the first that holds nothing: no seat behind it holds
-/// anything. It says whether none gave back.
+/// Takes the effects of each seat's loan, or puts the loan back, in the order of the seats up to the
+/// first that holds nothing: no seat behind it holds anything. It says whether none gave back.
 fn settle_all<W: Work, D: Desk<W, Loan = Loan<W>>, G: Gate>(
     desk: &D,
     turn: &mut D::Turn,

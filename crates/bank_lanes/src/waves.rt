@@ -165,7 +165,7 @@ fn settle<W: Work>(core: &mut Core<W>, lane: u32, seat: &mut Seat<W>)
     }
 }
 
-/// Settles each seat, in the order of the lanes.
+/// Commits the effects of each seat's loan, or gives the loan back, in the order of the lanes.
 fn settle_all<W: Work>(core: &mut Core<W>, seats: &mut [Seat<W>])
     requires long { length seats.old ≡ core.old.lanes }
     requires seats { AreSeats seats.old core.old.origin.value core.old.journal.items }

@@ -307,7 +307,7 @@ module _ {C O : Type 0} (origin : C → O) (journal : C → List Event) (drawn :
         drawn = k.drawn;
       })
 
-  -- the same with one that knows nothing
+  -- a view splits into itself and one that knows nothing
   pub blanks : (id : ℕ) (v : View O) → Splits Rule id v v spent_view
   blanks id v s r at = parts id v spent_view refl (λ l. refl) s r at
       (record {
@@ -395,7 +395,7 @@ module _ {C O : Type 0} (origin : C → O) (journal : C → List Event) (drawn :
       one P p zero u e = subst (P 0) (some-injective _ _ e) p
       one P p (suc j) u e = absurd (some-ne-none u (sym e))
 
-  -- the same, as the calls ask for it
+  -- a desk opens, as the calls ask for it
   pub opens_at : (xs ys : List (Option C)) (c : C) → xs ≡ ys ++ Some c ∷ [] → ys ≡ [] → origin c ≡ o → journal c ≡ [] → drawn c ≡ 1 → Rule (opening (0 ∷ []) xs (first_view o))
   opens_at xs ys c is empty is_o is_h is_d = subst
       (λ (l : List (Option C)). Rule (opening (0 ∷ []) l (first_view o)))

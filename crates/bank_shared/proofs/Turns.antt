@@ -172,7 +172,7 @@ module _ {O : Type 0} where
         ap (λ (x : List ℕ). is_one_of x l) lanes ∙ is_one_after l other.lanes v.lanes lane,
       )
 
-  -- the same, as the calls tell it
+  -- a pass is joined, as the calls tell it
   pub folds_at : {S : Type 0} (l : ℕ) (v other m : View O) (cs : List (ℕ × S)) (last : Me S (View O)) → v.joined ≡ [] → other.joined ≡ [] → is_one_of v.lanes l ≡ true → m ≡ joined_view v other
       → (h : List Event) × (last ≡ (caught_up m h, cs)) × Covers h m.lanes m.seen × All (λ part. Covers h part.lanes part.seen) m.joined × ((k : ℕ) → stands k m ≤ 1)
       → OnlySees v l last.0 × Learns v other last.0 × (last.0.joined ≡ []) × (is_one_of last.0.lanes l ≡ true)

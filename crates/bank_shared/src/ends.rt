@@ -36,7 +36,7 @@ impl<W: Work> SharedDesk<W> {
         Ok((SharedDesk { table, waiting }, Pass { seat, lane: 0 }))
     }
 
-    /// Ends the desk, and answers its core. What other passes hold stays held in it. Of each lane of
+    /// Ends the desk, and returns its core. What other passes hold stays held in it. Of each lane of
     /// the pass, and of each that was joined into it, the core's journal has what the pass has seen,
     /// each event once and no further one.
     pub fn close<R: Wait>(self, rt: &R, pass: Pass<W>) -> Core<W>

@@ -52,8 +52,8 @@ impl<W: Work> SharedDesk<W> {
         told
     }
 
-    /// Shares of outcomes as `outcomes_from` gives them. If there are none, it first sleeps until lanes
-    /// have gone on or the reader is dismissed.
+    /// Shares of the outcomes of so many positions from one on, up to the first that is not done. Where
+    /// there are none, it first sleeps until lanes have gone on or the reader is dismissed.
     pub fn next_outcomes<R: Wait>(
         &self,
         rt: &R,

@@ -115,7 +115,7 @@ impl Waiting {
     }
 
     /// A reader is about to look, under a turn of its own, for the last time before it sleeps. Each
-    /// turn changes the word from now on. It answers the word as it is once that one turn has ended
+    /// turn changes the word from now on. It returns the word as it is once that one turn has ended
     /// and no other has.
     pub(crate) fn begin_look(&self) -> u64 {
         self.reading.store(1, SeqCst);

@@ -14,7 +14,7 @@ use Rattle.bank_words.specs.declared.command.Command.TheVariants.{Show, Assemble
 use Rattle.bank_words.specs.declared.command.WordsFault.{WordsFault}
 use Rattle.bank_words.specs.declared.command.WordsFault.TheVariants.{Refused, OutOfMemory}
 
--- words are refused only where they are no command; out of memory may come at any time
+-- words are refused only where they are no command; out of memory is free
 abbrev pub Explains : WordsFault → Option Command → Type 0
 Explains Refused command = command ≡ None
 Explains OutOfMemory command = Unit {0}

@@ -59,7 +59,7 @@ no_fault fault h =
     let e : first_or (entry_faults (entries_of start_accounts)) (Ok (from_entries (entries_of start_accounts))) ≡ Err fault = h in
     ok_is_no_fault (from_entries (entries_of start_accounts)) fault (rw starts_well at e)
 
--- so only out of memory keeps them from being a state
+-- so only a lack of memory keeps them from being a state
 pub only_memory : (fault : StoreFault) → MatchBool (is_store_memory fault) (Unit {0}) (state_of start_accounts ≡ Err fault) → fault ≡ no_memory
 only_memory no_memory h = refl
 only_memory (OutOfOrder at) h = absurd (no_fault (OutOfOrder at) h)

@@ -223,7 +223,7 @@ module _ (parts : RecordParts) (limits : Limits) (recent : List Mark) (ran : Ran
   pub names_ascend : AreEnds parts ran ends → Ascends ends.names
   names_ascend are = subst Ascends (sym are.names) (ascending_ascends (processed_in parts.order.now ran.outcomes))
 
-  -- the same from the block that was sealed
+  -- a block is closed, from the block that was sealed
   pub closes_as : (before block : Block) (after : Snapshot) → before ≡ known → block ≡ sealed (record before { burned = ends.end.burned; collected = ends.end.collected; state = ends.end.state })
       → after ≡ after_at_end (record { hash = block.hash; messages = ends.names }) → ◌≡◌ {A = Closed} (record { block = block; after = after }) closed_at_end
   closes_as before block after is made then = rw (then, made, is) refl

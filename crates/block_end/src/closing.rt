@@ -72,8 +72,8 @@ fn end_state(
     })
 }
 
-/// The end of the accounts that a run leaves, once they are joined; and the names of messages that
-/// were processed, in ascending order.
+/// Shares the fees over the accounts that a run leaves, once they are joined, and ends their state; and
+/// the names of messages that were processed, in ascending order.
 fn end_state_of_run<W: Work>(
     alloc: Global,
     collector: &Key,
@@ -302,7 +302,7 @@ pub fn close<W: Work, G, R: Threads + Sync>(
     Ok(Closed { after, block })
 }
 
-/// Ends a run whose record's bytes were kept: the block as that record, and the snapshot after it.
+/// Ends a run whose record was begun and kept: the record of its block, and the snapshot after it.
 pub fn close_record<W: Work, G, R: Threads + Sync>(
     crew: &Crew<'_, G, R>,
     chain: Chain,

@@ -27,7 +27,7 @@ pub struct Crew<'a, G, R> {
 }
 
 impl<'a, G, R> Crew<'a, G, R> {
-    /// This crew with no more lanes than transactions that are work for one, and one at least.
+    /// This crew with no more lanes than transactions that are work for one, and one lane at least.
     pub fn busy(&self, working: usize) -> Crew<'a, G, R>
         ensures { result.lanes ≡ min self.now.lanes (max 1 working) }
     {

@@ -48,7 +48,7 @@ pub(crate) fn take_rest<R: Threads + Sync>(
     }
 }
 
-/// Takes the entries of all outcomes that are left, on the caller's thread.
+/// Takes the entries of all outcomes that are left, on one thread.
 fn take_alone(
     alloc: Global,
     parts: RecordParts<'_>,
@@ -86,7 +86,8 @@ struct Ahead {
     spare: Blob,
 }
 
-/// Takes the entries of all outcomes that are left: some are written while those before are hashed.
+/// Takes the entries of all outcomes that are left: they are written while those before them are
+/// hashed.
 fn take_ahead<R: Threads + Sync>(
     rt: &R,
     alloc: Global,

@@ -23,7 +23,7 @@ use std::sync::Wait;
 use std::thread::{Threads, join};
 
 /// Takes, passes the gate, performs and commits on the one lane of a core, until all positions are
-/// done, and answers the record of its passes. Where the work finds no memory the loan goes back, and
+/// done, and returns the record of its passes. Where the work finds no memory the loan goes back, and
 /// the run ends.
 fn run_alone<W: Work, G: Gate>(
     core: &mut Core<W>,

@@ -99,7 +99,7 @@ module _ (s : Snapshot) (head : Head) (wires : List (List ℕ)) (order : List Ch
   pub wires_are : wires_of (closed s head wires order).block ≡ wires_in wires order
   wires_are = ap (map (λ (entry : Entry). entry.wire)) entries_are ∙ wires_back wires order run.outcomes outcome_each
 
--- the same transactions alone, with their wires in their order, come to the same block
+-- transactions alone, with their wires in their order, come to the block that they came to among others
 block_again : (s : Snapshot) (head : Head) (wires : List (List ℕ)) (order : List Chosen) → (closed s head (wires_in wires order) (renumbered 0 order)).block ≡ (closed s head wires order).block
 block_again s head wires order =
     let same = renumbered_run s head.slot 0 order in

@@ -9,7 +9,7 @@ use Rattle.admission.specs.Batches.{wire_in}
 abbrev pub wires_in : List (List ℕ) → List Chosen → List (List ℕ)
 wires_in wires order = map (λ chosen. wire_in wires chosen.position) order
 
--- the same transactions at the positions from one on
+-- these transactions at the positions from n on
 abbrev pub renumbered : ℕ → List Chosen → List Chosen
 renumbered n [] = []
 renumbered n (chosen ∷ order) = record chosen { position = n } ∷ renumbered (n + 1) order

@@ -37,7 +37,7 @@ name_of Hash = codes "hash"
 abbrev pub unless : Bool → ℕ → Field → List ℕ → List ℕ → List Verdict
 unless same entry field expected found = if same then [] else Differ entry field expected found ∷ []
 
--- the same bytes, and the same lines
+-- whether bytes are equal, and whether lines are
 abbrev pub same_bytes : List ℕ → List ℕ → Bool
 same_bytes expected found = pointwise nat_eq expected found
 

@@ -38,7 +38,7 @@ told_in s slot order = record {
   height = s.limits.height;
 }
 
--- the same as far as their locks are asked for
+-- admitted transactions as far as their locks are asked for
 abbrev pub locked_in : List Chosen → AdmittedBlock
 locked_in order = record {
   chosen = order;

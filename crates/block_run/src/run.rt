@@ -209,7 +209,7 @@ pub fn run_block<G: Gate, R: Threads + Wait + Sync>(
     run_admitted(&crew, snapshot, batch, answer)
 }
 
-/// Runs a batch whose wires were read before over a snapshot on so many lanes.
+/// Runs a batch whose wires were read before over a snapshot, on so many lanes.
 pub fn run_parsed<G: Gate, R: Threads + Wait + Sync>(
     rt: &R,
     alloc: Global,
@@ -236,8 +236,8 @@ pub fn run_parsed<G: Gate, R: Threads + Wait + Sync>(
     run_admitted(&crew, snapshot, batch, answer)
 }
 
-/// Runs a batch whose wires were read before, and gives the block as its record: no entry of it is
-/// made, and no wire is copied.
+/// Runs a batch whose wires were read before over a snapshot, and writes the record of the block: no
+/// entry of it is made, and no wire is copied.
 pub fn record_parsed<G: Gate, R: Threads + Wait + Sync>(
     rt: &R,
     alloc: Global,

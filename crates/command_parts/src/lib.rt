@@ -1,5 +1,5 @@
 //! What the programs' commands share: the words, numbers in them, the limit of an input, statuses and
-//! answers.
+//! results.
 #![tactic(auto)]
 
 mod answer;

@@ -66,7 +66,7 @@ pub fn words_after_name<R: Env + AllocGlobal>(rt: &R) -> Result<Vec<String>, NoW
     }
 }
 
-/// The words of these texts, lent.
+/// The arguments, lent.
 pub fn lent_words(alloc: Global, texts: &[String]) -> Result<Vec<&str>, OutOfMemory>
     ensures { IfOk result (λ words. map (λ word. word.now) words.items
         ≡ map string_bytes texts.entry.now) }
@@ -78,7 +78,7 @@ pub fn lent_words(alloc: Global, texts: &[String]) -> Result<Vec<&str>, OutOfMem
     Ok(words)
 }
 
-/// The path that a word is. It is a text, as each word is that `words_after_name` answers.
+/// The path that a word is. It is a text, as each word is that `words_after_name` returns.
 pub fn path_of(word: &Blob) -> &str
     ensures { IsUtf8 word.now → result.now ≡ word.now }
 {

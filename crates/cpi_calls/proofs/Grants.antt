@@ -22,7 +22,7 @@ position-found test xs i d below h = rw (drop_more xs i d below, h) refl
 pub position-none : {X : Type 0} (test : X → Bool) (xs : List X) (i : ℕ) → length xs ≤ i → position_from test i (drop i xs) ≡ None
 position-none test xs i past = rw (drop_all i xs past) refl
 
--- the same in two lists side by side
+-- a search in two lists side by side
 pub pair-more : {X Y : Type 0} (test : X × Y → Bool) (xs : List X) (ys : List Y) (i : ℕ) (d : X) (e : Y) → i < length xs → i < length ys → test (get_or xs i d, get_or ys i e) ≡ false
     → position_from test i (zip (drop i xs) (drop i ys)) ≡ position_from test (i + 1) (zip (drop (i + 1) xs) (drop (i + 1) ys))
 pair-more test xs ys i d e one other h = rw (drop_more xs i d one, drop_more ys i e other, h) refl

@@ -34,7 +34,7 @@ flat_map_at : {X A : Type 0} (f : X → List A) (xs : List X) (i : ℕ) (d : X) 
 flat_map_at f xs i d h =
     ap (flat_map f) (sym (take-append-drop i xs)) ∙ flat_map-append f (take i xs) (drop i xs) ∙ ap (λ ys. flat_map f (take i xs) ++ flat_map f ys) (drop_more xs i d h)
 
--- the same, with another piece in its place
+-- a list in pieces, with another piece in the place of one of them
 flat_map_set : {X A : Type 0} (f : X → List A) (xs : List X) (i : ℕ) (y : X) → i < length xs → flat_map f (set xs i y) ≡ flat_map f (take i xs) ++ (f y ++ flat_map f (drop (i + 1) xs))
 flat_map_set f xs i y h =
     ap (flat_map f) (sym (take-append-drop i (set xs i y)))
@@ -63,7 +63,7 @@ pub with_more : (list bytes more : List ℕ) (at : ℕ) → at + length bytes + 
     → with_bytes (with_bytes list at bytes) (at + length bytes) more ≡ with_bytes list at (bytes ++ more)
 with_more list bytes more at h = same_lists _ _ (search (rules, places)) (λ k d below. grind (arith, places))
 
--- the same, where the second is written in front of the first
+-- two writes are one where the second is in front of the first
 with_less : (list bytes more : List ℕ) (at : ℕ) → at + length more + length bytes ≤ length list → with_bytes (with_bytes list (at + length more) bytes) at more ≡ with_bytes list at (more ++ bytes)
 with_less list bytes more at h = same_lists _ _ (search (rules, places)) (λ k d below. grind (arith, places))
 

@@ -157,8 +157,8 @@ impl Parts {
         self.pieces.array(near, at)
     }
 
-    /// Reads bytes that may lie over several parts. This stands apart so that room for the answer of
-    /// a call is made where there is one, and not where most reads go.
+    /// The `N` bytes from a place on, which may lie over several parts. It is a function of its own so that
+    /// room for its result is made only where it is called.
     #[inline(always)]
     fn array_over<const N: usize>(&self, at: usize) -> Option<[u8; N]>
         requires { at + N < 2 ^ 64 }

@@ -29,7 +29,7 @@ HasSentShare intake wires senders s seat =
     IsSendSeatOf intake seat × (sender_of seat ≡ s)
     × (map carried (sent_by seat) ≡ map (parsed_at wires) (share_of (length wires) senders s))
 
--- each of these seats came back with its sender's share sent, or, out of memory, not at all
+-- each of these seats came back with its sender's share sent, or for lack of memory not at all
 abbrev pub HaveSentShares : Intake → List (List ℕ) → ℕ → List SendSeat
     → List (Result SendSeat OutOfMemory) → Type 0
 HaveSentShares intake wires senders seats sent =

@@ -50,11 +50,11 @@ taken_by taker = (view taker.pass).taken
 abbrev pub senders_of : TakeSeat → ℕ
 senders_of taker = (view taker.pass).made
 
--- at one moment of a call by this seat the ring was full
+-- the ring was full in some state that its rule allows, at a call by this seat
 abbrev pub WasFull : Intake → SendSeat → Type 0
 WasFull intake seat = Held (capacity_of intake) (Stands (view seat.pass))
 
--- at one moment of a call by this seat the ring was empty
+-- the ring was empty in some state that its rule allows, at a call by this seat
 abbrev pub WasEmpty : Intake → TakeSeat → Type 0
 WasEmpty intake taker = Held 0 (Stands (view taker.pass))
 

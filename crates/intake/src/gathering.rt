@@ -128,7 +128,7 @@ fn send_share<R: Wait, G: SendGate>(
 }
 
 /// One sender at work, with the record of its passes: it passes the gate before each position of its
-/// share, and by this record before no other.
+/// share, and before no other.
 fn send_behind_gate<R: Wait, G: SendGate>(
     rt: &R,
     alloc: Global,

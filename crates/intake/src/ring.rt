@@ -98,7 +98,7 @@ impl Intake {
         }
     }
 
-    /// Takes the oldest ticket. None only where the ring was empty at one moment of the call.
+    /// Takes the oldest ticket. None only if the ring was empty in some state that its rule allows.
     pub fn next<R: Wait>(&self, rt: &R, seat: &mut TakeSeat) -> Option<Ticket>
         requires { IsTakeSeatOf self.now seat.old }
         ensures seat { IsTakeSeatOf self.now seat.new

@@ -98,7 +98,7 @@ back_others region start now metas after h place other =
     ap (λ (accounts : List Account). slice_get accounts place) (sym (taken region start now metas after h))
     ∙ other_at region start metas 0 place now (subst (λ n. is_listed metas n ≡ false) (omega arith) other)
 
--- the same by equal lists
+-- accounts that are not listed stay, by equal lists
 pub same_others : (metas metas' : List Meta) (now now' after after' : List Account) → metas ≡ metas'
     → now ≡ now' → after ≡ after' → SameUnlessListed metas now after → SameUnlessListed metas' now' after'
 same_others metas metas' now now' after after' e f g h =

@@ -151,7 +151,7 @@ pub stands_end : (s : Fixed) (fs : List Running) (e : Ending) → fs ≡ [] → 
 unfolding rest
 stands_end s fs e h = ap (λ (gs : List Running). rest s gs e) h
 
--- the same steps, by what the code answers
+-- steps, by what the code returns
 
 pub all_ok : {A E : Type 0} (r : Result A E) (P Q R S : A → Type 0) → IfOk r P → IfOk r Q → IfOk r R → ((a : A) → P a → Q a → R a → S a) → IfOk r S
 all_ok (Ok a) P Q R S p q t h = h a p q t
@@ -172,7 +172,7 @@ step_begun s fs f c g d callee left gs next same h w begins fits =
     subst (λ (hs : List Running). begun s (programs_of hs) callee.call callee.accounts left d ≡ next → Steps s fs (Runs f c) hs next) (sym same)
     (λ (k : begun s (programs_of (g ∷ fs)) callee.call callee.accounts left d ≡ next). step_calls s fs f c g d callee left next h w k (next_fits (length s.keys) next fits ends)) begins
 
--- the same where the frame has taken turns of its own before, and the frames that wait are named twice
+-- steps where the frame has taken turns of its own before, and the frames that wait are named twice
 
 pub leaves_at : (s : Fixed) (fs gs : List Running) (f : Running) (c : Carried) (g : Running) (d : Carried)
     (e : Ending) → gs ≡ fs → Stands s fs (Runs f c) → Working s (programs_of gs) f c g d

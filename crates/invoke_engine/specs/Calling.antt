@@ -75,7 +75,8 @@ Asks wanted units (Err no_memory) = Unit {0}
 Asks wanted units (Err (Refused reason)) =
     (refuse by_call wanted.answer ≡ Err (Refused reason)) × (wanted.units ≡ units)
 
--- the same of the callee
+-- a callee was found, or refused as the definition says, with the units then left, or no memory was
+-- found
 abbrev pub Comes : Result Callee Stopped → ℕ → ℕ → Result Callee Stopped → Type 0
 Comes wanted left units (Ok callee) = (wanted ≡ Ok callee) × (left ≡ units)
 Comes wanted left units (Err no_memory) = Unit {0}

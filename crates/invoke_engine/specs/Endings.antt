@@ -36,7 +36,7 @@ abbrev pub ending_of : Key → ℕ → Carried → Result (List Account) Instruc
 ending_of program units c result =
     record { units = units; carried = say (last_line program result) c; result = result }
 
--- the same where its program was ready: the line of the units that it and its callees used stands
+-- the end of a frame whose program was ready: the line of the units that it and its callees used comes
 -- before the last
 abbrev pub closed : Key → ℕ → ℕ → Carried → Result (List Account) InstructionError → Ending
 closed program had units c result =

@@ -19,7 +19,7 @@ EndingKeeps metas before e =
     MatchResult e.result (λ after. AreKeptBy (is_listed_writable metas) before after)
     (λ _. Unit {0})
 
--- the same is found under each of the keys
+-- both find one thing under each of the keys
 abbrev pub SameFound : List Key → (Key → Sought) → (Key → Sought) → Type 0
 SameFound keys one other =
     (place : ℕ) (key : Key) → slice_get keys place ≡ Some key → one key ≡ other key

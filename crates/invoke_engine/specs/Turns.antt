@@ -24,7 +24,8 @@ turn_as GoesOnValue f c = GoesOn f c
 turn_as (CallsValue callee units) f c = Calls f c callee units
 turn_as (LeavesValue e) f c = Leaves (ending_as e c)
 
--- a machine over a verified text always comes to a stop, so this never is
+-- what a frame would do whose machine never stopped; that a machine over a verified text always stops is
+-- not proved
 abbrev pub never : List Key → Running → Carried → Turn
 never outer f c = Leaves (closes outer f 0 c (Err (plainly Abort)))
 

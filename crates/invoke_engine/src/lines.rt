@@ -112,7 +112,7 @@ pub(crate) fn ending_of(
     })
 }
 
-/// The end of a frame whose program was ready, with its last line.
+/// The end of a frame whose program was ready: the line of its units, and then its last line.
 pub(crate) fn close(
     alloc: Global,
     program: &NamedProgram,

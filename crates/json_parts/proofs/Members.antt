@@ -29,7 +29,7 @@ pub name_refused : (names : List (List ℕ)) (rest after : List (String Global �
     → names_in names (members_view rest) ≡ Err (Refused (Member (string_bytes e.0) ∷ []) Absence)
 name_refused names rest after e next is = rw (next, is) refl
 
--- the fault that is returned for it, or out of memory
+-- the fault that is answered for it, or out of memory
 pub refused_so : (answer fault : JsonFault) (read : Read Unit)
     → MatchBool (is_json_memory answer) (Unit {0}) (answer ≡ fault) → read ≡ Err fault
     → MatchBool (is_json_memory answer) (Unit {0}) (read ≡ Err answer)

@@ -90,7 +90,7 @@ fn spelled<S: Spelling>(alloc: Global, value: &Value, most: usize) -> Result<Blo
     }
 }
 
-/// The data of an object that has one member, of that name.
+/// No more bytes than these, which the one member of this name spells.
 #[tactic(auto, unfolding(crate::specs::Parts::alone_in, crate::specs::Parts::member_in))]
 fn alone<S: Spelling>(
     alloc: Global,

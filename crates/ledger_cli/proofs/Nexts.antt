@@ -50,7 +50,7 @@ batch_added ledger batch answer micros old new is has leaves_only disk shows lat
     let had : HasWidths answer.after = subst (λ (r : BlockResult). HasWidths r.after) (sym is.exact) has in
     (micros, subst (λ (r : BlockResult). IsBeforeOrAfter ledger r.block r.after micros disk crashed) is.exact (leaves_only had disk shows later since h crashed leaves))
 
--- the same where the chain that it was added to is the one that was opened
+-- a batch is added where the chain that it is added to is the one that was opened
 pub opened_added : (ledger finished : Ledger) (batch : Batch) (answer : BlockResult) (micros : ℕ) (old new : List Event) → finished ≡ ledger → IsBlockResult (block_result ledger.newest batch) answer
     → HasWidths ledger.newest → HasWidths (block_result ledger.newest batch).after
     → (HasWidths finished.newest → HasWidths answer.after → LeavesOnly old new (IsBeforeOrAfter finished answer.block answer.after micros))

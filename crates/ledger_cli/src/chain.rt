@@ -1,4 +1,4 @@
-//! A chain's folder: what is opened, and the answers where that is refused.
+//! A chain's folder: what is opened, and the results where that is refused.
 ghost use Rattle.std.specs.Prelude.{◌≡◌, ◌≤◌, IfOk};
 ghost use Rattle.snapshot_codec.specs.Snapshot.{IsReadable};
 

@@ -87,7 +87,7 @@ fn rows_at<F: Folder>(
     Ok((rows, after))
 }
 
-/// Adds the block at a place of the chain, over the state before it, and answers the state after it.
+/// Adds the block at a place of the chain, over the state before it, and returns the state after it.
 fn add_place<F: Folder, S: Alter>(
     alloc: Global,
     files: &mut F,

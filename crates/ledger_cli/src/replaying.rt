@@ -112,7 +112,7 @@ fn replay_block<T: Threads + Wait + Sync>(
     Ok(())
 }
 
-/// Replays the block at a place, and answers the state after it.
+/// Replays the block at a place, and returns the state after it.
 fn replay_place<F: Folder, T: Threads + Wait + Sync>(
     threads: &T,
     alloc: Global,

@@ -57,7 +57,7 @@ pub record Lists (disk : Disk) (slots : List ℕ) : Type 0 where
   pub ascending : Ascends slots
   pub each : (slot : ℕ) → has_slot slots slot ≡ is_some (disk (Block slot))
 
--- the same, as far as is known
+-- a slot is listed if its block has a file, as far as that is known
 abbrev pub AllowsBlock : Known → Bool → Type 0
 AllowsBlock None listed = Unit {0}
 AllowsBlock (Some known) listed = listed ≡ is_some known

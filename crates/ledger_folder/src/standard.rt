@@ -57,7 +57,7 @@ pub fn make_folder<R: Files + AllocGlobal>(rt: &R, path: &str) -> io::Result<()>
     fs::open(rt, above.as_str())?.sync_all()
 }
 
-/// What the failure of a call of the system comes to. It is counted, unless it is want of memory.
+/// What the failure of a call of the system comes to. It is counted, unless it is out of memory.
 fn refused(faults: &mut u64, error: io::Error) -> FolderFault
     ensures { FaultCounts result faults.old faults.new }
 {

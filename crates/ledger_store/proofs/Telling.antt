@@ -21,7 +21,7 @@ use Rattle.ledger_folder.specs.declared.name.Name.TheVariants.{Chain, State}
 use Rattle.ledger_folder.proofs.Slots.{one_listing}
 use Rattle.ledger_folder.proofs.Showing.{shows-listed}
 
--- an answer that only want of memory does not show is one that a failure of the folder does not show
+-- an answer that only a lack of memory does not show is one that a failure of the folder does not show
 pub freer : {X : Type 0} (result answer : Result X LedgerFault) → Gives is_ledger_memory (λ x. x) result answer → Gives is_free (λ x. x) result answer
 freer (Ok x) answer h = h
 freer (Err Failed) answer h = tt

@@ -29,7 +29,7 @@ stepped_by file before = do
   changes ← changes_in file.0 before.slot file.1
   next_of file.0 changes before
 
--- the same from what was told of the file
+-- the snapshot after a block, from the one before it and what was read of the file
 abbrev pub next_from : ℕ → Result Changed LedgerFault → Snapshot → Result Snapshot LedgerFault
 next_from slot told before = told >>= λ changes. next_of slot changes before
 

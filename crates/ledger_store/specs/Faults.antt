@@ -13,7 +13,7 @@ use Rattle.ledger_store.specs.declared.fault.LedgerFault.{LedgerFault}
 use Rattle.ledger_store.specs.declared.fault.LedgerFault.TheVariants as ledger
 pub use Rattle.spec_base.specs.Faults.{Rose}
 
--- want of memory, which no input shows
+-- out of memory, which no input shows
 abbrev pub is_field_memory : FieldFault → Bool
 is_field_memory (field.Field _) = false
 is_field_memory field.OutOfMemory = true
@@ -26,7 +26,7 @@ is_ledger_memory ledger.SlotNotLater = false
 is_ledger_memory ledger.Exists = false
 is_ledger_memory ledger.OutOfMemory = true
 
--- what the files of a folder do not show: a failure of the folder, and want of memory
+-- what the files of a folder do not show: a failure of the folder, and out of memory
 abbrev pub is_free : LedgerFault → Bool
 is_free ledger.Failed = true
 is_free (ledger.Missing _) = false

@@ -13,13 +13,14 @@ use Rattle.ledger_store.specs.Heads.{head_in}
 use Rattle.ledger_store.specs.Opening.{head_with, opened}
 
 -- Where the folder shows these files after a call, it did so before, and the answer is what they
--- say; a failure of the folder and want of memory they do not show.
+-- say; a failure of the folder and out of memory they do not show.
 abbrev pub Tells : {X : Type 0} → List Event → List Event → Result X LedgerFault
     → (Disk → Result X LedgerFault) → Type 0
 Tells old new result answer =
     (disk : Disk) → Shows new disk → Shows old disk × Gives is_free (λ x. x) result (answer disk)
 
--- the same of an answer that tells of the slots with a block too
+-- Where the folder shows these files after a call, it did so before, and the answer is what they and the
+-- slots that have a block say; a failure of the folder and out of memory they do not show.
 abbrev pub TellsListed : {X : Type 0} → List Event → List Event → Result X LedgerFault
     → (Disk → List ℕ → Result X LedgerFault) → Type 0
 TellsListed old new result answer =

@@ -19,7 +19,7 @@ is_sealed bytes = bytes_eq (sha256 (take (seal_at bytes) bytes)) (drop (seal_at 
 abbrev pub unsealed : List ℕ → List ℕ
 unsealed bytes = take (seal_at bytes) bytes
 
--- the same, where that is its hash
+-- what comes before the hash of a file, if that is its hash
 unfoldable pub body_of : Name → List ℕ → Result (List ℕ) LedgerFault
 body_of name bytes =
     if is_sealed bytes then Ok (unsealed bytes) else Err (Damaged name (seal_at bytes))

@@ -33,7 +33,7 @@ fn copy_recent(alloc: Global, recent: &Recent) -> Result<Recent, OutOfMemory>
     Ok(copy)
 }
 
-/// The same accounts, each shared.
+/// A copy of the accounts, each of them shared.
 fn share_accounts(alloc: Global, accounts: &Accounts) -> Result<Accounts, OutOfMemory>
     requires { IsState accounts.now }
     ensures { IfOk result (λ shares. shares ≡ accounts.now) }

@@ -38,7 +38,7 @@ fn take_out_keys_of(accounts: &mut Accounts, others: &Accounts)
     }
 }
 
-/// Puts an account in, unless there are then more lamports than there can be, and answers whether it
+/// Puts an account in, unless there are then more lamports than there can be, and returns whether it
 /// did.
 fn put_one(accounts: &mut Accounts, key: &Key, account: &Arc<Account>) -> Result<bool, OutOfMemory>
     requires { IsShort (arc_value account.now) }
@@ -56,7 +56,7 @@ fn put_one(accounts: &mut Accounts, key: &Key, account: &Arc<Account>) -> Result
     }
 }
 
-/// Puts the accounts in, and answers whether they never come to more lamports than there can be.
+/// Puts the accounts in, and returns whether they never come to more lamports than there can be.
 fn put_in(accounts: &mut Accounts, others: &Accounts) -> Result<bool, OutOfMemory>
     ensures { IfOk result (λ fits. MatchBool fits
         (with_accounts (entries others.now) accounts.old ≡ Some accounts.new)

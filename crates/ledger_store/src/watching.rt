@@ -133,7 +133,8 @@ fn told_by<T: Threads>(
     walk_by(threads, alloc, ahead, before, files)
 }
 
-/// The same as `read_state`, but for the hashes: threads look at them, and read what blocks changed.
+/// The snapshot that the files come to, as `read_state` has it but for the hashes: threads look at
+/// them, and read what blocks changed.
 fn read_beside<T: Threads, F: Folder>(
     threads: &T,
     alloc: Global,

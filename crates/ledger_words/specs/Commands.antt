@@ -15,7 +15,7 @@ use Rattle.ledger_words.specs.declared.parameter.CommandName.{CommandName}
 use Rattle.ledger_words.specs.declared.parameter.CommandName.TheVariants as name
 use Rattle.ledger_words.specs.declared.parameter.Parameter.TheVariants.{Folder, Every, Lanes, Senders, Slot, From, To, Jobs, Sqlite}
 
--- want of memory, which no word shows
+-- out of memory, which no word shows
 abbrev pub is_words_memory : ChainWordsFault → Bool
 is_words_memory Command = false
 is_words_memory (Unknown _) = false

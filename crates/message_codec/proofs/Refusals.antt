@@ -1,4 +1,4 @@
--- No bytes make reading run out of memory.
+-- No bytes make reading return out of memory.
 use Rattle.std.proofs.Common.{◌≡◌, ℕ, zero, suc, List, [], ◌∷◌, ◌++◌, length, Result, Ok, Err, Bool, true, false, cond, ◌||◌, refl, subst, ◌+◌, ◌*◌, ◌-◌, nat_lt}
 use Rattle.std.specs.Prelude.{nat_eq}
 use Rattle.spec_base.specs.Reading.{◌>>=◌, place, field_at, byte_at, read_as, many_after}
@@ -11,7 +11,7 @@ use Rattle.message_codec.specs.declared.message.Tx.{Tx}
 use Rattle.message_codec.specs.Wire.{max_wire_len}
 use Rattle.message_codec.specs.WireReading.{Read, is_wire_memory, third_at, second_at, compact_at, array_at, blob_at, signature_at, header_at, instruction_at, lookup_at, kind_at, lookups_at, message_at, tx_at, wire_of}
 
--- the result is not out of memory
+-- the answer is not out of memory
 abbrev IsPlain : {X : Type 0} → Result X WireFault → Type 0
 IsPlain (Ok x) = Unit {0}
 IsPlain (Err fault) = is_wire_memory fault ≡ false

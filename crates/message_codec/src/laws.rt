@@ -43,7 +43,7 @@ pub fn lengths_are_read_or_cut_or_bad()
 {}
 
 /// A law: bytes are read as a transaction exactly where they are spelled as that one, and no bytes
-/// are refused as out of memory.
+/// are refused for lack of memory.
 pub fn wires_are_read_as_they_are_spelled()
     ensures read { (bytes : List ℕ) (tx : Tx) → IsBytes bytes → (wire_of bytes ≡ Ok tx)
         ↔ Wire bytes tx }

@@ -153,7 +153,7 @@ fn count_free(waits: &[usize]) -> u32
 }
 
 /// Takes one edge from each position of a row, and shows those that wait for nobody any more. It
-/// answers how many they are.
+/// returns how many they are.
 fn release(waits: &mut [usize], tree: &mut [u32], row: &[u32]) -> u32
     requires few { length waits.old < 2 ^ 32 }
     requires within { All (λ i. i < length waits.old) row.now }

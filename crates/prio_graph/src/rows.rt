@@ -46,7 +46,7 @@ fn ends_in(row: &[u32], number: u32) -> bool
     row.last() == Some(&number)
 }
 
-/// Adds an edge to a position from each of the earlier ones, one from each, and answers how many
+/// Adds an edge to a position from each of the earlier ones, one from each, and returns how many
 /// they are. A row that has the position already ends in it, as no row has it before.
 pub(crate) fn add_edges(
     rows: &mut [Items<u32>],

@@ -44,7 +44,7 @@ impl<T> Note<T> {
         Note::make()
     }
 
-    /// A second note of the same value.
+    /// Another note of this value.
     pub fn again(&self) -> Note<T>
         ensures { result.value ≡ self.now.value }
     {

@@ -104,6 +104,6 @@ pub run-plain : (x : State) → steps (plain x) ≡ plain_stopped (steps x)
 unfolding steps
 run-plain x = steps_by_plain x x.stop
 
--- the same, where the stop is known
+-- a run does not look at them, where the stop is known
 pub steps_plain : (x y : State) → steps x ≡ Some y → steps (plain x) ≡ Some (plain y)
 steps_plain x y h = run-plain x ∙ ap plain_stopped h

@@ -28,7 +28,7 @@ unfolding first_stop
 run_takes text zero p c = (omega arith, λ helper. absurd helper)
 run_takes text (suc units) p c = followed text p units (step text p c) (λ to d. run_takes text units to d)
 
--- the same, where the machine may stand at a stop already
+-- the units that are taken, where the machine may be at a stop already
 abbrev TakesFrom : State → Option Stop → Option State → Type 0
 TakesFrom x stop None = Unit {0}
 TakesFrom x stop (Some y) = (y.units ≤ x.units) × (stop ≡ None → IsHelper y.stop → y.units < x.units)

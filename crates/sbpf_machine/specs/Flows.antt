@@ -54,8 +54,8 @@ IsNext Next = Unit {0}
 IsNext (Off (Fault fault)) = Unit {0}
 IsNext _ = ⊥
 
--- the same, or it wants memory at an address that is not prepared, would go on, and has changed
--- nothing
+-- it goes to the next place, if anywhere; or it asks for memory at an address that is not prepared, would
+-- go on, and has changed nothing
 abbrev pub IsNextOrWant : ℕ → ℕ → Row → Context → Context → Flow → Type 0
 IsNextOrWant addr width row old new Next = Unit {0}
 IsNextOrWant addr width row old new (Off (Fault fault)) = Unit {0}

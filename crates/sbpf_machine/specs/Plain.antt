@@ -10,7 +10,7 @@ plain_context c = record c { memory = plain_memory c.memory }
 abbrev pub plain : State → State
 plain x = record x { context = plain_context x.context }
 
--- the same of where a run stops
+-- where a run stops, with plain memory
 abbrev pub plain_stopped : Option State → Option State
 plain_stopped None = None
 plain_stopped (Some x) = Some (plain x)

@@ -262,7 +262,7 @@ GoesOn (Go place c) = Unit {0}
 GoesOn (Halt stop c) = ⊥
 GoesOn Stuck = ⊥
 
--- what out of memory leaves: the machine as it was before the store that met it and that would go
+-- what a lack of memory leaves: the machine as it was before the store that met it and that would go
 -- on, at no stop and with a unit for it
 pub record StandsBeforeStore (old new : State) : Type 0 where
   pub reached : Reaches old new

@@ -81,7 +81,7 @@ impl Machine {
         }
     }
 
-    /// Runs to the first stop, and answers a stop that it stands at again. Want of memory leaves
+    /// Runs to the first stop, and returns a stop that it stands at again. Out of memory, it leaves
     /// the machine before the store that met it.
     pub fn run(&mut self) -> Result<Stop, OutOfMemory>
         ensures stops { IfOk result

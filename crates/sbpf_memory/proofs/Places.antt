@@ -49,7 +49,7 @@ pub place-heap : (m : Ranges) (addr len : ℕ) → length m.program ≤ 2 ^ 32 �
 unfolding place_of
 place-heap m addr len program some after before = grind (arith, nat_tests, outside, outside_frames)
 
--- the same, where the place in the range is what is left of the address
+-- the place of an address, where the place in the range is what is left of the address
 pub rest-program : (m : Ranges) (addr len : ℕ) → length m.program ≤ 2 ^ 32 → 1 ≤ len → program_start ≤ addr → addr < stack_start
     → place_of m addr len ≡ (if nat_le (addr % range_step + len) (length m.program) then at_place Program (addr % range_step) else None)
 rest-program m addr len bound some after before = rw (in_program addr after before) (place-program m addr len bound some after before)

@@ -247,7 +247,7 @@ pub record KeepsBytes (old new : Ranges) : Type 0 where
   pub prepared : StayPrepared old.input.prepared new.input.prepared
   pub lent : new.input.lent ≡ old.input.lent
 
--- a result that is not out of memory
+-- an answer that is not out of memory
 abbrev pub HasMemory : Result (Unit {0}) MemFault → Type 0
 HasMemory (Err no_memory) = ⊥
 HasMemory _ = Unit {0}

@@ -12,7 +12,7 @@ plain_content input = record { bytes = input.bytes; prepared = []; lent = [] }
 abbrev pub plain_memory : Ranges → Ranges
 plain_memory memory = record memory { input = plain_content memory.input }
 
--- the same of the memory that a write or a copy gives
+-- the memory that a write or a copy gives, plain
 abbrev pub plain_written : Result Ranges AccessViolation → Result Ranges AccessViolation
 plain_written (Ok memory) = Ok (plain_memory memory)
 plain_written (Err violation) = Err violation

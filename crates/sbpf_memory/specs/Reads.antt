@@ -3,7 +3,7 @@ use Rattle.std.specs.Prelude.{ℕ, List, Result, Ok, Err}
 use Rattle.sbpf_memory.specs.Memory.{Ranges, read_from}
 use Rattle.sbpf_memory.specs.declared.fault.AccessViolation.{AccessViolation}
 
--- the same, where the refusal carries the access that is refused
+-- a result whose refusal is the caller's own and carries the access that is refused
 abbrev pub refused_as : {A E : Type 0} → (AccessViolation → E) → Result A AccessViolation → Result A E
 refused_as refusal (Ok x) = Ok x
 refused_as refusal (Err violation) = Err (refusal violation)

@@ -36,7 +36,7 @@ pub enum MemFault {
 }
 
 impl MemFault {
-    /// The number of the refusal, from 1. Want of memory has none.
+    /// The number of the refusal, from 1. Out of memory has none.
     pub fn number(&self) -> Option<u8>
         ensures { result ≡ fault_number self.now }
     {

@@ -254,7 +254,7 @@ impl Memory {
         }
     }
 
-    /// The place of an address below those of the input.
+    /// Where an access of at least one byte below the input lies, or None where it lies in no range.
     #[inline(always)]
     #[tactic(auto, using(std::proofs::lemmas::Bool::Decides::nat_tests, crate::proofs::Places::places), unfolding(crate::specs::Memory::place_of))]
     fn place_below(&self, addr: u64, len: u64) -> Option<Place>

@@ -10,7 +10,7 @@ use sol_base::Blob;
 use std::alloc::Global;
 
 /// The refusals of calls that read a memory: each has one that carries the access that is refused,
-/// and one for out of memory.
+/// and one for lack of memory.
 pub trait ReadFault {
     ghost use Rattle.std.specs.Prelude.{◌≡◌, Bool, true, false};
     ghost use Rattle.sbpf_memory.specs.declared.fault.AccessViolation.{AccessViolation as Violation};

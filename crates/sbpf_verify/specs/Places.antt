@@ -18,7 +18,7 @@ max_slots = MAX_SLOTS
 unfoldable pub is_start : List ℕ → ℕ → Bool
 is_start text place = nat_lt place (slot_count text) && not ((slot_of text place).opcode == 0)
 
--- the same of a place that a jump leads to, which may lie before the text
+-- a start at a place that a jump leads to, which may lie before the text
 abbrev pub is_start_at : List ℕ → ℤ → Bool
 is_start_at text (pos place) = is_start text place
 is_start_at text (negsuc _) = false

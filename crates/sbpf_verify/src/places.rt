@@ -12,7 +12,7 @@ pub fn is_start(text: &[u8], place: usize) -> bool
     place < text.len() / 8 && slot_at(text, place).opcode != 0
 }
 
-/// Whether an instruction starts at the place that a jump leads to.
+/// Whether a jump leads to a slot that is there and whose opcode is not 0.
 pub fn is_start_at(text: &[u8], place: i64) -> bool
     ensures { result ≡ is_start_at text.now place }
 {

@@ -13,7 +13,7 @@ use status_cache::Mark;
 /// The bytes of a snapshot before its marks, in version 1.
 const HEAD_LEN: usize = 16;
 
-/// The length of the head of version 2, which has limits there.
+/// The bytes of a snapshot before its marks, in version 2, which has limits there.
 const LIMITED_HEAD_LEN: usize = 35;
 
 /// The bytes of a mark before the number of its messages: its hash.

@@ -97,7 +97,7 @@ impl Blob {
         self.inner.clear();
     }
 
-    /// A copy of the bytes, in memory of their own.
+    /// A copy of the bytes, in memory of its own.
     pub fn try_copy(&self) -> Result<Blob, OutOfMemory>
         ensures { IfOk result (λ b. b ≡ self.now) }
     {

@@ -13,7 +13,7 @@ pub trait Source {
     /// How often the source failed: a count that never falls.
     ghost faults: { Self → ℕ };
 
-    /// Moves bytes into the front of the buffer, and answers how many: 0 for a buffer that is not
+    /// Moves bytes into the front of the buffer, and returns how many: 0 for a buffer that is not
     /// empty says that the source is at its end. What stands behind them, and in the whole buffer
     /// after a failure, is left open.
     fn read(&mut self, buf: &mut [u8]) -> Result<usize, Failed>
@@ -33,7 +33,7 @@ pub trait Sink {
     /// How often the sink failed: a count that never falls.
     ghost faults: { Self → ℕ };
 
-    /// Takes bytes from the front of the piece, and answers how many. A refusal takes none.
+    /// Takes bytes from the front of the piece, and returns how many. A refusal takes none.
     fn write(&mut self, piece: &[u8]) -> Result<usize, SinkFault>
         ensures bound { IfOk result (λ n. n ≤ length piece.now) }
         ensures some { IfOk result (λ n. 0 < length piece.now → 0 < n) }

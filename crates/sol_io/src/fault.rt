@@ -1,4 +1,4 @@
-//! What a device answers where it fails.
+//! What a device returns where it fails.
 use sol_base::OutOfMemory;
 use thiserror::Error;
 

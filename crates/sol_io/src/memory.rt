@@ -158,7 +158,7 @@ fn is_listed(number: u64, failing: &[u32]) -> bool
     failing.iter().any(|listed| u64::from(*listed) == number)
 }
 
-/// Copies as many bytes as fit, and answers how many.
+/// Copies as many bytes as fit, and returns how many.
 pub(crate) fn copy_front(buf: &mut [u8], from: &[u8]) -> usize
     ensures count { result ≡ min (length buf.old) (length from.now) }
     ensures front { take result buf.new ≡ take result from.now }

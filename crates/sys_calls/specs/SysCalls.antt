@@ -191,13 +191,13 @@ sys_row number arguments m env =
     after_cost (cost_of call arguments (length env.returned)) env
     (λ left. effect_of call arguments m left)
 
--- the units that are left, but after out of memory
+-- the units that are left, but after a lack of memory
 abbrev pub HasUnits : ℕ → ℕ → Result ℕ SysFault → Type 0
 HasUnits wanted units (Ok r0) = wanted ≡ units
 HasUnits wanted units (Err fault) = is_sys_memory fault ≡ false → wanted ≡ units
 
 -- What a call says of the row: after Ok the rest of the surroundings stays, after a refusal all but
--- the units, and after out of memory too.
+-- the units, and after a lack of memory too.
 abbrev pub Serves : SysAnswer → Ranges → Ranges → Env → Env → Result ℕ SysFault → Type 0
 Serves row old new env env' (Ok r0) =
     (row.answer ≡ Ok (service r0 (plain_memory new) env')) × (row.units ≡ env'.units)

@@ -13,8 +13,8 @@ use sbpf_memory::{Memory, read_array, read_blob};
 use sol_base::{Blob, Items, Key, MAX_SEED_LEN, MAX_SEEDS};
 use std::alloc::Global;
 
-/// Writes the key that a program signs for by the seeds (Solana), and answers 0. Where a seed is
-/// too long it answers 1 and writes nothing (the project's own).
+/// Writes the key that a program signs for by the seeds (Solana), and returns 0. Where a seed is
+/// too long it returns 1 and writes nothing (the project's own).
 #[tactic(auto, unfolding(crate::specs::SysCalls::key_derived))]
 pub(crate) fn program_key(
     alloc: Global,

@@ -35,7 +35,7 @@ pub(crate) fn set_return(
     Ok(0)
 }
 
-/// Writes the first bytes that are kept, and the key of the program that returned them. It answers
+/// Writes the first bytes that are kept, and the key of the program that returned them. It returns
 /// how many are kept.
 #[tactic(auto, unfolding(crate::specs::SysCalls::return_got))]
 pub(crate) fn get_return(

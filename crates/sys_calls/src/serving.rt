@@ -18,7 +18,7 @@ use sbpf_memory::Memory;
 use std::alloc::Global;
 
 /// Serves a system call other than the cross-program call: its cost is taken, then come limits,
-/// then reads, then writes. It answers what r0 becomes.
+/// then reads, then writes. It returns what r0 becomes.
 pub fn serve(
     alloc: Global,
     number: u32,

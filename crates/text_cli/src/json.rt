@@ -44,7 +44,7 @@ fn text_of(alloc: Global, form: Form, look: Look, bytes: &[u8]) -> Result<String
     }
 }
 
-/// The answer where a text or bytes are refused as a whole. Want of memory is no refusal.
+/// The answer where a text or bytes are refused as a whole. Out of memory is no refusal.
 fn refused(alloc: Global, form: Form, fault: &JsonFault) -> Result<Answer, OutOfMemory> {
     if let JsonFault::OutOfMemory = fault {
         return Err(OutOfMemory);

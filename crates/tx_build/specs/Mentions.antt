@@ -46,7 +46,7 @@ strongest mentions key = record {
   program = list_any (λ mention. is_of key mention && mention.program) mentions;
 }
 
--- the same, where the key is mentioned
+-- what is asked of a key that is mentioned
 abbrev pub mentioned : List Mention → Key → Option Mention
 mentioned mentions key =
     if list_any (is_of key) mentions then Some (strongest mentions key) else None

@@ -70,7 +70,7 @@ pub fn watch_one<W: Watch>(
     perform_with(alloc, block, chosen, keys.as_slice(), values, watch)
 }
 
-/// Performs a transaction whose keys are these.
+/// Performs a transaction whose keys these are.
 #[tactic(auto, unfolding(crate::specs::Transaction::transaction))]
 fn perform_with<'a, W: Watch>(
     alloc: Global,
@@ -101,12 +101,8 @@ fn perform_with<'a, W: Watch>(
     perform(&Transaction { context, chosen }, values, watch)
 }
 
-/// Performs a transaction once what is fixed over it is at hand.
-fn perform<W: Watch>(
-    transaction: &Transaction<'_>,
-    values: &[Arc<Account>],
-    watch: &mut W,
-) -> Result<Effects, OutOfMemory>
+/// Performs a transaction, once what is fixed over it is at hand.
+fn perform(transaction: &Transaction<'_>, values: &[Arc<Account>]) -> Result<Effects, OutOfMemory>
     requires height { (1 ≤ transaction.now.context.setting.height)
         × (transaction.now.context.setting.height ≤ max_stack_height) }
     requires chosen { IsChosen transaction.now.chosen.now }

@@ -59,7 +59,8 @@ impl Logs {
         Ok(())
     }
 
-    /// Adds a line that is handed over, as `push_line` adds one.
+    /// Adds a line that is handed over, or `Log truncated` in place of the first that there is no room for,
+    /// or nothing after that.
     pub fn add_line(&mut self, line: Blob) -> Result<(), OutOfMemory>
         ensures ok { OnOk result (self.new ≡ with_line self.old line) }
         ensures err { OnErr result (self.new ≡ self.old) }

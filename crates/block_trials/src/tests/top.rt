@@ -71,7 +71,7 @@ fn sinks_of(alloc: Global, calls: Calls) -> Result<Told, OutOfMemory> {
     })
 }
 
-/// Answers the words.
+/// What the top call comes to for these arguments.
 fn answer<G: Gate, H: SendGate, R: Threads + Wait + Sync>(
     rt: &R,
     alloc: Global,

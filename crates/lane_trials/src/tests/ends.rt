@@ -58,7 +58,7 @@ pub fn end_of_desk<W: Work + Sync, G: Gate, R: Threads + Wait + Sync>(
     core.finish()
 }
 
-/// How a run by lanes ends, of a work of few locks.
+/// What a work of few locks ends with, by lanes over its desk.
 pub fn end_by_lanes<W: Work + Sync, G: Gate, R: Threads + Wait + Sync>(
     rt: &R,
     alloc: Global,
@@ -126,7 +126,7 @@ pub fn end_by_groups<G: Gate, R: Threads + Wait + Sync>(
     end_of_groups(rt, made, trial, lanes)
 }
 
-/// How a run by lanes ends, of a small work.
+/// What a small work ends with, by so many lanes over its desk.
 pub fn end_of_trial<G: Gate, R: Threads + Wait + Sync>(
     rt: &R,
     alloc: Global,

@@ -45,7 +45,8 @@ const FOUND: [u64; 48] = [
 /// How many lanes, and how many to a group.
 const WIDTHS: [(u32, u32); 5] = [(4, 1), (8, 2), (64, 16), (9, 4), (3, 16)];
 
-/// What is found if so many lamports more are on each account: all of them are compute units.
+/// What each position finds on its account if so many lamports more are on each: all of them are
+/// compute units.
 fn found_more(more: u64) -> [u64; 48] {
     let mut found = FOUND;
     for units in &mut found {
@@ -80,8 +81,7 @@ fn groups_end_as_the_serial_run(rt: HostRuntime) -> Result<(), Fail> {
     Ok(())
 }
 
-/// Groups end as the serial run where each position is long, so that a group lets others run before
-/// it takes more.
+/// The chains end where each position is long, so that a group lets others run before it takes more.
 #[test]
 fn groups_that_give_way_end_too(rt: HostRuntime) -> Result<(), Fail> {
     assert!(rt; watched(&rt, || chains_end(&rt, rt.alloc(), 1_000_000))?);

@@ -20,7 +20,7 @@ fn watch(rt: &(impl Clock + Abort), ended: &AtomicU64) {
     assert!(rt; ended.load(Ordering::SeqCst) != 0);
 }
 
-/// What a run answers, which must end within twenty seconds.
+/// What a run returns, which must end within twenty seconds.
 pub fn watched<R: Threads + Clock + Abort + Sync, A, F: FnOnce() -> A>(rt: &R, run: F) -> A
     requires { F.pre run }
 {

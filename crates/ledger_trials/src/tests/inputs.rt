@@ -115,7 +115,7 @@ fn add_at<T: Threads, F: Folder>(
     Ok(nothing.ok_or("the block does not follow")?)
 }
 
-/// Adds a block to the folder at its own slot.
+/// Adds the block of a number to the chain of a folder, at its own slot.
 pub(crate) fn add_block<T: Threads, F: Folder>(
     threads: &T,
     alloc: Global,

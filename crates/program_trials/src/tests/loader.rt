@@ -139,7 +139,7 @@ fn accounts_with(alloc: Global, owner: Key, bytes: Blob) -> Result<[Arc<Account>
 /// The keys of the three accounts.
 const KEYS: [Key; 3] = [BUFFER, Key(AUTHORITY), Key(OTHER)];
 
-/// What the loader answers for the accounts that are listed.
+/// What the loader returns for the accounts that are listed.
 fn run(
     alloc: Global,
     accounts: &[Arc<Account>; 3],
@@ -157,7 +157,7 @@ fn run(
     }
 }
 
-/// What the loader answers over an account of that owner with the data.
+/// What the loader returns over an account of that owner with the data.
 fn answer(
     alloc: Global,
     owner: Key,

@@ -55,7 +55,7 @@ fn violation(addr: u64, len: u64, write: bool) -> MemFault {
     MemFault::from(AccessViolation { addr, len, write })
 }
 
-/// What a write answers that is let pass, or is not.
+/// What a write returns that is let pass, or is not.
 fn answer_of(addr: u64, len: u64, passes: bool) -> Result<(), MemFault> {
     if passes {
         Ok(())
@@ -78,7 +78,8 @@ fn is_edge(
         && memory.prepare(addr, len) == answer
 }
 
-/// Whether as many bytes as the row says are read, written and prepared as it says.
+/// Whether as many bytes as the row says are read and written as it says, and the places prepared as
+/// written.
 fn has_edge(
     alloc: Global,
     memory: &mut Memory,

@@ -440,13 +440,13 @@ fn calls(machine: &mut Machine) -> Result<bool, OutOfMemory> {
     )
 }
 
-/// Whether a machine over the program stops for the call, and goes on with its answer.
+/// Whether a machine over the program stops for the call, and goes on with its result.
 fn program_calls(alloc: Global, program: Verified) -> Result<bool, OutOfMemory> {
     let mut machine = machine_of(alloc, program, 100)?;
     calls(&mut machine)
 }
 
-/// Whether a machine over the text stops for the call, and goes on with its answer.
+/// Whether a machine over the text stops for the call, and goes on with its result.
 fn text_calls(alloc: Global) -> Result<bool, OutOfMemory> {
     match verify(text_of(alloc, &CALL)?) {
         Ok(program) => program_calls(alloc, program),

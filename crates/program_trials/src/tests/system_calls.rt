@@ -46,7 +46,7 @@ fn state_with(alloc: Global, units: u64) -> Result<State, OutOfMemory> {
     Ok(State { memory, env })
 }
 
-/// What a call of a number from 1 to 16 answers; the tests need nothing of its contract.
+/// What a call of a number from 1 to 16 returns; the tests need nothing of its contract.
 fn call(
     alloc: Global,
     number: u32,
@@ -144,7 +144,7 @@ const EDGES: [(u32, [u64; 5], u64, Result<u64, SysFault>); 27] = [
     (16, [0; 5], 100, Ok(3)),
 ];
 
-/// Whether a call with so many units answers so, and leaves none.
+/// Whether a call with so many units returns so, and leaves none.
 fn leaves_none(
     alloc: Global,
     number: u32,
@@ -204,7 +204,7 @@ fn is_only(logs: &Logs, line: &str) -> bool {
     }
 }
 
-/// Whether a call answers 0 and logs the line.
+/// Whether a call returns 0 and logs the line.
 fn logs(alloc: Global, number: u32, arguments: [u64; 5], line: &str) -> Result<bool, OutOfMemory> {
     let mut state = state_with(alloc, 1000)?;
     Ok(call(alloc, number, arguments, &mut state) == Ok(0) && is_only(&state.env.logs, line))
@@ -250,7 +250,7 @@ fn stands(memory: &Memory, addr: u64, bytes: &[u8]) -> bool {
     }
 }
 
-/// Whether a call answers 0 and writes these bytes at the heap's start.
+/// Whether a call returns 0 and writes these bytes at the heap's start.
 fn writes(
     alloc: Global,
     number: u32,
@@ -283,7 +283,7 @@ fn seeded(alloc: Global, length: u64) -> Result<State, SysFault> {
     Ok(state)
 }
 
-/// Whether the derivation of a key from that seed and a program of zeros answers so, and whether
+/// Whether the derivation of a key from that seed and a program of zeros returns so, and whether
 /// this key is then written.
 fn derives(alloc: Global, length: u64, answer: u64, key: &[u8; 32]) -> Result<bool, SysFault> {
     let mut state = seeded(alloc, length)?;
@@ -301,7 +301,7 @@ fn a_key_is_derived_from_seeds(rt: HostRuntime) -> Result<(), Fail> {
     Ok(())
 }
 
-/// Whether a call that hands out the returned bytes answers so, and these stand at the heap's start.
+/// Whether a call that hands out the returned bytes returns so, and these stand at the heap's start.
 fn hands_out(
     alloc: Global,
     arguments: [u64; 5],

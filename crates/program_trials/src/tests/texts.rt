@@ -43,7 +43,7 @@ const CALLS_OTHER: [u64; 32] = [
     0x6666_6666_6666_6666,
 ];
 
-/// The program of `CALLS_OTHER`, with a call of the first program in place of the other.
+/// The instructions of `CALLS_OTHER`, with a call of the first program.
 const CALLS_BACK: [u64; 26] = [
     0x78_0000_000a,
     0x50_0000_0118,

@@ -18,7 +18,7 @@ fn count_read(alloc: Global, len: usize, limit: usize) -> Result<usize, ReadFaul
     Ok(read(alloc, LONG.get(..len).unwrap_or(&LONG), limit)?.len())
 }
 
-/// How many bytes there are, the limit, and what reading them answers.
+/// How many bytes there are, the limit, and what reading them returns.
 const LIMITS: [(usize, usize, Result<usize, ReadFault>); 5] = [
     (0, 0, Ok(0)),
     (1, 0, Err(ReadFault::TooLong)),

@@ -40,7 +40,8 @@ fn a_byte_changed(rt: HostRuntime) -> Result<(), Fail> {
     Ok(())
 }
 
-/// The answer to a changed byte beside an account of another program that nothing has touched.
+/// What is said of a change of an account of this owner, beside an account of another program that
+/// nothing has touched.
 fn answer_touched(alloc: Global, owner: u8) -> Result<Result<(), RuleFault>, OutOfMemory> {
     let foreign = with_byte(alloc, 0x55, 9)?;
     let share = Arc::try_clone(&foreign)?;
@@ -71,7 +72,8 @@ fn meta_of(index: u8, writable: bool) -> Meta
     }
 }
 
-/// The answer to a changed byte of the last of three accounts: one is not listed, one is not touched.
+/// What is said of a change of an account of this owner, the last of three: one is not listed, and one
+/// is not touched.
 fn answer_listed(
     alloc: Global,
     owner: u8,
