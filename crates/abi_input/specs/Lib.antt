@@ -1,3 +1,7 @@
+pub use Rattle.spec_base.specs.Bytes
+pub use Rattle.sol_base.specs.Accounts
+pub use Rattle.sol_base.specs.Metas
+pub use Rattle.data_parts.specs.Parts
 pub mod Listing
 pub mod Region
 pub mod Entries

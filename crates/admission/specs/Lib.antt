@@ -1,3 +1,8 @@
+pub use Rattle.spec_base.specs.Reading
+pub use Rattle.sol_base.specs.Keys
+pub use Rattle.sol_base.specs.Limits
+pub use Rattle.message_codec.specs.Roles
+pub use Rattle.message_codec.specs.Wire
 pub mod Lookups
 pub mod Refusals
 pub mod Chosen

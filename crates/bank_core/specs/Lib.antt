@@ -1,3 +1,11 @@
+pub use Rattle.sol_base.specs.Accounts
+pub use Rattle.sol_base.specs.Limits
+pub use Rattle.account_store.specs.State
+pub use Rattle.bank_law.specs.History
+pub use Rattle.bank_law.specs.Job
+pub use Rattle.bank_law.specs.Lawful
+pub use Rattle.bank_law.specs.Machine
+pub use Rattle.bank_law.specs.Serial
 pub mod Origins
 pub mod Slots
 pub mod Effects

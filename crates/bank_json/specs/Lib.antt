@@ -1,3 +1,6 @@
+pub use Rattle.spec_base.specs.Bytes
+pub use Rattle.spec_base.specs.Reading
+pub use Rattle.json_parts.specs.Faults
 pub mod SnapshotJson
 pub mod BatchJson
 pub mod RecordJson

@@ -1,3 +1,6 @@
+pub use Rattle.bank_law.specs.History
+pub use Rattle.bank_law.specs.Machine
+pub use Rattle.bank_core.specs.Origins
 pub mod Gates
 pub mod Steps
 pub mod Seats

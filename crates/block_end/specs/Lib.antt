@@ -1,3 +1,10 @@
+pub use Rattle.sol_base.specs.Limits
+pub use Rattle.tx_report.specs.Outcomes
+pub use Rattle.status_cache.specs.Recent
+pub use Rattle.snapshot_codec.specs.Snapshot
+pub use Rattle.block_record.specs.Record
+pub use Rattle.bank_core.specs.Counts
+pub use Rattle.bank_core.specs.Ends
 pub mod BlockEnd
 pub mod Activation
 pub mod Ending

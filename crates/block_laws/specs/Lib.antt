@@ -1,3 +1,7 @@
+pub use Rattle.spec_base.specs.Bytes
+pub use Rattle.sol_base.specs.Limits
+pub use Rattle.admission.specs.Admission
+pub use Rattle.admission.specs.Chosen
 pub mod Laws
 pub mod Parts
 pub mod Again

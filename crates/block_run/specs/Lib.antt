@@ -1,3 +1,9 @@
+pub use Rattle.sol_base.specs.Limits
+pub use Rattle.snapshot_codec.specs.Snapshot
+pub use Rattle.block_record.specs.Record
+pub use Rattle.block_record.specs.Replays
+pub use Rattle.admission.specs.Admission
+pub use Rattle.tx_exec.specs.AdmittedBlock
 pub mod SerialRun
 pub mod Blocks
 pub mod Answers

@@ -1,3 +1,4 @@
+pub use Rattle.sol_io.specs.Counts
 pub mod Numbers
 pub mod Statuses
 pub mod Answers

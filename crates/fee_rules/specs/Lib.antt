@@ -1,3 +1,4 @@
+pub use Rattle.message_codec.specs.Wire
 pub mod Requests
 pub mod Budgets
 pub mod Charge

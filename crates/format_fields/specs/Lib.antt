@@ -1,2 +1,3 @@
+pub use Rattle.spec_base.specs.Reading
 pub mod Fields
 pub mod Output

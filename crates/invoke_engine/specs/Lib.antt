@@ -1,3 +1,11 @@
+pub use Rattle.sol_base.specs.Accounts
+pub use Rattle.sol_base.specs.Keys
+pub use Rattle.tx_report.specs.LogLines
+pub use Rattle.account_rules.specs.AccountRules
+pub use Rattle.account_rules.specs.KeptAccounts
+pub use Rattle.sbpf_machine.specs.Plain
+pub use Rattle.loader_prog.specs.Laws
+pub use Rattle.abi_input.specs.Region
 pub mod Reasons
 pub mod Lines
 pub mod Frames

@@ -1,3 +1,8 @@
+pub use Rattle.format_fields.specs.Fields
+pub use Rattle.snapshot_codec.specs.Snapshot
+pub use Rattle.block_record.specs.Record
+pub use Rattle.ledger_folder.specs.Crash
+pub use Rattle.ledger_folder.specs.Files
 pub mod Faults
 pub mod Seal
 pub mod Heads

@@ -1,3 +1,4 @@
+pub use Rattle.sol_base.specs.Limits
 pub mod Texts
 pub mod Rows
 pub mod Totals

@@ -1,3 +1,7 @@
+pub use Rattle.sol_base.specs.Accounts
+pub use Rattle.sol_base.specs.Metas
+pub use Rattle.account_rules.specs.KeptAccounts
+pub use Rattle.account_rules.specs.Listings
 pub mod Requests
 pub mod Buffers
 pub mod Loader

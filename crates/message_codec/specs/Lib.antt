@@ -1,3 +1,7 @@
+pub use Rattle.spec_base.specs.Bytes
+pub use Rattle.spec_base.specs.Reading
+pub use Rattle.sol_base.specs.Keys
+pub use Rattle.format_fields.specs.Fields
 pub mod Compact
 pub mod Wire
 pub mod WireReading

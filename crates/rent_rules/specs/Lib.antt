@@ -1,1 +1,2 @@
+pub use Rattle.sol_base.specs.Accounts
 pub mod Rent

@@ -1,3 +1,6 @@
+pub use Rattle.spec_base.specs.Bytes
+pub use Rattle.spec_base.specs.Reading
+pub use Rattle.sol_base.specs.Accounts
 pub mod Words
 pub mod Operands
 pub mod Rows

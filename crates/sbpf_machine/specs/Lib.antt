@@ -1,3 +1,8 @@
+pub use Rattle.sbpf_verify.specs.Entries
+pub use Rattle.sbpf_verify.specs.Opcodes
+pub use Rattle.sbpf_verify.specs.Places
+pub use Rattle.sbpf_verify.specs.Verified
+pub use Rattle.sbpf_memory.specs.Memory
 pub mod Faults
 pub mod Flows
 pub mod FramePointer

@@ -1,3 +1,6 @@
+pub use Rattle.spec_base.specs.Bytes
+pub use Rattle.spec_base.specs.Reading
+pub use Rattle.data_parts.specs.Parts
 pub mod Buffers
 pub mod Copies
 pub mod Faults

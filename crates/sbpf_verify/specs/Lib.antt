@@ -1,3 +1,4 @@
+pub use Rattle.sbpf_isa.specs.Slots
 pub mod Entries
 pub mod Faults
 pub mod Images

@@ -1,3 +1,7 @@
+pub use Rattle.spec_base.specs.Reading
+pub use Rattle.sol_base.specs.Limits
+pub use Rattle.format_fields.specs.Output
+pub use Rattle.account_store.specs.State
 pub mod Snapshot
 pub mod SnapshotReading
 pub mod Batch

@@ -1,3 +1,7 @@
+pub use Rattle.tx_report.specs.LogLines
+pub use Rattle.sbpf_isa.specs.Calls
+pub use Rattle.sbpf_memory.specs.Memory
+pub use Rattle.sbpf_memory.specs.Plain
 pub mod Access
 pub mod Slices
 pub mod Lines

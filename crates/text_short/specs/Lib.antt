@@ -1,3 +1,4 @@
+pub use Rattle.json_parts.specs.Texts
 pub mod Names
 pub mod Calls
 pub mod Members

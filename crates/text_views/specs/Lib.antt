@@ -1,3 +1,5 @@
+pub use Rattle.account_store.specs.State
+pub use Rattle.block_record.specs.Record
 pub mod Parts
 pub mod Fields
 pub mod Pairs

@@ -1,3 +1,14 @@
+pub use Rattle.sol_base.specs.Accounts
+pub use Rattle.sol_base.specs.Limits
+pub use Rattle.message_codec.specs.Roles
+pub use Rattle.tx_report.specs.Outcomes
+pub use Rattle.account_store.specs.State
+pub use Rattle.rent_rules.specs.Rent
+pub use Rattle.admission.specs.Chosen
+pub use Rattle.invoke_engine.specs.Conditions
+pub use Rattle.invoke_engine.specs.Invoked
+pub use Rattle.bank_law.specs.Lawful
+pub use Rattle.bank_core.specs.Effects
 pub mod Payer
 pub mod Executing
 pub mod Transaction

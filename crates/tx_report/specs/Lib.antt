@@ -1,3 +1,4 @@
+pub use Rattle.spec_base.specs.Bytes
 pub mod Causes
 pub mod Statuses
 pub mod LogLines
