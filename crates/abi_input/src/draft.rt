@@ -64,7 +64,7 @@ impl Draft {
         self.add(Part::Lent(Arc::try_clone(account)?))
     }
 
-    /// Adds so many zeros, which stand nowhere yet.
+    /// Adds so many zeros, which are nowhere yet.
     pub fn zeros(&mut self, count: u32) -> Result<(), OutOfMemory>
         ensures bytes { OnOk result (self.new.bytes ≡ self.old.bytes ++ replicate count 0) }
         ensures lent { OnOk result (self.new.lent ≡ self.old.lent) }

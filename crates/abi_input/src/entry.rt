@@ -21,7 +21,7 @@ pub const MAX_GROWTH: usize = 10_240;
 /// The byte before the entry of an account that was not listed before (Solana).
 pub const NOT_LISTED_BEFORE: u8 = 255;
 
-/// Where things stand in an entry: the owner, the lamports, the length of the data and the data.
+/// Where things are in an entry: the owner, the lamports, the length of the data and the data.
 pub const OWNER_AT: usize = 40;
 
 pub const LAMPORTS_AT: usize = 72;
@@ -36,7 +36,7 @@ pub const FIRST_ENTRY: usize = 8;
 /// How many bytes the entry of an account has that was listed before.
 pub const REPEATED_LEN: usize = 8;
 
-/// How many bytes stand at the end of an entry, behind the padding: the epoch of the next rent.
+/// How many bytes are at the end of an entry, behind the padding: the epoch of the next rent.
 pub const LAST_LEN: usize = 8;
 
 /// How many data bytes an account may come to have in a frame that it starts with this one.
@@ -47,7 +47,7 @@ pub fn room_for(account: &Account) -> usize
     account.bytes.len() + MAX_GROWTH
 }
 
-/// How many zero bytes stand before the next multiple of 8.
+/// How many zero bytes are before the next multiple of 8.
 pub fn padding_for(account: &Account) -> usize
     ensures { result ≡ padding (length account.now.bytes) }
 {

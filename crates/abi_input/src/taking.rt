@@ -61,7 +61,7 @@ impl TakenBack {
     }
 }
 
-/// The accounts `now`, with owner, lamports and data of the listed ones as they stand in the region
+/// The accounts `now`, with owner, lamports and data of the listed ones as they are in the region
 /// that was laid out from `start` and has the data of `now` lent. An account of which nothing
 /// changed, and whose data are still lent, is shared: its data are neither copied nor read. One is
 /// told as touched exactly where it differs.
@@ -140,7 +140,7 @@ fn is_refused(laid: &LaidOut<'_>, place: usize, meta: &Meta, entry: usize) -> bo
     has_long_data(laid.region, entry, account_of(laid.start, meta))
 }
 
-/// The length that stands in the entry is one that the account may not have.
+/// The length that is in the entry is one that the account may not have.
 fn has_long_data(region: &Parts, entry: usize, start: &Account) -> bool
     requires within { entry + 88 ≤ length region.now.bytes }
     requires most { length region.now.bytes < 2 ^ 32 }
@@ -152,7 +152,7 @@ fn has_long_data(region: &Parts, entry: usize, start: &Account) -> bool
     len > room_for(start) as u64 || len > MAX_DATA_LEN as u64
 }
 
-/// The accounts as they stand in their entries.
+/// The accounts as they are in their entries.
 fn taken_by(
     alloc: Global,
     laid: &LaidOut<'_>,
@@ -197,7 +197,7 @@ fn entry_at(entries: &[Option<usize>; PLACES], index: usize) -> Option<usize>
     if index < PLACES { entries[index] } else { None }
 }
 
-/// An account as it stands in its entry, if it has one.
+/// An account as it is in its entry, if it has one.
 fn take_one(
     alloc: Global,
     region: &Parts,
@@ -252,7 +252,7 @@ fn is_same(account: &Account, other: &Account) -> bool
         && account.bytes.as_slice() == other.bytes.as_slice()
 }
 
-/// The account stands in its entry as it was before, and its data are still lent.
+/// The account is in its entry as it was before, and its data are still lent.
 fn is_unchanged(region: &Parts, entry: usize, account: &Account) -> bool
     requires entry { IsEntryOf region.now.bytes entry }
     requires lent { AreLent region.now.lent (entry + 88) account.now }
@@ -280,7 +280,7 @@ fn is_same_key(key: &Key, other: &Key) -> bool
     key == other
 }
 
-/// The data of the account stand at a place: they are lent there, or empty.
+/// The data of the account are at a place: they are lent there, or empty.
 fn has_data(region: &Parts, at: usize, account: &Account) -> bool
     requires { AreLent region.now.lent at account.now }
     ensures { result ≡ true → take (length account.now.bytes) (drop at region.now.bytes)
@@ -289,7 +289,7 @@ fn has_data(region: &Parts, at: usize, account: &Account) -> bool
     account.bytes.is_empty() || region.lent_at(at).is_some()
 }
 
-/// The account as it stands in its entry, in memory of its own.
+/// The account as it is in its entry, in memory of its own.
 fn account_in_region(
     alloc: Global,
     region: &Parts,

@@ -1,4 +1,4 @@
-//! The order in which transactions stand in line.
+//! The order in which transactions are in line.
 ghost use Rattle.std.specs.Prelude.{◌≡◌, IfOk};
 ghost use Rattle.admission.specs.Admission.{line, priority};
 

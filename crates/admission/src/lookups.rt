@@ -144,7 +144,7 @@ fn address_at(table: &[u8], index: u8) -> Key
     Key(address)
 }
 
-/// Whether a key of the message stands twice. Without lookups none does.
+/// Whether a key of the message occurs twice. Without lookups none does.
 fn repeats_a_key(alloc: Global, message: &Message, loaded: &Loaded) -> Result<bool, OutOfMemory>
     requires apart { IsDistinct same_key message.now.keys }
     requires none { message.now.lookups ≡ [] → loaded.now ≡ loads_none }

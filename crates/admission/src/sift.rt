@@ -44,7 +44,7 @@ pub(crate) fn sift(alloc: Global, batch: Items<Weighed>) -> Result<Sifted, OutOf
     Ok(Sifted { standing, causes })
 }
 
-/// The transaction or its first early cause, told whether its message stands before it.
+/// The transaction or its first early cause, told whether its message is before it.
 fn sift_one(one: Weighed, is_repeated: bool) -> Result<Candidate, Refusal>
     ensures { result ≡ sifted_when is_repeated one }
 {
@@ -122,7 +122,7 @@ fn names_in(alloc: Global, batch: &[Weighed]) -> Result<Vec<Hash32>, OutOfMemory
     Ok(names)
 }
 
-/// Whether no name stands twice.
+/// Whether no name occurs twice.
 fn are_distinct(mut names: Vec<Hash32>) -> bool
     ensures { result ≡ true → IsDistinct same_hash names.items }
 {

@@ -119,7 +119,7 @@ fn begins_many(bytes: &[u8]) -> Option<bool> {
     Some(batch_count(bytes)? as usize >= MANY_TRANSACTIONS)
 }
 
-/// What stands behind the last place, near the end, where a batch seems to begin.
+/// What is behind the last place, near the end, where a batch seems to begin.
 fn last_batch(bytes: &[u8]) -> Option<&[u8]> {
     let tail = bytes.get(bytes.len().saturating_sub(FEW_ROOM)..)?;
     let place = tail

@@ -27,7 +27,7 @@ pub enum Split<P> {
 pub trait Desk<W: Work>: Sync {
     type Pass: Send;
 
-    /// `Loan<W>`. A struct with a type parameter cannot stand in the parameters of a trait's
+    /// `Loan<W>`. A struct with a type parameter cannot be in the parameters of a trait's
     /// method.
     type Loan;
 

@@ -15,7 +15,7 @@ use std::alloc::Global;
 use std::sync::Arc;
 
 /// What is left of a core whose positions are all done, but for the outcomes. The accounts of its
-/// keys stand apart from the others yet.
+/// keys are apart from the others yet.
 pub struct Ended<W: Work> {
     pub(crate) origin: Note<Origin<W::Told>>,
     pub(crate) table: KeyTable,

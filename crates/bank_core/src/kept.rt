@@ -270,7 +270,7 @@ impl<W: Work> Core<W> {
         })
     }
 
-    /// Ends a core whose positions are all done: its accounts, which stand apart yet, and the
+    /// Ends a core whose positions are all done: its accounts, which are apart yet, and the
     /// outcomes.
     pub fn part(self) -> Result<(Ended<W>, Items<SharedOutcome>), OutOfMemory>
         requires { AllDoneAfter W.job self.origin.value self.journal.items }

@@ -187,7 +187,7 @@ fn known_of_record(alloc: Global, value: &Value) -> Result<(), JsonFault>
     )
 }
 
-/// What stands before the entries.
+/// What is before the entries.
 #[tactic(auto, unfolding(crate::specs::RecordJson::heading_in))]
 fn heading(alloc: Global, value: &Value) -> Result<Blob, JsonFault>
     ensures { Gives is_json_memory (λ bytes. bytes) result (heading_in (view value.now)) }

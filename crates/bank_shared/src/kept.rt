@@ -1,4 +1,4 @@
-//! What stands in the slot of a desk.
+//! What is in the slot of a desk.
 ghost use Rattle.std.specs.Prelude.{◌≡◌, ◌≤◌};
 
 use bank_core::{Core, Origin, Work};
@@ -10,7 +10,7 @@ pub struct DeskOrigin<T> {
     pub lanes: u32,
 }
 
-/// What stands in the slot: the core, and how many lanes are drawn. The core is boxed, so that a
+/// What is in the slot: the core, and how many lanes are drawn. The core is boxed, so that a
 /// turn moves a pointer.
 #[derive(Drop)]
 pub struct Kept<W: Work> {

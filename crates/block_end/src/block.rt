@@ -12,7 +12,7 @@ pub struct Head {
     pub collector: Key,
 }
 
-/// What a record is made of beside the outcomes: where its block stands, and the transactions as
+/// What a record is made of beside the outcomes: where its block is, and the transactions as
 /// they came and in their order.
 #[derive(Clone, Copy)]
 pub struct RecordParts<'a> {

@@ -181,7 +181,7 @@ fn run_shared<W: Work + Sync, G: Gate, R: Threads + Wait + Sync>(
     Ok((desk.close(crew.rt, pass), begun))
 }
 
-/// Runs a work on the lanes of a core. It ends as the serial run does; its accounts stand apart
+/// Runs a work on the lanes of a core. It ends as the serial run does; its accounts are apart
 /// yet, and the front of its record is hashed as far as that was known, and written in the room.
 /// With one lane no thread is started.
 pub fn run_work<W: Work + Sync, G: Gate, R: Threads + Wait + Sync>(

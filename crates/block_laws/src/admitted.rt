@@ -26,7 +26,7 @@ pub fn admitted_transactions_are_chosen()
         All IsBytes wires → All IsChosen (listed start wires).order }
 {}
 
-/// A law: what a batch admits by priority is all admitted again where it stands alone, in that
+/// A law: what a batch admits by priority is all admitted again where it is alone, in that
 /// order, and comes to the same but for its positions.
 pub fn admitted_transactions_are_admitted_again()
     ensures again { (start : Start) (wires : List (List ℕ)) → AreAdmittedAgain start wires }

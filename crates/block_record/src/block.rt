@@ -2,7 +2,7 @@
 use sol_base::{Blob, Hash32, Items, Key};
 use tx_report::Status;
 
-/// The parts of an entry, each where it stands.
+/// The parts of an entry, each where it is.
 #[derive(Clone, Copy)]
 pub struct EntryParts<'a> {
     pub wire: &'a Blob,
@@ -41,7 +41,7 @@ pub struct Block {
     pub collected: u64,
     /// The hash of the accounts after the block.
     pub state: Hash32,
-    /// The hash of all that stands before it in the record.
+    /// The hash of all that is before it in the record.
     pub hash: Hash32,
 }
 
@@ -53,7 +53,7 @@ pub struct Listed {
     pub halted: bool,
 }
 
-/// A block whose record stands at the front of some bytes, and how many of them it takes.
+/// A block whose record is at the front of some bytes, and how many of them it takes.
 #[derive(Drop)]
 pub struct Front {
     pub block: Block,

@@ -45,7 +45,7 @@ fn write_lines<O: Output>(out: &mut O, lines: &Items<Blob>) -> Result<(), OutOfM
     write_each_line(out, lines)
 }
 
-/// Writes an entry whose parts stand apart from each other.
+/// Writes an entry whose parts are apart from each other.
 pub fn write_parts<O: Output>(out: &mut O, parts: EntryParts<'_>) -> Result<(), OutOfMemory>
     requires wire { length parts.wire.now ≤ max_wire_len }
     requires lines { AreCountable parts.lines.now }
@@ -84,7 +84,7 @@ fn write_each_entry<O: Output>(out: &mut O, entries: &[Entry]) -> Result<(), Out
     Ok(())
 }
 
-/// Writes what stands before the entries, of which there are so many.
+/// Writes what is before the entries, of which there are so many.
 pub fn write_heading<O: Output>(
     out: &mut O,
     slot: u64,
@@ -118,7 +118,7 @@ fn write_front<O: Output>(out: &mut O, block: &Block) -> Result<(), OutOfMemory>
     write_each_entry(out, entries)
 }
 
-/// Writes what stands between the entries and the block hash.
+/// Writes what is between the entries and the block hash.
 fn write_end<O: Output>(
     out: &mut O,
     burned: u64,
@@ -142,7 +142,7 @@ fn write_block<O: Output>(out: &mut O, block: &Block) -> Result<(), OutOfMemory>
 }
 
 /// The output with the record of the block behind what it has taken (the project's own format). The
-/// hash that stands in it is the block's own.
+/// hash that is in it is the block's own.
 pub fn write_record<O: Output>(mut out: O, block: &Block) -> Result<O, OutOfMemory>
     requires { IsCounted block.now }
     ensures { IfOk result (λ new. Adds O.holds out new (bytes_of_record block.now)) }
@@ -152,7 +152,7 @@ pub fn write_record<O: Output>(mut out: O, block: &Block) -> Result<O, OutOfMemo
     Ok(out)
 }
 
-/// The record of the block, in one buffer. The hash that stands in it is the block's own.
+/// The record of the block, in one buffer. The hash that is in it is the block's own.
 pub fn record_bytes(alloc: Global, block: &Block) -> Result<Blob, OutOfMemory>
     requires { IsCounted block.now }
     ensures { IfOk result (λ bytes. bytes ≡ bytes_of_record block.now) }
@@ -162,7 +162,7 @@ pub fn record_bytes(alloc: Global, block: &Block) -> Result<Blob, OutOfMemory>
     write_record(out, block)
 }
 
-/// A hash that has taken what stands before the entries in the record of a block, which is to have
+/// A hash that has taken what is before the entries in the record of a block, which is to have
 /// so many.
 pub fn begin_hash(
     slot: u64,
@@ -189,7 +189,7 @@ pub fn hash_entries(mut hasher: Sha256, entries: &[Entry]) -> Result<Sha256, Out
     Ok(hasher)
 }
 
-/// The SHA-256 of all that stands before the block hash in the block's record.
+/// The SHA-256 of all that is before the block hash in the block's record.
 pub fn end_hash(mut hasher: Sha256, block: &Block) -> Hash32
     requires { Holds256 hasher (front_bytes block.now) }
     ensures { result ≡ hash_of_block block.now }
@@ -221,7 +221,7 @@ pub fn end_record<O: Output>(
     Ok(hash)
 }
 
-/// The SHA-256 of all that stands before the block hash, at once.
+/// The SHA-256 of all that is before the block hash, at once.
 pub fn block_hash(_alloc: Global, block: &Block) -> Result<Hash32, OutOfMemory>
     requires { IsCounted block.now }
     ensures { IfOk result (λ hash. hash ≡ hash_of_block block.now) }
@@ -236,7 +236,7 @@ pub fn block_hash(_alloc: Global, block: &Block) -> Result<Hash32, OutOfMemory>
     Ok(end_hash(hash_entries(hasher, entries)?, block))
 }
 
-/// The number of lines and the lines, as they stand in an entry.
+/// The number of lines and the lines, as they are in an entry.
 pub fn lines_bytes(alloc: Global, lines: &Items<Blob>) -> Result<Blob, OutOfMemory>
     requires { AreCountable lines.now }
     ensures { IfOk result (λ bytes. bytes ≡ bytes_of_lines lines.now) }

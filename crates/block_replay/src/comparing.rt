@@ -12,12 +12,12 @@ use sol_base::{Blob, Hash32, OutOfMemory};
 use std::alloc::Global;
 use tx_report::status_bytes;
 
-/// What stands in the place of an entry where the block's own fields differ.
+/// What is in the place of an entry where the block's own fields differ.
 pub const OF_BLOCK: u32 = u32::MAX;
 
 /// Compares a record with what its entries give when they run again, over a snapshot of this slot
 /// whose newest block has this hash. The answer is the first difference in the order of the record;
-/// values stand in it as they stand in a record (the project's own).
+/// values are in it as they are in a record (the project's own).
 #[tactic(auto, unfolding(crate::specs::Verdict::verdict))]
 pub fn compare(
     alloc: Global,
@@ -62,7 +62,7 @@ fn first_difference(
     compare_tails(alloc, given, replayed)
 }
 
-/// What stands before the entries.
+/// What is before the entries.
 fn compare_heads(
     alloc: Global,
     slot: u64,
@@ -150,7 +150,7 @@ fn find_refused(
     }
 }
 
-/// What stands behind the entries.
+/// What is behind the entries.
 fn compare_tails(
     alloc: Global,
     given: &Block,

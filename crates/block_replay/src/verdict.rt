@@ -51,7 +51,7 @@ pub enum Verdict {
         /// The place of the entry, from 0; 4,294,967,295 for a field of the block.
         entry: u32,
         field: Field,
-        /// What the replay gives, as it stands in a record.
+        /// What the replay gives, as it is in a record.
         expected: Blob,
         /// What the record has.
         found: Blob,

@@ -15,7 +15,7 @@ use std::alloc::Global;
 const REMEMBERED: usize = 4_096;
 
 /// Keys as they are collected. Of those that come again most are left out, so that few are left to
-/// sort: a slot for each of so many beginnings of a key remembers where one of them stands.
+/// sort: a slot for each of so many beginnings of a key remembers where one of them is.
 #[derive(Drop)]
 struct Collected {
     keys: Vec<Key>,
@@ -27,7 +27,7 @@ fn slot_of(key: &Key) -> usize {
     usize::from(u16::from_be_bytes([key.0[0], key.0[1]])) % REMEMBERED
 }
 
-/// Whether the key stands at this place of the list.
+/// Whether the key is at this place of the list.
 fn stands_at(keys: &[Key], place: usize, key: &Key) -> bool
     ensures { result ≡ true → has_key key.now keys.now ≡ true }
 {

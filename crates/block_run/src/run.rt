@@ -78,7 +78,7 @@ pub(crate) fn open<G: Gate, R: Threads + Sync>(
 }
 
 /// Runs transactions in their order over a snapshot, and ends the block. Where few of them are work for
-/// a lane only the lanes are fewer: what stands before and after them is done on all threads.
+/// a lane only the lanes are fewer: what is before and after them is done on all threads.
 fn run_order<G: Gate, R: Threads + Wait + Sync>(
     crew: &Crew<'_, G, R>,
     snapshot: Snapshot,

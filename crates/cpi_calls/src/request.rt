@@ -89,7 +89,7 @@ fn read_header(memory: &Memory, addr: u64) -> Result<(Call, Key), CallFault>
     Ok((call, program))
 }
 
-/// The call that stands in its bytes.
+/// The call that is in its bytes.
 fn call_in(bytes: &[u8]) -> Call
     requires { length bytes.now ≡ call_len }
     ensures { result ≡ call_of bytes.now }

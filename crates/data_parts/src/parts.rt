@@ -1,4 +1,4 @@
-//! A list of bytes that stands in parts, some of which are the data of shared accounts.
+//! A list of bytes that is in parts, some of which are the data of shared accounts.
 ghost use Rattle.std.specs.Prelude.{◌≡◌, ◌<◌, ◌≤◌, ◌+◌, ◌^◌, true, false, None, length, take, drop, slice_get, slice_index, IfOk, IfSome, IsOk, OnOk, OnErr};
 ghost use Rattle.std.specs.Arc.{arc_value};
 ghost use Rattle.spec_base.specs.Bytes.{with_bytes};
@@ -20,7 +20,7 @@ pub enum Part {
     Bytes(Blob),
     /// The data of an account that others share.
     Lent(Arc<Account>),
-    /// This many zero bytes, which stand nowhere yet.
+    /// This many zero bytes, which are nowhere yet.
     Zeros(u32),
 }
 
@@ -221,7 +221,7 @@ impl Parts {
     }
 
     /// Writes `N` bytes from a place on, which the open part has not, or which lie over several
-    /// parts. It is called, so that the first try alone stands where a caller's registers are
+    /// parts. It is called, so that the first try alone is where a caller's registers are
     /// scarce.
     #[cold]
     #[inline(never)]

@@ -1,4 +1,4 @@
-//! A piece of a list of bytes: where it starts, and what its bytes stand in.
+//! A piece of a list of bytes: where it starts, and what its bytes are in.
 ghost use Rattle.std.specs.Prelude.{◌≡◌, ◌<◌, ◌≤◌, ◌+◌, ◌-◌, ◌^◌, true, false, min, length, take, drop, slice_index, None, IfSome, OnOk, IsOk};
 ghost use Rattle.data_parts.specs.declared.parts.Part.TheVariants.{Lent};
 ghost use Rattle.data_parts.specs.declared.piece.Backing.TheVariants.{Shared, Blank};
@@ -10,7 +10,7 @@ use sol_base::{Account, OutOfMemory};
 use std::alloc::Global;
 use std::sync::Arc;
 
-/// What the bytes of a piece stand in.
+/// What the bytes of a piece are in.
 #[derive(Drop)]
 pub enum Backing {
     /// Memory of the list's own, which may be prepared.
@@ -40,7 +40,7 @@ pub struct Meeting {
 }
 
 impl Backing {
-    /// What a part's bytes stand in.
+    /// What a part's bytes are in.
     pub fn of_part(part: Part) -> Backing
         ensures bytes { backing_bytes result ≡ part_bytes part }
         ensures prepared { is_prepared result ≡ false }
@@ -75,7 +75,7 @@ impl Backing {
         matches!(self, Backing::Own { .. })
     }
 
-    /// The account that others share, if the bytes stand in one.
+    /// The account that others share, if the bytes are in one.
     pub fn lent(&self) -> Option<&Arc<Account>>
         ensures shared { IfSome result (λ lent. self.now ≡ Shared lent.now) }
         ensures own { is_prepared self.now ≡ true → result ≡ None }
@@ -114,7 +114,7 @@ impl Backing {
         }
     }
 
-    /// The `N` bytes from a place on, if they stand in memory.
+    /// The `N` bytes from a place on, if they are in memory.
     #[inline(always)]
     pub fn array<const N: usize>(&self, from: usize) -> Option<[u8; N]>
         requires { from + N < 2 ^ 64 }
@@ -209,7 +209,7 @@ impl Backing {
 }
 
 impl Piece {
-    /// Zeros that stand nowhere.
+    /// Zeros that are nowhere.
     pub fn blank(start: usize, count: u32) -> Piece
         ensures start { result.start ≡ start }
         ensures backing { result.backing ≡ Blank count }
@@ -220,7 +220,7 @@ impl Piece {
         }
     }
 
-    /// The `N` bytes from a place of the list on, if they stand in this piece's memory.
+    /// The `N` bytes from a place of the list on, if they are in this piece's memory.
     #[inline(always)]
     pub fn array<const N: usize>(&self, at: usize) -> Option<[u8; N]>
         requires { at + N < 2 ^ 64 }

@@ -1,4 +1,4 @@
-//! The pieces of a list of bytes, of which one that is written again and again stands apart.
+//! The pieces of a list of bytes, of which one that is written again and again is apart.
 ghost use Rattle.std.specs.Prelude.{◌≡◌, ◌<◌, ◌≤◌, ◌+◌, ◌^◌, true, false, length, take, drop, IfSome, IsOk, OnOk, OnErr, slice_index_or, slice_set};
 ghost use Rattle.spec_base.specs.Bytes.{with_bytes};
 ghost use Rattle.data_parts.specs.Parts.{bytes_in, tests_in, before, blank_of, is_prepared, AreInOrder, ArePrepared, ArrayStandsIn, StayLent, StayPrepared};
@@ -15,7 +15,7 @@ use std::mem;
 /// Pieces, one after another. One may be open: it is met first, and no piece is sought then.
 #[derive(Drop)]
 pub struct Pieces {
-    /// All pieces. In the place of the open one stands a blank one of as many bytes.
+    /// All pieces. In the place of the open one is a blank one of as many bytes.
     list: Vec<Piece>,
     opened: Piece,
     /// The place of the open piece, and one behind the last where none is open.

@@ -4,7 +4,7 @@ use crossbeam_queue::RuledArrayQueue;
 use crossbeam_queue::protocol::{Join, Lesson, Outcome, Protocol, Split};
 use std::collections::LinkedList;
 
-/// What a pass of the ring knows. It stands in proofs alone: no value of it is made.
+/// What a pass of the ring knows. It exists in proofs alone: no value of it is made.
 pub struct PassView {
     /// Whether it is the pass of the taker, which alone makes seats and takes tickets.
     pub takes: bool,

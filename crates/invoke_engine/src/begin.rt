@@ -149,7 +149,7 @@ fn native(
 }
 
 /// A frame at the start of its program. Most frames are those of native programs, in whose memory
-/// no machine stands.
+/// no machine is.
 #[inline(never)]
 fn first_frame(
     context: &Context<'_>,

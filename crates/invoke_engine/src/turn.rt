@@ -119,7 +119,7 @@ fn reason_of(fault: Fault) -> Reason
     }
 }
 
-/// Serves the system call that the frame's machine stands at.
+/// Serves the system call that the frame's machine is at.
 fn serve_for(alloc: Global, frame: &mut Frame, number: u32, env: &mut Env) -> Result<u64, Stopped>
     requires { IsServed number }
     ensures answer { Serving.ServesAs

@@ -15,7 +15,7 @@ use std::alloc::{AllocError, Global};
 pub enum Step {
     /// To the member of an object that has this name.
     Member { name: Blob },
-    /// To the item of an array that stands after so many others.
+    /// To the item of an array that is after so many others.
     Item { at: usize },
 }
 
@@ -60,7 +60,7 @@ pub enum Wanted {
 pub enum JsonFault {
     /// The text is no JSON from this place on.
     NoJson { line: usize, column: usize },
-    /// Something else is wanted at the end of this path, whose last step stands first.
+    /// Something else is wanted at the end of this path, whose last step is first.
     Refused { path: Items<Step>, wanted: Wanted },
     /// The members are those of a snapshot that its format refuses.
     BadSnapshot { fault: SnapshotFault },

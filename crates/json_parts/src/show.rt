@@ -47,10 +47,10 @@ impl fmt::Display for Wanted {
 }
 
 /// The way from the whole to a value. It begins with a full stop or a bracket, so that the name of the
-/// whole can stand before it.
+/// whole can be before it.
 #[derive(Drop)]
 pub struct Way<'a> {
-    /// The last step stands first.
+    /// The last step is first.
     pub steps: &'a [Step],
 }
 
@@ -69,7 +69,7 @@ impl fmt::Display for Way<'_> {
     }
 }
 
-/// A sentence. Before that of a value that is refused stands the way to it.
+/// A sentence. Before that of a value that is refused is the way to it.
 impl fmt::Display for JsonFault {
     fn fmt<W: fmt::Write>(&self, f: &mut fmt::Formatter<W>) -> fmt::Result {
         match self {

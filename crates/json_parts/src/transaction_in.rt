@@ -224,7 +224,7 @@ struct Fields {
     lookups: Blob,
 }
 
-/// What stands before the instructions.
+/// What is before the instructions.
 fn append_opening(out: &mut Blob, fields: &Fields) -> Result<(), OutOfMemory>
     requires { fields.now.key_count ≤ max_count }
     ensures { OnOk result (out.new ≡ out.old ++ kind_bytes fields.now.kind ++ fields.now.header

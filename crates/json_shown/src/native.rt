@@ -6,7 +6,7 @@ use sol_base::{COMPUTE_BUDGET_PROGRAM, Key, LOADER_PROGRAM, SYSTEM_PROGRAM};
 use std::alloc::{AllocError, Global};
 use std::str;
 
-/// How a field stands in the data of an instruction.
+/// How a field is in the data of an instruction.
 #[derive(Clone, Copy)]
 enum Kind {
     /// A number of four bytes.

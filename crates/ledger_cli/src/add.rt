@@ -209,7 +209,7 @@ fn open_synced<F: Folder, T: Threads>(
     begin_opening(threads, alloc, files)
 }
 
-/// The slot of a batch, which stands behind its first eight bytes.
+/// The slot of a batch, which is behind its first eight bytes.
 fn slot_in(bytes: &[u8]) -> Option<u64> {
     let (slot, _) = bytes.get(8..)?.split_first_chunk::<8>()?;
     Some(u64::from_le_bytes(*slot))
@@ -288,7 +288,7 @@ fn add_locked<R: Files + Clock + AllocGlobal + Clone + Drop, T: Threads + Wait +
     Ok(answer)
 }
 
-/// The answer to `add`. The lock is held from before the chain is opened until the block stands.
+/// The answer to `add`. The lock is held from before the chain is opened until the block is there.
 pub(crate) fn added<
     R: Files + Input + Clock + AllocGlobal + Clone + Drop,
     T: Threads + Wait + Sync,

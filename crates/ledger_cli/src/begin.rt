@@ -34,7 +34,7 @@ fn all_of(alloc: Global, bytes: &[u8], prefix: Prefix) -> Result<Given<Snapshot>
 /// The snapshot that the bytes are, all of them.
 fn whole_snapshot(alloc: Global, bytes: &[u8]) -> Result<Given<Snapshot>, OutOfMemory>
     ensures readable { IfOk result (IfValue IsReadable) }
-    // It is what all the bytes are read as: nothing stands behind it.
+    // It is what all the bytes are read as: nothing is behind it.
     ensures whole { IfOk result (IfValue (IsReadWhole bytes.now)) }
 {
     match read_snapshot(alloc, bytes) {

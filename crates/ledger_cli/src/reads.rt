@@ -10,7 +10,7 @@ use snapshot_codec::{readable_snapshots_are_writable, snapshot_bytes};
 use sol_base::{Blob, OutOfMemory};
 use std::rt::Files;
 
-/// How many blocks stand up to the state of a slot: that of a block, or the one that the chain begins
+/// How many blocks are up to the state of a slot: that of a block, or the one that the chain begins
 /// with. The newest where no slot is given.
 fn blocks_up_to(head: &Head, slot: Option<u64>) -> Option<usize> {
     match slot {

@@ -71,7 +71,7 @@ impl Range<'_> {
 /// What those who replay share.
 #[derive(Drop)]
 pub(crate) struct Shared {
-    /// How many blocks stand in the pieces that were taken.
+    /// How many blocks are in the pieces that were taken.
     pub(crate) taken: AtomicU64,
     /// How many blocks were replayed.
     pub(crate) replayed: AtomicU64,

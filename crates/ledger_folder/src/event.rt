@@ -2,7 +2,7 @@
 use crate::name::Name;
 use sol_base::{Blob, Items};
 
-/// A call of a folder with what it came to. Events stand in proofs alone, the newest first.
+/// A call of a folder with what it came to. Events exist in proofs alone, the newest first.
 #[derive(Drop)]
 pub enum Event {
     /// `NAME.new` was written whole.

@@ -53,7 +53,7 @@ pub trait Folder {
             (λ _. events self.new ≡ events self.old) }
         ensures counts { FolderCounts result (faults self.old) (faults self.new) };
 
-    /// Writes the bytes beside the file, in place of all that stands there.
+    /// Writes the bytes beside the file, in place of all that is there.
     fn write(&mut self, name: Name, bytes: &[u8]) -> Result<(), FolderFault>
         ensures noted { MatchResult result
             (λ _. events self.new ≡ Wrote name bytes.now ∷ events self.old)

@@ -2,7 +2,7 @@
 use std::fmt;
 use std::fmt::{Display, Formatter};
 
-/// A file of the folder (the project's own). The slot stands in 20 decimal digits, so that names
+/// A file of the folder (the project's own). The slot is in 20 decimal digits, so that names
 /// are in the order of slots.
 #[derive(Clone, Copy, Debug, PartialEq, Eq)]
 pub enum Name {

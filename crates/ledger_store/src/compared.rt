@@ -26,7 +26,7 @@ fn same_account(a: &Account, b: &Account) -> bool
         && a.bytes.as_slice() == b.bytes.as_slice()
 }
 
-/// Whether the account stands there unchanged.
+/// Whether the account is there unchanged.
 fn is_kept(before: Option<&Arc<Account>>, account: &Account) -> bool
     ensures { result ≡ is_kept (option_map (λ b. arc_value b.now) before.entry) account.now }
 {

@@ -19,7 +19,7 @@ pub enum LedgerFault {
     /// A file that the chain has is not there.
     #[error("{name} is missing")]
     Missing { name: Name },
-    /// The bytes of a file are not what was written: the hash that it ends in stands at `at` and is
+    /// The bytes of a file are not what was written: the hash that it ends in is at `at` and is
     /// not its hash, or the field at `at` is not in form.
     #[error("{name} is damaged at byte {at}")]
     Damaged { name: Name, at: usize },

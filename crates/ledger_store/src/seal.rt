@@ -19,21 +19,21 @@ use std::thread::{Promise, PromisedHandle, Threads};
 /// The bytes of the hash.
 const SEAL_LEN: usize = 32;
 
-/// Where the hash stands.
+/// Where the hash is.
 pub(crate) fn seal_at(bytes: &[u8]) -> usize
     ensures { result ≡ seal_at bytes.now }
 {
     bytes.len().saturating_sub(SEAL_LEN)
 }
 
-/// What stands before the hash, whatever that is.
+/// What is before the hash, whatever that is.
 pub(crate) fn unsealed(bytes: &[u8]) -> &[u8]
     ensures { result.now ≡ unsealed bytes.now }
 {
     &bytes[..seal_at(bytes)]
 }
 
-/// Whether the hash is that of what stands before it.
+/// Whether the hash is that of what is before it.
 pub(crate) fn is_sealed(bytes: &[u8]) -> bool
     ensures { result ≡ is_sealed bytes.now }
 {
@@ -41,7 +41,7 @@ pub(crate) fn is_sealed(bytes: &[u8]) -> bool
     Sha256::digest(body).as_slice() == seal
 }
 
-/// What stands before the hash that the file ends in, where that is its hash.
+/// What is before the hash that the file ends in, where that is its hash.
 #[tactic(auto, unfolding(crate::specs::Seal::body_of))]
 pub(crate) fn body_of(name: Name, bytes: &[u8]) -> Result<&[u8], LedgerFault>
     ensures gives { Gives is_ledger_memory (λ body. body.now) result (body_of name bytes.now) }

@@ -25,7 +25,7 @@ CREATE TABLE accounts (
 ) STRICT;
 ";
 
-/// What makes the tables quick to look into, once their rows stand.
+/// What makes the tables quick to look into, once their rows are there.
 pub const INDEXES: &str = "\
 CREATE INDEX transactions_by_slot ON transactions (slot, position);
 CREATE INDEX transactions_by_payer ON transactions (payer);

@@ -22,7 +22,7 @@ pub fn add_tables<S: Alter>(conn: &mut Connection<S>) -> Result<(), TablesFault>
     Ok(conn.execute_batch(SCHEMA)?)
 }
 
-/// Makes the indexes of the tables, once their rows stand.
+/// Makes the indexes of the tables, once their rows are there.
 pub fn add_indexes<S: Alter>(conn: &mut Connection<S>) -> Result<(), TablesFault>
     ensures ran { OnOk result (RanAll S.Store INDEXES.now conn.old conn.new) }
     ensures cause { IfErr result IsCaused }

@@ -31,7 +31,7 @@ pub(crate) fn value_of<'a>(parameter: Parameter, arguments: &[Argument<'a>]) -> 
     None
 }
 
-/// What stands before the first `=` of a word, and what stands behind it.
+/// What is before the first `=` of a word, and what is behind it.
 fn parted(word: &str) -> (&str, Option<&str>)
     ensures { (result.0.now, option_map (λ v. v.now) result.1) ≡ parted word.now }
 {

@@ -11,7 +11,7 @@ use crate::values::{MAX_EVERY, MAX_JOBS, count_of, path_in, slot_of};
 use sol_base::{MAX_LANES, MAX_SENDERS};
 use std::alloc::Global;
 
-/// How many blocks stand between full states where nothing is said.
+/// How many blocks are between full states where nothing is said.
 const EVERY: u32 = 16;
 
 /// The command that the words are (the project's own commands), or the first thing that is wrong

@@ -14,7 +14,7 @@ const BUFFER_MAGIC: [u8; 8] = *b"SBPFBUF1";
 /// What it begins with once it is final.
 pub(crate) const FINAL_MAGIC: [u8; 8] = *b"SBPFFIN1";
 
-/// Where the key of the authority stands.
+/// Where the key of the authority is.
 pub(crate) const AUTHORITY_AT: usize = 8;
 
 /// Where the image begins.
@@ -34,7 +34,7 @@ pub(crate) fn holds_final(bytes: &[u8]) -> bool
     bytes.len() >= IMAGE_AT && bytes.starts_with(&FINAL_MAGIC)
 }
 
-/// Whether nothing stands where the magic of a buffer goes.
+/// Whether nothing is where the magic of a buffer goes.
 pub(crate) fn holds_nothing(bytes: &[u8]) -> bool
     requires { image_at ≤ length bytes.now }
     ensures { result ≡ is_blank bytes.now }
@@ -74,7 +74,7 @@ pub(crate) fn head(alloc: Global, authority: &Key) -> Result<Blob, OutOfMemory>
     Ok(bytes)
 }
 
-/// The data with other bytes from a place on, in one copy; nothing where those bytes stand there.
+/// The data with other bytes from a place on, in one copy; nothing where those bytes are there.
 pub(crate) fn patched(
     alloc: Global,
     bytes: &[u8],

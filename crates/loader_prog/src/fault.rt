@@ -30,7 +30,7 @@ pub(crate) const FOREIGN: LoaderFault = LoaderFault::Custom { code: 1 };
 /// The account has no room for the head of a buffer.
 pub(crate) const TOO_SHORT: LoaderFault = LoaderFault::Custom { code: 2 };
 
-/// The account is not blank where the magic of a buffer stands.
+/// The account is not blank where the magic of a buffer is.
 pub(crate) const NOT_BLANK: LoaderFault = LoaderFault::Custom { code: 3 };
 
 /// The account is no buffer.

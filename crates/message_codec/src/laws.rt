@@ -22,7 +22,7 @@ pub fn numbers_are_as_stated()
 {}
 
 /// A law: the spelling of a compact length is the one list of its 7-bit digits, low digit first,
-/// 128 added to each but the last, and the last not 0 unless it stands alone.
+/// 128 added to each but the last, and the last not 0 unless it is alone.
 pub fn lengths_have_one_spelling()
     ensures spelling { (v : ℕ) (bytes : List ℕ) → v ≤ max_count
         → (bytes ≡ compact v) ↔ (AreDigits bytes × (digits_value bytes ≡ v)) }
@@ -75,7 +75,7 @@ pub fn sane_transactions_name_their_keys()
         → All (AreNamed tx.message loaded) tx.message.instructions }
 {}
 
-/// A law: the locks stand beside all keys, one for each, in their order.
+/// A law: the locks are beside all keys, one for each, in their order.
 pub fn locks_stand_beside_the_keys()
     ensures keys { (message : Message) (loaded : Loaded)
         → map (λ lock. lock.key) (locks_of message loaded) ≡ all_keys message loaded }

@@ -16,7 +16,7 @@ pub enum Parsed {
     Bad(WireFault),
 }
 
-/// Reads the wire, and names its message by the bytes that stand in the wire.
+/// Reads the wire, and names its message by the bytes that are in the wire.
 pub fn parse(alloc: Global, wire: &[u8]) -> Result<Parsed, OutOfMemory>
     ensures exact { IfOk result (λ parsed. parsed ≡ parsed_of wire.now) }
     ensures meaning { IfOk result (λ parsed. IsParsed wire.now parsed) }

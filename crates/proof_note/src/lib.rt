@@ -1,4 +1,4 @@
-//! A value that stands in proofs alone: contracts compare it, no code can read it, and it takes no
+//! A value that exists in proofs alone: contracts compare it, no code can read it, and it takes no
 //! bytes. A struct keeps by it what it was made from, where keeping the thing itself would cost a
 //! copy or a borrow.
 //!
@@ -13,7 +13,7 @@ ghost use Rattle.std.specs.Borrow.{ftrue};
 
 use std::marker::{Model, PhantomData};
 
-/// A value of `T` that stands in proofs alone. It crosses threads whatever `T` is.
+/// A value of `T` that exists in proofs alone. It crosses threads whatever `T` is.
 pub struct Note<T> {
     marker: PhantomData<*const T>,
     pub ghost value: { T },

@@ -13,7 +13,7 @@ pub const LAMPORTS_PER_BYTE_YEAR: u64 = 3_480;
 /// The years whose rent exempts an account (Solana).
 pub const EXEMPTION_YEARS: u64 = 2;
 
-/// How an account stands to rent. A paying account is known by its balance in lamports and the
+/// How an account is seen by rent. A paying account is known by its balance in lamports and the
 /// number of its data bytes.
 #[derive(Clone, Copy, PartialEq, Eq)]
 pub enum RentState {

@@ -52,7 +52,7 @@ pub(crate) fn with_register(kind: OpKind) -> OpKind
     }
 }
 
-/// The kind with an immediate as its second operand, where a register may stand too.
+/// The kind with an immediate as its second operand, where a register may be too.
 pub(crate) fn with_immediate(kind: OpKind) -> OpKind
     ensures { result ≡ with_immediate kind }
 {

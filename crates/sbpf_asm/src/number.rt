@@ -83,7 +83,7 @@ fn unsigned_of(text: &[u8]) -> Option<u128>
     }
 }
 
-/// The unsigned number that stands behind a sign.
+/// The unsigned number that is behind a sign.
 pub(crate) fn signed_of(sign: u8, text: &[u8]) -> Option<i128>
     ensures { result ≡ signed_of sign text.now }
 {

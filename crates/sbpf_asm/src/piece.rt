@@ -13,7 +13,7 @@ pub enum Mark {
     Sign,
 }
 
-/// What stands before the first byte of a kind, and that byte with what follows it.
+/// What is before the first byte of a kind, and that byte with what follows it.
 #[derive(Clone, Copy)]
 pub struct Cut<'a> {
     pub front: &'a [u8],

@@ -28,7 +28,7 @@ pub enum Operand {
 #[derive(Clone, Copy)]
 pub struct Row {
     pub mnemonic: &'static [u8],
-    /// What the instruction is, with an immediate where a register may stand too.
+    /// What the instruction is, with an immediate where a register may be too.
     pub kind: OpKind,
     pub src: u8,
     pub imm: i128,

@@ -11,7 +11,7 @@ pub fn numbers_are_as_stated()
     ensures { INVOKE_CALL ≡ 17 }
 {}
 
-/// A law: each row of the table is what its opcode leads to, so that no opcode stands in two rows.
+/// A law: each row of the table is what its opcode leads to, so that no opcode is in two rows.
 #[tactic(auto, unfolding(crate::specs::Rows::kind_at))]
 pub fn rows_have_their_own_opcodes()
     ensures opcodes { AllByRecursion (λ r. kind_at r.opcode ≡ Some r.kind) rows }

@@ -27,7 +27,7 @@ pub enum Width {
     Bits32,
 }
 
-/// Where the source operand stands: in the slot's immediate, or in its source register.
+/// Where the source operand is: in the slot's immediate, or in its source register.
 #[derive(Clone, Copy, PartialEq, Eq)]
 pub enum Operand {
     Immediate,

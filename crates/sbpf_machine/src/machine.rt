@@ -81,7 +81,7 @@ impl Machine {
         }
     }
 
-    /// Runs to the first stop, and returns a stop that it stands at again. Out of memory, it leaves
+    /// Runs to the first stop, and returns a stop that it is at again. Out of memory, it leaves
     /// the machine before the store that met it.
     pub fn run(&mut self) -> Result<Stop, OutOfMemory>
         ensures stops { IfOk result
@@ -172,7 +172,7 @@ impl Machine {
         [r[1], r[2], r[3], r[4], r[5]]
     }
 
-    /// The slot of the instruction that the machine stands at: that of a stop is the one that stopped
+    /// The slot of the instruction that the machine is at: that of a stop is the one that stopped
     /// it.
     pub fn place(&self) -> u32
         ensures { result ≡ self.now.place }

@@ -28,7 +28,7 @@ pub(crate) fn violation(addr: u64, len: u64, write: bool) -> AccessViolation
 pub enum MemFault {
     #[error("access of {len} bytes at {addr:#x}")]
     AccessViolation { addr: u64, len: u64, write: bool },
-    /// Two ranges that must stand apart meet.
+    /// Two ranges that must be apart meet.
     #[error("the ranges of a copy meet")]
     Overlap,
     #[error("out of memory")]

@@ -5,7 +5,7 @@ ghost use Rattle.sbpf_memory.specs.Memory.{Ranges, IsMemory, ReadsIn, WritesIn, 
 ghost use Rattle.sbpf_memory.specs.Plain.{plain_copied, plain_memory, plain_written};
 
 /// A law: a read of at least one byte is answered exactly where it lies in a range, of which there
-/// is one, with the bytes that stand there.
+/// is one, with the bytes that are there.
 pub fn reads_lie_in_one_range()
     ensures read { (m : Ranges) (addr len : ℕ) (bytes : List ℕ) → IsMemory m → 1 ≤ len
         → (read_from m addr len ≡ Ok bytes) ↔ ReadsIn m addr len bytes }

@@ -78,7 +78,7 @@ pub(crate) fn within_frame(at: u64, len: u64) -> Option<Place>
     }
 }
 
-/// Whether two ranges of `len` addresses that must stand apart meet.
+/// Whether two ranges of `len` addresses that must be apart meet.
 pub(crate) fn overlaps(apart: bool, one: u64, other: u64, len: u64) -> bool
     ensures { result ≡ (apart && nat_lt 0 len && ranges_meet one other len) }
 {

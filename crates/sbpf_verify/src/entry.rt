@@ -28,7 +28,7 @@ pub struct Entry {
     pub imm: u64,
 }
 
-/// What stands in place of an entry for the second half of `lddw`, which is never reached.
+/// What is in place of an entry for the second half of `lddw`, which is never reached.
 const SECOND_HALF: Entry = Entry {
     opcode: Opcode::Exit,
     dst: 0,

@@ -5,7 +5,7 @@ ghost use Rattle.sbpf_verify.specs.Faults.{fault_number};
 use std::error::Error;
 use std::fmt;
 
-/// Why a text is refused, with the slot that is refused. The rules stand in the order of their
+/// Why a text is refused, with the slot that is refused. The rules are in the order of their
 /// numbers, from 1; the order in which they are looked for is that of the verifier's table.
 #[derive(Clone, Copy, Debug, PartialEq, Eq)]
 pub enum VerifyFault {

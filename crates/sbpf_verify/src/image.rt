@@ -7,7 +7,7 @@ ghost use Rattle.sbpf_verify.specs.ImageViews.{image_view};
 /// The first bytes of a program image.
 const MAGIC: [u8; 8] = *b"SBPFIMG1";
 
-/// The parts of a program image, where they stand in its bytes.
+/// The parts of a program image, where they are in its bytes.
 #[derive(Clone, Copy, PartialEq, Eq)]
 pub struct ImageSlices<'a> {
     pub text: &'a [u8],

@@ -29,7 +29,7 @@ pub fn first_slot_is_a_start()
         → place < max_slots }
 {}
 
-/// A law: each start of a verified text has an instruction, and an instruction stands at no other
+/// A law: each start of a verified text has an instruction, and an instruction is at no other
 /// place of any text.
 pub fn starts_have_instructions()
     ensures there { (text : List ℕ) (place : ℕ) → IsVerified text → is_start text place ≡ true

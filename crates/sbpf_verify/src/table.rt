@@ -20,7 +20,7 @@ pub fn has_bad_length(text: &[u8]) -> bool
     text.is_empty() || text.len() % 8 != 0 || text.len() / 8 > MAX_SLOTS
 }
 
-/// Whether the slot before is `lddw`: then opcode 0 may stand in a slot.
+/// Whether the slot before is `lddw`: then opcode 0 may be in a slot.
 pub fn follows_wide(text: &[u8], place: usize) -> bool
     requires { place < slot_count text.now }
     ensures { result ≡ Table.follows_wide text.now place }

@@ -117,7 +117,7 @@ fn read_owned(
     Ok((KeyedAccount { key, account }, rest))
 }
 
-/// The account that stands after those before it, which have `supply` lamports together.
+/// The account that is after those before it, which have `supply` lamports together.
 #[tactic(auto, unfolding(crate::specs::SnapshotReading::account_after))]
 fn read_account<'a>(
     alloc: Global,

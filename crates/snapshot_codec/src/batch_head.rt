@@ -1,4 +1,4 @@
-//! How many transactions a batch has, by what stands before them.
+//! How many transactions a batch has, by what is before them.
 ghost use Rattle.std.specs.Prelude.{◌≡◌, ℕ, Some, length};
 ghost use Rattle.snapshot_codec.specs.declared.batch.Batch.{Batch as BatchValue};
 ghost use Rattle.snapshot_codec.specs.Batch.{IsBatch};

@@ -23,7 +23,7 @@ const MARK_HEAD_LEN: usize = 32;
 /// whether it is executable.
 const ACCOUNT_HEAD_LEN: usize = 73;
 
-/// What stands behind so many bytes.
+/// What is behind so many bytes.
 #[tactic(auto, unfolding(crate::specs::Length::behind))]
 pub(crate) fn behind(count: usize, bytes: &[u8]) -> Option<&[u8]>
     ensures { option_map (λ rest. rest.now) result ≡ behind_of count bytes.now }
@@ -49,7 +49,7 @@ pub(crate) fn count_in_front(bytes: &[u8]) -> Option<(u32, &[u8])>
 trait Passed {
     ghost use Rattle.std.specs.Prelude.{◌≡◌, ℕ, List, Option, option_map};
 
-    /// What stands behind one of them.
+    /// What is behind one of them.
     ghost behind_one: { List ℕ → Option (List ℕ) };
 
     fn pass(bytes: &[u8]) -> Option<&[u8]>
@@ -80,7 +80,7 @@ impl Passed for KeyedAccount {
     }
 }
 
-/// What stands behind so many items.
+/// What is behind so many items.
 fn behind_many<T: Passed>(count: u32, bytes: &[u8]) -> Option<&[u8]>
     ensures { option_map (λ rest. rest.now) result
         ≡ behind_many_of T.behind_one count bytes.now }
@@ -92,7 +92,7 @@ fn behind_many<T: Passed>(count: u32, bytes: &[u8]) -> Option<&[u8]>
     Some(rest)
 }
 
-/// What stands behind items, whose number stands before them.
+/// What is behind items, whose number is before them.
 #[tactic(auto, unfolding(crate::specs::Length::behind_items))]
 fn behind_items<T: Passed>(bytes: &[u8]) -> Option<&[u8]>
     ensures { option_map (λ rest. rest.now) result ≡ behind_items_of T.behind_one bytes.now }
@@ -113,7 +113,7 @@ fn head_len(bytes: &[u8]) -> Option<usize>
     }
 }
 
-/// What stands behind the snapshot.
+/// What is behind the snapshot.
 #[tactic(auto, unfolding(crate::specs::Length::behind_snapshot))]
 fn behind_snapshot(bytes: &[u8]) -> Option<&[u8]>
     ensures { option_map (λ rest. rest.now) result ≡ behind_snapshot_of bytes.now }

@@ -18,7 +18,7 @@ const MARK_LEN: usize = 36;
 /// The bytes of the name of a message.
 pub(crate) const NAME_LEN: usize = 32;
 
-/// The name that stands after those before it.
+/// The name that is after those before it.
 #[tactic(auto, unfolding(crate::specs::SnapshotReading::name_after, spec_base::specs::Reading::read_if))]
 fn read_name<'a>(
     total: usize,

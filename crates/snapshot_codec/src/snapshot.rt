@@ -12,7 +12,7 @@ pub struct Snapshot {
     pub accounts: Accounts,
 }
 
-/// A snapshot that stands at the front of some bytes, and how many of them it takes.
+/// A snapshot that is at the front of some bytes, and how many of them it takes.
 #[derive(Drop)]
 pub struct Prefix {
     pub snapshot: Snapshot,

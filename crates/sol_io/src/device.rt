@@ -14,7 +14,7 @@ pub trait Source {
     ghost faults: { Self → ℕ };
 
     /// Moves bytes into the front of the buffer, and returns how many: 0 for a buffer that is not
-    /// empty says that the source is at its end. What stands behind them, and in the whole buffer
+    /// empty says that the source is at its end. What is behind them, and in the whole buffer
     /// after a failure, is left open.
     fn read(&mut self, buf: &mut [u8]) -> Result<usize, Failed>
         ensures bound { IfOk result (λ n. n ≤ length buf.old) }

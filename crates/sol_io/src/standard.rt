@@ -9,7 +9,7 @@ use std::io::{Read, Write};
 use std::marker::Model;
 
 /// A source over a reader of std. It tells what the reader tells, and counts each of its errors in
-/// a u64, which stands still at its last value. What a real device gave is trusted, not proved.
+/// a u64, which stays at its last value. What a real device gave is trusted, not proved.
 #[derive(Drop)]
 pub struct StdSource<R> {
     reader: R,
@@ -61,7 +61,7 @@ impl<R: Read> Source for StdSource<R> {
 }
 
 /// A sink over a writer of std. It tells what the writer tells, and counts each of its errors in a
-/// u64, which stands still at its last value; a writer that takes nothing of a piece that is not
+/// u64, which stays at its last value; a writer that takes nothing of a piece that is not
 /// empty is an error too. What a real device took is trusted, not proved.
 #[derive(Drop)]
 pub struct StdSink<W> {

@@ -34,7 +34,7 @@ pub(crate) fn prepare(memory: &mut Memory, addr: u64, len: u64) -> Result<(), Sy
     Ok(())
 }
 
-/// Whether a read is refused. A copy of a range onto itself that is to stand apart is refused in
+/// Whether a read is refused. A copy of a range onto itself that is to be apart is refused in
 /// any case, and its refusal tells whether the read is.
 #[tactic(auto, using(sbpf_memory::proofs::Plain::plain))]
 pub(crate) fn check_read(memory: &mut Memory, addr: u64, len: u64) -> Result<(), SysFault>

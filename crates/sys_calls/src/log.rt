@@ -13,7 +13,7 @@ use sbpf_memory::{Memory, read_array, read_bytes};
 use sol_base::{Key, OutOfMemory, is_text, key_text};
 use std::alloc::Global;
 
-/// What stands before what a program logs.
+/// What is before what a program logs.
 const PROGRAM_LOG: [u8; 13] = *b"Program log: ";
 
 /// Logs a text.

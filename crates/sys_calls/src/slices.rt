@@ -39,7 +39,7 @@ pub(crate) fn read_slices(
     Ok(slices_in(alloc, bytes.as_slice(), count as usize)?)
 }
 
-/// The slices that stand in bytes.
+/// The slices that are in bytes.
 #[tactic(auto, using(crate::proofs::Loops::ranges))]
 fn slices_in(alloc: Global, bytes: &[u8], count: usize) -> Result<Items<Slice>, OutOfMemory>
     requires { slice_len * count ≤ length bytes.now }

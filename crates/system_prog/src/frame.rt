@@ -44,7 +44,7 @@ impl<'a> Frame<'a> {
         self.metas
     }
 
-    /// Where the account in a role stands among all accounts.
+    /// Where the account in a role is among all accounts.
     pub(crate) fn place(&self, role: u8) -> usize
         requires { role < length self.now.metas }
         ensures value { result ≡ place_in self.now role }

@@ -49,7 +49,7 @@ impl Seed<'_> {
 }
 
 /// What an instruction asks for. Where an account was derived from a base, a seed and an owner, the
-/// three stand beside it.
+/// three are beside it.
 #[derive(Drop)]
 pub(crate) enum Instruction<'a> {
     CreateAccount {

@@ -56,7 +56,7 @@ pub(crate) fn answer_command<R: Files<File = File> + Input + AllocGlobal>(
     }
 }
 
-/// The answer where no record stands at the front.
+/// The answer where no record is at the front.
 fn no_record(alloc: Global, bytes: &[u8], fault: &RecordFault) -> Result<Answer, OutOfMemory> {
     let text = match other_kind(alloc, Form::Record, bytes)? {
         Some(text) => text,

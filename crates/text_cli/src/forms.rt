@@ -1,4 +1,4 @@
-//! Data in JSON that stand elsewhere: in files, and as assembler texts.
+//! Data in JSON that are elsewhere: in files, and as assembler texts.
 use crate::files::read_cause;
 use crate::lines::line_of;
 use bank_json::{
@@ -29,7 +29,7 @@ pub(crate) enum Missing {
 #[derive(Drop)]
 pub(crate) enum FormFault {
     Json(JsonFault),
-    /// At the end of this path, whose last step stands first.
+    /// At the end of this path, whose last step is first.
     At { path: Items<Step>, why: Missing },
     OutOfMemory,
 }
@@ -156,7 +156,7 @@ fn assembled<R: Files + AllocGlobal>(rt: &R, value: &Value) -> Result<Option<Blo
     }
 }
 
-/// Puts hexadecimal digits in the place of data that stand in a file or as an assembler text.
+/// Puts hexadecimal digits in the place of data that are in a file or as an assembler text.
 fn settle<R: Files + AllocGlobal>(rt: &R, value: &mut Value) -> Result<(), FormFault> {
     let found = match file_bytes(rt, value)? {
         Some(bytes) => Some(bytes),
@@ -218,13 +218,13 @@ fn snapshot_bytes<R: Files + AllocGlobal>(rt: &R, mut value: Value) -> Result<Bl
     Ok(snapshot_from_value(rt.alloc(), &value)?)
 }
 
-/// Whether data may stand elsewhere.
+/// Whether data may be elsewhere.
 fn has_forms(text: &str) -> bool {
     text.contains("\"file\"") || text.contains("\"assembly\"")
 }
 
 /// The bytes that a text of that form stands for. The data of accounts, and a program image or its
-/// parts, may stand in files or as assembler texts.
+/// parts, may be in files or as assembler texts.
 pub(crate) fn bytes_of<R: Files + AllocGlobal>(
     rt: &R,
     form: Form,

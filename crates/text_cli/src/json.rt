@@ -85,7 +85,7 @@ fn told_at(alloc: Global, status: u8, form: Form, note: &str) -> Result<Answer, 
 }
 
 /// The answer where a text is refused. Where something else is wanted at a place of it, the way to it
-/// stands first, and its line last.
+/// is first, and its line last.
 pub(crate) fn refused_text(
     alloc: Global,
     form: Form,
@@ -105,7 +105,7 @@ pub(crate) fn refused_text(
     told_at(alloc, INPUT_REFUSED, form, note.as_str())
 }
 
-/// The answer where data that stand elsewhere are not there.
+/// The answer where data that are elsewhere are not there.
 fn missing_data(
     alloc: Global,
     form: Form,

@@ -1,4 +1,4 @@
-//! On which line of a JSON text a value stands.
+//! On which line of a JSON text a value is.
 use json_parts::Step;
 use serde_json::Value;
 use sol_base::OutOfMemory;
@@ -13,7 +13,7 @@ fn byte_at(text: &[u8], at: usize) -> u8 {
     }
 }
 
-/// The first place from this one on where no space stands.
+/// The first place from this one on where no space is.
 fn after_space(text: &[u8], from: usize) -> usize {
     let mut at = from;
     for _ in from..text.len() {
@@ -143,7 +143,7 @@ fn line_at(text: &[u8], place: usize) -> usize {
     line
 }
 
-/// The line of the value at the end of the path, whose last step stands first. Where there is none,
+/// The line of the value at the end of the path, whose last step is first. Where there is none,
 /// the line of the object in which it is missing.
 pub(crate) fn line_of(alloc: Global, text: &[u8], path: &[Step]) -> Result<usize, OutOfMemory> {
     let mut at = after_space(text, 0);

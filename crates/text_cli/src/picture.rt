@@ -15,10 +15,10 @@ const WIDTH: u64 = 12_000;
 /// What is left free at each side.
 const MARGIN: u64 = 200;
 
-/// Where the rows begin: the heading, the colours and the scale stand above them.
+/// Where the rows begin: the heading, the colours and the scale are above them.
 const TOP: u64 = 1_050;
 
-/// How many fields of the legend stand beside each other.
+/// How many fields of the legend are beside each other.
 const COLUMNS: u64 = 4;
 
 /// The colours of the keys that most wait at, of other keys, and of bars that wait for none.
@@ -249,7 +249,7 @@ fn class_of(alloc: Global, waited: &[Waited], hold: Option<Hold>) -> Result<Stri
     }
 }
 
-/// How wide a bar is shown: a little less than it is, so that the next one stands apart.
+/// How wide a bar is shown: a little less than it is, so that the next one is apart.
 fn shown_wide(frame: &Frame, bar: &Bar) -> u64 {
     let wide = frame.wide(bar.units);
     let gap = (wide / 10).min(10);

@@ -1,4 +1,4 @@
-//! Which field of a snapshot, a batch, a record or a program image stands at a place.
+//! Which field of a snapshot, a batch, a record or a program image is at a place.
 use sol_base::OutOfMemory;
 use std::alloc::Global;
 
@@ -138,7 +138,7 @@ fn account_field(
     Ok(None)
 }
 
-/// The field of a snapshot that stands at the place.
+/// The field of a snapshot that is at the place.
 pub(crate) fn snapshot_field(
     alloc: Global,
     bytes: &[u8],
@@ -175,7 +175,7 @@ pub(crate) fn snapshot_field(
     plain(alloc, "end")
 }
 
-/// The field of a batch that stands at the place.
+/// The field of a batch that is at the place.
 pub(crate) fn batch_field(
     alloc: Global,
     bytes: &[u8],
@@ -238,7 +238,7 @@ fn entry_field(
     line_field(alloc, walk, entry)
 }
 
-/// The field of a record that stands at the place.
+/// The field of a record that is at the place.
 pub(crate) fn record_field(
     alloc: Global,
     bytes: &[u8],

@@ -1,4 +1,4 @@
-//! The rows of a picture: no two bars of a row overlap, and a bar stands behind the one that holds
+//! The rows of a picture: no two bars of a row overlap, and a bar is behind the one that holds
 //! it up where that row is free.
 use sol_base::OutOfMemory;
 use std::alloc::Global;

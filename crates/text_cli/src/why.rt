@@ -11,7 +11,7 @@ use sol_base::{
 use status_cache::MAX_MARKS;
 use std::alloc::Global;
 
-/// The most bytes that are shown of what stands at a place.
+/// The most bytes that are shown of what is at a place.
 const MAX_SHOWN: usize = 32;
 
 /// The least and the greatest number of a field, where it has a range.
@@ -41,7 +41,7 @@ fn wanted(alloc: Global, field: &str) -> Result<String, OutOfMemory> {
     }
 }
 
-/// The bytes that stand at a place, in hexadecimal digits.
+/// The bytes that are at a place, in hexadecimal digits.
 fn standing(alloc: Global, bytes: &[u8], at: usize) -> Result<String, OutOfMemory> {
     let rest = match bytes.get(at..) {
         Some(rest) => rest,
@@ -54,7 +54,7 @@ fn standing(alloc: Global, bytes: &[u8], at: usize) -> Result<String, OutOfMemor
     Ok(hex::encode(alloc, shown)?)
 }
 
-/// The sentence: the field, its place, what is wrong, what stands there and what is wanted.
+/// The sentence: the field, its place, what is wrong, what is there and what is wanted.
 fn sentence(
     alloc: Global,
     part: &str,
@@ -172,7 +172,7 @@ fn refused_slot(fault: VerifyFault) -> Option<u32> {
     }
 }
 
-/// The sentence of a text that the verifier refuses. The slots stand from byte 16 of the image on.
+/// The sentence of a text that the verifier refuses. The slots are from byte 16 of the image on.
 fn why_text(alloc: Global, bytes: &[u8], fault: VerifyFault) -> Result<Answer, OutOfMemory> {
     let text = fault.to_string(alloc)?;
     let slot = match refused_slot(fault) {

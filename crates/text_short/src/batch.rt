@@ -69,7 +69,7 @@ fn known_of_batch(alloc: Global, value: &Value) -> Result<(), JsonFault>
 /// `recent_blockhash` (64 hexadecimal digits, or the text `newest` for the newest blockhash, where
 /// one is known), `instructions` and, for a version 0 message, `lookups`: tables with the members
 /// `table` and `addresses`. An instruction is one of the system program, of the compute budget
-/// program or of the loader, whose name stands in the member `system`, `budget` or
+/// program or of the loader, whose name is in the member `system`, `budget` or
 /// `loader`, or one with the members `program`, `accounts` and `data`. A key is a text, which
 /// `named_key` reads. No other members are allowed, and `build_wire` builds the transactions.
 #[tactic(auto, unfolding(crate::specs::ShortForm::short_batch_in))]

@@ -8,7 +8,7 @@ use thiserror::Error;
 /// Why no transaction is built.
 #[derive(Clone, Copy, Debug, PartialEq, Eq, Error)]
 pub enum BuildFault {
-    /// More than 38 keys stand in the message, which has no room for them, or it names more than
+    /// More than 38 keys are in the message, which has no room for them, or it names more than
     /// 256 in all.
     #[error("the transaction has more than 38 keys of its own, or more than 256 with loaded ones")]
     TooManyKeys,

@@ -48,7 +48,7 @@ fn position_of(keys: &[Key], key: &Key) -> Option<usize>
     keys.iter().position(|k| *k == *key)
 }
 
-/// Where the key stands.
+/// Where the key is.
 #[tactic(auto, unfolding(crate::specs::Built::place_of))]
 fn place_of(keys: &[Key], key: &Key) -> u8
     requires { length keys.now ≤ MAX_KEYS }
@@ -60,7 +60,7 @@ fn place_of(keys: &[Key], key: &Key) -> u8
     }
 }
 
-/// Where the accounts' keys stand.
+/// Where the accounts' keys are.
 fn places_of(alloc: Global, keys: &[Key], accounts: &[AccountMeta]) -> Result<Blob, OutOfMemory>
     requires { length keys.now ≤ MAX_KEYS }
     ensures { IfOk result (λ places. places
@@ -151,7 +151,7 @@ fn parts_of(alloc: Global, draft: &Draft, mentions: &[Mention]) -> Result<Parts,
 }
 
 /// The message of the draft, where it has few enough keys. They are counted before the tables are
-/// looked through: each stands in the message once.
+/// looked through: each is in the message once.
 #[tactic(auto, using(crate::proofs::Counts::keys_are_listed), unfolding(crate::specs::Built::message_in))]
 pub(crate) fn message_of(alloc: Global, draft: &Draft) -> Result<Message, BuildFault>
     ensures exact { Gives is_build_memory (λ message. message) result (message_in draft.now) }

@@ -9,7 +9,7 @@ use std::marker::Model;
 /// The most bytes of the lines kept, all together (Solana).
 pub(crate) const MAX_LOG_BYTES: usize = 10_000;
 
-/// What stands in place of the first line that is not kept.
+/// What is in place of the first line that is not kept.
 const TRUNCATED: [u8; 13] = *b"Log truncated";
 
 /// The log lines of one transaction: those kept, and whether one was replaced by `Log truncated`.

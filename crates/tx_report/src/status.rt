@@ -12,7 +12,7 @@ pub struct InstructionError {
     pub height: u8,
 }
 
-/// What stands in the place of an instruction's index where a transaction failed as a whole (the
+/// What is in the place of an instruction's index where a transaction failed as a whole (the
 /// project's own).
 pub const WHOLE_TRANSACTION: u8 = 255;
 

@@ -42,7 +42,7 @@ pub(crate) struct Place {
     identity: Identity,
 }
 
-/// The folder in which the path's last name stands.
+/// The folder in which the path's last name is.
 pub(crate) fn folder_of(path: &str) -> &str {
     match path.rsplit_once('/') {
         Some(("", _)) => "/",

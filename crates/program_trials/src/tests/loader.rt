@@ -220,7 +220,7 @@ const GOOD: [(Call, Pieces); 7] = [
         ),
         &[BUFFER_MAGIC, &AUTHORITY, b"axyz"],
     ),
-    // the bytes stand there already, so that the buffer need not be writable
+    // the bytes are there already, so that the buffer need not be writable
     (
         (
             &[BUFFER_MAGIC, &AUTHORITY, b"abcd"],

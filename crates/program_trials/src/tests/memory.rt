@@ -149,7 +149,7 @@ fn numbers_stand_low_byte_first(rt: HostRuntime) {
     assert!(rt; are_numbers(rt.alloc()) == Ok(true));
 }
 
-/// Whether these five bytes stand at the address.
+/// Whether these five bytes are at the address.
 fn stand_at(memory: &Memory, addr: u64, bytes: &[u8; 5]) -> bool {
     let mut read = [0xff; 5];
     memory.read(addr, &mut read).is_ok() && read == *bytes

@@ -14,7 +14,7 @@ fn has_bytes(list: &Parts, bytes: [u8; 5]) -> bool {
     read == bytes && list.array::<5>(0) == Some(bytes)
 }
 
-/// Whether this byte stands at the place.
+/// Whether this byte is at the place.
 fn has_byte(list: &Parts, at: usize, byte: u8) -> bool {
     at < list.len() && list.get(at) == byte
 }

@@ -31,7 +31,7 @@ const TWICE: [Meta; 2] = [
 /// The bytes of the region of 16 data bytes that are listed twice.
 const SIZE: usize = 10_408;
 
-/// Where the length of the data stands.
+/// Where the length of the data is.
 const LENGTH_AT: usize = 88;
 
 /// An account with these data, which are not too long.
@@ -98,7 +98,7 @@ fn patched(alloc: Global, bytes: &[u8]) -> Result<Parts, PatchFault> {
     Ok(region)
 }
 
-/// Whether the bytes stand at a place.
+/// Whether the bytes are at a place.
 fn stands(region: &Parts, place: usize, bytes: &[u8]) -> bool {
     let mut at = place;
     for byte in bytes {
@@ -131,7 +131,7 @@ fn region_of(alloc: Global) -> Result<Parts, OutOfMemory> {
     lay_out(alloc, &[KEY], &start, &TWICE, &[], &PROGRAM)
 }
 
-/// What stands in that region: the number of accounts, and then the flags of both metas together;
+/// What is in that region: the number of accounts, and then the flags of both metas together;
 /// the data; and the second listing.
 const STANDS: [(usize, &[u8]); 3] = [
     (0, &[2, 0, 0, 0, 0, 0, 0, 0, 255, 1, 1, 0]),

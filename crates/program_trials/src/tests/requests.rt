@@ -15,7 +15,7 @@ const PROGRAM: u64 = 0x1_0000_0000;
 
 const HEAP: u64 = 0x3_0000_0000;
 
-/// Where a call stands whose last byte is the heap's last.
+/// Where a call is whose last byte is the heap's last.
 const LAST: u64 = 0x3_0000_7fd8;
 
 const CALLER: Key = Key([0x77; 32]);
@@ -46,7 +46,7 @@ fn put_all(memory: &mut Memory, addr: u64, numbers: &[u64]) -> Result<(), OutOfM
     Ok(())
 }
 
-/// Calls that lie: where they stand, their five numbers, the units, and the refusal.
+/// Calls that lie: where they are, their five numbers, the units, and the refusal.
 const LIES: [(u64, [u64; 5], u64, CallFault); 8] = [
     (
         0x2_0000_1000,

@@ -28,7 +28,7 @@ fn machine_of(alloc: Global, program: Verified, units: u64) -> Result<Machine, O
     Machine::new(alloc, program, memory_of(alloc)?, units)
 }
 
-/// Whether the machine comes to this stop, stands at it again, and has these units left.
+/// Whether the machine comes to this stop, is at it again, and has these units left.
 fn comes_to(machine: &mut Machine, stop: Stop, left: u64) -> Result<bool, OutOfMemory> {
     let first = machine.run()?;
     let again = machine.run()?;
@@ -199,7 +199,7 @@ const JUMPS: &[(u8, u64, u64, i32, bool)] = &[
     (0xd5, 1, 0, 0, false),
 ];
 
-/// What stands behind a jump: the end with 0, and the end with 1 where it is taken.
+/// What is behind a jump: the end with 0, and the end with 1 where it is taken.
 const ENDS: [Fields; 4] = [(0xb7, 0, 0, 0), EXIT, (0xb7, 0, 0, 1), EXIT];
 
 /// The text of a jump.
@@ -363,7 +363,7 @@ const STOPS: &[(&[Fields], Stop, u64)] = &[
     ),
 ];
 
-/// A call of the function that it stands in.
+/// A call of the function that it is in.
 const RECURSION: [Fields; 2] = [(0x85, 0x10, 0, -1), EXIT];
 
 /// Whether the text of slots runs to this stop, with so many units left of those given.
@@ -408,7 +408,7 @@ fn keeps_byte(machine: &mut Machine) -> bool {
     is_set(machine.memory_mut()) && machine.memory().load(INPUT, 2) == Ok(0xff00)
 }
 
-/// Whether the machine stands at a system call, which is then answered.
+/// Whether the machine is at a system call, which is then answered.
 fn is_answered(machine: &mut Machine) -> Result<bool, OutOfMemory> {
     match machine.run()? {
         Stop::Helper { number: _ } => {

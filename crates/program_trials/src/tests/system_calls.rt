@@ -241,7 +241,7 @@ const WRITTEN: [(u32, [u64; 5], &[u8]); 6] = [
     ),
 ];
 
-/// Whether the bytes, at most 32, stand at an address.
+/// Whether the bytes, at most 32, are at an address.
 fn stands(memory: &Memory, addr: u64, bytes: &[u8]) -> bool {
     let mut found = [0; 32];
     match memory.read(addr, &mut found) {
@@ -301,7 +301,7 @@ fn a_key_is_derived_from_seeds(rt: HostRuntime) -> Result<(), Fail> {
     Ok(())
 }
 
-/// Whether a call that hands out the returned bytes returns so, and these stand at the heap's start.
+/// Whether a call that hands out the returned bytes returns so, and these are at the heap's start.
 fn hands_out(
     alloc: Global,
     arguments: [u64; 5],

@@ -96,7 +96,7 @@ fn have_text(
     Ok(program_text(&seeds) == *text)
 }
 
-/// How many seeds of the greatest length stand before the last, and the text of their key.
+/// How many seeds of the greatest length are before the last, and the text of their key.
 const PROGRAM_KEYS: [(usize, &[u8], Result<[u8; 64], SeedsFault>); 6] = [
     (
         0,

@@ -80,7 +80,7 @@ fn hash_read(alloc: Global, bytes: &[u8]) -> Result<Hash32, RecordFault> {
     Ok(block_hash(alloc, &block)?)
 }
 
-/// Whether the block's hash is that of all that stands before it.
+/// Whether the block's hash is that of all that is before it.
 fn is_hashed(alloc: Global) -> Result<bool, RecordFault> {
     let bytes = joined(alloc, &RECORD)?;
     let before = bytes.as_slice().get(..HASH).unwrap_or(&[]);
