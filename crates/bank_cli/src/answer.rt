@@ -1,4 +1,4 @@
-//! What is answered to words and input.
+//! What is answered to arguments and input.
 ghost use Rattle.std.specs.Prelude.{◌≡◌, ◌⊎◌, ◌≤◌, length, false, IfOk, OnErr};
 ghost use Rattle.bank_words.specs.Commands.{IsInRange};
 ghost use Rattle.bank_cli.specs.Answer.{answer, answer_to, input_limit, reads_input, takes_input};
@@ -22,7 +22,7 @@ use std::alloc::Global;
 use std::sync::Wait;
 use std::thread::Threads;
 
-/// The answer to the words, which takes the input from the source where they ask for it.
+/// The answer to the arguments, which takes the input from the source where they ask for it.
 pub(crate) fn answer_of<S: Source, G: Gate, H: SendGate, R: Threads + Wait + Sync>(
     rt: &R,
     alloc: Global,

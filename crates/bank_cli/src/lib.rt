@@ -1,4 +1,4 @@
-//! The top call: words and bytes in, a status, an output and notes out.
+//! The top call: arguments and bytes in, a status, an output and notes out.
 #![tactic(auto)]
 
 mod ahead;

@@ -53,7 +53,7 @@ pub fn bank_main<S: Source, O: Sink, N: Sink, G: Gate, H: SendGate, R: Threads +
         (O.held out.old) (O.held out.new) (N.held notes.old) (N.held notes.new)
         ⊎ FailsEarly words.now (S.faults source.old) (S.faults source.new)
         (O.held out.old) (O.held out.new) (N.held notes.old) (N.held notes.new) }
-    // Words that ask for no input take nothing from the source.
+    // Arguments that ask for no input take nothing from the source.
     ensures untouched { reads_input words.now ≡ false →
         Keeps (S.left source.old) (S.left source.new)
         × (S.faults source.new ≡ S.faults source.old) }

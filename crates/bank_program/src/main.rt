@@ -1,4 +1,4 @@
-//! The program: words from the command line, the input from standard input, the output to standard
+//! The program: arguments from the command line, the input from standard input, the output to standard
 //! output, notes to standard error.
 #![tactic(auto)]
 
@@ -12,7 +12,7 @@ use sol_io::{StdSink, StdSource};
 use std::process::ExitCode;
 use std::rt::Env;
 
-/// The words after the program's name.
+/// The arguments after the program's name.
 fn words_of<R: Env + AllocGlobal>(rt: &R) -> Result<Words, NoWords> {
     let mut words = Items::new(rt.alloc());
     for word in words_after_name(rt)? {

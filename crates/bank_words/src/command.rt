@@ -31,7 +31,7 @@ pub enum Command {
 /// Why there is no command.
 #[derive(Clone, Copy, PartialEq, Eq)]
 pub enum WordsFault {
-    /// The words are not in form.
+    /// The arguments are not in form.
     Refused,
     OutOfMemory,
 }

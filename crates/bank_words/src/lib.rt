@@ -1,4 +1,4 @@
-//! The words of a command line, and the command that they spell. `clap` splits them.
+//! The arguments of a command line, and the command that they spell. `clap` splits them.
 #![tactic(auto)]
 
 mod command;

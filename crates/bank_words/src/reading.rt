@@ -1,4 +1,4 @@
-//! From words to a command.
+//! From arguments to a command.
 ghost use Rattle.std.specs.Prelude.{◌≡◌, IfOk, MatchResult, Some, option_map, map};
 ghost use Rattle.std.specs.List.{list_all};
 ghost use Rattle.clap.specs.Matches.{found_of};
@@ -16,7 +16,7 @@ use command_parts::number_in;
 use sol_base::{MAX_LANES, MAX_SENDERS, MAX_TRANSACTIONS};
 use std::alloc::Global;
 
-/// The command that the words are.
+/// The command that the arguments are.
 pub fn read_words(alloc: Global, words: &Words) -> Result<Command, WordsFault>
     ensures exact { MatchResult result (λ command. command_in words.now ≡ Some command)
         (λ fault. Explains fault (command_in words.now)) }
@@ -54,7 +54,7 @@ fn are_plain(words: &[&str]) -> bool
     words.iter().all(|word| is_plain(word))
 }
 
-/// Whether clap reads the word as an option or as a value. It takes `-`, `--` and `-x` otherwise.
+/// Whether clap reads the argument as an option or as a value. It takes `-`, `--` and `-x` otherwise.
 fn is_plain(word: &str) -> bool
     ensures { result ≡ is_plain word.now }
 {

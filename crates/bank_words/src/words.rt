@@ -1,4 +1,4 @@
-//! The words that follow the name of a program.
+//! The arguments that follow the name of a program.
 ghost use Rattle.std.specs.Prelude.{◌≡◌, IfOk, IfSome, is_some, map, true};
 ghost use Rattle.std.specs.List.{list_all};
 ghost use Rattle.std.specs.Str.{is_utf8};
@@ -8,7 +8,7 @@ use std::alloc::{AllocError, Global};
 use std::marker::Model;
 use std::str;
 
-/// The words that follow the program's name: texts.
+/// The arguments that follow the program's name: texts.
 #[derive(Drop)]
 pub struct Words {
     texts: Items<Blob>,
@@ -27,7 +27,7 @@ impl Model for Words {
 }
 
 impl Words {
-    /// The words, or None where one of them is not UTF-8.
+    /// The arguments, or None where one of them is not UTF-8.
     pub fn from_items(words: Items<Blob>) -> Option<Words>
         ensures texts { is_some result ≡ list_all is_utf8 words }
         ensures same { IfSome result (λ w. w ≡ words) }
@@ -39,7 +39,7 @@ impl Words {
         }
     }
 
-    /// The words as `clap` takes them.
+    /// The arguments as `clap` takes them.
     pub(crate) fn texts(&self, alloc: Global) -> Result<Vec<&str>, AllocError>
         ensures { IfOk result (λ texts. map (λ t. t.now) texts.items ≡ self.entry.now) }
     {

@@ -1,4 +1,4 @@
-//! Trials of blocks: lanes and senders that run at once, devices that fail, and words. All of it is
+//! Trials of blocks: lanes and senders that run at once, devices that fail, and arguments. All of it is
 //! tests.
 #![tactic(auto)]
 

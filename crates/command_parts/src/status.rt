@@ -7,7 +7,7 @@ use crate::delivery::Undelivered;
 /// The status where two inputs differ, or where what is looked for is not there.
 pub const DIFFERS: u8 = 1;
 
-/// The status where the words are no command.
+/// The status where the arguments are no command.
 pub const WORDS_REFUSED: u8 = 2;
 
 /// The status where an input is refused.

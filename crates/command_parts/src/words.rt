@@ -1,4 +1,4 @@
-//! The words of a command line.
+//! The arguments of a command line.
 ghost use Rattle.std.specs.Prelude.{◌≡◌, IfOk, IsUtf8, drop, map, string_bytes};
 ghost use Rattle.command_parts.specs.declared.words.NoWords.TheVariants.{OutOfMemory as no_memory};
 ghost use Rattle.command_parts.specs.Statuses.{status_without_words};
@@ -10,7 +10,7 @@ use std::io::ErrorKind;
 use std::rt::Env;
 use std::{env, str};
 
-/// Why there are no words.
+/// Why there are no arguments.
 #[derive(Clone, Copy)]
 pub enum NoWords {
     /// One of them is no text.
@@ -19,7 +19,7 @@ pub enum NoWords {
 }
 
 impl NoWords {
-    /// The status that a program without words ends with.
+    /// The status that a program without arguments ends with.
     pub fn status(self) -> u8
         ensures { result ≡ status_without_words self }
     {
@@ -46,7 +46,7 @@ impl From<OutOfMemory> for NoWords {
     }
 }
 
-/// The words without the first, which is the program's name.
+/// The arguments without the first, which is the program's name.
 fn without_name(words: Vec<String>) -> Vec<String>
     ensures { result.items ≡ drop 1 words.items }
 {
@@ -57,7 +57,7 @@ fn without_name(words: Vec<String>) -> Vec<String>
     words
 }
 
-/// The words after the program's name. What a system hands a program no contract can say.
+/// The arguments after the program's name. What a system hands a program no contract can say.
 pub fn words_after_name<R: Env + AllocGlobal>(rt: &R) -> Result<Vec<String>, NoWords> {
     match env::args(rt) {
         Ok(args) => Ok(without_name(args.collect(rt.alloc())?)),
@@ -78,7 +78,7 @@ pub fn lent_words(alloc: Global, texts: &[String]) -> Result<Vec<&str>, OutOfMem
     Ok(words)
 }
 
-/// The path that a word is. It is a text, as each word is that `words_after_name` returns.
+/// The path that an argument is. It is a text, as each argument is that `words_after_name` returns.
 pub fn path_of(word: &Blob) -> &str
     ensures { IsUtf8 word.now → result.now ≡ word.now }
 {

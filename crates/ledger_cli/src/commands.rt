@@ -1,4 +1,4 @@
-//! The answer to the words.
+//! The answer to the arguments.
 ghost use Rattle.ledger_words.specs.Commands.{IsInRange};
 
 use crate::add::{Crew, added};
@@ -15,7 +15,7 @@ use std::rt::{Clock, Files};
 use std::sync::Wait;
 use std::thread::Threads;
 
-/// The answer to words that are no command: what is wrong, and how commands are written.
+/// The answer to arguments that are no command: what is wrong, and how commands are written.
 fn refused_words(
     alloc: Global,
     words: &[&str],
@@ -82,7 +82,7 @@ fn answer_command<R: Files + Input + Clock + AllocGlobal + Clone + Drop, T: Thre
     }
 }
 
-/// The answer to the words.
+/// The answer to the arguments.
 pub fn answer_words<
     R: Files + Input + Clock + AllocGlobal + Clone + Drop,
     T: Threads + Wait + Sync,

@@ -1,4 +1,4 @@
-//! The commands for chains: words and an input in, a folder of files, and an answer out.
+//! The commands for chains: arguments and an input in, a folder of files, and an answer out.
 #![tactic(auto)]
 
 mod add;

@@ -1,4 +1,4 @@
-//! What is wrong with words.
+//! What is wrong with arguments.
 use command_parts::path_of;
 use ledger_words::{ChainWordsFault, CommandName, MAX_EVERY, MAX_JOBS, Parameter, command_named};
 use sol_base::{MAX_LANES, MAX_SENDERS, OutOfMemory};
@@ -45,7 +45,7 @@ fn options_text(alloc: Global, command: CommandName) -> Result<String, OutOfMemo
     Ok(text)
 }
 
-/// Why there is no command of a word.
+/// Why there is no command of an argument.
 fn command_text(alloc: Global, word: Option<&str>) -> Result<String, OutOfMemory> {
     match word {
         None => Ok(format!(in alloc; "a command is to follow `chain`")?),
@@ -55,7 +55,7 @@ fn command_text(alloc: Global, word: Option<&str>) -> Result<String, OutOfMemory
     }
 }
 
-/// An option that the command of a word does not have.
+/// An option that the command of an argument does not have.
 fn unknown_text(alloc: Global, word: &str, option: &str) -> Result<String, OutOfMemory> {
     let options = match command_named(word) {
         Some(command) => options_text(alloc, command)?,
@@ -91,7 +91,7 @@ fn value_text(alloc: Global, parameter: Parameter) -> Result<String, OutOfMemory
     }
 }
 
-/// A parameter that the command of a word needs.
+/// A parameter that the command of an argument needs.
 fn missing_text(alloc: Global, word: &str, parameter: Parameter) -> Result<String, OutOfMemory> {
     let needed = match parameter {
         Parameter::Folder => "a folder, DIR",
@@ -100,7 +100,7 @@ fn missing_text(alloc: Global, word: &str, parameter: Parameter) -> Result<Strin
     Ok(format!(in alloc; "`chain {word}` needs {needed}")?)
 }
 
-/// What is wrong with the words behind the command's word.
+/// What is wrong with the arguments behind the command's name.
 fn behind_text(alloc: Global, word: &str, fault: ChainWordsFault) -> Result<String, OutOfMemory> {
     match fault {
         ChainWordsFault::Command => command_text(alloc, Some(word)),
@@ -116,7 +116,7 @@ fn behind_text(alloc: Global, word: &str, fault: ChainWordsFault) -> Result<Stri
     }
 }
 
-/// What is wrong with the words.
+/// What is wrong with the arguments.
 pub(crate) fn fault_text(
     alloc: Global,
     words: &[&str],

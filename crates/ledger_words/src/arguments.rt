@@ -31,7 +31,7 @@ pub(crate) fn value_of<'a>(parameter: Parameter, arguments: &[Argument<'a>]) -> 
     None
 }
 
-/// What is before the first `=` of a word, and what is behind it.
+/// What is before the first `=` of an argument, and what is behind it.
 fn parted(word: &str) -> (&str, Option<&str>)
     ensures { (result.0.now, option_map (λ v. v.now) result.1) ≡ parted word.now }
 {
@@ -41,7 +41,7 @@ fn parted(word: &str) -> (&str, Option<&str>)
     }
 }
 
-/// Whether the word is an option: it begins with a hyphen.
+/// Whether the argument is an option: it begins with a hyphen.
 fn is_option(word: &str) -> bool
     ensures { result ≡ is_option word.now }
 {
@@ -66,7 +66,7 @@ fn once<'a>(
     }
 }
 
-/// What a word starts: an option of the command, or the folder.
+/// What an argument starts: an option of the command, or the folder.
 fn start_of<'a>(
     alloc: Global,
     options: &[Parameter],
@@ -88,7 +88,7 @@ fn start_of<'a>(
     }
 }
 
-/// What a word is: the value that an option waits for, or what it starts.
+/// What an argument is: the value that an option waits for, or what it starts.
 fn next_of<'a>(
     alloc: Global,
     options: &[Parameter],

@@ -2,7 +2,7 @@
 use crate::parameter::Parameter;
 use sol_base::{Blob, OutOfMemory};
 
-/// A command with what its words say. Folders and files are texts.
+/// A command with what its arguments say. Folders and files are texts.
 #[derive(Drop)]
 pub enum ChainCommand {
     Help,
@@ -48,7 +48,7 @@ pub enum ChainCommand {
 /// Why there is no command.
 #[derive(Drop)]
 pub enum ChainWordsFault {
-    /// The words name no command.
+    /// The arguments name no command.
     Command,
     /// The command has no option of this name.
     Unknown { name: Blob },

@@ -26,7 +26,7 @@ const COMMANDS: [CommandName; 7] = [
 ];
 
 impl CommandName {
-    /// The word that the command is.
+    /// The argument that the command is.
     pub fn word(self) -> &'static str
         ensures { result.now ≡ word_of self }
     {
@@ -71,7 +71,7 @@ pub enum Parameter {
 }
 
 impl Parameter {
-    /// The word that an option is. A folder has none, and is shown as DIR.
+    /// The argument that an option is. A folder has none, and is shown as DIR.
     pub fn name(self) -> &'static str
         ensures { result.now ≡ name_of self }
     {
@@ -102,7 +102,7 @@ fn command_among(names: &[CommandName], word: &str) -> Option<CommandName>
     None
 }
 
-/// The command of this word, among those that have a folder.
+/// The command of this argument, among those that have a folder.
 pub fn command_named(word: &str) -> Option<CommandName>
     ensures { result ≡ command_named word.now }
 {

@@ -1,4 +1,4 @@
-//! From words to a command.
+//! From arguments to a command.
 ghost use Rattle.std.specs.Prelude.{◌≡◌, IfOk, map};
 ghost use Rattle.spec_base.specs.Reading.{Gives};
 ghost use Rattle.ledger_words.specs.Arguments.{setting_of};
@@ -14,8 +14,8 @@ use std::alloc::Global;
 /// How many blocks are between full states where nothing is said.
 const EVERY: u32 = 16;
 
-/// The command that the words are (the project's own commands), or the first thing that is wrong
-/// with them: the command's name, then the words behind it one after the other, then their values,
+/// The command that the arguments are (the project's own commands), or the first thing that is wrong
+/// with them: the command's name, then the arguments behind it one after the other, then their values,
 /// and then what is missing.
 pub fn read_chain_words(alloc: Global, words: &[&str]) -> Result<ChainCommand, ChainWordsFault>
     ensures exact { Gives is_words_memory (λ command. command) result
@@ -30,7 +30,7 @@ pub fn read_chain_words(alloc: Global, words: &[&str]) -> Result<ChainCommand, C
     }
 }
 
-/// The command of a word and the words behind it.
+/// The command of an argument and the arguments behind it.
 fn command_from(
     alloc: Global,
     name: Option<CommandName>,
@@ -48,7 +48,7 @@ fn command_from(
     }
 }
 
-/// The command of a word that is none of a command with a folder.
+/// The command of an argument that is none of a command with a folder.
 fn other_named(word: &str, words: &[&str]) -> Result<ChainCommand, ChainWordsFault>
     ensures exact { result ≡ other_named word.now (map (λ w. w.now) words.now) }
     ensures range { IfOk result IsInRange }
@@ -60,7 +60,7 @@ fn other_named(word: &str, words: &[&str]) -> Result<ChainCommand, ChainWordsFau
     }
 }
 
-/// The command itself where no words follow it.
+/// The command itself where no arguments follow it.
 fn alone(command: ChainCommand, words: &[&str]) -> Result<ChainCommand, ChainWordsFault>
     requires { IsInRange command }
     ensures exact { result ≡ alone command (map (λ w. w.now) words.now) }
@@ -73,7 +73,7 @@ fn alone(command: ChainCommand, words: &[&str]) -> Result<ChainCommand, ChainWor
     }
 }
 
-/// Whether the words behind a command's name ask for help.
+/// Whether the arguments behind a command's name ask for help.
 fn asks_for_help(words: &[&str]) -> bool
     ensures { result ≡ asks_for_help (map (λ w. w.now) words.now) }
 {

@@ -1,4 +1,4 @@
-//! The commands for texts: words, the input and files in, an answer and files out.
+//! The commands for texts: arguments, the input and files in, an answer and files out.
 #![tactic(auto)]
 
 mod build;

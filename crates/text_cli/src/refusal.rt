@@ -1,9 +1,9 @@
-//! Words that are no command: which of them is wrong, and how the command is written.
+//! Arguments that are no command: which of them is wrong, and how the command is written.
 use command_parts::{Answer, WORDS_REFUSED};
 use sol_base::{Blob, OutOfMemory};
 use std::alloc::Global;
 
-/// How the words of a command are written. None for a word that names no command.
+/// How the arguments of a command are written. None for an argument that names no command.
 fn words_of(command: &str) -> Option<&'static str> {
     match command {
         "json" => Some("json FORM [--pretty|--shown]"),
@@ -18,14 +18,14 @@ fn words_of(command: &str) -> Option<&'static str> {
     }
 }
 
-/// What is wrong with a word, as the text before it and the one behind it.
+/// What is wrong with an argument, as the text before it and the one behind it.
 #[derive(Clone, Copy)]
 struct Complaint<'a> {
     word: &'a str,
     text: &'static str,
 }
 
-/// A complaint that is about no word.
+/// A complaint that is about no argument.
 fn about_none<'a>(text: &'static str) -> Complaint<'a> {
     Complaint { word: "", text }
 }
@@ -48,7 +48,7 @@ fn is_look(word: &str) -> bool {
     }
 }
 
-/// What is wrong with a word of `json` or `bytes`, by itself.
+/// What is wrong with an argument of `json` or `bytes`, by itself.
 fn about_form<'a>(word: &'a str, has_looks: bool) -> Option<Complaint<'a>> {
     let text = if is_form(word) || has_looks && is_look(word) {
         return None;
@@ -62,7 +62,7 @@ fn about_form<'a>(word: &'a str, has_looks: bool) -> Option<Complaint<'a>> {
     Some(Complaint { word, text })
 }
 
-/// What is wrong with the words of `json` or `bytes`.
+/// What is wrong with the arguments of `json` or `bytes`.
 fn about_forms<'a>(words: &[&'a str], has_looks: bool) -> Complaint<'a> {
     for word in words {
         if let Some(complaint) = about_form(word, has_looks) {
@@ -75,7 +75,7 @@ fn about_forms<'a>(words: &[&'a str], has_looks: bool) -> Complaint<'a> {
     about_none("FORM is missing: snapshot, batch, record or image")
 }
 
-/// What is wrong with the words of a command with one option, which names a file.
+/// What is wrong with the arguments of a command with one option, which names a file.
 fn about_option<'a>(words: &[&'a str], option: &str, text: &'static str) -> Complaint<'a> {
     match words {
         [name, ..] if *name != option => Complaint { word: name, text },
@@ -96,7 +96,7 @@ fn about_file<'a>(file: &'a str) -> Complaint<'a> {
     }
 }
 
-/// What is wrong with the words of a command with two files.
+/// What is wrong with the arguments of a command with two files.
 fn about_files<'a>(words: &[&'a str]) -> Complaint<'a> {
     match words {
         [] | [_] => about_none("two files are wanted"),
@@ -114,7 +114,7 @@ fn about_files<'a>(words: &[&'a str]) -> Complaint<'a> {
     }
 }
 
-/// What is wrong with the words of `view`.
+/// What is wrong with the arguments of `view`.
 fn about_sought<'a>(words: &[&'a str]) -> Complaint<'a> {
     match words {
         [] => about_none("KEY or SIGNATURE is missing"),
@@ -129,7 +129,7 @@ fn about_sought<'a>(words: &[&'a str]) -> Complaint<'a> {
     }
 }
 
-/// What is wrong with the words behind a command.
+/// What is wrong with the arguments behind a command.
 fn about_words<'a>(command: &'a str, words: &[&'a str]) -> Complaint<'a> {
     match command {
         "json" => about_forms(words, true),
@@ -154,7 +154,7 @@ fn add(out: &mut Blob, text: &str) -> Result<(), OutOfMemory> {
     out.append(text.as_bytes())
 }
 
-/// Adds the complaint behind the word that it is about.
+/// Adds the complaint behind the argument that it is about.
 fn add_complaint(out: &mut Blob, about: Complaint<'_>) -> Result<(), OutOfMemory> {
     if !about.word.is_empty() {
         add(out, "`")?;
@@ -186,7 +186,7 @@ fn lines(alloc: Global, command: &str, about: Complaint<'_>) -> Result<Blob, Out
     Ok(out)
 }
 
-/// The answer to words that are no command.
+/// The answer to arguments that are no command.
 pub(crate) fn refused_words(alloc: Global, words: &[&str]) -> Result<Answer, OutOfMemory> {
     let (command, about) = match words {
         [] => (

@@ -1,4 +1,4 @@
-//! From words to the answer.
+//! From arguments to the answer.
 use crate::commands::answer_command;
 use crate::refusal::refused_words;
 use command_parts::{Answer, lent_words, written};
@@ -7,7 +7,7 @@ use std::fs::File;
 use std::rt::Files;
 use text_words::{TextCommand, TextWordsFault, USAGE, VERSION, read_text_words};
 
-/// The answer to the words.
+/// The answer to the arguments.
 pub fn answer_of<R: Files<File = File> + Input + AllocGlobal>(
     rt: &R,
     texts: &[String],

@@ -30,7 +30,7 @@ pub enum Sought {
     Transaction([u8; 64]),
 }
 
-/// A command with what its words say. Files are texts.
+/// A command with what its arguments say. Files are texts.
 #[derive(Drop)]
 pub enum TextCommand {
     Help,
@@ -53,7 +53,7 @@ pub enum TextCommand {
 /// Why there is no command.
 #[derive(Clone, Copy, PartialEq, Eq)]
 pub enum TextWordsFault {
-    /// The words are no command.
+    /// The arguments are no command.
     Refused,
     OutOfMemory,
 }

@@ -1,4 +1,4 @@
-//! Words that name files.
+//! Arguments that name files.
 ghost use Rattle.std.specs.Prelude.{◌≡◌, IfOk, map};
 ghost use Rattle.text_words.specs.Files.{is_file, file_in, two_files_in, option_in};
 
@@ -12,7 +12,7 @@ pub(crate) struct TwoFiles {
     pub(crate) second: Blob,
 }
 
-/// Whether the word names a file: it is not empty, and begins with no hyphen.
+/// Whether the argument names a file: it is not empty, and begins with no hyphen.
 fn is_file(word: &str) -> bool
     ensures { result ≡ is_file word.now }
 {
@@ -32,7 +32,7 @@ fn file_in(alloc: Global, word: &str) -> Result<Option<Blob>, OutOfMemory>
     Ok(Some(Blob::from_slice(alloc, word.as_bytes())?))
 }
 
-/// The two files that the words are.
+/// The two files that the arguments are.
 pub(crate) fn two_files_in(alloc: Global, words: &[&str]) -> Result<Option<TwoFiles>, OutOfMemory>
     ensures { IfOk result (λ files. files ≡ two_files_in (map (λ w. w.now) words.now)) }
 {
@@ -48,7 +48,7 @@ pub(crate) fn two_files_in(alloc: Global, words: &[&str]) -> Result<Option<TwoFi
     Ok(Some(TwoFiles { first, second }))
 }
 
-/// The file of an option that may be left out. None where the words are anything else.
+/// The file of an option that may be left out. None where the arguments are anything else.
 pub(crate) fn option_in(
     alloc: Global,
     option: &str,

@@ -1,4 +1,4 @@
-//! The words of the command line for texts, and the command that they are.
+//! The arguments of the command line for texts, and the command that they are.
 #![tactic(auto)]
 
 mod command;

@@ -1,4 +1,4 @@
-//! From words to a command.
+//! From arguments to a command.
 ghost use Rattle.std.specs.Prelude.{◌≡◌, IfOk, MatchResult, Some, map};
 ghost use Rattle.text_words.specs.Commands.{form_in, look_in, json_as, two_in, second_in, json_after, json_in, bytes_in, build_in, split_in, sought_in, view_in, diff_in, shape_in, alone, other_named, file_named, command_named, command_in};
 ghost use Rattle.text_words.specs.Reading.{Explains};
@@ -9,7 +9,7 @@ use hex::FromHex;
 use sol_base::{Key, OutOfMemory};
 use std::alloc::Global;
 
-/// The command that the words are (the project's own commands).
+/// The command that the arguments are (the project's own commands).
 pub fn read_text_words(alloc: Global, words: &[&str]) -> Result<TextCommand, TextWordsFault>
     ensures { let texts = map (λ w. w.now) words.now in
         MatchResult result (λ command. command_in texts ≡ Some command)
@@ -90,7 +90,7 @@ fn form_in(word: &str) -> Option<Form>
     }
 }
 
-/// The command itself where no words follow it.
+/// The command itself where no arguments follow it.
 fn alone(command: TextCommand, words: &[&str]) -> Option<TextCommand>
     ensures { result ≡ alone command (map (λ w. w.now) words.now) }
 {

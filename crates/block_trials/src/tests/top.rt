@@ -93,7 +93,7 @@ fn answer<G: Gate, H: SendGate, R: Threads + Wait + Sync>(
     );
 }
 
-/// What is answered to a line of words and an input, where these calls fail.
+/// What is answered to a line of arguments and an input, where these calls fail.
 fn ask<G: Gate, H: SendGate, R: Threads + Wait + Sync>(
     rt: &R,
     alloc: Global,

@@ -1,10 +1,10 @@
-//! Words in form in both spellings and any order, and words that are refused.
+//! Arguments in form in both spellings and any order, and arguments that are refused.
 use bank_words::{Command, Words, WordsFault, read_words};
 use sol_base::{Blob, Items};
 use std::alloc::Global;
 use std::test::Fail;
 
-/// The words of a line, parted by single spaces.
+/// The arguments of a line, parted by single spaces.
 pub fn words_of(alloc: Global, line: &str) -> Result<Words, Fail> {
     let mut words = Items::new(alloc);
     for word in line.split(' ') {
@@ -13,7 +13,7 @@ pub fn words_of(alloc: Global, line: &str) -> Result<Words, Fail> {
     Ok(Words::from_items(words).ok_or("a word is no text")?)
 }
 
-/// Words in form.
+/// Arguments in form.
 const FORMS: [(&str, Command); 11] = [
     (
         "produce",
@@ -85,7 +85,7 @@ fn words_in_form_are_read(rt: HostRuntime) -> Result<(), Fail> {
     Ok(())
 }
 
-/// Words that are not in form.
+/// Arguments that are not in form.
 const OTHERS: [&str; 39] = [
     "",
     "help",
@@ -128,7 +128,7 @@ const OTHERS: [&str; 39] = [
     "list --lanes 1",
 ];
 
-/// Whether the words are refused.
+/// Whether the arguments are refused.
 fn are_refused(alloc: Global, words: &Words) -> bool {
     read_words(alloc, words) == Err(WordsFault::Refused)
 }
