@@ -1,4 +1,5 @@
 //! What a frame's region has of an account.
+ghost use Rattle.std.specs.Prelude.{◌≤◌};
 
 use crate::notes::Began;
 use data_parts::Parts;

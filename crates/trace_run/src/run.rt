@@ -36,7 +36,7 @@ pub enum Traced {
 fn position_of(order: &[Candidate], place: u32) -> Option<u32> {
     for (position, one) in order.iter().enumerate() {
         if one.chosen().position == place {
-            return Some(position as u32);
+            return u32::try_from(position).ok();
         }
     }
     None
@@ -47,7 +47,7 @@ fn signed_by(order: &[Candidate], signature: &[u8; 64]) -> Option<u32> {
     for (position, one) in order.iter().enumerate() {
         if let Some(first) = one.chosen().tx.signatures.as_slice().first() {
             if first.0 == *signature {
-                return Some(position as u32);
+                return u32::try_from(position).ok();
             }
         }
     }
