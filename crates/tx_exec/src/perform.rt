@@ -102,7 +102,11 @@ fn perform_with<'a, W: Watch>(
 }
 
 /// Performs a transaction, once what is fixed over it is at hand.
-fn perform(transaction: &Transaction<'_>, values: &[Arc<Account>]) -> Result<Effects, OutOfMemory>
+fn perform<W: Watch>(
+    transaction: &Transaction<'_>,
+    values: &[Arc<Account>],
+    watch: &mut W,
+) -> Result<Effects, OutOfMemory>
     requires height { (1 ≤ transaction.now.context.setting.height)
         × (transaction.now.context.setting.height ≤ max_stack_height) }
     requires chosen { IsChosen transaction.now.chosen.now }
