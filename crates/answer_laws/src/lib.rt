@@ -5,6 +5,7 @@
 mod equal;
 mod matching;
 mod reading;
+mod replays;
 mod stopping;
 
 pub use equal::equal_snapshots_give_equal_blocks;
@@ -13,4 +14,5 @@ pub use reading::{
     batches_are_read_as_they_are_spelled, records_are_read_as_they_are_spelled,
     snapshots_are_read_as_they_are_spelled,
 };
+pub use replays::{matches_are_blocks, produced_records_match};
 pub use stopping::verified_texts_stop;
