@@ -21,7 +21,7 @@ use Rattle.entry_laws.specs.Owners.{GoodEntriesRunInStretches, accounts_of, stre
 use Rattle.entry_laws.specs.Stretches.{KeepsWhatIsNotItsOwn}
 use Rattle.entry_laws.proofs.EntryLaws.{IsOfEntry, all_at, of_entry}
 use Rattle.entry_laws.proofs.Steps.{comes_to, under_its_keys, under_other_keys}
-use Rattle.entry_laws.proofs.StretchLaws.{transaction_stretches}
+use Rattle.entry_laws.proofs.StretchLaws.{resting_keeps, transaction_stretches}
 
 pub good_run_in_stretches : GoodEntriesRunInStretches
 good_run_in_stretches s batch runs i entry tx name e good =
@@ -43,6 +43,7 @@ good_run_in_stretches s batch runs i entry tx name e good =
       kept = All-from_recursion KeepsWhatIsNotItsOwn (stretches_at s batch i t) both.0;
       last = (transaction (block_of told) t given).values;
       chain = both.1 status;
+      resting = resting_keeps t given (transaction (block_of told) t given).values (stretches_at s batch i t) (both.1 status) both.0;
       ends = under_its_keys told all s.accounts runs.0.state i of.below t of.chosen fits;
       others = under_other_keys told all s.accounts runs.0.state i of.below t of.chosen fits;
     }

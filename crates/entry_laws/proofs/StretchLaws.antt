@@ -1,13 +1,13 @@
 -- An instruction, and a transaction, is a chain of stretches.
-use Rattle.std.proofs.Common.{◌≡◌, ◌==◌, ◌∷◌, [], ◌++◌, ℕ, zero, suc, Bool, true, false, cond, List, length, All, Option, Some, None, Result, Ok, Err, refl, sym, ap, subst, ◌∙◌}
-use Rattle.std.specs.Prelude.{◌+◌, ◌-◌, IfOk, MatchResult, nat_le, nat_lt}
+use Rattle.std.proofs.Common.{◌≡◌, ◌==◌, ◌<◌, ◌∷◌, [], ◌++◌, ℕ, zero, suc, Bool, true, false, cond, List, length, All, Option, Some, None, Result, Ok, Err, refl, sym, ap, subst, ◌∙◌, ◌≤◌, ◌||◌, arith, get_or}
+use Rattle.std.specs.Prelude.{◌+◌, ◌-◌, IfOk, MatchResult, nat_le, nat_lt, slice_get}
 use Rattle.std.specs.List.{AllByRecursion}
-use Rattle.std.proofs.lemmas.List.Elements.{All-head, All-tail}
+use Rattle.std.proofs.lemmas.List.Elements.{All-head, All-tail, recursion_from_All}
 use Rattle.sol_base.specs.declared.key.Key.{Key}
 use Rattle.sol_base.specs.declared.account.Account.{Account}
 use Rattle.sol_base.specs.declared.lock.Meta.{Meta}
 use Rattle.sol_base.specs.Metas.{AreInRange, is_listed_writable}
-use Rattle.account_rules.specs.KeptAccounts.{AreForeignKept, AreKeptBy}
+use Rattle.account_rules.specs.KeptAccounts.{AreForeignKept, AreKeptBy, IsForeignKept}
 use Rattle.message_codec.specs.declared.message.Instruction.{Instruction}
 use Rattle.message_codec.specs.Roles.{all_keys}
 use Rattle.tx_report.specs.LogLines.{Log, no_lines}
@@ -50,10 +50,14 @@ use Rattle.invoke_engine.proofs.Kept.{calls_by_rules, first_stretch, frame_keeps
 use Rattle.tx_exec.specs.declared.executing.Executed.{Executed}
 use Rattle.tx_exec.specs.declared.failure.Failure.{Failure}
 use Rattle.tx_exec.specs.Executing.{InBlock, call_of, executed, fixed_for, following, locks, performed}
-use Rattle.tx_exec.specs.Payer.{charged, dropped, total_fee}
+use Rattle.tx_exec.specs.Payer.{charged, dropped, total_fee, less}
 use Rattle.tx_exec.specs.Transaction.{by_drop, data_in, failing, finished, finishing, paid, ran, rent_broken, transaction}
 use Rattle.tx_exec.proofs.Keeping.{IsThere, all_there, metas_there}
-use Rattle.entry_laws.specs.Stretches.{IsChain, KeepsWhatIsNotItsOwn, Stretch, ends_in, stretch, stretches_after, stretches_in, stretches_next, stretches_of, stretches_of_all, stretches_of_instruction, stretches_of_turn, stretches_within}
+use Rattle.sol_base.specs.Keys.{same_key}
+use Rattle.account_rules.proofs.Foreign.{IsForeignKept-same}
+use Rattle.tx_exec.specs.Programs.{KeepsAllButTheFee}
+use Rattle.std.proofs.lemmas.Option.{same_Some, slice_get-get_or, slice_get_within}
+use Rattle.entry_laws.specs.Stretches.{ItsOwnerRests, IsChain, KeepsWhatIsNotItsOwn, Stretch, ends_in, stretch, stretches_after, stretches_in, stretches_next, stretches_of, stretches_of_all, stretches_of_instruction, stretches_of_turn, stretches_within}
 
 -- ---- how many accounts a turn leaves
 abbrev TurnCounts : ℕ → Running → Turn → Type 0
@@ -119,7 +123,7 @@ all_both (x ∷ xs) ys one two = (one.0, all_both xs ys one.1 two)
 
 chain_both : (a b c : List Account) (xs ys : List Stretch) → IsChain a xs b → IsChain b ys c → IsChain a (xs ++ ys) c
 chain_both a b c [] ys one two = subst (λ (z : List Account). IsChain z ys c) (sym one) two
-chain_both a b c (x ∷ xs) ys one two = (one.0, chain_both x.left b c xs ys one.1 two)
+chain_both a b c (x ∷ xs) ys one two = (one.0, one.1, chain_both x.left b c xs ys one.2 two)
 
 fine_both : {E : Type 0} (a b : List Account) (xs ys : List Stretch) (result : Result (List Account) E) → AllByRecursion KeepsWhatIsNotItsOwn xs → IsChain a xs b → length b ≡ length a
     → IsFine b ys result → IsFine a (xs ++ ys) result
@@ -129,7 +133,7 @@ fine_both a b xs ys (Err error) all chain count fine = (all_both xs ys all fine.
 -- the last stretch
 ended : (program : Key) (before : List Account) (result : Result (List Account) InstructionError) → IfOk result (AreForeignKept (program ∷ []) before)
     → IfOk result (λ after. length after ≡ length before) → IsFine before (ends_in program before result) result
-ended program before (Ok after) kept count = ((kept, tt), ((refl, refl), count))
+ended program before (Ok after) kept count = ((kept, tt), ((refl, count, refl), count))
 ended program before (Err error) kept count = (tt, tt)
 
 -- ---- frames
@@ -206,7 +210,7 @@ module _ (n : ℕ) (outer : List Key) (goo : Goes) (parts : Parts) (all : AllFin
       let there : AreListed n f.metas h.before = record { count = ended.1.1 ∙ count ∙ listed.count; range = listed.range } in
       let rest : IsFine h.before (parts outer h d) (goo outer h d).result = runs_fine n outer goo parts f.metas h.before h d all there (back.1 ∙ metas) refl in
       fine_both f.before h.before (stretch f.program f.before given ∷ inner) (parts outer h d) (goo outer h d).result
-      (kept, ended.0) (refl, ended.1.0) (ended.1.1 ∙ count) rest
+      (kept, ended.0) (refl, count, ended.1.0) (ended.1.1 ∙ count) rest
   resumed given e (Done last) is fails kept count its = ((kept, all_both inner (ends_in f.program f.before last.result) its.0 (none last.result fails)), failed last.result fails)
     where
       none : (result : Result (List Account) InstructionError) → IfOk result (λ _. ⊥) → AllByRecursion KeepsWhatIsNotItsOwn (ends_in f.program f.before result)
@@ -314,3 +318,43 @@ transaction_stretches block t values is count = (fine.0, by_cause (dropped value
         → IsChain (charged values (total_fee t)) (stretches_of block t values) (by_drop (fixed_for block t) t values o).values
     by_cause (Some cause) good = absurd (cc)
     by_cause None good = paid_chain (fixed_for block t) t (charged values (total_fee t)) (stretches_of block t values) fine good
+
+-- ---- one account along a chain
+along_chain : (place : ℕ) (first : List Account) (xs : List Stretch) (last : List Account) → IsChain first xs last → AllByRecursion KeepsWhatIsNotItsOwn xs
+    → AllByRecursion (λ x. (was : Account) → slice_get x.before place ≡ Some was → same_key was.owner x.program ≡ false) xs
+    → (was left : Account) → slice_get first place ≡ Some was → slice_get last place ≡ Some left → IsForeignKept was left
+along_chain place first [] last chain kept rests was left there here =
+    IsForeignKept-same was left (same_Some was left (sym there ∙ ap (λ (accounts : List Account). slice_get accounts place) chain ∙ here))
+along_chain place first (x ∷ xs) last chain kept rests was left there here =
+    let begins : slice_get x.before place ≡ Some was = ap (λ (accounts : List Account). slice_get accounts place) chain.0 ∙ there in
+    let within : place < length x.before = slice_get_within x.before place was begins in
+    let count = chain.1 in
+    let mid : Account = get_or x.left place was in
+    let between : slice_get x.left place ≡ Some mid = slice_get-get_or x.left place was (omega (arith, within, count)) in
+    let one : IsForeignKept was mid = kept.0 place was mid begins between (ap (λ (b : Bool). b || false) (rests.0 was begins)) in
+    let two : IsForeignKept mid left = along_chain place x.left xs last chain.2 kept.1 rests.1 mid left between here in
+    let least = one.lamports in
+    let most = two.lamports in
+    record { owner = two.owner ∙ one.owner; bytes = two.bytes ∙ one.bytes; lamports = omega (arith, least, most) }
+
+-- what is kept of an account once the fee is taken
+but_the_fee : (t : Chosen) (values : List Account) (place : ℕ) (was left : Account) → ((now : Account) → slice_get (charged values (total_fee t)) place ≡ Some now → IsForeignKept now left)
+    → slice_get values place ≡ Some was → KeepsAllButTheFee t place was left
+but_the_fee t [] place was left kept there = absurd (cc)
+but_the_fee t (payer ∷ others) zero was left kept there =
+    let is : IsForeignKept (less payer (total_fee t)) left = kept (less payer (total_fee t)) refl in
+    let least : payer.lamports - total_fee t ≤ left.lamports = is.lamports in
+    subst (λ (a : Account). KeepsAllButTheFee t zero a left) (same_Some payer was there) (record { owner = is.owner; bytes = is.bytes; lamports = omega (arith, least) })
+but_the_fee t (payer ∷ others) (suc place) was left kept there =
+    let is : IsForeignKept was left = kept was there in
+    let least : was.lamports ≤ left.lamports = is.lamports in
+    record { owner = is.owner; bytes = is.bytes; lamports = omega (arith, least) }
+
+-- an account whose owner rests keeps all but the fee
+pub resting_keeps : (t : Chosen) (values last : List Account) (parts : List Stretch) → IsChain (charged values (total_fee t)) parts last → AllByRecursion KeepsWhatIsNotItsOwn parts
+    → (place : ℕ) (was left : Account) → slice_get values place ≡ Some was → slice_get last place ≡ Some left → ItsOwnerRests place parts → KeepsAllButTheFee t place was left
+resting_keeps t values last parts chain kept place was left there here rests =
+    but_the_fee t values place was left
+    (λ now begins. along_chain place (charged values (total_fee t)) parts last chain kept
+    (recursion_from_All (λ (x : Stretch). (was : Account) → slice_get x.before place ≡ Some was → same_key was.owner x.program ≡ false) parts rests) now left begins here)
+    there

@@ -1,8 +1,9 @@
 -- The stretches of a run: a program runs from its start, or from the return of a program that it
 -- called, to its next call or to its end.
-use Rattle.std.specs.Prelude.{◌≡◌, ℕ, zero, suc, nat_le, List, [], ◌∷◌, ◌++◌, Result, Ok, Err, if◌then◌else◌}
+use Rattle.std.specs.Prelude.{◌≡◌, ℕ, zero, suc, nat_le, List, [], ◌∷◌, ◌++◌, Result, Ok, Err, if◌then◌else◌, length, slice_get, Some, false, All}
 use Rattle.sol_base.specs.declared.key.Key.{Key}
 use Rattle.sol_base.specs.declared.account.Account.{Account}
+use Rattle.sol_base.specs.Keys.{same_key}
 use Rattle.account_rules.specs.KeptAccounts.{AreForeignKept}
 use Rattle.message_codec.specs.declared.message.Instruction.{Instruction}
 use Rattle.tx_report.specs.LogLines.{Log, no_lines}
@@ -28,10 +29,17 @@ stretch program before left = record { program = program; before = before; left 
 abbrev pub KeepsWhatIsNotItsOwn : Stretch → Type 0
 KeepsWhatIsNotItsOwn x = AreForeignKept (x.program ∷ []) x.before x.left
 
--- each begins with what the one before left, from these accounts to those
+-- each begins with what the one before left, and leaves as many, from these accounts to those
 abbrev pub IsChain : List Account → List Stretch → List Account → Type 0
 IsChain first [] last = first ≡ last
-IsChain first (x ∷ xs) last = (x.before ≡ first) × IsChain x.left xs last
+IsChain first (x ∷ xs) last =
+    (x.before ≡ first) × (length x.left ≡ length x.before) × IsChain x.left xs last
+
+-- the account at this place is owned by the program of no stretch while that runs
+abbrev pub ItsOwnerRests : ℕ → List Stretch → Type 0
+ItsOwnerRests place parts =
+    All (λ x. (was : Account) → slice_get x.before place ≡ Some was
+    → same_key was.owner x.program ≡ false) parts
 
 -- ---- of an instruction
 -- the last stretch of a frame that ends well
