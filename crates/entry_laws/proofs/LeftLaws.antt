@@ -50,7 +50,7 @@ use Rattle.entry_laws.specs.Left.{EndsPayAndActivate, paid_to, DroppedEntriesLea
 use Rattle.entry_laws.proofs.TotalLaws.{shares_by}
 use Rattle.entry_laws.proofs.EntryLaws.{IsOfEntry, all_at, of_entry}
 use Rattle.tx_exec.proofs.Works.{there}
-use Rattle.entry_laws.proofs.Steps.{comes_to, is_state, it_keeps, settled_is, under_its_keys, under_other_keys, under_unwritten_keys}
+use Rattle.entry_laws.proofs.Steps.{comes_to, is_state, keeps as it_keeps, settled_is, under_its_keys, under_other_keys, under_unwritten_keys}
 
 -- ---- what a transaction pays
 abbrev paid_by : Outcome → ℕ
@@ -103,8 +103,7 @@ each_of f g (k ∷ ks) same key has = by_case (same_key key k) refl has (each_of
 
 -- of a transaction that only pays
 paying : (f g : Key → Account) (payer : Key) (rest : List Key) (fee : ℕ) → ((key : Key) → IsSettled (f key))
-    → map g (payer ∷ rest) ≡ map settled (charged (map f (payer ∷ rest)) fee)
-    → ((key : Key) → has_key key (payer ∷ rest) ≡ false → g key ≡ f key)
+    → map g (payer ∷ rest) ≡ map settled (charged (map f (payer ∷ rest)) fee) → ((key : Key) → has_key key (payer ∷ rest) ≡ false → g key ≡ f key)
     → (key : Key) → g key ≡ cond (same_key key payer) (settled (less (f payer) fee)) (f key)
 paying f g payer rest fee fine same others key = by_case (same_key key payer) refl (others key)
   where
@@ -281,8 +280,7 @@ pub ends_pay_and_activate : EndsPayAndActivate
 unfolding block_result closed serial_run share_fees
 ends_pay_and_activate s batch runs key =
     let r = serial_run s batch.slot (order_of s batch) in
-    get-activate_all (share_fees r.accounts batch.collector r.outcomes).accounts key
-    ∙ ap (option_map active)
+    get-activate_all (share_fees r.accounts batch.collector r.outcomes).accounts key ∙ ap (option_map active)
     (shared_at r.accounts batch.collector (split_of (base_fees r.outcomes) (priority_fees r.outcomes)) key (state s batch runs (length (order_of s batch)) (omega arith)))
 
 stays_after : (s : Snapshot) (batch : Batch) → CanRun s batch.wires → (key : Key) → key ≢ batch.collector

@@ -55,8 +55,7 @@ none_written f ls vs key none =
     cond-false (has_key key (written_keys ls)) (beside key (written_keys ls) (map settled (lent_for_writing ls vs))) (f key) not
 
 first_shows : (f : Key → Account) (l : Lock) (v : Account) (ls : List Lock) (vs : List Account) (b : Bool)
-    → l.write ≡ b → has_key l.key (lock_keys ls) ≡ false → (l.write ≡ false → settled v ≡ f l.key)
-    → shows_by f l v ls vs l.key b ≡ settled v
+    → l.write ≡ b → has_key l.key (lock_keys ls) ≡ false → (l.write ≡ false → settled v ≡ f l.key) → shows_by f l v ls vs l.key b ≡ settled v
 first_shows f l v ls vs true e apart kept =
     ap (λ t. cond (t || has_key l.key (written_keys ls))
     (cond t (settled v) (beside l.key (written_keys ls) (map settled (lent_for_writing ls vs)))) (f l.key)) (same_key-self l.key)
@@ -92,8 +91,7 @@ settled_is a fine = by_case (a.lamports == 0) refl
     by_case false e = refl
 
 are_kept : (f : Key → Account) (ls : List Lock) (vs : List Account) → ((key : Key) → IsSettled (f key))
-    → ((place : ℕ) (l : Lock) → slice_get ls place ≡ Some l → l.write ≡ false → slice_get vs place ≡ slice_get (map f (lock_keys ls)) place)
-    → AreKept f ls vs
+    → ((place : ℕ) (l : Lock) → slice_get ls place ≡ Some l → l.write ≡ false → slice_get vs place ≡ slice_get (map f (lock_keys ls)) place) → AreKept f ls vs
 are_kept f [] vs fine same = tt
 are_kept f (l ∷ ls) [] fine same = tt
 are_kept f (l ∷ ls) (v ∷ vs) fine same =
@@ -141,7 +139,8 @@ module _ (admitted : AdmittedBlock) (all : All IsChosen admitted.chosen) (start 
     keys_are : lock_keys (locks t) ≡ all_keys t.tx.message t.loaded
     keys_are = keys_of_locks t.tx.message t.loaded
 
-    keeps : Keeps t given (transaction (block_of admitted) t given)
+    -- what it keeps of its accounts
+    pub keeps : Keeps t given (transaction (block_of admitted) t given)
     keeps = transaction_keeps (block_of admitted) t given fits (length-map (all_keys t.tx.message t.loaded) (now n))
 
     before_fits : (key : Key) → IsSettled (now n key)
@@ -149,14 +148,12 @@ module _ (admitted : AdmittedBlock) (all : All IsChosen admitted.chosen) (start 
 
     stepped : (key : Key) → at (serial_state (job_of admitted) start (suc n)) key ≡ shows (now n) (locks t) left key
     stepped key =
-        at_next n l key
-        ∙ ap (λ (o : Option Chosen). cond (has_key key (written_keys (locks_at o)))
+        at_next n l key ∙ ap (λ (o : Option Chosen). cond (has_key key (written_keys (locks_at o)))
         (beside key (written_keys (locks_at o))
         (effects_at (block_of admitted) o (map (now n) (lock_keys (locks_at o)))).written) (now n key)) there
         ∙ ap (λ (ls : List Lock). cond (has_key key (written_keys ls))
         (beside key (written_keys ls) (effects_at (block_of admitted) (Some t) (map (now n) (lock_keys ls))).written)
-        (now n key)) fits.locked
-        ∙ ap (λ (ks : List Key). cond (has_key key (written_keys (locks t)))
+        (now n key)) fits.locked ∙ ap (λ (ks : List Key). cond (has_key key (written_keys (locks t)))
         (beside key (written_keys (locks t)) (effects_at (block_of admitted) (Some t) (map (now n) ks)).written)
         (now n key)) keys_are
 
@@ -168,8 +165,7 @@ module _ (admitted : AdmittedBlock) (all : All IsChosen admitted.chosen) (start 
         let given_count = length-map (all_keys t.tx.message t.loaded) (now n) in
         let lock_each = lock_count t.tx.message t.loaded in
         map-same (at (serial_state (job_of admitted) start (suc n))) (shows (now n) (locks t) left) (all_keys t.tx.message t.loaded) (λ key has. stepped key)
-        ∙ ap (map (shows (now n) (locks t) left)) (sym keys_are)
-        ∙ all_show (now n) (locks t) left apart (omega (arith, some, given_count, lock_each))
+        ∙ ap (map (shows (now n) (locks t) left)) (sym keys_are) ∙ all_show (now n) (locks t) left apart (omega (arith, some, given_count, lock_each))
         (are_kept (now n) (locks t) left before_fits
         (λ place lock there read. keeps.read place (lock_writes t place lock there ∙ read) ∙ ap (λ (ks : List Key). slice_get (map (now n) ks) place) (sym keys_are)))
 
@@ -182,10 +178,6 @@ module _ (admitted : AdmittedBlock) (all : All IsChosen admitted.chosen) (start 
     under_unwritten_keys key none =
         stepped key ∙ cond-false (has_key key (written_keys (locks t))) (beside key (written_keys (locks t)) (map settled (lent_for_writing (locks t) left))) (now n key)
         (written_by (locks t) key ∙ ap (λ (ls : List Lock). locks_write ls key) (sym fits.locked) ∙ none)
-
-    -- what it keeps of its accounts
-    pub it_keeps : Keeps t given (transaction (block_of admitted) t given)
-    it_keeps = keeps
 
     -- and its outcome is that of its position
     pub comes_to : result (job_of admitted) (at start) n ≡ (transaction (block_of admitted) t given).outcome

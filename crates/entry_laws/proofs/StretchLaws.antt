@@ -66,8 +66,7 @@ TurnCounts n f (Calls g d callee units) = (length callee.accounts ≡ length f.b
 TurnCounts n f (Leaves e) = IfOk e.result (λ after. length after ≡ length f.before)
 
 callee_counts : (most : ℕ) (keys outer : List Key) (f : Running) (c : Carried) (units : ℕ) (callee : Callee)
-    → AreListed (length keys) f.metas f.before → ComesFrom most keys outer f c.trace (requested f).answer callee
-    → TurnCounts (length keys) f (Calls f c callee units)
+    → AreListed (length keys) f.metas f.before → ComesFrom most keys outer f c.trace (requested f).answer callee → TurnCounts (length keys) f (Calls f c callee units)
 callee_counts most keys outer f c units callee listed from =
     let within : IsWithin from.request keys f.metas from.granted = rights-within from.request keys f.metas from.granted from.rights in (
       subst (λ (x : Callee). length x.accounts ≡ length f.before) from.is (settled_keeps (length keys) f from.accounts listed from.left).count,

@@ -146,8 +146,7 @@ key_within limits order units key (l ∷ ls) none writes =
         → list_any (λ (lock : Lock). lock.write && nat_lt limits.key_units (units_on lock.key order + units)) ls ≡ r
         → ((w && p) || r) ≡ false → ((w && b) || locks_write ls key) ≡ true
         → (list_any (λ (lock : Lock). lock.write && nat_lt limits.key_units (units_on lock.key order + units)) ls ≡ false → locks_write ls key ≡ true
-        → units_on key order + units ≤ limits.key_units)
-        → units_on key order + units ≤ limits.key_units
+        → units_on key order + units ≤ limits.key_units) → units_on key order + units ≤ limits.key_units
     go true true same true passed r others none writes rest = absurd (cc)
     go true true same false passed r others none writes rest =
         subst (λ (k : Key). units_on k order + units ≤ limits.key_units) (same_key-true l.key key same) (not_above limits.key_units (units_on l.key order + units) passed)
