@@ -493,6 +493,7 @@ module _ (start : Start) (wires : List (List ℕ)) where
       record {
         each = All-from_recursion (IsOf wires) after.order (all_run (IsOf wires) start.limits found (in_place (IsOf wires) found same each_of));
         apart = kept_run (λ line. IsDistinct same_hash (map (λ one. one.name) line)) names_dropped start.limits found names;
+        once = kept_run (λ line. IsDistinct nat_eq (map (λ one. one.position) line)) positions_dropped start.limits found positions;
         below = subst (All (λ one. one.position < length wires)) refused lower;
         ascending = subst (AllPairs (λ one other. one.position < other.position)) refused (numbered_ascend 0 (with_late after.refused causes));
         others = subst (All (λ (one : Refused). All (λ chosen. chosen.position ≢ one.position) after.order)) refused (apart_from after.refused causes after.order all_free);

@@ -7,7 +7,7 @@ ghost use Rattle.admission.specs.Lines.{IsLineOf, StandsBefore};
 ghost use Rattle.admission.specs.Refusals.{is_refusal_memory};
 
 /// A law: each transaction of a batch runs or is refused. Those that run are what the wires at
-/// their positions spell, and no two of them have one name.
+/// their positions spell, and no two of them have one name or one position.
 pub fn batches_are_parted()
     ensures by_priority { (start : Start) (wires : List (List ℕ)) →
         IsParted wires (admitted start wires) }

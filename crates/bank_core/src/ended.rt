@@ -53,7 +53,7 @@ impl<W: Work> Ended<W> {
             rest,
             alloc,
         } = self;
-        let held = held_of(alloc, table.keys(), slots)?;
+        let held = held_of(alloc, &table, slots)?;
         rest.put_in(alloc, held)
     }
 }

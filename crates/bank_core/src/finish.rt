@@ -5,6 +5,7 @@ ghost use Rattle.bank_core.specs.Slots.{held_in};
 
 use crate::shared_outcome::SharedOutcome;
 use account_store::Accounts;
+use lock_table::KeyTable;
 use sol_base::{Account, Items, Key, OutOfMemory};
 use std::alloc::Global;
 use std::sync::Arc;
@@ -35,16 +36,18 @@ fn push_held(
 /// The accounts of slots that have lamports, each beside the key of its number.
 pub(crate) fn held_of(
     alloc: Global,
-    keys: &[Key],
+    table: &KeyTable,
     slots: Vec<Option<Arc<Account>>>,
 ) -> Result<Vec<(Key, Arc<Account>)>, OutOfMemory>
-    requires { length slots.items ≡ length keys.now }
-    ensures { IfOk result (λ held. held.items ≡ held_in (zip keys.now slots.items)) }
+    requires { length slots.items ≡ length table.now }
+    ensures { IfOk result (λ held. held.items ≡ held_in (zip table.now slots.items)) }
 {
+    // Its contract tells that a u32 counts the keys.
+    let _len = table.len();
     let mut held = Vec::new(alloc);
     let mut at = 0;
     for slot in slots {
-        push_held(&mut held, keys[at], slot)?;
+        push_held(&mut held, table.key(at), slot)?;
         at += 1;
     }
     Ok(held)

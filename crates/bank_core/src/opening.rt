@@ -23,11 +23,12 @@ use crate::shared_outcome::SharedOutcome;
 use crate::work::Work;
 use account_store::{Accounts, TakenOut};
 use bank_law::Event;
-use lock_table::{KeyTable, LockSet, set_of_known};
+use lock_table::{HashSeed, KeyTable, LockSet, set_of_known};
 use prio_graph::Graph;
 use proof_note::Note;
 use sol_base::{Account, Items, Key, LockList, OutOfMemory};
 use std::alloc::Global;
+use std::hash::RandomState;
 use std::mem::replace;
 use std::sync::Arc;
 use std::thread::Threads;
@@ -108,6 +109,15 @@ pub struct Numbered {
     pub(crate) room: usize,
 }
 
+/// A hash that is keyed by the keys themselves.
+fn hash_for(keys: &[Key]) -> Result<RandomState, OutOfMemory> {
+    let mut seed = HashSeed::new();
+    for key in keys {
+        seed.add(&key.0);
+    }
+    seed.hash()
+}
+
 /// Numbers the keys that positions lock, and makes the graph of the positions.
 pub fn number<L: Locked>(alloc: Global, locked: &L) -> Result<Numbered, OutOfMemory>
     requires apart { (i : ℕ) → i < (L.job locked.now).count
@@ -117,20 +127,23 @@ pub fn number<L: Locked>(alloc: Global, locked: &L) -> Result<Numbered, OutOfMem
 {
     // The contracts of these two tell that the count is small, and that the keys are distinct.
     let _count = locked.count();
-    let table = KeyTable::of_keys(alloc, keys_of(alloc, locked)?);
+    let all = keys_of(alloc, locked)?;
+    let hash = hash_for(&all)?;
+    let table = KeyTable::of_keys(alloc, hash, all)?;
     let _len = table.len();
     let sets = sets_of(alloc, locked, &table)?;
     with_graph(alloc, table, sets)
 }
 
-/// Numbers the keys that positions lock, and makes the graph of the positions, on so many threads and
-/// from a list that has the keys of all locks. A list that ascends is not sorted again. Few positions
-/// are numbered by the caller alone, and on one thread none is started.
+/// Numbers the keys that positions lock, hashed as given, and makes the graph of the positions, on so
+/// many threads and from a list that has the keys of all locks. A list that ascends is not sorted
+/// again. Few positions are numbered by the caller alone, and on one thread none is started.
 pub fn number_among<L: Locked + Sync, R: Threads + Sync>(
     rt: &R,
     alloc: Global,
     threads: u32,
     locked: &L,
+    hash: RandomState,
     keys: Vec<Key>,
 ) -> Result<Numbered, OutOfMemory>
     requires apart { (i : ℕ) → i < (L.job locked.now).count
@@ -142,7 +155,7 @@ pub fn number_among<L: Locked + Sync, R: Threads + Sync>(
 {
     // The contracts of these two tell that the count is small, and that the keys are distinct.
     let _count = locked.count();
-    let table = KeyTable::of_keys(alloc, keys);
+    let table = KeyTable::of_keys(alloc, hash, keys)?;
     let _len = table.len();
     let sets = sets_on(rt, alloc, threads, locked, &table)?;
     with_graph(alloc, table, sets)
@@ -206,10 +219,11 @@ fn slots_of(
     // Its contract tells that the accounts are a state.
     let _total = accounts.total();
     let all = replace(accounts, Accounts::new(alloc));
+    let keys = table.keys(alloc)?;
     let TakenOut {
         accounts: taken,
         rest,
-    } = all.take_out(alloc, table.keys())?;
+    } = all.take_out(alloc, keys.as_slice())?;
     let slots = in_slots(alloc, taken)?;
     *accounts = rest;
     Ok(slots)

@@ -14,10 +14,12 @@ use admission::Candidate;
 use bank_core::{Locked, Numbered, number_among};
 use bank_lanes::Gate;
 use block_end::{Crew, call_both};
+use lock_table::HashSeed;
 use program_cache::Programs;
 use snapshot_codec::Snapshot;
 use sol_base::{Items, Key, LockList, OutOfMemory};
 use std::alloc::Global;
+use std::hash::RandomState;
 use std::thread::Threads;
 use tx_exec::TxWork;
 
@@ -51,6 +53,19 @@ fn locks_at(order: &[Candidate], position: u32) -> &LockList
     &order[position as usize].chosen().locks
 }
 
+/// How many bytes of each name the hash of a block's keys depends on.
+const NAME_BYTES: usize = 8;
+
+/// A hash of keys that depends on the messages of all transactions: whoever picks keys so that they
+/// collide has another hash then.
+fn hash_for(order: &[Candidate]) -> Result<RandomState, OutOfMemory> {
+    let mut seed = HashSeed::new();
+    for one in order {
+        seed.add(&one.chosen().name.0[..NAME_BYTES]);
+    }
+    seed.hash()
+}
+
 /// The keys that the transactions lock, as numbers. They are among those that the transactions
 /// declare.
 fn numbered_in<R: Threads + Sync>(
@@ -68,7 +83,8 @@ fn numbered_in<R: Threads + Sync>(
 {
     let mut known = Vec::with_capacity(alloc, keys.len())?;
     known.extend_from_slice(keys.as_slice())?;
-    number_among(rt, alloc, threads, &InOrder { order }, known)
+    let hash = hash_for(order)?;
+    number_among(rt, alloc, threads, &InOrder { order }, hash, known)
 }
 
 /// The programs among the keys of the transactions, and the keys that they lock as numbers. The

@@ -1,4 +1,5 @@
 pub mod Places
 pub mod Numbering
+pub mod HashedLaws
 pub mod Tables
 pub mod Clashes

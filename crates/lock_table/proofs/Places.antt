@@ -2,8 +2,8 @@
 use Rattle.std.proofs.Common.{◌≡◌, ℕ, ◌+◌, ◌<◌, ◌≤◌, Bool, true, false, cond, eqb, inl, inr, List, [], ◌∷◌, ◌++◌, length, Some, None, sym, ◌∙◌, ap, arith, length-append}
 use Rattle.std.specs.List.{list_any, position, position_or_len}
 use Rattle.std.proofs.lemmas.Bool.{both_ways, cond-true, cond-false, eq-eqb, ne_eqb, cases_eq, cases_lt, false_from_ne_true, lt-ltb, ltb-true}
-use Rattle.std.proofs.lemmas.List.Folds.{list_any_at, position_or_len_push}
-use Rattle.std.proofs.lemmas.List.Sums.{passes_at_first, position_or_len_is}
+use Rattle.std.proofs.lemmas.List.Folds.{list_any_at, list_any_none, position_or_len_push}
+use Rattle.std.proofs.lemmas.List.Sums.{passes_at_first, fails_before_first, position_or_len_is}
 
 -- no place where none passes
 pub position-none : {X : Type 0} (p : X → Bool) (xs : List X) (d : X) → list_any p xs ≡ false → position p xs ≡ None
@@ -14,10 +14,18 @@ position-none p xs d h =
 pub position-some : {X : Type 0} (p : X → Bool) (xs : List X) → position_or_len p xs < length xs → position p xs ≡ Some (position_or_len p xs)
 position-some p xs l = cond-true _ (Some (position_or_len p xs)) None (lt-ltb (position_or_len p xs) (length xs) l)
 
-no_place : {X : Type 0} (p : X → Bool) (xs : List X) (d : X) → list_any p xs ≡ false → position_or_len p xs ≡ length xs
+pub no_place : {X : Type 0} (p : X → Bool) (xs : List X) (d : X) → list_any p xs ≡ false → position_or_len p xs ≡ length xs
 no_place p xs d h =
     position_or_len_is p xs (length xs) d (omega arith)
     (λ k l. false_from_ne_true _ (λ t. both_ways _ h (list_any_at p xs k d l t))) (λ l. absurd (omega arith))
+
+-- the first place lies within, where one passes
+pub place_below : {X : Type 0} (p : X → Bool) (xs : List X) → list_any p xs ≡ true → position_or_len p xs < length xs
+place_below p xs h =
+    elim (cases_lt (position_or_len p xs) (length xs)) [
+      | inl l ↦ l
+      | inr m ↦ absurd (both_ways _ (list_any_none p xs (λ k d l. fails_before_first p xs k d (omega (arith, l, m)))) h)
+    ]
 
 -- one more that passes, where none does yet
 pub position_push-here : {X : Type 0} (p : X → Bool) (xs : List X) (y : X) → list_any p xs ≡ false → p y ≡ true → position p (xs ++ y ∷ []) ≡ Some (length xs)

@@ -1,5 +1,5 @@
 -- A table that gets one key more, or one fewer.
-use Rattle.std.proofs.Common.{◌≡◌, ℕ, zero, suc, min, ◌+◌, ◌-◌, ◌^◌, ◌<◌, ◌≤◌, Bool, true, false, ◌||◌, cond, ◌⊎◌, inl, inr, List, [], ◌∷◌, ◌++◌, length, get_or, take, drop, Option, Some, None, refl, sym, ◌∙◌, ap, ap₂, subst, arith, ne_eqb, eq-eqb, length-append}
+use Rattle.std.proofs.Common.{append-nil, append_assoc, ◌≡◌, ℕ, zero, suc, min, ◌+◌, ◌-◌, ◌^◌, ◌<◌, ◌≤◌, Bool, true, false, ◌||◌, cond, ◌⊎◌, inl, inr, List, [], ◌∷◌, ◌++◌, length, get_or, take, drop, Option, Some, None, refl, sym, ◌∙◌, ap, ap₂, subst, arith, ne_eqb, eq-eqb, length-append}
 use Rattle.std.specs.List.{IsDistinct, AllByRecursion, HoldsAt, list_any, position_or_len}
 use Rattle.std.specs.BTreeMap.{BTreeMap, get, is_at}
 use Rattle.std.specs.Map.{lookup}
@@ -21,7 +21,6 @@ use Rattle.bank_law.specs.Job.{same_key, has_key, lock_keys}
 use Rattle.bank_law.proofs.Keys.{same_key-true, same_key-self, same_key-sym, same_key-equiv}
 use Rattle.sol_base.proofs.KeyLaws.{same_cmp}
 use Rattle.lock_table.specs.Numbers.{number_of, numbered_key, with_key, with_keys}
-use Rattle.lock_table.specs.Tables.{IsTable}
 use Rattle.lock_table.specs.Laws.{EqualKeysEqualNumbers, KeysStay, KeysStayDistinct, TablesGrowLittle}
 use Rattle.lock_table.proofs.Places.{position-none, position-some, position_push-here, position_push-other}
 use Rattle.lock_table.proofs.Numbering.{no_key, length-with_key-le}
@@ -67,19 +66,6 @@ absent keys key none =
     by_place k l (inl u) = let some = position-some p keys u in absurd (cc (some, none))
     by_place k l (inr m) = omega (arith, l, m)
 
-is_at-same : (key q : Key) → is_at (key_cmp key) q ≡ same_key q key
-is_at-same key q = same_cmp key q ∙ same_key-sym key q
-
-pub IsTable-nil : (numbers : BTreeMap Key ℕ) → numbers.entries ≡ [] → IsTable [] 0 numbers
-unfolding IsDistinct IsStrictlySortedBy
-IsTable-nil numbers e = record {
-  few = omega arith;
-  distinct = tt;
-  within = omega arith;
-  ascend = tt;
-  numbered = λ key out. ap (lookup (is_at (key_cmp key))) e;
-}
-
 distinct_keys : (keys : List Key) → IsDistinct (eq_by_cmp key_cmp) keys → IsDistinct same_key keys
 unfolding IsDistinct
 distinct_keys [] d = tt
@@ -89,81 +75,23 @@ distinct_keys (k ∷ ks) d = (apart ks d.0, distinct_keys ks d.1)
     apart [] h = tt
     apart (x ∷ xs) h = (sym (same_cmp k x) ∙ h.0, apart xs h.1)
 
--- keys that ascend, by their places
-pub IsTable-ascending : (keys : List Key) (n : ℕ) (numbers : BTreeMap Key ℕ) → n ≡ length keys → length keys < 2 ^ 32 → IsStrictlySortedBy key_cmp keys → numbers.entries ≡ [] → IsTable keys n numbers
-IsTable-ascending keys n numbers long few up nil = record {
-  few = few;
-  distinct = distinct_keys keys (IsDistinct-from_sorted key_cmp keys up);
-  within = omega (arith, long);
-  ascend = subst (IsStrictlySortedBy key_cmp) (sym (take_all n keys (omega (arith, long)))) up;
-  numbered = λ key out. ap (lookup (is_at (key_cmp key))) nil ∙ sym (position-none (λ k. same_key key k) keys no_key (sym (ap (has_key key) (take_all n keys (omega (arith, long)))) ∙ out));
-}
-
-pub IsTable-push : (keys more : List Key) (asc : ℕ) (numbers next : BTreeMap Key ℕ) (key : Key) (n : ℕ)
-    → IsTable keys asc numbers → number_of keys key ≡ None → length keys < 2 ^ 32 - 1 → n ≡ length keys
-    → ((q : Key) → get key_cmp next q ≡ cond (is_at (key_cmp key) q) (Some n) (get key_cmp numbers q)) → more ≡ keys ++ key ∷ [] → IsTable more asc next
-IsTable-push keys more asc numbers next key n T none room e puts grown = subst (λ ks. IsTable ks asc next) (sym grown) (record {
-  few = let l = length-append keys (key ∷ []) in omega (arith, l, room);
-  distinct = IsDistinct-push same_key-equiv keys key T.distinct apart;
-  within = let l = length-append keys (key ∷ []) in let w = T.within in omega (arith, l, w);
-  ascend = subst (IsStrictlySortedBy key_cmp) (sym front) T.ascend;
-  numbered = λ q out. puts q
-      ∙ (ap₂ (λ b o. cond b (Some n) o) (is_at-same key q) (T.numbered q (sym (ap (has_key q) front) ∙ out))
-      ∙ (ap (λ m. cond (same_key q key) (Some m) (number_of keys q)) e ∙ sym (number_of_push keys key q apart)));
-})
+-- keys that are distinct are numbered as they come
+with_keys-behind : (keys more : List Key) → IsDistinct same_key (keys ++ more) → with_keys keys more ≡ keys ++ more
+with_keys-behind keys [] d = sym (append-nil keys)
+with_keys-behind keys (key ∷ more) d =
+    ap (λ ks. with_keys ks more) (cond-false (has_key key keys) keys (keys ++ key ∷ []) apart) ∙ with_keys-behind (keys ++ key ∷ []) more all ∙ sym one_by_one
   where
+    one_by_one : keys ++ key ∷ more ≡ (keys ++ key ∷ []) ++ more
+    one_by_one = sym (append_assoc keys (key ∷ []) more)
+
+    all : IsDistinct same_key ((keys ++ key ∷ []) ++ more)
+    all = subst (IsDistinct same_key) one_by_one d
+
     apart : has_key key keys ≡ false
-    apart = absent keys key none
+    apart = last_apart keys key (distinct_front (keys ++ key ∷ []) more all)
 
-    front : take asc (keys ++ key ∷ []) ≡ take asc keys
-    front = take-append-le asc keys (key ∷ []) T.within
-
-sorted_take : (ks : List Key) (n : ℕ) → IsStrictlySortedBy key_cmp ks → IsStrictlySortedBy key_cmp (take n ks)
-unfolding IsStrictlySortedBy
-sorted_take [] zero h = tt
-sorted_take [] (suc n) h = tt
-sorted_take (k ∷ ks) zero h = tt
-sorted_take (k ∷ ks) (suc n) h = (below ks n h.0, sorted_take ks n h.1)
-  where
-    below : (xs : List Key) (m : ℕ) → AllByRecursion (λ y. key_cmp k y ≡ Less) xs → AllByRecursion (λ y. key_cmp k y ≡ Less) (take m xs)
-    below [] zero a = tt
-    below [] (suc m) a = tt
-    below (x ∷ xs) zero a = tt
-    below (x ∷ xs) (suc m) a = (a.0, below xs m a.1)
-
-pub IsTable-pop : (keys fewer : List Key) (asc less : ℕ) (numbers next : BTreeMap Key ℕ) (key : Key) → IsTable keys asc numbers → keys ≡ fewer ++ key ∷ [] → less ≡ min asc (length fewer)
-    → ((q : Key) → get key_cmp next q ≡ cond (is_at (key_cmp key) q) None (get key_cmp numbers q)) → IsTable fewer less next
-IsTable-pop keys fewer asc less numbers next key T e least takes = record {
-  few = let l = ap length e ∙ length-append fewer (key ∷ []) in let f = T.few in omega (arith, l, f);
-  distinct = distinct_front fewer (key ∷ []) distinct;
-  within = omega (arith, least);
-  ascend = subst (IsStrictlySortedBy key_cmp)
-      (take-take less asc keys (omega (arith, least)) ∙ ap (take less) e
-      ∙ take-append-le less fewer (key ∷ []) (omega (arith, least)))
-      (sorted_take (take asc keys) less T.ascend);
-  numbered = λ q out. takes q ∙ (ap (λ b. cond b None (get key_cmp numbers q)) (is_at-same key q) ∙ by_case q out (same_key q key) refl);
-}
-  where
-    distinct : IsDistinct same_key (fewer ++ key ∷ [])
-    distinct = subst (IsDistinct same_key) e T.distinct
-
-    apart : has_key key fewer ≡ false
-    apart = last_apart fewer key distinct
-
-    out_of : (q : Key) → has_key q (take less fewer) ≡ false → same_key q key ≡ false → has_key q (take asc keys) ≡ false
-    out_of q out other = elim (cases_lt (length fewer) asc) [
-      | inl u ↦
-          let l = ap length e ∙ length-append fewer (key ∷ []) in
-          ap (has_key q) (take_all asc keys (omega (arith, l, u)) ∙ e) ∙ list_any-append (λ k. same_key q k) fewer (key ∷ [])
-          ∙ ap₂ (λ a b. a || (b || false)) (sym (ap (has_key q) (take_all less fewer (omega (arith, least, u)))) ∙ out) other
-      | inr m ↦
-          let same : less ≡ asc = omega (arith, least, m) in
-          ap (has_key q) (ap (take asc) e ∙ take-append-le asc fewer (key ∷ []) m) ∙ ap (λ n. has_key q (take n fewer)) (sym same) ∙ out
-    ]
-
-    by_case : (q : Key) → has_key q (take less fewer) ≡ false → (b : Bool) → same_key q key ≡ b → cond b None (get key_cmp numbers q) ≡ number_of fewer q
-    by_case q out true t = sym (position-none (λ k. same_key q k) fewer no_key (subst (λ k. has_key k fewer ≡ false) (sym (same_key-true q key t)) apart))
-    by_case q out false t = T.numbered q (out_of q out t) ∙ ap (λ ks. number_of ks q) e ∙ number_of_push fewer key q apart ∙ ap (λ b. cond b (Some (length fewer)) (number_of fewer q)) t
+pub with_keys-sorted : (keys : List Key) → IsStrictlySortedBy key_cmp keys → with_keys [] keys ≡ keys
+with_keys-sorted keys up = with_keys-behind [] keys (distinct_keys keys (IsDistinct-from_sorted key_cmp keys up))
 
 -- the number of the key at a place
 pub number_at : (keys : List Key) (q : Key) (at : ℕ) (d : Key) → IsDistinct same_key keys → at < length keys → get_or keys at d ≡ q → number_of keys q ≡ Some at
@@ -182,17 +110,6 @@ present keys key n e = let found = position-Some (λ k. same_key key k) keys n n
 pub has_number : (keys : List Key) (key : Key) (o : Option ℕ) → has_key key keys ≡ true → o ≡ number_of keys key → IsSome o
 has_number keys key None there e = absurd (both_ways _ (absent keys key (sym e)) there)
 has_number keys key (Some n) there e = refl
-
--- what a search among the first keys says
-pub found_number : (shown keys : List Key) (asc : ℕ) (q : Key) (at : ℕ) (d : Key) → shown ≡ keys
-    → asc ≤ length keys → IsDistinct same_key keys → at < length (take asc shown)
-    → HoldsAt (λ k. key_cmp k q ≡ Equal) (take asc shown) at → Some at ≡ number_of keys q
-found_number shown keys asc q at d same within distinct below holds =
-    let long = length-take-le asc keys within in
-    let lower = ap (λ ks. length (take asc ks)) same in
-    let first : at < asc = omega (arith, long, lower, below) in
-    sym (number_at keys q at d distinct (omega (arith, first, within)) (
-    sym (get_or-take asc keys at d first) ∙ ap (λ ks. get_or (take asc ks) at d) (sym same) ∙ search_found (λ k. k) (take asc shown) q at d holds))
 
 -- one key more leaves the keys before it
 take-with_key : (keys : List Key) (key : Key) → take (length keys) (with_key keys key) ≡ keys

@@ -1,78 +1,75 @@
 //! Keys as numbers.
-ghost use Rattle.std.specs.Prelude.{◌≡◌, ◌-◌, ◌^◌, ◌<◌, ◌≤◌, [], true, Some, None, length, slice_get, take, IfOk, IfSome, OnOk, OnErr};
+ghost use Rattle.std.specs.Prelude.{◌≡◌, ◌-◌, ◌^◌, ◌<◌, ◌≤◌, [], true, Some, None, length, slice_get, take, IfOk, OnOk, OnErr};
 ghost use Rattle.std.specs.List.{IsDistinct};
 ghost use Rattle.std.specs.List.Sorted.{IsStrictlySortedBy};
 ghost use Rattle.sol_base.specs.declared.key.Key.{Key as KeyValue};
 ghost use Rattle.sol_base.specs.Keys.{key_cmp};
 ghost use Rattle.bank_law.specs.Job.{same_key, has_key};
-ghost use Rattle.lock_table.specs.Numbers.{number_of, with_key};
+ghost use Rattle.lock_table.specs.Numbers.{number_of, with_key, with_keys};
 
+use crate::hashed::HashedKey;
 use account_store::sort_keys;
-use sol_base::{Key, OutOfMemory, push_with_room};
+use indexmap::IndexSet;
+use sol_base::{Key, OutOfMemory};
 use std::alloc::Global;
-use std::collections::BTreeMap;
+use std::hash::RandomState;
 use std::marker::Model;
 
-/// How many keys are looked at near a hint before the order of all of them is asked.
-const NEAR: usize = 4;
-
-/// Distinct keys, each with a number: its place. The numbers are found by the order of the keys, so
-/// no choice of keys makes a look-up slow.
+/// Distinct keys, each with a number: its index.
 #[derive(Drop)]
 pub struct KeyTable {
-    keys: Vec<Key>,
-    /// So many of the first keys ascend.
-    ascending: usize,
-    /// The numbers of the other keys.
-    numbers: BTreeMap<Key, u32>,
-    /// Near which numbers keys are found, as `expected_at` asks. No answer rests on them.
-    hints: Vec<u32>,
+    keys: IndexSet<HashedKey, RandomState>,
 }
 
 impl Model for KeyTable {
-    ghost use Rattle.std.specs.Prelude.{List};
+    ghost use Rattle.std.specs.Prelude.{List, length, ◌<◌, ◌^◌};
     ghost use Rattle.sol_base.specs.declared.key.Key.{Key};
-    ghost use Rattle.lock_table.specs.Tables.{IsTable};
+    ghost use Rattle.lock_table.specs.Tables.{keys_in};
 
     ghost Value = { List Key };
 
-    ghost view = { λ t. t.keys.items };
+    ghost view = { λ t. keys_in t.keys.keys };
 
-    ghost invariant = { λ t. IsTable t.keys.items t.ascending t.numbers };
+    ghost invariant = { λ t. length t.keys.keys < 2 ^ 32 };
 }
 
 impl KeyTable {
-    /// No keys.
-    pub fn new(alloc: Global) -> KeyTable
+    /// No keys, which are hashed so once there are some.
+    pub fn new(alloc: Global, hash: RandomState) -> KeyTable
         ensures { result ≡ [] }
     {
         KeyTable {
-            keys: Vec::new(alloc),
-            ascending: 0,
-            numbers: BTreeMap::new(alloc),
-            hints: Vec::new(alloc),
+            keys: IndexSet::with_hasher(alloc, hash),
         }
     }
 
-    /// The keys of a list, each once. They ascend. Where there is no memory for hints, the table
-    /// goes without.
-    pub fn of_keys(alloc: Global, mut keys: Vec<Key>) -> KeyTable
+    /// The keys of a list, each once. They ascend.
+    pub fn of_keys(
+        alloc: Global,
+        hash: RandomState,
+        mut keys: Vec<Key>,
+    ) -> Result<KeyTable, OutOfMemory>
         requires { length keys.items < 2 ^ 32 }
-        ensures ascend { IsStrictlySortedBy key_cmp result }
-        ensures same { (key : KeyValue) → has_key key result ≡ has_key key keys.items }
+        ensures ascend { IfOk result (IsStrictlySortedBy key_cmp) }
+        ensures same { IfOk result (λ table. (key : KeyValue)
+            → has_key key table ≡ has_key key keys.items) }
     {
         sort_keys(&mut keys);
-        let ascending = keys.len();
-        let hints = match hints_of(alloc, &keys) {
-            Ok(hints) => hints,
-            Err(OutOfMemory) => Vec::new(alloc),
+        KeyTable::in_order(alloc, hash, keys.as_slice())
+    }
+
+    /// The keys of a list in their order, each once.
+    fn in_order(alloc: Global, hash: RandomState, keys: &[Key]) -> Result<KeyTable, OutOfMemory>
+        requires { length keys.now < 2 ^ 32 }
+        ensures { IfOk result (λ table. table ≡ with_keys [] keys.now) }
+    {
+        let mut table = KeyTable {
+            keys: IndexSet::with_capacity_and_hasher(alloc, keys.len(), hash)?,
         };
-        KeyTable {
-            keys,
-            ascending,
-            numbers: BTreeMap::new(alloc),
-            hints,
+        for key in keys {
+            table.number(*key)?;
         }
+        Ok(table)
     }
 
     /// The number of the key, which gets the next one where it has none.
@@ -83,42 +80,16 @@ impl KeyTable {
         ensures err { OnErr result (self.new ≡ self.old) }
         ensures absent { OnErr result (number_of self.old key ≡ None) }
     {
-        if let Some(number) = self.find(&key) {
-            return Ok(number);
-        }
-        let number = self.len();
-        self.keys.reserve(1)?;
-        self.numbers.insert(key, number)?;
-        push_with_room(&mut self.keys, key);
-        Ok(number)
+        let (number, _) = self.keys.insert_full(HashedKey(key))?;
+        Ok(number as u32)
     }
 
     /// The number of the key, where it has one.
     pub fn find(&self, key: &Key) -> Option<u32>
         ensures { result ≡ number_of self.now key.now }
     {
-        if let Some(number) = self.near(key) {
-            return Some(number);
-        }
-        match self.keys[..self.ascending].binary_search(key) {
-            Ok(at) => Some(at as u32),
-            Err(_) => self.numbers.get(key).copied(),
-        }
-    }
-
-    /// The number of the key, where it is found by the hints.
-    fn near(&self, key: &Key) -> Option<u32>
-        ensures { IfSome result (λ number. number_of self.now key.now ≡ Some number) }
-    {
-        let mut at = *self.hints.get(expected_at(key, self.hints.len()))?;
-        for _ in 0..NEAR {
-            let place = at as usize;
-            if place < self.keys.len() && self.keys[place] == *key {
-                return Some(at);
-            }
-            at = at.checked_sub(1)?;
-        }
-        None
+        let number = self.keys.get_index_of(&HashedKey(*key))?;
+        Some(number as u32)
     }
 
     /// The number of a key that has one.
@@ -134,15 +105,19 @@ impl KeyTable {
         requires { number < length self.now }
         ensures { slice_get self.now number ≡ Some result }
     {
-        self.keys[number as usize]
+        self.keys.as_slice()[number as usize].0
     }
 
-    /// The keys by their numbers.
-    pub fn keys(&self) -> &[Key]
-        ensures keys { result.now ≡ self.now }
-        ensures distinct { IsDistinct same_key self.now }
+    /// The keys by their numbers, in a list of their own.
+    pub fn keys(&self, alloc: Global) -> Result<Vec<Key>, OutOfMemory>
+        ensures { IfOk result (λ keys. keys.items ≡ self.now) }
     {
-        &self.keys
+        let numbered = self.keys.as_slice();
+        let mut keys = Vec::with_capacity(alloc, numbered.len())?;
+        for key in numbered {
+            keys.push(key.0)?;
+        }
+        Ok(keys)
     }
 
     /// How many keys there are.
@@ -155,42 +130,8 @@ impl KeyTable {
 
     /// Takes the keys from a number on out again.
     pub(crate) fn truncate(&mut self, len: u32)
-        requires { len ≤ length self.old }
         ensures { self.new ≡ take len self.old }
     {
-        while self.len() > len {
-            self.pop();
-        }
+        self.keys.truncate(len as usize);
     }
-
-    /// Takes the last key out.
-    fn pop(&mut self)
-        requires { 0 < length self.old }
-        ensures { self.new ≡ take (length self.old - 1) self.old }
-    {
-        if let Some(key) = self.keys.pop() {
-            self.ascending = self.ascending.min(self.keys.len());
-            let _number = self.numbers.remove(&key);
-        }
-    }
-}
-
-/// At which of so many places a key is expected among keys that ascend and are spread evenly.
-fn expected_at(key: &Key, count: usize) -> usize {
-    let bytes = &key.0;
-    let first = u32::from_be_bytes([bytes[0], bytes[1], bytes[2], bytes[3]]);
-    (u64::from(first).wrapping_mul(count as u64) >> 32) as usize
-}
-
-/// For each place the last of those numbers whose keys are expected there.
-fn hints_of(alloc: Global, keys: &[Key]) -> Result<Vec<u32>, OutOfMemory>
-    requires { length keys.now < 2 ^ 32 }
-{
-    let mut hints = vec![in alloc; 0; keys.len()]?;
-    for (number, key) in keys.iter().enumerate() {
-        if let Some(hint) = hints.get_mut(expected_at(key, keys.len())) {
-            *hint = number as u32;
-        }
-    }
-    Ok(hints)
 }

@@ -2,11 +2,13 @@
 //! two positions conflict.
 #![tactic(auto)]
 
+mod hashed;
 mod keys;
 mod laws;
 mod locks;
 mod sets;
 
+pub use hashed::HashSeed;
 pub use keys::KeyTable;
 pub use laws::{conflict_is_clash, equal_keys_have_equal_numbers, tables_grow_by_what_is_put_in};
 pub use locks::{NumberedLock, has_distinct_keys};

@@ -1,6 +1,6 @@
 //! Sets of locks as numbers, and sets that conflict.
 use crate::tests::trial::{READ, WRITE, locks_of};
-use lock_table::{KeyTable, LockSet, NumberedLock, conflict, has_distinct_keys, set_of};
+use lock_table::{HashSeed, KeyTable, LockSet, NumberedLock, conflict, has_distinct_keys, set_of};
 use sol_base::OutOfMemory;
 use std::alloc::Global;
 use std::process::Abort;
@@ -37,7 +37,7 @@ const NUMBERED: [NumberedLock; 3] = [
 #[test]
 fn sets_keep_the_order_of_their_locks(rt: HostRuntime) -> Result<(), Fail> {
     let alloc = rt.alloc();
-    let mut table = KeyTable::new(alloc);
+    let mut table = KeyTable::new(alloc, HashSeed::new().hash()?);
     let _ = set_in(&rt, alloc, &mut table, &[(3, WRITE), (5, READ)])?;
     let set = set_in(&rt, alloc, &mut table, &[(4, READ), (5, WRITE), (3, READ)])?;
     assert!(rt; set.items() == NUMBERED.as_slice());
@@ -65,7 +65,7 @@ fn conflict_so(one: &LockSet, other: &LockSet, so: bool) -> bool {
 #[test]
 fn sets_conflict_where_a_number_is_in_both_and_one_writes_it(rt: HostRuntime) -> Result<(), Fail> {
     let alloc = rt.alloc();
-    let mut table = KeyTable::new(alloc);
+    let mut table = KeyTable::new(alloc, HashSeed::new().hash()?);
     let first = set_in(&rt, alloc, &mut table, &[(1, READ), (2, WRITE), (3, READ)])?;
     for (entries, so) in CONFLICTS {
         let second = set_in(&rt, alloc, &mut table, entries)?;
