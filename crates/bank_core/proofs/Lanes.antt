@@ -5,7 +5,6 @@ use Rattle.std.proofs.lemmas.Bool.{eqb-true}
 use Rattle.std.proofs.Math.Seq.{take-append_seam}
 use Rattle.bank_law.specs.declared.event.Event.{Event}
 use Rattle.bank_law.specs.History.{own}
-use Rattle.bank_law.proofs.Histories.{own_other}
 use Rattle.bank_core.specs.Lanes.{is_one_of, own_of, EachPartKeeps, EachLaneKeeps}
 use Rattle.bank_core.specs.Desks.{before_last}
 

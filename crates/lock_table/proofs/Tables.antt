@@ -1,19 +1,15 @@
 -- A table that gets one key more, or one fewer.
-use Rattle.std.proofs.Common.{append-nil, append_assoc, ◌≡◌, ℕ, zero, suc, min, ◌+◌, ◌-◌, ◌^◌, ◌<◌, ◌≤◌, Bool, true, false, ◌||◌, cond, ◌⊎◌, inl, inr, List, [], ◌∷◌, ◌++◌, length, get_or, take, drop, Option, Some, None, refl, sym, ◌∙◌, ap, ap₂, subst, arith, ne_eqb, eq-eqb, length-append}
-use Rattle.std.specs.List.{IsDistinct, AllByRecursion, HoldsAt, list_any, position_or_len}
-use Rattle.std.specs.BTreeMap.{BTreeMap, get, is_at}
-use Rattle.std.specs.Map.{lookup}
+use Rattle.std.proofs.Common.{append-nil, append_assoc, ◌≡◌, ℕ, ◌+◌, ◌<◌, ◌≤◌, Bool, true, false, ◌||◌, cond, ◌⊎◌, inl, inr, List, [], ◌∷◌, ◌++◌, length, get_or, take, drop, Option, Some, None, refl, sym, ◌∙◌, ap, subst, arith, ne_eqb, eq-eqb, length-append}
+use Rattle.std.specs.List.{IsDistinct, AllByRecursion, list_any, position_or_len}
 use Rattle.std.proofs.lemmas.Bool.{both_ways, cond_both, cond-false, cases_order, cases_lt, false_from_ne_true, or_from}
-use Rattle.std.proofs.lemmas.List.{take-take, take-append-le, length-take-le, get_or-take, take_all, take_at, map_more, map-append, take-append-drop}
-use Rattle.std.proofs.lemmas.List.Folds.{list_any_at, list_any_none, list_any-append}
+use Rattle.std.proofs.lemmas.List.{take-take, take_all, take_at, map_more, map-append, take-append-drop}
+use Rattle.std.proofs.lemmas.List.Folds.{list_any_at, list_any_none}
 use Rattle.std.proofs.lemmas.List.Sums.{fails_before_first, position_or_len_is}
 use Rattle.std.proofs.lemmas.List.Quantifiers.{position-Some}
 use Rattle.std.proofs.lemmas.Map.Keys.{IsDistinct-push, IsDistinct-from_sorted, apart_from_distinct}
 use Rattle.std.specs.List.Sorted.{IsStrictlySortedBy}
 use Rattle.std.specs.Ordering.{eq_by_cmp}
-use Rattle.std.specs.declared.cmp.Ordering.TheVariants.{Less, Equal}
 use Rattle.std.specs.Prelude.{IsSome}
-use Rattle.account_store.proofs.SortedKeys.{search_found}
 use Rattle.sol_base.specs.declared.key.Key.{Key}
 use Rattle.sol_base.specs.declared.lock.Lock.{Lock}
 use Rattle.sol_base.specs.Keys.{key_cmp}
@@ -22,7 +18,7 @@ use Rattle.bank_law.proofs.Keys.{same_key-true, same_key-self, same_key-sym, sam
 use Rattle.sol_base.proofs.KeyLaws.{same_cmp}
 use Rattle.lock_table.specs.Numbers.{number_of, numbered_key, with_key, with_keys}
 use Rattle.lock_table.specs.Laws.{EqualKeysEqualNumbers, KeysStay, KeysStayDistinct, TablesGrowLittle}
-use Rattle.lock_table.proofs.Places.{position-none, position-some, position_push-here, position_push-other}
+use Rattle.lock_table.proofs.Places.{position-some, position_push-here, position_push-other}
 use Rattle.lock_table.proofs.Numbering.{no_key, length-with_key-le}
 
 all_front : {X : Type 0} (P : X → Type 0) (xs ys : List X) → AllByRecursion P (xs ++ ys) → AllByRecursion P xs

@@ -1,4 +1,3 @@
-use Rattle.std.proofs.Common.{sym, ◌∙◌}
 use Rattle.lock_table.proofs.Tables.{has_number}
 use Rattle.lock_table.proofs.keys.KeyTable.known.Goals as goal
 

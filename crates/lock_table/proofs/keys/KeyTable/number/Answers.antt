@@ -1,4 +1,4 @@
-use Rattle.std.proofs.Common.{Some, ◌∙◌, sym, ap, subst}
+use Rattle.std.proofs.Common.{Some, ◌∙◌, sym, ap}
 use Rattle.lock_table.specs.Numbers.{number_of, with_key}
 use Rattle.lock_table.specs.Tables.{keys_in}
 use Rattle.lock_table.proofs.HashedLaws.{on_err, absent_in, keys_put, number_put}
