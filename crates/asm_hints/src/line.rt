@@ -7,8 +7,8 @@ ghost use Rattle.asm_hints.specs.Hints.{byte_hint, code_hint, is_operand, line_h
 
 use crate::hint::Hint;
 use sbpf_asm::{
-    Mark, Operand, after_word, cut_at, first_operand, is_name, is_text_byte, number_of, operands_left,
-    operands_of, other_operands, place_of, register_of, row_of, target_of, trim,
+    Mark, Operand, after_word, cut_at, first_operand, is_name, is_text_byte, number_of,
+    operands_left, operands_of, other_operands, place_of, register_of, row_of, target_of, trim,
 };
 
 /// Whether a text is spelled as an operand of this kind.
