@@ -1,4 +1,4 @@
-//! The program for chains: arguments from the command line, a snapshot or a batch from standard input, a
+//! The program for chains: its arguments, a snapshot or a batch from standard input, a
 //! folder of files, the output to standard output, notes to standard error.
 #![tactic(auto)]
 

@@ -1,4 +1,4 @@
-//! The program: arguments from the command line, the input from standard input, the output to standard
+//! The program: its arguments, the input from standard input, the output to standard
 //! output, notes to standard error.
 #![tactic(auto)]
 

@@ -1,4 +1,4 @@
-//! The program for texts: arguments from the command line, the input from standard input or files, the
+//! The program for texts: its arguments, the input from standard input or files, the
 //! output to standard output or files, notes to standard error.
 #![tactic(auto)]
 

@@ -1,4 +1,4 @@
-//! What the programs' commands share: the arguments, numbers in them, the limit of an input, statuses and
+//! What the programs' commands share: arguments, numbers in them, the limit of an input, statuses and
 //! results.
 #![tactic(auto)]
 
