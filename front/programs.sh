@@ -121,6 +121,12 @@ note_program() {
   return 0
 }
 
+# Finds the program that stands here of these sources.
+find_standing_program() {
+  is_checkout || { program=$shipped; return; }
+  find_program_of_last_time || program=$(program_of "$(sources)")
+}
+
 # Finds the program to run, which is built if there is none of these sources.
 find_program() {
   local before

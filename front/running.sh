@@ -111,7 +111,7 @@ say_more() {
   case $status in
     0) [ "$page" != make ] || say_lanes_alone ;;
     "$REFUSED") say_refused ;;
-    3) say_parts ;;
+    3) say_parts; say_what_is_wanted ;;
     "$READING_FAILED") say 'reading failed' ;;
     "$WRITING_FAILED") [ -p /dev/fd/1 ] || [[ $last = "$command: "* ]] || say 'writing failed' ;;
     "$OUT_OF_MEMORY") say 'out of memory' ;;
@@ -143,6 +143,19 @@ say_parts() {
       say 'a record with a snapshot behind it, as produce writes them, is parted by: bank split RECORD SNAPSHOT'
       ;;
   esac
+}
+
+# What is wanted of a text that asm refuses, as why says it, where the text is a file, which can be read
+# again, and where that is of the line that was refused.
+say_what_is_wanted() {
+  local wanted
+  [ "$page" = asm ] && [ -f /dev/stdin ] || return 0
+  wanted=$(choose bank_text; find_standing_program && exec "$program" why < /dev/stdin 2>&1 > /dev/null)
+  case $last in
+    'asm: TooLong' | 'asm: Unverified '*) [[ $wanted = 'asm: '* ]] || return 0 ;;
+    *) [[ $wanted = "asm: line ${last##* }: "* ]] || return 0 ;;
+  esac
+  say "${wanted#asm: }"
 }
 
 # Ends as the program did.

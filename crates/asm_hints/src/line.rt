@@ -7,8 +7,8 @@ ghost use Rattle.asm_hints.specs.Hints.{byte_hint, code_hint, is_operand, line_h
 
 use crate::hint::Hint;
 use sbpf_asm::{
-    Mark, Operand, after_word, cut_at, first_operand, is_name, is_text_byte, number_of,
-    operands_left, operands_of, other_operands, place_of, register_of, row_of, target_of, trim,
+    Mark, Operand, cut_at, first_operand, is_name, is_text_byte, number_of, operands_left,
+    operands_of, other_operands, place_of, register_of, row_of, target_of, text_behind, trim,
 };
 
 /// Whether a text is spelled as an operand of this kind.
@@ -97,7 +97,7 @@ fn code_hint(code: &[u8]) -> Option<Hint>
         return name_hint(&code[..code.len() - 1]);
     }
     let parts = cut_at(Mark::Blank, code);
-    word_hint(parts.front, after_word(parts.rest))
+    word_hint(parts.front, trim(text_behind(parts.rest)))
 }
 
 /// A line without its comment, and without blanks at both ends.

@@ -1,6 +1,6 @@
 -- Operands, read one by one.
-use Rattle.std.proofs.Common.{◌≡◌, ◌<◌, ℕ, List, ◌∷◌, drop, length, Option, Some, None, refl, sym, ap, ◌∙◌, map}
-use Rattle.std.proofs.lemmas.List.{drop_more}
+use Rattle.std.proofs.Common.{◌≡◌, ◌<◌, ◌≤◌, ℕ, List, ◌∷◌, drop, length, Option, Some, None, refl, sym, ap, ◌∙◌, map}
+use Rattle.std.proofs.lemmas.List.{drop_all, drop_more}
 use Rattle.sbpf_asm.specs.declared.row.Operand.{Operand}
 use Rattle.sbpf_asm.specs.declared.row.Operand.TheVariants.{Destination}
 use Rattle.sbpf_asm.specs.Words.{Text, Cut, is_comma, trim, cut}
@@ -27,5 +27,5 @@ pub no_operand : (os : List Operand) (i : ℕ) (texts : List Text) (d : Draft) �
 no_operand os i texts d h e = ap (λ (kinds : List Operand). with_operands kinds texts d) (drop_more os i Destination h) ∙ rw e refl
 
 -- a text that is left behind all operands
-pub not_finished : (text : Text) (d : Draft) → finished (operands_left (Some text)) d ≡ None
-not_finished text d = ap (λ (texts : List Text). finished texts d) (operands_cut text)
+pub too_many : (os : List Operand) (i : ℕ) (text : Text) (d : Draft) → length os ≤ i → with_operands (drop i os) (operands_left (Some text)) d ≡ None
+too_many os i text d h = ap (λ (kinds : List Operand). with_operands kinds (operands_left (Some text)) d) (drop_all i os h) ∙ ap (λ (texts : List Text). finished texts d) (operands_cut text)

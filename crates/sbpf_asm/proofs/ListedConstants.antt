@@ -74,8 +74,9 @@ constants_are_text bytes h are = ap is_text (as_word bytes) ∙ word_is_text (co
 abbrev line_count : List ℕ → ℕ
 line_count bytes = (length bytes + 31) / 32
 
-abbrev pub constants_from : List ℕ → ℕ → Text
-constants_from bytes j = flat_map (constant_line bytes) (range_with_len j (line_count bytes - j))
+-- so many lines from one on
+abbrev constants_from : List ℕ → ℕ → ℕ → Text
+constants_from bytes j count = flat_map (constant_line bytes) (range_with_len j count)
 
 some_left : (bytes : List ℕ) (j : ℕ) → j < line_count bytes → 0 < length (slice_chunk bytes 32 j)
 some_left bytes j h = go (nat_lt (length (drop (j * 32) bytes)) 32) refl
@@ -90,9 +91,6 @@ some_left bytes j h = go (nat_lt (length (drop (j * 32) bytes)) 32) refl
     go false e =
         let many : 32 ≤ length (drop (j * 32) bytes) = grind (arith, nat_tests) in
         omega (arith, length-take-le 32 (drop (j * 32) bytes) many)
-
-one_more : (bytes : List ℕ) (j : ℕ) → j < line_count bytes → constants_from bytes j ≡ constant_line bytes j ++ constants_from bytes (j + 1)
-one_more bytes j h = let e : line_count bytes - j ≡ suc (line_count bytes - (j + 1)) = omega arith in ap (λ (k : ℕ). flat_map (constant_line bytes) (range_with_len j k)) e
 
 -- the source with more constants
 abbrev more : Source → List ℕ → Source
@@ -116,40 +114,22 @@ pub record Read (text : List ℕ) (p n : ℕ) (bytes : List ℕ) (s : Source) (l
   pub holds : Holds text p bytes source
   pub same : with_lines n s (lines_of lines) ≡ Ok source
 
-at_end : (text bytes : List ℕ) (p j n : ℕ) (s : Source) → line_count bytes ≤ j → Holds text p (take (j * 32) bytes) s → Read text p n bytes s (constants_from bytes j)
-at_end text bytes p j n s e h =
-    let none : line_count bytes - j ≡ 0 = omega arith in
+-- the lines of constants are read as them
+pub read : (text bytes : List ℕ) (p : ℕ) → IsBytes bytes → (count j n : ℕ) (s : Source) → j + count ≡ line_count bytes → Holds text p (take (j * 32) bytes) s
+    → Read text p n bytes s (constants_from bytes j count)
+read text bytes p are zero j n s e h =
     let whole : take (j * 32) bytes ≡ bytes = take_all (j * 32) bytes (omega arith) in
-    record {
-      source = s;
-      holds = subst (λ (c : List ℕ). Holds text p c s) whole h;
-      same = ap (λ (k : ℕ). with_lines n s (lines_of (flat_map (constant_line bytes) (range_with_len j k)))) none;
-    }
-
-on : (text bytes : List ℕ) (p j n : ℕ) (s : Source) → IsBytes bytes → j < line_count bytes
-    → Read text p (n + 1) bytes (more s (slice_chunk bytes 32 j)) (constants_from bytes (j + 1)) → Read text p n bytes s (constants_from bytes j)
-on text bytes p j n s are l r =
+    record { source = s; holds = subst (λ (c : List ℕ). Holds text p c s) whole h; same = refl }
+read text bytes p are (suc count) j n s e h =
     let chunk = slice_chunk bytes 32 j in
-    let some = some_left bytes j l in
+    let some = some_left bytes j (omega arith) in
     let here = part_bytes 32 (j * 32) bytes are in
-    let cut : lines_of (constants_from bytes j) ≡ constants_text chunk ∷ lines_of (constants_from bytes (j + 1)) =
-    ap lines_of (one_more bytes j l) ∙ line_first (constants_text chunk) (constants_from bytes (j + 1)) (constants_are_text chunk some here) in
+    let rest = constants_from bytes (j + 1) count in
+    let r = read text bytes p are count (j + 1) (n + 1) (more s chunk) (omega arith) (holds_more text bytes p j s h) in
     record {
       source = r.source;
       holds = r.holds;
-      same = lines_on n s (more s chunk) (constants_from bytes j) (constants_from bytes (j + 1)) (constants_text chunk) cut (one_line n s chunk some here) ∙ r.same;
+      same = lines_on n s (more s chunk) (constants_from bytes j (suc count)) rest (constants_text chunk)
+          (line_first (constants_text chunk) rest (constants_are_text chunk some here)) (one_line n s chunk some here)
+          ∙ r.same;
     }
-
--- the lines of constants are read as them
-pub read : (text bytes : List ℕ) (p : ℕ) → IsBytes bytes → (fuel j n : ℕ) (s : Source)
-    → line_count bytes ≤ j + fuel → Holds text p (take (j * 32) bytes) s
-    → Read text p n bytes s (constants_from bytes j)
-read text bytes p are zero j n s few h = at_end text bytes p j n s (omega arith) h
-read text bytes p are (suc fuel) j n s few h = go (read text bytes p are fuel) (nat_lt j (line_count bytes)) refl
-  where
-    go : ((k m : ℕ) (t : Source) → line_count bytes ≤ k + fuel → Holds text p (take (k * 32) bytes) t → Read text p m bytes t (constants_from bytes k))
-        → (b : Bool) → nat_lt j (line_count bytes) ≡ b → Read text p n bytes s (constants_from bytes j)
-    go rest true e =
-        let l : j < line_count bytes = grind (arith, nat_tests) in
-        on text bytes p j n s are l (rest (j + 1) (n + 1) (more s (slice_chunk bytes 32 j)) (omega arith) (holds_more text bytes p j s h))
-    go rest false e = at_end text bytes p j n s (grind (arith, nat_tests)) h

@@ -1,5 +1,5 @@
 -- The line of an instruction that the verifier lets pass is read as that instruction.
-use Rattle.std.proofs.Common.{◌≡◌, ◌==◌, ℕ, Bool, true, false, List, [], ◌∷◌, Some, None, refl, sym, ap, subst, ◌∙◌}
+use Rattle.std.proofs.Common.{◌≡◌, ◌==◌, ℕ, Bool, true, false, List, [], ◌∷◌, Some, None, refl, sym, ap, subst, ◌∙◌, rules}
 use Rattle.std.specs.Prelude.{find}
 use Rattle.std.specs.List.{AllByRecursion, list_any}
 use Rattle.std.proofs.lemmas.Bool.{and_parts, eqb-true}
@@ -39,23 +39,14 @@ find_row P test (r ∷ rs) all h = go (find_row P test rs all.1) (test r) refl
 
 -- the immediate of `callx` is a register's number
 numbered : (k : OpKind) (src : ℕ) (i : Instruction) → (k ≡ CallRegister → IsNumbered i RegisterNumber) → AllByRecursion (IsNumbered i) (operands_of (with_immediate k) src)
-numbered (Binary op w second) src i h = (tt, (tt, tt))
-numbered (Negate w) src i h = (tt, tt)
-numbered LittleEndian src i h = (tt, tt)
-numbered BigEndian src i h = (tt, tt)
-numbered Jump src i h = (tt, tt)
-numbered (JumpIf when second) src i h = (tt, (tt, (tt, tt)))
 numbered Call src i h = go (src == 0) refl
   where
     go : (b : Bool) → (src == 0) ≡ b → AllByRecursion (IsNumbered i) (operands_of Call src)
     go true e = rw e (tt, tt)
     go false e = rw e (tt, tt)
 numbered CallRegister src i h = (h refl, tt)
-numbered Exit src i h = tt
-numbered (Load size) src i h = (tt, (tt, tt))
 numbered (Store size Immediate) src i h = (tt, (tt, tt))
-numbered (Store size Register) src i h = (tt, (tt, tt))
-numbered LoadWide src i h = (tt, (tt, tt))
+numbered k src i h = search rules
 
 -- what a row has by itself
 own : (k : OpKind) (r : Row) (i : Instruction) → r.kind ≡ with_immediate k → has_own r.kind r i ≡ true → HasOwn k r.src r.imm i.src i.imm

@@ -1,5 +1,5 @@
 -- The line of an instruction, read again.
-use Rattle.std.proofs.Common.{◌≡◌, ◌<◌, ℕ, ◌==◌, not, true, false, List, [], ◌∷◌, ◌++◌, length, Some, None, refl, ap, ap₂, ◌∙◌, map, arith, rules, append-nil, codes, sym}
+use Rattle.std.proofs.Common.{◌≡◌, ◌<◌, ℕ, ◌==◌, not, Bool, true, false, List, [], ◌∷◌, ◌++◌, length, Some, None, refl, ap, ap₂, ◌∙◌, map, arith, rules, append-nil, codes, sym}
 use Rattle.std.specs.Prelude.{ℤ, pos, fold, option_map}
 use Rattle.std.specs.List.{list_all, AllByRecursion, slice_split}
 use Rattle.std.specs.Str.{bytes_eq}
@@ -102,24 +102,24 @@ no_label before last plain =
     let ends : ends_with code (codes ":") ≡ false = ends_push before last 58 ∙ rw (plain_no_colon last plain) refl in
     rw (some, ends) refl
 
--- bytes that are plain or blank have no semicolon among them
-no_comment : (word : Text) (texts : List Text) → Clean word → AllClean texts → list_all (λ b. not (is_semicolon b)) (word_text word texts) ≡ true
-no_comment word texts h all = all_append (λ b. not (is_semicolon b)) word (operands_text (codes " ") texts) (weaker is_plain (λ b. not (is_semicolon b)) plain_no_semicolon word h.all) (rest texts all)
+-- what is true of plain bytes, of a space and of a comma is true of a word with its operands
+all_word : (p : ℕ → Bool) (word : Text) (texts : List Text) → ((c : ℕ) → is_plain c ≡ true → p c ≡ true) → p 32 ≡ true → p 44 ≡ true → Clean word → AllClean texts → list_all p (word_text word texts) ≡ true
+all_word p word texts plain space comma h all = all_append p word (operands_text (codes " ") texts) (weaker is_plain p plain word h.all) (rest texts all)
   where
-    more : (texts : List Text) → AllClean texts → list_all (λ b. not (is_semicolon b)) (more_operands texts) ≡ true
+    more : (texts : List Text) → AllClean texts → list_all p (more_operands texts) ≡ true
     more [] all = refl
-    more (u ∷ texts) all = all_append (λ b. not (is_semicolon b)) u (more_operands texts) (weaker is_plain (λ b. not (is_semicolon b)) plain_no_semicolon u all.0.all) (more texts all.1)
+    more (u ∷ texts) all = rw (comma, space) (all_append p u (more_operands texts) (weaker is_plain p plain u all.0.all) (more texts all.1))
 
-    rest : (texts : List Text) → AllClean texts → list_all (λ b. not (is_semicolon b)) (operands_text (codes " ") texts) ≡ true
+    rest : (texts : List Text) → AllClean texts → list_all p (operands_text (codes " ") texts) ≡ true
     rest [] all = refl
-    rest (t ∷ texts) all = all_append (λ b. not (is_semicolon b)) t (more_operands texts) (weaker is_plain (λ b. not (is_semicolon b)) plain_no_semicolon t all.0.all) (more texts all.1)
+    rest (t ∷ texts) all = rw space (all_append p t (more_operands texts) (weaker is_plain p plain t all.0.all) (more texts all.1))
 
 -- the item of a line of a word and its operands is that of its parts
 pub line_parts : (word : Text) (texts : List Text) → Clean word → AllClean texts → item_of (word_text word texts) ≡ parts_item (cut is_blank (word_text word texts))
 line_parts word texts h all =
     let code = word_text word texts in
     let ends = ends_code word texts h all in
-    ap (λ (c : Cut). code_item (trim c.front)) (cut_none is_semicolon code (no_comment word texts h all))
+    ap (λ (c : Cut). code_item (trim c.front)) (cut_none is_semicolon code (all_word (λ b. not (is_semicolon b)) word texts plain_no_semicolon refl refl h all))
     ∙ ap code_item (trim_framed code (framed word (operands_text (codes " ") texts) h ends))
     ∙ ap code_item ends.same ∙ no_label ends.before ends.last ends.plain ∙ ap (λ (t : Text). parts_item (cut is_blank t)) (sym ends.same)
 
@@ -167,15 +167,7 @@ plain_text : (c : ℕ) → is_plain c ≡ true → is_text_byte c ≡ true
 plain_text c h = grind (arith, nat_tests)
 
 pub word_is_text : (word : Text) (texts : List Text) → Clean word → AllClean texts → is_text (word_text word texts) ≡ true
-word_is_text word texts h all = all_append is_text_byte word (operands_text (codes " ") texts) (weaker is_plain is_text_byte plain_text word h.all) (rest texts all)
-  where
-    more : (texts : List Text) → AllClean texts → is_text (more_operands texts) ≡ true
-    more [] all = refl
-    more (u ∷ texts) all = all_append is_text_byte u (more_operands texts) (weaker is_plain is_text_byte plain_text u all.0.all) (more texts all.1)
-
-    rest : (texts : List Text) → AllClean texts → is_text (operands_text (codes " ") texts) ≡ true
-    rest [] all = refl
-    rest (t ∷ texts) all = all_append is_text_byte t (more_operands texts) (weaker is_plain is_text_byte plain_text t all.0.all) (more texts all.1)
+word_is_text word texts h all = all_word is_text_byte word texts plain_text refl refl h all
 
 pub row_is_text : (r : Row) (i : Instruction) → IsRow r → IsWide i → is_text (row_text r i) ≡ true
 row_is_text r i is_row w = word_is_text r.mnemonic (map (operand_text i) (operands_of r.kind r.src)) (clean_row r is_row) (clean_texts i (operands_of r.kind r.src) w)

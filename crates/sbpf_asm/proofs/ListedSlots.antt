@@ -34,16 +34,13 @@ signed_32 n h = go (nat_lt n 2147483648) refl
     go false e = inr (rw e (omega arith))
 
 first_two : (n a b : ℕ) → n % 256 ≡ a → n / 256 % 256 ≡ b → take 2 (to_le_bytes w64 n) ≡ a ∷ b ∷ []
-first_two n a b e f = ap₂ (λ (x y : ℕ). x ∷ y ∷ []) e f
-
-four : (x y z w a b c d : ℕ) → x ≡ a → y ≡ b → z ≡ c → w ≡ d → x ∷ y ∷ z ∷ w ∷ [] ≡ a ∷ b ∷ c ∷ d ∷ []
-four x y z w a b c d e f g h = ap₂ (λ (p : ℕ) (ps : List ℕ). p ∷ ps) e (ap₂ (λ (p : ℕ) (ps : List ℕ). p ∷ ps) f (ap₂ (λ (p q : ℕ). p ∷ q ∷ []) g h))
+first_two n a b e f = rw (e, f) refl
 
 first_four : (n a b c d : ℕ) → n % 256 ≡ a → n / 256 % 256 ≡ b → n / 65536 % 256 ≡ c → n / 16777216 % 256 ≡ d → take 4 (to_le_bytes w64 n) ≡ a ∷ b ∷ c ∷ d ∷ []
-first_four n a b c d e f g h = four _ _ _ _ a b c d e f g h
+first_four n a b c d e f g h = rw (e, f, g, h) refl
 
 last_four : (n a b c d : ℕ) → n / 2 ^ 32 % 256 ≡ a → n / 2 ^ 40 % 256 ≡ b → n / 2 ^ 48 % 256 ≡ c → n / 2 ^ 56 % 256 ≡ d → drop 4 (to_le_bytes w64 n) ≡ a ∷ b ∷ c ∷ d ∷ []
-last_four n a b c d e f g h = four _ _ _ _ a b c d e f g h
+last_four n a b c d e f g h = rw (e, f, g, h) refl
 
 offset_bytes : (a b : ℕ) → a < 256 → b < 256 → take 2 (low_bytes (cast_signed w16 (a + 256 * b))) ≡ a ∷ b ∷ []
 offset_bytes a b x y = go (cast_unsigned w128 (cast_signed w16 (a + 256 * b))) (signed_16 (a + 256 * b) (omega arith))

@@ -41,13 +41,11 @@ all_read image v text constants =
     (none_read image.text) in
     let r = read image.text image.constants (slot_count image.text) constants ((length image.constants + 31) / 32) 0 w.number w.source (omega arith) w.holds in
     let slots : slot_count image.text ≡ slot_count image.text - 0 = omega arith in
-    let lines : (length image.constants + 31) / 32 ≡ (length image.constants + 31) / 32 - 0 = omega arith in
     record {
       source = r.source;
       holds = r.holds;
       same = ap (λ (n : ℕ). with_lines 1 empty (lines_of (flat_map (slot_line image.text) (range_with_len 0 n) ++ constant_lines image.constants))) slots
           ∙ w.same
-          ∙ ap (λ (n : ℕ). with_lines w.number w.source (lines_of (flat_map (constant_line image.constants) (range_with_len 0 n)))) lines
           ∙ r.same;
     }
 

@@ -8,7 +8,7 @@ use Rattle.sbpf_asm.specs.Lines.{lines_of, without_last_empty}
 use Rattle.spec_base.specs.Reading.{◌>>=◌}
 use Rattle.std.specs.Prelude.{MatchBool}
 use Rattle.sbpf_asm.specs.Assembly.{Source, is_asm_memory, with_label, with_line, with_lines}
-use Rattle.sbpf_asm.specs.Views.{text_behind}
+use Rattle.sbpf_asm.specs.Words.{text_behind}
 use Rattle.sbpf_asm.proofs.Pieces.{split_cut, parts_after}
 
 -- ---- lines

@@ -4,7 +4,7 @@ use Rattle.std.specs.List.{list_all, slice_split}
 use Rattle.std.specs.Str.{bytes_eq}
 use Rattle.hex.specs.Hex.{decode_of}
 use Rattle.hex.specs.declared.FromHexError.{FromHexError}
-use Rattle.sbpf_asm.specs.Words.{Text, Cut, is_blank, is_comma, is_semicolon, is_line_feed, is_hex_digit, trim, cut, ends_with}
+use Rattle.sbpf_asm.specs.Words.{Text, Cut, is_blank, is_comma, is_semicolon, is_line_feed, is_hex_digit, trim, cut, text_behind, ends_with}
 use Rattle.sbpf_asm.specs.Operands.{is_name}
 use Rattle.sbpf_asm.specs.Rows.{Draft, row_of, draft_of}
 
@@ -33,8 +33,7 @@ constants_item digits = if are_digits digits then decoded (decode_of digits) els
 
 -- the text after the first word, without blanks at both ends
 abbrev pub after_word : Option (ℕ × Text) → Text
-after_word None = []
-after_word (Some p) = trim p.1
+after_word rest = trim (text_behind rest)
 
 -- the operands, parted by commas, without the blanks around each
 abbrev pub operands_of : Text → List Text

@@ -60,10 +60,6 @@ item_view (Label name) = Some (label name.now)
 item_view (Constants digits) = decoded (decode_of digits.now)
 item_view (InstructionItem draft) = Some (instruction (draft_view draft))
 
-abbrev pub text_behind : Option (ℕ × Text) → Text
-text_behind None = []
-text_behind (Some p) = p.1
-
 abbrev pub placed_view : PlacedSlices → Placed
 placed_view p = record { line = p.line; place = p.place; draft = draft_view p.draft }
 

@@ -55,6 +55,11 @@ cut at (b ∷ bs) =
     if at b then record { front = []; rest = Some (b, bs) }
     else record { front = b ∷ (cut at bs).front; rest = (cut at bs).rest }
 
+-- what follows the byte that a text is cut at, or nothing
+abbrev pub text_behind : Option (ℕ × Text) → Text
+text_behind None = []
+text_behind (Some p) = p.1
+
 -- 1 to 20 decimal digits
 abbrev pub decimal_of : Text → Option ℕ
 decimal_of text =

@@ -2,7 +2,6 @@
 ghost use Rattle.std.specs.Prelude.{◌≡◌, ◌++◌, ◌<◌, ◌≤◌, ◌*◌, ◌+◌, ◌^◌, [], IfOk, OnOk, length, pos, ◌-ℤ◌};
 ghost use Rattle.spec_base.specs.Reading.{Gives};
 ghost use Rattle.sbpf_asm.specs.Assembly.{assembled, image_of, instruction_bytes, is_asm_memory, is_too_long, led_to, linked, slots_after, verified_image};
-ghost use Rattle.sbpf_asm.specs.Rows.{leading};
 ghost use Rattle.sbpf_asm.specs.Views.{labels_view, placed_view, source_view};
 ghost use Rattle.sol_base.specs.Accounts.{max_data_len};
 ghost use Rattle.sbpf_verify.specs.Images.{image_bytes};
@@ -33,13 +32,6 @@ fn distance(target: u64, place: u64) -> i128
     i128::from(target) - i128::from(place) - 1
 }
 
-/// The instruction at a place that leads to another.
-fn led(instruction: Instruction, target: u64, place: u64) -> Instruction
-    ensures { result ≡ leading (pos target -ℤ pos (place + 1)) instruction }
-{
-    leading(distance(target, place), instruction)
-}
-
 /// The instruction that leads to a label's place.
 fn led_to(placed: Placed<'_>, target: Option<u64>) -> Result<Instruction, AsmFault>
     ensures { result ≡ led_to (placed_view placed.entry) target }
@@ -47,7 +39,7 @@ fn led_to(placed: Placed<'_>, target: Option<u64>) -> Result<Instruction, AsmFau
     let Some(target) = target else {
         return Err(AsmFault::UnknownLabel { line: placed.line });
     };
-    let instruction = led(placed.draft.instruction, target, placed.place);
+    let instruction = leading(distance(target, placed.place), placed.draft.instruction);
     if is_in_range(instruction) {
         Ok(instruction)
     } else {

@@ -1,6 +1,6 @@
 //! Instructions whose labels are still to be put in.
 ghost use Rattle.std.specs.Prelude.{◌≡◌, option_map, Some};
-ghost use Rattle.sbpf_asm.specs.Rows.{behind_first, draft_of, finished, first_of, leading, start, with_fields, with_operand, with_target};
+ghost use Rattle.sbpf_asm.specs.Rows.{behind_first, draft_of, first_of, leading, start, with_fields, with_operand, with_target};
 ghost use Rattle.sbpf_asm.specs.Lines.{operands_of};
 ghost use Rattle.sbpf_asm.specs.Views.{behind, draft_view, operands_left, rest_view, row_view, target_view};
 
@@ -168,18 +168,6 @@ pub fn other_operands<'a>(rest: Option<&'a [u8]>) -> Option<&'a [u8]>
     text_behind(cut_at(Mark::Comma, rest?).rest)
 }
 
-/// The draft, where no operand is left.
-fn finished<'a>(rest: Option<&'a [u8]>, draft: Draft<'a>) -> Option<Draft<'a>>
-    ensures { option_map draft_view result
-        ≡ finished (operands_left (option_map (λ text. text.now) rest.entry))
-        (draft_view draft.entry) }
-{
-    match rest {
-        None => Some(draft),
-        Some(_) => None,
-    }
-}
-
 /// The instruction of a row with these operands.
 pub(crate) fn draft_of(row: Row, operands: &[u8]) -> Option<Draft<'_>>
     ensures { option_map draft_view result
@@ -191,5 +179,8 @@ pub(crate) fn draft_of(row: Row, operands: &[u8]) -> Option<Draft<'_>>
         draft = with_operand(*operand, first_operand(rest)?, draft)?;
         rest = other_operands(rest);
     }
-    finished(rest, draft)
+    match rest {
+        None => Some(draft),
+        Some(_) => None,
+    }
 }

@@ -21,10 +21,10 @@ pub use instruction::{Instruction, is_call, is_wide};
 pub use laws::{
     assembled_texts_are_lines_of_items, listings_assemble_again, opcodes_have_their_mnemonics,
 };
-pub use line::{Item, after_word, item_of};
+pub use line::{Item, item_of};
 pub use lister::list;
 pub use number::number_of;
 pub use operand::{Place, Target, is_name, place_of, register_of, target_of};
-pub use piece::{Cut, Mark, cut_at, trim};
+pub use piece::{Cut, Mark, cut_at, text_behind, trim};
 pub use row::{Operand, Row, operands_of, row_of, rows};
 pub use source::{first_line, is_text_byte};

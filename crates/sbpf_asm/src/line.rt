@@ -1,12 +1,12 @@
 //! What one line stands for.
 ghost use Rattle.std.specs.Prelude.{◌≡◌, option_and_then};
-ghost use Rattle.sbpf_asm.specs.Lines.{after_word, code_item, constants_item, item_of, label_item, word_item};
-ghost use Rattle.sbpf_asm.specs.Views.{item_view, rest_view};
+ghost use Rattle.sbpf_asm.specs.Lines.{code_item, constants_item, item_of, label_item, word_item};
+ghost use Rattle.sbpf_asm.specs.Views.{item_view};
 
 use crate::draft::{Draft, draft_of};
 use crate::number::are_hex_digits;
 use crate::operand::is_name;
-use crate::piece::{Mark, cut_at, trim};
+use crate::piece::{Mark, cut_at, text_behind, trim};
 use crate::row::row_of;
 
 /// What a line stands for.
@@ -48,16 +48,6 @@ fn word_item<'a>(word: &[u8], rest: &'a [u8]) -> Option<Item<'a>>
     Some(Item::Instruction(draft_of(row_of(word)?, rest)?))
 }
 
-/// The text after the first word.
-pub fn after_word<'a>(rest: Option<(u8, &'a [u8])>) -> &'a [u8]
-    ensures { result.now ≡ after_word (rest_view rest.entry) }
-{
-    match rest {
-        None => &[],
-        Some((_, text)) => trim(text),
-    }
-}
-
 fn code_item(code: &[u8]) -> Option<Item<'_>>
     ensures { option_and_then item_view result ≡ code_item code.now }
 {
@@ -68,7 +58,7 @@ fn code_item(code: &[u8]) -> Option<Item<'_>>
         return label_item(&code[..code.len() - 1]);
     }
     let parts = cut_at(Mark::Blank, code);
-    word_item(parts.front, after_word(parts.rest))
+    word_item(parts.front, trim(text_behind(parts.rest)))
 }
 
 /// What a line stands for, or None where it is spelled as nothing that there is.

@@ -7,7 +7,7 @@ ghost use Rattle.sbpf_isa.specs.Rows.{kind_at};
 ghost use Rattle.sbpf_isa.specs.Slots.{slot_of};
 ghost use Rattle.sbpf_verify.specs.Places.{slot_count};
 ghost use Rattle.sbpf_verify.specs.Verified.{IsVerified};
-ghost use Rattle.sbpf_asm.specs.Rows.{distance, is_row_of, operand_text, row_for, row_text};
+ghost use Rattle.sbpf_asm.specs.Rows.{is_row_of, operand_text, row_text};
 ghost use Rattle.sbpf_asm.specs.Operands.{register_text, signed_text, place_text};
 ghost use Rattle.sbpf_asm.specs.Listing.{constant_line, constant_lines, instruction_lines, instruction_of, instruction_text, is_list_memory, listed, slot_line};
 ghost use Rattle.sbpf_asm.specs.Views.{row_view};
@@ -53,13 +53,6 @@ fn append_place(out: &mut Blob, register: u8, offset: i128) -> Result<(), OutOfM
     out.append(b"]")
 }
 
-/// How far on from the next instruction an instruction leads.
-fn distance(i: Instruction) -> i128
-    ensures { result ≡ distance i }
-{
-    if is_call(i.kind) { i.imm } else { i.offset }
-}
-
 fn append_operand(out: &mut Blob, i: Instruction, operand: Operand) -> Result<(), OutOfMemory>
     ensures { OnOk result (out.new ≡ out.old ++ operand_text i operand) }
 {
@@ -74,7 +67,7 @@ fn append_operand(out: &mut Blob, i: Instruction, operand: Operand) -> Result<()
             }
         }
         Operand::Number => append_number(out, i.imm),
-        Operand::JumpTarget => append_signed(out, distance(i)),
+        Operand::JumpTarget => append_signed(out, if is_call(i.kind) { i.imm } else { i.offset }),
         Operand::DestinationPlace => append_place(out, i.dst, i.offset),
         Operand::SourcePlace => append_place(out, i.src, i.offset),
         Operand::RegisterNumber => {
@@ -106,13 +99,6 @@ fn row_in(rows: &[Row], i: Instruction) -> Option<Row>
         }
     }
     None
-}
-
-/// The row of an instruction.
-fn row_for(i: Instruction) -> Option<Row>
-    ensures { option_map row_view result ≡ row_for i }
-{
-    row_in(rows(), i)
 }
 
 fn append_row(out: &mut Blob, row: Row, i: Instruction) -> Result<(), OutOfMemory>
@@ -153,20 +139,13 @@ fn instruction_of(text: &[u8], place: usize, kind: OpKind) -> Instruction
     }
 }
 
-/// Appends an instruction without a line feed.
-fn append_instruction(out: &mut Blob, i: Instruction) -> Result<(), OutOfMemory>
-    ensures { OnOk result (out.new ≡ out.old ++ instruction_text i) }
-{
-    match row_for(i) {
-        Some(row) => append_row(out, row, i),
-        None => Ok(()),
-    }
-}
-
+/// Appends the line of an instruction.
 fn append_line(out: &mut Blob, i: Instruction) -> Result<(), OutOfMemory>
     ensures { OnOk result (out.new ≡ out.old ++ (instruction_text i ++ codes "\n")) }
 {
-    append_instruction(out, i)?;
+    if let Some(row) = row_in(rows(), i) {
+        append_row(out, row, i)?;
+    }
     out.append(b"\n")
 }
 

@@ -1,7 +1,7 @@
 //! Operands: registers, places in memory and targets.
 ghost use Rattle.std.specs.Prelude.{◌≡◌, option_map};
 ghost use Rattle.std.specs.List.{list_all};
-ghost use Rattle.sbpf_asm.specs.Operands.{is_name, is_name_byte, place_of, place_within, register_of, starts_with_sign, target_of};
+ghost use Rattle.sbpf_asm.specs.Operands.{is_name, is_name_byte, place_of, place_within, register_of, target_of};
 ghost use Rattle.sbpf_asm.specs.Views.{cut_view, target_view};
 
 use crate::number::signed_of;
@@ -48,17 +48,11 @@ pub fn is_name(text: &[u8]) -> bool
     are_name_bytes(text) && 0 < text.len() && text.len() <= 64 && !text[0].is_ascii_digit()
 }
 
-fn starts_with_sign(text: &[u8]) -> bool
-    ensures { result ≡ starts_with_sign text.now }
-{
-    text.starts_with(b"+") || text.starts_with(b"-")
-}
-
 /// The target of a text, where it is one.
 pub fn target_of(text: &[u8]) -> Option<Target<'_>>
     ensures { option_map target_view result ≡ target_of text.now }
 {
-    if starts_with_sign(text) {
+    if text.starts_with(b"+") || text.starts_with(b"-") {
         return Some(Target::Offset(signed_of(text[0], &text[1..])?));
     }
     if is_name(text) {

@@ -1,7 +1,7 @@
 //! Texts cut into pieces, and blanks around them.
 ghost use Rattle.std.specs.Prelude.{◌≡◌};
-ghost use Rattle.sbpf_asm.specs.Words.{cut, trim, is_blank, without_first_blanks, without_last_blanks};
-ghost use Rattle.sbpf_asm.specs.Views.{cut_view, is_mark};
+ghost use Rattle.sbpf_asm.specs.Words.{cut, text_behind, trim, is_blank, without_first_blanks, without_last_blanks};
+ghost use Rattle.sbpf_asm.specs.Views.{cut_view, is_mark, rest_view};
 
 /// What a text is cut at.
 #[derive(Clone, Copy)]
@@ -53,6 +53,16 @@ pub fn cut_at<'a>(mark: Mark, text: &'a [u8]) -> Cut<'a>
     Cut {
         front: text,
         rest: None,
+    }
+}
+
+/// What follows the byte that a text is cut at, or nothing.
+pub fn text_behind<'a>(rest: Option<(u8, &'a [u8])>) -> &'a [u8]
+    ensures { result.now ≡ text_behind (rest_view rest.entry) }
+{
+    match rest {
+        None => &[],
+        Some((_, text)) => text,
     }
 }
 

@@ -4,14 +4,14 @@ ghost use Rattle.spec_base.specs.Reading.{Gives, ok_if};
 ghost use Rattle.sbpf_asm.specs.declared.fault.AsmFault.TheVariants.{Range};
 ghost use Rattle.sbpf_asm.specs.Assembly.{empty, is_asm_memory, is_in_range, is_text, is_text_byte, place_in, with_draft, with_item, with_label, with_line, with_lines};
 ghost use Rattle.sbpf_asm.specs.Lines.{decoded, lines_of};
-ghost use Rattle.sbpf_asm.specs.Views.{draft_view, rest_view, source_view, text_behind};
+ghost use Rattle.sbpf_asm.specs.Views.{draft_view, source_view};
 ghost use Rattle.hex.specs.Hex.{decode_of};
 
 use crate::draft::Draft;
 use crate::fault::AsmFault;
 use crate::instruction::{Instruction, is_wide};
 use crate::line::{Item, item_of};
-use crate::piece::{Mark, cut_at};
+use crate::piece::{Mark, cut_at, text_behind};
 use indexmap::IndexMap;
 use sol_base::{Blob, Items};
 use std::alloc::Global;
@@ -56,16 +56,6 @@ pub(crate) fn is_in_range(i: Instruction) -> bool
         fits_offset && -0x8000_0000_0000_0000 <= i.imm && i.imm <= 0xffff_ffff_ffff_ffff
     } else {
         fits_offset && -0x8000_0000 <= i.imm && i.imm <= 0x7fff_ffff
-    }
-}
-
-/// What follows a line feed, or nothing.
-fn text_behind<'a>(rest: Option<(u8, &'a [u8])>) -> &'a [u8]
-    ensures { result.now ≡ text_behind (rest_view rest.entry) }
-{
-    match rest {
-        None => &[],
-        Some((_, text)) => text,
     }
 }
 

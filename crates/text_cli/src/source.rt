@@ -1,7 +1,8 @@
 //! The command `why` over an assembler text.
+use crate::why::refused_slot;
 use asm_hints::{Hint, hint_of, line_at, line_of_slot, nearest_mnemonic, word_of};
 use command_parts::{Answer, INPUT_REFUSED, noted, written};
-use sbpf_asm::{AsmFault, assemble};
+use sbpf_asm::{AsmFault, assemble, trim};
 use sol_base::OutOfMemory;
 use std::alloc::Global;
 use std::str;
@@ -15,7 +16,6 @@ static OTHERS: [&[u8]; 5] = [b"SOLSNAP", b"SOLBATC", b"SOLBLCK", b"SBPFIMG", b"{
 /// Whether bytes are an assembler text: they have no byte 0, and do not begin as others do.
 pub(crate) fn is_source(bytes: &[u8]) -> bool {
     !bytes.is_empty()
-        && bytes.len() <= u32::MAX as usize
         && bytes.iter().all(|byte| *byte != 0)
         && OTHERS
             .iter()
@@ -31,7 +31,7 @@ fn refused_line(bytes: &[u8], fault: AsmFault) -> Option<u32> {
         | AsmFault::RepeatedLabel { line }
         | AsmFault::UnknownLabel { line } => Some(line),
         AsmFault::Unverified(fault) => {
-            let line = line_of_slot(bytes, fault.slot()?)?;
+            let line = line_of_slot(bytes, refused_slot(fault)?)?;
             u32::try_from(line).ok()
         }
         AsmFault::TooLong | AsmFault::OutOfMemory => None,
@@ -66,14 +66,15 @@ fn wanted(
     Ok(format!(in alloc; "{hint}{near}")?)
 }
 
-/// The start of a line, where it is text.
+/// The start of what a line says, where it is text without tabs.
 fn shown(line: &[u8]) -> &str {
+    let line = trim(line);
     let start = match line.get(..MAX_SHOWN) {
         Some(start) => start,
         None => line,
     };
     match str::from_utf8(start) {
-        Ok(text) if start.iter().all(|byte| *byte >= 32) => text,
+        Ok(text) if start.iter().all(|byte| 32 <= *byte && *byte <= 126) => text,
         _ => "",
     }
 }
@@ -86,7 +87,7 @@ fn why_line(
 ) -> Result<Answer, OutOfMemory> {
     let line = line_at(bytes, number);
     let wanted = wanted(alloc, bytes, line, fault)?;
-    let shown = shown(line).trim();
+    let shown = shown(line);
     let text = if shown.is_empty() {
         format!(in alloc; "line {number}: {wanted}")?
     } else {
@@ -97,6 +98,14 @@ fn why_line(
 
 /// The refusal of an assembler text as a sentence.
 pub(crate) fn why_source(alloc: Global, bytes: &[u8]) -> Result<Answer, OutOfMemory> {
+    if bytes.len() > u32::MAX as usize {
+        return noted(
+            alloc,
+            INPUT_REFUSED,
+            "asm",
+            "a text has at most 4294967295 bytes",
+        );
+    }
     let fault = match assemble(alloc, bytes) {
         Ok(_) => return written(alloc, b"it is not refused\n"),
         Err(AsmFault::OutOfMemory) => return Err(OutOfMemory),

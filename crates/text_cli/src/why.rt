@@ -157,7 +157,7 @@ fn why_record(alloc: Global, bytes: &[u8]) -> Result<Answer, OutOfMemory> {
 }
 
 /// The slot that is refused. None where it is the whole text.
-fn refused_slot(fault: VerifyFault) -> Option<u32> {
+pub(crate) fn refused_slot(fault: VerifyFault) -> Option<u32> {
     match fault {
         VerifyFault::Length | VerifyFault::OpenEnd => None,
         VerifyFault::Opcode { at }

@@ -1,7 +1,7 @@
 use Rattle.std.proofs.Common.{◌≡◌, ◌<◌, ◌∷◌, length}
 use Rattle.sbpf_asm.specs.Words.{Text, Cut, is_line_feed, cut}
 use Rattle.sbpf_asm.specs.Lines.{lines_of}
-use Rattle.sbpf_asm.specs.Views.{text_behind}
+use Rattle.sbpf_asm.specs.Words.{text_behind}
 use Rattle.sbpf_asm.proofs.Sources.{line_cut, behind_shorter}
 use Rattle.sbpf_asm.proofs.source.first_line.Goals as goal
 
