@@ -52,7 +52,7 @@ tick() {
 start_clock() {
   clock=''
   case $page in
-    produce | make | chain-add | chain-export) [ -t 2 ] || return 0 ;;
+    produce | make | replay | chain-new | chain-add | chain-state | chain-export) [ -t 2 ] || return 0 ;;
     *) return 0 ;;
   esac
   tick > /dev/null < /dev/null &

@@ -6,32 +6,15 @@ use crate::begin::begun;
 use crate::check::{Wanted, checked};
 use crate::export::exported;
 use crate::reads::{block, listed, state};
-use crate::word_faults::fault_text;
-use command_parts::{Answer, WORDS_REFUSED, lent_words, path_of, written};
-use ledger_words::{ChainCommand, ChainWordsFault, USAGE, VERSION, read_chain_words};
-use sol_base::{Blob, OutOfMemory};
+use crate::word_faults::words_text;
+use command_parts::{Answer, lent_words, path_of, written};
+use command_words::{printable, refused};
+use ledger_words::{ChainCommand, USAGE, VERSION, read_chain_words};
+use sol_base::OutOfMemory;
 use std::alloc::Global;
 use std::rt::{Clock, Files};
 use std::sync::Wait;
 use std::thread::Threads;
-
-/// The answer to arguments that are no command: what is wrong, and how commands are written.
-fn refused_words(
-    alloc: Global,
-    words: &[&str],
-    fault: ChainWordsFault,
-) -> Result<Answer, OutOfMemory> {
-    let text = fault_text(alloc, words, fault)?;
-    let mut notes = Blob::from_slice(alloc, b"chain: ")?;
-    notes.append(text.as_bytes())?;
-    notes.append(b"\n")?;
-    notes.append(USAGE.as_bytes())?;
-    Ok(Answer {
-        status: WORDS_REFUSED,
-        output: Blob::new(alloc),
-        notes,
-    })
-}
 
 /// The answer to a command. `host`, `rt` and `threads` are the same runtime, and each is handed on for what
 /// it is used for: `host` opens the file of an export, and the files that several replay at once.
@@ -93,9 +76,17 @@ pub fn answer_words<
     texts: &[String],
     shows: bool,
 ) -> Result<Answer, OutOfMemory> {
-    let words = lent_words(rt.alloc(), texts)?;
-    match read_chain_words(rt.alloc(), words.as_slice()) {
-        Ok(command) => answer_command(host, rt, threads, &command, shows),
-        Err(fault) => refused_words(rt.alloc(), words.as_slice(), fault),
-    }
+    let alloc = rt.alloc();
+    let words = lent_words(alloc, texts)?;
+    let told = match read_chain_words(alloc, words.as_slice()) {
+        Ok(command) => answer_command(host, rt, threads, &command, shows)?,
+        Err(fault) => {
+            let text = words_text(alloc, words.as_slice(), &fault)?;
+            refused(alloc, "chain", text.as_str(), USAGE)?
+        }
+    };
+    Ok(Answer {
+        notes: printable(alloc, told.notes.as_slice())?,
+        ..told
+    })
 }

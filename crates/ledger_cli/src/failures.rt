@@ -9,7 +9,7 @@ use std::rt::Files;
 /// What the system says of a failure.
 fn cause_text(alloc: Global, cause: ErrorKind) -> Result<String, OutOfMemory> {
     match cause {
-        ErrorKind::NotFound => Ok(format!(in alloc; "no such file or directory")?),
+        ErrorKind::NotFound => Ok(format!(in alloc; "no such file or folder")?),
         cause => Ok(cause.to_string(alloc)?),
     }
 }

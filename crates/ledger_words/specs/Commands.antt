@@ -1,29 +1,19 @@
 -- The commands for chains as words (the project's own): `chain`, the name of the command, and then its
 -- folder and its options, in any order.
-use Rattle.std.specs.Prelude.{ℕ, Bool, true, false, codes, List, [], ◌∷◌, Option, Some, None, Ok, Err, if◌then◌else◌}
+use Rattle.std.specs.Prelude.{ℕ, ◌^◌, ◌-◌, codes, List, [], ◌∷◌, Option, Some, None, Ok, Err, if◌then◌else◌}
 use Rattle.std.specs.Str.{bytes_eq}
 use Rattle.spec_base.specs.Reading.{◌>>=◌}
 use Rattle.sol_base.specs.Limits.{max_lanes, max_senders}
-use Rattle.ledger_words.specs.Parameters.{Text, command_named, options_of}
-use Rattle.ledger_words.specs.Arguments.{Read, Setting, settings_in}
-use Rattle.ledger_words.specs.Values.{IsFrom1, count_given, needed, path_given, slot_given}
+use Rattle.command_words.specs.Shapes.{Text}
+use Rattle.command_words.specs.Arguments.{Read, Setting, asks_for_help, settings_in}
+use Rattle.command_words.specs.Values.{number_given, path_needed}
+use Rattle.command_words.specs.declared.fault.WordsFault.TheVariants.{Command, Missing}
+use Rattle.ledger_words.specs.Names.{command_named, rules_of_command}
+use Rattle.ledger_words.specs.Counts.{IsFrom1, count_given}
 use Rattle.ledger_words.specs.declared.command.ChainCommand.{ChainCommand}
 use Rattle.ledger_words.specs.declared.command.ChainCommand.TheVariants.{Help, Version, New, Add, State, Block, Check, List as ListBlocks, Export}
-use Rattle.ledger_words.specs.declared.command.ChainWordsFault.{ChainWordsFault}
-use Rattle.ledger_words.specs.declared.command.ChainWordsFault.TheVariants.{Command, Unknown, Repeated, NoValue, Value, Missing, OutOfMemory}
-use Rattle.ledger_words.specs.declared.parameter.CommandName.{CommandName}
-use Rattle.ledger_words.specs.declared.parameter.CommandName.TheVariants as name
-use Rattle.ledger_words.specs.declared.parameter.Parameter.TheVariants.{Folder, Every, Lanes, Senders, Slot, From, To, Jobs, Sqlite}
-
--- out of memory, which no word shows
-abbrev pub is_words_memory : ChainWordsFault → Bool
-is_words_memory Command = false
-is_words_memory (Unknown _) = false
-is_words_memory (Repeated _) = false
-is_words_memory (NoValue _) = false
-is_words_memory (Value _) = false
-is_words_memory (Missing _) = false
-is_words_memory OutOfMemory = true
+use Rattle.ledger_words.specs.declared.name.CommandName.{CommandName}
+use Rattle.ledger_words.specs.declared.name.CommandName.TheVariants as name
 
 -- how many blocks stand at most from one full state to the next, and how many where nothing is said
 abbrev pub max_every : ℕ
@@ -36,49 +26,61 @@ default_every = 16
 abbrev pub max_jobs : ℕ
 max_jobs = 64
 
+-- the folder of a chain
+abbrev pub folder_in : List Setting → Read Text
+folder_in settings = path_needed (codes "DIR") settings
+
+-- the slot of an option, which may be left out
+abbrev pub slot_given : Text → List Setting → Read (Option ℕ)
+slot_given option settings = number_given option 0 (2 ^ 64 - 1) settings
+
+abbrev pub slot_needed : Option ℕ → Read ℕ
+slot_needed None = Err (Missing (codes "--slot"))
+slot_needed (Some slot) = Ok slot
+
 unfoldable pub new_by : List Setting → Read ChainCommand
 new_by settings = do
-  every ← count_given Every max_every default_every settings
-  folder ← path_given Folder settings
+  every ← count_given (codes "--every") max_every default_every settings
+  folder ← folder_in settings
   Ok (New folder every)
 
 unfoldable pub add_by : List Setting → Read ChainCommand
 add_by settings = do
-  lanes ← count_given Lanes max_lanes 1 settings
-  senders ← count_given Senders max_senders 1 settings
-  folder ← path_given Folder settings
+  lanes ← count_given (codes "--lanes") max_lanes 1 settings
+  senders ← count_given (codes "--senders") max_senders 1 settings
+  folder ← folder_in settings
   Ok (Add folder lanes senders)
 
 unfoldable pub state_by : List Setting → Read ChainCommand
 state_by settings = do
-  slot ← slot_given Slot settings
-  folder ← path_given Folder settings
+  slot ← slot_given (codes "--slot") settings
+  folder ← folder_in settings
   Ok (State folder slot)
 
 unfoldable pub block_by : List Setting → Read ChainCommand
 block_by settings = do
-  given ← slot_given Slot settings
-  folder ← path_given Folder settings
-  slot ← needed Slot given
+  given ← slot_given (codes "--slot") settings
+  folder ← folder_in settings
+  slot ← slot_needed given
   Ok (Block folder slot)
 
 unfoldable pub check_by : List Setting → Read ChainCommand
 check_by settings = do
-  first ← slot_given From settings
-  last ← slot_given To settings
-  jobs ← count_given Jobs max_jobs 1 settings
-  folder ← path_given Folder settings
+  first ← slot_given (codes "--from") settings
+  last ← slot_given (codes "--to") settings
+  jobs ← count_given (codes "--jobs") max_jobs 1 settings
+  folder ← folder_in settings
   Ok (Check folder first last jobs)
 
 unfoldable pub list_by : List Setting → Read ChainCommand
 list_by settings = do
-  folder ← path_given Folder settings
+  folder ← folder_in settings
   Ok (ListBlocks folder)
 
 unfoldable pub export_by : List Setting → Read ChainCommand
 export_by settings = do
-  folder ← path_given Folder settings
-  file ← path_given Sqlite settings
+  folder ← folder_in settings
+  file ← path_needed (codes "--sqlite") settings
   Ok (Export folder file)
 
 -- the command of a name with these settings
@@ -101,14 +103,9 @@ other_named word words =
     if bytes_eq (codes "--help") word then alone Help words else
     (if bytes_eq (codes "--version") word then alone Version words else Err Command)
 
--- the words behind a command's name ask for help
-abbrev pub asks_for_help : List Text → Bool
-asks_for_help (word ∷ []) = bytes_eq word (codes "--help")
-asks_for_help _ = false
-
 unfoldable pub folder_command : CommandName → List Text → Read ChainCommand
 folder_command command words = do
-  settings ← settings_in (options_of command) words
+  settings ← settings_in (rules_of_command command) words
   command_by command settings
 
 abbrev pub command_from : Option CommandName → Text → List Text → Read ChainCommand

@@ -1,5 +1,3 @@
-pub use Rattle.spec_base.specs.Reading
-pub mod Parameters
-pub mod Arguments
-pub mod Values
+pub mod Names
+pub mod Counts
 pub mod Commands

@@ -1,6 +1,5 @@
 //! The commands for chains.
-use crate::parameter::Parameter;
-use sol_base::{Blob, OutOfMemory};
+use sol_base::Blob;
 
 /// A command with what its arguments say. Folders and files are texts.
 #[derive(Drop)]
@@ -43,33 +42,4 @@ pub enum ChainCommand {
         folder: Blob,
         file: Blob,
     },
-}
-
-/// Why there is no command.
-#[derive(Drop)]
-pub enum ChainWordsFault {
-    /// The arguments name no command.
-    Command,
-    /// The command has no option of this name.
-    Unknown { name: Blob },
-    /// The parameter is given twice.
-    Repeated { parameter: Parameter },
-    /// No value follows the option.
-    NoValue { parameter: Parameter },
-    /// The value of the parameter is not in its form.
-    Value { parameter: Parameter },
-    /// The command needs this parameter.
-    Missing { parameter: Parameter },
-    OutOfMemory,
-}
-
-impl From<OutOfMemory> for ChainWordsFault {
-    ghost use Rattle.std.specs.Prelude.{◌≡◌};
-    ghost use Rattle.ledger_words.specs.declared.command.ChainWordsFault.TheVariants.{OutOfMemory as no_memory};
-
-    ghost from_gives = { λ _ e. e ≡ no_memory };
-
-    fn from(_e: OutOfMemory) -> ChainWordsFault {
-        ChainWordsFault::OutOfMemory
-    }
 }

@@ -1,15 +1,14 @@
 //! The arguments of the command line for chains, and the command that they are.
 #![tactic(auto)]
 
-mod arguments;
 mod command;
-mod parameter;
+mod counts;
+mod name;
 mod reading;
 mod usage;
-mod values;
 
-pub use command::{ChainCommand, ChainWordsFault};
-pub use parameter::{CommandName, Parameter, command_named};
+pub use command::ChainCommand;
+pub use counts::{MAX_EVERY, MAX_JOBS};
+pub use name::{CommandName, command_named};
 pub use reading::read_chain_words;
 pub use usage::{USAGE, VERSION};
-pub use values::{MAX_EVERY, MAX_JOBS};

@@ -1,14 +1,15 @@
 //! From arguments to a command.
 ghost use Rattle.std.specs.Prelude.{◌≡◌, IfOk, map};
 ghost use Rattle.spec_base.specs.Reading.{Gives};
-ghost use Rattle.ledger_words.specs.Arguments.{setting_of};
-ghost use Rattle.ledger_words.specs.Commands.{IsInRange, add_by, alone, asks_for_help, block_by, check_by, command_by, command_from, command_of, export_by, folder_command, is_words_memory, list_by, new_by, other_named, state_by};
+ghost use Rattle.command_words.specs.Arguments.{setting_of};
+ghost use Rattle.command_words.specs.Faults.{is_words_memory};
+ghost use Rattle.ledger_words.specs.Commands.{IsInRange, add_by, alone, block_by, check_by, command_by, command_from, command_of, export_by, folder_command, list_by, new_by, other_named, state_by};
 
-use crate::arguments::{Argument, arguments_in};
-use crate::command::{ChainCommand, ChainWordsFault};
-use crate::parameter::{CommandName, Parameter, command_named};
-use crate::values::{MAX_EVERY, MAX_JOBS, count_of, path_in, slot_of};
-use sol_base::{MAX_LANES, MAX_SENDERS};
+use crate::command::ChainCommand;
+use crate::counts::{MAX_EVERY, MAX_JOBS, count_of};
+use crate::name::{CommandName, command_named};
+use command_words::{Argument, WordsFault, arguments_in, asks_for_help, number_of, path_needed};
+use sol_base::{Blob, MAX_LANES, MAX_SENDERS};
 use std::alloc::Global;
 
 /// How many blocks are between full states where nothing is said.
@@ -17,7 +18,7 @@ const EVERY: u32 = 16;
 /// The command that the arguments are (the project's own commands), or the first thing that is wrong
 /// with them: the command's name, then the arguments behind it one after the other, then their values,
 /// and then what is missing.
-pub fn read_chain_words(alloc: Global, words: &[&str]) -> Result<ChainCommand, ChainWordsFault>
+pub fn read_chain_words(alloc: Global, words: &[&str]) -> Result<ChainCommand, WordsFault>
     ensures exact { Gives is_words_memory (λ command. command) result
         (command_of (map (λ w. w.now) words.now)) }
     ensures range { IfOk result IsInRange }
@@ -26,7 +27,7 @@ pub fn read_chain_words(alloc: Global, words: &[&str]) -> Result<ChainCommand, C
         [first, word, rest @ ..] if *first == "chain" => {
             command_from(alloc, command_named(word), word, rest)
         }
-        _ => Err(ChainWordsFault::Command),
+        _ => Err(WordsFault::Command),
     }
 }
 
@@ -36,7 +37,7 @@ fn command_from(
     name: Option<CommandName>,
     word: &str,
     words: &[&str],
-) -> Result<ChainCommand, ChainWordsFault>
+) -> Result<ChainCommand, WordsFault>
     ensures exact { Gives is_words_memory (λ command. command) result
         (command_from name word.now (map (λ w. w.now) words.now)) }
     ensures range { IfOk result IsInRange }
@@ -48,20 +49,20 @@ fn command_from(
     }
 }
 
-/// The command of an argument that is none of a command with a folder.
-fn other_named(word: &str, words: &[&str]) -> Result<ChainCommand, ChainWordsFault>
+/// The command of a word that is none of a command with a folder.
+fn other_named(word: &str, words: &[&str]) -> Result<ChainCommand, WordsFault>
     ensures exact { result ≡ other_named word.now (map (λ w. w.now) words.now) }
     ensures range { IfOk result IsInRange }
 {
     match word {
         "--help" => alone(ChainCommand::Help, words),
         "--version" => alone(ChainCommand::Version, words),
-        _ => Err(ChainWordsFault::Command),
+        _ => Err(WordsFault::Command),
     }
 }
 
-/// The command itself where no arguments follow it.
-fn alone(command: ChainCommand, words: &[&str]) -> Result<ChainCommand, ChainWordsFault>
+/// The command itself where no words follow it.
+fn alone(command: ChainCommand, words: &[&str]) -> Result<ChainCommand, WordsFault>
     requires { IsInRange command }
     ensures exact { result ≡ alone command (map (λ w. w.now) words.now) }
     ensures range { IfOk result IsInRange }
@@ -69,17 +70,7 @@ fn alone(command: ChainCommand, words: &[&str]) -> Result<ChainCommand, ChainWor
     if words.is_empty() {
         Ok(command)
     } else {
-        Err(ChainWordsFault::Command)
-    }
-}
-
-/// Whether the arguments behind a command's name ask for help.
-fn asks_for_help(words: &[&str]) -> bool
-    ensures { result ≡ asks_for_help (map (λ w. w.now) words.now) }
-{
-    match words {
-        [word] => *word == "--help",
-        _ => false,
+        Err(WordsFault::Command)
     }
 }
 
@@ -88,12 +79,12 @@ fn folder_command(
     alloc: Global,
     name: CommandName,
     words: &[&str],
-) -> Result<ChainCommand, ChainWordsFault>
+) -> Result<ChainCommand, WordsFault>
     ensures exact { Gives is_words_memory (λ command. command) result
         (folder_command name (map (λ w. w.now) words.now)) }
     ensures range { IfOk result IsInRange }
 {
-    let arguments = arguments_in(alloc, name.options(), words)?;
+    let arguments = arguments_in(alloc, &name.shape(), words)?;
     command_by(alloc, name, arguments.as_slice())
 }
 
@@ -102,7 +93,7 @@ fn command_by(
     alloc: Global,
     name: CommandName,
     arguments: &[Argument<'_>],
-) -> Result<ChainCommand, ChainWordsFault>
+) -> Result<ChainCommand, WordsFault>
     ensures exact { Gives is_words_memory (λ command. command) result
         (command_by name (map setting_of arguments.now)) }
     ensures range { IfOk result IsInRange }
@@ -119,25 +110,25 @@ fn command_by(
 }
 
 #[tactic(auto, unfolding(crate::specs::Commands::new_by))]
-fn new_by(alloc: Global, arguments: &[Argument<'_>]) -> Result<ChainCommand, ChainWordsFault>
+fn new_by(alloc: Global, arguments: &[Argument<'_>]) -> Result<ChainCommand, WordsFault>
     ensures exact { Gives is_words_memory (λ command. command) result
         (new_by (map setting_of arguments.now)) }
     ensures range { IfOk result IsInRange }
 {
-    let every = count_of(Parameter::Every, MAX_EVERY, EVERY, arguments)?;
-    let folder = path_in(alloc, Parameter::Folder, arguments)?;
+    let every = count_of(alloc, arguments, "--every", MAX_EVERY, EVERY)?;
+    let folder = path_needed(alloc, arguments, "DIR")?;
     Ok(ChainCommand::New { folder, every })
 }
 
 #[tactic(auto, unfolding(crate::specs::Commands::add_by))]
-fn add_by(alloc: Global, arguments: &[Argument<'_>]) -> Result<ChainCommand, ChainWordsFault>
+fn add_by(alloc: Global, arguments: &[Argument<'_>]) -> Result<ChainCommand, WordsFault>
     ensures exact { Gives is_words_memory (λ command. command) result
         (add_by (map setting_of arguments.now)) }
     ensures range { IfOk result IsInRange }
 {
-    let lanes = count_of(Parameter::Lanes, MAX_LANES, 1, arguments)?;
-    let senders = count_of(Parameter::Senders, MAX_SENDERS, 1, arguments)?;
-    let folder = path_in(alloc, Parameter::Folder, arguments)?;
+    let lanes = count_of(alloc, arguments, "--lanes", MAX_LANES, 1)?;
+    let senders = count_of(alloc, arguments, "--senders", MAX_SENDERS, 1)?;
+    let folder = path_needed(alloc, arguments, "DIR")?;
     Ok(ChainCommand::Add {
         folder,
         lanes,
@@ -146,42 +137,42 @@ fn add_by(alloc: Global, arguments: &[Argument<'_>]) -> Result<ChainCommand, Cha
 }
 
 #[tactic(auto, unfolding(crate::specs::Commands::state_by))]
-fn state_by(alloc: Global, arguments: &[Argument<'_>]) -> Result<ChainCommand, ChainWordsFault>
+fn state_by(alloc: Global, arguments: &[Argument<'_>]) -> Result<ChainCommand, WordsFault>
     ensures exact { Gives is_words_memory (λ command. command) result
         (state_by (map setting_of arguments.now)) }
     ensures range { IfOk result IsInRange }
 {
-    let slot = slot_of(Parameter::Slot, arguments)?;
-    let folder = path_in(alloc, Parameter::Folder, arguments)?;
+    let slot = number_of(alloc, arguments, "--slot", 0, u64::MAX)?;
+    let folder = path_needed(alloc, arguments, "DIR")?;
     Ok(ChainCommand::State { folder, slot })
 }
 
 #[tactic(auto, unfolding(crate::specs::Commands::block_by))]
-fn block_by(alloc: Global, arguments: &[Argument<'_>]) -> Result<ChainCommand, ChainWordsFault>
+fn block_by(alloc: Global, arguments: &[Argument<'_>]) -> Result<ChainCommand, WordsFault>
     ensures exact { Gives is_words_memory (λ command. command) result
         (block_by (map setting_of arguments.now)) }
     ensures range { IfOk result IsInRange }
 {
-    let given = slot_of(Parameter::Slot, arguments)?;
-    let folder = path_in(alloc, Parameter::Folder, arguments)?;
+    let given = number_of(alloc, arguments, "--slot", 0, u64::MAX)?;
+    let folder = path_needed(alloc, arguments, "DIR")?;
     match given {
         Some(slot) => Ok(ChainCommand::Block { folder, slot }),
-        None => Err(ChainWordsFault::Missing {
-            parameter: Parameter::Slot,
+        None => Err(WordsFault::Missing {
+            name: Blob::from_slice(alloc, b"--slot")?,
         }),
     }
 }
 
 #[tactic(auto, unfolding(crate::specs::Commands::check_by))]
-fn check_by(alloc: Global, arguments: &[Argument<'_>]) -> Result<ChainCommand, ChainWordsFault>
+fn check_by(alloc: Global, arguments: &[Argument<'_>]) -> Result<ChainCommand, WordsFault>
     ensures exact { Gives is_words_memory (λ command. command) result
         (check_by (map setting_of arguments.now)) }
     ensures range { IfOk result IsInRange }
 {
-    let from = slot_of(Parameter::From, arguments)?;
-    let to = slot_of(Parameter::To, arguments)?;
-    let jobs = count_of(Parameter::Jobs, MAX_JOBS, 1, arguments)?;
-    let folder = path_in(alloc, Parameter::Folder, arguments)?;
+    let from = number_of(alloc, arguments, "--from", 0, u64::MAX)?;
+    let to = number_of(alloc, arguments, "--to", 0, u64::MAX)?;
+    let jobs = count_of(alloc, arguments, "--jobs", MAX_JOBS, 1)?;
+    let folder = path_needed(alloc, arguments, "DIR")?;
     Ok(ChainCommand::Check {
         folder,
         from,
@@ -191,22 +182,22 @@ fn check_by(alloc: Global, arguments: &[Argument<'_>]) -> Result<ChainCommand, C
 }
 
 #[tactic(auto, unfolding(crate::specs::Commands::list_by))]
-fn list_by(alloc: Global, arguments: &[Argument<'_>]) -> Result<ChainCommand, ChainWordsFault>
+fn list_by(alloc: Global, arguments: &[Argument<'_>]) -> Result<ChainCommand, WordsFault>
     ensures exact { Gives is_words_memory (λ command. command) result
         (list_by (map setting_of arguments.now)) }
     ensures range { IfOk result IsInRange }
 {
-    let folder = path_in(alloc, Parameter::Folder, arguments)?;
+    let folder = path_needed(alloc, arguments, "DIR")?;
     Ok(ChainCommand::List { folder })
 }
 
 #[tactic(auto, unfolding(crate::specs::Commands::export_by))]
-fn export_by(alloc: Global, arguments: &[Argument<'_>]) -> Result<ChainCommand, ChainWordsFault>
+fn export_by(alloc: Global, arguments: &[Argument<'_>]) -> Result<ChainCommand, WordsFault>
     ensures exact { Gives is_words_memory (λ command. command) result
         (export_by (map setting_of arguments.now)) }
     ensures range { IfOk result IsInRange }
 {
-    let folder = path_in(alloc, Parameter::Folder, arguments)?;
-    let file = path_in(alloc, Parameter::Sqlite, arguments)?;
+    let folder = path_needed(alloc, arguments, "DIR")?;
+    let file = path_needed(alloc, arguments, "--sqlite")?;
     Ok(ChainCommand::Export { folder, file })
 }

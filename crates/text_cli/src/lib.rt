@@ -8,6 +8,7 @@ mod files;
 mod forms;
 mod json;
 mod kinds;
+mod known;
 mod lines;
 mod picture;
 mod places;

@@ -1,5 +1,5 @@
 //! The commands for texts.
-use sol_base::{Blob, Key, OutOfMemory};
+use sol_base::{Blob, Key};
 
 /// What bytes are of.
 #[derive(Clone, Copy, PartialEq, Eq)]
@@ -48,23 +48,4 @@ pub enum TextCommand {
     /// How parallel a block is, and a picture of it.
     Shape { picture: Option<Blob> },
     Why,
-}
-
-/// Why there is no command.
-#[derive(Clone, Copy, PartialEq, Eq)]
-pub enum TextWordsFault {
-    /// The arguments are no command.
-    Refused,
-    OutOfMemory,
-}
-
-impl From<OutOfMemory> for TextWordsFault {
-    ghost use Rattle.std.specs.Prelude.{◌≡◌};
-    ghost use Rattle.text_words.specs.declared.command.TextWordsFault.TheVariants.{OutOfMemory as no_memory};
-
-    ghost from_gives = { λ _ e. e ≡ no_memory };
-
-    fn from(_e: OutOfMemory) -> TextWordsFault {
-        TextWordsFault::OutOfMemory
-    }
 }

@@ -2,10 +2,12 @@
 #![tactic(auto)]
 
 mod command;
-mod files;
+mod forms;
+mod name;
 mod reading;
 mod usage;
 
-pub use command::{Form, Look, Sought, TextCommand, TextWordsFault};
+pub use command::{Form, Look, Sought, TextCommand};
+pub use name::{TextName, text_named};
 pub use reading::read_text_words;
 pub use usage::{USAGE, VERSION};

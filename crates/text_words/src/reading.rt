@@ -1,236 +1,161 @@
-//! From arguments to a command.
-ghost use Rattle.std.specs.Prelude.{◌≡◌, IfOk, MatchResult, Some, map};
-ghost use Rattle.text_words.specs.Commands.{form_in, look_in, json_as, two_in, second_in, json_after, json_in, bytes_in, build_in, split_in, sought_in, view_in, diff_in, shape_in, alone, other_named, file_named, command_named, command_in};
-ghost use Rattle.text_words.specs.Reading.{Explains};
+//! From words to a command.
+ghost use Rattle.std.specs.Prelude.{◌≡◌, map};
+ghost use Rattle.spec_base.specs.Reading.{Gives};
+ghost use Rattle.command_words.specs.Arguments.{setting_of};
+ghost use Rattle.command_words.specs.Faults.{is_words_memory};
+ghost use Rattle.text_words.specs.Commands.{alone, build_by, bytes_by, command_by, command_from, command_of, diff_by, json_by, other_named, shape_by, split_by, text_command, view_by};
 
-use crate::command::{Form, Look, Sought, TextCommand, TextWordsFault};
-use crate::files::{option_in, two_files_in};
-use hex::FromHex;
-use sol_base::{Key, OutOfMemory};
+use crate::command::TextCommand;
+use crate::forms::{form_of, look_of, sought_of};
+use crate::name::{TextName, text_named};
+use command_words::{
+    Argument, WordsFault, arguments_in, asks_for_help, path_needed, path_of_option,
+};
 use std::alloc::Global;
 
-/// The command that the arguments are (the project's own commands).
-pub fn read_text_words(alloc: Global, words: &[&str]) -> Result<TextCommand, TextWordsFault>
-    ensures { let texts = map (λ w. w.now) words.now in
-        MatchResult result (λ command. command_in texts ≡ Some command)
-        (λ fault. Explains fault (command_in texts)) }
-{
-    match command_in(alloc, words)? {
-        Some(command) => Ok(command),
-        None => Err(TextWordsFault::Refused),
-    }
-}
-
-fn command_in(alloc: Global, words: &[&str]) -> Result<Option<TextCommand>, OutOfMemory>
-    ensures { IfOk result (λ command. command ≡ command_in (map (λ w. w.now) words.now)) }
+/// The command that the words are (the project's own commands), or the first thing that is wrong with
+/// them: the command's name, then the words behind it one after the other, then their values.
+pub fn read_text_words(alloc: Global, words: &[&str]) -> Result<TextCommand, WordsFault>
+    ensures { Gives is_words_memory (λ command. command) result
+        (command_of (map (λ w. w.now) words.now)) }
 {
     match words {
-        [] => Ok(None),
-        [name, rest @ ..] => command_named(alloc, name, rest),
+        [] => Err(WordsFault::Command),
+        [word, rest @ ..] => command_from(alloc, text_named(word), word, rest),
     }
 }
 
-fn command_named(
+/// The command of a word and the words behind it.
+fn command_from(
     alloc: Global,
-    name: &str,
+    name: Option<TextName>,
+    word: &str,
     words: &[&str],
-) -> Result<Option<TextCommand>, OutOfMemory>
-    ensures { IfOk result (λ command.
-        command ≡ command_named name.now (map (λ w. w.now) words.now)) }
+) -> Result<TextCommand, WordsFault>
+    ensures { Gives is_words_memory (λ command. command) result
+        (command_from name word.now (map (λ w. w.now) words.now)) }
 {
     match name {
-        "json" => Ok(json_in(words)),
-        "bytes" => Ok(bytes_in(words)),
-        "build" => build_in(alloc, words),
-        _ => file_named(alloc, name, words),
+        None => other_named(word, words),
+        Some(_) if asks_for_help(words) => Ok(TextCommand::Help),
+        Some(name) => text_command(alloc, name, words),
     }
 }
 
-/// The commands that write or read files, and `view`.
-#[tactic(auto, unfolding(crate::specs::Commands::file_named))]
-fn file_named(alloc: Global, name: &str, words: &[&str]) -> Result<Option<TextCommand>, OutOfMemory>
-    ensures { IfOk result (λ command.
-        command ≡ file_named name.now (map (λ w. w.now) words.now)) }
-{
-    match name {
-        "split" => split_in(alloc, words),
-        "view" => Ok(view_in(words)),
-        "diff" => diff_in(alloc, words),
-        _ => other_named(alloc, name, words),
-    }
-}
-
-#[tactic(auto, unfolding(crate::specs::Commands::other_named))]
-fn other_named(
-    alloc: Global,
-    name: &str,
-    words: &[&str],
-) -> Result<Option<TextCommand>, OutOfMemory>
-    ensures { IfOk result (λ command.
-        command ≡ other_named name.now (map (λ w. w.now) words.now)) }
-{
-    match name {
-        "shape" => shape_in(alloc, words),
-        "why" => Ok(alone(TextCommand::Why, words)),
-        "--help" => Ok(alone(TextCommand::Help, words)),
-        "--version" => Ok(alone(TextCommand::Version, words)),
-        _ => Ok(None),
-    }
-}
-
-fn form_in(word: &str) -> Option<Form>
-    ensures { result ≡ form_in word.now }
+/// The command of a word that is no name of one.
+fn other_named(word: &str, words: &[&str]) -> Result<TextCommand, WordsFault>
+    ensures { result ≡ other_named word.now (map (λ w. w.now) words.now) }
 {
     match word {
-        "snapshot" => Some(Form::Snapshot),
-        "batch" => Some(Form::Batch),
-        "record" => Some(Form::Record),
-        "image" => Some(Form::Image),
-        _ => None,
+        "--help" => alone(TextCommand::Help, words),
+        "--version" => alone(TextCommand::Version, words),
+        _ => Err(WordsFault::Command),
     }
 }
 
-/// The command itself where no arguments follow it.
-fn alone(command: TextCommand, words: &[&str]) -> Option<TextCommand>
+/// The command itself where no words follow it.
+fn alone(command: TextCommand, words: &[&str]) -> Result<TextCommand, WordsFault>
     ensures { result ≡ alone command (map (λ w. w.now) words.now) }
 {
     if words.is_empty() {
-        Some(command)
+        Ok(command)
     } else {
-        None
+        Err(WordsFault::Command)
     }
 }
 
-fn look_in(word: &str) -> Option<Look>
-    ensures { result ≡ look_in word.now }
+#[tactic(auto, unfolding(crate::specs::Commands::text_command))]
+fn text_command(alloc: Global, name: TextName, words: &[&str]) -> Result<TextCommand, WordsFault>
+    ensures { Gives is_words_memory (λ command. command) result
+        (text_command name (map (λ w. w.now) words.now)) }
 {
-    match word {
-        "--pretty" => Some(Look::Pretty),
-        "--shown" => Some(Look::Shown),
-        _ => None,
+    let arguments = arguments_in(alloc, &name.shape(), words)?;
+    command_by(alloc, name, arguments.as_slice())
+}
+
+/// The command of a name with these arguments.
+fn command_by(
+    alloc: Global,
+    name: TextName,
+    arguments: &[Argument<'_>],
+) -> Result<TextCommand, WordsFault>
+    ensures { Gives is_words_memory (λ command. command) result
+        (command_by name (map setting_of arguments.now)) }
+{
+    match name {
+        TextName::Json => json_by(alloc, arguments),
+        TextName::Bytes => bytes_by(alloc, arguments),
+        TextName::Build => build_by(alloc, arguments),
+        TextName::Split => split_by(alloc, arguments),
+        TextName::View => view_by(alloc, arguments),
+        TextName::Diff => diff_by(alloc, arguments),
+        TextName::Shape => shape_by(alloc, arguments),
+        TextName::Why => Ok(TextCommand::Why),
     }
 }
 
-fn json_as(look: Look, word: &str) -> Option<TextCommand>
-    ensures { result ≡ json_as look word.now }
+#[tactic(auto, unfolding(crate::specs::Commands::json_by))]
+fn json_by(alloc: Global, arguments: &[Argument<'_>]) -> Result<TextCommand, WordsFault>
+    ensures { Gives is_words_memory (λ command. command) result
+        (json_by (map setting_of arguments.now)) }
 {
-    Some(TextCommand::Json {
-        form: form_in(word)?,
-        look,
-    })
+    let form = form_of(alloc, arguments)?;
+    let look = look_of(alloc, arguments)?;
+    Ok(TextCommand::Json { form, look })
 }
 
-/// A form, and `--pretty` or `--shown` before or after it.
-#[tactic(auto, unfolding(crate::specs::Commands::two_in))]
-fn two_in(first: &str, second: &str) -> Option<TextCommand>
-    ensures { result ≡ two_in first.now second.now }
+#[tactic(auto, unfolding(crate::specs::Commands::bytes_by))]
+fn bytes_by(alloc: Global, arguments: &[Argument<'_>]) -> Result<TextCommand, WordsFault>
+    ensures { Gives is_words_memory (λ command. command) result
+        (bytes_by (map setting_of arguments.now)) }
 {
-    match look_in(first) {
-        Some(look) => json_as(look, second),
-        None => json_as(look_in(second)?, first),
-    }
+    let form = form_of(alloc, arguments)?;
+    Ok(TextCommand::Bytes { form })
 }
 
-fn second_in(first: &str, words: &[&str]) -> Option<TextCommand>
-    ensures { result ≡ second_in first.now (map (λ w. w.now) words.now) }
+#[tactic(auto, unfolding(crate::specs::Commands::build_by))]
+fn build_by(alloc: Global, arguments: &[Argument<'_>]) -> Result<TextCommand, WordsFault>
+    ensures { Gives is_words_memory (λ command. command) result
+        (build_by (map setting_of arguments.now)) }
 {
-    match words {
-        [second] => two_in(first, second),
-        _ => None,
-    }
+    let snapshot = path_of_option(alloc, arguments, "--snapshot")?;
+    Ok(TextCommand::Build { snapshot })
 }
 
-fn json_after(first: &str, words: &[&str]) -> Option<TextCommand>
-    ensures { result ≡ json_after first.now (map (λ w. w.now) words.now) }
+#[tactic(auto, unfolding(crate::specs::Commands::split_by))]
+fn split_by(alloc: Global, arguments: &[Argument<'_>]) -> Result<TextCommand, WordsFault>
+    ensures { Gives is_words_memory (λ command. command) result
+        (split_by (map setting_of arguments.now)) }
 {
-    match words {
-        [] => json_as(Look::Compact, first),
-        _ => second_in(first, words),
-    }
+    let record = path_needed(alloc, arguments, "RECORD")?;
+    let snapshot = path_needed(alloc, arguments, "SNAPSHOT")?;
+    Ok(TextCommand::Split { record, snapshot })
 }
 
-fn json_in(words: &[&str]) -> Option<TextCommand>
-    ensures { result ≡ json_in (map (λ w. w.now) words.now) }
+#[tactic(auto, unfolding(crate::specs::Commands::view_by))]
+fn view_by(alloc: Global, arguments: &[Argument<'_>]) -> Result<TextCommand, WordsFault>
+    ensures { Gives is_words_memory (λ command. command) result
+        (view_by (map setting_of arguments.now)) }
 {
-    match words {
-        [] => None,
-        [first, rest @ ..] => json_after(first, rest),
-    }
+    let sought = sought_of(alloc, arguments)?;
+    Ok(TextCommand::View { sought })
 }
 
-fn bytes_in(words: &[&str]) -> Option<TextCommand>
-    ensures { result ≡ bytes_in (map (λ w. w.now) words.now) }
+#[tactic(auto, unfolding(crate::specs::Commands::diff_by))]
+fn diff_by(alloc: Global, arguments: &[Argument<'_>]) -> Result<TextCommand, WordsFault>
+    ensures { Gives is_words_memory (λ command. command) result
+        (diff_by (map setting_of arguments.now)) }
 {
-    match words {
-        [form] => Some(TextCommand::Bytes {
-            form: form_in(form)?,
-        }),
-        _ => None,
-    }
+    let left = path_needed(alloc, arguments, "A")?;
+    let right = path_needed(alloc, arguments, "B")?;
+    Ok(TextCommand::Diff { left, right })
 }
 
-/// What the hexadecimal digits name: 64 a key, 128 a signature.
-fn sought_in(word: &str) -> Option<Sought>
-    ensures { result ≡ sought_in word.now }
+#[tactic(auto, unfolding(crate::specs::Commands::shape_by))]
+fn shape_by(alloc: Global, arguments: &[Argument<'_>]) -> Result<TextCommand, WordsFault>
+    ensures { Gives is_words_memory (λ command. command) result
+        (shape_by (map setting_of arguments.now)) }
 {
-    if let Ok(key) = <[u8; 32] as FromHex>::from_hex(word) {
-        return Some(Sought::Account(Key(key)));
-    }
-    match <[u8; 64] as FromHex>::from_hex(word) {
-        Ok(signature) => Some(Sought::Transaction(signature)),
-        Err(_) => None,
-    }
-}
-
-fn view_in(words: &[&str]) -> Option<TextCommand>
-    ensures { result ≡ view_in (map (λ w. w.now) words.now) }
-{
-    match words {
-        [word] => Some(TextCommand::View {
-            sought: sought_in(word)?,
-        }),
-        _ => None,
-    }
-}
-
-fn build_in(alloc: Global, words: &[&str]) -> Result<Option<TextCommand>, OutOfMemory>
-    ensures { IfOk result (λ command. command ≡ build_in (map (λ w. w.now) words.now)) }
-{
-    match option_in(alloc, "--snapshot", words)? {
-        Some(snapshot) => Ok(Some(TextCommand::Build { snapshot })),
-        None => Ok(None),
-    }
-}
-
-fn split_in(alloc: Global, words: &[&str]) -> Result<Option<TextCommand>, OutOfMemory>
-    ensures { IfOk result (λ command. command ≡ split_in (map (λ w. w.now) words.now)) }
-{
-    match two_files_in(alloc, words)? {
-        Some(files) => Ok(Some(TextCommand::Split {
-            record: files.first,
-            snapshot: files.second,
-        })),
-        None => Ok(None),
-    }
-}
-
-fn diff_in(alloc: Global, words: &[&str]) -> Result<Option<TextCommand>, OutOfMemory>
-    ensures { IfOk result (λ command. command ≡ diff_in (map (λ w. w.now) words.now)) }
-{
-    match two_files_in(alloc, words)? {
-        Some(files) => Ok(Some(TextCommand::Diff {
-            left: files.first,
-            right: files.second,
-        })),
-        None => Ok(None),
-    }
-}
-
-fn shape_in(alloc: Global, words: &[&str]) -> Result<Option<TextCommand>, OutOfMemory>
-    ensures { IfOk result (λ command. command ≡ shape_in (map (λ w. w.now) words.now)) }
-{
-    match option_in(alloc, "--svg", words)? {
-        Some(picture) => Ok(Some(TextCommand::Shape { picture })),
-        None => Ok(None),
-    }
+    let picture = path_of_option(alloc, arguments, "--svg")?;
+    Ok(TextCommand::Shape { picture })
 }
