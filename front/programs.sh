@@ -228,7 +228,7 @@ says_sources() { printf '%s %s\n' "$name" "$(sources)"; }
 # Does the same with each program, up to the first that fails.
 each_program() {
   local each
-  for each in bank_program bank_text bank_ledger bank_trace; do
+  for each in bank_program bank_text bank_ledger; do
     choose "$each"
     "$@" || return
   done
@@ -237,10 +237,10 @@ each_program() {
 # The files of the programs that run, of all or of those that are named.
 list_programs() {
   local each
-  [ "$#" -gt 0 ] || set -- bank_program bank_text bank_ledger bank_trace
+  [ "$#" -gt 0 ] || set -- bank_program bank_text bank_ledger
   for each; do
     case $each in
-      bank_program | bank_text | bank_ledger | bank_trace) choose "$each" ;;
+      bank_program | bank_text | bank_ledger) choose "$each" ;;
       *) refuse "there is no program $each" ;;
     esac
     find_program || return

@@ -1,4 +1,4 @@
-use Rattle.std.proofs.Common.{◌∙◌, ap, sym}
+use Rattle.std.proofs.Common.{◌∙◌, sym}
 use Rattle.sbpf_machine.proofs.Stepping.{stepped_keeps, stepped_nearer, stepped_same}
 use Rattle.invoke_engine.proofs.Turns.{run_lent}
 use Rattle.invoke_engine.proofs.turn.run_seen.Goals as goal
