@@ -5,7 +5,7 @@ use Rattle.std.specs.Borrow.{Bor}
 use Rattle.std.proofs.lemmas.List.{take_rest}
 use Rattle.spec_base.specs.Reading.{◌>>=◌}
 use Rattle.command_words.specs.Shapes.{Rules, Text}
-use Rattle.command_words.specs.Arguments.{Read, Setting, Start, ended, next_of, setting_of, settings_after, value_in, waits_of, with_start}
+use Rattle.command_words.specs.Arguments.{Read, Setting, Start, next_of, setting_of, settings_after, value_in, waits_of, with_start}
 use Rattle.command_words.specs.Faults.{is_words_memory}
 use Rattle.command_words.specs.declared.arguments.Argument.{Argument}
 use Rattle.command_words.specs.declared.fault.WordsFault.{WordsFault}
@@ -20,13 +20,6 @@ pub none_in_empty : (name : Text) (others : List Argument) → length others < 1
     → value_in name (map setting_of others) ≡ None
 none_in_empty name [] short = refl
 none_in_empty name (one ∷ more) short = absurd (omega arith)
-
--- where no word is left, the settings are those so far
-pub all_read : (rules : Rules) (settings : List Setting) (waits : Option Text)
-    (others : List (Bor Text)) → length others < 1
-    → settings_after rules settings waits (map (λ w. w.now) others) ≡ ended settings waits
-all_read rules settings waits [] short = refl
-all_read rules settings waits (one ∷ more) short = absurd (omega arith)
 
 abbrev after_start : Rules → List Setting → List Text → Read Start → Read (List Setting)
 after_start rules settings words read =

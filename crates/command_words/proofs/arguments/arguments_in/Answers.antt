@@ -1,8 +1,8 @@
-use Rattle.std.proofs.Common.{ap, map, option_map, ◌∙◌}
+use Rattle.std.proofs.Common.{map, option_map}
 use Rattle.std.proofs.lemmas.Result.{err_from_is_err_and}
-use Rattle.command_words.specs.Arguments.{ended, setting_of, settings_in}
+use Rattle.command_words.specs.Arguments.{setting_of, settings_in}
 use Rattle.command_words.specs.Shapes.{rules_of}
-use Rattle.command_words.proofs.Words.{all_read, refused, started}
+use Rattle.command_words.proofs.Words.{refused, started}
 use Rattle.command_words.proofs.arguments.arguments_in.Goals as goal
 
 pub returns-in_err-name : goal.returns-in_err-name
