@@ -1,11 +1,10 @@
 -- A record that `produce` wrote is read again, and its replay matches.
-use Rattle.std.proofs.Common.{◌≡◌, ◌≤◌, ℕ, List, ◌++◌, length, take, drop, Result, Ok, Err, refl, sym, ap, subst, ◌∙◌, arith, length-append}
+use Rattle.std.proofs.Common.{◌≡◌, ℕ, List, ◌++◌, length, take, drop, Result, Ok, Err, refl, sym, ap, subst, ◌∙◌, arith, length-append}
 use Rattle.std.proofs.lemmas.List.{drop_at, length-take-le, take_at}
 use Rattle.std.proofs.lemmas.List.Elements.{All-from_recursion}
 use Rattle.spec_base.specs.Bytes.{IsBytes}
 use Rattle.command_parts.specs.declared.answer.Answer.{Answer}
 use Rattle.command_parts.specs.Answers.{written}
-use Rattle.status_cache.specs.Recent.{newest_of}
 use Rattle.snapshot_codec.specs.declared.batch.Batch.{Batch}
 use Rattle.snapshot_codec.specs.declared.fault.BatchFault.{BatchFault}
 use Rattle.snapshot_codec.specs.declared.fault.SnapshotFault.{SnapshotFault}
@@ -20,14 +19,13 @@ use Rattle.snapshot_codec.proofs.SnapshotLaws.{prefix_again, prefix_takes}
 use Rattle.block_record.specs.declared.block.Block.{Block}
 use Rattle.block_record.specs.declared.fault.RecordFault.{RecordFault}
 use Rattle.block_record.specs.Record.{bytes_of_record}
-use Rattle.block_record.specs.RecordReading.{record_of}
 use Rattle.block_run.specs.declared.block.BlockResult.{BlockResult}
 use Rattle.block_run.specs.Blocks.{block_result}
 use Rattle.block_replay.specs.declared.verdict.Verdict.{Verdict}
 use Rattle.block_laws.specs.Chain.{BatchFits}
 use Rattle.block_laws.proofs.Records.{records_are_read}
 use Rattle.block_laws.proofs.Replays.{replays_match}
-use Rattle.bank_words.specs.declared.command.Command.TheVariants.{Produce, Replay}
+use Rattle.bank_words.specs.declared.command.Command.TheVariants.{Produce}
 use Rattle.bank_cli.specs.Answer.{answer_to, judged, produced, produced_after, ran, replayed, replayed_after, replayed_over, unless_refused}
 use Rattle.bank_cli.specs.Texts.{batch_text, match_line, record_text, snapshot_text}
 use Rattle.bank_cli.proofs.Wires.{batch_wires_are_bytes}
@@ -35,7 +33,8 @@ use Rattle.answer_laws.specs.Replays.{IsReplayed, ProducedRecordsMatch}
 use Rattle.answer_laws.proofs.Inputs.{bytes_behind, not_refused, within_limit}
 
 -- ---- the record of a block
-module _ (bytes : List ℕ) (prefix : Prefix) (batch : Batch) (begins : BeginsWith bytes prefix) (is : IsBatch prefix.snapshot.slot (drop prefix.length bytes) batch) (are : IsBytes (drop prefix.length bytes)) where
+module _ (bytes : List ℕ) (prefix : Prefix) (batch : Batch) (begins : BeginsWith bytes prefix)
+    (is : IsBatch prefix.snapshot.slot (drop prefix.length bytes) batch) (are : IsBytes (drop prefix.length bytes)) where
   abbrev s : Snapshot
   s = prefix.snapshot
 
@@ -83,7 +82,8 @@ module _ (bytes : List ℕ) (prefix : Prefix) (batch : Batch) (begins : BeginsWi
   }
 
 -- ---- the input
-by_batch : (bytes : List ℕ) (prefix : Prefix) → BeginsWith bytes prefix → IsBytes (drop prefix.length bytes) → (r : Result Batch BatchFault) → batch_of prefix.snapshot.slot (drop prefix.length bytes) ≡ r
+by_batch : (bytes : List ℕ) (prefix : Prefix) → BeginsWith bytes prefix → IsBytes (drop prefix.length bytes)
+    → (r : Result Batch BatchFault) → batch_of prefix.snapshot.slot (drop prefix.length bytes) ≡ r
     → (unless_refused batch_text (λ batch. ran (block_result prefix.snapshot batch)) r).status ≡ 0
     → IsReplayed bytes (unless_refused batch_text (λ batch. ran (block_result prefix.snapshot batch)) r)
 by_batch bytes prefix begins are (Err fault) e h = absurd (omega (arith, h))
