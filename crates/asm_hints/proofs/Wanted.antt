@@ -1,17 +1,14 @@
 -- What a line that is spelled as nothing lacks.
-use Rattle.std.proofs.Common.{◌≡◌, ℕ, ◌+◌, ◌-◌, ◌==◌, Bool, true, false, List, [], ◌∷◌, Option, Some, None, is_some, refl, sym, ap, ◌∙◌, length, take, codes}
-use Rattle.std.specs.Prelude.{if◌then◌else◌, option_map, option_and_then}
+use Rattle.std.proofs.Common.{◌≡◌, ℕ, ◌+◌, ◌-◌, ◌==◌, Bool, true, false, List, [], ◌∷◌, Option, Some, None, is_some, refl, length, take, codes}
+use Rattle.std.specs.Prelude.{option_map, option_and_then}
 use Rattle.std.specs.Str.{bytes_eq}
-use Rattle.sbpf_asm.specs.declared.instruction.Instruction.{Instruction}
 use Rattle.sbpf_asm.specs.declared.row.Operand.{Operand}
 use Rattle.sbpf_asm.specs.declared.row.Operand.TheVariants.{Destination, Source, RegisterOrNumber, Number, JumpTarget, DestinationPlace, SourcePlace, RegisterNumber}
-use Rattle.sbpf_asm.specs.Words.{Text, Cut, cut, is_blank, number_of, ends_with}
+use Rattle.sbpf_asm.specs.Words.{Text, cut, is_blank, number_of, ends_with}
 use Rattle.sbpf_asm.specs.Operands.{is_name, register_of, place_of, target_of}
-use Rattle.sbpf_asm.specs.Rows.{Draft, Row, draft_of, row_of, start, with_either, with_instruction, with_operand, with_operands}
-use Rattle.sbpf_asm.specs.Lines.{Item, nothing, label, instruction, after_word, code_item, constants_item, item_of, label_item, code_of, parts_item, word_item, operands_of as texts_of}
-use Rattle.asm_hints.specs.declared.hint.Hint.{Hint}
-use Rattle.asm_hints.specs.declared.hint.Hint.TheVariants.{Name, Digits}
-use Rattle.asm_hints.specs.Hints.{code_hint, is_operand, line_hint, name_hint, operand_hint, operands_hint, parts_hint, row_hint, word_hint}
+use Rattle.sbpf_asm.specs.Rows.{Draft, Row, draft_of, row_of, start, with_operand, with_operands}
+use Rattle.sbpf_asm.specs.Lines.{instruction, after_word, code_item, item_of, label_item, code_of, word_item, operands_of as texts_of}
+use Rattle.asm_hints.specs.Hints.{code_hint, is_operand, line_hint, name_hint, operands_hint, row_hint, word_hint}
 
 some_map : {X Y : Type 0} → (f : X → Y) (o : Option X) → is_some o ≡ true → is_some (option_map f o) ≡ true
 some_map f None h = h
@@ -42,7 +39,8 @@ operands_wanted n [] (t ∷ texts) d h = refl
 operands_wanted n (o ∷ os) [] d h = refl
 operands_wanted n (o ∷ os) (t ∷ texts) d h = go (operands_wanted (n + 1) os texts) (is_operand o t) refl
   where
-    others : ((e : Draft) → with_operands os texts e ≡ None → is_some (operands_hint (n + 1) os texts) ≡ true) → (r : Option Draft) → is_some r ≡ true → option_and_then (with_operands os texts) r ≡ None → is_some (operands_hint (n + 1) os texts) ≡ true
+    others : ((e : Draft) → with_operands os texts e ≡ None → is_some (operands_hint (n + 1) os texts) ≡ true)
+        → (r : Option Draft) → is_some r ≡ true → option_and_then (with_operands os texts) r ≡ None → is_some (operands_hint (n + 1) os texts) ≡ true
     others each None s k = absurd (cc)
     others each (Some e) s k = each e k
 

@@ -1,5 +1,5 @@
 -- What was wanted of an assembler text that is refused (the project's own format).
-use Rattle.std.specs.Prelude.{ℕ, ◌+◌, ◌-◌, ◌==◌, ◌&&◌, ◌||◌, not, Bool, true, false, List, [], ◌∷◌, length, take, get_or, nat_eq, nat_le, nat_lt, find, Option, Some, None, is_some, if◌then◌else◌, codes}
+use Rattle.std.specs.Prelude.{ℕ, ◌+◌, ◌-◌, ◌==◌, ◌&&◌, ◌||◌, not, Bool, List, [], ◌∷◌, length, take, get_or, nat_eq, nat_le, nat_lt, find, Option, Some, None, is_some, if◌then◌else◌, codes}
 use Rattle.std.specs.Str.{bytes_eq}
 use Rattle.strsim.specs.Edits.{levenshtein_row}
 use Rattle.sbpf_asm.specs.declared.fault.AsmFault.{AsmFault}

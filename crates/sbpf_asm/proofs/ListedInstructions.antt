@@ -4,9 +4,9 @@ use Rattle.std.specs.Prelude.{find}
 use Rattle.std.specs.List.{AllByRecursion, list_any}
 use Rattle.std.proofs.lemmas.Bool.{and_parts, eqb-true}
 use Rattle.std.proofs.lemmas.Bool.Decides.{Decides-int_eq}
-use Rattle.sbpf_isa.specs.declared.rows.Operand.TheVariants.{Immediate, Register}
+use Rattle.sbpf_isa.specs.declared.rows.Operand.TheVariants.{Immediate}
 use Rattle.sbpf_isa.specs.declared.rows.OpKind.{OpKind}
-use Rattle.sbpf_isa.specs.declared.rows.OpKind.TheVariants.{Binary, Negate, LittleEndian, BigEndian, Jump, JumpIf, Call, CallRegister, Exit, Load, Store, LoadWide}
+use Rattle.sbpf_isa.specs.declared.rows.OpKind.TheVariants.{LittleEndian, BigEndian, Call, CallRegister, Store}
 use Rattle.sbpf_isa.specs.Rows.{opcode_of}
 use Rattle.sbpf_isa.proofs.Opcodes.{same_kind}
 use Rattle.sbpf_asm.specs.declared.instruction.Instruction.{Instruction}

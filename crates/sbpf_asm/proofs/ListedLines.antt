@@ -103,7 +103,8 @@ no_label before last plain =
     rw (some, ends) refl
 
 -- what is true of plain bytes, of a space and of a comma is true of a word with its operands
-all_word : (p : ℕ → Bool) (word : Text) (texts : List Text) → ((c : ℕ) → is_plain c ≡ true → p c ≡ true) → p 32 ≡ true → p 44 ≡ true → Clean word → AllClean texts → list_all p (word_text word texts) ≡ true
+all_word : (p : ℕ → Bool) (word : Text) (texts : List Text) → ((c : ℕ) → is_plain c ≡ true → p c ≡ true)
+    → p 32 ≡ true → p 44 ≡ true → Clean word → AllClean texts → list_all p (word_text word texts) ≡ true
 all_word p word texts plain space comma h all = all_append p word (operands_text (codes " ") texts) (weaker is_plain p plain word h.all) (rest texts all)
   where
     more : (texts : List Text) → AllClean texts → list_all p (more_operands texts) ≡ true

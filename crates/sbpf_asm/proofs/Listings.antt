@@ -20,7 +20,7 @@ use Rattle.sbpf_asm.specs.declared.fault.AsmFault.TheVariants.{TooLong}
 use Rattle.sbpf_asm.specs.Words.{Text}
 use Rattle.sbpf_asm.specs.Lines.{lines_of}
 use Rattle.sbpf_asm.specs.Assembly.{Source, empty, is_too_long, slots_after, verified_image, if_fit, image_of, with_lines, assembled, Assembled}
-use Rattle.sbpf_asm.specs.Listing.{Listed, listed, listed_parts, listing_if_fit, listing, slot_line, constant_line, constant_lines}
+use Rattle.sbpf_asm.specs.Listing.{Listed, listed, listed_parts, listing_if_fit, listing, slot_line, constant_lines}
 use Rattle.sbpf_asm.proofs.ListedWalk.{Holds, walked}
 use Rattle.sbpf_asm.proofs.ListedConstants.{Read, read}
 
