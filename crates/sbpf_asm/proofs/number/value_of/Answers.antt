@@ -17,8 +17,13 @@ overflow_add-value c =
     let few : c.from.result ≤ 16 = omega (arith, c.from.ensures, c.requires.radix) in
     let digit = get_or c.args.text.now at 0 in
     let below = hex_digit_below digit (all_get is_hex_digit c.args.text.now at c.requires.digits c.loop-digit-test.true) in
-    omega (arith, sixteen_most at (omega arith), one_more c.loop-digit.value c.from.result (digit_value digit) (16 ^ at) c.loop-digit.invariant.below few below,
-          c.from-in-loop-digit.ensures, c.digit_value.ensures)
+    omega (
+      arith,
+      sixteen_most at (omega arith),
+      one_more c.loop-digit.value c.from.result (digit_value digit) (16 ^ at) c.loop-digit.invariant.below few below,
+      c.from-in-loop-digit.ensures,
+      c.digit_value.ensures,
+    )
 
 pub loop-digit-preserved : goal.loop-digit-preserved
 loop-digit-preserved c =
@@ -30,8 +35,13 @@ loop-digit-preserved c =
     let product : c.loop-digit.value * c.from.result ≡ digits_value c.args.radix (take at text) * c.args.radix = ap₂ (λ (x y : ℕ). x * y) c.loop-digit.invariant.value c.from.ensures in
     record {
       value = omega (arith, product, value_more c.args.radix text at c.loop-digit-test.true, c.from-in-loop-digit.ensures, c.digit_value.ensures);
-      below = omega (arith, sixteen_more at, one_more c.loop-digit.value c.from.result (digit_value digit) (16 ^ at) c.loop-digit.invariant.below few below,
-          c.from-in-loop-digit.ensures, c.digit_value.ensures);
+      below = omega (
+        arith,
+        sixteen_more at,
+        one_more c.loop-digit.value c.from.result (digit_value digit) (16 ^ at) c.loop-digit.invariant.below few below,
+        c.from-in-loop-digit.ensures,
+        c.digit_value.ensures,
+      );
     }
 
 pub returns-clause-below : goal.returns-clause-below
