@@ -1,5 +1,5 @@
 -- The block of a batch, as the one that is added to a chain.
-use Rattle.std.proofs.Common.{◌≡◌, ◌≤◌, ℕ, List, length, refl, sym, subst}
+use Rattle.std.proofs.Common.{◌≡◌, ◌≤◌, ℕ, List, length, refl, sym, subst, Result, Ok, Err, OnErr, OnOk}
 use Rattle.std.specs.List.{AllByRecursion}
 use Rattle.std.proofs.lemmas.List.Elements.{All-from_recursion}
 use Rattle.spec_base.specs.Bytes.{IsBytes}
@@ -13,12 +13,13 @@ use Rattle.block_run.specs.Answers.{IsBlockResult}
 use Rattle.block_run.specs.Blocks.{block_result, closed}
 use Rattle.block_laws.specs.Chain.{NextBlocksCanBeRun}
 use Rattle.ledger_folder.specs.declared.event.Event.{Event}
-use Rattle.ledger_folder.specs.Crash.{LeavesOnly}
+use Rattle.ledger_folder.specs.Crash.{Lasts, LeavesOnly}
 use Rattle.ledger_store.specs.declared.opening.Ledger.{Ledger}
-use Rattle.ledger_store.specs.Adding.{Follows, IsBeforeOrAfter}
+use Rattle.ledger_store.specs.declared.fault.LedgerFault.{LedgerFault}
+use Rattle.ledger_store.specs.Adding.{Follows, IsAfter, IsBeforeOrAfter}
 use Rattle.ledger_store.specs.Reading.{IsOpen}
 use Rattle.ledger_store.proofs.Survived.{unchanged}
-use Rattle.ledger_cli.specs.Batches.{IsWithBatchOrNot}
+use Rattle.ledger_cli.specs.Batches.{IsWithBatchOrNot, Stands}
 
 block_follows : (s : Snapshot) (batch : Batch) → Follows s (block_result s batch).block (block_result s batch).after
 unfolding block_result closed
@@ -58,3 +59,22 @@ pub opened_added : (ledger finished : Ledger) (batch : Batch) (answer : BlockRes
 opened_added ledger finished batch answer micros old new same is had has leaves_only =
     batch_added ledger batch answer micros old new is has
     (λ has_it. subst (λ (l : Ledger). HasWidths l.newest → HasWidths answer.after → LeavesOnly old new (IsBeforeOrAfter l answer.block answer.after micros)) same leaves_only had has_it)
+
+-- ---- what status 0 says
+-- what was added where the status is 0
+kept : {A X : Type 0} (added : Result A LedgerFault) (status : ℕ) → OnErr added (status ≡ 0 → ⊥) → status ≡ 0 → OnOk added X → X
+kept (Ok done) status unless zero x = x
+kept (Err fault) status unless zero x = absurd (unless zero)
+
+-- the block of the batch then stands
+pub opened_stands : {A : Type 0} (ledger finished : Ledger) (batch : Batch) (answer : BlockResult) (micros : ℕ) (added : Result A LedgerFault) (status : ℕ) (old new : List Event) → finished ≡ ledger
+    → IsBlockResult (block_result ledger.newest batch) answer → OnErr added (status ≡ 0 → ⊥)
+    → (HasWidths finished.newest → HasWidths answer.after → OnOk added (Lasts old new (λ _ crashed. IsAfter finished answer.block answer.after micros crashed)))
+    → status ≡ 0 → Stands ledger batch old new
+opened_stands ledger finished batch answer micros added status old new same is unless lasts zero had has =
+    let had_it : HasWidths finished.newest = subst (λ (l : Ledger). HasWidths l.newest) (sym same) had in
+    let has_it : HasWidths answer.after = subst (λ (r : BlockResult). HasWidths r.after) (sym is.exact) has in (
+      micros,
+      subst (λ (l : Ledger). Lasts old new (λ _ crashed. IsAfter l (block_result ledger.newest batch).block (block_result ledger.newest batch).after micros crashed)) same
+          (subst (λ (r : BlockResult). Lasts old new (λ _ crashed. IsAfter finished r.block r.after micros crashed)) is.exact (kept added status unless zero (lasts had_it has_it))),
+    )

@@ -1,3 +1,4 @@
 pub mod Batches
 pub mod Crew
 pub mod Given
+pub mod Refusals

@@ -1,5 +1,5 @@
 //! The command `add`: a batch is run over the newest state, and the block is written.
-ghost use Rattle.std.specs.Prelude.{◌≡◌, ◌≤◌, ◌<◌, false, true, Ok, IfErr, IfOk, length, map};
+ghost use Rattle.std.specs.Prelude.{◌≡◌, ◌≤◌, ◌<◌, ◌∷◌, false, true, Ok, IfErr, IfOk, OnErr, OnOk, length, map};
 ghost use Rattle.std.specs.List.{AllByRecursion};
 ghost use Rattle.spec_base.specs.Bytes.{IsBytes};
 ghost use Rattle.sol_base.specs.Limits.{max_senders, max_transactions};
@@ -10,8 +10,11 @@ ghost use Rattle.block_record.specs.Record.{IsCounted};
 ghost use Rattle.block_run.specs.Answers.{IsBlockResult};
 ghost use Rattle.block_run.specs.Blocks.{block_result};
 ghost use Rattle.ledger_folder.specs.Crash.{LeavesOnly};
+ghost use Rattle.ledger_folder.specs.declared.event.Event.TheVariants.{FolderSynced};
+ghost use Rattle.ledger_store.specs.Adding.{OnlyReads};
 ghost use Rattle.ledger_store.specs.Watching.{IsOpening, finished};
-ghost use Rattle.ledger_cli.specs.Batches.{IsWithBatchOrNot};
+ghost use Rattle.snapshot_codec.specs.BatchReading.{batch_of};
+ghost use Rattle.ledger_cli.specs.Batches.{IsAdded, IsWithBatchOrNot, Stands};
 ghost use Rattle.ledger_cli.specs.Crew.{IsCrew};
 
 use crate::chain::{copied, locked, refused};
@@ -25,13 +28,14 @@ use block_record::Block;
 use block_run::{BlockResult, run_parsed};
 use command_parts::{Answer, Given, INPUT_REFUSED, READ_FAILED, WRITE_FAILED, noted};
 use intake::{OpenSend, gather};
-use ledger_folder::{Folder, StdFolder};
+use ledger_folder::{Failure, Folder, StdFolder};
 use ledger_store::{LedgerFault, Opening, add, begin_opening};
 use message_codec::Parsed;
 use side_by_side::call_both;
 use snapshot_codec::{Batch, BatchFault, MAX_ACCOUNTS, Snapshot, read_batch};
 use sol_base::{Blob, Items, OutOfMemory};
 use std::alloc::Global;
+use std::fs::File;
 use std::mem::forget;
 use std::rt::{Clock, Files};
 use std::sync::Wait;
@@ -111,19 +115,20 @@ fn run_batch<R: Clock + AllocGlobal, T: Threads + Wait + Sync>(
 }
 
 /// The answer once a block was to be added: its line, or why it was not.
-fn told<R: Files + AllocGlobal>(
-    rt: &R,
+fn told(
+    alloc: Global,
     folder: &str,
     added: Result<(), LedgerFault>,
+    failure: Option<Failure>,
     block: &Block,
     unrun: &[Refused],
     times: &Times,
 ) -> Result<Answer, OutOfMemory>
     requires { IsCounted block.now }
+    ensures { IfOk result (λ told. OnErr added (told.status ≡ 0 → ⊥)) }
 {
-    let alloc = rt.alloc();
     if let Err(fault) = added {
-        return refused(rt, WRITE_FAILED, folder, fault);
+        return refused(alloc, WRITE_FAILED, folder, fault, failure);
     }
     let line = added_line(alloc, block, unrun.len(), times)?;
     Ok(Answer {
@@ -144,7 +149,7 @@ fn has_room(after: &Snapshot) -> bool
 /// Runs a batch over the newest state of a chain, and adds the block once the chain's files are known to
 /// be what was written. Nothing of the block is given back: a user waits for the answer, and the program
 /// ends with it.
-fn add_batch<R: Files + Clock + AllocGlobal, F: Folder, T: Threads + Wait + Sync>(
+fn add_batch<R: Clock + AllocGlobal, F: Folder, T: Threads + Wait + Sync>(
     rt: &R,
     threads: &T,
     folder: &str,
@@ -165,6 +170,10 @@ fn add_batch<R: Files + Clock + AllocGlobal, F: Folder, T: Threads + Wait + Sync
         HasWidths (block_result opening.ledger.newest batch.now).after →
         LeavesOnly (F.events files.old) (F.events files.new)
         (IsWithBatchOrNot opening.ledger batch.now) }
+    // Status 0 says that the files are what was written, and that each crash leaves the chain with it.
+    ensures stands { IfOk result (λ told. told.status ≡ 0 →
+        (finished opening ≡ Ok opening.ledger)
+        × Stands opening.ledger batch.now (F.events files.old) (F.events files.new)) }
     // Where the files are not what was written, nothing is done.
     ensures refused { IfErr (finished opening) (λ _. F.events files.new ≡ F.events files.old) }
 {
@@ -173,7 +182,7 @@ fn add_batch<R: Files + Clock + AllocGlobal, F: Folder, T: Threads + Wait + Sync
     let waits = now(rt);
     let mut ledger = match opening.finish(threads) {
         Ok(ledger) => ledger,
-        Err(fault) => return refused(rt, READ_FAILED, folder, fault),
+        Err(fault) => return refused(alloc, READ_FAILED, folder, fault, files.failure()),
     };
     let open = opened.saturating_add(since(rt, &waits));
     let BlockResult {
@@ -189,7 +198,16 @@ fn add_batch<R: Files + Clock + AllocGlobal, F: Folder, T: Threads + Wait + Sync
     let added = add(threads, alloc, files, &mut ledger, &block, after, run);
     let keep = since(rt, &began);
     let times = Times { open, run, keep };
-    let answer = told(rt, folder, added, &block, unrun.as_slice(), &times)?;
+    let failure = files.failure();
+    let answer = told(
+        alloc,
+        folder,
+        added,
+        failure,
+        &block,
+        unrun.as_slice(),
+        &times,
+    )?;
     forget((ledger, block, unrun));
     Ok(answer)
 }
@@ -201,6 +219,9 @@ fn open_synced<F: Folder, T: Threads>(
     alloc: Global,
     files: &mut F,
 ) -> Result<Opening, LedgerFault>
+    // The folder is synced, and behind that files are read alone.
+    ensures synced { OnOk result
+        (OnlyReads (FolderSynced ∷ F.events files.old) (F.events files.new)) }
     ensures opening { IfOk result (IsOpening (F.events files.new)) }
     ensures every { IfOk result (λ opening. 1 ≤ opening.ledger.head.every) }
     ensures readable { IfOk result (λ opening. IsReadable opening.ledger.newest) }
@@ -231,66 +252,70 @@ fn batch_text(
 }
 
 /// The answer to a batch that is refused, unless the chain is: its files come before.
-fn refused_batch<R: Files + AllocGlobal, T: Threads>(
-    rt: &R,
+fn refused_batch<T: Threads>(
     threads: &T,
+    alloc: Global,
     folder: &str,
     opening: Opening,
     bytes: &[u8],
     fault: BatchFault,
-) -> Result<Answer, OutOfMemory> {
+) -> Result<Answer, OutOfMemory>
+    ensures { IfOk result (λ told. told.status ≡ 3) }
+{
     if let BatchFault::OutOfMemory = fault {
         return Err(OutOfMemory);
     }
     let newest = opening.ledger.newest.slot;
     if let Err(fault) = opening.finish(threads) {
-        return refused(rt, READ_FAILED, folder, fault);
+        return refused(alloc, READ_FAILED, folder, fault, None);
     }
-    let text = batch_text(rt.alloc(), bytes, newest, fault)?;
-    noted(rt.alloc(), INPUT_REFUSED, "batch", text.as_str())
+    let text = batch_text(alloc, bytes, newest, fault)?;
+    noted(alloc, INPUT_REFUSED, "batch", text.as_str())
 }
 
 /// The batch that the bytes are, for a block after a slot.
 fn batch_in(alloc: Global, bytes: &[u8], before: u64) -> Result<Batch, BatchFault>
     ensures few { IfOk result (λ batch. length batch.wires ≤ max_transactions) }
     ensures bytes { IfOk result (λ batch. AllByRecursion IsBytes batch.wires) }
+    ensures same { IfOk result (λ batch. batch_of before bytes.now ≡ Ok batch) }
 {
     let batch = read_batch(alloc, bytes, before)?;
     Ok(batch)
 }
 
-/// Adds a batch to a chain whose lock is held.
-fn add_locked<R: Files + Clock + AllocGlobal + Clone + Drop, T: Threads + Wait + Sync>(
+/// Adds a batch to the chain of a folder whose lock is held.
+fn add_in<R: Clock + AllocGlobal, F: Folder, T: Threads + Wait + Sync>(
     rt: &R,
     threads: &T,
     folder: &str,
+    files: &mut F,
     bytes: &[u8],
     crew: &Crew,
 ) -> Result<Answer, OutOfMemory>
     requires { IsCrew crew.now }
+    // Status 0 says that the block stands: after every crash the chain has it.
+    ensures stands { IfOk result (λ told. told.status ≡ 0 →
+        IsAdded bytes.now (F.events files.old) (F.events files.new)) }
 {
     let alloc = rt.alloc();
     let began = now(rt);
-    let mut files = StdFolder::new(rt, folder)?;
-    let opening = match open_synced(threads, alloc, &mut files) {
+    let opening = match open_synced(threads, alloc, files) {
         Ok(opening) => opening,
-        Err(fault) => return refused(rt, READ_FAILED, folder, fault),
+        Err(fault) => return refused(alloc, READ_FAILED, folder, fault, files.failure()),
     };
     let opened = since(rt, &began);
     let batch = match batch_in(alloc, bytes, opening.ledger.newest.slot) {
         Ok(batch) => batch,
-        Err(fault) => return refused_batch(rt, threads, folder, opening, bytes, fault),
+        Err(fault) => return refused_batch(threads, alloc, folder, opening, bytes, fault),
     };
-    let answer = add_batch(
-        rt, threads, folder, &mut files, opening, &batch, crew, opened,
-    )?;
+    let answer = add_batch(rt, threads, folder, files, opening, &batch, crew, opened)?;
     forget(batch);
     Ok(answer)
 }
 
 /// The answer to `add`. The lock is held from before the chain is opened until the block is there.
 pub(crate) fn added<
-    R: Files + Input + Clock + AllocGlobal + Clone + Drop,
+    R: Files<File = File> + Input + Clock + AllocGlobal + Clone + Drop,
     T: Threads + Wait + Sync,
 >(rt: &R, threads: &T, folder: &str, crew: &Crew) -> Result<Answer, OutOfMemory>
     requires { IsCrew crew.now }
@@ -303,5 +328,6 @@ pub(crate) fn added<
         Given::Value(lock) => lock,
         Given::Nothing(told) => return Ok(told),
     };
-    add_locked(rt, threads, folder, input.as_slice(), crew)
+    let mut files = StdFolder::new(rt, folder)?;
+    add_in(rt, threads, folder, &mut files, input.as_slice(), crew)
 }

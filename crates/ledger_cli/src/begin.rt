@@ -1,7 +1,9 @@
 //! The command `new`: a chain that begins with a snapshot.
-ghost use Rattle.std.specs.Prelude.{◌≡◌, ◌≤◌, IfOk, Ok};
+ghost use Rattle.std.specs.Prelude.{◌≡◌, ◌≤◌, ◌∷◌, IfOk, Ok, OnOk};
 ghost use Rattle.snapshot_codec.specs.Snapshot.{BeginsWith, IsReadable};
 ghost use Rattle.snapshot_codec.specs.SnapshotReading.{prefix_of};
+ghost use Rattle.ledger_folder.specs.declared.event.Event.TheVariants.{FolderSynced};
+ghost use Rattle.ledger_store.specs.Adding.{beginning};
 ghost use Rattle.ledger_cli.specs.Given.{IfValue, IsReadWhole};
 
 use crate::chain::{locked, refused};
@@ -13,6 +15,7 @@ use ledger_store::{LedgerFault, create};
 use snapshot_codec::{Prefix, Snapshot, SnapshotFault, read_snapshot};
 use sol_base::OutOfMemory;
 use std::alloc::Global;
+use std::fs::File;
 use std::rt::Files;
 
 /// The snapshot that the bytes begin with, unless others follow it.
@@ -58,13 +61,36 @@ fn create_synced<F: Folder>(
 ) -> Result<(), LedgerFault>
     requires every { 1 ≤ every }
     requires readable { IsReadable snapshot.now }
+    // What it does, step by step: the folder is synced first.
+    ensures made { OnOk result
+        (F.events files.new ≡ beginning snapshot.now every (FolderSynced ∷ F.events files.old)) }
 {
     files.sync_folder()?;
     create(alloc, files, snapshot, every)
 }
 
+/// Begins a chain in a folder whose lock is held.
+fn begin_in<F: Folder>(
+    alloc: Global,
+    folder: &str,
+    files: &mut F,
+    snapshot: &Snapshot,
+    every: u32,
+) -> Result<Answer, OutOfMemory>
+    requires every { 1 ≤ every }
+    requires readable { IsReadable snapshot.now }
+    // Status 0 says that each step was done.
+    ensures stands { IfOk result (λ told. told.status ≡ 0 →
+        (F.events files.new ≡ beginning snapshot.now every (FolderSynced ∷ F.events files.old))) }
+{
+    match create_synced(alloc, files, snapshot, every) {
+        Ok(()) => written(alloc, b""),
+        Err(fault) => refused(alloc, WRITE_FAILED, folder, fault, files.failure()),
+    }
+}
+
 /// Makes the folder, unless it is there, and what the chain begins with.
-fn begin<R: Files + AllocGlobal + Clone + Drop>(
+fn begin<R: Files<File = File> + AllocGlobal + Clone + Drop>(
     rt: &R,
     folder: &str,
     snapshot: &Snapshot,
@@ -76,21 +102,18 @@ fn begin<R: Files + AllocGlobal + Clone + Drop>(
     let alloc = rt.alloc();
     match make_folder(rt, folder) {
         Ok(()) => {}
-        Err(e) => return unmade(alloc, folder, e.kind()),
+        Err(e) => return unmade(alloc, folder, &e),
     }
     let _lock = match locked(rt, folder)? {
         Given::Value(lock) => lock,
         Given::Nothing(told) => return Ok(told),
     };
     let mut files = StdFolder::new(rt, folder)?;
-    match create_synced(alloc, &mut files, snapshot, every) {
-        Ok(()) => written(alloc, b""),
-        Err(fault) => refused(rt, WRITE_FAILED, folder, fault),
-    }
+    begin_in(alloc, folder, &mut files, snapshot, every)
 }
 
 /// The answer to `new`.
-pub(crate) fn begun<R: Files + Input + AllocGlobal + Clone + Drop>(
+pub(crate) fn begun<R: Files<File = File> + Input + AllocGlobal + Clone + Drop>(
     rt: &R,
     folder: &str,
     every: u32,

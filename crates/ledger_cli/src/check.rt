@@ -4,12 +4,12 @@ ghost use Rattle.std.specs.Prelude.{◌≤◌};
 use crate::chain::{OpenChain, open_chain, unread};
 use crate::replaying::{Cause, Range, Shared, Stop, replay_pieces};
 use block_replay::{Field, OF_BLOCK};
-use command_parts::{Answer, DIFFERS, INPUT_REFUSED, noted, written};
+use command_parts::{Answer, DIFFERS, Given, INPUT_REFUSED, noted, written};
+use ledger_folder::Failure;
 use ledger_store::Head;
 use side_by_side::for_each_mut;
 use sol_base::{Blob, OutOfMemory};
 use std::alloc::Global;
-use std::rt::Files;
 use std::sync::Wait;
 use std::sync::atomic::{AtomicBool, AtomicU64};
 use std::thread::Threads;
@@ -124,20 +124,20 @@ fn differs(alloc: Global, slot: u64, what: &str) -> Result<Answer, OutOfMemory> 
 }
 
 /// The answer where the replay stopped at the block of a slot.
-fn told_stop<R: Files + AllocGlobal>(
-    rt: &R,
+fn told_stop(
+    alloc: Global,
     folder: &str,
     slot: u64,
     cause: Cause,
+    failure: Option<Failure>,
 ) -> Result<Answer, OutOfMemory> {
-    let alloc = rt.alloc();
     match cause {
         Cause::Record { entry, field } => {
             let what = place_text(alloc, entry, field)?;
             differs(alloc, slot, what.as_str())
         }
         Cause::Kept => differs(alloc, slot, "kept state"),
-        Cause::Refused(fault) => unread(rt, folder, fault),
+        Cause::Refused(fault) => unread(alloc, folder, fault, failure),
         Cause::OutOfMemory => Err(OutOfMemory),
     }
 }
@@ -172,9 +172,15 @@ fn check_range<T: Threads + Wait + Sync>(
         let _ = eprintln!(rt; "");
     }
     match stop {
-        Some(Stop { place, cause }) => {
+        Some(
+            Stop {
+                place,
+                cause,
+                failure,
+            },
+        ) => {
             let slot = range.head.slots.as_slice().get(place).copied().unwrap_or(0);
-            told_stop(rt, range.folder, slot, cause)
+            told_stop(rt.alloc(), range.folder, slot, cause, failure)
         }
         None => told_match(rt.alloc(), range),
     }
@@ -221,8 +227,10 @@ pub(crate) fn checked<T: Threads + Wait + Sync>(
     folder: &str,
     wanted: &Wanted,
 ) -> Result<Answer, OutOfMemory> {
-    match open_chain(rt, folder) {
-        Ok(OpenChain { files: _, head }) => check_chain(rt, threads, folder, &head, wanted),
-        Err(fault) => unread(rt, folder, fault),
+    match open_chain(rt, folder)? {
+        Given::Value(OpenChain { files: _, head }) => {
+            check_chain(rt, threads, folder, &head, wanted)
+        }
+        Given::Nothing(told) => Ok(told),
     }
 }

@@ -12,13 +12,17 @@ use command_words::{printable, refused};
 use ledger_words::{ChainCommand, USAGE, VERSION, read_chain_words};
 use sol_base::OutOfMemory;
 use std::alloc::Global;
+use std::fs::File;
 use std::rt::{Clock, Files};
 use std::sync::Wait;
 use std::thread::Threads;
 
 /// The answer to a command. `host`, `rt` and `threads` are the same runtime, and each is handed on for what
 /// it is used for: `host` opens the file of an export, and the files that several replay at once.
-fn answer_command<R: Files + Input + Clock + AllocGlobal + Clone + Drop, T: Threads + Wait + Sync>(
+fn answer_command<
+    R: Files<File = File> + Input + Clock + AllocGlobal + Clone + Drop,
+    T: Threads + Wait + Sync,
+>(
     host: &HostRuntime,
     rt: &R,
     threads: &T,
@@ -67,7 +71,7 @@ fn answer_command<R: Files + Input + Clock + AllocGlobal + Clone + Drop, T: Thre
 
 /// The answer to the arguments.
 pub fn answer_words<
-    R: Files + Input + Clock + AllocGlobal + Clone + Drop,
+    R: Files<File = File> + Input + Clock + AllocGlobal + Clone + Drop,
     T: Threads + Wait + Sync,
 >(
     host: &HostRuntime,

@@ -4,8 +4,8 @@ ghost use Rattle.snapshot_codec.specs.Snapshot.{IsReadable};
 
 use crate::chain::{OpenChain, copied, open_chain, state_after, unread};
 use crate::failures::caused;
-use command_parts::{Answer, INPUT_REFUSED, WRITE_FAILED, noted, written};
-use ledger_folder::Folder;
+use command_parts::{Answer, Given, INPUT_REFUSED, WRITE_FAILED, noted, written};
+use ledger_folder::{Failure, Folder};
 use ledger_store::{Changes, Head, Kept, LedgerFault, changes_between, next_state, read_block};
 use ledger_tables::{
     BlockRows, TablesFault, account_rows, add_accounts, add_block, add_indexes, add_tables,
@@ -15,8 +15,10 @@ use snapshot_codec::Snapshot;
 use sol_base::OutOfMemory;
 use sqlite::{Alter, Connection, Error as SqlError, ErrorCode};
 use std::alloc::{AllocError, Global};
-use std::fs;
+use std::fs::File;
+use std::io::ErrorKind;
 use std::rt::Files;
+use std::{fs, io};
 
 /// Why a chain does not become tables.
 #[derive(Drop)]
@@ -155,29 +157,56 @@ struct Parts {
     log: String,
 }
 
-fn parts_of(alloc: Global, file: &str) -> Result<Parts, AllocError> {
+/// The most names that are tried for a file of its own.
+const MAX_NAMES: u32 = 1 << 16;
+
+fn parts_of(alloc: Global, file: &str, number: u32) -> Result<Parts, AllocError> {
     Ok(Parts {
-        file: format!(in alloc; "{file}.part")?,
-        log: format!(in alloc; "{file}.part-wal")?,
+        file: format!(in alloc; "{file}.part-{number}")?,
+        log: format!(in alloc; "{file}.part-{number}-wal")?,
     })
 }
 
-/// Removes what an earlier export has left.
+/// Makes an empty file under a name that nothing has. None: something has it, or that of the log.
+fn made<R: Files>(rt: &R, parts: Parts) -> io::Result<Option<Parts>> {
+    match fs::symlink_metadata(rt, parts.log.as_str()) {
+        Err(e) if e.kind() == ErrorKind::NotFound => {}
+        Err(e) => return Err(e),
+        Ok(_) => return Ok(None),
+    }
+    match File::create_new(rt, parts.file.as_str()) {
+        Ok(_file) => Ok(Some(parts)),
+        Err(e) if e.kind() == ErrorKind::AlreadyExists => Ok(None),
+        Err(e) => Err(e),
+    }
+}
+
+/// Makes an empty file beside another: no other export writes to it.
+fn new_parts<R: Files + AllocGlobal>(rt: &R, file: &str) -> io::Result<Parts> {
+    for number in 0..MAX_NAMES {
+        if let Some(parts) = made(rt, parts_of(rt.alloc(), file, number)?)? {
+            return Ok(parts);
+        }
+    }
+    Err(io::Error::from(ErrorKind::AlreadyExists))
+}
+
+/// Removes what this export has written.
 fn remove<R: Files>(rt: &R, parts: &Parts) {
     let _ = fs::remove_file(rt, parts.file.as_str());
     let _ = fs::remove_file(rt, parts.log.as_str());
 }
 
 /// The answer where a chain does not become tables.
-fn stopped<R: Files + AllocGlobal>(
-    rt: &R,
+fn stopped(
+    alloc: Global,
     folder: &str,
     file: &str,
     stop: Stop,
+    failure: Option<Failure>,
 ) -> Result<Answer, OutOfMemory> {
-    let alloc = rt.alloc();
     match stop {
-        Stop::Chain(fault) => unread(rt, folder, fault),
+        Stop::Chain(fault) => unread(alloc, folder, fault, failure),
         Stop::Tables(TablesFault::OutOfMemory) => Err(OutOfMemory),
         Stop::Tables(
             TablesFault::Sql {
@@ -194,17 +223,21 @@ fn stopped<R: Files + AllocGlobal>(
     }
 }
 
-/// Moves the file that is whole to its name.
+/// The answer where a file has the name of the new one.
+fn taken(alloc: Global, file: &str) -> Result<Answer, OutOfMemory> {
+    noted(alloc, INPUT_REFUSED, file, "it is there already")
+}
+
+/// Gives the file that is whole its name, which nothing may have.
 fn placed<R: Files + AllocGlobal>(
     rt: &R,
     parts: &Parts,
     file: &str,
 ) -> Result<Answer, OutOfMemory> {
-    let moved = fs::rename(rt, parts.file.as_str(), file);
-    remove(rt, parts);
-    match moved {
+    match fs::hard_link(rt, parts.file.as_str(), file) {
         Ok(()) => written(rt.alloc(), b""),
-        Err(e) => caused(rt.alloc(), WRITE_FAILED, file, e.kind()),
+        Err(e) if e.kind() == ErrorKind::AlreadyExists => taken(rt.alloc(), file),
+        Err(e) => caused(rt.alloc(), WRITE_FAILED, file, &e),
     }
 }
 
@@ -218,15 +251,17 @@ fn export_to<R: Files + AllocGlobal + Clone + Drop>(
 ) -> Result<Answer, OutOfMemory>
     requires { 1 ≤ chain.old.head.every }
 {
-    let parts = parts_of(rt.alloc(), file)?;
-    remove(rt, &parts);
-    match make_tables(host, chain, parts.file.as_str()) {
+    let alloc = rt.alloc();
+    let parts = match new_parts(rt, file) {
+        Ok(parts) => parts,
+        Err(e) => return caused(alloc, WRITE_FAILED, file, &e),
+    };
+    let told = match make_tables(host, chain, parts.file.as_str()) {
         Ok(()) => placed(rt, &parts, file),
-        Err(stop) => {
-            remove(rt, &parts);
-            stopped(rt, folder, file, stop)
-        }
-    }
+        Err(stop) => stopped(alloc, folder, file, stop, chain.files.failure()),
+    };
+    remove(rt, &parts);
+    told
 }
 
 /// The answer to `export`. The file is new, and is there whole or not at all.
@@ -236,12 +271,12 @@ pub(crate) fn exported<R: Files + AllocGlobal + Clone + Drop>(
     folder: &str,
     file: &str,
 ) -> Result<Answer, OutOfMemory> {
-    let mut chain = match open_chain(rt, folder) {
-        Ok(chain) => chain,
-        Err(fault) => return unread(rt, folder, fault),
+    let mut chain = match open_chain(rt, folder)? {
+        Given::Value(chain) => chain,
+        Given::Nothing(told) => return Ok(told),
     };
     if let Ok(true) = fs::exists(rt, file) {
-        return noted(rt.alloc(), INPUT_REFUSED, file, "it is there already");
+        return taken(rt.alloc(), file);
     }
     export_to(host, rt, folder, &mut chain, file)
 }

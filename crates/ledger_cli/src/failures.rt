@@ -1,16 +1,19 @@
-//! Why a folder fails, as far as the system tells when it is asked again.
+//! Why files fail, as the system says it.
+ghost use Rattle.std.specs.Prelude.{◌≡◌, IfOk};
+
 use command_parts::{Answer, WRITE_FAILED, noted};
+use ledger_folder::Failure;
 use sol_base::OutOfMemory;
 use std::alloc::Global;
-use std::fs;
-use std::io::ErrorKind;
-use std::rt::Files;
+use std::io::{Error, ErrorKind};
 
 /// What the system says of a failure.
-fn cause_text(alloc: Global, cause: ErrorKind) -> Result<String, OutOfMemory> {
-    match cause {
+fn cause_text(alloc: Global, error: &Error) -> Result<String, OutOfMemory> {
+    match error.kind() {
         ErrorKind::NotFound => Ok(format!(in alloc; "no such file or folder")?),
-        cause => Ok(cause.to_string(alloc)?),
+        ErrorKind::StorageFull => Ok(format!(in alloc; "no space left")?),
+        ErrorKind::Other | ErrorKind::Uncategorized => Ok(error.to_string(alloc)?),
+        kind => Ok(kind.to_string(alloc)?),
     }
 }
 
@@ -19,48 +22,57 @@ pub(crate) fn caused(
     alloc: Global,
     status: u8,
     path: &str,
-    cause: ErrorKind,
-) -> Result<Answer, OutOfMemory> {
-    if cause == ErrorKind::OutOfMemory {
+    error: &Error,
+) -> Result<Answer, OutOfMemory>
+    ensures { IfOk result (λ told. told.status ≡ status) }
+{
+    if error.kind() == ErrorKind::OutOfMemory {
         return Err(OutOfMemory);
     }
-    noted(alloc, status, path, cause_text(alloc, cause)?.as_str())
+    noted(alloc, status, path, cause_text(alloc, error)?.as_str())
 }
 
 /// The answer where a folder cannot be made.
-pub(crate) fn unmade(alloc: Global, folder: &str, cause: ErrorKind) -> Result<Answer, OutOfMemory> {
-    if cause == ErrorKind::OutOfMemory {
+pub(crate) fn unmade(alloc: Global, folder: &str, error: &Error) -> Result<Answer, OutOfMemory>
+    ensures { IfOk result (λ told. told.status ≡ 5) }
+{
+    if error.kind() == ErrorKind::OutOfMemory {
         return Err(OutOfMemory);
     }
-    let text = cause_text(alloc, cause)?;
+    let text = cause_text(alloc, error)?;
     let text = format!(in alloc; "cannot be made: {text}")?;
     noted(alloc, WRITE_FAILED, folder, text.as_str())
 }
 
-/// Why a file or a folder is not opened to be read.
-fn cause_at<R: Files>(rt: &R, path: &str) -> Option<ErrorKind> {
-    match fs::open(rt, path) {
-        Ok(_file) => None,
-        Err(e) => Some(e.kind()),
-    }
-}
-
-/// The answer where the files of a folder fail: the folder or its file `chain` with the cause, or the
-/// text where these do not fail.
-pub(crate) fn failed<R: Files + AllocGlobal>(
-    rt: &R,
+/// The answer where a call on a file of a chain fails, or on the folder. A path that leads through a
+/// file is told of the folder.
+pub(crate) fn failed_at(
+    alloc: Global,
     status: u8,
     folder: &str,
-    text: &str,
-) -> Result<Answer, OutOfMemory> {
-    let alloc = rt.alloc();
-    if let Some(cause) = cause_at(rt, folder) {
-        return caused(alloc, status, folder, cause);
+    failure: &Failure,
+) -> Result<Answer, OutOfMemory>
+    ensures { IfOk result (λ told. told.status ≡ status) }
+{
+    let Failure { at, error } = failure;
+    if error.kind() == ErrorKind::NotADirectory {
+        return noted(alloc, status, folder, "it is no folder");
     }
-    let chain = format!(in alloc; "{folder}/chain")?;
-    match cause_at(rt, chain.as_str()) {
-        Some(ErrorKind::NotADirectory) => noted(alloc, status, folder, "it is no folder"),
-        Some(ErrorKind::NotFound) | None => noted(alloc, status, folder, text),
-        Some(cause) => caused(alloc, status, chain.as_str(), cause),
+    let path = format!(in alloc; "{folder}{at}")?;
+    caused(alloc, status, path.as_str(), error)
+}
+
+/// The answer where the folder of a chain fails, by the call that failed last.
+pub(crate) fn failed(
+    alloc: Global,
+    status: u8,
+    folder: &str,
+    failure: Option<Failure>,
+) -> Result<Answer, OutOfMemory>
+    ensures { IfOk result (λ told. told.status ≡ status) }
+{
+    match failure {
+        Some(failure) => failed_at(alloc, status, folder, &failure),
+        None => noted(alloc, status, folder, "one of its files failed"),
     }
 }

@@ -4,7 +4,8 @@ ghost use Rattle.std.specs.Prelude.{◌≤◌};
 use crate::chain::{OpenChain, no_block, open_chain, state_after, unread};
 use crate::lines::append_listed;
 use block_record::record_bytes;
-use command_parts::{Answer, written};
+use command_parts::{Answer, Given, written};
+use ledger_folder::Folder;
 use ledger_store::{Head, Kept, LedgerFault, read_block};
 use snapshot_codec::{readable_snapshots_are_writable, snapshot_bytes};
 use sol_base::{Blob, OutOfMemory};
@@ -39,7 +40,7 @@ fn state_in<R: Files + AllocGlobal + Clone + Drop>(
     readable_snapshots_are_writable();
     match state_after(alloc, &mut chain.files, &chain.head, count) {
         Ok(snapshot) => written(alloc, snapshot_bytes(alloc, &snapshot)?.as_slice()),
-        Err(fault) => unread(rt, folder, fault),
+        Err(fault) => unread(alloc, folder, fault, chain.files.failure()),
     }
 }
 
@@ -49,9 +50,9 @@ pub(crate) fn state<R: Files + AllocGlobal + Clone + Drop>(
     folder: &str,
     slot: Option<u64>,
 ) -> Result<Answer, OutOfMemory> {
-    match open_chain(rt, folder) {
-        Ok(mut chain) => state_in(rt, folder, &mut chain, slot),
-        Err(fault) => unread(rt, folder, fault),
+    match open_chain(rt, folder)? {
+        Given::Value(mut chain) => state_in(rt, folder, &mut chain, slot),
+        Given::Nothing(told) => Ok(told),
     }
 }
 
@@ -65,7 +66,7 @@ fn block_in<R: Files + AllocGlobal + Clone + Drop>(
     let alloc = rt.alloc();
     match read_block(alloc, &mut chain.files, slot) {
         Ok(Kept { block, micros: _ }) => written(alloc, record_bytes(alloc, &block)?.as_slice()),
-        Err(fault) => unread(rt, folder, fault),
+        Err(fault) => unread(alloc, folder, fault, chain.files.failure()),
     }
 }
 
@@ -75,9 +76,9 @@ pub(crate) fn block<R: Files + AllocGlobal + Clone + Drop>(
     folder: &str,
     slot: u64,
 ) -> Result<Answer, OutOfMemory> {
-    let mut chain = match open_chain(rt, folder) {
-        Ok(chain) => chain,
-        Err(fault) => return unread(rt, folder, fault),
+    let mut chain = match open_chain(rt, folder)? {
+        Given::Value(chain) => chain,
+        Given::Nothing(told) => return Ok(told),
     };
     if chain.head.slots.as_slice().binary_search(&slot).is_err() {
         return no_block(rt.alloc(), slot);
@@ -105,12 +106,12 @@ pub(crate) fn listed<R: Files + AllocGlobal + Clone + Drop>(
     folder: &str,
 ) -> Result<Answer, OutOfMemory> {
     let alloc = rt.alloc();
-    let told = match open_chain(rt, folder) {
-        Ok(mut chain) => lines(rt, &mut chain),
-        Err(fault) => Err(fault),
+    let mut chain = match open_chain(rt, folder)? {
+        Given::Value(chain) => chain,
+        Given::Nothing(told) => return Ok(told),
     };
-    match told {
+    match lines(rt, &mut chain) {
         Ok(lines) => written(alloc, lines.as_slice()),
-        Err(fault) => unread(rt, folder, fault),
+        Err(fault) => unread(alloc, folder, fault, chain.files.failure()),
     }
 }

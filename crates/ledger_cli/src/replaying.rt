@@ -8,7 +8,7 @@ use bank_lanes::OpenGate;
 use block_record::Block;
 use block_replay::{Field, Verdict, compare};
 use block_run::run_listed;
-use ledger_folder::{Folder, StdFolder};
+use ledger_folder::{Failure, Folder, StdFolder};
 use ledger_store::{Head, Kept, LedgerFault, follows, next_state, read_block};
 use snapshot_codec::{Snapshot, state_hash};
 use sol_base::OutOfMemory;
@@ -46,6 +46,8 @@ impl From<OutOfMemory> for Cause {
 pub(crate) struct Stop {
     pub(crate) place: usize,
     pub(crate) cause: Cause,
+    /// The call on the folder's files that failed last.
+    pub(crate) failure: Option<Failure>,
 }
 
 /// Blocks by their places in a chain, in pieces of the same length. Whoever is free takes the next
@@ -158,6 +160,7 @@ fn replay_piece<T: Threads + Wait + Sync>(
         Err(OutOfMemory) => return Err(Stop {
             place: first,
             cause: Cause::OutOfMemory,
+            failure: None,
         }),
     };
     let mut state = match state_after(alloc, &mut files, range.head, first) {
@@ -165,12 +168,17 @@ fn replay_piece<T: Threads + Wait + Sync>(
         Err(fault) => return Err(Stop {
             place: first,
             cause: Cause::Refused(fault),
+            failure: files.failure(),
         }),
     };
     for place in first..end {
         state = match replay_place(threads, alloc, &mut files, range.head, place, state) {
             Ok(after) => after,
-            Err(cause) => return Err(Stop { place, cause }),
+            Err(cause) => return Err(Stop {
+                place,
+                cause,
+                failure: files.failure(),
+            }),
         };
         let replayed = shared.replayed.fetch_add(1, Ordering::SeqCst);
         if range.shows {

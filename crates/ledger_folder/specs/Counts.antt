@@ -1,6 +1,7 @@
 -- What an answer of a folder says of its count of failures.
-use Rattle.std.specs.Prelude.{◌≡◌, ℕ, List, Result, Ok, Err}
+use Rattle.std.specs.Prelude.{◌≡◌, ℕ, List, Option, Result, Ok, Err}
 use Rattle.ledger_folder.specs.declared.event.Event.{Event}
+use Rattle.ledger_folder.specs.declared.failure.Failure.{Failure}
 use Rattle.ledger_folder.specs.declared.folder.FolderFault.{FolderFault}
 use Rattle.ledger_folder.specs.declared.folder.FolderFault.TheVariants.{Failed, OutOfMemory}
 pub use Rattle.spec_base.specs.Faults.{Rose}
@@ -19,3 +20,9 @@ FolderCounts (Err fault) old new = FaultCounts fault old new
 pub record FolderView : Type 0 where
   pub events : List Event
   pub faults : ℕ
+
+-- one of the system's files too: the call that failed last
+pub record StdFolderView : Type 0 where
+  pub events : List Event
+  pub faults : ℕ
+  pub failure : Option Failure

@@ -1,10 +1,12 @@
 //! Operations on the files of a folder.
-ghost use Rattle.std.specs.Prelude.{◌≡◌, ◌∷◌, ℕ, List, MatchResult};
+ghost use Rattle.std.specs.Prelude.{◌≡◌, ◌∷◌, ℕ, List, Option, MatchResult};
 ghost use Rattle.ledger_folder.specs.declared.event.Event.{Event};
 ghost use Rattle.ledger_folder.specs.declared.event.Event.TheVariants.{Wrote, Synced, Spoiled, Renamed, RenameFailed, FolderSynced, Read, Listed};
+ghost use Rattle.ledger_folder.specs.declared.failure.Failure.{Failure as FailureValue};
 ghost use Rattle.ledger_folder.specs.Counts.{FolderCounts};
 ghost use Rattle.ledger_folder.specs.declared.folder.FolderFault.TheVariants.{OutOfMemory as no_memory};
 
+use crate::failure::Failure;
 use crate::name::Name;
 use sol_base::{Blob, Items, OutOfMemory};
 use thiserror::Error;
@@ -38,6 +40,13 @@ pub trait Folder {
 
     /// How often it failed: a count that never falls.
     ghost faults: { Self → ℕ };
+
+    /// The call of the system that failed last.
+    ghost failure: { Self → Option FailureValue };
+
+    /// The call of the system that failed last, as far as the folder knows.
+    fn failure(&self) -> Option<Failure>
+        ensures { result ≡ failure self.now };
 
     /// The slots whose blocks have a file, ascending.
     fn blocks(&mut self) -> Result<Items<u64>, FolderFault>

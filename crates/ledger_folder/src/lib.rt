@@ -3,6 +3,7 @@
 #![tactic(auto)]
 
 mod event;
+mod failure;
 mod folder;
 mod lock;
 mod log;
@@ -11,6 +12,7 @@ mod name;
 mod standard;
 
 pub use event::Event;
+pub use failure::{FailedAt, Failure};
 pub use folder::{Folder, FolderFault};
 pub use lock::{FolderLock, LockFault, lock_folder};
 pub use memory::MemFolder;

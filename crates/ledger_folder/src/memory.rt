@@ -1,7 +1,8 @@
 //! A folder in memory, for tests.
-ghost use Rattle.std.specs.Prelude.{◌≡◌, [], MatchResult};
+ghost use Rattle.std.specs.Prelude.{◌≡◌, [], None, MatchResult};
 ghost use Rattle.ledger_folder.specs.Counts.{FolderCounts};
 
+use crate::failure::Failure;
 use crate::folder::{Folder, FolderFault};
 use crate::log;
 use crate::log::Log;
@@ -157,6 +158,13 @@ impl Folder for MemFolder {
     ghost events = { λ f. f.events };
 
     ghost faults = { λ f. f.faults };
+
+    ghost failure = { λ _. None };
+
+    /// No call of the system is made here.
+    fn failure(&self) -> Option<Failure> {
+        None
+    }
 
     fn blocks(&mut self) -> Result<Items<u64>, FolderFault> {
         let slots = block_slots(self.alloc, &self.files)?;

@@ -245,9 +245,6 @@ pub block_there : (events : List Event) (slots : List ℕ) → (slots ≡ [] →
 block_there events slots some disk shows both = some (one_listing disk slots [] (shows-listed events slots disk shows).1 both.1)
 
 -- ---- what was only read
-pub reads_chain : (old new : List Event) (found : Option (List ℕ)) → new ≡ Read Chain found ∷ old → OnlyReads old new
-reads_chain old new found e = (Read Chain found ∷ [], tt, e)
-
 pub reads_both : (old mid new : List Event) (found : Option (List ℕ)) (slots : List ℕ) → mid ≡ Read Chain found ∷ old → new ≡ Listed slots ∷ mid → OnlyReads old new
 reads_both old mid new found slots first second = (Listed slots ∷ Read Chain found ∷ [], tt, second ∙ ap (λ (l : List Event). Listed slots ∷ l) first)
 

@@ -1,4 +1,5 @@
 mod Telling
+mod JustReads
 mod Beside
 mod Same
 mod Crashes

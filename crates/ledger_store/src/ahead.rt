@@ -1,5 +1,5 @@
 //! Files of what blocks changed, each read by a thread of its own while others are read and put in.
-ghost use Rattle.std.specs.Prelude.{◌≡◌, IfOk, map, Ok};
+ghost use Rattle.std.specs.Prelude.{◌≡◌, IfOk, OnOk, map, Ok};
 ghost use Rattle.std.specs.Arc.{arc_value};
 ghost use Rattle.std.specs.Option.{ForSome};
 ghost use Rattle.spec_base.specs.Reading.{Gives};
@@ -12,6 +12,7 @@ ghost use Rattle.ledger_store.specs.Seal.{unsealed};
 ghost use Rattle.ledger_store.specs.Changes.{whole_changes};
 ghost use Rattle.ledger_store.specs.Watching.{settled};
 ghost use Rattle.ledger_store.specs.Told.{IsTold};
+ghost use Rattle.ledger_store.specs.Adding.{OnlyReads};
 ghost use Rattle.ledger_store.specs.Ahead.{files_of, next_from, seen, stepped_by, walked_by};
 
 use crate::changes::Changes;
@@ -130,6 +131,7 @@ fn begin_file<T: Threads, F: Folder>(
     ensures tells { (disk : Disk) → Shows (F.events folder.new) disk
         → Shows (F.events folder.old) disk
         × Gives is_free (λ file. seen file) result (Ok (slot, disk (changes_name slot))) }
+    ensures reads { OnOk result (OnlyReads (F.events folder.old) (F.events folder.new)) }
     ensures counts { LedgerCounts result (F.faults folder.old) (F.faults folder.new) }
 {
     match folder.read(Name::Changes { slot })? {
@@ -149,6 +151,7 @@ pub(crate) fn begin_files<T: Threads, F: Folder>(
     ensures tells { (disk : Disk) → Shows (F.events folder.new) disk
         → Shows (F.events folder.old) disk
         × Gives is_free (λ files. map seen files) result (Ok (files_of disk slots.now)) }
+    ensures reads { OnOk result (OnlyReads (F.events folder.old) (F.events folder.new)) }
     ensures counts { LedgerCounts result (F.faults folder.old) (F.faults folder.new) }
 {
     let mut files = Items::new(alloc);

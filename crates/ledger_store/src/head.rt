@@ -1,11 +1,12 @@
 //! What a chain is: the file `chain`, and the slots of the blocks.
-ghost use Rattle.std.specs.Prelude.{◌≡◌, ◌≤◌, IfOk};
+ghost use Rattle.std.specs.Prelude.{◌≡◌, ◌≤◌, IfOk, OnOk};
 ghost use Rattle.spec_base.specs.Reading.{Gives};
 ghost use Rattle.ledger_folder.specs.Files.{Disk, Lists};
 ghost use Rattle.ledger_folder.specs.Crash.{Shows};
 ghost use Rattle.ledger_store.specs.Faults.{LedgerCounts, NeverFails, is_field_memory, is_ledger_memory};
 ghost use Rattle.ledger_store.specs.Seal.{sealed};
 ghost use Rattle.ledger_store.specs.Heads.{every_at, head_at, head_bytes, head_from, head_of, magic_at};
+ghost use Rattle.ledger_store.specs.Adding.{OnlyReads};
 ghost use Rattle.ledger_store.specs.Reading.{TellsListed, heading};
 
 use crate::fault::{FieldFault, LedgerFault, field_fault};
@@ -113,6 +114,7 @@ pub fn read_head<F: Folder>(folder: &mut F) -> Result<Head, LedgerFault>
     ensures lists { IfOk result (λ head. (disk : Disk) → Shows (F.events folder.new) disk →
         Lists disk head.slots) }
     ensures every { IfOk result (λ head. 1 ≤ head.every) }
+    ensures reads { OnOk result (OnlyReads (F.events folder.old) (F.events folder.new)) }
     ensures counts { LedgerCounts result (F.faults folder.old) (F.faults folder.new) }
 {
     let bytes = read_file(folder, Name::Chain)?;

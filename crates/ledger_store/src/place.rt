@@ -2,6 +2,7 @@
 ghost use Rattle.std.specs.Prelude.{◌≡◌, true, IfErr, OnErr, OnOk};
 ghost use Rattle.ledger_folder.specs.Placing.{StoppedPlacing, placing};
 ghost use Rattle.ledger_store.specs.Faults.{LedgerCounts, found_or, is_free};
+ghost use Rattle.ledger_store.specs.Adding.{OnlyReads};
 ghost use Rattle.ledger_store.specs.Reading.{Tells};
 ghost use Rattle.ledger_store.specs.declared.fault.LedgerFault.TheVariants.{Missing};
 
@@ -13,6 +14,7 @@ use sol_base::Blob;
 pub(crate) fn read_file<F: Folder>(folder: &mut F, name: Name) -> Result<Blob, LedgerFault>
     ensures tells { Tells (F.events folder.old) (F.events folder.new) result
         (λ disk. found_or (Missing name) (disk name)) }
+    ensures reads { OnOk result (OnlyReads (F.events folder.old) (F.events folder.new)) }
     ensures counts { LedgerCounts result (F.faults folder.old) (F.faults folder.new) }
 {
     match folder.read(name)? {

@@ -1,5 +1,5 @@
 //! Chains that are opened while threads look at the hashes that their files end in.
-ghost use Rattle.std.specs.Prelude.{◌≡◌, ◌≤◌, IfOk, length};
+ghost use Rattle.std.specs.Prelude.{◌≡◌, ◌≤◌, IfOk, OnOk, length};
 ghost use Rattle.std.specs.Arc.{arc_value};
 ghost use Rattle.spec_base.specs.Reading.{Gives};
 ghost use Rattle.snapshot_codec.specs.Snapshot.{IsReadable};
@@ -10,6 +10,7 @@ ghost use Rattle.ledger_store.specs.Faults.{LedgerCounts, NeverFails, is_free};
 ghost use Rattle.ledger_store.specs.States.{state_from};
 ghost use Rattle.ledger_store.specs.Opening.{opened, state_after};
 ghost use Rattle.ledger_store.specs.Ahead.{found_in, told_by};
+ghost use Rattle.ledger_store.specs.Adding.{OnlyReads};
 ghost use Rattle.ledger_store.specs.Reading.{IsOpen, Tells, TellsListed};
 ghost use Rattle.ledger_store.specs.Watching.{IsOpening, finished, first_unsealed, refusal, seen_files, settled, told_of, unsealed_fault};
 
@@ -87,6 +88,7 @@ fn begin_reading<T: Threads, F: Folder>(
         → Shows (F.events folder.old) disk
         × Gives is_free seen_files result (found_in disk slot slots.now) }
     ensures name { IfOk result (λ begun. begun.full.name ≡ State slot) }
+    ensures reads { OnOk result (OnlyReads (F.events folder.old) (F.events folder.new)) }
     ensures counts { LedgerCounts result (F.faults folder.old) (F.faults folder.new) }
 {
     let name = Name::State { slot };
@@ -148,6 +150,7 @@ fn read_beside<T: Threads, F: Folder>(
     ensures tells { Tells (F.events folder.old) (F.events folder.new) (settled files.new result)
         (λ disk. settled files.old (state_after disk head.now count)) }
     ensures readable { IfOk result IsReadable }
+    ensures reads { OnOk result (OnlyReads (F.events folder.old) (F.events folder.new)) }
     ensures counts { LedgerCounts result (F.faults folder.old) (F.faults folder.new) }
 {
     let full = head.full_before(count);
@@ -169,6 +172,7 @@ pub fn begin_opening<T: Threads, F: Folder>(
     ensures opens { IfOk result (IsOpening (F.events folder.new)) }
     ensures every { IfOk result (λ opening. 1 ≤ opening.ledger.head.every) }
     ensures readable { IfOk result (λ opening. IsReadable opening.ledger.newest) }
+    ensures reads { OnOk result (OnlyReads (F.events folder.old) (F.events folder.new)) }
     ensures counts { LedgerCounts result (F.faults folder.old) (F.faults folder.new) }
 {
     let head = read_head(folder)?;

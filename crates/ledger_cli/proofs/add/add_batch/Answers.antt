@@ -1,7 +1,8 @@
-use Rattle.std.proofs.Common.{sym, subst}
+use Rattle.std.proofs.Common.{Result, Ok, sym, ◌∙◌, ap, subst}
+use Rattle.ledger_store.specs.declared.fault.LedgerFault.{LedgerFault}
 use Rattle.ledger_store.specs.declared.opening.Ledger.{Ledger}
 use Rattle.ledger_store.specs.Adding.{Follows}
-use Rattle.ledger_cli.proofs.Nexts.{nothing_added, opened_added, result_follows, result_readable}
+use Rattle.ledger_cli.proofs.Nexts.{nothing_added, opened_added, opened_stands, result_follows, result_readable}
 use Rattle.ledger_cli.proofs.add.add_batch.Goals as goal
 
 pub returns-in_err-ran-clause-any_moment : goal.returns-in_err-ran-clause-any_moment
@@ -36,3 +37,11 @@ returns-clause-any_moment g c done had has =
     (g.F.Folder.events c.args.files.now) (g.F.Folder.events c.add-added.new.folder) c.in-Ok.ensures.same
     c.in_ok-ran.ensures had has
     c.add-added.ensures.any_moment
+
+pub returns-clause-stands : goal.returns-clause-stands
+returns-clause-stands g c zero = (
+  sym c.in-Ok.ensures.finished ∙ ap (λ (l : Ledger). let r : Result Ledger LedgerFault = Ok l in r) c.in-Ok.ensures.same,
+  opened_stands c.args.opening.ledger c.in-Ok.ledger c.args.batch.now c.in_ok-ran.ran c.in_ok-ran.run' c.add-added.result c.in_ok-answer.answer.status
+      (g.F.Folder.events c.args.files.now) (g.F.Folder.events c.add-added.new.folder) c.in-Ok.ensures.same
+      c.in_ok-ran.ensures c.in_ok-answer.ensures c.add-added.ensures.lasts zero,
+)

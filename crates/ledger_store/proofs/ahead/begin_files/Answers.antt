@@ -5,6 +5,7 @@ use Rattle.ledger_folder.specs.declared.name.Name.TheVariants.{Changes}
 use Rattle.ledger_store.specs.declared.ahead.Ahead.{Ahead}
 use Rattle.ledger_store.specs.declared.fault.LedgerFault.{LedgerFault}
 use Rattle.ledger_store.specs.Ahead.{files_of, seen}
+use Rattle.ledger_store.proofs.JustReads.{reads_then}
 use Rattle.ledger_store.proofs.ahead.begin_files.Goals as goal
 
 pub loop-slot-preserved : goal.loop-slot-preserved
@@ -26,5 +27,6 @@ loop-slot-preserved g c = record {
             ∙ append_assoc (map seen files) (seen file ∷ []) rest
             ∙ ap (λ (x : ℕ × Option (List ℕ)). map seen files ++ x ∷ rest) (sym same) ∙ sym step ∙ b.1,
       );
+  reads = reads_then (g.F.Folder.events c.args.folder.now) (g.F.Folder.events c.loop-slot.folder) (g.F.Folder.events c.begin_file.new.folder) c.loop-slot.invariant.reads c.in_ok-file.ensures.reads;
   stands = c.in_ok-file.ensures.counts ∙ c.loop-slot.invariant.stands;
 }

@@ -10,6 +10,7 @@ use Rattle.ledger_store.specs.Reading.{TellsListed}
 use Rattle.ledger_store.specs.Watching.{refusal, settled, told_of}
 use Rattle.ledger_store.proofs.Telling.{tells_no_head, tells_opened}
 use Rattle.ledger_store.proofs.Beside.{is_opening, refusal_counts, so_refused, so_settled, tells_alone}
+use Rattle.ledger_store.proofs.JustReads.{reads_then}
 use Rattle.ledger_store.proofs.watching.begin_opening.Goals as goal
 
 pub returns-in_err-head-clause-tells : goal.returns-in_err-head-clause-tells
@@ -64,3 +65,6 @@ returns-in-Err-clause-counts g c =
     subst (λ (e : LedgerFault). LedgerCounts {A = Ledger} (Err e) old new) (sym c.refusal.ensures)
     (subst (λ (n : ℕ). LedgerCounts {A = Ledger} (Err (refusal c.read_beside.new.files c.in-Err.fault)) n new) c.in_ok-head.ensures.counts
     (refusal_counts c.read_beside.new.files c.in-Err.fault mid new c.in-Err.ensures.counts))
+
+pub returns-in-Ok-clause-reads : goal.returns-in-Ok-clause-reads
+returns-in-Ok-clause-reads g c = reads_then (g.F.Folder.events c.args.folder.now) (g.F.Folder.events c.read_head.new.folder) (g.F.Folder.events c.read_beside.new.folder) c.in_ok-head.ensures.reads c.in-Ok.ensures.reads
