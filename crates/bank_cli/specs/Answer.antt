@@ -1,5 +1,5 @@
 -- What is answered to words and input: a status, an output and notes.
-use Rattle.std.specs.Prelude.{ℕ, List, [], ◌++◌, Bool, true, false, nat_le, length, drop, filter, codes, Option, Some, None, Result, Ok, Err, if◌then◌else◌}
+use Rattle.std.specs.Prelude.{ℕ, List, [], ◌++◌, Bool, true, false, nat_eq, nat_le, length, drop, filter, codes, Option, Some, None, Result, Ok, Err, if◌then◌else◌}
 use Rattle.std.specs.Fmt.{decimal}
 use Rattle.hex.specs.Hex.{encode_lower}
 use Rattle.tx_report.specs.declared.status.Status.{Status}
@@ -191,6 +191,16 @@ takes_input Show = true
 takes_input (Make _ _ _ _) = false
 takes_input Assemble = true
 takes_input list_image = true
+
+-- the command is done on the caller's lane alone: any but produce, on one lane where it runs
+-- transactions
+abbrev pub is_alone : Command → Bool
+is_alone (Produce _ _) = false
+is_alone (Replay lanes) = nat_eq lanes 1
+is_alone Show = true
+is_alone (Make _ _ run lanes) = if run then nat_eq lanes 1 else true
+is_alone Assemble = true
+is_alone list_image = true
 
 abbrev pub has_input : Option Command → Bool
 has_input (Some command) = takes_input command

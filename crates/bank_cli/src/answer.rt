@@ -6,11 +6,10 @@ ghost use Rattle.bank_cli.specs.Ending.{TellsAnswer, TellsFault, Stops};
 ghost use Rattle.sol_io.specs.Bytes.{Keeps};
 
 use crate::ahead::Senders;
-use crate::asm::{assembled, listed};
+use crate::alone::{answer_alone, is_alone};
 use crate::make::made;
 use crate::produce::produced;
 use crate::replay::replayed;
-use crate::show::shown;
 use crate::texts::refuse;
 use bank_lanes::Gate;
 use bank_words::{Command, Words, WordsFault, read_words};
@@ -98,6 +97,9 @@ fn answer_input<G: Gate, H: SendGate, R: Threads + Wait + Sync>(
     requires limit { length input ≤ input_limit }
     ensures { IfOk result (λ told. told ≡ answer_to command input) }
 {
+    if is_alone(command) {
+        return answer_alone(rt, alloc, command, input, gate);
+    }
     match command {
         Command::Produce { lanes, senders } => {
             let senders = Senders {
@@ -107,7 +109,6 @@ fn answer_input<G: Gate, H: SendGate, R: Threads + Wait + Sync>(
             produced(rt, alloc, lanes, &senders, input, gate)
         }
         Command::Replay { lanes } => replayed(rt, alloc, lanes, input, gate),
-        Command::Show => shown(alloc, input),
         Command::Make {
             number,
             count,
@@ -117,7 +118,6 @@ fn answer_input<G: Gate, H: SendGate, R: Threads + Wait + Sync>(
             let lanes = if run { Some(lanes) } else { None };
             made(rt, alloc, number, count, lanes, gate)
         }
-        Command::Assemble => assembled(alloc, input),
-        Command::List => listed(alloc, input),
+        Command::Show | Command::Assemble | Command::List => unreachable!(),
     }
 }

@@ -2,6 +2,7 @@
 #![tactic(auto)]
 
 mod ahead;
+mod alone;
 mod answer;
 mod asm;
 mod make;

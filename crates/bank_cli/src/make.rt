@@ -43,7 +43,7 @@ pub(crate) fn made<G: Gate, R: Threads + Wait + Sync>(
 }
 
 /// The snapshot, then the batch.
-fn write_input(alloc: Global, input: &Made) -> Result<Answer, OutOfMemory>
+pub(crate) fn write_input(alloc: Global, input: &Made) -> Result<Answer, OutOfMemory>
     requires readable { IsReadable input.now.snapshot }
     requires few { length input.now.batch.wires ≤ max_transactions }
     requires short { All IsShortWire input.now.batch.wires }
@@ -74,7 +74,7 @@ fn run_made<G: Gate, R: Threads + Wait + Sync>(
     Ok(tell(alloc, line))
 }
 
-fn line_of(alloc: Global, count: u32, block: &Block) -> Result<Blob, OutOfMemory>
+pub(crate) fn line_of(alloc: Global, count: u32, block: &Block) -> Result<Blob, OutOfMemory>
     ensures { IfOk result (λ text. text ≡ run_line count (length block.now.entries) block.now) }
 {
     let mut text = Blob::new(alloc);

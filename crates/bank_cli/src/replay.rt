@@ -65,7 +65,7 @@ fn replay_block<G: Gate, R: Threads + Wait + Sync>(
     judge(alloc, given, &verdict)
 }
 
-fn judge(alloc: Global, given: &Block, verdict: &Verdict) -> Result<Answer, OutOfMemory>
+pub(crate) fn judge(alloc: Global, given: &Block, verdict: &Verdict) -> Result<Answer, OutOfMemory>
     ensures { IfOk result (λ told. told ≡ judged given.now verdict.now) }
 {
     match verdict {

@@ -181,12 +181,35 @@ fn run_shared<W: Work + Sync, G: Gate, R: Threads + Wait + Sync>(
     Ok((desk.close(crew.rt, pass), begun))
 }
 
+/// Runs a work on the one lane of a core, on the caller's thread. It ends as the serial run does; its
+/// accounts are apart yet, and the front of its record is written in the room. It waits for nobody.
+pub fn run_work_alone<W: Work, G: Gate>(
+    gate: &G,
+    mut core: Core<W>,
+    work: &W,
+    parts: RecordParts<'_>,
+    room: Blob,
+) -> Result<(Ended<W>, Items<SharedOutcome>, RecordPrefix), OutOfMemory>
+    requires one { core.lanes ≡ 1 }
+    requires told { core.origin.value.told ≡ W.told work.now }
+    requires journal { core.journal.items ≡ [] }
+    requires of { AreOf parts.wires.now parts.order.now }
+    ensures origin { IfOk result (λ end. end.0.origin.value ≡ core.origin.value) }
+    ensures outcomes { IfOk result (λ end.
+        end.1 ≡ outcomes_at_end W.job core.origin.value) }
+    ensures begun { IfOk result (λ end. IsBegun parts.entry end.1 end.2) }
+{
+    run_alone(&mut core, work, gate)?;
+    let (ended, outcomes) = core.part()?;
+    Ok((ended, outcomes, begin_record(parts, room)?))
+}
+
 /// Runs a work on the lanes of a core. It ends as the serial run does; its accounts are apart
 /// yet, and the front of its record is hashed as far as that was known, and written in the room.
 /// With one lane no thread is started.
 pub fn run_work<W: Work + Sync, G: Gate, R: Threads + Wait + Sync>(
     crew: &Crew<'_, G, R>,
-    mut core: Core<W>,
+    core: Core<W>,
     work: &W,
     parts: RecordParts<'_>,
     room: Blob,
@@ -202,9 +225,7 @@ pub fn run_work<W: Work + Sync, G: Gate, R: Threads + Wait + Sync>(
     ensures begun { IfOk result (λ end. IsBegun parts.entry end.1 end.2) }
 {
     if core.lanes() == 1 {
-        run_alone(&mut core, work, crew.gate)?;
-        let (ended, outcomes) = core.part()?;
-        Ok((ended, outcomes, begin_record(parts, room)?))
+        run_work_alone(crew.gate, core, work, parts, room)
     } else {
         let (core, begun) = run_shared(crew, core, work, parts, room)?;
         let (ended, outcomes) = core.part()?;

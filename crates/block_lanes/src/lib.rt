@@ -5,4 +5,4 @@
 mod lanes;
 mod reading;
 
-pub use lanes::run_work;
+pub use lanes::{run_work, run_work_alone};

@@ -145,7 +145,7 @@ fn record_order<G: Gate, R: Threads + Wait + Sync>(
 }
 
 /// The head of the block of a batch.
-fn head_of(batch: &Batch) -> Head
+pub(crate) fn head_of(batch: &Batch) -> Head
     ensures { result ≡ head_of batch.now }
 {
     Head {
@@ -277,7 +277,7 @@ pub fn record_parsed<G: Gate, R: Threads + Wait + Sync>(
 }
 
 /// The transactions of a block as they came.
-fn wires_of(alloc: Global, entries: &[Entry]) -> Result<Items<Blob>, OutOfMemory>
+pub(crate) fn wires_of(alloc: Global, entries: &[Entry]) -> Result<Items<Blob>, OutOfMemory>
     ensures { IfOk result (λ wires. wires ≡ map (λ entry. entry.wire) entries.now) }
 {
     let mut wires = Items::with_capacity(alloc, entries.len())?;
@@ -288,7 +288,7 @@ fn wires_of(alloc: Global, entries: &[Entry]) -> Result<Items<Blob>, OutOfMemory
 }
 
 /// The transactions before the first that is refused.
-fn before_refused(order: Items<Candidate>, refused: &[Refused]) -> Items<Candidate>
+pub(crate) fn before_refused(order: Items<Candidate>, refused: &[Refused]) -> Items<Candidate>
     ensures { result ≡ before_refused refused.now order }
 {
     let mut order = order.into_vec();
@@ -299,7 +299,7 @@ fn before_refused(order: Items<Candidate>, refused: &[Refused]) -> Items<Candida
 }
 
 /// Whether one is refused.
-fn is_halted(refused: &[Refused]) -> bool
+pub(crate) fn is_halted(refused: &[Refused]) -> bool
     ensures { result ≡ is_halted refused.now }
 {
     !refused.is_empty()
