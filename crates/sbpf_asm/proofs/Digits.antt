@@ -1,21 +1,11 @@
 -- Digits read from the left.
-use Rattle.std.proofs.Common.{◌≡◌, ◌<◌, ◌≤◌, ◌+◌, ◌*◌, ◌^◌, ℕ, zero, suc, Bool, true, List, [], ◌∷◌, ◌++◌, length, refl, ap, ◌∙◌, take, get_or, add-one, arith}
+use Rattle.std.proofs.Common.{◌≡◌, ◌<◌, ◌≤◌, ◌+◌, ◌*◌, ◌^◌, ℕ, zero, suc, Bool, true, List, [], ◌∷◌, length, get_or, add-one, arith}
 use Rattle.std.specs.List.{list_all}
 use Rattle.std.specs.Char.{digit_value}
-use Rattle.std.specs.Str.Parse.{digits_value, digits_value_after}
 use Rattle.std.proofs.Math.Nat.{mul-le-mul_left, pow-suc, pow-le-pow_right}
 use Rattle.std.proofs.lemmas.Bool.{and_parts}
 use Rattle.std.proofs.lemmas.Bool.Decides.{nat_tests}
-use Rattle.std.proofs.lemmas.List.{take_more}
 use Rattle.sbpf_asm.specs.Words.{is_hex_digit}
-
-after_push : (r n c : ℕ) (ds : List ℕ) → digits_value_after r n (ds ++ c ∷ []) ≡ digits_value_after r n ds * r + digit_value c
-after_push r n c [] = refl
-after_push r n c (d ∷ ds) = after_push r (n * r + digit_value d) c ds
-
--- the number that one more digit writes
-pub value_more : (r : ℕ) (text : List ℕ) (i : ℕ) → i < length text → digits_value r (take (i + 1) text) ≡ digits_value r (take i text) * r + digit_value (get_or text i 0)
-value_more r text i l = ap (digits_value r) (take_more text i 0 l) ∙ after_push r 0 (get_or text i 0) (take i text)
 
 -- a byte of a text whose bytes all pass a test
 pub all_get : (p : ℕ → Bool) (ds : List ℕ) (i : ℕ) → list_all p ds ≡ true → i < length ds → p (get_or ds i 0) ≡ true

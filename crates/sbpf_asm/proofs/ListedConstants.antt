@@ -1,12 +1,12 @@
 -- The lines of constants, read one after another.
-use Rattle.std.proofs.Common.{◌≡◌, ◌<◌, ◌≤◌, ◌+◌, ◌*◌, ◌/◌, ◌%◌, ℕ, zero, suc, Bool, true, false, List, [], ◌∷◌, ◌++◌, take, drop, length, get_or, Some, None, Ok, refl, sym, ap, subst, ◌∙◌, arith, append-nil, length-drop, codes}
+use Rattle.std.proofs.Common.{◌≡◌, ◌<◌, ◌+◌, ◌*◌, ◌/◌, ◌%◌, ℕ, zero, suc, Bool, true, List, [], ◌∷◌, ◌++◌, take, drop, length, get_or, Some, None, Ok, refl, sym, ap, subst, ◌∙◌, arith, append-nil, length-drop, codes}
 use Rattle.std.specs.Prelude.{nat_lt, if◌then◌else◌}
 use Rattle.std.specs.List.{list_all, flat_map, range_with_len}
 use Rattle.std.specs.Fork.{slice_chunk}
 use Rattle.std.proofs.Math.Seq.{take-add}
 use Rattle.std.proofs.lemmas.Bool.{and_from, lt-ltb}
 use Rattle.std.proofs.lemmas.Bool.Decides.{nat_tests}
-use Rattle.std.proofs.lemmas.List.{length-take-le, take_all}
+use Rattle.std.proofs.lemmas.List.{length-take, take_all}
 use Rattle.hex.specs.Hex.{lower_digits, encode_with, encode_lower, decode_of}
 use Rattle.hex.proofs.HexLemmas.{length-encode_with, decode_of-encode_lower}
 use Rattle.spec_base.specs.Bytes.{IsBytes}
@@ -79,18 +79,7 @@ abbrev constants_from : List ℕ → ℕ → ℕ → Text
 constants_from bytes j count = flat_map (constant_line bytes) (range_with_len j count)
 
 some_left : (bytes : List ℕ) (j : ℕ) → j < line_count bytes → 0 < length (slice_chunk bytes 32 j)
-some_left bytes j h = go (nat_lt (length (drop (j * 32) bytes)) 32) refl
-  where
-    left : 0 < length (drop (j * 32) bytes)
-    left = omega (arith, length-drop (j * 32) bytes)
-
-    go : (b : Bool) → nat_lt (length (drop (j * 32) bytes)) 32 ≡ b → 0 < length (slice_chunk bytes 32 j)
-    go true e =
-        let few : length (drop (j * 32) bytes) ≤ 32 = grind (arith, nat_tests) in
-        rw (take_all 32 (drop (j * 32) bytes) few) left
-    go false e =
-        let many : 32 ≤ length (drop (j * 32) bytes) = grind (arith, nat_tests) in
-        omega (arith, length-take-le 32 (drop (j * 32) bytes) many)
+some_left bytes j h = omega (arith, length-take 32 (drop (j * 32) bytes), length-drop (j * 32) bytes)
 
 -- the source with more constants
 abbrev more : Source → List ℕ → Source

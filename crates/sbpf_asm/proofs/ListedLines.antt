@@ -1,5 +1,5 @@
 -- The line of an instruction, read again.
-use Rattle.std.proofs.Common.{◌≡◌, ◌<◌, ℕ, ◌==◌, not, Bool, true, false, List, [], ◌∷◌, ◌++◌, length, Some, None, refl, ap, ap₂, ◌∙◌, map, arith, rules, append-nil, codes, sym}
+use Rattle.std.proofs.Common.{◌≡◌, ◌<◌, ℕ, ◌==◌, not, Bool, true, false, List, [], ◌∷◌, ◌++◌, length, Some, None, refl, ap, ap₂, ◌∙◌, map, arith, rules, append-nil, length-append, codes, sym}
 use Rattle.std.specs.Prelude.{ℤ, pos, fold, option_map}
 use Rattle.std.specs.List.{list_all, AllByRecursion, slice_split}
 use Rattle.std.specs.Str.{bytes_eq}
@@ -47,13 +47,9 @@ trim_all (u ∷ texts) all = ap₂ (λ (t : Text) (ts : List Text). t ∷ ts) (t
 operands_some : (text : Text) → 0 < length text → line_operands text ≡ map trim (slice_split is_comma text)
 operands_some text h = rw (no_empty (length text) h) refl
 
-some_more : (t rest : Text) → 0 < length t → 0 < length (t ++ rest)
-some_more [] rest h = absurd (omega arith)
-some_more (b ∷ t) rest h = omega arith
-
 operands_read : (t : Text) (texts : List Text) → Clean t → AllClean texts → line_operands (t ++ more_operands texts) ≡ t ∷ texts
 operands_read t texts h all =
-    operands_some (t ++ more_operands texts) (some_more t (more_operands texts) h.some)
+    operands_some (t ++ more_operands texts) (omega (arith, length-append t (more_operands texts), h.some))
     ∙ ap (map trim) (split_operands t texts (weaker is_plain (λ b. not (is_comma b)) plain_no_comma t h.all) all)
     ∙ ap₂ (λ (x : Text) (xs : List Text). x ∷ xs) (trim_clean t h) (trim_all texts all)
 

@@ -1,7 +1,8 @@
 -- The bytes of a slot of a text are those of the instruction that is listed for it.
-use Rattle.std.proofs.Common.{◌≡◌, ◌<◌, ◌≤◌, ◌+◌, ◌*◌, ◌/◌, ◌%◌, ◌-◌, ◌^◌, ℕ, zero, suc, Bool, true, false, List, [], ◌∷◌, ◌++◌, take, drop, length, get_or, Some, refl, ap, ap₂, ◌∙◌, arith, append-nil, ◌⊎◌, inl, inr}
+use Rattle.std.proofs.Common.{◌≡◌, ◌<◌, ◌≤◌, ◌+◌, ◌*◌, ◌/◌, ◌%◌, ◌-◌, ◌^◌, ℕ, zero, suc, Bool, true, false, List, [], ◌∷◌, ◌++◌, take, drop, length, get_or, Some, refl, sym, ap, ap₂, ◌∙◌, arith, append-nil, ◌⊎◌, inl, inr}
 use Rattle.std.specs.Prelude.{ℤ, pos, nat_lt}
-use Rattle.std.specs.Int.{w16, w32, w64, w128, cast_unsigned, cast_signed, to_le_bytes}
+use Rattle.std.specs.Int.{Width, w16, w32, w64, w128, cast_unsigned, cast_signed, to_le_bytes}
+use mir.Val.{bits, hbits}
 use Rattle.std.proofs.Math.Seq.{take-add}
 use Rattle.std.proofs.lemmas.Int.{of_z-to_z}
 use Rattle.std.proofs.lemmas.List.{drop_more}
@@ -19,17 +20,11 @@ use Rattle.sbpf_asm.specs.Listing.{instruction_of, wide_number}
 -- ---- numbers as bytes
 
 -- a signed number as one of 128 bits
-signed_16 : (n : ℕ) → n < 65536 → (cast_unsigned w128 (cast_signed w16 n) ≡ n) ⊎ (cast_unsigned w128 (cast_signed w16 n) ≡ 2 ^ 128 - 65536 + n)
-signed_16 n h = go (nat_lt n 32768) refl
+signed : (w : Width) (n : ℕ) → n < 2 ^ bits w → 2 ^ bits w ≤ 2 ^ 128
+    → (cast_unsigned w128 (cast_signed w n) ≡ n) ⊎ (cast_unsigned w128 (cast_signed w n) ≡ 2 ^ 128 - 2 ^ bits w + n)
+signed w n h few = go (nat_lt n (2 ^ hbits w)) refl
   where
-    go : (b : Bool) → nat_lt n 32768 ≡ b → (cast_unsigned w128 (cast_signed w16 n) ≡ n) ⊎ (cast_unsigned w128 (cast_signed w16 n) ≡ 2 ^ 128 - 65536 + n)
-    go true e = inl (rw e refl)
-    go false e = inr (rw e (omega arith))
-
-signed_32 : (n : ℕ) → n < 4294967296 → (cast_unsigned w128 (cast_signed w32 n) ≡ n) ⊎ (cast_unsigned w128 (cast_signed w32 n) ≡ 2 ^ 128 - 4294967296 + n)
-signed_32 n h = go (nat_lt n 2147483648) refl
-  where
-    go : (b : Bool) → nat_lt n 2147483648 ≡ b → (cast_unsigned w128 (cast_signed w32 n) ≡ n) ⊎ (cast_unsigned w128 (cast_signed w32 n) ≡ 2 ^ 128 - 4294967296 + n)
+    go : (b : Bool) → nat_lt n (2 ^ hbits w) ≡ b → (cast_unsigned w128 (cast_signed w n) ≡ n) ⊎ (cast_unsigned w128 (cast_signed w n) ≡ 2 ^ 128 - 2 ^ bits w + n)
     go true e = inl (rw e refl)
     go false e = inr (rw e (omega arith))
 
@@ -43,14 +38,14 @@ last_four : (n a b c d : ℕ) → n / 2 ^ 32 % 256 ≡ a → n / 2 ^ 40 % 256 �
 last_four n a b c d e f g h = rw (e, f, g, h) refl
 
 offset_bytes : (a b : ℕ) → a < 256 → b < 256 → take 2 (low_bytes (cast_signed w16 (a + 256 * b))) ≡ a ∷ b ∷ []
-offset_bytes a b x y = go (cast_unsigned w128 (cast_signed w16 (a + 256 * b))) (signed_16 (a + 256 * b) (omega arith))
+offset_bytes a b x y = go (cast_unsigned w128 (cast_signed w16 (a + 256 * b))) (signed w16 (a + 256 * b) (omega arith) (omega arith))
   where
     go : (n : ℕ) → (n ≡ a + 256 * b) ⊎ (n ≡ 2 ^ 128 - 65536 + (a + 256 * b)) → take 2 (to_le_bytes w64 n) ≡ a ∷ b ∷ []
     go n (inl e) = first_two n a b (omega arith) (omega arith)
     go n (inr e) = first_two n a b (omega arith) (omega arith)
 
 imm_bytes : (a b c d : ℕ) → a < 256 → b < 256 → c < 256 → d < 256 → take 4 (low_bytes (cast_signed w32 (a + 256 * b + 65536 * c + 16777216 * d))) ≡ a ∷ b ∷ c ∷ d ∷ []
-imm_bytes a b c d x y z w = go (cast_unsigned w128 (cast_signed w32 (a + 256 * b + 65536 * c + 16777216 * d))) (signed_32 (a + 256 * b + 65536 * c + 16777216 * d) (omega arith))
+imm_bytes a b c d x y z w = go (cast_unsigned w128 (cast_signed w32 (a + 256 * b + 65536 * c + 16777216 * d))) (signed w32 (a + 256 * b + 65536 * c + 16777216 * d) (omega arith) (omega arith))
   where
     go : (n : ℕ) → (n ≡ a + 256 * b + 65536 * c + 16777216 * d) ⊎ (n ≡ 2 ^ 128 - 4294967296 + (a + 256 * b + 65536 * c + 16777216 * d)) → take 4 (to_le_bytes w64 n) ≡ a ∷ b ∷ c ∷ d ∷ []
     go n (inl e) = first_four n a b c d (omega arith) (omega arith) (omega arith) (omega arith)
@@ -116,12 +111,8 @@ one_back text p k are is e = rw e (append-nil (first_slot (with_imm text p k (sl
 -- the low half and the high half of the number of `lddw`
 half_is : (text : List ℕ) (p : ℕ) → IsBytes text → cast_unsigned w32 (slot_of text p).imm ≡ byte text p 4 + 256 * byte text p 5 + 65536 * byte text p 6 + 16777216 * byte text p 7
 unfolding slot_of
-half_is text p are =
-    let a : byte text p 4 < 256 = are (8 * p + 4) in
-    let b : byte text p 5 < 256 = are (8 * p + 5) in
-    let c : byte text p 6 < 256 = are (8 * p + 6) in
-    let d : byte text p 7 < 256 = are (8 * p + 7) in
-    of_z-to_z w32 (byte text p 4 + 256 * byte text p 5 + 65536 * byte text p 6 + 16777216 * byte text p 7) (omega arith)
+half_is text p are = of_z-to_z w32 (byte text p 4 + 256 * byte text p 5 + 65536 * byte text p 6 + 16777216 * byte text p 7)
+    (omega (arith, are (8 * p + 4), are (8 * p + 5), are (8 * p + 6), are (8 * p + 7)))
 
 pub half_below : (text : List ℕ) (p : ℕ) → IsBytes text → cast_unsigned w32 (slot_of text p).imm < 2 ^ 32
 half_below text p are = omega (arith, half_is text p are, are (8 * p + 4), are (8 * p + 5), are (8 * p + 6), are (8 * p + 7))
@@ -133,15 +124,8 @@ pub record IsSecond (text : List ℕ) (p : ℕ) : Type 0 where
   pub src : (slot_of text p).src ≡ 0
   pub offset : (slot_of text p).offset ≡ pos 0
 
-no_offset : (n : ℕ) → cast_signed w16 n ≡ pos 0 → n ≡ 0
-no_offset n h = go (nat_lt n 32768) refl
-  where
-    go : (b : Bool) → nat_lt n 32768 ≡ b → n ≡ 0
-    go true e = let k : pos n ≡ pos 0 = rw e at h in natural k
-      where
-        natural : pos n ≡ pos 0 → n ≡ 0
-        natural k = ap (λ (z : ℤ). cast_unsigned w128 z) k
-    go false e = let k = rw e at h in absurd (cc)
+no_offset : (n : ℕ) → n < 65536 → cast_signed w16 n ≡ pos 0 → n ≡ 0
+no_offset n few h = sym (of_z-to_z w16 n few) ∙ ap (cast_unsigned w16) h
 
 eight_is : (a b c d : ℕ) (rest : List ℕ) → a ≡ 0 → b ≡ 0 → c ≡ 0 → d ≡ 0 → 0 ∷ 0 ∷ 0 ∷ 0 ∷ rest ≡ a ∷ b ∷ c ∷ d ∷ rest
 eight_is a b c d rest e f g h = rw (e, f, g, h) refl
@@ -149,10 +133,10 @@ eight_is a b c d rest e f g h = rw (e, f, g, h) refl
 zero_parts : (b : ℕ) → b % 16 ≡ 0 → b / 16 ≡ 0 → b ≡ 0
 zero_parts b h k = omega arith
 
-second_zeros : (text : List ℕ) (p : ℕ) (rest : List ℕ) → IsSecond text p → 0 ∷ 0 ∷ 0 ∷ 0 ∷ rest ≡ byte text p 0 ∷ byte text p 1 ∷ byte text p 2 ∷ byte text p 3 ∷ rest
+second_zeros : (text : List ℕ) (p : ℕ) (rest : List ℕ) → IsBytes text → IsSecond text p → 0 ∷ 0 ∷ 0 ∷ 0 ∷ rest ≡ byte text p 0 ∷ byte text p 1 ∷ byte text p 2 ∷ byte text p 3 ∷ rest
 unfolding slot_of
-second_zeros text p rest s =
-    let both : byte text p 2 + 256 * byte text p 3 ≡ 0 = no_offset (byte text p 2 + 256 * byte text p 3) s.offset in
+second_zeros text p rest are s =
+    let both : byte text p 2 + 256 * byte text p 3 ≡ 0 = no_offset (byte text p 2 + 256 * byte text p 3) (omega (arith, are (8 * p + 2), are (8 * p + 3))) s.offset in
     eight_is (byte text p 0) (byte text p 1) (byte text p 2) (byte text p 3) rest s.opcode (zero_parts (byte text p 1) s.dst s.src) (omega (arith, both)) (omega (arith, both))
 
 -- an instruction of two slots
@@ -169,4 +153,4 @@ two_back text p are is s =
     high_half low high (byte text q 4) (byte text q 5) (byte text q 6) (byte text q 7) (half_below text p are)
     (are (8 * q + 4)) (are (8 * q + 5)) (are (8 * q + 6)) (are (8 * q + 7)) (half_is text q are) in
     ap₂ (λ (x y : List ℕ). x ++ y) (first_back text p LoadWide (pos (wide_number text p)) are is front)
-    (ap (λ (rest : List ℕ). 0 ∷ 0 ∷ 0 ∷ 0 ∷ rest) back ∙ second_zeros text q (imm_of text q) s)
+    (ap (λ (rest : List ℕ). 0 ∷ 0 ∷ 0 ∷ 0 ∷ rest) back ∙ second_zeros text q (imm_of text q) are s)

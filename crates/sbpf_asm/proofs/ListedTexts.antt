@@ -25,11 +25,8 @@ use Rattle.sbpf_asm.proofs.ListedSlots.{half_below}
 -- ---- the instruction of a slot
 
 fit : (text : List ℕ) (p : ℕ) (k : OpKind) → has_bad_field (slot_of text p) k ≡ false → Fit (instruction_of text p k)
-fit text p LoadWide h =
-    let slot = slot_of text p in
-    let number = pos (wide_number text p) in
-    fit_slot (record slot { imm = number }) LoadWide number h refl
-fit text p k h = fit_slot (slot_of text p) k (slot_of text p).imm h refl
+fit text p LoadWide h = fit_slot (record (slot_of text p) { imm = pos (wide_number text p) }) LoadWide h
+fit text p k h = fit_slot (slot_of text p) k h
 
 -- ---- its numbers
 

@@ -30,15 +30,12 @@ text_bytes bytes image are h = subst (λ (p : ImageParts). IsBytes p.text) (part
 constant_bytes : (bytes : List ℕ) (image : ImageParts) → IsBytes bytes → image_in bytes ≡ Some image → IsBytes image.constants
 constant_bytes bytes image are h = subst (λ (p : ImageParts). IsBytes p.constants) (parts_of_image bytes image h) (part_bytes (constants_named bytes) (16 + 8 * slots_named bytes) bytes are)
 
-none_read : (text : List ℕ) → Holds text 0 [] empty
-none_read text = record { slots = refl; constants = refl; settles = refl }
-
 -- the lines of the image are read as its slots and its constants
 all_read : (image : ImageParts) → IsVerified image.text → IsBytes image.text → IsBytes image.constants → Read image.text (slot_count image.text) 1 image.constants empty (listing image)
 all_read image v text constants =
     let w = walked image.text (constant_lines image.constants) v text (slot_count image.text) 0 1 empty
     (omega arith) (omega arith) (λ l. (start_there image.text 0 (first_start image.text v)).1)
-    (none_read image.text) in
+    (record { slots = refl; constants = refl; settles = refl }) in
     let r = read image.text image.constants (slot_count image.text) constants ((length image.constants + 31) / 32) 0 w.number w.source (omega arith) w.holds in
     let slots : slot_count image.text ≡ slot_count image.text - 0 = omega arith in
     record {

@@ -23,15 +23,12 @@ use Rattle.sbpf_asm.proofs.Clean.{Clean, weaker, clean_register, clean_number, c
 digit_no_r : (c : ℕ) → is_ascii_digit c ≡ true → (c == 114) ≡ false
 digit_no_r c h = grind (arith, nat_tests)
 
-turned : (c : ℕ) → (c == 114) ≡ false → (114 == c) ≡ false
-turned c h = grind (arith, nat_tests)
-
 shut : (a c : Bool) → (a && false && c) ≡ false
 shut true c = refl
 shut false c = refl
 
 no_register : (b : ℕ) (bs : Text) → (b == 114) ≡ false → register_of (b ∷ bs) ≡ None
-no_register b bs h = rw (h, turned b h) (ap (λ (x : Bool). cond x (Some (slice_index (b ∷ bs) 1 - 48)) None) (shut (length (b ∷ bs) == 2) (is_ascii_digit (slice_index (b ∷ bs) 1))))
+no_register b bs h = let turned : (114 == b) ≡ false = grind (arith, nat_tests) in rw (h, turned) (ap (λ (x : Bool). cond x (Some (slice_index (b ∷ bs) 1 - 48)) None) (shut (length (b ∷ bs) == 2) (is_ascii_digit (slice_index (b ∷ bs) 1))))
 
 no_register_number : (n : ℕ) (text : Text) → IsNumber n text → register_of text ≡ None
 no_register_number n [] h = refl

@@ -1,8 +1,8 @@
 -- Where a text is cut, and its parts.
-use Rattle.std.proofs.Common.{◌≡◌, ℕ, not, Bool, true, false, List, [], ◌∷◌, ◌++◌, Option, Some, None, refl, sym, ap, ◌∙◌, reverse}
+use Rattle.std.proofs.Common.{◌≡◌, ◌<◌, ◌≤◌, ◌+◌, ℕ, not, Bool, true, false, List, [], ◌∷◌, ◌++◌, length, take, drop, get_or, Option, Some, None, refl, sym, ap, ◌∙◌, reverse}
 use Rattle.std.specs.List.{list_all, slice_split}
-use Rattle.std.proofs.lemmas.Bool.{and_parts, and_from, not-true}
-use Rattle.std.proofs.Common.{◌<◌, ◌≤◌, ◌+◌, length, take, drop, get_or}
+use Rattle.std.proofs.lemmas.Bool.{and_parts, not-true}
+use Rattle.std.proofs.lemmas.List.Folds.{list_all-append}
 use Rattle.std.proofs.lemmas.List.{drop_more, take_all, take-append-drop, reverse-append, reverse-reverse}
 use Rattle.sbpf_asm.specs.Words.{Text, cut, is_blank, without_first_blanks, trim}
 
@@ -51,10 +51,7 @@ pub split_here : (at : ℕ → Bool) (xs : Text) (b : ℕ) (ys : Text) → list_
 split_here at xs b ys h e = split_cut at (xs ++ b ∷ ys) ∙ rw (cut_here at xs b ys h e) refl
 
 pub all_append : (p : ℕ → Bool) (xs ys : Text) → list_all p xs ≡ true → list_all p ys ≡ true → list_all p (xs ++ ys) ≡ true
-all_append p [] ys h k = k
-all_append p (x ∷ xs) ys h k =
-    let parts = and_parts (p x) (list_all p xs) h in
-    and_from (p x) (list_all p (xs ++ ys)) parts.0 (all_append p xs ys parts.1 k)
+all_append p xs ys h k = rw (list_all-append, h, k) refl
 
 -- the text begins and ends with a byte that is no blank
 pub record Framed (text : Text) : Type 0 where

@@ -1,14 +1,13 @@
 -- The lines of a text one by one, and labels one by one.
-use Rattle.std.proofs.Common.{◌≡◌, ℕ, ◌+◌, ◌<◌, ◌≤◌, ◌==◌, Bool, true, false, [], ◌∷◌, ◌++◌, length, Option, Some, None, is_some, Result, Ok, Err, refl, sym, ap, ◌∙◌, arith}
+use Rattle.std.proofs.Common.{◌≡◌, ℕ, ◌+◌, ◌-◌, ◌<◌, ◌≤◌, ◌==◌, Bool, true, false, [], ◌∷◌, ◌++◌, length, Option, Some, None, is_some, Result, Ok, Err, refl, sym, ap, ◌∙◌, arith}
 use Rattle.std.proofs.lemmas.Bool.Decides.{nat_tests}
 use Rattle.sbpf_asm.specs.declared.fault.AsmFault.{AsmFault}
 use Rattle.sbpf_asm.specs.declared.fault.AsmFault.TheVariants.{RepeatedLabel}
-use Rattle.sbpf_asm.specs.Words.{Text, cut, is_line_feed}
+use Rattle.sbpf_asm.specs.Words.{Text, cut, is_line_feed, text_behind}
 use Rattle.sbpf_asm.specs.Lines.{lines_of, without_last_empty}
 use Rattle.spec_base.specs.Reading.{◌>>=◌}
 use Rattle.std.specs.Prelude.{MatchBool}
 use Rattle.sbpf_asm.specs.Assembly.{Source, is_asm_memory, with_label, with_line, with_lines}
-use Rattle.sbpf_asm.specs.Words.{text_behind}
 use Rattle.sbpf_asm.proofs.Pieces.{split_cut, parts_after}
 
 -- ---- lines
@@ -22,22 +21,17 @@ uncut at (b ∷ bs) h = go (uncut at bs) (at b) refl
     go more true e = let k = rw e at h in absurd (cc)
     go more false e = rw e (ap (λ (t : Text). b ∷ t) (more (rw e at h)))
 
--- what follows a cut is no longer than the text
-behind_within : (at : ℕ → Bool) (text : Text) → length (text_behind (cut at text).rest) ≤ length text
+-- what follows a cut is shorter than the text
+behind_within : (at : ℕ → Bool) (text : Text) → length (text_behind (cut at text).rest) ≤ length text - 1
 behind_within at [] = omega arith
 behind_within at (b ∷ bs) = go (behind_within at bs) (at b) refl
   where
-    go : length (text_behind (cut at bs).rest) ≤ length bs → (x : Bool) → at b ≡ x → length (text_behind (cut at (b ∷ bs)).rest) ≤ length (b ∷ bs)
+    go : length (text_behind (cut at bs).rest) ≤ length bs - 1 → (x : Bool) → at b ≡ x → length (text_behind (cut at (b ∷ bs)).rest) ≤ length (b ∷ bs) - 1
     go more true e = rw e (omega arith)
     go more false e = rw e (omega arith)
 
 pub behind_shorter : (at : ℕ → Bool) (text : Text) → 0 < length text → length (text_behind (cut at text).rest) < length text
-behind_shorter at [] h = absurd (omega arith)
-behind_shorter at (b ∷ bs) h = go (behind_within at bs) (at b) refl
-  where
-    go : length (text_behind (cut at bs).rest) ≤ length bs → (x : Bool) → at b ≡ x → length (text_behind (cut at (b ∷ bs)).rest) < length (b ∷ bs)
-    go more true e = rw e (omega arith)
-    go more false e = rw e (omega arith)
+behind_shorter at text h = omega (arith, behind_within at text)
 
 pub no_empty : (n : ℕ) → 0 < n → (n == 0) ≡ false
 no_empty n h = grind (arith, nat_tests)

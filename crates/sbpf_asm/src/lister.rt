@@ -176,13 +176,8 @@ fn chunk(bytes: &[u8], line: usize) -> &[u8]
     requires { 32 * line ≤ length bytes.now }
     ensures { result.now ≡ slice_chunk bytes.now 32 line }
 {
-    let from = 32 * line;
-    let left = bytes.len() - from;
-    if left <= 32 {
-        &bytes[from..]
-    } else {
-        &bytes[from..from + 32]
-    }
+    let rest = &bytes[line * 32..];
+    &rest[..rest.len().min(32)]
 }
 
 fn append_constant_line(

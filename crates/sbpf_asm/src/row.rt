@@ -138,21 +138,14 @@ pub fn rows() -> &'static [Row]
     &ROWS
 }
 
-fn row_in(rows: &[Row], mnemonic: &[u8]) -> Option<Row>
-    ensures { option_map row_view result
-        ≡ find (λ r. bytes_eq r.mnemonic mnemonic.now) (map row_view rows.now) }
+/// The row of a mnemonic.
+pub fn row_of(mnemonic: &[u8]) -> Option<Row>
+    ensures { option_map row_view result ≡ row_of mnemonic.now }
 {
-    for row in rows {
+    for row in rows() {
         if row.mnemonic == mnemonic {
             return Some(*row);
         }
     }
     None
-}
-
-/// The row of a mnemonic.
-pub fn row_of(mnemonic: &[u8]) -> Option<Row>
-    ensures { option_map row_view result ≡ row_of mnemonic.now }
-{
-    row_in(rows(), mnemonic)
 }

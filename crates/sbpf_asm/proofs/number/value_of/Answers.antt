@@ -1,8 +1,9 @@
 use Rattle.std.proofs.Common.{◌≡◌, ◌≤◌, ◌*◌, ◌^◌, ℕ, arith, ap₂, get_or, take}
 use Rattle.std.specs.Char.{digit_value}
 use Rattle.std.specs.Str.Parse.{digits_value}
+use Rattle.std.proofs.lemmas.Int.Digits.{digits_value_more}
 use Rattle.sbpf_asm.specs.Words.{is_hex_digit}
-use Rattle.sbpf_asm.proofs.Digits.{all_get, hex_digit_below, value_more, one_more, sixteen_more, sixteen_most}
+use Rattle.sbpf_asm.proofs.Digits.{all_get, hex_digit_below, one_more, sixteen_more, sixteen_most}
 use Rattle.sbpf_asm.proofs.number.value_of.Goals as goal
 
 pub overflow_mul-value : goal.overflow_mul-value
@@ -34,7 +35,7 @@ loop-digit-preserved c =
     let below = hex_digit_below digit (all_get is_hex_digit text at c.requires.digits c.loop-digit-test.true) in
     let product : c.loop-digit.value * c.from.result ≡ digits_value c.args.radix (take at text) * c.args.radix = ap₂ (λ (x y : ℕ). x * y) c.loop-digit.invariant.value c.from.ensures in
     record {
-      value = omega (arith, product, value_more c.args.radix text at c.loop-digit-test.true, c.from-in-loop-digit.ensures, c.digit_value.ensures);
+      value = omega (arith, product, digits_value_more c.args.radix text at c.loop-digit-test.true, c.from-in-loop-digit.ensures, c.digit_value.ensures);
       below = omega (
         arith,
         sixteen_more at,

@@ -1,8 +1,0 @@
-use Rattle.std.proofs.Common.{◌≡◌, drop, map}
-use Rattle.std.specs.Prelude.{find}
-use Rattle.std.specs.Str.{bytes_eq}
-use Rattle.sbpf_asm.specs.Views.{row_view}
-use Rattle.sbpf_asm.proofs.row.row_in.Given as goal
-
-abbrev pub invariant-loop-row : goal.invariant-loop-row
-invariant-loop-row l = find (λ r. bytes_eq r.mnemonic l.mnemonic) (map row_view (drop l.row-index l.rows)) ≡ find (λ r. bytes_eq r.mnemonic l.mnemonic) (map row_view l.rows)
