@@ -2,7 +2,7 @@
 use Rattle.std.proofs.Common.{◌≡◌, ◌≢◌, ◌⊎◌, inl, inr, ◌<◌, ◌≤◌, ◌+◌, ◌*◌, ◌/◌, ◌-◌, ℕ, zero, suc, ◌==◌, ◌&&◌, not, Bool, true, false, List, [], ◌∷◌, ◌++◌, take, length, Option, Some, None, is_none, Result, Ok, refl, sym, ap, subst, ◌∙◌, arith, append_assoc, length-append, codes}
 use Rattle.std.specs.Prelude.{pos, nat_lt, if◌then◌else◌}
 use Rattle.std.specs.List.{flat_map, range_with_len}
-use Rattle.std.proofs.lemmas.Bool.{and_parts, eqb-true, not-false}
+use Rattle.std.proofs.lemmas.Bool.{and_parts, eqb-true, ne_eqb, not-false}
 use Rattle.std.proofs.lemmas.Bool.Decides.{nat_tests, Decides-int_eq}
 use Rattle.spec_base.specs.Bytes.{IsBytes}
 use Rattle.spec_base.specs.Reading.{◌>>=◌}
@@ -12,7 +12,7 @@ use Rattle.sbpf_isa.specs.Slots.{slot_of}
 use Rattle.sbpf_isa.specs.declared.rows.OpKind.{OpKind}
 use Rattle.sbpf_isa.specs.declared.rows.OpKind.TheVariants.{LoadWide}
 use Rattle.sbpf_verify.specs.Places.{slot_count, is_start, instruction_at}
-use Rattle.sbpf_verify.specs.Verified.{IsVerified, follows_wide, is_second_half, lacks_row, slot_rows}
+use Rattle.sbpf_verify.specs.Verified.{IsVerified, follows_wide, is_second_half, slot_rows}
 use Rattle.sbpf_verify.proofs.Starts.{follows_one, instruction_there, no_row_applies, not_wide, start_instruction}
 use Rattle.sbpf_asm.specs.declared.fault.AsmFault.{AsmFault}
 use Rattle.sbpf_asm.specs.declared.instruction.Instruction.{Instruction}
@@ -46,22 +46,12 @@ record Next (text : List ℕ) (p : ℕ) (k : OpKind) : Type 0 where
 
 opcode_there : (o : ℕ) (f : Bool) → (is_none (kind_at o) && not ((o == 0) && f)) ≡ false → f ≡ false → (o == 0) ≡ false
 unfolding kind_at
-opcode_there o f h e = go (o == 0) refl
-  where
-    go : (b : Bool) → (o == 0) ≡ b → (o == 0) ≡ false
-    go true z =
-        let none : is_none (kind_at o) ≡ true = ap (λ (n : ℕ). is_none (kind_at n)) (eqb-true o 0 z) in
-        let k = rw (none, z, e) at h in
-        absurd (cc)
-    go false z = z
-
-row_at : (text : List ℕ) (p : ℕ) → IsVerified text → p < slot_count text → lacks_row text p ≡ false
-unfolding slot_rows
-row_at text p v l = (v.slots p l).0
+opcode_there o f h e = ne_eqb o 0 (λ (z : o ≡ 0). let k = rw (z, e) at h in cc)
 
 -- the slot after one that is not `lddw`
 next_opcode : (text : List ℕ) (p : ℕ) → IsVerified text → ((slot_of text p).opcode == 0x18) ≡ false → p + 1 < slot_count text → ((slot_of text (p + 1)).opcode == 0) ≡ false
-next_opcode text p v h l = opcode_there (slot_of text (p + 1)).opcode (follows_wide text (p + 1)) (row_at text (p + 1) v l) (follows_one text p h)
+unfolding slot_rows
+next_opcode text p v h l = opcode_there (slot_of text (p + 1)).opcode (follows_wide text (p + 1)) (v.slots (p + 1) l).0 (follows_one text p h)
 
 line_one : (text : List ℕ) (p : ℕ) → p < slot_count text → lines_from text p ≡ slot_line text p ++ lines_from text (p + 1)
 line_one text p l = let e : slot_count text - p ≡ suc (slot_count text - (p + 1)) = omega arith in ap (λ (k : ℕ). flat_map (slot_line text) (range_with_len p k)) e

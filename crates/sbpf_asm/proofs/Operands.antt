@@ -28,7 +28,9 @@ shut true c = refl
 shut false c = refl
 
 no_register : (b : ℕ) (bs : Text) → (b == 114) ≡ false → register_of (b ∷ bs) ≡ None
-no_register b bs h = let turned : (114 == b) ≡ false = grind (arith, nat_tests) in rw (h, turned) (ap (λ (x : Bool). cond x (Some (slice_index (b ∷ bs) 1 - 48)) None) (shut (length (b ∷ bs) == 2) (is_ascii_digit (slice_index (b ∷ bs) 1))))
+no_register b bs h =
+    let turned : (114 == b) ≡ false = grind (arith, nat_tests) in
+    rw (h, turned, shut (length (b ∷ bs) == 2) (is_ascii_digit (slice_index (b ∷ bs) 1))) refl
 
 no_register_number : (n : ℕ) (text : Text) → IsNumber n text → register_of text ≡ None
 no_register_number n [] h = refl
