@@ -69,21 +69,21 @@ fn has_name<R: Files>(rt: &R, file: &File, path: &str) -> io::Result<bool> {
     }
 }
 
-/// Writes the number of this process into the file.
+/// Writes the number of this process into the file, and the end of its line.
 fn sign<R: Files + AllocGlobal>(rt: &R, file: &mut File) -> io::Result<()> {
     let number = fs::read_link(rt, "/proc/self")?;
     file.set_len(0)?;
-    file.write_all(number.as_str().as_bytes())
+    file.write_all(number.as_str().as_bytes())?;
+    file.write_all(b"\n")
 }
 
-/// The number of the process that has signed the file.
+/// The number of the process that has signed the file. A line without its end is not read: the process
+/// may be writing it.
 fn signed(file: &mut File) -> Option<u32> {
-    let mut bytes = [0u8; 10];
+    let mut bytes = [0u8; 11];
     let length = file.read(&mut bytes).ok()?;
-    str::from_utf8(bytes.get(..length)?)
-        .ok()?
-        .parse::<u32>()
-        .ok()
+    let line = bytes.get(..length)?.strip_suffix(b"\n")?;
+    str::from_utf8(line).ok()?.parse::<u32>().ok()
 }
 
 /// Locks the file, unless another process has done so. None: it has lost its name meanwhile.
