@@ -92,3 +92,16 @@ module _ (s : Snapshot) (batch : Batch) where
         same = both.0;
         named = both.1;
       }
+
+  -- an entry is of the transaction at its position
+  pub entry_at : (i : ℕ) (t : Chosen) (entry : Entry) → slice_get (order_of s batch) i ≡ Some t → slice_get (block_result s batch).block.entries i ≡ Some entry
+      → IsEntry s batch i entry t.tx t.name
+  entry_at i t entry chosen there =
+      let made : IsMade (order_of s batch) (serial_outcomes (job_of (told_in s batch.slot (order_of s batch))) (at s.accounts)) batch.wires i entry =
+      made_of batch.wires (order_of s batch) (serial_outcomes (job_of (told_in s batch.slot (order_of s batch))) (at s.accounts)) i entry
+      (ap (λ (es : List Entry). slice_get es i) (sym entries_are) ∙ there) in
+      let of : IsOf batch.wires made.t = all_at (IsOf batch.wires) (order_of s batch) i made.t (admitted_batches_are_parted (start_in s) batch.wires).each made.chosen in
+      record {
+        there = there;
+        read = subst (λ (c : Chosen). parsed_of entry.wire ≡ Good c.tx c.name) (same_Some made.t t (sym made.chosen ∙ chosen)) (ap (λ (x : Entry). parsed_of x.wire) made.is ∙ of.read);
+      }

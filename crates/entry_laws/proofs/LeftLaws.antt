@@ -53,7 +53,7 @@ use Rattle.tx_exec.proofs.Works.{there}
 use Rattle.entry_laws.proofs.Steps.{comes_to, is_state, keeps as it_keeps, settled_is, under_its_keys, under_other_keys, under_unwritten_keys}
 
 -- ---- what a transaction pays
-abbrev paid_by : Outcome → ℕ
+abbrev pub paid_by : Outcome → ℕ
 paid_by o = o.base_paid + o.priority_paid
 
 -- one that is not dropped pays its fee
@@ -76,15 +76,26 @@ paid_pays s t base = by_size (nat_lt t.budget.loaded (data_in base))
     by_size true = refl
     by_size false = finished_pays t base (t.budget.limit - e.units) e.log.lines e.result
 
+-- one that is not dropped has a payer that can pay, and pays its fee
+pub record IsPaid (block : InBlock) (t : Chosen) (values : List Account) : Type 0 where
+  pub able : dropped values (total_fee t) ≡ None
+  pub pays : paid_by (transaction block t values).outcome ≡ total_fee t
+
+pub not_dropped_is_paid : (block : InBlock) (t : Chosen) (values : List Account) → ((cause : DropCause) → (transaction block t values).outcome.status ≢ Dropped cause) → IsPaid block t values
+unfolding transaction
+not_dropped_is_paid block t values other = record { able = able (dropped values (total_fee t)) refl other; pays = pays (dropped values (total_fee t)) other }
+  where
+    able : (o : Option DropCause) → dropped values (total_fee t) ≡ o → ((cause : DropCause) → (by_drop (fixed_for block t) t values o).outcome.status ≢ Dropped cause) → dropped values (total_fee t) ≡ None
+    able (Some cause) is other = absurd (other cause refl)
+    able None is other = is
+
+    pays : (o : Option DropCause) → ((cause : DropCause) → (by_drop (fixed_for block t) t values o).outcome.status ≢ Dropped cause) → paid_by (by_drop (fixed_for block t) t values o).outcome ≡ total_fee t
+    pays (Some cause) other = absurd (other cause refl)
+    pays None other = paid_pays (fixed_for block t) t (charged values (total_fee t))
+
 failed_pays : (block : InBlock) (t : Chosen) (values : List Account) (index : ℕ) (cause : Cause) (detail : ℕ)
     → (transaction block t values).outcome.status ≡ Failed index cause detail → paid_by (transaction block t values).outcome ≡ total_fee t
-unfolding transaction
-failed_pays block t values index cause detail e = by_cause (dropped values (total_fee t)) e
-  where
-    by_cause : (o : Option DropCause) → (by_drop (fixed_for block t) t values o).outcome.status ≡ Failed index cause detail
-        → paid_by (by_drop (fixed_for block t) t values o).outcome ≡ total_fee t
-    by_cause (Some cause) e = absurd (cc)
-    by_cause None e = paid_pays (fixed_for block t) t (charged values (total_fee t))
+failed_pays block t values index cause detail e = (not_dropped_is_paid block t values (λ why d. let no = sym e ∙ d in absurd (cc))).pays
 
 -- ---- the accounts
 each_of : (f g : Key → Account) (ks : List Key) → map g ks ≡ map settled (map f ks) → (key : Key) → has_key key ks ≡ true → g key ≡ settled (f key)

@@ -68,7 +68,7 @@ later_shows f l v ls vs key true apart =
     (cond t (settled v) (beside key (written_keys ls) (map settled (lent_for_writing ls vs)))) (f key)) apart
 later_shows f l v ls vs key false apart = refl
 
-other_key : (k key : Key) (ks : List Key) → has_key k ks ≡ false → has_key key ks ≡ true → same_key key k ≡ false
+pub other_key : (k key : Key) (ks : List Key) → has_key k ks ≡ false → has_key key ks ≡ true → same_key key k ≡ false
 other_key k key ks apart has = false_from_ne_true _ (λ e. let h = subst (λ (q : Key). has_key q ks ≡ true) (same_key-true key k e) has in absurd (cc))
 
 all_show : (f : Key → Account) (ls : List Lock) (vs : List Account) → AreApart (lock_keys ls) → length vs ≡ length ls

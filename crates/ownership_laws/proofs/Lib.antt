@@ -1,0 +1,4 @@
+pub mod Overlays
+pub mod Paths
+pub mod BlockPaths
+pub mod RestLaws
