@@ -66,7 +66,7 @@ pub fn gather<R: Threads + Wait + Sync, G: SendGate>(
     } = Intake::new(alloc, wires.len() as u32, senders)?;
     let sent = send_all(rt, alloc, &intake, wires, senders, gate, seats)?;
     let seats = all_seats(alloc, sent)?;
-    let tickets = intake.close(rt, seats, taker)?;
+    let tickets = intake.close(seats, taker)?;
     laid_out(alloc, wires, senders, tickets)
 }
 

@@ -11,6 +11,9 @@ use sol_base::{Items, OutOfMemory};
 use std::alloc::Global;
 use std::sync::Wait;
 
+/// How many tries of the ring a close makes beyond one for each ticket that the ring can hold.
+const TRIES: usize = 1_000;
+
 /// Where several senders hand in tickets, and one taker takes them.
 #[derive(Drop)]
 pub struct Intake {
@@ -112,11 +115,11 @@ impl Intake {
     }
 
     /// What is left in the ring, in order. With the seats of all senders handed in, each ticket
-    /// that was sent was taken or is left. A try of the ring may fail, and is made again: so want of
-    /// memory is the only refusal.
-    pub fn close<R: Wait>(
+    /// that was sent was taken or is left. It waits for nobody: nobody else works on the ring any
+    /// more, so no try of it fails while it holds a ticket. One that fails all the same is made again;
+    /// where too many do, the answer is `OutOfMemory`.
+    pub fn close(
         self,
-        rt: &R,
         seats: Items<SendSeat>,
         taker: TakeSeat,
     ) -> Result<Items<Ticket>, OutOfMemory>
@@ -128,7 +131,7 @@ impl Intake {
     {
         let mut pass = self.joined(seats, taker);
         let mut left = Items::new(self.alloc);
-        for _ in rt.forever() {
+        for _ in 0..self.ring.capacity().saturating_add(TRIES) {
             match self.ring.try_pop_as::<Taking>(&mut pass) {
                 Some(ticket) => left.push(ticket)?,
                 None => {
@@ -138,7 +141,7 @@ impl Intake {
                 }
             }
         }
-        unreachable!()
+        Err(OutOfMemory)
     }
 
     /// The taker's pass, with those of the senders joined to it.

@@ -129,7 +129,7 @@ fn left_of<R: Wait>(rt: &R, alloc: Global, two: Two) -> Result<usize, OutOfMemor
     let mut seats = Items::new(alloc);
     seats.push(one)?;
     seats.push(zero)?;
-    Ok(intake.close(rt, seats, taker)?.len())
+    Ok(intake.close(seats, taker)?.len())
 }
 
 /// What the offers hand back.
