@@ -14,18 +14,17 @@ choose() {
   shipped=$top/program/$name
   log=$out/build.log
   copy=$out/build
-  find_note
+  find_notes
 }
 
-# Where it is noted which program belongs to the sources: beside the program, or in the user's own cache
-# if this checkout is another's, or nowhere.
-find_note() {
-  local cache=${XDG_CACHE_HOME:-${HOME:+$HOME/.cache}}
-  if [ -w "$out" ] || { ! [ -e "$out" ] && [ -w "${out%/*}" ]; }; then
-    checked=$out/checked
-  else
-    checked=${cache:+$cache/zarbulex/${out//\//%}%checked}
-  fi
+# Where it is noted which program belongs to the sources: beside the program, by whoever may write there,
+# in the user's own cache, or in a folder that is the user's alone.
+find_notes() {
+  local cache=${XDG_CACHE_HOME:-${HOME:+$HOME/.cache}} own=${XDG_RUNTIME_DIR:-${TMPDIR:-/tmp}}/zarbulex-$UID
+  local place=${out//\//%}%checked
+  notes=("$out/checked")
+  [ -z "$cache" ] || notes+=("$cache/zarbulex/$place")
+  if [ -O "$own" ] && ! [ -L "$own" ] || ! [ -e "$own" ]; then notes+=("$own/$place"); fi
 }
 
 # The crates that the program is built from, as crates.txt has them, with their lines.
@@ -106,19 +105,37 @@ program_of() {
   fi
 }
 
+# The newest of the notes.
+find_last_note() {
+  local note
+  checked=
+  for note in "${notes[@]}"; do
+    if [ -f "$note" ] && [ -r "$note" ] && { [ -z "$checked" ] || [ "$note" -nt "$checked" ]; }; then checked=$note; fi
+  done
+  [ -n "$checked" ]
+}
+
 # The program that the last checksums named, if no file is newer than they are.
 find_program_of_last_time() {
-  local newer
-  [ -f "$checked" ] && program=$(< "$checked") && [ -x "$program" ] || return
+  local newer checked
+  find_last_note && program=$(< "$checked") && [ -x "$program" ] || return
+  [ "$program" = "$built" ] || [ "$program" = "$shipped" ] || return
   newer=$(find "$top/crates.txt" "$top/program" "$top/crates" "$program" -path "$top/crates/*/out" -prune -o \
     -cnewer "$checked" \( -type d -o -name '*.rt' -o -name '*.antt' -o ! -path "$top/crates/*" \) -print -quit 2>&1) &&
     [ -z "$newer" ]
 }
 
-# Notes which program the checksums named. Its time is that of the second before they were taken.
+# write_note FILE PROGRAM SECOND: the note has the time of the second before the checksums were taken.
+write_note() {
+  { mkdir -p "${1%/*}" && printf '%s\n' "$2" > "$1.$$" && touch -d "@$3" "$1.$$" && mv -f "$1.$$" "$1"; } 2>/dev/null
+}
+
+# Notes which program the checksums named, in the first place that can be written.
 note_program() {
-  { mkdir -p "${checked%/*}" && printf '%s\n' "$1" > "$checked.$$" && touch -d "@$2" "$checked.$$" && mv -f "$checked.$$" "$checked"; } 2>/dev/null
-  return 0
+  local note
+  for note in "${notes[@]}"; do
+    ! write_note "$note" "$@" || return 0
+  done
 }
 
 # Finds the program that stands here of these sources.
@@ -134,7 +151,7 @@ find_program() {
   find_program_of_last_time && return
   before=$(($(date +%s) - 1))
   program=$(program_of "$(sources)") || { build && program=$built; } || return
-  [ -z "$checked" ] || note_program "$program" "$before"
+  note_program "$program" "$before"
 }
 
 minutes() { printf '%d:%02d' $(($1 / 60)) $(($1 % 60)); }
