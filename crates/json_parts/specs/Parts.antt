@@ -98,8 +98,8 @@ known_in names d = or_refused (as_object d) Object >>= names_in names
 
 -- the text of the member of that name is one of the names of instructions
 unfoldable pub one_of : List ℕ → List (List ℕ) → List ℕ → Read Unit
-one_of member names text =
-    if has_name names text then Ok tt else Err (Refused (Member member ∷ []) (Instruction names))
+one_of program names text =
+    if has_name names text then Ok tt else Err (Refused (Member program ∷ []) (Instruction names))
 
 -- the one member of an object
 unfoldable pub alone_in : {X : Type 0} → List ℕ → (Data → Read X) → Data → Read X
