@@ -8,7 +8,7 @@ use message_codec::keys_of;
 use sol_base::{Account, Blob, Items, Key, OutOfMemory, SYSTEM_PROGRAM};
 use std::alloc::Global;
 use std::sync::Arc;
-use trace_run::{Began, Note};
+use trace_run::Began;
 use tx_report::InstructionError;
 
 /// What is needed to tell the notes of one transaction.
@@ -42,7 +42,7 @@ impl<'a> Frames<'a> {
             told: 0,
             instructions: 0,
             active: Vec::new(alloc),
-            listing: Listing::of(alloc, SYSTEM_PROGRAM, None)?,
+            listing: Listing::none(alloc, SYSTEM_PROGRAM),
         })
     }
 
@@ -67,8 +67,10 @@ impl<'a> Frames<'a> {
         if self.listing.program == began.program {
             return Ok(());
         }
-        let account = account_at(began.accounts.as_slice(), began.place);
-        self.listing = Listing::of(self.alloc, began.program, account)?;
+        self.listing = match account_at(began.accounts.as_slice(), began.place) {
+            Some(account) => Listing::of(self.alloc, began.program, account)?,
+            None => Listing::none(self.alloc, began.program),
+        };
         Ok(())
     }
 
@@ -76,7 +78,7 @@ impl<'a> Frames<'a> {
     pub(crate) fn lines_up_to(&mut self, count: usize) -> &'a [Blob] {
         let most = count.min(self.lines.len());
         let from = self.told.min(most);
-        self.told = most;
+        self.told = self.told.max(most);
         &self.lines[from..most]
     }
 }
@@ -86,17 +88,6 @@ pub(crate) fn account_at(accounts: &[Arc<Account>], place: u8) -> Option<&Accoun
     match accounts.get(usize::from(place)) {
         Some(account) => Some(account),
         None => None,
-    }
-}
-
-/// How the frame ends whose machine stopped at this note, which the next one says.
-pub(crate) fn error_behind(notes: &[Note], place: usize) -> Option<&InstructionError> {
-    match notes.get(place.saturating_add(1)) {
-        Some(Note::Ends(finished)) => match &finished.result {
-            Err(error) => Some(error),
-            Ok(_) => None,
-        },
-        _ => None,
     }
 }
 

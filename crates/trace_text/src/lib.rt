@@ -9,7 +9,9 @@ mod listing;
 mod page;
 mod place;
 mod sentence;
+mod stop;
 mod telling;
+mod values;
 mod words;
 
 pub use answer::answer_of;
