@@ -1,1 +1,2 @@
 pub mod TracedJson
+pub mod TracedText

@@ -4,6 +4,7 @@
 mod answer;
 mod changes;
 mod frames;
+mod head;
 mod json;
 mod listing;
 mod page;

@@ -2,6 +2,7 @@
 
 use crate::changes::{is_same, tell_change};
 use crate::frames::{Frames, account_at, accounts_after};
+use crate::head::head_text;
 use crate::page::Page;
 use crate::sentence::{detail_words, of_drop, sentence_of};
 use crate::stop::{tell_step, tell_stop};
@@ -11,9 +12,7 @@ use sol_base::{Account, Blob, Meta, OutOfMemory};
 use std::alloc::Global;
 use std::sync::Arc;
 use trace_run::{Began, Finished, Note, is_first};
-use tx_report::{
-    Cause, InstructionError, Outcome, Status, WHOLE_TRANSACTION, cause_text, status_text,
-};
+use tx_report::{Cause, InstructionError, Outcome, Status, WHOLE_TRANSACTION, cause_text};
 
 /// How many instructions of machines are told of a transaction at most.
 pub(crate) const MAX_STEPS: u32 = 100_000;
@@ -27,20 +26,8 @@ pub(crate) struct Told<'a> {
     pub(crate) notes: &'a [Note],
 }
 
-/// Which transaction it is.
-fn tell_name(page: &mut Page, told: &Told<'_>) {
-    page.number("transaction ", u64::from(told.chosen.position));
-    page.number(" of the batch, entry ", u64::from(told.position));
-    page.text(" of the block\n");
-    if let Some(signature) = told.chosen.tx.signatures.as_slice().first() {
-        page.hex("  signature ", &signature.0);
-        page.end();
-    }
-}
-
 /// A cause as a sentence, with the account that is meant.
 fn tell_cause(page: &mut Page, cause: Cause, detail: u32) {
-    page.text(", ");
     page.text(sentence_of(cause));
     if let Some((before, behind)) = detail_words(cause) {
         page.number(before, u64::from(detail));
@@ -48,10 +35,8 @@ fn tell_cause(page: &mut Page, cause: Cause, detail: u32) {
     }
 }
 
-/// How a transaction ended, and why if it was no instruction that failed.
-fn tell_status(page: &mut Page, status: &Status) -> Result<(), OutOfMemory> {
-    page.text("  status ");
-    page.bytes(status_text(page.alloc, status)?.as_slice());
+/// Why a transaction failed as a whole, or was dropped.
+fn tell_reason(page: &mut Page, status: &Status) {
     match *status {
         Status::Good => {}
         Status::Failed {
@@ -60,25 +45,17 @@ fn tell_status(page: &mut Page, status: &Status) -> Result<(), OutOfMemory> {
             detail,
         } => {
             if index == WHOLE_TRANSACTION {
+                page.text("  because ");
                 tell_cause(page, cause, detail);
+                page.end();
             }
         }
         Status::Dropped { cause } => {
-            page.text(", ");
+            page.text("  because ");
             page.text(of_drop(cause));
+            page.end();
         }
     }
-    page.end();
-    Ok(())
-}
-
-/// What a transaction used and paid.
-fn tell_units(page: &mut Page, told: &Told<'_>) {
-    page.number("  units ", told.outcome.units);
-    page.number(" of ", u64::from(told.chosen.budget.limit));
-    page.number(", fee ", told.outcome.base_paid);
-    page.number(" and ", told.outcome.priority_paid);
-    page.text(" for priority\n");
 }
 
 /// The log lines up to so many, at a depth.
@@ -197,6 +174,7 @@ fn tell_failure(
     page.text(", fails: ");
     page.bytes(cause_text(page.alloc, error.cause, error.detail)?.as_slice());
     if error.height == began.height {
+        page.text(", ");
         tell_cause(page, error.cause, error.detail);
     } else {
         page.text(", as its callee does");
@@ -288,11 +266,12 @@ fn tell_bound(page: &mut Page, notes: &[Note]) {
 
 /// Tells a transaction.
 fn tell(page: &mut Page, asked: Asked, told: &Told<'_>) -> Result<(), OutOfMemory> {
-    let lines: &[Blob] = told.outcome.lines.as_slice();
+    let outcome = told.outcome;
+    let lines: &[Blob] = outcome.lines.as_slice();
     let mut frames = Frames::new(page.alloc, asked, told.chosen, lines)?;
-    tell_name(page, told);
-    tell_status(page, &told.outcome.status)?;
-    tell_units(page, told);
+    let head = head_text(page.alloc, told.position, told.chosen, outcome)?;
+    page.bytes(head.as_slice());
+    tell_reason(page, &outcome.status);
     tell_bound(page, told.notes);
     tell_notes(page, &mut frames, told.notes)?;
     tell_lines(page, &mut frames, lines.len(), 0);
