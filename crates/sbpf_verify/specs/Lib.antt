@@ -1,9 +1,9 @@
 pub use Rattle.sbpf_isa.specs.Slots
+pub use Rattle.sbpf_rules.specs.Places
 pub mod Entries
 pub mod Faults
 pub mod Images
 pub mod ImageViews
 pub mod Instructions
 pub mod Opcodes
-pub mod Places
 pub mod Verified

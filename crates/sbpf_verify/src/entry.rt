@@ -7,8 +7,8 @@ ghost use Rattle.sbpf_verify.specs.Places.{slot_count, is_start, instruction_at,
 ghost use Rattle.sbpf_verify.specs.Verified.{IsVerified};
 
 use crate::opcode::{Opcode, opcode_of};
-use crate::places::leads_to;
 use sbpf_isa::{OpKind, Slot, kind_of, slot_at};
+use sbpf_rules::leads_to;
 use sol_base::{Items, OutOfMemory};
 use std::alloc::Global;
 

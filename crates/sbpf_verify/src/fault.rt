@@ -7,7 +7,7 @@ use std::fmt;
 
 /// Why a text is refused, with the slot that is refused. The rules are in the order of their
 /// numbers, from 1; the order in which they are looked for is that of the verifier's table.
-#[derive(Clone, Copy, Debug, PartialEq, Eq)]
+#[derive(Clone, Copy, PartialEq, Eq)]
 pub enum VerifyFault {
     Length,
     Opcode { at: u32 },
@@ -93,6 +93,12 @@ impl fmt::Display for VerifyFault {
             None => f.write_str(before),
             Some(at) => write!(f, "{before}slot {at}{after}"),
         }
+    }
+}
+
+impl fmt::Debug for VerifyFault {
+    fn fmt<W: fmt::Write>(&self, f: &mut fmt::Formatter<W>) -> fmt::Result {
+        fmt::Display::fmt(self, f)
     }
 }
 

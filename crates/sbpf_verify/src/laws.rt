@@ -10,7 +10,7 @@ ghost use Rattle.sbpf_verify.specs.Instructions.{HasRegisters, HasValues};
 ghost use Rattle.sbpf_verify.specs.Places.{max_slots, is_start, is_start_at, instruction_at, leads_to, goes_on, slots_taken, Reached};
 ghost use Rattle.sbpf_verify.specs.Verified.{IsVerified, unfit};
 
-use crate::table::MAX_SLOTS;
+use sbpf_rules::MAX_SLOTS;
 
 /// The most slots of a text (the project's own).
 pub fn numbers_are_as_stated()

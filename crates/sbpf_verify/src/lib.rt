@@ -7,9 +7,7 @@ mod fault;
 mod image;
 mod laws;
 mod opcode;
-mod places;
 mod refusal;
-mod table;
 mod verified;
 
 pub use decoded::Decoded;
@@ -23,5 +21,5 @@ pub use laws::{
     verified_is_without_refusal, what_follows_is_a_start,
 };
 pub use opcode::Opcode;
-pub use table::MAX_SLOTS;
+pub use sbpf_rules::MAX_SLOTS;
 pub use verified::{Unfit, Verified, first_refusal, verify};

@@ -4,11 +4,11 @@ ghost use Rattle.sbpf_verify.specs.Places.{slot_count};
 ghost use Rattle.sbpf_verify.specs.Verified as Table;
 
 use crate::fault::VerifyFault;
-use crate::table::{
+use sbpf_isa::{OpKind, Slot, kind_of, slot_at};
+use sbpf_rules::{
     calls_no_helper, divides_by_zero, follows_wide, has_bad_field, has_bad_length,
     has_bad_register, has_open_end, is_half_wide, jumps_astray, shifts_too_far, writes_frame,
 };
-use sbpf_isa::{OpKind, Slot, kind_of, slot_at};
 
 /// The first refusal of the instruction of a slot.
 fn instruction_refusal(text: &[u8], at: u32, slot: Slot, kind: OpKind) -> Option<VerifyFault>

@@ -4,8 +4,8 @@ ghost use Rattle.sbpf_verify.specs.Places.{is_start};
 ghost use Rattle.sbpf_verify.specs.Verified.{IsVerified, unfit};
 
 use crate::fault::VerifyFault;
-use crate::places;
 use crate::refusal::text_refusal;
+use sbpf_rules::is_start;
 use sol_base::Blob;
 use std::marker::Model;
 use thiserror::Error;
@@ -66,6 +66,6 @@ impl Verified {
     pub fn is_start(&self, index: usize) -> bool
         ensures { result ≡ is_start self.now index }
     {
-        places::is_start(self.text.as_slice(), index)
+        is_start(self.text.as_slice(), index)
     }
 }

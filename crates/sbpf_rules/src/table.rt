@@ -2,8 +2,8 @@
 ghost use Rattle.std.specs.Prelude.{◌≡◌, ◌<◌, ◌≤◌, ◌&&◌, length, not, pos};
 ghost use Rattle.std.specs.Ordering.{int_eq};
 ghost use Rattle.sbpf_isa.specs.Fields.{used};
-ghost use Rattle.sbpf_verify.specs.Places.{slot_count};
-ghost use Rattle.sbpf_verify.specs.Verified as Table;
+ghost use Rattle.sbpf_rules.specs.Places.{slot_count};
+ghost use Rattle.sbpf_rules.specs.Table as Table;
 
 use crate::places::{is_start_at, leads_to};
 use sbpf_isa::{

@@ -5,7 +5,7 @@ use Rattle.sbpf_isa.specs.Slots.{slot_of}
 use Rattle.sbpf_isa.specs.declared.slot.Slot.{Slot}
 use Rattle.sbpf_isa.specs.declared.rows.OpKind.{OpKind}
 use Rattle.sbpf_isa.specs.declared.rows.OpKind.TheVariants.{Jump, JumpIf, Call, CallRegister, Exit, LoadWide}
-use Rattle.sbpf_verify.specs.declared.table.TheConstants.{MAX_SLOTS}
+use Rattle.sbpf_rules.specs.declared.table.TheConstants.{MAX_SLOTS}
 
 abbrev pub slot_count : List ℕ → ℕ
 slot_count text = length text / 8

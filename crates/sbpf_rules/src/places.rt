@@ -1,6 +1,6 @@
 //! The places of a text, and where an instruction leads.
 ghost use Rattle.std.specs.Prelude.{◌≡◌, ◌<◌, ◌/◌, ◌^◌};
-ghost use Rattle.sbpf_verify.specs.Places.{is_start, is_start_at, leads_to};
+ghost use Rattle.sbpf_rules.specs.Places.{is_start, is_start_at, leads_to};
 
 use sbpf_isa::{OpKind, Slot, slot_at};
 
