@@ -1,8 +1,9 @@
 -- Reading a transaction from left to right, with the first refusal that is met.
-use Rattle.std.specs.Prelude.{ℕ, ◌+◌, ◌-◌, ◌*◌, ◌==◌, List, [], ◌∷◌, length, Result, Ok, Err, Bool, true, false, nat_lt, ◌||◌, slice_index, if◌then◌else◌}
+use Rattle.std.specs.Prelude.{ℕ, ◌==◌, List, [], ◌∷◌, length, Result, Ok, Err, Bool, true, false, nat_lt, slice_index, if◌then◌else◌}
 use Rattle.spec_base.specs.Reading.{◌>>=◌, place, field_at, byte_at, read_as, many, whole}
 use Rattle.sol_base.specs.declared.key.Key.{Key}
 use Rattle.format_fields.specs.Fields.{key_at, hash_at}
+use Rattle.format_fields.specs.Lengths as Lengths
 use Rattle.message_codec.specs.declared.fault.WireFault.{WireFault}
 use Rattle.message_codec.specs.declared.fault.WireFault.TheVariants.{TooLong, Truncated, BadLength, Version, Trailing, OutOfMemory}
 use Rattle.message_codec.specs.declared.message.Signature.{Signature}
@@ -27,24 +28,16 @@ is_wire_memory OutOfMemory = true
 abbrev pub Read : Type 0 → Type 0
 Read X = Result (X × List ℕ) WireFault
 
--- the third byte of a compact length, after the digits that were read
+-- a compact length, refused at its first byte
 abbrev pub third_at : ℕ → ℕ → List ℕ → Read ℕ
-third_at at low [] = Err (Truncated at)
-third_at at low (c ∷ rest) =
-    if c == 0 || nat_lt 3 c then Err (BadLength at) else Ok (low + 16384 * c, rest)
+third_at at low bytes = Lengths.third_at Truncated BadLength at low bytes
 
--- the second
 abbrev pub second_at : ℕ → ℕ → List ℕ → Read ℕ
-second_at at low [] = Err (Truncated at)
-second_at at low (b ∷ rest) =
-    if nat_lt b 128 then (if b == 0 then Err (BadLength at) else Ok (low + 128 * b, rest)) else
-    third_at at (low + 128 * (b - 128)) rest
+second_at at low bytes = Lengths.second_at Truncated BadLength at low bytes
 
 abbrev pub first_at : ℕ → List ℕ → Read ℕ
-first_at at [] = Err (Truncated at)
-first_at at (a ∷ rest) = if nat_lt a 128 then Ok (a, rest) else second_at at (a - 128) rest
+first_at at bytes = Lengths.first_at Truncated BadLength at bytes
 
--- a compact length, refused at its first byte
 unfoldable pub compact_at : ℕ → List ℕ → Read ℕ
 compact_at total bytes = first_at (place total bytes) bytes
 

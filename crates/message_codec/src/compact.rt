@@ -1,54 +1,22 @@
 //! Compact lengths (Solana): 7 bits a byte, low bits first, in as few bytes as hold the number.
-ghost use Rattle.std.specs.Prelude.{◌≡◌, ◌+◌, ◌<◌, ◌≤◌, ◌++◌, OnOk};
+ghost use Rattle.std.specs.Prelude.{◌≡◌, ◌≤◌, ◌++◌, OnOk};
 ghost use Rattle.spec_base.specs.Reading.{Gives};
 ghost use Rattle.message_codec.specs.Compact.{compact, max_count};
-ghost use Rattle.message_codec.specs.WireReading.{is_wire_memory, compact_at, second_at, third_at};
+ghost use Rattle.message_codec.specs.WireReading.{is_wire_memory, compact_at};
 
 use crate::fault::WireFault;
 use sol_base::{Blob, OutOfMemory};
-use spec_base::place;
 
 /// The greatest compact length, which is also the greatest number of two bytes (Solana).
 pub const MAX_COUNT: usize = 65_535;
 
 /// The length at the front of the bytes, and the bytes after it. `total` is the length of the whole
 /// text.
-#[tactic(auto, unfolding(crate::specs::WireReading::compact_at))]
+#[tactic(auto, unfolding(crate::specs::WireReading::compact_at, format_fields::specs::Lengths::length_at))]
 pub(crate) fn read_length(total: usize, bytes: &[u8]) -> Result<(usize, &[u8]), WireFault>
     ensures { Gives is_wire_memory (λ x. (x.0, x.1.now)) result (compact_at total bytes.now) }
 {
-    let at = place(total, bytes);
-    match bytes {
-        [] => Err(WireFault::Truncated { at }),
-        [first, rest @ ..] if *first < 128 => Ok((usize::from(*first), rest)),
-        [first, rest @ ..] => second_digit(at, usize::from(*first) - 128, rest),
-    }
-}
-
-fn second_digit(at: usize, low: usize, bytes: &[u8]) -> Result<(usize, &[u8]), WireFault>
-    requires { low < 128 }
-    ensures { Gives is_wire_memory (λ x. (x.0, x.1.now)) result (second_at at low bytes.now) }
-{
-    match bytes {
-        [] => Err(WireFault::Truncated { at }),
-        [0, ..] => Err(WireFault::BadLength { at }),
-        [second, rest @ ..] if *second < 128 => Ok((low + 128 * usize::from(*second), rest)),
-        [second, rest @ ..] => third_digit(at, low + 128 * (usize::from(*second) - 128), rest),
-    }
-}
-
-fn third_digit(at: usize, low: usize, bytes: &[u8]) -> Result<(usize, &[u8]), WireFault>
-    requires { low < 16384 }
-    ensures { Gives is_wire_memory (λ x. (x.0, x.1.now)) result (third_at at low bytes.now) }
-{
-    match bytes {
-        [] => Err(WireFault::Truncated { at }),
-        [third, rest @ ..] if 1 <= *third && *third <= 3 => Ok((
-            low + 16384 * usize::from(*third),
-            rest,
-        )),
-        _ => Err(WireFault::BadLength { at }),
-    }
+    format_fields::read_length::<WireFault>(total, bytes)
 }
 
 /// Adds the length's one spelling to the bytes.

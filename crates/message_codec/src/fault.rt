@@ -1,7 +1,7 @@
 //! The refusals of bytes and of transactions.
 ghost use Rattle.std.specs.Prelude.{◌≡◌};
 
-use format_fields::MemoryRefusal;
+use format_fields::{LengthRefusal, MemoryRefusal};
 use sol_base::OutOfMemory;
 use spec_base::Refusal;
 use thiserror::Error;
@@ -44,6 +44,16 @@ impl Refusal for WireFault {
 
     fn truncated(at: usize) -> WireFault {
         WireFault::Truncated { at }
+    }
+}
+
+impl LengthRefusal for WireFault {
+    ghost use Rattle.message_codec.specs.declared.fault.WireFault.TheVariants.{BadLength};
+
+    ghost bad_at = { BadLength };
+
+    fn bad_length(at: usize) -> WireFault {
+        WireFault::BadLength { at }
     }
 }
 
