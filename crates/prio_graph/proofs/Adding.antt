@@ -6,7 +6,8 @@ use Rattle.std.proofs.lemmas.Bool.{cases_eq, cond_both, cond-true, cond-false, o
 use Rattle.std.proofs.lemmas.List.{length-append}
 use Rattle.std.proofs.lemmas.List.Sums.{sum_by_push}
 use Rattle.prio_graph.specs.Chains.{once}
-use Rattle.prio_graph.specs.Kept.{times, edges, ends_in, pushed_at, AddsEdges}
+use Rattle.prio_graph.specs.Kept.{times, edges, ends_in, AddsEdges}
+use Rattle.lock_chains.specs.Passing.{pushed_at}
 use Rattle.prio_graph.proofs.Finding.{has, one_if, any-append}
 use Rattle.prio_graph.proofs.Once.{has-once, once-push_new, once-push_again}
 

@@ -8,11 +8,12 @@ use Rattle.lock_table.specs.Numbers.{meets, conflicts}
 use Rattle.prio_graph.specs.declared.mark.Mark.{Mark}
 use Rattle.prio_graph.specs.declared.mark.Mark.TheVariants.{Waiting, Started, Done}
 use Rattle.prio_graph.specs.Ready.{set_at, mark_at, EarlierDone, is_done_mark}
-use Rattle.prio_graph.specs.Chains.{writes_number, reads_number, last_writer, readers_since, awaited, edges_into, counter, StartedInOrder}
+use Rattle.prio_graph.specs.Chains.{last_writer, readers_since, awaited, edges_into, counter, StartedInOrder}
+use Rattle.lock_chains.specs.Passing.{writes_number, reads_number}
 use Rattle.prio_graph.specs.Laws.{CountersTell}
 use Rattle.prio_graph.proofs.Finding.{any_at, any_place, any-append, any-flat_map, has, count-zero, count-none}
 use Rattle.prio_graph.proofs.Once.{has-once}
-use Rattle.prio_graph.proofs.Passing.{no_lock}
+use Rattle.lock_chains.proofs.Passing.{no_lock}
 
 -- two locks that meet make their sets conflict
 conflict_at : (one other : List NumberedLock) (i k : ℕ) → i < length one → k < length other

@@ -8,7 +8,8 @@ use Rattle.lock_table.specs.declared.locks.NumberedLock.{NumberedLock}
 use Rattle.prio_graph.specs.Ready.{set_at}
 use Rattle.prio_graph.specs.Chains.{awaited, once, edges_into}
 use Rattle.prio_graph.specs.Kept.{times, edges}
-use Rattle.prio_graph.specs.Chained.{awaited_by, writer_after, readers_after, Chained}
+use Rattle.prio_graph.specs.Chained.{Chained}
+use Rattle.lock_chains.specs.Passing.{awaited_by, writer_after, readers_after}
 use Rattle.prio_graph.proofs.Finding.{has, any_at}
 use Rattle.prio_graph.proofs.Once.{has-once}
 use Rattle.prio_graph.proofs.ChainLaws.{edge-is}

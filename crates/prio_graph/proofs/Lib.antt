@@ -1,5 +1,4 @@
 pub mod TreeLaws
-pub mod Passing
 pub mod Finding
 pub mod Once
 pub mod Adding

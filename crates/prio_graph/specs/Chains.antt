@@ -1,17 +1,11 @@
 -- The chains of positions: whom each waits for.
-use Rattle.std.specs.Prelude.{◌≡◌, ℕ, zero, suc, ◌<◌, ◌==◌, Bool, not, ◌&&◌, if◌then◌else◌, List, [], ◌∷◌, ◌++◌, length, count_by, Option, Some, None, option_to_list}
-use Rattle.std.specs.List.{list_any, filter, flat_map}
+use Rattle.std.specs.Prelude.{◌≡◌, ℕ, zero, suc, ◌<◌, ◌==◌, not, if◌then◌else◌, List, [], ◌∷◌, ◌++◌, length, count_by, Option, Some, None, option_to_list}
+use Rattle.std.specs.List.{filter, flat_map}
 use Rattle.lock_table.specs.declared.locks.NumberedLock.{NumberedLock}
+use Rattle.lock_chains.specs.Passing.{writes_number, reads_number}
 use Rattle.prio_graph.specs.declared.mark.Mark.{Mark}
 use Rattle.prio_graph.specs.declared.mark.Mark.TheVariants.{Waiting}
 use Rattle.prio_graph.specs.Ready.{set_at, mark_at, is_done_mark, EarlierDone}
-
--- the number is written, or read, by these locks
-abbrev pub writes_number : List NumberedLock → ℕ → Bool
-writes_number set n = list_any (λ lock. (lock.number == n) && lock.write) set
-
-abbrev pub reads_number : List NumberedLock → ℕ → Bool
-reads_number set n = list_any (λ lock. (lock.number == n) && not lock.write) set
 
 -- the last writer of the number before position i
 abbrev pub last_writer : List (List NumberedLock) → ℕ → ℕ → Option ℕ

@@ -1,6 +1,6 @@
 -- What a graph keeps beside its positions: a counter and the later ends of its edges for each, and
 -- the ready ones as leaves of a tree.
-use Rattle.std.specs.Prelude.{◌≡◌, ℕ, ◌+◌, ◌-◌, ◌*◌, ◌^◌, ◌<◌, ◌≤◌, ◌==◌, Bool, ◌&&◌, if◌then◌else◌, List, [], ◌∷◌, ◌++◌, length, slice_set, nat_lt, count_by, slice_index, slice_index_or}
+use Rattle.std.specs.Prelude.{◌≡◌, ℕ, ◌+◌, ◌-◌, ◌*◌, ◌^◌, ◌<◌, ◌≤◌, ◌==◌, Bool, ◌&&◌, if◌then◌else◌, List, [], length, nat_lt, count_by, slice_index, slice_index_or}
 use Rattle.lock_table.specs.declared.locks.NumberedLock.{NumberedLock}
 use Rattle.prio_graph.specs.declared.mark.Mark.{Mark}
 use Rattle.bank_law.specs.Machine.{count_below}
@@ -50,10 +50,6 @@ HasEdges sets rows =
 -- and no others
 abbrev pub HasNoOthers : List (List NumberedLock) → List (List ℕ) → Type 0
 HasNoOthers sets rows = (j i : ℕ) → length sets ≤ i → edges rows j i ≡ 0
-
--- one row has one item more
-abbrev pub pushed_at : List (List ℕ) → ℕ → ℕ → List (List ℕ)
-pushed_at rows at item = slice_set rows at (slice_index_or rows at [] ++ item ∷ [])
 
 -- whether a row ends in a number
 abbrev pub ends_in : List ℕ → ℕ → Bool

@@ -4,8 +4,8 @@ ghost use Rattle.prio_graph.specs.Ready.{set_at};
 ghost use Rattle.prio_graph.specs.Kept.{CountsEdges, HasEdges, HasNoOthers};
 ghost use Rattle.prio_graph.specs.Chained.{Chained};
 
-use crate::chains::{awaited, pass_locks};
 use crate::rows::{add_edges, empty_rows};
+use lock_chains::{awaited, pass_locks};
 use lock_table::{LockSet, NumberedLock};
 use sol_base::{Items, OutOfMemory};
 use std::alloc::Global;

@@ -6,7 +6,6 @@
 //! two positions, however many numbers they share.
 #![tactic(auto)]
 
-mod chains;
 mod edges;
 mod graph;
 mod laws;

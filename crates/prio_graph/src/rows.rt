@@ -1,11 +1,11 @@
 //! Rows of positions.
-ghost use Rattle.std.specs.Prelude.{◌≡◌, ℕ, ◌<◌, [], All, IfOk, OnOk, OnErr, length, replicate, slice_set};
+ghost use Rattle.std.specs.Prelude.{◌≡◌, ℕ, ◌<◌, [], All, IfOk, OnOk, length, replicate};
 ghost use Rattle.prio_graph.specs.Chains.{once};
-ghost use Rattle.prio_graph.specs.Kept.{edges, ends_in, AddsEdges, pushed_at};
+ghost use Rattle.prio_graph.specs.Kept.{edges, ends_in, AddsEdges};
 
+use lock_chains::push_at;
 use sol_base::{Items, OutOfMemory};
 use std::alloc::Global;
-use std::mem;
 
 /// So many rows, all of them empty.
 pub(crate) fn empty_rows(alloc: Global, count: usize) -> Result<Vec<Items<u32>>, OutOfMemory>
@@ -16,27 +16,6 @@ pub(crate) fn empty_rows(alloc: Global, count: usize) -> Result<Vec<Items<u32>>,
         rows.push(Items::new(alloc))?;
     }
     Ok(rows)
-}
-
-/// Appends to one row.
-pub(crate) fn push_at(rows: &mut [Items<u32>], at: usize, item: u32) -> Result<(), OutOfMemory>
-    requires { at < length rows.old }
-    ensures ok { OnOk result (rows.new ≡ pushed_at rows.old at item) }
-    ensures err { OnErr result (rows.new ≡ rows.old) }
-{
-    let row = &mut rows[at];
-    row.push(item)?;
-    Ok(())
-}
-
-/// Empties one row, and keeps its memory.
-pub(crate) fn clear_at(alloc: Global, rows: &mut [Items<u32>], at: usize)
-    requires { at < length rows.old }
-    ensures { rows.new ≡ slice_set rows.old at [] }
-{
-    let mut row = mem::replace(&mut rows[at], Items::new(alloc)).into_vec();
-    row.clear();
-    rows[at] = Items::from_vec(row);
 }
 
 /// Whether a row ends in a number.

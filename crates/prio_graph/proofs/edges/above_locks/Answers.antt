@@ -2,7 +2,7 @@ use Rattle.std.proofs.Common.{◌<◌, take, subst, arith, All}
 use Rattle.std.proofs.lemmas.List.{take_all}
 use Rattle.std.proofs.lemmas.List.Elements.{All-more}
 use Rattle.lock_table.specs.declared.locks.NumberedLock.{NumberedLock}
-use Rattle.prio_graph.proofs.Passing.{no_lock}
+use Rattle.lock_chains.proofs.Passing.{no_lock}
 use Rattle.prio_graph.proofs.edges.above_locks.Goals as goal
 
 pub loop-lock-preserved : goal.loop-lock-preserved

@@ -3,7 +3,8 @@ use Rattle.std.specs.List.{flat_map}
 use Rattle.std.proofs.lemmas.List.{get_or_default}
 use Rattle.lock_table.specs.declared.locks.NumberedLock.{NumberedLock}
 use Rattle.prio_graph.specs.Chains.{once}
-use Rattle.prio_graph.specs.Chained.{awaited_by, writer_after, readers_after, Chained}
+use Rattle.prio_graph.specs.Chained.{Chained}
+use Rattle.lock_chains.specs.Passing.{awaited_by, writer_after, readers_after}
 use Rattle.prio_graph.proofs.Chaining.{awaited-is, awaited-below, Chained-next}
 use Rattle.prio_graph.proofs.edges.add_position.Goals as goal
 

@@ -6,8 +6,8 @@ use Rattle.std.proofs.lemmas.List.{drop_more, get_or-drop, get_or_default}
 use Rattle.std.proofs.lemmas.List.Elements.{All-head, All-tail}
 use Rattle.lock_table.specs.declared.locks.NumberedLock.{NumberedLock}
 use Rattle.lock_table.specs.Numbers.{EachOnce}
-use Rattle.prio_graph.specs.Chains.{writes_number, reads_number}
-use Rattle.prio_graph.specs.Chained.{writer_after, readers_after}
+use Rattle.lock_chains.specs.Passing.{writes_number, reads_number}
+use Rattle.lock_chains.specs.Passing.{writer_after, readers_after}
 
 abbrev pub no_lock : NumberedLock
 no_lock = record { number = 0; write = false }

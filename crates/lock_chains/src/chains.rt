@@ -2,7 +2,7 @@
 ghost use Rattle.std.specs.Prelude.{◌≡◌, ◌<◌, All, IfOk, OnOk, length};
 ghost use Rattle.std.specs.List.{flat_map};
 ghost use Rattle.lock_table.specs.Numbers.{EachOnce};
-ghost use Rattle.prio_graph.specs.Chained.{awaited_by, PassesWriters, PassesReaders};
+ghost use Rattle.lock_chains.specs.Passing.{awaited_by, PassesWriters, PassesReaders};
 
 use crate::rows::{clear_at, push_at};
 use lock_table::NumberedLock;
@@ -10,7 +10,7 @@ use sol_base::{Items, OutOfMemory};
 use std::alloc::Global;
 
 /// The earlier positions that the locks wait for, each as often as there are locks that do.
-pub(crate) fn awaited(
+pub fn awaited(
     alloc: Global,
     last: &[Option<u32>],
     readers: &[Items<u32>],
@@ -36,7 +36,7 @@ pub(crate) fn awaited(
 
 /// Lets a position pass: it is the last writer of what it writes, and one more reader of what it
 /// reads.
-pub(crate) fn pass_locks(
+pub fn pass_locks(
     alloc: Global,
     last: &mut [Option<u32>],
     readers: &mut [Items<u32>],

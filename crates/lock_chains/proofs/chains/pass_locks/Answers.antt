@@ -1,7 +1,7 @@
 use Rattle.std.proofs.Common.{◌<◌, length, get_or, ◌∙◌, arith}
-use Rattle.prio_graph.proofs.Passing.{no_lock, Steps, step_written, step_read}
-use Rattle.prio_graph.proofs.chains.pass_locks.Goals as goal
-use Rattle.prio_graph.proofs.chains.pass_locks.Goals.{then-lock, else-lock+in_ok-push_at}
+use Rattle.lock_chains.proofs.Passing.{no_lock, Steps, step_written, step_read}
+use Rattle.lock_chains.proofs.chains.pass_locks.Goals as goal
+use Rattle.lock_chains.proofs.chains.pass_locks.Goals.{then-lock, else-lock+in_ok-push_at}
 
 pub loop-lock-preserved : goal.loop-lock-preserved
 loop-lock-preserved c =

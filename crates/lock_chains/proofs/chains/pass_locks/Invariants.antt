@@ -1,6 +1,6 @@
 use Rattle.std.proofs.Common.{◌≡◌, ℕ, ◌<◌, [], None, length, drop, slice_index_or}
-use Rattle.prio_graph.specs.Chained.{writer_after, readers_after}
-use Rattle.prio_graph.proofs.chains.pass_locks.Given as goal
+use Rattle.lock_chains.specs.Passing.{writer_after, readers_after}
+use Rattle.lock_chains.proofs.chains.pass_locks.Given as goal
 
 abbrev pub invariant-loop-lock : goal.invariant-loop-lock
 invariant-loop-lock l = record {
