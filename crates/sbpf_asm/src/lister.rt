@@ -114,8 +114,25 @@ fn append_row(out: &mut Blob, row: Row, i: Instruction) -> Result<(), OutOfMemor
     Ok(())
 }
 
-/// The instruction of a slot, which is of this kind.
+/// The number of an instruction in a slot: the immediate, or that of the two slots of `lddw`.
 #[tactic(auto, using(crate::proofs::Wide::second_there))]
+fn immediate_of(text: &[u8], place: usize, kind: OpKind) -> i128
+    requires verified { IsVerified text.now }
+    requires there { place < slot_count text.now }
+    requires known { kind_at (slot_of text.now place).opcode ≡ Some kind }
+    ensures { result ≡ (instruction_of text.now place kind).imm }
+{
+    let low = slot_at(text, place).imm;
+    match kind {
+        OpKind::LoadWide => {
+            let high = slot_at(text, place + 1).imm.cast_unsigned();
+            i128::from(u64::from(low.cast_unsigned()) | u64::from(high) << 32)
+        }
+        _ => i128::from(low),
+    }
+}
+
+/// The instruction of a slot, which is of this kind.
 fn instruction_of(text: &[u8], place: usize, kind: OpKind) -> Instruction
     requires verified { IsVerified text.now }
     requires there { place < slot_count text.now }
@@ -123,19 +140,12 @@ fn instruction_of(text: &[u8], place: usize, kind: OpKind) -> Instruction
     ensures { result ≡ instruction_of text.now place kind }
 {
     let slot = slot_at(text, place);
-    let imm = match kind {
-        OpKind::LoadWide => {
-            let high = slot_at(text, place + 1).imm.cast_unsigned();
-            i128::from(u64::from(slot.imm.cast_unsigned()) | u64::from(high) << 32)
-        }
-        _ => i128::from(slot.imm),
-    };
     Instruction {
         kind,
         dst: slot.dst,
         src: slot.src,
         offset: i128::from(slot.offset),
-        imm,
+        imm: immediate_of(text, place, kind),
     }
 }
 
