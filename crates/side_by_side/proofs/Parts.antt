@@ -2,7 +2,7 @@
 use Rattle.std.proofs.Common.{◌≡◌, ℕ, ◌+◌, ◌-◌, ◌<◌, ◌++◌, List, length, get_or, sym, ◌∙◌, ap, subst, inl, inr, arith}
 use Rattle.std.proofs.lemmas.Bool.{cases_lt}
 use Rattle.std.proofs.lemmas.List.{get_or_append_left, get_or-append-add, length-append}
-use Rattle.std.specs.Fork.{AcceptsAt, ChangesAt}
+use Rattle.std.specs.Fork.{ChangesAt}
 use Rattle.side_by_side.specs.Places.{AcceptsFrom, ChangesFrom}
 use denote.Ref.{MutBor}
 use denote.Param.Members.{Shared}

@@ -10,6 +10,7 @@
 mod both;
 mod each;
 mod jobs;
+mod limit;
 
 pub use both::call_both;
 pub use each::for_each_mut;
