@@ -20,9 +20,7 @@ impl SendGate for OpenSend {
     fn pass(&self, _sender: u32, _position: u32) {}
 }
 
-/// The record of a sender's passes: it has passed a gate before each position of its share below
-/// one, and before no other. Nothing but `pass` and `skip` goes on with it, and `pass` says which
-/// gate it was.
+/// The positions before which a sender has passed its gate: those of its share below one.
 #[derive(Drop)]
 pub(crate) struct Passes {
     sender: u32,
@@ -30,37 +28,50 @@ pub(crate) struct Passes {
     below: u32,
 }
 
-impl Passes {
+/// A gate in the record of a sender's passes: it was passed before each position of the sender's share
+/// below one, and before no other. Who has no more than the record can pass the gate
+/// by `pass` alone, which notes it.
+#[derive(Drop)]
+pub(crate) struct GateLog<'a, G> {
+    gate: &'a G,
+    passes: Passes,
+}
+
+impl<'a, G: SendGate> GateLog<'a, G> {
     /// No passes yet.
-    pub(crate) fn none(sender: u32, senders: u32) -> Passes
-        ensures { result ≡ no_passes sender senders }
+    pub(crate) fn new(gate: &'a G, sender: u32, senders: u32) -> GateLog<'a, G>
+        ensures gate { result.gate.now ≡ gate.now }
+        ensures none { result.passes ≡ no_passes sender senders }
     {
-        Passes {
+        let passes = Passes {
             sender,
             senders,
             below: 0,
-        }
+        };
+        GateLog { gate, passes }
     }
 
     /// Passes the gate before the next position, which is one of the sender's.
-    pub(crate) fn pass<G: SendGate>(&mut self, gate: &G, position: u32)
-        requires next { self.old.below ≡ position }
-        requires own { position % self.old.senders ≡ self.old.sender }
+    pub(crate) fn pass(&mut self, position: u32)
+        requires next { self.old.passes.below ≡ position }
+        requires own { position % self.old.passes.senders ≡ self.old.passes.sender }
         requires room { position < 2 ^ 32 - 1 }
-        ensures noted { self.new ≡ passed_below self.old (position + 1) }
-        ensures passed { G.is_passed gate.now self.old.sender position }
+        ensures gate { self.new.gate ≡ self.old.gate }
+        ensures noted { self.new.passes ≡ passed_below self.old.passes (position + 1) }
+        ensures passed { G.is_passed self.old.gate.now self.old.passes.sender position }
     {
-        gate.pass(self.sender, position);
-        self.below = position + 1;
+        self.gate.pass(self.passes.sender, position);
+        self.passes.below = position + 1;
     }
 
     /// Leaves the next position out, which is another sender's.
     pub(crate) fn skip(&mut self, position: u32)
-        requires next { self.old.below ≡ position }
-        requires other { position % self.old.senders ≢ self.old.sender }
+        requires next { self.old.passes.below ≡ position }
+        requires other { position % self.old.passes.senders ≢ self.old.passes.sender }
         requires room { position < 2 ^ 32 - 1 }
-        ensures { self.new ≡ passed_below self.old (position + 1) }
+        ensures gate { self.new.gate ≡ self.old.gate }
+        ensures noted { self.new.passes ≡ passed_below self.old.passes (position + 1) }
     {
-        self.below = position + 1;
+        self.passes.below = position + 1;
     }
 }

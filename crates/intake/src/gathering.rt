@@ -1,15 +1,15 @@
 //! Gathering: the wires of a batch parsed by several senders at once.
-ghost use Rattle.std.specs.Prelude.{◌≡◌, ◌≢◌, ℕ, ◌+◌, ◌%◌, ◌<◌, ◌≤◌, ◌-◌, ◌^◌, ◌++◌, ◌∷◌, [], List, length, map, All, IfOk, Ok, slice_index_or, slice_set};
+ghost use Rattle.std.specs.Prelude.{◌≡◌, ◌≢◌, ℕ, ◌+◌, ◌%◌, ◌<◌, ◌≤◌, ◌-◌, ◌^◌, ◌++◌, ◌∷◌, [], List, length, map, All, IfOk, OnOk, Ok, slice_index_or, slice_set};
 ghost use Rattle.sol_base.specs.Limits.{max_senders, max_transactions};
 ghost use Rattle.message_codec.specs.Parsing.{parsed_of};
 ghost use Rattle.intake.specs.declared.seats.SendSeat.{SendSeat};
 ghost use Rattle.intake.specs.declared.ticket.Ticket.{Ticket};
 ghost use Rattle.intake.specs.Gathering.{ArriveByShares, CarriesShares, EachArrivesOnce, HasSentShare, HaveSentShares, arrival_of};
 ghost use Rattle.intake.specs.Layout.{LeadsTo, LeadsToParsed};
-ghost use Rattle.intake.specs.Passes.{AreSharesBehind, HasPassedShare, IsShareBehind};
+ghost use Rattle.intake.specs.Passes.{AreSharesBehind, HasPassedShare, IsShareBehind, no_passes};
 ghost use Rattle.intake.specs.Seats.{AreFresh, HasSent, IsFresh, IsSendSeatOf, next_ticket, sender_of, sent_by};
 
-use crate::gate::{Passes, SendGate};
+use crate::gate::{GateLog, SendGate};
 use crate::ring::{Intake, Opened};
 use crate::seats::SendSeat;
 use crate::ticket::{Full, Ticket};
@@ -123,43 +123,43 @@ fn send_share<R: Wait, G: SendGate>(
     ensures behind { IfOk result
         (λ _. IsShareBehind (G.is_passed gate.now) (length wires.now) senders (sender_of seat)) }
 {
-    let (seat, _passes) = send_behind_gate(rt, alloc, intake, wires, senders, gate, seat)?;
-    Ok(seat)
+    let mut log = GateLog::new(gate, seat.sender, senders);
+    send_behind_gate(rt, alloc, intake, wires, senders, &mut log, seat)
 }
 
-/// One sender at work, with the record of its passes: it passes the gate before each position of its
-/// share, and before no other.
+/// One sender at work, which has its gate in the record of its passes alone: it passes the gate before
+/// each position of its share, and before no other.
 fn send_behind_gate<R: Wait, G: SendGate>(
     rt: &R,
     alloc: Global,
     intake: &Intake,
     wires: &[Blob],
     senders: u32,
-    gate: &G,
+    log: &mut GateLog<'_, G>,
     mut seat: SendSeat,
-) -> Result<(SendSeat, Passes), OutOfMemory>
+) -> Result<SendSeat, OutOfMemory>
     requires wires { length wires.now ≤ max_transactions }
     requires senders { 1 ≤ senders }
     requires seat { IsFresh intake.now seat }
+    requires none { log.old.passes ≡ no_passes (sender_of seat) senders }
     ensures sent { IfOk result
-        (λ both. HasSentShare intake.now wires.now senders (sender_of seat) both.0) }
-    ensures passed { IfOk result
-        (λ both. HasPassedShare (G.is_passed gate.now) (length wires.now) senders (sender_of seat)
-        both.1) }
+        (HasSentShare intake.now wires.now senders (sender_of seat)) }
+    ensures passed { OnOk result
+        (HasPassedShare (G.is_passed log.old.gate.now) (length wires.now) senders (sender_of seat)
+        log.new.passes) }
 {
     let sender = seat.sender;
     let count = wires.len() as u32;
-    let mut passes = Passes::none(sender, senders);
     for position in 0..count {
         if position % senders == sender {
-            passes.pass(gate, position);
+            log.pass(position);
             let parsed = parse(alloc, wires[position as usize].as_slice())?;
             send(rt, intake, &mut seat, position, parsed);
         } else {
-            passes.skip(position);
+            log.skip(position);
         }
     }
-    Ok((seat, passes))
+    Ok(seat)
 }
 
 /// Offers the ticket until there is room for it.

@@ -25,19 +25,22 @@ loop-position-preserved g c =
       | then-position-senders+in_ok-parsed w ↦
           let wire = w.as_slice.ensures ∙ w.index-wires-position.is ∙ get_or_default wires p w.index-wires-position.result [] c.loop-position-test.true in
           let has : carried (next_ticket c.loop-position.seat p w.in_ok-parsed.parsed) ≡ parsed_at wires p = ap (λ y. (p, y)) (w.in_ok-parsed.ensures.exact ∙ ap parsed_of wire) in
-          rw (w.seat-is, w.passes-is) (
+          rw (w.seat-is, w.log-is) (
             w.send.ensures.seat.0,
             w.send.ensures.seat.1 ∙ i.1,
             sent_more wires before _ (next_ticket c.loop-position.seat p w.in_ok-parsed.parsed) p c.args.senders (sender_of c.args.seat) i.2 w.send.ensures.sent has w.if-position-senders.true,
-            w.pass.ensures.noted ∙ ap (λ x. passed_below x (p + 1)) i.3,
-            behind_more (g.G.SendGate.is_passed c.args.gate.now) p c.args.senders (sender_of c.args.seat) i.4 w.if-position-senders.true
-                (subst (λ s. g.G.SendGate.is_passed c.args.gate.now s p) (ap (λ (x : Passes). x.sender) i.3) (search (rules, w.pass.ensures.passed))),
+            w.pass.ensures.gate ∙ i.3,
+            w.pass.ensures.noted ∙ ap (λ x. passed_below x (p + 1)) i.4,
+            behind_more (g.G.SendGate.is_passed c.args.log.now.gate.now) p c.args.senders (sender_of c.args.seat) i.5 w.if-position-senders.true
+                (subst (λ s. g.G.SendGate.is_passed c.args.log.now.gate.now s p) (ap (λ (x : Passes). x.sender) i.4)
+                (subst (λ e. g.G.SendGate.is_passed e.now c.loop-position.log.passes.sender p) i.3 w.pass.ensures.passed)),
           )
-      | else-position-senders w ↦ rw (w.seat-is, w.passes-is) (
+      | else-position-senders w ↦ rw (w.seat-is, w.log-is) (
         i.0,
         i.1,
         sent_same wires before p c.args.senders (sender_of c.args.seat) i.2 w.if-position-senders.false,
-        w.skip.ensures ∙ ap (λ x. passed_below x (p + 1)) i.3,
-        behind_same (g.G.SendGate.is_passed c.args.gate.now) p c.args.senders (sender_of c.args.seat) i.4 w.if-position-senders.false,
+        w.skip.ensures.gate ∙ i.3,
+        w.skip.ensures.noted ∙ ap (λ x. passed_below x (p + 1)) i.4,
+        behind_same (g.G.SendGate.is_passed c.args.log.now.gate.now) p c.args.senders (sender_of c.args.seat) i.5 w.if-position-senders.false,
       )
     ]

@@ -9,5 +9,6 @@ abbrev pub invariant-loop-position : goal.invariant-loop-position
 invariant-loop-position g l =
     IsSendSeatOf l.intake l.seat × (sender_of l.seat ≡ sender_of l.fn.seat)
     × (map carried (sent_by l.seat) ≡ map (parsed_at l.wires) (share_of l.position l.senders (sender_of l.fn.seat)))
-    × (l.passes ≡ passed_below (no_passes (sender_of l.fn.seat) l.senders) l.position)
-    × IsShareBehind (g.G.SendGate.is_passed l.gate) l.position l.senders (sender_of l.fn.seat)
+    × (l.log.gate ≡ l.initial.log.gate)
+    × (l.log.passes ≡ passed_below (no_passes (sender_of l.fn.seat) l.senders) l.position)
+    × IsShareBehind (g.G.SendGate.is_passed l.initial.log.gate.now) l.position l.senders (sender_of l.fn.seat)
