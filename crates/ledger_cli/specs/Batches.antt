@@ -2,7 +2,6 @@
 use Rattle.std.specs.Prelude.{◌≡◌, ℕ, List, ◌∷◌, Ok}
 use Rattle.snapshot_codec.specs.declared.batch.Batch.{Batch}
 use Rattle.snapshot_codec.specs.BatchReading.{batch_of}
-use Rattle.snapshot_codec.specs.Snapshot.{HasWidths}
 use Rattle.block_run.specs.Blocks.{block_result}
 use Rattle.ledger_folder.specs.declared.event.Event.{Event}
 use Rattle.ledger_folder.specs.declared.event.Event.TheVariants.{FolderSynced}
@@ -20,16 +19,10 @@ IsWithBatchOrNot ledger batch disk crashed =
     (block_result ledger.newest batch).after micros disk crashed
 
 -- every crash leaves the chain with that block; how long the run took is free
-abbrev pub LastsWithBatch : Ledger → Batch → List Event → List Event → Type 0
-LastsWithBatch ledger batch old new =
-    (micros : ℕ) × Lasts old new (λ _ crashed. IsAfter ledger (block_result ledger.newest batch).block
-    (block_result ledger.newest batch).after micros crashed)
-
--- the same where fields have the widths of their types
 abbrev pub Stands : Ledger → Batch → List Event → List Event → Type 0
 Stands ledger batch old new =
-    HasWidths ledger.newest → HasWidths (block_result ledger.newest batch).after
-    → LastsWithBatch ledger batch old new
+    (micros : ℕ) × Lasts old new (λ _ crashed. IsAfter ledger (block_result ledger.newest batch).block
+    (block_result ledger.newest batch).after micros crashed)
 
 -- The bytes were added to the chain of a folder: the folder was synced before its files were read, they
 -- are that chain, the bytes are a batch for it, and the block that it comes to stands.

@@ -1,7 +1,8 @@
 //! The command `add`: a batch is run over the newest state, and the block is written.
-ghost use Rattle.std.specs.Prelude.{◌≡◌, ◌≤◌, ◌<◌, ◌∷◌, false, true, Ok, IfErr, IfOk, OnErr, OnOk, length, map};
+ghost use Rattle.std.specs.Prelude.{◌≡◌, ◌≤◌, ◌<◌, ◌^◌, ◌∷◌, false, true, Ok, IfErr, IfOk, OnErr, OnOk, length, map};
 ghost use Rattle.std.specs.List.{AllByRecursion};
 ghost use Rattle.spec_base.specs.Bytes.{IsBytes};
+ghost use Rattle.sol_base.specs.Keys.{IsKey};
 ghost use Rattle.sol_base.specs.Limits.{max_senders, max_transactions};
 ghost use Rattle.message_codec.specs.Parsing.{parsed_of};
 ghost use Rattle.account_store.specs.State.{len};
@@ -40,6 +41,7 @@ use std::mem::forget;
 use std::rt::{Clock, Files};
 use std::sync::Wait;
 use std::thread::Threads;
+use width_laws::snapshots_after_blocks_have_widths;
 
 /// What runs a block.
 #[derive(Clone, Copy)]
@@ -163,11 +165,13 @@ fn add_batch<R: Clock + AllocGlobal, F: Folder, T: Threads + Wait + Sync>(
     requires opening { IsOpening (F.events files.old) opening }
     requires every { 1 ≤ opening.ledger.head.every }
     requires readable { IsReadable opening.ledger.newest }
+    requires widths { HasWidths opening.ledger.newest }
     requires few { length batch.now.wires ≤ max_transactions }
     requires bytes { AllByRecursion IsBytes batch.now.wires }
+    requires fits { batch.now.slot < 2 ^ 64 }
+    requires collector { IsKey batch.now.collector }
     // A crash at any moment leaves the chain before the block of the batch or after it.
-    ensures any_moment { finished opening ≡ Ok opening.ledger → HasWidths opening.ledger.newest →
-        HasWidths (block_result opening.ledger.newest batch.now).after →
+    ensures any_moment { finished opening ≡ Ok opening.ledger →
         LeavesOnly (F.events files.old) (F.events files.new)
         (IsWithBatchOrNot opening.ledger batch.now) }
     // Status 0 says that the files are what was written, and that each crash leaves the chain with it.
@@ -194,6 +198,7 @@ fn add_batch<R: Clock + AllocGlobal, F: Folder, T: Threads + Wait + Sync>(
         return noted(alloc, INPUT_REFUSED, "batch", "it leaves too many accounts");
     }
     next_blocks_can_be_run();
+    snapshots_after_blocks_have_widths();
     let began = now(rt);
     let added = add(threads, alloc, files, &mut ledger, &block, after, run);
     let keep = since(rt, &began);
@@ -225,6 +230,7 @@ fn open_synced<F: Folder, T: Threads>(
     ensures opening { IfOk result (IsOpening (F.events files.new)) }
     ensures every { IfOk result (λ opening. 1 ≤ opening.ledger.head.every) }
     ensures readable { IfOk result (λ opening. IsReadable opening.ledger.newest) }
+    ensures widths { IfOk result (λ opening. HasWidths opening.ledger.newest) }
 {
     files.sync_folder()?;
     begin_opening(threads, alloc, files)
@@ -277,6 +283,8 @@ fn refused_batch<T: Threads>(
 fn batch_in(alloc: Global, bytes: &[u8], before: u64) -> Result<Batch, BatchFault>
     ensures few { IfOk result (λ batch. length batch.wires ≤ max_transactions) }
     ensures bytes { IfOk result (λ batch. AllByRecursion IsBytes batch.wires) }
+    ensures fits { IfOk result (λ batch. batch.slot < 2 ^ 64) }
+    ensures collector { IfOk result (λ batch. IsKey batch.collector) }
     ensures same { IfOk result (λ batch. batch_of before bytes.now ≡ Ok batch) }
 {
     let batch = read_batch(alloc, bytes, before)?;

@@ -1,9 +1,10 @@
 //! The command `new`: a chain that begins with a snapshot.
 ghost use Rattle.std.specs.Prelude.{◌≡◌, ◌≤◌, ◌∷◌, IfOk, Ok, OnOk};
-ghost use Rattle.snapshot_codec.specs.Snapshot.{BeginsWith, IsReadable};
+ghost use Rattle.snapshot_codec.specs.Snapshot.{BeginsWith, HasWidths, IsReadable};
 ghost use Rattle.snapshot_codec.specs.SnapshotReading.{prefix_of};
 ghost use Rattle.ledger_folder.specs.declared.event.Event.TheVariants.{FolderSynced};
-ghost use Rattle.ledger_store.specs.Adding.{beginning};
+ghost use Rattle.ledger_store.specs.Adding.{beginning, begun as ledger_begun};
+ghost use Rattle.ledger_store.specs.Reading.{IsOpen};
 ghost use Rattle.ledger_cli.specs.Given.{IfValue, IsReadWhole};
 
 use crate::chain::{locked, refused};
@@ -23,6 +24,7 @@ fn all_of(alloc: Global, bytes: &[u8], prefix: Prefix) -> Result<Given<Snapshot>
     requires exact { prefix_of bytes.now ≡ Ok prefix }
     requires begins { BeginsWith bytes.now prefix }
     ensures readable { IfOk result (IfValue IsReadable) }
+    ensures widths { IfOk result (IfValue HasWidths) }
     ensures whole { IfOk result (IfValue (IsReadWhole bytes.now)) }
 {
     let Prefix { snapshot, length } = prefix;
@@ -37,6 +39,7 @@ fn all_of(alloc: Global, bytes: &[u8], prefix: Prefix) -> Result<Given<Snapshot>
 /// The snapshot that the bytes are, all of them.
 fn whole_snapshot(alloc: Global, bytes: &[u8]) -> Result<Given<Snapshot>, OutOfMemory>
     ensures readable { IfOk result (IfValue IsReadable) }
+    ensures widths { IfOk result (IfValue HasWidths) }
     // It is what all the bytes are read as: nothing is behind it.
     ensures whole { IfOk result (IfValue (IsReadWhole bytes.now)) }
 {
@@ -61,9 +64,11 @@ fn create_synced<F: Folder>(
 ) -> Result<(), LedgerFault>
     requires every { 1 ≤ every }
     requires readable { IsReadable snapshot.now }
+    requires widths { HasWidths snapshot.now }
     // What it does, step by step: the folder is synced first.
     ensures made { OnOk result
         (F.events files.new ≡ beginning snapshot.now every (FolderSynced ∷ F.events files.old)) }
+    ensures opens { OnOk result (IsOpen (F.events files.new) (ledger_begun snapshot.now every)) }
 {
     files.sync_folder()?;
     create(alloc, files, snapshot, every)
@@ -79,9 +84,13 @@ fn begin_in<F: Folder>(
 ) -> Result<Answer, OutOfMemory>
     requires every { 1 ≤ every }
     requires readable { IsReadable snapshot.now }
+    requires widths { HasWidths snapshot.now }
     // Status 0 says that each step was done.
     ensures stands { IfOk result (λ told. told.status ≡ 0 →
         (F.events files.new ≡ beginning snapshot.now every (FolderSynced ∷ F.events files.old))) }
+    // Opening the folder then gives the chain.
+    ensures opens { IfOk result (λ told. told.status ≡ 0 →
+        IsOpen (F.events files.new) (ledger_begun snapshot.now every)) }
 {
     match create_synced(alloc, files, snapshot, every) {
         Ok(()) => written(alloc, b""),
@@ -98,6 +107,7 @@ fn begin<R: Files<File = File> + AllocGlobal + Clone + Drop>(
 ) -> Result<Answer, OutOfMemory>
     requires every { 1 ≤ every }
     requires readable { IsReadable snapshot.now }
+    requires widths { HasWidths snapshot.now }
 {
     let alloc = rt.alloc();
     match make_folder(rt, folder) {

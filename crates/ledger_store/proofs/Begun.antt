@@ -83,7 +83,7 @@ module _ (snapshot : Snapshot) (every : ℕ) (some : 1 ≤ every) (few : every <
       })
 
   pub begun_opens : (old new : List Event) → new ≡ beginning snapshot every old → IsOpen new (begun snapshot every)
-  begun_opens old new made disk shows = opens_on old disk (subst (λ (l : List Event). Shows l disk) made shows)
+  begun_opens old new made = record { opens = λ disk shows. opens_on old disk (subst (λ (l : List Event). Shows l disk) made shows); widths = has }
 
   -- ---- a crash at any moment
   module _ (disk : Disk) where

@@ -6,6 +6,7 @@ use Rattle.std.specs.Arc.{arc_value}
 use Rattle.spec_base.specs.Faults.{Rose}
 use Rattle.spec_base.specs.Reading.{◌>>=◌, Gives}
 use Rattle.snapshot_codec.specs.declared.snapshot.Snapshot.{Snapshot}
+use Rattle.snapshot_codec.specs.Snapshot.{HasWidths}
 use Rattle.spec_base.proofs.Binding.{bind_ok, ok_same}
 use Rattle.ledger_folder.specs.declared.event.Event.{Event}
 use Rattle.ledger_folder.specs.declared.name.Name.{Name}
@@ -308,17 +309,17 @@ refusal_counts files fault old new counts = counts_unless (first_unsealed files)
 
 opening_unless : (first : Option LedgerFault) (old mid new : List Event) (head : Head) (newest : Snapshot)
     → TellsListed old mid (Ok head) heading → ((disk : Disk) → Shows mid disk → Lists disk head.slots)
-    → Tells mid new (told_unless first (Ok newest)) (λ disk. state_after disk head (length head.slots)) → (ledger : Ledger)
+    → Tells mid new (told_unless first (Ok newest)) (λ disk. state_after disk head (length head.slots)) → HasWidths newest → (ledger : Ledger)
     → told_unless first (Ok (record { head = head; newest = newest })) ≡ Ok ledger → IsOpen new ledger
-opening_unless None old mid new head newest told listed second ledger done =
-    let same : (let l : Ledger = record { head = head; newest = newest } in l) ≡ ledger = cc in subst (IsOpen new) same (is_open old mid new head newest told listed second)
-opening_unless (Some fault) old mid new head newest told listed second ledger done = absurd (cc)
+opening_unless None old mid new head newest told listed second has ledger done =
+    let same : (let l : Ledger = record { head = head; newest = newest } in l) ≡ ledger = cc in subst (IsOpen new) same (is_open old mid new head newest told listed second has)
+opening_unless (Some fault) old mid new head newest told listed second has ledger done = absurd (cc)
 
 -- once it is finished it is open
 pub is_opening : (files : List Watched) (old mid new : List Event) (head : Head) (newest : Snapshot) → TellsListed old mid (Ok head) heading → ((disk : Disk) → Shows mid disk → Lists disk head.slots)
-    → Tells mid new (settled files (Ok newest)) (λ disk. state_after disk head (length head.slots)) → (ledger : Ledger)
+    → Tells mid new (settled files (Ok newest)) (λ disk. state_after disk head (length head.slots)) → HasWidths newest → (ledger : Ledger)
     → settled files (Ok (record { head = head; newest = newest })) ≡ Ok ledger → IsOpen new ledger
-is_opening files old mid new head newest told listed second ledger done = opening_unless (first_unsealed files) old mid new head newest told listed second ledger done
+is_opening files old mid new head newest told listed second has ledger done = opening_unless (first_unsealed files) old mid new head newest told listed second has ledger done
 
 pub is_open_finished : (events : List Event) (opening : Opening) (result : Result Ledger LedgerFault) → result ≡ finished opening → IsOpening events opening → IfOk result (IsOpen events)
 is_open_finished events opening (Ok ledger) same opens = opens ledger (sym same)

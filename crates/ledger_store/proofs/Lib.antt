@@ -5,6 +5,7 @@ mod Same
 mod Crashes
 mod Differences
 mod Lists
+mod Widths
 mod Files
 mod Added
 mod Begun

@@ -33,14 +33,14 @@ unchanged ledger block after micros old new is_open same disk shows later since 
         let whole : found ≡ disk = λ i name. each name i in
         record {
           others = λ name apart. each name;
-          chain = inl (subst (λ (d : Disk). Opens d ledger) (sym whole) (is_open disk shows));
+          chain = inl (subst (λ (d : Disk). Opens d ledger) (sym whole) (is_open.opens disk shows));
         }
 
 module _ (ledger : Ledger) (block : BlockValue) (after : Snapshot) (micros : ℕ) (old new : List Event)
     (is_open : IsOpen old ledger) (some : 1 ≤ ledger.head.every) (was : IsReadable ledger.newest)
     (is : IsReadable after)
     (follows : Follows ledger.newest block after) (is_after : is_later ledger.head after.slot ≡ true)
-    (files : NewFiles) (made : files ≡ new_files ledger block after micros) (had : HasWidths ledger.newest)
+    (files : NewFiles) (made : files ≡ new_files ledger block after micros)
     (has : HasWidths after) where
   abbrev Wanted : Type 0
   Wanted = LeavesOnly old new (IsBeforeOrAfter ledger block after micros)
@@ -55,11 +55,11 @@ module _ (ledger : Ledger) (block : BlockValue) (after : Snapshot) (micros : ℕ
   -- where a step failed
   pub stopped : Stopped files → Wanted
   stopped given disk shows later_events since h =
-      let opens = is_open disk shows in
+      let opens = is_open.opens disk shows in
       let apart = later ledger.head after.slot is_after in
       let full = is_next_full ledger in
       let state = sealed (state_body full ledger.newest after) in
-      let then = added ledger block after micros some was is had has follows disk opens apart in
+      let then = added ledger block after micros some was is is_open.widths has follows disk opens apart in
       at_each_moment (Survives shows.start (IsBeforeOrAfter ledger block after micros disk)) old new later_events since
       (⊎_elim (λ first. stopped_first ledger block after micros full state disk opens apart then old shows.start shows.stands new first)
       (λ second. stopped_second ledger block after micros full state disk opens apart then old shows.start shows.stands new second)
@@ -68,20 +68,20 @@ module _ (ledger : Ledger) (block : BlockValue) (after : Snapshot) (micros : ℕ
   -- where all were made
   pub placed : Placed files → Wanted
   placed given disk shows later_events since h =
-      let opens = is_open disk shows in
+      let opens = is_open.opens disk shows in
       let apart = later ledger.head after.slot is_after in
       let full = is_next_full ledger in
       let state = sealed (state_body full ledger.newest after) in
-      let then = added ledger block after micros some was is had has follows disk opens apart in
+      let then = added ledger block after micros some was is is_open.widths has follows disk opens apart in
       at_each_moment (Survives shows.start (IsBeforeOrAfter ledger block after micros disk)) old new later_events since
       (both_placed ledger block after micros full state disk opens apart then old shows.start shows.stands new (subst Placed made given)) h
 
   -- and what was done then lasts
   pub lasts : Placed files → Lasts old new (λ _ crashed. IsAfter ledger block after micros crashed)
   lasts given disk shows crashed leaves =
-      let opens = is_open disk shows in
+      let opens = is_open.opens disk shows in
       let apart = later ledger.head after.slot is_after in
       let full = is_next_full ledger in
       let state = sealed (state_body full ledger.newest after) in
-      let then = added ledger block after micros some was is had has follows disk opens apart in
+      let then = added ledger block after micros some was is is_open.widths has follows disk opens apart in
       both_last ledger block after micros full state disk opens apart then old shows.start shows.stands new (subst Placed made given) crashed leaves

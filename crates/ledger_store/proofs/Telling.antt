@@ -4,6 +4,7 @@ use Rattle.std.proofs.lemmas.List.{drop-take}
 use Rattle.spec_base.specs.Reading.{◌>>=◌, Gives}
 use Rattle.spec_base.proofs.Binding.{bind_ok, ok_same}
 use Rattle.snapshot_codec.specs.declared.snapshot.Snapshot.{Snapshot}
+use Rattle.snapshot_codec.specs.Snapshot.{HasWidths}
 use Rattle.ledger_folder.specs.declared.event.Event.{Event}
 use Rattle.ledger_folder.specs.Files.{Disk, Lists}
 use Rattle.ledger_folder.specs.Crash.{Shows}
@@ -15,7 +16,7 @@ use Rattle.ledger_store.specs.Heads.{head_from, head_in}
 use Rattle.ledger_store.specs.declared.opening.Ledger.{Ledger}
 use Rattle.ledger_store.specs.States.{state_in}
 use Rattle.ledger_store.specs.Opening.{full_before, full_state, head_with, opened, slot_after, slots_behind, state_after, walked}
-use Rattle.ledger_store.specs.Reading.{IsOpen, Tells, TellsListed, heading}
+use Rattle.ledger_store.specs.Reading.{IsOpen, Opens, Tells, TellsListed, heading}
 use Rattle.ledger_folder.specs.declared.event.Event.TheVariants.{Listed}
 use Rattle.ledger_folder.specs.declared.name.Name.TheVariants.{Chain, State}
 use Rattle.ledger_folder.proofs.Slots.{one_listing}
@@ -129,12 +130,15 @@ pub err_so : (head : Head) (fault : LedgerFault) (answer : Result Snapshot Ledge
 err_so head fault answer h = err_then (is_free fault) fault answer (λ newest. Ok (record { head = head; newest = newest })) h
 
 pub is_open : (old mid new : List Event) (head : Head) (newest : Snapshot) → TellsListed old mid (Ok head) heading → ((disk : Disk) → Shows mid disk → Lists disk head.slots)
-    → Tells mid new (Ok newest) (λ disk. state_after disk head (length head.slots)) → IsOpen new (record { head = head; newest = newest })
-is_open old mid new head newest first listed second disk shows =
-    let s = second disk shows in
-    let here = listed disk s.0 in
-    let f = first disk s.0 in
-    record {
-      listed = here;
-      same = opened_with disk head.slots head (f.1 head.slots here) ∙ ok_so head newest (state_after disk head (length head.slots)) s.1;
-    }
+    → Tells mid new (Ok newest) (λ disk. state_after disk head (length head.slots)) → HasWidths newest → IsOpen new (record { head = head; newest = newest })
+is_open old mid new head newest first listed second has = record { opens = opens; widths = has }
+  where
+    opens : (disk : Disk) → Shows new disk → Opens disk (record { head = head; newest = newest })
+    opens disk shows =
+        let s = second disk shows in
+        let here = listed disk s.0 in
+        let f = first disk s.0 in
+        record {
+          listed = here;
+          same = opened_with disk head.slots head (f.1 head.slots here) ∙ ok_so head newest (state_after disk head (length head.slots)) s.1;
+        }

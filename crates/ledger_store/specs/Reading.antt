@@ -1,6 +1,7 @@
 -- What is read from the files of a folder, where it answers honestly.
 use Rattle.std.specs.Prelude.{◌≡◌, ℕ, List, Result, Ok}
 use Rattle.spec_base.specs.Reading.{◌>>=◌, Gives}
+use Rattle.snapshot_codec.specs.Snapshot.{HasWidths}
 use Rattle.ledger_folder.specs.declared.event.Event.{Event}
 use Rattle.ledger_folder.specs.declared.name.Name.TheVariants.{Chain}
 use Rattle.ledger_folder.specs.Files.{Disk, Lists}
@@ -39,6 +40,8 @@ pub record Opens (disk : Disk) (ledger : Ledger) : Type 0 where
   pub listed : Lists disk ledger.head.slots
   pub same : opened disk ledger.head.slots ≡ Ok ledger
 
--- the chain is what opening the folder's files gives
-abbrev pub IsOpen : List Event → Ledger → Type 0
-IsOpen events ledger = (disk : Disk) → Shows events disk → Opens disk ledger
+-- the chain is what opening the folder's files gives, and the parts of its newest state have the
+-- widths of their types
+pub record IsOpen (events : List Event) (ledger : Ledger) : Type 0 where
+  pub opens : (disk : Disk) → Shows events disk → Opens disk ledger
+  pub widths : HasWidths ledger.newest

@@ -151,12 +151,12 @@ pub fn add<T: Threads, F: Folder>(
     requires counted { IsCounted block.now }
     requires follows { Follows ledger.old.newest block.now after }
     // The theorem: a crash at any moment of the call leaves the chain before the block or after it,
-    // and opening gives that. What the types of the fields say of every value is taken as a premise.
-    ensures any_moment { HasWidths ledger.old.newest → HasWidths after →
+    // and opening gives that. What the types of the fields say of the snapshot after it is a premise.
+    ensures any_moment { HasWidths after →
         LeavesOnly (F.events folder.old) (F.events folder.new)
         (IsBeforeOrAfter ledger.old block.now after micros) }
     // Once it has returned, every crash leaves the chain with the block.
-    ensures lasts { HasWidths ledger.old.newest → HasWidths after →
+    ensures lasts { HasWidths after →
         OnOk result (Lasts (F.events folder.old) (F.events folder.new)
         (λ _ crashed. IsAfter ledger.old block.now after micros crashed)) }
     ensures added { OnOk result (ledger.new ≡ with_block ledger.old after) }

@@ -3,7 +3,7 @@ ghost use Rattle.std.specs.Prelude.{◌≡◌, IfOk, OnOk, map, Ok};
 ghost use Rattle.std.specs.Arc.{arc_value};
 ghost use Rattle.std.specs.Option.{ForSome};
 ghost use Rattle.spec_base.specs.Reading.{Gives};
-ghost use Rattle.snapshot_codec.specs.Snapshot.{IsReadable};
+ghost use Rattle.snapshot_codec.specs.Snapshot.{HasWidths, IsReadable};
 ghost use Rattle.ledger_folder.specs.Files.{Disk};
 ghost use Rattle.ledger_folder.specs.Crash.{Shows};
 ghost use Rattle.ledger_folder.specs.declared.name.Name.TheVariants.{Changes as changes_name};
@@ -72,6 +72,7 @@ impl Reading {
         ensures gives { Gives is_ledger_memory (λ changes. changes) result.0
             (whole_changes self.slot before (unsealed (arc_value self.bytes))) }
         ensures readable { IfOk result.0 (λ changes. IsReadable changes.left) }
+        ensures widths { IfOk result.0 (λ changes. HasWidths changes.left) }
         ensures quiet { NeverFails result.0 }
         ensures name { result.1.name ≡ changes_name self.slot }
         ensures bytes { arc_value result.1.bytes ≡ arc_value self.bytes }
@@ -173,10 +174,13 @@ fn next_told(
     before: Snapshot,
 ) -> Result<Snapshot, LedgerFault>
     requires told { IfOk told (λ changes. IsReadable changes.left) }
+    requires told_widths { IfOk told (λ changes. HasWidths changes.left) }
     requires quiet { NeverFails told }
     requires before { IsReadable before }
+    requires widths { HasWidths before }
     ensures gives { Gives is_ledger_memory (λ s. s) result (next_from slot told before) }
     ensures readable { IfOk result IsReadable }
+    ensures widths { IfOk result HasWidths }
     ensures quiet { NeverFails result }
 {
     let changes = told?;
@@ -191,10 +195,12 @@ fn step_by<T: Threads>(
     before: Snapshot,
     files: &mut Items<Watched>,
 ) -> Result<Snapshot, LedgerFault>
-    requires { IsReadable before }
+    requires readable { IsReadable before }
+    requires widths { HasWidths before }
     ensures tells { Gives is_free (λ s. s) (settled files.new result)
         (settled files.old (stepped_by (seen file) before)) }
     ensures readable { IfOk result IsReadable }
+    ensures widths { IfOk result HasWidths }
     ensures quiet { NeverFails result }
 {
     match file {
@@ -220,10 +226,12 @@ pub(crate) fn walk_by<T: Threads>(
     before: Snapshot,
     files: &mut Items<Watched>,
 ) -> Result<Snapshot, LedgerFault>
-    requires { IsReadable before }
+    requires readable { IsReadable before }
+    requires widths { HasWidths before }
     ensures tells { Gives is_free (λ s. s) (settled files.new result)
         (settled files.old (walked_by (map seen ahead) before)) }
     ensures readable { IfOk result IsReadable }
+    ensures widths { IfOk result HasWidths }
     ensures quiet { NeverFails result }
 {
     let mut newest = before;

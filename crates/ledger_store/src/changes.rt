@@ -5,7 +5,7 @@ ghost use Rattle.std.specs.List.{flat_map};
 ghost use Rattle.spec_base.specs.Reading.{Gives};
 ghost use Rattle.sol_base.specs.Keys.{key_bytes};
 ghost use Rattle.format_fields.specs.Output.{Adds};
-ghost use Rattle.snapshot_codec.specs.Snapshot.{IsReadable, IsWritable};
+ghost use Rattle.snapshot_codec.specs.Snapshot.{HasWidths, IsReadable, IsWritable};
 ghost use Rattle.ledger_folder.specs.declared.name.Name.TheVariants.{Changes as changes_name};
 ghost use Rattle.ledger_store.specs.Faults.{LedgerCounts, NeverFails, field_fault, is_field_memory, is_ledger_memory, or_fault};
 ghost use Rattle.ledger_store.specs.Seal.{sealed};
@@ -112,6 +112,7 @@ pub(crate) fn whole_changes(
 ) -> Result<Changes, LedgerFault>
     ensures gives { Gives is_ledger_memory (λ x. x) result (whole_changes slot before body.now) }
     ensures readable { IfOk result (λ changes. IsReadable changes.left) }
+    ensures widths { IfOk result (λ changes. HasWidths changes.left) }
     ensures quiet { NeverFails result }
 {
     let name = Name::Changes { slot };
@@ -134,6 +135,7 @@ pub(crate) fn whole_changes(
 fn changes_from(alloc: Global, slot: u64, before: u64, bytes: &[u8]) -> Result<Changes, LedgerFault>
     ensures gives { Gives is_ledger_memory (λ x. x) result (changes_from slot before bytes.now) }
     ensures readable { IfOk result (λ changes. IsReadable changes.left) }
+    ensures widths { IfOk result (λ changes. HasWidths changes.left) }
     ensures quiet { NeverFails result }
 {
     let body = body_of(Name::Changes { slot }, bytes)?;
@@ -150,6 +152,7 @@ pub(crate) fn changes_at<F: Folder>(
     ensures tells { Tells (F.events folder.old) (F.events folder.new) result
         (λ disk. changes_in slot before (disk (changes_name slot))) }
     ensures readable { IfOk result (λ changes. IsReadable changes.left) }
+    ensures widths { IfOk result (λ changes. HasWidths changes.left) }
     ensures counts { LedgerCounts result (F.faults folder.old) (F.faults folder.new) }
 {
     let bytes = read_file(folder, Name::Changes { slot })?;

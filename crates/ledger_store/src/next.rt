@@ -4,7 +4,7 @@ ghost use Rattle.spec_base.specs.Reading.{Gives};
 ghost use Rattle.account_store.specs.State.{IsState, entries, put, sum};
 ghost use Rattle.sol_base.specs.Accounts.{IsShort};
 ghost use Rattle.std.specs.Arc.{arc_value};
-ghost use Rattle.snapshot_codec.specs.Snapshot.{IsReadable};
+ghost use Rattle.snapshot_codec.specs.Snapshot.{HasWidths, IsReadable};
 ghost use Rattle.ledger_store.specs.Faults.{NeverFails, is_ledger_memory};
 ghost use Rattle.ledger_store.specs.Changes.{next_accounts, next_of, next_recent, puts, with_accounts, without};
 
@@ -139,6 +139,7 @@ pub(crate) fn next_of(
     requires before { IsReadable before }
     ensures gives { Gives is_ledger_memory (λ s. s) result (next_of slot changes.now before) }
     ensures readable { IfOk result IsReadable }
+    ensures widths { HasWidths changes.now.left → HasWidths before → IfOk result HasWidths }
     ensures quiet { NeverFails result }
 {
     let Snapshot {

@@ -1,6 +1,6 @@
 //! Chains that are opened.
 ghost use Rattle.std.specs.Prelude.{◌≡◌, ◌≤◌, ◌<◌, ◌+◌, IfOk, length, slice_index, Ok};
-ghost use Rattle.snapshot_codec.specs.Snapshot.{IsReadable};
+ghost use Rattle.snapshot_codec.specs.Snapshot.{HasWidths, IsReadable};
 ghost use Rattle.ledger_store.specs.Faults.{LedgerCounts};
 ghost use Rattle.ledger_store.specs.Opening.{is_full, next_after, state_after, stepped, walked};
 ghost use Rattle.ledger_store.specs.Reading.{Tells};
@@ -33,6 +33,7 @@ fn step<F: Folder>(
     ensures tells { Tells (F.events folder.old) (F.events folder.new) result
         (λ disk. stepped disk slot before) }
     ensures readable { IfOk result IsReadable }
+    ensures widths { HasWidths before → IfOk result HasWidths }
     ensures counts { LedgerCounts result (F.faults folder.old) (F.faults folder.new) }
 {
     let changes = changes_at(alloc, folder, slot, before.slot)?;
@@ -50,6 +51,7 @@ fn walk<F: Folder>(
     ensures tells { Tells (F.events folder.old) (F.events folder.new) result
         (λ disk. walked disk slots.now before) }
     ensures readable { IfOk result IsReadable }
+    ensures widths { HasWidths before → IfOk result HasWidths }
     ensures counts { LedgerCounts result (F.faults folder.old) (F.faults folder.new) }
 {
     let mut newest = before;
@@ -105,6 +107,7 @@ pub fn read_state<F: Folder>(
     ensures tells { Tells (F.events folder.old) (F.events folder.new) result
         (λ disk. state_after disk head.now count) }
     ensures readable { IfOk result IsReadable }
+    ensures widths { IfOk result HasWidths }
     ensures counts { LedgerCounts result (F.faults folder.old) (F.faults folder.new) }
 {
     let full = head.full_before(count);
@@ -128,6 +131,7 @@ pub fn next_state<F: Folder>(
     ensures tells { Tells (F.events folder.old) (F.events folder.new) result
         (λ disk. next_after disk head.now count before) }
     ensures readable { IfOk result IsReadable }
+    ensures widths { HasWidths before → IfOk result HasWidths }
     ensures counts { LedgerCounts result (F.faults folder.old) (F.faults folder.new) }
 {
     let slot = head.slots.as_slice()[count];

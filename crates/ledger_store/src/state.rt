@@ -1,7 +1,7 @@
 //! Files of full states.
 ghost use Rattle.std.specs.Prelude.{◌≡◌, IfOk};
 ghost use Rattle.spec_base.specs.Reading.{Gives};
-ghost use Rattle.snapshot_codec.specs.Snapshot.{BeginsWith, IsReadable, IsWritable, snapshot_bytes as bytes_of_snapshot};
+ghost use Rattle.snapshot_codec.specs.Snapshot.{BeginsWith, HasWidths, IsReadable, IsWritable, snapshot_bytes as bytes_of_snapshot};
 ghost use Rattle.ledger_folder.specs.declared.name.Name.TheVariants.{State};
 ghost use Rattle.ledger_store.specs.Faults.{LedgerCounts, NeverFails, is_ledger_memory};
 ghost use Rattle.ledger_store.specs.Seal.{sealed};
@@ -38,6 +38,7 @@ pub(crate) fn front_in(alloc: Global, name: Name, body: &[u8]) -> Result<Prefix,
 pub(crate) fn whole_state(alloc: Global, slot: u64, body: &[u8]) -> Result<Snapshot, LedgerFault>
     ensures gives { Gives is_ledger_memory (λ s. s) result (whole_state slot body.now) }
     ensures readable { IfOk result IsReadable }
+    ensures widths { IfOk result HasWidths }
     ensures quiet { NeverFails result }
 {
     let name = Name::State { slot };
@@ -59,6 +60,7 @@ pub(crate) fn whole_state(alloc: Global, slot: u64, body: &[u8]) -> Result<Snaps
 fn state_from(alloc: Global, slot: u64, bytes: &[u8]) -> Result<Snapshot, LedgerFault>
     ensures gives { Gives is_ledger_memory (λ s. s) result (state_from slot bytes.now) }
     ensures readable { IfOk result IsReadable }
+    ensures widths { IfOk result HasWidths }
     ensures quiet { NeverFails result }
 {
     let body = body_of(Name::State { slot }, bytes)?;
@@ -74,6 +76,7 @@ pub(crate) fn state_at<F: Folder>(
     ensures tells { Tells (F.events folder.old) (F.events folder.new) result
         (λ disk. state_in slot (disk (State slot))) }
     ensures readable { IfOk result IsReadable }
+    ensures widths { IfOk result HasWidths }
     ensures counts { LedgerCounts result (F.faults folder.old) (F.faults folder.new) }
 {
     let bytes = read_file(folder, Name::State { slot })?;

@@ -2,7 +2,7 @@
 ghost use Rattle.std.specs.Prelude.{◌≡◌, ◌≤◌, IfOk, OnOk, length};
 ghost use Rattle.std.specs.Arc.{arc_value};
 ghost use Rattle.spec_base.specs.Reading.{Gives};
-ghost use Rattle.snapshot_codec.specs.Snapshot.{IsReadable};
+ghost use Rattle.snapshot_codec.specs.Snapshot.{HasWidths, IsReadable};
 ghost use Rattle.ledger_folder.specs.Files.{Disk};
 ghost use Rattle.ledger_folder.specs.Crash.{Shows};
 ghost use Rattle.ledger_folder.specs.declared.name.Name.TheVariants.{State};
@@ -109,6 +109,7 @@ fn full_told(
     ensures tells { Gives is_free (λ s. s) (settled files.new result)
         (settled files.old (state_from slot (arc_value file.bytes))) }
     ensures readable { IfOk result IsReadable }
+    ensures widths { IfOk result HasWidths }
     ensures quiet { NeverFails result }
 {
     let told = whole_state(alloc, slot, unsealed(file.as_slice()));
@@ -128,6 +129,7 @@ fn told_by<T: Threads>(
     ensures tells { Gives is_free (λ s. s) (settled files.new result)
         (settled files.old (told_by slot (seen_files begun).0 (seen_files begun).1)) }
     ensures readable { IfOk result IsReadable }
+    ensures widths { IfOk result HasWidths }
     ensures quiet { NeverFails result }
 {
     let Begun { full, ahead } = begun;
@@ -150,6 +152,7 @@ fn read_beside<T: Threads, F: Folder>(
     ensures tells { Tells (F.events folder.old) (F.events folder.new) (settled files.new result)
         (λ disk. settled files.old (state_after disk head.now count)) }
     ensures readable { IfOk result IsReadable }
+    ensures widths { IfOk result HasWidths }
     ensures reads { OnOk result (OnlyReads (F.events folder.old) (F.events folder.new)) }
     ensures counts { LedgerCounts result (F.faults folder.old) (F.faults folder.new) }
 {
@@ -172,6 +175,7 @@ pub fn begin_opening<T: Threads, F: Folder>(
     ensures opens { IfOk result (IsOpening (F.events folder.new)) }
     ensures every { IfOk result (λ opening. 1 ≤ opening.ledger.head.every) }
     ensures readable { IfOk result (λ opening. IsReadable opening.ledger.newest) }
+    ensures widths { IfOk result (λ opening. HasWidths opening.ledger.newest) }
     ensures reads { OnOk result (OnlyReads (F.events folder.old) (F.events folder.new)) }
     ensures counts { LedgerCounts result (F.faults folder.old) (F.faults folder.new) }
 {
@@ -213,6 +217,7 @@ pub fn open_ledger<T: Threads, F: Folder>(
     ensures opens { IfOk result (IsOpen (F.events folder.new)) }
     ensures every { IfOk result (λ ledger. 1 ≤ ledger.head.every) }
     ensures readable { IfOk result (λ ledger. IsReadable ledger.newest) }
+    ensures widths { IfOk result (λ ledger. HasWidths ledger.newest) }
     ensures counts { LedgerCounts result (F.faults folder.old) (F.faults folder.new) }
 {
     let opening = begin_opening(threads, alloc, folder)?;

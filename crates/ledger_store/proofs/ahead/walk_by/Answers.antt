@@ -10,7 +10,8 @@ pub loop-file-init : goal.loop-file-init
 loop-file-init g c =
     let all : into_iter_items c.into_iter-file-iterator.result ≡ c.args.ahead = c.into_iter-file-iterator.ensures.into_iter_gives.0 ∙ c.into_vec-file-items.ensures in
     record {
-      readable = c.requires;
+      readable = c.requires.readable;
+      widths = c.requires.widths;
       told = ap (λ (l : List Ahead). settled c.args.files.now (walked_by (map seen l) c.args.before)) (sym all);
     }
 
@@ -21,6 +22,7 @@ loop-file-preserved g c =
     let file = c.in-Some.file in
     record {
       readable = c.in_ok-newest.ensures.readable;
+      widths = c.in_ok-newest.ensures.widths;
       told =
           c.loop-file.invariant.told ∙ ap (λ (l : List Ahead). settled c.loop-file.files (walked_by (map seen l) newest)) c.in-Some.ensures.steps.0
           ∙ more_settled c.loop-file.files c.step_by.new.files c.in_ok-newest.newest (stepped_by (seen file) newest) (walked_by (map seen left)) c.in_ok-newest.ensures.tells;

@@ -1,14 +1,11 @@
-use Rattle.std.proofs.Common.{◌≤◌, List, [], ◌∷◌, All, length, sym, subst, arith, length-take}
-use Rattle.std.proofs.lemmas.List.Elements.{All-cons, All-head, All-take}
+use Rattle.std.proofs.Common.{◌≡◌, ◌≤◌, Bool, List, [], ◌∷◌, All, MatchBool, None, Some, length, sym, subst, arith, length-take}
 use Rattle.sol_base.specs.Limits.{max_transactions}
 use Rattle.status_cache.specs.declared.recent.Mark.{Mark}
 use Rattle.status_cache.specs.Recent.{Ascends, IsRecent, max_marks}
-use Rattle.ledger_store.specs.Changes.{next_recent}
+use Rattle.snapshot_codec.specs.Snapshot.{HasWidths}
+use Rattle.ledger_store.specs.Changes.{next_accounts, next_recent}
+use Rattle.ledger_store.proofs.Widths.{all_next, next_widths}
 use Rattle.ledger_store.proofs.next.next_of.Goals as goal
-
-all_next : (P : Mark → Type 0) (new before : List Mark) → All P new → All P before → All P (next_recent new before)
-all_next P [] before a b = b
-all_next P (mark ∷ marks) before a b = All-take P max_marks (mark ∷ before) (All-cons P mark before (All-head P mark marks a) b)
 
 recent_next : (new before : List Mark) → IsRecent new → IsRecent before → IsRecent (next_recent new before)
 recent_next new before a b = record { few = few new b.few; ascending = all_next (λ (mark : Mark). Ascends mark.messages) new before a.ascending b.ascending }
@@ -27,3 +24,10 @@ returns-clause-readable c = record {
   state = c.len.ensures.state;
   accounts = omega (arith, c.if-len.false, c.len.ensures.len);
 }
+
+pub returns-clause-widths : goal.returns-clause-widths
+returns-clause-widths c left was =
+    let accounts = c.change.new.accounts in
+    let fits : next_accounts c.args.changes.now c.args.before.accounts ≡ Some accounts = subst (λ (b : Bool). MatchBool b (next_accounts c.args.changes.now c.args.before.accounts ≡ Some accounts) (next_accounts c.args.changes.now c.args.before.accounts ≡ None)) c.if-not-fits.false c.in_ok-fits.ensures in
+    subst (λ (marks : List Mark). HasWidths (record { slot = c.args.changes.now.left.slot; limits = c.args.changes.now.left.limits; recent = marks; accounts = accounts })) (sym c.in_ok-advance.ensures)
+    (next_widths c.args.changes.now c.args.before accounts left was fits)

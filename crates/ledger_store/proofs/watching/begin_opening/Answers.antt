@@ -43,7 +43,7 @@ returns-in-Ok-clause-opens g c =
     let files = c.read_beside.new.files in
     let newest = c.in-Ok.newest in
     is_opening files old mid new head newest c.in_ok-head.ensures.tells c.in_ok-head.ensures.lists
-    (tells_alone c.new-files.result files mid new head c.len-count.result (Ok newest) c.new-files.ensures c.len-count.ensures c.in-Ok.ensures.tells)
+    (tells_alone c.new-files.result files mid new head c.len-count.result (Ok newest) c.new-files.ensures c.len-count.ensures c.in-Ok.ensures.tells) c.in-Ok.ensures.widths
 
 pub returns-in-Err-clause-tells : goal.returns-in-Err-clause-tells
 returns-in-Err-clause-tells g c =
