@@ -6,16 +6,7 @@ use ledger_folder::Failure;
 use sol_base::OutOfMemory;
 use std::alloc::Global;
 use std::io::{Error, ErrorKind};
-
-/// What the system says of a failure.
-fn cause_text(alloc: Global, error: &Error) -> Result<String, OutOfMemory> {
-    match error.kind() {
-        ErrorKind::NotFound => Ok(format!(in alloc; "no such file or folder")?),
-        ErrorKind::StorageFull => Ok(format!(in alloc; "no space left")?),
-        ErrorKind::Other | ErrorKind::Uncategorized => Ok(error.to_string(alloc)?),
-        kind => Ok(kind.to_string(alloc)?),
-    }
-}
+use whole_files::cause;
 
 /// The answer where a file fails for a cause.
 pub(crate) fn caused(
@@ -29,7 +20,8 @@ pub(crate) fn caused(
     if error.kind() == ErrorKind::OutOfMemory {
         return Err(OutOfMemory);
     }
-    noted(alloc, status, path, cause_text(alloc, error)?.as_str())
+    let text = cause(alloc, error)?;
+    noted(alloc, status, path, text.as_str())
 }
 
 /// The answer where a folder cannot be made.
@@ -39,7 +31,7 @@ pub(crate) fn unmade(alloc: Global, folder: &str, error: &Error) -> Result<Answe
     if error.kind() == ErrorKind::OutOfMemory {
         return Err(OutOfMemory);
     }
-    let text = cause_text(alloc, error)?;
+    let text = cause(alloc, error)?;
     let text = format!(in alloc; "cannot be made: {text}")?;
     noted(alloc, WRITE_FAILED, folder, text.as_str())
 }
