@@ -26,7 +26,7 @@ name_passes names rest after e next is = rw (next, is) refl
 -- another is refused
 pub name_refused : (names : List (List ℕ)) (rest after : List (String Global × Value))
     (e : String Global × Value) → rest ≡ e ∷ after → has_name names (string_bytes e.0) ≡ false
-    → names_in names (members_view rest) ≡ Err (Refused (Member (string_bytes e.0) ∷ []) Absence)
+    → names_in names (members_view rest) ≡ Err (Refused (Member (string_bytes e.0) ∷ []) (Absence names))
 name_refused names rest after e next is = rw (next, is) refl
 
 -- the fault that is answered for it, or out of memory

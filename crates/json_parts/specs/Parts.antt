@@ -11,7 +11,7 @@ use Rattle.serde_json.specs.Data.{Data, Members, no_members, member, Items, no_i
 use Rattle.serde_json.specs.Find.{get, as_number, as_u64, as_bool, as_str, as_array, as_object}
 use Rattle.json_parts.specs.declared.fault.Step.TheVariants.{Member, Item}
 use Rattle.json_parts.specs.declared.fault.Wanted.{Wanted}
-use Rattle.json_parts.specs.declared.fault.Wanted.TheVariants.{Object, Array, Number, Digits, DigitCount, Bytes, Flag, Presence, Absence}
+use Rattle.json_parts.specs.declared.fault.Wanted.TheVariants.{Object, Array, Number, Digits, DigitCount, Bytes, Flag, Presence, Absence, Instruction}
 use Rattle.json_parts.specs.declared.fault.JsonFault.TheVariants.{Refused}
 use Rattle.json_parts.specs.Faults.{Read, within}
 
@@ -85,16 +85,21 @@ member_in name one d = do
 abbrev pub has_name : List (List ℕ) → List ℕ → Bool
 has_name names name = list_any (λ one. bytes_eq one name) names
 
--- the first member of another name is refused
+-- the first member of another name is refused, and the refusal has the names
 abbrev pub names_in : List (List ℕ) → Members → Read Unit
 names_in names no_members = Ok tt
 names_in names (member name d ms) =
     if has_name names name then names_in names ms
-    else Err (Refused (Member name ∷ []) Absence)
+    else Err (Refused (Member name ∷ []) (Absence names))
 
 -- an object whose members have no other names
 unfoldable pub known_in : List (List ℕ) → Data → Read Unit
 known_in names d = or_refused (as_object d) Object >>= names_in names
+
+-- the text of the member of that name is one of the names of instructions
+unfoldable pub one_of : List ℕ → List (List ℕ) → List ℕ → Read Unit
+one_of program names text =
+    if has_name names text then Ok tt else Err (Refused (Member program ∷ []) (Instruction names))
 
 -- the one member of an object
 unfoldable pub alone_in : {X : Type 0} → List ℕ → (Data → Read X) → Data → Read X

@@ -1,8 +1,9 @@
 //! Why a JSON text stands for no bytes of a format.
-ghost use Rattle.std.specs.Prelude.{◌≡◌, [], ◌∷◌, MatchBool};
+ghost use Rattle.std.specs.Prelude.{◌≡◌, [], ◌∷◌, MatchBool, IfOk, map};
 ghost use Rattle.spec_base.specs.Reading.{Gives};
 ghost use Rattle.json_parts.specs.declared.fault.JsonFault.TheVariants.{Refused, OutOfMemory as no_memory};
 ghost use Rattle.json_parts.specs.declared.fault.Step.TheVariants.{Member, Item};
+ghost use Rattle.json_parts.specs.declared.fault.Wanted.TheVariants.{Absence, Instruction};
 ghost use Rattle.json_parts.specs.Faults.{is_json_memory, deeper, within as within_step};
 
 use block_record::RecordFault;
@@ -20,7 +21,7 @@ pub enum Step {
 }
 
 /// What is wanted at a place of a JSON text.
-#[derive(Clone, Copy)]
+#[derive(Drop)]
 pub enum Wanted {
     Object,
     /// An array of no more items than these.
@@ -47,12 +48,12 @@ pub enum Wanted {
     Ending,
     /// The member itself.
     Presence,
-    /// No member of this name.
-    Absence,
+    /// No member of this name: the object may have these.
+    Absence { known: Items<Blob> },
     /// No more than 38 keys of a transaction's own, and no more than 256 with loaded ones (Solana).
     FewKeys,
-    /// The name of an instruction.
-    Instruction,
+    /// The name of an instruction, which is one of these.
+    Instruction { known: Items<Blob> },
 }
 
 /// Why a JSON text stands for no bytes of a format.
@@ -149,6 +150,39 @@ pub fn refused_member(alloc: Global, name: &str, wanted: Wanted) -> JsonFault
 {
     match Blob::from_slice(alloc, name.as_bytes()) {
         Ok(name) => from_further_out(refused(alloc, wanted), Step::Member { name }),
+        Err(OutOfMemory) => JsonFault::OutOfMemory,
+    }
+}
+
+/// The names, as a refusal has them.
+fn owned(alloc: Global, names: &[&str]) -> Result<Items<Blob>, OutOfMemory>
+    ensures { IfOk result (λ known. known ≡ map (λ n. n.now) names.now) }
+{
+    let mut known = Items::new(alloc);
+    for name in names {
+        known.push(Blob::from_slice(alloc, name.as_bytes())?)?;
+    }
+    Ok(known)
+}
+
+/// The object has a member of that name, which is none of those that it may have.
+pub fn refused_name(alloc: Global, name: &str, known: &[&str]) -> JsonFault
+    ensures { MatchBool (is_json_memory result) (Unit {0})
+        (result ≡ Refused (Member name.now ∷ []) (Absence (map (λ n. n.now) known.now))) }
+{
+    match owned(alloc, known) {
+        Ok(known) => refused_member(alloc, name, Wanted::Absence { known }),
+        Err(OutOfMemory) => JsonFault::OutOfMemory,
+    }
+}
+
+/// The member of that name is none of these instructions.
+pub fn refused_instruction(alloc: Global, name: &str, known: &[&str]) -> JsonFault
+    ensures { MatchBool (is_json_memory result) (Unit {0})
+        (result ≡ Refused (Member name.now ∷ []) (Instruction (map (λ n. n.now) known.now))) }
+{
+    match owned(alloc, known) {
+        Ok(known) => refused_member(alloc, name, Wanted::Instruction { known }),
         Err(OutOfMemory) => JsonFault::OutOfMemory,
     }
 }

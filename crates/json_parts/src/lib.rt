@@ -14,12 +14,15 @@ mod transaction_out;
 mod written;
 
 pub use data::data_member;
-pub use fault::{JsonFault, Step, Wanted, in_item, in_member, refused, refused_member};
+pub use fault::{
+    JsonFault, Step, Wanted, in_item, in_member, refused, refused_instruction, refused_member,
+    refused_name,
+};
 pub use laws::{shown_members_are_passed_over, transactions_come_back};
 pub use list::{InJson, Part, array, list_member, list_value};
 pub use parts::{
     byte_member, digits, digits_member, flag_member, found, is_digits, known, number_member,
-    short_member,
+    one_of, short_member,
 };
 pub use show::Way;
 pub use text::value_of_text;

@@ -5,9 +5,11 @@ ghost use Rattle.std.specs.Char.{is_ascii_hexdigit};
 ghost use Rattle.spec_base.specs.Reading.{Gives};
 ghost use Rattle.serde_json.specs.View.{view, members_view};
 ghost use Rattle.json_parts.specs.Faults.{is_json_memory};
-ghost use Rattle.json_parts.specs.Parts.{number_in, is_digits, digits_wanted, digits_in, flag_in, found_in, member_in, names_in, known_in};
+ghost use Rattle.json_parts.specs.Parts.{number_in, is_digits, digits_wanted, digits_in, flag_in, found_in, member_in, names_in, known_in, one_of};
 
-use crate::fault::{JsonFault, Wanted, in_member, refused, refused_member};
+use crate::fault::{
+    JsonFault, Wanted, in_member, refused, refused_instruction, refused_member, refused_name,
+};
 use hex::FromHex;
 use serde_json::{Map, Value};
 use std::alloc::Global;
@@ -169,7 +171,7 @@ fn check_names(alloc: Global, members: &Map<String, Value>, names: &[&str]) -> R
     let mut rest = members.iter();
     while let Some((name, _value)) = rest.next() {
         if !has(names, name.as_str()) {
-            return Err(refused_member(alloc, name.as_str(), Wanted::Absence));
+            return Err(refused_name(alloc, name.as_str(), names));
         }
     }
     Ok(())
@@ -184,5 +186,18 @@ pub fn known(alloc: Global, value: &Value, names: &[&str]) -> Result<(), JsonFau
     match value.as_object() {
         Some(members) => check_names(alloc, members, names),
         None => Err(refused(alloc, Wanted::Object)),
+    }
+}
+
+/// The text, which the member of that name is, is one of the names of instructions.
+#[tactic(auto, unfolding(crate::specs::Parts::one_of))]
+pub fn one_of(alloc: Global, member: &str, names: &[&str], text: &str) -> Result<(), JsonFault>
+    ensures { Gives is_json_memory (λ x. x) result
+        (one_of member.now (map (λ n. n.now) names.now) text.now) }
+{
+    if has(names, text) {
+        Ok(())
+    } else {
+        Err(refused_instruction(alloc, member, names))
     }
 }

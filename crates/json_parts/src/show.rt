@@ -1,11 +1,32 @@
 //! Refusals of JSON texts as sentences.
 use crate::fault::{JsonFault, Step, Wanted};
 use message_codec::MAX_WIRE_LEN;
+use sol_base::Blob;
 use std::{fmt, str};
+
+/// Names, with commas between them.
+#[derive(Drop)]
+struct Names<'a> {
+    names: &'a [Blob],
+}
+
+impl fmt::Display for Names<'_> {
+    fn fmt<W: fmt::Write>(&self, f: &mut fmt::Formatter<W>) -> fmt::Result {
+        let mut before = "";
+        for name in self.names {
+            match str::from_utf8(name.as_slice()) {
+                Ok(text) => write!(f, "{before}{text}")?,
+                Err(_) => write!(f, "{before}?")?,
+            }
+            before = ", ";
+        }
+        Ok(())
+    }
+}
 
 impl fmt::Display for Wanted {
     fn fmt<W: fmt::Write>(&self, f: &mut fmt::Formatter<W>) -> fmt::Result {
-        match *self {
+        match self {
             Wanted::Object => write!(f, "an object is wanted"),
             Wanted::Array { most } => write!(f, "an array of at most {most} items is wanted"),
             Wanted::Number { least, most } => {
@@ -36,12 +57,22 @@ impl fmt::Display for Wanted {
             ),
             Wanted::Ending => { write!(f, "ok, or an object with failed or dropped, is wanted") }
             Wanted::Presence => write!(f, "this member is wanted"),
-            Wanted::Absence => write!(f, "there is no such member"),
+            Wanted::Absence { known } => {
+                let names = Names {
+                    names: known.as_slice(),
+                };
+                write!(f, "unknown member; known are {names}")
+            }
             Wanted::FewKeys => write!(
                 f,
                 "at most 38 keys, and 256 with those of lookups, are wanted"
             ),
-            Wanted::Instruction => write!(f, "the name of an instruction is wanted"),
+            Wanted::Instruction { known } => {
+                let names = Names {
+                    names: known.as_slice(),
+                };
+                write!(f, "unknown instruction; known are {names}")
+            }
         }
     }
 }

@@ -40,7 +40,7 @@ fn batch_of(alloc: Global, input: &[u8], newest: Option<Hash32>) -> Result<Answe
     };
     match short_batch_of_json(alloc, text, newest) {
         Ok(bytes) => written(alloc, bytes.as_slice()),
-        Err(fault) => refused_text(alloc, Form::Batch, true, input, &fault),
+        Err(fault) => refused_text(alloc, Form::Batch, input, &fault),
     }
 }
 

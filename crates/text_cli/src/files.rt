@@ -16,11 +16,10 @@ pub(crate) fn standard_input<R: Input + AllocGlobal>(rt: &R) -> Result<Given<Blo
 
 /// Why a file was not read, in words.
 pub(crate) fn read_cause(alloc: Global, error: &Error) -> Result<String, OutOfMemory> {
-    match error.kind() {
-        ErrorKind::OutOfMemory => Err(OutOfMemory),
-        ErrorKind::NotFound => Ok(String::from_str(alloc, "no such file")?),
-        _ => Ok(cause(alloc, error)?),
+    if error.kind() == ErrorKind::OutOfMemory {
+        return Err(OutOfMemory);
     }
+    Ok(cause(alloc, error)?)
 }
 
 /// The whole file.

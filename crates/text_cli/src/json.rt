@@ -1,7 +1,6 @@
 //! The commands `json` and `bytes`: bytes as JSON, and back.
 use crate::forms::{FormFault, Missing, bytes_of, missing_text};
 use crate::kinds::other_kind;
-use crate::known::{known_instructions, known_members, member_of};
 use crate::lines::line_of;
 use bank_json::{Layout, json_of_batch, json_of_image, json_of_record, json_of_snapshot};
 use command_parts::{Answer, INPUT_REFUSED, READ_FAILED, noted, written};
@@ -87,36 +86,22 @@ fn told_at(alloc: Global, status: u8, form: Form, note: &str) -> Result<Answer, 
 }
 
 /// What is wanted at the end of a way, without the line.
-fn wanted_text(
-    alloc: Global,
-    form: Form,
-    is_short: bool,
-    path: &[Step],
-    wanted: Wanted,
-) -> Result<String, OutOfMemory> {
+fn wanted_text(alloc: Global, path: &[Step], wanted: &Wanted) -> Result<String, OutOfMemory> {
     let way = Way { steps: path };
     let text = match wanted {
-        Wanted::Absence => match known_members(form, is_short, path.get(1..).unwrap_or(&[])) {
-            Some(known) => format!(in alloc;
-                "{way}: unknown member; known are {known}; it stands"
-            )?,
-            None => format!(in alloc; "{way}: unknown member; it stands")?,
-        },
-        Wanted::Instruction => {
-            let known = known_instructions(member_of(path));
-            format!(in alloc; "{way}: unknown instruction; known are {known}; it stands")?
+        Wanted::Absence { .. } | Wanted::Instruction { .. } => {
+            format!(in alloc; "{way}: {wanted}; it stands")?
         }
-        wanted => format!(in alloc; "{way}: {wanted}")?,
+        _ => format!(in alloc; "{way}: {wanted}")?,
     };
     Ok(text)
 }
 
-/// The answer where a text is refused, one of the short form or not. Where something else is wanted at a
-/// place of it, the way to it stands first, and its line last.
+/// The answer where a text is refused. Where something else is wanted at a place of it, the way to it stands
+/// first, and its line last.
 pub(crate) fn refused_text(
     alloc: Global,
     form: Form,
-    is_short: bool,
     text: &[u8],
     fault: &JsonFault,
 ) -> Result<Answer, OutOfMemory> {
@@ -125,7 +110,7 @@ pub(crate) fn refused_text(
         other => return refused(alloc, form, other),
     };
     let line = line_of(alloc, text, path.as_slice())?;
-    let told = wanted_text(alloc, form, is_short, path.as_slice(), *wanted)?;
+    let told = wanted_text(alloc, path.as_slice(), wanted)?;
     let note = format!(in alloc; "{told} at line {line}")?;
     told_at(alloc, INPUT_REFUSED, form, note.as_str())
 }
@@ -180,7 +165,7 @@ pub(crate) fn told_bytes<R: Files + AllocGlobal>(
     };
     match bytes_of(rt, form, text) {
         Ok(bytes) => written(alloc, bytes.as_slice()),
-        Err(FormFault::Json(fault)) => refused_text(alloc, form, false, input, &fault),
+        Err(FormFault::Json(fault)) => refused_text(alloc, form, input, &fault),
         Err(FormFault::At { path, why }) => missing_data(alloc, form, input, path.as_slice(), &why),
         Err(FormFault::OutOfMemory) => Err(OutOfMemory),
     }

@@ -8,7 +8,6 @@ mod files;
 mod forms;
 mod json;
 mod kinds;
-mod known;
 mod lines;
 mod picture;
 mod places;

@@ -6,7 +6,7 @@ use Rattle.serde_json.specs.Data.{Data}
 use Rattle.sol_base.specs.declared.key.TheConstants.{COMPUTE_BUDGET_PROGRAM}
 use Rattle.tx_build.specs.declared.draft.KeyedInstruction.{KeyedInstruction}
 use Rattle.json_parts.specs.Faults.{Read}
-use Rattle.json_parts.specs.Parts.{number_in, member_in, known_in}
+use Rattle.json_parts.specs.Parts.{number_in, member_in, known_in, one_of}
 use Rattle.text_short.specs.Calls.{call, joined}
 use Rattle.text_short.specs.Members.{text_in, no_such_instruction}
 
@@ -36,8 +36,14 @@ budget_named name d =
     if bytes_eq (codes "SetComputeUnitLimit") name then numbered_in 2 (codes "units") d else
     (if bytes_eq (codes "SetComputeUnitPrice") name then price_in d else size_named name d)
 
+-- no others are read
+unfoldable pub budget_names : List (List ℕ)
+budget_names =
+    codes "SetComputeUnitLimit" ∷ codes "SetComputeUnitPrice" ∷ codes "RequestHeapFrame" ∷ codes "SetLoadedAccountsDataSizeLimit" ∷ []
+
 -- the instruction that the member `budget` names
 unfoldable pub budget_in : Data → Read KeyedInstruction
 budget_in d = do
   name ← member_in (codes "budget") text_in d
+  listed ← one_of (codes "budget") budget_names name
   budget_named name d

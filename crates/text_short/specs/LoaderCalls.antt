@@ -7,7 +7,7 @@ use Rattle.serde_json.specs.Data.{Data}
 use Rattle.sol_base.specs.declared.key.TheConstants.{LOADER_PROGRAM}
 use Rattle.tx_build.specs.declared.draft.KeyedInstruction.{KeyedInstruction}
 use Rattle.json_parts.specs.Faults.{Read}
-use Rattle.json_parts.specs.Parts.{number_in, data_in, member_in, known_in}
+use Rattle.json_parts.specs.Parts.{number_in, data_in, member_in, known_in, one_of}
 use Rattle.text_short.specs.Calls.{call, joined, signs_and_writes, signs, writes}
 use Rattle.text_short.specs.Members.{text_in, key_in, no_such_instruction}
 
@@ -55,8 +55,14 @@ loader_named name d =
     (if bytes_eq (codes "SetAuthority") name then set_authority_in d else
     no_such_instruction (codes "loader"))))
 
+-- no others are read
+unfoldable pub loader_names : List (List ℕ)
+loader_names =
+    codes "Init" ∷ codes "Write" ∷ codes "Finalize" ∷ codes "SetAuthority" ∷ []
+
 -- the instruction that the member `loader` names
 unfoldable pub loader_in : Data → Read KeyedInstruction
 loader_in d = do
   name ← member_in (codes "loader") text_in d
+  listed ← one_of (codes "loader") loader_names name
   loader_named name d

@@ -31,6 +31,6 @@ list_of most one d = do
   items ← array_in most d
   items_in (lone one) 0 items
 
--- the program of that member has no instruction of that name
+-- the program of that member has no instruction of a name that is listed
 abbrev pub no_such_instruction : List ℕ → Read KeyedInstruction
-no_such_instruction program = Err (Refused (Member program ∷ []) Instruction)
+no_such_instruction program = Err (Refused (Member program ∷ []) (Instruction []))

@@ -7,7 +7,7 @@ use Rattle.serde_json.specs.Data.{Data}
 use Rattle.sol_base.specs.declared.key.TheConstants.{SYSTEM_PROGRAM}
 use Rattle.tx_build.specs.declared.draft.KeyedInstruction.{KeyedInstruction}
 use Rattle.json_parts.specs.Faults.{Read}
-use Rattle.json_parts.specs.Parts.{number_in, member_in, known_in}
+use Rattle.json_parts.specs.Parts.{number_in, member_in, known_in, one_of}
 use Rattle.text_short.specs.Calls.{call, joined, signs_and_writes, writes}
 use Rattle.text_short.specs.Members.{text_in, key_in}
 use Rattle.text_short.specs.SeededCalls.{paid_with_seed}
@@ -57,8 +57,14 @@ system_named name d =
     (if bytes_eq (codes "Transfer") name then transfer_in d else
     (if bytes_eq (codes "Allocate") name then allocate_in d else paid_with_seed name d)))
 
+-- no others are read
+unfoldable pub system_names : List (List ℕ)
+system_names =
+    codes "CreateAccount" ∷ codes "Assign" ∷ codes "Transfer" ∷ codes "Allocate" ∷ codes "CreateAccountWithSeed" ∷ codes "TransferWithSeed" ∷ codes "AllocateWithSeed" ∷ codes "AssignWithSeed" ∷ []
+
 -- the instruction that the member `system` names
 unfoldable pub system_in : Data → Read KeyedInstruction
 system_in d = do
   name ← member_in (codes "system") text_in d
+  listed ← one_of (codes "system") system_names name
   system_named name d

@@ -1,16 +1,36 @@
 //! Instructions of the compute budget program by name (Solana).
+ghost use Rattle.std.specs.Prelude.{codes};
 ghost use Rattle.spec_base.specs.Reading.{Gives};
 ghost use Rattle.serde_json.specs.View.{view};
 ghost use Rattle.json_parts.specs.Faults.{is_json_memory};
-ghost use Rattle.text_short.specs.BudgetCalls.{budget_in, budget_named, size_named, numbered_in, price_in};
+ghost use Rattle.json_parts.specs.Parts.{one_of};
+ghost use Rattle.text_short.specs.BudgetCalls.{budget_names, budget_in, budget_named, size_named, numbered_in, price_in};
 
 use crate::call::call;
 use crate::members::{no_such_instruction, text_member};
-use json_parts::{JsonFault, known, number_member};
+use json_parts::{JsonFault, known, number_member, one_of};
 use serde_json::Value;
 use sol_base::COMPUTE_BUDGET_PROGRAM;
 use std::alloc::Global;
 use tx_build::KeyedInstruction;
+
+/// The name is that of one of these instructions.
+#[tactic(auto, unfolding(crate::specs::BudgetCalls::budget_names))]
+fn listed(alloc: Global, name: &str) -> Result<(), JsonFault>
+    ensures { Gives is_json_memory (λ x. x) result (one_of (codes "budget") budget_names name.now) }
+{
+    one_of(
+        alloc,
+        "budget",
+        &[
+            "SetComputeUnitLimit",
+            "SetComputeUnitPrice",
+            "RequestHeapFrame",
+            "SetLoadedAccountsDataSizeLimit",
+        ],
+        name,
+    )
+}
 
 /// The instruction of the compute budget program that the member `budget` names.
 #[tactic(auto, unfolding(crate::specs::BudgetCalls::budget_in))]
@@ -21,6 +41,7 @@ pub(crate) fn budget_instruction(
     ensures { Gives is_json_memory (λ x. x) result (budget_in (view value.now)) }
 {
     let name = text_member(alloc, value, "budget")?;
+    listed(alloc, name)?;
     budget_named(alloc, value, name)
 }
 

@@ -1,18 +1,33 @@
 //! Instructions of the loader program by name (the project's own).
+ghost use Rattle.std.specs.Prelude.{codes};
 ghost use Rattle.spec_base.specs.Reading.{Gives};
 ghost use Rattle.serde_json.specs.View.{view};
 ghost use Rattle.json_parts.specs.Faults.{is_json_memory};
-ghost use Rattle.text_short.specs.LoaderCalls.{loader_in, loader_named, init_in, write_in, finalize_in, set_authority_in};
+ghost use Rattle.json_parts.specs.Parts.{one_of};
+ghost use Rattle.text_short.specs.LoaderCalls.{loader_names, loader_in, loader_named, init_in, write_in, finalize_in, set_authority_in};
 
 use crate::accounts::{signs, signs_and_writes, writes};
 use crate::call::call;
 use crate::members::{key_member, no_such_instruction, text_member};
-use json_parts::{JsonFault, data_member, known, number_member};
+use json_parts::{JsonFault, data_member, known, number_member, one_of};
 use message_codec::MAX_COUNT;
 use serde_json::Value;
 use sol_base::LOADER_PROGRAM;
 use std::alloc::Global;
 use tx_build::KeyedInstruction;
+
+/// The name is that of one of these instructions.
+#[tactic(auto, unfolding(crate::specs::LoaderCalls::loader_names))]
+fn listed(alloc: Global, name: &str) -> Result<(), JsonFault>
+    ensures { Gives is_json_memory (λ x. x) result (one_of (codes "loader") loader_names name.now) }
+{
+    one_of(
+        alloc,
+        "loader",
+        &["Init", "Write", "Finalize", "SetAuthority"],
+        name,
+    )
+}
 
 /// The instruction of the loader that the member `loader` names.
 #[tactic(auto, unfolding(crate::specs::LoaderCalls::loader_in))]
@@ -23,6 +38,7 @@ pub(crate) fn loader_instruction(
     ensures { Gives is_json_memory (λ x. x) result (loader_in (view value.now)) }
 {
     let name = text_member(alloc, value, "loader")?;
+    listed(alloc, name)?;
     loader_named(alloc, value, name)
 }
 

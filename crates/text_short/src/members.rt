@@ -7,7 +7,9 @@ ghost use Rattle.text_short.specs.Members.{text_in, key_in, no_such_instruction}
 
 use crate::list::ReadsItems;
 use crate::names::named_key;
-use json_parts::{JsonFault, Wanted, found, in_member, refused, refused_member};
+use json_parts::{
+    JsonFault, Wanted, found, in_member, refused, refused_instruction, refused_member,
+};
 use serde_json::Value;
 use sol_base::Key;
 use std::alloc::Global;
@@ -72,12 +74,13 @@ pub(crate) fn key_member(alloc: Global, value: &Value, name: &str) -> Result<Key
     in_member(alloc, name, key(alloc, found))
 }
 
-/// The program that the member names has no instruction of that name.
+/// The program that the member names has no instruction of that name. A name that is not listed is
+/// refused before, with those that are.
 pub(crate) fn no_such_instruction(
     alloc: Global,
     program: &str,
 ) -> Result<KeyedInstruction, JsonFault>
     ensures { Gives is_json_memory (λ x. x) result (no_such_instruction program.now) }
 {
-    Err(refused_member(alloc, program, Wanted::Instruction))
+    Err(refused_instruction(alloc, program, &[]))
 }

@@ -1,18 +1,42 @@
 //! Instructions of the system program by name (Solana).
+ghost use Rattle.std.specs.Prelude.{codes};
 ghost use Rattle.spec_base.specs.Reading.{Gives};
 ghost use Rattle.serde_json.specs.View.{view};
 ghost use Rattle.json_parts.specs.Faults.{is_json_memory};
-ghost use Rattle.text_short.specs.SystemCalls.{system_in, system_named, create_account_in, assign_in, transfer_in, allocate_in};
+ghost use Rattle.json_parts.specs.Parts.{one_of};
+ghost use Rattle.text_short.specs.SystemCalls.{system_names, system_in, system_named, create_account_in, assign_in, transfer_in, allocate_in};
 
 use crate::accounts::{signs_and_writes, writes};
 use crate::call::call;
 use crate::members::{key_member, text_member};
 use crate::seeded::paid_with_seed;
-use json_parts::{JsonFault, known, number_member};
+use json_parts::{JsonFault, known, number_member, one_of};
 use serde_json::Value;
 use sol_base::SYSTEM_PROGRAM;
 use std::alloc::Global;
 use tx_build::KeyedInstruction;
+
+/// The name is that of one of these instructions.
+#[tactic(auto, unfolding(crate::specs::SystemCalls::system_names))]
+fn listed(alloc: Global, name: &str) -> Result<(), JsonFault>
+    ensures { Gives is_json_memory (λ x. x) result (one_of (codes "system") system_names name.now) }
+{
+    one_of(
+        alloc,
+        "system",
+        &[
+            "CreateAccount",
+            "Assign",
+            "Transfer",
+            "Allocate",
+            "CreateAccountWithSeed",
+            "TransferWithSeed",
+            "AllocateWithSeed",
+            "AssignWithSeed",
+        ],
+        name,
+    )
+}
 
 /// The instruction of the system program that the member `system` names.
 #[tactic(auto, unfolding(crate::specs::SystemCalls::system_in))]
@@ -23,6 +47,7 @@ pub(crate) fn system_instruction(
     ensures { Gives is_json_memory (λ x. x) result (system_in (view value.now)) }
 {
     let name = text_member(alloc, value, "system")?;
+    listed(alloc, name)?;
     system_named(alloc, value, name)
 }
 

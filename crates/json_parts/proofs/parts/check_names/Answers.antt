@@ -12,9 +12,9 @@ pub returns-then-not-has : goal.returns-then-not-has
 returns-then-not-has c =
     let names : List (List ℕ) = map (λ n. n.now) c.args.names.now in
     let is = ap (λ (n : List ℕ). has_name names n) (sym c.as_str.ensures.value) ∙ has-shown (λ n. n.now) c.args.names.now c.as_str.result.now ∙ sym c.has.ensures ∙ c.if-not-has.true in
-    refused_so c.refused_member.result (Refused (Member c.as_str-then-not-has.result.now ∷ []) Absence) (names_in names (members_view c.args.members.now.entries)) c.refused_member.ensures
+    refused_so c.refused_name.result (Refused (Member c.as_str-then-not-has.result.now ∷ []) (Absence names)) (names_in names (members_view c.args.members.now.entries)) c.refused_name.ensures
     (sym c.loop-name.invariant ∙ name_refused names c.loop-name.rest c.next.new.self (c.in-Some.name.now, c.in-Some._value.now) c.in-Some.ensures.steps is
-    ∙ ap (λ (n : List ℕ). let r : Read Unit = Err (Refused (Member n ∷ []) Absence) in r) (sym c.as_str-then-not-has.ensures.value))
+    ∙ ap (λ (n : List ℕ). let r : Read Unit = Err (Refused (Member n ∷ []) (Absence names)) in r) (sym c.as_str-then-not-has.ensures.value))
 
 pub loop-name-preserved : goal.loop-name-preserved
 loop-name-preserved c =
