@@ -1,0 +1,111 @@
+//! The frames of a transaction that are active while its notes are told.
+
+use crate::listing::Listing;
+use crate::words::Asked;
+use admission::Chosen;
+use invoke_engine::Accounts;
+use message_codec::keys_of;
+use sol_base::{Account, Blob, Items, Key, OutOfMemory, SYSTEM_PROGRAM};
+use std::alloc::Global;
+use std::sync::Arc;
+use trace_run::{Began, Note};
+use tx_report::InstructionError;
+
+/// What is needed to tell the notes of one transaction.
+#[derive(Drop)]
+pub(crate) struct Frames<'a> {
+    pub(crate) alloc: Global,
+    pub(crate) asked: Asked,
+    pub(crate) keys: Items<Key>,
+    /// Its log lines, and how many of them were told.
+    pub(crate) lines: &'a [Blob],
+    pub(crate) told: usize,
+    /// How many instructions of the transaction began.
+    pub(crate) instructions: usize,
+    /// The frames that are active, the outermost first.
+    pub(crate) active: Vec<&'a Began>,
+    pub(crate) listing: Listing,
+}
+
+impl<'a> Frames<'a> {
+    pub(crate) fn new(
+        alloc: Global,
+        asked: Asked,
+        chosen: &Chosen,
+        lines: &'a [Blob],
+    ) -> Result<Frames<'a>, OutOfMemory> {
+        Ok(Frames {
+            alloc,
+            asked,
+            keys: keys_of(alloc, &chosen.tx.message, &chosen.loaded)?,
+            lines,
+            told: 0,
+            instructions: 0,
+            active: Vec::new(alloc),
+            listing: Listing::of(alloc, SYSTEM_PROGRAM, None)?,
+        })
+    }
+
+    /// The key at a place of the transaction.
+    pub(crate) fn key(&self, place: u8) -> Key {
+        match self.keys.as_slice().get(usize::from(place)) {
+            Some(key) => *key,
+            None => SYSTEM_PROGRAM,
+        }
+    }
+
+    /// The innermost frame.
+    pub(crate) fn innermost(&self) -> Option<&'a Began> {
+        match self.active.last() {
+            Some(began) => Some(*began),
+            None => None,
+        }
+    }
+
+    /// Makes the listing that of the program of a frame.
+    pub(crate) fn list(&mut self, began: &Began) -> Result<(), OutOfMemory> {
+        if self.listing.program == began.program {
+            return Ok(());
+        }
+        let account = account_at(began.accounts.as_slice(), began.place);
+        self.listing = Listing::of(self.alloc, began.program, account)?;
+        Ok(())
+    }
+
+    /// The lines up to so many that were not told before.
+    pub(crate) fn lines_up_to(&mut self, count: usize) -> &'a [Blob] {
+        let most = count.min(self.lines.len());
+        let from = self.told.min(most);
+        self.told = most;
+        &self.lines[from..most]
+    }
+}
+
+/// The account at a place.
+pub(crate) fn account_at(accounts: &[Arc<Account>], place: u8) -> Option<&Account> {
+    match accounts.get(usize::from(place)) {
+        Some(account) => Some(account),
+        None => None,
+    }
+}
+
+/// How the frame ends whose machine stopped at this note, which the next one says.
+pub(crate) fn error_behind(notes: &[Note], place: usize) -> Option<&InstructionError> {
+    match notes.get(place.saturating_add(1)) {
+        Some(Note::Ends(finished)) => match &finished.result {
+            Err(error) => Some(error),
+            Ok(_) => None,
+        },
+        _ => None,
+    }
+}
+
+/// The accounts of a frame that ended well.
+pub(crate) fn accounts_after(
+    ended: &Result<Accounts, InstructionError>,
+) -> Option<&[Arc<Account>]> {
+    match ended {
+        Ok(accounts) => Some(accounts.as_slice()),
+        Err(_) => None,
+    }
+}
