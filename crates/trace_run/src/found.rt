@@ -1,5 +1,7 @@
 //! What a frame's region has of an account.
-ghost use Rattle.std.specs.Prelude.{◌≤◌};
+ghost use Rattle.std.specs.Prelude.{◌≡◌, ◌≤◌, slice_get, Some};
+ghost use Rattle.sol_base.specs.declared.lock.Meta.{Meta};
+ghost use Rattle.sol_base.specs.Metas.{is_first_listing};
 
 use crate::notes::Began;
 use data_parts::Parts;
@@ -7,6 +9,9 @@ use invoke_engine::Frame;
 use sol_base::{Account, Key, Meta, OutOfMemory};
 use std::alloc::Global;
 use std::sync::Arc;
+
+/// The bytes of the number of listings, before the first entry.
+const COUNT_LEN: usize = 8;
 
 /// The bytes before the data in the entry of an account.
 const DATA_AT: usize = 88;
@@ -49,16 +54,15 @@ pub(crate) fn entry_len(len: usize) -> usize {
 }
 
 /// Whether no earlier listing means the same account.
-pub fn is_first(metas: &[Meta], place: usize) -> bool {
+pub fn is_first(metas: &[Meta], place: usize) -> bool
+    ensures { (meta : Meta) → slice_get metas.now place ≡ Some meta
+        → result ≡ is_first_listing metas.now (place, meta) }
+{
     let Some(meta) = metas.get(place) else {
         return true;
     };
-    for earlier in metas.iter().take(place) {
-        if earlier.index == meta.index {
-            return false;
-        }
-    }
-    true
+    let earlier = &metas[..place];
+    !earlier.iter().any(|one| one.index == meta.index)
 }
 
 /// How many bytes of the region a listing takes.
@@ -77,7 +81,7 @@ pub(crate) fn listing_len(metas: &[Meta], start: &[Arc<Account>], place: usize) 
 
 /// Where the entry of a listing starts in the region.
 pub(crate) fn entry_start(metas: &[Meta], start: &[Arc<Account>], place: usize) -> usize {
-    let mut at: usize = 8;
+    let mut at: usize = COUNT_LEN;
     for earlier in 0..place.min(metas.len()) {
         at = at.saturating_add(listing_len(metas, start, earlier));
     }
@@ -113,18 +117,12 @@ fn first_differing(region: &Parts, at: usize, data: &[u8]) -> Option<Difference>
     None
 }
 
-/// What the region of a frame has of the account of a listing.
-pub(crate) fn found_in(frame: &Frame, place: usize) -> Option<Found> {
-    let metas = frame.metas.as_slice();
-    let meta = metas.get(place)?;
-    let before = account_of(frame.before.as_slice(), meta)?;
-    let region = frame.machine.memory().input();
-    let entry = entry_start(metas, frame.start.as_slice(), place);
+/// What a region has of the account whose entry starts here, and that had these data.
+fn found_at(region: &Parts, entry: usize, data: &[u8]) -> Option<Found> {
     let lamports = u64::from_le_bytes(bytes_at(region, entry.saturating_add(72))?);
     let owner = Key(bytes_at(region, entry.saturating_add(40))?);
     let len = u64::from_le_bytes(bytes_at(region, entry.saturating_add(80))?);
     let most = usize::try_from(len).unwrap_or(usize::MAX);
-    let data = before.bytes.as_slice();
     let both = &data[..data.len().min(most)];
     Some(Found {
         lamports,
@@ -132,6 +130,16 @@ pub(crate) fn found_in(frame: &Frame, place: usize) -> Option<Found> {
         len,
         differs: first_differing(region, entry.saturating_add(DATA_AT), both),
     })
+}
+
+/// What the region of a frame has of the account of a listing.
+pub(crate) fn found_in(frame: &Frame, place: usize) -> Option<Found> {
+    let metas = frame.metas.as_slice();
+    let meta = metas.get(place)?;
+    let before = account_of(frame.before.as_slice(), meta)?;
+    let region = frame.machine.memory().input();
+    let entry = entry_start(metas, frame.start.as_slice(), place);
+    found_at(region, entry, before.bytes.as_slice())
 }
 
 /// The entry of a listing in the region of a frame: where it starts, how many bytes it takes, and how
@@ -143,21 +151,25 @@ pub struct Listed {
     pub len: usize,
 }
 
+/// How many data bytes the account of a listing has.
+fn data_len(accounts: &[Arc<Account>], meta: &Meta) -> usize {
+    match account_of(accounts, meta) {
+        Some(account) => account.bytes.len(),
+        None => 0,
+    }
+}
+
 /// The entries of a frame's listings.
 pub fn listing_places(alloc: Global, began: &Began) -> Result<Vec<Listed>, OutOfMemory> {
     let metas = began.metas.as_slice();
     let accounts = began.accounts.as_slice();
     let mut places = Vec::new(alloc);
+    let mut start: usize = COUNT_LEN;
     for (place, meta) in metas.iter().enumerate() {
-        let len = match account_of(accounts, meta) {
-            Some(account) => account.bytes.len(),
-            None => 0,
-        };
-        places.push(Listed {
-            start: entry_start(metas, accounts, place),
-            room: listing_len(metas, accounts, place),
-            len,
-        })?;
+        let room = listing_len(metas, accounts, place);
+        let len = data_len(accounts, meta);
+        places.push(Listed { start, room, len })?;
+        start = start.saturating_add(room);
     }
     Ok(places)
 }

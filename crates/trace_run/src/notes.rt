@@ -1,4 +1,7 @@
 //! What is noted of transactions while they run.
+ghost use Rattle.std.specs.Prelude.{◌≡◌, ◌<◌, ◌∷◌, ◌++◌, [], true, IfOk, OnOk};
+ghost use Rattle.trace_run.specs.Noted.{began_of, finished_of, program_in, step_of};
+ghost use Rattle.trace_run.specs.declared.notes.Note.TheVariants.{Begins, Ends, Steps, Transaction};
 
 use crate::found::{Found, found_in};
 use invoke_engine::{Accounts, Carrier, Context, Ending, Frame, Invocation, StoppedAt, Watch};
@@ -80,7 +83,10 @@ pub struct Notes {
 
 impl Notes {
     /// No notes yet, with so many instructions of each transaction to be noted.
-    pub fn new(alloc: Global, steps: u32) -> Notes {
+    pub fn new(alloc: Global, steps: u32) -> Notes
+        ensures none { result.notes ≡ [] }
+        ensures steps { result.steps ≡ steps }
+    {
         Notes {
             alloc,
             notes: Items::new(alloc),
@@ -89,7 +95,10 @@ impl Notes {
         }
     }
 
-    pub fn as_slice(&self) -> &[Note] {
+    /// The notes so far, in their order.
+    pub fn as_slice(&self) -> &[Note]
+        ensures { result.now ≡ self.now.notes }
+    {
         self.notes.as_slice()
     }
 }
@@ -98,15 +107,29 @@ impl Notes {
 fn shared_result(
     alloc: Global,
     ended: &Result<Accounts, InstructionError>,
-) -> Result<Result<Accounts, InstructionError>, OutOfMemory> {
+) -> Result<Result<Accounts, InstructionError>, OutOfMemory>
+    ensures { IfOk result (λ shared. shared ≡ ended.now) }
+{
     match ended {
         Ok(accounts) => Ok(Ok(Accounts::share(alloc, accounts.as_slice())?)),
         Err(error) => Ok(Err(*error)),
     }
 }
 
+/// The program at a place among the transaction's keys.
+fn program_in(keys: &[Key], place: u8) -> Key
+    ensures { result ≡ program_in keys.now place }
+{
+    match keys.get(usize::from(place)) {
+        Some(key) => *key,
+        None => SYSTEM_PROGRAM,
+    }
+}
+
 impl Watch for Notes {
-    fn transaction(&mut self, position: u32) -> Result<(), OutOfMemory> {
+    fn transaction(&mut self, position: u32) -> Result<(), OutOfMemory>
+        ensures { OnOk result (self.new.notes ≡ self.old.notes ++ Transaction position ∷ []) }
+    {
         self.left = self.steps;
         self.notes.push(Note::Transaction(position))
     }
@@ -117,12 +140,12 @@ impl Watch for Notes {
         context: &Context<'_>,
         invocation: &Invocation<'_>,
         carrier: &Carrier,
-    ) -> Result<(), OutOfMemory> {
+    ) -> Result<(), OutOfMemory>
+        ensures { OnOk result (self.new.notes ≡ self.old.notes
+            ++ Begins (began_of height context.now invocation.now carrier.now) ∷ []) }
+    {
         let place = invocation.program;
-        let program = match context.keys.get(usize::from(place)) {
-            Some(key) => *key,
-            None => SYSTEM_PROGRAM,
-        };
+        let program = program_in(context.keys, place);
         let metas = Vec::from_slice(self.alloc, invocation.metas)?;
         let data = Blob::from_slice(self.alloc, invocation.input)?;
         let accounts = Accounts::share(self.alloc, invocation.accounts.as_slice())?;
@@ -139,11 +162,16 @@ impl Watch for Notes {
         }))
     }
 
-    fn sees_steps(&self) -> bool {
+    fn sees_steps(&self) -> bool
+        ensures { result ≡ true → 0 < self.now.left }
+    {
         self.left > 0
     }
 
-    fn steps(&mut self, machine: &Machine) -> Result<(), OutOfMemory> {
+    fn steps(&mut self, machine: &Machine) -> Result<(), OutOfMemory>
+        ensures { OnOk result (self.new.notes
+            ≡ self.old.notes ++ Steps (step_of machine.now) ∷ []) }
+    {
         self.left = self.left.saturating_sub(1);
         self.notes.push(Note::Steps(Step {
             slot: machine.place(),
@@ -167,7 +195,10 @@ impl Watch for Notes {
         }))
     }
 
-    fn ends(&mut self, ending: &Ending, carrier: &Carrier) -> Result<(), OutOfMemory> {
+    fn ends(&mut self, ending: &Ending, carrier: &Carrier) -> Result<(), OutOfMemory>
+        ensures { OnOk result (self.new.notes
+            ≡ self.old.notes ++ Ends (finished_of ending.now carrier.now) ∷ []) }
+    {
         let result = shared_result(self.alloc, &ending.result)?;
         let returned = carrier.env.returned.try_copy()?;
         self.notes.push(Note::Ends(Finished {

@@ -1,11 +1,16 @@
 //! The transactions of a block, one after another, with notes of those that are sought.
-ghost use Rattle.std.specs.Prelude.{◌≤◌, All, length};
+ghost use Rattle.std.specs.Prelude.{◌≡◌, ◌≤◌, IfOk, All, length, option_map};
 ghost use Rattle.sol_base.specs.Limits.{max_transactions};
 ghost use Rattle.snapshot_codec.specs.Snapshot.{IsReadable};
+ghost use Rattle.admission.specs.Answers.{told_by};
+ghost use Rattle.admission.specs.Chosen.{IsChosen};
+ghost use Rattle.trace_run.specs.Sought.{has_first, position_of, signed_by, wanted_in};
+ghost use Rattle.trace_run.specs.Traced.{IsTraced, IsTracedOf};
 
 use crate::notes::Notes;
 use admission::{Candidate, InLine, Refused, line_up};
 use block_run::{Wanted, Watched, watch_order};
+use message_codec::Signature;
 use snapshot_codec::{Batch, Snapshot};
 use sol_base::{Items, OutOfMemory};
 use std::alloc::Global;
@@ -17,8 +22,8 @@ pub enum Sought {
     All,
     /// The one at this place of the batch.
     Place(u32),
-    /// The one whose first signature this is.
-    Signature([u8; 64]),
+    /// The first whose first signature this is.
+    Signature(Signature),
 }
 
 /// What came of it.
@@ -32,34 +37,43 @@ pub enum Traced {
     Absent,
 }
 
-/// The position in the block of the transaction at a place of the batch.
-fn position_of(order: &[Candidate], place: u32) -> Option<u32> {
-    for (position, one) in order.iter().enumerate() {
-        if one.chosen().position == place {
-            return u32::try_from(position).ok();
-        }
+/// Whether the first of the signatures is this one.
+fn has_first(signatures: &[Signature], signature: &Signature) -> bool
+    ensures { result ≡ has_first signature.now signatures.now }
+{
+    match signatures {
+        [] => false,
+        [first, ..] => *first == *signature,
     }
-    None
+}
+
+/// The position in the block of the transaction at a place of the batch.
+fn position_of(order: &[Candidate], place: u32) -> Option<usize>
+    ensures { result ≡ position_of order.now place }
+{
+    order.iter().position(|one| one.chosen().position == place)
 }
 
 /// The position in the block of the transaction with this first signature.
-fn signed_by(order: &[Candidate], signature: &[u8; 64]) -> Option<u32> {
-    for (position, one) in order.iter().enumerate() {
-        if let Some(first) = one.chosen().tx.signatures.as_slice().first() {
-            if first.0 == *signature {
-                return u32::try_from(position).ok();
-            }
-        }
-    }
-    None
+fn signed_by(order: &[Candidate], signature: &Signature) -> Option<usize>
+    ensures { result ≡ signed_by order.now signature.now }
+{
+    order.iter().position(|one| has_first(one.chosen().tx.signatures.as_slice(), signature))
 }
 
 /// Which positions are wanted. None if the transaction that is sought does not run.
-fn wanted_in(order: &[Candidate], sought: Sought) -> Option<Wanted> {
-    match sought {
-        Sought::All => Some(Wanted::All),
-        Sought::Place(place) => Some(Wanted::One(position_of(order, place)?)),
-        Sought::Signature(signature) => Some(Wanted::One(signed_by(order, &signature)?)),
+fn wanted_in(order: &[Candidate], sought: Sought) -> Option<Wanted>
+    requires { length order.now ≤ max_transactions }
+    ensures { result ≡ wanted_in order.now sought }
+{
+    let position = match sought {
+        Sought::All => return Some(Wanted::All),
+        Sought::Place(place) => position_of(order, place),
+        Sought::Signature(signature) => signed_by(order, &signature),
+    };
+    match position {
+        Some(position) => Some(Wanted::One(position as u32)),
+        None => None,
     }
 }
 
@@ -76,8 +90,39 @@ fn refused_at(refused: &[Refused], sought: Sought) -> Option<Refused> {
     None
 }
 
+/// What is said if the transaction that is sought does not run.
+fn absent(refused: &[Refused], sought: Sought) -> Traced {
+    match refused_at(refused, sought) {
+        Some(one) => Traced::Refused(one),
+        None => Traced::Absent,
+    }
+}
+
+/// Runs transactions that are admitted over a snapshot, and notes what those do that are sought.
+fn trace_line<R: Threads + Sync>(
+    rt: &R,
+    alloc: Global,
+    snapshot: Snapshot,
+    slot: u64,
+    line: InLine,
+    sought: Sought,
+    notes: &mut Notes,
+) -> Result<Traced, OutOfMemory>
+    requires readable { IsReadable snapshot }
+    requires few { length line.order ≤ max_transactions }
+    requires chosen { All IsChosen line.order }
+    ensures { IfOk result (IsTracedOf snapshot slot (told_by line) sought) }
+{
+    let InLine { order, refused } = line;
+    let Some(wanted) = wanted_in(order.as_slice(), sought) else {
+        return Ok(absent(refused.as_slice(), sought));
+    };
+    let watched = watch_order(rt, alloc, snapshot, slot, order, wanted, notes)?;
+    Ok(Traced::Ran(watched, refused))
+}
+
 /// Runs a batch over a snapshot, one transaction after another, and notes what those do that are
-/// sought.
+/// sought. What these come to is what the record of the batch's block says.
 pub fn trace_block<R: Threads + Sync>(
     rt: &R,
     alloc: Global,
@@ -88,20 +133,14 @@ pub fn trace_block<R: Threads + Sync>(
 ) -> Result<Traced, OutOfMemory>
     requires readable { IsReadable snapshot }
     requires few { length batch.now.wires ≤ max_transactions }
+    ensures { IfOk result (IsTraced snapshot batch.now sought) }
 {
-    let InLine { order, refused } = line_up(
+    let line = line_up(
         alloc,
         &batch.wires,
         &snapshot.recent,
         &snapshot.accounts,
         &snapshot.limits,
     )?;
-    let Some(wanted) = wanted_in(order.as_slice(), sought) else {
-        return Ok(match refused_at(refused.as_slice(), sought) {
-            Some(one) => Traced::Refused(one),
-            None => Traced::Absent,
-        });
-    };
-    let watched = watch_order(rt, alloc, snapshot, batch.slot, order, wanted, notes)?;
-    Ok(Traced::Ran(watched, refused))
+    trace_line(rt, alloc, snapshot, batch.slot, line, sought, notes)
 }

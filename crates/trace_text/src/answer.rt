@@ -6,15 +6,15 @@ ghost use Rattle.snapshot_codec.specs.Snapshot.{IsReadable};
 use crate::json::json_of;
 use crate::page::Page;
 use crate::telling::{Told, tell};
-use crate::words::{Asked, Words, read_words};
+use crate::words::{Asked, USAGE, VERSION, Words, read_words, refused_words};
 use admission::{Candidate, Refused, refusal_text};
 use block_run::Watched;
 use command_parts::{
-    Answer, DIFFERS, Given, INPUT_LIMIT, INPUT_REFUSED, WORDS_REFUSED, given_of, lent_words, noted,
-    written,
+    Answer, DIFFERS, Given, INPUT_LIMIT, INPUT_REFUSED, given_of, lent_words, noted, written,
 };
+use command_words::printable;
 use snapshot_codec::{Batch, BatchFault, Snapshot, SnapshotFault, read_batch, read_snapshot};
-use sol_base::{Items, OutOfMemory};
+use sol_base::{Blob, Items, OutOfMemory};
 use sol_io::{StdSource, read_all};
 use std::alloc::Global;
 use std::thread::Threads;
@@ -22,9 +22,6 @@ use trace_run::{Note, Notes, Sought, Traced, trace_block};
 
 /// How many instructions of machines are told of a transaction at most.
 const MAX_STEPS: u32 = 100_000;
-
-/// How the command is written.
-const USAGE: &str = "trace [--position P|--signature S] [--steps] [--accounts] [--json]";
 
 /// How many notes the first transaction has: those before the next one begins.
 fn first_count(notes: &[Note]) -> usize
@@ -64,18 +61,32 @@ fn told_of<'a>(
     Ok(all)
 }
 
+/// A line for a transaction that did not run.
+fn tell_refused(page: &mut Page, one: &Refused) -> Result<(), OutOfMemory> {
+    let cause = refusal_text(page.alloc, &one.cause)?;
+    page.text("refused ")?;
+    page.number(u64::from(one.position))?;
+    page.text(": ")?;
+    page.out.append(cause.as_slice())?;
+    page.end()
+}
+
 /// A line for each transaction that did not run.
-fn refused_notes(alloc: Global, refused: &[Refused]) -> Result<Page, OutOfMemory> {
+fn refused_notes(alloc: Global, refused: &[Refused]) -> Result<Blob, OutOfMemory> {
     let mut page = Page::new(alloc);
     for one in refused {
-        page.text("refused ")?;
-        page.number(u64::from(one.position))?;
-        page.text(": ")?;
-        page.out
-            .append(refusal_text(alloc, &one.cause)?.as_slice())?;
-        page.end()?;
+        tell_refused(&mut page, one)?;
     }
-    Ok(page)
+    Ok(page.out)
+}
+
+/// The transactions as text.
+fn text_of(alloc: Global, asked: Asked, all: &[Told<'_>]) -> Result<Blob, OutOfMemory> {
+    let mut page = Page::new(alloc);
+    for one in all {
+        tell(&mut page, asked, one)?;
+    }
+    Ok(page.out)
 }
 
 /// The answer for transactions that ran.
@@ -87,14 +98,11 @@ fn ran(
     notes: &[Note],
 ) -> Result<Answer, OutOfMemory> {
     let told = told_of(alloc, watched, notes)?;
-    let mut page = Page::new(alloc);
-    if asked.json {
-        page.out = json_of(alloc, asked, told.as_slice())?;
+    let output = if asked.json {
+        json_of(alloc, asked, told.as_slice())?
     } else {
-        for one in told.as_slice() {
-            tell(&mut page, asked, one)?;
-        }
-    }
+        text_of(alloc, asked, told.as_slice())?
+    };
     let refused = if asked.sought == Sought::All {
         refused
     } else {
@@ -102,9 +110,17 @@ fn ran(
     };
     Ok(Answer {
         status: 0,
-        output: page.out,
-        notes: refused_notes(alloc, refused)?.out,
+        output,
+        notes: refused_notes(alloc, refused)?,
     })
+}
+
+/// The answer if the one transaction that is sought was refused.
+fn one_refused(alloc: Global, refused: Refused) -> Result<Answer, OutOfMemory> {
+    let mut told = noted(alloc, DIFFERS, "trace", "the transaction did not run")?;
+    let line = refused_notes(alloc, &[refused])?;
+    told.notes.append(line.as_slice())?;
+    Ok(told)
 }
 
 /// The answer to a snapshot and a batch.
@@ -124,12 +140,7 @@ fn traced<R: Threads + Sync>(
         Traced::Ran(watched, refused) => {
             ran(alloc, asked, &watched, refused.as_slice(), notes.as_slice())
         }
-        Traced::Refused(refused) => {
-            let mut told = noted(alloc, DIFFERS, "trace", "the transaction did not run")?;
-            told.notes
-                .append(refused_notes(alloc, &[refused])?.out.as_slice())?;
-            Ok(told)
-        }
+        Traced::Refused(refused) => one_refused(alloc, refused),
         Traced::Absent => noted(
             alloc,
             DIFFERS,
@@ -165,10 +176,17 @@ fn answer_input<R: Threads + Sync>(
     }
 }
 
-/// The answer to arguments that are no command.
-fn wrong(alloc: Global, word: &str, why: &str) -> Result<Answer, OutOfMemory> {
-    let text = format!(in alloc; "`{word}` {why}\nusage: bank {USAGE}")?;
-    noted(alloc, WORDS_REFUSED, "trace", text.as_str())
+/// The answer to the input.
+fn answer_asked<R: Threads + Sync + Input + AllocGlobal>(
+    rt: &R,
+    asked: Asked,
+) -> Result<Answer, OutOfMemory> {
+    let alloc = rt.alloc();
+    let mut source = StdSource::new(rt.reader());
+    match given_of(alloc, read_all(alloc, &mut source, INPUT_LIMIT))? {
+        Given::Value(bytes) => answer_input(rt, alloc, asked, bytes.as_slice()),
+        Given::Nothing(told) => Ok(told),
+    }
 }
 
 /// The answer to arguments, with the input from standard input.
@@ -178,16 +196,14 @@ pub fn answer_of<R: Threads + Sync + Input + AllocGlobal>(
 ) -> Result<Answer, OutOfMemory> {
     let alloc = rt.alloc();
     let words = lent_words(alloc, texts)?;
-    match read_words(words.as_slice()) {
-        Words::Help => written(alloc, format!(in alloc; "{USAGE}\n")?.as_bytes()),
-        Words::Version => written(alloc, b"bank_trace 1\n"),
-        Words::Wrong(word, why) => wrong(alloc, word, why),
-        Words::Trace(asked) => {
-            let mut source = StdSource::new(rt.reader());
-            match given_of(alloc, read_all(alloc, &mut source, INPUT_LIMIT))? {
-                Given::Value(bytes) => answer_input(rt, alloc, asked, bytes.as_slice()),
-                Given::Nothing(told) => Ok(told),
-            }
-        }
-    }
+    let told = match read_words(alloc, words.as_slice()) {
+        Ok(Words::Help) => written(alloc, USAGE.as_bytes())?,
+        Ok(Words::Version) => written(alloc, VERSION.as_bytes())?,
+        Ok(Words::Trace(asked)) => answer_asked(rt, asked)?,
+        Err(fault) => refused_words(alloc, &fault)?,
+    };
+    Ok(Answer {
+        notes: printable(alloc, told.notes.as_slice())?,
+        ..told
+    })
 }

@@ -1,9 +1,24 @@
 //! The arguments of `trace`.
 
-use command_parts::number_in;
+use command_parts::{Answer, path_of};
+use command_words::{
+    Argument, Shape, WordsFault, arguments_in, asks_for_help, fault_text, is_given, number_of,
+    refused, value_of,
+};
 use hex::FromHex;
-use sol_base::MAX_TRANSACTIONS;
+use message_codec::Signature;
+use sol_base::{Blob, MAX_TRANSACTIONS, OutOfMemory};
+use std::alloc::Global;
 use trace_run::Sought;
+
+/// How the command is written.
+pub(crate) const USAGE: &str = "\
+usage: bank trace [--position P|--signature S] [--steps] [--accounts] [--json]
+P is the place of a transaction in the batch; S has 128 hexadecimal digits
+";
+
+/// The name of the program and its version.
+pub(crate) const VERSION: &str = "bank_trace 1\n";
 
 /// What is asked for.
 #[derive(Clone, Copy, PartialEq, Eq)]
@@ -16,83 +31,96 @@ pub(crate) struct Asked {
 
 /// What the arguments are.
 #[derive(Clone, Copy, PartialEq, Eq)]
-pub(crate) enum Words<'a> {
+pub(crate) enum Words {
     Help,
     Version,
     Trace(Asked),
-    /// They are no command: this argument is wrong, for this reason.
-    Wrong(&'a str, &'static str),
 }
 
-/// The place in a batch that an argument is.
-fn place_in(text: &str) -> Option<Sought> {
-    let place = number_in(0, MAX_TRANSACTIONS as u64 - 1, text)?;
-    Some(Sought::Place(place as u32))
+/// What the command takes.
+fn shape() -> Shape<'static> {
+    Shape {
+        flags: &["--steps", "--accounts", "--json"],
+        options: &["--position", "--signature"],
+        values: &[],
+        usage: "trace [--position P|--signature S] [--steps] [--accounts] [--json]",
+    }
 }
 
-/// The signature that an argument is.
-fn signature_in(text: &str) -> Option<Sought> {
+/// The place in a batch that is given. None if there is none.
+fn place_of(alloc: Global, arguments: &[Argument<'_>]) -> Result<Option<u32>, WordsFault> {
+    match number_of(
+        alloc,
+        arguments,
+        "--position",
+        0,
+        MAX_TRANSACTIONS as u64 - 1,
+    )? {
+        Some(place) => Ok(Some(place as u32)),
+        None => Ok(None),
+    }
+}
+
+/// The signature that a text is.
+fn signature_of(alloc: Global, text: &str) -> Result<Sought, WordsFault> {
     match <[u8; 64] as FromHex>::from_hex(text) {
-        Ok(signature) => Some(Sought::Signature(signature)),
-        Err(_) => None,
+        Ok(signature) => Ok(Sought::Signature(Signature(signature))),
+        Err(_) => Err(WordsFault::Form {
+            name: Blob::from_slice(alloc, b"--signature")?,
+            value: Blob::from_slice(alloc, text.as_bytes())?,
+        }),
     }
 }
 
-/// One transaction that is sought, unless one is already.
-fn one_of(before: Sought, sought: Option<Sought>) -> Option<Sought> {
-    if before == Sought::All { sought } else { None }
-}
-
-/// Takes an argument, which is the value of an option if there is one before it. The option whose value
-/// is to follow, or an empty text; None if the argument is wrong.
-fn take_word(asked: &mut Asked, option: &str, word: &str) -> Option<&'static str> {
-    match option {
-        "--position" => asked.sought = one_of(asked.sought, place_in(word))?,
-        "--signature" => asked.sought = one_of(asked.sought, signature_in(word))?,
-        _ => match word {
-            "--steps" => asked.steps = true,
-            "--accounts" => asked.accounts = true,
-            "--json" => asked.json = true,
-            "--position" => return Some("--position"),
-            "--signature" => return Some("--signature"),
-            _ => return None,
-        },
+/// Which transactions are sought.
+fn sought_of(alloc: Global, arguments: &[Argument<'_>]) -> Result<Sought, WordsFault> {
+    match (
+        place_of(alloc, arguments)?,
+        value_of(arguments, "--signature"),
+    ) {
+        (None, None) => Ok(Sought::All),
+        (Some(place), None) => Ok(Sought::Place(place)),
+        (None, Some(text)) => signature_of(alloc, text),
+        (Some(_), Some(_)) => Err(WordsFault::Excluded {
+            name: Blob::from_slice(alloc, b"--signature")?,
+        }),
     }
-    Some("")
 }
 
 /// What the arguments behind `trace` ask for.
-fn asked_in<'a>(words: &[&'a str]) -> Words<'a> {
-    let mut asked = Asked {
-        sought: Sought::All,
-        steps: false,
-        accounts: false,
-        json: false,
-    };
-    let mut option = "";
-    for word in words {
-        option = match take_word(&mut asked, option, word) {
-            Some(option) => option,
-            None => return Words::Wrong(
-                word,
-                "is no argument of trace, or not the value of its option",
-            ),
-        };
-    }
-    if option.is_empty() {
-        Words::Trace(asked)
-    } else {
-        Words::Wrong(option, "is to be followed by its value")
-    }
+fn asked_in(alloc: Global, words: &[&str]) -> Result<Asked, WordsFault> {
+    let shape = shape();
+    let arguments = arguments_in(alloc, &shape, words)?;
+    let arguments = arguments.as_slice();
+    Ok(Asked {
+        sought: sought_of(alloc, arguments)?,
+        steps: is_given(arguments, "--steps"),
+        accounts: is_given(arguments, "--accounts"),
+        json: is_given(arguments, "--json"),
+    })
 }
 
 /// What the arguments are.
-pub(crate) fn read_words<'a>(words: &[&'a str]) -> Words<'a> {
+pub(crate) fn read_words(alloc: Global, words: &[&str]) -> Result<Words, WordsFault> {
     match words {
-        ["--help"] => Words::Help,
-        ["--version"] => Words::Version,
-        ["trace", rest @ ..] => asked_in(rest),
-        [word, ..] => Words::Wrong(word, "is no command here: trace is"),
-        [] => Words::Wrong("", "a command is wanted: trace"),
+        ["--help"] => Ok(Words::Help),
+        ["--version"] => Ok(Words::Version),
+        ["trace", rest @ ..] if asks_for_help(rest) => Ok(Words::Help),
+        ["trace", rest @ ..] => Ok(Words::Trace(asked_in(alloc, rest)?)),
+        _ => Err(WordsFault::Command),
     }
+}
+
+/// The answer to arguments that are no command.
+pub(crate) fn refused_words(alloc: Global, fault: &WordsFault) -> Result<Answer, OutOfMemory> {
+    let text = match fault {
+        WordsFault::OutOfMemory => return Err(OutOfMemory),
+        WordsFault::Command => format!(in alloc; "the command here is trace")?,
+        WordsFault::Form { name: _, value } => {
+            let value = path_of(value);
+            format!(in alloc; "--signature has 128 hexadecimal digits, and is not {value}")?
+        }
+        _ => fault_text(alloc, "trace", &shape(), fault)?,
+    };
+    refused(alloc, "trace", text.as_str(), USAGE)
 }

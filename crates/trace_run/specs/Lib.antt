@@ -1,0 +1,4 @@
+pub use Rattle.block_run.specs.Blocks
+pub mod Sought
+pub mod Traced
+pub mod Noted
