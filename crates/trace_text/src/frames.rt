@@ -42,7 +42,7 @@ impl<'a> Frames<'a> {
             told: 0,
             instructions: 0,
             active: Vec::new(alloc),
-            listing: Listing::of(alloc, SYSTEM_PROGRAM, None)?,
+            listing: Listing::none(alloc, SYSTEM_PROGRAM),
         })
     }
 
@@ -67,8 +67,10 @@ impl<'a> Frames<'a> {
         if self.listing.program == began.program {
             return Ok(());
         }
-        let account = account_at(began.accounts.as_slice(), began.place);
-        self.listing = Listing::of(self.alloc, began.program, account)?;
+        self.listing = match account_at(began.accounts.as_slice(), began.place) {
+            Some(account) => Listing::of(self.alloc, began.program, account)?,
+            None => Listing::none(self.alloc, began.program),
+        };
         Ok(())
     }
 
@@ -76,7 +78,7 @@ impl<'a> Frames<'a> {
     pub(crate) fn lines_up_to(&mut self, count: usize) -> &'a [Blob] {
         let most = count.min(self.lines.len());
         let from = self.told.min(most);
-        self.told = most;
+        self.told = self.told.max(most);
         &self.lines[from..most]
     }
 }

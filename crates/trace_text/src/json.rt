@@ -1,33 +1,21 @@
 //! Notes of transactions as JSON.
 
-use crate::changes::{first_difference, is_same};
-use crate::frames::{Frames, account_at, accounts_after, error_behind};
+use crate::changes::is_same;
+use crate::frames::{Frames, account_at, accounts_after};
 use crate::place::place_of;
-use crate::sentence::sentence_of;
+use crate::sentence::{names_account, sentence_of};
 use crate::telling::Told;
+use crate::values::{
+    account_value, change_value, digits, found_value, registers_value, result_value,
+    returned_value, signature_value, text,
+};
 use crate::words::Asked;
-use serde_json::{Value, json};
-use sol_base::{Account, Blob, Key, Meta, OutOfMemory};
+use serde_json::{Map, Value, json, put};
+use sol_base::{Account, Blob, Meta, OutOfMemory};
 use std::alloc::{AllocError, Global};
-use std::str;
 use std::sync::Arc;
-use trace_run::{Began, Finished, Found, Halted, Note, Step, is_first};
-use tx_report::{InstructionError, cause_text, status_text};
-
-fn text(alloc: Global, bytes: &[u8]) -> Result<Value, AllocError> {
-    match str::from_utf8(bytes) {
-        Ok(text) => Ok(Value::String(String::from_str(alloc, text)?)),
-        Err(_) => Ok(Value::Null),
-    }
-}
-
-fn digits(alloc: Global, bytes: &[u8]) -> Result<Value, AllocError> {
-    Ok(Value::String(hex::encode(alloc, bytes)?))
-}
-
-fn key(alloc: Global, key: &Key) -> Result<Value, AllocError> {
-    digits(alloc, &key.0)
-}
+use trace_run::{Began, Finished, Halted, Note, Step, is_first};
+use tx_report::{InstructionError, status_text};
 
 /// Adds the log lines up to so many.
 fn add_lines(
@@ -35,53 +23,53 @@ fn add_lines(
     frames: &mut Frames<'_>,
     count: usize,
 ) -> Result<(), OutOfMemory> {
+    let alloc = frames.alloc;
     for line in frames.lines_up_to(count) {
-        let line = text(frames.alloc, line.as_slice())?;
-        events.push(json!(in frames.alloc; {"event": "line", "text": line})?)?;
+        let line = text(alloc, line.as_slice())?;
+        events.push(json!(in alloc; {"event": "line", "text": line})?)?;
     }
     Ok(())
 }
 
-fn account(alloc: Global, account: &Account) -> Result<Value, AllocError> {
-    let owner = key(alloc, &account.owner)?;
-    let data = digits(alloc, account.bytes.as_slice())?;
-    json!(in alloc; {
-        "data": data,
-        "executable": account.executable,
-        "lamports": account.lamports,
-        "owner": owner,
-    })
+/// What a listed account has, if that is asked for.
+fn held_value(frames: &Frames<'_>, began: &Began, meta: &Meta) -> Result<Value, AllocError> {
+    if !frames.asked.accounts {
+        return Ok(Value::Null);
+    }
+    match account_at(began.accounts.as_slice(), meta.index) {
+        Some(account) => account_value(frames.alloc, account),
+        None => Ok(Value::Null),
+    }
 }
 
-/// A listed account, with what it has if that is asked for.
-fn meta(frames: &Frames<'_>, began: &Began, meta: &Meta) -> Result<Value, AllocError> {
+/// A listed account.
+fn meta_value(frames: &Frames<'_>, began: &Began, meta: &Meta) -> Result<Value, AllocError> {
     let alloc = frames.alloc;
-    let named = key(alloc, &frames.key(meta.index))?;
-    let has = match account_at(began.accounts.as_slice(), meta.index) {
-        Some(found) if frames.asked.accounts => account(alloc, found)?,
-        _ => Value::Null,
-    };
+    let key = frames.key(meta.index);
+    let named = digits(alloc, &key.0)?;
+    let held = held_value(frames, began, meta)?;
     json!(in alloc; {
-        "account": has,
+        "account": held,
         "key": named,
         "signer": meta.signer,
         "writable": meta.writable,
     })
 }
 
-fn metas(frames: &Frames<'_>, began: &Began) -> Result<Value, AllocError> {
+fn metas_value(frames: &Frames<'_>, began: &Began) -> Result<Value, AllocError> {
     let mut all = Vec::new(frames.alloc);
-    for one in began.metas.as_slice() {
-        all.push(meta(frames, began, one)?)?;
+    for meta in began.metas.as_slice() {
+        all.push(meta_value(frames, began, meta)?)?;
     }
     Ok(Value::Array(all))
 }
 
-fn begin(frames: &Frames<'_>, began: &Began) -> Result<Value, AllocError> {
+/// A frame that begins.
+fn begin_value(frames: &Frames<'_>, began: &Began) -> Result<Value, AllocError> {
     let alloc = frames.alloc;
-    let accounts = metas(frames, began)?;
+    let accounts = metas_value(frames, began)?;
     let data = digits(alloc, began.data.as_slice())?;
-    let program = key(alloc, &began.program)?;
+    let program = digits(alloc, &began.program.0)?;
     json!(in alloc; {
         "accounts": accounts,
         "data": data,
@@ -92,50 +80,58 @@ fn begin(frames: &Frames<'_>, began: &Began) -> Result<Value, AllocError> {
     })
 }
 
-fn registers(alloc: Global, registers: &[u64; 11]) -> Result<Value, AllocError> {
-    let mut all = Vec::new(alloc);
-    for register in registers {
-        all.push(json!(in alloc; *register)?)?;
-    }
-    Ok(Value::Array(all))
-}
-
-/// The line of the instruction in a slot, as its number and its text.
-fn line(frames: &Frames<'_>, slot: u32) -> Result<(Value, Value), AllocError> {
-    match frames.listing.line(slot) {
-        Some(line) => {
-            let words = text(frames.alloc, line.text.as_bytes())?;
-            Ok((json!(in frames.alloc; line.number)?, words))
-        }
-        None => Ok((Value::Null, Value::Null)),
-    }
-}
-
-fn step(frames: &Frames<'_>, step: &Step) -> Result<Value, AllocError> {
+/// Puts the line of the instruction in a slot, as its number and its text.
+fn put_line(
+    members: &mut Map<String, Value>,
+    frames: &Frames<'_>,
+    slot: u32,
+) -> Result<(), AllocError> {
     let alloc = frames.alloc;
-    let (number, words) = line(frames, step.slot)?;
-    let values = registers(alloc, &step.registers)?;
-    json!(in alloc; {
-        "event": "step",
-        "line": number,
-        "registers": values,
-        "slot": step.slot,
-        "text": words,
-        "units": step.units,
-    })
-}
-
-/// The access that was refused.
-fn access(frames: &Frames<'_>, began: &Began, finished: &Finished) -> Result<Value, OutOfMemory> {
-    let alloc = frames.alloc;
-    let refused = match finished.stopped_at {
-        Some(at) => at.access,
-        None => None,
+    let (number, words) = match frames.listing.line(slot) {
+        Some(line) => (Value::from(line.number), text(alloc, line.text.as_bytes())?),
+        None => (Value::Null, Value::Null),
     };
-    let Some(refused) = refused else {
+    put(members, alloc, "line", number)?;
+    put(members, alloc, "slot", Value::from(slot))?;
+    put(members, alloc, "text", words)
+}
+
+/// The members of an event of a machine: what it is, the units that are left, the place of the
+/// instruction and the registers.
+fn machine_members(
+    frames: &Frames<'_>,
+    event: &str,
+    slot: u32,
+    units: u64,
+    registers: &[u64; 11],
+) -> Result<Map<String, Value>, AllocError> {
+    let alloc = frames.alloc;
+    let mut members = Map::new(alloc);
+    let event = text(alloc, event.as_bytes())?;
+    let values = registers_value(alloc, registers)?;
+    put(&mut members, alloc, "event", event)?;
+    put(&mut members, alloc, "registers", values)?;
+    put(&mut members, alloc, "units", Value::from(units))?;
+    put_line(&mut members, frames, slot)?;
+    Ok(members)
+}
+
+/// A machine before its next instruction.
+fn step_value(frames: &Frames<'_>, step: &Step) -> Result<Value, AllocError> {
+    let members = machine_members(frames, "step", step.slot, step.units, &step.registers)?;
+    Ok(Value::Object(members))
+}
+
+/// The access that was refused, if one was.
+fn access_value(frames: &Frames<'_>, finished: &Finished) -> Result<Value, OutOfMemory> {
+    let alloc = frames.alloc;
+    let (Some(began), Some(stopped)) = (frames.innermost(), finished.stopped_at) else {
         return Ok(Value::Null);
     };
-    let place = Value::String(place_of(alloc, began, frames.listing.len, refused.addr)?);
+    let Some(refused) = stopped.access else {
+        return Ok(Value::Null);
+    };
+    let place = place_of(alloc, began, frames.listing.len, refused.addr)?;
     Ok(json!(in alloc; {
         "address": refused.addr,
         "length": refused.len,
@@ -144,164 +140,89 @@ fn access(frames: &Frames<'_>, began: &Began, finished: &Finished) -> Result<Val
     })?)
 }
 
-fn difference(alloc: Global, at: Option<(usize, u8, u8)>) -> Result<Value, AllocError> {
-    match at {
-        Some((at, was, is)) => json!(in alloc; {"at": at as u64, "is": is, "was": was}),
-        None => Ok(Value::Null),
-    }
-}
-
-/// What the region has of the account that the error names.
-fn found(alloc: Global, found: &Option<Found>) -> Result<Value, AllocError> {
-    let Some(found) = found else {
-        return Ok(Value::Null);
-    };
-    let owner = key(alloc, &found.owner)?;
-    let differs = match found.differs {
-        Some(differs) => difference(alloc, Some((differs.at, differs.was, differs.is)))?,
-        None => Value::Null,
-    };
-    json!(in alloc; {
-        "byte": differs,
-        "lamports": found.lamports,
-        "length": found.len,
-        "owner": owner,
-    })
-}
-
-fn stop(
+/// A machine that stopped where its frame fails.
+fn stop_value(
     frames: &Frames<'_>,
     halted: &Halted,
     finished: &Finished,
     error: &InstructionError,
 ) -> Result<Value, OutOfMemory> {
     let alloc = frames.alloc;
-    let (number, words) = line(frames, halted.slot)?;
-    let values = registers(alloc, &halted.registers)?;
-    let refused = match frames.innermost() {
-        Some(began) => access(frames, began, finished)?,
-        None => Value::Null,
-    };
-    let account = found(alloc, &halted.found)?;
-    let why = text(alloc, sentence_of(error.cause).as_bytes())?;
-    Ok(json!(in alloc; {
-        "access": refused,
-        "account": account,
-        "detail": error.detail,
-        "event": "stop",
-        "line": number,
-        "registers": values,
-        "slot": halted.slot,
-        "text": words,
-        "units": halted.units,
-        "why": why,
-    })?)
-}
-
-fn change(
-    frames: &Frames<'_>,
-    meta: &Meta,
-    was: &Account,
-    is: &Account,
-) -> Result<Value, AllocError> {
-    let alloc = frames.alloc;
-    let named = key(alloc, &frames.key(meta.index))?;
-    let byte = difference(
-        alloc,
-        first_difference(was.bytes.as_slice(), is.bytes.as_slice()),
+    let mut members = machine_members(
+        frames,
+        "stop",
+        halted.slot,
+        halted.units,
+        &halted.registers,
     )?;
-    let (old, new) = (key(alloc, &was.owner)?, key(alloc, &is.owner)?);
-    json!(in alloc; {
-        "byte": byte,
-        "key": named,
-        "lamports": [was.lamports, is.lamports],
-        "length": [was.bytes.len() as u64, is.bytes.len() as u64],
-        "owner": [old, new],
-    })
+    let access = access_value(frames, finished)?;
+    let account = match &halted.found {
+        Some(found) if names_account(error.cause) => found_value(alloc, found)?,
+        _ => Value::Null,
+    };
+    let why = text(alloc, sentence_of(error.cause).as_bytes())?;
+    put(&mut members, alloc, "access", access)?;
+    put(&mut members, alloc, "account", account)?;
+    put(&mut members, alloc, "detail", Value::from(error.detail))?;
+    put(&mut members, alloc, "why", why)?;
+    Ok(Value::Object(members))
 }
 
-fn changes(
+/// What a frame changed of the account of a listing, if it did.
+fn changed_at(
+    frames: &Frames<'_>,
+    began: &Began,
+    after: &[Arc<Account>],
+    place: usize,
+    meta: &Meta,
+) -> Result<Option<Value>, AllocError> {
+    let was = account_at(began.accounts.as_slice(), meta.index);
+    let is = account_at(after, meta.index);
+    if let (Some(was), Some(is)) = (was, is) {
+        if is_first(began.metas.as_slice(), place) && !is_same(was, is) {
+            let key = frames.key(meta.index);
+            return Ok(Some(change_value(frames.alloc, &key, was, is)?));
+        }
+    }
+    Ok(None)
+}
+
+/// What a frame changed that ended well.
+fn changes_value(
     frames: &Frames<'_>,
     began: &Began,
     after: &[Arc<Account>],
 ) -> Result<Value, AllocError> {
-    let metas = began.metas.as_slice();
     let mut all = Vec::new(frames.alloc);
-    for (place, meta) in metas.iter().enumerate() {
-        let was = account_at(began.accounts.as_slice(), meta.index);
-        let is = account_at(after, meta.index);
-        if let (Some(was), Some(is)) = (was, is) {
-            if is_first(metas, place) && !is_same(was, is) {
-                all.push(change(frames, meta, was, is)?)?;
-            }
+    for (place, meta) in began.metas.as_slice().iter().enumerate() {
+        if let Some(change) = changed_at(frames, began, after, place, meta)? {
+            all.push(change)?;
         }
     }
     Ok(Value::Array(all))
 }
 
-fn end(frames: &Frames<'_>, began: &Began, finished: &Finished) -> Result<Value, OutOfMemory> {
+/// A frame that ended.
+fn end_value(
+    frames: &Frames<'_>,
+    began: &Began,
+    finished: &Finished,
+) -> Result<Value, OutOfMemory> {
     let alloc = frames.alloc;
-    let changed = match accounts_after(&finished.result) {
-        Some(after) => changes(frames, began, after)?,
+    let changes = match accounts_after(&finished.result) {
+        Some(after) => changes_value(frames, began, after)?,
         None => Value::Array(Vec::new(alloc)),
     };
-    let status = match &finished.result {
-        Ok(_) => text(alloc, b"Ok")?,
-        Err(error) => text(
-            alloc,
-            cause_text(alloc, error.cause, error.detail)?.as_slice(),
-        )?,
-    };
-    let returned = if finished.returned_by == began.program {
-        digits(alloc, finished.returned.as_slice())?
-    } else {
-        digits(alloc, b"")?
-    };
+    let status = result_value(alloc, &finished.result)?;
+    let returned = returned_value(alloc, began, finished)?;
     Ok(json!(in alloc; {
-        "changes": changed,
+        "changes": changes,
         "event": "end",
         "height": began.height,
         "returned": returned,
         "status": status,
         "units": finished.units,
     })?)
-}
-
-/// Adds what the note at a place says.
-fn add_note<'a>(
-    events: &mut Vec<Value>,
-    frames: &mut Frames<'a>,
-    notes: &'a [Note],
-    place: usize,
-) -> Result<(), OutOfMemory> {
-    match notes.get(place) {
-        Some(Note::Begins(began)) => {
-            add_lines(events, frames, began.lines)?;
-            frames.active.push(began)?;
-            events.push(begin(frames, began)?)?;
-        }
-        Some(Note::Steps(one)) => {
-            list_innermost(frames)?;
-            events.push(step(frames, one)?)?;
-        }
-        Some(Note::Stops(halted)) => {
-            list_innermost(frames)?;
-            if let (Some(error), Some(Note::Ends(finished))) = (
-                error_behind(notes, place),
-                notes.get(place.saturating_add(1)),
-            ) {
-                events.push(stop(frames, halted, finished, error)?)?;
-            }
-        }
-        Some(Note::Ends(finished)) => {
-            add_lines(events, frames, finished.lines)?;
-            if let Some(began) = frames.active.pop() {
-                events.push(end(frames, began, finished)?)?;
-            }
-        }
-        _ => {}
-    }
-    Ok(())
 }
 
 /// Makes the listing that of the innermost frame's program.
@@ -312,25 +233,93 @@ fn list_innermost(frames: &mut Frames<'_>) -> Result<(), OutOfMemory> {
     }
 }
 
-/// A transaction as JSON.
-fn transaction(alloc: Global, asked: Asked, told: &Told<'_>) -> Result<Value, OutOfMemory> {
+fn add_begin<'a>(
+    events: &mut Vec<Value>,
+    frames: &mut Frames<'a>,
+    began: &'a Began,
+) -> Result<(), OutOfMemory> {
+    add_lines(events, frames, began.lines)?;
+    frames.active.push(began)?;
+    Ok(events.push(begin_value(frames, began)?)?)
+}
+
+fn add_step(
+    events: &mut Vec<Value>,
+    frames: &mut Frames<'_>,
+    step: &Step,
+) -> Result<(), OutOfMemory> {
+    list_innermost(frames)?;
+    Ok(events.push(step_value(frames, step)?)?)
+}
+
+/// Adds where a machine stopped if its frame fails, which the next note says.
+fn add_stop(
+    events: &mut Vec<Value>,
+    frames: &mut Frames<'_>,
+    halted: &Halted,
+    next: Option<&Note>,
+) -> Result<(), OutOfMemory> {
+    if let Some(Note::Ends(finished)) = next {
+        if let Err(error) = &finished.result {
+            list_innermost(frames)?;
+            events.push(stop_value(frames, halted, finished, error)?)?;
+        }
+    }
+    Ok(())
+}
+
+fn add_end(
+    events: &mut Vec<Value>,
+    frames: &mut Frames<'_>,
+    finished: &Finished,
+) -> Result<(), OutOfMemory> {
+    add_lines(events, frames, finished.lines)?;
+    if let Some(began) = frames.active.pop() {
+        events.push(end_value(frames, began, finished)?)?;
+    }
+    Ok(())
+}
+
+/// Adds what a note says, which another one may follow.
+fn add_note<'a>(
+    events: &mut Vec<Value>,
+    frames: &mut Frames<'a>,
+    note: &'a Note,
+    next: Option<&Note>,
+) -> Result<(), OutOfMemory> {
+    match note {
+        Note::Transaction(_) => Ok(()),
+        Note::Begins(began) => add_begin(events, frames, began),
+        Note::Steps(step) => add_step(events, frames, step),
+        Note::Stops(halted) => add_stop(events, frames, halted, next),
+        Note::Ends(finished) => add_end(events, frames, finished),
+    }
+}
+
+/// What a transaction did, one event after the other.
+fn events_value(alloc: Global, asked: Asked, told: &Told<'_>) -> Result<Value, OutOfMemory> {
     let lines: &[Blob] = told.outcome.lines.as_slice();
     let mut frames = Frames::new(alloc, asked, told.chosen, lines)?;
     let mut events = Vec::new(alloc);
-    for place in 0..told.notes.len() {
-        add_note(&mut events, &mut frames, told.notes, place)?;
+    for (place, note) in told.notes.iter().enumerate() {
+        let next = told.notes.get(place.saturating_add(1));
+        add_note(&mut events, &mut frames, note, next)?;
     }
     add_lines(&mut events, &mut frames, lines.len())?;
-    let events = Value::Array(events);
-    let signature = match told.chosen.tx.signatures.as_slice().first() {
-        Some(signature) => digits(alloc, &signature.0)?,
-        None => Value::Null,
-    };
-    let status = text(alloc, status_text(alloc, &told.outcome.status)?.as_slice())?;
+    Ok(Value::Array(events))
+}
+
+/// A transaction as JSON.
+fn transaction_value(alloc: Global, asked: Asked, told: &Told<'_>) -> Result<Value, OutOfMemory> {
+    let events = events_value(alloc, asked, told)?;
+    let signature = signature_value(alloc, told.chosen)?;
+    let status = status_text(alloc, &told.outcome.status)?;
+    let status = text(alloc, status.as_slice())?;
     Ok(json!(in alloc; {
         "base_paid": told.outcome.base_paid,
         "entry": told.position,
         "events": events,
+        "limit": told.chosen.budget.limit,
         "position": told.chosen.position,
         "priority_paid": told.outcome.priority_paid,
         "signature": signature,
@@ -343,7 +332,7 @@ fn transaction(alloc: Global, asked: Asked, told: &Told<'_>) -> Result<Value, Ou
 pub(crate) fn json_of(alloc: Global, asked: Asked, all: &[Told<'_>]) -> Result<Blob, OutOfMemory> {
     let mut values = Vec::new(alloc);
     for told in all {
-        values.push(transaction(alloc, asked, told)?)?;
+        values.push(transaction_value(alloc, asked, told)?)?;
     }
     let text = Value::Array(values).to_string(alloc)?;
     let mut out = Blob::from_slice(alloc, text.as_bytes())?;

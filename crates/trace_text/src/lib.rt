@@ -10,6 +10,7 @@ mod page;
 mod place;
 mod sentence;
 mod telling;
+mod values;
 mod words;
 
 pub use answer::answer_of;
