@@ -6,16 +6,17 @@ use crate::place::place_of;
 use crate::sentence::{names_account, sentence_of};
 use crate::telling::Told;
 use crate::values::{
-    account_value, change_value, digits, found_value, registers_value, result_value,
-    returned_value, signature_value, text,
+    account_value, change_value, found_value, registers_value, result_value, text_value,
+    transaction_value,
 };
 use crate::words::Asked;
+use json_parts::hex_value;
 use serde_json::{Map, Value, json, put};
 use sol_base::{Account, Blob, Meta, OutOfMemory};
 use std::alloc::{AllocError, Global};
 use std::sync::Arc;
 use trace_run::{Began, Finished, Halted, Note, Step, is_first};
-use tx_report::{InstructionError, status_text};
+use tx_report::InstructionError;
 
 /// Adds the log lines up to so many.
 fn add_lines(
@@ -25,7 +26,7 @@ fn add_lines(
 ) -> Result<(), OutOfMemory> {
     let alloc = frames.alloc;
     for line in frames.lines_up_to(count) {
-        let line = text(alloc, line.as_slice())?;
+        let line = text_value(alloc, line.as_slice())?;
         events.push(json!(in alloc; {"event": "line", "text": line})?)?;
     }
     Ok(())
@@ -46,7 +47,7 @@ fn held_value(frames: &Frames<'_>, began: &Began, meta: &Meta) -> Result<Value, 
 fn meta_value(frames: &Frames<'_>, began: &Began, meta: &Meta) -> Result<Value, AllocError> {
     let alloc = frames.alloc;
     let key = frames.key(meta.index);
-    let named = digits(alloc, &key.0)?;
+    let named = hex_value(alloc, &key.0)?;
     let held = held_value(frames, began, meta)?;
     json!(in alloc; {
         "account": held,
@@ -68,8 +69,8 @@ fn metas_value(frames: &Frames<'_>, began: &Began) -> Result<Value, AllocError> 
 fn begin_value(frames: &Frames<'_>, began: &Began) -> Result<Value, AllocError> {
     let alloc = frames.alloc;
     let accounts = metas_value(frames, began)?;
-    let data = digits(alloc, began.data.as_slice())?;
-    let program = digits(alloc, &began.program.0)?;
+    let data = hex_value(alloc, began.data.as_slice())?;
+    let program = hex_value(alloc, &began.program.0)?;
     json!(in alloc; {
         "accounts": accounts,
         "data": data,
@@ -88,7 +89,10 @@ fn put_line(
 ) -> Result<(), AllocError> {
     let alloc = frames.alloc;
     let (number, words) = match frames.listing.line(slot) {
-        Some(line) => (Value::from(line.number), text(alloc, line.text.as_bytes())?),
+        Some(line) => (
+            Value::from(line.number),
+            text_value(alloc, line.text.as_bytes())?,
+        ),
         None => (Value::Null, Value::Null),
     };
     put(members, alloc, "line", number)?;
@@ -107,7 +111,7 @@ fn machine_members(
 ) -> Result<Map<String, Value>, AllocError> {
     let alloc = frames.alloc;
     let mut members = Map::new(alloc);
-    let event = text(alloc, event.as_bytes())?;
+    let event = text_value(alloc, event.as_bytes())?;
     let values = registers_value(alloc, registers)?;
     put(&mut members, alloc, "event", event)?;
     put(&mut members, alloc, "registers", values)?;
@@ -160,7 +164,7 @@ fn stop_value(
         Some(found) if names_account(error.cause) => found_value(alloc, found)?,
         _ => Value::Null,
     };
-    let why = text(alloc, sentence_of(error.cause).as_bytes())?;
+    let why = text_value(alloc, sentence_of(error.cause).as_bytes())?;
     put(&mut members, alloc, "access", access)?;
     put(&mut members, alloc, "account", account)?;
     put(&mut members, alloc, "detail", Value::from(error.detail))?;
@@ -200,6 +204,15 @@ fn changes_value(
         }
     }
     Ok(Value::Array(all))
+}
+
+/// The bytes that a frame returned.
+fn returned_value(alloc: Global, began: &Began, finished: &Finished) -> Result<Value, AllocError> {
+    if finished.returned_by == began.program {
+        hex_value(alloc, finished.returned.as_slice())
+    } else {
+        hex_value(alloc, &[])
+    }
 }
 
 /// A frame that ended.
@@ -309,33 +322,27 @@ fn events_value(alloc: Global, asked: Asked, told: &Told<'_>) -> Result<Value, O
     Ok(Value::Array(events))
 }
 
-/// A transaction as JSON.
-fn transaction_value(alloc: Global, asked: Asked, told: &Told<'_>) -> Result<Value, OutOfMemory> {
+/// Appends a transaction.
+fn append_transaction(
+    alloc: Global,
+    asked: Asked,
+    told: &Told<'_>,
+    out: &mut Blob,
+) -> Result<(), OutOfMemory> {
     let events = events_value(alloc, asked, told)?;
-    let signature = signature_value(alloc, told.chosen)?;
-    let status = status_text(alloc, &told.outcome.status)?;
-    let status = text(alloc, status.as_slice())?;
-    Ok(json!(in alloc; {
-        "base_paid": told.outcome.base_paid,
-        "entry": told.position,
-        "events": events,
-        "limit": told.chosen.budget.limit,
-        "position": told.chosen.position,
-        "priority_paid": told.outcome.priority_paid,
-        "signature": signature,
-        "status": status,
-        "units": told.outcome.units,
-    })?)
+    let value = transaction_value(alloc, told.position, told.chosen, told.outcome, events)?;
+    out.append(value.to_string(alloc)?.as_bytes())
 }
 
 /// The transactions as one JSON list, on one line.
 pub(crate) fn json_of(alloc: Global, asked: Asked, all: &[Told<'_>]) -> Result<Blob, OutOfMemory> {
-    let mut values = Vec::new(alloc);
-    for told in all {
-        values.push(transaction_value(alloc, asked, told)?)?;
+    let mut out = Blob::from_slice(alloc, b"[")?;
+    for (place, told) in all.iter().enumerate() {
+        if place > 0 {
+            out.append(b",")?;
+        }
+        append_transaction(alloc, asked, told, &mut out)?;
     }
-    let text = Value::Array(values).to_string(alloc)?;
-    let mut out = Blob::from_slice(alloc, text.as_bytes())?;
-    out.append(b"\n")?;
+    out.append(b"]\n")?;
     Ok(out)
 }

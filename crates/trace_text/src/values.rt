@@ -1,43 +1,68 @@
 //! Parts of notes as JSON.
+ghost use Rattle.std.specs.Prelude.{◌≡◌, IfOk};
+ghost use Rattle.serde_json.specs.View.{view};
+ghost use Rattle.json_parts.specs.Written.{number_json, list_json};
+ghost use Rattle.trace_text.specs.TracedJson.{text_json, account_json, difference_json, found_json, result_json, signature_json, transaction_json};
 
 use crate::changes::first_difference;
 use admission::Chosen;
 use invoke_engine::Accounts;
+use json_parts::{InJson, hex_value, list_value};
+use message_codec::Signature;
 use serde_json::{Value, json};
-use sol_base::{Account, Key, OutOfMemory};
+use sol_base::{Account, Blob, Key, OutOfMemory};
 use std::alloc::{AllocError, Global};
-use std::str;
-use trace_run::{Began, Difference, Finished, Found};
-use tx_report::{InstructionError, cause_text};
+use trace_run::{Difference, Found};
+use tx_report::{InstructionError, Outcome, cause_text, status_text};
 
 /// Bytes as the text that they are.
-pub(crate) fn text(alloc: Global, bytes: &[u8]) -> Result<Value, AllocError> {
-    match str::from_utf8(bytes) {
-        Ok(text) => Ok(Value::String(String::from_str(alloc, text)?)),
-        Err(_) => Ok(Value::Null),
+pub(crate) fn text_value(alloc: Global, bytes: &[u8]) -> Result<Value, AllocError>
+    ensures { IfOk result (λ v. view v ≡ text_json bytes.now) }
+{
+    Ok(Value::String(String::from_utf8_lossy(alloc, bytes)?))
+}
+
+/// Log lines.
+struct Lines;
+
+impl InJson for Lines {
+    type Item = Blob;
+
+    ghost use Rattle.trace_text.specs.TracedJson.{text_json};
+
+    ghost json_of = { text_json };
+
+    fn value(alloc: Global, item: &Blob) -> Result<Value, AllocError> {
+        text_value(alloc, item.as_slice())
     }
 }
 
-/// Bytes as hexadecimal digits.
-pub(crate) fn digits(alloc: Global, bytes: &[u8]) -> Result<Value, AllocError> {
-    Ok(Value::String(hex::encode(alloc, bytes)?))
+/// Registers.
+struct Registers;
+
+impl InJson for Registers {
+    type Item = u64;
+
+    ghost use Rattle.json_parts.specs.Written.{number_json};
+
+    ghost json_of = { number_json };
+
+    fn value(_alloc: Global, item: &u64) -> Result<Value, AllocError> {
+        Ok(Value::from(*item))
+    }
 }
 
-/// What was, and what is.
-fn pair(alloc: Global, was: Value, is: Value) -> Result<Value, AllocError> {
-    let mut both = Vec::new(alloc);
-    both.push(was)?;
-    both.push(is)?;
-    Ok(Value::Array(both))
+pub(crate) fn registers_value(alloc: Global, registers: &[u64]) -> Result<Value, AllocError>
+    ensures { IfOk result (λ v. view v ≡ list_json number_json registers.now) }
+{
+    list_value::<Registers>(alloc, registers)
 }
 
-fn difference(alloc: Global, at: usize, was: u8, is: u8) -> Result<Value, AllocError> {
-    json!(in alloc; {"at": at as u64, "is": is, "was": was})
-}
-
-pub(crate) fn account_value(alloc: Global, account: &Account) -> Result<Value, AllocError> {
-    let owner = digits(alloc, &account.owner.0)?;
-    let data = digits(alloc, account.bytes.as_slice())?;
+pub(crate) fn account_value(alloc: Global, account: &Account) -> Result<Value, AllocError>
+    ensures { IfOk result (λ v. view v ≡ account_json account.now) }
+{
+    let owner = hex_value(alloc, &account.owner.0)?;
+    let data = hex_value(alloc, account.bytes.as_slice())?;
     json!(in alloc; {
         "data": data,
         "executable": account.executable,
@@ -46,25 +71,24 @@ pub(crate) fn account_value(alloc: Global, account: &Account) -> Result<Value, A
     })
 }
 
-pub(crate) fn registers_value(alloc: Global, registers: &[u64; 11]) -> Result<Value, AllocError> {
-    let mut all = Vec::new(alloc);
-    for register in registers {
-        all.push(Value::from(*register))?;
-    }
-    Ok(Value::Array(all))
-}
-
-fn found_difference(alloc: Global, differs: Option<Difference>) -> Result<Value, AllocError> {
+fn difference_value(alloc: Global, differs: Option<Difference>) -> Result<Value, AllocError>
+    ensures { IfOk result (λ v. view v ≡ difference_json differs) }
+{
     match differs {
-        Some(differs) => difference(alloc, differs.at, differs.was, differs.is),
+        Some(differs) => {
+            let at = differs.at as u64;
+            json!(in alloc; {"at": at, "is": differs.is, "was": differs.was})
+        }
         None => Ok(Value::Null),
     }
 }
 
 /// What the region of a frame has of an account.
-pub(crate) fn found_value(alloc: Global, found: &Found) -> Result<Value, AllocError> {
-    let owner = digits(alloc, &found.owner.0)?;
-    let byte = found_difference(alloc, found.differs)?;
+pub(crate) fn found_value(alloc: Global, found: &Found) -> Result<Value, AllocError>
+    ensures { IfOk result (λ v. view v ≡ found_json found.now) }
+{
+    let owner = hex_value(alloc, &found.owner.0)?;
+    let byte = difference_value(alloc, found.differs)?;
     json!(in alloc; {
         "byte": byte,
         "lamports": found.lamports,
@@ -75,20 +99,21 @@ pub(crate) fn found_value(alloc: Global, found: &Found) -> Result<Value, AllocEr
 
 /// The first data byte that differs, if one does.
 fn byte_value(alloc: Global, was: &Account, is: &Account) -> Result<Value, AllocError> {
-    match first_difference(was.bytes.as_slice(), is.bytes.as_slice()) {
-        Some((at, old, new)) => difference(alloc, at, old, new),
-        None => Ok(Value::Null),
-    }
+    let differs = match first_difference(was.bytes.as_slice(), is.bytes.as_slice()) {
+        Some((at, was, is)) => Some(Difference { at, was, is }),
+        None => None,
+    };
+    difference_value(alloc, differs)
 }
 
 fn numbers_value(alloc: Global, was: u64, is: u64) -> Result<Value, AllocError> {
-    pair(alloc, Value::from(was), Value::from(is))
+    json!(in alloc; [was, is])
 }
 
-fn owners_value(alloc: Global, was: &Account, is: &Account) -> Result<Value, AllocError> {
-    let old = digits(alloc, &was.owner.0)?;
-    let new = digits(alloc, &is.owner.0)?;
-    pair(alloc, old, new)
+fn keys_value(alloc: Global, was: &Key, is: &Key) -> Result<Value, AllocError> {
+    let was = hex_value(alloc, &was.0)?;
+    let is = hex_value(alloc, &is.0)?;
+    json!(in alloc; [was, is])
 }
 
 /// What a frame changed of an account: each as it was and as it is.
@@ -98,16 +123,12 @@ pub(crate) fn change_value(
     was: &Account,
     is: &Account,
 ) -> Result<Value, AllocError> {
-    let named = digits(alloc, &key.0)?;
+    let named = hex_value(alloc, &key.0)?;
     let byte = byte_value(alloc, was, is)?;
-    let executable = pair(
-        alloc,
-        Value::Bool(was.executable),
-        Value::Bool(is.executable),
-    )?;
+    let executable = json!(in alloc; [was.executable, is.executable])?;
     let lamports = numbers_value(alloc, was.lamports, is.lamports)?;
     let length = numbers_value(alloc, was.bytes.len() as u64, is.bytes.len() as u64)?;
-    let owner = owners_value(alloc, was, is)?;
+    let owner = keys_value(alloc, &was.owner, &is.owner)?;
     json!(in alloc; {
         "byte": byte,
         "executable": executable,
@@ -122,32 +143,52 @@ pub(crate) fn change_value(
 pub(crate) fn result_value(
     alloc: Global,
     ended: &Result<Accounts, InstructionError>,
-) -> Result<Value, OutOfMemory> {
+) -> Result<Value, OutOfMemory>
+    ensures { IfOk result (λ v. view v ≡ result_json ended.now) }
+{
     match ended {
-        Ok(_) => Ok(text(alloc, b"Ok")?),
+        Ok(_) => Ok(text_value(alloc, b"Ok")?),
         Err(error) => {
             let cause = cause_text(alloc, error.cause, error.detail)?;
-            Ok(text(alloc, cause.as_slice())?)
+            Ok(text_value(alloc, cause.as_slice())?)
         }
     }
 }
 
-/// The bytes that a frame returned.
-pub(crate) fn returned_value(
-    alloc: Global,
-    began: &Began,
-    finished: &Finished,
-) -> Result<Value, AllocError> {
-    if finished.returned_by == began.program {
-        digits(alloc, finished.returned.as_slice())
-    } else {
-        digits(alloc, &[])
+fn signature_value(alloc: Global, signatures: &[Signature]) -> Result<Value, AllocError>
+    ensures { IfOk result (λ v. view v ≡ signature_json signatures.now) }
+{
+    match signatures {
+        [] => Ok(Value::Null),
+        [first, ..] => hex_value(alloc, &first.0),
     }
 }
 
-pub(crate) fn signature_value(alloc: Global, chosen: &Chosen) -> Result<Value, AllocError> {
-    match chosen.tx.signatures.as_slice().first() {
-        Some(signature) => digits(alloc, &signature.0),
-        None => Ok(Value::Null),
-    }
+/// A transaction of the block, with what it came to and its events.
+pub(crate) fn transaction_value(
+    alloc: Global,
+    entry: u32,
+    chosen: &Chosen,
+    outcome: &Outcome,
+    events: Value,
+) -> Result<Value, OutOfMemory>
+    ensures { IfOk result (λ v. view v
+        ≡ transaction_json entry chosen.now outcome.now (view events)) }
+{
+    let lines = list_value::<Lines>(alloc, outcome.lines.as_slice())?;
+    let signature = signature_value(alloc, chosen.tx.signatures.as_slice())?;
+    let status = status_text(alloc, &outcome.status)?;
+    let status = text_value(alloc, status.as_slice())?;
+    Ok(json!(in alloc; {
+        "base_paid": outcome.base_paid,
+        "entry": entry,
+        "events": events,
+        "limit": chosen.budget.limit,
+        "lines": lines,
+        "position": chosen.position,
+        "priority_paid": outcome.priority_paid,
+        "signature": signature,
+        "status": status,
+        "units": outcome.units,
+    })?)
 }
