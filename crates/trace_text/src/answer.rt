@@ -5,7 +5,7 @@ ghost use Rattle.snapshot_codec.specs.Snapshot.{IsReadable};
 
 use crate::json::json_of;
 use crate::page::Page;
-use crate::telling::{Told, tell};
+use crate::telling::{MAX_STEPS, Told, text_of};
 use crate::words::{Asked, USAGE, VERSION, Words, read_words, refused_words};
 use admission::{Candidate, Refused, refusal_text};
 use block_run::Watched;
@@ -19,9 +19,6 @@ use sol_io::{StdSource, read_all};
 use std::alloc::Global;
 use std::thread::Threads;
 use trace_run::{Note, Notes, Sought, Traced, trace_block};
-
-/// How many instructions of machines are told of a transaction at most.
-const MAX_STEPS: u32 = 100_000;
 
 /// How many notes the first transaction has: those before the next one begins.
 fn first_count(notes: &[Note]) -> usize
@@ -61,32 +58,16 @@ fn told_of<'a>(
     Ok(all)
 }
 
-/// A line for a transaction that did not run.
-fn tell_refused(page: &mut Page, one: &Refused) -> Result<(), OutOfMemory> {
-    let cause = refusal_text(page.alloc, &one.cause)?;
-    page.text("refused ")?;
-    page.number(u64::from(one.position))?;
-    page.text(": ")?;
-    page.out.append(cause.as_slice())?;
-    page.end()
-}
-
 /// A line for each transaction that did not run.
 fn refused_notes(alloc: Global, refused: &[Refused]) -> Result<Blob, OutOfMemory> {
     let mut page = Page::new(alloc);
     for one in refused {
-        tell_refused(&mut page, one)?;
+        page.number("refused ", u64::from(one.position));
+        page.text(": ");
+        page.bytes(refusal_text(alloc, &one.cause)?.as_slice());
+        page.end();
     }
-    Ok(page.out)
-}
-
-/// The transactions as text.
-fn text_of(alloc: Global, asked: Asked, all: &[Told<'_>]) -> Result<Blob, OutOfMemory> {
-    let mut page = Page::new(alloc);
-    for one in all {
-        tell(&mut page, asked, one)?;
-    }
-    Ok(page.out)
+    page.finish()
 }
 
 /// The answer for transactions that ran.

@@ -8,7 +8,7 @@ use message_codec::keys_of;
 use sol_base::{Account, Blob, Items, Key, OutOfMemory, SYSTEM_PROGRAM};
 use std::alloc::Global;
 use std::sync::Arc;
-use trace_run::{Began, Note};
+use trace_run::Began;
 use tx_report::InstructionError;
 
 /// What is needed to tell the notes of one transaction.
@@ -88,17 +88,6 @@ pub(crate) fn account_at(accounts: &[Arc<Account>], place: u8) -> Option<&Accoun
     match accounts.get(usize::from(place)) {
         Some(account) => Some(account),
         None => None,
-    }
-}
-
-/// How the frame ends whose machine stopped at this note, which the next one says.
-pub(crate) fn error_behind(notes: &[Note], place: usize) -> Option<&InstructionError> {
-    match notes.get(place.saturating_add(1)) {
-        Some(Note::Ends(finished)) => match &finished.result {
-            Err(error) => Some(error),
-            Ok(_) => None,
-        },
-        _ => None,
     }
 }
 

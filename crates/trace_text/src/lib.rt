@@ -9,6 +9,7 @@ mod listing;
 mod page;
 mod place;
 mod sentence;
+mod stop;
 mod telling;
 mod values;
 mod words;

@@ -1,6 +1,6 @@
 //! Causes of failures as sentences.
 
-use tx_report::Cause;
+use tx_report::{Cause, DropCause};
 
 /// Why a program or an access of it failed.
 fn of_machine(cause: Cause) -> Option<&'static str> {
@@ -84,10 +84,45 @@ pub(crate) fn sentence_of(cause: Cause) -> &'static str {
 
 /// Whether the detail of a cause is the place of an account in the frame's list.
 pub(crate) fn names_account(cause: Cause) -> bool {
-    of_rule(cause).is_some()
-        && !matches!(
-            cause,
-            Cause::Unbalanced | Cause::RentState | Cause::LoadedDataTooLarge
-        )
-        || cause == Cause::MissingSignature
+    matches!(
+        cause,
+        Cause::MissingSignature
+            | Cause::ReadonlyChanged
+            | Cause::ExecutableChanged
+            | Cause::ForeignDebit
+            | Cause::ForeignData
+            | Cause::OwnerChange
+            | Cause::TooLarge
+            | Cause::LengthTooLarge
+    )
+}
+
+/// What the detail of a cause is: the words before it and behind it.
+pub(crate) fn detail_words(cause: Cause) -> Option<(&'static str, &'static str)> {
+    match cause {
+        Cause::Unverified => Some((": refusal ", "")),
+        Cause::MissingAccount => Some((
+            ": place ",
+            " of the call's accounts, behind which is the program",
+        )),
+        Cause::PrivilegeEscalation => Some((": account ", " of the call")),
+        Cause::RentState => Some((": account ", " of the transaction")),
+        _ => {
+            if names_account(cause) {
+                Some((": account ", " of its list"))
+            } else {
+                None
+            }
+        }
+    }
+}
+
+/// Why a transaction is dropped.
+pub(crate) fn of_drop(cause: DropCause) -> &'static str {
+    match cause {
+        DropCause::PayerAbsent => "the fee payer has no lamports",
+        DropCause::PayerNotSystem => "the fee payer is no plain account of the system program",
+        DropCause::CannotPayFee => "the fee payer has fewer lamports than the fee",
+        DropCause::PayerRent => "the fee would leave the payer below the rent-exempt balance",
+    }
 }

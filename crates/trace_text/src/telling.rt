@@ -1,17 +1,22 @@
 //! Notes of transactions as text.
 
-use crate::changes::{first_difference, is_same};
-use crate::frames::{Frames, account_at, accounts_after, error_behind};
+use crate::changes::{is_same, tell_change};
+use crate::frames::{Frames, account_at, accounts_after};
 use crate::page::Page;
-use crate::place::place_of;
-use crate::sentence::{names_account, sentence_of};
+use crate::sentence::{detail_words, of_drop, sentence_of};
+use crate::stop::{tell_step, tell_stop};
 use crate::words::Asked;
 use admission::Chosen;
 use sol_base::{Account, Blob, Meta, OutOfMemory};
 use std::alloc::Global;
 use std::sync::Arc;
-use trace_run::{Began, Finished, Halted, Note, Step, is_first};
-use tx_report::{Cause, InstructionError, Outcome, cause_text, status_text};
+use trace_run::{Began, Finished, Note, is_first};
+use tx_report::{
+    Cause, InstructionError, Outcome, Status, WHOLE_TRANSACTION, cause_text, status_text,
+};
+
+/// How many instructions of machines are told of a transaction at most.
+pub(crate) const MAX_STEPS: u32 = 100_000;
 
 /// A transaction with what it came to, and the notes of it.
 #[derive(Clone, Copy)]
@@ -22,85 +27,124 @@ pub(crate) struct Told<'a> {
     pub(crate) notes: &'a [Note],
 }
 
-/// The lines of a transaction before its first instruction.
-fn tell_head(page: &mut Page, told: &Told<'_>) -> Result<(), OutOfMemory> {
-    let alloc = page.alloc;
-    let (place, entry) = (told.chosen.position, told.position);
-    page.text(&format!(in alloc;
-        "transaction {place} of the batch, entry {entry} of the block\n"
-    )?)?;
+/// Which transaction it is.
+fn tell_name(page: &mut Page, told: &Told<'_>) {
+    page.number("transaction ", u64::from(told.chosen.position));
+    page.number(" of the batch, entry ", u64::from(told.position));
+    page.text(" of the block\n");
     if let Some(signature) = told.chosen.tx.signatures.as_slice().first() {
-        page.text("  signature ")?;
-        page.hex(&signature.0)?;
-        page.end()?;
+        page.hex("  signature ", &signature.0);
+        page.end();
     }
-    page.text("  status ")?;
-    page.out
-        .append(status_text(alloc, &told.outcome.status)?.as_slice())?;
-    let (units, limit) = (told.outcome.units, told.chosen.budget.limit);
-    let (base, priority) = (told.outcome.base_paid, told.outcome.priority_paid);
-    page.text(&format!(in alloc;
-        "\n  units {units} of {limit}, fee {base} and {priority} for priority\n"
-    )?)
 }
 
-/// The log lines up to so many, at a depth.
-fn tell_lines(
-    page: &mut Page,
-    frames: &mut Frames<'_>,
-    count: usize,
-    depth: usize,
-) -> Result<(), OutOfMemory> {
-    for line in frames.lines_up_to(count) {
-        page.indent(depth)?;
-        page.text("| ")?;
-        page.out.append(line.as_slice())?;
-        page.end()?;
+/// A cause as a sentence, with the account that is meant.
+fn tell_cause(page: &mut Page, cause: Cause, detail: u32) {
+    page.text(", ");
+    page.text(sentence_of(cause));
+    if let Some((before, behind)) = detail_words(cause) {
+        page.number(before, u64::from(detail));
+        page.text(behind);
     }
+}
+
+/// How a transaction ended, and why if it was no instruction that failed.
+fn tell_status(page: &mut Page, status: &Status) -> Result<(), OutOfMemory> {
+    page.text("  status ");
+    page.bytes(status_text(page.alloc, status)?.as_slice());
+    match *status {
+        Status::Good => {}
+        Status::Failed {
+            index,
+            cause,
+            detail,
+        } => {
+            if index == WHOLE_TRANSACTION {
+                tell_cause(page, cause, detail);
+            }
+        }
+        Status::Dropped { cause } => {
+            page.text(", ");
+            page.text(of_drop(cause));
+        }
+    }
+    page.end();
     Ok(())
 }
 
-/// What an account has.
-fn tell_account(page: &mut Page, account: &Account) -> Result<(), OutOfMemory> {
-    page.text(" lamports ")?;
-    page.number(account.lamports)?;
-    page.text(" owner ")?;
-    page.key(&account.owner)?;
-    if account.executable {
-        page.text(" executable")?;
+/// What a transaction used and paid.
+fn tell_units(page: &mut Page, told: &Told<'_>) {
+    page.number("  units ", told.outcome.units);
+    page.number(" of ", u64::from(told.chosen.budget.limit));
+    page.number(", fee ", told.outcome.base_paid);
+    page.number(" and ", told.outcome.priority_paid);
+    page.text(" for priority\n");
+}
+
+/// The log lines up to so many, at a depth.
+fn tell_lines(page: &mut Page, frames: &mut Frames<'_>, count: usize, depth: usize) {
+    for line in frames.lines_up_to(count) {
+        page.indent(depth);
+        page.text("| ");
+        page.bytes(line.as_slice());
+        page.end();
     }
-    page.text(" data ")?;
-    page.hex(account.bytes.as_slice())
+}
+
+/// What an account has.
+fn tell_account(page: &mut Page, account: &Account) {
+    page.number(" lamports ", account.lamports);
+    page.key(" owner ", &account.owner);
+    if account.executable {
+        page.text(" executable");
+    }
+    page.hex(" data ", account.bytes.as_slice());
 }
 
 /// A listed account.
-fn tell_meta(
-    page: &mut Page,
-    frames: &Frames<'_>,
-    began: &Began,
-    place: usize,
-    meta: &Meta,
-    depth: usize,
-) -> Result<(), OutOfMemory> {
-    page.indent(depth)?;
-    page.text("account ")?;
-    page.number(place as u64)?;
-    page.text(" ")?;
-    page.key(&frames.key(meta.index))?;
+fn tell_meta(page: &mut Page, frames: &Frames<'_>, began: &Began, place: usize, meta: &Meta) {
+    page.indent(frames.active.len());
+    page.number("account ", place as u64);
+    page.key(" ", &frames.key(meta.index));
     if meta.signer {
-        page.text(" signs")?;
+        page.text(" signs");
     }
     page.text(if meta.writable {
         " writable"
     } else {
         " read-only"
-    })?;
+    });
     if frames.asked.accounts {
         if let Some(account) = account_at(began.accounts.as_slice(), meta.index) {
-            tell_account(page, account)?;
+            tell_account(page, account);
         }
     }
-    page.end()
+    page.end();
+}
+
+/// What a frame is given.
+fn tell_given(page: &mut Page, frames: &Frames<'_>, began: &Began) {
+    for (place, meta) in began.metas.as_slice().iter().enumerate() {
+        tell_meta(page, frames, began, place, meta);
+    }
+    page.indent(frames.active.len());
+    page.hex("data ", began.data.as_slice());
+    page.end();
+}
+
+/// Which program a frame runs: that of an instruction, or one that is called.
+fn tell_program(page: &mut Page, frames: &mut Frames<'_>, began: &Began) {
+    let depth = frames.active.len();
+    page.indent(depth);
+    if depth == 0 {
+        page.number("instruction ", frames.instructions as u64);
+        frames.instructions = frames.instructions.saturating_add(1);
+    } else {
+        page.text("call");
+    }
+    page.key(": program ", &began.program);
+    page.number(" with units ", began.units);
+    page.end();
 }
 
 /// A frame that begins.
@@ -110,232 +154,38 @@ fn tell_begin<'a>(
     began: &'a Began,
 ) -> Result<(), OutOfMemory> {
     let depth = frames.active.len();
-    tell_lines(page, frames, began.lines, depth)?;
-    page.indent(depth)?;
-    if depth == 0 {
-        page.text("instruction ")?;
-        page.number(frames.instructions as u64)?;
-        page.text(": program ")?;
-        frames.instructions = frames.instructions.saturating_add(1);
-    } else {
-        page.text("call: program ")?;
-    }
-    page.key(&began.program)?;
-    page.text(" with units ")?;
-    page.number(began.units)?;
-    page.end()?;
+    tell_lines(page, frames, began.lines, depth);
+    tell_program(page, frames, began);
     frames.active.push(began)?;
-    for (place, meta) in began.metas.as_slice().iter().enumerate() {
-        tell_meta(page, frames, began, place, meta, depth.saturating_add(1))?;
-    }
-    page.indent(depth.saturating_add(1))?;
-    page.text("data ")?;
-    page.hex(began.data.as_slice())?;
-    page.end()
-}
-
-/// The line of the instruction in a slot.
-fn tell_line(page: &mut Page, frames: &Frames<'_>, slot: u32) -> Result<(), OutOfMemory> {
-    match frames.listing.line(slot) {
-        Some(line) => {
-            page.text("line ")?;
-            page.number(u64::from(line.number))?;
-            page.text(": ")?;
-            page.text(line.text)
-        }
-        None => {
-            page.text("slot ")?;
-            page.number(u64::from(slot))
-        }
-    }
-}
-
-/// Registers with their values; of those that are as before none.
-fn tell_registers(
-    page: &mut Page,
-    registers: &[u64; 11],
-    before: Option<&[u64; 11]>,
-) -> Result<(), OutOfMemory> {
-    let alloc = page.alloc;
-    for (register, value) in registers.iter().enumerate() {
-        let same = match before {
-            Some(before) => before.get(register) == Some(value),
-            None => false,
-        };
-        if !same {
-            page.text(&format!(in alloc; " r{register}={value:#x}")?)?;
-        }
-    }
+    tell_given(page, frames, began);
     Ok(())
-}
-
-/// The registers before the last instruction that was seen of the same frame.
-fn registers_before(notes: &[Note], place: usize) -> Option<&[u64; 11]> {
-    let before = place.checked_sub(1)?;
-    match notes.get(before) {
-        Some(Note::Steps(step)) => Some(&step.registers),
-        _ => None,
-    }
-}
-
-/// A machine before an instruction.
-fn tell_step(
-    page: &mut Page,
-    frames: &mut Frames<'_>,
-    notes: &[Note],
-    place: usize,
-    step: &Step,
-) -> Result<(), OutOfMemory> {
-    if let Some(began) = frames.innermost() {
-        frames.list(began)?;
-    }
-    page.indent(frames.active.len())?;
-    tell_line(page, frames, step.slot)?;
-    page.text("  ;")?;
-    tell_registers(page, &step.registers, registers_before(notes, place))?;
-    page.end()
-}
-
-/// What the region of a frame has of the account that its error names.
-fn tell_found(
-    page: &mut Page,
-    frames: &Frames<'_>,
-    began: &Began,
-    halted: &Halted,
-    error: &InstructionError,
-    depth: usize,
-) -> Result<(), OutOfMemory> {
-    let (Some(found), Some(meta)) = (
-        &halted.found,
-        began.metas.as_slice().get(error.detail as usize),
-    ) else {
-        return Ok(());
-    };
-    let Some(was) = account_at(halted.before.as_slice(), meta.index) else {
-        return Ok(());
-    };
-    page.indent(depth)?;
-    page.text("account ")?;
-    page.number(u64::from(error.detail))?;
-    page.text(" ")?;
-    page.key(&frames.key(meta.index))?;
-    let alloc = page.alloc;
-    let (old, new) = (was.lamports, found.lamports);
-    if old != new {
-        page.text(&format!(in alloc; " lamports {old} -> {new}")?)?;
-    }
-    if was.owner != found.owner {
-        page.text(" owner ")?;
-        page.key(&was.owner)?;
-        page.text(" -> ")?;
-        page.key(&found.owner)?;
-    }
-    let (old, new) = (was.bytes.len() as u64, found.len);
-    if old != new {
-        page.text(&format!(in alloc; " length {old} -> {new}")?)?;
-    }
-    if let Some(differs) = found.differs {
-        let (at, old, new) = (differs.at, differs.was, differs.is);
-        page.text(&format!(in alloc; " byte {at} {old:#04x} -> {new:#04x}")?)?;
-    }
-    page.end()
-}
-
-/// A machine that stopped where its frame fails.
-fn tell_stop(
-    page: &mut Page,
-    frames: &mut Frames<'_>,
-    halted: &Halted,
-    finished: &Finished,
-    error: &InstructionError,
-) -> Result<(), OutOfMemory> {
-    let depth = frames.active.len();
-    let Some(began) = frames.innermost() else {
-        return Ok(());
-    };
-    frames.list(began)?;
-    page.indent(depth)?;
-    page.text("stopped at ")?;
-    tell_line(page, frames, halted.slot)?;
-    page.end()?;
-    page.indent(depth)?;
-    page.text("registers")?;
-    tell_registers(page, &halted.registers, None)?;
-    page.end()?;
-    let access = match finished.stopped_at {
-        Some(at) => at.access,
-        None => None,
-    };
-    if let Some(access) = access {
-        let alloc = page.alloc;
-        let kind = if access.write { "write" } else { "read" };
-        let (len, addr) = (access.len, access.addr);
-        let place = place_of(alloc, began, frames.listing.len, addr)?;
-        page.indent(depth)?;
-        page.text(&format!(in alloc; "{kind} of {len} bytes at {addr:#x}: {place}\n")?)?;
-    }
-    if names_account(error.cause) {
-        tell_found(page, frames, began, halted, error, depth)?;
-    }
-    Ok(())
-}
-
-/// What a frame changed of an account.
-fn tell_change(
-    page: &mut Page,
-    frames: &Frames<'_>,
-    place: usize,
-    meta: &Meta,
-    was: &Account,
-    is: &Account,
-    depth: usize,
-) -> Result<(), OutOfMemory> {
-    let alloc = page.alloc;
-    page.indent(depth)?;
-    page.text(&format!(in alloc; "changed: account {place} ")?)?;
-    page.key(&frames.key(meta.index))?;
-    let (old, new) = (was.lamports, is.lamports);
-    if old != new {
-        page.text(&format!(in alloc; " lamports {old} -> {new}")?)?;
-    }
-    if was.owner != is.owner {
-        page.text(" owner ")?;
-        page.key(&was.owner)?;
-        page.text(" -> ")?;
-        page.key(&is.owner)?;
-    }
-    if was.executable != is.executable {
-        page.text(" executable")?;
-    }
-    let (old, new) = (was.bytes.len(), is.bytes.len());
-    if old != new {
-        page.text(&format!(in alloc; " length {old} -> {new}")?)?;
-    }
-    if let Some((at, old, new)) = first_difference(was.bytes.as_slice(), is.bytes.as_slice()) {
-        page.text(&format!(in alloc; " byte {at} {old:#04x} -> {new:#04x}")?)?;
-    }
-    page.end()
 }
 
 /// What a frame changed of its accounts.
-fn tell_changes(
-    page: &mut Page,
-    frames: &Frames<'_>,
-    began: &Began,
-    after: &[Arc<Account>],
-    depth: usize,
-) -> Result<(), OutOfMemory> {
+fn tell_changes(page: &mut Page, frames: &Frames<'_>, began: &Began, after: &[Arc<Account>]) {
     let metas = began.metas.as_slice();
     for (place, meta) in metas.iter().enumerate() {
         let was = account_at(began.accounts.as_slice(), meta.index);
         let is = account_at(after, meta.index);
         if let (Some(was), Some(is)) = (was, is) {
             if is_first(metas, place) && !is_same(was, is) {
-                tell_change(page, frames, place, meta, was, is, depth)?;
+                page.indent(frames.active.len().saturating_add(1));
+                page.number("changed: account ", place as u64);
+                page.key(" ", &frames.key(meta.index));
+                tell_change(page, was, is);
+                page.end();
             }
         }
     }
-    Ok(())
+}
+
+/// What a frame returned, if it did.
+fn tell_returned(page: &mut Page, began: &Began, finished: &Finished, depth: usize) {
+    if !finished.returned.is_empty() && finished.returned_by == began.program {
+        page.indent(depth);
+        page.hex("returned ", finished.returned.as_slice());
+        page.end();
+    }
 }
 
 /// Why a frame fails: at its height, or with its callee.
@@ -344,18 +194,12 @@ fn tell_failure(
     began: &Began,
     error: &InstructionError,
 ) -> Result<(), OutOfMemory> {
-    let alloc = page.alloc;
-    page.text(", fails: ")?;
-    page.out
-        .append(cause_text(alloc, error.cause, error.detail)?.as_slice())?;
-    if error.height != began.height {
-        return page.text(", as its callee does");
-    }
-    page.text(", ")?;
-    page.text(sentence_of(error.cause))?;
-    if names_account(error.cause) {
-        let place = error.detail;
-        page.text(&format!(in alloc; ": account {place} of its list")?)?;
+    page.text(", fails: ");
+    page.bytes(cause_text(page.alloc, error.cause, error.detail)?.as_slice());
+    if error.height == began.height {
+        tell_cause(page, error.cause, error.detail);
+    } else {
+        page.text(", as its callee does");
     }
     Ok(())
 }
@@ -367,60 +211,99 @@ fn tell_end(
     finished: &Finished,
 ) -> Result<(), OutOfMemory> {
     let depth = frames.active.len();
-    tell_lines(page, frames, finished.lines, depth)?;
+    tell_lines(page, frames, finished.lines, depth);
     let Some(began) = frames.active.pop() else {
         return Ok(());
     };
-    if !finished.returned.is_empty() && finished.returned_by == began.program {
-        page.indent(depth)?;
-        page.text("returned ")?;
-        page.hex(finished.returned.as_slice())?;
-        page.end()?;
-    }
+    tell_returned(page, began, finished, depth);
     if let Some(after) = accounts_after(&finished.result) {
-        tell_changes(page, frames, began, after, depth)?;
+        tell_changes(page, frames, began, after);
     }
-    page.indent(depth)?;
-    page.text("ends with units ")?;
-    page.number(finished.units)?;
+    page.indent(depth);
+    page.number("ends with units ", finished.units);
     if let Err(error) = &finished.result {
         tell_failure(page, began, error)?;
     }
-    page.end()
+    page.end();
+    Ok(())
 }
 
-/// The note at a place.
+/// A note, and those that follow it.
 fn tell_note<'a>(
     page: &mut Page,
     frames: &mut Frames<'a>,
-    notes: &'a [Note],
-    place: usize,
+    note: &'a Note,
+    following: &[Note],
 ) -> Result<(), OutOfMemory> {
-    match notes.get(place) {
-        Some(Note::Begins(began)) => tell_begin(page, frames, began),
-        Some(Note::Steps(step)) => tell_step(page, frames, notes, place, step),
-        Some(Note::Stops(halted)) => match (
-            error_behind(notes, place),
-            notes.get(place.saturating_add(1)),
-        ) {
-            (Some(error), Some(Note::Ends(finished))) => {
-                tell_stop(page, frames, halted, finished, error)
-            }
+    match note {
+        Note::Transaction(_) => Ok(()),
+        Note::Begins(began) => tell_begin(page, frames, began),
+        Note::Steps(step) => tell_step(page, frames, step, following),
+        Note::Stops(halted) => match following.first() {
+            Some(Note::Ends(finished)) => match &finished.result {
+                Ok(_) => Ok(()),
+                Err(error) => tell_stop(page, frames, halted, finished, error),
+            },
             _ => Ok(()),
         },
-        Some(Note::Ends(finished)) => tell_end(page, frames, finished),
-        _ => Ok(()),
+        Note::Ends(finished) => tell_end(page, frames, finished),
+    }
+}
+
+/// The notes of a transaction.
+fn tell_notes<'a>(
+    page: &mut Page,
+    frames: &mut Frames<'a>,
+    notes: &'a [Note],
+) -> Result<(), OutOfMemory> {
+    let mut following = notes;
+    for note in notes {
+        following = match following.split_first() {
+            Some((_, rest)) => rest,
+            None => &[],
+        };
+        tell_note(page, frames, note, following)?;
+    }
+    Ok(())
+}
+
+/// How many instructions were noted.
+fn count_steps(notes: &[Note]) -> u32 {
+    let mut count: u32 = 0;
+    for note in notes {
+        if let Note::Steps(_) = note {
+            count = count.saturating_add(1);
+        }
+    }
+    count
+}
+
+/// That not all instructions may be told, if as many were noted as may be.
+fn tell_bound(page: &mut Page, notes: &[Note]) {
+    if count_steps(notes) == MAX_STEPS {
+        page.number("  of its instructions the first ", u64::from(MAX_STEPS));
+        page.text(" are told\n");
     }
 }
 
 /// Tells a transaction.
-pub(crate) fn tell(page: &mut Page, asked: Asked, told: &Told<'_>) -> Result<(), OutOfMemory> {
+fn tell(page: &mut Page, asked: Asked, told: &Told<'_>) -> Result<(), OutOfMemory> {
     let lines: &[Blob] = told.outcome.lines.as_slice();
-    let alloc: Global = page.alloc;
-    let mut frames = Frames::new(alloc, asked, told.chosen, lines)?;
-    tell_head(page, told)?;
-    for place in 0..told.notes.len() {
-        tell_note(page, &mut frames, told.notes, place)?;
+    let mut frames = Frames::new(page.alloc, asked, told.chosen, lines)?;
+    tell_name(page, told);
+    tell_status(page, &told.outcome.status)?;
+    tell_units(page, told);
+    tell_bound(page, told.notes);
+    tell_notes(page, &mut frames, told.notes)?;
+    tell_lines(page, &mut frames, lines.len(), 0);
+    Ok(())
+}
+
+/// The transactions as lines of text.
+pub(crate) fn text_of(alloc: Global, asked: Asked, all: &[Told<'_>]) -> Result<Blob, OutOfMemory> {
+    let mut page = Page::new(alloc);
+    for told in all {
+        tell(&mut page, asked, told)?;
     }
-    tell_lines(page, &mut frames, lines.len(), 0)
+    page.finish()
 }
