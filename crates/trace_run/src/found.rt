@@ -1,7 +1,7 @@
 //! What a frame's region has of an account.
-ghost use Rattle.std.specs.Prelude.{◌≡◌, ◌≤◌, slice_get, Some};
-ghost use Rattle.sol_base.specs.declared.lock.Meta.{Meta};
-ghost use Rattle.sol_base.specs.Metas.{is_first_listing};
+ghost use Rattle.std.specs.Prelude.{◌≡◌, ◌≤◌};
+ghost use Rattle.sol_base.specs.Metas.{is_listed};
+ghost use Rattle.trace_run.specs.Listings.{is_first_at};
 
 use crate::notes::Began;
 use data_parts::Parts;
@@ -9,6 +9,7 @@ use invoke_engine::Frame;
 use sol_base::{Account, Key, Meta, OutOfMemory};
 use std::alloc::Global;
 use std::sync::Arc;
+use tx_report::Cause;
 
 /// The bytes of the number of listings, before the first entry.
 const COUNT_LEN: usize = 8;
@@ -39,6 +40,21 @@ pub struct Found {
     pub differs: Option<Difference>,
 }
 
+/// Whether the detail of a cause is the place of an account in the frame's list, which a rule of
+/// accounts refuses as the region has it.
+pub(crate) fn names_account(cause: Cause) -> bool {
+    matches!(
+        cause,
+        Cause::ReadonlyChanged
+            | Cause::ExecutableChanged
+            | Cause::ForeignDebit
+            | Cause::ForeignData
+            | Cause::OwnerChange
+            | Cause::TooLarge
+            | Cause::LengthTooLarge
+    )
+}
+
 /// The account that a listing means.
 pub(crate) fn account_of<'a>(accounts: &'a [Arc<Account>], meta: &Meta) -> Option<&'a Account> {
     match accounts.get(usize::from(meta.index)) {
@@ -53,16 +69,21 @@ pub(crate) fn entry_len(len: usize) -> usize {
     len.saturating_add(padding).saturating_add(DATA_AT + ROOM)
 }
 
+/// Whether one of the listings means this account.
+fn is_listed(metas: &[Meta], index: u8) -> bool
+    ensures { result ≡ is_listed metas.now index }
+{
+    metas.iter().any(|meta| meta.index == index)
+}
+
 /// Whether no earlier listing means the same account.
 pub fn is_first(metas: &[Meta], place: usize) -> bool
-    ensures { (meta : Meta) → slice_get metas.now place ≡ Some meta
-        → result ≡ is_first_listing metas.now (place, meta) }
+    ensures { result ≡ is_first_at metas.now place }
 {
-    let Some(meta) = metas.get(place) else {
-        return true;
-    };
-    let earlier = &metas[..place];
-    !earlier.iter().any(|one| one.index == meta.index)
+    match metas.get(place) {
+        Some(meta) => !is_listed(&metas[..place], meta.index),
+        None => true,
+    }
 }
 
 /// How many bytes of the region a listing takes.

@@ -1,9 +1,9 @@
 //! What is noted of transactions while they run.
 ghost use Rattle.std.specs.Prelude.{◌≡◌, ◌<◌, ◌∷◌, ◌++◌, [], true, IfOk, OnOk};
-ghost use Rattle.trace_run.specs.Noted.{began_of, finished_of, program_in, step_of};
-ghost use Rattle.trace_run.specs.declared.notes.Note.TheVariants.{Begins, Ends, Steps, Transaction};
+ghost use Rattle.trace_run.specs.Noted.{IsStopNoted, began_of, finished_of, halted_of, program_in, step_of};
+ghost use Rattle.trace_run.specs.declared.notes.Note.TheVariants.{Begins, Ends, Steps, Stops, Transaction};
 
-use crate::found::{Found, found_in};
+use crate::found::{Found, found_in, names_account};
 use invoke_engine::{Accounts, Carrier, Context, Ending, Frame, Invocation, StoppedAt, Watch};
 use sbpf_machine::Machine;
 use sol_base::{Blob, Items, Key, Meta, OutOfMemory, SYSTEM_PROGRAM};
@@ -95,6 +95,21 @@ impl Notes {
         }
     }
 
+    /// Notes that the machine of a frame stopped, with what its region has of an account.
+    fn note_stop(&mut self, frame: &Frame, found: Option<Found>) -> Result<(), OutOfMemory>
+        ensures { OnOk result (self.new.notes
+            ≡ self.old.notes ++ Stops (halted_of frame.now found) ∷ []) }
+    {
+        let before = Accounts::share(self.alloc, frame.before.as_slice())?;
+        self.notes.push(Note::Stops(Halted {
+            slot: frame.machine.place(),
+            units: frame.machine.units(),
+            registers: frame.machine.registers(),
+            before,
+            found,
+        }))
+    }
+
     /// The notes so far, in their order.
     pub fn as_slice(&self) -> &[Note]
         ensures { result.now ≡ self.now.notes }
@@ -113,6 +128,14 @@ fn shared_result(
     match ended {
         Ok(accounts) => Ok(Ok(Accounts::share(alloc, accounts.as_slice())?)),
         Err(error) => Ok(Err(*error)),
+    }
+}
+
+/// What a frame's region has of the account that its error names, if it ends with one that does.
+fn found_for(frame: &Frame, ended: &Result<Accounts, InstructionError>) -> Option<Found> {
+    match ended {
+        Err(error) if names_account(error.cause) => found_in(frame, error.detail as usize),
+        _ => None,
     }
 }
 
@@ -180,19 +203,11 @@ impl Watch for Notes {
         }))
     }
 
-    fn stops(&mut self, frame: &Frame, ending: &Ending) -> Result<(), OutOfMemory> {
-        let found = match &ending.result {
-            Ok(_) => None,
-            Err(error) => found_in(frame, error.detail as usize),
-        };
-        let before = Accounts::share(self.alloc, frame.before.as_slice())?;
-        self.notes.push(Note::Stops(Halted {
-            slot: frame.machine.place(),
-            units: frame.machine.units(),
-            registers: frame.machine.registers(),
-            before,
-            found,
-        }))
+    fn stops(&mut self, frame: &Frame, ending: &Ending) -> Result<(), OutOfMemory>
+        ensures { OnOk result (IsStopNoted frame.now self.old.notes self.new.notes) }
+    {
+        let found = found_for(frame, &ending.result);
+        self.note_stop(frame, found)
     }
 
     fn ends(&mut self, ending: &Ending, carrier: &Carrier) -> Result<(), OutOfMemory>
