@@ -27,7 +27,7 @@ use Rattle.trace_run.specs.declared.run.Sought.{Sought}
 use Rattle.trace_run.specs.declared.run.Traced.{Traced}
 use Rattle.trace_run.specs.declared.run.Traced.TheVariants.{Ran, Refused as NotRun, Absent}
 use Rattle.trace_run.specs.Sought.{wanted_in}
-use Rattle.trace_run.specs.Traced.{IsRecorded, IsSerialIn, IsTraced, IsTracedOf, told_by_outcome, told_in_entry}
+use Rattle.trace_run.specs.Traced.{IsRecorded, IsSerialIn, IsTraced, IsTracedOf, Told, told_by_outcome, told_in_entry}
 
 -- the entries of a block say what the outcomes say
 entries_tell : (wires : List (List ℕ)) (order : List Chosen) (outcomes : List Outcome) → length outcomes ≡ length order
@@ -35,7 +35,7 @@ entries_tell : (wires : List (List ℕ)) (order : List Chosen) (outcomes : List 
 entries_tell wires [] [] same = refl
 entries_tell wires [] (o ∷ os) same = absurd (omega (arith, same))
 entries_tell wires (t ∷ ts) [] same = absurd (omega (arith, same))
-entries_tell wires (t ∷ ts) (o ∷ os) same = ap (λ rest. told_by_outcome o ∷ rest) (entries_tell wires ts os (omega (arith, same)))
+entries_tell wires (t ∷ ts) (o ∷ os) same = ap (λ (rest : List Told). told_by_outcome o ∷ rest) (entries_tell wires ts os (omega (arith, same)))
 
 -- and so does the entry of a position
 entry_tells : (entries : List Entry) (n : ℕ) (run : ℕ → Outcome) (i : ℕ) (entry : Entry)
@@ -44,11 +44,11 @@ entry_tells : (entries : List Entry) (n : ℕ) (run : ℕ → Outcome) (i : ℕ)
 entry_tells entries n run i entry same here =
     let runs = map run (range_with_len 0 n) in
     let mine : slice_get (map told_in_entry entries) i ≡ Some (told_in_entry entry) = slice_get-map told_in_entry entries i ∙ ap (option_map told_in_entry) here in
-    let theirs : slice_get (map told_by_outcome runs) i ≡ Some (told_in_entry entry) = sym (ap (λ xs. slice_get xs i) same) ∙ mine in
+    let theirs : slice_get (map told_by_outcome runs) i ≡ Some (told_in_entry entry) = sym (ap (λ (xs : List Told). slice_get xs i) same) ∙ mine in
     let within : i < length (map told_by_outcome runs) = slice_get_within (map told_by_outcome runs) i (told_in_entry entry) theirs in
     let few : i < n = omega (arith, within, length-map runs told_by_outcome, length-map-range_with_len run 0 n) in
     let more : i < length runs = omega (arith, few, length-map-range_with_len run 0 n) in
-    let at_i : slice_get runs i ≡ Some (run i) = slice_get-get_or runs i (run 0) more ∙ ap Some (get_or-map-range_with_len run 0 n i i (run 0) few (omega arith)) in
+    let at_i : slice_get runs i ≡ Some (run i) = slice_get-get_or runs i (run 0) more ∙ ap (λ (o : Outcome). Some o) (get_or-map-range_with_len run 0 n i i (run 0) few (omega arith)) in
     let told : slice_get (map told_by_outcome runs) i ≡ Some (told_by_outcome (run i)) = slice_get-map told_by_outcome runs i ∙ ap (option_map told_by_outcome) at_i in
     let both : Some (told_in_entry entry) ≡ Some (told_by_outcome (run i)) = sym theirs ∙ told in
     cc
