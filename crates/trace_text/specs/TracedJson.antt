@@ -1,7 +1,7 @@
 -- Transactions and what they did as JSON (the project's own form). An object's members are in the
 -- order of their names.
 use Rattle.std.specs.Prelude.{ℕ, List, [], ◌∷◌, codes, Option, Some, None, Result, Ok, Err}
-use Rattle.std.specs.Str.{utf8_lossy}
+use Rattle.std.specs.Str.Lossy.{utf8_lossy}
 use Rattle.serde_json.specs.Data.{Data, null, boolean, string, object, member, no_members}
 use Rattle.json_parts.specs.Written.{hex_json, number_json, list_json}
 use Rattle.sol_base.specs.declared.account.Account.{Account}

@@ -1,6 +1,7 @@
 //! Parts of notes as JSON.
 ghost use Rattle.std.specs.Prelude.{◌≡◌, IfOk};
 ghost use Rattle.serde_json.specs.View.{view};
+ghost use Rattle.tx_report.specs.Statuses.{status_text_of};
 ghost use Rattle.json_parts.specs.Written.{number_json, list_json};
 ghost use Rattle.trace_text.specs.TracedJson.{text_json, account_json, difference_json, found_json, result_json, signature_json, transaction_json};
 
@@ -13,7 +14,7 @@ use serde_json::{Value, json};
 use sol_base::{Account, Blob, Key, OutOfMemory};
 use std::alloc::{AllocError, Global};
 use trace_run::{Difference, Found};
-use tx_report::{InstructionError, Outcome, cause_text, status_text};
+use tx_report::{InstructionError, Outcome, Status, cause_text, status_text};
 
 /// Bytes as the text that they are.
 pub(crate) fn text_value(alloc: Global, bytes: &[u8]) -> Result<Value, AllocError>
@@ -164,6 +165,15 @@ fn signature_value(alloc: Global, signatures: &[Signature]) -> Result<Value, All
     }
 }
 
+fn status_value(alloc: Global, status: &Status) -> Result<Value, AllocError>
+    ensures { IfOk result (λ v. view v ≡ text_json (status_text_of status.now)) }
+{
+    match status_text(alloc, status) {
+        Ok(text) => text_value(alloc, text.as_slice()),
+        Err(OutOfMemory) => Err(AllocError),
+    }
+}
+
 /// A transaction of the block, with what it came to and its events.
 pub(crate) fn transaction_value(
     alloc: Global,
@@ -171,15 +181,14 @@ pub(crate) fn transaction_value(
     chosen: &Chosen,
     outcome: &Outcome,
     events: Value,
-) -> Result<Value, OutOfMemory>
+) -> Result<Value, AllocError>
     ensures { IfOk result (λ v. view v
         ≡ transaction_json entry chosen.now outcome.now (view events)) }
 {
     let lines = list_value::<Lines>(alloc, outcome.lines.as_slice())?;
     let signature = signature_value(alloc, chosen.tx.signatures.as_slice())?;
-    let status = status_text(alloc, &outcome.status)?;
-    let status = text_value(alloc, status.as_slice())?;
-    Ok(json!(in alloc; {
+    let status = status_value(alloc, &outcome.status)?;
+    json!(in alloc; {
         "base_paid": outcome.base_paid,
         "entry": entry,
         "events": events,
@@ -190,5 +199,5 @@ pub(crate) fn transaction_value(
         "signature": signature,
         "status": status,
         "units": outcome.units,
-    })?)
+    })
 }
