@@ -90,14 +90,6 @@ fn refused_at(refused: &[Refused], sought: Sought) -> Option<Refused> {
     None
 }
 
-/// What is said if the transaction that is sought does not run.
-fn absent(refused: &[Refused], sought: Sought) -> Traced {
-    match refused_at(refused, sought) {
-        Some(one) => Traced::Refused(one),
-        None => Traced::Absent,
-    }
-}
-
 /// Runs transactions that are admitted over a snapshot, and notes what those do that are sought.
 fn trace_line<R: Threads + Sync>(
     rt: &R,
@@ -114,11 +106,16 @@ fn trace_line<R: Threads + Sync>(
     ensures { IfOk result (IsTracedOf snapshot slot (told_by line) sought) }
 {
     let InLine { order, refused } = line;
-    let Some(wanted) = wanted_in(order.as_slice(), sought) else {
-        return Ok(absent(refused.as_slice(), sought));
-    };
-    let watched = watch_order(rt, alloc, snapshot, slot, order, wanted, notes)?;
-    Ok(Traced::Ran(watched, refused))
+    match wanted_in(order.as_slice(), sought) {
+        Some(wanted) => {
+            let watched = watch_order(rt, alloc, snapshot, slot, order, wanted, notes)?;
+            Ok(Traced::Ran(watched, refused))
+        }
+        None => match refused_at(refused.as_slice(), sought) {
+            Some(one) => Ok(Traced::Refused(one)),
+            None => Ok(Traced::Absent),
+        },
+    }
 }
 
 /// Runs a batch over a snapshot, one transaction after another, and notes what those do that are
