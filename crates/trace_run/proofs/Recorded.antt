@@ -1,13 +1,12 @@
 -- What was seen of transactions is what the record of their block says.
-use Rattle.std.proofs.Common.{◌≡◌, ◌∙◌, ◌+◌, ◌<◌, ◌≤◌, ◌∷◌, [], ℕ, List, length, map, All, refl, ap, sym, subst, arith}
-use Rattle.std.specs.Prelude.{IfOk, slice_get, Option, Some, None, option_map, Result, Ok, Err}
+use Rattle.std.proofs.Common.{◌≡◌, ◌∙◌, ◌<◌, ◌∷◌, [], ℕ, List, length, map, All, refl, ap, sym, subst, arith}
+use Rattle.std.specs.Prelude.{IfOk, slice_get, Some, None, option_map, Result, Ok, Err}
 use Rattle.std.specs.List.{range_with_len}
 use Rattle.std.proofs.lemmas.List.{length-map}
 use Rattle.std.proofs.lemmas.List.Elements.{All-weaker}
 use Rattle.std.proofs.lemmas.List.FromFn.{get_or-map-range_with_len, length-map-range_with_len}
 use Rattle.std.proofs.lemmas.Option.{slice_get-map, slice_get-get_or, slice_get_within}
 use Rattle.sol_base.specs.declared.memory.OutOfMemory.{OutOfMemory}
-use Rattle.sol_base.specs.Limits.{max_transactions}
 use Rattle.tx_report.specs.declared.outcome.Outcome.{Outcome}
 use Rattle.account_store.specs.State.{at}
 use Rattle.snapshot_codec.specs.declared.snapshot.Snapshot.{Snapshot}

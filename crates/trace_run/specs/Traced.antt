@@ -1,5 +1,5 @@
 -- What the trace of a batch says of its transactions (the project's own).
-use Rattle.std.specs.Prelude.{◌≡◌, ℕ, ◌+◌, List, All, slice_get, Option, Some, None}
+use Rattle.std.specs.Prelude.{◌≡◌, ℕ, ◌+◌, List, All, slice_get, Some, None}
 use Rattle.tx_report.specs.declared.status.Status.{Status}
 use Rattle.tx_report.specs.declared.outcome.Outcome.{Outcome}
 use Rattle.snapshot_codec.specs.declared.snapshot.Snapshot.{Snapshot}

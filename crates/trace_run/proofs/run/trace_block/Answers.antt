@@ -1,5 +1,4 @@
 use Rattle.admission.specs.Answers.{told_by}
-use Rattle.sol_base.specs.Limits.{max_transactions}
 use Rattle.block_run.proofs.Calls.{admitted_are_of}
 use Rattle.trace_run.proofs.Recorded.{traced_result}
 use Rattle.trace_run.proofs.run.trace_block.Goals as goal
