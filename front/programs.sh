@@ -245,7 +245,7 @@ says_sources() { printf '%s %s\n' "$name" "$(sources)"; }
 # Does the same with each program, up to the first that fails.
 each_program() {
   local each
-  for each in bank_program bank_text bank_ledger; do
+  for each in bank_program bank_text bank_ledger bank_trace; do
     choose "$each"
     "$@" || return
   done
@@ -254,10 +254,10 @@ each_program() {
 # The files of the programs that run, of all or of those that are named.
 list_programs() {
   local each
-  [ "$#" -gt 0 ] || set -- bank_program bank_text bank_ledger
+  [ "$#" -gt 0 ] || set -- bank_program bank_text bank_ledger bank_trace
   for each; do
     case $each in
-      bank_program | bank_text | bank_ledger) choose "$each" ;;
+      bank_program | bank_text | bank_ledger | bank_trace) choose "$each" ;;
       *) refuse "there is no program $each" ;;
     esac
     find_program || return
