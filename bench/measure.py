@@ -116,6 +116,13 @@ def find_chain_program():
     return found('bank_ledger')
 
 
+def find_trace_program():
+    """The program for traces: that of the variable TRACE_PROGRAM, or the one that ./bank runs."""
+    if os.environ.get('TRACE_PROGRAM'):
+        return str(pathlib.Path(os.environ['TRACE_PROGRAM']).resolve())
+    return found('bank_trace')
+
+
 def plain_program():
     """The plain program, built where its source changed; None where there is no rustc."""
     source, built, mark = BENCH / 'plain' / 'plain.rs', OUT / 'plain', OUT / 'plain.of'
