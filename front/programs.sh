@@ -120,7 +120,7 @@ find_program_of_last_time() {
   local newer checked
   find_last_note && program=$(< "$checked") && [ -x "$program" ] || return
   [ "$program" = "$built" ] || [ "$program" = "$shipped" ] || return
-  newer=$(find "$top/crates.txt" "$top/program" "$top/crates" "$program" -path "$top/crates/*/out" -prune -o \
+  newer=$(find "$top/crates.txt" "$top/program" "$top/crates" "$program" -name out -path "$top/crates/*/out" -prune -o \
     -cnewer "$checked" \( -type d -o -name '*.rt' -o -name '*.antt' -o ! -path "$top/crates/*" \) -print -quit 2>&1) &&
     [ -z "$newer" ]
 }
