@@ -1,6 +1,6 @@
 // Keys that collide in a table that hashes them by SipHash-1-3, for the trial `worst`.
 //
-//   collide keys COUNT BITS          writes COUNT keys whose hashes under the key 0 agree in their last BITS bits
+//   collide keys COUNT BITS A B      writes COUNT keys whose hashes under the seed A, B agree in their last BITS bits
 //   collide grind PLACE FROM TO      reads how many keys, the keys, how many names, the first eight bytes of each,
 //                                    and a message; tries the numbers FROM to TO - 1 in eight bytes of the message
 //                                    at PLACE, and writes the one by which most keys fall together, and how much
@@ -95,8 +95,7 @@ static uint32_t read_number(void) {
     return number;
 }
 
-static int keys(uint32_t count, int bits) {
-    const uint64_t seed[2] = {0, 0};
+static int keys(uint32_t count, int bits, const uint64_t seed[2]) {
     uint8_t key[32] = {0x61};
     for (uint64_t number = 0; count; number++) {
         memcpy(key + 1, &number, 8);
@@ -140,7 +139,10 @@ static int grind(size_t place, uint64_t from, uint64_t to) {
 }
 
 int main(int count, char **words) {
-    if (count == 4 && !strcmp(words[1], "keys")) return keys(atoi(words[2]), atoi(words[3]));
+    if (count == 6 && !strcmp(words[1], "keys")) {
+        const uint64_t seed[2] = {strtoull(words[4], NULL, 10), strtoull(words[5], NULL, 10)};
+        return keys(atoi(words[2]), atoi(words[3]), seed);
+    }
     if (count == 5 && !strcmp(words[1], "grind")) return grind(atoi(words[2]), atoll(words[3]), atoll(words[4]));
     return 2;
 }
