@@ -115,14 +115,24 @@ find_last_note() {
   [ -n "$checked" ]
 }
 
-# The program that the last checksums named, if no file is newer than they are.
+# Whether something that the checksums are taken of may have changed after the note: a file, or a folder,
+# which is newer if a file came or went.
+is_changed_since() {
+  local folder newer
+  for folder in "$top/crates" "$top"/crates/*/; do
+    ! [ "$folder" -nt "$1" ] || return 0
+  done
+  newer=$(cd "$top" && LC_ALL=C exec find crates.txt program "$program" crates/*/[sp]*/ -cnewer "$1" \
+    \( -type d -o -name '*.rt' -o -name '*.antt' -o ! -path 'crates/*' \) -print -quit 2>&1) || return 0
+  [ -n "$newer" ]
+}
+
+# The program that the last checksums named, if nothing changed since.
 find_program_of_last_time() {
-  local newer checked
+  local checked
   find_last_note && program=$(< "$checked") && [ -x "$program" ] || return
   [ "$program" = "$built" ] || [ "$program" = "$shipped" ] || return
-  newer=$(find "$top/crates.txt" "$top/program" "$top/crates" "$program" -name out -path "$top/crates/*/out" -prune -o \
-    -cnewer "$checked" \( -type d -o -name '*.rt' -o -name '*.antt' -o ! -path "$top/crates/*" \) -print -quit 2>&1) &&
-    [ -z "$newer" ]
+  ! is_changed_since "$checked"
 }
 
 # write_note FILE PROGRAM SECOND: the note has the time of the second before the checksums were taken.

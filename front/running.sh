@@ -10,9 +10,10 @@ readonly WIPE=$'\e[K'
 # these where it is told to.
 tune() {
   local tunables
-  tunables=glibc.malloc.hugetlb=1:glibc.malloc.top_pad=6291456:glibc.malloc.arena_max=$(nproc)
+  [ -z "${GLIBC_TUNABLES+set}" ] || return 0
+  tunables=glibc.malloc.hugetlb=1:glibc.malloc.top_pad=6291456:glibc.malloc.arena_max=$(exec nproc)
   tunables+=:glibc.malloc.mmap_threshold=8388608:glibc.malloc.trim_threshold=1073741824
-  export GLIBC_TUNABLES=${GLIBC_TUNABLES-$tunables}
+  export GLIBC_TUNABLES=$tunables
 }
 
 # Becomes the program, in a process that bash started in the background and for which it ignored
@@ -111,16 +112,18 @@ say_more() {
   case $status in
     0) [ "$page" != make ] || say_lanes_alone ;;
     "$REFUSED") say_refused ;;
-    3) say_parts; say_what_is_wanted ;;
+    3) say_what_comes_next; say_what_is_wanted ;;
     "$READING_FAILED") say 'reading failed' ;;
     "$WRITING_FAILED") [ -p /dev/fd/1 ] || [[ $last = "$command: "* ]] || say 'writing failed' ;;
     "$OUT_OF_MEMORY") say 'out of memory' ;;
   esac
 }
 
-# Why the arguments are refused, unless the program said so, and how the command is written.
+# Why the arguments are refused, unless the program said so, and how the command is written. A program that
+# is given files says that of them, even where bank left them there because another argument is wrong.
 say_refused() {
   local fault
+  [[ $first != *' takes no further argument: '* ]] || [ "${#files[@]}" = 0 ] || first=''
   case $first in
     '' | 'words refused' | 'usage: '*)
       fault=$(fault_of_arguments "${asked[@]:depth}")
@@ -137,11 +140,16 @@ say_lanes_alone() {
     *' --lanes='*) say '--lanes goes with --run: without it nothing is run' ;;
   esac
 }
-say_parts() {
+# What to do about an input that is no snapshot, batch, record or image.
+say_what_comes_next() {
   case $last in
     'record: Trailing at '* | 'record: bytes follow the block hash '*)
       say 'a record with a snapshot behind it, as produce writes them, is parted by: bank split RECORD SNAPSHOT'
       ;;
+    'snapshot: Magic') say 'the input does not begin with a snapshot (SOLSNAP1 or SOLSNAP2)' ;;
+    'batch: Truncated at 0') say 'nothing follows the snapshot: a batch (SOLBATC1) is wanted there' ;;
+    'record: Truncated at 0' | 'record: BadField at 0') say 'a record (SOLBLCK1) is wanted there' ;;
+    'list: BadImage') say 'a program image (SBPFIMG1), as asm writes it, is wanted' ;;
   esac
 }
 
