@@ -5,7 +5,7 @@ use crate::words::Asked;
 use admission::Chosen;
 use invoke_engine::Accounts;
 use message_codec::keys_of;
-use sol_base::{Account, Blob, Items, Key, OutOfMemory, SYSTEM_PROGRAM};
+use sol_base::{Account, Blob, Items, Key, OutOfMemory, SYSTEM_PROGRAM, key_text};
 use std::alloc::Global;
 use std::sync::Arc;
 use trace_run::Began;
@@ -25,6 +25,19 @@ pub(crate) struct Frames<'a> {
     /// The frames that are active, the outermost first.
     pub(crate) active: Vec<&'a Began>,
     pub(crate) listing: Listing,
+}
+
+/// The bytes of a frame's line before its program's key, and behind it in the last but one.
+const PROGRAM: [u8; 8] = *b"Program ";
+
+const CONSUMED: [u8; 10] = *b" consumed ";
+
+/// Whether the line says what a program consumed. No program writes such a line.
+fn says_consumed(line: &[u8], program: &Key) -> bool {
+    line.len() >= 82
+        && line.starts_with(&PROGRAM)
+        && line[8..72].starts_with(&key_text(program))
+        && line[72..].starts_with(&CONSUMED)
 }
 
 impl<'a> Frames<'a> {
@@ -80,6 +93,17 @@ impl<'a> Frames<'a> {
         let from = self.told.min(most);
         self.told = self.told.max(most);
         &self.lines[from..most]
+    }
+
+    /// How many lines there were when the machine of a frame stopped that ended with so many.
+    pub(crate) fn lines_at_stop(&self, program: &Key, count: usize) -> usize {
+        let most = count.min(self.lines.len());
+        for at in self.told.min(most)..most {
+            if says_consumed(self.lines[at].as_slice(), program) {
+                return at;
+            }
+        }
+        most
     }
 }
 

@@ -253,7 +253,8 @@ fn add_begin<'a>(
 ) -> Result<(), OutOfMemory> {
     add_lines(events, frames, began.lines)?;
     frames.active.push(began)?;
-    Ok(events.push(begin_value(frames, began)?)?)
+    events.push(begin_value(frames, began)?)?;
+    add_lines(events, frames, began.lines.saturating_add(1))
 }
 
 fn add_step(
@@ -272,11 +273,14 @@ fn add_stop(
     halted: &Halted,
     next: Option<&Note>,
 ) -> Result<(), OutOfMemory> {
-    if let Some(Note::Ends(finished)) = next {
-        if let Err(error) = &finished.result {
-            list_innermost(frames)?;
-            events.push(stop_value(frames, halted, finished, error)?)?;
-        }
+    let (Some(Note::Ends(finished)), Some(began)) = (next, frames.innermost()) else {
+        return Ok(());
+    };
+    if let Err(error) = &finished.result {
+        let count = frames.lines_at_stop(&began.program, finished.lines);
+        add_lines(events, frames, count)?;
+        frames.list(began)?;
+        events.push(stop_value(frames, halted, finished, error)?)?;
     }
     Ok(())
 }

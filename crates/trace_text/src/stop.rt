@@ -142,13 +142,11 @@ fn tell_halt(page: &mut Page, frames: &Frames<'_>, halted: &Halted) {
 pub(crate) fn tell_stop(
     page: &mut Page,
     frames: &mut Frames<'_>,
+    began: &Began,
     halted: &Halted,
     finished: &Finished,
     error: &InstructionError,
 ) -> Result<(), OutOfMemory> {
-    let Some(began) = frames.innermost() else {
-        return Ok(());
-    };
     frames.list(began)?;
     tell_halt(page, frames, halted);
     if let Some(at) = finished.stopped_at {

@@ -10,7 +10,7 @@ use admission::Chosen;
 use sol_base::{Account, Blob, Meta, OutOfMemory};
 use std::alloc::Global;
 use std::sync::Arc;
-use trace_run::{Began, Finished, Note, is_first};
+use trace_run::{Began, Finished, Halted, Note, is_first};
 use tx_report::{
     Cause, InstructionError, Outcome, Status, WHOLE_TRANSACTION, cause_text, status_text,
 };
@@ -48,8 +48,15 @@ fn tell_cause(page: &mut Page, cause: Cause, detail: u32) {
     }
 }
 
+/// The account that a transaction leaves with too few lamports.
+fn tell_left(page: &mut Page, frames: &Frames<'_>, cause: Cause, detail: u32) {
+    if let (Cause::RentState, Ok(place)) = (cause, u8::try_from(detail)) {
+        page.key(", ", &frames.key(place));
+    }
+}
+
 /// How a transaction ended, and why if it was no instruction that failed.
-fn tell_status(page: &mut Page, status: &Status) -> Result<(), OutOfMemory> {
+fn tell_status(page: &mut Page, frames: &Frames<'_>, status: &Status) -> Result<(), OutOfMemory> {
     page.text("  status ");
     page.bytes(status_text(page.alloc, status)?.as_slice());
     match *status {
@@ -61,6 +68,7 @@ fn tell_status(page: &mut Page, status: &Status) -> Result<(), OutOfMemory> {
         } => {
             if index == WHOLE_TRANSACTION {
                 tell_cause(page, cause, detail);
+                tell_left(page, frames, cause, detail);
             }
         }
         Status::Dropped { cause } => {
@@ -158,6 +166,12 @@ fn tell_begin<'a>(
     tell_program(page, frames, began);
     frames.active.push(began)?;
     tell_given(page, frames, began);
+    tell_lines(
+        page,
+        frames,
+        began.lines.saturating_add(1),
+        depth.saturating_add(1),
+    );
     Ok(())
 }
 
@@ -228,6 +242,28 @@ fn tell_end(
     Ok(())
 }
 
+/// Where a machine stopped, behind the lines before, if its frame fails, which the next note says.
+fn tell_stopped(
+    page: &mut Page,
+    frames: &mut Frames<'_>,
+    halted: &Halted,
+    next: Option<&Note>,
+) -> Result<(), OutOfMemory> {
+    let Some(Note::Ends(finished)) = next else {
+        return Ok(());
+    };
+    let Err(error) = &finished.result else {
+        return Ok(());
+    };
+    let Some(began) = frames.innermost() else {
+        return Ok(());
+    };
+    let count = frames.lines_at_stop(&began.program, finished.lines);
+    let depth = frames.active.len();
+    tell_lines(page, frames, count, depth);
+    tell_stop(page, frames, began, halted, finished, error)
+}
+
 /// A note, and those that follow it.
 fn tell_note<'a>(
     page: &mut Page,
@@ -239,13 +275,7 @@ fn tell_note<'a>(
         Note::Transaction(_) => Ok(()),
         Note::Begins(began) => tell_begin(page, frames, began),
         Note::Steps(step) => tell_step(page, frames, step, following),
-        Note::Stops(halted) => match following.first() {
-            Some(Note::Ends(finished)) => match &finished.result {
-                Ok(_) => Ok(()),
-                Err(error) => tell_stop(page, frames, halted, finished, error),
-            },
-            _ => Ok(()),
-        },
+        Note::Stops(halted) => tell_stopped(page, frames, halted, following.first()),
         Note::Ends(finished) => tell_end(page, frames, finished),
     }
 }
@@ -291,7 +321,7 @@ fn tell(page: &mut Page, asked: Asked, told: &Told<'_>) -> Result<(), OutOfMemor
     let lines: &[Blob] = told.outcome.lines.as_slice();
     let mut frames = Frames::new(page.alloc, asked, told.chosen, lines)?;
     tell_name(page, told);
-    tell_status(page, &told.outcome.status)?;
+    tell_status(page, &frames, &told.outcome.status)?;
     tell_units(page, told);
     tell_bound(page, told.notes);
     tell_notes(page, &mut frames, told.notes)?;
